@@ -1,0 +1,4 @@
+pub mod Names
+pub mod NameRefs
+pub mod Paths
+pub mod Text

@@ -1,0 +1,47 @@
+-- Segments and names as contracts see them (ACPI 6.5, 5.3 and 20.2.2).
+use Rattle.std.specs.Prelude.{◌≡◌, ℕ, ◌<◌, Bool, false, ◌&&◌, ◌||◌, nat_le, nat_eq, cond, Option, Some, None, List, [], ◌∷◌, length, IsTrue}
+use Rattle.std.specs.List.{list_all}
+
+-- a NameSeg, by its bytes (20.2.2)
+abbrev pub Segment : Type 0
+Segment = List ℕ
+
+-- LeadNameChar: A to Z or '_' (20.2.2)
+abbrev pub is_lead_char : ℕ → Bool
+is_lead_char b = (nat_le 65 b && nat_le b 90) || nat_eq b 95
+
+-- NameChar: a LeadNameChar or 0 to 9 (20.2.2)
+abbrev pub is_name_char : ℕ → Bool
+is_name_char b = is_lead_char b || (nat_le 48 b && nat_le b 57)
+
+-- NameSeg: four bytes, a LeadNameChar and three NameChars (20.2.2)
+abbrev pub is_segment : List ℕ → Bool
+is_segment (a ∷ b ∷ c ∷ d ∷ []) = is_lead_char a && is_name_char b && is_name_char c && is_name_char d
+is_segment _ = false
+
+-- a segment each
+abbrev pub AreSegments : List Segment → Type 0
+AreSegments segments = IsTrue (list_all is_segment segments)
+
+-- what a NameString says: whether it begins at the root, how many parents it goes up, and its segments (20.2.2)
+pub record NameParts : Type 0 where
+  pub rooted : Bool
+  pub parents : ℕ
+  pub segments : List Segment
+
+-- the parts of a name that has a spelling: a rooted one has no parents, a byte counts the segments,
+-- and there are at most 255 parents (20.2.2)
+pub record IsName (n : NameParts) : Type 0 where
+  pub are_segments : AreSegments n.segments
+  pub few_segments : length n.segments < 256
+  pub few_parents : n.parents < 256
+  pub no_parents : IsTrue n.rooted → n.parents ≡ 0
+
+-- the one segment of a list of one
+abbrev pub only_segment : List Segment → Option Segment
+only_segment (g ∷ []) = Some g
+only_segment _ = None
+
+-- the segment of a plain name: not rooted, no parents, one segment; such a name is searched upwards (5.3)
+abbrev pub plain_segment : NameParts → Option Segment
+plain_segment n = cond n.rooted None (cond (nat_eq n.parents 0) (only_segment n.segments) None)

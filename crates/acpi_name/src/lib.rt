@@ -1,0 +1,17 @@
+//! Names of the ACPI namespace: segments, names as they are written, and paths from the root.
+//!
+//! Bytes go in and names come out; a name and the scope in which it stands give a path. A contract
+//! sees a segment as its four bytes, a name as `NameParts` (rooted or not, parents, segments), and a
+//! path as the list of its segments.
+#![tactic(auto)]
+
+mod name;
+mod path;
+mod places;
+mod seg;
+mod show;
+
+pub use name::{Name, NameRef};
+pub use path::Path;
+pub use places::{PlaceFault, place};
+pub use seg::Seg;

@@ -1,0 +1,135 @@
+//! Names as they are written: rooted or not, a number of parents to go up, and segments.
+
+ghost use Rattle.acpi_name.specs.Names.{IsName, plain_segment};
+ghost use Rattle.std.specs.Prelude.{◌≡◌, ◌<◌, ◌^◌, length, slice_get, Some, IsTrue, ◌↔◌, IfOk, true, false};
+
+use crate::seg::Seg;
+use std::alloc::{AllocError, Global};
+use std::marker::Model;
+
+/// A name, lent from the bytes that spell it (ACPI 6.5, 20.2.2 NameString).
+#[derive(Debug, Clone, Copy)]
+pub struct NameRef<'a> {
+    rooted: bool,
+    parents: u8,
+    segs: &'a [[u8; 4]],
+    ghost is_name: { IsName record { rooted = rooted; parents = parents; segments = segs.now } },
+}
+
+impl<'a> NameRef<'a> {
+    ghost use Rattle.acpi_name.specs.Names.{IsName};
+    ghost use Rattle.acpi_name.specs.NameRefs.{name_parts};
+
+    /// The name of these parts.
+    pub(crate) fn of_parts(rooted: bool, parents: u8, segs: &'a [[u8; 4]]) -> NameRef<'a>
+        requires { IsName record { rooted = rooted; parents = parents; segments = segs.now } }
+        ensures { name_parts result ≡ record { rooted = rooted; parents = parents; segments = segs.now } }
+    {
+        NameRef {
+            rooted,
+            parents,
+            segs,
+        }
+    }
+
+    /// Whether the name begins at the root.
+    pub fn rooted(&self) -> bool
+        ensures { result ≡ (name_parts self.now).rooted }
+    {
+        self.rooted
+    }
+
+    /// How many parents the name goes up before its segments.
+    pub fn parents(&self) -> usize
+        ensures count { result ≡ (name_parts self.now).parents }
+        ensures few { result < 256 }
+    {
+        self.parents as usize
+    }
+
+    /// The number of segments.
+    pub fn len(&self) -> usize
+        ensures count { result ≡ length (name_parts self.now).segments }
+        ensures few { result < 256 }
+    {
+        self.segs.len()
+    }
+
+    /// The segment at index `i`.
+    pub fn seg(&self, i: usize) -> Seg
+        requires { i < length (name_parts self.now).segments }
+        ensures { slice_get (name_parts self.now).segments i ≡ Some result }
+    {
+        Seg::of_checked(self.segs[i])
+    }
+
+    /// The segment of a plain name: not rooted, no parents, one segment. Only such a name is searched
+    /// for in the scopes around it (ACPI 6.5, 5.3).
+    pub fn plain(&self) -> Option<Seg>
+        ensures { result ≡ plain_segment (name_parts self.now) }
+    {
+        if self.rooted || self.parents != 0 {
+            return None;
+        }
+        match self.segs {
+            [seg] => Some(Seg::of_checked(*seg)),
+            _ => None,
+        }
+    }
+
+    /// The same name, with memory of its own.
+    pub fn own(self, alloc: Global) -> Result<Name, AllocError>
+        ensures { IfOk result (λ n. n ≡ name_parts self.entry) }
+    {
+        Ok(Name {
+            rooted: self.rooted,
+            parents: self.parents,
+            segs: Vec::from_slice(alloc, self.segs)?,
+        })
+    }
+}
+
+/// A name that owns its segments, in the order of its shortest spelling.
+#[derive(Debug, Drop)]
+pub struct Name {
+    rooted: bool,
+    parents: u8,
+    segs: Vec<[u8; 4]>,
+}
+
+impl Model for Name {
+    ghost use Rattle.acpi_name.specs.Names.{NameParts, IsName};
+
+    ghost Value = { NameParts };
+
+    ghost view = { λ n. record { rooted = n.rooted; parents = n.parents; segments = n.segs.items } };
+
+    ghost invariant = { λ n. IsName record { rooted = n.rooted; parents = n.parents; segments = n.segs.items } };
+}
+
+impl Name {
+    ghost use Rattle.acpi_name.specs.Names.{IsName};
+    ghost use Rattle.acpi_name.specs.NameRefs.{name_parts};
+
+    /// The name, lent.
+    pub fn view(&self) -> NameRef<'_>
+        ensures { name_parts result ≡ self.now }
+    {
+        NameRef {
+            rooted: self.rooted,
+            parents: self.parents,
+            segs: &self.segs,
+        }
+    }
+
+    /// An equal name with memory of its own.
+    pub fn copy(&self) -> Result<Name, AllocError>
+        ensures { IfOk result (λ n. n ≡ self.now) }
+    {
+        Ok(Name {
+            rooted: self.rooted,
+            parents: self.parents,
+            segs: self.segs.clone()?,
+        })
+    }
+}
