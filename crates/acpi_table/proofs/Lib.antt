@@ -1,0 +1,3 @@
+mod Choices
+pub mod PkgLengths
+pub mod TableLaws

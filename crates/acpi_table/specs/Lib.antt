@@ -1,0 +1,3 @@
+pub mod Gives
+pub mod PkgLength
+pub mod Tables
