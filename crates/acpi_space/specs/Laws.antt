@@ -1,0 +1,43 @@
+-- What the standard says of a search, and when an answer stays (ACPI 6.5, 5.3).
+use Rattle.std.specs.Prelude.{◌≡◌, ◌<◌, Bool, true, false, List, [], ◌∷◌, ◌++◌, length, Option, None, Some, IsTrue}
+use Rattle.std.specs.List.{AllByRecursion}
+use Rattle.acpi_name.specs.Names.{Segment, NameParts, plain_segment}
+use Rattle.acpi_name.specs.Paths.{place_of}
+use Rattle.acpi_space.specs.Search.{answer, missed}
+
+-- q is a beginning of xs that passes the test, and no longer one does
+pub record IsLongest {A : Type 0} (test : List A → Bool) (xs q : List A) : Type 0 where
+  pub rest : List A
+  pub begins : xs ≡ q ++ rest
+  pub passes : IsTrue (test q)
+  pub longest : (b c : List A) → xs ≡ b ++ c → length q < length b → test b ≡ false
+
+-- no beginning of xs passes the test
+abbrev pub NoneBegins : {A : Type 0} → (List A → Bool) → List A → Type 0
+NoneBegins test xs = (b c : List _) → xs ≡ b ++ c → test b ≡ false
+
+-- of a plain name: the path below the longest beginning of the scope that has it, and none only where no beginning has it
+abbrev pub IsLongestAnswer : (List Segment → Bool) → List Segment → Segment → Option (List Segment) → Type 0
+IsLongestAnswer defined s g (Some p) = (q : List Segment) × (p ≡ q ++ g ∷ []) × IsLongest (λ q. defined (q ++ g ∷ [])) s q
+IsLongestAnswer defined s g None = NoneBegins (λ q. defined (q ++ g ∷ [])) s
+
+abbrev pub PlainIsLongest : Type 0
+PlainIsLongest = (defined : List Segment → Bool) (s : List Segment) (n : NameParts) (g : Segment) → plain_segment n ≡ Some g → IsLongestAnswer defined s g (answer defined s n)
+
+-- of any other name: its place, and none only where the place is not defined or is not there
+abbrev pub IsPlaceAnswer : (List Segment → Bool) → Option (List Segment) → Option (List Segment) → Type 0
+IsPlaceAnswer defined place (Some p) = (place ≡ Some p) × IsTrue (defined p)
+IsPlaceAnswer defined place None = (p : List Segment) → place ≡ Some p → defined p ≡ false
+
+abbrev pub OtherIsAtPlace : Type 0
+OtherIsAtPlace = (defined : List Segment → Bool) (s : List Segment) (n : NameParts) → plain_segment n ≡ None → IsPlaceAnswer defined (place_of s n) (answer defined s n)
+
+-- `large` has what `small` has, and none of the paths that the search missed
+abbrev pub KeepsSearch : (List Segment → Bool) → (List Segment → Bool) → List Segment → NameParts → Type 0
+KeepsSearch small large s n = ((p : List Segment) → small p ≡ true → large p ≡ true) × AllByRecursion (λ p. large p ≡ false) (missed small s n)
+
+abbrev pub AnswerIsKept : Type 0
+AnswerIsKept = (small large : List Segment → Bool) (s : List Segment) (n : NameParts) → KeepsSearch small large s n → answer large s n ≡ answer small s n
+
+abbrev pub MissedIsKept : Type 0
+MissedIsKept = (small large : List Segment → Bool) (s : List Segment) (n : NameParts) → KeepsSearch small large s n → missed large s n ≡ missed small s n

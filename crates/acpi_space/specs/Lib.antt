@@ -1,0 +1,5 @@
+pub mod Spaces
+pub mod Refusal
+pub mod Search
+pub mod FoundPath
+pub mod Laws
