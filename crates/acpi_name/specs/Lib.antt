@@ -1,4 +1,6 @@
 pub mod Names
 pub mod NameRefs
 pub mod Paths
+pub mod Spelling
+pub mod Reading
 pub mod Text

@@ -8,10 +8,12 @@
 mod name;
 mod path;
 mod places;
+mod reading;
 mod seg;
 mod show;
 
 pub use name::{Name, NameRef};
 pub use path::Path;
 pub use places::{PlaceFault, place};
+pub use reading::{NameFault, read_name};
 pub use seg::Seg;

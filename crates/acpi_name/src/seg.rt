@@ -28,13 +28,13 @@ impl Model for Seg {
     ghost inverse = { λ b. record { bytes = b } };
 }
 
-fn is_lead(b: u8) -> bool
+pub(crate) fn is_lead(b: u8) -> bool
     ensures { result ≡ is_lead_char b }
 {
     (65 <= b && b <= 90) || b == 95
 }
 
-fn is_rest(b: u8) -> bool
+pub(crate) fn is_rest(b: u8) -> bool
     ensures { result ≡ is_name_char b }
 {
     is_lead(b) || (48 <= b && b <= 57)
