@@ -1,4 +1,5 @@
 pub mod Names
+pub mod NameEqual
 pub mod NameRefs
 pub mod Paths
 pub mod Spelling

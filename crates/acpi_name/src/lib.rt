@@ -11,9 +11,11 @@ mod places;
 mod reading;
 mod seg;
 mod show;
+mod writing;
 
 pub use name::{Name, NameRef};
 pub use path::Path;
 pub use places::{PlaceFault, place};
 pub use reading::{NameFault, read_name};
 pub use seg::Seg;
+pub use writing::write_name;

@@ -2,6 +2,8 @@
 
 ghost use Rattle.acpi_name.specs.Names.{IsName, plain_segment};
 ghost use Rattle.std.specs.Prelude.{◌≡◌, ◌<◌, ◌^◌, length, slice_get, Some, IsTrue, ◌↔◌, IfOk, true, false};
+ghost use Rattle.acpi_name.specs.NameEqual.{name_eq, name_eq_equiv};
+ghost use Rattle.std.specs.Cmp.{partial_equiv_from_equiv};
 
 use crate::seg::Seg;
 use std::alloc::{AllocError, Global};
@@ -17,7 +19,6 @@ pub struct NameRef<'a> {
 }
 
 impl<'a> NameRef<'a> {
-    ghost use Rattle.acpi_name.specs.Names.{IsName};
     ghost use Rattle.acpi_name.specs.NameRefs.{name_parts};
 
     /// The name of these parts.
@@ -61,6 +62,14 @@ impl<'a> NameRef<'a> {
         ensures { slice_get (name_parts self.now).segments i ≡ Some result }
     {
         Seg::of_checked(self.segs[i])
+    }
+
+    /// The segments, four bytes each.
+    pub(crate) fn chunks(self) -> &'a [[u8; 4]]
+        ensures all { result.now ≡ (name_parts self.entry).segments }
+        ensures few { length result.now < 256 }
+    {
+        self.segs
     }
 
     /// The segment of a plain name: not rooted, no parents, one segment. Only such a name is searched
@@ -107,8 +116,24 @@ impl Model for Name {
     ghost invariant = { λ n. IsName record { rooted = n.rooted; parents = n.parents; segments = n.segs.items } };
 }
 
+impl PartialEq for Name {
+    ghost eq = { name_eq };
+
+    ghost laws = { partial_equiv_from_equiv name_eq_equiv };
+
+    fn eq(&self, other: &Name) -> bool
+        ensures test { result ≡ name_eq self.now other.now }
+        ensures same { IsTrue result ↔ (self.now ≡ other.now) }
+    {
+        self.rooted == other.rooted && self.parents == other.parents && self.segs == other.segs
+    }
+}
+
+impl Eq for Name {
+    ghost laws = { name_eq_equiv };
+}
+
 impl Name {
-    ghost use Rattle.acpi_name.specs.Names.{IsName};
     ghost use Rattle.acpi_name.specs.NameRefs.{name_parts};
 
     /// The name, lent.

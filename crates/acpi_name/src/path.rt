@@ -38,7 +38,10 @@ impl PartialEq for Path {
 
     ghost laws = { partial_equiv_from_equiv (eq_by_cmp_equiv path_cmp_total) };
 
-    fn eq(&self, other: &Path) -> bool {
+    fn eq(&self, other: &Path) -> bool
+        ensures test { result ≡ eq_by_cmp path_cmp self.now other.now }
+        ensures same { IsTrue result ↔ (self.now ≡ other.now) }
+    {
         self.cmp(other) == Ordering::Equal
     }
 }
