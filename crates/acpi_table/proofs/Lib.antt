@@ -1,3 +1,4 @@
 mod Choices
 pub mod PkgLengths
 pub mod TableLaws
+pub mod StreamLaws

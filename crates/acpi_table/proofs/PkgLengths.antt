@@ -1,5 +1,5 @@
 -- Laws of package lengths: what is spelled is read, what is read is spelled, what is shortest.
-use Rattle.std.proofs.Common.{◌≡◌, ◌≢◌, add_comm, add-one, ℕ, zero, suc, ◌-◌, ◌+◌, ◌*◌, ◌^◌, ◌/◌, ◌%◌, ◌≤◌, ◌<◌, Bool, true, false, cond, ltb, ◌⊎◌, List, [], ◌∷◌, ◌++◌, length, take, drop, slice_index, All, Result, Ok, Err, refl, sym, ap, subst, ◌∙◌, append_assoc, arith, inl, inr}
+use Rattle.std.proofs.Common.{◌≡◌, ◌≢◌, add_comm, add-one, ℕ, zero, suc, ◌+◌, ◌*◌, ◌^◌, ◌/◌, ◌%◌, ◌≤◌, ◌<◌, Bool, true, false, cond, ltb, List, [], ◌∷◌, ◌++◌, length, take, drop, slice_index, All, Result, Ok, Err, refl, sym, ap, subst, ◌∙◌, arith, inl, inr}
 use Rattle.std.proofs.lemmas.Bool.{ltb-false, ltb-true, le-ltb, lt-ltb}
 use Rattle.std.proofs.lemmas.List.{append-nil, get_or_past, length-append, length-take, take-append-drop, drop_at}
 use Rattle.std.proofs.lemmas.List.Elements.{All-get_or, All-head, All-tail}
@@ -112,6 +112,21 @@ pkg_length_failed (b ∷ tail) fault e =
                 ]
           ]
     ]
+
+-- Where a fault's condition holds, that fault is told.
+pub pkg_length_refuses : (bytes : List ℕ) (fault : PkgFault) → Shows fault bytes → pkg_length_at bytes ≡ Err fault
+unfolding pkg_length_at
+pkg_length_refuses [] Cut h = refl
+pkg_length_refuses [] ReservedBits h = absurd h
+pkg_length_refuses (lead ∷ tail) ReservedBits h =
+    let follows : ltb lead 64 ≡ false = le-ltb _ _ h.0 in
+    let reserved : ltb 15 (lead % 64) ≡ true = lt-ltb _ _ h.1 in
+    rw (follows, reserved) refl
+pkg_length_refuses (lead ∷ tail) Cut h =
+    let follows : ltb lead 64 ≡ false = le-ltb _ _ h.0 in
+    let good : ltb 15 (lead % 64) ≡ false = le-ltb _ _ h.1 in
+    let is_cut : ltb (length tail) (lead / 64) ≡ true = lt-ltb _ _ h.2 in
+    rw (follows, good, is_cut) refl
 
 -- ---- the shortest spelling
 

@@ -1,6 +1,6 @@
 -- Laws of tables: what stands at the front is cut off, what is cut off is a table, and what a fault says.
-use Rattle.std.proofs.Common.{◌≡◌, ℕ, ◌-◌, ◌+◌, ◌≤◌, ◌<◌, Bool, true, false, cond, ltb, eqb, ◌⊎◌, List, [], ◌∷◌, ◌++◌, length, take, drop, Result, Ok, Err, refl, sym, ap, subst, ◌∙◌, arith, inl, inr, eq-eqb}
-use Rattle.std.proofs.lemmas.Bool.{ltb-false, ltb-true, le-ltb, lt-ltb, eqb-true}
+use Rattle.std.proofs.Common.{◌≡◌, ℕ, ◌+◌, ◌≤◌, Bool, true, false, ltb, eqb, List, [], ◌++◌, length, take, drop, Result, Ok, Err, refl, sym, ap, subst, ◌∙◌, arith, inl, inr, eq-eqb}
+use Rattle.std.proofs.lemmas.Bool.{ltb-false, ltb-true, le-ltb, eqb-true, lt-ltb, ne_eqb}
 use Rattle.std.proofs.lemmas.List.{append-nil, length-append, length-take, length-drop, take-append-drop, take_at, drop_at, drop-append-le}
 use Rattle.byteorder.specs.Endian.{little_number}
 use Rattle.byteorder.specs.Numbers.{little_from-append}
@@ -104,3 +104,30 @@ table_refused bytes fault e =
   where
     is_false : {b : Bool} → b ≡ true → b ≡ false → ⊥
     is_false t f = cc
+
+-- Where a fault's condition holds, that fault is told.
+pub table_refuses : (bytes : List ℕ) (fault : TableFault) → IsRefusedAs fault bytes → table_at bytes ≡ Err fault
+unfolding table_at
+table_refuses bytes Short h = rw (lt-ltb _ _ h) refl
+table_refuses bytes BadLength h =
+    let not_short : ltb (length bytes) 36 ≡ false = le-ltb _ _ h.0 in
+    let bad : ltb (length_field bytes) 36 ≡ true = lt-ltb _ _ h.1 in
+    rw (not_short, bad) refl
+table_refuses bytes TooLong h =
+    let not_short : ltb (length bytes) 36 ≡ false = le-ltb _ _ h.0 in
+    let not_bad : ltb (length_field bytes) 36 ≡ false = le-ltb _ _ (omega (arith, h.1)) in
+    let long : ltb 16777216 (length_field bytes) ≡ true = lt-ltb _ _ h.1 in
+    rw (not_short, not_bad, long) refl
+table_refuses bytes Cut h =
+    let not_short : ltb (length bytes) 36 ≡ false = le-ltb _ _ h.0 in
+    let not_bad : ltb (length_field bytes) 36 ≡ false = le-ltb _ _ h.1 in
+    let not_long : ltb 16777216 (length_field bytes) ≡ false = le-ltb _ _ h.2 in
+    let is_cut : ltb (length bytes) (length_field bytes) ≡ true = lt-ltb _ _ h.3 in
+    rw (not_short, not_bad, not_long, is_cut) refl
+table_refuses bytes BadSum h =
+    let not_short : ltb (length bytes) 36 ≡ false = le-ltb _ _ (omega (arith, h.0, h.2)) in
+    let not_bad : ltb (length_field bytes) 36 ≡ false = le-ltb _ _ h.0 in
+    let not_long : ltb 16777216 (length_field bytes) ≡ false = le-ltb _ _ h.1 in
+    let not_cut : ltb (length bytes) (length_field bytes) ≡ false = le-ltb _ _ h.2 in
+    let sum : eqb (sum_of (take (length_field bytes) bytes)) 0 ≡ false = ne_eqb _ _ h.3 in
+    rw (not_short, not_bad, not_long, not_cut, sum) refl

@@ -1,3 +1,4 @@
 pub mod Gives
 pub mod PkgLength
 pub mod Tables
+pub mod Sources

@@ -4,15 +4,16 @@ use Rattle.byteorder.specs.Endian.{little_number, little_bytes}
 use Rattle.acpi_table.specs.declared.lengths.PkgFault.{PkgFault}
 use Rattle.acpi_table.specs.declared.lengths.PkgFault.TheVariants.{Cut, ReservedBits}
 
--- Bits 7 and 6 of the lead byte say how many bytes follow it. With none the lead is the number. With
--- some, bits 5 and 4 are zero, bits 3 to 0 are the low four bits, and each next byte is the next eight.
+-- A number's spelling (20.2.4). Bits 7 and 6 of the lead byte say how many bytes follow it. With none the
+-- lead is the number. With some, bits 5 and 4 are zero, bits 3 to 0 are the low four bits of the number,
+-- and each next byte is the next eight.
 abbrev pub SpellsPkgLength : ℕ → List ℕ → Type 0
 SpellsPkgLength n [] = ⊥
 SpellsPkgLength n (lead ∷ tail) =
     ((lead < 64) × (tail ≡ []) × (n ≡ lead))
     ⊎ ((64 ≤ lead) × (lead % 64 < 16) × (length tail ≡ lead / 64) × (n ≡ lead % 64 + 16 * little_number (lead / 64) tail))
 
--- Bytes follow the lead, and its bits 5 and 4 aren't zero.
+-- Bytes follow the lead, and its bits 5 and 4 aren't zero (20.2.4).
 abbrev pub HasReservedBits : List ℕ → Type 0
 HasReservedBits [] = ⊥
 HasReservedBits (lead ∷ tail) = (64 ≤ lead) × (15 < lead % 64)
@@ -22,7 +23,7 @@ abbrev pub EndsInPkgLength : List ℕ → Type 0
 EndsInPkgLength [] = Unit {0}
 EndsInPkgLength (lead ∷ tail) = (64 ≤ lead) × (lead % 64 ≤ 15) × (length tail < lead / 64)
 
--- Read from the left: the number at the front, and the bytes after it.
+-- Read from the left: the number at the front, and the bytes after it (20.2.4).
 unfoldable pub pkg_length_at : List ℕ → Result (ℕ × List ℕ) PkgFault
 pkg_length_at [] = Err Cut
 pkg_length_at (lead ∷ tail) =
@@ -31,7 +32,7 @@ pkg_length_at (lead ∷ tail) =
     if nat_lt (length tail) (lead / 64) then Err Cut else
     Ok (lead % 64 + 16 * little_number (lead / 64) tail, drop (lead / 64) tail)
 
--- The shortest spelling of a number below 2 ^ 28.
+-- The shortest spelling of a number below 2 ^ 28 (20.2.4).
 unfoldable pub shortest_pkg_length : ℕ → List ℕ
 shortest_pkg_length n =
     if nat_lt n 64 then n ∷ [] else
@@ -39,7 +40,7 @@ shortest_pkg_length n =
     if nat_lt n 1048576 then (128 + n % 16) ∷ little_bytes 2 (n / 16) else
     (192 + n % 16) ∷ little_bytes 3 (n / 16)
 
--- A package's number: its payload and as few bytes of its own as serve.
+-- A package's number: its payload and as few bytes of its own as serve (20.2.4).
 unfoldable pub package_number : ℕ → ℕ
 package_number payload =
     if nat_lt (payload + 1) 64 then payload + 1 else

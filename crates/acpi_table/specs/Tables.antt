@@ -5,15 +5,15 @@ use Rattle.acpi_table.specs.declared.tables.Header.{Header}
 use Rattle.acpi_table.specs.declared.tables.TableFault.{TableFault}
 use Rattle.acpi_table.specs.declared.tables.TableFault.TheVariants.{Short, BadLength, TooLong, Cut, BadSum}
 
--- The sum of the bytes modulo 256.
+-- The sum of the bytes modulo 256 (5.2.6, Checksum).
 abbrev pub sum_of : List ℕ → ℕ
 sum_of bytes = sum bytes % 256
 
--- The field Length, of a table that begins there: the table's bytes, its header's among them.
+-- The field Length of a table that begins there: the table's bytes, its header's among them (5.2.6).
 abbrev pub length_field : List ℕ → ℕ
 length_field bytes = little_number 4 (drop 4 bytes)
 
--- The fields of a header that begins there.
+-- The fields of a header that begins there (5.2.6, Table 5.4).
 abbrev pub header_of : List ℕ → Header
 header_of bytes = record {
   signature = take 4 bytes;
@@ -27,7 +27,8 @@ header_of bytes = record {
   creator_revision = little_number 4 (drop 32 bytes);
 }
 
--- The bytes are one whole table: a header at least, 16 MiB at most, as many as Length says, summing to 0.
+-- The bytes are one whole table (5.2.6): a header at least, 16 MiB at most (a limit of our own), as many
+-- as Length says, and their sum is 0.
 pub record IsTable (bytes : List ℕ) : Type 0 where
   pub has_header : 36 ≤ length bytes
   pub within_limit : length bytes ≤ 16777216
@@ -46,7 +47,7 @@ IsRefusedAs BadSum bytes =
     (36 ≤ length_field bytes) × (length_field bytes ≤ 16777216) × (length_field bytes ≤ length bytes)
     × (sum_of (take (length_field bytes) bytes) ≢ 0)
 
--- The table at the front, and the bytes after it.
+-- The table at the front, and the bytes after it (5.2.6).
 unfoldable pub table_at : List ℕ → Result (List ℕ × List ℕ) TableFault
 table_at bytes =
     if nat_lt (length bytes) 36 then Err Short else

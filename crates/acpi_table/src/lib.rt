@@ -7,12 +7,18 @@
 #![tactic(auto)]
 
 mod lengths;
+mod sources;
+mod streams;
 mod sums;
 mod tables;
 
 pub use lengths::{PkgBytes, PkgFault, package_length, read_pkg_length, write_pkg_length};
+pub use sources::{FromRead, SliceSource, Source, SourceFault};
+pub use streams::{ReadFault, read_table};
 pub use sums::{byte_sum, checksum_for};
 pub use tables::{HEADER_BYTES, Header, TABLE_LIMIT, Table, TableFault, split_table};
 
+#[cfg(test)]
+mod stream_tests;
 #[cfg(test)]
 mod tests;

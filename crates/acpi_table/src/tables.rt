@@ -2,7 +2,7 @@
 
 ghost use Rattle.std.specs.Prelude.{◌≡◌, ℕ, ◌+◌, ◌≤◌, ◌↔◌, ◌++◌, List, length, take, drop, IfOk, IsErrOf, IsOkAnd};
 ghost use Rattle.byteorder.specs.Endian.{little_number};
-ghost use Rattle.acpi_table.specs.Tables.{IsTable, IsRefusedAs, table_at, header_of};
+ghost use Rattle.acpi_table.specs.Tables.{IsTable, IsRefusedAs, table_at, header_of, length_field};
 ghost use Rattle.acpi_table.specs.Gives.{Gives};
 
 use crate::sums::byte_sum;
@@ -128,6 +128,14 @@ fn text_at<const N: usize>(bytes: &[u8], place: usize) -> [u8; N]
     text
 }
 
+// The field Length, as a number of bytes.
+pub(crate) fn length_at(bytes: &[u8]) -> usize
+    requires { 8 ≤ length bytes.now }
+    ensures { result ≡ length_field bytes.now }
+{
+    LittleEndian::read_u32(&bytes[4..]) as usize
+}
+
 /// The table at the front of the bytes, and the bytes after it; or the first fault, in the order of
 /// `TableFault`.
 #[tactic(auto, unfolding(crate::specs::Tables::table_at))]
@@ -144,7 +152,7 @@ pub fn split_table(bytes: &[u8]) -> Result<(Table<'_>, &[u8]), TableFault>
     if bytes.len() < HEADER_BYTES {
         return Err(TableFault::Short);
     }
-    let length = LittleEndian::read_u32(&bytes[4..]) as usize;
+    let length = length_at(bytes);
     if length < HEADER_BYTES {
         return Err(TableFault::BadLength);
     }

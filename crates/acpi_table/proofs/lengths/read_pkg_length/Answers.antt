@@ -1,4 +1,4 @@
-use Rattle.std.proofs.Common.{◌≡◌, ◌+◌, ◌++◌, ◌/◌, ℕ, Ok, length, take, drop, refl, sym, ◌∙◌, arith}
+use Rattle.std.proofs.Common.{◌≡◌, ◌+◌, ◌++◌, ◌/◌, length, take, drop, refl, sym, arith}
 use Rattle.std.proofs.lemmas.List.{length-take, take-append-drop}
 use Rattle.acpi_table.proofs.PkgLengths.{spells_wide, one_spelling}
 use Rattle.acpi_table.proofs.lengths.read_pkg_length.Goals as goal

@@ -1,4 +1,4 @@
-use Rattle.std.proofs.Common.{◌≡◌, ◌%◌, sum, take}
+use Rattle.std.proofs.Common.{◌≡◌, take}
 use Rattle.acpi_table.specs.Tables.{sum_of}
 use Rattle.acpi_table.proofs.sums.byte_sum.Given as goal
 
