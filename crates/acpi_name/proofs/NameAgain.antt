@@ -1,8 +1,8 @@
 -- A name that is spelled is read again: no spelling begins another.
-use Rattle.std.proofs.Common.{◌≡◌, ℕ, zero, suc, ◌+◌, ◌≤◌, ◌<◌, Bool, true, false, ltb, leb, eqb, ◌&&◌, ◌||◌, List, [], ◌∷◌, ◌++◌, length, drop, replicate, Ok, refl, sym, ap, ◌∙◌, append_assoc, arith, inl, inr}
+use Rattle.std.proofs.Common.{Result, ◌≡◌, ℕ, zero, suc, ◌+◌, ◌≤◌, ◌<◌, Bool, true, false, ltb, leb, eqb, ◌&&◌, ◌||◌, List, [], ◌∷◌, ◌++◌, length, drop, replicate, Ok, refl, sym, ap, ◌∙◌, append_assoc, arith, inl, inr}
 use Rattle.std.proofs.lemmas.Bool.{leb-true, le-ltb, eqb-true}
 use Rattle.std.proofs.lemmas.Bool.Decides.{eqb_tells}
-use Rattle.std.proofs.lemmas.List.{length-append, drop_at, length-replicate}
+use Rattle.std.proofs.lemmas.List.{append_cancel_right, length-append, drop_at, length-replicate}
 use Rattle.std.proofs.lemmas.List.Folds.{length-prefix_len}
 use Rattle.std.specs.List.{list_all, prefix_len}
 use Rattle.acpi_name.specs.Names.{Segment, NameParts, AreSegments, is_segment, is_lead_char}
@@ -147,3 +147,16 @@ name_long n bytes h =
     let start = path_start n.segments h.path h.is_name.are_segments h.spells_path in
     let one : 0 < length h.path = rw start.2 (omega arith) in
     rw h.whole (omega (arith, length-append (prefix_of n.rooted n.parents) h.path))
+
+abbrev answer : NameParts × List ℕ → Result (NameParts × List ℕ) NameFault
+answer x = Ok x
+
+answer_is : (x y : NameParts × List ℕ) → answer x ≡ answer y → x ≡ y
+answer_is x y e = cc
+
+-- no spelling begins another
+pub one_spelling : (m n : NameParts) (a b more rest : List ℕ) → SpellsName m a → SpellsName n b → a ++ more ≡ b ++ rest → (m ≡ n) × (a ≡ b)
+one_spelling m n a b more rest h k e =
+    let same = answer_is (m, more) (n, rest) (sym (name_again m a more h) ∙ ap name_at e ∙ name_again n b rest k) in
+    let behind : more ≡ rest = ap (λ (p : NameParts × List ℕ). p.1) same in
+    (ap (λ (p : NameParts × List ℕ). p.0) same, append_cancel_right a b rest (ap (λ (r : List ℕ). a ++ r) (sym behind) ∙ e))

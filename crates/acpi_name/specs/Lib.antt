@@ -5,3 +5,4 @@ pub mod Paths
 pub mod Spelling
 pub mod Reading
 pub mod Text
+pub mod Laws

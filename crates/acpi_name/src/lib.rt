@@ -5,12 +5,14 @@
 //! path as the list of its segments.
 #![tactic(auto)]
 
+pub mod laws;
 mod name;
 mod path;
 mod places;
 mod reading;
 mod seg;
 mod show;
+mod text;
 mod writing;
 
 pub use name::{Name, NameRef};
@@ -18,4 +20,5 @@ pub use path::Path;
 pub use places::{PlaceFault, place};
 pub use reading::{NameFault, read_name};
 pub use seg::Seg;
+pub use text::PathFault;
 pub use writing::write_name;

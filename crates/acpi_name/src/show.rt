@@ -1,8 +1,11 @@
-//! Printed segments and paths.
+//! Printed segments, paths and names.
 
-ghost use Rattle.std.specs.Prelude.{Some};
-ghost use Rattle.acpi_name.specs.Text.{path_text};
+ghost use Rattle.std.specs.Prelude.{Some, replicate};
+ghost use Rattle.std.specs.Fmt.{WritesOnOk};
+ghost use Rattle.acpi_name.specs.NameRefs.{name_parts};
+ghost use Rattle.acpi_name.specs.Text.{path_text, name_text, dotted};
 
+use crate::name::{Name, NameRef};
 use crate::path::Path;
 use crate::seg::Seg;
 use std::fmt;
@@ -33,6 +36,64 @@ impl fmt::Display for Path {
                 }
                 Ok(())
             }
+        }
+    }
+}
+
+impl fmt::Display for NameRef<'_> {
+    ghost output = { λ n. Some (name_text (name_parts n)) };
+
+    fn fmt<W: fmt::Write>(&self, f: &mut fmt::Formatter<W>) -> fmt::Result {
+        if !self.rooted() && self.parents() == 0 && self.len() == 0 {
+            return f.write_str(".");
+        }
+        if self.rooted() {
+            f.write_str("\\")?;
+        }
+        put_carets(f, self.parents())?;
+        put_dotted(f, self.chunks())
+    }
+}
+
+impl fmt::Display for Name {
+    ghost output = { λ n. Some (name_text n) };
+
+    fn fmt<W: fmt::Write>(&self, f: &mut fmt::Formatter<W>) -> fmt::Result {
+        let name = self.view();
+        write!(f, "{name}")
+    }
+}
+
+fn put_carets<W: fmt::Write>(f: &mut fmt::Formatter<W>, count: usize) -> fmt::Result
+    ensures { WritesOnOk W.write_str_gives f.old result (replicate count 94) f.new }
+{
+    for _ in 0..count {
+        f.write_str("^")?;
+    }
+    Ok(())
+}
+
+fn put_chunk<W: fmt::Write>(f: &mut fmt::Formatter<W>, chunk: &[u8; 4]) -> fmt::Result
+    ensures { WritesOnOk W.write_str_gives f.old result chunk.now f.new }
+{
+    match std::str::from_utf8(chunk) {
+        Ok(text) => f.write_str(text),
+        Err(_) => Err(fmt::Error),
+    }
+}
+
+fn put_dotted<W: fmt::Write>(f: &mut fmt::Formatter<W>, segs: &[[u8; 4]]) -> fmt::Result
+    ensures { WritesOnOk W.write_str_gives f.old result (dotted segs.now) f.new }
+{
+    match segs {
+        [] => Ok(()),
+        [first, rest @ ..] => {
+            put_chunk(f, first)?;
+            for seg in rest {
+                f.write_str(".")?;
+                put_chunk(f, seg)?;
+            }
+            Ok(())
         }
     }
 }
