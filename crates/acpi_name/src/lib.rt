@@ -22,3 +22,6 @@ pub use reading::{NameFault, read_name};
 pub use seg::Seg;
 pub use text::PathFault;
 pub use writing::write_name;
+
+#[cfg(test)]
+mod tests;
