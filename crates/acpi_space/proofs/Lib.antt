@@ -1,6 +1,15 @@
 pub mod Maps
 pub mod Beginnings
-pub mod Walk
+pub mod Upward
 pub mod Missed
 pub mod Kept
 pub mod Standard
+pub mod Nearest
+pub mod Tree
+pub mod Written
+pub mod Growth
+pub mod Reached
+pub mod Inserted
+pub mod Steps
+pub mod Visits
+pub mod Ascending

@@ -3,3 +3,6 @@ pub mod Refusal
 pub mod Search
 pub mod FoundPath
 pub mod Laws
+pub mod Tree
+pub mod Grown
+pub mod Walk

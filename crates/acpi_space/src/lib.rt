@@ -6,13 +6,18 @@
 //! standard says of a search, and when its answer stays, are contracts in `laws`.
 #![tactic(auto)]
 
+mod grown;
 pub mod laws;
 mod lookup;
 mod map_space;
+mod nodes;
 mod space;
 #[cfg(test)]
 mod tests;
+mod tree_space;
+mod walk;
 
 pub use lookup::{Found, SearchFault, misses, search};
 pub use map_space::MapSpace;
 pub use space::{Refused, Space};
+pub use tree_space::TreeSpace;

@@ -1,5 +1,5 @@
 //! Worked rows and printed texts, which no clause states.
-use crate::{MapSpace, Refused, SearchFault, Space};
+use crate::{MapSpace, Refused, SearchFault, Space, TreeSpace};
 use acpi_name::{Path, Seg};
 use std::alloc::{AllocError, Global};
 use std::process::Abort;
@@ -47,6 +47,11 @@ fn one_pair<S: Space<u8>>(rt: &impl Abort, alloc: Global) -> Result<(), Fail> {
 #[test]
 fn one_pair_in_a_map(rt: HostRuntime) -> Result<(), Fail> {
     one_pair::<MapSpace<u8>>(&rt, rt.alloc())
+}
+
+#[test]
+fn one_pair_in_a_tree(rt: HostRuntime) -> Result<(), Fail> {
+    one_pair::<TreeSpace<u8>>(&rt, rt.alloc())
 }
 
 #[test]

@@ -1,0 +1,5 @@
+use Rattle.acpi_space.proofs.Tree.{empty_tree}
+use Rattle.acpi_space.proofs.tree_space.TreeSpaceSpace.new.Goals as goal
+
+pub invariant_of-result : goal.invariant_of-result
+invariant_of-result g c = empty_tree c.new.result.items c.new.ensures.items

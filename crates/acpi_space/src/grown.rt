@@ -1,0 +1,135 @@
+//! How a tree grows: nodes are put where a path has none yet, and a value into the last of them.
+ghost use Rattle.std.specs.Prelude.{◌≡◌, ◌≢◌, ◌<◌, ◌+◌, ℕ, length, map, slice_get, cond, Some, None, IsSome, OnOk, OnErr, IfOk, IfErr};
+ghost use Rattle.std.specs.Ordering.{is_eq};
+ghost use Rattle.std.specs.List.Sorted.{IsStrictlySortedBy};
+ghost use Rattle.std.specs.BTreeMap.{insert_entry};
+ghost use Rattle.acpi_name.specs.Names.{Segment};
+ghost use Rattle.acpi_name.specs.Paths.{segment_cmp};
+ghost use Rattle.acpi_space.specs.Grown.{HasPut, IsGrown, IsPadded};
+ghost use Rattle.acpi_space.specs.Tree.{IsTree, child_at, node_children, node_value, reached, value_below};
+
+use crate::nodes::{Node, child};
+use crate::space::Refused;
+use acpi_name::Seg;
+use std::alloc::{AllocError, Global};
+use std::collections::BTreeMap;
+
+/// The number of the node at a path. Nodes without a value are put where there are none yet; where
+/// memory is refused, some of them may stay.
+pub(crate) fn reach<V: Drop>(
+    alloc: Global,
+    nodes: &mut Vec<Node<V>>,
+    path: &[Seg],
+) -> Result<usize, AllocError>
+    requires { IsTree nodes.old.items }
+    ensures grown { IsGrown nodes.old.items nodes.new.items }
+    ensures reached { IfOk result (λ n. reached nodes.new.items 0 path.now ≡ Some n) }
+    ensures within { IfOk result (λ n. n < length nodes.new.items) }
+    ensures absent { OnErr result (value_below nodes.old.items 0 path.now ≡ None) }
+{
+    root(alloc, nodes)?;
+    let mut number = 0;
+    for seg in path {
+        number = step(alloc, nodes, number, *seg)?;
+    }
+    Ok(number)
+}
+
+// Puts the root, where there is no node.
+fn root<V: Drop>(alloc: Global, nodes: &mut Vec<Node<V>>) -> Result<(), AllocError>
+    requires { IsTree nodes.old.items }
+    ensures grown { IsGrown nodes.old.items nodes.new.items }
+    ensures ok { OnOk result (0 < length nodes.new.items) }
+    ensures err { OnErr result (length nodes.old.items ≡ 0) }
+{
+    if nodes.is_empty() {
+        push_empty(alloc, nodes)?;
+    }
+    Ok(())
+}
+
+// The number of a node's child at a segment, which is put where there is none.
+fn step<V: Drop>(
+    alloc: Global,
+    nodes: &mut Vec<Node<V>>,
+    number: usize,
+    seg: Seg,
+) -> Result<usize, AllocError>
+    requires tree { IsTree nodes.old.items }
+    requires within { number < length nodes.old.items }
+    ensures grown { IsGrown nodes.old.items nodes.new.items }
+    ensures child { IfOk result (λ m. child_at nodes.new.items number seg ≡ Some m) }
+    ensures absent { OnErr result (child_at nodes.old.items number seg ≡ None) }
+{
+    match child(nodes, number, seg) {
+        Some(next) => Ok(next),
+        None => add_child(alloc, nodes, number, seg),
+    }
+}
+
+// Puts an empty node, and makes it the child of another.
+fn add_child<V: Drop>(
+    alloc: Global,
+    nodes: &mut Vec<Node<V>>,
+    number: usize,
+    seg: Seg,
+) -> Result<usize, AllocError>
+    requires tree { IsTree nodes.old.items }
+    requires within { number < length nodes.old.items }
+    requires free { child_at nodes.old.items number seg ≡ None }
+    ensures grown { IsGrown nodes.old.items nodes.new.items }
+    ensures child { IfOk result (λ m. child_at nodes.new.items number seg ≡ Some m) }
+{
+    let next = nodes.len();
+    push_empty(alloc, nodes)?;
+    link(nodes, number, seg, next)?;
+    Ok(next)
+}
+
+// Puts a node with neither value nor children at the end.
+fn push_empty<V: Drop>(alloc: Global, nodes: &mut Vec<Node<V>>) -> Result<(), AllocError>
+    ensures padded { IsPadded nodes.old.items nodes.new.items }
+    ensures ok { OnOk result (length nodes.new.items ≡ length nodes.old.items + 1) }
+    ensures err { OnErr result (length nodes.new.items ≡ length nodes.old.items) }
+{
+    nodes.push(Node {
+        value: None,
+        children: BTreeMap::new(alloc),
+    })?;
+    Ok(())
+}
+
+// Makes a node the child of another at a segment.
+fn link<V>(nodes: &mut Vec<Node<V>>, number: usize, seg: Seg, next: usize) -> Result<(), AllocError>
+    requires { number < length nodes.old.items }
+    ensures len { length nodes.new.items ≡ length nodes.old.items }
+    ensures others { (n : ℕ) → n ≢ number → slice_get nodes.new.items n ≡ slice_get nodes.old.items n }
+    ensures value { node_value (slice_get nodes.new.items number) ≡ node_value (slice_get nodes.old.items number) }
+    ensures ordered { IsStrictlySortedBy segment_cmp (map (λ e. e.0) (node_children (slice_get nodes.new.items number))) }
+    ensures entries { OnOk result (node_children (slice_get nodes.new.items number) ≡ insert_entry segment_cmp (node_children (slice_get nodes.old.items number)) seg next) }
+    ensures child { OnOk result ((g : Segment) → child_at nodes.new.items number g ≡ cond (is_eq (segment_cmp seg g)) (Some next) (child_at nodes.old.items number g)) }
+    ensures err { OnErr result (node_children (slice_get nodes.new.items number) ≡ node_children (slice_get nodes.old.items number)) }
+{
+    nodes[number].children.insert(seg, next)?;
+    Ok(())
+}
+
+/// Gives a value to a node that has none; where it has one the value is handed back.
+pub(crate) fn put<V: Drop>(
+    nodes: &mut Vec<Node<V>>,
+    number: usize,
+    value: V,
+) -> Result<(), Refused<V>>
+    requires { number < length nodes.old.items }
+    ensures free { OnOk result (node_value (slice_get nodes.old.items number) ≡ None) }
+    ensures ok { OnOk result (HasPut nodes.old.items nodes.new.items number value) }
+    ensures taken { IfErr result (λ e. (e ≡ Refused.Taken value) × IsSome (node_value (slice_get nodes.old.items number))) }
+    ensures err { OnErr result (nodes.new.items ≡ nodes.old.items) }
+{
+    let node = &mut nodes[number];
+    if node.value.is_some() {
+        return Err(Refused::Taken(value));
+    }
+    node.value = Some(value);
+    Ok(())
+}

@@ -1,0 +1,91 @@
+//! Numbered nodes of a tree, the root first, and walks down through them.
+ghost use Rattle.std.specs.Prelude.{◌≡◌, ◌<◌, ◌≢◌, length, slice_get, find, is_some, if◌then◌else◌, ◌++◌, [], ◌∷◌, Some, None, OnOk, OnErr, IfOk};
+ghost use Rattle.std.specs.Option.{option_copied, option_map};
+ghost use Rattle.std.specs.BTreeMap.{insert_entry};
+ghost use Rattle.acpi_name.specs.Paths.{segment_cmp};
+ghost use Rattle.acpi_space.specs.Search.{beginnings};
+ghost use Rattle.acpi_space.specs.Tree.{IsTree, child_at, child_of, node_children, node_value, reached, value_below};
+
+use acpi_name::Seg;
+use std::alloc::{AllocError, Global};
+use std::collections::BTreeMap;
+
+/// A node: its value, if it has one, and the numbers of its children in the order of their segments.
+#[derive(Drop)]
+pub struct Node<V> {
+    pub value: Option<V>,
+    pub children: BTreeMap<Seg, usize>,
+}
+
+// The number of the child at a segment.
+fn number_of(children: &BTreeMap<Seg, usize>, seg: Seg) -> Option<usize>
+    ensures { result ≡ child_of children.now.entries seg }
+{
+    children.get(&seg).copied()
+}
+
+/// The number of a node's child at a segment.
+pub(crate) fn child<V>(nodes: &[Node<V>], number: usize, seg: Seg) -> Option<usize>
+    ensures { result ≡ child_at nodes.now number seg }
+{
+    match nodes.get(number) {
+        Some(node) => number_of(&node.children, seg),
+        None => None,
+    }
+}
+
+/// A node's value.
+pub(crate) fn value<V>(nodes: &[Node<V>], number: usize) -> Option<&V>
+    ensures { option_copied result ≡ node_value (slice_get nodes.now number) }
+{
+    match nodes.get(number) {
+        Some(node) => node.value.as_ref(),
+        None => None,
+    }
+}
+
+/// The value at a path.
+pub(crate) fn value_at<'a, V>(nodes: &'a [Node<V>], path: &[Seg]) -> Option<&'a V>
+    ensures { option_copied result ≡ value_below nodes.now 0 path.now }
+{
+    let mut number = 0;
+    for seg in path {
+        match child(nodes, number, *seg) {
+            Some(next) => number = next,
+            None => return None,
+        }
+    }
+    value(nodes, number)
+}
+
+// `depth`, where a node has a child at the segment with a value, else what was found above it.
+fn nearer<V>(
+    nodes: &[Node<V>],
+    number: usize,
+    seg: Seg,
+    depth: usize,
+    found: Option<usize>,
+) -> Option<usize>
+    ensures { result ≡ (if is_some (value_below nodes.now number (seg ∷ [])) then Some depth else found) }
+{
+    match child(nodes, number, seg) {
+        Some(next) if value(nodes, next).is_some() => Some(depth),
+        _ => found,
+    }
+}
+
+/// The length of the longest beginning of the scope below which the segment has a value.
+pub(crate) fn nearest_to<V>(nodes: &[Node<V>], scope: &[Seg], seg: Seg) -> Option<usize>
+    ensures { result ≡ option_map length (find (λ q. is_some (value_below nodes.now 0 (q ++ seg ∷ []))) (beginnings scope.now)) }
+{
+    let mut number = 0;
+    let mut found = None;
+    for (depth, step) in scope.iter().enumerate() {
+        found = nearer(nodes, number, seg, depth, found);
+        match child(nodes, number, *step) {
+            Some(next) => number = next,
+            None => return found,
+        }
+    }
+    nearer(nodes, number, seg, scope.len(), found)
+}

@@ -1,0 +1,64 @@
+//! A namespace that is kept as a tree of numbered nodes.
+ghost use Rattle.std.specs.Prelude.{◌≡◌};
+ghost use Rattle.acpi_space.specs.Spaces.{PathMap};
+
+use crate::grown::{put, reach};
+use crate::nodes::{Node, nearest_to, value_at};
+use crate::space::{Refused, Space};
+use crate::walk::all_pairs;
+use acpi_name::{Path, Seg};
+use std::alloc::{AllocError, Global};
+use std::marker::Model;
+
+/// A namespace that is kept as a tree: a node has an optional value and its children by segment, and
+/// the first one is the root. So the search of a segment is one walk down, and takes no memory.
+#[derive(Drop)]
+pub struct TreeSpace<V> {
+    alloc: Global,
+    nodes: Vec<Node<V>>,
+}
+
+impl<V> Model for TreeSpace<V> {
+    ghost use Rattle.std.specs.FinMap as finite;
+    ghost use Rattle.acpi_space.specs.Spaces.{PathMap, coded_path};
+    ghost use Rattle.acpi_space.specs.Tree.{tree_map, IsTree};
+
+    ghost Value = { PathMap V };
+
+    ghost coded = { finite.code coded_path V.code };
+
+    ghost view = { λ t. tree_map t.nodes.items };
+
+    ghost invariant = { λ t. IsTree t.nodes.items };
+}
+
+impl<V: Drop> Space<V> for TreeSpace<V> {
+    ghost contents = { λ s. s };
+
+    fn new(alloc: Global) -> Self {
+        TreeSpace {
+            alloc,
+            nodes: Vec::new(alloc),
+        }
+    }
+
+    fn get(&self, path: &Path) -> Option<&V> {
+        value_at(&self.nodes, path.segs())
+    }
+
+    fn insert(&mut self, path: Path, value: V) -> Result<(), Refused<V>> {
+        let number = match reach(self.alloc, &mut self.nodes, path.segs()) {
+            Ok(number) => number,
+            Err(_) => return Err(Refused::Memory(value)),
+        };
+        put(&mut self.nodes, number, value)
+    }
+
+    fn pairs(&self) -> Result<Vec<(Path, &V)>, AllocError> {
+        all_pairs(self.alloc, &self.nodes)
+    }
+
+    fn nearest(&self, scope: &Path, seg: Seg) -> Result<Option<usize>, AllocError> {
+        Ok(nearest_to(&self.nodes, scope.segs(), seg))
+    }
+}
