@@ -1,7 +1,7 @@
 //! Names as they are written: rooted or not, a number of parents to go up, and segments.
 
 ghost use Rattle.acpi_name.specs.Names.{IsName, plain_segment};
-ghost use Rattle.std.specs.Prelude.{◌≡◌, ◌<◌, ◌^◌, length, slice_get, Some, IsTrue, ◌↔◌, IfOk, true, false};
+ghost use Rattle.std.specs.Prelude.{◌≡◌, ◌<◌, ◌^◌, [], length, slice_get, Some, IsTrue, ◌↔◌, IfOk, true, false};
 ghost use Rattle.acpi_name.specs.NameEqual.{name_eq, name_eq_equiv};
 ghost use Rattle.std.specs.Cmp.{partial_equiv_from_equiv};
 
@@ -56,6 +56,13 @@ impl<'a> NameRef<'a> {
         self.segs.len()
     }
 
+    /// Whether the name has no segments.
+    pub fn is_empty(&self) -> bool
+        ensures { IsTrue result ↔ ((name_parts self.now).segments ≡ []) }
+    {
+        self.segs.is_empty()
+    }
+
     /// The segment at index `i`.
     pub fn seg(&self, i: usize) -> Seg
         requires { i < length (name_parts self.now).segments }
@@ -98,7 +105,7 @@ impl<'a> NameRef<'a> {
     }
 }
 
-/// A name that owns its segments, in the order of its shortest spelling.
+/// A name that owns its segments. They are kept as the name's shortest spelling has them.
 #[derive(Debug, Drop)]
 pub struct Name {
     rooted: bool,
@@ -138,7 +145,8 @@ impl Name {
 
     /// The name, lent.
     pub fn view(&self) -> NameRef<'_>
-        ensures { name_parts result ≡ self.now }
+        ensures parts { name_parts result ≡ self.now }
+        ensures is_name { IsName self.now }
     {
         NameRef {
             rooted: self.rooted,

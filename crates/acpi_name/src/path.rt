@@ -118,6 +118,13 @@ impl Path {
         self.segs.len()
     }
 
+    /// Whether the path is the root.
+    pub fn is_empty(&self) -> bool
+        ensures { IsTrue result ↔ (self.now ≡ []) }
+    {
+        self.segs.is_empty()
+    }
+
     /// The path of the first `count` segments.
     pub fn beginning(&self, alloc: Global, count: usize) -> Result<Path, AllocError>
         requires { count ≤ length self.now }

@@ -63,7 +63,8 @@ impl Seg {
 
     /// The four bytes.
     pub fn bytes(self) -> [u8; 4]
-        ensures { result ≡ self }
+        ensures value { result ≡ self }
+        ensures segment { IsTrue (is_segment self) }
     {
         self.bytes
     }
