@@ -5,6 +5,7 @@ ghost use Rattle.std.specs.Ordering.{as_partial_cmp, eq_by_cmp};
 ghost use Rattle.std.specs.Cmp.{partial_order_from_agreeing_total, partial_equiv_from_equiv, eq_by_cmp_equiv};
 ghost use Rattle.std.specs.Cmp.Rules.{comparing};
 ghost use Rattle.std.proofs.Common.{rules};
+ghost use Rattle.acpi_name.specs.Names.{AreSegments};
 ghost use Rattle.acpi_name.specs.Paths.{path_cmp, path_cmp_total, place_of, parent_of};
 ghost use Rattle.std.specs.List.{last_or};
 
@@ -23,7 +24,7 @@ pub struct Path {
 
 impl Model for Path {
     ghost use Rattle.std.specs.Prelude.{List};
-    ghost use Rattle.acpi_name.specs.Names.{Segment};
+    ghost use Rattle.acpi_name.specs.Names.{Segment, AreSegments};
     ghost use Rattle.std.specs.Coded.{coded_ℕ, coded_list};
 
     ghost Value = { List Segment };
@@ -31,6 +32,8 @@ impl Model for Path {
     ghost coded = { coded_list (coded_list coded_ℕ) };
 
     ghost view = { λ p. p.segs.items };
+
+    ghost invariant = { λ p. AreSegments p.segs.items };
 }
 
 impl PartialEq for Path {
@@ -88,7 +91,8 @@ impl Path {
 
     /// The segments from the root on.
     pub fn segs(&self) -> &[Seg]
-        ensures { result.now ≡ self.now }
+        ensures all { result.now ≡ self.now }
+        ensures segments { AreSegments self.now }
     {
         &self.segs
     }
