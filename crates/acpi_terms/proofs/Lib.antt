@@ -1,3 +1,4 @@
 pub mod Ranges
 pub mod Each
 pub mod Opened
+pub mod Alike

@@ -655,6 +655,108 @@ fn shares_method_code(rt: HostRuntime) -> Result<(), Fail> {
     Ok(())
 }
 
+// The items of the code, and a copy of each.
+fn copies_of(alloc: Global, code: &[u8]) -> Result<(Vec<Item>, Vec<Item>), Fail> {
+    let items = read_items(alloc, code, Depth::new(9).ok_or("a depth")?)?;
+    let mut copies = Vec::new(alloc);
+    for item in &items {
+        copies.push(item.copy(alloc)?)?;
+    }
+    Ok((items, copies))
+}
+
+fn expect_copies(rt: &impl Abort, alloc: Global, code: &[u8]) -> Result<(), Fail> {
+    let (items, copies) = copies_of(alloc, code)?;
+    assert!(rt; items_fit(&items));
+    assert!(rt; items == copies);
+    Ok(())
+}
+
+#[test]
+fn copies_are_equal(rt: HostRuntime) -> Result<(), Fail> {
+    expect_copies(&rt, rt.alloc(), b"")?;
+    expect_copies(
+        &rt,
+        rt.alloc(),
+        b"\x10\x13\x5C\x5F\x53\x42\x5F\x5B\x82\x0B\x50\x43\x49\x30\x08\x5F\x41\x44\x52\x00",
+    )?;
+    expect_copies(
+        &rt,
+        rt.alloc(),
+        b"\xA0\x12\x00\x15\x5C\x46\x4F\x4F\x5F\x08\x02\x15\x5C\x42\x41\x52\x5F\x06\x00",
+    )?;
+    expect_copies(&rt, rt.alloc(), b"\x15\x5C\x46\x4F\x4F\x5F\x08\x02")?;
+    expect_copies(
+        &rt,
+        rt.alloc(),
+        b"\x5B\x80\x52\x45\x47\x30\x00\x00\x0E\xFF\xFF\xFF\xFF\xFF\xFF\xFF\xFF",
+    )?;
+    expect_copies(
+        &rt,
+        rt.alloc(),
+        b"\x8A\x42\x55\x46\x30\x0A\x04\x46\x4F\x4F\x5F",
+    )?;
+    expect_copies(
+        &rt,
+        rt.alloc(),
+        b"\x5B\x86\x0F\x49\x44\x58\x30\x44\x41\x54\x30\x01\x41\x41\x5F\x5F\x08",
+    )?;
+    expect_copies(
+        &rt,
+        rt.alloc(),
+        b"\x5B\x83\x0B\x43\x50\x55\x30\x01\x10\x08\x00\x00\x06",
+    )?;
+    expect_copies(&rt, rt.alloc(), b"\x5B\x84\x08\x50\x57\x52\x30\x00\x00\x00")?;
+    expect_copies(
+        &rt,
+        rt.alloc(),
+        b"\x14\x0F\x43\x41\x4C\x4C\x00\xA4\x4D\x54\x48\x32\x0A\x01\x0A\x02",
+    )?;
+    expect_copies(
+        &rt,
+        rt.alloc(),
+        b"\x5B\x87\x10\x52\x45\x47\x30\x42\x4E\x4B\x30\x01\x00\x41\x41\x5F\x5F\x08",
+    )?;
+    expect_copies(
+        &rt,
+        rt.alloc(),
+        b"\x5B\x01\x4D\x54\x58\x30\x00\x5B\x02\x45\x56\x54\x30",
+    )?;
+    expect_copies(
+        &rt,
+        rt.alloc(),
+        b"\x5B\x85\x05\x54\x5A\x5F\x5F\x5B\x13\x42\x55\x46\x30\x00\x01\x46\x4F\x4F\x5F",
+    )?;
+    expect_copies(
+        &rt,
+        rt.alloc(),
+        b"\x08\x46\x4F\x4F\x5F\x12\x12\x04\x0D\x41\x42\x00\x5C\x42\x41\x52\x5F\x11\x03\x01\xFF\x13\x02\xFF",
+    )?;
+    expect_copies(
+        &rt,
+        rt.alloc(),
+        b"\x10\xC9\x01\x00\x00\x5C\x5F\x53\x42\x5F\x5B\x82\xCE\x00\x00\x00\x50\x43\x49\x30\x08\x5F\x41\x44\x52\x00",
+    )?;
+    expect_copies(
+        &rt,
+        rt.alloc(),
+        b"\x5B\x81\x19\x52\x45\x47\x30\x01\x00\x04\x01\x05\x00\x03\x01\x02\x03\x02\x11\x03\x01\xFF\x02\x46\x4F\x4F\x5F",
+    )?;
+    expect_copies(&rt, rt.alloc(), b"\xA0\x02\x00")?;
+    Ok(())
+}
+
+#[test]
+fn copies_objects(rt: HostRuntime) -> Result<(), Fail> {
+    let method = Object::Method(0x0A);
+    assert_eq!(rt; method.args(), 2);
+    assert!(rt; method.copy(rt.alloc())? == method);
+    assert!(rt; method != Object::Mutex(0x0A));
+    assert!(rt; Object::Root.opens_scope());
+    assert!(rt; !Object::Event.opens_scope());
+    Ok(())
+}
+
 #[test]
 fn prints_reasons(rt: HostRuntime) -> Result<(), Fail> {
     assert_eq!(rt;
