@@ -1,10 +1,7 @@
 -- The pairs of a tree ascend by path.
-use Rattle.std.proofs.Common.{◌≡◌, ℕ, zero, suc, true, List, [], ◌∷◌, ◌++◌, length, map, Option, Some, None, slice_get, refl, sym, ap, ◌∙◌, Result, Ok, Err, IfOk}
-use Rattle.std.specs.declared.cmp.Ordering.{Ordering}
-use Rattle.std.specs.declared.cmp.Ordering.TheVariants.{Less, Equal, Greater}
-use Rattle.std.specs.Ordering.{is_eq, ordering_then}
-use Rattle.std.specs.Cmp.{eq_by_cmp_equiv}
-use Rattle.std.specs.Cmp.Lexicographic.{nat_list_cmp_total}
+use Rattle.std.proofs.Common.{◌≡◌, ℕ, zero, suc, List, [], ◌∷◌, ◌++◌, length, map, Option, Some, None, slice_get, refl, sym, ap, ◌∙◌, Result, Ok, Err, IfOk}
+use Rattle.std.specs.declared.cmp.Ordering.TheVariants.{Less}
+use Rattle.std.specs.Ordering.{ordering_then}
 use Rattle.std.specs.List.{flat_map, AllByRecursion}
 use Rattle.std.specs.List.Sorted.{IsStrictlySortedBy}
 use Rattle.std.specs.FinMap.{entries}
@@ -14,11 +11,7 @@ use Rattle.acpi_space.specs.declared.nodes.Node.{Node}
 use Rattle.acpi_space.specs.Tree.{node_children, node_value, own_pair, pairs_below, tree_map, IsTree}
 use Rattle.acpi_space.specs.Spaces.{PathMap}
 use Rattle.acpi_space.proofs.Maps.{entries_ascending}
-
-eq_of : (o : Ordering) → is_eq o ≡ true → o ≡ Equal
-eq_of Less e = cc
-eq_of Equal e = refl
-eq_of Greater e = cc
+use Rattle.acpi_space.proofs.Equal.{eq_of, segment_itself}
 
 -- a pair before each of a list
 abbrev Before : {V : Type 0} → List Segment → List (List Segment × V) → Type 0
@@ -42,7 +35,7 @@ under h es = map (λ p. (h ∷ p.0, p.1)) es
 -- below one segment
 before_under : {V : Type 0} (h : Segment) (p : List Segment) (es : List (List Segment × V)) → Before p es → Before (h ∷ p) (under h es)
 before_under h p [] b = tt
-before_under h p (e ∷ es) b = (ap (λ o. ordering_then o (path_cmp p e.0)) (eq_of _ ((eq_by_cmp_equiv nat_list_cmp_total).refl h)) ∙ b.0, before_under h p es b.1)
+before_under h p (e ∷ es) b = (ap (λ o. ordering_then o (path_cmp p e.0)) (eq_of _ (segment_itself h)) ∙ b.0, before_under h p es b.1)
 
 ascend_under : {V : Type 0} (h : Segment) (es : List (List Segment × V)) → Ascend es → Ascend (under h es)
 ascend_under h [] a = tt

@@ -1,16 +1,11 @@
 -- A tree to which nodes without a value are added.
 use Rattle.std.proofs.Common.{◌≡◌, ◌≢◌, ℕ, ◌+◌, ◌<◌, ◌≤◌, Bool, true, false, cond, ◌⊎◌, inl, inr, List, [], ◌∷◌, length, map, Option, Some, None, slice_get, nat_eq, refl, sym, ap, ◌∙◌, subst, arith}
-use Rattle.std.proofs.lemmas.Bool.Decides.{nat_tests}
 use Rattle.std.specs.Option.{option_and_then}
-use Rattle.std.specs.declared.cmp.Ordering.{Ordering}
 use Rattle.std.specs.declared.cmp.Ordering.TheVariants.{Less, Equal, Greater}
 use Rattle.std.specs.Ordering.{is_eq, match_ordering}
-use Rattle.std.specs.Cmp.{eq_by_cmp_equiv}
-use Rattle.std.specs.Cmp.Lexicographic.{nat_list_cmp_total}
 use Rattle.std.specs.List.{AllByRecursion}
 use Rattle.std.specs.List.Sorted.{IsStrictlySortedBy}
 use Rattle.std.specs.BTreeMap.{insert_entry}
-use Rattle.std.specs.FinMap.{slice_cmp-IsAntisymmetric, nat_cmp-IsAntisymmetric}
 use Rattle.acpi_name.specs.Names.{Segment}
 use Rattle.acpi_name.specs.Paths.{segment_cmp}
 use Rattle.acpi_space.specs.declared.nodes.Node.{Node}
@@ -18,20 +13,7 @@ use Rattle.acpi_space.specs.Grown.{IsGrown, IsPadded}
 use Rattle.acpi_space.specs.Tree.{child_of, child_at, node_children, node_value, reached, value_below, IsTree}
 use Rattle.acpi_space.proofs.Tree.{child_within, value_below_step}
 use Rattle.acpi_space.proofs.Written.{past_end}
-
-eq_of : (o : Ordering) → is_eq o ≡ true → o ≡ Equal
-eq_of Less e = cc
-eq_of Equal e = refl
-eq_of Greater e = cc
-
-same_segment : (g h : Segment) → is_eq (segment_cmp g h) ≡ true → g ≡ h
-same_segment g h e = slice_cmp-IsAntisymmetric nat_cmp-IsAntisymmetric g h (eq_of _ e)
-
-is_number : (a b : ℕ) → nat_eq a b ≡ true → a ≡ b
-is_number a b e = grind (arith, nat_tests)
-
-not_number : (a b : ℕ) → nat_eq a b ≡ false → a ≢ b
-not_number a b e = grind (arith, nat_tests)
+use Rattle.acpi_space.proofs.Equal.{same_segment, segment_itself, same_number, other_number}
 
 -- ---- nodes with the same children and values
 
@@ -112,8 +94,8 @@ module _ {V : Type 0} (old new : List (Node V)) (number : ℕ) (g : Segment) (m 
   value_same n = by (nat_eq n number) refl
     where
       by : (b : Bool) → nat_eq n number ≡ b → node_value (slice_get new n) ≡ node_value (slice_get old n)
-      by true e = let at : number ≡ n = sym (is_number n number e) in subst (λ k. node_value (slice_get new k) ≡ node_value (slice_get old k)) at is.value
-      by false e = ap node_value (is.others n (not_number n number e))
+      by true e = let at : number ≡ n = sym (same_number n number e) in subst (λ k. node_value (slice_get new k) ≡ node_value (slice_get old k)) at is.value
+      by false e = ap node_value (is.others n (other_number n number e))
 
   -- a child is an old one, or the new one
   abbrev Origin : ℕ → Segment → Option ℕ → Type 0
@@ -127,8 +109,8 @@ module _ {V : Type 0} (old new : List (Node V)) (number : ℕ) (g : Segment) (m 
       here false s e c = inl (ap (λ k. child_at new k h) e ∙ c ∙ ap (λ k. child_at old k h) (sym e))
 
       by : (b : Bool) → nat_eq n number ≡ b → Origin n h (child_at new n h)
-      by true e = here (is_eq (segment_cmp g h)) refl (is_number n number e) (is.child h)
-      by false e = inl (child_other n h (not_number n number e))
+      by true e = here (is_eq (segment_cmp g h)) refl (same_number n number e) (is.child h)
+      by false e = inl (child_other n h (other_number n number e))
 
   -- what a walk from the empty node finds
   from_empty : (q : List Segment) → value_below old m q ≡ None
@@ -171,7 +153,7 @@ module _ {V : Type 0} (old new : List (Node V)) (number : ℕ) (g : Segment) (m 
 
       by : (b : Bool) → nat_eq n number ≡ b → IsStrictlySortedBy segment_cmp (map (λ e. e.0) (node_children (slice_get new n))) × AllByRecursion (λ e. (n < e.1) × (e.1 < length new)) (node_children (slice_get new n))
       by true e =
-          let at : n ≡ number = is_number n number e in
+          let at : n ≡ number = same_number n number e in
           let kids : node_children (slice_get new n) ≡ insert_entry segment_cmp (node_children (slice_get old n)) g m =
           ap (λ k. node_children (slice_get new k)) at ∙ is.entries ∙ ap (λ k. insert_entry segment_cmp (node_children (slice_get old k)) g m) (sym at) in
           let below : n < m = subst (λ k. k < m) (sym at) is.above in (
@@ -180,7 +162,7 @@ module _ {V : Type 0} (old new : List (Node V)) (number : ℕ) (g : Segment) (m 
                 (same_bound _ (all_inserted (λ j. (n < j) × (j < length old)) (node_children (slice_get old n)) g m (below, is.within) (is.tree.0 n).1)),
           )
       by false e =
-          let same : node_children (slice_get old n) ≡ node_children (slice_get new n) = ap node_children (sym (is.others n (not_number n number e))) in (
+          let same : node_children (slice_get old n) ≡ node_children (slice_get new n) = ap node_children (sym (is.others n (other_number n number e))) in (
             subst (λ kids. IsStrictlySortedBy segment_cmp (map (λ e. e.0) kids)) same (is.tree.0 n).0,
             subst (λ kids. AllByRecursion (λ e. (n < e.1) × (e.1 < length new)) kids) same (same_bound _ (is.tree.0 n).1),
           )
@@ -210,8 +192,8 @@ unlinked_padded {V} old new number others value kids = record {
 }
   where
     by : {B : Type 0} (n : ℕ) (b : Bool) → nat_eq n number ≡ b → (f : Option (Node V) → B) → f (slice_get new number) ≡ f (slice_get old number) → f (slice_get new n) ≡ f (slice_get old n)
-    by n true e f h = let at : number ≡ n = sym (is_number n number e) in subst (λ k. f (slice_get new k) ≡ f (slice_get old k)) at h
-    by n false e f h = ap f (others n (not_number n number e))
+    by n true e f h = let at : number ≡ n = sym (same_number n number e) in subst (λ k. f (slice_get new k) ≡ f (slice_get old k)) at h
+    by n false e f h = ap f (others n (other_number n number e))
 
 -- an empty node is put at the end, and made a child
 module _ {V : Type 0} (old mid new : List (Node V)) (number : ℕ) (g : Segment) (m : ℕ)
@@ -237,10 +219,7 @@ module _ {V : Type 0} (old mid new : List (Node V)) (number : ℕ) (g : Segment)
         child = child;
       }
 
-same_itself : (g : Segment) → is_eq (segment_cmp g g) ≡ true
-same_itself g = (eq_by_cmp_equiv nat_list_cmp_total).refl g
-
 -- it is there
 pub linked_there : {V : Type 0} (old new : List (Node V)) (number : ℕ) (g : Segment) (m : ℕ)
     → ((h : Segment) → child_at new number h ≡ cond (is_eq (segment_cmp g h)) (Some m) (child_at old number h)) → child_at new number g ≡ Some m
-linked_there old new number g m child = child g ∙ ap (λ b. cond b (Some m) (child_at old number g)) (same_itself g)
+linked_there old new number g m child = child g ∙ ap (λ b. cond b (Some m) (child_at old number g)) (segment_itself g)

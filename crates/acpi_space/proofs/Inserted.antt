@@ -1,15 +1,11 @@
 -- A value that is put into a tree, as an insertion into its map.
-use Rattle.std.proofs.Common.{◌≡◌, ◌≢◌, ℕ, ◌<◌, Bool, true, false, cond, List, [], ◌∷◌, ◌++◌, length, Option, Some, None, IsSome, is_some, slice_get, nat_eq, refl, sym, ap, ◌∙◌, subst, arith, Result, Ok, Err, OnOk, OnErr, IfErr}
-use Rattle.std.proofs.lemmas.Bool.Decides.{nat_tests}
+use Rattle.std.proofs.Common.{◌≡◌, ℕ, ◌<◌, Bool, true, false, cond, List, [], ◌∷◌, ◌++◌, length, Option, Some, None, IsSome, is_some, slice_get, nat_eq, refl, sym, ap, ◌∙◌, subst, arith, Result, Ok, Err, OnOk, OnErr, IfErr}
 use Rattle.std.proofs.lemmas.List.{append-nil}
 use Rattle.std.specs.Option.{option_and_then}
-use Rattle.std.specs.declared.cmp.Ordering.{Ordering}
-use Rattle.std.specs.declared.cmp.Ordering.TheVariants.{Less, Equal, Greater}
 use Rattle.std.specs.Ordering.{is_eq}
-use Rattle.std.specs.Cmp.{eq_by_cmp_equiv}
 use Rattle.std.specs.FinMap.{get, insert}
 use Rattle.acpi_name.specs.Names.{Segment}
-use Rattle.acpi_name.specs.Paths.{path_cmp, path_cmp_total, path_cmp-IsAntisymmetric}
+use Rattle.acpi_name.specs.Paths.{path_cmp}
 use Rattle.acpi_space.specs.declared.nodes.Node.{Node}
 use Rattle.acpi_space.specs.declared.space.Refused.{Refused}
 use Rattle.acpi_space.specs.declared.space.Refused.TheVariants.{Taken}
@@ -19,6 +15,7 @@ use Rattle.acpi_space.specs.Grown.{IsGrown, HasPut}
 use Rattle.acpi_space.specs.Tree.{child_at, node_value, reached, value_below, tree_map, IsTree}
 use Rattle.acpi_space.proofs.Tree.{child_within, get-tree, same_tree, put_tree}
 use Rattle.acpi_space.proofs.Growth.{same_children_tree, same_reached}
+use Rattle.acpi_space.proofs.Equal.{same_path, path_itself, same_number, other_number}
 
 -- ---- two walks that end at one node are the same
 
@@ -80,20 +77,6 @@ one_walk nodes t p q k e f =
 
 -- ---- a value is put
 
-eq_of : (o : Ordering) → is_eq o ≡ true → o ≡ Equal
-eq_of Less e = cc
-eq_of Equal e = refl
-eq_of Greater e = cc
-
-same_path : (p q : List Segment) → is_eq (path_cmp p q) ≡ true → p ≡ q
-same_path p q e = path_cmp-IsAntisymmetric p q (eq_of _ e)
-
-is_number : (a b : ℕ) → nat_eq a b ≡ true → a ≡ b
-is_number a b e = grind (arith, nat_tests)
-
-not_number : (a b : ℕ) → nat_eq a b ≡ false → a ≢ b
-not_number a b e = grind (arith, nat_tests)
-
 module _ {V : Type 0} (mid new : List (Node V)) (p : List Segment) (k : ℕ) (v : V) (t : IsTree mid) (at : reached mid 0 p ≡ Some k) (has : HasPut mid new k v) where
   put_is_tree : IsTree new
   put_is_tree = same_children_tree mid new has.children (let e : length new ≡ length mid = has.len in omega (arith, e)) t
@@ -102,15 +85,15 @@ module _ {V : Type 0} (mid new : List (Node V)) (p : List Segment) (k : ℕ) (v 
   put_value q = ap (option_and_then (λ m. node_value (slice_get new m))) (same_reached mid new has.children 0 q) ∙ by (reached mid 0 q) refl (is_eq (path_cmp q p)) refl
     where
       there : (j : ℕ) → reached mid 0 q ≡ Some j → (b : Bool) → is_eq (path_cmp q p) ≡ b → (s : Bool) → nat_eq j k ≡ s → node_value (slice_get new j) ≡ cond b (Some v) (node_value (slice_get mid j))
-      there j e b eb true es = let same : j ≡ k = is_number j k es in
+      there j e b eb true es = let same : j ≡ k = same_number j k es in
           let path : q ≡ p = one_walk mid t q p k (e ∙ ap Some same) at in
-          let yes : b ≡ true = sym eb ∙ ap (λ r. is_eq (path_cmp r p)) path ∙ (eq_by_cmp_equiv path_cmp_total).refl p in
+          let yes : b ≡ true = sym eb ∙ ap (λ r. is_eq (path_cmp r p)) path ∙ path_itself p in
           ap (λ n. node_value (slice_get new n)) same ∙ has.value ∙ ap (λ c. cond c (Some v) (node_value (slice_get mid j))) (sym yes)
       there j e true eb false es =
           let path : q ≡ p = same_path q p eb in
           let both : Some j ≡ Some k = sym e ∙ ap (reached mid 0) path ∙ at in
-          let same : j ≡ k = cc in absurd (not_number j k es same)
-      there j e false eb false es = has.others j (not_number j k es)
+          let same : j ≡ k = cc in absurd (other_number j k es same)
+      there j e false eb false es = has.others j (other_number j k es)
 
       by : (o : Option ℕ) → reached mid 0 q ≡ o → (b : Bool) → is_eq (path_cmp q p) ≡ b
           → option_and_then (λ m. node_value (slice_get new m)) o ≡ cond b (Some v) (option_and_then (λ m. node_value (slice_get mid m)) o)

@@ -1,4 +1,5 @@
 pub mod Maps
+pub mod Equal
 pub mod Beginnings
 pub mod Upward
 pub mod Missed

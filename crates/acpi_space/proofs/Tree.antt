@@ -1,7 +1,6 @@
 -- A tree of nodes answers what its walk finds.
 use Rattle.std.proofs.Common.{◌≡◌, ℕ, zero, suc, ◌+◌, ◌<◌, ◌≤◌, Bool, true, false, cond, List, [], ◌∷◌, ◌++◌, map, length, Option, Some, None, slice_get, refl, sym, ap, ◌∙◌, subst, arith}
 use Rattle.std.specs.Option.{option_and_then, option_or}
-use Rattle.std.specs.declared.cmp.Ordering.{Ordering}
 use Rattle.std.specs.declared.cmp.Ordering.TheVariants.{Less, Equal, Greater}
 use Rattle.std.specs.Ordering.{is_eq, ordering_then}
 use Rattle.std.specs.Cmp.Lexicographic.{nat_list_cmp_total}
@@ -14,6 +13,8 @@ use Rattle.acpi_name.specs.Paths.{segment_cmp, path_cmp, path_cmp_total, path_cm
 use Rattle.acpi_space.specs.declared.nodes.Node.{Node}
 use Rattle.acpi_space.specs.Tree.{own_pair, child_of, child_at, node_children, node_value, pairs_below, reached, value_below, tree_map, IsTree}
 use Rattle.acpi_space.proofs.Maps.{get_is_lookup}
+use Rattle.acpi_space.proofs.Equal.{eq_of}
+use Rattle.acpi_space.proofs.Written.{past_end}
 
 abbrev at : {V : Type 0} → List Segment → List (List Segment × V) → Option V
 at q es = lookup (λ k. is_eq (path_cmp q k)) es
@@ -49,11 +50,6 @@ at-under g h q (e ∷ es) =
       | Equal ↦ λ ih. ap (cond (is_eq (path_cmp q e.0)) (Some e.1)) ih
       | Greater ↦ λ ih. ih
     ] (at-under g h q es)
-
-eq_of : (o : Ordering) → is_eq o ≡ true → o ≡ Equal
-eq_of Less e = cc
-eq_of Equal e = refl
-eq_of Greater e = cc
 
 -- no later child has the segment of an earlier one
 none_after : (g h : Segment) (kids : List (Segment × ℕ)) → segment_cmp g h ≡ Equal → AllByRecursion (λ y. segment_cmp h y ≡ Less) (map (λ e. e.0) kids) → child_of kids g ≡ None
@@ -98,11 +94,6 @@ at_root-own (Some v) = refl
 at-own : {V : Type 0} (g : Segment) (q : List Segment) (o : Option V) → at (g ∷ q) (own_pair o) ≡ None
 at-own g q None = refl
 at-own g q (Some v) = refl
-
-past_end : {X : Type 0} (xs : List X) (n : ℕ) → length xs ≤ n → slice_get xs n ≡ None
-past_end [] n h = refl
-past_end (x ∷ xs) zero h = absurd (omega arith)
-past_end (x ∷ xs) (suc n) h = past_end xs n (omega arith)
 
 child_above : (n m bound : ℕ) (g : Segment) (kids : List (Segment × ℕ)) → AllByRecursion (λ e. (n < e.1) × (e.1 < bound)) kids → child_of kids g ≡ Some m → (n < m) × (m < bound)
 child_above n m bound g [] a e = cc

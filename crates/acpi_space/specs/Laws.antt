@@ -1,5 +1,5 @@
 -- What the standard says of a search, and when an answer stays (ACPI 6.5, 5.3).
-use Rattle.std.specs.Prelude.{◌≡◌, ◌<◌, Bool, true, false, List, [], ◌∷◌, ◌++◌, length, Option, None, Some, IsTrue}
+use Rattle.std.specs.Prelude.{◌≡◌, ◌<◌, ◌⊎◌, ◌↔◌, Bool, true, false, List, [], ◌∷◌, ◌++◌, length, Option, None, Some, IsTrue}
 use Rattle.std.specs.List.{AllByRecursion}
 use Rattle.acpi_name.specs.Names.{Segment, NameParts, plain_segment}
 use Rattle.acpi_name.specs.Paths.{place_of}
@@ -31,6 +31,30 @@ IsPlaceAnswer defined place None = (p : List Segment) → place ≡ Some p → d
 
 abbrev pub OtherIsAtPlace : Type 0
 OtherIsAtPlace = (defined : List Segment → Bool) (s : List Segment) (n : NameParts) → plain_segment n ≡ None → IsPlaceAnswer defined (place_of s n) (answer defined s n)
+
+-- x is one of the list
+abbrev pub Among : {X : Type 0} → List X → X → Type 0
+Among [] x = ⊥
+Among (y ∷ ys) x = (y ≡ x) ⊎ Among ys x
+
+-- what was found, if anything was, is shorter than p
+abbrev pub IsPast : {A : Type 0} → Option (List A) → List A → Type 0
+IsPast None p = Unit {0}
+IsPast (Some found) p = length found < length p
+
+-- p has the segment below a beginning of the scope
+abbrev pub IsBelow : List Segment → Segment → List Segment → Type 0
+IsBelow s g p = (q : List Segment) × (rest : List Segment) × (s ≡ q ++ rest) × (p ≡ q ++ g ∷ [])
+
+-- what the search of a plain name misses: the paths below the beginnings of the scope that are longer than its answer, and all of them where it has none
+abbrev pub MissedArePast : Type 0
+MissedArePast = (defined : List Segment → Bool) (s : List Segment) (n : NameParts) (g : Segment) → plain_segment n ≡ Some g → (p : List Segment)
+    → Among (missed defined s n) p ↔ (IsBelow s g p × IsPast (answer defined s n) p)
+
+-- .. of any other name: its place, where it has one that is not defined
+abbrev pub MissedIsPlace : Type 0
+MissedIsPlace = (defined : List Segment → Bool) (s : List Segment) (n : NameParts) → plain_segment n ≡ None → (p : List Segment)
+    → Among (missed defined s n) p ↔ ((place_of s n ≡ Some p) × (defined p ≡ false))
 
 -- `large` has what `small` has, and none of the paths that the search missed
 abbrev pub KeepsSearch : (List Segment → Bool) → (List Segment → Bool) → List Segment → NameParts → Type 0

@@ -1,44 +1,114 @@
 //! Worked rows and printed texts, which no clause states.
-use crate::{MapSpace, Refused, SearchFault, Space, TreeSpace};
-use acpi_name::{Path, Seg};
-use std::alloc::{AllocError, Global};
+
+use super::*;
+use acpi_name::{Path, Seg, read_name};
+use std::alloc::Global;
 use std::process::Abort;
 use std::test::Fail;
 
-// The path of these segments; nothing where one of them is no segment.
-fn path_of(alloc: Global, segments: &[[u8; 4]]) -> Result<Path, AllocError> {
-    let mut path = Path::root(alloc);
-    for bytes in segments {
-        if let Some(seg) = Seg::new(*bytes) {
-            path.push(seg)?;
-        }
-    }
-    Ok(path)
-}
-
-fn pci0_alone<S: Space<u8>>(alloc: Global) -> Result<S, Fail> {
+// A space in which these paths are defined, the first with 0, the next with 1 and so on.
+fn space_of<S: Space<usize>>(alloc: Global, paths: &[&str]) -> Result<S, Fail> {
     let mut space = S::new(alloc);
-    space.insert(path_of(alloc, &[*b"_SB_", *b"PCI0"])?, 7)?;
+    for (i, path) in paths.iter().enumerate() {
+        space.insert(Path::from_text(alloc, *path)?, i)?;
+    }
     Ok(space)
 }
 
-// A space with the one pair (\_SB_.PCI0, 7).
-fn one_pair<S: Space<u8>>(rt: &impl Abort, alloc: Global) -> Result<(), Fail> {
-    let space: S = pci0_alone(alloc)?;
-    let scope = path_of(alloc, &[*b"_SB_"])?;
+// What a search answers, as a text.
+fn searched<S: Space<usize>>(
+    alloc: Global,
+    space: &S,
+    scope: &Path,
+    name: &[u8],
+) -> Result<String, Fail> {
+    let (name, _) = read_name(name)?;
+    Ok(match search(alloc, space, scope, name) {
+        Ok(Found::At(path)) => format!(in alloc; "At {path}")?,
+        Ok(Found::Missing) => format!(in alloc; "Missing")?,
+        Err(fault) => format!(in alloc; "{fault}")?,
+    })
+}
+
+// What a search misses, as a text.
+fn missed<S: Space<usize>>(
+    alloc: Global,
+    space: &S,
+    scope: &Path,
+    name: &[u8],
+) -> Result<String, Fail> {
+    let (name, _) = read_name(name)?;
+    let mut text = String::new(alloc);
+    match misses(alloc, space, scope, name) {
+        Ok(paths) => {
+            for path in &paths {
+                text.push_str(format!(in alloc; "{path} ")?.as_str())?;
+            }
+        }
+        Err(fault) => text.push_str(format!(in alloc; "{fault}")?.as_str())?,
+    }
+    Ok(text)
+}
+
+fn searches<S: Space<usize>>(rt: &impl Abort, alloc: Global) -> Result<(), Fail> {
+    let space: S = space_of(
+        alloc,
+        &[
+            "\\",
+            "\\_SB_",
+            "\\_SB_.PCI0",
+            "\\_SB_.PCI0.MTH1",
+            "\\_SB_.FOO_",
+        ],
+    )?;
+    let scope = Path::from_text(alloc, "\\_SB_.PCI0.MTH1")?;
+    let rows: [(&[u8], &str, &str); 8] = [
+        (
+            b"FOO_",
+            "At \\_SB_.FOO_",
+            "\\_SB_.PCI0.MTH1.FOO_ \\_SB_.PCI0.FOO_ ",
+        ),
+        (b"^FOO_", "Missing", "\\_SB_.PCI0.FOO_ "),
+        (b"^^^^FOO_", "A1 AboveRoot", "A1 AboveRoot"),
+        (b"^^FOO_", "At \\_SB_.FOO_", ""),
+        (
+            b"_SB_",
+            "At \\_SB_",
+            "\\_SB_.PCI0.MTH1._SB_ \\_SB_.PCI0._SB_ \\_SB_._SB_ ",
+        ),
+        (
+            b"BAR_",
+            "Missing",
+            "\\_SB_.PCI0.MTH1.BAR_ \\_SB_.PCI0.BAR_ \\_SB_.BAR_ \\BAR_ ",
+        ),
+        (b"\x2E_SB_FOO_", "Missing", "\\_SB_.PCI0.MTH1._SB_.FOO_ "),
+        (b"\\\x2E_SB_FOO_", "At \\_SB_.FOO_", ""),
+    ];
+    for (name, answer, misses) in rows {
+        assert_eq!(rt; searched(alloc, &space, &scope, name)?.as_str(), answer);
+        assert_eq!(rt; missed(alloc, &space, &scope, name)?.as_str(), misses);
+    }
+    Ok(())
+}
+
+#[test]
+fn searches_in_a_map(rt: HostRuntime) -> Result<(), Fail> {
+    searches::<MapSpace<usize>>(&rt, rt.alloc())
+}
+
+#[test]
+fn searches_in_a_tree(rt: HostRuntime) -> Result<(), Fail> {
+    searches::<TreeSpace<usize>>(&rt, rt.alloc())
+}
+
+// A space with the one pair (\_SB_.PCI0, 0): a path above it is no pair.
+fn one_pair<S: Space<usize>>(rt: &impl Abort, alloc: Global) -> Result<(), Fail> {
+    let space: S = space_of(alloc, &["\\_SB_.PCI0"])?;
+    let scope = Path::from_text(alloc, "\\_SB_")?;
     let pci0 = Seg::new(*b"PCI0").ok_or("no segment")?;
     let foo = Seg::new(*b"FOO_").ok_or("no segment")?;
     assert!(rt; space.get(&scope).is_none());
-    assert_eq!(rt;
-        space.get(&path_of(alloc, &[*b"_SB_", *b"PCI0"])?).copied(),
-        Some(7)
-    );
-    let pairs = space.pairs()?;
-    assert_eq!(rt; pairs.len(), 1);
-    assert_eq!(rt;
-        format!(in alloc; "{} {}", pairs[0].0, pairs[0].1)?.as_str(),
-        "\\_SB_.PCI0 7"
-    );
+    assert_eq!(rt; space.pairs()?.len(), 1);
     assert_eq!(rt; space.nearest(&scope, pci0)?, Some(1));
     assert_eq!(rt; space.nearest(&scope, foo)?, None);
     Ok(())
@@ -46,21 +116,84 @@ fn one_pair<S: Space<u8>>(rt: &impl Abort, alloc: Global) -> Result<(), Fail> {
 
 #[test]
 fn one_pair_in_a_map(rt: HostRuntime) -> Result<(), Fail> {
-    one_pair::<MapSpace<u8>>(&rt, rt.alloc())
+    one_pair::<MapSpace<usize>>(&rt, rt.alloc())
 }
 
 #[test]
 fn one_pair_in_a_tree(rt: HostRuntime) -> Result<(), Fail> {
-    one_pair::<TreeSpace<u8>>(&rt, rt.alloc())
+    one_pair::<TreeSpace<usize>>(&rt, rt.alloc())
+}
+
+// The pairs come in the order of the paths, whatever the order of the insertions; a second value at a
+// path is handed back.
+fn ordered<S: Space<usize>>(rt: &impl Abort, alloc: Global) -> Result<(), Fail> {
+    let mut space: S = space_of(
+        alloc,
+        &[
+            "\\B___.A___",
+            "\\C___",
+            "\\A___.B___",
+            "\\",
+            "\\B___",
+            "\\A___.A___.A___",
+        ],
+    )?;
+    match space.insert(Path::from_text(alloc, "\\C___")?, 7) {
+        Err(refused) => assert_eq!(rt;
+            format!(in alloc; "{refused} {refused:?}")?.as_str(),
+            "S1 Taken Taken(7)"
+        ),
+        Ok(()) => return Err("inserted twice".into()),
+    }
+    let mut text = String::new(alloc);
+    for (path, value) in &space.pairs()? {
+        text.push_str(format!(in alloc; "{path}={value} ")?.as_str())?;
+    }
+    assert_eq!(rt;
+        text.as_str(),
+        "\\=3 \\A___.A___.A___=5 \\A___.B___=2 \\B___=4 \\B___.A___=0 \\C___=1 "
+    );
+    Ok(())
 }
 
 #[test]
-fn refusals(rt: HostRuntime) -> Result<(), Fail> {
+fn ordered_in_a_map(rt: HostRuntime) -> Result<(), Fail> {
+    ordered::<MapSpace<usize>>(&rt, rt.alloc())
+}
+
+#[test]
+fn ordered_in_a_tree(rt: HostRuntime) -> Result<(), Fail> {
+    ordered::<TreeSpace<usize>>(&rt, rt.alloc())
+}
+
+// A path of 100,000 segments is walked, and its space dropped, without a deep stack.
+#[test]
+fn deep_in_a_tree(rt: HostRuntime) -> Result<(), Fail> {
     let alloc = rt.alloc();
-    let taken: Refused<u8> = Refused::Taken(7);
-    let memory: Refused<u8> = Refused::Memory(7);
-    assert_eq!(rt; format!(in alloc; "{taken}")?.as_str(), "S1 Taken");
-    assert_eq!(rt; format!(in alloc; "{memory}")?.as_str(), "S2 Memory");
+    let seg = Seg::new(*b"DEEP").ok_or("no segment")?;
+    let mut path = Path::root(alloc);
+    for _ in 0..100_000 {
+        path.push(seg)?;
+    }
+    let mut space = TreeSpace::new(alloc);
+    space.insert(path.copy()?, 1)?;
+    assert_eq!(rt; space.get(&path).copied(), Some(1));
+    assert_eq!(rt; space.pairs()?.len(), 1);
+    assert_eq!(rt; space.nearest(&path, seg)?, Some(99_999));
+    Ok(())
+}
+
+#[test]
+fn texts(rt: HostRuntime) -> Result<(), Fail> {
+    let alloc = rt.alloc();
+    assert_eq!(rt;
+        format!(in alloc; "{}", Refused::Taken(7))?.as_str(),
+        "S1 Taken"
+    );
+    assert_eq!(rt;
+        format!(in alloc; "{}", Refused::Memory(7))?.as_str(),
+        "S2 Memory"
+    );
     assert_eq!(rt;
         format!(in alloc; "{}", SearchFault::AboveRoot)?.as_str(),
         "A1 AboveRoot"

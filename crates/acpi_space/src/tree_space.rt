@@ -1,6 +1,8 @@
 //! A namespace that is kept as a tree of numbered nodes.
-ghost use Rattle.std.specs.Prelude.{◌≡◌};
-ghost use Rattle.acpi_space.specs.Spaces.{PathMap};
+ghost use Rattle.std.specs.Prelude.{◌≡◌, IfOk, IsOk, length};
+ghost use Rattle.std.specs.Option.{option_map};
+ghost use Rattle.acpi_space.specs.Search.{nearest_scope};
+ghost use Rattle.acpi_space.specs.Spaces.{PathMap, is_defined};
 
 use crate::grown::{put, reach};
 use crate::nodes::{Node, nearest_to, value_at};
@@ -58,7 +60,11 @@ impl<V: Drop> Space<V> for TreeSpace<V> {
         all_pairs(self.alloc, &self.nodes)
     }
 
-    fn nearest(&self, scope: &Path, seg: Seg) -> Result<Option<usize>, AllocError> {
+    // It takes no memory, so it never fails.
+    fn nearest(&self, scope: &Path, seg: Seg) -> Result<Option<usize>, AllocError>
+        ensures nearest { IfOk result (λ n. n ≡ option_map length (nearest_scope (is_defined self.now) scope.now seg)) }
+        ensures always { IsOk result }
+    {
         Ok(nearest_to(&self.nodes, scope.segs(), seg))
     }
 }
