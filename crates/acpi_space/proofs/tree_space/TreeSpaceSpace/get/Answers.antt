@@ -6,5 +6,5 @@ use Rattle.acpi_space.proofs.tree_space.TreeSpaceSpace.get.Goals as goal
 
 pub returns : goal.returns
 returns g c =
-    c.value_at.ensures ∙ (λ i. value_below (c.deref.ensures.value i) 0 (c.segs.ensures i)) ∙ sym (get-tree c.self.inside.nodes.items c.args.path.now c.self.invariant)
+    c.value_at.ensures ∙ (λ i. value_below (c.deref.ensures.value i) 0 (c.segs.ensures.all i)) ∙ sym (get-tree c.self.inside.nodes.items c.args.path.now c.self.invariant)
     ∙ ap (λ m. finite.get m c.args.path.now) c.self.view_is
