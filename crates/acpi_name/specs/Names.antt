@@ -29,8 +29,8 @@ pub record NameParts : Type 0 where
   pub parents : ℕ
   pub segments : List Segment
 
--- the parts of a name that has a spelling: a rooted one has no parents, a byte counts the segments,
--- and there are at most 255 parents (20.2.2)
+-- the parts of a name that has a spelling: a rooted one has no parents, and a byte counts the segments (20.2.2);
+-- that a name goes up at most 255 parents is a limit of this loader
 pub record IsName (n : NameParts) : Type 0 where
   pub are_segments : AreSegments n.segments
   pub few_segments : length n.segments < 256

@@ -24,7 +24,7 @@ is_segment_front (a ∷ b ∷ []) = is_lead_char a && is_name_char b
 is_segment_front (a ∷ b ∷ c ∷ []) = is_lead_char a && is_name_char b && is_name_char c
 is_segment_front (a ∷ b ∷ c ∷ d ∷ rest) = is_lead_char a && is_name_char b && is_name_char c && is_name_char d
 
--- a segment, and the bytes behind it
+-- a segment, and the bytes behind it (20.2.2 NameSeg)
 unfoldable pub segment_at : List ℕ → Result (Segment × List ℕ) NameFault
 segment_at bytes =
     if is_segment_front bytes then (if nat_lt (length bytes) 4 then Err Cut else Ok (take 4 bytes, drop 4 bytes)) else Err BadChar
@@ -37,12 +37,12 @@ segments_at (suc n) bytes = do
   ss ← segments_at n s.1
   Ok (s.0 ∷ ss.0, ss.1)
 
--- behind 2F: the number of segments, a byte that is not 0, and so many segments
+-- behind 2F: the number of segments, a byte that is not 0, and so many segments (20.2.2 MultiNamePath)
 unfoldable pub counted_at : List ℕ → Result (List Segment × List ℕ) NameFault
 counted_at [] = Err Cut
 counted_at (n ∷ rest) = if n == 0 then Err ZeroCount else if nat_lt 255 n then Err BadChar else segments_at n rest
 
--- NamePath: 00, 2E and two segments, 2F and a number of segments, or one segment
+-- 00, 2E and two segments, 2F and a number of segments, or one segment (20.2.2 NamePath)
 unfoldable pub path_at : List ℕ → Result (List Segment × List ℕ) NameFault
 path_at [] = Err Cut
 path_at (b ∷ rest) =
@@ -55,13 +55,13 @@ path_at (b ∷ rest) =
 abbrev pub ups : List ℕ → ℕ
 ups bytes = length (take_while (λ b. b == 94) bytes)
 
--- a name that does not begin at the root: at most 255 bytes 5E, and a NamePath
+-- a name that does not begin at the root: at most 255 bytes 5E, and a NamePath (20.2.2 PrefixPath)
 unfoldable pub relative_at : List ℕ → Result (NameParts × List ℕ) NameFault
 relative_at bytes =
     if nat_lt 255 (ups bytes) then Err TooManyUps else
     (path_at (drop (ups bytes) bytes) >>= λ p. Ok (record { rooted = false; parents = ups bytes; segments = p.0 }, p.1))
 
--- a name, and the bytes behind it: 5C and a NamePath, or a name that does not begin at the root
+-- a name, and the bytes behind it: 5C and a NamePath, or a name that does not begin at the root (20.2.2 NameString)
 unfoldable pub name_at : List ℕ → Result (NameParts × List ℕ) NameFault
 name_at [] = Err Cut
 name_at (b ∷ rest) =

@@ -7,12 +7,13 @@ abbrev pub joined : List Segment → List ℕ
 joined [] = []
 joined (s ∷ ss) = s ++ joined ss
 
--- the bytes before a name's segments: 5C for the root, a 5E for each parent
+-- the bytes before a name's segments: RootChar 5C, or a PrefixPath of a 5E for each parent (20.2.2)
 abbrev pub prefix_of : Bool → ℕ → List ℕ
 prefix_of true parents = 92 ∷ []
 prefix_of false parents = replicate parents 94
 
--- NamePath: 00 for no segments, one segment, 2E and two, or 2F, their number and so many
+-- NamePath: NullName 00 for no segments, NameSeg for one, DualNamePath 2E and two, or MultiNamePath 2F,
+-- their number and so many; one segment and two have two spellings (20.2.2)
 abbrev pub SpellsPath : List Segment → List ℕ → Type 0
 SpellsPath ss bytes =
     ((length ss ≡ 0) × (bytes ≡ 0 ∷ []))
@@ -20,7 +21,7 @@ SpellsPath ss bytes =
     ⊎ ((length ss ≡ 2) × (bytes ≡ 46 ∷ joined ss))
     ⊎ ((0 < length ss) × (bytes ≡ 47 ∷ length ss ∷ joined ss))
 
--- the bytes spell the name
+-- NameString: the bytes spell the name (20.2.2)
 pub record SpellsName (n : NameParts) (bytes : List ℕ) : Type 0 where
   pub is_name : IsName n
   pub path : List ℕ

@@ -27,6 +27,7 @@ pub enum NameFault {
     TooManyUps,
 }
 
+// Whether what stands there, up to four bytes, may begin a segment.
 fn begins_segment(bytes: &[u8]) -> bool
     ensures { result ≡ is_segment_front bytes.now }
 {
@@ -55,6 +56,7 @@ fn skip_segment(bytes: &[u8]) -> Result<&[u8], NameFault>
     Ok(&bytes[4..])
 }
 
+// So many segments, and what follows them.
 fn segments(count: u8, bytes: &[u8]) -> Result<(&[[u8; 4]], &[u8]), NameFault>
     ensures exact { Answers (λ x. (x.0.now, x.1.now)) result (segments_at count bytes.now) }
     ensures length { IfOk result (λ x. length x.1.now + 4 * count ≡ length bytes.now) }
@@ -68,6 +70,7 @@ fn segments(count: u8, bytes: &[u8]) -> Result<(&[[u8; 4]], &[u8]), NameFault>
     Ok((segs, rest))
 }
 
+// The segments that a number stands before, and what follows them.
 #[tactic(auto, unfolding(crate::specs::Reading::counted_at))]
 fn counted(bytes: &[u8]) -> Result<(&[[u8; 4]], &[u8]), NameFault>
     ensures exact { Answers (λ x. (x.0.now, x.1.now)) result (counted_at bytes.now) }
@@ -80,6 +83,7 @@ fn counted(bytes: &[u8]) -> Result<(&[[u8; 4]], &[u8]), NameFault>
     }
 }
 
+// The segments of a NamePath, and what follows it.
 #[tactic(auto, unfolding(crate::specs::Reading::path_at))]
 fn path(bytes: &[u8]) -> Result<(&[[u8; 4]], &[u8]), NameFault>
     ensures exact { Answers (λ x. (x.0.now, x.1.now)) result (path_at bytes.now) }
@@ -94,6 +98,7 @@ fn path(bytes: &[u8]) -> Result<(&[[u8; 4]], &[u8]), NameFault>
     }
 }
 
+// The number of bytes 5E at the front.
 fn count_ups(bytes: &[u8]) -> usize
     ensures exact { result ≡ ups bytes.now }
     ensures within { result ≤ length bytes.now }
@@ -101,6 +106,7 @@ fn count_ups(bytes: &[u8]) -> usize
     bytes.iter().take_while(|b| **b == 0x5E).count()
 }
 
+// A name that does not begin at the root, and what follows it.
 #[tactic(auto, unfolding(crate::specs::Reading::relative_at))]
 fn relative(bytes: &[u8]) -> Result<(NameRef<'_>, &[u8]), NameFault>
     ensures exact { Answers (λ x. (name_parts x.0, x.1.now)) result (relative_at bytes.now) }

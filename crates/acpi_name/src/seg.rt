@@ -28,16 +28,18 @@ impl Model for Seg {
     ghost inverse = { λ b. record { bytes = b } };
 }
 
+/// Whether the byte may begin a segment.
 pub(crate) fn is_lead(b: u8) -> bool
     ensures { result ≡ is_lead_char b }
 {
-    (65 <= b && b <= 90) || b == 95
+    (b'A' <= b && b <= b'Z') || b == b'_'
 }
 
+/// Whether the byte may stand in a segment behind the first.
 pub(crate) fn is_rest(b: u8) -> bool
     ensures { result ≡ is_name_char b }
 {
-    is_lead(b) || (48 <= b && b <= 57)
+    is_lead(b) || (b'0' <= b && b <= b'9')
 }
 
 impl Seg {
