@@ -4,7 +4,7 @@ use Rattle.acpi_terms.specs.Reading.{byte_at, no_level, fault_at, seg_in, is_tex
 use Rattle.acpi_name.specs.Reading.{is_segment_front, segment_at}
 use Rattle.acpi_terms.specs.declared.fault.ItemReason.TheVariants.{Cut, TooDeep}
 use Rattle.std.specs.List.{slice_range, take_while}
-use Rattle.std.proofs.Math.Seq.{take-nil}
+use Rattle.std.proofs.Math.Seq.{take-nil, take-length}
 use Rattle.std.proofs.lemmas.Bool.{le-ltb}
 use Rattle.std.proofs.lemmas.List.{take-take, length-take-le, length-drop, drop-drop}
 
@@ -67,5 +67,8 @@ pub range_string : (xs : List ℕ) (a b n : ℕ) (rest : List ℕ) → n ≡ len
     → byte_at b (slice_range xs (a + n) b) ≡ Ok (0, rest) → string_at b (slice_range xs a b) ≡ Ok (slice_range xs a (a + n), rest)
 unfolding string_at
 range_string xs a b n rest is le closing = rw (sym is, range_drop xs n a b, range_take xs n a b le, closing) refl
+
+pub range_whole : (xs : List ℕ) → slice_range xs 0 (length xs) ≡ xs
+range_whole xs = let e : length xs - 0 ≡ length xs = omega arith in rw e (take-length xs)
 
 pub ruleset ranges = (range_length, range_drop)

@@ -61,3 +61,12 @@ abbrev mutual
   pub items_fit : ItemTrees → Bool
   items_fit no_items = true
   items_fit (item i is) = item_fits i && items_fit is
+
+-- the forms that hold items
+abbrev pub holds_items : ItemTree → Bool
+holds_items (scope n is) = true
+holds_items (device n is) = true
+holds_items (processor n i b l is) = true
+holds_items (power n l o is) = true
+holds_items (thermal n is) = true
+holds_items _ = false

@@ -528,6 +528,12 @@ abbrev pub IsAtPlace : ItemFault → Type 0
 IsAtPlace errors.Memory = ⊥
 IsAtPlace (errors.At reason place) = Unit {0}
 
+-- the answer is such, unless memory ran out
+abbrev pub OrMemory : {X : Type 0} → Result X ItemFault → (X → Type 0) → Type 0
+OrMemory (Ok x) P = P x
+OrMemory (Err errors.Memory) P = Unit {0}
+OrMemory (Err (errors.At reason place)) P = ⊥
+
 -- the fault as an answer
 abbrev pub stopped : Fault → ItemFault
 stopped f = errors.At f.reason f.place

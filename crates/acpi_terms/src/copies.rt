@@ -1,7 +1,8 @@
 //! Equal values with memory of their own.
 
-ghost use Rattle.std.specs.Prelude.{◌≡◌, IfOk};
+ghost use Rattle.std.specs.Prelude.{◌≡◌, IfOk, false};
 ghost use Rattle.acpi_terms.specs.View.{data_view, elem_view, elems_view, field_view, fields_view, external_view, externals_view, item_view, items_view};
+ghost use Rattle.acpi_terms.specs.Fits.{holds_items};
 ghost use Rattle.acpi_terms.specs.Objects.{object_view};
 
 use crate::object::Object;
@@ -108,48 +109,71 @@ impl Item {
         ensures { IfOk result (λ i. item_view i ≡ item_view self.now) }
     {
         match self {
-            Item::Name(name, data) => Ok(Item::Name(name.copy()?, data.copy(alloc)?)),
-            Item::Scope(name, items) => Ok(Item::Scope(name.copy()?, copy_items(alloc, items)?)),
-            Item::External(external) => Ok(Item::External(external.copy()?)),
-            Item::ExternalBlock(externals) => Ok(Item::ExternalBlock(copy_externals(
-                alloc, externals,
-            )?)),
-            Item::Mutex(name, flags) => Ok(Item::Mutex(name.copy()?, *flags)),
-            Item::Event(name) => Ok(Item::Event(name.copy()?)),
-            Item::Device(name, items) => Ok(Item::Device(name.copy()?, copy_items(alloc, items)?)),
+            Item::Scope(name, items) => {
+                let items = copy_items(alloc, items)?;
+                Ok(Item::Scope(name.copy()?, items))
+            }
+            Item::Device(name, items) => {
+                let items = copy_items(alloc, items)?;
+                Ok(Item::Device(name.copy()?, items))
+            }
             Item::Processor {
                 name,
                 id,
                 block,
                 length,
                 items,
-            } => Ok(Item::Processor {
-                name: name.copy()?,
-                id: *id,
-                block: *block,
-                length: *length,
-                items: copy_items(alloc, items)?,
-            }),
+            } => {
+                let items = copy_items(alloc, items)?;
+                let name = name.copy()?;
+                Ok(Item::Processor {
+                    name,
+                    id: *id,
+                    block: *block,
+                    length: *length,
+                    items,
+                })
+            }
             Item::Power {
                 name,
                 level,
                 order,
                 items,
-            } => Ok(Item::Power {
-                name: name.copy()?,
-                level: *level,
-                order: *order,
-                items: copy_items(alloc, items)?,
-            }),
-            Item::Thermal(name, items) => Ok(Item::Thermal(
-                name.copy()?,
-                copy_items(alloc, items)?,
-            )),
+            } => {
+                let items = copy_items(alloc, items)?;
+                let name = name.copy()?;
+                Ok(Item::Power {
+                    name,
+                    level: *level,
+                    order: *order,
+                    items,
+                })
+            }
+            Item::Thermal(name, items) => {
+                let items = copy_items(alloc, items)?;
+                Ok(Item::Thermal(name.copy()?, items))
+            }
+            _ => self.copy_leaf(alloc),
+        }
+    }
+
+    // Apart from the copy of items that hold items, so that its frame on the stack stays small.
+    #[inline(never)]
+    fn copy_leaf(&self, alloc: Global) -> Result<Item, AllocError>
+        requires { holds_items (item_view self.now) ≡ false }
+        ensures { IfOk result (λ i. item_view i ≡ item_view self.now) }
+    {
+        match self {
+            Item::Name(name, data) => Ok(Item::Name(name.copy()?, data.copy(alloc)?)),
             Item::Method { name, flags, code } => Ok(Item::Method {
                 name: name.copy()?,
                 flags: *flags,
                 code: code.clone()?,
             }),
+            Item::External(external) => Ok(Item::External(external.copy()?)),
+            Item::ExternalBlock(externals) => Ok(Item::ExternalBlock(copy_externals(
+                alloc, externals,
+            )?)),
             Item::Create {
                 width,
                 source,
@@ -172,6 +196,8 @@ impl Item {
                 bits: *bits,
                 name: name.copy()?,
             }),
+            Item::Mutex(name, flags) => Ok(Item::Mutex(name.copy()?, *flags)),
+            Item::Event(name) => Ok(Item::Event(name.copy()?)),
             Item::Region {
                 name,
                 space,
@@ -216,6 +242,11 @@ impl Item {
                 flags: *flags,
                 elems: copy_fields(alloc, elems)?,
             }),
+            Item::Scope(..) => unreachable!(),
+            Item::Device(..) => unreachable!(),
+            Item::Processor { .. } => unreachable!(),
+            Item::Power { .. } => unreachable!(),
+            Item::Thermal(..) => unreachable!(),
         }
     }
 }

@@ -1,8 +1,12 @@
 //! Reading items.
 
-ghost use Rattle.std.specs.Prelude.{◌≡◌, ◌<◌, ◌≤◌, ◌-◌, length, IfOk};
+ghost use Rattle.std.specs.Prelude.{◌≡◌, ◌<◌, ◌≤◌, ◌-◌, ◌++◌, ℕ, true, List, length, IfOk, IfErr, Ok, Err};
 ghost use Rattle.std.specs.List.{slice_range};
-ghost use Rattle.acpi_terms.specs.Tree.{items_of};
+ghost use Rattle.acpi_terms.specs.Tree.{ItemTrees, items_of};
+ghost use Rattle.acpi_terms.specs.Spelling.{SpellsItems, items_height};
+ghost use Rattle.acpi_terms.specs.Faults.{Told, Refused};
+ghost use Rattle.acpi_terms.specs.Fits.{items_fit};
+ghost use Rattle.acpi_terms.specs.declared.fault.ItemReason.{ItemReason};
 ghost use Rattle.acpi_terms.specs.View.{item_view, items_view, items_tree};
 ghost use Rattle.acpi_terms.specs.Reading.{Gives, scope_item, device_item, processor_item, power_item, thermal_item, item_by, item_at, items_with, items_at};
 
@@ -242,20 +246,51 @@ fn items(
     Ok(found)
 }
 
+fn all_items(alloc: Global, depth: u32, shared: &Bytes, code: &[u8]) -> Result<Vec<Item>, ItemFault>
+    requires { shared.now ≡ code.now }
+    ensures fits { IfOk result (λ v. items_fit (items_tree v.items) ≡ true) }
+    ensures exact { Gives (λ v. items_tree v.items) result (items_at depth code.now) }
+{
+    items(alloc, depth, shared, code, 0, code.len())
+}
+
 /// The items that the code spells, all of it, with at most `depth` levels. The methods share the code's
 /// bytes. A place in a fault counts from the code's first byte.
 pub fn read_items_shared(alloc: Global, code: &Bytes, depth: Depth) -> Result<Vec<Item>, ItemFault>
-    // Which items, or which fault.
+    // What is read is spelled so, within the limit.
+    ensures found { IfOk result (λ v. SpellsItems (items_tree v.items) code.now × (items_height (items_tree v.items) ≤ depth)) }
+    // What is spelled so within the limit is read, unless memory runs out. So at most one tree is spelled so,
+    // and a fault means that none is.
+    ensures only { (is : ItemTrees) → SpellsItems is code.now → items_height is ≤ depth → Gives (λ v. items_tree v.items) result (Ok is) }
+    // What a fault says is true of the code.
+    ensures faults { IfErr result (λ e. Told depth code.now e) }
+    // Behind items, the first term that can't be an item is told at its place, unless memory runs out.
+    ensures next { (u w : List ℕ) (is : ItemTrees) (why : ItemReason) → code.now ≡ u ++ w → SpellsItems is u → items_height is ≤ depth
+        → Refused why w 0 → Gives (λ v. items_tree v.items) result (Err (record { reason = why; place = length u })) }
+    // What is read fits.
+    ensures fits { IfOk result (λ v. items_fit (items_tree v.items) ≡ true) }
+    // The same as an equation.
     ensures exact { Gives (λ v. items_tree v.items) result (items_at depth code.now) }
 {
-    let bytes = code.as_slice();
-    items(alloc, depth.get(), code, bytes, 0, bytes.len())
+    all_items(alloc, depth.get(), code, code.as_slice())
 }
 
 /// The items that the code spells, all of it, with at most `depth` levels. A place in a fault counts from
 /// the code's first byte.
 pub fn read_items(alloc: Global, code: &[u8], depth: Depth) -> Result<Vec<Item>, ItemFault>
-    // Which items, or which fault.
+    // What is read is spelled so, within the limit.
+    ensures found { IfOk result (λ v. SpellsItems (items_tree v.items) code.now × (items_height (items_tree v.items) ≤ depth)) }
+    // What is spelled so within the limit is read, unless memory runs out. So at most one tree is spelled so,
+    // and a fault means that none is.
+    ensures only { (is : ItemTrees) → SpellsItems is code.now → items_height is ≤ depth → Gives (λ v. items_tree v.items) result (Ok is) }
+    // What a fault says is true of the code.
+    ensures faults { IfErr result (λ e. Told depth code.now e) }
+    // Behind items, the first term that can't be an item is told at its place, unless memory runs out.
+    ensures next { (u w : List ℕ) (is : ItemTrees) (why : ItemReason) → code.now ≡ u ++ w → SpellsItems is u → items_height is ≤ depth
+        → Refused why w 0 → Gives (λ v. items_tree v.items) result (Err (record { reason = why; place = length u })) }
+    // What is read fits.
+    ensures fits { IfOk result (λ v. items_fit (items_tree v.items) ≡ true) }
+    // The same as an equation.
     ensures exact { Gives (λ v. items_tree v.items) result (items_at depth code.now) }
 {
     let code = Bytes::copy_from_slice(alloc, code)?;

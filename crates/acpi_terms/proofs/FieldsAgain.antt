@@ -1,0 +1,101 @@
+-- Field elements that are spelled are read again.
+use Rattle.std.proofs.Common.{◌≡◌, ℕ, zero, suc, ◌-◌, ◌+◌, ◌≤◌, ◌<◌, max, Bool, true, false, cond, eqb, ◌&&◌, List, [], ◌∷◌, ◌++◌, length, Result, Ok, Err, refl, sym, ap, subst, ◌∙◌, append_assoc, arith}
+use Rattle.std.proofs.lemmas.List.{length-append, append-nil}
+use Rattle.acpi_name.specs.Names.{Segment, NameParts, is_segment, is_lead_char, is_name_char}
+use Rattle.acpi_name.specs.Spelling.{SpellsName}
+use Rattle.acpi_name.proofs.NameAgain.{neq, name_again, name_long, lead_above, and_true}
+use Rattle.acpi_name.proofs.NameFaults.{failed, ok_no_err}
+use Rattle.acpi_name.specs.declared.reading.NameFault.TheVariants.{BadChar}
+use Rattle.acpi_name.specs.Reading.{segment_at, segments_at, path_at, relative_at, name_at}
+use Rattle.acpi_table.specs.PkgLength.{SpellsPkgLength}
+use Rattle.acpi_terms.specs.declared.tree.Int.{Int}
+use Rattle.acpi_terms.specs.Tree.{FieldTree, unit, reserved, access, connect_name, connect_buffer, extended}
+use Rattle.acpi_terms.specs.Reading.{◌>>=◌, Reading, byte_at, bytes_in, connect_at, connect_buffer_at, connect_name_at, unit_at, field_at, fields_in, each_at, Leaf, name_leaf, seg_leaf, byte_leaf, bits_leaf, const_leaf, Values, plain_at, packed_at}
+use Rattle.acpi_terms.specs.Spelling.{SpellsValues, SpellsPlain, SpellsPacked, Packs, SpellsField, SpellsFields}
+use Rattle.acpi_terms.proofs.PartsAgain.{leaves_height, plain_again, packed_again}
+use Rattle.acpi_terms.proofs.EachAgain.{each_again, all_at}
+
+-- ---- what begins with neither of the bytes 00 to 03, and with no 11
+
+-- a segment begins with a letter or '_'
+lead_of_segment : (s rest : List ℕ) → is_segment s ≡ true → (b : ℕ) × (r : List ℕ) × (s ++ rest ≡ b ∷ r) × (64 < b)
+lead_of_segment (a ∷ b ∷ c ∷ d ∷ []) rest h =
+    let three = and_true (is_lead_char a && is_name_char b && is_name_char c) (is_name_char d) h in
+    let two = and_true (is_lead_char a && is_name_char b) (is_name_char c) three.0 in
+    let one = and_true (is_lead_char a) (is_name_char b) two.0 in
+    (a, b ∷ c ∷ d ∷ rest, refl, lead_above a one.0)
+lead_of_segment [] rest h = absurd cc
+lead_of_segment (a ∷ []) rest h = absurd cc
+lead_of_segment (a ∷ b ∷ []) rest h = absurd cc
+lead_of_segment (a ∷ b ∷ c ∷ []) rest h = absurd cc
+lead_of_segment (a ∷ b ∷ c ∷ d ∷ e ∷ s) rest h = absurd cc
+
+above_three : (end b : ℕ) (r : List ℕ) → 64 < b → field_at end (b ∷ r) ≡ unit_at end (b ∷ r)
+unfolding field_at byte_at
+above_three end b r h =
+    rw (neq b 0 (λ e. omega arith), neq b 1 (λ e. omega arith), neq b 2 (λ e. omega arith), neq b 3 (λ e. omega arith)) refl
+
+unit_here : (end : ℕ) (bytes : List ℕ) → (b : ℕ) × (r : List ℕ) × (bytes ≡ b ∷ r) × (64 < b) → field_at end bytes ≡ unit_at end bytes
+unit_here end bytes p = rw p.2 (above_three end p.0 p.1 p.3)
+
+no_segment : (r : List ℕ) → segment_at (17 ∷ r) ≡ Err BadChar
+unfolding segment_at
+no_segment [] = refl
+no_segment (a ∷ []) = refl
+no_segment (a ∷ b ∷ []) = refl
+no_segment (a ∷ b ∷ c ∷ r) = refl
+
+no_name : (r : List ℕ) → name_at (17 ∷ r) ≡ failed BadChar
+unfolding name_at relative_at path_at segments_at
+no_name r = rw (no_segment r) refl
+
+connect_here : (end : ℕ) (n : NameParts) (a rest : List ℕ) → SpellsName n a → connect_at end (a ++ rest) ≡ connect_name_at end (a ++ rest)
+unfolding connect_at byte_at
+connect_here end n [] rest h = let some = name_long n [] h in absurd (omega arith)
+connect_here end n (b ∷ a) rest h = rw other refl
+  where
+    other : eqb b 17 ≡ false
+    other = neq b 17 (λ e. ok_no_err (n, rest) BadChar (sym (name_again n (b ∷ a) rest h) ∙ ap (λ k. name_at (k ∷ (a ++ rest))) e ∙ no_name (a ++ rest)))
+
+connects : (end : ℕ) (rest : List ℕ) → field_at end (2 ∷ rest) ≡ connect_at end rest
+unfolding field_at byte_at
+connects end rest = refl
+
+pub field_again : (e : FieldTree) (end : ℕ) (a rest : List ℕ) → SpellsField e a → field_at end (a ++ rest) ≡ Ok (e, rest)
+unfolding field_at byte_at connect_at
+field_again (unit s bits) end a rest h =
+    let v = h.1 in
+    let whole : a ++ rest ≡ s ++ (v.1 ++ rest) = rw (h.2, v.4, v.2.1, append_assoc s v.1 rest) refl in
+    unit_here end (a ++ rest) (rw whole (lead_of_segment s (v.1 ++ rest) v.2.0))
+    ∙ rw h.2 (plain_again (seg_leaf ∷ bits_leaf ∷ []) (λ v. unit v.0 v.1.0) 0 end (s, (bits, tt)) h.0 rest (omega arith) h.1)
+field_again (reserved bits) end a rest h =
+    rw h.2 (plain_again (bits_leaf ∷ []) (λ v. reserved v.0) 0 end (bits, tt) h.0 rest (omega arith) h.1)
+field_again (access kind attribute) end a rest h =
+    rw h.2 (plain_again (byte_leaf ∷ byte_leaf ∷ []) (λ v. access v.0 v.1.0) 0 end (kind, (attribute, tt)) h.0 rest (omega arith) h.1)
+field_again (connect_name n) end a rest h =
+    let v = h.1 in
+    let only : h.0 ≡ v.0 = v.4 ∙ rw v.3 (append-nil v.0) in
+    rw (h.2, only) (connects end (v.0 ++ rest) ∙ connect_here end n v.0 rest v.2
+    ∙ plain_again (name_leaf ∷ []) (λ v. connect_name v.0) 0 end (n, tt) v.0 rest (omega arith) (subst (SpellsValues (name_leaf ∷ []) (n, tt)) only h.1))
+field_again (connect_buffer size content) end a rest h =
+    let p = h.4 in
+    rw p.whole (packed_again (const_leaf ∷ []) (λ v content. connect_buffer v.0 content) 0 bytes_in end (size, tt) content p.len h.0 h.1 rest (omega arith) h.2 (ap Ok h.3) p.spells_len)
+field_again (extended kind attribute len) end a rest h =
+    rw h.2 (plain_again (byte_leaf ∷ byte_leaf ∷ byte_leaf ∷ []) (λ v. extended v.0 v.1.0 v.1.1.0) 0 end (kind, (attribute, (len, tt))) h.0 rest (omega arith) h.1)
+
+pub field_long : (e : FieldTree) (a : List ℕ) → SpellsField e a → 0 < length a
+field_long (unit s bits) a h =
+    let v = h.1 in
+    let l = lead_of_segment s v.1 v.2.0 in
+    let whole : a ≡ s ++ v.1 = rw (h.2, v.4, v.2.1) refl in
+    rw (whole, l.2) (omega arith)
+field_long (reserved bits) a h = rw h.2 (omega arith)
+field_long (access kind attribute) a h = rw h.2 (omega arith)
+field_long (connect_name n) a h = rw h.2 (omega arith)
+field_long (connect_buffer size content) a h = rw h.4.whole (omega arith)
+field_long (extended kind attribute len) a h = rw h.2 (omega arith)
+
+-- field elements that are spelled are read
+pub fields_again : (es : List FieldTree) (end : ℕ) (b : List ℕ) → SpellsFields es b → fields_in end b ≡ Ok es
+fields_again es end b h =
+    all_at (field_at end) b es (each_again SpellsField (field_at end) field_long (λ e a rest s. field_again e end a rest s) es b h)

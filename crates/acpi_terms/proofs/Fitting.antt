@@ -1,0 +1,165 @@
+-- What is spelled fits.
+use Rattle.std.proofs.Common.{◌≡◌, ℕ, zero, suc, ◌+◌, ◌*◌, ◌/◌, ◌%◌, ◌≤◌, ◌<◌, ◌⊎◌, Bool, true, false, ◌&&◌, not, eqb, leb, ltb, List, [], ◌∷◌, ◌++◌, length, slice_index, get_or, Fits, w8, refl, sym, ap, subst, ◌∙◌, arith, inl, inr}
+use Rattle.std.specs.List.{AllByRecursion, list_all}
+use Rattle.std.proofs.lemmas.Bool.{lt-ltb, eqb-true, le-leb}
+use Rattle.std.proofs.Math.Facts.{Fits-lt-pow}
+use Rattle.byteorder.specs.Endian.{little_number}
+use Rattle.acpi_name.specs.Names.{NameParts}
+use Rattle.acpi_name.specs.Spelling.{SpellsName, SpellsPath, prefix_of}
+use Rattle.acpi_table.specs.PkgLength.{SpellsPkgLength}
+use Rattle.acpi_terms.specs.Rows.{is_name_start}
+use Rattle.acpi_terms.specs.Reading.{Leaf, name_leaf, source_leaf, seg_leaf, byte_leaf, word_leaf, dword_leaf, args_leaf, bits_leaf, const_leaf, int_leaf, Value, Values, external_leaves}
+use Rattle.acpi_terms.specs.Tree.{DataTree, int, str, buffer, pkg, var_pkg, ElemTree, of_data, of_name, ElemTrees, no_elems, elem, FieldTree, unit, reserved, access, connect_name, connect_buffer, extended, ExternalParts, ItemTree, name, scope, method, external, external_block, create, create_field, mutex, event, region, field, index_field, bank_field, device, processor, power, thermal, ItemTrees, no_items, item}
+use Rattle.acpi_terms.specs.Spelling.{IsText, SpellsTermName, SpellsLeaf, SpellsValues, SpellsEach, Packs, SpellsPlain, SpellsPacked, SpellsData, SpellsElem, SpellsElems, SpellsField, SpellsFields, SpellsExternal, SpellsItem, SpellsItems}
+use Rattle.acpi_terms.specs.Fits.{text_fits, is_null_name, data_fits, elem_fits, elems_fit, bits_fit, field_fits, external_fits, item_fits, items_fit}
+
+abbrev pub AreBytes : List ℕ → Type 0
+AreBytes = AllByRecursion (λ b. b < 256)
+
+pub are_bytes : (bytes : List ℕ) → ((i : ℕ) → Fits w8 (get_or bytes i 0)) → AreBytes bytes
+are_bytes [] each = tt
+are_bytes (b ∷ bytes) each = (Fits-lt-pow (each 0), are_bytes bytes (λ i. each (suc i)))
+
+both : {a b : Bool} → a ≡ true → b ≡ true → (a && b) ≡ true
+both e f = rw (e, f) refl
+
+pub front_bytes : (a b : List ℕ) → AreBytes (a ++ b) → AreBytes a
+front_bytes [] b all = tt
+front_bytes (x ∷ a) b all = (all.0, front_bytes a b all.1)
+
+pub back_bytes : (a b : List ℕ) → AreBytes (a ++ b) → AreBytes b
+back_bytes [] b all = all
+back_bytes (x ∷ a) b all = back_bytes a b all.1
+
+parts : (a b bytes : List ℕ) → bytes ≡ a ++ b → AreBytes bytes → AreBytes a × AreBytes b
+parts a b bytes whole all = let split : AreBytes (a ++ b) = subst AreBytes whole all in (front_bytes a b split, back_bytes a b split)
+
+packed : (opcode content bytes : List ℕ) → Packs opcode content bytes → AreBytes bytes → AreBytes content
+packed opcode content bytes p all = (parts p.len content (p.len ++ content) refl (parts opcode (p.len ++ content) bytes p.whole all).1).1
+
+-- ---- package lengths, names, text
+
+wide : (n lead k : ℕ) (tail : List ℕ) → k ≤ 3 → AreBytes tail → length tail ≡ k → lead % 64 < 16 → n ≡ lead % 64 + 16 * little_number k tail → n ≤ 268435455
+wide n lead zero tail le all is low e = let f : n ≡ lead % 64 + 16 * 0 = e in omega (arith, f, low)
+wide n lead (suc zero) (a ∷ []) le all is low e =
+    let f : n ≡ lead % 64 + 16 * (a + 256 * 0) = e in let h : a < 256 = all.0 in omega (arith, f, low, h)
+wide n lead (suc (suc zero)) (a ∷ b ∷ []) le all is low e =
+    let f : n ≡ lead % 64 + 16 * (a + 256 * (b + 256 * 0)) = e in let h : a < 256 = all.0 in let i : b < 256 = all.1.0 in omega (arith, f, low, h, i)
+wide n lead (suc (suc (suc zero))) (a ∷ b ∷ c ∷ []) le all is low e =
+    let f : n ≡ lead % 64 + 16 * (a + 256 * (b + 256 * (c + 256 * 0))) = e in let h : a < 256 = all.0 in let i : b < 256 = all.1.0 in let j : c < 256 = all.1.1.0 in omega (arith, f, low, h, i, j)
+wide n lead (suc (suc (suc (suc k)))) tail le all is low e = absurd (omega (arith, le))
+wide n lead k tail le all is low e = absurd (omega (arith, is))
+
+pub length_fits : (n : ℕ) (bytes : List ℕ) → SpellsPkgLength n bytes → AreBytes bytes → bits_fit n ≡ true
+length_fits n [] h all = absurd h
+length_fits n (lead ∷ tail) h all = le-leb n 268435455 (elim h [ inl s ↦ let lt : lead < 64 = s.0 in omega (arith, lt, s.2) | inr l ↦ few l ])
+  where
+    few : ((64 ≤ lead) × (lead % 64 < 16) × (length tail ≡ lead / 64) × (n ≡ lead % 64 + 16 * little_number (lead / 64) tail)) → n ≤ 268435455
+    few l = let byte : lead < 256 = all.0 in let le : lead / 64 ≤ 3 = omega (arith, byte) in wide n lead (lead / 64) tail le all.1 l.2 l.1 l.3
+
+null_is : (n : NameParts) (a : List ℕ) → SpellsName n a → n.rooted ≡ false → n.parents ≡ 0 → length n.segments ≡ 0 → a ≡ 0 ∷ []
+null_is n a h rooted parents none = h.whole ∙ rw (rooted, parents) (path_is h.spells_path)
+  where
+    path_is : SpellsPath n.segments h.path → h.path ≡ 0 ∷ []
+    path_is p = elim p [
+      | inl e ↦ e.1
+      | inr q ↦ elim q [ inl f ↦ absurd (omega (arith, none, f.0)) | inr r ↦ elim r [ inl g ↦ absurd (omega (arith, none, g.0)) | inr o ↦ absurd (omega (arith, none, o.0)) ] ]
+    ]
+
+term_name_fits : (n : NameParts) (a : List ℕ) → SpellsTermName n a → not (is_null_name n) ≡ true
+term_name_fits n a h = by_parts n.rooted (eqb n.parents 0) (eqb (length n.segments) 0) refl refl refl
+  where
+    by_parts : (r p s : Bool) → n.rooted ≡ r → eqb n.parents 0 ≡ p → eqb (length n.segments) 0 ≡ s → not (not r && p && s) ≡ true
+    by_parts true p s er ep es = refl
+    by_parts false false s er ep es = refl
+    by_parts false true false er ep es = refl
+    by_parts false true true er ep es =
+        let is : a ≡ 0 ∷ [] = null_is n a h.0 er (eqb-true n.parents 0 ep) (eqb-true (length n.segments) 0 es) in
+        let start : is_name_start (slice_index a 0) ≡ true = h.1 in
+        let never : false ≡ true = subst (λ b. is_name_start (slice_index b 0) ≡ true) is start in
+        absurd cc
+
+text_all : (text : List ℕ) → AllByRecursion IsText text → list_all text_fits text ≡ true
+text_all [] h = refl
+text_all (b ∷ text) h = both (both (lt-ltb 0 b h.0.0) (lt-ltb b 128 h.0.1)) (text_all text h.1)
+
+-- ---- data
+
+mutual
+  pub data_fit : (d : DataTree) (bytes : List ℕ) → SpellsData d bytes → AreBytes bytes → data_fits d ≡ true
+  data_fit (int i) bytes h all = refl
+  data_fit (str text) bytes h all = text_all text h.0
+  data_fit (buffer size content) bytes h all = refl
+  data_fit (pkg count es) bytes h all = elems_are_fit es h.1 h.3 (parts h.0 h.1 (h.0 ++ h.1) refl (packed (18 ∷ []) (h.0 ++ h.1) bytes h.4 all)).1
+  data_fit (var_pkg count es) bytes h all = elems_are_fit es h.1 h.3 (parts h.0 h.1 (h.0 ++ h.1) refl (packed (19 ∷ []) (h.0 ++ h.1) bytes h.4 all)).1
+
+  elem_is_fit : (e : ElemTree) (bytes : List ℕ) → SpellsElem e bytes → AreBytes bytes → elem_fits e ≡ true
+  elem_is_fit (of_data d) bytes h all = data_fit d bytes h all
+  elem_is_fit (of_name n) bytes h all = term_name_fits n bytes h
+
+  elems_are_fit : (es : ElemTrees) (bytes : List ℕ) → SpellsElems es bytes → AreBytes bytes → elems_fit es ≡ true
+  elems_are_fit no_elems bytes h all = refl
+  elems_are_fit (elem e es) bytes h all = let split = parts h.0 h.1 bytes h.4 all in both (elem_is_fit e h.0 h.2 split.0) (elems_are_fit es h.1 h.3 split.1)
+
+-- ---- field elements and Externals
+
+pub field_fit : (e : FieldTree) (bytes : List ℕ) → SpellsField e bytes → AreBytes bytes → field_fits e ≡ true
+field_fit (unit s bits) bytes h all =
+    let v = h.1 in
+    let inner = (parts [] h.0 bytes h.2 all).1 in
+    let second = (parts v.0 v.1 h.0 v.4 inner).1 in
+    let w = v.3 in
+    length_fits bits w.0 w.2 (parts w.0 w.1 v.1 w.4 second).0
+field_fit (reserved bits) bytes h all =
+    let v = h.1 in
+    let inner = (parts (0 ∷ []) h.0 bytes h.2 all).1 in
+    length_fits bits v.0 v.2 (parts v.0 v.1 h.0 v.4 inner).0
+field_fit (access k a) bytes h all = refl
+field_fit (connect_name n) bytes h all = refl
+field_fit (connect_buffer i s) bytes h all = refl
+field_fit (extended k a l) bytes h all = refl
+
+each_fits : {A : Type 0} (Spells : A → List ℕ → Type 0) (fits : A → Bool) → ((x : A) (a : List ℕ) → Spells x a → AreBytes a → fits x ≡ true)
+    → (xs : List A) (bytes : List ℕ) → SpellsEach Spells xs bytes → AreBytes bytes → list_all fits xs ≡ true
+each_fits Spells fits one [] bytes h all = refl
+each_fits Spells fits one (x ∷ xs) bytes h all =
+    let split = parts h.0 h.1 bytes h.4 all in both (one x h.0 h.2 split.0) (each_fits Spells fits one xs h.1 h.3 split.1)
+
+external_fit : (x : ExternalParts) (bytes : List ℕ) → SpellsExternal x bytes → AreBytes bytes → external_fits x ≡ true
+external_fit x bytes h all = le-leb x.args 7 h.1.3.3.2.0
+
+-- ---- items
+
+fields_fit : (opcode : List ℕ) (ks : List Leaf) (v : Values ks) (es : List FieldTree) (bytes : List ℕ) → SpellsPacked opcode ks v (λ b. SpellsFields es b) bytes → AreBytes bytes → list_all field_fits es ≡ true
+fields_fit opcode ks v es bytes h all =
+    each_fits SpellsField field_fits field_fit es h.1 h.3 (parts h.0 h.1 (h.0 ++ h.1) refl (packed opcode (h.0 ++ h.1) bytes h.4 all)).1
+
+filled : (opcode a b bytes : List ℕ) → Packs opcode (a ++ b) bytes → AreBytes bytes → AreBytes b
+filled opcode a b bytes p all = (parts a b (a ++ b) refl (packed opcode (a ++ b) bytes p all)).1
+
+mutual
+  item_fit : (i : ItemTree) (bytes : List ℕ) → SpellsItem i bytes → AreBytes bytes → item_fits i ≡ true
+  item_fit (name n d) bytes h all =
+      let inner = (parts (8 ∷ []) (h.0 ++ h.1) bytes h.4 all).1 in data_fit d h.1 h.3 (parts h.0 h.1 (h.0 ++ h.1) refl inner).1
+  item_fit (scope n is) bytes h all = items_are_fit is h.1 h.3 (filled (16 ∷ []) h.0 h.1 bytes h.4 all)
+  item_fit (method n flags code) bytes h all = refl
+  item_fit (external x) bytes h all = external_fit x bytes h all
+  item_fit (external_block xs) bytes h all =
+      let inner = packed (160 ∷ []) (0 ∷ h.0) bytes h.2 all in each_fits SpellsExternal external_fits external_fit xs h.0 h.1 inner.1
+  item_fit (create w source index n) bytes h all = term_name_fits source h.1.0 h.1.2
+  item_fit (create_field source index bits n) bytes h all = term_name_fits source h.1.0 h.1.2
+  item_fit (mutex n flags) bytes h all = refl
+  item_fit (event n) bytes h all = refl
+  item_fit (region n space offset len) bytes h all = refl
+  item_fit (field r flags es) bytes h all = fields_fit (91 ∷ 129 ∷ []) (name_leaf ∷ byte_leaf ∷ []) (r, (flags, tt)) es bytes h all
+  item_fit (index_field i d flags es) bytes h all = fields_fit (91 ∷ 134 ∷ []) (name_leaf ∷ name_leaf ∷ byte_leaf ∷ []) (i, (d, (flags, tt))) es bytes h all
+  item_fit (bank_field r bank value flags es) bytes h all = fields_fit (91 ∷ 135 ∷ []) (name_leaf ∷ name_leaf ∷ int_leaf ∷ byte_leaf ∷ []) (r, (bank, (value, (flags, tt)))) es bytes h all
+  item_fit (device n is) bytes h all = items_are_fit is h.1 h.3 (filled (91 ∷ 130 ∷ []) h.0 h.1 bytes h.4 all)
+  item_fit (processor n id block len is) bytes h all = items_are_fit is h.1 h.3 (filled (91 ∷ 131 ∷ []) h.0 h.1 bytes h.4 all)
+  item_fit (power n level order is) bytes h all = items_are_fit is h.1 h.3 (filled (91 ∷ 132 ∷ []) h.0 h.1 bytes h.4 all)
+  item_fit (thermal n is) bytes h all = items_are_fit is h.1 h.3 (filled (91 ∷ 133 ∷ []) h.0 h.1 bytes h.4 all)
+
+  pub items_are_fit : (is : ItemTrees) (bytes : List ℕ) → SpellsItems is bytes → AreBytes bytes → items_fit is ≡ true
+  items_are_fit no_items bytes h all = refl
+  items_are_fit (item i is) bytes h all =
+      let split = parts h.0 h.1 bytes h.4 all in both (item_fit i h.0 h.2 split.0) (items_are_fit is h.1 h.3 split.1)

@@ -1,0 +1,52 @@
+-- What a reader that gives a reading ensures: the laws of readings, of its answer.
+use Rattle.std.proofs.Common.{◌≡◌, ℕ, ◌+◌, ◌≤◌, ◌<◌, true, List, ◌++◌, length, Result, Ok, Err, refl, sym, ap, subst, ◌∙◌}
+use Rattle.std.specs.Prelude.{IfOk, IfErr}
+use Rattle.acpi_terms.specs.declared.fault.ItemReason.{ItemReason}
+use Rattle.acpi_terms.specs.declared.fault.ItemFault.{ItemFault}
+use Rattle.acpi_terms.specs.declared.fault.ItemFault.TheVariants as errors
+use Rattle.acpi_terms.specs.Tree.{ItemTrees}
+use Rattle.acpi_terms.specs.Reading.{Fault, Gives, Fails, items_at}
+use Rattle.acpi_terms.specs.Spelling.{SpellsItems, items_height}
+use Rattle.acpi_terms.specs.Faults.{Shows, Told, Refused}
+use Rattle.acpi_terms.specs.Fits.{items_fit}
+use Rattle.acpi_terms.proofs.ItemAgain.{code_again}
+use Rattle.acpi_terms.proofs.ItemTook.{code_judged}
+use Rattle.acpi_terms.proofs.Judged.{Judge}
+use Rattle.acpi_terms.proofs.NextTold.{next_told}
+use Rattle.acpi_terms.proofs.Fitting.{AreBytes, items_are_fit}
+
+abbrev pub Judged : ℕ → List ℕ → Result ItemTrees Fault → Type 0
+Judged depth code = Judge (λ is. SpellsItems is code × (items_height is ≤ depth)) (λ f. Shows depth code f.reason f.place)
+
+judged_as : (depth : ℕ) (code : List ℕ) (r : Result ItemTrees Fault) → items_at depth code ≡ r → Judged depth code r
+judged_as depth code r e = subst (Judged depth code) e (code_judged depth code)
+
+pub found_law : {V : Type 0} (view : V → ItemTrees) (depth : ℕ) (code : List ℕ) (result : Result V ItemFault) → Gives view result (items_at depth code)
+    → IfOk result (λ v. SpellsItems (view v) code × (items_height (view v) ≤ depth))
+found_law view depth code (Ok v) h = judged_as depth code (Ok (view v)) h
+found_law view depth code (Err e) h = tt
+
+pub only_law : {V : Type 0} (view : V → ItemTrees) (depth : ℕ) (code : List ℕ) (result : Result V ItemFault) → Gives view result (items_at depth code)
+    → (is : ItemTrees) → SpellsItems is code → items_height is ≤ depth → Gives view result (Ok is)
+only_law view depth code result h is s le = subst (Gives view result) (code_again is depth code s le) h
+
+pub faults_law : {V : Type 0} (view : V → ItemTrees) (depth : ℕ) (code : List ℕ) (result : Result V ItemFault) → Gives view result (items_at depth code) → IfErr result (λ e. Told depth code e)
+faults_law view depth code (Ok v) h = tt
+faults_law view depth code (Err errors.Memory) h = tt
+faults_law view depth code (Err (errors.At reason place)) h = judged_as depth code (Err (record { reason = reason; place = place })) h
+
+pub next_law : {V : Type 0} (view : V → ItemTrees) (depth : ℕ) (code : List ℕ) (result : Result V ItemFault) → 0 < depth → Gives view result (items_at depth code)
+    → (u w : List ℕ) (is : ItemTrees) (why : ItemReason) → code ≡ u ++ w → SpellsItems is u → items_height is ≤ depth → Refused why w 0
+    → Gives view result (Err (record { reason = why; place = length u }))
+next_law view depth code result some h u w is why whole s le refused =
+    let e : items_at depth code ≡ Err (record { reason = why; place = length u }) = ap (items_at depth) whole ∙ next_told depth u w is why some s le refused in
+    subst (Gives view result) e h
+
+pub fits_law : {V : Type 0} (view : V → ItemTrees) (depth : ℕ) (code : List ℕ) (result : Result V ItemFault) → AreBytes code → Gives view result (items_at depth code)
+    → IfOk result (λ v. items_fit (view v) ≡ true)
+fits_law view depth code (Ok v) bytes h = items_are_fit (view v) code (judged_as depth code (Ok (view v)) h).0 bytes
+fits_law view depth code (Err e) bytes h = tt
+
+-- the same of an equal limit and equal code
+pub gives_as : {V : Type 0} (view : V → ItemTrees) (d e : ℕ) (code bytes : List ℕ) (result : Result V ItemFault) → d ≡ e → code ≡ bytes → Gives view result (items_at d code) → Gives view result (items_at e bytes)
+gives_as view d e code bytes result limit same h = subst (λ s. Gives view result (items_at e s)) same (subst (λ n. Gives view result (items_at n code)) limit h)

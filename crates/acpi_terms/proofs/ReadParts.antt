@@ -1,0 +1,112 @@
+-- What the readers of one part at the front of some bytes ensure.
+use Rattle.std.proofs.Common.{◌≡◌, ℕ, ◌+◌, ◌-◌, ◌≤◌, ◌<◌, List, [], ◌∷◌, ◌++◌, length, take, drop, Option, Some, None, Result, Ok, Err, refl, sym, ap, subst, ◌∙◌, arith, inl}
+use Rattle.std.proofs.lemmas.List.{length-append, length-drop, append-nil}
+use Rattle.std.proofs.Math.Seq.{take-append_seam}
+use Rattle.std.specs.Prelude.{IfOk, IfErr, IfSome, option_map}
+use Rattle.acpi_terms.specs.declared.fault.ItemReason.{ItemReason}
+use Rattle.acpi_terms.specs.declared.fault.ItemFault.{ItemFault}
+use Rattle.acpi_terms.specs.declared.fault.ItemFault.TheVariants as errors
+use Rattle.acpi_terms.specs.declared.tree.Int.{Int}
+use Rattle.acpi_terms.specs.Tree.{FieldTree}
+use Rattle.acpi_terms.specs.Reading.{Reading, Fault, Gives, OrMemory, found, const_at, field_at, int_front}
+use Rattle.acpi_terms.specs.Spelling.{SpellsInt, SpellsField}
+use Rattle.acpi_terms.specs.Faults.{Shows, Told}
+use Rattle.acpi_terms.proofs.Judged.{Judge, Took, Here, Spot, Bad, Read}
+use Rattle.acpi_terms.proofs.PartsAgain.{const_again}
+use Rattle.acpi_terms.proofs.PartsTook.{const_judged}
+use Rattle.acpi_terms.proofs.FieldsAgain.{field_again}
+use Rattle.acpi_terms.proofs.FieldsTook.{field_judged}
+
+-- the bytes as a code of their own
+abbrev pub Whole : List ℕ → Spot
+Whole bytes = record { depth = 0; code = bytes }
+
+pub whole_here : (bytes : List ℕ) → Here 0 0 bytes (length bytes) bytes
+whole_here bytes = record { before = []; after = []; whole = sym (append-nil bytes); ends = omega arith; is_end = inl refl; deep = omega arith }
+
+-- what stands before the last bytes of a list
+front_is : (bytes front : List ℕ) (used : ℕ) → used ≤ length bytes → bytes ≡ front ++ drop used bytes → front ≡ take used bytes
+front_is bytes front used le whole =
+    let size : length front ≡ used = omega (arith, ap length whole, length-append front (drop used bytes), length-drop used bytes, le) in
+    sym (ap (take used) whole ∙ rw (sym size) (take-append_seam front (drop (length front) bytes)))
+
+took_front : {A : Type 0} (Spells : A → List ℕ → Type 0) (bytes : List ℕ) (x : A) (used : ℕ) → used ≤ length bytes → Took Spells bytes (x, drop used bytes) → Spells x (take used bytes)
+took_front Spells bytes x used le t = subst (Spells x) (front_is bytes t.front used le t.whole) t.spells
+
+-- how many bytes were used
+used_is : (bytes front rest : List ℕ) (used : ℕ) → used ≤ length bytes → bytes ≡ front ++ rest → drop used bytes ≡ rest → used ≡ length front
+used_is bytes front rest used le whole back = omega (arith, ap length whole, length-append front rest, length-drop used bytes, ap length back, le)
+
+-- ---- constants
+
+abbrev IntFound : Type 0
+IntFound = Int × List ℕ
+
+abbrev some : {A : Type 0} → A → Option A
+some x = Some x
+
+abbrev nothing : {A : Type 0} → Option A
+nothing = None
+
+abbrev done : {A : Type 0} → A → Result A Fault
+done x = Ok x
+
+found_ok : (r : Result IntFound Fault) (x : IntFound) → some x ≡ found r → r ≡ Ok x
+found_ok (Ok y) x e = let is : x ≡ y = cc in ap done (sym is)
+found_ok (Err f) x e = absurd cc
+
+pub int_found_law : (bytes : List ℕ) (result : Option (Int × ℕ)) → option_map (λ x. (x.0, drop x.1 bytes)) result ≡ int_front bytes
+    → IfSome result (λ x. (0 < x.1) × (x.1 ≤ length bytes)) → IfSome result (λ x. SpellsInt x.0 (take x.1 bytes))
+int_found_law bytes None e used = tt
+int_found_law bytes (Some x) e used =
+    let r : const_at (length bytes) bytes ≡ Ok (x.0, drop x.1 bytes) = found_ok (const_at (length bytes) bytes) (x.0, drop x.1 bytes) e in
+    let j : Read (Whole bytes) 0 (length bytes) SpellsInt bytes (x.0, drop x.1 bytes) =
+    subst (Judge (Read (Whole bytes) 0 (length bytes) SpellsInt bytes) (Bad (Whole bytes))) r (const_judged (Whole bytes) 0 (length bytes) bytes (whole_here bytes)) in
+    took_front SpellsInt bytes x.0 x.1 used.1 j.0
+
+pub int_only_law : (bytes : List ℕ) (result : Option (Int × ℕ)) → option_map (λ x. (x.0, drop x.1 bytes)) result ≡ int_front bytes
+    → IfSome result (λ x. (0 < x.1) × (x.1 ≤ length bytes)) → (i : Int) (front rest : List ℕ) → SpellsInt i front → bytes ≡ front ++ rest → result ≡ Some (i, length front)
+int_only_law bytes result e used i front rest s whole = by_result result e used
+  where
+    front_of : int_front bytes ≡ some (i, rest)
+    front_of =
+        let r : const_at (length bytes) bytes ≡ Ok (i, rest) = ap (const_at (length bytes)) whole ∙ const_again i (length bytes) front rest s in
+        rw r refl
+
+    by_result : (result : Option (Int × ℕ)) → option_map (λ x. (x.0, drop x.1 bytes)) result ≡ int_front bytes → IfSome result (λ x. (0 < x.1) × (x.1 ≤ length bytes)) → result ≡ some (i, length front)
+    by_result None e used = let no : nothing {A = IntFound} ≡ some (i, rest) = e ∙ front_of in absurd cc
+    by_result (Some x) e used =
+        let same : some (x.0, drop x.1 bytes) ≡ some (i, rest) = e ∙ front_of in
+        let pair : (x.0, drop x.1 bytes) ≡ (i, rest) = cc in
+        let int : x.0 ≡ i = ap (λ (y : Int × List ℕ). y.0) pair in
+        let size : x.1 ≡ length front = used_is bytes front rest x.1 used.1 whole (ap (λ (y : Int × List ℕ). y.1) pair) in
+        λ k. Some (int k, size k)
+
+-- ---- field elements
+
+pub elem_found_law : {V : Type 0} (view : V → FieldTree) (bytes : List ℕ) (result : Result (V × ℕ) ItemFault) → Gives (λ x. (view x.0, drop x.1 bytes)) result (field_at (length bytes) bytes)
+    → IfOk result (λ x. (0 < x.1) × (x.1 ≤ length bytes)) → IfOk result (λ x. SpellsField (view x.0) (take x.1 bytes))
+elem_found_law view bytes (Ok x) h used =
+    let j : Read (Whole bytes) 0 (length bytes) SpellsField bytes (view x.0, drop x.1 bytes) =
+    subst (Judge (Read (Whole bytes) 0 (length bytes) SpellsField bytes) (Bad (Whole bytes))) h (field_judged (Whole bytes) 0 (length bytes) bytes (whole_here bytes)) in
+    took_front SpellsField bytes (view x.0) x.1 used.1 j.0
+elem_found_law view bytes (Err e) h used = tt
+
+pub elem_only_law : {V : Type 0} (view : V → FieldTree) (bytes : List ℕ) (result : Result (V × ℕ) ItemFault) → Gives (λ x. (view x.0, drop x.1 bytes)) result (field_at (length bytes) bytes)
+    → IfOk result (λ x. (0 < x.1) × (x.1 ≤ length bytes)) → (e : FieldTree) (front rest : List ℕ) → SpellsField e front → bytes ≡ front ++ rest → OrMemory result (λ x. (view x.0 ≡ e) × (x.1 ≡ length front))
+elem_only_law view bytes (Ok x) h used e front rest s whole =
+    let r : field_at (length bytes) bytes ≡ done (e, rest) = ap (field_at (length bytes)) whole ∙ field_again e (length bytes) front rest s in
+    let same : done (e, rest) ≡ done (view x.0, drop x.1 bytes) = sym r ∙ h in
+    let pair : (e, rest) ≡ (view x.0, drop x.1 bytes) = cc in
+    (sym (ap (λ (y : FieldTree × List ℕ). y.0) pair), used_is bytes front rest x.1 used.1 whole (sym (ap (λ (y : FieldTree × List ℕ). y.1) pair)))
+elem_only_law view bytes (Err errors.Memory) h used e front rest s whole = tt
+elem_only_law view bytes (Err (errors.At why place)) h used e front rest s whole =
+    let r : field_at (length bytes) bytes ≡ done (e, rest) = ap (field_at (length bytes)) whole ∙ field_again e (length bytes) front rest s in
+    let no : done (e, rest) ≡ Err (record { reason = why; place = place }) = sym r ∙ h in
+    cc
+
+pub elem_faults_law : {V : Type 0} (view : V → FieldTree) (bytes : List ℕ) (result : Result (V × ℕ) ItemFault) → Gives (λ x. (view x.0, drop x.1 bytes)) result (field_at (length bytes) bytes) → IfErr result (λ e. Told 0 bytes e)
+elem_faults_law view bytes (Ok x) h = tt
+elem_faults_law view bytes (Err errors.Memory) h = tt
+elem_faults_law view bytes (Err (errors.At why place)) h =
+    subst (Judge (Read (Whole bytes) 0 (length bytes) SpellsField bytes) (Bad (Whole bytes))) h (field_judged (Whole bytes) 0 (length bytes) bytes (whole_here bytes))
