@@ -1,6 +1,4 @@
 //! A namespace that is kept in an ordered map.
-ghost use Rattle.std.specs.Prelude.{◌≡◌};
-ghost use Rattle.acpi_space.specs.Spaces.{PathMap};
 
 use crate::space::{Refused, Space};
 use acpi_name::Path;

@@ -1,19 +1,19 @@
 //! Numbered nodes of a tree, the root first, and walks down through them.
-ghost use Rattle.std.specs.Prelude.{◌≡◌, ◌<◌, ◌≢◌, length, slice_get, find, is_some, if◌then◌else◌, ◌++◌, [], ◌∷◌, Some, None, OnOk, OnErr, IfOk};
+ghost use Rattle.std.specs.Prelude.{◌≡◌, length, slice_get, find, is_some, if◌then◌else◌, ◌++◌, [], ◌∷◌, Some};
 ghost use Rattle.std.specs.Option.{option_copied, option_map};
-ghost use Rattle.std.specs.BTreeMap.{insert_entry};
-ghost use Rattle.acpi_name.specs.Paths.{segment_cmp};
 ghost use Rattle.acpi_space.specs.Search.{beginnings};
-ghost use Rattle.acpi_space.specs.Tree.{IsTree, child_at, child_of, node_children, node_value, reached, value_below};
+ghost use Rattle.acpi_space.specs.Tree.{child_at, child_of, node_value, value_below};
 
 use acpi_name::Seg;
 use std::alloc::{AllocError, Global};
 use std::collections::BTreeMap;
 
-/// A node: its value, if it has one, and the numbers of its children in the order of their segments.
+/// A node of the tree, at the path whose segments lead to it from the root.
 #[derive(Drop)]
 pub struct Node<V> {
+    /// What stands at the path, if anything does.
     pub value: Option<V>,
+    /// The numbers of the nodes one segment below, in the order of the segments.
     pub children: BTreeMap<Seg, usize>,
 }
 

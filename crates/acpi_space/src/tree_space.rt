@@ -2,7 +2,7 @@
 ghost use Rattle.std.specs.Prelude.{◌≡◌, IfOk, IsOk, length};
 ghost use Rattle.std.specs.Option.{option_map};
 ghost use Rattle.acpi_space.specs.Search.{nearest_scope};
-ghost use Rattle.acpi_space.specs.Spaces.{PathMap, is_defined};
+ghost use Rattle.acpi_space.specs.Spaces.{is_defined};
 
 use crate::grown::{put, reach};
 use crate::nodes::{Node, nearest_to, value_at};

@@ -9,10 +9,12 @@ use std::alloc::{AllocError, Global};
 use std::collections::BTreeMap;
 use std::iter::DoubleEndedIterator;
 
-/// A step of the walk: to enter a child at a segment, by its number, or to leave a node.
+/// A step of the walk.
 #[derive(Drop)]
 pub enum Step {
+    /// Enter the child at a segment, the node of this number.
     Enter(Seg, usize),
+    /// Leave the node that was entered last.
     Leave,
 }
 
