@@ -1,7 +1,7 @@
 -- Data that is spelled is read again.
-use Rattle.std.proofs.Common.{◌≡◌, ℕ, zero, suc, ◌-◌, ◌+◌, ◌≤◌, ◌<◌, max, Bool, true, false, cond, ltb, List, [], ◌∷◌, ◌++◌, length, take, drop, slice_index, Result, Ok, Err, refl, sym, ap, ◌∙◌, append_assoc, arith}
+use Rattle.std.proofs.Common.{◌≡◌, ℕ, zero, suc, ◌-◌, ◌≤◌, ◌<◌, false, List, [], ◌∷◌, ◌++◌, length, Result, Ok, refl, ap, append_assoc, arith}
 use Rattle.std.proofs.lemmas.Bool.{lt-ltb}
-use Rattle.std.proofs.lemmas.List.{length-append, take_at, drop_at}
+use Rattle.std.proofs.lemmas.List.{take_at, drop_at}
 use Rattle.std.proofs.lemmas.List.Folds.{length-prefix_len}
 use Rattle.std.specs.List.{AllByRecursion, prefix_len}
 use Rattle.acpi_name.specs.Names.{NameParts}
@@ -13,10 +13,10 @@ use Rattle.acpi_terms.specs.declared.tree.Int.{Int}
 use Rattle.acpi_terms.specs.declared.tree.Int.TheVariants.{Zero, One, Ones, Revision, Byte, Word, DWord, QWord}
 use Rattle.acpi_terms.specs.Rows.{is_name_lead}
 use Rattle.acpi_terms.specs.Tree.{DataTree, int, str, buffer, pkg, var_pkg, ElemTree, of_data, of_name, ElemTrees, no_elems, elem, elems_of}
-use Rattle.acpi_terms.specs.Reading.{◌>>=◌, Reading, Fault, lead_at, is_text, string_end, string_at, byte_at, number_at, constant_at, int_data, string_data, bytes_in, buffer_data, package_data, var_package_data, data_by, name_elem_at, data_elem_of, elem_by, elems_with, elem_at, data_at, each_with, each_at, Leaf, name_leaf, byte_leaf, int_leaf, Values, packed_at}
-use Rattle.acpi_terms.specs.Spelling.{IsText, SpellsInt, SpellsTermName, SpellsValues, SpellsPacked, Packs, SpellsData, SpellsElem, SpellsElems, data_height, elem_height, elems_height}
-use Rattle.acpi_terms.proofs.Opens.{opcode, some_bytes, opens, opens_name}
-use Rattle.acpi_terms.proofs.PartsAgain.{number_again, name_in_again, leaves_height, packed_again}
+use Rattle.acpi_terms.specs.Reading.{Fault, lead_at, is_text, string_at, byte_at, bytes_in, data_by, elems_with, elem_at, data_at, byte_leaf, int_leaf}
+use Rattle.acpi_terms.specs.Spelling.{IsText, SpellsInt, SpellsTermName, SpellsData, SpellsElem, SpellsElems, data_height, elem_height, elems_height}
+use Rattle.acpi_terms.proofs.Opens.{opens, opens_name}
+use Rattle.acpi_terms.proofs.PartsAgain.{number_again, name_in_again, packed_again}
 use Rattle.acpi_terms.proofs.EachAgain.{AreAll, none_left, one_more, all_at}
 
 -- ---- what begins so

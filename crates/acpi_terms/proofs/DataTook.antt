@@ -1,22 +1,19 @@
 -- Data that is read is spelled so, or the fault shows why not.
-use Rattle.std.proofs.Common.{◌≡◌, ℕ, zero, suc, ◌-◌, ◌+◌, ◌≤◌, ◌<◌, max, Bool, true, false, cond, ltb, eqb, ◌&&◌, List, [], ◌∷◌, ◌++◌, length, take, drop, Result, Ok, Err, refl, sym, ap, subst, ◌∙◌, append_assoc, arith, inl, inr}
+use Rattle.std.proofs.Common.{◌≡◌, ℕ, zero, suc, ◌+◌, ◌≤◌, ◌<◌, Bool, true, false, cond, ltb, eqb, ◌&&◌, List, [], ◌∷◌, ◌++◌, take, drop, refl, sym, ap, ◌∙◌, append_assoc, arith, inr}
 use Rattle.std.proofs.lemmas.Bool.{ltb-false, ltb-true, eqb-true, eqb-false}
-use Rattle.std.proofs.lemmas.List.{length-append, take-append-drop}
+use Rattle.std.proofs.lemmas.List.{take-append-drop}
 use Rattle.std.proofs.lemmas.List.Folds.{length-prefix_len}
 use Rattle.std.specs.List.{AllByRecursion, prefix_len}
 use Rattle.acpi_name.proofs.NameAgain.{and_true}
-use Rattle.acpi_terms.specs.declared.fault.ItemReason.TheVariants.{NotData, BadString}
 use Rattle.acpi_terms.specs.declared.lead.Lead.{Lead}
 use Rattle.acpi_terms.specs.declared.lead.Lead.TheVariants as leads
-use Rattle.acpi_terms.specs.declared.lead.IntForm.{IntForm}
-use Rattle.acpi_terms.specs.Tree.{DataTree, int, str, buffer, pkg, var_pkg, ElemTree, of_data, of_name, ElemTrees, no_elems, elem, elems_of}
-use Rattle.acpi_terms.specs.Reading.{◌>>=◌, Reading, Fault, fault_at, byte_at, lead_at, name_in, is_text, string_end, string_at, constant_at, int_data, string_data, bytes_in, buffer_data, package_data, var_package_data, data_by, name_elem_at, data_elem_of, elem_by, elems_with, elem_at, data_at, each_at, Leaf, byte_leaf, int_leaf, Values}
+use Rattle.acpi_terms.specs.Tree.{DataTree, int, str, buffer, pkg, var_pkg, ElemTree, of_data, of_name, ElemTrees, elems_of}
+use Rattle.acpi_terms.specs.Reading.{byte_at, lead_at, name_in, is_text, string_end, string_at, constant_at, string_data, bytes_in, buffer_data, package_data, var_package_data, data_by, elem_by, elems_with, elem_at, data_at, each_at, byte_leaf, int_leaf}
 use Rattle.acpi_terms.specs.Spelling.{IsText, SpellsInt, SpellsTermName, SpellsEach, SpellsData, SpellsElem, SpellsElems, data_height, elem_height, elems_height}
-use Rattle.acpi_terms.proofs.Opens.{opcode, some_bytes}
 use Rattle.acpi_terms.proofs.DataAgain.{elem_long}
-use Rattle.acpi_terms.proofs.Judged.{Judge, judge_bind, judge_if, judge_up, Took, Here, Spot, Bad, Read, here_at, here_after, here_deeper, cut_shows, no_level_shows, read_as, read_behind, all_judged}
+use Rattle.acpi_terms.proofs.Judged.{Judge, judge_bind, judge_if, judge_up, Here, Spot, Bad, Read, here_at, here_after, here_deeper, cut_shows, no_level_shows, read_as, read_behind, all_judged}
 use Rattle.acpi_terms.proofs.LeadTook.{Opened, lead_judged, begins}
-use Rattle.acpi_terms.proofs.PartsTook.{IsByte, byte_judged, whole_constant, term_name_judged, packed_judged}
+use Rattle.acpi_terms.proofs.PartsTook.{whole_constant, term_name_judged, packed_judged}
 
 -- ---- strings
 

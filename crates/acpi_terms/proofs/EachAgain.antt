@@ -1,7 +1,7 @@
 -- What is spelled one after another is read again, to the end of the bytes.
-use Rattle.std.proofs.Common.{◌≡◌, ℕ, zero, suc, ◌+◌, ◌≤◌, ◌<◌, List, [], ◌∷◌, ◌++◌, length, Result, Ok, Err, refl, arith}
+use Rattle.std.proofs.Common.{◌≡◌, ℕ, zero, suc, ◌≤◌, ◌<◌, List, [], ◌∷◌, ◌++◌, length, Ok, Err, refl, arith}
 use Rattle.std.proofs.lemmas.List.{length-append}
-use Rattle.acpi_terms.specs.Reading.{◌>>=◌, Reading, Fault, each_with, each_at}
+use Rattle.acpi_terms.specs.Reading.{Reading, Fault, each_with, each_at}
 use Rattle.acpi_terms.specs.Spelling.{SpellsEach}
 
 -- what they are, however many turns more are left

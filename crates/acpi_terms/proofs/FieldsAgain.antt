@@ -1,18 +1,16 @@
 -- Field elements that are spelled are read again.
-use Rattle.std.proofs.Common.{◌≡◌, ℕ, zero, suc, ◌-◌, ◌+◌, ◌≤◌, ◌<◌, max, Bool, true, false, cond, eqb, ◌&&◌, List, [], ◌∷◌, ◌++◌, length, Result, Ok, Err, refl, sym, ap, subst, ◌∙◌, append_assoc, arith}
-use Rattle.std.proofs.lemmas.List.{length-append, append-nil}
-use Rattle.acpi_name.specs.Names.{Segment, NameParts, is_segment, is_lead_char, is_name_char}
+use Rattle.std.proofs.Common.{◌≡◌, ℕ, ◌<◌, true, false, eqb, ◌&&◌, List, [], ◌∷◌, ◌++◌, length, Ok, Err, refl, sym, ap, subst, ◌∙◌, append_assoc, arith}
+use Rattle.std.proofs.lemmas.List.{append-nil}
+use Rattle.acpi_name.specs.Names.{NameParts, is_segment, is_lead_char, is_name_char}
 use Rattle.acpi_name.specs.Spelling.{SpellsName}
 use Rattle.acpi_name.proofs.NameAgain.{neq, name_again, name_long, lead_above, and_true}
 use Rattle.acpi_name.proofs.NameFaults.{failed, ok_no_err}
 use Rattle.acpi_name.specs.declared.reading.NameFault.TheVariants.{BadChar}
 use Rattle.acpi_name.specs.Reading.{segment_at, segments_at, path_at, relative_at, name_at}
-use Rattle.acpi_table.specs.PkgLength.{SpellsPkgLength}
-use Rattle.acpi_terms.specs.declared.tree.Int.{Int}
 use Rattle.acpi_terms.specs.Tree.{FieldTree, unit, reserved, access, connect_name, connect_buffer, extended}
-use Rattle.acpi_terms.specs.Reading.{◌>>=◌, Reading, byte_at, bytes_in, connect_at, connect_buffer_at, connect_name_at, unit_at, field_at, fields_in, each_at, Leaf, name_leaf, seg_leaf, byte_leaf, bits_leaf, const_leaf, Values, plain_at, packed_at}
-use Rattle.acpi_terms.specs.Spelling.{SpellsValues, SpellsPlain, SpellsPacked, Packs, SpellsField, SpellsFields}
-use Rattle.acpi_terms.proofs.PartsAgain.{leaves_height, plain_again, packed_again}
+use Rattle.acpi_terms.specs.Reading.{byte_at, bytes_in, connect_at, connect_name_at, unit_at, field_at, fields_in, name_leaf, seg_leaf, byte_leaf, bits_leaf, const_leaf}
+use Rattle.acpi_terms.specs.Spelling.{SpellsValues, SpellsField, SpellsFields}
+use Rattle.acpi_terms.proofs.PartsAgain.{plain_again, packed_again}
 use Rattle.acpi_terms.proofs.EachAgain.{each_again, all_at}
 
 -- ---- what begins with neither of the bytes 00 to 03, and with no 11

@@ -1,11 +1,11 @@
 -- Field elements that are read are spelled so, or the fault shows why not.
-use Rattle.std.proofs.Common.{◌≡◌, ℕ, zero, suc, ◌-◌, ◌+◌, ◌≤◌, ◌<◌, Bool, true, false, cond, eqb, List, [], ◌∷◌, ◌++◌, length, Result, Ok, Err, refl, sym, ap, ◌∙◌, arith, inl, inr}
+use Rattle.std.proofs.Common.{◌≡◌, ℕ, eqb, List, [], ◌∷◌, refl, ◌∙◌, inl}
 use Rattle.std.proofs.lemmas.Bool.{eqb-true}
 use Rattle.acpi_terms.specs.Tree.{FieldTree, unit, reserved, access, connect_name, connect_buffer, extended}
-use Rattle.acpi_terms.specs.Reading.{◌>>=◌, Reading, Fault, fault_at, byte_at, bytes_in, connect_at, connect_buffer_at, connect_name_at, unit_at, reserved_at, access_at, extended_at, field_by, field_at, fields_in, each_at, Leaf, name_leaf, seg_leaf, byte_leaf, bits_leaf, const_leaf, Values}
+use Rattle.acpi_terms.specs.Reading.{byte_at, bytes_in, connect_at, field_at, fields_in, name_leaf, seg_leaf, byte_leaf, bits_leaf, const_leaf}
 use Rattle.acpi_terms.specs.Spelling.{SpellsField, SpellsFields}
 use Rattle.acpi_terms.proofs.FieldsAgain.{field_long}
-use Rattle.acpi_terms.proofs.Judged.{Judge, judge_bind, judge_if, Took, Here, Spot, Bad, Read, here_after, cut_shows, all_judged}
+use Rattle.acpi_terms.proofs.Judged.{Judge, judge_if, Here, Spot, Bad, Read, here_after, cut_shows, all_judged}
 use Rattle.acpi_terms.proofs.PartsTook.{plain_judged, packed_judged}
 
 -- the bytes behind 02

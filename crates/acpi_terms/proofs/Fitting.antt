@@ -1,16 +1,16 @@
 -- What is spelled fits.
-use Rattle.std.proofs.Common.{◌≡◌, ℕ, zero, suc, ◌+◌, ◌*◌, ◌/◌, ◌%◌, ◌≤◌, ◌<◌, ◌⊎◌, Bool, true, false, ◌&&◌, not, eqb, leb, ltb, List, [], ◌∷◌, ◌++◌, length, slice_index, get_or, Fits, w8, refl, sym, ap, subst, ◌∙◌, arith, inl, inr}
+use Rattle.std.proofs.Common.{◌≡◌, ℕ, zero, suc, ◌+◌, ◌*◌, ◌/◌, ◌%◌, ◌≤◌, ◌<◌, Bool, true, false, ◌&&◌, not, eqb, List, [], ◌∷◌, ◌++◌, length, slice_index, get_or, Fits, w8, refl, subst, ◌∙◌, arith, inl, inr}
 use Rattle.std.specs.List.{AllByRecursion, list_all}
 use Rattle.std.proofs.lemmas.Bool.{lt-ltb, eqb-true, le-leb}
 use Rattle.std.proofs.Math.Facts.{Fits-lt-pow}
 use Rattle.byteorder.specs.Endian.{little_number}
 use Rattle.acpi_name.specs.Names.{NameParts}
-use Rattle.acpi_name.specs.Spelling.{SpellsName, SpellsPath, prefix_of}
+use Rattle.acpi_name.specs.Spelling.{SpellsName, SpellsPath}
 use Rattle.acpi_table.specs.PkgLength.{SpellsPkgLength}
 use Rattle.acpi_terms.specs.Rows.{is_name_start}
-use Rattle.acpi_terms.specs.Reading.{Leaf, name_leaf, source_leaf, seg_leaf, byte_leaf, word_leaf, dword_leaf, args_leaf, bits_leaf, const_leaf, int_leaf, Value, Values, external_leaves}
+use Rattle.acpi_terms.specs.Reading.{Leaf, name_leaf, byte_leaf, int_leaf, Values}
 use Rattle.acpi_terms.specs.Tree.{DataTree, int, str, buffer, pkg, var_pkg, ElemTree, of_data, of_name, ElemTrees, no_elems, elem, FieldTree, unit, reserved, access, connect_name, connect_buffer, extended, ExternalParts, ItemTree, name, scope, method, external, external_block, create, create_field, mutex, event, region, field, index_field, bank_field, device, processor, power, thermal, ItemTrees, no_items, item}
-use Rattle.acpi_terms.specs.Spelling.{IsText, SpellsTermName, SpellsLeaf, SpellsValues, SpellsEach, Packs, SpellsPlain, SpellsPacked, SpellsData, SpellsElem, SpellsElems, SpellsField, SpellsFields, SpellsExternal, SpellsItem, SpellsItems}
+use Rattle.acpi_terms.specs.Spelling.{IsText, SpellsTermName, SpellsEach, Packs, SpellsPacked, SpellsData, SpellsElem, SpellsElems, SpellsField, SpellsFields, SpellsExternal, SpellsItem, SpellsItems}
 use Rattle.acpi_terms.specs.Fits.{text_fits, is_null_name, data_fits, elem_fits, elems_fit, bits_fit, field_fits, external_fits, item_fits, items_fit}
 
 abbrev pub AreBytes : List ℕ → Type 0

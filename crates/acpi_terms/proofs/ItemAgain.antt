@@ -1,16 +1,14 @@
 -- Items that are spelled are read again.
-use Rattle.std.proofs.Common.{◌≡◌, ℕ, zero, suc, ◌-◌, ◌+◌, ◌≤◌, ◌<◌, max, Bool, true, false, cond, List, [], ◌∷◌, ◌++◌, length, Result, Ok, Err, refl, sym, ap, ◌∙◌, append_assoc, arith}
-use Rattle.std.proofs.lemmas.List.{length-append}
+use Rattle.std.proofs.Common.{◌≡◌, ℕ, zero, suc, ◌-◌, ◌≤◌, ◌<◌, true, List, [], ◌∷◌, ◌++◌, length, Result, Ok, refl, ap, ◌∙◌, append_assoc, arith}
 use Rattle.acpi_name.specs.Names.{NameParts}
-use Rattle.acpi_name.specs.Spelling.{SpellsName}
 use Rattle.acpi_terms.specs.declared.lead.Lead.{Lead}
 use Rattle.acpi_terms.specs.declared.lead.Lead.TheVariants as leads
 use Rattle.acpi_terms.specs.declared.tree.Int.{Int}
 use Rattle.acpi_terms.specs.declared.tree.Width.{Width}
 use Rattle.acpi_terms.specs.declared.tree.Width.TheVariants as widths
-use Rattle.acpi_terms.specs.Tree.{DataTree, FieldTree, ExternalParts, ItemTree, name, scope, method, external, external_block, create, create_field, mutex, event, region, field, index_field, bank_field, device, processor, power, thermal, ItemTrees, no_items, item, items_of}
-use Rattle.acpi_terms.specs.Reading.{◌>>=◌, Reading, Fault, byte_at, lead_at, name_in, package_at, data_at, fields_in, bytes_in, Leaf, name_leaf, source_leaf, byte_leaf, word_leaf, dword_leaf, args_leaf, int_leaf, Values, plain_at, packed_at, external_leaves, external_parts, parts_at, external_at, block_content, block_item, item_by, items_with, item_at, items_at, each_with, each_at}
-use Rattle.acpi_terms.specs.Spelling.{SpellsValues, SpellsPlain, SpellsPacked, SpellsEach, Packs, SpellsData, SpellsFields, SpellsExternal, SpellsItem, SpellsItems, width_opcode, data_height, block_height, item_height, items_height}
+use Rattle.acpi_terms.specs.Tree.{DataTree, ExternalParts, ItemTree, name, scope, method, external, external_block, create, create_field, mutex, event, region, field, index_field, bank_field, device, processor, power, thermal, ItemTrees, no_items, item, items_of}
+use Rattle.acpi_terms.specs.Reading.{Fault, byte_at, fields_in, bytes_in, Leaf, name_leaf, source_leaf, byte_leaf, word_leaf, dword_leaf, int_leaf, Values, plain_at, packed_at, external_leaves, external_parts, parts_at, external_at, block_content, item_by, items_with, item_at, items_at}
+use Rattle.acpi_terms.specs.Spelling.{SpellsValues, SpellsPlain, SpellsPacked, SpellsEach, SpellsFields, SpellsExternal, SpellsItem, SpellsItems, width_opcode, data_height, block_height, item_height, items_height}
 use Rattle.acpi_terms.proofs.Opens.{opcode, some_bytes, opens}
 use Rattle.acpi_terms.proofs.PartsAgain.{name_in_again, package_again, leaves_height, plain_again, packed_again}
 use Rattle.acpi_terms.proofs.EachAgain.{AreAll, none_left, one_more, each_again, all_at}

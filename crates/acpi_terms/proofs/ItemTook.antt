@@ -1,25 +1,24 @@
 -- Items that are read are spelled so, or the fault shows why not.
-use Rattle.std.proofs.Common.{◌≡◌, ℕ, zero, suc, ◌-◌, ◌+◌, ◌≤◌, ◌<◌, max, Bool, true, false, cond, eqb, ◌⊎◌, List, [], ◌∷◌, ◌++◌, length, Result, Ok, Err, refl, sym, ap, subst, ◌∙◌, append_assoc, append-nil, arith, inl, inr}
+use Rattle.std.proofs.Common.{◌≡◌, ℕ, zero, suc, ◌+◌, ◌≤◌, ◌<◌, true, eqb, ◌⊎◌, List, [], ◌∷◌, ◌++◌, length, Result, Ok, Err, refl, sym, ap, subst, ◌∙◌, append_assoc, append-nil, arith, inl, inr}
 use Rattle.std.proofs.lemmas.Bool.{eqb-true}
-use Rattle.std.proofs.lemmas.List.{length-append}
 use Rattle.acpi_table.specs.PkgLength.{SpellsPkgLength}
 use Rattle.acpi_name.specs.Spelling.{SpellsName}
 use Rattle.acpi_terms.specs.declared.fault.ItemReason.{ItemReason}
-use Rattle.acpi_terms.specs.declared.fault.ItemReason.TheVariants.{Cut, BadOpcode, ReservedBits, BadName, Overrun, Computed, Alias, ModuleIf, ModuleCode, Load, NotData, TooDeep, BadString, DataRegion}
+use Rattle.acpi_terms.specs.declared.fault.ItemReason.TheVariants.{BadOpcode, Alias, ModuleIf, ModuleCode, Load, TooDeep, DataRegion}
 use Rattle.acpi_terms.specs.declared.lead.Lead.{Lead}
 use Rattle.acpi_terms.specs.declared.lead.Lead.TheVariants as leads
 use Rattle.acpi_terms.specs.declared.tree.Width.{Width}
 use Rattle.acpi_terms.specs.declared.tree.Width.TheVariants as widths
-use Rattle.acpi_terms.specs.Tree.{FieldTree, ExternalParts, ItemTree, name, scope, method, external, external_block, create, create_field, mutex, event, region, field, index_field, bank_field, device, processor, power, thermal, ItemTrees, no_items, item, items_of}
-use Rattle.acpi_terms.specs.Reading.{◌>>=◌, Reading, Fault, fault_at, byte_at, lead_at, name_in, Package, package_at, data_at, fields_in, bytes_in, Leaf, name_leaf, source_leaf, byte_leaf, word_leaf, dword_leaf, args_leaf, int_leaf, Values, external_leaves, external_parts, parts_at, external_by, external_at, block_content, block_fault, in_block, name_item, external_item, block_item, item_by, items_with, item_at, items_at, each_with, each_at, plain_at, packed_at, scope_item, method_item, create_item, create_field_item, mutex_item, event_item, region_item, field_item, index_field_item, bank_field_item, device_item, processor_item, power_item, thermal_item}
+use Rattle.acpi_terms.specs.Tree.{ExternalParts, ItemTree, scope, method, external, external_block, create, create_field, mutex, event, region, field, index_field, bank_field, device, processor, power, thermal, ItemTrees, items_of}
+use Rattle.acpi_terms.specs.Reading.{◌>>=◌, Fault, fault_at, byte_at, lead_at, name_in, Package, package_at, data_at, fields_in, bytes_in, Leaf, name_leaf, source_leaf, byte_leaf, word_leaf, dword_leaf, int_leaf, Values, external_leaves, external_parts, parts_at, external_by, external_at, block_content, block_fault, in_block, name_item, block_item, item_by, items_with, item_at, items_at, each_with, each_at, plain_at, packed_at, create_item}
 use Rattle.acpi_terms.specs.Spelling.{SpellsValues, SpellsPlain, SpellsEach, Packs, SpellsFields, SpellsExternal, SpellsItem, SpellsItems, width_opcode, block_height, item_height, items_height}
-use Rattle.acpi_terms.specs.Faults.{IsEnd, IsOtherIf, Shows}
-use Rattle.acpi_terms.proofs.Opens.{opcode, some_bytes}
+use Rattle.acpi_terms.specs.Faults.{Shows}
+use Rattle.acpi_terms.proofs.Opens.{some_bytes}
 use Rattle.acpi_terms.proofs.PartsAgain.{leaves_height}
 use Rattle.acpi_terms.proofs.ItemAgain.{item_long, external_long, content_again}
-use Rattle.acpi_terms.proofs.Judged.{Judge, judge_bind, judge_into, judge_if, judge_up, Took, Here, Spot, Bad, Read, here_at, here_after, here_deeper, cut_shows, no_level_shows, read_as, read_behind, all_judged}
-use Rattle.acpi_terms.proofs.LeadTook.{Opened, lead_judged, begins, refused}
-use Rattle.acpi_terms.proofs.PartsTook.{GoodPackage, IsByte, byte_judged, name_judged, package_judged, plain_judged, packed_judged}
+use Rattle.acpi_terms.proofs.Judged.{Judge, judge_bind, judge_into, judge_if, judge_up, Here, Spot, Bad, Read, here_at, here_after, here_deeper, no_level_shows, read_as, all_judged}
+use Rattle.acpi_terms.proofs.LeadTook.{Opened, lead_judged, refused}
+use Rattle.acpi_terms.proofs.PartsTook.{GoodPackage, name_judged, package_judged, plain_judged, packed_judged}
 use Rattle.acpi_terms.proofs.DataTook.{DataWithin, data_judged, opens_with}
 use Rattle.acpi_terms.proofs.FieldsTook.{fields_judged}
 

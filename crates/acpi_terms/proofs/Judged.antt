@@ -1,7 +1,7 @@
 -- Both ends of a reading at once: what was read, or what its fault shows.
-use Rattle.std.proofs.Common.{◌≡◌, ℕ, zero, suc, ◌-◌, ◌+◌, ◌≤◌, ◌<◌, Bool, true, false, cond, List, [], ◌∷◌, ◌++◌, length, drop, Result, Ok, Err, refl, sym, ap, subst, ◌∙◌, append_assoc, arith, inl, inr}
+use Rattle.std.proofs.Common.{◌≡◌, ℕ, zero, suc, ◌-◌, ◌+◌, ◌≤◌, ◌<◌, Bool, true, false, cond, List, [], ◌∷◌, ◌++◌, length, drop, Result, Ok, Err, refl, sym, ap, subst, ◌∙◌, append_assoc, arith}
 use Rattle.std.proofs.lemmas.List.{length-append, drop_at}
-use Rattle.acpi_terms.specs.declared.fault.ItemReason.TheVariants.{Cut, TooDeep}
+use Rattle.acpi_terms.specs.declared.fault.ItemReason.TheVariants.{Cut}
 use Rattle.acpi_terms.specs.Reading.{◌>>=◌, Reading, Fault, fault_at, no_level, each_with, each_at}
 use Rattle.acpi_terms.specs.Spelling.{SpellsEach}
 use Rattle.acpi_terms.specs.Faults.{IsEnd, Shows}

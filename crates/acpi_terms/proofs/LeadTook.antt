@@ -1,16 +1,15 @@
 -- What begins at a place, by its bytes.
-use Rattle.std.proofs.Common.{◌≡◌, ℕ, zero, suc, ◌-◌, ◌+◌, ◌≤◌, ◌<◌, Bool, true, false, cond, eqb, ltb, ◌&&◌, Option, Some, None, List, [], ◌∷◌, ◌++◌, length, drop, slice_index, Result, Ok, Err, refl, sym, ap, subst, ◌∙◌, arith}
+use Rattle.std.proofs.Common.{◌≡◌, ℕ, ◌-◌, ◌<◌, Bool, true, false, cond, eqb, ltb, ◌&&◌, Some, List, [], ◌∷◌, ◌++◌, length, slice_index, Ok, refl, sym, ap, ◌∙◌, arith}
 use Rattle.std.proofs.lemmas.Bool.{eqb-true}
 use Rattle.acpi_name.proofs.NameAgain.{and_true}
 use Rattle.acpi_terms.specs.declared.fault.ItemReason.{ItemReason}
-use Rattle.acpi_terms.specs.declared.fault.ItemReason.TheVariants.{Cut}
 use Rattle.acpi_terms.specs.declared.lead.Lead.{Lead}
 use Rattle.acpi_terms.specs.declared.lead.Lead.TheVariants as leads
 use Rattle.acpi_terms.specs.Rows.{Opening, looked_up, plain_rows, extended_rows, is_name_start, plain_lead_of, extended_lead_of}
-use Rattle.acpi_terms.specs.Reading.{◌>>=◌, fault_at, byte_at, extended_lead_at, lead_at}
-use Rattle.acpi_terms.specs.Faults.{lead_of, extended_lead, Begins, Refused, refusal, Shows}
+use Rattle.acpi_terms.specs.Reading.{byte_at, extended_lead_at, lead_at}
+use Rattle.acpi_terms.specs.Faults.{lead_of, Begins, Refused, refusal}
 use Rattle.acpi_terms.proofs.Opens.{opcode, some_bytes}
-use Rattle.acpi_terms.proofs.Judged.{Judge, judge_bind, judge_if, Here, Spot, Bad, here_at, here_after, cut_shows}
+use Rattle.acpi_terms.proofs.Judged.{Judge, judge_if, Here, Spot, Bad, here_at, cut_shows}
 
 -- ---- the rows
 

@@ -1,13 +1,13 @@
 -- What is told of code that begins with items and goes on with a term that is refused by itself.
-use Rattle.std.proofs.Common.{◌≡◌, ℕ, zero, suc, ◌-◌, ◌+◌, ◌≤◌, ◌<◌, max, Bool, true, false, cond, eqb, Option, Some, None, List, [], ◌∷◌, ◌++◌, length, drop, Result, Ok, Err, refl, sym, ap, ◌∙◌, append_assoc, arith}
+use Rattle.std.proofs.Common.{◌≡◌, ℕ, zero, suc, ◌-◌, ◌≤◌, ◌<◌, Bool, true, false, cond, eqb, Option, Some, None, List, [], ◌∷◌, ◌++◌, length, Result, Ok, Err, refl, ap, append_assoc, arith}
 use Rattle.std.proofs.lemmas.List.{length-append}
 use Rattle.acpi_terms.specs.declared.fault.ItemReason.{ItemReason}
 use Rattle.acpi_terms.specs.declared.lead.Lead.{Lead}
 use Rattle.acpi_terms.specs.declared.lead.Lead.TheVariants as leads
 use Rattle.acpi_terms.specs.Rows.{plain_lead_of, extended_lead_of}
 use Rattle.acpi_terms.specs.Tree.{ItemTree, ItemTrees, no_items, item}
-use Rattle.acpi_terms.specs.Reading.{◌>>=◌, Reading, Fault, fault_at, byte_at, extended_lead_at, lead_at, item_by, items_with, item_at, items_at, each_with, each_at}
-use Rattle.acpi_terms.specs.Spelling.{SpellsItem, SpellsItems, item_height, items_height}
+use Rattle.acpi_terms.specs.Reading.{Reading, Fault, fault_at, byte_at, extended_lead_at, lead_at, item_by, items_with, item_at, items_at}
+use Rattle.acpi_terms.specs.Spelling.{SpellsItems, items_height}
 use Rattle.acpi_terms.specs.Faults.{extended_lead, lead_of, refusal, Refused}
 use Rattle.acpi_terms.proofs.EachAgain.{StopsAt, stops_here, stops_behind}
 use Rattle.acpi_terms.proofs.ItemAgain.{item_long, item_again}

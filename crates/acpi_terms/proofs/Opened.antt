@@ -1,7 +1,7 @@
 -- What begins there decides the form, where a level is left.
-use Rattle.std.proofs.Common.{◌≡◌, ℕ, zero, suc, ◌-◌, ◌<◌, List, [], ◌∷◌, Result, Ok, Err, refl, sym, ap, ◌∙◌, arith}
+use Rattle.std.proofs.Common.{◌≡◌, ℕ, zero, suc, ◌-◌, ◌<◌, List, Ok, refl, arith}
 use Rattle.acpi_terms.specs.declared.lead.Lead.{Lead}
-use Rattle.acpi_terms.specs.Reading.{◌>>=◌, lead_at, elem_by, elems_with, elem_at, data_by, data_at, external_by, external_at, item_by, items_with, item_at}
+use Rattle.acpi_terms.specs.Reading.{lead_at, elem_by, elems_with, elem_at, item_by, items_with, item_at}
 
 pub elem_opened : (level end : ℕ) (bytes : List ℕ) (front : Lead) (rest : List ℕ) → 0 < level → lead_at end bytes ≡ Ok (front, rest)
     → elem_at level end bytes ≡ elem_by (elems_with (elem_at (level - 1))) (level - 1) end bytes front rest

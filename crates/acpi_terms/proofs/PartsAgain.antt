@@ -1,8 +1,7 @@
 -- Parts that are spelled are read again: numbers, package lengths, names, constants.
-use Rattle.std.proofs.Common.{◌≡◌, ℕ, zero, suc, ◌-◌, ◌+◌, ◌≤◌, ◌<◌, max, Bool, true, false, cond, ltb, List, [], ◌∷◌, ◌++◌, length, take, drop, slice_index, Result, Ok, Err, refl, sym, ap, ◌∙◌, append_assoc, arith}
+use Rattle.std.proofs.Common.{◌≡◌, ℕ, zero, suc, ◌-◌, ◌+◌, ◌≤◌, ◌<◌, max, true, false, ltb, List, [], ◌∷◌, ◌++◌, length, Result, Ok, refl, append_assoc, arith}
 use Rattle.std.proofs.lemmas.Bool.{le-ltb}
 use Rattle.std.proofs.lemmas.List.{length-append, take_at, drop_at}
-use Rattle.byteorder.specs.Endian.{little_number}
 use Rattle.byteorder.specs.Numbers.{little_from-append}
 use Rattle.acpi_name.specs.Names.{NameParts, is_segment}
 use Rattle.acpi_name.specs.Spelling.{SpellsName}
@@ -11,8 +10,8 @@ use Rattle.acpi_table.specs.PkgLength.{SpellsPkgLength}
 use Rattle.acpi_table.proofs.PkgLengths.{pkg_length_again}
 use Rattle.acpi_terms.specs.declared.tree.Int.{Int}
 use Rattle.acpi_terms.specs.declared.tree.Int.TheVariants.{Zero, One, Ones, Revision, Byte, Word, DWord, QWord}
-use Rattle.acpi_terms.specs.Reading.{◌>>=◌, Reading, Fault, byte_at, number_at, length_in, Package, package_of, package_at, name_in, seg_in, args_in, lead_at, const_at, int_at, source_at, Leaf, name_leaf, source_leaf, seg_leaf, byte_leaf, word_leaf, dword_leaf, args_leaf, bits_leaf, const_leaf, int_leaf, Value, Values, leaf_at, leaves_at, plain_at, packed_at}
-use Rattle.acpi_terms.specs.Spelling.{SpellsNumber, SpellsInt, SpellsTermName, SpellsLeaf, SpellsValues, SpellsPlain, SpellsPacked, Packs}
+use Rattle.acpi_terms.specs.Reading.{Fault, byte_at, number_at, length_in, package_of, package_at, name_in, seg_in, args_in, lead_at, const_at, int_at, source_at, Leaf, name_leaf, source_leaf, seg_leaf, byte_leaf, word_leaf, dword_leaf, args_leaf, bits_leaf, const_leaf, int_leaf, Value, Values, leaf_at, leaves_at, plain_at, packed_at}
+use Rattle.acpi_terms.specs.Spelling.{SpellsNumber, SpellsInt, SpellsTermName, SpellsLeaf, SpellsValues}
 use Rattle.acpi_terms.proofs.Opens.{opens_name}
 
 pub number_again : (k n end : ℕ) (b rest : List ℕ) → SpellsNumber k n b → number_at k end (b ++ rest) ≡ Ok (n, rest)

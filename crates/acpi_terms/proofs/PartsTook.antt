@@ -1,7 +1,7 @@
 -- Parts that are read are spelled so, or the fault shows why not: numbers, package lengths, names, constants.
-use Rattle.std.proofs.Common.{◌≡◌, ℕ, zero, suc, ◌-◌, ◌+◌, ◌*◌, ◌/◌, ◌%◌, ◌≤◌, ◌<◌, max, Bool, true, false, cond, ltb, eqb, ◌||◌, ◌⊎◌, List, [], ◌∷◌, ◌++◌, length, take, drop, slice_index, Result, Ok, Err, refl, sym, ap, subst, ◌∙◌, append_assoc, arith, inl, inr}
+use Rattle.std.proofs.Common.{◌≡◌, ℕ, zero, suc, ◌-◌, ◌+◌, ◌≤◌, ◌<◌, Bool, true, false, cond, ltb, ◌||◌, ◌⊎◌, List, [], ◌∷◌, ◌++◌, length, take, drop, slice_index, Result, Ok, Err, refl, sym, ap, subst, ◌∙◌, append_assoc, arith, inl, inr}
 use Rattle.std.proofs.lemmas.Bool.{ltb-false, ltb-true}
-use Rattle.std.proofs.lemmas.List.{append-nil, length-append, length-take, take-append-drop}
+use Rattle.std.proofs.lemmas.List.{length-append, length-take, take-append-drop}
 use Rattle.byteorder.specs.Endian.{little_number}
 use Rattle.byteorder.specs.Numbers.{little_from-append}
 use Rattle.acpi_name.specs.Names.{NameParts, Segment, is_segment}
@@ -17,7 +17,7 @@ use Rattle.acpi_table.specs.PkgLength.{SpellsPkgLength, HasReservedBits, pkg_len
 use Rattle.acpi_table.specs.declared.lengths.PkgFault.{PkgFault}
 use Rattle.acpi_table.specs.declared.lengths.PkgFault.TheVariants as lengths
 use Rattle.acpi_table.proofs.PkgLengths.{pkg_length_took, pkg_length_failed}
-use Rattle.acpi_terms.specs.declared.fault.ItemReason.TheVariants.{Cut, BadOpcode, ReservedBits, BadName, Overrun, Computed}
+use Rattle.acpi_terms.specs.declared.fault.ItemReason.TheVariants.{BadOpcode}
 use Rattle.acpi_terms.specs.declared.lead.Lead.{Lead}
 use Rattle.acpi_terms.specs.declared.lead.Lead.TheVariants as leads
 use Rattle.acpi_terms.specs.declared.lead.IntForm.{IntForm}
@@ -25,13 +25,13 @@ use Rattle.acpi_terms.specs.declared.lead.IntForm.TheVariants as forms
 use Rattle.acpi_terms.specs.declared.tree.Int.{Int}
 use Rattle.acpi_terms.specs.declared.tree.Int.TheVariants.{Zero, One, Ones, Revision, Byte, Word, DWord, QWord}
 use Rattle.acpi_terms.specs.Rows.{is_name_start}
-use Rattle.acpi_terms.specs.Reading.{◌>>=◌, Reading, Fault, fault_at, byte_at, number_at, or_length_fault, length_in, Package, package_of, package_at, or_name_fault, name_in, seg_in, args_in, lead_at, constant_at, const_by, const_at, int_at, source_by, source_at, Leaf, name_leaf, source_leaf, seg_leaf, byte_leaf, word_leaf, dword_leaf, args_leaf, bits_leaf, const_leaf, int_leaf, Value, Values, leaf_at, leaves_at, plain_at, packed_at}
-use Rattle.acpi_terms.specs.Spelling.{SpellsNumber, SpellsInt, SpellsTermName, SpellsLeaf, SpellsValues, SpellsPlain, SpellsPacked, Packs}
-use Rattle.acpi_terms.specs.Faults.{ByteAt, StandsAt, IsPackageEnd, IsEnd, HasNoName, IsReserved}
+use Rattle.acpi_terms.specs.Reading.{Reading, Fault, byte_at, number_at, or_length_fault, length_in, Package, package_at, or_name_fault, name_in, seg_in, args_in, lead_at, constant_at, const_by, const_at, int_at, source_by, source_at, Leaf, name_leaf, source_leaf, seg_leaf, byte_leaf, word_leaf, dword_leaf, args_leaf, bits_leaf, const_leaf, int_leaf, Value, Values, leaf_at, leaves_at, plain_at, packed_at}
+use Rattle.acpi_terms.specs.Spelling.{SpellsNumber, SpellsInt, SpellsTermName, SpellsLeaf, SpellsValues, SpellsPlain, Packs}
+use Rattle.acpi_terms.specs.Faults.{StandsAt, IsReserved}
 use Rattle.acpi_terms.proofs.Opens.{opcode, some_bytes}
 use Rattle.acpi_terms.proofs.PartsAgain.{leaf_height, leaves_height}
-use Rattle.acpi_terms.proofs.Judged.{Judge, judge_bind, judge_into, judge_if, judge_same, Took, Here, Spot, Bad, Read, here_at, here_after, cut_shows, no_level_shows, read_as, read_behind}
-use Rattle.acpi_terms.proofs.LeadTook.{Told, Opened, lead_judged, begins, refused}
+use Rattle.acpi_terms.proofs.Judged.{Judge, judge_bind, judge_into, judge_if, Here, Spot, Bad, Read, here_at, here_after, cut_shows, no_level_shows, read_as, read_behind}
+use Rattle.acpi_terms.proofs.LeadTook.{Opened, lead_judged, begins, refused}
 
 -- the one byte n
 abbrev pub IsByte : ℕ → List ℕ → Type 0

@@ -1,11 +1,11 @@
 -- What a reader that gives a reading ensures: the laws of readings, of its answer.
-use Rattle.std.proofs.Common.{◌≡◌, ℕ, ◌+◌, ◌≤◌, ◌<◌, true, List, ◌++◌, length, Result, Ok, Err, refl, sym, ap, subst, ◌∙◌}
+use Rattle.std.proofs.Common.{◌≡◌, ℕ, ◌≤◌, ◌<◌, true, List, ◌++◌, length, Result, Ok, Err, ap, subst, ◌∙◌}
 use Rattle.std.specs.Prelude.{IfOk, IfErr}
 use Rattle.acpi_terms.specs.declared.fault.ItemReason.{ItemReason}
 use Rattle.acpi_terms.specs.declared.fault.ItemFault.{ItemFault}
 use Rattle.acpi_terms.specs.declared.fault.ItemFault.TheVariants as errors
 use Rattle.acpi_terms.specs.Tree.{ItemTrees}
-use Rattle.acpi_terms.specs.Reading.{Fault, Gives, Fails, items_at}
+use Rattle.acpi_terms.specs.Reading.{Fault, Gives, items_at}
 use Rattle.acpi_terms.specs.Spelling.{SpellsItems, items_height}
 use Rattle.acpi_terms.specs.Faults.{Shows, Told, Refused}
 use Rattle.acpi_terms.specs.Fits.{items_fit}

@@ -1,16 +1,15 @@
 -- What the readers of one part at the front of some bytes ensure.
-use Rattle.std.proofs.Common.{◌≡◌, ℕ, ◌+◌, ◌-◌, ◌≤◌, ◌<◌, List, [], ◌∷◌, ◌++◌, length, take, drop, Option, Some, None, Result, Ok, Err, refl, sym, ap, subst, ◌∙◌, arith, inl}
+use Rattle.std.proofs.Common.{◌≡◌, ℕ, ◌≤◌, ◌<◌, List, [], ◌++◌, length, take, drop, Option, Some, None, Result, Ok, Err, refl, sym, ap, subst, ◌∙◌, arith, inl}
 use Rattle.std.proofs.lemmas.List.{length-append, length-drop, append-nil}
 use Rattle.std.proofs.Math.Seq.{take-append_seam}
 use Rattle.std.specs.Prelude.{IfOk, IfErr, IfSome, option_map}
-use Rattle.acpi_terms.specs.declared.fault.ItemReason.{ItemReason}
 use Rattle.acpi_terms.specs.declared.fault.ItemFault.{ItemFault}
 use Rattle.acpi_terms.specs.declared.fault.ItemFault.TheVariants as errors
 use Rattle.acpi_terms.specs.declared.tree.Int.{Int}
 use Rattle.acpi_terms.specs.Tree.{FieldTree}
-use Rattle.acpi_terms.specs.Reading.{Reading, Fault, Gives, OrMemory, found, const_at, field_at, int_front}
+use Rattle.acpi_terms.specs.Reading.{Fault, Gives, OrMemory, found, const_at, field_at, int_front}
 use Rattle.acpi_terms.specs.Spelling.{SpellsInt, SpellsField}
-use Rattle.acpi_terms.specs.Faults.{Shows, Told}
+use Rattle.acpi_terms.specs.Faults.{Told}
 use Rattle.acpi_terms.proofs.Judged.{Judge, Took, Here, Spot, Bad, Read}
 use Rattle.acpi_terms.proofs.PartsAgain.{const_again}
 use Rattle.acpi_terms.proofs.PartsTook.{const_judged}

@@ -1,5 +1,5 @@
 -- Whether two trees are equal, as tests.
-use Rattle.std.specs.Prelude.{ℕ, Bool, true, false, ◌&&◌, nat_eq, List, [], ◌∷◌}
+use Rattle.std.specs.Prelude.{ℕ, Bool, true, false, ◌&&◌, nat_eq, List}
 use Rattle.std.specs.Cmp.Lexicographic.{pointwise}
 use Rattle.acpi_name.specs.NameEqual.{name_eq}
 use Rattle.acpi_terms.specs.declared.tree.Int.{Int}

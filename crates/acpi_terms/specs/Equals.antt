@@ -1,11 +1,10 @@
 -- The tests of `Equal` decide equality, and so are equivalences.
-use Rattle.std.proofs.Common.{◌≡◌, ℕ, Bool, true, false, ◌&&◌, eqb, List, [], ◌∷◌, refl, sym, ap, ap₂, subst, ◌∙◌}
+use Rattle.std.proofs.Common.{◌≡◌, Bool, true, false, ◌&&◌, eqb, List, [], ◌∷◌, refl, sym, ap, ap₂, subst}
 use Rattle.std.proofs.lemmas.Bool.{eqb-true}
 use Rattle.std.proofs.lemmas.Bool.Decides.{Decides-eqb}
 use Rattle.std.specs.Bool.{Decides}
 use Rattle.std.specs.Cmp.{IsEquivalence}
 use Rattle.std.specs.Cmp.Lexicographic.{pointwise}
-use Rattle.acpi_name.specs.Names.{NameParts}
 use Rattle.acpi_name.specs.NameEqual.{name_eq}
 use Rattle.acpi_name.proofs.EqualNames.{name_eq_Decides}
 use Rattle.acpi_name.proofs.NameAgain.{and_true}

@@ -1,5 +1,5 @@
 -- What a fault shows of the code (ACPI 6.5, 20.2).
-use Rattle.std.specs.Prelude.{◌≡◌, ◌⊎◌, ◌+◌, ◌%◌, ◌<◌, ◌≤◌, ℕ, true, false, Bool, Option, Some, None, List, [], ◌∷◌, ◌++◌, length, drop, ◌==◌, ◌||◌, if◌then◌else◌}
+use Rattle.std.specs.Prelude.{◌≡◌, ◌⊎◌, ◌+◌, ◌%◌, ◌<◌, ◌≤◌, ℕ, true, false, Bool, Option, Some, None, List, [], ◌∷◌, ◌++◌, length, drop, ◌==◌, if◌then◌else◌}
 use Rattle.acpi_name.specs.Reading.{is_segment_front}
 use Rattle.acpi_name.specs.Spelling.{HasBadChar, HasZeroCount, HasTooManyUps}
 use Rattle.acpi_table.specs.PkgLength.{SpellsPkgLength}
@@ -9,7 +9,7 @@ use Rattle.acpi_terms.specs.declared.fault.ItemFault.{ItemFault}
 use Rattle.acpi_terms.specs.declared.fault.ItemFault.TheVariants as errors
 use Rattle.acpi_terms.specs.declared.lead.Lead.{Lead}
 use Rattle.acpi_terms.specs.declared.lead.Lead.TheVariants as leads
-use Rattle.acpi_terms.specs.Rows.{plain_lead_of, extended_lead_of, is_name_lead}
+use Rattle.acpi_terms.specs.Rows.{plain_lead_of, extended_lead_of}
 use Rattle.acpi_terms.specs.Tree.{ExternalParts}
 use Rattle.acpi_terms.specs.Spelling.{SpellsEach, SpellsExternal}
 

@@ -1,8 +1,8 @@
 -- Which trees have a spelling, but for the lengths of packages (ACPI 6.5, 20.2).
-use Rattle.std.specs.Prelude.{ℕ, Bool, true, false, not, ◌&&◌, nat_eq, nat_lt, nat_le, List, [], ◌∷◌, length}
+use Rattle.std.specs.Prelude.{ℕ, Bool, true, false, not, ◌&&◌, nat_eq, nat_lt, nat_le, length}
 use Rattle.std.specs.List.{list_all}
 use Rattle.acpi_name.specs.Names.{NameParts}
-use Rattle.acpi_terms.specs.Tree.{DataTree, int, str, buffer, pkg, var_pkg, ElemTree, of_data, of_name, ElemTrees, no_elems, elem, FieldTree, unit, reserved, access, connect_name, connect_buffer, extended, ExternalParts, ItemTree, name, scope, method, external, external_block, create, create_field, mutex, event, region, field, index_field, bank_field, device, processor, power, thermal, ItemTrees, no_items, item}
+use Rattle.acpi_terms.specs.Tree.{DataTree, str, pkg, var_pkg, ElemTree, of_data, of_name, ElemTrees, no_elems, elem, FieldTree, unit, reserved, ExternalParts, ItemTree, name, scope, external, external_block, create, create_field, field, index_field, bank_field, device, processor, power, thermal, ItemTrees, no_items, item}
 
 -- AsciiChar: 01 to 7F (20.2.3)
 abbrev pub text_fits : ℕ → Bool

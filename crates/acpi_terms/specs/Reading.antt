@@ -1,7 +1,7 @@
 -- Reading items from left to right, up to the first fault (ACPI 6.5, 20.2).
 -- A list of bytes is read whose end stands at the place `end` of the code, so what is left of it begins
 -- at the place `end - length bytes`.
-use Rattle.std.specs.Prelude.{◌≡◌, ◌+◌, ◌-◌, ℕ, zero, suc, Bool, true, false, ◌||◌, ◌&&◌, List, [], ◌∷◌, length, take, drop, Option, Some, None, Result, Ok, Err, nat_lt, ◌==◌, if◌then◌else◌}
+use Rattle.std.specs.Prelude.{◌≡◌, ◌-◌, ℕ, zero, suc, Bool, ◌||◌, ◌&&◌, List, [], ◌∷◌, length, take, drop, Option, Some, None, Result, Ok, Err, nat_lt, ◌==◌, if◌then◌else◌}
 use Rattle.std.specs.List.{take_while}
 use Rattle.byteorder.specs.Endian.{little_number}
 use Rattle.acpi_name.specs.Names.{NameParts, Segment}

@@ -1,9 +1,9 @@
 -- The bytes that spell a tree (ACPI 6.5, 20.2). A tree may have several spellings, since a package length
 -- and a name may be longer than needed.
-use Rattle.std.specs.Prelude.{◌≡◌, ◌<◌, ◌≤◌, ◌+◌, ℕ, suc, max, Bool, true, List, [], ◌∷◌, ◌++◌, length, slice_index}
+use Rattle.std.specs.Prelude.{◌≡◌, ◌<◌, ◌≤◌, ◌+◌, ℕ, suc, max, true, List, [], ◌∷◌, ◌++◌, length, slice_index}
 use Rattle.std.specs.List.{AllByRecursion}
 use Rattle.byteorder.specs.Endian.{little_number}
-use Rattle.acpi_name.specs.Names.{NameParts, Segment, is_segment}
+use Rattle.acpi_name.specs.Names.{NameParts, is_segment}
 use Rattle.acpi_name.specs.Spelling.{SpellsName}
 use Rattle.acpi_table.specs.PkgLength.{SpellsPkgLength}
 use Rattle.acpi_terms.specs.declared.tree.Int.{Int}

@@ -1,5 +1,5 @@
 -- The tree that a value stands for.
-use Rattle.std.specs.Prelude.{ℕ, List, [], ◌∷◌, map}
+use Rattle.std.specs.Prelude.{List, map}
 use Rattle.acpi_terms.specs.Tree.{DataTree, int, str, buffer, pkg, var_pkg, ElemTree, of_data, of_name, FieldTree, unit, reserved, access, connect_name, connect_buffer, extended, ExternalParts, ItemTree, name, scope, method, external, external_block, create, create_field, mutex, event, region, field, index_field, bank_field, device, processor, power, thermal, ItemTrees, elems_of, items_of}
 use Rattle.acpi_terms.specs.declared.tree.Data.{Data, Data-F, fold-Data}
 use Rattle.acpi_terms.specs.declared.tree.Elem.{Elem, Elem-F, fold-Elem}

@@ -1,4 +1,4 @@
-use Rattle.std.proofs.Common.{◌+◌, ◌-◌, ◌*◌, ◌≤◌, length}
+use Rattle.std.proofs.Common.{◌+◌, ◌-◌, ◌*◌, ◌≤◌}
 use Rattle.std.specs.List.{slice_range}
 use Rattle.acpi_terms.proofs.data.+read.Given as goal
 use Rattle.acpi_terms.proofs.Each.{SoFar}

@@ -1,4 +1,4 @@
-use Rattle.std.proofs.Common.{rules, ◌≡◌, ◌<◌, arith}
+use Rattle.std.proofs.Common.{◌<◌, arith}
 use Rattle.acpi_terms.specs.View.{items_tree}
 use Rattle.acpi_terms.specs.Reading.{Gives, items_at}
 use Rattle.acpi_terms.proofs.ReadItems.{found_law, only_law, faults_law, next_law, gives_as}
