@@ -1,0 +1,70 @@
+-- An insertion at a free path lays one object under the map.
+use Rattle.std.proofs.Common.{◌≡◌, ℕ, List, Bool, true, false, cond, Option, Some, None, IsSome, subst, refl, sym, ap, ◌∙◌}
+use Rattle.std.specs.FinMap.{empty, get-empty, get, insert, get-insert}
+use Rattle.std.specs.Cmp.{Equal-is}
+use Rattle.std.specs.Option.{option_map, option_or}
+use Rattle.acpi_name.specs.Names.{Segment}
+use Rattle.acpi_name.specs.Paths.{path_cmp, path_cmp_total, path_cmp-IsAntisymmetric}
+use Rattle.acpi_space.specs.Spaces.{PathMap}
+use Rattle.acpi_terms.specs.declared.object.Object.{Object}
+use Rattle.acpi_terms.specs.Objects.{object_view}
+use Rattle.acpi_load.specs.PassView.{one_count}
+use Rattle.acpi_load.specs.Namespace.{Namespace, namespace_of, is_same_path, only, over}
+use Rattle.acpi_load.specs.Predefined.{nothing}
+
+-- paths that the order does not tell apart are equal
+pub path_same : (p q : List Segment) → is_same_path p q ≡ true → p ≡ q
+path_same p q e = path_cmp-IsAntisymmetric p q ((Equal-is _).0 e)
+
+laid : {V W : Type 0} (f : V → W) (b : Bool) (a : Option V) (v : V) → (b ≡ true → a ≡ None) → option_map f (cond b (Some v) a) ≡ option_or (option_map f a) (cond b (Some (f v)) None)
+laid f true None v h = refl
+laid f true (Some o) v h = let e : Some o ≡ None = h refl in cc
+laid f false None v h = refl
+laid f false (Some o) v h = refl
+
+pub namespace_insert : (m : PathMap Object) (p : List Segment) (o : Object) → get m p ≡ None → namespace_of (insert m p o) ≡ over (namespace_of m) (only p (object_view o))
+namespace_insert m p o free = λ i q. at q i
+  where
+    at : (q : List Segment) → namespace_of (insert m p o) q ≡ over (namespace_of m) (only p (object_view o)) q
+    at q = ap (option_map object_view) (get-insert path_cmp_total m p o q) ∙ laid object_view (is_same_path q p) (get m q) o (λ e. ap (get m) (path_same q p e) ∙ free)
+
+counted : (b : Bool) (a : Option ℕ) (v : ℕ) → (b ≡ true → a ≡ None) → cond b (Some v) a ≡ option_or a (cond b (Some v) None)
+counted true None v h = refl
+counted true (Some o) v h = let e : Some o ≡ None = h refl in cc
+counted false None v h = refl
+counted false (Some o) v h = refl
+
+-- the same for a number
+pub get-laid : (m : PathMap ℕ) (p : List Segment) (v : ℕ) → get m p ≡ None → get (insert m p v) ≡ over (get m) (one_count p v)
+get-laid m p v free = λ i q. at q i
+  where
+    at : (q : List Segment) → get (insert m p v) q ≡ over (get m) (one_count p v) q
+    at q = get-insert path_cmp_total m p v q ∙ counted (is_same_path q p) (get m q) v (λ e. ap (get m) (path_same q p e) ∙ free)
+
+or_none : {V : Type 0} (a : Option V) → option_or a None ≡ a
+or_none None = refl
+or_none (Some o) = refl
+
+-- nothing is laid under a map
+pub over-nothing : {V : Type 0} (m : List Segment → Option V) → over m (λ q. None) ≡ m
+over-nothing m = λ i q. or_none (m q) i
+
+-- what is there keeps its value
+kept : (b : Bool) (a : Option ℕ) (v : ℕ) → (b ≡ true → IsSome a) → option_or a (cond b (Some v) None) ≡ a
+kept true None v h = let e : false ≡ true = h refl in cc
+kept true (Some o) v h = refl
+kept false None v h = refl
+kept false (Some o) v h = refl
+
+pub over-taken : (m : List Segment → Option ℕ) (p : List Segment) (v : ℕ) → IsSome (m p) → over m (one_count p v) ≡ m
+over-taken m p v there = λ i q. kept (is_same_path q p) (m q) v (λ e. subst (λ r. IsSome (m r)) (sym (path_same q p e)) there) i
+
+pub namespace-empty : namespace_of empty ≡ nothing
+namespace-empty = λ i q. ap (option_map object_view) (get-empty path_cmp q) i
+
+-- one more object over a known namespace
+pub laid_on : (m n o x : Namespace) → o ≡ over n x → n ≡ m → o ≡ over m x
+laid_on m n o x e h = e ∙ ap (λ (k : Namespace). over k x) h
+
+pub get-nothing : get (empty {X = ℕ} {R = path_cmp}) ≡ nothing
+get-nothing = λ i q. get-empty path_cmp q i

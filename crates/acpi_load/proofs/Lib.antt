@@ -1,0 +1,13 @@
+pub mod Lookups
+pub mod Laying
+pub mod Steps
+pub mod Sequences
+pub mod Placed
+pub mod Outcome
+pub mod Unique
+pub mod LinkMap
+pub mod Linking
+pub mod Ranges
+pub mod Tables
+pub mod Totals
+pub mod NoLoad

@@ -1,0 +1,34 @@
+-- A namespace and the map that holds it.
+use Rattle.std.proofs.Common.{◌≡◌, List, is_some, Option, Some, None, Ok, refl, ap, ◌∙◌}
+use Rattle.std.specs.FinMap.{get}
+use Rattle.std.specs.Option.{option_map}
+use Rattle.acpi_name.specs.Names.{Segment, NameParts}
+use Rattle.acpi_name.specs.Paths.{place_of}
+use Rattle.acpi_space.specs.Spaces.{PathMap, is_defined}
+use Rattle.acpi_space.specs.Search.{answer}
+use Rattle.acpi_terms.specs.declared.object.Object.{Object}
+use Rattle.acpi_terms.specs.Objects.{object_view}
+use Rattle.acpi_load.specs.Namespace.{namespace_of, is_defined_in}
+use Rattle.acpi_load.specs.Placing.{if_open, opened_in, opened_path}
+
+is_some-view : (o : Option Object) → is_some (option_map object_view o) ≡ is_some o
+is_some-view None = refl
+is_some-view (Some o) = refl
+
+-- the same paths are defined in both
+pub is_defined-namespace : (m : PathMap Object) → is_defined_in (namespace_of m) ≡ is_defined m
+is_defined-namespace m = λ i p. is_some-view (get m p) i
+
+opened_is : (m : PathMap Object) (s : List Segment) (n : NameParts) (a : Option (List Segment)) → answer (is_defined m) s n ≡ a
+    → opened_path (namespace_of m) s n ≡ opened_in (namespace_of m) s (place_of s n) a
+opened_is m s n a e =
+    ap (λ d. opened_in (namespace_of m) s (place_of s n) (answer d s n)) (is_defined-namespace m) ∙ ap (opened_in (namespace_of m) s (place_of s n)) e
+
+-- where the search has an answer, the scope that opens is there
+pub opened_found : (m : PathMap Object) (s : List Segment) (n : NameParts) (t : List Segment) → answer (is_defined m) s n ≡ Some t → ¬ (place_of s n ≡ None)
+    → opened_path (namespace_of m) s n ≡ if_open t (option_map object_view (get m t)) (Ok t)
+opened_found m s n t e placed = opened_is m s n (Some t) e ∙ by (place_of s n) placed
+  where
+    by : (place : Option (List Segment)) → ¬ (place ≡ None) → opened_in (namespace_of m) s place (Some t) ≡ if_open t (option_map object_view (get m t)) (Ok t)
+    by None h = absurd (h refl)
+    by (Some p) h = refl

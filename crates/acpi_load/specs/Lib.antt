@@ -1,0 +1,13 @@
+pub mod Namespace
+pub mod Sites
+pub mod Placing
+pub mod Listing
+pub mod Pass
+pub mod PassView
+pub mod Told
+pub mod Predefined
+pub mod Loads
+pub mod Links
+pub mod Adding
+pub mod DeclaredView
+pub mod Laws

@@ -1,0 +1,13 @@
+//! Laws of loads, on the definitions alone.
+
+ghost use Rattle.acpi_load.specs.Laws.{OneListing, OneLoad};
+
+/// Over some objects, the sites of a table have at most one listing.
+pub fn one_listing()
+    ensures { OneListing }
+{}
+
+/// A list of tables has at most one load.
+pub fn one_load()
+    ensures { OneLoad }
+{}

@@ -1,0 +1,108 @@
+//! Where a term puts its object, and which scope it opens.
+
+ghost use Rattle.std.specs.Prelude.{◌≡◌, ◌∷◌, [], ◌++◌, IfOk, IfErr};
+ghost use Rattle.acpi_name.specs.Paths.{parent_of, place_of};
+ghost use Rattle.acpi_load.specs.Namespace.{namespace_of};
+ghost use Rattle.acpi_load.specs.Placing.{below, declared_path, opened_path};
+ghost use Rattle.acpi_load.specs.Sites.{unit_name};
+ghost use Rattle.acpi_load.specs.Told.{IsTold, IsMissingAt};
+
+use crate::fault::{Refusal, Stop};
+use acpi_name::{Name, Path, PlaceFault, Seg, place};
+use acpi_space::{Found, SearchFault, Space, search};
+use acpi_terms::Object;
+use std::alloc::Global;
+
+// The path, if an object may be declared there.
+fn free_below<S: Space<Object>>(objects: &S, path: Path) -> Result<Path, Stop>
+    ensures ok { IfOk result (λ p. below (namespace_of (S.contents objects.now)) path (namespace_of (S.contents objects.now) (parent_of path)) ≡ Ok p) }
+    ensures refused { IfErr result (λ f. IsTold f (below (namespace_of (S.contents objects.now)) path (namespace_of (S.contents objects.now) (parent_of path)))) }
+{
+    let mut parent = path.copy()?;
+    parent.pop();
+    match objects.get(&parent) {
+        None => Err(Stop::Refused(Refusal::NoParent, parent)),
+        Some(object) => {
+            if !object.opens_scope() {
+                return Err(Stop::Refused(Refusal::NotAScope, parent));
+            }
+            if objects.get(&path).is_some() {
+                return Err(Stop::Refused(Refusal::Taken, path));
+            }
+            Ok(path)
+        }
+    }
+}
+
+// Where a declaration of the name puts its object.
+pub(crate) fn declared<S: Space<Object>>(
+    alloc: Global,
+    objects: &S,
+    scope: &Path,
+    name: &Name,
+) -> Result<Path, Stop>
+    ensures ok { IfOk result (λ p. declared_path (namespace_of (S.contents objects.now)) scope.now name.now ≡ Ok p) }
+    ensures refused { IfErr result (λ f. IsTold f (declared_path (namespace_of (S.contents objects.now)) scope.now name.now)) }
+{
+    if name.view().len() == 0 {
+        return Err(Stop::Refused(Refusal::EmptyName, scope.copy()?));
+    }
+    match place(alloc, scope, name.view()) {
+        Ok(path) => free_below(objects, path),
+        Err(PlaceFault::AboveRoot) => Err(Stop::Refused(Refusal::AboveRoot, scope.copy()?)),
+        Err(PlaceFault::Memory) => Err(Stop::Memory),
+    }
+}
+
+// Where a field unit is declared.
+pub(crate) fn declared_unit<S: Space<Object>>(
+    objects: &S,
+    scope: &Path,
+    seg: Seg,
+) -> Result<Path, Stop>
+    ensures ok { IfOk result (λ p. declared_path (namespace_of (S.contents objects.now)) scope.now (unit_name seg) ≡ Ok p) }
+    ensures refused { IfErr result (λ f. IsTold f (declared_path (namespace_of (S.contents objects.now)) scope.now (unit_name seg))) }
+{
+    let mut path = scope.copy()?;
+    path.push(seg)?;
+    free_below(objects, path)
+}
+
+// The scope that a Scope term opens.
+#[tactic(auto, using(crate::proofs::Lookups::opened_found))]
+pub(crate) fn opened<S: Space<Object>>(
+    alloc: Global,
+    objects: &S,
+    scope: &Path,
+    name: &Name,
+) -> Result<Path, Stop>
+    ensures ok { IfOk result (λ p. opened_path (namespace_of (S.contents objects.now)) scope.now name.now ≡ Ok p) }
+    ensures refused { IfErr result (λ f. IsTold f (opened_path (namespace_of (S.contents objects.now)) scope.now name.now)) }
+{
+    let target = match search(alloc, objects, scope, name.view()) {
+        Ok(Found::At(path)) => path,
+        Ok(Found::Missing) => return Err(missing(alloc, scope, name)),
+        Err(SearchFault::AboveRoot) => return Err(Stop::Refused(Refusal::AboveRoot, scope.copy()?)),
+        Err(SearchFault::Memory) => return Err(Stop::Memory),
+    };
+    match objects.get(&target) {
+        Some(object) => {
+            if object.opens_scope() {
+                Ok(target)
+            } else {
+                Err(Stop::Refused(Refusal::NotAScope, target))
+            }
+        }
+        None => Err(Stop::Refused(Refusal::NotAScope, target)),
+    }
+}
+
+// The refusal of a Scope term without an answer: it names the name's place.
+fn missing(alloc: Global, scope: &Path, name: &Name) -> Stop
+    ensures { IsMissingAt result (place_of scope.now name.now) }
+{
+    match place(alloc, scope, name.view()) {
+        Ok(path) => Stop::Refused(Refusal::Missing, path),
+        Err(_) => Stop::Memory,
+    }
+}

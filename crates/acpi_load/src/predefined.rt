@@ -1,0 +1,63 @@
+//! The namespace before any table.
+
+ghost use Rattle.std.specs.Prelude.{◌≡◌, [], ◌∷◌, IfOk, IfErr, OnOk, IsTrue};
+ghost use Rattle.acpi_name.specs.Names.{is_segment};
+ghost use Rattle.acpi_terms.specs.Objects.{object_view};
+ghost use Rattle.acpi_load.specs.Namespace.{namespace_of, only, over};
+ghost use Rattle.acpi_load.specs.Predefined.{predefined};
+
+use crate::fault::Stop;
+use acpi_name::{Path, Seg};
+use acpi_space::Space;
+use acpi_terms::Object;
+use std::alloc::Global;
+
+// Puts an object at a path that is free.
+pub(crate) fn put<S: Space<Object>>(objects: &mut S, path: Path, object: Object) -> Result<(), Stop>
+    ensures objects { OnOk result (namespace_of (S.contents objects.new) ≡ over (namespace_of (S.contents objects.old)) (only path (object_view object))) }
+    ensures memory { IfErr result (λ f. f ≡ Stop.Memory) }
+{
+    objects.insert(path, object)?;
+    Ok(())
+}
+
+// Puts an object below the root.
+fn put_named<S: Space<Object>>(
+    alloc: Global,
+    objects: &mut S,
+    name: [u8; 4],
+    object: Object,
+) -> Result<(), Stop>
+    requires { IsTrue (is_segment name) }
+    ensures objects { OnOk result (namespace_of (S.contents objects.new) ≡ over (namespace_of (S.contents objects.old)) (only (name ∷ []) (object_view object))) }
+    ensures memory { IfErr result (λ f. f ≡ Stop.Memory) }
+{
+    match Seg::new(name) {
+        Some(seg) => {
+            let mut path = Path::root(alloc);
+            path.push(seg)?;
+            put(objects, path, object)?;
+            Ok(())
+        }
+        None => unreachable!(),
+    }
+}
+
+/// A namespace that holds the predefined objects alone.
+pub(crate) fn predefined_space<S: Space<Object>>(alloc: Global) -> Result<S, Stop>
+    ensures objects { IfOk result (λ s. namespace_of (S.contents s) ≡ predefined) }
+    ensures memory { IfErr result (λ f. f ≡ Stop.Memory) }
+{
+    let mut objects = S::new(alloc);
+    put(&mut objects, Path::root(alloc), Object::Root)?;
+    put_named(alloc, &mut objects, *b"_GPE", Object::Scope)?;
+    put_named(alloc, &mut objects, *b"_PR_", Object::Scope)?;
+    put_named(alloc, &mut objects, *b"_SB_", Object::Scope)?;
+    put_named(alloc, &mut objects, *b"_SI_", Object::Scope)?;
+    put_named(alloc, &mut objects, *b"_TZ_", Object::Scope)?;
+    put_named(alloc, &mut objects, *b"_GL_", Object::Mutex(0))?;
+    put_named(alloc, &mut objects, *b"_OSI", Object::Method(1))?;
+    put_named(alloc, &mut objects, *b"_OS_", Object::Predefined)?;
+    put_named(alloc, &mut objects, *b"_REV", Object::Predefined)?;
+    Ok(objects)
+}

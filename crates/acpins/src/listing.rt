@@ -1,0 +1,36 @@
+//! The printed form of a namespace.
+
+use crate::printing::{put_links, put_object};
+use acpi_load::Declared;
+use acpi_name::Path;
+use acpi_space::Space;
+use acpi_terms::Object;
+use std::alloc::{AllocError, Global};
+use std::fmt::Write;
+
+// A line: the path, the object, and what its links answer.
+fn put_line(
+    text: &mut String,
+    path: &Path,
+    object: &Object,
+    links: Option<&Vec<Option<Path>>>,
+) -> Result<(), AllocError> {
+    write!(text, "{path} ")?;
+    put_object(text, object)?;
+    if let Some(links) = links {
+        put_links(text, links)?;
+    }
+    text.push_str("\n")
+}
+
+/// A line for each object, in the order of the paths.
+pub fn listed<S: Space<Object>>(
+    alloc: Global,
+    declared: &Declared<S>,
+) -> Result<String, AllocError> {
+    let mut text = String::new(alloc);
+    for (path, object) in declared.objects().pairs()?.iter() {
+        put_line(&mut text, path, object, declared.links().get(path))?;
+    }
+    Ok(text)
+}

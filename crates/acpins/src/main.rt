@@ -1,0 +1,55 @@
+//! The command `acpins`: what the definition blocks DSDT and SSDT of a machine declare, without running any
+//! of their code.
+//!
+//! Words go in, and files by name; a text goes out, whole or not at all, and a status. `run` is the whole
+//! program over any files and streams; `main` gives it the host's.
+#![tactic(auto)]
+
+mod failure;
+mod files;
+mod hexadecimal;
+mod listing;
+mod printing;
+mod program;
+mod tables;
+mod words;
+
+use crate::failure::Failure;
+use crate::files::HostFiles;
+use crate::program::{run, told};
+use std::alloc::Global;
+use std::process::ExitCode;
+use std::{env, io};
+
+// What the host gives: its words, its files and its two streams.
+fn started(rt: &HostRuntime, alloc: Global) -> io::Result<u8> {
+    let args: Vec<String> = env::args(rt)?.collect(alloc)?;
+    let mut words: Vec<&str> = Vec::new(alloc);
+    for arg in args.iter().skip(1) {
+        words.push(arg.as_str())?;
+    }
+    let mut files = HostFiles::new(rt);
+    Ok(run(
+        alloc,
+        words.as_slice(),
+        &mut files,
+        &mut rt.stdout(),
+        &mut rt.stderr(),
+    ))
+}
+
+// The host's words could not be had: there is no memory for them, or one is no text.
+fn failure_of(error: &io::Error) -> Failure<'static> {
+    match error.kind() {
+        io::ErrorKind::OutOfMemory => Failure::Memory,
+        _ => Failure::WrongWords,
+    }
+}
+
+fn main(rt: HostRuntime) -> ExitCode {
+    let status = match started(&rt, rt.alloc()) {
+        Ok(status) => status,
+        Err(error) => told(&failure_of(&error), &mut rt.stderr()),
+    };
+    ExitCode::from(status)
+}
