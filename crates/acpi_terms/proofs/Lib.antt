@@ -18,3 +18,4 @@ pub mod Opened
 pub mod Alike
 pub mod ReadItems
 pub mod ReadParts
+pub mod ShortOffsets

@@ -9,11 +9,13 @@ use Rattle.acpi_terms.specs.Reading.{Fault, Gives, items_at}
 use Rattle.acpi_terms.specs.Spelling.{SpellsItems, items_height}
 use Rattle.acpi_terms.specs.Faults.{Shows, Told, Refused}
 use Rattle.acpi_terms.specs.Fits.{items_fit}
+use Rattle.acpi_terms.specs.Offsets.{OffsetsFit}
 use Rattle.acpi_terms.proofs.ItemAgain.{code_again}
 use Rattle.acpi_terms.proofs.ItemTook.{code_judged}
 use Rattle.acpi_terms.proofs.Judged.{Judge}
 use Rattle.acpi_terms.proofs.NextTold.{next_told}
 use Rattle.acpi_terms.proofs.Fitting.{AreBytes, items_are_fit}
+use Rattle.acpi_terms.proofs.ShortOffsets.{offsets_fit}
 
 abbrev pub Judged : ℕ → List ℕ → Result ItemTrees Fault → Type 0
 Judged depth code = Judge (λ is. SpellsItems is code × (items_height is ≤ depth)) (λ f. Shows depth code f.reason f.place)
@@ -46,6 +48,11 @@ pub fits_law : {V : Type 0} (view : V → ItemTrees) (depth : ℕ) (code : List 
     → IfOk result (λ v. items_fit (view v) ≡ true)
 fits_law view depth code (Ok v) bytes h = items_are_fit (view v) code (judged_as depth code (Ok (view v)) h).0 bytes
 fits_law view depth code (Err e) bytes h = tt
+
+pub offsets_law : {V : Type 0} (view : V → ItemTrees) (depth : ℕ) (code : List ℕ) (result : Result V ItemFault) → AreBytes code → Gives view result (items_at depth code)
+    → length code ≤ 16777216 → IfOk result (λ v. OffsetsFit (view v))
+offsets_law view depth code (Ok v) bytes h le = offsets_fit (view v) code (judged_as depth code (Ok (view v)) h).0 bytes le
+offsets_law view depth code (Err e) bytes h le = tt
 
 -- the same of an equal limit and equal code
 pub gives_as : {V : Type 0} (view : V → ItemTrees) (d e : ℕ) (code bytes : List ℕ) (result : Result V ItemFault) → d ≡ e → code ≡ bytes → Gives view result (items_at d code) → Gives view result (items_at e bytes)

@@ -8,3 +8,4 @@ pub mod Objects
 pub mod Equal
 pub mod Equals
 pub mod Fits
+pub mod Offsets

@@ -6,6 +6,7 @@ ghost use Rattle.acpi_terms.specs.Tree.{ItemTrees, items_of};
 ghost use Rattle.acpi_terms.specs.Spelling.{SpellsItems, items_height};
 ghost use Rattle.acpi_terms.specs.Faults.{Told, Refused};
 ghost use Rattle.acpi_terms.specs.Fits.{items_fit};
+ghost use Rattle.acpi_terms.specs.Offsets.{OffsetsFit};
 ghost use Rattle.acpi_terms.specs.declared.fault.ItemReason.{ItemReason};
 ghost use Rattle.acpi_terms.specs.View.{item_view, items_view, items_tree};
 ghost use Rattle.acpi_terms.specs.Reading.{Gives, scope_item, device_item, processor_item, power_item, thermal_item, item_by, item_at, items_with, items_at};
@@ -249,6 +250,7 @@ fn items(
 fn all_items(alloc: Global, depth: u32, shared: &Bytes, code: &[u8]) -> Result<Vec<Item>, ItemFault>
     requires { shared.now ≡ code.now }
     ensures fits { IfOk result (λ v. items_fit (items_tree v.items) ≡ true) }
+    ensures offsets { length code.now ≤ 16777216 → IfOk result (λ v. OffsetsFit (items_tree v.items)) }
     ensures exact { Gives (λ v. items_tree v.items) result (items_at depth code.now) }
 {
     items(alloc, depth, shared, code, 0, code.len())
@@ -269,6 +271,8 @@ pub fn read_items_shared(alloc: Global, code: &Bytes, depth: Depth) -> Result<Ve
         → Refused why w 0 → Gives (λ v. items_tree v.items) result (Err (record { reason = why; place = length u })) }
     // What is read fits.
     ensures fits { IfOk result (λ v. items_fit (items_tree v.items) ≡ true) }
+    // Where the code is no longer than a table, the bits of each field list are a number of 64 bits.
+    ensures offsets { length code.now ≤ 16777216 → IfOk result (λ v. OffsetsFit (items_tree v.items)) }
     // The same as an equation.
     ensures exact { Gives (λ v. items_tree v.items) result (items_at depth code.now) }
 {
@@ -290,6 +294,8 @@ pub fn read_items(alloc: Global, code: &[u8], depth: Depth) -> Result<Vec<Item>,
         → Refused why w 0 → Gives (λ v. items_tree v.items) result (Err (record { reason = why; place = length u })) }
     // What is read fits.
     ensures fits { IfOk result (λ v. items_fit (items_tree v.items) ≡ true) }
+    // Where the code is no longer than a table, the bits of each field list are a number of 64 bits.
+    ensures offsets { length code.now ≤ 16777216 → IfOk result (λ v. OffsetsFit (items_tree v.items)) }
     // The same as an equation.
     ensures exact { Gives (λ v. items_tree v.items) result (items_at depth code.now) }
 {

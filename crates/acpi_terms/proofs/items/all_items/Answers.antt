@@ -3,7 +3,7 @@ use Rattle.acpi_terms.specs.View.{items_tree}
 use Rattle.acpi_terms.specs.Reading.{Gives, item_at, items_with, items_at}
 use Rattle.acpi_terms.proofs.Fitting.{are_bytes}
 use Rattle.acpi_terms.proofs.Ranges.{range_whole}
-use Rattle.acpi_terms.proofs.ReadItems.{fits_law}
+use Rattle.acpi_terms.proofs.ReadItems.{fits_law, offsets_law}
 use Rattle.acpi_terms.proofs.items.all_items.Goals as goal
 
 pub returns-clause-fits : goal.returns-clause-fits
@@ -11,3 +11,9 @@ returns-clause-fits c =
     let h : Gives (λ v. items_tree v.items) c.items.result (items_at c.args.depth c.args.code.now) =
     subst (λ s. Gives (λ v. items_tree v.items) c.items.result (items_with (item_at c.args.depth) (length c.args.code.now) s)) (range_whole c.args.code.now) c.items.ensures in
     fits_law (λ v. items_tree v.items) c.args.depth c.args.code.now c.items.result (are_bytes c.args.code.now c.type_inv.code) h
+
+pub returns-clause-offsets : goal.returns-clause-offsets
+returns-clause-offsets c =
+    let h : Gives (λ v. items_tree v.items) c.items.result (items_at c.args.depth c.args.code.now) =
+    subst (λ s. Gives (λ v. items_tree v.items) c.items.result (items_with (item_at c.args.depth) (length c.args.code.now) s)) (range_whole c.args.code.now) c.items.ensures in
+    offsets_law (λ v. items_tree v.items) c.args.depth c.args.code.now c.items.result (are_bytes c.args.code.now c.type_inv.code) h
