@@ -29,8 +29,11 @@ pub fn listed<S: Space<Object>>(
     declared: &Declared<S>,
 ) -> Result<String, AllocError> {
     let mut text = String::new(alloc);
+    // The paths with links are among those of the objects, in the same order.
+    let mut links = declared.links().iter().peekable();
     for (path, object) in declared.objects().pairs()?.iter() {
-        put_line(&mut text, path, object, declared.links().get(path))?;
+        let found = links.next_if(|link| link.0 == path);
+        put_line(&mut text, path, object, found.map(|link| link.1))?;
     }
     Ok(text)
 }

@@ -12,6 +12,8 @@ mod listing;
 mod printing;
 mod program;
 mod tables;
+#[cfg(test)]
+mod tests;
 mod words;
 
 use crate::failure::Failure;

@@ -1,0 +1,11 @@
+//! Runs over files in memory: worked rows, failing devices, the forms of words, and printed texts.
+
+mod cut;
+mod devices;
+mod hexadecimal;
+mod listings;
+mod memory;
+mod outcome;
+mod refusals;
+mod rows;
+mod words;

@@ -1,0 +1,60 @@
+//! Worked rows: runs over tables, and all that they answer and print.
+
+use crate::tests::listings::LISTINGS;
+use crate::tests::memory::NONE;
+use crate::tests::outcome::{Kept, files_of, ran_with};
+use crate::tests::refusals::{CODES, FILES, LOADS, MORE_CODES};
+use std::alloc::Global;
+use std::process::Abort;
+use std::test::Fail;
+
+/// A run over files `a`, `b` and so on.
+#[derive(Clone, Copy, Debug)]
+pub struct Row {
+    /// What the row shows.
+    pub shows: &'static str,
+    /// The words, parted by bars.
+    pub words: &'static str,
+    pub files: &'static [Kept],
+    pub status: u8,
+    pub out: &'static str,
+    pub err: &'static str,
+}
+
+fn answers(rt: &impl Abort, alloc: Global, rows: &[Row]) -> Result<(), Fail> {
+    for row in rows {
+        let mut files = files_of(alloc, row.files, NONE)?;
+        let got = ran_with(alloc, &mut files, row.words, 0, 0)?;
+        assert!(rt;
+            got.is(row.status, row.out, row.err),
+            "{} gave {got:?}",
+            row.shows
+        );
+    }
+    Ok(())
+}
+
+#[test]
+fn lists_tables(rt: HostRuntime) -> Result<(), Fail> {
+    answers(&rt, rt.alloc(), &LISTINGS)
+}
+
+#[test]
+fn refuses_files(rt: HostRuntime) -> Result<(), Fail> {
+    answers(&rt, rt.alloc(), &FILES)
+}
+
+#[test]
+fn refuses_codes(rt: HostRuntime) -> Result<(), Fail> {
+    answers(&rt, rt.alloc(), &CODES)
+}
+
+#[test]
+fn refuses_more_codes(rt: HostRuntime) -> Result<(), Fail> {
+    answers(&rt, rt.alloc(), &MORE_CODES)
+}
+
+#[test]
+fn refuses_loads(rt: HostRuntime) -> Result<(), Fail> {
+    answers(&rt, rt.alloc(), &LOADS)
+}
