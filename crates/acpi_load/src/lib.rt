@@ -16,3 +16,6 @@ mod predefined;
 
 pub use fault::{LoadFault, LoadReason, Refusal};
 pub use load::{Declared, declare, declare_shared};
+
+#[cfg(test)]
+mod tests;
