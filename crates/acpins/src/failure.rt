@@ -1,5 +1,8 @@
 //! Why a run ends with status 1 or 2, and the line that says so.
 
+ghost use Rattle.std.specs.Prelude.{◌≡◌, ◌≢◌};
+ghost use Rattle.acpins.specs.declared.failure.Failure.{Failure};
+
 use acpi_load::{LoadFault, LoadReason};
 use acpi_table::{HEADER_BYTES, TableFault};
 use acpi_terms::ItemReason;
@@ -40,7 +43,10 @@ pub enum Failure<'a> {
 
 impl<'a> Failure<'a> {
     /// The exit status: 2 for words, 1 for all else.
-    pub fn status(&self) -> u8 {
+    pub fn status(&self) -> u8
+        ensures words { self.now ≡ Failure.WrongWords → result ≡ 2 }
+        ensures others { self.now ≢ Failure.WrongWords → result ≡ 1 }
+    {
         match self {
             Failure::WrongWords => 2,
             _ => 1,

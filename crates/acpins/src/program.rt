@@ -1,5 +1,8 @@
 //! One run of the program.
 
+ghost use Rattle.std.specs.Prelude.{◌≡◌, ◌≢◌, IfErr};
+ghost use Rattle.acpins.specs.declared.failure.Failure.{Failure};
+
 use crate::failure::Failure;
 use crate::files::Files;
 use crate::listing::listed;
@@ -44,8 +47,27 @@ fn shown<O: Write>(text: &str, out: &mut O) -> bool {
     out.write_all(text.as_bytes()).is_ok() && out.flush().is_ok()
 }
 
+// Makes what the words ask for, and prints it. Where anything but printing fails, nothing was printed.
+fn ended<'a, F: Files, O: Write>(
+    alloc: Global,
+    words: &'a [&'a str],
+    files: &mut F,
+    out: &mut O,
+) -> Result<(), Failure<'a>>
+    ensures { IfErr result (λ f. f ≢ Failure.Output → O.contents out.new ≡ O.contents out.old) }
+{
+    let text = made(alloc, words, files)?;
+    if !shown(text.as_str(), out) {
+        return Err(Failure::Output);
+    }
+    Ok(())
+}
+
 /// Says why a run failed, as far as it can be said, and answers the status.
-pub fn told<E: Write>(failure: &Failure<'_>, err: &mut E) -> u8 {
+pub fn told<E: Write>(failure: &Failure<'_>, err: &mut E) -> u8
+    ensures words { failure.now ≡ Failure.WrongWords → result ≡ 2 }
+    ensures others { failure.now ≢ Failure.WrongWords → result ≡ 1 }
+{
     let _written = writeln!(err, "{failure}");
     failure.status()
 }
@@ -58,15 +80,12 @@ pub fn run<'a, F: Files, O: Write, E: Write>(
     files: &mut F,
     out: &mut O,
     err: &mut E,
-) -> u8 {
-    match made(alloc, words, files) {
-        Ok(text) => {
-            if shown(text.as_str(), out) {
-                0
-            } else {
-                told(&Failure::Output, err)
-            }
-        }
+) -> u8
+    // Nothing is printed for wrong words.
+    ensures { result ≡ 2 → O.contents out.new ≡ O.contents out.old }
+{
+    match ended(alloc, words, files, out) {
+        Ok(()) => 0,
         Err(failure) => told(&failure, err),
     }
 }
