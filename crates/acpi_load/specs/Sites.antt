@@ -3,6 +3,7 @@ use Rattle.std.specs.Prelude.{ℕ, suc, ◌+◌, ◌==◌, cond, Bool, true, fal
 use Rattle.acpi_name.specs.Names.{Segment, NameParts}
 use Rattle.acpi_terms.specs.declared.object.FieldForm.{FieldForm}
 use Rattle.acpi_terms.specs.Tree.{FieldTree, unit, reserved, ExternalParts, ItemTree, name, scope, method, external, external_block, create, create_field, mutex, event, region, field, index_field, bank_field, device, processor, power, thermal, ItemTrees, no_items, item}
+use Rattle.acpi_terms.specs.Offsets.{element_bits}
 use Rattle.acpi_terms.specs.Objects.{ObjectTree, device_object, processor_object, power_object, thermal_object, name_object, method_object, region_object, mutex_object, event_object, field_object, create_object, create_field_object}
 
 -- What a term does with a name: it declares an object, whose links search some names and, of a method, whose
@@ -28,12 +29,6 @@ step n d = record { name = n; deed = d }
 abbrev pub unit_name : Segment → NameParts
 unit_name s = record { rooted = false; parents = 0; segments = s ∷ [] }
 
--- how many bits a field element takes
-abbrev pub bits_of : FieldTree → ℕ
-bits_of (unit s bits) = bits
-bits_of (reserved bits) = bits
-bits_of _ = 0
-
 -- a field element declares its unit at its offset, and nothing where it names none
 abbrev pub unit_step : FieldForm → ℕ → List NameParts → ℕ → FieldTree → List Step
 unit_step form flags links offset (unit s bits) = step (unit_name s) (declares (field_object form flags offset bits) links None) ∷ []
@@ -42,7 +37,7 @@ unit_step form flags links offset _ = []
 -- the units of a field list, each with its offset: the sum of the bit counts before it (20.2.5.2)
 abbrev pub unit_steps : FieldForm → ℕ → List NameParts → ℕ → List FieldTree → List Step
 unit_steps form flags links offset [] = []
-unit_steps form flags links offset (e ∷ es) = unit_step form flags links offset e ++ unit_steps form flags links (offset + bits_of e) es
+unit_steps form flags links offset (e ∷ es) = unit_step form flags links offset e ++ unit_steps form flags links (offset + element_bits e) es
 
 -- an External of type 8 says the argument count of a method
 abbrev pub external_step : ExternalParts → List Step

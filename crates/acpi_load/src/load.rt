@@ -1,7 +1,8 @@
 //! The declaration pass over a list of tables.
 
-ghost use Rattle.std.specs.Prelude.{◌≡◌, ◌≢◌, ◌∷◌, [], ◌++◌, ℕ, List, map, IsTrue, ◌↔◌, IfOk, IfErr, length};
+ghost use Rattle.std.specs.Prelude.{◌≡◌, ◌≢◌, ◌∷◌, [], ◌++◌, ◌≤◌, ℕ, List, map, IsTrue, ◌↔◌, IfOk, IfErr, length};
 ghost use Rattle.std.specs.FinMap.{get};
+ghost use Rattle.acpi_terms.specs.Offsets.{OffsetsFit};
 ghost use Rattle.acpi_terms.specs.View.{items_tree};
 ghost use Rattle.acpi_load.specs.Namespace.{Namespace, namespace_of};
 ghost use Rattle.acpi_load.specs.Loads.{signature_of, HasOtherSignature, IsRefusedAs, IsTableOf, IsCodeOf, IsTableFault, IsLoad, IsLoadFault, HasNoLoad};
@@ -96,6 +97,7 @@ fn unsigned(number: usize) -> LoadReason
 // The code of table `number`; or why the bytes are no such table.
 fn table_code(number: usize, bytes: &Bytes) -> Result<Bytes, LoadFault>
     ensures ok { IfOk result (λ b. IsCodeOf number bytes.now b) }
+    ensures short { IfOk result (λ b. length b ≤ 16777216) }
     ensures err { (depth : ℕ) (objects : Namespace) → IfErr result (λ e. IsTableFault depth number objects bytes.now e) }
 {
     match split_table(bytes.as_slice()) {
@@ -120,6 +122,7 @@ fn table_items(
     depth: Depth,
 ) -> Result<Vec<Item>, LoadFault>
     ensures ok { IfOk result (λ v. IsTableOf depth number bytes.now (items_tree v.items)) }
+    ensures offsets { IfOk result (λ v. OffsetsFit (items_tree v.items)) }
     ensures err { (objects : Namespace) → IfErr result (λ e. IsTableFault depth number objects bytes.now e) }
 {
     let code = table_code(number, bytes)?;

@@ -3,9 +3,10 @@
 ghost use Rattle.std.specs.Prelude.{IsTrue, ◌≡◌, ◌≢◌, None, ◌∷◌, [], ◌++◌, ◌+◌, ◌<◌, ◌^◌, map, IfOk, IfErr, OnOk, Ok};
 ghost use Rattle.std.specs.FinMap.{get};
 ghost use Rattle.acpi_terms.specs.Objects.{object_view};
+ghost use Rattle.acpi_terms.specs.Offsets.{element_bits, list_bits, OffsetFits, OffsetsFit};
 ghost use Rattle.acpi_terms.specs.View.{item_view, items_tree, external_view, externals_view, field_view, fields_view};
 ghost use Rattle.acpi_load.specs.Namespace.{namespace_of, over, only};
-ghost use Rattle.acpi_load.specs.Sites.{step, plainly, declares, opens, is_leaf, own_steps, external_step, external_steps, bits_of, unit_step, unit_name, unit_steps};
+ghost use Rattle.acpi_load.specs.Sites.{step, plainly, declares, opens, is_leaf, own_steps, external_step, external_steps, unit_step, unit_name, unit_steps};
 ghost use Rattle.acpi_load.specs.Placing.{declared_path};
 ghost use Rattle.acpi_load.specs.Pass.{after, entry, take_step, take_steps, enter, pass_item, pass_items};
 ghost use Rattle.acpi_load.specs.PassView.{one_count, pass_at, waiting_of, waiting_for};
@@ -204,10 +205,11 @@ impl<S: Space<Object>> Pass<S> {
         offset: u64,
         elem: &FieldElem,
     ) -> Result<u64, Stop>
-        requires { fields.now.names.now ≢ [] }
+        requires some { fields.now.names.now ≢ [] }
+        requires room { offset + element_bits (field_view elem.now) < 2 ^ 64 }
         ensures ok { OnOk result (take_steps (pass_at (S.contents self.old.objects) self.old.links.items self.old.counts) scope.now (unit_step fields.now.form fields.now.flags fields.now.names.now offset (field_view elem.now))
             ≡ Ok (pass_at (S.contents self.new.objects) self.new.links.items self.new.counts)) }
-        ensures behind { IfOk result (λ n. n ≡ offset + bits_of (field_view elem.now)) }
+        ensures behind { IfOk result (λ n. n ≡ offset + element_bits (field_view elem.now)) }
         ensures refused { IfErr result (λ f. IsTold f (take_steps (pass_at (S.contents self.old.objects) self.old.links.items self.old.counts) scope.now (unit_step fields.now.form fields.now.flags fields.now.names.now offset (field_view elem.now)))) }
     {
         match elem {
@@ -219,9 +221,9 @@ impl<S: Space<Object>> Pass<S> {
                     bits: *bits,
                 };
                 self.declare_unit(scope, *seg, object, copies(fields.alloc, fields.names)?)?;
-                behind(offset, *bits)
+                Ok(behind(offset, *bits))
             }
-            FieldElem::Reserved(bits) => behind(offset, *bits),
+            FieldElem::Reserved(bits) => Ok(behind(offset, *bits)),
             _ => Ok(offset),
         }
     }
@@ -233,7 +235,8 @@ impl<S: Space<Object>> Pass<S> {
         fields: &FieldList<'_>,
         elems: &[FieldElem],
     ) -> Result<(), Stop>
-        requires { fields.now.names.now ≢ [] }
+        requires some { fields.now.names.now ≢ [] }
+        requires room { list_bits (fields_view elems.now) < 2 ^ 64 }
         ensures ok { OnOk result (take_steps (pass_at (S.contents self.old.objects) self.old.links.items self.old.counts) scope.now (unit_steps fields.now.form fields.now.flags fields.now.names.now 0 (fields_view elems.now))
             ≡ Ok (pass_at (S.contents self.new.objects) self.new.links.items self.new.counts)) }
         ensures refused { IfErr result (λ f. IsTold f (take_steps (pass_at (S.contents self.old.objects) self.old.links.items self.old.counts) scope.now (unit_steps fields.now.form fields.now.flags fields.now.names.now 0 (fields_view elems.now)))) }
@@ -247,7 +250,8 @@ impl<S: Space<Object>> Pass<S> {
 
     // An item in which no others stand.
     fn declare_leaf(&mut self, alloc: Global, scope: &Path, item: Item) -> Result<(), Stop>
-        requires { IsTrue (is_leaf (item_view item)) }
+        requires leaf { IsTrue (is_leaf (item_view item)) }
+        requires room { OffsetFits (item_view item) }
         ensures ok { OnOk result (take_steps (pass_at (S.contents self.old.objects) self.old.links.items self.old.counts) scope.now (own_steps (item_view item))
             ≡ Ok (pass_at (S.contents self.new.objects) self.new.links.items self.new.counts)) }
         ensures refused { IfErr result (λ f. IsTold f (take_steps (pass_at (S.contents self.old.objects) self.old.links.items self.old.counts) scope.now (own_steps (item_view item)))) }
@@ -355,7 +359,8 @@ impl<S: Space<Object>> Pass<S> {
         names: &[Name],
         elems: &[FieldElem],
     ) -> Result<(), Stop>
-        requires { names.now ≢ [] }
+        requires some { names.now ≢ [] }
+        requires room { list_bits (fields_view elems.now) < 2 ^ 64 }
         ensures ok { OnOk result (take_steps (pass_at (S.contents self.old.objects) self.old.links.items self.old.counts) scope.now (unit_steps form flags names.now 0 (fields_view elems.now))
             ≡ Ok (pass_at (S.contents self.new.objects) self.new.links.items self.new.counts)) }
         ensures refused { IfErr result (λ f. IsTold f (take_steps (pass_at (S.contents self.old.objects) self.old.links.items self.old.counts) scope.now (unit_steps form flags names.now 0 (fields_view elems.now)))) }
@@ -372,6 +377,7 @@ impl<S: Space<Object>> Pass<S> {
     // One item, with all that stands in it.
     #[cycle(declare)]
     fn declare_item(&mut self, alloc: Global, scope: &Path, item: Item) -> Result<(), Stop>
+        requires { OffsetFits (item_view item) }
         ensures ok { OnOk result (pass_item (pass_at (S.contents self.old.objects) self.old.links.items self.old.counts) scope.now (item_view item)
             ≡ Ok (pass_at (S.contents self.new.objects) self.new.links.items self.new.counts)) }
         ensures refused { IfErr result (λ f. IsTold f (pass_item (pass_at (S.contents self.old.objects) self.old.links.items self.old.counts) scope.now (item_view item))) }
@@ -430,6 +436,7 @@ impl<S: Space<Object>> Pass<S> {
         scope: &Path,
         items: Vec<Item>,
     ) -> Result<(), Stop>
+        requires { OffsetsFit (items_tree items.items) }
         ensures ok { OnOk result (pass_items (pass_at (S.contents self.old.objects) self.old.links.items self.old.counts) scope.now (items_tree items.items)
             ≡ Ok (pass_at (S.contents self.new.objects) self.new.links.items self.new.counts)) }
         ensures refused { IfErr result (λ f. IsTold f (pass_items (pass_at (S.contents self.old.objects) self.old.links.items self.old.counts) scope.now (items_tree items.items))) }
@@ -450,12 +457,12 @@ struct FieldList<'a> {
     names: &'a [Name],
 }
 
-// The offset behind so many bits. No table is so long that the sum has no room.
-fn behind(offset: u64, bits: u32) -> Result<u64, Stop>
-    ensures sum { IfOk result (λ n. n ≡ offset + bits) }
-    ensures memory { IfErr result (λ f. f ≡ Stop.Memory) }
+// The offset behind so many bits.
+fn behind(offset: u64, bits: u32) -> u64
+    requires { offset + bits < 2 ^ 64 }
+    ensures { result ≡ offset + bits }
 {
-    offset.checked_add(bits as u64).ok_or(Stop::Memory)
+    offset + u64::from(bits)
 }
 
 // Copies of the names.

@@ -3,7 +3,8 @@ use Rattle.std.proofs.lemmas.List.{drop_more}
 use Rattle.std.proofs.lemmas.Result.{err_from_is_err_and}
 use Rattle.acpi_terms.specs.View.{field_view, fields_view}
 use Rattle.acpi_terms.specs.declared.tree.FieldElem.{FieldElem}
-use Rattle.acpi_load.specs.Sites.{Step, bits_of, unit_step, unit_steps}
+use Rattle.acpi_load.specs.Sites.{Step, unit_step, unit_steps}
+use Rattle.acpi_terms.specs.Offsets.{element_bits}
 use Rattle.acpi_load.specs.Pass.{take_steps}
 use Rattle.acpi_load.specs.PassView.{pass_at}
 use Rattle.acpi_load.proofs.Sequences.{told_on}
@@ -21,7 +22,7 @@ returns-in_err-offset-clause-refused g c =
     rw (p.1, p.2)
     (told_on c.in_err-offset.field-0.0 pass first c.args.scope.now
     (unit_step list.form list.flags list.names.now l.offset (field_view c.elem-item.result))
-    (unit_steps list.form list.flags list.names.now (l.offset + bits_of (field_view c.elem-item.result)) (fields_view (drop (l.elem-index + 1) c.args.elems.now)))
+    (unit_steps list.form list.flags list.names.now (l.offset + element_bits (field_view c.elem-item.result)) (fields_view (drop (l.elem-index + 1) c.args.elems.now)))
     (unit_steps list.form list.flags list.names.now 0 (fields_view c.args.elems.now))
-    (ap (λ es. take_steps pass c.args.scope.now (steps es)) (sym now) ∙ l.invariant)
+    (ap (λ es. take_steps pass c.args.scope.now (steps es)) (sym now) ∙ l.invariant.0)
     c.in_err-offset.ensures.refused)
