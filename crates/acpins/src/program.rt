@@ -9,7 +9,7 @@ use crate::listing::listed;
 use crate::tables::add_tables;
 use crate::words::{Request, read_words};
 use acpi_load::{Declared, declare_shared};
-use acpi_space::TreeSpace;
+use acpi_space::{Space, TreeSpace};
 use acpi_terms::Object;
 use bytes::Bytes;
 use std::alloc::Global;
@@ -28,8 +28,8 @@ fn tables_of<'a, F: Files>(
     Ok(tables)
 }
 
-// What a run prints, whole.
-fn made<'a, F: Files>(
+/// What a run prints, whole, with the objects kept in a space of the caller's choice.
+pub fn made_in<'a, S: Space<Object>, F: Files>(
     alloc: Global,
     words: &'a [&'a str],
     files: &mut F,
@@ -39,8 +39,16 @@ fn made<'a, F: Files>(
     let Some((dsdt, ssdts)) = tables.split_first() else {
         return Err(Failure::NoTable);
     };
-    let declared: Declared<TreeSpace<Object>> = declare_shared(alloc, dsdt, ssdts, request.depth)?;
+    let declared: Declared<S> = declare_shared(alloc, dsdt, ssdts, request.depth)?;
     Ok(listed(alloc, &declared)?)
+}
+
+fn made<'a, F: Files>(
+    alloc: Global,
+    words: &'a [&'a str],
+    files: &mut F,
+) -> Result<String, Failure<'a>> {
+    made_in::<TreeSpace<Object>, F>(alloc, words, files)
 }
 
 fn shown<O: Write>(text: &str, out: &mut O) -> bool {

@@ -1,9 +1,11 @@
 //! Files in short, and what a run over them answers and prints.
 
 use crate::hexadecimal::from_hex;
-use crate::program::run;
+use crate::program::{made_in, run, told};
 use crate::tests::memory::{Failing, MemoryFiles, MemoryWriter};
+use acpi_space::MapSpace;
 use acpi_table::checksum_for;
+use acpi_terms::Object;
 use std::alloc::{AllocError, Global};
 use std::str::from_utf8;
 use std::test::Fail;
@@ -137,4 +139,25 @@ pub fn ran_with(
         out: out.bytes,
         err: err.bytes,
     })
+}
+
+/// The same as a run whose streams never fail, with the objects kept in a map of paths.
+pub fn made_over_map(alloc: Global, files: &mut MemoryFiles, words: &str) -> Result<Outcome, Fail> {
+    let words: Vec<&str> = words.split('|').collect(alloc)?;
+    let mut err = MemoryWriter::new(alloc, 0);
+    match made_in::<MapSpace<Object>, MemoryFiles>(alloc, words.as_slice(), files) {
+        Ok(text) => Ok(Outcome {
+            status: 0,
+            out: Vec::from_slice(alloc, text.as_bytes())?,
+            err: err.bytes,
+        }),
+        Err(failure) => {
+            let status = told(&failure, &mut err);
+            Ok(Outcome {
+                status,
+                out: Vec::new(alloc),
+                err: err.bytes,
+            })
+        }
+    }
 }

@@ -2,7 +2,7 @@
 
 use crate::tests::listings::LISTINGS;
 use crate::tests::memory::NONE;
-use crate::tests::outcome::{Kept, files_of, ran_with};
+use crate::tests::outcome::{Kept, files_of, made_over_map, ran_with};
 use crate::tests::refusals::{CODES, FILES, LOADS, MORE_CODES};
 use std::alloc::Global;
 use std::process::Abort;
@@ -28,6 +28,13 @@ fn answers(rt: &impl Abort, alloc: Global, rows: &[Row]) -> Result<(), Fail> {
         assert!(rt;
             got.is(row.status, row.out, row.err),
             "{} gave {got:?}",
+            row.shows
+        );
+        let mut files = files_of(alloc, row.files, NONE)?;
+        let got = made_over_map(alloc, &mut files, row.words)?;
+        assert!(rt;
+            got.is(row.status, row.out, row.err),
+            "{} over a map gave {got:?}",
             row.shows
         );
     }
