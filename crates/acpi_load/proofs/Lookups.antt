@@ -1,9 +1,10 @@
--- A namespace and the map that holds it.
-use Rattle.std.proofs.Common.{◌≡◌, List, is_some, Option, Some, None, Ok, refl, ap, ◌∙◌}
+-- Paths, and a namespace and the map that holds it.
+use Rattle.std.proofs.Common.{◌≡◌, List, [], ◌∷◌, ◌++◌, option_to_list, is_some, Option, Some, None, Ok, refl, ap, ◌∙◌}
 use Rattle.std.specs.FinMap.{get}
+use Rattle.std.specs.List.{last_or}
 use Rattle.std.specs.Option.{option_map}
 use Rattle.acpi_name.specs.Names.{Segment, NameParts}
-use Rattle.acpi_name.specs.Paths.{place_of}
+use Rattle.acpi_name.specs.Paths.{place_of, parent_of}
 use Rattle.acpi_space.specs.Spaces.{PathMap, is_defined}
 use Rattle.acpi_space.specs.Search.{answer}
 use Rattle.acpi_terms.specs.declared.object.Object.{Object}
@@ -32,3 +33,9 @@ opened_found m s n t e placed = opened_is m s n (Some t) e ∙ by (place_of s n)
     by : (place : Option (List Segment)) → ¬ (place ≡ None) → opened_in (namespace_of m) s place (Some t) ≡ if_open t (option_map object_view (get m t)) (Ok t)
     by None h = absurd (h refl)
     by (Some p) h = refl
+
+-- a path is its parent and its last segment, where it has one
+pub rejoined_parts : (p : List Segment) → parent_of p ++ option_to_list (last_or None p) ≡ p
+rejoined_parts [] = refl
+rejoined_parts (s ∷ []) = refl
+rejoined_parts (s ∷ t ∷ ts) = ap (λ r. s ∷ r) (rejoined_parts (t ∷ ts) ∙ refl)

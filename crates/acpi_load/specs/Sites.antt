@@ -2,7 +2,7 @@
 use Rattle.std.specs.Prelude.{ℕ, suc, ◌+◌, ◌==◌, cond, Bool, true, false, List, [], ◌∷◌, ◌++◌, length, map, Option, Some, None}
 use Rattle.acpi_name.specs.Names.{Segment, NameParts}
 use Rattle.acpi_terms.specs.declared.object.FieldForm.{FieldForm}
-use Rattle.acpi_terms.specs.Tree.{FieldTree, unit, reserved, ExternalParts, ItemTree, name, scope, method, external, external_block, create, create_field, mutex, event, region, field, index_field, bank_field, device, processor, power, thermal, ItemTrees, no_items, item}
+use Rattle.acpi_terms.specs.Tree.{FieldTree, unit, ExternalParts, ItemTree, name, scope, method, external, external_block, create, create_field, mutex, event, region, field, index_field, bank_field, device, processor, power, thermal, ItemTrees, no_items, item}
 use Rattle.acpi_terms.specs.Offsets.{element_bits}
 use Rattle.acpi_terms.specs.Objects.{ObjectTree, device_object, processor_object, power_object, thermal_object, name_object, method_object, region_object, mutex_object, event_object, field_object, create_object, create_field_object}
 

@@ -1,6 +1,6 @@
 //! Where a term puts its object, and which scope it opens.
 
-ghost use Rattle.std.specs.Prelude.{◌≡◌, ◌∷◌, [], ◌++◌, IfOk, IfErr};
+ghost use Rattle.std.specs.Prelude.{◌≡◌, ◌∷◌, [], ◌++◌, option_to_list, IfOk, IfErr};
 ghost use Rattle.acpi_name.specs.Paths.{parent_of, place_of};
 ghost use Rattle.acpi_load.specs.Namespace.{namespace_of};
 ghost use Rattle.acpi_load.specs.Placing.{below, declared_path, opened_path};
@@ -13,19 +13,33 @@ use acpi_space::{Found, SearchFault, Space, search};
 use acpi_terms::Object;
 use std::alloc::Global;
 
+// The path that has this parent and last segment.
+fn rejoined(parent: Path, last: Option<Seg>) -> Result<Path, Stop>
+    ensures ok { IfOk result (λ p. p ≡ parent ++ option_to_list last) }
+    ensures memory { IfErr result (λ f. f ≡ Stop.Memory) }
+{
+    let mut path = parent;
+    if let Some(seg) = last {
+        path.push(seg)?;
+    }
+    Ok(path)
+}
+
 // The path, if an object may be declared there.
+#[tactic(auto, using(crate::proofs::Lookups::rejoined_parts))]
 fn free_below<S: Space<Object>>(objects: &S, path: Path) -> Result<Path, Stop>
     ensures ok { IfOk result (λ p. below (namespace_of (S.contents objects.now)) path (namespace_of (S.contents objects.now) (parent_of path)) ≡ Ok p) }
     ensures refused { IfErr result (λ f. IsTold f (below (namespace_of (S.contents objects.now)) path (namespace_of (S.contents objects.now) (parent_of path)))) }
 {
-    let mut parent = path.copy()?;
-    parent.pop();
-    match objects.get(&parent) {
-        None => Err(Stop::Refused(Refusal::NoParent, parent)),
+    let mut path = path;
+    let last = path.pop();
+    match objects.get(&path) {
+        None => Err(Stop::Refused(Refusal::NoParent, path)),
         Some(object) => {
             if !object.opens_scope() {
-                return Err(Stop::Refused(Refusal::NotAScope, parent));
+                return Err(Stop::Refused(Refusal::NotAScope, path));
             }
+            let path = rejoined(path, last)?;
             if objects.get(&path).is_some() {
                 return Err(Stop::Refused(Refusal::Taken, path));
             }

@@ -5,22 +5,22 @@ use Rattle.acpi_name.specs.Names.{Segment}
 use Rattle.acpi_name.specs.Paths.{parent_of, parent_of-push}
 use Rattle.acpi_space.specs.declared.walk.Step.{Step}
 use Rattle.acpi_space.specs.declared.walk.Step.TheVariants.{Enter, Leave}
-use Rattle.acpi_space.specs.Walk.{todo, enter}
+use Rattle.acpi_space.specs.Walk.{ahead, enter}
 
 pub last_first : {A : Type 0} (items rest : List A) (x : A) → items ≡ rest ++ x ∷ [] → reverse items ≡ x ∷ reverse rest
 last_first items rest x e = ap reverse e ∙ reverse-append rest (x ∷ [])
 
 -- a child is entered
 pub entered : (path path' : List Segment) (items rest items' : List Step) (x : Step) (g : Segment) (n : ℕ)
-    → items ≡ rest ++ x ∷ [] → x ≡ Enter g n → path' ≡ path ++ g ∷ [] → items' ≡ rest ++ Leave ∷ [] → todo path (reverse items) ≡ (path', n) ∷ todo path' (reverse items')
+    → items ≡ rest ++ x ∷ [] → x ≡ Enter g n → path' ≡ path ++ g ∷ [] → items' ≡ rest ++ Leave ∷ [] → ahead path (reverse items) ≡ (path', n) ∷ ahead path' (reverse items')
 entered path path' items rest items' x g n e is at e' =
-    ap (todo path) (last_first items rest x e ∙ ap (λ s. s ∷ reverse rest) is)
-    ∙ sym ((λ i. (at i, n) ∷ todo (at i) (last_first items' rest Leave e' i))
-    ∙ ap (λ q. (path ++ g ∷ [], n) ∷ todo q (reverse rest)) (parent_of-push path g))
+    ap (ahead path) (last_first items rest x e ∙ ap (λ s. s ∷ reverse rest) is)
+    ∙ sym ((λ i. (at i, n) ∷ ahead (at i) (last_first items' rest Leave e' i))
+    ∙ ap (λ q. (path ++ g ∷ [], n) ∷ ahead q (reverse rest)) (parent_of-push path g))
 
 -- a node is left
-pub left : (path path' : List Segment) (items rest : List Step) (x : Step) → items ≡ rest ++ x ∷ [] → x ≡ Leave → path' ≡ parent_of path → todo path' (reverse rest) ≡ todo path (reverse items)
-left path path' items rest x e is at = ap (λ q. todo q (reverse rest)) at ∙ sym (ap (todo path) (last_first items rest x e ∙ ap (λ s. s ∷ reverse rest) is))
+pub left : (path path' : List Segment) (items rest : List Step) (x : Step) → items ≡ rest ++ x ∷ [] → x ≡ Leave → path' ≡ parent_of path → ahead path' (reverse rest) ≡ ahead path (reverse items)
+left path path' items rest x e is at = ap (λ q. ahead q (reverse rest)) at ∙ sym (ap (ahead path) (last_first items rest x e ∙ ap (λ s. s ∷ reverse rest) is))
 
 pub fewer : {A : Type 0} (items rest : List A) (x : A) → items ≡ rest ++ x ∷ [] → length rest < length items
 fewer items rest x e = let l : length items ≡ length rest + 1 = ap length e ∙ length-append rest (x ∷ []) in omega arith
@@ -34,6 +34,6 @@ pushed kids kids' items items' e whole inv k p =
     ∙ ap (λ l. map enter l ++ reverse items) (sym k) ∙ inv
 
 -- the children of the node on a path
-pub todo_children : (path : List Segment) (kids : List (Segment × ℕ)) (steps : List Step) → todo path (map enter kids ++ steps) ≡ map (λ e. (path ++ e.0 ∷ [], e.1)) kids ++ todo path steps
-todo_children path [] steps = refl
-todo_children path (e ∷ kids) steps = ap (λ l. (path ++ e.0 ∷ [], e.1) ∷ l) (todo_children path kids steps)
+pub ahead_children : (path : List Segment) (kids : List (Segment × ℕ)) (steps : List Step) → ahead path (map enter kids ++ steps) ≡ map (λ e. (path ++ e.0 ∷ [], e.1)) kids ++ ahead path steps
+ahead_children path [] steps = refl
+ahead_children path (e ∷ kids) steps = ap (λ l. (path ++ e.0 ∷ [], e.1) ∷ l) (ahead_children path kids steps)

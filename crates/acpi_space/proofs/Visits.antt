@@ -7,9 +7,9 @@ use Rattle.acpi_name.specs.Names.{Segment}
 use Rattle.acpi_space.specs.declared.nodes.Node.{Node}
 use Rattle.acpi_space.specs.declared.walk.Step.{Step}
 use Rattle.acpi_space.specs.Tree.{node_children, node_value, own_pair, node_pairs, pairs_below, IsTree}
-use Rattle.acpi_space.specs.Walk.{todo, next_todo, enter, pair_at}
+use Rattle.acpi_space.specs.Walk.{ahead, next_ahead, enter, pair_at}
 use Rattle.acpi_space.proofs.Written.{past_end}
-use Rattle.acpi_space.proofs.Steps.{todo_children}
+use Rattle.acpi_space.proofs.Steps.{ahead_children}
 
 abbrev pub total : {X : Type 0} → (X → ℕ) → List X → ℕ
 total f [] = 0
@@ -110,18 +110,18 @@ own_under path (Some v) = ap (λ q. (q, v) ∷ []) (sym (append-nil path))
 
 -- a node is visited: its own pair, then its children, then the rest
 pub visited : {V : Type 0} (nodes : List (Node V)) → IsTree nodes → (path : List Segment) (n : ℕ) (steps steps' : List Step) (pairs pairs' whole : List (List Segment × V))
-    → pairs ++ pairs_of nodes ((path, n) ∷ todo path steps) ≡ whole
+    → pairs ++ pairs_of nodes ((path, n) ∷ ahead path steps) ≡ whole
     → pairs' ≡ pairs ++ map (pair_at path) (option_to_list (node_value (slice_get nodes n)))
     → steps' ≡ map enter (node_children (slice_get nodes n)) ++ steps
-    → pairs' ++ pairs_of nodes (todo path steps') ≡ whole
+    → pairs' ++ pairs_of nodes (ahead path steps') ≡ whole
 visited {V} nodes t path n steps steps' pairs pairs' whole inv p s =
     let kids : List (Segment × ℕ) = node_children (slice_get nodes n) in
     let own : List (List Segment × V) = own_pair (node_value (slice_get nodes n)) in
     let inner : List (List Segment × V) = flat_map (λ e. map (λ p. (e.0 ∷ p.0, p.1)) (below nodes e.1)) kids in
-    let rest : List (List Segment × V) = pairs_of nodes (todo path steps) in
-    let left : pairs_of nodes (todo path steps') ≡ under path inner ++ rest =
-    ap (λ l. pairs_of nodes (todo path l)) s ∙ ap (pairs_of nodes) (todo_children path kids steps)
-    ∙ flat_map-append (λ e. under e.0 (below nodes e.1)) (map (λ e. (path ++ e.0 ∷ [], e.1)) kids) (todo path steps)
+    let rest : List (List Segment × V) = pairs_of nodes (ahead path steps) in
+    let left : pairs_of nodes (ahead path steps') ≡ under path inner ++ rest =
+    ap (λ l. pairs_of nodes (ahead path l)) s ∙ ap (pairs_of nodes) (ahead_children path kids steps)
+    ∙ flat_map-append (λ e. under e.0 (below nodes e.1)) (map (λ e. (path ++ e.0 ∷ [], e.1)) kids) (ahead path steps)
     ∙ ap (λ l. l ++ rest) (under_children nodes path kids) in
     let here : under path (below nodes n) ≡ under path own ++ under path inner =
     ap (under path) (below_node nodes t n) ∙ map-append (λ p. (path ++ p.0, p.1)) own inner in
@@ -133,12 +133,12 @@ visited {V} nodes t path n steps steps' pairs pairs' whole inv p s =
 -- one visit less
 pub visited_fewer : {V : Type 0} (nodes : List (Node V)) → IsTree nodes → (path : List Segment) (n : ℕ) (steps steps' : List Step)
     → steps' ≡ map enter (node_children (slice_get nodes n)) ++ steps
-    → visits_of nodes (todo path steps') < visits_of nodes ((path, n) ∷ todo path steps)
+    → visits_of nodes (ahead path steps') < visits_of nodes ((path, n) ∷ ahead path steps)
 visited_fewer nodes t path n steps steps' s =
-    let left : visits_of nodes (todo path steps') ≡ total (λ c. visits nodes c.1) (node_children (slice_get nodes n)) + visits_of nodes (todo path steps) =
-    ap (λ l. visits_of nodes (todo path l)) s ∙ ap (visits_of nodes) (todo_children path (node_children (slice_get nodes n)) steps)
-    ∙ total-append (λ e. visits nodes e.1) (map (λ e. (path ++ e.0 ∷ [], e.1)) (node_children (slice_get nodes n))) (todo path steps)
-    ∙ ap (λ k. k + visits_of nodes (todo path steps)) (same_places (node_children (slice_get nodes n))) in
+    let left : visits_of nodes (ahead path steps') ≡ total (λ c. visits nodes c.1) (node_children (slice_get nodes n)) + visits_of nodes (ahead path steps) =
+    ap (λ l. visits_of nodes (ahead path l)) s ∙ ap (visits_of nodes) (ahead_children path (node_children (slice_get nodes n)) steps)
+    ∙ total-append (λ e. visits nodes e.1) (map (λ e. (path ++ e.0 ∷ [], e.1)) (node_children (slice_get nodes n))) (ahead path steps)
+    ∙ ap (λ k. k + visits_of nodes (ahead path steps)) (same_places (node_children (slice_get nodes n))) in
     let here : visits nodes n ≡ suc (total (λ c. visits nodes c.1) (node_children (slice_get nodes n))) = visits_node nodes t n in
     omega (arith, left, here)
   where
@@ -151,18 +151,18 @@ pub none_yet : {V : Type 0} (nodes : List (Node V)) → pairs_of nodes (([], 0) 
 none_yet nodes = append-nil (under [] (below nodes 0)) ∙ under_root (below nodes 0)
 
 pub started : {V : Type 0} (nodes : List (Node V)) (pairs : List (List Segment × Bor V)) (path : List Segment) (steps : List Step) → pairs ≡ [] → path ≡ [] → steps ≡ []
-    → shown pairs ++ pairs_of nodes ((path, 0) ∷ todo path (reverse steps)) ≡ pairs_below (length nodes) nodes 0
-started nodes pairs path steps p q s = (λ i. shown (p i) ++ pairs_of nodes ((q i, 0) ∷ todo (q i) (reverse (s i)))) ∙ none_yet nodes
+    → shown pairs ++ pairs_of nodes ((path, 0) ∷ ahead path (reverse steps)) ≡ pairs_below (length nodes) nodes 0
+started nodes pairs path steps p q s = (λ i. shown (p i) ++ pairs_of nodes ((q i, 0) ∷ ahead (q i) (reverse (s i)))) ∙ none_yet nodes
 
 -- the next node, and none
 pub went_on : {V : Type 0} (nodes : List (Node V)) (path path' : List Segment) (steps steps' : List Step) (o : Option ℕ) (n : ℕ) (pairs whole : List (List Segment × V))
-    → todo path steps ≡ next_todo o path' steps' → o ≡ Some n → pairs ++ pairs_of nodes (todo path steps) ≡ whole → pairs ++ pairs_of nodes ((path', n) ∷ todo path' steps') ≡ whole
-went_on nodes path path' steps steps' o n pairs whole e is h = ap (λ l. pairs ++ pairs_of nodes l) (sym (e ∙ ap (λ o. next_todo o path' steps') is)) ∙ h
+    → ahead path steps ≡ next_ahead o path' steps' → o ≡ Some n → pairs ++ pairs_of nodes (ahead path steps) ≡ whole → pairs ++ pairs_of nodes ((path', n) ∷ ahead path' steps') ≡ whole
+went_on nodes path path' steps steps' o n pairs whole e is h = ap (λ l. pairs ++ pairs_of nodes l) (sym (e ∙ ap (λ o. next_ahead o path' steps') is)) ∙ h
 
 pub went_on_fewer : {V : Type 0} (nodes : List (Node V)) (path path' : List Segment) (steps steps' : List Step) (o : Option ℕ) (n bound : ℕ)
-    → todo path steps ≡ next_todo o path' steps' → o ≡ Some n → visits_of nodes (todo path steps) < bound → visits_of nodes ((path', n) ∷ todo path' steps') < bound
-went_on_fewer nodes path path' steps steps' o n bound e is h = subst (λ l. visits_of nodes l < bound) (e ∙ ap (λ o. next_todo o path' steps') is) h
+    → ahead path steps ≡ next_ahead o path' steps' → o ≡ Some n → visits_of nodes (ahead path steps) < bound → visits_of nodes ((path', n) ∷ ahead path' steps') < bound
+went_on_fewer nodes path path' steps steps' o n bound e is h = subst (λ l. visits_of nodes l < bound) (e ∙ ap (λ o. next_ahead o path' steps') is) h
 
 pub all_given : {V : Type 0} (nodes : List (Node V)) (path path' : List Segment) (steps steps' : List Step) (o : Option ℕ) (pairs whole : List (List Segment × V))
-    → todo path steps ≡ next_todo o path' steps' → o ≡ None → pairs ++ pairs_of nodes (todo path steps) ≡ whole → pairs ≡ whole
-all_given nodes path path' steps steps' o pairs whole e is h = sym (append-nil pairs) ∙ ap (λ l. pairs ++ pairs_of nodes l) (sym (e ∙ ap (λ o. next_todo o path' steps') is)) ∙ h
+    → ahead path steps ≡ next_ahead o path' steps' → o ≡ None → pairs ++ pairs_of nodes (ahead path steps) ≡ whole → pairs ≡ whole
+all_given nodes path path' steps steps' o pairs whole e is h = sym (append-nil pairs) ∙ ap (λ l. pairs ++ pairs_of nodes l) (sym (e ∙ ap (λ o. next_ahead o path' steps') is)) ∙ h

@@ -6,15 +6,15 @@ use Rattle.acpi_space.specs.declared.walk.Step.{Step}
 use Rattle.acpi_space.specs.declared.walk.Step.TheVariants.{Enter, Leave}
 
 -- the nodes that the steps enter, each with its path, from a path on
-abbrev pub todo : List Segment → List Step → List (List Segment × ℕ)
-todo path [] = []
-todo path (Enter g n ∷ steps) = (path ++ g ∷ [], n) ∷ todo path steps
-todo path (Leave ∷ steps) = todo (parent_of path) steps
+abbrev pub ahead : List Segment → List Step → List (List Segment × ℕ)
+ahead path [] = []
+ahead path (Enter g n ∷ steps) = (path ++ g ∷ [], n) ∷ ahead path steps
+ahead path (Leave ∷ steps) = ahead (parent_of path) steps
 
 -- .. once the next of them is entered
-abbrev pub next_todo : Option ℕ → List Segment → List Step → List (List Segment × ℕ)
-next_todo None path steps = []
-next_todo (Some n) path steps = (path, n) ∷ todo path steps
+abbrev pub next_ahead : Option ℕ → List Segment → List Step → List (List Segment × ℕ)
+next_ahead None path steps = []
+next_ahead (Some n) path steps = (path, n) ∷ ahead path steps
 
 -- to enter a child
 abbrev pub enter : (Segment × ℕ) → Step

@@ -1,7 +1,7 @@
 //! A walk through the whole tree, in the order of the paths.
 ghost use Rattle.std.specs.Prelude.{◌≡◌, ◌++◌, map, length, reverse, slice_get, IfOk, OnOk, option_to_list};
 ghost use Rattle.acpi_space.specs.Tree.{IsTree, node_children, node_value, pairs_below};
-ghost use Rattle.acpi_space.specs.Walk.{enter, next_todo, pair_at, todo};
+ghost use Rattle.acpi_space.specs.Walk.{enter, next_ahead, pair_at, ahead};
 
 use crate::nodes::{Node, value};
 use acpi_name::{Path, Seg};
@@ -79,7 +79,7 @@ fn push_entries(children: &BTreeMap<Seg, usize>, steps: &mut Vec<Step>) -> Resul
 
 // Leaves nodes until there is one to enter, and enters it.
 fn advance(steps: &mut Vec<Step>, path: &mut Path) -> Result<Option<usize>, AllocError>
-    ensures { IfOk result (λ next. todo path.old (reverse steps.old.items) ≡ next_todo next path.new (reverse steps.new.items)) }
+    ensures { IfOk result (λ next. ahead path.old (reverse steps.old.items) ≡ next_ahead next path.new (reverse steps.new.items)) }
 {
     while let Some(step) = steps.pop() {
         match step {

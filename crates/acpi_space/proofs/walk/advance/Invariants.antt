@@ -1,9 +1,9 @@
 use Rattle.std.proofs.Common.{◌≡◌, length, reverse}
-use Rattle.acpi_space.specs.Walk.{todo}
+use Rattle.acpi_space.specs.Walk.{ahead}
 use Rattle.acpi_space.proofs.walk.advance.Given as goal
 
 abbrev pub invariant-loop-step : goal.invariant-loop-step
-invariant-loop-step l = todo l.path (reverse l.steps.items) ≡ todo l.fn.path (reverse l.fn.steps.items)
+invariant-loop-step l = ahead l.path (reverse l.steps.items) ≡ ahead l.fn.path (reverse l.fn.steps.items)
 
 abbrev pub decreases-loop-step : goal.decreases-loop-step
 decreases-loop-step l = length l.steps.items

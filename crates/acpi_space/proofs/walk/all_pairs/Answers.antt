@@ -1,6 +1,6 @@
 use Rattle.std.proofs.Common.{◌∷◌, length, reverse}
 use Rattle.acpi_space.specs.Tree.{pairs_below}
-use Rattle.acpi_space.specs.Walk.{todo}
+use Rattle.acpi_space.specs.Walk.{ahead}
 use Rattle.acpi_space.proofs.Visits.{shown, visits_of, started, visited, visited_fewer, went_on, went_on_fewer, all_given}
 use Rattle.acpi_space.proofs.walk.all_pairs.Goals as goal
 
@@ -10,7 +10,7 @@ loop-path-init g c = started c.args.nodes.now c.new-pairs.result.items c.root-pa
 pub loop-path-smaller : goal.loop-path-smaller
 loop-path-smaller g c =
     went_on_fewer c.args.nodes.now c.loop-path.path c.advance.new.path (reverse c.push_children.new.steps.items) (reverse c.advance.new.steps.items) c.in_ok-next.field-0 c.in-Some.next
-    (visits_of c.args.nodes.now ((c.loop-path.path, c.loop-path.number) ∷ todo c.loop-path.path (reverse c.loop-path.steps.items)))
+    (visits_of c.args.nodes.now ((c.loop-path.path, c.loop-path.number) ∷ ahead c.loop-path.path (reverse c.loop-path.steps.items)))
     c.in_ok-next.ensures c.in-Some.is
     (visited_fewer c.args.nodes.now c.requires c.loop-path.path c.loop-path.number (reverse c.loop-path.steps.items) (reverse c.push_children.new.steps.items) c.in_ok-push_children.ensures)
 
