@@ -1,6 +1,7 @@
 //! Why a run ends with status 1 or 2, and the line that says so.
 
 ghost use Rattle.std.specs.Prelude.{◌≡◌, ◌≢◌};
+ghost use Rattle.acpins.specs.Failures.{failure_of};
 ghost use Rattle.acpins.specs.declared.failure.Failure.{Failure};
 
 use acpi_load::{LoadFault, LoadReason};
@@ -55,18 +56,24 @@ impl<'a> Failure<'a> {
 }
 
 impl<'a> From<AllocError> for Failure<'a> {
+    ghost from_gives = { λ _ f. f ≡ Failure.Memory };
+
     fn from(_error: AllocError) -> Failure<'a> {
         Failure::Memory
     }
 }
 
 impl<'a, T: Drop> From<AllocFailed<T>> for Failure<'a> {
+    ghost from_gives = { λ _ f. f ≡ Failure.Memory };
+
     fn from(_failed: AllocFailed<T>) -> Failure<'a> {
         Failure::Memory
     }
 }
 
 impl<'a> From<LoadFault> for Failure<'a> {
+    ghost from_gives = { λ e f. f ≡ failure_of e };
+
     fn from(fault: LoadFault) -> Failure<'a> {
         match fault {
             LoadFault::Memory => Failure::Memory,

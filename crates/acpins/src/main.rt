@@ -5,6 +5,10 @@
 //! program over any files and streams; `main` gives it the host's.
 #![tactic(auto)]
 
+ghost use Rattle.std.specs.Prelude.{◌≡◌, ◌≢◌, ◌≤◌, IfOk};
+ghost use Rattle.std.specs.IoError.{error_kind};
+ghost use Rattle.acpins.specs.declared.failure.Failure.{Failure};
+
 mod failure;
 mod files;
 mod hexadecimal;
@@ -20,11 +24,14 @@ use crate::failure::Failure;
 use crate::files::HostFiles;
 use crate::program::{run, told};
 use std::alloc::Global;
+use std::io::ErrorKind;
 use std::process::ExitCode;
 use std::{env, io};
 
 // What the host gives: its words, its files and its two streams.
-fn started(rt: &HostRuntime, alloc: Global) -> io::Result<u8> {
+fn started(rt: &HostRuntime, alloc: Global) -> io::Result<u8>
+    ensures { IfOk result (λ status. status ≤ 2) }
+{
     let args: Vec<String> = env::args(rt)?.collect(alloc)?;
     let mut words: Vec<&str> = Vec::new(alloc);
     for arg in args.iter().skip(1) {
@@ -41,9 +48,12 @@ fn started(rt: &HostRuntime, alloc: Global) -> io::Result<u8> {
 }
 
 // The host's words could not be had: there is no memory for them, or one is no text.
-fn failure_of(error: &io::Error) -> Failure<'static> {
+fn failure_of(error: &io::Error) -> Failure<'static>
+    ensures memory { error_kind error.now ≡ ErrorKind.OutOfMemory → result ≡ Failure.Memory }
+    ensures words { error_kind error.now ≢ ErrorKind.OutOfMemory → result ≡ Failure.WrongWords }
+{
     match error.kind() {
-        io::ErrorKind::OutOfMemory => Failure::Memory,
+        ErrorKind::OutOfMemory => Failure::Memory,
         _ => Failure::WrongWords,
     }
 }

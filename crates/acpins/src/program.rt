@@ -1,7 +1,15 @@
 //! One run of the program.
 
-ghost use Rattle.std.specs.Prelude.{◌≡◌, ◌≢◌, IfErr};
+ghost use Rattle.std.specs.Prelude.{◌≡◌, ◌≢◌, ◌≤◌, IfOk, IfErr, OnOk, IsTrue, None, string_bytes};
+ghost use Rattle.clap.specs.Walk.{texts};
+ghost use Rattle.acpi_load.specs.Namespace.{namespace_of};
+ghost use Rattle.acpi_load.specs.Links.{links_at};
+ghost use Rattle.acpi_load.specs.DeclaredView.{objects_in, links_in};
+ghost use Rattle.std.specs.Io.KnownBytes.{Appends};
 ghost use Rattle.acpins.specs.declared.failure.Failure.{Failure};
+ghost use Rattle.acpins.specs.Words.{asked_in, asked_of};
+ghost use Rattle.acpins.specs.Input.{files_of, AreTablesOf, IsFilesFault, IsLoadOfFiles};
+ghost use Rattle.acpins.specs.Runs.{IsOutput, GetsOutput, IsFailureOf, IsRunFailure, FailsWith};
 
 use crate::failure::Failure;
 use crate::files::Files;
@@ -14,13 +22,17 @@ use acpi_terms::Object;
 use bytes::Bytes;
 use std::alloc::Global;
 use std::io::Write;
+use std::mem;
 
 // All tables of all files, in order.
 fn tables_of<'a, F: Files>(
     alloc: Global,
     request: &Request<'a>,
     files: &mut F,
-) -> Result<Vec<Bytes>, Failure<'a>> {
+) -> Result<Vec<Bytes>, Failure<'a>>
+    ensures ok { IfOk result (λ v. AreTablesOf (F.bytes_of files.old) request.now.hex (files_of request.now) v.items) }
+    ensures err { IfErr result (IsFilesFault (F.bytes_of files.old) request.now.hex (files_of request.now)) }
+{
     let mut tables = Vec::new(alloc);
     for name in request.files.iter() {
         add_tables(alloc, files, *name, request.hex, &mut tables)?;
@@ -28,31 +40,48 @@ fn tables_of<'a, F: Files>(
     Ok(tables)
 }
 
+// The load of the tables that the files hold.
+fn loaded<'a, S: Space<Object>, F: Files>(
+    alloc: Global,
+    request: &Request<'a>,
+    files: &mut F,
+) -> Result<Declared<S>, Failure<'a>>
+    ensures ok { IfOk result (λ d. IsLoadOfFiles (F.bytes_of files.old) request.now.hex request.now.depth (files_of request.now) (namespace_of (S.contents (objects_in d))) (links_at (links_in d))) }
+    ensures err { IfErr result (IsFailureOf (F.bytes_of files.old) (asked_in request.now)) }
+{
+    let tables = tables_of(alloc, request, files)?;
+    let Some((dsdt, ssdts)) = tables.split_first() else {
+        return Err(Failure::NoTable);
+    };
+    Ok(declare_shared(alloc, dsdt, ssdts, request.depth)?)
+}
+
 /// What a run prints, whole, with the objects kept in a space of the caller's choice.
 pub fn made_in<'a, S: Space<Object>, F: Files>(
     alloc: Global,
     words: &'a [&'a str],
     files: &mut F,
-) -> Result<String, Failure<'a>> {
+) -> Result<String, Failure<'a>>
+    ensures ok { IfOk result (λ text. IsOutput (F.bytes_of files.old) (texts words.now) (string_bytes text)) }
+    ensures err { IfErr result (IsRunFailure (F.bytes_of files.old) (texts words.now)) }
+{
     let request = read_words(alloc, words)?;
-    let tables = tables_of(alloc, &request, files)?;
-    let Some((dsdt, ssdts)) = tables.split_first() else {
-        return Err(Failure::NoTable);
-    };
-    let declared: Declared<S> = declare_shared(alloc, dsdt, ssdts, request.depth)?;
-    Ok(listed(alloc, &declared)?)
+    let declared: Declared<S> = loaded(alloc, &request, files)?;
+    let text = listed(alloc, &declared)?;
+    // The process ends soon and gives all memory back at once; to take the namespace apart first costs time.
+    mem::forget(declared);
+    Ok(text)
 }
 
 fn made<'a, F: Files>(
     alloc: Global,
     words: &'a [&'a str],
     files: &mut F,
-) -> Result<String, Failure<'a>> {
+) -> Result<String, Failure<'a>>
+    ensures ok { IfOk result (λ text. IsOutput (F.bytes_of files.old) (texts words.now) (string_bytes text)) }
+    ensures err { IfErr result (IsRunFailure (F.bytes_of files.old) (texts words.now)) }
+{
     made_in::<TreeSpace<Object>, F>(alloc, words, files)
-}
-
-fn shown<O: Write>(text: &str, out: &mut O) -> bool {
-    out.write_all(text.as_bytes()).is_ok() && out.flush().is_ok()
 }
 
 // Makes what the words ask for, and prints it. Where anything but printing fails, nothing was printed.
@@ -62,10 +91,13 @@ fn ended<'a, F: Files, O: Write>(
     files: &mut F,
     out: &mut O,
 ) -> Result<(), Failure<'a>>
-    ensures { IfErr result (λ f. f ≢ Failure.Output → O.contents out.new ≡ O.contents out.old) }
+    ensures ok { OnOk result (GetsOutput (F.bytes_of files.old) (texts words.now) (O.contents out.old) (O.contents out.new)) }
+    ensures err { IfErr result (IsRunFailure (F.bytes_of files.old) (texts words.now)) }
+    ensures kept { IfErr result (λ f. f ≢ Failure.Output → O.contents out.new ≡ O.contents out.old) }
 {
     let text = made(alloc, words, files)?;
-    if !shown(text.as_str(), out) {
+    let written = out.write_all(text.as_bytes()).is_ok() && out.flush().is_ok();
+    if !written {
         return Err(Failure::Output);
     }
     Ok(())
@@ -89,8 +121,13 @@ pub fn run<'a, F: Files, O: Write, E: Write>(
     out: &mut O,
     err: &mut E,
 ) -> u8
-    // Nothing is printed for wrong words.
-    ensures { result ≡ 2 → O.contents out.new ≡ O.contents out.old }
+    // All that the words ask for is printed, and nothing else.
+    ensures done { result ≡ 0 → GetsOutput (F.bytes_of files.old) (texts words.now) (O.contents out.old) (O.contents out.new) }
+    // Something failed, and nothing is printed, unless it was the printing.
+    ensures failed { result ≡ 1 → FailsWith (F.bytes_of files.old) (texts words.now) (O.contents out.old) (O.contents out.new) }
+    // The words ask for nothing, and nothing is printed.
+    ensures wrong { result ≡ 2 → (asked_of (texts words.now) ≡ None) × (O.contents out.new ≡ O.contents out.old) }
+    ensures statuses { result ≤ 2 }
 {
     match ended(alloc, words, files, out) {
         Ok(()) => 0,

@@ -1,11 +1,14 @@
 //! Files into tables.
 
+ghost use Rattle.std.specs.Prelude.{◌≡◌, ◌++◌, ◌∷◌, [], false, IfOk, IfErr, OnOk, IfSome, vec_len};
+ghost use Rattle.acpins.specs.Input.{AddsTablesOf, IsReadFault, IsFileFault, CountsFailedRead};
+
 use crate::failure::Failure;
 use crate::files::Files;
 use crate::hexadecimal::{HexFault, from_hex};
 use acpi_table::{FromRead, ReadFault, SliceSource, Source, read_table};
 use bytes::Bytes;
-use std::alloc::Global;
+use std::alloc::{AllocError, Global};
 use std::io::Read;
 
 // The rest of a file.
@@ -13,7 +16,10 @@ fn read_whole<'a, R: Read>(
     alloc: Global,
     name: &'a str,
     file: &mut R,
-) -> Result<Vec<u8>, Failure<'a>> {
+) -> Result<Vec<u8>, Failure<'a>>
+    ensures whole { IfOk result (λ v. IfSome (R.remaining file.old) (λ bytes. bytes ≡ v.items)) }
+    ensures fault { IfErr result (IsReadFault name.now) }
+{
     let mut bytes = Vec::new(alloc);
     let mut part = [0u8; 4096];
     for _ in 0..u64::MAX {
@@ -21,11 +27,22 @@ fn read_whole<'a, R: Read>(
             return Err(Failure::Read(name));
         };
         if n == 0 {
-            break;
+            return Ok(bytes);
         }
-        bytes.extend_from_slice(&part[..n])?;
+        let Ok(()) = bytes.extend_from_slice(&part[..n]) else {
+            return Err(Failure::Memory);
+        };
     }
-    Ok(bytes)
+    // No memory holds so many bytes.
+    Err(Failure::Memory)
+}
+
+// Adds a table to those that came before.
+fn add(tables: &mut Vec<Bytes>, table: Vec<u8>) -> Result<(), AllocError>
+    ensures { OnOk result (tables.new.items ≡ tables.old.items ++ table.items ∷ []) }
+{
+    tables.push(Bytes::from_vec(table)?)?;
+    Ok(())
 }
 
 // Adds the tables that a source gives to those that came before.
@@ -34,17 +51,27 @@ fn cut<'a, S: Source>(
     name: &'a str,
     source: &mut S,
     tables: &mut Vec<Bytes>,
-) -> Result<(), Failure<'a>> {
+) -> Result<(), Failure<'a>>
+    ensures ok { OnOk result (AddsTablesOf false (S.coming source.old) tables.old.items tables.new.items) }
+    ensures err { IfErr result (λ f. IsFileFault false name.now (S.coming source.old) (vec_len tables.old) f) }
+    // A file that can't be read is one failed read, and no other answer has one.
+    ensures failures { CountsFailedRead result (S.failures source.old) (S.failures source.new) }
+{
     for _ in 0..u64::MAX {
         match read_table(alloc, source) {
-            Ok(Some(bytes)) => tables.push(Bytes::from_vec(bytes)?)?,
-            Ok(None) => break,
+            Ok(Some(table)) => {
+                let Ok(()) = add(tables, table) else {
+                    return Err(Failure::Memory);
+                };
+            }
+            Ok(None) => return Ok(()),
             Err(ReadFault::Table(fault)) => return Err(Failure::Table(tables.len(), fault)),
             Err(ReadFault::Device) => return Err(Failure::Read(name)),
             Err(ReadFault::Memory) => return Err(Failure::Memory),
         }
     }
-    Ok(())
+    // No memory holds so many tables.
+    Err(Failure::Memory)
 }
 
 /// Adds the tables of one file to those that came before.
@@ -54,7 +81,11 @@ pub fn add_tables<'a, F: Files>(
     name: &'a str,
     hex: bool,
     tables: &mut Vec<Bytes>,
-) -> Result<(), Failure<'a>> {
+) -> Result<(), Failure<'a>>
+    ensures ok { OnOk result (AddsTablesOf hex (F.bytes_of files.old name.now) tables.old.items tables.new.items) }
+    ensures err { IfErr result (λ f. IsFileFault hex name.now (F.bytes_of files.old name.now) (vec_len tables.old) f) }
+    ensures stays { F.bytes_of files.new ≡ F.bytes_of files.old }
+{
     let Ok(mut file) = files.open(name) else {
         return Err(Failure::Read(name));
     };

@@ -2,6 +2,7 @@
 
 mod cut;
 mod devices;
+mod held;
 mod hexadecimal;
 mod listings;
 mod memory;

@@ -1,0 +1,23 @@
+-- The links at a path, as the map of links answers them.
+use Rattle.std.proofs.Common.{◌≡◌, Bool, true, false, cond, List, [], ◌∷◌, map, Option, Some, refl, sym, ap, ◌∙◌}
+use Rattle.std.specs.Option.{option_map}
+use Rattle.std.specs.Ordering.{is_eq}
+use Rattle.std.specs.Map.{lookup}
+use Rattle.std.specs.BTreeMap.{BTreeMap}
+use Rattle.std.specs.Global.{Vec}
+use Rattle.acpi_name.specs.Names.{Segment}
+use Rattle.acpi_name.specs.Paths.{path_cmp}
+use Rattle.acpi_space.proofs.Maps.{get_is_lookup}
+use Rattle.acpi_load.specs.Links.{links_at}
+
+lookup_mapped : {V W : Type 0} (f : V → W) (t : List Segment → Bool) (es : List (List Segment × V)) → lookup t (map (λ e. (e.0, f e.1)) es) ≡ option_map f (lookup t es)
+lookup_mapped f t [] = refl
+lookup_mapped f t (e ∷ es) =
+    elim (t e.0) as (λ b. cond b (Some (f e.1)) (lookup t (map (λ e. (e.0, f e.1)) es)) ≡ option_map f (cond b (Some e.1) (lookup t es))) [
+      | true ↦ refl
+      | false ↦ lookup_mapped f t es
+    ]
+
+pub links_answered : (m : BTreeMap (List Segment) (Vec (Option (List Segment)))) (p : List Segment) (o : Option (Vec (Option (List Segment))))
+    → o ≡ lookup (λ k. is_eq (path_cmp p k)) m.entries → links_at m p ≡ option_map (λ v. v.items) o
+links_answered m p o e = get_is_lookup _ p ∙ lookup_mapped (λ v. v.items) _ m.entries ∙ ap (option_map (λ v. v.items)) (sym e)

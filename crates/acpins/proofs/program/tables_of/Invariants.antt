@@ -1,0 +1,10 @@
+use Rattle.std.proofs.Common.{◌≡◌, take}
+use Rattle.acpins.specs.Input.{AreTablesOf}
+use Rattle.acpins.proofs.Cutting.{named}
+use Rattle.acpins.proofs.program.tables_of.Given as goal
+
+abbrev pub invariant-loop-name : goal.invariant-loop-name
+invariant-loop-name g l = record {
+  stays : g.F.Files.bytes_of l.files ≡ g.F.Files.bytes_of l.fn.files;
+  before : AreTablesOf (g.F.Files.bytes_of l.fn.files) l.request.hex (named (take l.name-index l.request.files.items)) l.tables.items;
+}

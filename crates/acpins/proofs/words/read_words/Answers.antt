@@ -1,0 +1,52 @@
+use Rattle.std.proofs.Common.{◌≡◌, ◌∙◌, ap, sym, subst, inl, inr, List, Some}
+use Rattle.std.specs.Prelude.{option_map}
+use Rattle.std.proofs.lemmas.Result.{IfOk-weaker}
+use Rattle.clap.specs.Faults.{fault_of, is_simple_and_free}
+use Rattle.clap.specs.Kinds.{IsAmong}
+use Rattle.clap.specs.Values.{kind_of}
+use Rattle.clap.specs.Matches.{found_of}
+use Rattle.clap.specs.Simple.{App, app_of, is_simple, subcommand_of}
+use Rattle.clap.specs.Walk.{Row, Text, rows_of, texts}
+use Rattle.acpins.specs.Words.{acpins_app, asked_by, asked_of}
+use Rattle.acpins.specs.declared.failure.Failure.TheVariants.{Memory, WrongWords}
+use Rattle.acpins.proofs.HexFlag.{hex_read}
+use Rattle.acpins.proofs.WordsAsked.{app_is_free, app_is_simple, faulty_words, sound_words}
+use Rattle.acpins.proofs.words.read_words.Goals as goal
+use Rattle.acpins.proofs.words.read_words.Goals.{In-Some}
+
+pub returns-in-Err-clause-wrong : goal.returns-in-Err-clause-wrong
+returns-in-Err-clause-wrong c e =
+    let words = texts c.args.words.now in
+    let app_is : app_of c.in-Ok.command ≡ acpins_app = c.in-Ok.ensures in
+    let kinds = c.in-Err.ensures.kinds (ap is_simple_and_free app_is ∙ app_is_free) in
+    elim kinds [
+      | inl memory ↦ let is : c.failure_of.result ≡ Memory = c.failure_of.ensures.memory memory in
+          let other : c.failure_of.result ≡ WrongWords = cc e in
+          absurd (cc)
+      | inr among ↦ faulty_words words _ (subst (λ (a : App). IsAmong (kind_of c.in-Err.error) (fault_of a words)) app_is among)
+    ]
+
+-- the rows of the subcommand are those of clap's account
+rows_are : (c : In-Some) → Some (rows_of (found_of c.in-Some.list.now)) ≡ option_map (λ p. p.1) (subcommand_of acpins_app (texts c.args.words.now))
+rows_are c =
+    let app_is : app_of c.in-Ok.command ≡ acpins_app = c.in-Ok.ensures in
+    let met = c.in-Ok-try_get_matches_from.ensures.matches (ap is_simple app_is ∙ app_is_simple) in
+    c.in-Some.ensures.rows
+    ∙ ap (option_map (λ (p : Text × List Row). p.1)) (met.1 ∙ ap (λ (a : App). subcommand_of a (texts c.args.words.now)) app_is)
+
+asked_are : (c : In-Some) → asked_of (texts c.args.words.now) ≡ asked_by (rows_of (found_of c.in-Some.list.now))
+asked_are c =
+    let app_is : app_of c.in-Ok.command ≡ acpins_app = c.in-Ok.ensures in
+    let none = c.in-Ok-try_get_matches_from.ensures.kinds (ap is_simple_and_free app_is ∙ app_is_free) in
+    sound_words (texts c.args.words.now) (Some (rows_of (found_of c.in-Some.list.now)))
+    (ap (λ (a : App). fault_of a (texts c.args.words.now)) (sym app_is) ∙ none) (rows_are c)
+
+pub request_of-requires : goal.request_of-requires
+request_of-requires c = hex_read (texts c.args.words.now) (rows_of (found_of c.in-Some.list.now)) (rows_are c)
+
+pub returns-clause-found : goal.returns-clause-found
+returns-clause-found c =
+    IfOk-weaker c.request_of.result _ _ (λ request h. asked_are (goal.at.returns-clause-found c).In-Some ∙ h) c.request_of.ensures.found
+
+pub returns-clause-wrong : goal.returns-clause-wrong
+returns-clause-wrong c e = asked_are (goal.at.returns-clause-wrong c).In-Some ∙ c.request_of.ensures.wrong e

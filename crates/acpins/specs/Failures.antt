@@ -1,0 +1,17 @@
+-- Why a run fails where its tables have no load (docs/COMMAND.md).
+use Rattle.std.specs.Prelude.{ℕ, ◌+◌, ◌-◌, ◌^◌, min}
+use Rattle.acpi_load.specs.declared.fault.LoadFault.{LoadFault}
+use Rattle.acpi_load.specs.declared.fault.LoadFault.TheVariants.{At, Memory}
+use Rattle.acpi_load.specs.declared.fault.LoadReason.TheVariants as reasons
+use Rattle.acpins.specs.declared.failure.Failure.{Failure}
+use Rattle.acpins.specs.declared.failure.Failure.TheVariants as failures
+
+-- a place in a code, as one in its table, which has 36 bytes before it (5.2.6)
+abbrev pub place_in_table : ℕ → ℕ
+place_in_table place = min (place + 36) (2 ^ 64 - 1)
+
+-- what a run tells of a load's refusal
+abbrev pub failure_of : LoadFault → Failure
+failure_of Memory = failures.Memory
+failure_of (At table (reasons.Item reason place)) = failures.Item table reason (place_in_table place)
+failure_of (At table reason) = failures.Load table reason

@@ -1,0 +1,67 @@
+-- What a run prints, and why it prints nothing (docs/COMMAND.md).
+use Rattle.std.specs.Prelude.{◌≡◌, ◌≢◌, ℕ, List, [], Option, Some, None}
+use Rattle.std.specs.Io.KnownBytes.{Appends}
+use Rattle.clap.specs.Walk.{Text}
+use Rattle.acpi_name.specs.Names.{Segment}
+use Rattle.acpi_load.specs.Namespace.{Namespace}
+use Rattle.acpi_load.specs.Loads.{Links, IsLoadFault}
+use Rattle.acpi_load.specs.declared.fault.LoadFault.{LoadFault}
+use Rattle.acpins.specs.declared.failure.Failure.{Failure}
+use Rattle.acpins.specs.declared.failure.Failure.TheVariants.{WrongWords, NoTable, Read, BadHex, Output, Table, Item, Load, Memory}
+use Rattle.acpins.specs.Words.{Asked, asked_of}
+use Rattle.acpins.specs.Input.{FileBytes, AreTablesOf, IsFilesFault, IsLoadOfFiles}
+use Rattle.acpins.specs.PrintedLines.{Prints}
+use Rattle.acpins.specs.Failures.{failure_of}
+
+-- ---- what is printed
+
+-- the text prints the objects and links of the tables in the files
+pub record IsListing (bytes_of : FileBytes) (asked : Asked) (text : List ℕ) : Type 0 where
+  pub objects : Namespace
+  pub links : List Segment → Option Links
+  pub loaded : IsLoadOfFiles bytes_of asked.hex asked.depth asked.files objects links
+  pub printed : Prints objects links text
+
+-- the words ask for that listing
+abbrev pub IsOutput : FileBytes → List Text → List ℕ → Type 0
+IsOutput bytes_of words text = (asked : Asked) × (asked_of words ≡ Some asked) × IsListing bytes_of asked text
+
+-- standard output gets it, whole
+abbrev pub GetsOutput : FileBytes → List Text → Option (List ℕ) → Option (List ℕ) → Type 0
+GetsOutput bytes_of words old new = (text : List ℕ) × IsOutput bytes_of words text × Appends old new text
+
+-- ---- why nothing is
+
+-- the tables in the files have no load, and the failure tells a reason
+pub record IsRefusal (bytes_of : FileBytes) (asked : Asked) (failure : Failure) : Type 0 where
+  pub tables : List (List ℕ)
+  pub of_files : AreTablesOf bytes_of asked.hex asked.files tables
+  pub fault : LoadFault
+  pub refused : IsLoadFault asked.depth tables fault
+  pub told : failure ≡ failure_of fault
+
+-- why what the words ask for can't be made: the files can't be read or cut into tables, they hold none,
+-- the tables have no load, or there is no memory
+abbrev pub IsFailureOf : FileBytes → Asked → Failure → Type 0
+IsFailureOf bytes_of asked (Read word) = IsFilesFault bytes_of asked.hex asked.files (Read word)
+IsFailureOf bytes_of asked (BadHex word) = IsFilesFault bytes_of asked.hex asked.files (BadHex word)
+IsFailureOf bytes_of asked (Table number fault) = IsFilesFault bytes_of asked.hex asked.files (Table number fault)
+IsFailureOf bytes_of asked NoTable = AreTablesOf bytes_of asked.hex asked.files []
+IsFailureOf bytes_of asked (Item number reason place) = IsRefusal bytes_of asked (Item number reason place)
+IsFailureOf bytes_of asked (Load number reason) = IsRefusal bytes_of asked (Load number reason)
+IsFailureOf bytes_of asked Memory = Unit {0}
+IsFailureOf bytes_of asked _ = ⊥
+
+-- why a run fails: the words ask for nothing; or what they ask for can't be made, or can't be written
+abbrev pub IsRunFailure : FileBytes → List Text → Failure → Type 0
+IsRunFailure bytes_of words WrongWords = asked_of words ≡ None
+IsRunFailure bytes_of words Memory = Unit {0}
+IsRunFailure bytes_of words Output = (text : List ℕ) × IsOutput bytes_of words text
+IsRunFailure bytes_of words failure = (asked : Asked) × (asked_of words ≡ Some asked) × IsFailureOf bytes_of asked failure
+
+-- a run fails so, and standard output is as it was, unless it could not be written
+pub record FailsWith (bytes_of : FileBytes) (words : List Text) (old new : Option (List ℕ)) : Type 0 where
+  pub failure : Failure
+  pub true_of : IsRunFailure bytes_of words failure
+  pub other : failure ≢ WrongWords
+  pub kept : failure ≢ Output → new ≡ old
