@@ -2,6 +2,9 @@
 //! as two compilers build it; its stack is what the tests give it.
 #![tactic(auto)]
 
+ghost use Rattle.std.specs.Prelude.{◌≡◌, IfOk};
+ghost use Rattle.acpi_terms.specs.View.{items_view};
+
 use acpi_terms::{Depth, Item, items_fit, read_items};
 use std::alloc::{AllocError, Global};
 
@@ -22,7 +25,10 @@ fn nested(alloc: Global, front: &[u8], opcode: u8, levels: u32) -> Result<Vec<u8
     Ok(code)
 }
 
-fn copied(alloc: Global, items: &[Item]) -> Result<Vec<Item>, AllocError> {
+// The same items once more.
+fn copied(alloc: Global, items: &[Item]) -> Result<Vec<Item>, AllocError>
+    ensures { IfOk result (λ copies. items_view copies.items ≡ items_view items.now) }
+{
     let mut copies = Vec::new(alloc);
     for item in items {
         copies.push(item.copy(alloc)?)?;
