@@ -6,8 +6,8 @@ use Rattle.std.specs.Option.{option_map, option_or}
 use Rattle.acpi_name.specs.Names.{Segment}
 use Rattle.acpi_name.specs.Paths.{path_cmp, path_cmp_total, path_cmp-IsAntisymmetric}
 use Rattle.acpi_space.specs.Spaces.{PathMap}
-use Rattle.acpi_terms.specs.declared.object.Object.{Object}
-use Rattle.acpi_terms.specs.Objects.{object_view}
+use Rattle.acpi_tree.specs.declared.object.Object.{Object}
+use Rattle.acpi_tree.specs.Objects.{object_view}
 use Rattle.acpi_load.specs.PassView.{one_count}
 use Rattle.acpi_load.specs.Namespace.{Namespace, namespace_of, is_same_path, only, over}
 use Rattle.acpi_load.specs.Predefined.{nothing}

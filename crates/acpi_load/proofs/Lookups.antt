@@ -7,8 +7,8 @@ use Rattle.acpi_name.specs.Names.{Segment, NameParts}
 use Rattle.acpi_name.specs.Paths.{place_of, parent_of}
 use Rattle.acpi_space.specs.Spaces.{PathMap, is_defined}
 use Rattle.acpi_space.specs.Search.{answer}
-use Rattle.acpi_terms.specs.declared.object.Object.{Object}
-use Rattle.acpi_terms.specs.Objects.{object_view}
+use Rattle.acpi_tree.specs.declared.object.Object.{Object}
+use Rattle.acpi_tree.specs.Objects.{object_view}
 use Rattle.acpi_load.specs.Namespace.{namespace_of, is_defined_in}
 use Rattle.acpi_load.specs.Placing.{if_open, opened_in, opened_path}
 

@@ -2,8 +2,8 @@
 use Rattle.std.proofs.Common.{◌≡◌, ℕ, suc, ◌+◌, List, [], ◌∷◌, ◌++◌, map, length, Option, Some, None, Result, Ok, Err, refl, sym, ap, subst, ◌∙◌, append_assoc, append-nil, length-append, arith}
 use Rattle.std.specs.Option.{option_or}
 use Rattle.acpi_name.specs.Names.{Segment, NameParts}
-use Rattle.acpi_terms.specs.Tree.{ItemTree, scope, device, processor, power, thermal, ItemTrees, no_items, item}
-use Rattle.acpi_terms.specs.Objects.{device_object, processor_object, power_object, thermal_object}
+use Rattle.acpi_tree.specs.Tree.{ItemTree, scope, device, processor, power, thermal, ItemTrees, no_items, item}
+use Rattle.acpi_tree.specs.Objects.{device_object, processor_object, power_object, thermal_object}
 use Rattle.acpi_load.specs.Namespace.{Namespace, over}
 use Rattle.acpi_load.specs.Sites.{opens, plainly, Step, step, own_steps, Site, site_in, item_sites, items_sites}
 use Rattle.acpi_load.specs.Placing.{RefusedAt, opened_path, placed_path}

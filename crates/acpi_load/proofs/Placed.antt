@@ -4,7 +4,7 @@ use Rattle.std.specs.Prelude.{find, option_to_list}
 use Rattle.acpi_name.specs.Names.{Segment, NameParts, plain_segment, only_segment}
 use Rattle.acpi_name.specs.Paths.{place_of, parent_of}
 use Rattle.acpi_space.specs.Search.{answer, tries_of}
-use Rattle.acpi_terms.specs.Objects.{ObjectTree, opens_scope}
+use Rattle.acpi_tree.specs.Objects.{ObjectTree, opens_scope}
 use Rattle.acpi_load.specs.declared.fault.Refusal.TheVariants.{NotAScope, Taken}
 use Rattle.acpi_load.specs.Namespace.{Namespace, is_defined_in, IsOpen}
 use Rattle.acpi_load.specs.Sites.{Deed, declares, opens, expects}

@@ -1,7 +1,7 @@
 -- One step of the pass, from what its parts give.
 use Rattle.std.proofs.Common.{◌≡◌, ◌≢◌, ℕ, List, [], ◌∷◌, ◌++◌, append-nil, Bool, true, false, cond, Option, Some, None, Ok, ◌⊎◌, inl, inr, refl, sym, ap, ◌∙◌}
 use Rattle.acpi_name.specs.Names.{Segment, NameParts}
-use Rattle.acpi_terms.specs.Objects.{ObjectTree}
+use Rattle.acpi_tree.specs.Objects.{ObjectTree}
 use Rattle.acpi_load.specs.Namespace.{Namespace, only, over}
 use Rattle.acpi_name.specs.Paths.{place_of}
 use Rattle.acpi_load.specs.Sites.{step, plainly, declares, expects}

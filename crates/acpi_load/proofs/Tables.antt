@@ -1,6 +1,6 @@
 -- From the pass over the items of a table to its listing.
 use Rattle.std.proofs.Common.{◌≡◌, ℕ, List, [], ◌∷◌, ◌++◌, None, Ok, Err, refl, sym, ap, subst, ◌∙◌, append_assoc, append-nil}
-use Rattle.acpi_terms.specs.Tree.{ItemTrees}
+use Rattle.acpi_tree.specs.Tree.{ItemTrees}
 use Rattle.acpi_load.specs.Namespace.{Namespace, over}
 use Rattle.acpi_load.specs.Sites.{sites}
 use Rattle.acpi_load.specs.Placing.{RefusedAt, placed_path}

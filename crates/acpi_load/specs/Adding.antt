@@ -1,10 +1,10 @@
 -- A load after some of its tables, and after one more.
 use Rattle.std.specs.Prelude.{◌≡◌, ℕ, List, [], ◌∷◌, ◌++◌, map, Option}
 use Rattle.acpi_name.specs.Names.{Segment}
-use Rattle.acpi_terms.specs.Tree.{ItemTrees}
+use Rattle.acpi_tree.specs.Tree.{ItemTrees}
 use Rattle.std.specs.FinMap.{get}
 use Rattle.acpi_space.specs.Spaces.{PathMap}
-use Rattle.acpi_terms.specs.declared.object.Object.{Object}
+use Rattle.acpi_tree.specs.declared.object.Object.{Object}
 use Rattle.acpi_load.specs.declared.pass.PendingLink.{PendingLink}
 use Rattle.acpi_load.specs.PassView.{waiting_of}
 use Rattle.acpi_load.specs.Namespace.{Namespace, namespace_of, over}

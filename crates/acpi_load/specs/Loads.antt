@@ -3,7 +3,7 @@ use Rattle.std.specs.Prelude.{◌≡◌, ◌≢◌, ℕ, zero, suc, ◌≤◌, �
 use Rattle.acpi_name.specs.Names.{Segment, NameParts}
 use Rattle.acpi_space.specs.Search.{answer}
 use Rattle.acpi_table.specs.Tables.{table_at}
-use Rattle.acpi_terms.specs.Tree.{ItemTrees}
+use Rattle.acpi_tree.specs.Tree.{ItemTrees}
 use Rattle.acpi_terms.specs.Spelling.{SpellsItems, items_height}
 use Rattle.acpi_terms.specs.Faults.{Shows}
 use Rattle.acpi_load.specs.declared.fault.LoadReason.{LoadReason}

@@ -6,8 +6,8 @@ use Rattle.std.specs.FinMap.{get}
 use Rattle.acpi_name.specs.Names.{Segment}
 use Rattle.acpi_name.specs.Paths.{path_cmp}
 use Rattle.acpi_space.specs.Spaces.{PathMap}
-use Rattle.acpi_terms.specs.Objects.{ObjectTree, object_view, opens_scope}
-use Rattle.acpi_terms.specs.declared.object.Object.{Object}
+use Rattle.acpi_tree.specs.Objects.{ObjectTree, object_view, opens_scope}
+use Rattle.acpi_tree.specs.declared.object.Object.{Object}
 
 abbrev pub Namespace : Type 0
 Namespace = List Segment → Option ObjectTree

@@ -2,8 +2,8 @@
 use Rattle.std.specs.Prelude.{ℕ, cond, List, [], ◌∷◌, ◌++◌, Option, Some, None, Result, Ok, Err}
 use Rattle.acpi_name.specs.Names.{Segment, NameParts}
 use Rattle.acpi_name.specs.Paths.{place_of}
-use Rattle.acpi_terms.specs.Tree.{ItemTree, scope, device, processor, power, thermal, ItemTrees, no_items, item}
-use Rattle.acpi_terms.specs.Objects.{device_object, processor_object, power_object, thermal_object}
+use Rattle.acpi_tree.specs.Tree.{ItemTree, scope, device, processor, power, thermal, ItemTrees, no_items, item}
+use Rattle.acpi_tree.specs.Objects.{device_object, processor_object, power_object, thermal_object}
 use Rattle.acpi_load.specs.Namespace.{Namespace, is_same_path, over}
 use Rattle.acpi_load.specs.Sites.{Deed, declares, opens, expects, plainly, Step, step, own_steps}
 use Rattle.acpi_load.specs.Placing.{RefusedAt, opened_path, placed_path}

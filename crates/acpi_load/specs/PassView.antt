@@ -3,7 +3,7 @@ use Rattle.std.specs.Prelude.{ℕ, cond, List, map, Option, Some, None}
 use Rattle.std.specs.FinMap.{get}
 use Rattle.acpi_name.specs.Names.{Segment, NameParts}
 use Rattle.acpi_space.specs.Spaces.{PathMap}
-use Rattle.acpi_terms.specs.declared.object.Object.{Object}
+use Rattle.acpi_tree.specs.declared.object.Object.{Object}
 use Rattle.acpi_load.specs.declared.pass.PendingLink.{PendingLink}
 use Rattle.acpi_load.specs.Namespace.{namespace_of, is_same_path}
 use Rattle.acpi_load.specs.Pass.{Waiting, Pass}

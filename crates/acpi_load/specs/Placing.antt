@@ -3,7 +3,7 @@ use Rattle.std.specs.Prelude.{◌≡◌, ◌≢◌, cond, List, [], ◌∷◌, O
 use Rattle.acpi_name.specs.Names.{Segment, NameParts}
 use Rattle.acpi_name.specs.Paths.{place_of, parent_of}
 use Rattle.acpi_space.specs.Search.{answer}
-use Rattle.acpi_terms.specs.Objects.{ObjectTree, opens_scope}
+use Rattle.acpi_tree.specs.Objects.{ObjectTree, opens_scope}
 use Rattle.acpi_load.specs.declared.fault.Refusal.{Refusal}
 use Rattle.acpi_load.specs.declared.fault.Refusal.TheVariants.{EmptyName, AboveRoot, Missing, NoParent, NotAScope, Taken}
 use Rattle.acpi_load.specs.Namespace.{Namespace, is_defined_in, IsOpen}

@@ -1,7 +1,7 @@
 -- What the namespace holds before any table (ACPI 6.5, 5.3.1 and 5.7).
 use Rattle.std.specs.Prelude.{List, [], ◌∷◌, Option, None}
 use Rattle.acpi_name.specs.Names.{Segment}
-use Rattle.acpi_terms.specs.Objects.{ObjectTree, root_object, scope_object, predefined_object, mutex_object, method_object}
+use Rattle.acpi_tree.specs.Objects.{ObjectTree, root_object, scope_object, predefined_object, mutex_object, method_object}
 use Rattle.acpi_load.specs.Namespace.{Namespace, only, over}
 
 abbrev pub nothing : {V : Type 0} → List Segment → Option V

@@ -1,10 +1,10 @@
 -- The sites of an item tree, in byte order: what its terms declare, open and say of other tables (ACPI 6.5, 20.2.5).
 use Rattle.std.specs.Prelude.{ℕ, suc, ◌+◌, ◌==◌, cond, Bool, true, false, List, [], ◌∷◌, ◌++◌, length, map, Option, Some, None}
 use Rattle.acpi_name.specs.Names.{Segment, NameParts}
-use Rattle.acpi_terms.specs.declared.object.FieldForm.{FieldForm}
-use Rattle.acpi_terms.specs.Tree.{FieldTree, unit, ExternalParts, ItemTree, name, scope, method, external, external_block, create, create_field, mutex, event, region, field, index_field, bank_field, device, processor, power, thermal, ItemTrees, no_items, item}
-use Rattle.acpi_terms.specs.Offsets.{element_bits}
-use Rattle.acpi_terms.specs.Objects.{ObjectTree, device_object, processor_object, power_object, thermal_object, name_object, method_object, region_object, mutex_object, event_object, field_object, create_object, create_field_object}
+use Rattle.acpi_tree.specs.declared.object.FieldForm.{FieldForm}
+use Rattle.acpi_tree.specs.Tree.{FieldTree, unit, ExternalParts, ItemTree, name, scope, method, external, external_block, create, create_field, mutex, event, region, field, index_field, bank_field, device, processor, power, thermal, ItemTrees, no_items, item}
+use Rattle.acpi_tree.specs.Offsets.{element_bits}
+use Rattle.acpi_tree.specs.Objects.{ObjectTree, device_object, processor_object, power_object, thermal_object, name_object, method_object, region_object, mutex_object, event_object, field_object, create_object, create_field_object}
 
 -- What a term does with a name: it declares an object, whose links search some names and, of a method, whose
 -- code is read later; it opens a scope; or it says how many arguments a method of another table takes.

@@ -2,8 +2,8 @@
 
 ghost use Rattle.std.specs.Prelude.{◌≡◌, ◌≢◌, ◌∷◌, [], ◌++◌, ◌≤◌, ℕ, List, map, IsTrue, ◌↔◌, IfOk, IfErr, length};
 ghost use Rattle.std.specs.FinMap.{get};
-ghost use Rattle.acpi_terms.specs.Offsets.{OffsetsFit};
-ghost use Rattle.acpi_terms.specs.View.{items_tree};
+ghost use Rattle.acpi_tree.specs.Offsets.{OffsetsFit};
+ghost use Rattle.acpi_tree.specs.View.{items_tree};
 ghost use Rattle.acpi_load.specs.Namespace.{Namespace, namespace_of};
 ghost use Rattle.acpi_load.specs.Loads.{signature_of, HasOtherSignature, IsRefusedAs, IsTableOf, IsCodeOf, IsTableFault, IsLoad, IsLoadFault, HasNoLoad};
 ghost use Rattle.acpi_load.specs.Links.{links_at};

@@ -2,9 +2,9 @@
 
 ghost use Rattle.std.specs.Prelude.{IsTrue, ◌≡◌, ◌≢◌, None, ◌∷◌, [], ◌++◌, ◌+◌, ◌<◌, ◌^◌, map, IfOk, IfErr, OnOk, Ok};
 ghost use Rattle.std.specs.FinMap.{get};
-ghost use Rattle.acpi_terms.specs.Objects.{object_view};
-ghost use Rattle.acpi_terms.specs.Offsets.{element_bits, list_bits, OffsetFits, OffsetsFit};
-ghost use Rattle.acpi_terms.specs.View.{item_view, items_tree, external_view, externals_view, field_view, fields_view};
+ghost use Rattle.acpi_tree.specs.Objects.{object_view};
+ghost use Rattle.acpi_tree.specs.Offsets.{element_bits, list_bits, OffsetFits, OffsetsFit};
+ghost use Rattle.acpi_tree.specs.View.{item_view, items_tree, external_view, externals_view, field_view, fields_view};
 ghost use Rattle.acpi_load.specs.Namespace.{namespace_of, over, only};
 ghost use Rattle.acpi_load.specs.Sites.{step, plainly, declares, opens, is_leaf, own_steps, external_step, external_steps, unit_step, unit_name, unit_steps};
 ghost use Rattle.acpi_load.specs.Placing.{declared_path};

@@ -2,7 +2,7 @@
 
 ghost use Rattle.std.specs.Prelude.{◌≡◌, [], ◌∷◌, IfOk, IfErr, OnOk, IsTrue};
 ghost use Rattle.acpi_name.specs.Names.{is_segment};
-ghost use Rattle.acpi_terms.specs.Objects.{object_view};
+ghost use Rattle.acpi_tree.specs.Objects.{object_view};
 ghost use Rattle.acpi_load.specs.Namespace.{namespace_of, only, over};
 ghost use Rattle.acpi_load.specs.Predefined.{predefined};
 

@@ -9,10 +9,10 @@ use Rattle.acpi_name.proofs.NameAgain.{name_long}
 use Rattle.acpi_terms.specs.declared.lead.Lead.{Lead}
 use Rattle.acpi_terms.specs.declared.lead.Lead.TheVariants as leads
 use Rattle.acpi_terms.specs.declared.lead.IntForm.TheVariants as forms
-use Rattle.acpi_terms.specs.declared.tree.Int.{Int}
-use Rattle.acpi_terms.specs.declared.tree.Int.TheVariants.{Zero, One, Ones, Revision, Byte, Word, DWord, QWord}
+use Rattle.acpi_tree.specs.declared.tree.Int.{Int}
+use Rattle.acpi_tree.specs.declared.tree.Int.TheVariants.{Zero, One, Ones, Revision, Byte, Word, DWord, QWord}
 use Rattle.acpi_terms.specs.Rows.{is_name_lead}
-use Rattle.acpi_terms.specs.Tree.{DataTree, int, str, buffer, pkg, var_pkg, ElemTree, of_data, of_name, ElemTrees, no_elems, elem, elems_of}
+use Rattle.acpi_tree.specs.Tree.{DataTree, int, str, buffer, pkg, var_pkg, ElemTree, of_data, of_name, ElemTrees, no_elems, elem, elems_of}
 use Rattle.acpi_terms.specs.Reading.{Fault, lead_at, is_text, string_at, byte_at, bytes_in, data_by, elems_with, elem_at, data_at, byte_leaf, int_leaf}
 use Rattle.acpi_terms.specs.Spelling.{IsText, SpellsInt, SpellsTermName, SpellsData, SpellsElem, SpellsElems, data_height, elem_height, elems_height}
 use Rattle.acpi_terms.proofs.Opens.{opens, opens_name}

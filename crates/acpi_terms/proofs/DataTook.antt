@@ -7,7 +7,7 @@ use Rattle.std.specs.List.{AllByRecursion, prefix_len}
 use Rattle.acpi_name.proofs.NameAgain.{and_true}
 use Rattle.acpi_terms.specs.declared.lead.Lead.{Lead}
 use Rattle.acpi_terms.specs.declared.lead.Lead.TheVariants as leads
-use Rattle.acpi_terms.specs.Tree.{DataTree, int, str, buffer, pkg, var_pkg, ElemTree, of_data, of_name, ElemTrees, elems_of}
+use Rattle.acpi_tree.specs.Tree.{DataTree, int, str, buffer, pkg, var_pkg, ElemTree, of_data, of_name, ElemTrees, elems_of}
 use Rattle.acpi_terms.specs.Reading.{byte_at, lead_at, name_in, is_text, string_end, string_at, constant_at, string_data, bytes_in, buffer_data, package_data, var_package_data, data_by, elem_by, elems_with, elem_at, data_at, each_at, byte_leaf, int_leaf}
 use Rattle.acpi_terms.specs.Spelling.{IsText, SpellsInt, SpellsTermName, SpellsEach, SpellsData, SpellsElem, SpellsElems, data_height, elem_height, elems_height}
 use Rattle.acpi_terms.proofs.DataAgain.{elem_long}

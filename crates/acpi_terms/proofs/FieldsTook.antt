@@ -1,7 +1,7 @@
 -- Field elements that are read are spelled so, or the fault shows why not.
 use Rattle.std.proofs.Common.{◌≡◌, ℕ, eqb, List, [], ◌∷◌, refl, ◌∙◌, inl}
 use Rattle.std.proofs.lemmas.Bool.{eqb-true}
-use Rattle.acpi_terms.specs.Tree.{FieldTree, unit, reserved, access, connect_name, connect_buffer, extended}
+use Rattle.acpi_tree.specs.Tree.{FieldTree, unit, reserved, access, connect_name, connect_buffer, extended}
 use Rattle.acpi_terms.specs.Reading.{byte_at, bytes_in, connect_at, field_at, fields_in, name_leaf, seg_leaf, byte_leaf, bits_leaf, const_leaf}
 use Rattle.acpi_terms.specs.Spelling.{SpellsField, SpellsFields}
 use Rattle.acpi_terms.proofs.FieldsAgain.{field_long}

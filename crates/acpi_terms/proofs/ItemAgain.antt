@@ -3,10 +3,10 @@ use Rattle.std.proofs.Common.{◌≡◌, ℕ, zero, suc, ◌-◌, ◌≤◌, ◌
 use Rattle.acpi_name.specs.Names.{NameParts}
 use Rattle.acpi_terms.specs.declared.lead.Lead.{Lead}
 use Rattle.acpi_terms.specs.declared.lead.Lead.TheVariants as leads
-use Rattle.acpi_terms.specs.declared.tree.Int.{Int}
-use Rattle.acpi_terms.specs.declared.tree.Width.{Width}
-use Rattle.acpi_terms.specs.declared.tree.Width.TheVariants as widths
-use Rattle.acpi_terms.specs.Tree.{DataTree, ExternalParts, ItemTree, name, scope, method, external, external_block, create, create_field, mutex, event, region, field, index_field, bank_field, device, processor, power, thermal, ItemTrees, no_items, item, items_of}
+use Rattle.acpi_tree.specs.declared.tree.Int.{Int}
+use Rattle.acpi_tree.specs.declared.tree.Width.{Width}
+use Rattle.acpi_tree.specs.declared.tree.Width.TheVariants as widths
+use Rattle.acpi_tree.specs.Tree.{DataTree, ExternalParts, ItemTree, name, scope, method, external, external_block, create, create_field, mutex, event, region, field, index_field, bank_field, device, processor, power, thermal, ItemTrees, no_items, item, items_of}
 use Rattle.acpi_terms.specs.Reading.{Fault, byte_at, fields_in, bytes_in, Leaf, name_leaf, source_leaf, byte_leaf, word_leaf, dword_leaf, int_leaf, Values, plain_at, packed_at, external_leaves, external_parts, parts_at, external_at, block_content, item_by, items_with, item_at, items_at}
 use Rattle.acpi_terms.specs.Spelling.{SpellsValues, SpellsPlain, SpellsPacked, SpellsEach, SpellsFields, SpellsExternal, SpellsItem, SpellsItems, width_opcode, data_height, block_height, item_height, items_height}
 use Rattle.acpi_terms.proofs.Opens.{opcode, some_bytes, opens}

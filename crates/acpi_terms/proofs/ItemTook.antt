@@ -7,9 +7,9 @@ use Rattle.acpi_terms.specs.declared.fault.ItemReason.{ItemReason}
 use Rattle.acpi_terms.specs.declared.fault.ItemReason.TheVariants.{BadOpcode, Alias, ModuleIf, ModuleCode, Load, TooDeep, DataRegion}
 use Rattle.acpi_terms.specs.declared.lead.Lead.{Lead}
 use Rattle.acpi_terms.specs.declared.lead.Lead.TheVariants as leads
-use Rattle.acpi_terms.specs.declared.tree.Width.{Width}
-use Rattle.acpi_terms.specs.declared.tree.Width.TheVariants as widths
-use Rattle.acpi_terms.specs.Tree.{ExternalParts, ItemTree, scope, method, external, external_block, create, create_field, mutex, event, region, field, index_field, bank_field, device, processor, power, thermal, ItemTrees, items_of}
+use Rattle.acpi_tree.specs.declared.tree.Width.{Width}
+use Rattle.acpi_tree.specs.declared.tree.Width.TheVariants as widths
+use Rattle.acpi_tree.specs.Tree.{ExternalParts, ItemTree, scope, method, external, external_block, create, create_field, mutex, event, region, field, index_field, bank_field, device, processor, power, thermal, ItemTrees, items_of}
 use Rattle.acpi_terms.specs.Reading.{◌>>=◌, Fault, fault_at, byte_at, lead_at, name_in, Package, package_at, data_at, fields_in, bytes_in, Leaf, name_leaf, source_leaf, byte_leaf, word_leaf, dword_leaf, int_leaf, Values, external_leaves, external_parts, parts_at, external_by, external_at, block_content, block_fault, in_block, name_item, block_item, item_by, items_with, item_at, items_at, each_with, each_at, plain_at, packed_at, create_item}
 use Rattle.acpi_terms.specs.Spelling.{SpellsValues, SpellsPlain, SpellsEach, Packs, SpellsFields, SpellsExternal, SpellsItem, SpellsItems, width_opcode, block_height, item_height, items_height}
 use Rattle.acpi_terms.specs.Faults.{Shows}

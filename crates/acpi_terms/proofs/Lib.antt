@@ -15,7 +15,6 @@ pub mod Fitting
 pub mod Ranges
 pub mod Each
 pub mod Opened
-pub mod Alike
 pub mod ReadItems
 pub mod ReadParts
 pub mod ShortOffsets

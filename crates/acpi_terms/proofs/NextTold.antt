@@ -5,7 +5,7 @@ use Rattle.acpi_terms.specs.declared.fault.ItemReason.{ItemReason}
 use Rattle.acpi_terms.specs.declared.lead.Lead.{Lead}
 use Rattle.acpi_terms.specs.declared.lead.Lead.TheVariants as leads
 use Rattle.acpi_terms.specs.Rows.{plain_lead_of, extended_lead_of}
-use Rattle.acpi_terms.specs.Tree.{ItemTree, ItemTrees, no_items, item}
+use Rattle.acpi_tree.specs.Tree.{ItemTree, ItemTrees, no_items, item}
 use Rattle.acpi_terms.specs.Reading.{Reading, Fault, fault_at, byte_at, extended_lead_at, lead_at, item_by, items_with, item_at, items_at}
 use Rattle.acpi_terms.specs.Spelling.{SpellsItems, items_height}
 use Rattle.acpi_terms.specs.Faults.{extended_lead, lead_of, refusal, Refused}

@@ -4,8 +4,8 @@ use Rattle.acpi_name.proofs.NameAgain.{neq}
 use Rattle.acpi_terms.specs.declared.lead.Lead.{Lead}
 use Rattle.acpi_terms.specs.declared.lead.Lead.TheVariants as leads
 use Rattle.acpi_terms.specs.declared.lead.IntForm.TheVariants as forms
-use Rattle.acpi_terms.specs.declared.tree.Width.{Width}
-use Rattle.acpi_terms.specs.declared.tree.Width.TheVariants as widths
+use Rattle.acpi_tree.specs.declared.tree.Width.{Width}
+use Rattle.acpi_tree.specs.declared.tree.Width.TheVariants as widths
 use Rattle.acpi_terms.specs.Rows.{is_name_start}
 use Rattle.acpi_terms.specs.Reading.{byte_at, lead_at}
 use Rattle.acpi_terms.specs.Spelling.{width_opcode}

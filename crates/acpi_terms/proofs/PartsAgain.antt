@@ -8,8 +8,8 @@ use Rattle.acpi_name.specs.Spelling.{SpellsName}
 use Rattle.acpi_name.proofs.NameAgain.{name_again, name_long, segment_again}
 use Rattle.acpi_table.specs.PkgLength.{SpellsPkgLength}
 use Rattle.acpi_table.proofs.PkgLengths.{pkg_length_again}
-use Rattle.acpi_terms.specs.declared.tree.Int.{Int}
-use Rattle.acpi_terms.specs.declared.tree.Int.TheVariants.{Zero, One, Ones, Revision, Byte, Word, DWord, QWord}
+use Rattle.acpi_tree.specs.declared.tree.Int.{Int}
+use Rattle.acpi_tree.specs.declared.tree.Int.TheVariants.{Zero, One, Ones, Revision, Byte, Word, DWord, QWord}
 use Rattle.acpi_terms.specs.Reading.{Fault, byte_at, number_at, length_in, package_of, package_at, name_in, seg_in, args_in, lead_at, const_at, int_at, source_at, Leaf, name_leaf, source_leaf, seg_leaf, byte_leaf, word_leaf, dword_leaf, args_leaf, bits_leaf, const_leaf, int_leaf, Value, Values, leaf_at, leaves_at, plain_at, packed_at}
 use Rattle.acpi_terms.specs.Spelling.{SpellsNumber, SpellsInt, SpellsTermName, SpellsLeaf, SpellsValues}
 use Rattle.acpi_terms.proofs.Opens.{opens_name}

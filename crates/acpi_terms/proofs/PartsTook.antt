@@ -22,8 +22,8 @@ use Rattle.acpi_terms.specs.declared.lead.Lead.{Lead}
 use Rattle.acpi_terms.specs.declared.lead.Lead.TheVariants as leads
 use Rattle.acpi_terms.specs.declared.lead.IntForm.{IntForm}
 use Rattle.acpi_terms.specs.declared.lead.IntForm.TheVariants as forms
-use Rattle.acpi_terms.specs.declared.tree.Int.{Int}
-use Rattle.acpi_terms.specs.declared.tree.Int.TheVariants.{Zero, One, Ones, Revision, Byte, Word, DWord, QWord}
+use Rattle.acpi_tree.specs.declared.tree.Int.{Int}
+use Rattle.acpi_tree.specs.declared.tree.Int.TheVariants.{Zero, One, Ones, Revision, Byte, Word, DWord, QWord}
 use Rattle.acpi_terms.specs.Rows.{is_name_start}
 use Rattle.acpi_terms.specs.Reading.{Reading, Fault, byte_at, number_at, or_length_fault, length_in, Package, package_at, or_name_fault, name_in, seg_in, args_in, lead_at, constant_at, const_by, const_at, int_at, source_by, source_at, Leaf, name_leaf, source_leaf, seg_leaf, byte_leaf, word_leaf, dword_leaf, args_leaf, bits_leaf, const_leaf, int_leaf, Value, Values, leaf_at, leaves_at, plain_at, packed_at}
 use Rattle.acpi_terms.specs.Spelling.{SpellsNumber, SpellsInt, SpellsTermName, SpellsLeaf, SpellsValues, SpellsPlain, Packs}

@@ -4,12 +4,12 @@ use Rattle.std.specs.Prelude.{IfOk, IfErr}
 use Rattle.acpi_terms.specs.declared.fault.ItemReason.{ItemReason}
 use Rattle.acpi_terms.specs.declared.fault.ItemFault.{ItemFault}
 use Rattle.acpi_terms.specs.declared.fault.ItemFault.TheVariants as errors
-use Rattle.acpi_terms.specs.Tree.{ItemTrees}
+use Rattle.acpi_tree.specs.Tree.{ItemTrees}
 use Rattle.acpi_terms.specs.Reading.{Fault, Gives, items_at}
 use Rattle.acpi_terms.specs.Spelling.{SpellsItems, items_height}
 use Rattle.acpi_terms.specs.Faults.{Shows, Told, Refused}
-use Rattle.acpi_terms.specs.Fits.{items_fit}
-use Rattle.acpi_terms.specs.Offsets.{OffsetsFit}
+use Rattle.acpi_tree.specs.Fits.{items_fit}
+use Rattle.acpi_tree.specs.Offsets.{OffsetsFit}
 use Rattle.acpi_terms.proofs.ItemAgain.{code_again}
 use Rattle.acpi_terms.proofs.ItemTook.{code_judged}
 use Rattle.acpi_terms.proofs.Judged.{Judge}

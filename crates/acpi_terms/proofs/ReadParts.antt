@@ -5,8 +5,8 @@ use Rattle.std.proofs.Math.Seq.{take-append_seam}
 use Rattle.std.specs.Prelude.{IfOk, IfErr, IfSome, option_map}
 use Rattle.acpi_terms.specs.declared.fault.ItemFault.{ItemFault}
 use Rattle.acpi_terms.specs.declared.fault.ItemFault.TheVariants as errors
-use Rattle.acpi_terms.specs.declared.tree.Int.{Int}
-use Rattle.acpi_terms.specs.Tree.{FieldTree}
+use Rattle.acpi_tree.specs.declared.tree.Int.{Int}
+use Rattle.acpi_tree.specs.Tree.{FieldTree}
 use Rattle.acpi_terms.specs.Reading.{Fault, Gives, OrMemory, found, const_at, field_at, int_front}
 use Rattle.acpi_terms.specs.Spelling.{SpellsInt, SpellsField}
 use Rattle.acpi_terms.specs.Faults.{Told}

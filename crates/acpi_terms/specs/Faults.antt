@@ -10,7 +10,7 @@ use Rattle.acpi_terms.specs.declared.fault.ItemFault.TheVariants as errors
 use Rattle.acpi_terms.specs.declared.lead.Lead.{Lead}
 use Rattle.acpi_terms.specs.declared.lead.Lead.TheVariants as leads
 use Rattle.acpi_terms.specs.Rows.{plain_lead_of, extended_lead_of}
-use Rattle.acpi_terms.specs.Tree.{ExternalParts}
+use Rattle.acpi_tree.specs.Tree.{ExternalParts}
 use Rattle.acpi_terms.specs.Spelling.{SpellsEach, SpellsExternal}
 
 -- ---- what stands at a place

@@ -1,11 +1,4 @@
-pub mod Tree
-pub mod View
 pub mod Rows
 pub mod Reading
 pub mod Spelling
 pub mod Faults
-pub mod Objects
-pub mod Equal
-pub mod Equals
-pub mod Fits
-pub mod Offsets

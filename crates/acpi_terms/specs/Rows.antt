@@ -4,8 +4,8 @@ use Rattle.acpi_name.specs.Names.{is_lead_char}
 use Rattle.acpi_terms.specs.declared.lead.Lead.{Lead}
 use Rattle.acpi_terms.specs.declared.lead.Lead.TheVariants as leads
 use Rattle.acpi_terms.specs.declared.lead.IntForm.TheVariants as forms
-use Rattle.acpi_terms.specs.declared.tree.Width.TheVariants as widths
-use Rattle.acpi_terms.specs.declared.op.Op.TheVariants as ops
+use Rattle.acpi_tree.specs.declared.tree.Width.TheVariants as widths
+use Rattle.acpi_tree.specs.declared.op.Op.TheVariants as ops
 
 -- an opcode, and what begins with it
 abbrev pub Opening : Type 0

@@ -6,13 +6,13 @@ use Rattle.byteorder.specs.Endian.{little_number}
 use Rattle.acpi_name.specs.Names.{NameParts, is_segment}
 use Rattle.acpi_name.specs.Spelling.{SpellsName}
 use Rattle.acpi_table.specs.PkgLength.{SpellsPkgLength}
-use Rattle.acpi_terms.specs.declared.tree.Int.{Int}
-use Rattle.acpi_terms.specs.declared.tree.Int.TheVariants.{Zero, One, Ones, Revision, Byte, Word, DWord, QWord}
-use Rattle.acpi_terms.specs.declared.tree.Width.{Width}
-use Rattle.acpi_terms.specs.declared.tree.Width.TheVariants as widths
+use Rattle.acpi_tree.specs.declared.tree.Int.{Int}
+use Rattle.acpi_tree.specs.declared.tree.Int.TheVariants.{Zero, One, Ones, Revision, Byte, Word, DWord, QWord}
+use Rattle.acpi_tree.specs.declared.tree.Width.{Width}
+use Rattle.acpi_tree.specs.declared.tree.Width.TheVariants as widths
 use Rattle.acpi_terms.specs.Rows.{is_name_start}
 use Rattle.acpi_terms.specs.Reading.{Leaf, name_leaf, source_leaf, seg_leaf, byte_leaf, word_leaf, dword_leaf, args_leaf, bits_leaf, const_leaf, int_leaf, Value, Values, external_leaves}
-use Rattle.acpi_terms.specs.Tree.{DataTree, int, str, buffer, pkg, var_pkg, ElemTree, of_data, of_name, ElemTrees, no_elems, elem, FieldTree, unit, reserved, access, connect_name, connect_buffer, extended, ExternalParts, ItemTree, name, scope, method, external, external_block, create, create_field, mutex, event, region, field, index_field, bank_field, device, processor, power, thermal, ItemTrees, no_items, item}
+use Rattle.acpi_tree.specs.Tree.{DataTree, int, str, buffer, pkg, var_pkg, ElemTree, of_data, of_name, ElemTrees, no_elems, elem, FieldTree, unit, reserved, access, connect_name, connect_buffer, extended, ExternalParts, ItemTree, name, scope, method, external, external_block, create, create_field, mutex, event, region, field, index_field, bank_field, device, processor, power, thermal, ItemTrees, no_items, item}
 
 -- ---- numbers, constants, names
 

@@ -2,14 +2,14 @@
 
 ghost use Rattle.std.specs.Prelude.{◌≡◌, ◌<◌, ◌≤◌, length, IfOk};
 ghost use Rattle.std.specs.List.{slice_range};
-ghost use Rattle.acpi_terms.specs.View.{item_view, external_view, externals_view};
+ghost use Rattle.acpi_tree.specs.View.{item_view, external_view, externals_view};
 ghost use Rattle.acpi_terms.specs.Reading.{Gives, fault_at, each_at, external_at, block_content, block_answer, block_item};
 
 use crate::fault::{ItemFault, ItemReason};
 use crate::forms::external;
 use crate::lead::{Lead, read_lead};
 use crate::reading::{byte, package, stop, too_deep};
-use crate::tree::{External, Item};
+use acpi_tree::{External, Item};
 use std::alloc::Global;
 
 #[tactic(auto, unfolding(crate::specs::Reading::external_at))]

@@ -8,7 +8,7 @@ ghost use Rattle.acpi_terms.specs.Reading.{Gives, IsAtPlace, constant_at, const_
 use crate::fault::{ItemFault, ItemReason};
 use crate::lead::{IntForm, Lead, read_lead};
 use crate::reading::{byte, dword, name, qword, stop, too_deep, word};
-use crate::tree::Int;
+use acpi_tree::Int;
 use acpi_name::NameRef;
 
 /// The constant whose opcode stands before `at`.

@@ -2,15 +2,15 @@
 
 ghost use Rattle.std.specs.Prelude.{◌≡◌, ◌<◌, ◌≤◌, ◌+◌, ◌-◌, length, IfOk, take};
 ghost use Rattle.std.specs.List.{slice_range, take_while};
-ghost use Rattle.acpi_terms.specs.Tree.{elems_of};
-ghost use Rattle.acpi_terms.specs.View.{data_view, elem_view, elems_view};
+ghost use Rattle.acpi_tree.specs.Tree.{elems_of};
+ghost use Rattle.acpi_tree.specs.View.{data_view, elem_view, elems_view};
 ghost use Rattle.acpi_terms.specs.Reading.{Gives, name_elem_at, is_text, string_at, int_data, string_data, buffer_data, package_data, var_package_data, data_by, data_elem_of, elem_at, elems_with, data_at};
 
 use crate::constants::{constant_of, int};
 use crate::fault::{ItemFault, ItemReason};
 use crate::lead::{IntForm, Lead, is_name, read_lead};
 use crate::reading::{byte, name, package, stop, too_deep};
-use crate::tree::{Data, Elem};
+use acpi_tree::{Data, Elem};
 use std::alloc::Global;
 
 fn text_len(bytes: &[u8]) -> usize

@@ -2,13 +2,13 @@
 
 ghost use Rattle.std.specs.Prelude.{◌≡◌, ◌<◌, ◌≤◌, length, IfOk};
 ghost use Rattle.std.specs.List.{slice_range};
-ghost use Rattle.acpi_terms.specs.View.{field_view, fields_view};
+ghost use Rattle.acpi_tree.specs.View.{field_view, fields_view};
 ghost use Rattle.acpi_terms.specs.Reading.{Gives, connect_buffer_at, connect_name_at, connect_at, unit_at, reserved_at, access_at, extended_at, field_at, fields_in};
 
 use crate::constants::constant;
 use crate::fault::ItemFault;
 use crate::reading::{byte, name, package, pkg_length, segment};
-use crate::tree::FieldElem;
+use acpi_tree::FieldElem;
 use std::alloc::Global;
 
 fn connect_buffer(

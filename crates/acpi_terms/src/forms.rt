@@ -2,7 +2,7 @@
 
 ghost use Rattle.std.specs.Prelude.{◌≡◌, ◌<◌, ◌≤◌, length, IfOk};
 ghost use Rattle.std.specs.List.{slice_range};
-ghost use Rattle.acpi_terms.specs.View.{item_view, external_view};
+ghost use Rattle.acpi_tree.specs.View.{item_view, external_view};
 ghost use Rattle.acpi_terms.specs.Reading.{Gives, name_item, method_item, parts_at, external_item, create_item, create_field_item, mutex_item, event_item, region_item, field_item, index_field_item, bank_field_item};
 
 use crate::constants::{int, source};
@@ -10,7 +10,7 @@ use crate::data::data;
 use crate::fault::ItemFault;
 use crate::fields::field_elems;
 use crate::reading::{args, byte, name, package};
-use crate::tree::{External, Item, Width};
+use acpi_tree::{External, Item, Width};
 use bytes::Bytes;
 use std::alloc::Global;
 

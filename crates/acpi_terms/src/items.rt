@@ -2,13 +2,13 @@
 
 ghost use Rattle.std.specs.Prelude.{◌≡◌, ◌<◌, ◌≤◌, ◌-◌, ◌++◌, ℕ, true, List, length, IfOk, IfErr, Ok, Err};
 ghost use Rattle.std.specs.List.{slice_range};
-ghost use Rattle.acpi_terms.specs.Tree.{ItemTrees, items_of};
+ghost use Rattle.acpi_tree.specs.Tree.{ItemTrees, items_of};
 ghost use Rattle.acpi_terms.specs.Spelling.{SpellsItems, items_height};
 ghost use Rattle.acpi_terms.specs.Faults.{Told, Refused};
-ghost use Rattle.acpi_terms.specs.Fits.{items_fit};
-ghost use Rattle.acpi_terms.specs.Offsets.{OffsetsFit};
+ghost use Rattle.acpi_tree.specs.Fits.{items_fit};
+ghost use Rattle.acpi_tree.specs.Offsets.{OffsetsFit};
 ghost use Rattle.acpi_terms.specs.declared.fault.ItemReason.{ItemReason};
-ghost use Rattle.acpi_terms.specs.View.{item_view, items_view, items_tree};
+ghost use Rattle.acpi_tree.specs.View.{item_view, items_view, items_tree};
 ghost use Rattle.acpi_terms.specs.Reading.{Gives, scope_item, device_item, processor_item, power_item, thermal_item, item_by, item_at, items_with, items_at};
 
 use crate::block::block_form;
@@ -20,7 +20,7 @@ use crate::forms::{
 };
 use crate::lead::{Lead, read_lead};
 use crate::reading::{byte, dword, name, package, stop, too_deep, word};
-use crate::tree::Item;
+use acpi_tree::Item;
 use bytes::Bytes;
 use std::alloc::Global;
 

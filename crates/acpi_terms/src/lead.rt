@@ -7,9 +7,9 @@ ghost use Rattle.acpi_terms.specs.Rows.{is_name_lead, is_name_start, plain_lead_
 ghost use Rattle.acpi_terms.specs.Reading.{Gives, IsAtPlace, lead_at};
 
 use crate::fault::ItemFault;
-use crate::op::Op;
+use acpi_tree::Op;
 use crate::reading::byte;
-use crate::tree::Width;
+use acpi_tree::Width;
 
 /// How a constant integer is written (ACPI 6.5, 20.2.3 ComputationalData).
 #[derive(Clone, Copy, Debug, PartialEq, Eq)]

@@ -10,30 +10,23 @@
 
 mod block;
 pub mod constants;
-mod copies;
 pub mod data;
 mod depth;
 mod fault;
 pub mod fields;
-mod fits;
 mod forms;
 mod items;
 pub mod lead;
-mod object;
-mod op;
 mod parts;
 pub mod reading;
-mod same;
-mod tree;
 
+pub use acpi_tree::{
+    Data, Elem, External, FieldElem, FieldForm, Int, Item, Object, Op, Width, items_fit,
+};
 pub use depth::Depth;
 pub use fault::{ItemFault, ItemReason};
-pub use fits::items_fit;
 pub use items::{read_items, read_items_shared};
-pub use object::{FieldForm, Object};
-pub use op::Op;
 pub use parts::{read_elem, read_int};
-pub use tree::{Data, Elem, External, FieldElem, Int, Item, Width};
 
 #[cfg(test)]
 mod tests;

@@ -1,17 +1,17 @@
 //! Reading one constant or field element from the front of some bytes.
 
 ghost use Rattle.std.specs.Prelude.{◌≡◌, ◌<◌, ◌≤◌, ◌++◌, ℕ, List, Some, Ok, IfErr, length, take, drop, IfSome, IfOk, option_map};
-ghost use Rattle.acpi_terms.specs.Tree.{FieldTree};
+ghost use Rattle.acpi_tree.specs.Tree.{FieldTree};
 ghost use Rattle.acpi_terms.specs.Spelling.{SpellsInt, SpellsField};
 ghost use Rattle.acpi_terms.specs.Faults.{Told};
-ghost use Rattle.acpi_terms.specs.declared.tree.Int.{Int};
-ghost use Rattle.acpi_terms.specs.View.{field_view};
+ghost use Rattle.acpi_tree.specs.declared.tree.Int.{Int};
+ghost use Rattle.acpi_tree.specs.View.{field_view};
 ghost use Rattle.acpi_terms.specs.Reading.{Gives, OrMemory, const_at, field_at, int_front};
 
 use crate::constants::constant;
 use crate::fault::ItemFault;
 use crate::fields::field_elem;
-use crate::tree::{FieldElem, Int};
+use acpi_tree::{FieldElem, Int};
 use std::alloc::Global;
 
 fn front_int(bytes: &[u8]) -> Option<(Int, usize)>

@@ -1,9 +1,9 @@
 -- The text of some elements, by the first and the others.
 use Rattle.std.proofs.Common.{◌≡◌, ℕ, ◌≤◌, List, [], ◌∷◌, ◌++◌, length, drop, get_or, codes, arith, refl, sym, ap, ◌∙◌}
 use Rattle.std.specs.List.{flat_map}
-use Rattle.acpi_terms.specs.declared.tree.Elem.{Elem}
-use Rattle.acpi_terms.specs.Tree.{elems_of}
-use Rattle.acpi_terms.specs.View.{elem_view, elems_view}
+use Rattle.acpi_tree.specs.declared.tree.Elem.{Elem}
+use Rattle.acpi_tree.specs.Tree.{elems_of}
+use Rattle.acpi_tree.specs.View.{elem_view, elems_view}
 use Rattle.acpins.specs.Printed.{elem_text, elems_text, more_elems_text}
 
 abbrev pub next_elem_text : Elem → List ℕ

@@ -9,8 +9,8 @@ use Rattle.std.specs.Ordering.{eq_by_cmp, is_lt}
 use Rattle.acpi_name.specs.Names.{Segment}
 use Rattle.acpi_name.specs.Paths.{path_cmp}
 use Rattle.acpi_space.specs.Spaces.{PathMap}
-use Rattle.acpi_terms.specs.Objects.{ObjectTree, object_view}
-use Rattle.acpi_terms.specs.declared.object.Object.{Object}
+use Rattle.acpi_tree.specs.Objects.{ObjectTree, object_view}
+use Rattle.acpi_tree.specs.declared.object.Object.{Object}
 use Rattle.acpi_load.specs.Namespace.{namespace_of}
 use Rattle.acpi_load.specs.Loads.{Links}
 use Rattle.acpins.specs.PrintedLines.{line_text, listing_text, objects_by_path, Prints}

@@ -3,14 +3,14 @@ use Rattle.std.specs.Prelude.{ℕ, zero, suc, ◌/◌, ◌%◌, Bool, true, not,
 use Rattle.std.specs.List.{flat_map}
 use Rattle.std.specs.Fmt.{digit_glyph}
 use Rattle.acpi_name.specs.Text.{name_text}
-use Rattle.acpi_terms.specs.declared.tree.Int.{Int}
-use Rattle.acpi_terms.specs.declared.tree.Int.TheVariants.{Zero, One, Ones, Revision, Byte, Word, DWord, QWord}
-use Rattle.acpi_terms.specs.declared.tree.Width.{Width}
-use Rattle.acpi_terms.specs.declared.tree.Width.TheVariants as widths
-use Rattle.acpi_terms.specs.declared.object.FieldForm.{FieldForm}
-use Rattle.acpi_terms.specs.declared.object.FieldForm.TheVariants as forms
-use Rattle.acpi_terms.specs.Tree.{DataTree, int, str, buffer, pkg, var_pkg, ElemTree, of_data, of_name, ElemTrees, no_elems, elem}
-use Rattle.acpi_terms.specs.Objects.{ObjectTree, root_object, scope_object, predefined_object, device_object, processor_object, power_object, thermal_object, name_object, method_object, region_object, mutex_object, event_object, field_object, create_object, create_field_object}
+use Rattle.acpi_tree.specs.declared.tree.Int.{Int}
+use Rattle.acpi_tree.specs.declared.tree.Int.TheVariants.{Zero, One, Ones, Revision, Byte, Word, DWord, QWord}
+use Rattle.acpi_tree.specs.declared.tree.Width.{Width}
+use Rattle.acpi_tree.specs.declared.tree.Width.TheVariants as widths
+use Rattle.acpi_tree.specs.declared.object.FieldForm.{FieldForm}
+use Rattle.acpi_tree.specs.declared.object.FieldForm.TheVariants as forms
+use Rattle.acpi_tree.specs.Tree.{DataTree, int, str, buffer, pkg, var_pkg, ElemTree, of_data, of_name, ElemTrees, no_elems, elem}
+use Rattle.acpi_tree.specs.Objects.{ObjectTree, root_object, scope_object, predefined_object, device_object, processor_object, power_object, thermal_object, name_object, method_object, region_object, mutex_object, event_object, field_object, create_object, create_field_object}
 
 -- ---- numbers
 

@@ -6,8 +6,8 @@ use Rattle.acpi_name.specs.Names.{Segment}
 use Rattle.acpi_name.specs.Paths.{path_cmp}
 use Rattle.acpi_name.specs.Text.{path_text}
 use Rattle.acpi_space.specs.Spaces.{PathMap}
-use Rattle.acpi_terms.specs.Objects.{ObjectTree, object_view}
-use Rattle.acpi_terms.specs.declared.object.Object.{Object}
+use Rattle.acpi_tree.specs.Objects.{ObjectTree, object_view}
+use Rattle.acpi_tree.specs.declared.object.Object.{Object}
 use Rattle.acpi_load.specs.Namespace.{Namespace}
 use Rattle.acpi_load.specs.Loads.{Links}
 use Rattle.acpins.specs.Printed.{separated, object_text}

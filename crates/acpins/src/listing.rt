@@ -1,7 +1,7 @@
 //! The printed form of a namespace.
 
 ghost use Rattle.std.specs.Prelude.{◌≡◌, [], ◌++◌, IfOk, OnOk, string_bytes, unwrap_or};
-ghost use Rattle.acpi_terms.specs.Objects.{object_view};
+ghost use Rattle.acpi_tree.specs.Objects.{object_view};
 ghost use Rattle.acpi_load.specs.Namespace.{namespace_of};
 ghost use Rattle.acpi_load.specs.DeclaredView.{objects_in, links_in};
 ghost use Rattle.acpi_load.specs.Links.{links_at};

@@ -4,9 +4,9 @@ ghost use Rattle.std.specs.Prelude.{◌≡◌, ◌<◌, ◌++◌, true, OnOk, st
 ghost use Rattle.std.specs.Fmt.{digit_glyph};
 ghost use Rattle.acpi_name.specs.Text.{name_text, path_text};
 ghost use Rattle.acpi_name.specs.NameRefs.{name_parts};
-ghost use Rattle.acpi_terms.specs.Tree.{elems_of};
-ghost use Rattle.acpi_terms.specs.View.{data_view, elem_view, elems_view};
-ghost use Rattle.acpi_terms.specs.Objects.{object_view, processor_object, power_object, region_object, mutex_object, field_object, create_object, create_field_object, name_object};
+ghost use Rattle.acpi_tree.specs.Tree.{elems_of};
+ghost use Rattle.acpi_tree.specs.View.{data_view, elem_view, elems_view};
+ghost use Rattle.acpi_tree.specs.Objects.{object_view, processor_object, power_object, region_object, mutex_object, field_object, create_object, create_field_object, name_object};
 ghost use Rattle.acpins.specs.Printed.{hex_digits, int_text, is_plain, char_text, string_text, separated, bytes_text, data_text, elem_text, elems_text, method_text, form_text, bank_text, width_text, object_text};
 ghost use Rattle.acpins.specs.PrintedLines.{link_text, links_text};
 

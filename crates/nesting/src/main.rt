@@ -3,7 +3,7 @@
 #![tactic(auto)]
 
 ghost use Rattle.std.specs.Prelude.{◌≡◌, IfOk};
-ghost use Rattle.acpi_terms.specs.View.{items_view};
+ghost use Rattle.acpi_tree.specs.View.{items_view};
 
 use acpi_terms::{Depth, Item, items_fit, read_items};
 use std::alloc::{AllocError, Global};

@@ -1,5 +1,5 @@
 use Rattle.std.proofs.Common.{◌≡◌, take}
-use Rattle.acpi_terms.specs.View.{items_view}
+use Rattle.acpi_tree.specs.View.{items_view}
 use Rattle.nesting.proofs.copied.Given as goal
 
 abbrev pub invariant-loop-item : goal.invariant-loop-item

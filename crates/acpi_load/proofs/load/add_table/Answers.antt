@@ -3,7 +3,7 @@ use Rattle.std.proofs.lemmas.Result.{err_from_is_err_and}
 use Rattle.std.proofs.lemmas.List.{map-append}
 use Rattle.std.specs.FinMap.{get}
 use Rattle.acpi_name.specs.Names.{Segment}
-use Rattle.acpi_terms.specs.View.{items_tree}
+use Rattle.acpi_tree.specs.View.{items_tree}
 use Rattle.acpi_load.specs.Namespace.{namespace_of}
 use Rattle.acpi_load.specs.Pass.{pass_items}
 use Rattle.acpi_load.specs.PassView.{pass_at}

@@ -1,6 +1,6 @@
 use Rattle.std.proofs.Common.{◌∙◌, List, ap}
 use Rattle.acpi_name.specs.Names.{Segment}
-use Rattle.acpi_terms.specs.Objects.{root_object}
+use Rattle.acpi_tree.specs.Objects.{root_object}
 use Rattle.acpi_load.specs.Namespace.{namespace_of, only, over}
 use Rattle.acpi_load.specs.Predefined.{nothing}
 use Rattle.acpi_load.proofs.Laying.{namespace-empty, laid_on}

@@ -3,7 +3,7 @@ use Rattle.std.proofs.lemmas.Result.{err_from_is_err_and}
 use Rattle.std.proofs.lemmas.List.{map_push}
 use Rattle.std.specs.List.{slice_range}
 use Rattle.acpi_terms.specs.Reading.{external_at}
-use Rattle.acpi_terms.specs.View.{external_view, externals_view}
+use Rattle.acpi_tree.specs.View.{external_view, externals_view}
 use Rattle.acpi_terms.proofs.Each.{step_on, stops, all_read}
 use Rattle.acpi_terms.proofs.block.externals.Goals as goal
 

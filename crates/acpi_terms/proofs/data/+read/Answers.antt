@@ -2,9 +2,9 @@ use Rattle.std.proofs.Common.{◌≡◌, ◌<◌, ◌≤◌, ◌++◌, ◌∷◌
 use Rattle.std.proofs.lemmas.Result.{err_from_is_err_and}
 use Rattle.std.proofs.lemmas.List.{map_push}
 use Rattle.std.specs.List.{slice_range}
-use Rattle.acpi_terms.specs.Tree.{elems_of}
+use Rattle.acpi_tree.specs.Tree.{elems_of}
 use Rattle.acpi_terms.specs.Reading.{elem_at, each_at}
-use Rattle.acpi_terms.specs.View.{elem_view, elems_view}
+use Rattle.acpi_tree.specs.View.{elem_view, elems_view}
 use Rattle.acpi_terms.proofs.Each.{step_on, stops, all_read, fails_on, reads_on}
 use Rattle.acpi_terms.proofs.Opened.{elem_opened}
 use Rattle.acpi_terms.proofs.data.+read.Goals as goal

@@ -3,7 +3,7 @@ use Rattle.std.specs.List.{slice_range}
 use Rattle.acpi_terms.proofs.data.+read.Given as goal
 use Rattle.acpi_terms.proofs.Each.{SoFar}
 use Rattle.acpi_terms.specs.Reading.{elem_at}
-use Rattle.acpi_terms.specs.View.{elems_view}
+use Rattle.acpi_tree.specs.View.{elems_view}
 
 abbrev pub decreases-elem : goal.decreases-elem
 decreases-elem l = 5 * l.level

@@ -3,7 +3,7 @@ use Rattle.std.specs.List.{slice_range}
 use Rattle.acpi_terms.proofs.fields.field_elems.Given as goal
 use Rattle.acpi_terms.proofs.Each.{SoFar}
 use Rattle.acpi_terms.specs.Reading.{field_at}
-use Rattle.acpi_terms.specs.View.{fields_view}
+use Rattle.acpi_tree.specs.View.{fields_view}
 
 abbrev pub invariant-loop-at : goal.invariant-loop-at
 invariant-loop-at l = (l.at ≤ l.end) × SoFar (field_at l.end) (slice_range l.code l.fn.at l.end) (slice_range l.code l.at l.end) (fields_view l.found.items)

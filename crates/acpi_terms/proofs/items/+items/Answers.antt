@@ -2,9 +2,9 @@ use Rattle.std.proofs.Common.{◌≡◌, ◌<◌, ◌≤◌, ◌++◌, ◌∷◌
 use Rattle.std.proofs.lemmas.Result.{err_from_is_err_and}
 use Rattle.std.proofs.lemmas.List.{map_push}
 use Rattle.std.specs.List.{slice_range}
-use Rattle.acpi_terms.specs.Tree.{items_of}
+use Rattle.acpi_tree.specs.Tree.{items_of}
 use Rattle.acpi_terms.specs.Reading.{item_at, each_at}
-use Rattle.acpi_terms.specs.View.{item_view, items_view}
+use Rattle.acpi_tree.specs.View.{item_view, items_view}
 use Rattle.acpi_terms.proofs.Each.{step_on, stops, all_read, fails_on, reads_on}
 use Rattle.acpi_terms.proofs.items.+items.Goals as goal
 

@@ -3,7 +3,7 @@ use Rattle.std.specs.List.{slice_range}
 use Rattle.acpi_terms.proofs.items.+items.Given as goal
 use Rattle.acpi_terms.proofs.Each.{SoFar}
 use Rattle.acpi_terms.specs.Reading.{item_at}
-use Rattle.acpi_terms.specs.View.{items_view}
+use Rattle.acpi_tree.specs.View.{items_view}
 
 abbrev pub decreases-item : goal.decreases-item
 decreases-item l = 4 * l.level

@@ -1,5 +1,5 @@
 use Rattle.std.proofs.Common.{subst, length}
-use Rattle.acpi_terms.specs.View.{items_tree}
+use Rattle.acpi_tree.specs.View.{items_tree}
 use Rattle.acpi_terms.specs.Reading.{Gives, item_at, items_with, items_at}
 use Rattle.acpi_terms.proofs.Fitting.{are_bytes}
 use Rattle.acpi_terms.proofs.Ranges.{range_whole}

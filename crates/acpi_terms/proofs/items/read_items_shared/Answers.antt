@@ -1,5 +1,5 @@
 use Rattle.std.proofs.Common.{◌<◌, arith}
-use Rattle.acpi_terms.specs.View.{items_tree}
+use Rattle.acpi_tree.specs.View.{items_tree}
 use Rattle.acpi_terms.specs.Reading.{Gives, items_at}
 use Rattle.acpi_terms.proofs.ReadItems.{found_law, only_law, faults_law, next_law, gives_as}
 use Rattle.acpi_terms.proofs.items.read_items_shared.Goals as goal

@@ -1,4 +1,4 @@
-use Rattle.acpi_terms.specs.View.{field_view}
+use Rattle.acpi_tree.specs.View.{field_view}
 use Rattle.acpi_terms.proofs.ReadParts.{elem_found_law, elem_only_law, elem_faults_law}
 use Rattle.acpi_terms.proofs.parts.read_elem.Goals as goal
 

@@ -1,6 +1,6 @@
 use Rattle.std.proofs.Common.{◌≡◌, take, string_bytes}
 use Rattle.std.specs.List.{flat_map}
-use Rattle.acpi_terms.specs.Objects.{object_view}
+use Rattle.acpi_tree.specs.Objects.{object_view}
 use Rattle.acpi_load.specs.DeclaredView.{links_in}
 use Rattle.acpi_load.specs.Links.{links_at}
 use Rattle.acpins.specs.PrintedLines.{line_text}

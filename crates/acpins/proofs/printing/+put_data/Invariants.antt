@@ -1,6 +1,6 @@
 use Rattle.std.proofs.Common.{◌≡◌, ◌++◌, take, string_bytes, codes}
 use Rattle.std.specs.List.{flat_map}
-use Rattle.acpi_terms.specs.View.{elem_view}
+use Rattle.acpi_tree.specs.View.{elem_view}
 use Rattle.acpins.specs.Printed.{elem_text}
 use Rattle.acpins.proofs.printing.+put_data.Given as goal
 

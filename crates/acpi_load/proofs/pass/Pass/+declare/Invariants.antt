@@ -1,7 +1,7 @@
 use Rattle.std.proofs.Common.{◌≡◌}
 use Rattle.std.specs.Vec.Iter.{into_iter_items}
-use Rattle.acpi_terms.specs.Offsets.{OffsetsFit}
-use Rattle.acpi_terms.specs.View.{items_tree}
+use Rattle.acpi_tree.specs.Offsets.{OffsetsFit}
+use Rattle.acpi_tree.specs.View.{items_tree}
 use Rattle.acpi_load.specs.Pass.{pass_items}
 use Rattle.acpi_load.specs.PassView.{pass_at}
 use Rattle.acpi_load.proofs.pass.Pass.+declare.Given as goal

@@ -1,5 +1,5 @@
 use Rattle.std.proofs.Common.{ap, map}
-use Rattle.acpi_terms.specs.Objects.{object_view}
+use Rattle.acpi_tree.specs.Objects.{object_view}
 use Rattle.std.specs.FinMap.{get}
 use Rattle.acpi_load.specs.PassView.{waiting_of}
 use Rattle.acpi_load.proofs.Steps.{declared_plainly}

@@ -1,7 +1,7 @@
 use Rattle.std.proofs.Common.{◌∙◌, List, ap, map, sym}
 use Rattle.std.specs.FinMap.{get}
 use Rattle.acpi_name.specs.Names.{Segment}
-use Rattle.acpi_terms.specs.Objects.{object_view}
+use Rattle.acpi_tree.specs.Objects.{object_view}
 use Rattle.acpi_load.specs.Sites.{step, plainly}
 use Rattle.acpi_load.specs.Pass.{after, entry}
 use Rattle.acpi_load.specs.PassView.{pass_at, waiting_of}

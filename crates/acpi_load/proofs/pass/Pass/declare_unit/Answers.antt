@@ -1,6 +1,6 @@
 use Rattle.std.proofs.Common.{ap}
 use Rattle.std.specs.FinMap.{get}
-use Rattle.acpi_terms.specs.Objects.{object_view}
+use Rattle.acpi_tree.specs.Objects.{object_view}
 use Rattle.acpi_load.specs.Sites.{unit_name}
 use Rattle.acpi_load.proofs.Steps.{declared_linked}
 use Rattle.acpi_load.proofs.pass.Pass.declare_unit.Goals as goal

@@ -1,10 +1,10 @@
 use Rattle.std.proofs.Common.{◌≡◌, List, ◌∙◌, ◌∷◌, ◌+◌, ap, sym, drop, arith}
 use Rattle.std.proofs.lemmas.List.{drop_more}
 use Rattle.std.proofs.lemmas.Result.{err_from_is_err_and}
-use Rattle.acpi_terms.specs.View.{field_view, fields_view}
-use Rattle.acpi_terms.specs.declared.tree.FieldElem.{FieldElem}
+use Rattle.acpi_tree.specs.View.{field_view, fields_view}
+use Rattle.acpi_tree.specs.declared.tree.FieldElem.{FieldElem}
 use Rattle.acpi_load.specs.Sites.{Step, unit_step, unit_steps}
-use Rattle.acpi_terms.specs.Offsets.{element_bits}
+use Rattle.acpi_tree.specs.Offsets.{element_bits}
 use Rattle.acpi_load.specs.Pass.{take_steps}
 use Rattle.acpi_load.specs.PassView.{pass_at}
 use Rattle.acpi_load.proofs.Sequences.{told_on}

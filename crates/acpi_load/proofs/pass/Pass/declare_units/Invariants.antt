@@ -1,6 +1,6 @@
 use Rattle.std.proofs.Common.{◌≡◌, ◌+◌, drop}
-use Rattle.acpi_terms.specs.Offsets.{list_bits}
-use Rattle.acpi_terms.specs.View.{fields_view}
+use Rattle.acpi_tree.specs.Offsets.{list_bits}
+use Rattle.acpi_tree.specs.View.{fields_view}
 use Rattle.acpi_load.specs.Sites.{unit_steps}
 use Rattle.acpi_load.specs.Pass.{take_steps}
 use Rattle.acpi_load.specs.PassView.{pass_at}

@@ -1,5 +1,5 @@
 use Rattle.std.proofs.Common.{◌≡◌, drop}
-use Rattle.acpi_terms.specs.View.{externals_view}
+use Rattle.acpi_tree.specs.View.{externals_view}
 use Rattle.acpi_load.specs.Sites.{external_steps}
 use Rattle.acpi_load.specs.Pass.{take_steps}
 use Rattle.acpi_load.specs.PassView.{pass_at}

@@ -1,0 +1,7 @@
+pub mod Tree
+pub mod View
+pub mod Objects
+pub mod Equal
+pub mod Fits
+pub mod Offsets
+pub mod steps

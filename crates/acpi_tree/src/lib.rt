@@ -1,0 +1,18 @@
+//! Definition blocks of ACPI 6.5 as trees: constants, data, the module-level items, and the objects that
+//! they declare.
+//!
+//! The types hold `Vec`s and names of their own; a contract sees a value as a tree of `specs/Tree.antt`.
+//! Two values are equal where their trees are, and `copy` gives a value with the same tree.
+#![tactic(auto)]
+
+mod copies;
+mod fits;
+mod object;
+mod op;
+mod same;
+mod tree;
+
+pub use fits::items_fit;
+pub use object::{FieldForm, Object};
+pub use op::Op;
+pub use tree::{Data, Elem, External, FieldElem, Int, Item, Width};

@@ -1,0 +1,469 @@
+//! Equality, by the trees that values stand for.
+
+ghost use Rattle.std.specs.Prelude.{◌≡◌, IsTrue, ◌↔◌};
+ghost use Rattle.std.specs.Cmp.{partial_equiv_from_equiv, on_equiv};
+ghost use Rattle.acpi_tree.specs.Tree.{elems_of, items_of};
+ghost use Rattle.acpi_tree.specs.View.{data_view, elem_view, elems_view, field_view, fields_view, external_view, externals_view, item_view, items_view};
+ghost use Rattle.acpi_tree.specs.Objects.{object_view};
+ghost use Rattle.acpi_tree.specs.steps.Equality.{equivalence, data_tells, elem_tells, field_tells, external_tells, item_tells, object_tells};
+ghost use Rattle.acpi_tree.specs.Equal.{int_eq, width_eq, field_form_eq, data_eq, elem_eq, elems_eq, field_eq, fields_eq, external_eq, externals_eq, item_eq, items_eq, object_eq};
+
+use crate::object::{FieldForm, Object};
+use crate::tree::{Data, Elem, External, FieldElem, Int, Item, Width};
+
+fn same_int(a: Int, b: Int) -> bool
+    ensures { result ≡ int_eq a b }
+{
+    match (a, b) {
+        (Int::Zero, Int::Zero) => true,
+        (Int::One, Int::One) => true,
+        (Int::Ones, Int::Ones) => true,
+        (Int::Revision, Int::Revision) => true,
+        (Int::Byte(m), Int::Byte(n)) => m == n,
+        (Int::Word(m), Int::Word(n)) => m == n,
+        (Int::DWord(m), Int::DWord(n)) => m == n,
+        (Int::QWord(m), Int::QWord(n)) => m == n,
+        _ => false,
+    }
+}
+
+fn same_width(a: Width, b: Width) -> bool
+    ensures { result ≡ width_eq a b }
+{
+    match (a, b) {
+        (Width::DWord, Width::DWord) => true,
+        (Width::Word, Width::Word) => true,
+        (Width::Byte, Width::Byte) => true,
+        (Width::Bit, Width::Bit) => true,
+        (Width::QWord, Width::QWord) => true,
+        _ => false,
+    }
+}
+
+#[cycle(same)]
+fn same_data(a: &Data, b: &Data) -> bool
+    ensures { result ≡ data_eq (data_view a.now) (data_view b.now) }
+{
+    match (a, b) {
+        (Data::Int(i), Data::Int(j)) => same_int(*i, *j),
+        (Data::Str(s), Data::Str(t)) => s == t,
+        (Data::Buffer(i, s), Data::Buffer(j, t)) => same_int(*i, *j) && s == t,
+        (Data::Package(m, es), Data::Package(n, fs)) => m == n && same_elems(es, fs),
+        (Data::VarPackage(i, es), Data::VarPackage(j, fs)) => same_int(*i, *j)
+            && same_elems(es, fs),
+        _ => false,
+    }
+}
+
+#[cycle(same)]
+fn same_elem(a: &Elem, b: &Elem) -> bool
+    ensures { result ≡ elem_eq (elem_view a.now) (elem_view b.now) }
+{
+    match (a, b) {
+        (Elem::Data(d), Elem::Data(e)) => same_data(d, e),
+        (Elem::Name(m), Elem::Name(n)) => m == n,
+        _ => false,
+    }
+}
+
+#[cycle(same)]
+fn same_elems(a: &[Elem], b: &[Elem]) -> bool
+    ensures { result ≡ elems_eq (elems_of (elems_view a.now)) (elems_of (elems_view b.now)) }
+{
+    if a.len() != b.len() {
+        return false;
+    }
+    for i in 0..a.len() {
+        if !same_elem(&a[i], &b[i]) {
+            return false;
+        }
+    }
+    true
+}
+
+fn same_field(a: &FieldElem, b: &FieldElem) -> bool
+    ensures { result ≡ field_eq (field_view a.now) (field_view b.now) }
+{
+    match (a, b) {
+        (FieldElem::Unit(s, m), FieldElem::Unit(t, n)) => s == t && m == n,
+        (FieldElem::Reserved(m), FieldElem::Reserved(n)) => m == n,
+        (FieldElem::Access(k, l), FieldElem::Access(m, n)) => k == m && l == n,
+        (FieldElem::ConnectName(m), FieldElem::ConnectName(n)) => m == n,
+        (FieldElem::ConnectBuffer(i, s), FieldElem::ConnectBuffer(j, t)) => same_int(*i, *j)
+            && s == t,
+        (FieldElem::Extended(j, k, l), FieldElem::Extended(m, n, o)) => j == m && k == n && l == o,
+        _ => false,
+    }
+}
+
+fn same_fields(a: &[FieldElem], b: &[FieldElem]) -> bool
+    ensures { result ≡ fields_eq (fields_view a.now) (fields_view b.now) }
+{
+    if a.len() != b.len() {
+        return false;
+    }
+    for i in 0..a.len() {
+        if !same_field(&a[i], &b[i]) {
+            return false;
+        }
+    }
+    true
+}
+
+fn same_external(a: &External, b: &External) -> bool
+    ensures { result ≡ external_eq (external_view a.now) (external_view b.now) }
+{
+    a.name == b.name && a.kind == b.kind && a.args == b.args
+}
+
+fn same_externals(a: &[External], b: &[External]) -> bool
+    ensures { result ≡ externals_eq (externals_view a.now) (externals_view b.now) }
+{
+    if a.len() != b.len() {
+        return false;
+    }
+    for i in 0..a.len() {
+        if !same_external(&a[i], &b[i]) {
+            return false;
+        }
+    }
+    true
+}
+
+#[cycle(same_item)]
+fn same_item(a: &Item, b: &Item) -> bool
+    ensures { result ≡ item_eq (item_view a.now) (item_view b.now) }
+{
+    match (a, b) {
+        (Item::Name(m, d), Item::Name(n, e)) => m == n && same_data(d, e),
+        (Item::Scope(m, is), Item::Scope(n, js)) => m == n && same_items(is, js),
+        (Item::Device(m, is), Item::Device(n, js)) => m == n && same_items(is, js),
+        (Item::Thermal(m, is), Item::Thermal(n, js)) => m == n && same_items(is, js),
+        (
+            Item::Method {
+                name: m,
+                flags: f,
+                code: s,
+            },
+            Item::Method {
+                name: n,
+                flags: g,
+                code: t,
+            },
+        ) => m == n && f == g && s == t,
+        (Item::External(x), Item::External(y)) => same_external(x, y),
+        (Item::ExternalBlock(xs), Item::ExternalBlock(ys)) => same_externals(xs, ys),
+        (
+            Item::Create {
+                width: w,
+                source: s,
+                index: i,
+                name: m,
+            },
+            Item::Create {
+                width: v,
+                source: t,
+                index: j,
+                name: n,
+            },
+        ) => same_width(*w, *v) && s == t && same_int(*i, *j) && m == n,
+        (
+            Item::CreateField {
+                source: s,
+                index: i,
+                bits: b,
+                name: m,
+            },
+            Item::CreateField {
+                source: t,
+                index: j,
+                bits: c,
+                name: n,
+            },
+        ) => s == t && same_int(*i, *j) && same_int(*b, *c) && m == n,
+        (Item::Mutex(m, f), Item::Mutex(n, g)) => m == n && f == g,
+        (Item::Event(m), Item::Event(n)) => m == n,
+        (
+            Item::Region {
+                name: m,
+                space: s,
+                offset: o,
+                length: l,
+            },
+            Item::Region {
+                name: n,
+                space: t,
+                offset: p,
+                length: k,
+            },
+        ) => m == n && s == t && same_int(*o, *p) && same_int(*l, *k),
+        (
+            Item::Field {
+                region: r,
+                flags: f,
+                elems: es,
+            },
+            Item::Field {
+                region: q,
+                flags: g,
+                elems: fs,
+            },
+        ) => r == q && f == g && same_fields(es, fs),
+        (
+            Item::IndexField {
+                index: i,
+                datum: d,
+                flags: f,
+                elems: es,
+            },
+            Item::IndexField {
+                index: j,
+                datum: e,
+                flags: g,
+                elems: fs,
+            },
+        ) => i == j && d == e && f == g && same_fields(es, fs),
+        (
+            Item::BankField {
+                region: r,
+                bank: b,
+                value: v,
+                flags: f,
+                elems: es,
+            },
+            Item::BankField {
+                region: q,
+                bank: c,
+                value: w,
+                flags: g,
+                elems: fs,
+            },
+        ) => r == q && b == c && same_int(*v, *w) && f == g && same_fields(es, fs),
+        (
+            Item::Processor {
+                name: m,
+                id: i,
+                block: b,
+                length: l,
+                items: is,
+            },
+            Item::Processor {
+                name: n,
+                id: j,
+                block: c,
+                length: k,
+                items: js,
+            },
+        ) => m == n && i == j && b == c && l == k && same_items(is, js),
+        (
+            Item::Power {
+                name: m,
+                level: l,
+                order: o,
+                items: is,
+            },
+            Item::Power {
+                name: n,
+                level: k,
+                order: p,
+                items: js,
+            },
+        ) => m == n && l == k && o == p && same_items(is, js),
+        _ => false,
+    }
+}
+
+#[cycle(same_item)]
+fn same_items(a: &[Item], b: &[Item]) -> bool
+    ensures { result ≡ items_eq (items_of (items_view a.now)) (items_of (items_view b.now)) }
+{
+    if a.len() != b.len() {
+        return false;
+    }
+    for i in 0..a.len() {
+        if !same_item(&a[i], &b[i]) {
+            return false;
+        }
+    }
+    true
+}
+
+fn same_field_form(a: FieldForm, b: FieldForm) -> bool
+    ensures { result ≡ field_form_eq a b }
+{
+    match (a, b) {
+        (FieldForm::Field, FieldForm::Field) => true,
+        (FieldForm::Index, FieldForm::Index) => true,
+        (FieldForm::Bank(i), FieldForm::Bank(j)) => same_int(i, j),
+        _ => false,
+    }
+}
+
+fn same_object(a: &Object, b: &Object) -> bool
+    ensures { result ≡ object_eq (object_view a.now) (object_view b.now) }
+{
+    match (a, b) {
+        (Object::Root, Object::Root) => true,
+        (Object::Scope, Object::Scope) => true,
+        (Object::Predefined, Object::Predefined) => true,
+        (Object::Device, Object::Device) => true,
+        (Object::Thermal, Object::Thermal) => true,
+        (Object::Event, Object::Event) => true,
+        (
+            Object::Processor {
+                id: i,
+                block: b,
+                length: l,
+            },
+            Object::Processor {
+                id: j,
+                block: c,
+                length: k,
+            },
+        ) => i == j && b == c && l == k,
+        (Object::Power { level: l, order: o }, Object::Power { level: k, order: p }) => l == k
+            && o == p,
+        (Object::Name(d), Object::Name(e)) => same_data(d, e),
+        (Object::Method(f), Object::Method(g)) => f == g,
+        (
+            Object::Region {
+                space: s,
+                offset: o,
+                length: l,
+            },
+            Object::Region {
+                space: t,
+                offset: p,
+                length: k,
+            },
+        ) => s == t && same_int(*o, *p) && same_int(*l, *k),
+        (Object::Mutex(f), Object::Mutex(g)) => f == g,
+        (
+            Object::Field {
+                form: w,
+                flags: f,
+                offset: o,
+                bits: b,
+            },
+            Object::Field {
+                form: v,
+                flags: g,
+                offset: p,
+                bits: c,
+            },
+        ) => same_field_form(*w, *v) && f == g && o == p && b == c,
+        (Object::Create { width: w, index: i }, Object::Create { width: v, index: j }) =>
+            same_width(*w, *v) && same_int(*i, *j),
+        (Object::CreateField { index: i, bits: b }, Object::CreateField { index: j, bits: c }) =>
+            same_int(*i, *j) && same_int(*b, *c),
+        _ => false,
+    }
+}
+
+impl PartialEq for Data {
+    ghost eq = { λ a b. data_eq (data_view a) (data_view b) };
+
+    ghost laws = { partial_equiv_from_equiv (on_equiv data_view (equivalence data_tells)) };
+
+    // True exactly of equal values.
+    fn eq(&self, other: &Data) -> bool
+        ensures test { result ≡ data_eq (data_view self.now) (data_view other.now) }
+        ensures same { IsTrue result ↔ (data_view self.now ≡ data_view other.now) }
+    {
+        same_data(self, other)
+    }
+}
+
+impl Eq for Data {
+    ghost laws = { on_equiv data_view (equivalence data_tells) };
+}
+
+impl PartialEq for Elem {
+    ghost eq = { λ a b. elem_eq (elem_view a) (elem_view b) };
+
+    ghost laws = { partial_equiv_from_equiv (on_equiv elem_view (equivalence elem_tells)) };
+
+    // True exactly of equal values.
+    fn eq(&self, other: &Elem) -> bool
+        ensures test { result ≡ elem_eq (elem_view self.now) (elem_view other.now) }
+        ensures same { IsTrue result ↔ (elem_view self.now ≡ elem_view other.now) }
+    {
+        same_elem(self, other)
+    }
+}
+
+impl Eq for Elem {
+    ghost laws = { on_equiv elem_view (equivalence elem_tells) };
+}
+
+impl PartialEq for FieldElem {
+    ghost eq = { λ a b. field_eq (field_view a) (field_view b) };
+
+    ghost laws = { partial_equiv_from_equiv (on_equiv field_view (equivalence field_tells)) };
+
+    // True exactly of equal values.
+    fn eq(&self, other: &FieldElem) -> bool
+        ensures test { result ≡ field_eq (field_view self.now) (field_view other.now) }
+        ensures same { IsTrue result ↔ (field_view self.now ≡ field_view other.now) }
+    {
+        same_field(self, other)
+    }
+}
+
+impl Eq for FieldElem {
+    ghost laws = { on_equiv field_view (equivalence field_tells) };
+}
+
+impl PartialEq for External {
+    ghost eq = { λ a b. external_eq (external_view a) (external_view b) };
+
+    ghost laws = { partial_equiv_from_equiv (on_equiv external_view (equivalence external_tells)) };
+
+    // True exactly of equal values.
+    fn eq(&self, other: &External) -> bool
+        ensures test { result ≡ external_eq (external_view self.now) (external_view other.now) }
+        ensures same { IsTrue result ↔ (external_view self.now ≡ external_view other.now) }
+    {
+        same_external(self, other)
+    }
+}
+
+impl Eq for External {
+    ghost laws = { on_equiv external_view (equivalence external_tells) };
+}
+
+impl PartialEq for Item {
+    ghost eq = { λ a b. item_eq (item_view a) (item_view b) };
+
+    ghost laws = { partial_equiv_from_equiv (on_equiv item_view (equivalence item_tells)) };
+
+    // True exactly of equal values.
+    fn eq(&self, other: &Item) -> bool
+        ensures test { result ≡ item_eq (item_view self.now) (item_view other.now) }
+        ensures same { IsTrue result ↔ (item_view self.now ≡ item_view other.now) }
+    {
+        same_item(self, other)
+    }
+}
+
+impl Eq for Item {
+    ghost laws = { on_equiv item_view (equivalence item_tells) };
+}
+
+impl PartialEq for Object {
+    ghost eq = { λ a b. object_eq (object_view a) (object_view b) };
+
+    ghost laws = { partial_equiv_from_equiv (on_equiv object_view (equivalence object_tells)) };
+
+    // True exactly of equal values.
+    fn eq(&self, other: &Object) -> bool
+        ensures test { result ≡ object_eq (object_view self.now) (object_view other.now) }
+        ensures same { IsTrue result ↔ (object_view self.now ≡ object_view other.now) }
+    {
+        same_object(self, other)
+    }
+}
+
+impl Eq for Object {
+    ghost laws = { on_equiv object_view (equivalence object_tells) };
+}
