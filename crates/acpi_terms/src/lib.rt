@@ -21,7 +21,7 @@ mod parts;
 pub mod reading;
 
 pub use acpi_tree::{
-    Data, Elem, External, FieldElem, FieldForm, Int, Item, Object, Op, Width, items_fit,
+    Data, Decl, Elem, External, FieldElem, FieldForm, Int, Item, Object, Op, Operand, Term, Width, items_fit, terms_fit,
 };
 pub use depth::Depth;
 pub use fault::{ItemFault, ItemReason};

@@ -66,3 +66,33 @@ elems_fit_alike (x ∷ xs) = ap (λ t. elem_fits (elem_view x) && t) (elems_fit_
 pub items_fit_alike : (xs : List Item) → items_fit (items_of (items_view xs)) ≡ list_all (λ x. item_fits (item_view x)) xs
 items_fit_alike [] = refl
 items_fit_alike (x ∷ xs) = ap (λ t. item_fits (item_view x) && t) (items_fit_alike xs)
+
+-- ---- two lists of different types, element by element
+
+abbrev pub paired : {X Y : Type 0} → (X → Y → Bool) → List X → List Y → Bool
+paired P [] [] = true
+paired P (x ∷ xs) (y ∷ ys) = P x y && paired P xs ys
+paired P _ _ = false
+
+pub unpaired_lengths : {X Y : Type 0} (P : X → Y → Bool) (xs : List X) (ys : List Y) → (length xs ≡ length ys → ⊥) → paired P xs ys ≡ false
+unpaired_lengths P [] [] other = absurd (other refl)
+unpaired_lengths P [] (y ∷ ys) other = refl
+unpaired_lengths P (x ∷ xs) [] other = refl
+unpaired_lengths P (x ∷ xs) (y ∷ ys) other =
+    by_test (unpaired_lengths P xs ys (λ same. other (omega (arith, same)))) (P x y)
+  where
+    by_test : paired P xs ys ≡ false → (t : Bool) → (t && paired P xs ys) ≡ false
+    by_test more true = more
+    by_test more false = refl
+
+pub unpaired_at : {X Y : Type 0} (P : X → Y → Bool) (xs : List X) (ys : List Y) (i : ℕ) (d : X) (y : Y) → i < length xs → length xs ≡ length ys → y ≡ get_or ys i y
+    → P (get_or xs i d) y ≡ false → paired P xs ys ≡ paired P (drop i xs) (drop i ys) → paired P xs ys ≡ false
+unpaired_at P xs ys i d y lt same at_y differ left =
+    let lt_y : i < length ys = omega (arith, lt, same) in
+    left ∙ rw (drop_more xs i d lt, drop_more ys i y lt_y, sym at_y, differ) refl
+
+pub paired_all : {X Y : Type 0} (P : X → Y → Bool) (xs : List X) (ys : List Y) (i : ℕ) → length xs ≤ i → length xs ≡ length ys
+    → paired P xs ys ≡ paired P (drop i xs) (drop i ys) → paired P xs ys ≡ true
+paired_all P xs ys i le same left =
+    let le_y : length ys ≤ i = omega (arith, le, same) in
+    left ∙ rw (drop_of_length-le xs {i = i} le, drop_of_length-le ys {i = i} le_y) refl

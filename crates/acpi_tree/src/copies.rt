@@ -69,7 +69,7 @@ impl FieldElem {
     }
 }
 
-fn copy_fields(alloc: Global, elems: &[FieldElem]) -> Result<Vec<FieldElem>, AllocError>
+pub(crate) fn copy_fields(alloc: Global, elems: &[FieldElem]) -> Result<Vec<FieldElem>, AllocError>
     ensures { IfOk result (λ v. fields_view v.items ≡ fields_view elems.now) }
 {
     let mut copies = Vec::new(alloc);

@@ -10,14 +10,14 @@ ghost use Rattle.acpi_tree.specs.Fits as fits;
 use crate::tree::{Data, Elem, External, FieldElem, Item};
 use acpi_name::Name;
 
-fn is_text(bytes: &[u8]) -> bool
+pub(crate) fn is_text(bytes: &[u8]) -> bool
     ensures { result ≡ list_all text_fits bytes.now }
 {
     bytes.iter().all(|b| *b > 0 && *b < 128)
 }
 
 // Whether it is the name that the byte 00 spells.
-fn is_null(name: &Name) -> bool
+pub(crate) fn is_null(name: &Name) -> bool
     ensures { result ≡ is_null_name name.now }
 {
     let name = name.view();
@@ -74,7 +74,7 @@ fn field_may_stand(elem: &FieldElem) -> bool
     }
 }
 
-fn fields_may_stand(elems: &[FieldElem]) -> bool
+pub(crate) fn fields_may_stand(elems: &[FieldElem]) -> bool
     ensures { result ≡ list_all field_fits (fields_view elems.now) }
 {
     for elem in elems {

@@ -9,10 +9,18 @@ mod copies;
 mod fits;
 mod object;
 mod op;
+mod place;
 mod same;
+mod standing;
+mod term;
+mod term_copies;
+mod term_same;
 mod tree;
 
 pub use fits::items_fit;
 pub use object::{FieldForm, Object};
 pub use op::Op;
+pub use place::{NamedForm, OperandKind, Place, UnitsForm};
+pub use standing::terms_fit;
+pub use term::{Decl, Operand, Term};
 pub use tree::{Data, Elem, External, FieldElem, Int, Item, Width};

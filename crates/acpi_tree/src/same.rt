@@ -11,7 +11,7 @@ ghost use Rattle.acpi_tree.specs.Equal.{int_eq, width_eq, field_form_eq, data_eq
 use crate::object::{FieldForm, Object};
 use crate::tree::{Data, Elem, External, FieldElem, Int, Item, Width};
 
-fn same_int(a: Int, b: Int) -> bool
+pub(crate) fn same_int(a: Int, b: Int) -> bool
     ensures { result ≡ int_eq a b }
 {
     match (a, b) {
@@ -27,7 +27,7 @@ fn same_int(a: Int, b: Int) -> bool
     }
 }
 
-fn same_width(a: Width, b: Width) -> bool
+pub(crate) fn same_width(a: Width, b: Width) -> bool
     ensures { result ≡ width_eq a b }
 {
     match (a, b) {
@@ -96,7 +96,7 @@ fn same_field(a: &FieldElem, b: &FieldElem) -> bool
     }
 }
 
-fn same_fields(a: &[FieldElem], b: &[FieldElem]) -> bool
+pub(crate) fn same_fields(a: &[FieldElem], b: &[FieldElem]) -> bool
     ensures { result ≡ fields_eq (fields_view a.now) (fields_view b.now) }
 {
     if a.len() != b.len() {

@@ -22,10 +22,10 @@ abbrev IsTruth : Bool → Type 0
 IsTruth true = Unit {0}
 IsTruth false = ⊥
 
-never : {P : Type 0} → false ≡ true → P
+pub never : {P : Type 0} → false ≡ true → P
 never h = absurd (subst (λ b. IsTruth b) (sym h) tt)
 
-both : {a b : Bool} → a ≡ true → b ≡ true → (a && b) ≡ true
+pub both : {a b : Bool} → a ≡ true → b ≡ true → (a && b) ≡ true
 both {a = true} left right = right
 both {a = false} left right = never left
 
@@ -40,10 +40,10 @@ decides {E = E} t x y = (t.is x y, λ h. subst (λ z. E x z ≡ true) h (t.same 
 from_decides : {X : Type 0} {E : X → X → Bool} → ((x y : X) → Decides (E x y) (x ≡ y)) → Tells E
 from_decides d = record { is = λ x y h. (d x y).0 h; same = λ x. (d x x).1 refl }
 
-names_tell : Tells name_eq
+pub names_tell : Tells name_eq
 names_tell = from_decides name_eq_Decides
 
-numbers_tell : Tells eqb
+pub numbers_tell : Tells eqb
 numbers_tell = from_decides Decides-eqb
 
 int_is : (i j : Int) → int_eq i j ≡ true → i ≡ j

@@ -1,0 +1,178 @@
+-- The operators of method bodies: what stands behind the opcode of each (ACPI 6.5, 20.2.5.3 and 20.2.5.4).
+use Rattle.std.specs.Prelude.{ℕ, Bool, true, false, List, [], ◌∷◌}
+use Rattle.acpi_tree.specs.declared.op.Op.{Op}
+use Rattle.acpi_tree.specs.declared.op.Op.TheVariants.{Store, RefOf, Add, Concat, Subtract, Increment, Decrement, Multiply, Divide, ShiftLeft, ShiftRight, And, NAnd, Or, NOr, XOr, Not, FindSetLeftBit, FindSetRightBit, DerefOf, ConcatRes, Mod, Notify, SizeOf, Index, Match, ObjectType, LAnd, LOr, LNot, LEqual, LGreater, LLess, ToBuffer, ToDecimalString, ToHexString, ToInteger, ToString, CopyObject, Mid, Continue, Noop, Return, Break, BreakPoint, CondRefOf, Stall, Sleep, Acquire, Signal, Wait, Reset, Release, FromBCD, ToBCD, Fatal, Timer}
+use Rattle.acpi_tree.specs.declared.place.Place.TheVariants.{Value, SuperName, SimpleName, Data}
+use Rattle.acpi_tree.specs.declared.place.OperandKind.{OperandKind}
+use Rattle.acpi_tree.specs.declared.place.OperandKind.TheVariants.{At, Target, Byte, Word, DWord}
+use Rattle.acpi_tree.specs.declared.place.NamedForm.{NamedForm}
+use Rattle.acpi_tree.specs.declared.place.NamedForm.TheVariants as named
+use Rattle.acpi_tree.specs.declared.place.UnitsForm.{UnitsForm}
+use Rattle.acpi_tree.specs.declared.place.UnitsForm.TheVariants as units
+
+-- the opcode of an operator (20.3)
+abbrev pub opcode_of : Op → List ℕ
+opcode_of Store = 0x70 ∷ []
+opcode_of RefOf = 0x71 ∷ []
+opcode_of Add = 0x72 ∷ []
+opcode_of Concat = 0x73 ∷ []
+opcode_of Subtract = 0x74 ∷ []
+opcode_of Increment = 0x75 ∷ []
+opcode_of Decrement = 0x76 ∷ []
+opcode_of Multiply = 0x77 ∷ []
+opcode_of Divide = 0x78 ∷ []
+opcode_of ShiftLeft = 0x79 ∷ []
+opcode_of ShiftRight = 0x7A ∷ []
+opcode_of And = 0x7B ∷ []
+opcode_of NAnd = 0x7C ∷ []
+opcode_of Or = 0x7D ∷ []
+opcode_of NOr = 0x7E ∷ []
+opcode_of XOr = 0x7F ∷ []
+opcode_of Not = 0x80 ∷ []
+opcode_of FindSetLeftBit = 0x81 ∷ []
+opcode_of FindSetRightBit = 0x82 ∷ []
+opcode_of DerefOf = 0x83 ∷ []
+opcode_of ConcatRes = 0x84 ∷ []
+opcode_of Mod = 0x85 ∷ []
+opcode_of Notify = 0x86 ∷ []
+opcode_of SizeOf = 0x87 ∷ []
+opcode_of Index = 0x88 ∷ []
+opcode_of Match = 0x89 ∷ []
+opcode_of ObjectType = 0x8E ∷ []
+opcode_of LAnd = 0x90 ∷ []
+opcode_of LOr = 0x91 ∷ []
+opcode_of LNot = 0x92 ∷ []
+opcode_of LEqual = 0x93 ∷ []
+opcode_of LGreater = 0x94 ∷ []
+opcode_of LLess = 0x95 ∷ []
+opcode_of ToBuffer = 0x96 ∷ []
+opcode_of ToDecimalString = 0x97 ∷ []
+opcode_of ToHexString = 0x98 ∷ []
+opcode_of ToInteger = 0x99 ∷ []
+opcode_of ToString = 0x9C ∷ []
+opcode_of CopyObject = 0x9D ∷ []
+opcode_of Mid = 0x9E ∷ []
+opcode_of Continue = 0x9F ∷ []
+opcode_of Noop = 0xA3 ∷ []
+opcode_of Return = 0xA4 ∷ []
+opcode_of Break = 0xA5 ∷ []
+opcode_of BreakPoint = 0xCC ∷ []
+opcode_of CondRefOf = 0x5B ∷ 0x12 ∷ []
+opcode_of Stall = 0x5B ∷ 0x21 ∷ []
+opcode_of Sleep = 0x5B ∷ 0x22 ∷ []
+opcode_of Acquire = 0x5B ∷ 0x23 ∷ []
+opcode_of Signal = 0x5B ∷ 0x24 ∷ []
+opcode_of Wait = 0x5B ∷ 0x25 ∷ []
+opcode_of Reset = 0x5B ∷ 0x26 ∷ []
+opcode_of Release = 0x5B ∷ 0x27 ∷ []
+opcode_of FromBCD = 0x5B ∷ 0x28 ∷ []
+opcode_of ToBCD = 0x5B ∷ 0x29 ∷ []
+opcode_of Fatal = 0x5B ∷ 0x32 ∷ []
+opcode_of Timer = 0x5B ∷ 0x33 ∷ []
+
+-- the operands of an operator, in order
+abbrev pub operands_of : Op → List OperandKind
+operands_of Store = At Value ∷ At SuperName ∷ []
+operands_of RefOf = At SuperName ∷ []
+operands_of Add = At Value ∷ At Value ∷ Target ∷ []
+operands_of Concat = At Value ∷ At Value ∷ Target ∷ []
+operands_of Subtract = At Value ∷ At Value ∷ Target ∷ []
+operands_of Increment = At SuperName ∷ []
+operands_of Decrement = At SuperName ∷ []
+operands_of Multiply = At Value ∷ At Value ∷ Target ∷ []
+operands_of Divide = At Value ∷ At Value ∷ Target ∷ Target ∷ []
+operands_of ShiftLeft = At Value ∷ At Value ∷ Target ∷ []
+operands_of ShiftRight = At Value ∷ At Value ∷ Target ∷ []
+operands_of And = At Value ∷ At Value ∷ Target ∷ []
+operands_of NAnd = At Value ∷ At Value ∷ Target ∷ []
+operands_of Or = At Value ∷ At Value ∷ Target ∷ []
+operands_of NOr = At Value ∷ At Value ∷ Target ∷ []
+operands_of XOr = At Value ∷ At Value ∷ Target ∷ []
+operands_of Not = At Value ∷ Target ∷ []
+operands_of FindSetLeftBit = At Value ∷ Target ∷ []
+operands_of FindSetRightBit = At Value ∷ Target ∷ []
+operands_of DerefOf = At Value ∷ []
+operands_of ConcatRes = At Value ∷ At Value ∷ Target ∷ []
+operands_of Mod = At Value ∷ At Value ∷ Target ∷ []
+operands_of Notify = At SuperName ∷ At Value ∷ []
+operands_of SizeOf = At SuperName ∷ []
+operands_of Index = At Value ∷ At Value ∷ Target ∷ []
+operands_of Match = At Value ∷ Byte ∷ At Value ∷ Byte ∷ At Value ∷ At Value ∷ []
+operands_of ObjectType = At SuperName ∷ []
+operands_of LAnd = At Value ∷ At Value ∷ []
+operands_of LOr = At Value ∷ At Value ∷ []
+operands_of LNot = At Value ∷ []
+operands_of LEqual = At Value ∷ At Value ∷ []
+operands_of LGreater = At Value ∷ At Value ∷ []
+operands_of LLess = At Value ∷ At Value ∷ []
+operands_of ToBuffer = At Value ∷ Target ∷ []
+operands_of ToDecimalString = At Value ∷ Target ∷ []
+operands_of ToHexString = At Value ∷ Target ∷ []
+operands_of ToInteger = At Value ∷ Target ∷ []
+operands_of ToString = At Value ∷ At Value ∷ Target ∷ []
+operands_of CopyObject = At Value ∷ At SimpleName ∷ []
+operands_of Mid = At Value ∷ At Value ∷ At Value ∷ Target ∷ []
+operands_of Continue = []
+operands_of Noop = []
+operands_of Return = At Value ∷ []
+operands_of Break = []
+operands_of BreakPoint = []
+operands_of CondRefOf = At SuperName ∷ Target ∷ []
+operands_of Stall = At Value ∷ []
+operands_of Sleep = At Value ∷ []
+operands_of Acquire = At SuperName ∷ Word ∷ []
+operands_of Signal = At SuperName ∷ []
+operands_of Wait = At SuperName ∷ At Value ∷ []
+operands_of Reset = At SuperName ∷ []
+operands_of Release = At SuperName ∷ []
+operands_of FromBCD = At Value ∷ Target ∷ []
+operands_of ToBCD = At Value ∷ Target ∷ []
+operands_of Fatal = Byte ∷ DWord ∷ At Value ∷ []
+operands_of Timer = []
+
+-- an expression has a value, so it may stand where a value does; the others are statements alone
+abbrev pub is_expression : Op → Bool
+is_expression Notify = false
+is_expression Continue = false
+is_expression Noop = false
+is_expression Return = false
+is_expression Break = false
+is_expression BreakPoint = false
+is_expression Stall = false
+is_expression Sleep = false
+is_expression Signal = false
+is_expression Reset = false
+is_expression Release = false
+is_expression Fatal = false
+is_expression _ = true
+
+-- the operators that tell of a place: Type6Opcode without the calls (20.2.5.4)
+abbrev pub is_reference : Op → Bool
+is_reference RefOf = true
+is_reference DerefOf = true
+is_reference Index = true
+is_reference _ = false
+
+-- ---- declarations of one name: what stands before and behind the name (20.2.5.1 and 20.2.5.2)
+
+abbrev pub operands_before : NamedForm → List OperandKind
+operands_before (named.Create w) = At Value ∷ At Value ∷ []
+operands_before named.CreateField = At Value ∷ At Value ∷ At Value ∷ []
+operands_before _ = []
+
+abbrev pub operands_behind : NamedForm → List OperandKind
+operands_behind named.Name = At Data ∷ []
+operands_behind named.Region = Byte ∷ At Value ∷ At Value ∷ []
+operands_behind named.Mutex = Byte ∷ []
+operands_behind _ = []
+
+-- ---- declarations of field units: how many names stand first, and what stands before the units (20.2.5.2)
+
+abbrev pub names_of_units : UnitsForm → ℕ
+names_of_units units.Field = 1
+names_of_units units.IndexField = 2
+names_of_units units.BankField = 2
+
+abbrev pub operands_of_units : UnitsForm → List OperandKind
+operands_of_units units.BankField = At Value ∷ Byte ∷ []
+operands_of_units _ = Byte ∷ []
