@@ -1,10 +1,10 @@
 -- Reading one after the other to the end of the bytes, as a loop does.
 use Rattle.std.proofs.Common.{◌≡◌, ℕ, zero, suc, ◌-◌, ◌≤◌, ◌<◌, List, [], ◌∷◌, ◌++◌, length, Result, Ok, Err, refl, sym, ap, ◌∙◌, append_assoc, arith}
 use Rattle.std.proofs.lemmas.List.{append-nil}
-use Rattle.std.specs.List.{slice_range}
-use Rattle.acpi_terms.proofs.Ranges.{range_length}
 use Rattle.acpi_terms.specs.declared.fault.ItemFault.{ItemFault}
 use Rattle.acpi_terms.specs.declared.fault.ItemFault.TheVariants as errors
+use Rattle.acpi_terms.specs.Left.{Left}
+use Rattle.acpi_terms.specs.Cursor.{Shorter}
 use Rattle.acpi_terms.specs.Reading.{Fault, ◌>>=◌, Reading, Fails, each_with, each_at}
 
 -- what was read before, and what is still read
@@ -74,24 +74,31 @@ fails_on (errors.At why place) r f fails = rw fails refl
 pub reads_on : {A B : Type 0} (r : Result A Fault) (x : A) (f : A → Result B Fault) → r ≡ Ok x → (r >>= f) ≡ f x
 reads_on r x f is = rw is refl
 
--- ---- the same, of the code from one place to another
+-- ---- the same, of what is left of a list
 
-some_left : (code : List ℕ) (at end : ℕ) → at < end → end ≤ length code → 0 < length (slice_range code at end)
-some_left code at end lt le = rw (range_length code at end le) (omega arith)
+-- `front` was read of what was left at first, and what is left now follows it
+pub record Turns {A : Type 0} (one : ℕ → List ℕ → Reading A) (first now : Left) (front : List A) : Type 0 where
+  pub same_end : now.end ≡ first.end
+  pub so_far : SoFar (one first.end) first.bytes now.bytes front
 
-pub step_on : {A : Type 0} (one : List ℕ → Reading A) (code bytes : List ℕ) (at behind end : ℕ) (front : List A) (x : A) → at < end → end ≤ length code
-    → one (slice_range code at end) ≡ Ok (x, slice_range code behind end) → at < behind
-    → SoFar one bytes (slice_range code at end) front → SoFar one bytes (slice_range code behind end) (front ++ x ∷ [])
-step_on one code bytes at behind end front x lt le read on so =
-    let shorter : length (slice_range code behind end) < length (slice_range code at end) = rw (range_length code behind end le, range_length code at end le) (omega arith) in
-    goes_on one bytes (slice_range code at end) (slice_range code behind end) front x (some_left code at end lt le) read shorter so
+pub begun : {A : Type 0} (one : ℕ → List ℕ → Reading A) (first : Left) → Turns one first first []
+begun one first = record { same_end = refl; so_far = starts (one first.end) first.bytes }
 
-pub stops : {A : Type 0} (one : List ℕ → Reading A) (code bytes : List ℕ) (at end : ℕ) (front : List A) (e : ItemFault) → at < end → end ≤ length code
-    → Fails e (one (slice_range code at end)) → SoFar one bytes (slice_range code at end) front → Fails e (each_at one bytes)
-stops one code bytes at end front e lt le fails so = ends one bytes (slice_range code at end) front e (some_left code at end lt le) fails so
+pub turned : {A : Type 0} (one : ℕ → List ℕ → Reading A) (first now after : Left) (front : List A) (x : A) → 0 < length now.bytes
+    → one now.end now.bytes ≡ Ok (x, after.bytes) → Shorter now after → Turns one first now front → Turns one first after (front ++ x ∷ [])
+turned one first now after front x some read on so =
+    let same : one first.end now.bytes ≡ Ok (x, after.bytes) = rw (sym so.same_end) read in
+    record {
+      same_end = on.same_end ∙ so.same_end;
+      so_far = goes_on (one first.end) first.bytes now.bytes after.bytes front x some same on.less so.so_far;
+    }
 
-pub all_read : {A : Type 0} (one : List ℕ → Reading A) (code bytes : List ℕ) (at end : ℕ) (front : List A) → end ≤ at → end ≤ length code
-    → SoFar one bytes (slice_range code at end) front → each_at one bytes ≡ Ok front
-all_read one code bytes at end front ge le so =
-    let none : length (slice_range code at end) ≡ 0 = rw (range_length code at end le) (omega arith) in
-    is_done one bytes (slice_range code at end) front none so
+pub stopped_there : {A : Type 0} (one : ℕ → List ℕ → Reading A) (first now : Left) (front : List A) (e : ItemFault) → 0 < length now.bytes
+    → Fails e (one now.end now.bytes) → Turns one first now front → Fails e (each_at (one first.end) first.bytes)
+stopped_there one first now front e some fails so =
+    let same : Fails e (one first.end now.bytes) = rw (sym so.same_end) fails in
+    ends (one first.end) first.bytes now.bytes front e some same so.so_far
+
+pub all_turned : {A : Type 0} (one : ℕ → List ℕ → Reading A) (first now : Left) (front : List A) → length now.bytes ≡ 0
+    → Turns one first now front → each_at (one first.end) first.bytes ≡ Ok front
+all_turned one first now front none so = is_done (one first.end) first.bytes now.bytes front none so.so_far

@@ -286,4 +286,4 @@ pub code_judged : (depth : ℕ) (code : List ℕ) → Judge (λ is. ItemsWithin 
 code_judged depth code =
     let s : Spot = record { depth = depth; code = code } in
     inner_judged s depth (λ end bytes k. item_judged s depth end bytes k) (length code) code
-    (record { before = []; after = []; whole = sym (append-nil code); ends = omega arith; is_end = inl refl; deep = omega arith })
+    (record { before = []; after = []; whole = sym (append-nil code); ends = omega arith; start = 0; is_list = inl (refl, refl); begun = omega arith; deep = omega arith })

@@ -4,7 +4,7 @@ use Rattle.std.proofs.lemmas.List.{length-append, drop_at}
 use Rattle.acpi_terms.specs.declared.fault.ItemReason.TheVariants.{Cut}
 use Rattle.acpi_terms.specs.Reading.{◌>>=◌, Reading, Fault, fault_at, no_level, each_with, each_at}
 use Rattle.acpi_terms.specs.Spelling.{SpellsEach}
-use Rattle.acpi_terms.specs.Faults.{IsEnd, Shows}
+use Rattle.acpi_terms.specs.Faults.{IsList, Shows}
 
 abbrev pub Judge : {A : Type 0} → (A → Type 0) → (Fault → Type 0) → Result A Fault → Type 0
 Judge Good Bad (Ok x) = Good x
@@ -33,14 +33,16 @@ pub record Took {A : Type 0} (Spells : A → List ℕ → Type 0) (bytes : List 
   pub spells : Spells x.0 front
   pub whole : bytes ≡ front ++ x.1
 
--- the bytes stand in the code, their list ends at `end`, and the levels that are used have at most as many
+-- the bytes stand in the code, in a list that ends at `end`, and the levels that are used have at most as many
 -- bytes before them
 pub record Here (depth level : ℕ) (code : List ℕ) (end : ℕ) (bytes : List ℕ) : Type 0 where
   pub before : List ℕ
   pub after : List ℕ
   pub whole : code ≡ before ++ (bytes ++ after)
   pub ends : end ≡ length before + length bytes
-  pub is_end : IsEnd code end
+  pub start : ℕ
+  pub is_list : IsList code start end
+  pub begun : start ≤ length before
   pub deep : depth ≤ length before + level
 
 -- the place and its premises, as a record for short
@@ -68,7 +70,9 @@ here_after s level end bytes front rest is h = record {
   after = h.after;
   whole = h.whole ∙ ap (λ (t : List ℕ). h.before ++ (t ++ h.after)) is ∙ ap (λ (t : List ℕ). h.before ++ t) (append_assoc front rest h.after) ∙ sym (append_assoc h.before front (rest ++ h.after));
   ends = h.ends ∙ ap (λ n. length h.before + n) (ap length is) ∙ omega (arith, length-append front rest, length-append h.before front);
-  is_end = h.is_end;
+  start = h.start;
+  is_list = h.is_list;
+  begun = omega (arith, h.begun, length-append h.before front);
   deep = omega (arith, h.deep, length-append h.before front);
 }
 
@@ -82,12 +86,17 @@ here_deeper s level end bytes front rest is some h =
       after = k.after;
       whole = k.whole;
       ends = k.ends;
-      is_end = k.is_end;
+      start = k.start;
+      is_list = k.is_list;
+      begun = k.begun;
       deep = omega (arith, h.deep, length-append h.before front);
     }
 
 pub cut_shows : (s : Spot) (level end : ℕ) (bytes : List ℕ) → Here s.depth level s.code end bytes → Bad s (fault_at end [] Cut)
-cut_shows s level end bytes h = let same : end - 0 ≡ end = omega arith in rw same h.is_end
+cut_shows s level end bytes h =
+    let same : end - 0 ≡ end = omega arith in
+    let list : IsList s.code h.start (end - 0) = rw same h.is_list in
+    (h.start, list)
 
 pub no_level_shows : (s : Spot) (end : ℕ) (bytes : List ℕ) → Here s.depth 0 s.code end bytes → Bad s (no_level end bytes)
 no_level_shows s end [] h = cut_shows s 0 end [] h
@@ -131,7 +140,7 @@ all_judged s level end Spells Bad one long judged bytes h = each_judged s level 
 
 -- a level more does no harm
 pub here_up : (s : Spot) (level end : ℕ) (bytes : List ℕ) → Here s.depth level s.code end bytes → Here s.depth (suc level) s.code end bytes
-here_up s level end bytes h = record { before = h.before; after = h.after; whole = h.whole; ends = h.ends; is_end = h.is_end; deep = omega (arith, h.deep) }
+here_up s level end bytes h = record { before = h.before; after = h.after; whole = h.whole; ends = h.ends; start = h.start; is_list = h.is_list; begun = h.begun; deep = omega (arith, h.deep) }
 
 pub judge_up : {A : Type 0} (s : Spot) (level end : ℕ) (Spells : A → List ℕ → Type 0) (bytes : List ℕ) (r : Reading A) → Judge (Read s level end Spells bytes) (Bad s) r → Judge (Read s (suc level) end Spells bytes) (Bad s) r
 judge_up s level end Spells bytes (Ok x) h = (h.0, here_up s level end x.1 h.1)

@@ -18,3 +18,5 @@ pub mod Opened
 pub mod ReadItems
 pub mod ReadParts
 pub mod ShortOffsets
+pub mod Left
+pub mod OneTree

@@ -86,18 +86,23 @@ inside : (s : Spot) (level end : ℕ) (bytes len content rest : List ℕ) → He
 inside s level end bytes len content rest h spells_len whole some =
     let sizes : length bytes ≡ length len + (length content + length rest) = ap length whole ∙ length-append len (content ++ rest) ∙ ap (λ n. length len + n) (length-append content rest) in
     let place : end - length bytes ≡ length h.before = omega (arith, h.ends) in
+    let size : length s.code ≡ length h.before + (length bytes + length h.after) = ap length h.whole ∙ length-append h.before (bytes ++ h.after) ∙ ap (λ n. length h.before + n) (length-append bytes h.after) in
     record {
       before = h.before ++ len;
       after = rest ++ h.after;
       whole = h.whole ∙ ap (λ (y : List ℕ). h.before ++ y) (ap (λ (y : List ℕ). y ++ h.after) whole ∙ append_assoc len (content ++ rest) h.after ∙ ap (λ (y : List ℕ). len ++ y) (append_assoc content rest h.after)) ∙ sym (append_assoc h.before len (content ++ (rest ++ h.after)));
       ends = omega (arith, h.ends, length-append h.before len);
-      is_end = inr (record {
+      start = length (h.before ++ len);
+      is_list = inr (record {
         place = end - length bytes;
         n = length len + length content;
         stands = record { len = len; rest = (content ++ rest) ++ h.after; here = here_at s level end bytes h ∙ ap (λ (y : List ℕ). y ++ h.after) whole ∙ append_assoc len (content ++ rest) h.after; spells_len = spells_len };
-        before = omega (arith, h.ends);
-        is_end = omega (arith, h.ends);
+        starts = omega (arith, h.ends, length-append h.before len);
+        ends = omega (arith, h.ends);
+        ordered = omega (arith, h.ends, length-append h.before len);
+        within = omega (arith, h.ends, size);
       });
+      begun = omega arith;
       deep = omega (arith, h.deep, length-append h.before len);
     }
 
@@ -128,7 +133,7 @@ package_judged s level end bytes h =
       stands,
       elim (or_true (ltb n.0 used) (ltb (length bytes) n.0) bad) [
         | inl low ↦ let lt : n.0 < length bytes - length n.1 = ltb-true _ _ low in inl (omega arith)
-        | inr high ↦ let lt : length bytes < n.0 = ltb-true _ _ high in inr (end, h.is_end, omega (arith, h.ends), omega (arith, h.ends))
+        | inr high ↦ let lt : length bytes < n.0 = ltb-true _ _ high in inr (record { start = h.start; end = end; is_list = h.is_list; begun = omega (arith, h.ends, h.begun); before = omega (arith, h.ends); past = omega (arith, h.ends) })
       ],
     ))
     (λ good.

@@ -1,7 +1,7 @@
 -- What the readers of one part at the front of some bytes ensure.
-use Rattle.std.proofs.Common.{◌≡◌, ℕ, ◌≤◌, ◌<◌, List, [], ◌++◌, length, take, drop, Option, Some, None, Result, Ok, Err, refl, sym, ap, subst, ◌∙◌, arith, inl}
+use Rattle.std.proofs.Common.{◌≡◌, ℕ, ◌-◌, ◌≤◌, ◌<◌, List, [], ◌++◌, length, take, drop, Option, Some, None, Result, Ok, Err, refl, sym, ap, subst, ◌∙◌, arith, inl}
 use Rattle.std.proofs.lemmas.List.{length-append, length-drop, append-nil}
-use Rattle.std.proofs.Math.Seq.{take-append_seam}
+use Rattle.std.proofs.Math.Seq.{take-append_seam, drop-append_seam}
 use Rattle.std.specs.Prelude.{IfOk, IfErr, IfSome, option_map}
 use Rattle.acpi_terms.specs.declared.fault.ItemFault.{ItemFault}
 use Rattle.acpi_terms.specs.declared.fault.ItemFault.TheVariants as errors
@@ -9,7 +9,9 @@ use Rattle.acpi_tree.specs.declared.tree.Int.{Int}
 use Rattle.acpi_tree.specs.Tree.{FieldTree}
 use Rattle.acpi_terms.specs.Reading.{Fault, Gives, OrMemory, found, const_at, field_at, int_front}
 use Rattle.acpi_terms.specs.Spelling.{SpellsInt, SpellsField}
-use Rattle.acpi_terms.specs.Faults.{Told}
+use Rattle.acpi_terms.specs.declared.fault.ItemReason.{ItemReason}
+use Rattle.acpi_terms.specs.declared.fault.ItemReason.TheVariants.{TooDeep}
+use Rattle.acpi_terms.specs.Faults.{Shows, ToldOfElem}
 use Rattle.acpi_terms.proofs.Judged.{Judge, Took, Here, Spot, Bad, Read}
 use Rattle.acpi_terms.proofs.PartsAgain.{const_again}
 use Rattle.acpi_terms.proofs.PartsTook.{const_judged}
@@ -17,11 +19,12 @@ use Rattle.acpi_terms.proofs.FieldsAgain.{field_again}
 use Rattle.acpi_terms.proofs.FieldsTook.{field_judged}
 
 -- the bytes as a code of their own
+-- as many levels as there are bytes, so that none is lacking
 abbrev pub Whole : List ℕ → Spot
-Whole bytes = record { depth = 0; code = bytes }
+Whole bytes = record { depth = length bytes; code = bytes }
 
-pub whole_here : (bytes : List ℕ) → Here 0 0 bytes (length bytes) bytes
-whole_here bytes = record { before = []; after = []; whole = sym (append-nil bytes); ends = omega arith; is_end = inl refl; deep = omega arith }
+pub whole_here : (bytes : List ℕ) → Here (length bytes) (length bytes) bytes (length bytes) bytes
+whole_here bytes = record { before = []; after = []; whole = sym (append-nil bytes); ends = omega arith; start = 0; is_list = inl (refl, refl); begun = omega arith; deep = omega arith }
 
 -- what stands before the last bytes of a list
 front_is : (bytes front : List ℕ) (used : ℕ) → used ≤ length bytes → bytes ≡ front ++ drop used bytes → front ≡ take used bytes
@@ -35,6 +38,12 @@ took_front Spells bytes x used le t = subst (Spells x) (front_is bytes t.front u
 -- how many bytes were used
 used_is : (bytes front rest : List ℕ) (used : ℕ) → used ≤ length bytes → bytes ≡ front ++ rest → drop used bytes ≡ rest → used ≡ length front
 used_is bytes front rest used le whole back = omega (arith, ap length whole, length-append front rest, length-drop used bytes, ap length back, le)
+
+-- what is behind the front
+behind_is : (bytes front rest : List ℕ) → bytes ≡ front ++ rest → drop (length bytes - length rest) bytes ≡ rest
+behind_is bytes front rest whole =
+    let e : length bytes - length rest ≡ length front = omega (arith, ap length whole, length-append front rest) in
+    rw e (ap (drop (length front)) whole ∙ drop-append_seam front rest)
 
 -- ---- constants
 
@@ -59,8 +68,8 @@ pub int_found_law : (bytes : List ℕ) (result : Option (Int × ℕ)) → option
 int_found_law bytes None e used = tt
 int_found_law bytes (Some x) e used =
     let r : const_at (length bytes) bytes ≡ Ok (x.0, drop x.1 bytes) = found_ok (const_at (length bytes) bytes) (x.0, drop x.1 bytes) e in
-    let j : Read (Whole bytes) 0 (length bytes) SpellsInt bytes (x.0, drop x.1 bytes) =
-    subst (Judge (Read (Whole bytes) 0 (length bytes) SpellsInt bytes) (Bad (Whole bytes))) r (const_judged (Whole bytes) 0 (length bytes) bytes (whole_here bytes)) in
+    let j : Read (Whole bytes) (length bytes) (length bytes) SpellsInt bytes (x.0, drop x.1 bytes) =
+    subst (Judge (Read (Whole bytes) (length bytes) (length bytes) SpellsInt bytes) (Bad (Whole bytes))) r (const_judged (Whole bytes) (length bytes) (length bytes) bytes (whole_here bytes)) in
     took_front SpellsInt bytes x.0 x.1 used.1 j.0
 
 pub int_only_law : (bytes : List ℕ) (result : Option (Int × ℕ)) → option_map (λ x. (x.0, drop x.1 bytes)) result ≡ int_front bytes
@@ -86,8 +95,8 @@ int_only_law bytes result e used i front rest s whole = by_result result e used
 pub elem_found_law : {V : Type 0} (view : V → FieldTree) (bytes : List ℕ) (result : Result (V × ℕ) ItemFault) → Gives (λ x. (view x.0, drop x.1 bytes)) result (field_at (length bytes) bytes)
     → IfOk result (λ x. (0 < x.1) × (x.1 ≤ length bytes)) → IfOk result (λ x. SpellsField (view x.0) (take x.1 bytes))
 elem_found_law view bytes (Ok x) h used =
-    let j : Read (Whole bytes) 0 (length bytes) SpellsField bytes (view x.0, drop x.1 bytes) =
-    subst (Judge (Read (Whole bytes) 0 (length bytes) SpellsField bytes) (Bad (Whole bytes))) h (field_judged (Whole bytes) 0 (length bytes) bytes (whole_here bytes)) in
+    let j : Read (Whole bytes) (length bytes) (length bytes) SpellsField bytes (view x.0, drop x.1 bytes) =
+    subst (Judge (Read (Whole bytes) (length bytes) (length bytes) SpellsField bytes) (Bad (Whole bytes))) h (field_judged (Whole bytes) (length bytes) (length bytes) bytes (whole_here bytes)) in
     took_front SpellsField bytes (view x.0) x.1 used.1 j.0
 elem_found_law view bytes (Err e) h used = tt
 
@@ -104,8 +113,26 @@ elem_only_law view bytes (Err (errors.At why place)) h used e front rest s whole
     let no : done (e, rest) ≡ Err (record { reason = why; place = place }) = sym r ∙ h in
     cc
 
-pub elem_faults_law : {V : Type 0} (view : V → FieldTree) (bytes : List ℕ) (result : Result (V × ℕ) ItemFault) → Gives (λ x. (view x.0, drop x.1 bytes)) result (field_at (length bytes) bytes) → IfErr result (λ e. Told 0 bytes e)
+no_level_told : (bytes : List ℕ) (why : ItemReason) (place : ℕ) → Shows (length bytes) bytes why place → ToldOfElem bytes (errors.At why place)
+no_level_told bytes TooDeep place h = absurd (omega arith)
+no_level_told bytes why place h = h
+
+pub elem_faults_law : {V : Type 0} (view : V → FieldTree) (bytes : List ℕ) (result : Result (V × ℕ) ItemFault) → Gives (λ x. (view x.0, drop x.1 bytes)) result (field_at (length bytes) bytes) → IfErr result (λ e. ToldOfElem bytes e)
 elem_faults_law view bytes (Ok x) h = tt
 elem_faults_law view bytes (Err errors.Memory) h = tt
 elem_faults_law view bytes (Err (errors.At why place)) h =
-    subst (Judge (Read (Whole bytes) 0 (length bytes) SpellsField bytes) (Bad (Whole bytes))) h (field_judged (Whole bytes) 0 (length bytes) bytes (whole_here bytes))
+    no_level_told bytes why place (subst (Judge (Read (Whole bytes) (length bytes) (length bytes) SpellsField bytes) (Bad (Whole bytes))) h (field_judged (Whole bytes) (length bytes) (length bytes) bytes (whole_here bytes)))
+
+-- ---- by what is left behind them
+
+pub int_exact : (bytes rest : List ℕ) (i : Int) → const_at (length bytes) bytes ≡ Ok (i, rest) → some (i, drop (length bytes - length rest) bytes) ≡ int_front bytes
+int_exact bytes rest i h =
+    let j : Read (Whole bytes) (length bytes) (length bytes) SpellsInt bytes (i, rest) =
+    subst (Judge (Read (Whole bytes) (length bytes) (length bytes) SpellsInt bytes) (Bad (Whole bytes))) h (const_judged (Whole bytes) (length bytes) (length bytes) bytes (whole_here bytes)) in
+    rw (h, behind_is bytes j.0.front rest j.0.whole) refl
+
+pub elem_exact : (bytes rest : List ℕ) (x : FieldTree) → field_at (length bytes) bytes ≡ Ok (x, rest) → field_at (length bytes) bytes ≡ Ok (x, drop (length bytes - length rest) bytes)
+elem_exact bytes rest x h =
+    let j : Read (Whole bytes) (length bytes) (length bytes) SpellsField bytes (x, rest) =
+    subst (Judge (Read (Whole bytes) (length bytes) (length bytes) SpellsField bytes) (Bad (Whole bytes))) h (field_judged (Whole bytes) (length bytes) (length bytes) bytes (whole_here bytes)) in
+    h ∙ rw (behind_is bytes j.0.front rest j.0.whole) refl

@@ -26,17 +26,29 @@ pub record StandsAt (code : List ℕ) (place n : ℕ) : Type 0 where
   pub here : drop place code ≡ len ++ rest
   pub spells_len : SpellsPkgLength n len
 
--- the end of a package whose length stands before it
-pub record IsPackageEnd (code : List ℕ) (end : ℕ) : Type 0 where
+-- What a package of the code holds, from `start` to `end`: its length stands before it, counts its own bytes
+-- too, and ends the package in the code.
+pub record IsPackage (code : List ℕ) (start end : ℕ) : Type 0 where
   pub place : ℕ
   pub n : ℕ
   pub stands : StandsAt code place n
-  pub before : place < end
-  pub is_end : end ≡ place + n
+  pub starts : start ≡ place + length stands.len
+  pub ends : end ≡ place + n
+  pub ordered : start ≤ end
+  pub within : end ≤ length code
 
--- the end of the code, or of a package
-abbrev pub IsEnd : List ℕ → ℕ → Type 0
-IsEnd code end = (end ≡ length code) ⊎ IsPackageEnd code end
+-- a list of terms from `start` to `end`: all of the code, or what a package of it holds
+abbrev pub IsList : List ℕ → ℕ → ℕ → Type 0
+IsList code start end = ((start ≡ 0) × (end ≡ length code)) ⊎ IsPackage code start end
+
+-- a number of bytes that a place has in a list behind which it goes
+pub record IsPastEnd (code : List ℕ) (place n : ℕ) : Type 0 where
+  pub start : ℕ
+  pub end : ℕ
+  pub is_list : IsList code start end
+  pub begun : start ≤ place
+  pub before : place < end
+  pub past : end < place + n
 
 -- ---- what begins at a place (20.3)
 
@@ -123,18 +135,18 @@ IsReserved lead = (64 ≤ lead) × (15 < lead % 64)
 
 -- What the reason says is true of the code at that place, for some kind of place; `depth` is the number of
 -- levels that are allowed.
--- Cut: the code or a package ends there. BadOpcode: no term begins there. ReservedBits: a package length
+-- Cut: a list ends there. BadOpcode: no term begins there. ReservedBits: a package length
 -- with reserved bits, or a count of arguments above 7. BadName: no name and no segment. Overrun: a package
--- length below its own number of bytes, or past an end. Computed: a term that is no constant, or one that
+-- length below its own number of bytes, or past the end of a list that it stands in. Computed: a term that is no constant, or one that
 -- is no name. ModuleIf: an Else, a While, or an If that is no block of Externals. ModuleCode: a name, data,
 -- Local, Arg, Debug or an operator. NotData: no data. TooDeep: a byte, behind at least as many bytes as there are levels.
 -- BadString: a byte above 7F.
 abbrev pub Shows : ℕ → List ℕ → ItemReason → ℕ → Type 0
-Shows depth code Cut place = IsEnd code place
+Shows depth code Cut place = (start : ℕ) × IsList code start place
 Shows depth code BadOpcode place = Refused BadOpcode code place
 Shows depth code ReservedBits place = ByteAt (λ b. IsReserved b ⊎ (7 < b)) code place
 Shows depth code BadName place = HasNoName (drop place code) ⊎ (is_segment_front (drop place code) ≡ false) ⊎ Begins is_nothing code place
-Shows depth code Overrun place = (n : ℕ) × (s : StandsAt code place n) × ((n < length s.len) ⊎ ((end : ℕ) × IsEnd code end × (place < end) × (end < place + n)))
+Shows depth code Overrun place = (n : ℕ) × (s : StandsAt code place n) × ((n < length s.len) ⊎ IsPastEnd code place n)
 Shows depth code Computed place = Begins is_no_constant code place ⊎ Begins is_other_term code place
 Shows depth code Alias place = Refused Alias code place
 Shows depth code ModuleIf place = Refused ModuleIf code place ⊎ IsOtherIf (drop place code)
@@ -149,3 +161,8 @@ Shows depth code DataRegion place = Refused DataRegion code place
 abbrev pub Told : ℕ → List ℕ → ItemFault → Type 0
 Told depth code errors.Memory = Unit {0}
 Told depth code (errors.At reason place) = Shows depth code reason place
+
+-- the same of a field element, which has no level
+abbrev pub ToldOfElem : List ℕ → ItemFault → Type 0
+ToldOfElem bytes (errors.At TooDeep place) = ⊥
+ToldOfElem bytes fault = Told 0 bytes fault

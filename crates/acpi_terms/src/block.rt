@@ -1,78 +1,50 @@
 //! Reading the block of Externals that compilers write: `If (Zero)` round them.
 
-ghost use Rattle.std.specs.Prelude.{◌≡◌, ◌<◌, ◌≤◌, length, IfOk};
-ghost use Rattle.std.specs.List.{slice_range};
+ghost use Rattle.std.specs.Prelude.{◌≡◌};
 ghost use Rattle.acpi_tree.specs.View.{item_view, external_view, externals_view};
-ghost use Rattle.acpi_terms.specs.Reading.{Gives, fault_at, each_at, external_at, block_content, block_answer, block_item};
+ghost use Rattle.acpi_terms.specs.Reading.{each_at, external_at, block_content, block_answer, block_item};
+ghost use Rattle.acpi_terms.specs.Cursor.{Reads, ReadsAll};
 
+use crate::code::Code;
 use crate::fault::{ItemFault, ItemReason};
 use crate::forms::external;
-use crate::lead::{Lead, read_lead};
-use crate::reading::{byte, package, stop, too_deep};
+use crate::lead::Lead;
 use acpi_tree::{External, Item};
 use std::alloc::Global;
 
 #[tactic(auto, unfolding(crate::specs::Reading::external_at))]
-fn external_term(
-    alloc: Global,
-    level: u32,
-    code: &[u8],
-    at: usize,
-    end: usize,
-) -> Result<(External, usize), ItemFault>
-    requires ordered { at ≤ end }
-    requires within { end ≤ length code.now }
-    ensures exact { Gives (λ x. (external_view x.0, slice_range code.now x.1 end)) result (external_at level end (slice_range code.now at end)) }
-    ensures on { IfOk result (λ x. (at < x.1) × (x.1 ≤ end)) }
+fn external_term(alloc: Global, level: u32, code: &mut Code<'_>) -> Result<External, ItemFault>
+    ensures { Reads external_view (external_at level) code.old code.new result }
 {
     if level == 0 {
-        return Err(too_deep(code, at, end));
+        return Err(code.too_deep());
     }
-    let (lead, behind) = read_lead(code, at, end)?;
-    match lead {
-        Lead::External => external(alloc, code, behind, end),
-        _ => Err(stop(code, at, end, ItemReason::ModuleIf)),
+    let front = code.fork();
+    match code.lead()? {
+        Lead::External => external(alloc, code),
+        _ => Err(front.stop(ItemReason::ModuleIf)),
     }
 }
 
-fn externals(
-    alloc: Global,
-    level: u32,
-    code: &[u8],
-    at: usize,
-    end: usize,
-) -> Result<Vec<External>, ItemFault>
-    requires ordered { at ≤ end }
-    requires within { end ≤ length code.now }
-    ensures { Gives (λ v. externals_view v.items) result (each_at (external_at level end) (slice_range code.now at end)) }
+fn externals(alloc: Global, level: u32, code: &mut Code<'_>) -> Result<Vec<External>, ItemFault>
+    ensures { ReadsAll (λ v. externals_view v.items) (λ end. each_at (external_at level end)) code.old result }
 {
     let mut found = Vec::new(alloc);
-    let mut at = at;
-    while at < end {
-        let (next, behind) = external_term(alloc, level, code, at, end)?;
-        found.push(next)?;
-        at = behind;
+    'each: while !code.is_empty() {
+        found.push(external_term(alloc, level, code)?)?;
     }
     Ok(found)
 }
 
 #[tactic(auto, unfolding(crate::specs::Reading::block_content))]
-fn content(
-    alloc: Global,
-    level: u32,
-    code: &[u8],
-    at: usize,
-    end: usize,
-) -> Result<Vec<External>, ItemFault>
-    requires ordered { at ≤ end }
-    requires within { end ≤ length code.now }
-    ensures { Gives (λ v. externals_view v.items) result (block_content level end (slice_range code.now at end)) }
+fn content(alloc: Global, level: u32, code: &mut Code<'_>) -> Result<Vec<External>, ItemFault>
+    ensures { ReadsAll (λ v. externals_view v.items) (block_content level) code.old result }
 {
-    let (test, behind) = byte(code, at, end)?;
-    if test != 0 {
-        return Err(stop(code, at, end, ItemReason::ModuleIf));
+    let front = code.fork();
+    if code.byte()? != 0 {
+        return Err(front.stop(ItemReason::ModuleIf));
     }
-    externals(alloc, level, code, behind, end)
+    externals(alloc, level, code)
 }
 
 // What is told of a fault in a block whose If stands at a place.
@@ -89,25 +61,20 @@ fn told(fault: ItemFault, of_if: ItemFault) -> ItemFault
     }
 }
 
-/// The block whose If stands at `at`, its opcode before `behind`.
+/// The block whose If, behind `front`, was read.
 #[inline(never)]
 pub(crate) fn block_form(
     alloc: Global,
     level: u32,
-    code: &[u8],
-    at: usize,
-    behind: usize,
-    end: usize,
-) -> Result<(Item, usize), ItemFault>
-    requires ordered { at ≤ end }
-    requires opened { behind ≤ end }
-    requires within { end ≤ length code.now }
-    ensures exact { Gives (λ x. (item_view x.0, slice_range code.now x.1 end)) result (block_item level end (slice_range code.now at end) (slice_range code.now behind end)) }
-    ensures on { IfOk result (λ x. (behind < x.1) × (x.1 ≤ end)) }
+    front: &Code<'_>,
+    code: &mut Code<'_>,
+) -> Result<Item, ItemFault>
+    requires { front.now.end ≡ code.old.end }
+    ensures { Reads item_view (λ end rest. block_item level end front.now.bytes rest) code.old code.new result }
 {
-    let (inner, behind) = package(code, behind, end)?;
-    match content(alloc, level, code, inner, behind) {
-        Ok(externals) => Ok((Item::ExternalBlock(externals), behind)),
-        Err(fault) => Err(told(fault, stop(code, at, end, ItemReason::ModuleIf))),
+    let mut inner = code.package()?;
+    match content(alloc, level, &mut inner) {
+        Ok(externals) => Ok(Item::ExternalBlock(externals)),
+        Err(fault) => Err(told(fault, front.stop(ItemReason::ModuleIf))),
     }
 }

@@ -1,96 +1,65 @@
 //! Reading constants, and names that stand where a term may stand.
 
-ghost use Rattle.std.specs.Prelude.{◌≡◌, ◌<◌, ◌≤◌, length, IfOk, IfErr};
-ghost use Rattle.std.specs.List.{slice_range};
 ghost use Rattle.acpi_name.specs.NameRefs.{name_parts};
-ghost use Rattle.acpi_terms.specs.Reading.{Gives, IsAtPlace, constant_at, const_at, int_at, source_at};
+ghost use Rattle.acpi_terms.specs.Reading.{constant_at, const_at, int_at, source_at};
+ghost use Rattle.acpi_terms.specs.Cursor.{Finds, FindsOn};
 
+use crate::code::Code;
 use crate::fault::{ItemFault, ItemReason};
-use crate::lead::{IntForm, Lead, read_lead};
-use crate::reading::{byte, dword, name, qword, stop, too_deep, word};
-use acpi_tree::Int;
+use crate::lead::{IntForm, Lead};
 use acpi_name::NameRef;
+use acpi_tree::Int;
 
-/// The constant whose opcode stands before `at`.
-pub fn constant_of(
-    form: IntForm,
-    code: &[u8],
-    at: usize,
-    end: usize,
-) -> Result<(Int, usize), ItemFault>
-    requires ordered { at ≤ end }
-    requires within { end ≤ length code.now }
-    ensures exact { Gives (λ x. (x.0, slice_range code.now x.1 end)) result (constant_at form end (slice_range code.now at end)) }
-    ensures on { IfOk result (λ x. (at ≤ x.1) × (x.1 ≤ end)) }
-    ensures told { IfErr result IsAtPlace }
-{
-    match form {
-        IntForm::Zero => Ok((Int::Zero, at)),
-        IntForm::One => Ok((Int::One, at)),
-        IntForm::Ones => Ok((Int::Ones, at)),
-        IntForm::Revision => Ok((Int::Revision, at)),
-        IntForm::Byte => {
-            let (number, behind) = byte(code, at, end)?;
-            Ok((Int::Byte(number), behind))
-        }
-        IntForm::Word => {
-            let (number, behind) = word(code, at, end)?;
-            Ok((Int::Word(number), behind))
-        }
-        IntForm::DWord => {
-            let (number, behind) = dword(code, at, end)?;
-            Ok((Int::DWord(number), behind))
-        }
-        IntForm::QWord => {
-            let (number, behind) = qword(code, at, end)?;
-            Ok((Int::QWord(number), behind))
+impl<'a> Code<'a> {
+    /// The constant whose opcode was read.
+    pub fn constant_of(&mut self, form: IntForm) -> Result<Int, ItemFault>
+        ensures { FindsOn (λ i. i) (constant_at form) self.old self.new result }
+    {
+        Ok(match form {
+            IntForm::Zero => Int::Zero,
+            IntForm::One => Int::One,
+            IntForm::Ones => Int::Ones,
+            IntForm::Revision => Int::Revision,
+            IntForm::Byte => Int::Byte(self.byte()?),
+            IntForm::Word => Int::Word(self.word()?),
+            IntForm::DWord => Int::DWord(self.dword()?),
+            IntForm::QWord => Int::QWord(self.qword()?),
+        })
+    }
+
+    /// A constant, whatever its level.
+    #[tactic(auto, unfolding(crate::specs::Reading::const_at))]
+    pub fn constant(&mut self) -> Result<Int, ItemFault>
+        ensures { Finds (λ i. i) const_at self.old self.new result }
+    {
+        let front = self.fork();
+        match self.lead()? {
+            Lead::Constant(form) => self.constant_of(form),
+            Lead::Nothing => Err(front.stop(ItemReason::BadOpcode)),
+            _ => Err(front.stop(ItemReason::Computed)),
         }
     }
-}
 
-/// A constant, whatever its level.
-#[tactic(auto, unfolding(crate::specs::Reading::const_at))]
-pub fn constant(code: &[u8], at: usize, end: usize) -> Result<(Int, usize), ItemFault>
-    requires ordered { at ≤ end }
-    requires within { end ≤ length code.now }
-    ensures exact { Gives (λ x. (x.0, slice_range code.now x.1 end)) result (const_at end (slice_range code.now at end)) }
-    ensures on { IfOk result (λ x. (at < x.1) × (x.1 ≤ end)) }
-    ensures told { IfErr result IsAtPlace }
-{
-    let (lead, behind) = read_lead(code, at, end)?;
-    match lead {
-        Lead::Constant(form) => constant_of(form, code, behind, end),
-        Lead::Nothing => Err(stop(code, at, end, ItemReason::BadOpcode)),
-        _ => Err(stop(code, at, end, ItemReason::Computed)),
+    /// A constant, `level` levels being left for it.
+    #[tactic(auto, unfolding(crate::specs::Reading::int_at))]
+    pub fn int(&mut self, level: u32) -> Result<Int, ItemFault>
+        ensures { Finds (λ i. i) (int_at level) self.old self.new result }
+    {
+        if level == 0 {
+            return Err(self.too_deep());
+        }
+        self.constant()
     }
-}
 
-/// A constant, `level` levels being left for it.
-#[tactic(auto, unfolding(crate::specs::Reading::int_at))]
-pub fn int(level: u32, code: &[u8], at: usize, end: usize) -> Result<(Int, usize), ItemFault>
-    requires ordered { at ≤ end }
-    requires within { end ≤ length code.now }
-    ensures exact { Gives (λ x. (x.0, slice_range code.now x.1 end)) result (int_at level end (slice_range code.now at end)) }
-    ensures on { IfOk result (λ x. (at < x.1) × (x.1 ≤ end)) }
-{
-    if level == 0 {
-        return Err(too_deep(code, at, end));
-    }
-    constant(code, at, end)
-}
-
-/// The source of a Create field.
-#[tactic(auto, unfolding(crate::specs::Reading::source_at))]
-pub fn source(code: &[u8], at: usize, end: usize) -> Result<(NameRef<'_>, usize), ItemFault>
-    requires ordered { at ≤ end }
-    requires within { end ≤ length code.now }
-    ensures exact { Gives (λ x. (name_parts x.0, slice_range code.now x.1 end)) result (source_at end (slice_range code.now at end)) }
-    ensures on { IfOk result (λ x. (at < x.1) × (x.1 ≤ end)) }
-{
-    let (lead, _) = read_lead(code, at, end)?;
-    match lead {
-        Lead::Name => name(code, at, end),
-        Lead::Nothing => Err(stop(code, at, end, ItemReason::BadName)),
-        _ => Err(stop(code, at, end, ItemReason::Computed)),
+    /// The source of a Create field.
+    #[tactic(auto, unfolding(crate::specs::Reading::source_at))]
+    pub fn source(&mut self) -> Result<NameRef<'a>, ItemFault>
+        ensures { Finds name_parts source_at self.old self.new result }
+    {
+        match self.fork().lead()? {
+            Lead::Name => self.name(),
+            Lead::Nothing => Err(self.stop(ItemReason::BadName)),
+            _ => Err(self.stop(ItemReason::Computed)),
+        }
     }
 }

@@ -1,15 +1,15 @@
 //! Reading data.
 
-ghost use Rattle.std.specs.Prelude.{◌≡◌, ◌<◌, ◌≤◌, ◌+◌, ◌-◌, length, IfOk, take};
-ghost use Rattle.std.specs.List.{slice_range, take_while};
+ghost use Rattle.std.specs.Prelude.{◌≡◌, ◌≤◌, length};
+ghost use Rattle.std.specs.List.{take_while};
 ghost use Rattle.acpi_tree.specs.Tree.{elems_of};
 ghost use Rattle.acpi_tree.specs.View.{data_view, elem_view, elems_view};
-ghost use Rattle.acpi_terms.specs.Reading.{Gives, name_elem_at, is_text, string_at, int_data, string_data, buffer_data, package_data, var_package_data, data_by, data_elem_of, elem_at, elems_with, data_at};
+ghost use Rattle.acpi_terms.specs.Reading.{name_elem_at, is_text, string_at, int_data, string_data, buffer_data, package_data, var_package_data, data_by, data_elem_of, elem_at, elems_with, data_at};
+ghost use Rattle.acpi_terms.specs.Cursor.{Finds, FindsOn, Reads, ReadsOn, ReadsAll};
 
-use crate::constants::{constant_of, int};
+use crate::code::Code;
 use crate::fault::{ItemFault, ItemReason};
-use crate::lead::{IntForm, Lead, is_name, read_lead};
-use crate::reading::{byte, name, package, stop, too_deep};
+use crate::lead::{IntForm, Lead, is_name};
 use acpi_tree::{Data, Elem};
 use std::alloc::Global;
 
@@ -20,229 +20,148 @@ fn text_len(bytes: &[u8]) -> usize
     bytes.iter().take_while(|b| **b > 0 && **b < 128).count()
 }
 
-/// Where the text that begins at `at` ends, and the place behind the 00 there.
-#[tactic(auto, using(crate::proofs::Ranges::ranges, crate::proofs::Ranges::range_take), unfolding(crate::specs::Reading::string_at))]
-pub fn string(code: &[u8], at: usize, end: usize) -> Result<(usize, usize), ItemFault>
-    requires ordered { at ≤ end }
-    requires within { end ≤ length code.now }
-    ensures exact { Gives (λ x. (slice_range code.now at x.0, slice_range code.now x.1 end)) result (string_at end (slice_range code.now at end)) }
-    ensures on { IfOk result (λ x. (at ≤ x.0) × (x.0 < x.1) × (x.1 ≤ end)) }
-{
-    let text_end = at + text_len(&code[at..end]);
-    let (closing, behind) = byte(code, text_end, end)?;
-    if closing != 0 {
-        return Err(stop(code, text_end, end, ItemReason::BadString));
+impl<'a> Code<'a> {
+    /// The text up to the 00 that ends it.
+    #[tactic(auto, unfolding(crate::specs::Reading::string_at))]
+    pub fn string(&mut self) -> Result<&'a [u8], ItemFault>
+        ensures { Finds (λ s. s.now) string_at self.old self.new result }
+    {
+        let text = self.split(text_len(self.left()));
+        let closing = self.fork();
+        if self.byte()? != 0 {
+            return Err(closing.stop(ItemReason::BadString));
+        }
+        Ok(text.left())
     }
-    Ok((text_end, behind))
 }
 
 #[inline(never)]
-fn int_form(form: IntForm, code: &[u8], at: usize, end: usize) -> Result<(Data, usize), ItemFault>
-    requires ordered { at ≤ end }
-    requires within { end ≤ length code.now }
-    ensures exact { Gives (λ x. (data_view x.0, slice_range code.now x.1 end)) result (int_data form end (slice_range code.now at end)) }
-    ensures on { IfOk result (λ x. (at ≤ x.1) × (x.1 ≤ end)) }
+fn int_form(form: IntForm, code: &mut Code<'_>) -> Result<Data, ItemFault>
+    ensures { FindsOn data_view (int_data form) code.old code.new result }
 {
-    let (int, behind) = constant_of(form, code, at, end)?;
-    Ok((Data::Int(int), behind))
+    Ok(Data::Int(code.constant_of(form)?))
 }
 
 #[inline(never)]
-fn string_form(
-    alloc: Global,
-    code: &[u8],
-    at: usize,
-    end: usize,
-) -> Result<(Data, usize), ItemFault>
-    requires ordered { at ≤ end }
-    requires within { end ≤ length code.now }
-    ensures exact { Gives (λ x. (data_view x.0, slice_range code.now x.1 end)) result (string_data end (slice_range code.now at end)) }
-    ensures on { IfOk result (λ x. (at ≤ x.1) × (x.1 ≤ end)) }
+fn string_form(alloc: Global, code: &mut Code<'_>) -> Result<Data, ItemFault>
+    ensures { Reads data_view string_data code.old code.new result }
 {
-    let (text_end, behind) = string(code, at, end)?;
-    let text = Vec::from_slice(alloc, &code[at..text_end])?;
-    Ok((Data::Str(text), behind))
+    let text = code.string()?;
+    Ok(Data::Str(Vec::from_slice(alloc, text)?))
 }
 
 #[inline(never)]
-fn buffer_form(
-    alloc: Global,
-    level: u32,
-    code: &[u8],
-    at: usize,
-    end: usize,
-) -> Result<(Data, usize), ItemFault>
-    requires ordered { at ≤ end }
-    requires within { end ≤ length code.now }
-    ensures exact { Gives (λ x. (data_view x.0, slice_range code.now x.1 end)) result (buffer_data level end (slice_range code.now at end)) }
-    ensures on { IfOk result (λ x. (at ≤ x.1) × (x.1 ≤ end)) }
+fn buffer_form(alloc: Global, level: u32, code: &mut Code<'_>) -> Result<Data, ItemFault>
+    ensures { Reads data_view (buffer_data level) code.old code.new result }
 {
-    let (inner, behind) = package(code, at, end)?;
-    let (size, inner) = int(level, code, inner, behind)?;
-    let content = Vec::from_slice(alloc, &code[inner..behind])?;
-    Ok((Data::Buffer(size, content), behind))
+    let mut inner = code.package()?;
+    let size = inner.int(level)?;
+    let content = Vec::from_slice(alloc, inner.left())?;
+    Ok(Data::Buffer(size, content))
 }
 
 #[cycle(read)]
-fn package_form(
-    alloc: Global,
-    level: u32,
-    code: &[u8],
-    at: usize,
-    end: usize,
-) -> Result<(Data, usize), ItemFault>
-    requires ordered { at ≤ end }
-    requires within { end ≤ length code.now }
-    ensures exact { Gives (λ x. (data_view x.0, slice_range code.now x.1 end)) result (package_data (elems_with (elem_at level)) level end (slice_range code.now at end)) }
-    ensures on { IfOk result (λ x. (at ≤ x.1) × (x.1 ≤ end)) }
+fn package_form(alloc: Global, level: u32, code: &mut Code<'_>) -> Result<Data, ItemFault>
+    ensures { Reads data_view (package_data (elems_with (elem_at level)) level) code.old code.new result }
 {
-    let (inner, behind) = package(code, at, end)?;
-    let (count, inner) = byte(code, inner, behind)?;
-    let elems = elems(alloc, level, code, inner, behind)?;
-    Ok((Data::Package(count, elems), behind))
+    let mut inner = code.package()?;
+    let count = inner.byte()?;
+    let elems = elems(alloc, level, &mut inner)?;
+    Ok(Data::Package(count, elems))
 }
 
 #[cycle(read)]
-fn var_package_form(
-    alloc: Global,
-    level: u32,
-    code: &[u8],
-    at: usize,
-    end: usize,
-) -> Result<(Data, usize), ItemFault>
-    requires ordered { at ≤ end }
-    requires within { end ≤ length code.now }
-    ensures exact { Gives (λ x. (data_view x.0, slice_range code.now x.1 end)) result (var_package_data (elems_with (elem_at level)) level end (slice_range code.now at end)) }
-    ensures on { IfOk result (λ x. (at ≤ x.1) × (x.1 ≤ end)) }
+fn var_package_form(alloc: Global, level: u32, code: &mut Code<'_>) -> Result<Data, ItemFault>
+    ensures { Reads data_view (var_package_data (elems_with (elem_at level)) level) code.old code.new result }
 {
-    let (inner, behind) = package(code, at, end)?;
-    let (count, inner) = int(level, code, inner, behind)?;
-    let elems = elems(alloc, level, code, inner, behind)?;
-    Ok((Data::VarPackage(count, elems), behind))
+    let mut inner = code.package()?;
+    let count = inner.int(level)?;
+    let elems = elems(alloc, level, &mut inner)?;
+    Ok(Data::VarPackage(count, elems))
 }
 
-// The data whose first opcode, at `at`, stands before `behind`; `level` levels are left inside it.
+// The data whose first opcode, behind `front`, was read; `level` levels are left inside it.
 #[cycle(read)]
 fn data_form(
     alloc: Global,
     level: u32,
-    code: &[u8],
-    at: usize,
-    behind: usize,
-    end: usize,
+    front: &Code<'_>,
     lead: Lead,
-) -> Result<(Data, usize), ItemFault>
-    requires ordered { at ≤ end }
-    requires opened { behind ≤ end }
-    requires within { end ≤ length code.now }
-    ensures exact { Gives (λ x. (data_view x.0, slice_range code.now x.1 end)) result (data_by (elems_with (elem_at level)) level end (slice_range code.now at end) lead (slice_range code.now behind end)) }
-    ensures on { IfOk result (λ x. (behind ≤ x.1) × (x.1 ≤ end)) }
+    code: &mut Code<'_>,
+) -> Result<Data, ItemFault>
+    requires { front.now.end ≡ code.old.end }
+    ensures { ReadsOn data_view (λ end rest. data_by (elems_with (elem_at level)) level end front.now.bytes lead rest) code.old code.new result }
 {
     match lead {
-        Lead::Constant(form) => int_form(form, code, behind, end),
-        Lead::Str => string_form(alloc, code, behind, end),
-        Lead::Buffer => buffer_form(alloc, level, code, behind, end),
-        Lead::Package => package_form(alloc, level, code, behind, end),
-        Lead::VarPackage => var_package_form(alloc, level, code, behind, end),
-        _ => Err(stop(code, at, end, ItemReason::NotData)),
+        Lead::Constant(form) => int_form(form, code),
+        Lead::Str => string_form(alloc, code),
+        Lead::Buffer => buffer_form(alloc, level, code),
+        Lead::Package => package_form(alloc, level, code),
+        Lead::VarPackage => var_package_form(alloc, level, code),
+        _ => Err(front.stop(ItemReason::NotData)),
     }
 }
 
 #[inline(never)]
-fn name_elem(alloc: Global, code: &[u8], at: usize, end: usize) -> Result<(Elem, usize), ItemFault>
-    requires ordered { at ≤ end }
-    requires within { end ≤ length code.now }
-    ensures exact { Gives (λ x. (elem_view x.0, slice_range code.now x.1 end)) result (name_elem_at end (slice_range code.now at end)) }
-    ensures on { IfOk result (λ x. (at < x.1) × (x.1 ≤ end)) }
+fn name_elem(alloc: Global, code: &mut Code<'_>) -> Result<Elem, ItemFault>
+    ensures { Reads elem_view name_elem_at code.old code.new result }
 {
-    let (name, behind) = name(code, at, end)?;
-    Ok((Elem::Name(name.own(alloc)?), behind))
+    let name = code.name()?;
+    Ok(Elem::Name(name.own(alloc)?))
 }
 
 #[cycle(read)]
 fn data_elem(
     alloc: Global,
     level: u32,
-    code: &[u8],
-    at: usize,
-    behind: usize,
-    end: usize,
+    front: &Code<'_>,
     lead: Lead,
-) -> Result<(Elem, usize), ItemFault>
-    requires ordered { at ≤ end }
-    requires opened { behind ≤ end }
-    requires within { end ≤ length code.now }
-    ensures exact { Gives (λ x. (elem_view x.0, slice_range code.now x.1 end)) result (data_elem_of (data_by (elems_with (elem_at level)) level end (slice_range code.now at end) lead (slice_range code.now behind end))) }
-    ensures on { IfOk result (λ x. (behind ≤ x.1) × (x.1 ≤ end)) }
+    code: &mut Code<'_>,
+) -> Result<Elem, ItemFault>
+    requires { front.now.end ≡ code.old.end }
+    ensures { ReadsOn elem_view (λ end rest. data_elem_of (data_by (elems_with (elem_at level)) level end front.now.bytes lead rest)) code.old code.new result }
 {
-    let (data, behind) = data_form(alloc, level, code, at, behind, end, lead)?;
-    Ok((Elem::Data(data), behind))
+    Ok(Elem::Data(data_form(alloc, level, front, lead, code)?))
 }
 
 #[cycle(read)]
 #[tactic(auto, unfolding(crate::specs::Reading::elem_at))]
-fn elem(
-    alloc: Global,
-    level: u32,
-    code: &[u8],
-    at: usize,
-    end: usize,
-) -> Result<(Elem, usize), ItemFault>
-    requires ordered { at ≤ end }
-    requires within { end ≤ length code.now }
-    ensures exact { Gives (λ x. (elem_view x.0, slice_range code.now x.1 end)) result (elem_at level end (slice_range code.now at end)) }
-    ensures on { IfOk result (λ x. (at < x.1) × (x.1 ≤ end)) }
+fn elem(alloc: Global, level: u32, code: &mut Code<'_>) -> Result<Elem, ItemFault>
+    ensures { Reads elem_view (elem_at level) code.old code.new result }
 {
     if level == 0 {
-        return Err(too_deep(code, at, end));
+        return Err(code.too_deep());
     }
-    let (lead, behind) = read_lead(code, at, end)?;
+    let front = code.fork();
+    let lead = code.lead()?;
     if is_name(lead) {
-        name_elem(alloc, code, at, end)
+        *code = front;
+        name_elem(alloc, code)
     } else {
-        data_elem(alloc, level - 1, code, at, behind, end, lead)
+        data_elem(alloc, level - 1, &front, lead, code)
     }
 }
 
 #[cycle(read)]
-fn elems(
-    alloc: Global,
-    level: u32,
-    code: &[u8],
-    at: usize,
-    end: usize,
-) -> Result<Vec<Elem>, ItemFault>
-    requires ordered { at ≤ end }
-    requires within { end ≤ length code.now }
-    ensures { Gives (λ v. elems_of (elems_view v.items)) result (elems_with (elem_at level) end (slice_range code.now at end)) }
+fn elems(alloc: Global, level: u32, code: &mut Code<'_>) -> Result<Vec<Elem>, ItemFault>
+    ensures { ReadsAll (λ v. elems_of (elems_view v.items)) (elems_with (elem_at level)) code.old result }
 {
     let mut found = Vec::new(alloc);
-    let mut at = at;
-    while at < end {
-        let (next, behind) = elem(alloc, level, code, at, end)?;
-        found.push(next)?;
-        at = behind;
+    'each: while !code.is_empty() {
+        found.push(elem(alloc, level, code)?)?;
     }
     Ok(found)
 }
 
 /// The data of a Name, `level` levels being left for it.
 #[tactic(auto, unfolding(crate::specs::Reading::data_at))]
-pub fn data(
-    alloc: Global,
-    level: u32,
-    code: &[u8],
-    at: usize,
-    end: usize,
-) -> Result<(Data, usize), ItemFault>
-    requires ordered { at ≤ end }
-    requires within { end ≤ length code.now }
-    ensures exact { Gives (λ x. (data_view x.0, slice_range code.now x.1 end)) result (data_at level end (slice_range code.now at end)) }
-    ensures on { IfOk result (λ x. (at < x.1) × (x.1 ≤ end)) }
+pub fn data(alloc: Global, level: u32, code: &mut Code<'_>) -> Result<Data, ItemFault>
+    ensures { Reads data_view (data_at level) code.old code.new result }
 {
     if level == 0 {
-        return Err(too_deep(code, at, end));
+        return Err(code.too_deep());
     }
-    let (lead, behind) = read_lead(code, at, end)?;
-    data_form(alloc, level - 1, code, at, behind, end, lead)
+    let front = code.fork();
+    let lead = code.lead()?;
+    data_form(alloc, level - 1, &front, lead, code)
 }

@@ -1,152 +1,99 @@
 //! Reading field elements.
 
-ghost use Rattle.std.specs.Prelude.{◌≡◌, ◌<◌, ◌≤◌, length, IfOk};
-ghost use Rattle.std.specs.List.{slice_range};
 ghost use Rattle.acpi_tree.specs.View.{field_view, fields_view};
-ghost use Rattle.acpi_terms.specs.Reading.{Gives, connect_buffer_at, connect_name_at, connect_at, unit_at, reserved_at, access_at, extended_at, field_at, fields_in};
+ghost use Rattle.acpi_terms.specs.Reading.{connect_buffer_at, connect_name_at, connect_at, unit_at, reserved_at, access_at, extended_at, field_at, fields_in};
+ghost use Rattle.acpi_terms.specs.Cursor.{Finds, Reads, ReadsAll};
 
-use crate::constants::constant;
+use crate::code::Code;
 use crate::fault::ItemFault;
-use crate::reading::{byte, name, package, pkg_length, segment};
 use acpi_tree::FieldElem;
 use std::alloc::Global;
 
-fn connect_buffer(
-    alloc: Global,
-    code: &[u8],
-    at: usize,
-    end: usize,
-) -> Result<(FieldElem, usize), ItemFault>
-    requires ordered { at ≤ end }
-    requires within { end ≤ length code.now }
-    ensures exact { Gives (λ x. (field_view x.0, slice_range code.now x.1 end)) result (connect_buffer_at end (slice_range code.now at end)) }
-    ensures on { IfOk result (λ x. (at < x.1) × (x.1 ≤ end)) }
+fn connect_buffer(alloc: Global, code: &mut Code<'_>) -> Result<FieldElem, ItemFault>
+    ensures { Reads field_view connect_buffer_at code.old code.new result }
 {
-    let (inner, behind) = package(code, at, end)?;
-    let (size, inner) = constant(code, inner, behind)?;
-    let content = Vec::from_slice(alloc, &code[inner..behind])?;
-    Ok((FieldElem::ConnectBuffer(size, content), behind))
+    let mut inner = code.package()?;
+    let size = inner.constant()?;
+    let content = Vec::from_slice(alloc, inner.left())?;
+    Ok(FieldElem::ConnectBuffer(size, content))
 }
 
-fn connect_name(
-    alloc: Global,
-    code: &[u8],
-    at: usize,
-    end: usize,
-) -> Result<(FieldElem, usize), ItemFault>
-    requires ordered { at ≤ end }
-    requires within { end ≤ length code.now }
-    ensures exact { Gives (λ x. (field_view x.0, slice_range code.now x.1 end)) result (connect_name_at end (slice_range code.now at end)) }
-    ensures on { IfOk result (λ x. (at < x.1) × (x.1 ≤ end)) }
+fn connect_name(alloc: Global, code: &mut Code<'_>) -> Result<FieldElem, ItemFault>
+    ensures { Reads field_view connect_name_at code.old code.new result }
 {
-    let (name, behind) = name(code, at, end)?;
-    Ok((FieldElem::ConnectName(name.own(alloc)?), behind))
+    let name = code.name()?;
+    Ok(FieldElem::ConnectName(name.own(alloc)?))
 }
 
 #[tactic(auto, unfolding(crate::specs::Reading::connect_at))]
-fn connect(
-    alloc: Global,
-    code: &[u8],
-    at: usize,
-    end: usize,
-) -> Result<(FieldElem, usize), ItemFault>
-    requires ordered { at ≤ end }
-    requires within { end ≤ length code.now }
-    ensures exact { Gives (λ x. (field_view x.0, slice_range code.now x.1 end)) result (connect_at end (slice_range code.now at end)) }
-    ensures on { IfOk result (λ x. (at < x.1) × (x.1 ≤ end)) }
+fn connect(alloc: Global, code: &mut Code<'_>) -> Result<FieldElem, ItemFault>
+    ensures { Reads field_view connect_at code.old code.new result }
 {
-    let (first, behind) = byte(code, at, end)?;
-    if first == 0x11 {
-        connect_buffer(alloc, code, behind, end)
+    let mut behind = code.fork();
+    if behind.byte()? == 0x11 {
+        *code = behind;
+        connect_buffer(alloc, code)
     } else {
-        connect_name(alloc, code, at, end)
+        connect_name(alloc, code)
     }
 }
 
-fn unit(code: &[u8], at: usize, end: usize) -> Result<(FieldElem, usize), ItemFault>
-    requires ordered { at ≤ end }
-    requires within { end ≤ length code.now }
-    ensures exact { Gives (λ x. (field_view x.0, slice_range code.now x.1 end)) result (unit_at end (slice_range code.now at end)) }
-    ensures on { IfOk result (λ x. (at < x.1) × (x.1 ≤ end)) }
+fn unit(code: &mut Code<'_>) -> Result<FieldElem, ItemFault>
+    ensures { Finds field_view unit_at code.old code.new result }
 {
-    let (seg, at) = segment(code, at, end)?;
-    let (bits, at) = pkg_length(code, at, end)?;
-    Ok((FieldElem::Unit(seg, bits), at))
+    let seg = code.segment()?;
+    let bits = code.pkg_length()?;
+    Ok(FieldElem::Unit(seg, bits))
 }
 
-fn reserved(code: &[u8], at: usize, end: usize) -> Result<(FieldElem, usize), ItemFault>
-    requires ordered { at ≤ end }
-    requires within { end ≤ length code.now }
-    ensures exact { Gives (λ x. (field_view x.0, slice_range code.now x.1 end)) result (reserved_at end (slice_range code.now at end)) }
-    ensures on { IfOk result (λ x. (at < x.1) × (x.1 ≤ end)) }
+fn reserved(code: &mut Code<'_>) -> Result<FieldElem, ItemFault>
+    ensures { Finds field_view reserved_at code.old code.new result }
 {
-    let (bits, at) = pkg_length(code, at, end)?;
-    Ok((FieldElem::Reserved(bits), at))
+    Ok(FieldElem::Reserved(code.pkg_length()?))
 }
 
-fn access(code: &[u8], at: usize, end: usize) -> Result<(FieldElem, usize), ItemFault>
-    requires ordered { at ≤ end }
-    requires within { end ≤ length code.now }
-    ensures exact { Gives (λ x. (field_view x.0, slice_range code.now x.1 end)) result (access_at end (slice_range code.now at end)) }
-    ensures on { IfOk result (λ x. (at < x.1) × (x.1 ≤ end)) }
+fn access(code: &mut Code<'_>) -> Result<FieldElem, ItemFault>
+    ensures { Finds field_view access_at code.old code.new result }
 {
-    let (kind, at) = byte(code, at, end)?;
-    let (attribute, at) = byte(code, at, end)?;
-    Ok((FieldElem::Access(kind, attribute), at))
+    let kind = code.byte()?;
+    let attribute = code.byte()?;
+    Ok(FieldElem::Access(kind, attribute))
 }
 
-fn extended(code: &[u8], at: usize, end: usize) -> Result<(FieldElem, usize), ItemFault>
-    requires ordered { at ≤ end }
-    requires within { end ≤ length code.now }
-    ensures exact { Gives (λ x. (field_view x.0, slice_range code.now x.1 end)) result (extended_at end (slice_range code.now at end)) }
-    ensures on { IfOk result (λ x. (at < x.1) × (x.1 ≤ end)) }
+fn extended(code: &mut Code<'_>) -> Result<FieldElem, ItemFault>
+    ensures { Finds field_view extended_at code.old code.new result }
 {
-    let (kind, at) = byte(code, at, end)?;
-    let (attribute, at) = byte(code, at, end)?;
-    let (bytes, at) = byte(code, at, end)?;
-    Ok((FieldElem::Extended(kind, attribute, bytes), at))
+    let kind = code.byte()?;
+    let attribute = code.byte()?;
+    let bytes = code.byte()?;
+    Ok(FieldElem::Extended(kind, attribute, bytes))
 }
 
-/// The field element at `at`.
+/// A field element.
 #[tactic(auto, unfolding(crate::specs::Reading::field_at))]
-pub fn field_elem(
-    alloc: Global,
-    code: &[u8],
-    at: usize,
-    end: usize,
-) -> Result<(FieldElem, usize), ItemFault>
-    requires ordered { at ≤ end }
-    requires within { end ≤ length code.now }
-    ensures exact { Gives (λ x. (field_view x.0, slice_range code.now x.1 end)) result (field_at end (slice_range code.now at end)) }
-    ensures on { IfOk result (λ x. (at < x.1) × (x.1 ≤ end)) }
+pub fn field_elem(alloc: Global, code: &mut Code<'_>) -> Result<FieldElem, ItemFault>
+    ensures { Reads field_view field_at code.old code.new result }
 {
-    let (first, behind) = byte(code, at, end)?;
-    match first {
-        0 => reserved(code, behind, end),
-        1 => access(code, behind, end),
-        2 => connect(alloc, code, behind, end),
-        3 => extended(code, behind, end),
-        _ => unit(code, at, end),
+    let front = code.fork();
+    match code.byte()? {
+        0 => reserved(code),
+        1 => access(code),
+        2 => connect(alloc, code),
+        3 => extended(code),
+        _ => {
+            *code = front;
+            unit(code)
+        }
     }
 }
 
-/// The field elements from `at` to the end.
-pub fn field_elems(
-    alloc: Global,
-    code: &[u8],
-    at: usize,
-    end: usize,
-) -> Result<Vec<FieldElem>, ItemFault>
-    requires ordered { at ≤ end }
-    requires within { end ≤ length code.now }
-    ensures { Gives (λ v. fields_view v.items) result (fields_in end (slice_range code.now at end)) }
+/// The field elements that are left.
+pub fn field_elems(alloc: Global, code: &mut Code<'_>) -> Result<Vec<FieldElem>, ItemFault>
+    ensures { ReadsAll (λ v. fields_view v.items) fields_in code.old result }
 {
     let mut found = Vec::new(alloc);
-    let mut at = at;
-    while at < end {
-        let (next, behind) = field_elem(alloc, code, at, end)?;
-        found.push(next)?;
-        at = behind;
+    'each: while !code.is_empty() {
+        found.push(field_elem(alloc, code)?)?;
     }
     Ok(found)
 }

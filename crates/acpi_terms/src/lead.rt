@@ -1,15 +1,14 @@
 //! What begins with which bytes.
 
-ghost use Rattle.std.specs.Prelude.{◌≡◌, ◌<◌, ◌≤◌, IfOk, IfErr, length};
-ghost use Rattle.std.specs.List.{slice_range};
+ghost use Rattle.std.specs.Prelude.{◌≡◌};
 ghost use Rattle.acpi_name.specs.Names.{is_lead_char, is_name_char};
 ghost use Rattle.acpi_terms.specs.Rows.{is_name_lead, is_name_start, plain_lead_of, extended_lead_of};
-ghost use Rattle.acpi_terms.specs.Reading.{Gives, IsAtPlace, lead_at};
+ghost use Rattle.acpi_terms.specs.Reading.{lead_at};
+ghost use Rattle.acpi_terms.specs.Cursor.{Finds};
 
+use crate::code::Code;
 use crate::fault::ItemFault;
-use acpi_tree::Op;
-use crate::reading::byte;
-use acpi_tree::Width;
+use acpi_tree::{Op, Width};
 
 /// How a constant integer is written (ACPI 6.5, 20.2.3 ComputationalData).
 #[derive(Clone, Copy, Debug, PartialEq, Eq)]
@@ -256,19 +255,16 @@ pub fn is_name(lead: Lead) -> bool
     }
 }
 
-/// What begins at `at` in the list that ends at `end`, and the place behind its opcode.
-#[tactic(auto, unfolding(crate::specs::Reading::lead_at))]
-pub fn read_lead(code: &[u8], at: usize, end: usize) -> Result<(Lead, usize), ItemFault>
-    requires ordered { at ≤ end }
-    requires within { end ≤ length code.now }
-    ensures exact { Gives (λ x. (x.0, slice_range code.now x.1 end)) result (lead_at end (slice_range code.now at end)) }
-    ensures on { IfOk result (λ x. (at < x.1) × (x.1 ≤ end)) }
-    ensures told { IfErr result IsAtPlace }
-{
-    let (b, behind) = byte(code, at, end)?;
-    if b != 0x5B {
-        return Ok((plain_lead(b), behind));
+impl Code<'_> {
+    /// What begins there. What is behind its opcode is left.
+    #[tactic(auto, unfolding(crate::specs::Reading::lead_at))]
+    pub fn lead(&mut self) -> Result<Lead, ItemFault>
+        ensures { Finds (λ l. l) lead_at self.old self.new result }
+    {
+        let first = self.byte()?;
+        if first != 0x5B {
+            return Ok(plain_lead(first));
+        }
+        Ok(extended_lead(self.byte()?))
     }
-    let (b, behind) = byte(code, behind, end)?;
-    Ok((extended_lead(b), behind))
 }

@@ -3,22 +3,23 @@
 //!
 //! `read_items` gives the items, or the first fault from the left with its place. The readers of parts
 //! (numbers, package lengths, names, constants, strings, field elements) serve the readers of method
-//! bodies too: a list of terms is the bytes of the code from a place `at` to a place `end`, and each reader
-//! answers what stands at the front of the list and the place behind it. A contract sees a value as a tree
-//! of `specs/Tree.antt`.
+//! bodies too: each goes through a `Code`, which is what is left of a list of terms. A contract sees a value
+//! as a tree of `specs/Tree.antt`.
 #![tactic(auto)]
 
 mod block;
-pub mod constants;
-pub mod data;
+mod code;
+mod constants;
+mod data;
 mod depth;
 mod fault;
-pub mod fields;
+mod fields;
 mod forms;
 mod items;
-pub mod lead;
+pub mod laws;
+mod lead;
 mod parts;
-pub mod reading;
+mod reading;
 
 pub use acpi_tree::{
     Data, Decl, Elem, External, FieldElem, FieldForm, Int, Item, Object, Op, Operand, Term, Width, items_fit, terms_fit,

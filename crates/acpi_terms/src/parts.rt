@@ -3,12 +3,12 @@
 ghost use Rattle.std.specs.Prelude.{◌≡◌, ◌<◌, ◌≤◌, ◌++◌, ℕ, List, Some, Ok, IfErr, length, take, drop, IfSome, IfOk, option_map};
 ghost use Rattle.acpi_tree.specs.Tree.{FieldTree};
 ghost use Rattle.acpi_terms.specs.Spelling.{SpellsInt, SpellsField};
-ghost use Rattle.acpi_terms.specs.Faults.{Told};
+ghost use Rattle.acpi_terms.specs.Faults.{ToldOfElem};
 ghost use Rattle.acpi_tree.specs.declared.tree.Int.{Int};
 ghost use Rattle.acpi_tree.specs.View.{field_view};
 ghost use Rattle.acpi_terms.specs.Reading.{Gives, OrMemory, const_at, field_at, int_front};
 
-use crate::constants::constant;
+use crate::code::Code;
 use crate::fault::ItemFault;
 use crate::fields::field_elem;
 use acpi_tree::{FieldElem, Int};
@@ -18,8 +18,9 @@ fn front_int(bytes: &[u8]) -> Option<(Int, usize)>
     ensures used { IfSome result (λ x. (0 < x.1) × (x.1 ≤ length bytes.now)) }
     ensures exact { option_map (λ x. (x.0, drop x.1 bytes.now)) result ≡ int_front bytes.now }
 {
-    match constant(bytes, 0, bytes.len()) {
-        Ok((int, used)) => Some((int, used)),
+    let mut code = Code::new(bytes);
+    match code.constant() {
+        Ok(int) => Some((int, bytes.len() - code.left().len())),
         Err(_) => None,
     }
 }
@@ -32,8 +33,6 @@ pub fn read_int(bytes: &[u8]) -> Option<(Int, usize)>
     ensures used { IfSome result (λ x. (0 < x.1) × (x.1 ≤ length bytes.now)) }
     // What is spelled at the front is answered. So None means that nothing is.
     ensures only { (i : Int) (front rest : List ℕ) → SpellsInt i front → bytes.now ≡ front ++ rest → result ≡ Some (i, length front) }
-    // The same as an equation.
-    ensures exact { option_map (λ x. (x.0, drop x.1 bytes.now)) result ≡ int_front bytes.now }
 {
     front_int(bytes)
 }
@@ -42,7 +41,9 @@ fn front_elem(alloc: Global, bytes: &[u8]) -> Result<(FieldElem, usize), ItemFau
     ensures used { IfOk result (λ x. (0 < x.1) × (x.1 ≤ length bytes.now)) }
     ensures exact { Gives (λ x. (field_view x.0, drop x.1 bytes.now)) result (field_at (length bytes.now) bytes.now) }
 {
-    field_elem(alloc, bytes, 0, bytes.len())
+    let mut code = Code::new(bytes);
+    let elem = field_elem(alloc, &mut code)?;
+    Ok((elem, bytes.len() - code.left().len()))
 }
 
 /// The field element at the front of the bytes, which are the rest of a field list, and how many bytes
@@ -55,9 +56,7 @@ pub fn read_elem(alloc: Global, bytes: &[u8]) -> Result<(FieldElem, usize), Item
     ensures only { (e : FieldTree) (front rest : List ℕ) → SpellsField e front → bytes.now ≡ front ++ rest
         → OrMemory result (λ x. (field_view x.0 ≡ e) × (x.1 ≡ length front)) }
     // What a fault says is true of the bytes.
-    ensures faults { IfErr result (λ e. Told 0 bytes.now e) }
-    // The same as an equation.
-    ensures exact { Gives (λ x. (field_view x.0, drop x.1 bytes.now)) result (field_at (length bytes.now) bytes.now) }
+    ensures faults { IfErr result (λ e. ToldOfElem bytes.now e) }
 {
     front_elem(alloc, bytes)
 }

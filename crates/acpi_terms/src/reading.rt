@@ -1,162 +1,146 @@
 //! Reading the parts of terms: numbers, package lengths, names, segments.
-//!
-//! A list of terms is the bytes of the code from the place `at` to the place `end`. Each reader answers
-//! what stands at the front of the list, and the place behind it.
 
-ghost use Rattle.std.specs.Prelude.{◌≡◌, ◌+◌, ◌-◌, ◌<◌, ◌≤◌, ◌^◌, true, [], length, take, IfOk, IfErr};
-ghost use Rattle.std.specs.List.{slice_range};
+ghost use Rattle.std.specs.Prelude.{◌≡◌, ◌≤◌, true, length, take, IfOk};
 ghost use Rattle.acpi_name.specs.NameRefs.{name_parts};
 ghost use Rattle.acpi_name.specs.Reading.{is_segment_front};
-ghost use Rattle.acpi_terms.specs.Reading.{Gives, IsAtPlace, stopped, fault_at, no_level, byte_at, number_at, length_in, package_at, name_in, seg_in, args_in};
+ghost use Rattle.acpi_terms.specs.Reading.{byte_at, number_at, length_in, name_in, seg_in, args_in};
+ghost use Rattle.acpi_terms.specs.Cursor.{Finds, Opens};
 
+use crate::code::Code;
 use crate::fault::{ItemFault, ItemReason};
 use crate::lead::{lead_char, name_char};
 use acpi_name::{NameFault, NameRef, Seg, read_name};
 use acpi_table::{PkgFault, read_pkg_length};
 use byteorder::{ByteOrder, LittleEndian};
 
-/// The fault that the list shows at `at`.
-pub fn stop(code: &[u8], at: usize, end: usize, reason: ItemReason) -> ItemFault
-    requires ordered { at ≤ end }
-    requires within { end ≤ length code.now }
-    ensures { result ≡ stopped (fault_at end (slice_range code.now at end) reason) }
-{
-    ItemFault::At { reason, place: at }
-}
-
-/// The fault that the list ends where a byte is needed.
-pub fn cut(end: usize) -> ItemFault
-    ensures { result ≡ stopped (fault_at end [] ItemReason.Cut) }
-{
-    ItemFault::At {
-        reason: ItemReason::Cut,
-        place: end,
+impl<'a> Code<'a> {
+    /// ByteData
+    #[tactic(auto, using(crate::proofs::Left::first_byte), unfolding(crate::specs::Reading::byte_at))]
+    pub fn byte(&mut self) -> Result<u8, ItemFault>
+        ensures { Finds (λ n. n) byte_at self.old self.new result }
+    {
+        let left = self.left();
+        if left.is_empty() {
+            return Err(self.cut());
+        }
+        self.skip(1);
+        Ok(left[0])
     }
-}
 
-/// ByteData
-#[tactic(auto, using(crate::proofs::Ranges::ranges, crate::proofs::Ranges::range_byte), unfolding(crate::specs::Reading::byte_at))]
-pub fn byte(code: &[u8], at: usize, end: usize) -> Result<(u8, usize), ItemFault>
-    requires ordered { at ≤ end }
-    requires within { end ≤ length code.now }
-    ensures exact { Gives (λ x. (x.0, slice_range code.now x.1 end)) result (byte_at end (slice_range code.now at end)) }
-    ensures on { IfOk result (λ x. (at < x.1) × (x.1 ≤ end)) }
-    ensures told { IfErr result IsAtPlace }
-{
-    let here = &code[at..end];
-    if here.is_empty() {
-        return Err(cut(end));
+    /// WordData
+    #[tactic(auto, unfolding(crate::specs::Reading::number_at))]
+    pub fn word(&mut self) -> Result<u16, ItemFault>
+        ensures { Finds (λ n. n) (number_at 2) self.old self.new result }
+    {
+        let left = self.left();
+        if left.len() < 2 {
+            return Err(self.cut());
+        }
+        self.skip(2);
+        Ok(LittleEndian::read_u16(left))
     }
-    Ok((here[0], at + 1))
-}
 
-/// WordData
-#[tactic(auto, using(crate::proofs::Ranges::ranges), unfolding(crate::specs::Reading::number_at))]
-pub fn word(code: &[u8], at: usize, end: usize) -> Result<(u16, usize), ItemFault>
-    requires ordered { at ≤ end }
-    requires within { end ≤ length code.now }
-    ensures exact { Gives (λ x. (x.0, slice_range code.now x.1 end)) result (number_at 2 end (slice_range code.now at end)) }
-    ensures on { IfOk result (λ x. (at < x.1) × (x.1 ≤ end)) }
-    ensures told { IfErr result IsAtPlace }
-{
-    let here = &code[at..end];
-    if here.len() < 2 {
-        return Err(cut(end));
+    /// DWordData
+    #[tactic(auto, unfolding(crate::specs::Reading::number_at))]
+    pub fn dword(&mut self) -> Result<u32, ItemFault>
+        ensures { Finds (λ n. n) (number_at 4) self.old self.new result }
+    {
+        let left = self.left();
+        if left.len() < 4 {
+            return Err(self.cut());
+        }
+        self.skip(4);
+        Ok(LittleEndian::read_u32(left))
     }
-    Ok((LittleEndian::read_u16(here), at + 2))
-}
 
-/// DWordData
-#[tactic(auto, using(crate::proofs::Ranges::ranges), unfolding(crate::specs::Reading::number_at))]
-pub fn dword(code: &[u8], at: usize, end: usize) -> Result<(u32, usize), ItemFault>
-    requires ordered { at ≤ end }
-    requires within { end ≤ length code.now }
-    ensures exact { Gives (λ x. (x.0, slice_range code.now x.1 end)) result (number_at 4 end (slice_range code.now at end)) }
-    ensures on { IfOk result (λ x. (at < x.1) × (x.1 ≤ end)) }
-    ensures told { IfErr result IsAtPlace }
-{
-    let here = &code[at..end];
-    if here.len() < 4 {
-        return Err(cut(end));
+    /// QWordData
+    #[tactic(auto, unfolding(crate::specs::Reading::number_at))]
+    pub fn qword(&mut self) -> Result<u64, ItemFault>
+        ensures { Finds (λ n. n) (number_at 8) self.old self.new result }
+    {
+        let left = self.left();
+        if left.len() < 8 {
+            return Err(self.cut());
+        }
+        self.skip(8);
+        Ok(LittleEndian::read_u64(left))
     }
-    Ok((LittleEndian::read_u32(here), at + 4))
-}
 
-/// QWordData
-#[tactic(auto, using(crate::proofs::Ranges::ranges), unfolding(crate::specs::Reading::number_at))]
-pub fn qword(code: &[u8], at: usize, end: usize) -> Result<(u64, usize), ItemFault>
-    requires ordered { at ≤ end }
-    requires within { end ≤ length code.now }
-    ensures exact { Gives (λ x. (x.0, slice_range code.now x.1 end)) result (number_at 8 end (slice_range code.now at end)) }
-    ensures on { IfOk result (λ x. (at < x.1) × (x.1 ≤ end)) }
-    ensures told { IfErr result IsAtPlace }
-{
-    let here = &code[at..end];
-    if here.len() < 8 {
-        return Err(cut(end));
+    /// A number spelled as a PkgLength.
+    #[tactic(auto, unfolding(crate::specs::Reading::length_in))]
+    pub fn pkg_length(&mut self) -> Result<u32, ItemFault>
+        ensures { Finds (λ n. n) length_in self.old self.new result }
+    {
+        match read_pkg_length(self.left()) {
+            Ok((number, used)) => {
+                self.skip(used);
+                Ok(number)
+            }
+            Err(PkgFault::Cut) => Err(self.cut()),
+            Err(PkgFault::ReservedBits) => Err(self.stop(ItemReason::ReservedBits)),
+        }
     }
-    Ok((LittleEndian::read_u64(here), at + 8))
-}
 
-/// The fault where a term must begin and no level is left for it.
-#[tactic(auto, using(crate::proofs::Ranges::ranges, crate::proofs::Ranges::no_level_some, crate::proofs::Ranges::no_level_none))]
-pub fn too_deep(code: &[u8], at: usize, end: usize) -> ItemFault
-    requires ordered { at ≤ end }
-    requires within { end ≤ length code.now }
-    ensures { result ≡ stopped (no_level end (slice_range code.now at end)) }
-{
-    if at == end {
-        cut(end)
-    } else {
-        stop(code, at, end, ItemReason::TooDeep)
+    /// The content of the package whose length stands there. What is behind the package is left.
+    #[tactic(auto, unfolding(crate::specs::Reading::package_at))]
+    pub fn package(&mut self) -> Result<Code<'a>, ItemFault>
+        ensures { Opens self.old self.new result }
+    {
+        let front = self.fork();
+        let number = self.pkg_length()?;
+        let size = number as usize;
+        let used = front.left().len() - self.left().len();
+        if size < used || front.left().len() < size {
+            return Err(front.stop(ItemReason::Overrun));
+        }
+        Ok(self.split(size - used))
     }
-}
 
-/// A number spelled as a PkgLength.
-#[tactic(auto, using(crate::proofs::Ranges::ranges), unfolding(crate::specs::Reading::length_in))]
-pub fn pkg_length(code: &[u8], at: usize, end: usize) -> Result<(u32, usize), ItemFault>
-    requires ordered { at ≤ end }
-    requires within { end ≤ length code.now }
-    ensures exact { Gives (λ x. (x.0, slice_range code.now x.1 end)) result (length_in end (slice_range code.now at end)) }
-    ensures on { IfOk result (λ x. (at < x.1) × (x.1 ≤ end)) }
-{
-    match read_pkg_length(&code[at..end]) {
-        Ok((number, used)) => Ok((number, at + used)),
-        Err(PkgFault::Cut) => Err(cut(end)),
-        Err(PkgFault::ReservedBits) => Err(stop(code, at, end, ItemReason::ReservedBits)),
+    /// A NameString.
+    #[tactic(auto, unfolding(crate::specs::Reading::name_in))]
+    pub fn name(&mut self) -> Result<NameRef<'a>, ItemFault>
+        ensures { Finds name_parts name_in self.old self.new result }
+    {
+        match read_name(self.left()) {
+            Ok((name, used)) => {
+                self.skip(used);
+                Ok(name)
+            }
+            Err(NameFault::Cut) => Err(self.cut()),
+            Err(NameFault::BadChar) => Err(self.stop(ItemReason::BadName)),
+            Err(NameFault::ZeroCount) => Err(self.stop(ItemReason::BadName)),
+            Err(NameFault::TooManyUps) => Err(self.stop(ItemReason::BadName)),
+        }
     }
-}
 
-/// The package whose length stands at `at`: where its content begins, and where it ends.
-#[tactic(auto, using(crate::proofs::Ranges::ranges, crate::proofs::Ranges::range_take), unfolding(crate::specs::Reading::package_at))]
-pub fn package(code: &[u8], at: usize, end: usize) -> Result<(usize, usize), ItemFault>
-    requires ordered { at ≤ end }
-    requires within { end ≤ length code.now }
-    ensures exact { Gives (λ x. record { content = slice_range code.now x.0 x.1; end = x.1; rest = slice_range code.now x.1 end }) result (package_at end (slice_range code.now at end)) }
-    ensures on { IfOk result (λ x. (at < x.0) × (x.0 ≤ x.1) × (x.1 ≤ end)) }
-{
-    let (number, content) = pkg_length(code, at, end)?;
-    let size = number as usize;
-    if size < content - at || end - at < size {
-        return Err(stop(code, at, end, ItemReason::Overrun));
+    /// A NameSeg.
+    #[tactic(auto, unfolding(crate::specs::Reading::seg_in, acpi_name::specs::Reading::segment_at))]
+    pub fn segment(&mut self) -> Result<Seg, ItemFault>
+        ensures { Finds (λ s. s) seg_in self.old self.new result }
+    {
+        let left = self.left();
+        if !begins_segment(left) {
+            return Err(self.stop(ItemReason::BadName));
+        }
+        if left.len() < 4 {
+            return Err(self.cut());
+        }
+        self.skip(4);
+        Ok(first_segment(left))
     }
-    Ok((content, at + size))
-}
 
-/// A NameString.
-#[tactic(auto, using(crate::proofs::Ranges::ranges), unfolding(crate::specs::Reading::name_in))]
-pub fn name(code: &[u8], at: usize, end: usize) -> Result<(NameRef<'_>, usize), ItemFault>
-    requires ordered { at ≤ end }
-    requires within { end ≤ length code.now }
-    ensures exact { Gives (λ x. (name_parts x.0, slice_range code.now x.1 end)) result (name_in end (slice_range code.now at end)) }
-    ensures on { IfOk result (λ x. (at < x.1) × (x.1 ≤ end)) }
-{
-    match read_name(&code[at..end]) {
-        Ok((name, used)) => Ok((name, at + used)),
-        Err(NameFault::Cut) => Err(cut(end)),
-        Err(NameFault::BadChar) => Err(stop(code, at, end, ItemReason::BadName)),
-        Err(NameFault::ZeroCount) => Err(stop(code, at, end, ItemReason::BadName)),
-        Err(NameFault::TooManyUps) => Err(stop(code, at, end, ItemReason::BadName)),
+    /// The number of arguments of an External.
+    #[tactic(auto, unfolding(crate::specs::Reading::args_in))]
+    pub fn args(&mut self) -> Result<u8, ItemFault>
+        ensures exact { Finds (λ n. n) args_in self.old self.new result }
+        ensures few { IfOk result (λ n. n ≤ 7) }
+    {
+        let front = self.fork();
+        let number = self.byte()?;
+        if number > 7 {
+            return Err(front.stop(ItemReason::ReservedBits));
+        }
+        Ok(number)
     }
 }
 
@@ -182,38 +166,4 @@ fn first_segment(bytes: &[u8]) -> Seg
         Some(seg) => seg,
         None => unreachable!(),
     }
-}
-
-/// A NameSeg.
-#[tactic(auto, using(crate::proofs::Ranges::ranges, crate::proofs::Ranges::range_segment), unfolding(crate::specs::Reading::seg_in, acpi_name::specs::Reading::segment_at))]
-pub fn segment(code: &[u8], at: usize, end: usize) -> Result<(Seg, usize), ItemFault>
-    requires ordered { at ≤ end }
-    requires within { end ≤ length code.now }
-    ensures exact { Gives (λ x. (x.0, slice_range code.now x.1 end)) result (seg_in end (slice_range code.now at end)) }
-    ensures on { IfOk result (λ x. (at < x.1) × (x.1 ≤ end)) }
-{
-    let here = &code[at..end];
-    if !begins_segment(here) {
-        return Err(stop(code, at, end, ItemReason::BadName));
-    }
-    if here.len() < 4 {
-        return Err(cut(end));
-    }
-    Ok((first_segment(here), at + 4))
-}
-
-/// The number of arguments of an External.
-#[tactic(auto, unfolding(crate::specs::Reading::args_in))]
-pub fn args(code: &[u8], at: usize, end: usize) -> Result<(u8, usize), ItemFault>
-    requires ordered { at ≤ end }
-    requires within { end ≤ length code.now }
-    ensures exact { Gives (λ x. (x.0, slice_range code.now x.1 end)) result (args_in end (slice_range code.now at end)) }
-    ensures on { IfOk result (λ x. (at < x.1) × (x.1 ≤ end)) }
-    ensures few { IfOk result (λ x. x.0 ≤ 7) }
-{
-    let (number, behind) = byte(code, at, end)?;
-    if number > 7 {
-        return Err(stop(code, at, end, ItemReason::ReservedBits));
-    }
-    Ok((number, behind))
 }

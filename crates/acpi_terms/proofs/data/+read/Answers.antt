@@ -1,40 +1,48 @@
-use Rattle.std.proofs.Common.{◌≡◌, ◌<◌, ◌≤◌, ◌++◌, ◌∷◌, [], arith, Ok, sym}
+use Rattle.std.proofs.Common.{◌≡◌, ◌<◌, ◌-◌, ◌++◌, ◌∷◌, [], length, arith, Ok, refl, sym, ◌∙◌, true, false}
 use Rattle.std.proofs.lemmas.Result.{err_from_is_err_and}
 use Rattle.std.proofs.lemmas.List.{map_push}
-use Rattle.std.specs.List.{slice_range}
 use Rattle.acpi_tree.specs.Tree.{elems_of}
-use Rattle.acpi_terms.specs.Reading.{elem_at, each_at}
+use Rattle.acpi_terms.specs.Reading.{name_elem_at, data_elem_of, data_by, elem_at, elems_with, each_at}
 use Rattle.acpi_tree.specs.View.{elem_view, elems_view}
-use Rattle.acpi_terms.proofs.Each.{step_on, stops, all_read, fails_on, reads_on}
-use Rattle.acpi_terms.proofs.Opened.{elem_opened}
+use Rattle.acpi_terms.proofs.Each.{turned, stopped_there, all_turned, fails_on, reads_on}
+use Rattle.acpi_terms.specs.Cursor.{Reads}
+use Rattle.acpi_terms.specs.Rows.{is_name_lead}
+use Rattle.acpi_terms.proofs.Opened.{elem_opened, reads_as, reads_behind}
 use Rattle.acpi_terms.proofs.data.+read.Goals as goal
 
-pub elems-returns-in_err-next : goal.elems-returns-in_err-next
-elems-returns-in_err-next t c =
+pub elems-returns-in_err-elem : goal.elems-returns-in_err-elem
+elems-returns-in_err-elem t c =
     let p = err_from_is_err_and c.from_residual.result c.from_residual.ensures.1 in
-    let one = elem_at c.args.level c.args.end in
-    let bytes = slice_range c.args.code.now c.args.at c.args.end in
-    let more : c.loop-at.at < c.args.end = grind arith in
-    rw (p.1, p.2) (fails_on _ (each_at one bytes) (λ es. Ok (elems_of es))
-    (stops one c.args.code.now bytes c.loop-at.at c.args.end _ _ more c.requires.within c.in_err-next.ensures.exact c.loop-at.invariant.1))
+    let some : 0 < length c.each.code.bytes = grind arith in
+    rw (p.1, p.2) (fails_on _ (each_at (elem_at c.args.level c.args.code.now.end) c.args.code.now.bytes) (λ xs. Ok (elems_of xs)) (stopped_there (elem_at c.args.level) c.args.code.now c.each.code _ _ some c.in_err-elem.ensures c.each.invariant))
 
-pub elems-loop-at-preserved : goal.elems-loop-at-preserved
-elems-loop-at-preserved t c =
-    let n = c.in_ok-next.next in
-    let one = elem_at c.args.level c.args.end in
-    let bytes = slice_range c.args.code.now c.args.at c.args.end in
-    let more : c.loop-at.at < c.args.end = grind arith in
-    let e : elems_view c.push.new.self.items ≡ elems_view c.loop-at.found.items ++ elem_view n ∷ [] = rw c.in_ok-push.ensures.items (map_push _ c.loop-at.found.items n) in
-    (c.in_ok-next.ensures.on.1, rw e (step_on one c.args.code.now bytes c.loop-at.at c.in_ok-next.behind c.args.end _ _ more c.requires.within c.in_ok-next.ensures.exact c.in_ok-next.ensures.on.0 c.loop-at.invariant.1))
+pub elems-each-preserved : goal.elems-each-preserved
+elems-each-preserved t c =
+    let n = c.in_ok-elem.field-0 in
+    let some : 0 < length c.each.code.bytes = grind arith in
+    let e : elems_view c.push.new.self.items ≡ elems_view c.each.found.items ++ elem_view n ∷ [] = rw c.in_ok-push.ensures.items (map_push _ c.each.found.items n) in
+    rw e (turned (elem_at c.args.level) c.args.code.now c.each.code c.elem.new.code _ _ some c.in_ok-elem.ensures.0 c.in_ok-elem.ensures.1 c.each.invariant)
 
 pub elems-returns : goal.elems-returns
 elems-returns t c =
-    let one = elem_at c.args.level c.args.end in
-    let bytes = slice_range c.args.code.now c.args.at c.args.end in
-    let none : c.args.end ≤ c.loop-at.at = grind arith in
-    reads_on (each_at one bytes) _ (λ es. Ok (elems_of es)) (all_read one c.args.code.now bytes c.loop-at.at c.args.end _ none c.requires.within c.loop-at.invariant.1)
+    let none : length c.each.code.bytes ≡ 0 = grind arith in
+    reads_on (each_at (elem_at c.args.level c.args.code.now.end) c.args.code.now.bytes) _ (λ xs. Ok (elems_of xs)) (all_turned (elem_at c.args.level) c.args.code.now c.each.code _ none c.each.invariant)
 
-pub elem-returns-else-is_name-clause-exact : goal.elem-returns-else-is_name-clause-exact
-elem-returns-else-is_name-clause-exact t c =
+pub elem-returns-then-is_name : goal.elem-returns-then-is_name
+elem-returns-then-is_name t c =
     let some : 0 < c.args.level = grind arith in
-    rw (elem_opened c.args.level c.args.end _ _ _ some c.in_ok-lead.ensures.exact, sym c.is_name.ensures, c.if-is_name.false) c.data_elem.ensures.exact
+    let opens = elem_opened c.args.level c.args.code.now.end c.args.code.now.bytes c.in_ok-lead.lead c.lead.new.self.bytes some c.in_ok-lead.ensures.0 in
+    let is : is_name_lead c.in_ok-lead.lead ≡ true = sym c.is_name.ensures ∙ c.if-is_name.true in
+    let e : elem_at c.args.level c.args.code.now.end c.args.code.now.bytes ≡ name_elem_at c.args.code.now.end c.args.code.now.bytes = opens ∙ rw is refl in
+    let h : Reads elem_view name_elem_at c.args.code.now c.name_elem.new.code c.name_elem.result = rw c.fork-front.ensures at c.name_elem.ensures in
+    reads_as elem_view name_elem_at (elem_at c.args.level) c.args.code.now c.name_elem.new.code c.name_elem.result e h
+
+pub elem-returns-else-is_name : goal.elem-returns-else-is_name
+elem-returns-else-is_name t c =
+    let some : 0 < c.args.level = grind arith in
+    let opens = elem_opened c.args.level c.args.code.now.end c.args.code.now.bytes c.in_ok-lead.lead c.lead.new.self.bytes some c.in_ok-lead.ensures.0 in
+    let is : is_name_lead c.in_ok-lead.lead ≡ false = sym c.is_name.ensures ∙ c.if-is_name.false in
+    let by = data_by (elems_with (elem_at (c.args.level - 1))) (c.args.level - 1) in
+    let e : elem_at c.args.level c.args.code.now.end c.args.code.now.bytes ≡ data_elem_of (by c.args.code.now.end c.args.code.now.bytes c.in_ok-lead.lead c.lead.new.self.bytes) = opens ∙ rw is refl in
+    reads_behind elem_view (elem_at c.args.level) (λ end rest. data_elem_of (by end c.fork-front.result.bytes c.in_ok-lead.lead rest))
+    c.args.code.now c.lead.new.self c.data_elem.new.code _ (rw (c.in_ok-lead.ensures.1.same_end, c.fork-front.ensures) e) c.in_ok-lead.ensures.1 c.data_elem.ensures

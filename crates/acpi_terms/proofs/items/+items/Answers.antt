@@ -1,34 +1,35 @@
-use Rattle.std.proofs.Common.{◌≡◌, ◌<◌, ◌≤◌, ◌++◌, ◌∷◌, [], arith, Ok}
+use Rattle.std.proofs.Common.{◌≡◌, ℕ, List, ◌<◌, ◌-◌, ◌++◌, ◌∷◌, [], length, arith, Ok}
 use Rattle.std.proofs.lemmas.Result.{err_from_is_err_and}
 use Rattle.std.proofs.lemmas.List.{map_push}
-use Rattle.std.specs.List.{slice_range}
-use Rattle.acpi_tree.specs.Tree.{items_of}
-use Rattle.acpi_terms.specs.Reading.{item_at, each_at}
+use Rattle.acpi_tree.specs.Tree.{ItemTree, items_of}
+use Rattle.acpi_terms.specs.Reading.{Reading, item_by, items_with, item_at, each_at}
 use Rattle.acpi_tree.specs.View.{item_view, items_view}
-use Rattle.acpi_terms.proofs.Each.{step_on, stops, all_read, fails_on, reads_on}
+use Rattle.acpi_terms.proofs.Each.{turned, stopped_there, all_turned, fails_on, reads_on}
+use Rattle.acpi_terms.proofs.Opened.{item_opened, reads_on_too, reads_behind}
 use Rattle.acpi_terms.proofs.items.+items.Goals as goal
 
-pub items-returns-in_err-next : goal.items-returns-in_err-next
-items-returns-in_err-next t c =
+pub items-returns-in_err-item : goal.items-returns-in_err-item
+items-returns-in_err-item t c =
     let p = err_from_is_err_and c.from_residual.result c.from_residual.ensures.1 in
-    let one = item_at c.args.level c.args.end in
-    let bytes = slice_range c.args.code.now c.args.at c.args.end in
-    let more : c.loop-at.at < c.args.end = grind arith in
-    rw (p.1, p.2) (fails_on _ (each_at one bytes) (λ is. Ok (items_of is))
-    (stops one c.args.code.now bytes c.loop-at.at c.args.end _ _ more c.requires.within c.in_err-next.ensures.exact c.loop-at.invariant.1))
+    let some : 0 < length c.each.code.bytes = grind arith in
+    rw (p.1, p.2) (fails_on _ (each_at (item_at c.args.level c.args.code.now.end) c.args.code.now.bytes) (λ xs. Ok (items_of xs)) (stopped_there (item_at c.args.level) c.args.code.now c.each.code _ _ some c.in_err-item.ensures c.each.invariant))
 
-pub items-loop-at-preserved : goal.items-loop-at-preserved
-items-loop-at-preserved t c =
-    let n = c.in_ok-next.next in
-    let one = item_at c.args.level c.args.end in
-    let bytes = slice_range c.args.code.now c.args.at c.args.end in
-    let more : c.loop-at.at < c.args.end = grind arith in
-    let e : items_view c.push.new.self.items ≡ items_view c.loop-at.found.items ++ item_view n ∷ [] = rw c.in_ok-push.ensures.items (map_push _ c.loop-at.found.items n) in
-    (c.in_ok-next.ensures.on.1, rw e (step_on one c.args.code.now bytes c.loop-at.at c.in_ok-next.behind c.args.end _ _ more c.requires.within c.in_ok-next.ensures.exact c.in_ok-next.ensures.on.0 c.loop-at.invariant.1))
+pub items-each-preserved : goal.items-each-preserved
+items-each-preserved t c =
+    let n = c.in_ok-item.field-0 in
+    let some : 0 < length c.each.code.bytes = grind arith in
+    let e : items_view c.push.new.self.items ≡ items_view c.each.found.items ++ item_view n ∷ [] = rw c.in_ok-push.ensures.items (map_push _ c.each.found.items n) in
+    rw e (turned (item_at c.args.level) c.args.code.now c.each.code c.item.new.code _ _ some c.in_ok-item.ensures.0 c.in_ok-item.ensures.1 c.each.invariant)
 
 pub items-returns : goal.items-returns
 items-returns t c =
-    let one = item_at c.args.level c.args.end in
-    let bytes = slice_range c.args.code.now c.args.at c.args.end in
-    let none : c.args.end ≤ c.loop-at.at = grind arith in
-    reads_on (each_at one bytes) _ (λ is. Ok (items_of is)) (all_read one c.args.code.now bytes c.loop-at.at c.args.end _ none c.requires.within c.loop-at.invariant.1)
+    let none : length c.each.code.bytes ≡ 0 = grind arith in
+    reads_on (each_at (item_at c.args.level c.args.code.now.end) c.args.code.now.bytes) _ (λ xs. Ok (items_of xs)) (all_turned (item_at c.args.level) c.args.code.now c.each.code _ none c.each.invariant)
+
+pub item-returns : goal.item-returns
+item-returns t c =
+    let some : 0 < c.args.level = grind arith in
+    let opens = item_opened c.args.level c.args.code.now.end c.args.code.now.bytes c.in_ok-lead.lead c.lead.new.self.bytes some c.in_ok-lead.ensures.0 in
+    let by : ℕ → List ℕ → Reading ItemTree = λ end rest. item_by (items_with (item_at (c.args.level - 1))) (c.args.level - 1) end c.fork-front.result.bytes c.in_ok-lead.lead rest in
+    reads_behind item_view (item_at c.args.level) by c.args.code.now c.lead.new.self c.item_form.new.code _ (rw (c.in_ok-lead.ensures.1.same_end, c.fork-front.ensures) opens)
+    c.in_ok-lead.ensures.1 (reads_on_too item_view by c.lead.new.self c.item_form.new.code c.item_form.result c.item_form.ensures)

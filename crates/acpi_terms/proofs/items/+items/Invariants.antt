@@ -1,9 +1,14 @@
-use Rattle.std.proofs.Common.{◌+◌, ◌-◌, ◌*◌, ◌≤◌}
-use Rattle.std.specs.List.{slice_range}
+use Rattle.std.proofs.Common.{◌+◌, ◌*◌, length}
 use Rattle.acpi_terms.proofs.items.+items.Given as goal
-use Rattle.acpi_terms.proofs.Each.{SoFar}
+use Rattle.acpi_terms.proofs.Each.{Turns}
 use Rattle.acpi_terms.specs.Reading.{item_at}
 use Rattle.acpi_tree.specs.View.{items_view}
+
+abbrev pub invariant-items-each : goal.invariant-items-each
+invariant-items-each l = Turns (item_at l.level) l.fn.code l.code (items_view l.found.items)
+
+abbrev pub decreases-items-each : goal.decreases-items-each
+decreases-items-each l = length l.code.bytes
 
 abbrev pub decreases-item : goal.decreases-item
 decreases-item l = 4 * l.level
@@ -28,9 +33,3 @@ decreases-thermal_form l = 4 * l.level + 2
 
 abbrev pub decreases-item_form : goal.decreases-item_form
 decreases-item_form l = 4 * l.level + 3
-
-abbrev pub invariant-items-loop-at : goal.invariant-items-loop-at
-invariant-items-loop-at l = (l.at ≤ l.end) × SoFar (item_at l.level l.end) (slice_range l.code l.fn.at l.end) (slice_range l.code l.at l.end) (items_view l.found.items)
-
-abbrev pub decreases-items-loop-at : goal.decreases-items-loop-at
-decreases-items-loop-at l = l.end - l.at
