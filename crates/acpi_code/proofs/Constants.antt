@@ -1,0 +1,81 @@
+-- Constants: what is spelled is read, what is read is spelled, or the fault is true.
+use Rattle.std.proofs.Common.{◌≡◌, ℕ, ◌<◌, List, [], ◌∷◌, ◌++◌, length, Ok, refl, ap, ◌∙◌, arith}
+use Rattle.acpi_tree.specs.declared.tree.Int.{Int}
+use Rattle.acpi_tree.specs.declared.tree.Int.TheVariants.{Zero, One, Ones, Revision, Byte, Word, DWord, QWord}
+use Rattle.acpi_code.specs.declared.opcode.ConstantForm.{ConstantForm}
+use Rattle.acpi_code.specs.declared.opcode.ConstantForm.TheVariants as forms
+use Rattle.acpi_code.specs.declared.opcode.Opcode.TheVariants as opcodes
+use Rattle.acpi_code.specs.Opcodes.{opcode_bytes}
+use Rattle.acpi_code.specs.Spelling.{SpellsByte, SpellsNumber, SpellsInt}
+use Rattle.acpi_code.specs.steps.Reading.{byte_at, number_at, opcode_at, constant_at}
+use Rattle.acpi_code.proofs.Readings.{Judge, Position, Source, Shown, Read, position_after, read_as, read_behind}
+use Rattle.acpi_code.proofs.Opcodes.{opens, Opened}
+use Rattle.acpi_code.proofs.Numbers.{byte_sound, number_complete, number_sound}
+
+-- ---- complete
+
+-- the form of a constant
+abbrev pub int_form : Int → ConstantForm
+int_form Zero = forms.Zero
+int_form One = forms.One
+int_form Ones = forms.Ones
+int_form Revision = forms.Revision
+int_form (Byte n) = forms.Byte
+int_form (Word n) = forms.Word
+int_form (DWord n) = forms.DWord
+int_form (QWord n) = forms.QWord
+
+pub int_long : (i : Int) (bytes : List ℕ) → SpellsInt i bytes → 0 < length bytes
+int_long Zero bytes h = rw h (omega arith)
+int_long One bytes h = rw h (omega arith)
+int_long Ones bytes h = rw h (omega arith)
+int_long Revision bytes h = rw h (omega arith)
+int_long (Byte n) bytes h = rw h (omega arith)
+int_long (Word n) bytes h = rw h.2 (omega arith)
+int_long (DWord n) bytes h = rw h.2 (omega arith)
+int_long (QWord n) bytes h = rw h.2 (omega arith)
+
+-- its opcode begins there, and what is behind that is read
+abbrev pub IntOpens : ℕ → Int → List ℕ → List ℕ → Type 0
+IntOpens end i bytes rest = (more : List ℕ) × (opcode_at end (bytes ++ rest) ≡ Ok (opcodes.Constant (int_form i), more)) × (constant_at (int_form i) end more ≡ Ok (i, rest))
+
+pub int_complete : (i : Int) (end : ℕ) (bytes rest : List ℕ) → SpellsInt i bytes → IntOpens end i bytes rest
+unfolding byte_at
+int_complete Zero end bytes rest h = (rest, rw h (opens end (opcodes.Constant forms.Zero) rest refl), refl)
+int_complete One end bytes rest h = (rest, rw h (opens end (opcodes.Constant forms.One) rest refl), refl)
+int_complete Ones end bytes rest h = (rest, rw h (opens end (opcodes.Constant forms.Ones) rest refl), refl)
+int_complete Revision end bytes rest h = (rest, rw h (opens end (opcodes.Constant forms.Revision) rest refl), refl)
+int_complete (Byte n) end bytes rest h = (n ∷ rest, rw h (opens end (opcodes.Constant forms.Byte) (n ∷ rest) refl), refl)
+int_complete (Word n) end bytes rest h = (h.0 ++ rest, rw h.2 (opens end (opcodes.Constant forms.Word) (h.0 ++ rest) refl), rw (number_complete 2 n end h.0 rest h.1) refl)
+int_complete (DWord n) end bytes rest h = (h.0 ++ rest, rw h.2 (opens end (opcodes.Constant forms.DWord) (h.0 ++ rest) refl), rw (number_complete 4 n end h.0 rest h.1) refl)
+int_complete (QWord n) end bytes rest h = (h.0 ++ rest, rw h.2 (opens end (opcodes.Constant forms.QWord) (h.0 ++ rest) refl), rw (number_complete 8 n end h.0 rest h.1) refl)
+
+-- ---- sound
+
+-- what stands behind the opcode
+abbrev pub SpellsRest : ConstantForm → Int → List ℕ → Type 0
+SpellsRest form i bytes = SpellsInt i (opcode_bytes (opcodes.Constant form) ++ bytes)
+
+none_read : (s : Source) (level end : ℕ) (Spells : Int → List ℕ → Type 0) (i : Int) (bytes : List ℕ) → Position s.depth level s.code end bytes → Spells i [] → Read s level end Spells bytes (i, bytes)
+none_read s level end Spells i bytes h k = (record { front = []; spells = k; whole = refl }, h)
+
+pub constant_sound : (s : Source) (level end : ℕ) (form : ConstantForm) (bytes : List ℕ) → Position s.depth level s.code end bytes → Judge (Read s level end (SpellsRest form) bytes) (Shown s) (constant_at form end bytes)
+constant_sound s level end forms.Zero bytes h = none_read s level end (SpellsRest forms.Zero) Zero bytes h refl
+constant_sound s level end forms.One bytes h = none_read s level end (SpellsRest forms.One) One bytes h refl
+constant_sound s level end forms.Ones bytes h = none_read s level end (SpellsRest forms.Ones) Ones bytes h refl
+constant_sound s level end forms.Revision bytes h = none_read s level end (SpellsRest forms.Revision) Revision bytes h refl
+constant_sound s level end forms.Byte bytes h =
+    read_as (Shown s) s level end SpellsByte (SpellsRest forms.Byte) (λ n. Byte n) bytes (byte_at end bytes) (λ n a k. ap (λ (t : List ℕ). 10 ∷ t) k) (byte_sound s level end bytes h)
+constant_sound s level end forms.Word bytes h =
+    read_as (Shown s) s level end (SpellsNumber 2) (SpellsRest forms.Word) (λ n. Word n) bytes (number_at 2 end bytes) (λ n a k. (a, k, refl)) (number_sound s level 2 end bytes h)
+constant_sound s level end forms.DWord bytes h =
+    read_as (Shown s) s level end (SpellsNumber 4) (SpellsRest forms.DWord) (λ n. DWord n) bytes (number_at 4 end bytes) (λ n a k. (a, k, refl)) (number_sound s level 4 end bytes h)
+constant_sound s level end forms.QWord bytes h =
+    read_as (Shown s) s level end (SpellsNumber 8) (SpellsRest forms.QWord) (λ n. QWord n) bytes (number_at 8 end bytes) (λ n a k. (a, k, refl)) (number_sound s level 8 end bytes h)
+
+-- the constant whose opcode begins the bytes
+pub whole_constant : (s : Source) (level end : ℕ) (form : ConstantForm) (bytes rest : List ℕ) → Position s.depth level s.code end bytes → Opened bytes (opcodes.Constant form, rest) → Judge (Read s level end SpellsInt bytes) (Shown s) (constant_at form end rest)
+whole_constant s level end form bytes rest h o =
+    let op = opcode_bytes (opcodes.Constant form) in
+    let is : bytes ≡ op ++ rest = o.whole ∙ ap (λ (t : List ℕ). t ++ rest) o.told.1 in
+    read_behind (Shown s) s level end (SpellsRest form) SpellsInt bytes op rest (constant_at form end rest) is (λ i a k. k) (constant_sound s level end form rest (position_after s level end bytes op rest is h))

@@ -1,0 +1,9 @@
+pub mod Left
+pub mod Readings
+pub mod Lists
+pub mod Opcodes
+pub mod Numbers
+pub mod Packages
+pub mod Names
+pub mod Constants
+pub mod Strings

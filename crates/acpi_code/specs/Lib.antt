@@ -1,0 +1,4 @@
+pub mod Opcodes
+pub mod Spelling
+pub mod Faults
+pub mod steps

@@ -1,0 +1,4 @@
+pub mod Left
+pub mod Within
+pub mod Reading
+pub mod Cursor

@@ -1,0 +1,22 @@
+-- What a reader answers of what is left of a list, and what it leaves of it. None takes memory.
+use Rattle.std.specs.Prelude.{◌≡◌, ℕ, List, Result, Ok, Err}
+use Rattle.acpi_code.specs.declared.fault.CodeFault.{CodeFault}
+use Rattle.acpi_code.specs.steps.Left.{Left, Shorter, NoLonger}
+use Rattle.acpi_code.specs.steps.Reading.{Reading, package_at}
+
+-- What a reader answered, seen by `view`, is what the reading gives of the bytes that were left, and the
+-- bytes behind it are left, which are fewer. Where it failed, so does the reading.
+abbrev pub Finds : {X Y : Type 0} → (X → Y) → (ℕ → List ℕ → Reading CodeFault Y) → Left → Left → Result X CodeFault → Type 0
+Finds view read old new (Ok x) = (read old.end old.bytes ≡ Ok (view x, new.bytes)) × Shorter old new
+Finds view read old new (Err f) = read old.end old.bytes ≡ Err f
+
+-- the same behind an opcode, where there may be nothing to read
+abbrev pub FindsOn : {X Y : Type 0} → (X → Y) → (ℕ → List ℕ → Reading CodeFault Y) → Left → Left → Result X CodeFault → Type 0
+FindsOn view read old new (Ok x) = (read old.end old.bytes ≡ Ok (view x, new.bytes)) × NoLonger old new
+FindsOn view read old new (Err f) = read old.end old.bytes ≡ Err f
+
+-- a package was opened: its content is answered, and what is behind it is left
+abbrev pub Opens : Left → Left → Result Left CodeFault → Type 0
+Opens old new (Ok inner) =
+    (package_at old.end old.bytes ≡ Ok (record { content = inner.bytes; end = inner.end; rest = new.bytes })) × Shorter old new
+Opens old new (Err f) = package_at old.end old.bytes ≡ Err f

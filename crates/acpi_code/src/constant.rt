@@ -1,0 +1,27 @@
+//! Reading constants.
+
+ghost use Rattle.acpi_code.specs.steps.Reading.{constant_at};
+ghost use Rattle.acpi_code.specs.steps.Cursor.{FindsOn};
+
+use crate::code::Code;
+use crate::fault::CodeFault;
+use crate::opcode::ConstantForm;
+use acpi_tree::Int;
+
+impl Code<'_> {
+    /// The constant whose opcode was read (ACPI 6.5, 20.2.3). `Cut` where the list ends inside its number.
+    pub fn constant(&mut self, form: ConstantForm) -> Result<Int, CodeFault>
+        ensures { FindsOn (λ i. i) (constant_at form) self.old self.new result }
+    {
+        Ok(match form {
+            ConstantForm::Zero => Int::Zero,
+            ConstantForm::One => Int::One,
+            ConstantForm::Ones => Int::Ones,
+            ConstantForm::Revision => Int::Revision,
+            ConstantForm::Byte => Int::Byte(self.byte()?),
+            ConstantForm::Word => Int::Word(self.word()?),
+            ConstantForm::DWord => Int::DWord(self.dword()?),
+            ConstantForm::QWord => Int::QWord(self.qword()?),
+        })
+    }
+}

@@ -1,0 +1,71 @@
+//! Reading names and segments.
+
+ghost use Rattle.std.specs.Prelude.{◌≡◌, ◌≤◌, true, length, take};
+ghost use Rattle.acpi_name.specs.NameRefs.{name_parts};
+ghost use Rattle.acpi_name.specs.Reading.{is_segment_front};
+ghost use Rattle.acpi_code.specs.steps.Reading.{name_in, segment_in};
+ghost use Rattle.acpi_code.specs.steps.Cursor.{Finds};
+
+use crate::code::Code;
+use crate::fault::{CodeFault, CodeReason};
+use crate::opcode::{lead_char, name_char};
+use acpi_name::{NameFault, NameRef, Seg, read_name};
+
+impl<'a> Code<'a> {
+    /// A NameString.
+    #[tactic(auto, unfolding(crate::specs::steps::Reading::name_in))]
+    pub fn name(&mut self) -> Result<NameRef<'a>, CodeFault>
+        ensures { Finds name_parts name_in self.old self.new result }
+    {
+        match read_name(self.left()) {
+            Ok((name, used)) => {
+                self.skip(used);
+                Ok(name)
+            }
+            Err(NameFault::Cut) => Err(self.cut()),
+            Err(NameFault::BadChar) => Err(self.stop(CodeReason::BadName)),
+            Err(NameFault::ZeroCount) => Err(self.stop(CodeReason::BadName)),
+            Err(NameFault::TooManyUps) => Err(self.stop(CodeReason::BadName)),
+        }
+    }
+
+    /// A NameSeg.
+    #[tactic(auto, unfolding(crate::specs::steps::Reading::segment_in, acpi_name::specs::Reading::segment_at))]
+    pub fn segment(&mut self) -> Result<Seg, CodeFault>
+        ensures { Finds (λ s. s) segment_in self.old self.new result }
+    {
+        let left = self.left();
+        if !begins_segment(left) {
+            return Err(self.stop(CodeReason::BadName));
+        }
+        if left.len() < 4 {
+            return Err(self.cut());
+        }
+        self.skip(4);
+        Ok(first_segment(left))
+    }
+}
+
+// Whether what stands there, up to four bytes, may begin a segment.
+fn begins_segment(bytes: &[u8]) -> bool
+    ensures { result ≡ is_segment_front bytes.now }
+{
+    match bytes {
+        [] => true,
+        [a] => lead_char(*a),
+        [a, b] => lead_char(*a) && name_char(*b),
+        [a, b, c] => lead_char(*a) && name_char(*b) && name_char(*c),
+        [a, b, c, d, ..] => lead_char(*a) && name_char(*b) && name_char(*c) && name_char(*d),
+    }
+}
+
+fn first_segment(bytes: &[u8]) -> Seg
+    requires segment { is_segment_front bytes.now ≡ true }
+    requires whole { 4 ≤ length bytes.now }
+    ensures { result ≡ take 4 bytes.now }
+{
+    match Seg::new([bytes[0], bytes[1], bytes[2], bytes[3]]) {
+        Some(seg) => seg,
+        None => unreachable!(),
+    }
+}

@@ -1,0 +1,270 @@
+//! What begins with which bytes.
+
+ghost use Rattle.std.specs.Prelude.{◌≡◌};
+ghost use Rattle.acpi_name.specs.Names.{is_lead_char, is_name_char};
+ghost use Rattle.acpi_code.specs.Opcodes.{is_name_opcode, is_name_start, plain_opcode_of, extended_opcode_of};
+ghost use Rattle.acpi_code.specs.steps.Reading.{opcode_at};
+ghost use Rattle.acpi_code.specs.steps.Cursor.{Finds};
+
+use crate::code::Code;
+use crate::fault::CodeFault;
+use acpi_tree::{Op, Width};
+
+/// How a constant integer is written (ACPI 6.5, 20.2.3 ComputationalData).
+#[derive(Clone, Copy, Debug, PartialEq, Eq)]
+pub enum ConstantForm {
+    /// ZeroOp
+    Zero,
+    /// OneOp
+    One,
+    /// OnesOp
+    Ones,
+    /// RevisionOp
+    Revision,
+    /// BytePrefix
+    Byte,
+    /// WordPrefix
+    Word,
+    /// DWordPrefix
+    DWord,
+    /// QWordPrefix
+    QWord,
+}
+
+/// What begins with an opcode (ACPI 6.5, 20.3).
+#[derive(Clone, Copy, Debug, PartialEq, Eq)]
+pub enum Opcode {
+    /// A constant integer.
+    Constant(ConstantForm),
+    /// StringPrefix
+    Str,
+    /// BufferOp
+    Buffer,
+    /// PackageOp
+    Package,
+    /// VarPackageOp
+    VarPackage,
+    /// A NameString whose first byte is not 00.
+    Name,
+    /// Local0Op to Local7Op
+    Local(u8),
+    /// Arg0Op to Arg6Op
+    Arg(u8),
+    /// DebugOp
+    Debug,
+    /// An operator.
+    Operator(Op),
+    /// IfOp
+    If,
+    /// ElseOp
+    Else,
+    /// WhileOp
+    While,
+    /// NameOp
+    DeclareName,
+    /// ScopeOp
+    Scope,
+    /// MethodOp
+    Method,
+    /// ExternalOp
+    External,
+    /// CreateDWordFieldOp and the like
+    Create(Width),
+    /// CreateFieldOp
+    CreateField,
+    /// MutexOp
+    Mutex,
+    /// EventOp
+    Event,
+    /// OpRegionOp
+    Region,
+    /// FieldOp
+    Field,
+    /// DeviceOp
+    Device,
+    /// ProcessorOp, as ACPI 6.3 and earlier have it
+    Processor,
+    /// PowerResOp
+    Power,
+    /// ThermalZoneOp
+    Thermal,
+    /// IndexFieldOp
+    IndexField,
+    /// BankFieldOp
+    BankField,
+    /// AliasOp
+    Alias,
+    /// LoadOp, LoadTableOp, or Unload of older editions
+    Load,
+    /// DataRegionOp
+    DataRegion,
+    /// No opcode that is read here.
+    Nothing,
+}
+
+pub(crate) fn lead_char(b: u8) -> bool
+    ensures { result ≡ is_lead_char b }
+{
+    (65 <= b && b <= 90) || b == 95
+}
+
+pub(crate) fn name_char(b: u8) -> bool
+    ensures { result ≡ is_name_char b }
+{
+    lead_char(b) || (48 <= b && b <= 57)
+}
+
+/// Whether a name in the place of a term begins with the byte.
+pub fn name_start(b: u8) -> bool
+    ensures { result ≡ is_name_start b }
+{
+    b == 92 || b == 94 || b == 46 || b == 47 || lead_char(b)
+}
+
+fn plain_opcode(b: u8) -> Opcode
+    ensures { result ≡ plain_opcode_of b }
+{
+    if name_start(b) {
+        return Opcode::Name;
+    }
+    if b > 0x5F && b < 0x68 {
+        return Opcode::Local(b - 0x60);
+    }
+    if b > 0x67 && b < 0x6F {
+        return Opcode::Arg(b - 0x68);
+    }
+    match b {
+        0x00 => Opcode::Constant(ConstantForm::Zero),
+        0x01 => Opcode::Constant(ConstantForm::One),
+        0xFF => Opcode::Constant(ConstantForm::Ones),
+        0x0A => Opcode::Constant(ConstantForm::Byte),
+        0x0B => Opcode::Constant(ConstantForm::Word),
+        0x0C => Opcode::Constant(ConstantForm::DWord),
+        0x0E => Opcode::Constant(ConstantForm::QWord),
+        0x0D => Opcode::Str,
+        0x11 => Opcode::Buffer,
+        0x12 => Opcode::Package,
+        0x13 => Opcode::VarPackage,
+        0x08 => Opcode::DeclareName,
+        0x10 => Opcode::Scope,
+        0x14 => Opcode::Method,
+        0x15 => Opcode::External,
+        0x8A => Opcode::Create(Width::DWord),
+        0x8B => Opcode::Create(Width::Word),
+        0x8C => Opcode::Create(Width::Byte),
+        0x8D => Opcode::Create(Width::Bit),
+        0x8F => Opcode::Create(Width::QWord),
+        0xA0 => Opcode::If,
+        0xA1 => Opcode::Else,
+        0xA2 => Opcode::While,
+        0x06 => Opcode::Alias,
+        0x70 => Opcode::Operator(Op::Store),
+        0x71 => Opcode::Operator(Op::RefOf),
+        0x72 => Opcode::Operator(Op::Add),
+        0x73 => Opcode::Operator(Op::Concat),
+        0x74 => Opcode::Operator(Op::Subtract),
+        0x75 => Opcode::Operator(Op::Increment),
+        0x76 => Opcode::Operator(Op::Decrement),
+        0x77 => Opcode::Operator(Op::Multiply),
+        0x78 => Opcode::Operator(Op::Divide),
+        0x79 => Opcode::Operator(Op::ShiftLeft),
+        0x7A => Opcode::Operator(Op::ShiftRight),
+        0x7B => Opcode::Operator(Op::And),
+        0x7C => Opcode::Operator(Op::NAnd),
+        0x7D => Opcode::Operator(Op::Or),
+        0x7E => Opcode::Operator(Op::NOr),
+        0x7F => Opcode::Operator(Op::XOr),
+        0x80 => Opcode::Operator(Op::Not),
+        0x81 => Opcode::Operator(Op::FindSetLeftBit),
+        0x82 => Opcode::Operator(Op::FindSetRightBit),
+        0x83 => Opcode::Operator(Op::DerefOf),
+        0x84 => Opcode::Operator(Op::ConcatRes),
+        0x85 => Opcode::Operator(Op::Mod),
+        0x86 => Opcode::Operator(Op::Notify),
+        0x87 => Opcode::Operator(Op::SizeOf),
+        0x88 => Opcode::Operator(Op::Index),
+        0x89 => Opcode::Operator(Op::Match),
+        0x8E => Opcode::Operator(Op::ObjectType),
+        0x90 => Opcode::Operator(Op::LAnd),
+        0x91 => Opcode::Operator(Op::LOr),
+        0x92 => Opcode::Operator(Op::LNot),
+        0x93 => Opcode::Operator(Op::LEqual),
+        0x94 => Opcode::Operator(Op::LGreater),
+        0x95 => Opcode::Operator(Op::LLess),
+        0x96 => Opcode::Operator(Op::ToBuffer),
+        0x97 => Opcode::Operator(Op::ToDecimalString),
+        0x98 => Opcode::Operator(Op::ToHexString),
+        0x99 => Opcode::Operator(Op::ToInteger),
+        0x9C => Opcode::Operator(Op::ToString),
+        0x9D => Opcode::Operator(Op::CopyObject),
+        0x9E => Opcode::Operator(Op::Mid),
+        0x9F => Opcode::Operator(Op::Continue),
+        0xA3 => Opcode::Operator(Op::Noop),
+        0xA4 => Opcode::Operator(Op::Return),
+        0xA5 => Opcode::Operator(Op::Break),
+        0xCC => Opcode::Operator(Op::BreakPoint),
+        _ => Opcode::Nothing,
+    }
+}
+
+// What begins with 5B and the byte.
+fn extended_opcode(b: u8) -> Opcode
+    ensures { result ≡ extended_opcode_of b }
+{
+    match b {
+        0x30 => Opcode::Constant(ConstantForm::Revision),
+        0x31 => Opcode::Debug,
+        0x01 => Opcode::Mutex,
+        0x02 => Opcode::Event,
+        0x13 => Opcode::CreateField,
+        0x80 => Opcode::Region,
+        0x81 => Opcode::Field,
+        0x82 => Opcode::Device,
+        0x83 => Opcode::Processor,
+        0x84 => Opcode::Power,
+        0x85 => Opcode::Thermal,
+        0x86 => Opcode::IndexField,
+        0x87 => Opcode::BankField,
+        0x88 => Opcode::DataRegion,
+        0x1F => Opcode::Load,
+        0x20 => Opcode::Load,
+        0x2A => Opcode::Load,
+        0x12 => Opcode::Operator(Op::CondRefOf),
+        0x21 => Opcode::Operator(Op::Stall),
+        0x22 => Opcode::Operator(Op::Sleep),
+        0x23 => Opcode::Operator(Op::Acquire),
+        0x24 => Opcode::Operator(Op::Signal),
+        0x25 => Opcode::Operator(Op::Wait),
+        0x26 => Opcode::Operator(Op::Reset),
+        0x27 => Opcode::Operator(Op::Release),
+        0x28 => Opcode::Operator(Op::FromBCD),
+        0x29 => Opcode::Operator(Op::ToBCD),
+        0x32 => Opcode::Operator(Op::Fatal),
+        0x33 => Opcode::Operator(Op::Timer),
+        _ => Opcode::Nothing,
+    }
+}
+
+/// Whether a name begins so.
+pub fn is_name(opcode: Opcode) -> bool
+    ensures { result ≡ is_name_opcode opcode }
+{
+    match opcode {
+        Opcode::Name => true,
+        _ => false,
+    }
+}
+
+impl Code<'_> {
+    /// What begins there. What is behind its opcode is left.
+    #[tactic(auto, unfolding(crate::specs::steps::Reading::opcode_at))]
+    pub fn opcode(&mut self) -> Result<Opcode, CodeFault>
+        ensures { Finds (λ o. o) opcode_at self.old self.new result }
+    {
+        let first = self.byte()?;
+        if first != 0x5B {
+            return Ok(plain_opcode(first));
+        }
+        Ok(extended_opcode(self.byte()?))
+    }
+}
