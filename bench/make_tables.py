@@ -150,6 +150,25 @@ def firmware():
     return package(b"\x10", b"\\_SB_" + b"".join(devices))
 
 
+def listed_device(number):
+    """A Device with five Names and a Method."""
+    items = [name(1, b"\x0C\x41\xD0\x0A\x03"), name(2, b"\x0A" + bytes([number])), name(3, b"\x0C" + bytes(4))]
+    items.append(name(4, package(b"\x12", b"\x02\x0A\x05\x0A\x04")))
+    items.append(name(5, b"\x0D" + b"a device on its bridge" + b"\x00"))
+    items.append(package(b"\x14", segment(200) + b"\x01" + b"\x70\x68\x60" * 10 + b"\xA4\x60"))
+    return device(100 + number, b"".join(items))
+
+
+def nested():
+    """Some 4,200 objects in 68 KB up to twenty levels deep: bridges in one another, each with devices before and behind the next."""
+    inner = b""
+    for level in range(17):
+        before = b"".join(map(listed_device, range(18)))
+        behind = b"".join(map(listed_device, range(18, 35)))
+        inner = device(level, before + inner + behind)
+    return package(b"\x10", b"\\_SB_" + inner)
+
+
 def main():
     folder = sys.argv[1]
     os.makedirs(folder, exist_ok=True)
@@ -175,6 +194,7 @@ def main():
     for count in (100, 1_000, 10_000):
         write(f"deep-{count}.aml", deep_field(1000, count))
     write("firmware.aml", firmware())
+    write("nested.aml", nested())
     write("empty.aml", b"")
     for file in sorted(os.listdir(folder)):
         print(file, os.path.getsize(os.path.join(folder, file)))

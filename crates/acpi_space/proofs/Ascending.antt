@@ -8,7 +8,7 @@ use Rattle.std.specs.FinMap.{entries}
 use Rattle.acpi_name.specs.Names.{Segment}
 use Rattle.acpi_name.specs.Paths.{segment_cmp, path_cmp}
 use Rattle.acpi_space.specs.declared.nodes.Node.{Node}
-use Rattle.acpi_space.specs.Tree.{node_children, node_value, own_pair, pairs_below, tree_map, IsTree}
+use Rattle.acpi_space.specs.steps.Tree.{node_children, node_value, own_pair, pairs_below, tree_map, IsTree}
 use Rattle.acpi_space.specs.Spaces.{PathMap}
 use Rattle.acpi_space.proofs.Maps.{entries_ascending}
 use Rattle.acpi_space.proofs.Equal.{eq_of, segment_itself}

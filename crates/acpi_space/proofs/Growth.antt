@@ -9,8 +9,8 @@ use Rattle.std.specs.BTreeMap.{insert_entry}
 use Rattle.acpi_name.specs.Names.{Segment}
 use Rattle.acpi_name.specs.Paths.{segment_cmp}
 use Rattle.acpi_space.specs.declared.nodes.Node.{Node}
-use Rattle.acpi_space.specs.Grown.{IsGrown, IsPadded}
-use Rattle.acpi_space.specs.Tree.{child_of, child_at, node_children, node_value, reached, value_below, IsTree}
+use Rattle.acpi_space.specs.steps.Grown.{IsGrown, IsPadded}
+use Rattle.acpi_space.specs.steps.Tree.{child_of, child_at, node_children, node_value, reached, value_below, IsTree}
 use Rattle.acpi_space.proofs.Tree.{child_within, value_below_step}
 use Rattle.acpi_space.proofs.Written.{past_end}
 use Rattle.acpi_space.proofs.Equal.{same_segment, segment_itself, same_number, other_number}
@@ -45,8 +45,8 @@ module _ {V : Type 0} (old new : List (Node V)) (pad : IsPadded old new) where
   pub padded_grown : length old ≤ length new → IsTree old → IsGrown old new
   padded_grown more t = record {
     tree = same_children_tree old new pad.children more t;
-    values = padded_values 0;
-    walks = λ q k e. same_reached old new pad.children 0 q ∙ e;
+    values = padded_values;
+    children = λ n g k e. same_child old new pad.children n g ∙ e;
   }
 
 pub padded_itself : {V : Type 0} (nodes : List (Node V)) → IsPadded nodes nodes
@@ -55,8 +55,8 @@ padded_itself nodes = record { children = λ n. refl; values = λ n. refl }
 pub grown_again : {V : Type 0} (old mid new : List (Node V)) → IsGrown old mid → IsGrown mid new → IsGrown old new
 grown_again old mid new a b = record {
   tree = b.tree;
-  values = λ q. b.values q ∙ a.values q;
-  walks = λ q k e. b.walks q k (a.walks q k e);
+  values = λ n q. b.values n q ∙ a.values n q;
+  children = λ n g k e. b.children n g k (a.children n g k e);
 }
 
 -- ---- an empty node that nobody leads to, made the child of another
@@ -137,14 +137,6 @@ module _ {V : Type 0} (old new : List (Node V)) (number : ℕ) (g : Segment) (m 
           let none : child_at old n h ≡ None = ap (λ k. child_at old k h) f.0 ∙ ap (child_at old number) (sym f.1) ∙ is.free in
           cc
 
-  linked_walks : (n : ℕ) (q : List Segment) (k : ℕ) → reached old n q ≡ Some k → reached new n q ≡ Some k
-  linked_walks n [] k e = e
-  linked_walks n (h ∷ q) k e = by (λ j. linked_walks j q k) (child_at old n h) refl e
-    where
-      by : ((j : ℕ) → reached old j q ≡ Some k → reached new j q ≡ Some k) → (o : Option ℕ) → child_at old n h ≡ o → option_and_then (λ j. reached old j q) o ≡ Some k → option_and_then (λ j. reached new j q) (child_at new n h) ≡ Some k
-      by ih None f e = cc
-      by ih (Some j) f e = ap (option_and_then (λ j. reached new j q)) (kept_child n h j f) ∙ ih j e
-
   linked_nodes : (n : ℕ) → IsStrictlySortedBy segment_cmp (map (λ e. e.0) (node_children (slice_get new n))) × AllByRecursion (λ e. (n < e.1) × (e.1 < length new)) (node_children (slice_get new n))
   linked_nodes n = by (nat_eq n number) refl
     where
@@ -179,8 +171,8 @@ module _ {V : Type 0} (old new : List (Node V)) (number : ℕ) (g : Segment) (m 
   pub linked_grown : IsGrown old new
   linked_grown = record {
     tree = (linked_nodes, linked_parents);
-    values = linked_values 0;
-    walks = linked_walks 0;
+    values = linked_values;
+    children = kept_child;
   }
 
 -- where the child was refused

@@ -11,8 +11,8 @@ use Rattle.acpi_space.specs.declared.space.Refused.{Refused}
 use Rattle.acpi_space.specs.declared.space.Refused.TheVariants.{Taken}
 use Rattle.acpi_space.specs.Spaces.{PathMap}
 use Rattle.acpi_space.specs.Refusal.{IsRefusal}
-use Rattle.acpi_space.specs.Grown.{IsGrown, HasPut}
-use Rattle.acpi_space.specs.Tree.{child_at, node_value, reached, value_below, tree_map, IsTree}
+use Rattle.acpi_space.specs.steps.Grown.{IsGrown, HasPut}
+use Rattle.acpi_space.specs.steps.Tree.{child_at, node_value, reached, value_below, tree_map, IsTree}
 use Rattle.acpi_space.proofs.Tree.{child_within, get-tree, same_tree, put_tree}
 use Rattle.acpi_space.proofs.Growth.{same_children_tree, same_reached}
 use Rattle.acpi_space.proofs.Equal.{same_path, path_itself, same_number, other_number}
@@ -108,12 +108,12 @@ module _ {V : Type 0} (old mid : List (Node V)) (m : PathMap V) (p segs : List S
   absent none = ap (λ x. get x p) (sym is) ∙ get-tree old p t ∙ ap (value_below old 0) (sym at) ∙ none
 
   pub unchanged : tree_map mid ≡ m
-  unchanged = same_tree old mid t grown.tree grown.values ∙ is
+  unchanged = same_tree old mid t grown.tree (grown.values 0) ∙ is
 
   module _ (k : ℕ) (reach : reached mid 0 segs ≡ Some k) where
     got_there : get m p ≡ node_value (slice_get mid k)
     got_there =
-        ap (λ x. get x p) (sym is) ∙ get-tree old p t ∙ sym (grown.values p) ∙ ap (value_below mid 0) (sym at)
+        ap (λ x. get x p) (sym is) ∙ get-tree old p t ∙ sym (grown.values 0 p) ∙ ap (value_below mid 0) (sym at)
         ∙ ap (option_and_then (λ n. node_value (slice_get mid n))) reach
 
     pub was_free : (r : Result (Unit {0}) (Refused V)) → OnOk r (node_value (slice_get mid k) ≡ None) → OnOk r (get m p ≡ None)

@@ -10,6 +10,7 @@ pub mod Tree
 pub mod Written
 pub mod Growth
 pub mod Reached
+pub mod Trails
 pub mod Inserted
 pub mod Steps
 pub mod Visits

@@ -5,7 +5,7 @@ use Rattle.std.proofs.lemmas.List.{drop_more, drop_all}
 use Rattle.acpi_name.specs.Names.{Segment}
 use Rattle.acpi_space.specs.declared.nodes.Node.{Node}
 use Rattle.acpi_space.specs.Search.{beginnings}
-use Rattle.acpi_space.specs.Tree.{child_at, node_value, reached, value_below}
+use Rattle.acpi_space.specs.steps.Tree.{child_at, node_value, reached, value_below}
 use Rattle.acpi_space.proofs.Beginnings.{found_cons}
 
 -- whether a node has a child at the segment with a value

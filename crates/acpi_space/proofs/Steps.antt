@@ -5,7 +5,7 @@ use Rattle.acpi_name.specs.Names.{Segment}
 use Rattle.acpi_name.specs.Paths.{parent_of, parent_of-push}
 use Rattle.acpi_space.specs.declared.walk.Step.{Step}
 use Rattle.acpi_space.specs.declared.walk.Step.TheVariants.{Enter, Leave}
-use Rattle.acpi_space.specs.Walk.{ahead, enter}
+use Rattle.acpi_space.specs.steps.Walk.{ahead, enter}
 
 pub last_first : {A : Type 0} (items rest : List A) (x : A) → items ≡ rest ++ x ∷ [] → reverse items ≡ x ∷ reverse rest
 last_first items rest x e = ap reverse e ∙ reverse-append rest (x ∷ [])

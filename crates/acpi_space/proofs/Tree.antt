@@ -11,7 +11,7 @@ use Rattle.std.specs.FinMap.{get, insert, same_map, get-insert}
 use Rattle.acpi_name.specs.Names.{Segment}
 use Rattle.acpi_name.specs.Paths.{segment_cmp, path_cmp, path_cmp_total, path_cmp-IsAntisymmetric}
 use Rattle.acpi_space.specs.declared.nodes.Node.{Node}
-use Rattle.acpi_space.specs.Tree.{own_pair, child_of, child_at, node_children, node_value, pairs_below, reached, value_below, tree_map, IsTree}
+use Rattle.acpi_space.specs.steps.Tree.{own_pair, child_of, child_at, node_children, node_value, pairs_below, reached, value_below, tree_map, IsTree}
 use Rattle.acpi_space.proofs.Maps.{get_is_lookup}
 use Rattle.acpi_space.proofs.Equal.{eq_of}
 use Rattle.acpi_space.proofs.Written.{past_end}

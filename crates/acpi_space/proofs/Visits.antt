@@ -6,8 +6,8 @@ use Rattle.std.proofs.lemmas.Grind.{flat_map-append}
 use Rattle.acpi_name.specs.Names.{Segment}
 use Rattle.acpi_space.specs.declared.nodes.Node.{Node}
 use Rattle.acpi_space.specs.declared.walk.Step.{Step}
-use Rattle.acpi_space.specs.Tree.{node_children, node_value, own_pair, node_pairs, pairs_below, IsTree}
-use Rattle.acpi_space.specs.Walk.{ahead, next_ahead, enter, pair_at}
+use Rattle.acpi_space.specs.steps.Tree.{node_children, node_value, own_pair, node_pairs, pairs_below, IsTree}
+use Rattle.acpi_space.specs.steps.Walk.{ahead, next_ahead, enter, pair_at}
 use Rattle.acpi_space.proofs.Written.{past_end}
 use Rattle.acpi_space.proofs.Steps.{ahead_children}
 

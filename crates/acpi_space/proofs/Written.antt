@@ -1,7 +1,7 @@
 -- A node among the nodes of a tree, and one that is written.
 use Rattle.std.proofs.Common.{◌≡◌, ◌≢◌, ℕ, zero, suc, ◌<◌, ◌≤◌, List, [], ◌∷◌, length, Some, None, slice_get, slice_set, slice_index_or, refl, sym, ap, ◌∙◌, arith, Result, Ok, Err, OnErr}
 use Rattle.acpi_space.specs.declared.nodes.Node.{Node}
-use Rattle.acpi_space.specs.Tree.{node_children, node_value}
+use Rattle.acpi_space.specs.steps.Tree.{node_children, node_value}
 
 pub on_err : {A E : Type 0} (P : Type 0) (r : Result A E) → P → OnErr r P
 on_err P (Ok x) h = tt

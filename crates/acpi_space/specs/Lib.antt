@@ -3,6 +3,4 @@ pub mod Refusal
 pub mod Search
 pub mod FoundPath
 pub mod Laws
-pub mod Tree
-pub mod Grown
-pub mod Walk
+pub mod steps

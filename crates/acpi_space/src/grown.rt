@@ -5,32 +5,62 @@ ghost use Rattle.std.specs.List.Sorted.{IsStrictlySortedBy};
 ghost use Rattle.std.specs.BTreeMap.{insert_entry};
 ghost use Rattle.acpi_name.specs.Names.{Segment};
 ghost use Rattle.acpi_name.specs.Paths.{segment_cmp};
-ghost use Rattle.acpi_space.specs.Grown.{HasPut, IsGrown, IsPadded};
-ghost use Rattle.acpi_space.specs.Tree.{IsTree, child_at, node_children, node_value, reached, value_below};
+ghost use Rattle.acpi_space.specs.steps.Grown.{HasPut, IsGrown, IsPadded};
+ghost use Rattle.acpi_space.specs.steps.Trail.{IsTrail};
+ghost use Rattle.acpi_space.specs.steps.Tree.{IsTree, child_at, node_children, node_value, reached, value_below};
 
 use crate::nodes::{Node, child};
 use crate::space::Refused;
+use crate::trail::{Mark, extend, follow};
 use acpi_name::Seg;
 use std::alloc::{AllocError, Global};
 use std::collections::BTreeMap;
 
-/// The number of the node at a path. Nodes without a value are put where there are none yet; where
+/// The number of the node at a path, by a walk that begins where the path leaves the trail; the trail then
+/// leads to it, or part of the way. Nodes without a value are put where there are none yet; where
 /// memory is refused, some of them may stay.
 pub(crate) fn reach<V: Drop>(
     alloc: Global,
     nodes: &mut Vec<Node<V>>,
+    trail: &mut Vec<Mark>,
     path: &[Seg],
 ) -> Result<usize, AllocError>
-    requires { IsTree nodes.old.items }
+    requires tree { IsTree nodes.old.items }
+    requires trail { IsTrail nodes.old.items 0 trail.old.items }
     ensures grown { IsGrown nodes.old.items nodes.new.items }
     ensures reached { IfOk result (λ n. reached nodes.new.items 0 path.now ≡ Some n) }
     ensures within { IfOk result (λ n. n < length nodes.new.items) }
     ensures absent { OnErr result (value_below nodes.old.items 0 path.now ≡ None) }
+    ensures trail { IsTrail nodes.new.items 0 trail.new.items }
 {
     root(alloc, nodes)?;
-    let mut number = 0;
+    let at = follow(trail, path);
+    trail.truncate(at.depth);
+    reach_from(alloc, nodes, trail, at.number, &path[at.depth..])
+}
+
+// .. at a path from a node.
+fn reach_from<V: Drop>(
+    alloc: Global,
+    nodes: &mut Vec<Node<V>>,
+    trail: &mut Vec<Mark>,
+    from: usize,
+    path: &[Seg],
+) -> Result<usize, AllocError>
+    requires tree { IsTree nodes.old.items }
+    requires within { from < length nodes.old.items }
+    requires trail { IsTrail nodes.old.items 0 trail.old.items }
+    ensures grown { IsGrown nodes.old.items nodes.new.items }
+    ensures reached { IfOk result (λ n. reached nodes.new.items from path.now ≡ Some n) }
+    ensures within { IfOk result (λ n. n < length nodes.new.items) }
+    ensures absent { OnErr result (value_below nodes.old.items from path.now ≡ None) }
+    ensures trail { IsTrail nodes.new.items 0 trail.new.items }
+{
+    let mut number = from;
     for seg in path {
-        number = step(alloc, nodes, number, *seg)?;
+        let next = step(alloc, nodes, number, *seg)?;
+        extend(trail, number, *seg, next);
+        number = next;
     }
     Ok(number)
 }

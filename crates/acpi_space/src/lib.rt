@@ -14,6 +14,7 @@ mod nodes;
 mod space;
 #[cfg(test)]
 mod tests;
+mod trail;
 mod tree_space;
 mod walk;
 

@@ -2,7 +2,7 @@
 ghost use Rattle.std.specs.Prelude.{◌≡◌, length, slice_get, find, is_some, if◌then◌else◌, ◌++◌, [], ◌∷◌, Some};
 ghost use Rattle.std.specs.Option.{option_copied, option_map};
 ghost use Rattle.acpi_space.specs.Search.{beginnings};
-ghost use Rattle.acpi_space.specs.Tree.{child_at, child_of, node_value, value_below};
+ghost use Rattle.acpi_space.specs.steps.Tree.{child_at, child_of, node_value, value_below};
 
 use acpi_name::Seg;
 use std::alloc::{AllocError, Global};
@@ -44,11 +44,11 @@ pub(crate) fn value<V>(nodes: &[Node<V>], number: usize) -> Option<&V>
     }
 }
 
-/// The value at a path.
-pub(crate) fn value_at<'a, V>(nodes: &'a [Node<V>], path: &[Seg]) -> Option<&'a V>
-    ensures { option_copied result ≡ value_below nodes.now 0 path.now }
+/// The value at a path from a node.
+pub(crate) fn value_at<'a, V>(nodes: &'a [Node<V>], from: usize, path: &[Seg]) -> Option<&'a V>
+    ensures { option_copied result ≡ value_below nodes.now from path.now }
 {
-    let mut number = 0;
+    let mut number = from;
     for seg in path {
         match child(nodes, number, *seg) {
             Some(next) => number = next,

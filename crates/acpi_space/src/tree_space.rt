@@ -7,6 +7,7 @@ ghost use Rattle.acpi_space.specs.Spaces.{is_defined};
 use crate::grown::{put, reach};
 use crate::nodes::{Node, nearest_to, value_at};
 use crate::space::{Refused, Space};
+use crate::trail::{Mark, follow};
 use crate::walk::all_pairs;
 use acpi_name::{Path, Seg};
 use std::alloc::{AllocError, Global};
@@ -14,16 +15,21 @@ use std::marker::Model;
 
 /// A namespace that is kept as a tree: a node has an optional value and its children by segment, and
 /// the first one is the root. So the search of a segment is one walk down, and takes no memory.
+///
+/// The way to the path that was inserted last is kept as a trail, and a walk to another path begins where
+/// that path leaves the trail: declarations stand mostly beside or below the one before them.
 #[derive(Drop)]
 pub struct TreeSpace<V> {
     alloc: Global,
     nodes: Vec<Node<V>>,
+    trail: Vec<Mark>,
 }
 
 impl<V> Model for TreeSpace<V> {
     ghost use Rattle.std.specs.FinMap as finite;
     ghost use Rattle.acpi_space.specs.Spaces.{PathMap, coded_path};
-    ghost use Rattle.acpi_space.specs.Tree.{tree_map, IsTree};
+    ghost use Rattle.acpi_space.specs.steps.Trail.{IsTrail};
+    ghost use Rattle.acpi_space.specs.steps.Tree.{tree_map, IsTree};
 
     ghost Value = { PathMap V };
 
@@ -31,7 +37,7 @@ impl<V> Model for TreeSpace<V> {
 
     ghost view = { λ t. tree_map t.nodes.items };
 
-    ghost invariant = { λ t. IsTree t.nodes.items };
+    ghost invariant = { λ t. IsTree t.nodes.items × IsTrail t.nodes.items 0 t.trail.items };
 }
 
 impl<V: Drop> Space<V> for TreeSpace<V> {
@@ -41,15 +47,18 @@ impl<V: Drop> Space<V> for TreeSpace<V> {
         TreeSpace {
             alloc,
             nodes: Vec::new(alloc),
+            trail: Vec::new(alloc),
         }
     }
 
     fn get(&self, path: &Path) -> Option<&V> {
-        value_at(&self.nodes, path.segs())
+        let segs = path.segs();
+        let at = follow(&self.trail, segs);
+        value_at(&self.nodes, at.number, &segs[at.depth..])
     }
 
     fn insert(&mut self, path: Path, value: V) -> Result<(), Refused<V>> {
-        let number = match reach(self.alloc, &mut self.nodes, path.segs()) {
+        let number = match reach(self.alloc, &mut self.nodes, &mut self.trail, path.segs()) {
             Ok(number) => number,
             Err(_) => return Err(Refused::Memory(value)),
         };

@@ -1,7 +1,7 @@
 //! A walk through the whole tree, in the order of the paths.
 ghost use Rattle.std.specs.Prelude.{◌≡◌, ◌++◌, map, length, reverse, slice_get, IfOk, OnOk, option_to_list};
-ghost use Rattle.acpi_space.specs.Tree.{IsTree, node_children, node_value, pairs_below};
-ghost use Rattle.acpi_space.specs.Walk.{enter, next_ahead, pair_at, ahead};
+ghost use Rattle.acpi_space.specs.steps.Tree.{IsTree, node_children, node_value, pairs_below};
+ghost use Rattle.acpi_space.specs.steps.Walk.{enter, next_ahead, pair_at, ahead};
 
 use crate::nodes::{Node, value};
 use acpi_name::{Path, Seg};

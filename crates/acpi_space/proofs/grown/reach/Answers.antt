@@ -1,19 +1,33 @@
-use Rattle.acpi_space.proofs.Growth.{grown_again}
-use Rattle.acpi_space.proofs.Reached.{step_reached, step_absent}
-use Rattle.acpi_space.proofs.Tree.{child_within}
-use Rattle.acpi_space.proofs.Written.{on_err}
+use Rattle.std.proofs.Common.{sym, subst}
+use Rattle.acpi_space.specs.steps.Trail.{IsTrail}
+use Rattle.acpi_space.proofs.Trails.{trail_grown, trail_cut, fork_here, reached_within, reached_on, absent_on}
 use Rattle.acpi_space.proofs.grown.reach.Goals as goal
 
-pub returns-in_err-number-clause-absent : goal.returns-in_err-number-clause-absent
-returns-in_err-number-clause-absent g c =
-    on_err _ c.from_residual-in_err-number.result
-    (step_absent c.args.nodes.now.items c.loop-seg.nodes.items c.args.path.now c.loop-seg.seg-index c.loop-seg.number c.seg-item.result c.loop-seg.invariant.grown
-    c.loop-seg.invariant.reached c.loop-seg-test.true c.seg-item.is c.in_err-number.ensures.absent)
+pub returns-in_err-root-clause-trail : goal.returns-in_err-root-clause-trail
+returns-in_err-root-clause-trail g c = trail_grown c.args.nodes.now.items c.root.new.nodes.items 0 c.args.trail.now.items c.in_err-root.ensures.grown c.requires.trail
 
-pub loop-seg-preserved : goal.loop-seg-preserved
-loop-seg-preserved g c = record {
-  grown = grown_again c.args.nodes.now.items c.loop-seg.nodes.items c.step.new.nodes.items c.loop-seg.invariant.grown c.in_ok-number.ensures.grown;
-  reached = step_reached c.loop-seg.nodes.items c.step.new.nodes.items c.args.path.now c.loop-seg.seg-index c.loop-seg.number c.in_ok-number.number c.seg-item.result c.in_ok-number.ensures.grown
-      c.loop-seg.invariant.reached c.loop-seg-test.true c.seg-item.is c.in_ok-number.ensures.child;
-  within = (child_within c.step.new.nodes.items c.loop-seg.number c.in_ok-number.number c.seg-item.result c.in_ok-number.ensures.grown.tree c.in_ok-number.ensures.child).1;
-}
+pub reach_from-requires-clause-within : goal.reach_from-requires-clause-within
+reach_from-requires-clause-within g c =
+    reached_within c.root.new.nodes.items 0 c.follow-at.result.number _ c.in_ok-root.ensures.grown.tree c.in_ok-root.ensures.ok
+    (fork_here c.root.new.nodes.items c.args.trail.now.items c.deref.result.now c.args.path.now c.follow-at.result
+    (trail_grown c.args.nodes.now.items c.root.new.nodes.items 0 c.args.trail.now.items c.in_ok-root.ensures.grown c.requires.trail) c.deref.ensures.value c.follow-at.ensures.fork)
+
+pub reach_from-requires-clause-trail : goal.reach_from-requires-clause-trail
+reach_from-requires-clause-trail g c =
+    subst (IsTrail c.root.new.nodes.items 0) (sym c.truncate.ensures.items)
+    (trail_cut c.root.new.nodes.items 0 c.follow-at.result.depth c.args.trail.now.items
+    (trail_grown c.args.nodes.now.items c.root.new.nodes.items 0 c.args.trail.now.items c.in_ok-root.ensures.grown c.requires.trail))
+
+pub returns-clause-reached : goal.returns-clause-reached
+returns-clause-reached g c =
+    reached_on c.args.nodes.now.items c.root.new.nodes.items c.reach_from.new.nodes.items c.args.path.now c.follow-at.result.depth c.follow-at.result.number c.reach_from.result
+    (fork_here c.root.new.nodes.items c.args.trail.now.items c.deref.result.now c.args.path.now c.follow-at.result
+    (trail_grown c.args.nodes.now.items c.root.new.nodes.items 0 c.args.trail.now.items c.in_ok-root.ensures.grown c.requires.trail) c.deref.ensures.value c.follow-at.ensures.fork)
+    c.reach_from.ensures.grown c.reach_from.ensures.reached
+
+pub returns-clause-absent : goal.returns-clause-absent
+returns-clause-absent g c =
+    absent_on c.args.nodes.now.items c.root.new.nodes.items c.reach_from.new.nodes.items c.args.path.now c.follow-at.result.depth c.follow-at.result.number c.reach_from.result
+    (fork_here c.root.new.nodes.items c.args.trail.now.items c.deref.result.now c.args.path.now c.follow-at.result
+    (trail_grown c.args.nodes.now.items c.root.new.nodes.items 0 c.args.trail.now.items c.in_ok-root.ensures.grown c.requires.trail) c.deref.ensures.value c.follow-at.ensures.fork)
+    c.in_ok-root.ensures.grown c.reach_from.ensures.absent

@@ -1,5 +1,5 @@
 use Rattle.std.proofs.Common.{◌≡◌, length, reverse}
-use Rattle.acpi_space.specs.Walk.{ahead}
+use Rattle.acpi_space.specs.steps.Walk.{ahead}
 use Rattle.acpi_space.proofs.walk.advance.Given as goal
 
 abbrev pub invariant-loop-step : goal.invariant-loop-step

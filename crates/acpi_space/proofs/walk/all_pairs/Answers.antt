@@ -1,6 +1,6 @@
 use Rattle.std.proofs.Common.{◌∷◌, length, reverse}
-use Rattle.acpi_space.specs.Tree.{pairs_below}
-use Rattle.acpi_space.specs.Walk.{ahead}
+use Rattle.acpi_space.specs.steps.Tree.{pairs_below}
+use Rattle.acpi_space.specs.steps.Walk.{ahead}
 use Rattle.acpi_space.proofs.Visits.{shown, visits_of, started, visited, visited_fewer, went_on, went_on_fewer, all_given}
 use Rattle.acpi_space.proofs.walk.all_pairs.Goals as goal
 

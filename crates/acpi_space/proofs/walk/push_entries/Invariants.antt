@@ -1,5 +1,5 @@
 use Rattle.std.proofs.Common.{◌≡◌, ◌++◌, map, reverse}
-use Rattle.acpi_space.specs.Walk.{enter}
+use Rattle.acpi_space.specs.steps.Walk.{enter}
 use Rattle.acpi_space.proofs.walk.push_entries.Given as goal
 
 abbrev pub invariant-loop-seg : goal.invariant-loop-seg

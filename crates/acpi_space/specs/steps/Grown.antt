@@ -2,18 +2,18 @@
 use Rattle.std.specs.Prelude.{◌≡◌, ◌≢◌, ℕ, List, length, Some, slice_get}
 use Rattle.acpi_name.specs.Names.{Segment}
 use Rattle.acpi_space.specs.declared.nodes.Node.{Node}
-use Rattle.acpi_space.specs.Tree.{IsTree, node_children, node_value, reached, value_below}
+use Rattle.acpi_space.specs.steps.Tree.{IsTree, child_at, node_children, node_value, value_below}
 
 -- the nodes have the same children and values, and there may be more of them
 pub record IsPadded {V : Type 0} (old new : List (Node V)) : Type 0 where
   pub children : (n : ℕ) → node_children (slice_get new n) ≡ node_children (slice_get old n)
   pub values : (n : ℕ) → node_value (slice_get new n) ≡ node_value (slice_get old n)
 
--- a tree with the same values, in which each walk ends where it did
+-- a tree with the same values, in which each child is one still
 pub record IsGrown {V : Type 0} (old new : List (Node V)) : Type 0 where
   pub tree : IsTree new
-  pub values : (q : List Segment) → value_below new 0 q ≡ value_below old 0 q
-  pub walks : (q : List Segment) (k : ℕ) → reached old 0 q ≡ Some k → reached new 0 q ≡ Some k
+  pub values : (n : ℕ) (q : List Segment) → value_below new n q ≡ value_below old n q
+  pub children : (n : ℕ) (g : Segment) (k : ℕ) → child_at old n g ≡ Some k → child_at new n g ≡ Some k
 
 -- one node has the value, and no other changed
 pub record HasPut {V : Type 0} (old new : List (Node V)) (number : ℕ) (v : V) : Type 0 where

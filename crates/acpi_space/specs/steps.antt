@@ -1,0 +1,4 @@
+pub mod Tree
+pub mod Grown
+pub mod Trail
+pub mod Walk
