@@ -1,7 +1,5 @@
 pub mod Cutting
 mod DepthText
-pub mod Elements
-pub mod HexDigits
 mod HexFlag
 pub mod Lines
 pub mod LinksAt

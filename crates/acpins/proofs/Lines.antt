@@ -1,5 +1,5 @@
 -- A listing, by any list that holds the objects of a space in order.
-use Rattle.std.proofs.Common.{◌≡◌, ℕ, ◌≤◌, Bool, true, false, cond, ◌&&◌, T, List, [], ◌∷◌, length, map, take, take_all, refl, sym, ap, ◌∙◌, Option, Some}
+use Rattle.std.proofs.Common.{◌≡◌, ℕ, ◌≤◌, Bool, true, false, cond, ◌&&◌, T, List, [], ◌∷◌, length, map, take, take_all, refl, sym, ap, ◌∙◌, Option, Some, unwrap_or}
 use Rattle.std.proofs.lemmas.List.Folds.{flat_map-map}
 use Rattle.std.specs.List.{flat_map}
 use Rattle.std.specs.FinMap.{entries, entries_sorted, get-entries, find, is_sorted}
@@ -13,13 +13,14 @@ use Rattle.acpi_tree.specs.Objects.{ObjectTree, object_view}
 use Rattle.acpi_tree.specs.declared.object.Object.{Object}
 use Rattle.acpi_load.specs.Namespace.{namespace_of}
 use Rattle.acpi_load.specs.Loads.{Links}
-use Rattle.acpins.specs.PrintedLines.{line_text, listing_text, objects_by_path, Prints}
+use Rattle.acpi_text.specs.Lines.{line_text, listing_text}
+use Rattle.acpins.specs.Listings.{objects_by_path, Prints}
 
 pub listing_said : {A : Type 0} (k : A → List Segment × Object) (items : List A) (n : ℕ) (m : PathMap Object) (links : List Segment → Option Links)
-    → length items ≤ n → map k items ≡ entries m → flat_map (λ x. line_text (k x).0 (object_view (k x).1) (links (k x).0)) (take n items) ≡ listing_text (objects_by_path m) links
+    → length items ≤ n → map k items ≡ entries m → flat_map (λ x. line_text (k x).0 (object_view (k x).1) (unwrap_or (links (k x).0) [])) (take n items) ≡ listing_text (objects_by_path m) links
 listing_said k items n m links h e =
-    let line = λ (p : List Segment × ObjectTree). line_text p.0 p.1 (links p.0) in
-    let shown = λ (p : List Segment × Object). line_text p.0 (object_view p.1) (links p.0) in
+    let line = λ (p : List Segment × ObjectTree). line_text p.0 p.1 (unwrap_or (links p.0) []) in
+    let shown = λ (p : List Segment × Object). line_text p.0 (object_view p.1) (unwrap_or (links p.0) []) in
     ap (flat_map (λ x. shown (k x))) (take_all n items h)
     ∙ sym (flat_map-map shown k items)
     ∙ sym (flat_map-map line (λ p. (p.0, object_view p.1)) (map k items))

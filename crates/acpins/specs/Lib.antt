@@ -1,7 +1,6 @@
 pub mod Hexadecimal
 pub mod Words
 pub mod Input
-pub mod Printed
-pub mod PrintedLines
+pub mod Listings
 pub mod Failures
 pub mod Runs

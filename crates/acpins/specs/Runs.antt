@@ -10,7 +10,7 @@ use Rattle.acpins.specs.declared.failure.Failure.{Failure}
 use Rattle.acpins.specs.declared.failure.Failure.TheVariants.{WrongWords, NoTable, Read, BadHex, Output, Table, Item, Load, Memory}
 use Rattle.acpins.specs.Words.{Asked, asked_of}
 use Rattle.acpins.specs.Input.{FileBytes, AreTablesOf, IsFilesFault, IsLoadOfFiles}
-use Rattle.acpins.specs.PrintedLines.{Prints}
+use Rattle.acpins.specs.Listings.{Prints}
 use Rattle.acpins.specs.Failures.{failure_of}
 
 -- ---- what is printed

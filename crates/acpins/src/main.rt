@@ -13,7 +13,6 @@ mod failure;
 mod files;
 mod hexadecimal;
 mod listing;
-mod printing;
 mod program;
 mod tables;
 #[cfg(test)]

@@ -1,6 +1,6 @@
 //! One run of the program.
 
-ghost use Rattle.std.specs.Prelude.{◌≡◌, ◌≢◌, ◌≤◌, IfOk, IfErr, OnOk, IsTrue, None, string_bytes};
+ghost use Rattle.std.specs.Prelude.{◌≡◌, ◌≢◌, ◌≤◌, IfOk, IfErr, OnOk, IsTrue, None};
 ghost use Rattle.clap.specs.Walk.{texts};
 ghost use Rattle.acpi_load.specs.Namespace.{namespace_of};
 ghost use Rattle.acpi_load.specs.Links.{links_at};
@@ -61,8 +61,8 @@ pub fn made_in<'a, S: Space<Object>, F: Files>(
     alloc: Global,
     words: &'a [&'a str],
     files: &mut F,
-) -> Result<String, Failure<'a>>
-    ensures ok { IfOk result (λ text. IsOutput (F.bytes_of files.old) (texts words.now) (string_bytes text)) }
+) -> Result<Vec<u8>, Failure<'a>>
+    ensures ok { IfOk result (λ text. IsOutput (F.bytes_of files.old) (texts words.now) text.items) }
     ensures err { IfErr result (IsRunFailure (F.bytes_of files.old) (texts words.now)) }
 {
     let request = read_words(alloc, words)?;
@@ -77,8 +77,8 @@ fn made<'a, F: Files>(
     alloc: Global,
     words: &'a [&'a str],
     files: &mut F,
-) -> Result<String, Failure<'a>>
-    ensures ok { IfOk result (λ text. IsOutput (F.bytes_of files.old) (texts words.now) (string_bytes text)) }
+) -> Result<Vec<u8>, Failure<'a>>
+    ensures ok { IfOk result (λ text. IsOutput (F.bytes_of files.old) (texts words.now) text.items) }
     ensures err { IfErr result (IsRunFailure (F.bytes_of files.old) (texts words.now)) }
 {
     made_in::<TreeSpace<Object>, F>(alloc, words, files)
@@ -96,7 +96,7 @@ fn ended<'a, F: Files, O: Write>(
     ensures kept { IfErr result (λ f. f ≢ Failure.Output → O.contents out.new ≡ O.contents out.old) }
 {
     let text = made(alloc, words, files)?;
-    let written = out.write_all(text.as_bytes()).is_ok() && out.flush().is_ok();
+    let written = out.write_all(text.as_slice()).is_ok() && out.flush().is_ok();
     if !written {
         return Err(Failure::Output);
     }

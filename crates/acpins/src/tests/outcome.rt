@@ -148,7 +148,7 @@ pub fn made_over_map(alloc: Global, files: &mut MemoryFiles, words: &str) -> Res
     match made_in::<MapSpace<Object>, MemoryFiles>(alloc, words.as_slice(), files) {
         Ok(text) => Ok(Outcome {
             status: 0,
-            out: Vec::from_slice(alloc, text.as_bytes())?,
+            out: text,
             err: err.bytes,
         }),
         Err(failure) => {

@@ -1,0 +1,3 @@
+pub mod Dotted
+pub mod Elements
+pub mod HexDigits

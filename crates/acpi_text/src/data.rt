@@ -1,0 +1,78 @@
+//! Constant data.
+
+ghost use Rattle.std.specs.Prelude.{◌≡◌, ◌++◌, OnOk, codes};
+ghost use Rattle.acpi_tree.specs.Tree.{elems_of};
+ghost use Rattle.acpi_tree.specs.View.{data_view, elem_view, elems_view};
+ghost use Rattle.acpi_text.specs.Constants.{int_text};
+ghost use Rattle.acpi_text.specs.Objects.{data_text, elem_text, elems_text};
+
+use crate::bytes::{put_bytes, put_string};
+use crate::names::put_name;
+use crate::numbers::{put, put_decimal, put_int};
+use acpi_tree::{Data, Elem, Int};
+use std::alloc::AllocError;
+
+// A word, and a constant in parentheses.
+fn put_sized(text: &mut Vec<u8>, word: &str, size: Int) -> Result<(), AllocError>
+    ensures { OnOk result (text.new.items ≡ text.old.items ++ (word.now ++ codes "(" ++ int_text size ++ codes ")")) }
+{
+    put(text, word)?;
+    put(text, "(")?;
+    put_int(text, size)?;
+    put(text, ")")
+}
+
+#[cycle(put_data)]
+fn put_elem(text: &mut Vec<u8>, elem: &Elem) -> Result<(), AllocError>
+    ensures { OnOk result (text.new.items ≡ text.old.items ++ elem_text (elem_view elem.now)) }
+{
+    match elem {
+        Elem::Data(data) => put_data(text, data),
+        Elem::Name(name) => put_name(text, name.view()),
+    }
+}
+
+// Elements in braces.
+#[cycle(put_data)]
+fn put_elems(text: &mut Vec<u8>, elems: &[Elem]) -> Result<(), AllocError>
+    ensures { OnOk result (text.new.items ≡ text.old.items ++ elems_text (elems_of (elems_view elems.now))) }
+{
+    match elems {
+        [] => put(text, "{}"),
+        [first, rest @ ..] => {
+            put(text, "{")?;
+            put_elem(text, first)?;
+            for elem in rest {
+                put(text, ", ")?;
+                put_elem(text, elem)?;
+            }
+            put(text, "}")
+        }
+    }
+}
+
+/// Puts data in the form in which it was written (ACPI 6.5, 20.2.3): a constant, a string between quotes,
+/// `Buffer(0x02){01 02}`, `Package(2){Zero, \_SB_.PCI0}` or `VarPackage(0x02){One}`.
+#[cycle(put_data)]
+pub fn put_data(text: &mut Vec<u8>, data: &Data) -> Result<(), AllocError>
+    ensures { OnOk result (text.new.items ≡ text.old.items ++ data_text (data_view «data».now)) }
+{
+    match data {
+        Data::Int(int) => put_int(text, *int),
+        Data::Str(bytes) => put_string(text, bytes),
+        Data::Buffer(size, bytes) => {
+            put_sized(text, "Buffer", *size)?;
+            put_bytes(text, bytes)
+        }
+        Data::Package(count, elems) => {
+            put(text, "Package(")?;
+            put_decimal(text, u64::from(*count))?;
+            put(text, ")")?;
+            put_elems(text, elems)
+        }
+        Data::VarPackage(count, elems) => {
+            put_sized(text, "VarPackage", *count)?;
+            put_elems(text, elems)
+        }
+    }
+}

@@ -1,0 +1,26 @@
+//! Printed forms: of paths, names and constants, of data, and of the objects of a namespace with their links.
+//!
+//! Each call puts one form behind a text, which is bytes: characters of ASCII, since a string's other bytes
+//! are written as digits. A contract says which bytes are put, by the definitions of `specs/`. A caller prints
+//! a line for each object:
+//!
+//! ```text
+//! let mut text = Vec::new(alloc);
+//! put_line(&mut text, &path, &object, links)?;    // \_SB_.PCI0._ADR Name Zero
+//! ```
+//!
+//! An error is want of memory, and nothing is said of the text then.
+#![tactic(auto)]
+
+mod bytes;
+mod data;
+mod lines;
+mod names;
+mod numbers;
+mod objects;
+
+pub use data::put_data;
+pub use lines::{put_line, put_links};
+pub use names::{put_name, put_path};
+pub use numbers::{put_decimal, put_int};
+pub use objects::put_object;

@@ -1,0 +1,193 @@
+//! Objects of a namespace.
+
+ghost use Rattle.std.specs.Prelude.{◌≡◌, ◌++◌, OnOk};
+ghost use Rattle.acpi_tree.specs.View.{data_view};
+ghost use Rattle.acpi_tree.specs.Objects.{object_view, processor_object, power_object, region_object, mutex_object, field_object, create_object, create_field_object, name_object};
+ghost use Rattle.acpi_text.specs.Objects.{method_text, form_text, bank_text, width_text, object_text};
+
+use crate::data::put_data;
+use crate::numbers::{put, put_byte, put_decimal, put_dword, put_int, put_word};
+use acpi_tree::{Data, FieldForm, Int, Object, Width};
+use std::alloc::AllocError;
+
+// A method: its arguments, whether it is serialized, and its sync level.
+fn put_method(text: &mut Vec<u8>, flags: u8) -> Result<(), AllocError>
+    ensures { OnOk result (text.new.items ≡ text.old.items ++ method_text flags) }
+{
+    let (args, serialized, level) = (flags % 8, flags / 8 % 2 == 1, flags / 16);
+    put(text, "Method ")?;
+    put_decimal(text, u64::from(args))?;
+    if serialized {
+        put(text, " Serialized")?;
+    }
+    if level > 0 {
+        put(text, " Sync ")?;
+        put_decimal(text, u64::from(level))?;
+    }
+    Ok(())
+}
+
+fn put_processor(text: &mut Vec<u8>, id: u8, block: u32, length: u8) -> Result<(), AllocError>
+    ensures { OnOk result (text.new.items ≡ text.old.items ++ object_text (processor_object id block length)) }
+{
+    put(text, "Processor id=")?;
+    put_byte(text, id)?;
+    put(text, " block=")?;
+    put_dword(text, block)?;
+    put(text, " length=")?;
+    put_byte(text, length)?;
+    Ok(())
+}
+
+fn put_power(text: &mut Vec<u8>, level: u8, order: u16) -> Result<(), AllocError>
+    ensures { OnOk result (text.new.items ≡ text.old.items ++ object_text (power_object level order)) }
+{
+    put(text, "PowerResource level=")?;
+    put_byte(text, level)?;
+    put(text, " order=")?;
+    put_word(text, order)?;
+    Ok(())
+}
+
+fn put_region(text: &mut Vec<u8>, space: u8, offset: Int, length: Int) -> Result<(), AllocError>
+    ensures { OnOk result (text.new.items ≡ text.old.items ++ object_text (region_object space offset length)) }
+{
+    put(text, "OperationRegion space=")?;
+    put_byte(text, space)?;
+    put(text, " offset=")?;
+    put_int(text, offset)?;
+    put(text, " length=")?;
+    put_int(text, length)?;
+    Ok(())
+}
+
+// The kind of a field unit.
+fn put_form(text: &mut Vec<u8>, form: FieldForm) -> Result<(), AllocError>
+    ensures { OnOk result (text.new.items ≡ text.old.items ++ form_text form) }
+{
+    put(
+        text,
+        match form {
+            FieldForm::Field => "Field",
+            FieldForm::Index => "IndexField",
+            FieldForm::Bank(_) => "BankField",
+        },
+    )
+}
+
+// The value that selects the bank.
+fn put_bank(text: &mut Vec<u8>, form: FieldForm) -> Result<(), AllocError>
+    ensures { OnOk result (text.new.items ≡ text.old.items ++ bank_text form) }
+{
+    match form {
+        FieldForm::Field | FieldForm::Index => Ok(()),
+        FieldForm::Bank(value) => {
+            put(text, " value=")?;
+            put_int(text, value)
+        }
+    }
+}
+
+fn put_field(
+    text: &mut Vec<u8>,
+    form: FieldForm,
+    flags: u8,
+    offset: u64,
+    bits: u32,
+) -> Result<(), AllocError>
+    ensures { OnOk result (text.new.items ≡ text.old.items ++ object_text (field_object form flags offset bits)) }
+{
+    put_form(text, form)?;
+    put(text, " offset=")?;
+    put_decimal(text, offset)?;
+    put(text, " bits=")?;
+    put_decimal(text, u64::from(bits))?;
+    put(text, " flags=")?;
+    put_byte(text, flags)?;
+    put_bank(text, form)?;
+    Ok(())
+}
+
+// The width of a Create field, as it stands in the field's kind.
+fn put_width(text: &mut Vec<u8>, width: Width) -> Result<(), AllocError>
+    ensures { OnOk result (text.new.items ≡ text.old.items ++ width_text width) }
+{
+    put(
+        text,
+        match width {
+            Width::DWord => "DWord",
+            Width::Word => "Word",
+            Width::Byte => "Byte",
+            Width::Bit => "Bit",
+            Width::QWord => "QWord",
+        },
+    )
+}
+
+fn put_create(text: &mut Vec<u8>, width: Width, index: Int) -> Result<(), AllocError>
+    ensures { OnOk result (text.new.items ≡ text.old.items ++ object_text (create_object width index)) }
+{
+    put(text, "Create")?;
+    put_width(text, width)?;
+    put(text, "Field index=")?;
+    put_int(text, index)?;
+    Ok(())
+}
+
+fn put_create_field(text: &mut Vec<u8>, index: Int, bits: Int) -> Result<(), AllocError>
+    ensures { OnOk result (text.new.items ≡ text.old.items ++ object_text (create_field_object index bits)) }
+{
+    put(text, "CreateField index=")?;
+    put_int(text, index)?;
+    put(text, " bits=")?;
+    put_int(text, bits)?;
+    Ok(())
+}
+
+// A name's data.
+fn put_named(text: &mut Vec<u8>, data: &Data) -> Result<(), AllocError>
+    ensures { OnOk result (text.new.items ≡ text.old.items ++ object_text (name_object (data_view «data».now))) }
+{
+    put(text, "Name ")?;
+    put_data(text, data)
+}
+
+fn put_mutex(text: &mut Vec<u8>, flags: u8) -> Result<(), AllocError>
+    ensures { OnOk result (text.new.items ≡ text.old.items ++ object_text (mutex_object flags)) }
+{
+    put(text, "Mutex ")?;
+    put_byte(text, flags)
+}
+
+/// Puts an object without its links (docs/COMMAND.md): its kind, and what is known of it. Offsets and widths
+/// of field units are in bits.
+pub fn put_object(text: &mut Vec<u8>, object: &Object) -> Result<(), AllocError>
+    ensures { OnOk result (text.new.items ≡ text.old.items ++ object_text (object_view object.now)) }
+{
+    match object {
+        Object::Root => put(text, "Root"),
+        Object::Scope => put(text, "Scope"),
+        Object::Predefined => put(text, "Predefined"),
+        Object::Device => put(text, "Device"),
+        Object::Processor { id, block, length } => put_processor(text, *id, *block, *length),
+        Object::Power { level, order } => put_power(text, *level, *order),
+        Object::Thermal => put(text, "ThermalZone"),
+        Object::Name(data) => put_named(text, data),
+        Object::Method(flags) => put_method(text, *flags),
+        Object::Region {
+            space,
+            offset,
+            length,
+        } => put_region(text, *space, *offset, *length),
+        Object::Mutex(flags) => put_mutex(text, *flags),
+        Object::Event => put(text, "Event"),
+        Object::Field {
+            form,
+            flags,
+            offset,
+            bits,
+        } => put_field(text, *form, *flags, *offset, *bits),
+        Object::Create { width, index } => put_create(text, *width, *index),
+        Object::CreateField { index, bits } => put_create_field(text, *index, *bits),
+    }
+}

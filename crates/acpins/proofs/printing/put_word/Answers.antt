@@ -1,7 +1,0 @@
-use Rattle.std.proofs.Common.{arith}
-use Rattle.std.proofs.lemmas.Grind.{common_steps}
-use Rattle.acpins.proofs.HexDigits.{word_digits}
-use Rattle.acpins.proofs.printing.put_word.Goals as goal
-
-pub returns : goal.returns
-returns c = rw (word_digits c.args.n) (grind (arith, common_steps))
