@@ -1,5 +1,5 @@
 -- An insertion at a free path lays one object under the map.
-use Rattle.std.proofs.Common.{◌≡◌, ℕ, List, Bool, true, false, cond, Option, Some, None, IsSome, subst, refl, sym, ap, ◌∙◌}
+use Rattle.std.proofs.Common.{◌≡◌, ℕ, List, [], Bool, true, false, cond, Option, Some, None, IsSome, subst, refl, sym, ap, ◌∙◌}
 use Rattle.std.specs.FinMap.{empty, get-empty, get, insert, get-insert}
 use Rattle.std.specs.Cmp.{Equal-is}
 use Rattle.std.specs.Option.{option_map, option_or}
@@ -7,7 +7,7 @@ use Rattle.acpi_name.specs.Names.{Segment}
 use Rattle.acpi_name.specs.Paths.{path_cmp, path_cmp_total, path_cmp-IsAntisymmetric}
 use Rattle.acpi_space.specs.Spaces.{PathMap}
 use Rattle.acpi_tree.specs.declared.object.Object.{Object}
-use Rattle.acpi_tree.specs.Objects.{object_view}
+use Rattle.acpi_tree.specs.Objects.{ObjectTree, object_view}
 use Rattle.acpi_load.specs.PassView.{one_count}
 use Rattle.acpi_load.specs.Namespace.{Namespace, namespace_of, is_same_path, only, over}
 use Rattle.acpi_load.specs.Predefined.{nothing}
@@ -68,3 +68,16 @@ laid_on m n o x e h = e ∙ ap (λ (k : Namespace). over k x) h
 
 pub get-nothing : get (empty {X = ℕ} {R = path_cmp}) ≡ nothing
 get-nothing = λ i q. get-empty path_cmp q i
+
+no_other : (a : Option ObjectTree) (b : Bool) (o : ObjectTree) → b ≡ false → a ≡ None → option_or a (cond b (Some o) None) ≡ None
+no_other None false o h e = refl
+no_other None true o h e = cc
+no_other (Some x) b o h e = cc
+
+-- another path stays free
+pub still_free : (n m : Namespace) (p q : List Segment) (o : ObjectTree) → n ≡ over m (only p o) → is_same_path q p ≡ false → m q ≡ None → n q ≡ None
+still_free n m p q o e other free = ap (λ (k : Namespace). k q) e ∙ no_other (m q) (is_same_path q p) o other free
+
+-- .. behind the root, the first
+pub root_first : (n m : Namespace) (p q : List Segment) (o : ObjectTree) → n ≡ over m (only p o) → m ≡ nothing → p ≡ [] → is_same_path q [] ≡ false → n q ≡ None
+root_first n m p q o e none root other = still_free n m p q o e (ap (is_same_path q) root ∙ other) (ap (λ (k : Namespace). k q) none)

@@ -8,6 +8,7 @@ pub mod Unique
 pub mod LinkMap
 pub mod Linking
 pub mod Ranges
+pub mod CodeFaults
 pub mod Tables
 pub mod Totals
 pub mod NoLoad

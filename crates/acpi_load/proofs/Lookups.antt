@@ -1,12 +1,12 @@
 -- Paths, and a namespace and the map that holds it.
-use Rattle.std.proofs.Common.{◌≡◌, List, [], ◌∷◌, ◌++◌, option_to_list, is_some, Option, Some, None, Ok, refl, ap, ◌∙◌}
+use Rattle.std.proofs.Common.{◌≡◌, Bool, true, false, cond, List, [], ◌∷◌, ◌++◌, find, option_to_list, is_some, Option, Some, None, Ok, refl, sym, ap, ◌∙◌}
 use Rattle.std.specs.FinMap.{get}
 use Rattle.std.specs.List.{last_or}
 use Rattle.std.specs.Option.{option_map}
 use Rattle.acpi_name.specs.Names.{Segment, NameParts}
 use Rattle.acpi_name.specs.Paths.{place_of, parent_of}
 use Rattle.acpi_space.specs.Spaces.{PathMap, is_defined}
-use Rattle.acpi_space.specs.Search.{answer}
+use Rattle.acpi_space.specs.Search.{answer, tries}
 use Rattle.acpi_tree.specs.declared.object.Object.{Object}
 use Rattle.acpi_tree.specs.Objects.{object_view}
 use Rattle.acpi_load.specs.Namespace.{namespace_of, is_defined_in}
@@ -39,3 +39,21 @@ pub rejoined_parts : (p : List Segment) → parent_of p ++ option_to_list (last_
 rejoined_parts [] = refl
 rejoined_parts (s ∷ []) = refl
 rejoined_parts (s ∷ t ∷ ts) = ap (λ r. s ∷ r) (rejoined_parts (t ∷ ts) ∙ refl)
+
+abbrev chosen : Bool → List Segment → Option (List Segment) → Option (List Segment)
+chosen b p o = cond b (Some p) o
+
+abbrev no_object : Option Object
+no_object = None
+
+found_defined : (defined : List Segment → Bool) (paths : List (List Segment)) (t : List Segment) → find defined paths ≡ Some t → defined t ≡ true
+found_defined defined [] t e = cc
+found_defined defined (p ∷ paths) t e = by (defined p) refl e (found_defined defined paths t)
+  where
+    by : (b : Bool) → defined p ≡ b → chosen b p (find defined paths) ≡ Some t → (find defined paths ≡ Some t → defined t ≡ true) → defined t ≡ true
+    by true h k later = let same : p ≡ t = cc in ap defined (sym same) ∙ h
+    by false h k later = later k
+
+-- the path that a search answers is defined
+pub answer_defined : (m : PathMap Object) (s : List Segment) (n : NameParts) (t : List Segment) → answer (is_defined m) s n ≡ Some t → ¬ (get m t ≡ None)
+answer_defined m s n t e none = let never : is_some no_object ≡ true = ap is_some (sym none) ∙ found_defined (is_defined m) (tries s n) t e in cc

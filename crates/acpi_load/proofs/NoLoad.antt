@@ -56,7 +56,7 @@ refuses_none depth number objects bytes NotDsdt is t table listing r =
 refuses_none depth number objects bytes NotSsdt is t table listing r =
     let s = same_front bytes r.1.front r.1.rest table.whole r.1.cut in r.1.other (ap (take 4) s.0 ∙ table.signed)
 refuses_none depth number objects bytes Trailing is t table listing r = let s = same_front bytes r.front r.rest table.whole r.cut in r.more s.1
-refuses_none depth number objects bytes (Item reason place) is t table listing r = r.0.none is table.spelled table.height
+refuses_none depth number objects bytes (Item reason place) is t table listing r = r.fault.none is table.spelled table.height
 refuses_none depth number objects bytes (Refused refusal path) is t table listing r =
     refused_alone objects (sites is) (refusal, path) t (subst (λ js. IsFirstRefusal objects (sites js) (refusal, path)) (one _ r.0 is r.1.spelled table.spelled) r.2) listing
 

@@ -5,7 +5,9 @@ use Rattle.acpi_space.specs.Search.{answer}
 use Rattle.acpi_table.specs.Tables.{table_at}
 use Rattle.acpi_tree.specs.Tree.{ItemTrees}
 use Rattle.acpi_terms.specs.Spelling.{SpellsItems, items_height}
+use Rattle.acpi_terms.specs.declared.fault.ItemReason.{ItemReason}
 use Rattle.acpi_terms.specs.Faults.{Shows}
+use Rattle.acpi_terms.specs.Faults as faults
 use Rattle.acpi_load.specs.declared.fault.LoadReason.{LoadReason}
 use Rattle.acpi_load.specs.declared.fault.LoadReason.TheVariants.{Table, NotDsdt, NotSsdt, Trailing, Item, Refused}
 use Rattle.acpi_load.specs.declared.fault.LoadFault.{LoadFault}
@@ -94,11 +96,19 @@ pub record HasMore (number : ℕ) (bytes : List ℕ) : Type 0 where
   pub signed : take 4 front ≡ signature_of number
   pub more : rest ≢ []
 
--- a reason is true of the code, and the code spells nothing
-pub record HasNoItems (depth number : ℕ) (bytes : List ℕ) : Type 0 where
+-- Why code can't be read, and where: it spells no items within that many levels, the reason is true of it at
+-- that place, and where a term that can't be an item follows whole items, that term is told.
+pub record IsCodeFault (depth : ℕ) (code : List ℕ) (reason : ItemReason) (place : ℕ) : Type 0 where
+  pub none : (is : ItemTrees) → SpellsItems is code → items_height is ≤ depth → ⊥
+  pub shown : Shows depth code reason place
+  pub next : (u w : List ℕ) (is : ItemTrees) (why : ItemReason) → code ≡ u ++ w → SpellsItems is u → items_height is ≤ depth → faults.Refused why w 0
+      → (reason ≡ why) × (place ≡ length u)
+
+-- the code of a whole table with the signature of its number can't be read
+pub record HasNoItems (depth number : ℕ) (bytes : List ℕ) (reason : ItemReason) (place : ℕ) : Type 0 where
   pub whole : table_at bytes ≡ Ok (bytes, [])
   pub signed : take 4 bytes ≡ signature_of number
-  pub none : (is : ItemTrees) → SpellsItems is (drop 36 bytes) → items_height is ≤ depth → ⊥
+  pub fault : IsCodeFault depth (drop 36 bytes) reason place
 
 -- why a table has no listing over the objects before it: the first of these that holds
 abbrev pub IsRefusedAs : ℕ → ℕ → Namespace → List ℕ → LoadReason → Type 0
@@ -106,7 +116,7 @@ IsRefusedAs depth number objects bytes (Table fault) = table_at bytes ≡ Err fa
 IsRefusedAs depth number objects bytes NotDsdt = (number ≡ 0) × HasOtherSignature number bytes
 IsRefusedAs depth number objects bytes NotSsdt = (0 < number) × HasOtherSignature number bytes
 IsRefusedAs depth number objects bytes Trailing = HasMore number bytes
-IsRefusedAs depth number objects bytes (Item reason place) = HasNoItems depth number bytes × Shows depth (drop 36 bytes) reason place
+IsRefusedAs depth number objects bytes (Item reason place) = HasNoItems depth number bytes reason place
 IsRefusedAs depth number objects bytes (Refused refusal path) = (is : ItemTrees) × IsTableOf depth number bytes is × IsFirstRefusal objects (sites is) (refusal, path)
 
 abbrev pub IsTableFault : ℕ → ℕ → Namespace → List ℕ → LoadFault → Type 0

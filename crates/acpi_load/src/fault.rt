@@ -1,7 +1,6 @@
 //! Why a load is refused.
 
 use acpi_name::Path;
-use acpi_space::Refused;
 use acpi_table::TableFault;
 use acpi_terms::ItemReason;
 use std::alloc::{AllocError, AllocFailed};
@@ -44,18 +43,6 @@ impl From<AllocError> for Stop {
     ghost from_gives = { λ _ f. f ≡ Memory };
 
     fn from(_: AllocError) -> Stop {
-        Stop::Memory
-    }
-}
-
-impl<V: Drop> From<Refused<V>> for Stop {
-    ghost use Rattle.std.specs.Prelude.{◌≡◌};
-    ghost use Rattle.acpi_load.specs.declared.fault.Stop.TheVariants.{Memory};
-
-    ghost from_gives = { λ _ f. f ≡ Memory };
-
-    // The pass inserts only where a path is free.
-    fn from(_: Refused<V>) -> Stop {
         Stop::Memory
     }
 }

@@ -233,14 +233,11 @@ fn start<S: Space<Object>>(alloc: Global) -> Result<Loaded<S>, LoadFault>
     ensures ok { IfOk result (λ r. SoFar 0 [] (state_at (S.contents r.objects) r.links.items r.counts.items)) }
     ensures memory { IfErr result (λ e. e ≡ LoadFault.Memory) }
 {
-    match predefined_space(alloc) {
-        Ok(objects) => Ok(Loaded {
-            objects,
-            links: Vec::new(alloc),
-            counts: Vec::new(alloc),
-        }),
-        Err(_) => Err(LoadFault::Memory),
-    }
+    Ok(Loaded {
+        objects: predefined_space(alloc)?,
+        links: Vec::new(alloc),
+        counts: Vec::new(alloc),
+    })
 }
 
 // Declares all tables.

@@ -13,10 +13,9 @@ ghost use Rattle.acpi_load.specs.PassView.{one_count, pass_at, waiting_of, waiti
 ghost use Rattle.acpi_load.specs.Told.{IsTold};
 
 use crate::fault::Stop;
-use crate::placing::{declared, declared_unit, opened};
-use crate::predefined::put;
+use crate::placing::{declared, declared_unit, opened, put};
 use acpi_name::{Name, Path, PlaceFault, Seg, place};
-use acpi_space::{MapSpace, Space};
+use acpi_space::{MapSpace, Refused, Space};
 use acpi_terms::{Data, External, FieldElem, FieldForm, Item, Object};
 use std::alloc::{AllocError, Global};
 
@@ -40,12 +39,12 @@ pub(crate) struct Pass<S> {
 
 impl<S: Space<Object>> Pass<S> {
     // Puts an object at a path that is free.
-    fn put(&mut self, path: Path, object: Object) -> Result<(), Stop>
+    fn put(&mut self, path: Path, object: Object) -> Result<(), AllocError>
+        requires { namespace_of (S.contents self.old.objects) path ≡ None }
         ensures objects { OnOk result (namespace_of (S.contents self.new.objects)
             ≡ over (namespace_of (S.contents self.old.objects)) (only path (object_view object))) }
         ensures links { self.new.links ≡ self.old.links }
         ensures counts { self.new.counts ≡ self.old.counts }
-        ensures memory { IfErr result (λ f. f ≡ Stop.Memory) }
     {
         put(&mut self.objects, path, object)?;
         Ok(())
@@ -76,6 +75,7 @@ impl<S: Space<Object>> Pass<S> {
         object: Object,
         names: Vec<Name>,
     ) -> Result<(), Stop>
+        requires { namespace_of (S.contents self.old.objects) path ≡ None }
         ensures objects { OnOk result (namespace_of (S.contents self.new.objects)
             ≡ over (namespace_of (S.contents self.old.objects)) (only path (object_view object))) }
         ensures links { OnOk result (map waiting_of self.new.links.items ≡ map waiting_of self.old.links.items ++ waiting_for path scope.now names.items ∷ []) }
@@ -157,8 +157,11 @@ impl<S: Space<Object>> Pass<S> {
         if self.counts.get(&path).is_some() {
             return Ok(());
         }
-        self.counts.insert(path, args)?;
-        Ok(())
+        match self.counts.insert(path, args) {
+            Ok(()) => Ok(()),
+            Err(Refused::Memory(_)) => Err(Stop::Memory),
+            Err(Refused::Taken(_)) => unreachable!(),
+        }
     }
 
     // Keeps what an External says.

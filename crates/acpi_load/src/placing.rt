@@ -1,22 +1,38 @@
 //! Where a term puts its object, and which scope it opens.
 
-ghost use Rattle.std.specs.Prelude.{◌≡◌, ◌∷◌, [], ◌++◌, option_to_list, IfOk, IfErr};
+ghost use Rattle.std.specs.Prelude.{◌≡◌, ◌≢◌, ◌∷◌, [], ◌++◌, option_to_list, None, IfOk, IfErr, OnOk};
 ghost use Rattle.acpi_name.specs.Paths.{parent_of, place_of};
-ghost use Rattle.acpi_load.specs.Namespace.{namespace_of};
+ghost use Rattle.acpi_tree.specs.Objects.{object_view};
+ghost use Rattle.acpi_load.specs.Namespace.{namespace_of, only, over};
 ghost use Rattle.acpi_load.specs.Placing.{below, declared_path, opened_path};
 ghost use Rattle.acpi_load.specs.Sites.{unit_name};
 ghost use Rattle.acpi_load.specs.Told.{IsTold, IsMissingAt};
 
 use crate::fault::{Refusal, Stop};
 use acpi_name::{Name, Path, PlaceFault, Seg, place};
-use acpi_space::{Found, SearchFault, Space, search};
+use acpi_space::{Found, Refused, SearchFault, Space, search};
 use acpi_terms::Object;
-use std::alloc::Global;
+use std::alloc::{AllocError, Global};
+
+// Puts an object at a path that is free.
+pub(crate) fn put<S: Space<Object>>(
+    objects: &mut S,
+    path: Path,
+    object: Object,
+) -> Result<(), AllocError>
+    requires { namespace_of (S.contents objects.old) path ≡ None }
+    ensures { OnOk result (namespace_of (S.contents objects.new) ≡ over (namespace_of (S.contents objects.old)) (only path (object_view object))) }
+{
+    match objects.insert(path, object) {
+        Ok(()) => Ok(()),
+        Err(Refused::Memory(_)) => Err(AllocError),
+        Err(Refused::Taken(_)) => unreachable!(),
+    }
+}
 
 // The path that has this parent and last segment.
-fn rejoined(parent: Path, last: Option<Seg>) -> Result<Path, Stop>
-    ensures ok { IfOk result (λ p. p ≡ parent ++ option_to_list last) }
-    ensures memory { IfErr result (λ f. f ≡ Stop.Memory) }
+fn rejoined(parent: Path, last: Option<Seg>) -> Result<Path, AllocError>
+    ensures { IfOk result (λ p. p ≡ parent ++ option_to_list last) }
 {
     let mut path = parent;
     if let Some(seg) = last {
@@ -107,16 +123,18 @@ pub(crate) fn opened<S: Space<Object>>(
                 Err(Stop::Refused(Refusal::NotAScope, target))
             }
         }
-        None => Err(Stop::Refused(Refusal::NotAScope, target)),
+        None => unreachable!(),
     }
 }
 
 // The refusal of a Scope term without an answer: it names the name's place.
 fn missing(alloc: Global, scope: &Path, name: &Name) -> Stop
+    requires { place_of scope.now name.now ≢ None }
     ensures { IsMissingAt result (place_of scope.now name.now) }
 {
     match place(alloc, scope, name.view()) {
         Ok(path) => Stop::Refused(Refusal::Missing, path),
-        Err(_) => Stop::Memory,
+        Err(PlaceFault::Memory) => Stop::Memory,
+        Err(PlaceFault::AboveRoot) => unreachable!(),
     }
 }

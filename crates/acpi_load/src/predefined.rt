@@ -1,36 +1,27 @@
 //! The namespace before any table.
 
-ghost use Rattle.std.specs.Prelude.{◌≡◌, [], ◌∷◌, IfOk, IfErr, OnOk, IsTrue};
+ghost use Rattle.std.specs.Prelude.{◌≡◌, [], ◌∷◌, None, IfOk, OnOk, IsTrue};
 ghost use Rattle.acpi_name.specs.Names.{is_segment};
 ghost use Rattle.acpi_tree.specs.Objects.{object_view};
 ghost use Rattle.acpi_load.specs.Namespace.{namespace_of, only, over};
 ghost use Rattle.acpi_load.specs.Predefined.{predefined};
 
-use crate::fault::Stop;
+use crate::placing::put;
 use acpi_name::{Path, Seg};
 use acpi_space::Space;
 use acpi_terms::Object;
-use std::alloc::Global;
+use std::alloc::{AllocError, Global};
 
-// Puts an object at a path that is free.
-pub(crate) fn put<S: Space<Object>>(objects: &mut S, path: Path, object: Object) -> Result<(), Stop>
-    ensures objects { OnOk result (namespace_of (S.contents objects.new) ≡ over (namespace_of (S.contents objects.old)) (only path (object_view object))) }
-    ensures memory { IfErr result (λ f. f ≡ Stop.Memory) }
-{
-    objects.insert(path, object)?;
-    Ok(())
-}
-
-// Puts an object below the root.
+// Puts an object below the root, where its path is free.
 fn put_named<S: Space<Object>>(
     alloc: Global,
     objects: &mut S,
     name: [u8; 4],
     object: Object,
-) -> Result<(), Stop>
-    requires { IsTrue (is_segment name) }
-    ensures objects { OnOk result (namespace_of (S.contents objects.new) ≡ over (namespace_of (S.contents objects.old)) (only (name ∷ []) (object_view object))) }
-    ensures memory { IfErr result (λ f. f ≡ Stop.Memory) }
+) -> Result<(), AllocError>
+    requires segment { IsTrue (is_segment name) }
+    requires free { namespace_of (S.contents objects.old) (name ∷ []) ≡ None }
+    ensures { OnOk result (namespace_of (S.contents objects.new) ≡ over (namespace_of (S.contents objects.old)) (only (name ∷ []) (object_view object))) }
 {
     match Seg::new(name) {
         Some(seg) => {
@@ -44,9 +35,8 @@ fn put_named<S: Space<Object>>(
 }
 
 /// A namespace that holds the predefined objects alone.
-pub(crate) fn predefined_space<S: Space<Object>>(alloc: Global) -> Result<S, Stop>
-    ensures objects { IfOk result (λ s. namespace_of (S.contents s) ≡ predefined) }
-    ensures memory { IfErr result (λ f. f ≡ Stop.Memory) }
+pub(crate) fn predefined_space<S: Space<Object>>(alloc: Global) -> Result<S, AllocError>
+    ensures { IfOk result (λ s. namespace_of (S.contents s) ≡ predefined) }
 {
     let mut objects = S::new(alloc);
     put(&mut objects, Path::root(alloc), Object::Root)?;
