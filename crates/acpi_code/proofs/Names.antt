@@ -2,7 +2,8 @@
 use Rattle.std.proofs.Common.{◌≡◌, ℕ, ◌-◌, ◌<◌, Bool, true, false, cond, ltb, List, [], ◌∷◌, ◌++◌, length, take, drop, slice_index, Result, Ok, Err, refl, sym, ap, ◌∙◌, arith, inl, inr}
 use Rattle.acpi_name.specs.Names.{NameParts, is_segment}
 use Rattle.acpi_name.specs.Spelling.{SpellsName}
-use Rattle.acpi_name.specs.Reading.{is_segment_front, segment_at, name_at}
+use Rattle.acpi_name.specs.Names.{is_segment_front}
+use Rattle.acpi_name.specs.steps.Reading.{segment_at, name_at}
 use Rattle.acpi_name.specs.declared.reading.NameFault.{NameFault}
 use Rattle.acpi_name.specs.declared.reading.NameFault.TheVariants as names
 use Rattle.acpi_name.proofs.NameAgain.{name_again, name_long, segment_again}

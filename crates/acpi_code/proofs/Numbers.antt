@@ -4,7 +4,8 @@ use Rattle.std.proofs.lemmas.Bool.{le-ltb, ltb-false}
 use Rattle.std.proofs.lemmas.List.{length-append, length-take, take-append-drop, drop_at}
 use Rattle.byteorder.specs.Endian.{little_number}
 use Rattle.byteorder.specs.Numbers.{little_from-append}
-use Rattle.acpi_table.specs.PkgLength.{SpellsPkgLength, HasReservedBits, pkg_length_at}
+use Rattle.acpi_table.specs.PkgLength.{SpellsPkgLength, HasReservedBits}
+use Rattle.acpi_table.specs.steps.PkgLengthRead.{pkg_length_at}
 use Rattle.acpi_table.specs.declared.lengths.PkgFault.{PkgFault}
 use Rattle.acpi_table.specs.declared.lengths.PkgFault.TheVariants as lengths
 use Rattle.acpi_table.proofs.PkgLengths.{pkg_length_again, pkg_length_took, pkg_length_failed}

@@ -1,6 +1,6 @@
 -- What the fault of a part of code shows of the code (ACPI 6.5, 20.2).
 use Rattle.std.specs.Prelude.{◌≡◌, ◌⊎◌, ◌+◌, ◌%◌, ◌<◌, ◌≤◌, ℕ, true, false, Bool, Some, List, ◌∷◌, ◌++◌, length, drop}
-use Rattle.acpi_name.specs.Reading.{is_segment_front}
+use Rattle.acpi_name.specs.Names.{is_segment_front}
 use Rattle.acpi_name.specs.Spelling.{HasBadChar, HasZeroCount, HasTooManyUps}
 use Rattle.acpi_table.specs.PkgLength.{SpellsPkgLength}
 use Rattle.acpi_code.specs.declared.fault.CodeReason.{CodeReason}

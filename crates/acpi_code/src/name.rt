@@ -1,8 +1,9 @@
 //! Reading names and segments.
 
-ghost use Rattle.std.specs.Prelude.{◌≡◌, ◌≤◌, true, length, take};
+ghost use Rattle.std.specs.Prelude.{◌≡◌, ◌<◌, ◌≤◌, true, length, take, drop, IfOk};
+ghost use Rattle.acpi_name.specs.steps.Reading.{Answers, name_at};
 ghost use Rattle.acpi_name.specs.NameRefs.{name_parts};
-ghost use Rattle.acpi_name.specs.Reading.{is_segment_front};
+ghost use Rattle.acpi_name.specs.Names.{is_segment_front};
 ghost use Rattle.acpi_code.specs.steps.Reading.{name_in, segment_in};
 ghost use Rattle.acpi_code.specs.steps.Cursor.{Finds};
 
@@ -17,7 +18,7 @@ impl<'a> Code<'a> {
     pub fn name(&mut self) -> Result<NameRef<'a>, CodeFault>
         ensures { Finds name_parts name_in self.old self.new result }
     {
-        match read_name(self.left()) {
+        match front_name(self.left()) {
             Ok((name, used)) => {
                 self.skip(used);
                 Ok(name)
@@ -30,7 +31,7 @@ impl<'a> Code<'a> {
     }
 
     /// A NameSeg.
-    #[tactic(auto, unfolding(crate::specs::steps::Reading::segment_in, acpi_name::specs::Reading::segment_at))]
+    #[tactic(auto, unfolding(crate::specs::steps::Reading::segment_in, acpi_name::specs::steps::Reading::segment_at))]
     pub fn segment(&mut self) -> Result<Seg, CodeFault>
         ensures { Finds (λ s. s) segment_in self.old self.new result }
     {
@@ -44,6 +45,14 @@ impl<'a> Code<'a> {
         self.skip(4);
         Ok(first_segment(left))
     }
+}
+
+// The name at the front, and how many bytes spell it, as the reading of names has it.
+fn front_name(bytes: &[u8]) -> Result<(NameRef<'_>, usize), NameFault>
+    ensures exact { Answers (λ x. (name_parts x.0, drop x.1 bytes.now)) result (name_at bytes.now) }
+    ensures used { IfOk result (λ x. (0 < x.1) × (x.1 ≤ length bytes.now)) }
+{
+    read_name(bytes)
 }
 
 // Whether what stands there, up to four bytes, may begin a segment.

@@ -1,5 +1,8 @@
 //! Reading numbers, package lengths and packages.
 
+ghost use Rattle.std.specs.Prelude.{◌≤◌, length, drop, IfOk};
+ghost use Rattle.acpi_table.specs.Gives.{Gives};
+ghost use Rattle.acpi_table.specs.steps.PkgLengthRead.{pkg_length_at};
 ghost use Rattle.acpi_code.specs.steps.Reading.{byte_at, number_at, length_in};
 ghost use Rattle.acpi_code.specs.steps.Cursor.{Finds, Opens};
 
@@ -66,7 +69,7 @@ impl<'a> Code<'a> {
     pub fn pkg_length(&mut self) -> Result<u32, CodeFault>
         ensures { Finds (λ n. n) length_in self.old self.new result }
     {
-        match read_pkg_length(self.left()) {
+        match front_length(self.left()) {
             Ok((number, used)) => {
                 self.skip(used);
                 Ok(number)
@@ -90,4 +93,12 @@ impl<'a> Code<'a> {
         }
         Ok(self.split(size - used))
     }
+}
+
+// The number at the front, and how many bytes spell it, as the reading of package lengths has it.
+fn front_length(bytes: &[u8]) -> Result<(u32, usize), PkgFault>
+    ensures exact { Gives (λ x. (x.0, drop x.1 bytes.now)) result (pkg_length_at bytes.now) }
+    ensures within { IfOk result (λ x. (x.1 ≤ length bytes.now) × (1 ≤ x.1)) }
+{
+    read_pkg_length(bytes)
 }

@@ -4,7 +4,8 @@ use Rattle.std.specs.FinMap.{empty, get-empty, get, insert, get-insert}
 use Rattle.std.specs.Cmp.{Equal-is}
 use Rattle.std.specs.Option.{option_map, option_or}
 use Rattle.acpi_name.specs.Names.{Segment}
-use Rattle.acpi_name.specs.Paths.{path_cmp, path_cmp_total, path_cmp-IsAntisymmetric}
+use Rattle.acpi_name.specs.Paths.{path_cmp}
+use Rattle.acpi_name.specs.steps.PathOrder.{path_cmp_total, path_cmp-IsAntisymmetric}
 use Rattle.acpi_space.specs.Spaces.{PathMap}
 use Rattle.acpi_tree.specs.declared.object.Object.{Object}
 use Rattle.acpi_tree.specs.Objects.{ObjectTree, object_view}

@@ -3,7 +3,8 @@ use Rattle.std.proofs.Common.{◌≡◌, Bool, true, false, cond, List, [], ◌�
 use Rattle.std.specs.FinMap.{FinMap, get, insert, get-insert, get-empty, from_entries}
 use Rattle.std.specs.Option.{option_or}
 use Rattle.acpi_name.specs.Names.{Segment}
-use Rattle.acpi_name.specs.Paths.{path_cmp, path_cmp_total}
+use Rattle.acpi_name.specs.Paths.{path_cmp}
+use Rattle.acpi_name.specs.steps.PathOrder.{path_cmp_total}
 use Rattle.acpi_load.specs.Namespace.{Namespace, is_same_path, over}
 use Rattle.acpi_load.specs.Pass.{Waiting}
 use Rattle.acpi_load.specs.Loads.{Links, answers, one_link, links_of}

@@ -5,7 +5,7 @@ use Rattle.std.proofs.lemmas.Bool.{ltb-true, ltb-false}
 use Rattle.std.proofs.lemmas.List.{take_rest}
 use Rattle.std.proofs.lemmas.List.Sums.{fails_before_first}
 use Rattle.std.proofs.lemmas.List.Splits.{slice_split_first, slice_split_none}
-use Rattle.acpi_name.specs.Text.{dotted_parts}
+use Rattle.acpi_name.specs.steps.TextReading.{dotted_parts}
 
 -- at a dot
 pub parts_at : (text : List ℕ) (dot : ℕ) → position (λ b. eqb b 46) text ≡ Some dot

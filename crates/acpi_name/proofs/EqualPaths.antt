@@ -5,7 +5,8 @@ use Rattle.std.specs.Ordering.{eq_by_cmp}
 use Rattle.std.proofs.lemmas.Cmp.{eq_by_cmp_equiv}
 use Rattle.std.proofs.lemmas.Map.Views.{tells_apart}
 use Rattle.acpi_name.specs.Names.{Segment}
-use Rattle.acpi_name.specs.Paths.{path_cmp, path_cmp_total, path_cmp-IsAntisymmetric}
+use Rattle.acpi_name.specs.Paths.{path_cmp}
+use Rattle.acpi_name.specs.steps.PathOrder.{path_cmp_total, path_cmp-IsAntisymmetric}
 
 pub path_eq_Decides : (p q : List Segment) → Decides (eq_by_cmp path_cmp p q) (p ≡ q)
 path_eq_Decides p q = (

@@ -8,7 +8,8 @@ use Rattle.acpi_name.specs.Names.{Segment, NameParts, AreSegments, is_segment}
 use Rattle.acpi_name.specs.Spelling.{joined, prefix_of, SpellsPath, IsCutName, HasZeroCount, HasTooManyUps}
 use Rattle.acpi_name.specs.declared.reading.NameFault.{NameFault}
 use Rattle.acpi_name.specs.declared.reading.NameFault.TheVariants.{Cut, BadChar, ZeroCount, TooManyUps}
-use Rattle.acpi_name.specs.Reading.{◌>>=◌, is_segment_front, segment_at, segments_at, counted_at, path_at, ups, relative_at, name_at}
+use Rattle.acpi_name.specs.Names.{is_segment_front}
+use Rattle.acpi_name.specs.steps.Reading.{◌>>=◌, segment_at, segments_at, counted_at, path_at, ups, relative_at, name_at}
 use Rattle.acpi_name.proofs.NameAgain.{segment_again, name_again, relative_path, relative_of}
 use Rattle.acpi_name.proofs.NameTook.{chosen, done, ok_is, segment_took, ups_are, name_took}
 

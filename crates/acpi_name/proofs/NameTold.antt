@@ -1,11 +1,12 @@
 -- What a reading of a name says about its bytes.
-use Rattle.std.proofs.Common.{◌≡◌, ℕ, ◌+◌, ◌-◌, ◌↔◌, List, length, take, drop, Ok, Err, refl, sym, ap, subst, ◌∙◌, arith}
+use Rattle.std.proofs.Common.{◌≡◌, ℕ, ◌+◌, ◌-◌, ◌↔◌, List, length, take, drop, Result, Ok, Err, refl, sym, ap, subst, ◌∙◌, arith}
 use Rattle.std.proofs.lemmas.List.{length-append, length-drop, take-append-drop, take_at, drop_at}
 use Rattle.acpi_name.specs.Names.{NameParts}
 use Rattle.acpi_name.specs.Spelling.{SpellsName, BeginsWithName, HasName, IsCutName, HasBadChar, HasZeroCount, HasTooManyUps}
 use Rattle.acpi_name.specs.declared.reading.NameFault.{NameFault}
 use Rattle.acpi_name.specs.declared.reading.NameFault.TheVariants.{Cut, BadChar, ZeroCount, TooManyUps}
-use Rattle.acpi_name.specs.Reading.{name_at}
+use Rattle.std.specs.Prelude.{IfOk}
+use Rattle.acpi_name.specs.steps.Reading.{Answers, name_at}
 use Rattle.acpi_name.proofs.NameAgain.{name_again}
 use Rattle.acpi_name.proofs.NameTook.{done, ok_is, name_took}
 use Rattle.acpi_name.proofs.NameFaults.{failed, fault_is, ok_no_err, name_cut, cut_name, name_zero, zero_name, name_many, many_name}
@@ -84,3 +85,40 @@ ok_not_many bytes x e h = ok_no_err x TooManyUps (sym e ∙ many_name bytes h)
 
 pub ok_not_bad : (bytes : List ℕ) (n : NameParts) (rest : List ℕ) → name_at bytes ≡ Ok (n, rest) → HasBadChar bytes → ⊥
 ok_not_bad bytes n rest e h = h.no_name (n, length bytes - length rest, (ok_told bytes n rest e).found)
+
+-- ---- what the public contract says is the reading
+
+abbrev pub Says : NameFault → List ℕ → Type 0
+Says Cut bytes = IsCutName bytes
+Says BadChar bytes = HasBadChar bytes
+Says ZeroCount bytes = HasZeroCount bytes
+Says TooManyUps bytes = HasTooManyUps bytes
+
+pub fault_read : (bytes : List ℕ) (f : NameFault) → Says f bytes → name_at bytes ≡ Err f
+fault_read bytes f says = by_reading (name_at bytes) refl
+  where
+    no_name : (f : NameFault) → Says f bytes → (x : NameParts × List ℕ) → name_at bytes ≡ Ok x → ⊥
+    no_name Cut h x e = ok_not_cut bytes x e h
+    no_name BadChar h x e = ok_not_bad bytes x.0 x.1 e h
+    no_name ZeroCount h x e = ok_not_zero bytes x e h
+    no_name TooManyUps h x e = ok_not_many bytes x e h
+
+    same : (f g : NameFault) → Says f bytes → name_at bytes ≡ Err g → g ≡ f
+    same Cut g h e = (fault_cut bytes g e).1 h
+    same BadChar g h e = (fault_bad bytes g e).1 h
+    same ZeroCount g h e = (fault_zero bytes g e).1 h
+    same TooManyUps g h e = (fault_many bytes g e).1 h
+
+    by_reading : (r : Result (NameParts × List ℕ) NameFault) → name_at bytes ≡ r → name_at bytes ≡ Err f
+    by_reading (Ok x) e = absurd (no_name f says x e)
+    by_reading (Err g) e = e ∙ ap failed (same f g says e)
+
+-- a result that says what `read_name` says is what the reading gives
+pub name_exact : {X : Type 0} (parts : X → NameParts) (bytes : List ℕ) (r : Result (X × ℕ) NameFault) → IfOk r (λ x. BeginsWithName (parts x.0) x.1 bytes)
+    → ((r ≡ Err Cut) ↔ IsCutName bytes) → ((r ≡ Err BadChar) ↔ HasBadChar bytes) → ((r ≡ Err ZeroCount) ↔ HasZeroCount bytes) → ((r ≡ Err TooManyUps) ↔ HasTooManyUps bytes)
+    → Answers (λ x. (parts x.0, drop x.1 bytes)) r (name_at bytes)
+name_exact parts bytes (Ok x) found cut bad zero many = begins_read (parts x.0) x.1 bytes found
+name_exact parts bytes (Err Cut) found cut bad zero many = fault_read bytes Cut (cut.0 refl)
+name_exact parts bytes (Err BadChar) found cut bad zero many = fault_read bytes BadChar (bad.0 refl)
+name_exact parts bytes (Err ZeroCount) found cut bad zero many = fault_read bytes ZeroCount (zero.0 refl)
+name_exact parts bytes (Err TooManyUps) found cut bad zero many = fault_read bytes TooManyUps (many.0 refl)

@@ -6,7 +6,8 @@ use Rattle.std.proofs.lemmas.List.{append-nil}
 use Rattle.std.proofs.lemmas.List.Elements.{All-from_recursion}
 use Rattle.std.proofs.lemmas.List.Splits.{join_with_byte-slice_split, slice_split_none, slice_split_at, length-slice_split}
 use Rattle.acpi_name.specs.Names.{Segment, AreSegments, is_segment, is_lead_char, is_name_char}
-use Rattle.acpi_name.specs.Text.{path_text, SpellsSegment, SpellsPathText, IsPathText, checked_segment, typed_segment, before_segments, typed_segments, dotted_parts, path_of_text}
+use Rattle.acpi_name.specs.Text.{path_text, SpellsSegment, SpellsPathText, IsPathText}
+use Rattle.acpi_name.specs.steps.TextReading.{checked_segment, typed_segment, before_segments, typed_segments, dotted_parts, path_of_text}
 use Rattle.acpi_name.proofs.NameAgain.{and_true, neq, each}
 use Rattle.acpi_name.proofs.NameTook.{chosen}
 

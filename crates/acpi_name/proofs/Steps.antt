@@ -1,7 +1,8 @@
 -- One more segment.
 use Rattle.std.proofs.Common.{◌≡◌, ℕ, ◌+◌, ◌<◌, List, [], ◌∷◌, ◌++◌, length, take, Some, slice_get, append_assoc, ap, sym, ◌∙◌, Option, None, IsSome, ◌↔◌, option_to_list, arith, refl, length-append, true≢false}
 use Rattle.std.specs.List.{last_or}
-use Rattle.acpi_name.specs.Paths.{parent_of, parent_of-push}
+use Rattle.acpi_name.specs.Paths.{parent_of}
+use Rattle.acpi_name.proofs.Parents.{parent_of-push}
 use Rattle.std.proofs.lemmas.List.{take_more}
 use Rattle.std.proofs.lemmas.Option.{slice_get_within, get_or_from_slice_get}
 

@@ -1,5 +1,5 @@
 -- Segments and names as contracts see them (ACPI 6.5, 5.3 and 20.2.2).
-use Rattle.std.specs.Prelude.{◌≡◌, ℕ, ◌<◌, Bool, false, ◌&&◌, ◌||◌, nat_le, nat_eq, cond, Option, Some, None, List, [], ◌∷◌, length, IsTrue}
+use Rattle.std.specs.Prelude.{◌≡◌, ℕ, ◌<◌, Bool, true, false, ◌&&◌, ◌||◌, nat_le, nat_eq, cond, Option, Some, None, List, [], ◌∷◌, length, IsTrue}
 use Rattle.std.specs.List.{list_all}
 
 -- a NameSeg, by its bytes (20.2.2)
@@ -8,16 +8,24 @@ Segment = List ℕ
 
 -- LeadNameChar: A to Z or '_' (20.2.2)
 abbrev pub is_lead_char : ℕ → Bool
-is_lead_char b = (nat_le 65 b && nat_le b 90) || nat_eq b 95
+is_lead_char b = (nat_le 0x41 b && nat_le b 0x5A) || nat_eq b 0x5F
 
 -- NameChar: a LeadNameChar or 0 to 9 (20.2.2)
 abbrev pub is_name_char : ℕ → Bool
-is_name_char b = is_lead_char b || (nat_le 48 b && nat_le b 57)
+is_name_char b = is_lead_char b || (nat_le 0x30 b && nat_le b 0x39)
 
 -- NameSeg: four bytes, a LeadNameChar and three NameChars (20.2.2)
 abbrev pub is_segment : List ℕ → Bool
 is_segment (a ∷ b ∷ c ∷ d ∷ []) = is_lead_char a && is_name_char b && is_name_char c && is_name_char d
 is_segment _ = false
+
+-- whether what stands there, up to four bytes, may begin a NameSeg (20.2.2)
+abbrev pub is_segment_front : List ℕ → Bool
+is_segment_front [] = true
+is_segment_front (a ∷ []) = is_lead_char a
+is_segment_front (a ∷ b ∷ []) = is_lead_char a && is_name_char b
+is_segment_front (a ∷ b ∷ c ∷ []) = is_lead_char a && is_name_char b && is_name_char c
+is_segment_front (a ∷ b ∷ c ∷ d ∷ rest) = is_lead_char a && is_name_char b && is_name_char c && is_name_char d
 
 -- a segment each
 abbrev pub AreSegments : List Segment → Type 0

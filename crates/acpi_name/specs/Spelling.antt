@@ -9,17 +9,17 @@ joined (s ∷ ss) = s ++ joined ss
 
 -- the bytes before a name's segments: RootChar 5C, or a PrefixPath of a 5E for each parent (20.2.2)
 abbrev pub prefix_of : Bool → ℕ → List ℕ
-prefix_of true parents = 92 ∷ []
-prefix_of false parents = replicate parents 94
+prefix_of true parents = 0x5C ∷ []
+prefix_of false parents = replicate parents 0x5E
 
 -- NamePath: NullName 00 for no segments, NameSeg for one, DualNamePath 2E and two, or MultiNamePath 2F,
 -- their number and so many; one segment and two have two spellings (20.2.2)
 abbrev pub SpellsPath : List Segment → List ℕ → Type 0
 SpellsPath ss bytes =
-    ((length ss ≡ 0) × (bytes ≡ 0 ∷ []))
+    ((length ss ≡ 0) × (bytes ≡ 0x00 ∷ []))
     ⊎ ((length ss ≡ 1) × (bytes ≡ joined ss))
-    ⊎ ((length ss ≡ 2) × (bytes ≡ 46 ∷ joined ss))
-    ⊎ ((0 < length ss) × (bytes ≡ 47 ∷ length ss ∷ joined ss))
+    ⊎ ((length ss ≡ 2) × (bytes ≡ 0x2E ∷ joined ss))
+    ⊎ ((0 < length ss) × (bytes ≡ 0x2F ∷ length ss ∷ joined ss))
 
 -- NameString: the bytes spell the name (20.2.2)
 pub record SpellsName (n : NameParts) (bytes : List ℕ) : Type 0 where
@@ -50,12 +50,12 @@ pub record HasZeroCount (bytes : List ℕ) : Type 0 where
   pub parents : ℕ
   pub few_parents : parents < 256
   pub rest : List ℕ
-  pub whole : bytes ≡ prefix_of rooted parents ++ (47 ∷ 0 ∷ rest)
+  pub whole : bytes ≡ prefix_of rooted parents ++ (0x2F ∷ 0x00 ∷ rest)
 
 -- 256 bytes 5E stand at the front
 pub record HasTooManyUps (bytes : List ℕ) : Type 0 where
   pub rest : List ℕ
-  pub whole : bytes ≡ replicate 256 94 ++ rest
+  pub whole : bytes ≡ replicate 256 0x5E ++ rest
 
 -- no name stands at the front, and it is for none of the other reasons
 pub record HasBadChar (bytes : List ℕ) : Type 0 where
@@ -68,8 +68,8 @@ pub record HasBadChar (bytes : List ℕ) : Type 0 where
 abbrev pub path_bytes : List Segment → List ℕ
 path_bytes [] = 0 ∷ []
 path_bytes (s ∷ []) = s
-path_bytes (s ∷ t ∷ []) = 46 ∷ (s ++ t)
-path_bytes (s ∷ t ∷ u ∷ ss) = 47 ∷ length (s ∷ t ∷ u ∷ ss) ∷ joined (s ∷ t ∷ u ∷ ss)
+path_bytes (s ∷ t ∷ []) = 0x2E ∷ (s ++ t)
+path_bytes (s ∷ t ∷ u ∷ ss) = 0x2F ∷ length (s ∷ t ∷ u ∷ ss) ∷ joined (s ∷ t ∷ u ∷ ss)
 
 -- the shortest spelling of a name
 abbrev pub name_bytes : NameParts → List ℕ

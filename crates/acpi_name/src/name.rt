@@ -2,7 +2,8 @@
 
 ghost use Rattle.acpi_name.specs.Names.{IsName, plain_segment};
 ghost use Rattle.std.specs.Prelude.{◌≡◌, ◌<◌, ◌^◌, [], length, slice_get, Some, IsTrue, ◌↔◌, IfOk, true, false};
-ghost use Rattle.acpi_name.specs.NameEqual.{name_eq, name_eq_equiv};
+ghost use Rattle.acpi_name.specs.NameEqual.{name_eq};
+ghost use Rattle.acpi_name.specs.steps.NameOrder.{name_eq_equiv};
 ghost use Rattle.std.specs.Cmp.{partial_equiv_from_equiv};
 
 use crate::seg::Seg;

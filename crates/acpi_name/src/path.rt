@@ -6,7 +6,8 @@ ghost use Rattle.std.specs.Cmp.{partial_order_from_agreeing_total, partial_equiv
 ghost use Rattle.std.specs.Cmp.Rules.{comparing};
 ghost use Rattle.std.proofs.Common.{rules};
 ghost use Rattle.acpi_name.specs.Names.{AreSegments};
-ghost use Rattle.acpi_name.specs.Paths.{path_cmp, path_cmp_total, place_of, parent_of};
+ghost use Rattle.acpi_name.specs.Paths.{path_cmp, place_of, parent_of};
+ghost use Rattle.acpi_name.specs.steps.PathOrder.{path_cmp_total};
 ghost use Rattle.std.specs.List.{last_or};
 
 use crate::name::NameRef;

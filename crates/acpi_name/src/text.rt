@@ -3,7 +3,8 @@
 ghost use Rattle.std.specs.Prelude.{◌≡◌, ◌<◌, ◌≤◌, ◌∷◌, [], ◌++◌, length, List, IfOk, OnOk, IfSome, Some, None, Err, ◌↔◌, ◌==◌, is_some, position};
 ghost use Rattle.std.specs.Option.{option_map, option_copied};
 ghost use Rattle.acpi_name.specs.Names.{Segment};
-ghost use Rattle.acpi_name.specs.Text.{SpellsPathText, IsPathText, typed_segment, typed_segments, dotted_parts, parts_behind, path_of_text};
+ghost use Rattle.acpi_name.specs.Text.{SpellsPathText, IsPathText};
+ghost use Rattle.acpi_name.specs.steps.TextReading.{typed_segment, typed_segments, dotted_parts, parts_behind, path_of_text};
 ghost use Rattle.acpi_name.specs.declared.text.PathFault.TheVariants.{Memory};
 
 use crate::path::Path;
@@ -132,7 +133,6 @@ impl Path {
         // What is typed so is answered, unless memory is refused. So a text gives at most one path.
         ensures only { (p : List Segment) → SpellsPathText p text.now → IfOk result (λ q. q ≡ p) }
         ensures bad { (result ≡ Err PathFault.BadText) ↔ ¬ IsPathText text.now }
-        ensures exact { IfOk result (λ p. path_of_text text.now ≡ Some p) }
     {
         typed_path(alloc, text.as_bytes())
     }

@@ -8,7 +8,8 @@ use Rattle.std.specs.Cmp.{eq_by_cmp_equiv}
 use Rattle.std.specs.Cmp.Lexicographic.{nat_list_cmp_total, pointwise}
 use Rattle.std.specs.FinMap.{slice_cmp-IsAntisymmetric, nat_cmp-IsAntisymmetric}
 use Rattle.acpi_name.specs.Names.{Segment}
-use Rattle.acpi_name.specs.Paths.{segment_cmp, path_cmp, path_cmp_total, path_cmp-IsAntisymmetric}
+use Rattle.acpi_name.specs.Paths.{segment_cmp, path_cmp}
+use Rattle.acpi_name.specs.steps.PathOrder.{path_cmp_total, path_cmp-IsAntisymmetric}
 
 pub same_number : (a b : ℕ) → nat_eq a b ≡ true → a ≡ b
 same_number a b e = grind (arith, nat_tests)

@@ -2,7 +2,8 @@
 use Rattle.std.proofs.Common.{◌≡◌, ℕ, ◌<◌, ◌+◌, List, [], ◌∷◌, ◌++◌, length, map, reverse, refl, sym, ap, ◌∙◌, arith, append_assoc, length-append}
 use Rattle.std.proofs.lemmas.List.{reverse-append, map-append}
 use Rattle.acpi_name.specs.Names.{Segment}
-use Rattle.acpi_name.specs.Paths.{parent_of, parent_of-push}
+use Rattle.acpi_name.specs.Paths.{parent_of}
+use Rattle.acpi_name.proofs.Parents.{parent_of-push}
 use Rattle.acpi_space.specs.declared.walk.Step.{Step}
 use Rattle.acpi_space.specs.declared.walk.Step.TheVariants.{Enter, Leave}
 use Rattle.acpi_space.specs.steps.Walk.{ahead, enter}

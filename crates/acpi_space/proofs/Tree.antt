@@ -9,7 +9,8 @@ use Rattle.std.specs.List.{flat_map, AllByRecursion}
 use Rattle.std.specs.List.Sorted.{IsStrictlySortedBy}
 use Rattle.std.specs.FinMap.{get, insert, same_map, get-insert}
 use Rattle.acpi_name.specs.Names.{Segment}
-use Rattle.acpi_name.specs.Paths.{segment_cmp, path_cmp, path_cmp_total, path_cmp-IsAntisymmetric}
+use Rattle.acpi_name.specs.Paths.{segment_cmp, path_cmp}
+use Rattle.acpi_name.specs.steps.PathOrder.{path_cmp_total, path_cmp-IsAntisymmetric}
 use Rattle.acpi_space.specs.declared.nodes.Node.{Node}
 use Rattle.acpi_space.specs.steps.Tree.{own_pair, child_of, child_at, node_children, node_value, pairs_below, reached, value_below, tree_map, IsTree}
 use Rattle.acpi_space.proofs.Maps.{get_is_lookup}

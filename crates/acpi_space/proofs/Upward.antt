@@ -2,7 +2,8 @@
 use Rattle.std.proofs.Common.{◌≡◌, ℕ, ◌≤◌, suc, Bool, true, false, List, [], ◌∷◌, ◌++◌, find, length, Option, Some, None, is_some, not, Bor, true≢false, refl, sym, ap, ◌∙◌, arith, length-append}
 use Rattle.std.specs.Option.{option_map, option_copied}
 use Rattle.std.specs.List.{last_or}
-use Rattle.acpi_name.specs.Paths.{parent_of, parent_of-push, parent_of_last}
+use Rattle.acpi_name.specs.Paths.{parent_of}
+use Rattle.acpi_name.proofs.Parents.{parent_of-push, parent_of_last}
 use Rattle.acpi_space.specs.Search.{beginnings}
 use Rattle.acpi_space.proofs.Beginnings.{found_whole, found_shorter, found_nowhere}
 

@@ -3,12 +3,15 @@ use Rattle.std.proofs.Common.{◌≡◌, ◌≢◌, add_comm, add-one, ℕ, zero
 use Rattle.std.proofs.lemmas.Bool.{ltb-false, ltb-true, le-ltb, lt-ltb}
 use Rattle.std.proofs.lemmas.List.{append-nil, get_or_past, length-append, length-take, take-append-drop, drop_at}
 use Rattle.std.proofs.lemmas.List.Elements.{All-get_or, All-head, All-tail}
+use Rattle.std.specs.Prelude.{◌↔◌, IfOk, IsErrOf}
 use Rattle.byteorder.specs.Endian.{little_number, little_bytes}
+use Rattle.acpi_table.specs.Gives.{Gives}
 use Rattle.byteorder.specs.Numbers.{little_from-append, little_from-lt, little_number-reads_back, length-bytes_low_first}
 use Rattle.acpi_table.proofs.Choices.{chosen, guard_ok}
 use Rattle.acpi_table.specs.declared.lengths.PkgFault.{PkgFault}
 use Rattle.acpi_table.specs.declared.lengths.PkgFault.TheVariants.{Cut, ReservedBits}
-use Rattle.acpi_table.specs.PkgLength.{SpellsPkgLength, HasReservedBits, EndsInPkgLength, pkg_length_at, shortest_pkg_length, package_number}
+use Rattle.acpi_table.specs.PkgLength.{SpellsPkgLength, HasReservedBits, EndsInPkgLength, shortest_pkg_length, package_number}
+use Rattle.acpi_table.specs.steps.PkgLengthRead.{pkg_length_at}
 
 -- ---- what is spelled is read
 
@@ -304,3 +307,10 @@ pub ruleset own_bytes = (one_byte, two_bytes, three_bytes, four_bytes, number_le
 
 -- The shortest spelling spells, and no other is shorter.
 pub ruleset shortest_is = (shortest_spells, shortest_least)
+
+-- a result that says what `read_pkg_length` says is what the reading gives
+pub pkg_length_exact : (bytes : List ℕ) (r : Result (ℕ × ℕ) PkgFault) → IfOk r (λ x. SpellsPkgLength x.0 (take x.1 bytes))
+    → (IsErrOf r ReservedBits ↔ HasReservedBits bytes) → (IsErrOf r Cut ↔ EndsInPkgLength bytes) → Gives (λ x. (x.0, drop x.1 bytes)) r (pkg_length_at bytes)
+pkg_length_exact bytes (Ok x) found reserved cut = ap pkg_length_at (sym (take-append-drop x.1 bytes)) ∙ pkg_length_again x.0 (take x.1 bytes) (drop x.1 bytes) found
+pkg_length_exact bytes (Err ReservedBits) found reserved cut = pkg_length_refuses bytes ReservedBits (reserved.0 refl)
+pkg_length_exact bytes (Err Cut) found reserved cut = pkg_length_refuses bytes Cut (cut.0 refl)

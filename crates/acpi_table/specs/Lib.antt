@@ -2,3 +2,4 @@ pub mod Gives
 pub mod PkgLength
 pub mod Tables
 pub mod Sources
+pub mod steps

@@ -1,8 +1,6 @@
 -- Package lengths: how numbers are spelled, read and written (ACPI 6.5, 20.2.4).
-use Rattle.std.specs.Prelude.{◌≡◌, ◌⊎◌, ◌+◌, ◌*◌, ◌/◌, ◌%◌, ◌<◌, ◌≤◌, ℕ, List, [], ◌∷◌, length, drop, Result, Ok, Err, nat_lt, if◌then◌else◌}
+use Rattle.std.specs.Prelude.{◌≡◌, ◌⊎◌, ◌+◌, ◌*◌, ◌/◌, ◌%◌, ◌<◌, ◌≤◌, ℕ, List, [], ◌∷◌, length, nat_lt, if◌then◌else◌}
 use Rattle.byteorder.specs.Endian.{little_number, little_bytes}
-use Rattle.acpi_table.specs.declared.lengths.PkgFault.{PkgFault}
-use Rattle.acpi_table.specs.declared.lengths.PkgFault.TheVariants.{Cut, ReservedBits}
 
 -- A number's spelling (20.2.4). Bits 7 and 6 of the lead byte say how many bytes follow it. With none the
 -- lead is the number. With some, bits 5 and 4 are zero, bits 3 to 0 are the low four bits of the number,
@@ -22,15 +20,6 @@ HasReservedBits (lead ∷ tail) = (64 ≤ lead) × (15 < lead % 64)
 abbrev pub EndsInPkgLength : List ℕ → Type 0
 EndsInPkgLength [] = Unit {0}
 EndsInPkgLength (lead ∷ tail) = (64 ≤ lead) × (lead % 64 ≤ 15) × (length tail < lead / 64)
-
--- Read from the left: the number at the front, and the bytes after it (20.2.4).
-unfoldable pub pkg_length_at : List ℕ → Result (ℕ × List ℕ) PkgFault
-pkg_length_at [] = Err Cut
-pkg_length_at (lead ∷ tail) =
-    if nat_lt lead 64 then Ok (lead, tail) else
-    if nat_lt 15 (lead % 64) then Err ReservedBits else
-    if nat_lt (length tail) (lead / 64) then Err Cut else
-    Ok (lead % 64 + 16 * little_number (lead / 64) tail, drop (lead / 64) tail)
 
 -- The shortest spelling of a number below 2 ^ 28 (20.2.4).
 unfoldable pub shortest_pkg_length : ℕ → List ℕ

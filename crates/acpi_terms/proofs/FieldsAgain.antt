@@ -6,7 +6,7 @@ use Rattle.acpi_name.specs.Spelling.{SpellsName}
 use Rattle.acpi_name.proofs.NameAgain.{neq, name_again, name_long, lead_above, and_true}
 use Rattle.acpi_name.proofs.NameFaults.{failed, ok_no_err}
 use Rattle.acpi_name.specs.declared.reading.NameFault.TheVariants.{BadChar}
-use Rattle.acpi_name.specs.Reading.{segment_at, segments_at, path_at, relative_at, name_at}
+use Rattle.acpi_name.specs.steps.Reading.{segment_at, segments_at, path_at, relative_at, name_at}
 use Rattle.acpi_tree.specs.Tree.{FieldTree, unit, reserved, access, connect_name, connect_buffer, extended}
 use Rattle.acpi_terms.specs.Reading.{byte_at, bytes_in, connect_at, connect_name_at, unit_at, field_at, fields_in, name_leaf, seg_leaf, byte_leaf, bits_leaf, const_leaf}
 use Rattle.acpi_terms.specs.Spelling.{SpellsValues, SpellsField, SpellsFields}

@@ -6,14 +6,16 @@ use Rattle.byteorder.specs.Endian.{little_number}
 use Rattle.byteorder.specs.Numbers.{little_from-append}
 use Rattle.acpi_name.specs.Names.{NameParts, Segment, is_segment}
 use Rattle.acpi_name.specs.Spelling.{SpellsName}
-use Rattle.acpi_name.specs.Reading.{is_segment_front, segment_at, name_at}
+use Rattle.acpi_name.specs.Names.{is_segment_front}
+use Rattle.acpi_name.specs.steps.Reading.{segment_at, name_at}
 use Rattle.acpi_name.specs.declared.reading.NameFault.{NameFault}
 use Rattle.acpi_name.specs.declared.reading.NameFault.TheVariants as names
 use Rattle.acpi_name.proofs.NameAgain.{name_long}
 use Rattle.acpi_name.proofs.NameTook.{name_took, segment_took}
 use Rattle.acpi_name.proofs.NameFaults.{name_zero, name_many, name_stays}
 use Rattle.acpi_name.proofs.NameTold.{fault_bad}
-use Rattle.acpi_table.specs.PkgLength.{SpellsPkgLength, HasReservedBits, pkg_length_at}
+use Rattle.acpi_table.specs.PkgLength.{SpellsPkgLength, HasReservedBits}
+use Rattle.acpi_table.specs.steps.PkgLengthRead.{pkg_length_at}
 use Rattle.acpi_table.specs.declared.lengths.PkgFault.{PkgFault}
 use Rattle.acpi_table.specs.declared.lengths.PkgFault.TheVariants as lengths
 use Rattle.acpi_table.proofs.PkgLengths.{pkg_length_took, pkg_length_failed}

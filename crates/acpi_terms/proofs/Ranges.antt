@@ -1,7 +1,8 @@
 -- A list from one place to another.
 use Rattle.std.proofs.Common.{◌≡◌, ℕ, zero, suc, ◌-◌, ◌+◌, ◌≤◌, ◌<◌, List, [], ◌∷◌, length, take, drop, refl, sym, ap, ◌∙◌, arith, Ok, slice_index, true, false, ltb}
 use Rattle.acpi_terms.specs.Reading.{byte_at, no_level, fault_at, seg_in, is_text, string_at}
-use Rattle.acpi_name.specs.Reading.{is_segment_front, segment_at}
+use Rattle.acpi_name.specs.Names.{is_segment_front}
+use Rattle.acpi_name.specs.steps.Reading.{segment_at}
 use Rattle.acpi_terms.specs.declared.fault.ItemReason.TheVariants.{Cut, TooDeep}
 use Rattle.std.specs.List.{slice_range, take_while}
 use Rattle.std.proofs.Math.Seq.{take-nil, take-length}

@@ -1,6 +1,6 @@
 -- What a fault shows of the code (ACPI 6.5, 20.2).
 use Rattle.std.specs.Prelude.{◌≡◌, ◌⊎◌, ◌+◌, ◌%◌, ◌<◌, ◌≤◌, ℕ, true, false, Bool, Option, Some, None, List, [], ◌∷◌, ◌++◌, length, drop, ◌==◌, if◌then◌else◌}
-use Rattle.acpi_name.specs.Reading.{is_segment_front}
+use Rattle.acpi_name.specs.Names.{is_segment_front}
 use Rattle.acpi_name.specs.Spelling.{HasBadChar, HasZeroCount, HasTooManyUps}
 use Rattle.acpi_table.specs.PkgLength.{SpellsPkgLength}
 use Rattle.acpi_terms.specs.declared.fault.ItemReason.{ItemReason}

@@ -2,7 +2,7 @@
 
 ghost use Rattle.std.specs.Prelude.{◌≡◌, ◌≤◌, true, length, take, IfOk};
 ghost use Rattle.acpi_name.specs.NameRefs.{name_parts};
-ghost use Rattle.acpi_name.specs.Reading.{is_segment_front};
+ghost use Rattle.acpi_name.specs.Names.{is_segment_front};
 ghost use Rattle.acpi_terms.specs.Reading.{byte_at, number_at, length_in, name_in, seg_in, args_in};
 ghost use Rattle.acpi_terms.specs.Cursor.{Finds, Opens};
 
@@ -114,7 +114,7 @@ impl<'a> Code<'a> {
     }
 
     /// A NameSeg.
-    #[tactic(auto, unfolding(crate::specs::Reading::seg_in, acpi_name::specs::Reading::segment_at))]
+    #[tactic(auto, unfolding(crate::specs::Reading::seg_in, acpi_name::specs::steps::Reading::segment_at))]
     pub fn segment(&mut self) -> Result<Seg, ItemFault>
         ensures { Finds (λ s. s) seg_in self.old self.new result }
     {

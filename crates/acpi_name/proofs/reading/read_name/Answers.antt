@@ -44,6 +44,3 @@ returns-clause-zero_count c = ok_iff _ ZeroCount (ok_not_zero c.args.bytes.now _
 
 pub returns-clause-too_many_ups : goal.returns-clause-too_many_ups
 returns-clause-too_many_ups c = ok_iff _ TooManyUps (ok_not_many c.args.bytes.now _ c.in_ok-name.ensures.exact)
-
-pub returns-clause-exact : goal.returns-clause-exact
-returns-clause-exact c = rw (ok_told c.args.bytes.now (name_parts c.in_ok-name.name) c.in_ok-name.rest.now c.in_ok-name.ensures.exact).behind c.in_ok-name.ensures.exact

@@ -1,6 +1,6 @@
 use Rattle.std.proofs.Common.{◌≡◌, length}
 use Rattle.std.specs.Prelude.{is_some}
-use Rattle.acpi_name.specs.Text.{typed_segments, dotted_parts}
+use Rattle.acpi_name.specs.steps.TextReading.{typed_segments, dotted_parts}
 use Rattle.acpi_name.proofs.text.are_segments.Given as goal
 
 abbrev pub invariant-loop-behind : goal.invariant-loop-behind

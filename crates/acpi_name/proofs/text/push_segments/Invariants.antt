@@ -1,6 +1,6 @@
 use Rattle.std.proofs.Common.{◌≡◌, ◌++◌, length}
 use Rattle.std.specs.Option.{option_map}
-use Rattle.acpi_name.specs.Text.{typed_segments, dotted_parts}
+use Rattle.acpi_name.specs.steps.TextReading.{typed_segments, dotted_parts}
 use Rattle.acpi_name.proofs.text.push_segments.Given as goal
 
 abbrev pub invariant-loop-seg : goal.invariant-loop-seg

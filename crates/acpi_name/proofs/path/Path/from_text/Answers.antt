@@ -1,7 +1,8 @@
 use Rattle.std.proofs.Common.{◌≡◌, ◌∙◌, sym, Some}
 use Rattle.std.proofs.lemmas.Result.{IfOk-weaker}
 use Rattle.std.proofs.lemmas.Option.{same_Some}
-use Rattle.acpi_name.specs.Text.{SpellsPathText, path_of_text}
+use Rattle.acpi_name.specs.Text.{SpellsPathText}
+use Rattle.acpi_name.specs.steps.TextReading.{path_of_text}
 use Rattle.acpi_name.proofs.PathTexts.{text_took, text_again, no_text, is_no_text}
 use Rattle.acpi_name.proofs.path.Path.from_text.Goals as goal
 

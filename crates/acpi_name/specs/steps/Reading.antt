@@ -1,7 +1,7 @@
 -- Reading a name from the left, up to the first fault (ACPI 6.5, 20.2.2 NameString).
 use Rattle.std.specs.Prelude.{◌≡◌, ℕ, zero, suc, Bool, true, false, ◌&&◌, List, [], ◌∷◌, length, take, drop, Result, Ok, Err, nat_lt, ◌==◌, if◌then◌else◌}
 use Rattle.std.specs.List.{take_while}
-use Rattle.acpi_name.specs.Names.{Segment, is_lead_char, is_name_char, NameParts}
+use Rattle.acpi_name.specs.Names.{Segment, NameParts, is_segment_front}
 use Rattle.acpi_name.specs.declared.reading.NameFault.{NameFault}
 use Rattle.acpi_name.specs.declared.reading.NameFault.TheVariants.{Cut, BadChar, ZeroCount, TooManyUps}
 
@@ -15,14 +15,6 @@ infixl 10 ◌>>=◌
 abbrev pub ◌>>=◌ : {A B : Type 0} → Result A NameFault → (A → Result B NameFault) → Result B NameFault
 (Ok x) >>= f = f x
 (Err e) >>= f = Err e
-
--- whether what stands there, up to four bytes, may begin a segment
-abbrev pub is_segment_front : List ℕ → Bool
-is_segment_front [] = true
-is_segment_front (a ∷ []) = is_lead_char a
-is_segment_front (a ∷ b ∷ []) = is_lead_char a && is_name_char b
-is_segment_front (a ∷ b ∷ c ∷ []) = is_lead_char a && is_name_char b && is_name_char c
-is_segment_front (a ∷ b ∷ c ∷ d ∷ rest) = is_lead_char a && is_name_char b && is_name_char c && is_name_char d
 
 -- a segment, and the bytes behind it (20.2.2 NameSeg)
 unfoldable pub segment_at : List ℕ → Result (Segment × List ℕ) NameFault
@@ -46,14 +38,14 @@ counted_at (n ∷ rest) = if n == 0 then Err ZeroCount else if nat_lt 255 n then
 unfoldable pub path_at : List ℕ → Result (List Segment × List ℕ) NameFault
 path_at [] = Err Cut
 path_at (b ∷ rest) =
-    if b == 0 then Ok ([], rest) else
-    if b == 46 then segments_at 2 rest else
-    if b == 47 then counted_at rest else
+    if b == 0x00 then Ok ([], rest) else
+    if b == 0x2E then segments_at 2 rest else
+    if b == 0x2F then counted_at rest else
     segments_at 1 (b ∷ rest)
 
 -- the number of bytes 5E at the front
 abbrev pub ups : List ℕ → ℕ
-ups bytes = length (take_while (λ b. b == 94) bytes)
+ups bytes = length (take_while (λ b. b == 0x5E) bytes)
 
 -- a name that does not begin at the root: at most 255 bytes 5E, and a NamePath (20.2.2 PrefixPath)
 unfoldable pub relative_at : List ℕ → Result (NameParts × List ℕ) NameFault
@@ -65,5 +57,5 @@ relative_at bytes =
 unfoldable pub name_at : List ℕ → Result (NameParts × List ℕ) NameFault
 name_at [] = Err Cut
 name_at (b ∷ rest) =
-    if b == 92 then (path_at rest >>= λ p. Ok (record { rooted = true; parents = 0; segments = p.0 }, p.1)) else
+    if b == 0x5C then (path_at rest >>= λ p. Ok (record { rooted = true; parents = 0; segments = p.0 }, p.1)) else
     relative_at (b ∷ rest)

@@ -1,0 +1,4 @@
+pub mod Reading
+pub mod PathOrder
+pub mod NameOrder
+pub mod TextReading
