@@ -65,3 +65,8 @@ AnswerIsKept = (small large : List Segment → Bool) (s : List Segment) (n : Nam
 
 abbrev pub MissedIsKept : Type 0
 MissedIsKept = (small large : List Segment → Bool) (s : List Segment) (n : NameParts) → KeepsSearch small large s n → missed large s n ≡ missed small s n
+
+-- with more paths defined a search misses none that it did not miss before
+abbrev pub MissedAreFewer : Type 0
+MissedAreFewer = (small large : List Segment → Bool) (s : List Segment) (n : NameParts) → ((p : List Segment) → small p ≡ true → large p ≡ true) → (p : List Segment)
+    → Among (missed large s n) p → Among (missed small s n) p

@@ -1,5 +1,5 @@
 //! What holds of every search: the functions do nothing, and their contracts state the laws.
-ghost use Rattle.acpi_space.specs.Laws.{AnswerIsKept, MissedArePast, MissedIsKept, MissedIsPlace, OtherIsAtPlace, PlainIsLongest};
+ghost use Rattle.acpi_space.specs.Laws.{AnswerIsKept, MissedAreFewer, MissedArePast, MissedIsKept, MissedIsPlace, OtherIsAtPlace, PlainIsLongest};
 
 /// A plain name means the path below the longest beginning of the scope that has it, and nothing
 /// only where no beginning has it; any other name means its place (ACPI 6.5, 5.3).
@@ -19,4 +19,9 @@ pub fn missed_are_past_the_answer()
 pub fn search_is_kept()
     ensures answer { AnswerIsKept }
     ensures missed { MissedIsKept }
+{}
+
+/// With more paths defined a search misses no path that it did not miss before.
+pub fn missed_are_fewer()
+    ensures { MissedAreFewer }
 {}
