@@ -1,6 +1,6 @@
 //! Names as they are written: rooted or not, a number of parents to go up, and segments.
 
-ghost use Rattle.acpi_name.specs.Names.{IsName, plain_segment};
+ghost use Rattle.acpi_name.specs.Names.{AreSegments, IsName, plain_segment};
 ghost use Rattle.std.specs.Prelude.{◌≡◌, ◌<◌, ◌^◌, [], length, slice_get, Some, IsTrue, ◌↔◌, IfOk, true, false};
 ghost use Rattle.acpi_name.specs.NameEqual.{name_eq};
 ghost use Rattle.acpi_name.specs.steps.NameOrder.{name_eq_equiv};
@@ -75,6 +75,7 @@ impl<'a> NameRef<'a> {
     /// The segments, four bytes each.
     pub(crate) fn chunks(self) -> &'a [[u8; 4]]
         ensures all { result.now ≡ (name_parts self.entry).segments }
+        ensures segments { AreSegments (name_parts self.entry).segments }
         ensures few { length result.now < 256 }
     {
         self.segs

@@ -8,7 +8,7 @@ ghost use Rattle.acpi_name.specs.Names.{is_segment_front};
 ghost use Rattle.acpi_name.specs.steps.Reading.{Answers, segment_at, segments_at, counted_at, path_at, ups, relative_at, name_at};
 
 use crate::name::NameRef;
-use crate::seg::{is_lead, is_rest};
+use crate::seg::{is_lead_char, is_name_char};
 use thiserror::Error;
 
 /// Why no name stands at the front of some bytes: the first fault from the left.
@@ -34,10 +34,13 @@ fn begins_segment(bytes: &[u8]) -> bool
 {
     match bytes {
         [] => true,
-        [a] => is_lead(*a),
-        [a, b] => is_lead(*a) && is_rest(*b),
-        [a, b, c] => is_lead(*a) && is_rest(*b) && is_rest(*c),
-        [a, b, c, d, ..] => is_lead(*a) && is_rest(*b) && is_rest(*c) && is_rest(*d),
+        [a] => is_lead_char(*a),
+        [a, b] => is_lead_char(*a) && is_name_char(*b),
+        [a, b, c] => is_lead_char(*a) && is_name_char(*b) && is_name_char(*c),
+        [a, b, c, d, ..] => is_lead_char(*a)
+            && is_name_char(*b)
+            && is_name_char(*c)
+            && is_name_char(*d),
     }
 }
 

@@ -1,13 +1,20 @@
 //! Name segments.
 
 ghost use Rattle.std.specs.Prelude.{◌≡◌, if◌then◌else◌, Some, None, IsTrue};
+ghost use Rattle.std.specs.Cmp.{partial_order_from_agreeing_total};
+ghost use Rattle.std.specs.Cmp.Lexicographic.{nat_list_cmp_total};
+ghost use Rattle.std.specs.Cmp.Rules.{comparing};
+ghost use Rattle.std.specs.Ordering.{as_partial_cmp};
+ghost use Rattle.std.proofs.Common.{rules};
 ghost use Rattle.acpi_name.specs.Names.{is_segment, is_lead_char, is_name_char};
+ghost use Rattle.acpi_name.specs.Paths.{segment_cmp};
 
+use std::cmp::Ordering;
 use std::marker::Model;
 
 /// A name segment (ACPI 6.5, 20.2.2 NameSeg): four bytes, ordered by them. The first is A to Z or `_`,
 /// the others are A to Z, 0 to 9 or `_`.
-#[derive(Debug, Clone, Copy, PartialEq, Eq, PartialOrd, Ord)]
+#[derive(Debug, Clone, Copy, PartialEq, Eq)]
 pub struct Seg {
     bytes: [u8; 4],
 }
@@ -28,18 +35,44 @@ impl Model for Seg {
     ghost inverse = { λ b. record { bytes = b } };
 }
 
-/// Whether the byte may begin a segment.
-pub(crate) fn is_lead(b: u8) -> bool
+impl PartialOrd for Seg {
+    ghost partial_cmp = { as_partial_cmp segment_cmp };
+
+    ghost laws = { partial_order_from_agreeing_total segment_cmp nat_list_cmp_total (Prim.search (comparing, rules)) (Prim.search (comparing, rules)) };
+
+    fn partial_cmp(&self, other: &Seg) -> Option<Ordering> {
+        Some(self.cmp(other))
+    }
+}
+
+impl Ord for Seg {
+    ghost cmp = { segment_cmp };
+
+    ghost total = { nat_list_cmp_total };
+
+    ghost matches_partial_cmp = { Prim.search (comparing, rules) };
+
+    ghost matches_eq = { Prim.search (comparing, rules) };
+
+    // One comparison of numbers in place of one for each byte.
+    fn cmp(&self, other: &Seg) -> Ordering {
+        u32::from_be_bytes(self.bytes()).cmp(&u32::from_be_bytes(other.bytes()))
+    }
+}
+
+/// Whether the byte may begin a segment (ACPI 6.5, 20.2.2 LeadNameChar): A to Z or `_`.
+pub fn is_lead_char(b: u8) -> bool
     ensures { result ≡ is_lead_char b }
 {
     (b'A' <= b && b <= b'Z') || b == b'_'
 }
 
-/// Whether the byte may stand in a segment behind the first.
-pub(crate) fn is_rest(b: u8) -> bool
+/// Whether the byte may stand in a segment behind the first (ACPI 6.5, 20.2.2 NameChar): A to Z, 0 to 9
+/// or `_`.
+pub fn is_name_char(b: u8) -> bool
     ensures { result ≡ is_name_char b }
 {
-    is_lead(b) || (b'0' <= b && b <= b'9')
+    is_lead_char(b) || (b'0' <= b && b <= b'9')
 }
 
 impl Seg {
@@ -48,7 +81,7 @@ impl Seg {
         ensures { result ≡ (if is_segment bytes then Some bytes else None) }
     {
         let [a, b, c, d] = bytes;
-        if is_lead(a) && is_rest(b) && is_rest(c) && is_rest(d) {
+        if is_lead_char(a) && is_name_char(b) && is_name_char(c) && is_name_char(d) {
             Some(Seg { bytes })
         } else {
             None

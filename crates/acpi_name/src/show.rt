@@ -1,8 +1,9 @@
 //! Printed segments, paths and names.
 
-ghost use Rattle.std.specs.Prelude.{Some, replicate};
+ghost use Rattle.std.specs.Prelude.{◌≡◌, Some, IsTrue, replicate};
 ghost use Rattle.std.specs.Fmt.{WritesOnOk};
 ghost use Rattle.acpi_name.specs.NameRefs.{name_parts};
+ghost use Rattle.acpi_name.specs.Names.{AreSegments, is_segment};
 ghost use Rattle.acpi_name.specs.Text.{path_text, name_text, dotted};
 
 use crate::name::{Name, NameRef};
@@ -15,10 +16,7 @@ impl fmt::Display for Seg {
 
     fn fmt<W: fmt::Write>(&self, f: &mut fmt::Formatter<W>) -> fmt::Result {
         let bytes = self.bytes();
-        match std::str::from_utf8(&bytes) {
-            Ok(text) => f.write_str(text),
-            Err(_) => Err(fmt::Error),
-        }
+        f.write_str(text_of(&bytes))
     }
 }
 
@@ -64,6 +62,17 @@ impl fmt::Display for Name {
     }
 }
 
+// The text of a segment: its characters are ASCII.
+fn text_of(segment: &[u8; 4]) -> &str
+    requires { IsTrue (is_segment segment.now) }
+    ensures { result.now ≡ segment.now }
+{
+    match std::str::from_utf8(segment) {
+        Ok(text) => text,
+        Err(_) => unreachable!(),
+    }
+}
+
 fn put_carets<W: fmt::Write>(f: &mut fmt::Formatter<W>, count: usize) -> fmt::Result
     ensures { WritesOnOk W.write_str_gives f.old result (replicate count 94) f.new }
 {
@@ -73,25 +82,17 @@ fn put_carets<W: fmt::Write>(f: &mut fmt::Formatter<W>, count: usize) -> fmt::Re
     Ok(())
 }
 
-fn put_chunk<W: fmt::Write>(f: &mut fmt::Formatter<W>, chunk: &[u8; 4]) -> fmt::Result
-    ensures { WritesOnOk W.write_str_gives f.old result chunk.now f.new }
-{
-    match std::str::from_utf8(chunk) {
-        Ok(text) => f.write_str(text),
-        Err(_) => Err(fmt::Error),
-    }
-}
-
 fn put_dotted<W: fmt::Write>(f: &mut fmt::Formatter<W>, segs: &[[u8; 4]]) -> fmt::Result
+    requires { AreSegments segs.now }
     ensures { WritesOnOk W.write_str_gives f.old result (dotted segs.now) f.new }
 {
     match segs {
         [] => Ok(()),
         [first, rest @ ..] => {
-            put_chunk(f, first)?;
+            f.write_str(text_of(first))?;
             for seg in rest {
                 f.write_str(".")?;
-                put_chunk(f, seg)?;
+                f.write_str(text_of(seg))?;
             }
             Ok(())
         }
