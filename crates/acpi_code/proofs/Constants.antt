@@ -15,15 +15,15 @@ use Rattle.acpi_code.proofs.Numbers.{byte_sound, number_complete, number_sound}
 -- ---- complete
 
 -- the form of a constant
-abbrev pub int_form : Int → ConstantForm
-int_form Zero = forms.Zero
-int_form One = forms.One
-int_form Ones = forms.Ones
-int_form Revision = forms.Revision
-int_form (Byte n) = forms.Byte
-int_form (Word n) = forms.Word
-int_form (DWord n) = forms.DWord
-int_form (QWord n) = forms.QWord
+abbrev pub form_of : Int → ConstantForm
+form_of Zero = forms.Zero
+form_of One = forms.One
+form_of Ones = forms.Ones
+form_of Revision = forms.Revision
+form_of (Byte n) = forms.Byte
+form_of (Word n) = forms.Word
+form_of (DWord n) = forms.DWord
+form_of (QWord n) = forms.QWord
 
 pub int_long : (i : Int) (bytes : List ℕ) → SpellsInt i bytes → 0 < length bytes
 int_long Zero bytes h = rw h (omega arith)
@@ -37,18 +37,18 @@ int_long (QWord n) bytes h = rw h.2 (omega arith)
 
 -- its opcode begins there, and what is behind that is read
 abbrev pub IntOpens : ℕ → Int → List ℕ → List ℕ → Type 0
-IntOpens end i bytes rest = (more : List ℕ) × (opcode_at end (bytes ++ rest) ≡ Ok (opcodes.Constant (int_form i), more)) × (constant_at (int_form i) end more ≡ Ok (i, rest))
+IntOpens end i bytes rest = (more : List ℕ) × (opcode_at end (bytes ++ rest) ≡ Ok (opcodes.Constant (form_of i), more)) × (constant_at (form_of i) end more ≡ Ok (i, rest))
 
-pub int_complete : (i : Int) (end : ℕ) (bytes rest : List ℕ) → SpellsInt i bytes → IntOpens end i bytes rest
+pub int_opens : (i : Int) (end : ℕ) (bytes rest : List ℕ) → SpellsInt i bytes → IntOpens end i bytes rest
 unfolding byte_at
-int_complete Zero end bytes rest h = (rest, rw h (opens end (opcodes.Constant forms.Zero) rest refl), refl)
-int_complete One end bytes rest h = (rest, rw h (opens end (opcodes.Constant forms.One) rest refl), refl)
-int_complete Ones end bytes rest h = (rest, rw h (opens end (opcodes.Constant forms.Ones) rest refl), refl)
-int_complete Revision end bytes rest h = (rest, rw h (opens end (opcodes.Constant forms.Revision) rest refl), refl)
-int_complete (Byte n) end bytes rest h = (n ∷ rest, rw h (opens end (opcodes.Constant forms.Byte) (n ∷ rest) refl), refl)
-int_complete (Word n) end bytes rest h = (h.0 ++ rest, rw h.2 (opens end (opcodes.Constant forms.Word) (h.0 ++ rest) refl), rw (number_complete 2 n end h.0 rest h.1) refl)
-int_complete (DWord n) end bytes rest h = (h.0 ++ rest, rw h.2 (opens end (opcodes.Constant forms.DWord) (h.0 ++ rest) refl), rw (number_complete 4 n end h.0 rest h.1) refl)
-int_complete (QWord n) end bytes rest h = (h.0 ++ rest, rw h.2 (opens end (opcodes.Constant forms.QWord) (h.0 ++ rest) refl), rw (number_complete 8 n end h.0 rest h.1) refl)
+int_opens Zero end bytes rest h = (rest, rw h (opens end (opcodes.Constant forms.Zero) rest refl), refl)
+int_opens One end bytes rest h = (rest, rw h (opens end (opcodes.Constant forms.One) rest refl), refl)
+int_opens Ones end bytes rest h = (rest, rw h (opens end (opcodes.Constant forms.Ones) rest refl), refl)
+int_opens Revision end bytes rest h = (rest, rw h (opens end (opcodes.Constant forms.Revision) rest refl), refl)
+int_opens (Byte n) end bytes rest h = (n ∷ rest, rw h (opens end (opcodes.Constant forms.Byte) (n ∷ rest) refl), refl)
+int_opens (Word n) end bytes rest h = (h.0 ++ rest, rw h.2 (opens end (opcodes.Constant forms.Word) (h.0 ++ rest) refl), rw (number_complete 2 n end h.0 rest h.1) refl)
+int_opens (DWord n) end bytes rest h = (h.0 ++ rest, rw h.2 (opens end (opcodes.Constant forms.DWord) (h.0 ++ rest) refl), rw (number_complete 4 n end h.0 rest h.1) refl)
+int_opens (QWord n) end bytes rest h = (h.0 ++ rest, rw h.2 (opens end (opcodes.Constant forms.QWord) (h.0 ++ rest) refl), rw (number_complete 8 n end h.0 rest h.1) refl)
 
 -- ---- sound
 

@@ -23,9 +23,9 @@ pub name_in_complete : (end : ℕ) (n : NameParts) (a rest : List ℕ) → Spell
 unfolding name_in
 name_in_complete end n a rest h = rw (name_again n a rest h) refl
 
-pub seg_in_complete : (end : ℕ) (s rest : List ℕ) → is_segment s ≡ true → segment_in end (s ++ rest) ≡ Ok (s, rest)
+pub segment_in_complete : (end : ℕ) (s rest : List ℕ) → is_segment s ≡ true → segment_in end (s ++ rest) ≡ Ok (s, rest)
 unfolding segment_in
-seg_in_complete end s rest h = rw (segment_again s rest h) refl
+segment_in_complete end s rest h = rw (segment_again s rest h) refl
 
 -- ---- sound
 

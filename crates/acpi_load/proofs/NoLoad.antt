@@ -4,8 +4,7 @@ use Rattle.acpi_table.specs.declared.tables.TableFault.{TableFault}
 use Rattle.acpi_table.specs.Tables.{table_at}
 use Rattle.acpi_tree.specs.Tree.{ItemTrees}
 use Rattle.acpi_terms.specs.Spelling.{SpellsItems, items_height}
-use Rattle.acpi_terms.specs.Reading.{Fault}
-use Rattle.acpi_terms.proofs.ItemAgain.{code_again}
+use Rattle.acpi_terms.proofs.OneTree.{one_item_tree}
 use Rattle.acpi_load.specs.declared.fault.LoadReason.{LoadReason}
 use Rattle.acpi_load.specs.declared.fault.LoadReason.TheVariants.{Table, NotDsdt, NotSsdt, Trailing, Item, Refused}
 use Rattle.acpi_load.specs.declared.fault.LoadFault.{LoadFault}
@@ -19,15 +18,9 @@ use Rattle.acpi_load.specs.Pass.{external_counts}
 use Rattle.acpi_load.specs.Laws.{OneListing, OneLoad}
 use Rattle.acpi_load.proofs.Unique.{justified_once, refused_alone}
 
-abbrev reading : ItemTrees → Result ItemTrees Fault
-reading is = Ok is
-
 -- at most one tree stands for a code
 one : (code : List ℕ) (is js : ItemTrees) → SpellsItems is code → SpellsItems js code → is ≡ js
-one code is js h k =
-    let depth = items_height is + items_height js in
-    let both : reading is ≡ reading js = sym (code_again is depth code h (omega arith)) ∙ code_again js depth code k (omega arith) in
-    cc
+one code is js h k = one_item_tree code is js h k
 
 abbrev Cut : Type 0
 Cut = Result (List ℕ × List ℕ) TableFault

@@ -8,10 +8,12 @@ use Rattle.acpi_name.proofs.NameFaults.{failed, ok_no_err}
 use Rattle.acpi_name.specs.declared.reading.NameFault.TheVariants.{BadChar}
 use Rattle.acpi_name.specs.steps.Reading.{segment_at, segments_at, path_at, relative_at, name_at}
 use Rattle.acpi_tree.specs.Tree.{FieldTree, unit, reserved, access, connect_name, connect_buffer, extended}
-use Rattle.acpi_terms.specs.Reading.{byte_at, bytes_in, connect_at, connect_name_at, unit_at, field_at, fields_in, name_leaf, seg_leaf, byte_leaf, bits_leaf, const_leaf}
-use Rattle.acpi_terms.specs.Spelling.{SpellsValues, SpellsField, SpellsFields}
-use Rattle.acpi_terms.proofs.PartsAgain.{plain_again, packed_again}
-use Rattle.acpi_terms.proofs.EachAgain.{each_again, all_at}
+use Rattle.acpi_code.proofs.Lists.{each_complete, all_at}
+use Rattle.acpi_code.specs.steps.Reading.{byte_at}
+use Rattle.acpi_terms.proofs.Arguments.{plain_complete, packed_complete}
+use Rattle.acpi_terms.specs.Forms.{name_arg, segment_arg, byte_arg, bits_arg, const_arg}
+use Rattle.acpi_terms.specs.Spelling.{SpellsArguments, SpellsField, SpellsFields}
+use Rattle.acpi_terms.specs.steps.Reading.{bytes_in, connect_at, connect_name_at, unit_at, field_at, fields_in}
 
 -- ---- what begins with neither of the bytes 00 to 03, and with no 11
 
@@ -59,27 +61,27 @@ connects : (end : ℕ) (rest : List ℕ) → field_at end (2 ∷ rest) ≡ conne
 unfolding field_at byte_at
 connects end rest = refl
 
-pub field_again : (e : FieldTree) (end : ℕ) (a rest : List ℕ) → SpellsField e a → field_at end (a ++ rest) ≡ Ok (e, rest)
+pub field_complete : (e : FieldTree) (end : ℕ) (a rest : List ℕ) → SpellsField e a → field_at end (a ++ rest) ≡ Ok (e, rest)
 unfolding field_at byte_at connect_at
-field_again (unit s bits) end a rest h =
+field_complete (unit s bits) end a rest h =
     let v = h.1 in
     let whole : a ++ rest ≡ s ++ (v.1 ++ rest) = rw (h.2, v.4, v.2.1, append_assoc s v.1 rest) refl in
     unit_here end (a ++ rest) (rw whole (lead_of_segment s (v.1 ++ rest) v.2.0))
-    ∙ rw h.2 (plain_again (seg_leaf ∷ bits_leaf ∷ []) (λ v. unit v.0 v.1.0) 0 end (s, (bits, tt)) h.0 rest (omega arith) h.1)
-field_again (reserved bits) end a rest h =
-    rw h.2 (plain_again (bits_leaf ∷ []) (λ v. reserved v.0) 0 end (bits, tt) h.0 rest (omega arith) h.1)
-field_again (access kind attribute) end a rest h =
-    rw h.2 (plain_again (byte_leaf ∷ byte_leaf ∷ []) (λ v. access v.0 v.1.0) 0 end (kind, (attribute, tt)) h.0 rest (omega arith) h.1)
-field_again (connect_name n) end a rest h =
+    ∙ rw h.2 (plain_complete (segment_arg ∷ bits_arg ∷ []) (λ v. unit v.0 v.1.0) 0 end (s, (bits, tt)) h.0 rest (omega arith) h.1)
+field_complete (reserved bits) end a rest h =
+    rw h.2 (plain_complete (bits_arg ∷ []) (λ v. reserved v.0) 0 end (bits, tt) h.0 rest (omega arith) h.1)
+field_complete (access kind attribute) end a rest h =
+    rw h.2 (plain_complete (byte_arg ∷ byte_arg ∷ []) (λ v. access v.0 v.1.0) 0 end (kind, (attribute, tt)) h.0 rest (omega arith) h.1)
+field_complete (connect_name n) end a rest h =
     let v = h.1 in
     let only : h.0 ≡ v.0 = v.4 ∙ rw v.3 (append-nil v.0) in
     rw (h.2, only) (connects end (v.0 ++ rest) ∙ connect_here end n v.0 rest v.2
-    ∙ plain_again (name_leaf ∷ []) (λ v. connect_name v.0) 0 end (n, tt) v.0 rest (omega arith) (subst (SpellsValues (name_leaf ∷ []) (n, tt)) only h.1))
-field_again (connect_buffer size content) end a rest h =
+    ∙ plain_complete (name_arg ∷ []) (λ v. connect_name v.0) 0 end (n, tt) v.0 rest (omega arith) (subst (SpellsArguments (name_arg ∷ []) (n, tt)) only h.1))
+field_complete (connect_buffer size content) end a rest h =
     let p = h.4 in
-    rw p.whole (packed_again (const_leaf ∷ []) (λ v content. connect_buffer v.0 content) 0 bytes_in end (size, tt) content p.len h.0 h.1 rest (omega arith) h.2 (ap Ok h.3) p.spells_len)
-field_again (extended kind attribute len) end a rest h =
-    rw h.2 (plain_again (byte_leaf ∷ byte_leaf ∷ byte_leaf ∷ []) (λ v. extended v.0 v.1.0 v.1.1.0) 0 end (kind, (attribute, (len, tt))) h.0 rest (omega arith) h.1)
+    rw p.whole (packed_complete (const_arg ∷ []) (λ v content. connect_buffer v.0 content) 0 bytes_in end (size, tt) content p.len h.0 h.1 rest (omega arith) h.2 (ap Ok h.3) p.spells_len)
+field_complete (extended kind attribute len) end a rest h =
+    rw h.2 (plain_complete (byte_arg ∷ byte_arg ∷ byte_arg ∷ []) (λ v. extended v.0 v.1.0 v.1.1.0) 0 end (kind, (attribute, (len, tt))) h.0 rest (omega arith) h.1)
 
 pub field_long : (e : FieldTree) (a : List ℕ) → SpellsField e a → 0 < length a
 field_long (unit s bits) a h =
@@ -94,6 +96,6 @@ field_long (connect_buffer size content) a h = rw h.4.whole (omega arith)
 field_long (extended kind attribute len) a h = rw h.2 (omega arith)
 
 -- field elements that are spelled are read
-pub fields_again : (es : List FieldTree) (end : ℕ) (b : List ℕ) → SpellsFields es b → fields_in end b ≡ Ok es
-fields_again es end b h =
-    all_at (field_at end) b es (each_again SpellsField (field_at end) field_long (λ e a rest s. field_again e end a rest s) es b h)
+pub fields_complete : (es : List FieldTree) (end : ℕ) (b : List ℕ) → SpellsFields es b → fields_in end b ≡ Ok es
+fields_complete es end b h =
+    all_at (field_at end) b es (each_complete SpellsField (field_at end) field_long (λ e a rest s. field_complete e end a rest s) es b h)

@@ -7,10 +7,11 @@ use Rattle.byteorder.specs.Endian.{little_number}
 use Rattle.acpi_name.specs.Names.{NameParts}
 use Rattle.acpi_name.specs.Spelling.{SpellsName, SpellsPath}
 use Rattle.acpi_table.specs.PkgLength.{SpellsPkgLength}
-use Rattle.acpi_terms.specs.Rows.{is_name_start}
-use Rattle.acpi_terms.specs.Reading.{Leaf, name_leaf, byte_leaf, int_leaf, Values}
+use Rattle.acpi_code.specs.Opcodes.{is_name_start}
+use Rattle.acpi_code.specs.Spelling.{IsText, SpellsTermName, SpellsEach, Packs}
+use Rattle.acpi_terms.specs.Forms.{FixedArgument, name_arg, byte_arg, int_arg, Values}
+use Rattle.acpi_terms.specs.Spelling.{SpellsPacked, SpellsData, SpellsElem, SpellsElems, SpellsField, SpellsFields, SpellsExternal, SpellsItem, SpellsItems}
 use Rattle.acpi_tree.specs.Tree.{DataTree, int, str, buffer, pkg, var_pkg, ElemTree, of_data, of_name, ElemTrees, no_elems, elem, FieldTree, unit, reserved, access, connect_name, connect_buffer, extended, ExternalParts, ItemTree, name, scope, method, external, external_block, create, create_field, mutex, event, region, field, index_field, bank_field, device, processor, power, thermal, ItemTrees, no_items, item}
-use Rattle.acpi_terms.specs.Spelling.{IsText, SpellsTermName, SpellsEach, Packs, SpellsPacked, SpellsData, SpellsElem, SpellsElems, SpellsField, SpellsFields, SpellsExternal, SpellsItem, SpellsItems}
 use Rattle.acpi_tree.specs.Fits.{text_fits, is_null_name, data_fits, elem_fits, elems_fit, bits_fit, field_fits, external_fits, item_fits, items_fit}
 
 abbrev pub AreBytes : List ℕ → Type 0
@@ -39,23 +40,23 @@ packed opcode content bytes p all = (parts p.len content (p.len ++ content) refl
 
 -- ---- package lengths, names, text
 
-wide : (n lead k : ℕ) (tail : List ℕ) → k ≤ 3 → AreBytes tail → length tail ≡ k → lead % 64 < 16 → n ≡ lead % 64 + 16 * little_number k tail → n ≤ 268435455
-wide n lead zero tail le all is low e = let f : n ≡ lead % 64 + 16 * 0 = e in omega (arith, f, low)
-wide n lead (suc zero) (a ∷ []) le all is low e =
-    let f : n ≡ lead % 64 + 16 * (a + 256 * 0) = e in let h : a < 256 = all.0 in omega (arith, f, low, h)
-wide n lead (suc (suc zero)) (a ∷ b ∷ []) le all is low e =
-    let f : n ≡ lead % 64 + 16 * (a + 256 * (b + 256 * 0)) = e in let h : a < 256 = all.0 in let i : b < 256 = all.1.0 in omega (arith, f, low, h, i)
-wide n lead (suc (suc (suc zero))) (a ∷ b ∷ c ∷ []) le all is low e =
-    let f : n ≡ lead % 64 + 16 * (a + 256 * (b + 256 * (c + 256 * 0))) = e in let h : a < 256 = all.0 in let i : b < 256 = all.1.0 in let j : c < 256 = all.1.1.0 in omega (arith, f, low, h, i, j)
-wide n lead (suc (suc (suc (suc k)))) tail le all is low e = absurd (omega (arith, le))
-wide n lead k tail le all is low e = absurd (omega (arith, is))
+wide : (n opcode k : ℕ) (tail : List ℕ) → k ≤ 3 → AreBytes tail → length tail ≡ k → opcode % 64 < 16 → n ≡ opcode % 64 + 16 * little_number k tail → n ≤ 268435455
+wide n opcode zero tail le all is low e = let f : n ≡ opcode % 64 + 16 * 0 = e in omega (arith, f, low)
+wide n opcode (suc zero) (a ∷ []) le all is low e =
+    let f : n ≡ opcode % 64 + 16 * (a + 256 * 0) = e in let h : a < 256 = all.0 in omega (arith, f, low, h)
+wide n opcode (suc (suc zero)) (a ∷ b ∷ []) le all is low e =
+    let f : n ≡ opcode % 64 + 16 * (a + 256 * (b + 256 * 0)) = e in let h : a < 256 = all.0 in let i : b < 256 = all.1.0 in omega (arith, f, low, h, i)
+wide n opcode (suc (suc (suc zero))) (a ∷ b ∷ c ∷ []) le all is low e =
+    let f : n ≡ opcode % 64 + 16 * (a + 256 * (b + 256 * (c + 256 * 0))) = e in let h : a < 256 = all.0 in let i : b < 256 = all.1.0 in let j : c < 256 = all.1.1.0 in omega (arith, f, low, h, i, j)
+wide n opcode (suc (suc (suc (suc k)))) tail le all is low e = absurd (omega (arith, le))
+wide n opcode k tail le all is low e = absurd (omega (arith, is))
 
 pub length_fits : (n : ℕ) (bytes : List ℕ) → SpellsPkgLength n bytes → AreBytes bytes → bits_fit n ≡ true
 length_fits n [] h all = absurd h
-length_fits n (lead ∷ tail) h all = le-leb n 268435455 (elim h [ inl s ↦ let lt : lead < 64 = s.0 in omega (arith, lt, s.2) | inr l ↦ few l ])
+length_fits n (opcode ∷ tail) h all = le-leb n 268435455 (elim h [ inl s ↦ let lt : opcode < 64 = s.0 in omega (arith, lt, s.2) | inr l ↦ few l ])
   where
-    few : ((64 ≤ lead) × (lead % 64 < 16) × (length tail ≡ lead / 64) × (n ≡ lead % 64 + 16 * little_number (lead / 64) tail)) → n ≤ 268435455
-    few l = let byte : lead < 256 = all.0 in let le : lead / 64 ≤ 3 = omega (arith, byte) in wide n lead (lead / 64) tail le all.1 l.2 l.1 l.3
+    few : ((64 ≤ opcode) × (opcode % 64 < 16) × (length tail ≡ opcode / 64) × (n ≡ opcode % 64 + 16 * little_number (opcode / 64) tail)) → n ≤ 268435455
+    few l = let byte : opcode < 256 = all.0 in let le : opcode / 64 ≤ 3 = omega (arith, byte) in wide n opcode (opcode / 64) tail le all.1 l.2 l.1 l.3
 
 null_is : (n : NameParts) (a : List ℕ) → SpellsName n a → n.rooted ≡ false → n.parents ≡ 0 → length n.segments ≡ 0 → a ≡ 0 ∷ []
 null_is n a h rooted parents none = h.whole ∙ rw (rooted, parents) (path_is h.spells_path)
@@ -88,7 +89,7 @@ text_all (b ∷ text) h = both (both (lt-ltb 0 b h.0.0) (lt-ltb b 128 h.0.1)) (t
 mutual
   pub data_fit : (d : DataTree) (bytes : List ℕ) → SpellsData d bytes → AreBytes bytes → data_fits d ≡ true
   data_fit (int i) bytes h all = refl
-  data_fit (str text) bytes h all = text_all text h.0
+  data_fit (str text) bytes h all = text_all text h.1.0
   data_fit (buffer size content) bytes h all = refl
   data_fit (pkg count es) bytes h all = elems_are_fit es h.1 h.3 (parts h.0 h.1 (h.0 ++ h.1) refl (packed (18 ∷ []) (h.0 ++ h.1) bytes h.4 all)).1
   data_fit (var_pkg count es) bytes h all = elems_are_fit es h.1 h.3 (parts h.0 h.1 (h.0 ++ h.1) refl (packed (19 ∷ []) (h.0 ++ h.1) bytes h.4 all)).1
@@ -130,7 +131,7 @@ external_fit x bytes h all = le-leb x.args 7 h.1.3.3.2.0
 
 -- ---- items
 
-fields_fit : (opcode : List ℕ) (ks : List Leaf) (v : Values ks) (es : List FieldTree) (bytes : List ℕ) → SpellsPacked opcode ks v (λ b. SpellsFields es b) bytes → AreBytes bytes → list_all field_fits es ≡ true
+fields_fit : (opcode : List ℕ) (ks : List FixedArgument) (v : Values ks) (es : List FieldTree) (bytes : List ℕ) → SpellsPacked opcode ks v (λ b. SpellsFields es b) bytes → AreBytes bytes → list_all field_fits es ≡ true
 fields_fit opcode ks v es bytes h all =
     each_fits SpellsField field_fits field_fit es h.1 h.3 (parts h.0 h.1 (h.0 ++ h.1) refl (packed opcode (h.0 ++ h.1) bytes h.4 all)).1
 
@@ -151,9 +152,9 @@ mutual
   item_fit (mutex n flags) bytes h all = refl
   item_fit (event n) bytes h all = refl
   item_fit (region n space offset len) bytes h all = refl
-  item_fit (field r flags es) bytes h all = fields_fit (91 ∷ 129 ∷ []) (name_leaf ∷ byte_leaf ∷ []) (r, (flags, tt)) es bytes h all
-  item_fit (index_field i d flags es) bytes h all = fields_fit (91 ∷ 134 ∷ []) (name_leaf ∷ name_leaf ∷ byte_leaf ∷ []) (i, (d, (flags, tt))) es bytes h all
-  item_fit (bank_field r bank value flags es) bytes h all = fields_fit (91 ∷ 135 ∷ []) (name_leaf ∷ name_leaf ∷ int_leaf ∷ byte_leaf ∷ []) (r, (bank, (value, (flags, tt)))) es bytes h all
+  item_fit (field r flags es) bytes h all = fields_fit (91 ∷ 129 ∷ []) (name_arg ∷ byte_arg ∷ []) (r, (flags, tt)) es bytes h all
+  item_fit (index_field i d flags es) bytes h all = fields_fit (91 ∷ 134 ∷ []) (name_arg ∷ name_arg ∷ byte_arg ∷ []) (i, (d, (flags, tt))) es bytes h all
+  item_fit (bank_field r bank value flags es) bytes h all = fields_fit (91 ∷ 135 ∷ []) (name_arg ∷ name_arg ∷ int_arg ∷ byte_arg ∷ []) (r, (bank, (value, (flags, tt)))) es bytes h all
   item_fit (device n is) bytes h all = items_are_fit is h.1 h.3 (filled (91 ∷ 130 ∷ []) h.0 h.1 bytes h.4 all)
   item_fit (processor n id block len is) bytes h all = items_are_fit is h.1 h.3 (filled (91 ∷ 131 ∷ []) h.0 h.1 bytes h.4 all)
   item_fit (power n level order is) bytes h all = items_are_fit is h.1 h.3 (filled (91 ∷ 132 ∷ []) h.0 h.1 bytes h.4 all)

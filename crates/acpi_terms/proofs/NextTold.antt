@@ -2,15 +2,16 @@
 use Rattle.std.proofs.Common.{◌≡◌, ℕ, zero, suc, ◌-◌, ◌≤◌, ◌<◌, Bool, true, false, cond, eqb, Option, Some, None, List, [], ◌∷◌, ◌++◌, length, Result, Ok, Err, refl, ap, append_assoc, arith}
 use Rattle.std.proofs.lemmas.List.{length-append}
 use Rattle.acpi_terms.specs.declared.fault.ItemReason.{ItemReason}
-use Rattle.acpi_terms.specs.declared.lead.Lead.{Lead}
-use Rattle.acpi_terms.specs.declared.lead.Lead.TheVariants as leads
-use Rattle.acpi_terms.specs.Rows.{plain_lead_of, extended_lead_of}
-use Rattle.acpi_tree.specs.Tree.{ItemTree, ItemTrees, no_items, item}
-use Rattle.acpi_terms.specs.Reading.{Reading, Fault, fault_at, byte_at, extended_lead_at, lead_at, item_by, items_with, item_at, items_at}
+use Rattle.acpi_code.specs.declared.opcode.Opcode.{Opcode}
+use Rattle.acpi_code.specs.declared.opcode.Opcode.TheVariants as opcodes
+use Rattle.acpi_code.proofs.Lists.{StopsAt, stops_here, stops_behind}
+use Rattle.acpi_code.specs.Opcodes.{plain_opcode_of, extended_opcode_of, extended_opcode, first_opcode}
+use Rattle.acpi_code.specs.steps.Reading.{Reading, byte_at, extended_opcode_at, opcode_at}
+use Rattle.acpi_terms.proofs.ItemAgain.{item_long, item_complete}
+use Rattle.acpi_terms.specs.Faults.{refusal, Refused}
 use Rattle.acpi_terms.specs.Spelling.{SpellsItems, items_height}
-use Rattle.acpi_terms.specs.Faults.{extended_lead, lead_of, refusal, Refused}
-use Rattle.acpi_terms.proofs.EachAgain.{StopsAt, stops_here, stops_behind}
-use Rattle.acpi_terms.proofs.ItemAgain.{item_long, item_again}
+use Rattle.acpi_terms.specs.steps.Reading.{Fault, fault_at, item_by, items_with, item_at, items_at}
+use Rattle.acpi_tree.specs.Tree.{ItemTree, ItemTrees, no_items, item}
 
 abbrev known : {A : Type 0} → A → Option A
 known x = Some x
@@ -22,52 +23,52 @@ none_known : {A : Type 0} (x : A) → None ≡ known x → ⊥
 none_known x e = cc
 
 -- what begins there is read
-lead_opens : (end : ℕ) (w : List ℕ) (first : Lead) → lead_of w ≡ known first → (rest : List ℕ) × (lead_at end w ≡ Ok (first, rest))
-unfolding lead_at byte_at
-lead_opens end [] first e = absurd (none_known first e)
-lead_opens end (b ∷ w) first e = by_test (eqb b 91) refl e
+opcode_opens : (end : ℕ) (w : List ℕ) (first : Opcode) → first_opcode w ≡ known first → (rest : List ℕ) × (opcode_at end w ≡ Ok (first, rest))
+unfolding opcode_at byte_at
+opcode_opens end [] first e = absurd (none_known first e)
+opcode_opens end (b ∷ w) first e = by_test (eqb b 91) refl e
   where
-    extended_opens : (w : List ℕ) → extended_lead w ≡ known first → (rest : List ℕ) × (extended_lead_at end w ≡ Ok (first, rest))
+    extended_opens : (w : List ℕ) → extended_opcode w ≡ known first → (rest : List ℕ) × (extended_opcode_at end w ≡ Ok (first, rest))
     extended_opens [] e = absurd (none_known first e)
-    extended_opens (c ∷ w) e = (w, ap (λ (l : Lead). Ok (l, w)) (known_is (extended_lead_of c) first e))
+    extended_opens (c ∷ w) e = (w, ap (λ (l : Opcode). Ok (l, w)) (known_is (extended_opcode_of c) first e))
 
-    by_test : (t : Bool) → eqb b 91 ≡ t → cond t (extended_lead w) (known (plain_lead_of b)) ≡ known first → (rest : List ℕ) × (lead_at end (b ∷ w) ≡ Ok (first, rest))
+    by_test : (t : Bool) → eqb b 91 ≡ t → cond t (extended_opcode w) (known (plain_opcode_of b)) ≡ known first → (rest : List ℕ) × (opcode_at end (b ∷ w) ≡ Ok (first, rest))
     by_test true d e = let r = extended_opens w e in (r.0, rw d r.1)
-    by_test false d e = (w, rw d (ap (λ (l : Lead). Ok (l, w)) (known_is (plain_lead_of b) first e)))
+    by_test false d e = (w, rw d (ap (λ (l : Opcode). Ok (l, w)) (known_is (plain_opcode_of b) first e)))
 
-abbrev stop : Fault → Reading ItemTree
+abbrev stop : Fault → Reading Fault ItemTree
 stop f = Err f
 
 told : (end : ℕ) (w : List ℕ) (r why : ItemReason) → known r ≡ known why → stop (fault_at end w r) ≡ stop (fault_at end w why)
 told end w r why e = ap (λ (y : ItemReason). stop (fault_at end w y)) (known_is r why e)
 
-refused_there : (inner : ℕ → List ℕ → Result ItemTrees Fault) (level end : ℕ) (w rest : List ℕ) (term : Lead) (why : ItemReason) → refusal term ≡ known why → item_by inner level end w term rest ≡ Err (fault_at end w why)
-refused_there inner level end w rest leads.DeclareName why e = absurd (none_known why e)
-refused_there inner level end w rest leads.Scope why e = absurd (none_known why e)
-refused_there inner level end w rest leads.Method why e = absurd (none_known why e)
-refused_there inner level end w rest leads.External why e = absurd (none_known why e)
-refused_there inner level end w rest leads.If why e = absurd (none_known why e)
-refused_there inner level end w rest (leads.Create k) why e = absurd (none_known why e)
-refused_there inner level end w rest leads.CreateField why e = absurd (none_known why e)
-refused_there inner level end w rest leads.Mutex why e = absurd (none_known why e)
-refused_there inner level end w rest leads.Event why e = absurd (none_known why e)
-refused_there inner level end w rest leads.Region why e = absurd (none_known why e)
-refused_there inner level end w rest leads.Field why e = absurd (none_known why e)
-refused_there inner level end w rest leads.Device why e = absurd (none_known why e)
-refused_there inner level end w rest leads.Processor why e = absurd (none_known why e)
-refused_there inner level end w rest leads.Power why e = absurd (none_known why e)
-refused_there inner level end w rest leads.Thermal why e = absurd (none_known why e)
-refused_there inner level end w rest leads.IndexField why e = absurd (none_known why e)
-refused_there inner level end w rest leads.BankField why e = absurd (none_known why e)
+refused_there : (inner : ℕ → List ℕ → Result ItemTrees Fault) (level end : ℕ) (w rest : List ℕ) (term : Opcode) (why : ItemReason) → refusal term ≡ known why → item_by inner level end w term rest ≡ Err (fault_at end w why)
+refused_there inner level end w rest opcodes.DeclareName why e = absurd (none_known why e)
+refused_there inner level end w rest opcodes.Scope why e = absurd (none_known why e)
+refused_there inner level end w rest opcodes.Method why e = absurd (none_known why e)
+refused_there inner level end w rest opcodes.External why e = absurd (none_known why e)
+refused_there inner level end w rest opcodes.If why e = absurd (none_known why e)
+refused_there inner level end w rest (opcodes.Create k) why e = absurd (none_known why e)
+refused_there inner level end w rest opcodes.CreateField why e = absurd (none_known why e)
+refused_there inner level end w rest opcodes.Mutex why e = absurd (none_known why e)
+refused_there inner level end w rest opcodes.Event why e = absurd (none_known why e)
+refused_there inner level end w rest opcodes.Region why e = absurd (none_known why e)
+refused_there inner level end w rest opcodes.Field why e = absurd (none_known why e)
+refused_there inner level end w rest opcodes.Device why e = absurd (none_known why e)
+refused_there inner level end w rest opcodes.Processor why e = absurd (none_known why e)
+refused_there inner level end w rest opcodes.Power why e = absurd (none_known why e)
+refused_there inner level end w rest opcodes.Thermal why e = absurd (none_known why e)
+refused_there inner level end w rest opcodes.IndexField why e = absurd (none_known why e)
+refused_there inner level end w rest opcodes.BankField why e = absurd (none_known why e)
 refused_there inner level end w rest term why e = told end w _ why e
 
-stops_there : (level end : ℕ) (w : List ℕ) (first : Lead) (why : ItemReason) → lead_of w ≡ known first → refusal first ≡ known why → item_at (suc level) end w ≡ Err (fault_at end w why)
+stops_there : (level end : ℕ) (w : List ℕ) (first : Opcode) (why : ItemReason) → first_opcode w ≡ known first → refusal first ≡ known why → item_at (suc level) end w ≡ Err (fault_at end w why)
 unfolding item_at
 stops_there level end w first why opens refuses =
-    let r = lead_opens end w first opens in
+    let r = opcode_opens end w first opens in
     rw r.1 (refused_there (items_with (item_at level)) level end w r.0 first why refuses)
 
-some_byte : (w : List ℕ) (first : Lead) → lead_of w ≡ known first → 0 < length w
+some_byte : (w : List ℕ) (first : Opcode) → first_opcode w ≡ known first → 0 < length w
 some_byte [] first e = absurd (none_known first e)
 some_byte (b ∷ w) first e = omega arith
 
@@ -75,7 +76,7 @@ stops_behind_items : (is : ItemTrees) (level end : ℕ) (u w : List ℕ) (f : Fa
 stops_behind_items no_items level end u w f h le some e = rw h (stops_here (item_at level end) w f some e)
 stops_behind_items (item i is) level end u w f h le some e =
     rw (h.4, append_assoc h.0 h.1 w)
-    (stops_behind (item_at level end) h.0 (h.1 ++ w) i f (item_long i h.0 h.2) (item_again i level end h.0 (h.1 ++ w) h.2 (omega arith)) (stops_behind_items is level end h.1 w f h.3 (omega arith) some e))
+    (stops_behind (item_at level end) h.0 (h.1 ++ w) i f (item_long i h.0 h.2) (item_complete i level end h.0 (h.1 ++ w) h.2 (omega arith)) (stops_behind_items is level end h.1 w f h.3 (omega arith) some e))
 
 -- the first term that is refused by itself is told, at its place
 pub next_told : (depth : ℕ) (u w : List ℕ) (is : ItemTrees) (why : ItemReason) → 0 < depth → SpellsItems is u → items_height is ≤ depth → Refused why w 0 → items_at depth (u ++ w) ≡ Err (record { reason = why; place = length u })

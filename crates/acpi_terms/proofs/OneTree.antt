@@ -1,12 +1,12 @@
 -- At most one tree is spelled by some bytes.
 use Rattle.std.proofs.Common.{◌≡◌, ℕ, ◌+◌, List, [], Result, Ok, sym, ap, ◌∙◌, arith}
 use Rattle.acpi_tree.specs.Tree.{DataTree}
-use Rattle.acpi_terms.specs.Reading.{Fault}
+use Rattle.acpi_terms.proofs.DataAgain.{data_complete}
+use Rattle.acpi_terms.proofs.FieldsAgain.{fields_complete}
+use Rattle.acpi_terms.proofs.ItemAgain.{code_complete}
 use Rattle.acpi_terms.specs.Spelling.{data_height, items_height}
+use Rattle.acpi_terms.specs.steps.Reading.{Fault}
 use Rattle.acpi_terms.specs.Laws.{OneItemTree, OneDataTree, OneFieldList}
-use Rattle.acpi_terms.proofs.DataAgain.{data_again}
-use Rattle.acpi_terms.proofs.FieldsAgain.{fields_again}
-use Rattle.acpi_terms.proofs.ItemAgain.{code_again}
 
 abbrev done : {A : Type 0} → A → Result A Fault
 done x = Ok x
@@ -20,17 +20,17 @@ alone d = Ok (end d)
 pub one_item_tree : OneItemTree
 one_item_tree code is js h k =
     let depth = items_height is + items_height js in
-    let both : done is ≡ done js = sym (code_again is depth code h (omega arith)) ∙ code_again js depth code k (omega arith) in
+    let both : done is ≡ done js = sym (code_complete is depth code h (omega arith)) ∙ code_complete js depth code k (omega arith) in
     cc
 
 pub one_data_tree : OneDataTree
 one_data_tree bytes d e h k =
     let level = data_height d + data_height e in
-    let both : alone d ≡ alone e = sym (data_again d level 0 bytes [] h (omega arith)) ∙ data_again e level 0 bytes [] k (omega arith) in
+    let both : alone d ≡ alone e = sym (data_complete d level 0 bytes [] h (omega arith)) ∙ data_complete e level 0 bytes [] k (omega arith) in
     let pair : end d ≡ end e = cc in
     ap (λ p. p.0) pair
 
 pub one_field_list : OneFieldList
 one_field_list bytes es fs h k =
-    let both : done es ≡ done fs = sym (fields_again es 0 bytes h) ∙ fields_again fs 0 bytes k in
+    let both : done es ≡ done fs = sym (fields_complete es 0 bytes h) ∙ fields_complete fs 0 bytes k in
     cc

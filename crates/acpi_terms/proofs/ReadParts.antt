@@ -7,24 +7,26 @@ use Rattle.acpi_terms.specs.declared.fault.ItemFault.{ItemFault}
 use Rattle.acpi_terms.specs.declared.fault.ItemFault.TheVariants as errors
 use Rattle.acpi_tree.specs.declared.tree.Int.{Int}
 use Rattle.acpi_tree.specs.Tree.{FieldTree}
-use Rattle.acpi_terms.specs.Reading.{Fault, Gives, OrMemory, found, const_at, field_at, int_front}
-use Rattle.acpi_terms.specs.Spelling.{SpellsInt, SpellsField}
+use Rattle.acpi_code.proofs.Readings.{Judge, Front, Position, Source, Read}
+use Rattle.acpi_code.specs.Spelling.{SpellsInt}
+use Rattle.acpi_terms.proofs.Constants.{const_complete, const_sound}
+use Rattle.acpi_terms.proofs.FieldsAgain.{field_complete}
+use Rattle.acpi_terms.proofs.FieldsTook.{field_sound}
+use Rattle.acpi_terms.proofs.Parts.{Bad}
+use Rattle.acpi_terms.specs.Faults.{OrMemory, Shows, ToldOfElem}
+use Rattle.acpi_terms.specs.Spelling.{SpellsField}
+use Rattle.acpi_terms.specs.steps.Cursor.{Gives}
+use Rattle.acpi_terms.specs.steps.Reading.{Fault, found, const_at, field_at, int_front}
 use Rattle.acpi_terms.specs.declared.fault.ItemReason.{ItemReason}
 use Rattle.acpi_terms.specs.declared.fault.ItemReason.TheVariants.{TooDeep}
-use Rattle.acpi_terms.specs.Faults.{Shows, ToldOfElem}
-use Rattle.acpi_terms.proofs.Judged.{Judge, Took, Here, Spot, Bad, Read}
-use Rattle.acpi_terms.proofs.PartsAgain.{const_again}
-use Rattle.acpi_terms.proofs.PartsTook.{const_judged}
-use Rattle.acpi_terms.proofs.FieldsAgain.{field_again}
-use Rattle.acpi_terms.proofs.FieldsTook.{field_judged}
 
 -- the bytes as a code of their own
 -- as many levels as there are bytes, so that none is lacking
-abbrev pub Whole : List ℕ → Spot
+abbrev pub Whole : List ℕ → Source
 Whole bytes = record { depth = length bytes; code = bytes }
 
-pub whole_here : (bytes : List ℕ) → Here (length bytes) (length bytes) bytes (length bytes) bytes
-whole_here bytes = record { before = []; after = []; whole = sym (append-nil bytes); ends = omega arith; start = 0; is_list = inl (refl, refl); begun = omega arith; deep = omega arith }
+pub whole_position : (bytes : List ℕ) → Position (length bytes) (length bytes) bytes (length bytes) bytes
+whole_position bytes = record { before = []; after = []; whole = sym (append-nil bytes); ends = omega arith; start = 0; is_list = inl (refl, refl); begun = omega arith; deep = omega arith }
 
 -- what stands before the last bytes of a list
 front_is : (bytes front : List ℕ) (used : ℕ) → used ≤ length bytes → bytes ≡ front ++ drop used bytes → front ≡ take used bytes
@@ -32,7 +34,7 @@ front_is bytes front used le whole =
     let size : length front ≡ used = omega (arith, ap length whole, length-append front (drop used bytes), length-drop used bytes, le) in
     sym (ap (take used) whole ∙ rw (sym size) (take-append_seam front (drop (length front) bytes)))
 
-took_front : {A : Type 0} (Spells : A → List ℕ → Type 0) (bytes : List ℕ) (x : A) (used : ℕ) → used ≤ length bytes → Took Spells bytes (x, drop used bytes) → Spells x (take used bytes)
+took_front : {A : Type 0} (Spells : A → List ℕ → Type 0) (bytes : List ℕ) (x : A) (used : ℕ) → used ≤ length bytes → Front Spells bytes (x, drop used bytes) → Spells x (take used bytes)
 took_front Spells bytes x used le t = subst (Spells x) (front_is bytes t.front used le t.whole) t.spells
 
 -- how many bytes were used
@@ -69,7 +71,7 @@ int_found_law bytes None e used = tt
 int_found_law bytes (Some x) e used =
     let r : const_at (length bytes) bytes ≡ Ok (x.0, drop x.1 bytes) = found_ok (const_at (length bytes) bytes) (x.0, drop x.1 bytes) e in
     let j : Read (Whole bytes) (length bytes) (length bytes) SpellsInt bytes (x.0, drop x.1 bytes) =
-    subst (Judge (Read (Whole bytes) (length bytes) (length bytes) SpellsInt bytes) (Bad (Whole bytes))) r (const_judged (Whole bytes) (length bytes) (length bytes) bytes (whole_here bytes)) in
+    subst (Judge (Read (Whole bytes) (length bytes) (length bytes) SpellsInt bytes) (Bad (Whole bytes))) r (const_sound (Whole bytes) (length bytes) (length bytes) bytes (whole_position bytes)) in
     took_front SpellsInt bytes x.0 x.1 used.1 j.0
 
 pub int_only_law : (bytes : List ℕ) (result : Option (Int × ℕ)) → option_map (λ x. (x.0, drop x.1 bytes)) result ≡ int_front bytes
@@ -78,7 +80,7 @@ int_only_law bytes result e used i front rest s whole = by_result result e used
   where
     front_of : int_front bytes ≡ some (i, rest)
     front_of =
-        let r : const_at (length bytes) bytes ≡ Ok (i, rest) = ap (const_at (length bytes)) whole ∙ const_again i (length bytes) front rest s in
+        let r : const_at (length bytes) bytes ≡ Ok (i, rest) = ap (const_at (length bytes)) whole ∙ const_complete i (length bytes) front rest s in
         rw r refl
 
     by_result : (result : Option (Int × ℕ)) → option_map (λ x. (x.0, drop x.1 bytes)) result ≡ int_front bytes → IfSome result (λ x. (0 < x.1) × (x.1 ≤ length bytes)) → result ≡ some (i, length front)
@@ -96,20 +98,20 @@ pub elem_found_law : {V : Type 0} (view : V → FieldTree) (bytes : List ℕ) (r
     → IfOk result (λ x. (0 < x.1) × (x.1 ≤ length bytes)) → IfOk result (λ x. SpellsField (view x.0) (take x.1 bytes))
 elem_found_law view bytes (Ok x) h used =
     let j : Read (Whole bytes) (length bytes) (length bytes) SpellsField bytes (view x.0, drop x.1 bytes) =
-    subst (Judge (Read (Whole bytes) (length bytes) (length bytes) SpellsField bytes) (Bad (Whole bytes))) h (field_judged (Whole bytes) (length bytes) (length bytes) bytes (whole_here bytes)) in
+    subst (Judge (Read (Whole bytes) (length bytes) (length bytes) SpellsField bytes) (Bad (Whole bytes))) h (field_sound (Whole bytes) (length bytes) (length bytes) bytes (whole_position bytes)) in
     took_front SpellsField bytes (view x.0) x.1 used.1 j.0
 elem_found_law view bytes (Err e) h used = tt
 
 pub elem_only_law : {V : Type 0} (view : V → FieldTree) (bytes : List ℕ) (result : Result (V × ℕ) ItemFault) → Gives (λ x. (view x.0, drop x.1 bytes)) result (field_at (length bytes) bytes)
     → IfOk result (λ x. (0 < x.1) × (x.1 ≤ length bytes)) → (e : FieldTree) (front rest : List ℕ) → SpellsField e front → bytes ≡ front ++ rest → OrMemory result (λ x. (view x.0 ≡ e) × (x.1 ≡ length front))
 elem_only_law view bytes (Ok x) h used e front rest s whole =
-    let r : field_at (length bytes) bytes ≡ done (e, rest) = ap (field_at (length bytes)) whole ∙ field_again e (length bytes) front rest s in
+    let r : field_at (length bytes) bytes ≡ done (e, rest) = ap (field_at (length bytes)) whole ∙ field_complete e (length bytes) front rest s in
     let same : done (e, rest) ≡ done (view x.0, drop x.1 bytes) = sym r ∙ h in
     let pair : (e, rest) ≡ (view x.0, drop x.1 bytes) = cc in
     (sym (ap (λ (y : FieldTree × List ℕ). y.0) pair), used_is bytes front rest x.1 used.1 whole (sym (ap (λ (y : FieldTree × List ℕ). y.1) pair)))
 elem_only_law view bytes (Err errors.Memory) h used e front rest s whole = tt
 elem_only_law view bytes (Err (errors.At why place)) h used e front rest s whole =
-    let r : field_at (length bytes) bytes ≡ done (e, rest) = ap (field_at (length bytes)) whole ∙ field_again e (length bytes) front rest s in
+    let r : field_at (length bytes) bytes ≡ done (e, rest) = ap (field_at (length bytes)) whole ∙ field_complete e (length bytes) front rest s in
     let no : done (e, rest) ≡ Err (record { reason = why; place = place }) = sym r ∙ h in
     cc
 
@@ -121,18 +123,18 @@ pub elem_faults_law : {V : Type 0} (view : V → FieldTree) (bytes : List ℕ) (
 elem_faults_law view bytes (Ok x) h = tt
 elem_faults_law view bytes (Err errors.Memory) h = tt
 elem_faults_law view bytes (Err (errors.At why place)) h =
-    no_level_told bytes why place (subst (Judge (Read (Whole bytes) (length bytes) (length bytes) SpellsField bytes) (Bad (Whole bytes))) h (field_judged (Whole bytes) (length bytes) (length bytes) bytes (whole_here bytes)))
+    no_level_told bytes why place (subst (Judge (Read (Whole bytes) (length bytes) (length bytes) SpellsField bytes) (Bad (Whole bytes))) h (field_sound (Whole bytes) (length bytes) (length bytes) bytes (whole_position bytes)))
 
 -- ---- by what is left behind them
 
 pub int_exact : (bytes rest : List ℕ) (i : Int) → const_at (length bytes) bytes ≡ Ok (i, rest) → some (i, drop (length bytes - length rest) bytes) ≡ int_front bytes
 int_exact bytes rest i h =
     let j : Read (Whole bytes) (length bytes) (length bytes) SpellsInt bytes (i, rest) =
-    subst (Judge (Read (Whole bytes) (length bytes) (length bytes) SpellsInt bytes) (Bad (Whole bytes))) h (const_judged (Whole bytes) (length bytes) (length bytes) bytes (whole_here bytes)) in
+    subst (Judge (Read (Whole bytes) (length bytes) (length bytes) SpellsInt bytes) (Bad (Whole bytes))) h (const_sound (Whole bytes) (length bytes) (length bytes) bytes (whole_position bytes)) in
     rw (h, behind_is bytes j.0.front rest j.0.whole) refl
 
 pub elem_exact : (bytes rest : List ℕ) (x : FieldTree) → field_at (length bytes) bytes ≡ Ok (x, rest) → field_at (length bytes) bytes ≡ Ok (x, drop (length bytes - length rest) bytes)
 elem_exact bytes rest x h =
     let j : Read (Whole bytes) (length bytes) (length bytes) SpellsField bytes (x, rest) =
-    subst (Judge (Read (Whole bytes) (length bytes) (length bytes) SpellsField bytes) (Bad (Whole bytes))) h (field_judged (Whole bytes) (length bytes) (length bytes) bytes (whole_here bytes)) in
+    subst (Judge (Read (Whole bytes) (length bytes) (length bytes) SpellsField bytes) (Bad (Whole bytes))) h (field_sound (Whole bytes) (length bytes) (length bytes) bytes (whole_position bytes)) in
     h ∙ rw (behind_is bytes j.0.front rest j.0.whole) refl

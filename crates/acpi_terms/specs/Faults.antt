@@ -1,118 +1,84 @@
 -- What a fault shows of the code (ACPI 6.5, 20.2).
-use Rattle.std.specs.Prelude.{◌≡◌, ◌⊎◌, ◌+◌, ◌%◌, ◌<◌, ◌≤◌, ℕ, true, false, Bool, Option, Some, None, List, [], ◌∷◌, ◌++◌, length, drop, ◌==◌, if◌then◌else◌}
-use Rattle.acpi_name.specs.Names.{is_segment_front}
-use Rattle.acpi_name.specs.Spelling.{HasBadChar, HasZeroCount, HasTooManyUps}
+use Rattle.std.specs.Prelude.{◌≡◌, ◌⊎◌, ◌+◌, ◌<◌, ℕ, true, false, Bool, Option, Some, None, List, ◌∷◌, ◌++◌, length, drop, Result, Ok, Err}
 use Rattle.acpi_table.specs.PkgLength.{SpellsPkgLength}
+use Rattle.acpi_tree.specs.Tree.{ExternalParts}
+use Rattle.acpi_code.specs.declared.opcode.Opcode.{Opcode}
+use Rattle.acpi_code.specs.declared.opcode.Opcode.TheVariants as opcodes
+use Rattle.acpi_code.specs.declared.fault.CodeReason.{CodeReason}
+use Rattle.acpi_code.specs.declared.fault.CodeReason.TheVariants as codes
+use Rattle.acpi_code.specs.declared.fault.CodeFault.{CodeFault}
+use Rattle.acpi_code.specs.Opcodes.{first_opcode}
+use Rattle.acpi_code.specs.Spelling.{SpellsEach}
+use Rattle.acpi_code.specs.Faults.{ByteAt, Begins, ShowsPart}
 use Rattle.acpi_terms.specs.declared.fault.ItemReason.{ItemReason}
 use Rattle.acpi_terms.specs.declared.fault.ItemReason.TheVariants.{Cut, BadOpcode, ReservedBits, BadName, Overrun, Computed, Alias, ModuleIf, ModuleCode, Load, NotData, TooDeep, BadString, DataRegion}
 use Rattle.acpi_terms.specs.declared.fault.ItemFault.{ItemFault}
 use Rattle.acpi_terms.specs.declared.fault.ItemFault.TheVariants as errors
-use Rattle.acpi_terms.specs.declared.lead.Lead.{Lead}
-use Rattle.acpi_terms.specs.declared.lead.Lead.TheVariants as leads
-use Rattle.acpi_terms.specs.Rows.{plain_lead_of, extended_lead_of}
-use Rattle.acpi_tree.specs.Tree.{ExternalParts}
-use Rattle.acpi_terms.specs.Spelling.{SpellsEach, SpellsExternal}
+use Rattle.acpi_terms.specs.Spelling.{SpellsExternal}
 
--- ---- what stands at a place
+-- ---- faults of parts, as faults of items
 
--- at the place stands a byte of which this is so
-abbrev pub ByteAt : (ℕ → Type 0) → List ℕ → ℕ → Type 0
-ByteAt Is code place = (b : ℕ) × (rest : List ℕ) × (drop place code ≡ b ∷ rest) × Is b
+abbrev pub reason_of : CodeReason → ItemReason
+reason_of codes.Cut = Cut
+reason_of codes.ReservedBits = ReservedBits
+reason_of codes.BadName = BadName
+reason_of codes.Overrun = Overrun
+reason_of codes.BadString = BadString
+reason_of codes.TooDeep = TooDeep
 
--- a package length that stands at a place (20.2.4)
-pub record StandsAt (code : List ℕ) (place n : ℕ) : Type 0 where
-  pub len : List ℕ
-  pub rest : List ℕ
-  pub here : drop place code ≡ len ++ rest
-  pub spells_len : SpellsPkgLength n len
-
--- What a package of the code holds, from `start` to `end`: its length stands before it, counts its own bytes
--- too, and ends the package in the code.
-pub record IsPackage (code : List ℕ) (start end : ℕ) : Type 0 where
-  pub place : ℕ
-  pub n : ℕ
-  pub stands : StandsAt code place n
-  pub starts : start ≡ place + length stands.len
-  pub ends : end ≡ place + n
-  pub ordered : start ≤ end
-  pub within : end ≤ length code
-
--- a list of terms from `start` to `end`: all of the code, or what a package of it holds
-abbrev pub IsList : List ℕ → ℕ → ℕ → Type 0
-IsList code start end = ((start ≡ 0) × (end ≡ length code)) ⊎ IsPackage code start end
-
--- a number of bytes that a place has in a list behind which it goes
-pub record IsPastEnd (code : List ℕ) (place n : ℕ) : Type 0 where
-  pub start : ℕ
-  pub end : ℕ
-  pub is_list : IsList code start end
-  pub begun : start ≤ place
-  pub before : place < end
-  pub past : end < place + n
+abbrev pub fault_of : CodeFault → ItemFault
+fault_of f = errors.At (reason_of f.reason) f.place
 
 -- ---- what begins at a place (20.3)
 
-abbrev pub extended_lead : List ℕ → Option Lead
-extended_lead [] = None
-extended_lead (b ∷ rest) = Some (extended_lead_of b)
-
--- what the bytes begin with, if they are no lone 5B
-abbrev pub lead_of : List ℕ → Option Lead
-lead_of [] = None
-lead_of (b ∷ rest) = if b == 91 then extended_lead rest else Some (plain_lead_of b)
-
--- what begins at the place passes the test
-abbrev pub Begins : (Lead → Bool) → List ℕ → ℕ → Type 0
-Begins test code place = (lead : Lead) × (lead_of (drop place code) ≡ Some lead) × (test lead ≡ true)
-
-abbrev pub is_nothing : Lead → Bool
-is_nothing leads.Nothing = true
+abbrev pub is_nothing : Opcode → Bool
+is_nothing opcodes.Nothing = true
 is_nothing _ = false
 
 -- a term that is no constant
-abbrev pub is_no_constant : Lead → Bool
-is_no_constant leads.Nothing = false
-is_no_constant (leads.Constant form) = false
+abbrev pub is_no_constant : Opcode → Bool
+is_no_constant opcodes.Nothing = false
+is_no_constant (opcodes.Constant form) = false
 is_no_constant _ = true
 
 -- a term that is no name
-abbrev pub is_other_term : Lead → Bool
-is_other_term leads.Nothing = false
-is_other_term leads.Name = false
+abbrev pub is_other_term : Opcode → Bool
+is_other_term opcodes.Nothing = false
+is_other_term opcodes.Name = false
 is_other_term _ = true
 
 -- no data
-abbrev pub is_no_data : Lead → Bool
-is_no_data (leads.Constant form) = false
-is_no_data leads.Str = false
-is_no_data leads.Buffer = false
-is_no_data leads.Package = false
-is_no_data leads.VarPackage = false
+abbrev pub is_no_data : Opcode → Bool
+is_no_data (opcodes.Constant form) = false
+is_no_data opcodes.Str = false
+is_no_data opcodes.Buffer = false
+is_no_data opcodes.Package = false
+is_no_data opcodes.VarPackage = false
 is_no_data _ = true
 
 -- what begins at an item's place and is refused there by itself, and why
-abbrev pub refusal : Lead → Option ItemReason
-refusal leads.Nothing = Some BadOpcode
-refusal leads.Alias = Some Alias
-refusal leads.Else = Some ModuleIf
-refusal leads.While = Some ModuleIf
-refusal leads.Load = Some Load
-refusal leads.DataRegion = Some DataRegion
-refusal leads.Name = Some ModuleCode
-refusal (leads.Constant form) = Some ModuleCode
-refusal leads.Str = Some ModuleCode
-refusal leads.Buffer = Some ModuleCode
-refusal leads.Package = Some ModuleCode
-refusal leads.VarPackage = Some ModuleCode
-refusal (leads.Local n) = Some ModuleCode
-refusal (leads.Arg n) = Some ModuleCode
-refusal leads.Debug = Some ModuleCode
-refusal (leads.Row op) = Some ModuleCode
+abbrev pub refusal : Opcode → Option ItemReason
+refusal opcodes.Nothing = Some BadOpcode
+refusal opcodes.Alias = Some Alias
+refusal opcodes.Else = Some ModuleIf
+refusal opcodes.While = Some ModuleIf
+refusal opcodes.Load = Some Load
+refusal opcodes.DataRegion = Some DataRegion
+refusal opcodes.Name = Some ModuleCode
+refusal (opcodes.Constant form) = Some ModuleCode
+refusal opcodes.Str = Some ModuleCode
+refusal opcodes.Buffer = Some ModuleCode
+refusal opcodes.Package = Some ModuleCode
+refusal opcodes.VarPackage = Some ModuleCode
+refusal (opcodes.Local n) = Some ModuleCode
+refusal (opcodes.Arg n) = Some ModuleCode
+refusal opcodes.Debug = Some ModuleCode
+refusal (opcodes.Operator op) = Some ModuleCode
 refusal _ = None
 
 -- such a term begins at the place
 abbrev pub Refused : ItemReason → List ℕ → ℕ → Type 0
-Refused why code place = (lead : Lead) × (lead_of (drop place code) ≡ Some lead) × (refusal lead ≡ Some why)
+Refused why code place = (lead : Opcode) × (first_opcode (drop place code) ≡ Some lead) × (refusal lead ≡ Some why)
 
 -- ---- what a fault shows
 
@@ -122,39 +88,31 @@ pub record IsOtherIf (bytes : List ℕ) : Type 0 where
   pub content : List ℕ
   pub rest : List ℕ
   pub spells_len : SpellsPkgLength (length len + length content) len
-  pub here : bytes ≡ 160 ∷ (len ++ (content ++ rest))
-  pub is_other : (xs : List ExternalParts) (b : List ℕ) → content ≡ 0 ∷ b → ¬ SpellsEach SpellsExternal xs b
-
--- no name begins there, however the bytes go on (20.2.2)
-abbrev pub HasNoName : List ℕ → Type 0
-HasNoName bytes = HasBadChar bytes ⊎ HasZeroCount bytes ⊎ HasTooManyUps bytes
-
--- a package length or a bit count whose lead byte says that bytes follow and has bit 5 or 4 set (20.2.4)
-abbrev pub IsReserved : ℕ → Type 0
-IsReserved lead = (64 ≤ lead) × (15 < lead % 64)
+  pub here : bytes ≡ 0xA0 ∷ (len ++ (content ++ rest))
+  pub is_other : (xs : List ExternalParts) (b : List ℕ) → content ≡ 0x00 ∷ b → ¬ SpellsEach SpellsExternal xs b
 
 -- What the reason says is true of the code at that place, for some kind of place; `depth` is the number of
 -- levels that are allowed.
--- Cut: a list ends there. BadOpcode: no term begins there. ReservedBits: a package length
--- with reserved bits, or a count of arguments above 7. BadName: no name and no segment. Overrun: a package
--- length below its own number of bytes, or past the end of a list that it stands in. Computed: a term that is no constant, or one that
--- is no name. ModuleIf: an Else, a While, or an If that is no block of Externals. ModuleCode: a name, data,
--- Local, Arg, Debug or an operator. NotData: no data. TooDeep: a byte, behind at least as many bytes as there are levels.
+-- Cut: a list ends there. BadOpcode: no term begins there. ReservedBits: a package length with reserved bits, or
+-- a count of arguments above 7. BadName: no name and no segment. Overrun: a package length below its own number
+-- of bytes, or past the end of a list that it stands in. Computed: a term that is no constant, or one that is no
+-- name. ModuleIf: an Else, a While, or an If that is no block of Externals. ModuleCode: a name, data, Local, Arg,
+-- Debug or an operator. NotData: no data. TooDeep: a byte, behind at least as many bytes as there are levels.
 -- BadString: a byte above 7F.
 abbrev pub Shows : ℕ → List ℕ → ItemReason → ℕ → Type 0
-Shows depth code Cut place = (start : ℕ) × IsList code start place
+Shows depth code Cut place = ShowsPart depth code codes.Cut place
 Shows depth code BadOpcode place = Refused BadOpcode code place
-Shows depth code ReservedBits place = ByteAt (λ b. IsReserved b ⊎ (7 < b)) code place
-Shows depth code BadName place = HasNoName (drop place code) ⊎ (is_segment_front (drop place code) ≡ false) ⊎ Begins is_nothing code place
-Shows depth code Overrun place = (n : ℕ) × (s : StandsAt code place n) × ((n < length s.len) ⊎ IsPastEnd code place n)
+Shows depth code ReservedBits place = ShowsPart depth code codes.ReservedBits place ⊎ ByteAt (λ b. 7 < b) code place
+Shows depth code BadName place = ShowsPart depth code codes.BadName place ⊎ Begins is_nothing code place
+Shows depth code Overrun place = ShowsPart depth code codes.Overrun place
 Shows depth code Computed place = Begins is_no_constant code place ⊎ Begins is_other_term code place
 Shows depth code Alias place = Refused Alias code place
 Shows depth code ModuleIf place = Refused ModuleIf code place ⊎ IsOtherIf (drop place code)
 Shows depth code ModuleCode place = Refused ModuleCode code place
 Shows depth code Load place = Refused Load code place
 Shows depth code NotData place = Begins is_no_data code place
-Shows depth code TooDeep place = (depth ≤ place) × (place < length code)
-Shows depth code BadString place = ByteAt (λ b. 127 < b) code place
+Shows depth code TooDeep place = ShowsPart depth code codes.TooDeep place
+Shows depth code BadString place = ShowsPart depth code codes.BadString place
 Shows depth code DataRegion place = Refused DataRegion code place
 
 -- what a refusal says is true of the code
@@ -166,3 +124,17 @@ Told depth code (errors.At reason place) = Shows depth code reason place
 abbrev pub ToldOfElem : List ℕ → ItemFault → Type 0
 ToldOfElem bytes (errors.At TooDeep place) = ⊥
 ToldOfElem bytes fault = Told 0 bytes fault
+
+-- ---- answers, unless memory runs out
+
+-- the answer is such
+abbrev pub OrMemory : {X : Type 0} → Result X ItemFault → (X → Type 0) → Type 0
+OrMemory (Ok x) Is = Is x
+OrMemory (Err errors.Memory) Is = Unit {0}
+OrMemory (Err (errors.At reason place)) Is = ⊥
+
+-- it is refused for the reason at the place
+abbrev pub IsRefused : {X : Type 0} → Result X ItemFault → ItemReason → ℕ → Type 0
+IsRefused (Ok x) why at = ⊥
+IsRefused (Err errors.Memory) why at = Unit {0}
+IsRefused (Err (errors.At reason place)) why at = (reason ≡ why) × (place ≡ at)

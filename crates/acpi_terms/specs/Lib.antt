@@ -1,8 +1,5 @@
-pub mod Rows
-pub mod Reading
+pub mod Forms
 pub mod Spelling
 pub mod Faults
-pub mod Left
-pub mod Cursor
-pub mod Within
 pub mod Laws
+pub mod steps

@@ -2,27 +2,27 @@
 
 ghost use Rattle.std.specs.Prelude.{◌≡◌};
 ghost use Rattle.acpi_tree.specs.View.{item_view, external_view, externals_view};
-ghost use Rattle.acpi_terms.specs.Reading.{each_at, external_at, block_content, block_answer, block_item};
-ghost use Rattle.acpi_terms.specs.Cursor.{Reads, ReadsAll};
+ghost use Rattle.acpi_code.specs.steps.Reading.{each_at};
+ghost use Rattle.acpi_terms.specs.steps.Reading.{external_at, block_content, block_answer, block_item};
+ghost use Rattle.acpi_terms.specs.steps.Cursor.{Reads, ReadsAll};
 
-use crate::code::Code;
-use crate::fault::{ItemFault, ItemReason};
-use crate::forms::external;
-use crate::lead::Lead;
+use crate::fault::{ItemFault, ItemReason, refused};
+use crate::form::external;
+use acpi_code::{Code, Opcode};
 use acpi_tree::{External, Item};
 use std::alloc::Global;
 
-#[tactic(auto, unfolding(crate::specs::Reading::external_at))]
+#[tactic(auto, using(crate::proofs::Parts::part_fails), unfolding(crate::specs::steps::Reading::external_at))]
 fn external_term(alloc: Global, level: u32, code: &mut Code<'_>) -> Result<External, ItemFault>
     ensures { Reads external_view (external_at level) code.old code.new result }
 {
     if level == 0 {
-        return Err(code.too_deep());
+        return Err(code.too_deep().into());
     }
     let front = code.fork();
-    match code.lead()? {
-        Lead::External => external(alloc, code),
-        _ => Err(front.stop(ItemReason::ModuleIf)),
+    match code.opcode()? {
+        Opcode::External => external(alloc, code),
+        _ => Err(refused(&front, ItemReason::ModuleIf)),
     }
 }
 
@@ -36,13 +36,13 @@ fn externals(alloc: Global, level: u32, code: &mut Code<'_>) -> Result<Vec<Exter
     Ok(found)
 }
 
-#[tactic(auto, unfolding(crate::specs::Reading::block_content))]
+#[tactic(auto, using(crate::proofs::Parts::part_fails), unfolding(crate::specs::steps::Reading::block_content))]
 fn content(alloc: Global, level: u32, code: &mut Code<'_>) -> Result<Vec<External>, ItemFault>
     ensures { ReadsAll (λ v. externals_view v.items) (block_content level) code.old result }
 {
     let front = code.fork();
     if code.byte()? != 0 {
-        return Err(front.stop(ItemReason::ModuleIf));
+        return Err(refused(&front, ItemReason::ModuleIf));
     }
     externals(alloc, level, code)
 }
@@ -63,6 +63,7 @@ fn told(fault: ItemFault, of_if: ItemFault) -> ItemFault
 
 /// The block whose If, behind `front`, was read.
 #[inline(never)]
+#[tactic(auto, using(crate::proofs::Parts::part_fails))]
 pub(crate) fn block_form(
     alloc: Global,
     level: u32,
@@ -75,6 +76,6 @@ pub(crate) fn block_form(
     let mut inner = code.package()?;
     match content(alloc, level, &mut inner) {
         Ok(externals) => Ok(Item::ExternalBlock(externals)),
-        Err(fault) => Err(told(fault, front.stop(ItemReason::ModuleIf))),
+        Err(fault) => Err(told(fault, refused(front, ItemReason::ModuleIf))),
     }
 }

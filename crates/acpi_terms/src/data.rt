@@ -1,48 +1,27 @@
 //! Reading data.
 
-ghost use Rattle.std.specs.Prelude.{◌≡◌, ◌≤◌, length};
-ghost use Rattle.std.specs.List.{take_while};
+ghost use Rattle.std.specs.Prelude.{◌≡◌};
 ghost use Rattle.acpi_tree.specs.Tree.{elems_of};
 ghost use Rattle.acpi_tree.specs.View.{data_view, elem_view, elems_view};
-ghost use Rattle.acpi_terms.specs.Reading.{name_elem_at, is_text, string_at, int_data, string_data, buffer_data, package_data, var_package_data, data_by, data_elem_of, elem_at, elems_with, data_at};
-ghost use Rattle.acpi_terms.specs.Cursor.{Finds, FindsOn, Reads, ReadsOn, ReadsAll};
+ghost use Rattle.acpi_terms.specs.steps.Reading.{name_elem_at, int_data, string_data, buffer_data, package_data, var_package_data, data_by, data_elem_of, elem_at, elems_with, data_at};
+ghost use Rattle.acpi_terms.specs.steps.Cursor.{Reads, ReadsOn, ReadsAll};
 
-use crate::code::Code;
-use crate::fault::{ItemFault, ItemReason};
-use crate::lead::{IntForm, Lead, is_name};
+use crate::constant::int;
+use crate::fault::{ItemFault, ItemReason, refused};
+use acpi_code::{Code, ConstantForm, Opcode, is_name};
 use acpi_tree::{Data, Elem};
 use std::alloc::Global;
 
-fn text_len(bytes: &[u8]) -> usize
-    ensures exact { result ≡ length (take_while is_text bytes.now) }
-    ensures within { result ≤ length bytes.now }
+#[inline(never)]
+#[tactic(auto, using(crate::proofs::Parts::part_fails))]
+fn int_form(form: ConstantForm, code: &mut Code<'_>) -> Result<Data, ItemFault>
+    ensures { ReadsOn data_view (int_data form) code.old code.new result }
 {
-    bytes.iter().take_while(|b| **b > 0 && **b < 128).count()
-}
-
-impl<'a> Code<'a> {
-    /// The text up to the 00 that ends it.
-    #[tactic(auto, unfolding(crate::specs::Reading::string_at))]
-    pub fn string(&mut self) -> Result<&'a [u8], ItemFault>
-        ensures { Finds (λ s. s.now) string_at self.old self.new result }
-    {
-        let text = self.split(text_len(self.left()));
-        let closing = self.fork();
-        if self.byte()? != 0 {
-            return Err(closing.stop(ItemReason::BadString));
-        }
-        Ok(text.left())
-    }
+    Ok(Data::Int(code.constant(form)?))
 }
 
 #[inline(never)]
-fn int_form(form: IntForm, code: &mut Code<'_>) -> Result<Data, ItemFault>
-    ensures { FindsOn data_view (int_data form) code.old code.new result }
-{
-    Ok(Data::Int(code.constant_of(form)?))
-}
-
-#[inline(never)]
+#[tactic(auto, using(crate::proofs::Parts::part_fails))]
 fn string_form(alloc: Global, code: &mut Code<'_>) -> Result<Data, ItemFault>
     ensures { Reads data_view string_data code.old code.new result }
 {
@@ -51,16 +30,18 @@ fn string_form(alloc: Global, code: &mut Code<'_>) -> Result<Data, ItemFault>
 }
 
 #[inline(never)]
+#[tactic(auto, using(crate::proofs::Parts::part_fails))]
 fn buffer_form(alloc: Global, level: u32, code: &mut Code<'_>) -> Result<Data, ItemFault>
     ensures { Reads data_view (buffer_data level) code.old code.new result }
 {
     let mut inner = code.package()?;
-    let size = inner.int(level)?;
+    let size = int(level, &mut inner)?;
     let content = Vec::from_slice(alloc, inner.left())?;
     Ok(Data::Buffer(size, content))
 }
 
 #[cycle(read)]
+#[tactic(auto, using(crate::proofs::Parts::part_fails))]
 fn package_form(alloc: Global, level: u32, code: &mut Code<'_>) -> Result<Data, ItemFault>
     ensures { Reads data_view (package_data (elems_with (elem_at level)) level) code.old code.new result }
 {
@@ -71,11 +52,12 @@ fn package_form(alloc: Global, level: u32, code: &mut Code<'_>) -> Result<Data, 
 }
 
 #[cycle(read)]
+#[tactic(auto, using(crate::proofs::Parts::part_fails))]
 fn var_package_form(alloc: Global, level: u32, code: &mut Code<'_>) -> Result<Data, ItemFault>
     ensures { Reads data_view (var_package_data (elems_with (elem_at level)) level) code.old code.new result }
 {
     let mut inner = code.package()?;
-    let count = inner.int(level)?;
+    let count = int(level, &mut inner)?;
     let elems = elems(alloc, level, &mut inner)?;
     Ok(Data::VarPackage(count, elems))
 }
@@ -86,23 +68,24 @@ fn data_form(
     alloc: Global,
     level: u32,
     front: &Code<'_>,
-    lead: Lead,
+    opcode: Opcode,
     code: &mut Code<'_>,
 ) -> Result<Data, ItemFault>
     requires { front.now.end ≡ code.old.end }
-    ensures { ReadsOn data_view (λ end rest. data_by (elems_with (elem_at level)) level end front.now.bytes lead rest) code.old code.new result }
+    ensures { ReadsOn data_view (λ end rest. data_by (elems_with (elem_at level)) level end front.now.bytes opcode rest) code.old code.new result }
 {
-    match lead {
-        Lead::Constant(form) => int_form(form, code),
-        Lead::Str => string_form(alloc, code),
-        Lead::Buffer => buffer_form(alloc, level, code),
-        Lead::Package => package_form(alloc, level, code),
-        Lead::VarPackage => var_package_form(alloc, level, code),
-        _ => Err(front.stop(ItemReason::NotData)),
+    match opcode {
+        Opcode::Constant(form) => int_form(form, code),
+        Opcode::Str => string_form(alloc, code),
+        Opcode::Buffer => buffer_form(alloc, level, code),
+        Opcode::Package => package_form(alloc, level, code),
+        Opcode::VarPackage => var_package_form(alloc, level, code),
+        _ => Err(refused(front, ItemReason::NotData)),
     }
 }
 
 #[inline(never)]
+#[tactic(auto, using(crate::proofs::Parts::part_fails))]
 fn name_elem(alloc: Global, code: &mut Code<'_>) -> Result<Elem, ItemFault>
     ensures { Reads elem_view name_elem_at code.old code.new result }
 {
@@ -115,30 +98,30 @@ fn data_elem(
     alloc: Global,
     level: u32,
     front: &Code<'_>,
-    lead: Lead,
+    opcode: Opcode,
     code: &mut Code<'_>,
 ) -> Result<Elem, ItemFault>
     requires { front.now.end ≡ code.old.end }
-    ensures { ReadsOn elem_view (λ end rest. data_elem_of (data_by (elems_with (elem_at level)) level end front.now.bytes lead rest)) code.old code.new result }
+    ensures { ReadsOn elem_view (λ end rest. data_elem_of (data_by (elems_with (elem_at level)) level end front.now.bytes opcode rest)) code.old code.new result }
 {
-    Ok(Elem::Data(data_form(alloc, level, front, lead, code)?))
+    Ok(Elem::Data(data_form(alloc, level, front, opcode, code)?))
 }
 
 #[cycle(read)]
-#[tactic(auto, unfolding(crate::specs::Reading::elem_at))]
+#[tactic(auto, using(crate::proofs::Parts::part_fails), unfolding(crate::specs::steps::Reading::elem_at))]
 fn elem(alloc: Global, level: u32, code: &mut Code<'_>) -> Result<Elem, ItemFault>
     ensures { Reads elem_view (elem_at level) code.old code.new result }
 {
     if level == 0 {
-        return Err(code.too_deep());
+        return Err(code.too_deep().into());
     }
     let front = code.fork();
-    let lead = code.lead()?;
-    if is_name(lead) {
+    let opcode = code.opcode()?;
+    if is_name(opcode) {
         *code = front;
         name_elem(alloc, code)
     } else {
-        data_elem(alloc, level - 1, &front, lead, code)
+        data_elem(alloc, level - 1, &front, opcode, code)
     }
 }
 
@@ -154,14 +137,14 @@ fn elems(alloc: Global, level: u32, code: &mut Code<'_>) -> Result<Vec<Elem>, It
 }
 
 /// The data of a Name, `level` levels being left for it.
-#[tactic(auto, unfolding(crate::specs::Reading::data_at))]
-pub fn data(alloc: Global, level: u32, code: &mut Code<'_>) -> Result<Data, ItemFault>
+#[tactic(auto, using(crate::proofs::Parts::part_fails), unfolding(crate::specs::steps::Reading::data_at))]
+pub(crate) fn data(alloc: Global, level: u32, code: &mut Code<'_>) -> Result<Data, ItemFault>
     ensures { Reads data_view (data_at level) code.old code.new result }
 {
     if level == 0 {
-        return Err(code.too_deep());
+        return Err(code.too_deep().into());
     }
     let front = code.fork();
-    let lead = code.lead()?;
-    data_form(alloc, level - 1, &front, lead, code)
+    let opcode = code.opcode()?;
+    data_form(alloc, level - 1, &front, opcode, code)
 }

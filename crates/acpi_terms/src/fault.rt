@@ -2,7 +2,10 @@
 
 ghost use Rattle.std.specs.Prelude.{◌≡◌};
 ghost use Rattle.acpi_terms.specs.declared.fault.ItemFault.TheVariants.{Memory};
+ghost use Rattle.acpi_terms.specs.Faults.{reason_of, fault_of};
+ghost use Rattle.acpi_terms.specs.steps.Reading.{fault_at, stopped};
 
+use acpi_code::{Code, CodeFault, CodeReason};
 use std::alloc::{AllocError, AllocFailed};
 use thiserror::Error;
 
@@ -82,5 +85,41 @@ impl<T: Drop> From<AllocFailed<T>> for ItemFault {
 
     fn from(_e: AllocFailed<T>) -> ItemFault {
         ItemFault::Memory
+    }
+}
+
+impl From<CodeReason> for ItemReason {
+    ghost from_gives = { λ reason item. item ≡ reason_of reason };
+
+    fn from(reason: CodeReason) -> ItemReason {
+        match reason {
+            CodeReason::Cut => ItemReason::Cut,
+            CodeReason::ReservedBits => ItemReason::ReservedBits,
+            CodeReason::BadName => ItemReason::BadName,
+            CodeReason::Overrun => ItemReason::Overrun,
+            CodeReason::BadString => ItemReason::BadString,
+            CodeReason::TooDeep => ItemReason::TooDeep,
+        }
+    }
+}
+
+impl From<CodeFault> for ItemFault {
+    ghost from_gives = { λ fault item. item ≡ fault_of fault };
+
+    fn from(fault: CodeFault) -> ItemFault {
+        ItemFault::At {
+            reason: fault.reason.into(),
+            place: fault.place,
+        }
+    }
+}
+
+/// The fault that the next byte shows.
+pub(crate) fn refused(code: &Code<'_>, reason: ItemReason) -> ItemFault
+    ensures { result ≡ stopped (fault_at code.now.end code.now.bytes reason) }
+{
+    ItemFault::At {
+        reason,
+        place: code.place(),
     }
 }

@@ -1,33 +1,37 @@
 //! Definition blocks of ACPI 6.5 as trees: the module-level items that the AML byte code of a table
 //! spells, read from its bytes.
 //!
-//! `read_items` gives the items, or the first fault from the left with its place. The readers of parts
-//! (numbers, package lengths, names, constants, strings, field elements) serve the readers of method
-//! bodies too: each goes through a `Code`, which is what is left of a list of terms. A contract sees a value
-//! as a tree of `specs/Tree.antt`.
+//! ```text
+//!   10 0B 5F 53 42 5F 08 41 42 43 44 00      read_items ─►  Scope(_SB_, [Name(ABCD, Zero)])
+//! ```
+//!
+//! `read_items` gives the items, or the first fault from the left with its place:
+//!
+//! ```text
+//! let items = read_items(alloc, code, depth)?;
+//! ```
+//!
+//! A contract sees a value as a tree of `acpi_tree`, and says of which bytes it is the reading by the relation of
+//! `specs/Spelling.antt`, and of a fault what it shows of them by `specs/Faults.antt`.
 #![tactic(auto)]
 
 mod block;
-mod code;
-mod constants;
+mod constant;
 mod data;
-mod depth;
 mod fault;
-mod fields;
-mod forms;
-mod items;
+mod field;
+mod form;
+mod item;
 pub mod laws;
-mod lead;
-mod parts;
-mod reading;
+mod part;
 
+pub use acpi_code::Depth;
 pub use acpi_tree::{
     Data, Decl, Elem, External, FieldElem, FieldForm, Int, Item, Object, Op, Operand, Term, Width, items_fit, terms_fit,
 };
-pub use depth::Depth;
 pub use fault::{ItemFault, ItemReason};
-pub use items::{read_items, read_items_shared};
-pub use parts::{read_elem, read_int};
+pub use item::{read_items, read_items_shared};
+pub use part::{read_elem, read_int};
 
 #[cfg(test)]
 mod tests;

@@ -1,9 +1,10 @@
 use Rattle.std.proofs.Common.{◌≡◌, ◌<◌, ◌++◌, ◌∷◌, [], length, arith}
 use Rattle.std.proofs.lemmas.Result.{err_from_is_err_and}
 use Rattle.std.proofs.lemmas.List.{map_push}
-use Rattle.acpi_terms.specs.Reading.{external_at}
+use Rattle.acpi_code.proofs.Lists.{turned, all_turned}
+use Rattle.acpi_terms.proofs.Parts.{stopped_there}
+use Rattle.acpi_terms.specs.steps.Reading.{external_at}
 use Rattle.acpi_tree.specs.View.{external_view, externals_view}
-use Rattle.acpi_terms.proofs.Each.{turned, stopped_there, all_turned}
 use Rattle.acpi_terms.proofs.block.externals.Goals as goal
 
 pub returns-in_err-external_term : goal.returns-in_err-external_term

@@ -1,7 +1,7 @@
 use Rattle.std.proofs.Common.{length}
 use Rattle.acpi_terms.proofs.block.externals.Given as goal
-use Rattle.acpi_terms.proofs.Each.{Turns}
-use Rattle.acpi_terms.specs.Reading.{external_at}
+use Rattle.acpi_code.proofs.Lists.{Turns}
+use Rattle.acpi_terms.specs.steps.Reading.{external_at}
 use Rattle.acpi_tree.specs.View.{externals_view}
 
 abbrev pub invariant-each : goal.invariant-each

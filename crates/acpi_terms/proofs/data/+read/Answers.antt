@@ -2,12 +2,14 @@ use Rattle.std.proofs.Common.{◌≡◌, ◌<◌, ◌-◌, ◌++◌, ◌∷◌, 
 use Rattle.std.proofs.lemmas.Result.{err_from_is_err_and}
 use Rattle.std.proofs.lemmas.List.{map_push}
 use Rattle.acpi_tree.specs.Tree.{elems_of}
-use Rattle.acpi_terms.specs.Reading.{name_elem_at, data_elem_of, data_by, elem_at, elems_with, each_at}
-use Rattle.acpi_tree.specs.View.{elem_view, elems_view}
-use Rattle.acpi_terms.proofs.Each.{turned, stopped_there, all_turned, fails_on, reads_on}
-use Rattle.acpi_terms.specs.Cursor.{Reads}
-use Rattle.acpi_terms.specs.Rows.{is_name_lead}
+use Rattle.acpi_code.proofs.Lists.{turned, all_turned, reads_on}
+use Rattle.acpi_code.specs.Opcodes.{is_name_opcode}
+use Rattle.acpi_code.specs.steps.Reading.{each_at}
 use Rattle.acpi_terms.proofs.Opened.{elem_opened, reads_as, reads_behind}
+use Rattle.acpi_terms.proofs.Parts.{stopped_there, fails_on}
+use Rattle.acpi_terms.specs.steps.Cursor.{Reads}
+use Rattle.acpi_terms.specs.steps.Reading.{name_elem_at, data_elem_of, data_by, elem_at, elems_with}
+use Rattle.acpi_tree.specs.View.{elem_view, elems_view}
 use Rattle.acpi_terms.proofs.data.+read.Goals as goal
 
 pub elems-returns-in_err-elem : goal.elems-returns-in_err-elem
@@ -31,8 +33,8 @@ elems-returns t c =
 pub elem-returns-then-is_name : goal.elem-returns-then-is_name
 elem-returns-then-is_name t c =
     let some : 0 < c.args.level = grind arith in
-    let opens = elem_opened c.args.level c.args.code.now.end c.args.code.now.bytes c.in_ok-lead.lead c.lead.new.self.bytes some c.in_ok-lead.ensures.0 in
-    let is : is_name_lead c.in_ok-lead.lead ≡ true = sym c.is_name.ensures ∙ c.if-is_name.true in
+    let opens = elem_opened c.args.level c.args.code.now.end c.args.code.now.bytes c.in_ok-opcode.opcode c.opcode.new.self.bytes some c.in_ok-opcode.ensures.0 in
+    let is : is_name_opcode c.in_ok-opcode.opcode ≡ true = sym c.is_name.ensures ∙ c.if-is_name.true in
     let e : elem_at c.args.level c.args.code.now.end c.args.code.now.bytes ≡ name_elem_at c.args.code.now.end c.args.code.now.bytes = opens ∙ rw is refl in
     let h : Reads elem_view name_elem_at c.args.code.now c.name_elem.new.code c.name_elem.result = rw c.fork-front.ensures at c.name_elem.ensures in
     reads_as elem_view name_elem_at (elem_at c.args.level) c.args.code.now c.name_elem.new.code c.name_elem.result e h
@@ -40,9 +42,9 @@ elem-returns-then-is_name t c =
 pub elem-returns-else-is_name : goal.elem-returns-else-is_name
 elem-returns-else-is_name t c =
     let some : 0 < c.args.level = grind arith in
-    let opens = elem_opened c.args.level c.args.code.now.end c.args.code.now.bytes c.in_ok-lead.lead c.lead.new.self.bytes some c.in_ok-lead.ensures.0 in
-    let is : is_name_lead c.in_ok-lead.lead ≡ false = sym c.is_name.ensures ∙ c.if-is_name.false in
+    let opens = elem_opened c.args.level c.args.code.now.end c.args.code.now.bytes c.in_ok-opcode.opcode c.opcode.new.self.bytes some c.in_ok-opcode.ensures.0 in
+    let is : is_name_opcode c.in_ok-opcode.opcode ≡ false = sym c.is_name.ensures ∙ c.if-is_name.false in
     let by = data_by (elems_with (elem_at (c.args.level - 1))) (c.args.level - 1) in
-    let e : elem_at c.args.level c.args.code.now.end c.args.code.now.bytes ≡ data_elem_of (by c.args.code.now.end c.args.code.now.bytes c.in_ok-lead.lead c.lead.new.self.bytes) = opens ∙ rw is refl in
-    reads_behind elem_view (elem_at c.args.level) (λ end rest. data_elem_of (by end c.fork-front.result.bytes c.in_ok-lead.lead rest))
-    c.args.code.now c.lead.new.self c.data_elem.new.code _ (rw (c.in_ok-lead.ensures.1.same_end, c.fork-front.ensures) e) c.in_ok-lead.ensures.1 c.data_elem.ensures
+    let e : elem_at c.args.level c.args.code.now.end c.args.code.now.bytes ≡ data_elem_of (by c.args.code.now.end c.args.code.now.bytes c.in_ok-opcode.opcode c.opcode.new.self.bytes) = opens ∙ rw is refl in
+    reads_behind elem_view (elem_at c.args.level) (λ end rest. data_elem_of (by end c.fork-front.result.bytes c.in_ok-opcode.opcode rest))
+    c.args.code.now c.opcode.new.self c.data_elem.new.code _ (rw (c.in_ok-opcode.ensures.1.same_end, c.fork-front.ensures) e) c.in_ok-opcode.ensures.1 c.data_elem.ensures

@@ -1,7 +1,7 @@
 use Rattle.std.proofs.Common.{◌+◌, ◌*◌, length}
 use Rattle.acpi_terms.proofs.data.+read.Given as goal
-use Rattle.acpi_terms.proofs.Each.{Turns}
-use Rattle.acpi_terms.specs.Reading.{elem_at}
+use Rattle.acpi_code.proofs.Lists.{Turns}
+use Rattle.acpi_terms.specs.steps.Reading.{elem_at}
 use Rattle.acpi_tree.specs.View.{elems_view}
 
 abbrev pub invariant-elems-each : goal.invariant-elems-each

@@ -1,0 +1,210 @@
+//! Reading items.
+
+ghost use Rattle.std.specs.Prelude.{◌≡◌, ◌≤◌, ◌++◌, ℕ, true, List, length, IfOk, IfErr};
+ghost use Rattle.acpi_tree.specs.Tree.{ItemTrees, items_of};
+ghost use Rattle.acpi_terms.specs.Spelling.{SpellsItems, items_height};
+ghost use Rattle.acpi_terms.specs.Faults.{Told, Refused, OrMemory, IsRefused};
+ghost use Rattle.acpi_tree.specs.Fits.{items_fit};
+ghost use Rattle.acpi_tree.specs.Offsets.{OffsetsFit};
+ghost use Rattle.acpi_terms.specs.declared.fault.ItemReason.{ItemReason};
+ghost use Rattle.acpi_tree.specs.View.{item_view, items_view, items_tree};
+ghost use Rattle.acpi_terms.specs.steps.Reading.{scope_item, device_item, processor_item, power_item, thermal_item, item_by, item_at, items_with, items_at};
+ghost use Rattle.acpi_terms.specs.steps.Cursor.{Gives, Reads, ReadsAll};
+
+use crate::block::block_form;
+use crate::fault::{ItemFault, ItemReason, refused};
+use crate::form::{
+    bank_field_form, create_field_form, create_form, event_form, external_form, field_form,
+    index_field_form, method_form, mutex_form, name_form, region_form,
+};
+use acpi_code::{Code, Depth, Opcode};
+use acpi_tree::Item;
+use bytes::Bytes;
+use std::alloc::Global;
+
+#[cycle(items)]
+#[tactic(auto, using(crate::proofs::Parts::part_fails))]
+fn scope_form(alloc: Global, level: u32, code: &mut Code<'_>) -> Result<Item, ItemFault>
+    ensures { Reads item_view (scope_item (items_with (item_at level)) level) code.old code.new result }
+{
+    let mut inner = code.package()?;
+    let name = inner.name()?;
+    let items = items(alloc, level, &mut inner)?;
+    Ok(Item::Scope(name.own(alloc)?, items))
+}
+
+#[cycle(items)]
+#[tactic(auto, using(crate::proofs::Parts::part_fails))]
+fn device_form(alloc: Global, level: u32, code: &mut Code<'_>) -> Result<Item, ItemFault>
+    ensures { Reads item_view (device_item (items_with (item_at level)) level) code.old code.new result }
+{
+    let mut inner = code.package()?;
+    let name = inner.name()?;
+    let items = items(alloc, level, &mut inner)?;
+    Ok(Item::Device(name.own(alloc)?, items))
+}
+
+#[cycle(items)]
+#[tactic(auto, using(crate::proofs::Parts::part_fails))]
+fn processor_form(alloc: Global, level: u32, code: &mut Code<'_>) -> Result<Item, ItemFault>
+    ensures { Reads item_view (processor_item (items_with (item_at level)) level) code.old code.new result }
+{
+    let mut inner = code.package()?;
+    let name = inner.name()?;
+    let id = inner.byte()?;
+    let block = inner.dword()?;
+    let length = inner.byte()?;
+    let items = items(alloc, level, &mut inner)?;
+    let name = name.own(alloc)?;
+    Ok(Item::Processor {
+        name,
+        id,
+        block,
+        length,
+        items,
+    })
+}
+
+#[cycle(items)]
+#[tactic(auto, using(crate::proofs::Parts::part_fails))]
+fn power_form(alloc: Global, level: u32, code: &mut Code<'_>) -> Result<Item, ItemFault>
+    ensures { Reads item_view (power_item (items_with (item_at level)) level) code.old code.new result }
+{
+    let mut inner = code.package()?;
+    let name = inner.name()?;
+    let system = inner.byte()?;
+    let order = inner.word()?;
+    let items = items(alloc, level, &mut inner)?;
+    let name = name.own(alloc)?;
+    Ok(Item::Power {
+        name,
+        level: system,
+        order,
+        items,
+    })
+}
+
+#[cycle(items)]
+#[tactic(auto, using(crate::proofs::Parts::part_fails))]
+fn thermal_form(alloc: Global, level: u32, code: &mut Code<'_>) -> Result<Item, ItemFault>
+    ensures { Reads item_view (thermal_item (items_with (item_at level)) level) code.old code.new result }
+{
+    let mut inner = code.package()?;
+    let name = inner.name()?;
+    let items = items(alloc, level, &mut inner)?;
+    Ok(Item::Thermal(name.own(alloc)?, items))
+}
+
+// The item whose first opcode, behind `front`, was read; `level` levels are left inside it.
+#[cycle(items)]
+fn item_form(
+    alloc: Global,
+    level: u32,
+    front: &Code<'_>,
+    opcode: Opcode,
+    code: &mut Code<'_>,
+) -> Result<Item, ItemFault>
+    requires { front.now.end ≡ code.old.end }
+    ensures { Reads item_view (λ end rest. item_by (items_with (item_at level)) level end front.now.bytes opcode rest) code.old code.new result }
+{
+    match opcode {
+        Opcode::DeclareName => name_form(alloc, level, code),
+        Opcode::Scope => scope_form(alloc, level, code),
+        Opcode::Method => method_form(alloc, code),
+        Opcode::External => external_form(alloc, code),
+        Opcode::If => block_form(alloc, level, front, code),
+        Opcode::Create(width) => create_form(alloc, level, width, code),
+        Opcode::CreateField => create_field_form(alloc, level, code),
+        Opcode::Mutex => mutex_form(alloc, code),
+        Opcode::Event => event_form(alloc, code),
+        Opcode::Region => region_form(alloc, level, code),
+        Opcode::Field => field_form(alloc, code),
+        Opcode::IndexField => index_field_form(alloc, code),
+        Opcode::BankField => bank_field_form(alloc, level, code),
+        Opcode::Device => device_form(alloc, level, code),
+        Opcode::Processor => processor_form(alloc, level, code),
+        Opcode::Power => power_form(alloc, level, code),
+        Opcode::Thermal => thermal_form(alloc, level, code),
+        Opcode::Nothing => Err(refused(front, ItemReason::BadOpcode)),
+        Opcode::Alias => Err(refused(front, ItemReason::Alias)),
+        Opcode::Else => Err(refused(front, ItemReason::ModuleIf)),
+        Opcode::While => Err(refused(front, ItemReason::ModuleIf)),
+        Opcode::Load => Err(refused(front, ItemReason::Load)),
+        Opcode::DataRegion => Err(refused(front, ItemReason::DataRegion)),
+        _ => Err(refused(front, ItemReason::ModuleCode)),
+    }
+}
+
+#[cycle(items)]
+#[tactic(auto, using(crate::proofs::Parts::part_fails), unfolding(crate::specs::steps::Reading::item_at))]
+fn item(alloc: Global, level: u32, code: &mut Code<'_>) -> Result<Item, ItemFault>
+    ensures { Reads item_view (item_at level) code.old code.new result }
+{
+    if level == 0 {
+        return Err(code.too_deep().into());
+    }
+    let front = code.fork();
+    let opcode = code.opcode()?;
+    item_form(alloc, level - 1, &front, opcode, code)
+}
+
+#[cycle(items)]
+fn items(alloc: Global, level: u32, code: &mut Code<'_>) -> Result<Vec<Item>, ItemFault>
+    ensures { ReadsAll (λ v. items_tree v.items) (items_with (item_at level)) code.old result }
+{
+    let mut found = Vec::new(alloc);
+    'each: while !code.is_empty() {
+        found.push(item(alloc, level, code)?)?;
+    }
+    Ok(found)
+}
+
+fn all_items(alloc: Global, depth: u32, shared: &Bytes, code: &[u8]) -> Result<Vec<Item>, ItemFault>
+    requires { shared.now ≡ code.now }
+    ensures fits { IfOk result (λ v. items_fit (items_tree v.items) ≡ true) }
+    ensures offsets { length code.now ≤ 16777216 → IfOk result (λ v. OffsetsFit (items_tree v.items)) }
+    ensures exact { Gives (λ v. items_tree v.items) result (items_at depth code.now) }
+{
+    items(alloc, depth, &mut Code::shared(code, shared))
+}
+
+/// The items that the code spells, all of it, with at most `depth` levels. The methods share the code's
+/// bytes. A place in a fault counts from the code's first byte.
+pub fn read_items_shared(alloc: Global, code: &Bytes, depth: Depth) -> Result<Vec<Item>, ItemFault>
+    // What is read is spelled so, within the limit.
+    ensures found { IfOk result (λ v. SpellsItems (items_tree v.items) code.now × (items_height (items_tree v.items) ≤ depth)) }
+    // What is spelled so within the limit is read, unless memory runs out. So a fault means that nothing is.
+    ensures only { (is : ItemTrees) → SpellsItems is code.now → items_height is ≤ depth → OrMemory result (λ v. items_tree v.items ≡ is) }
+    // What a fault says is true of the code.
+    ensures faults { IfErr result (λ e. Told depth code.now e) }
+    // Behind items, the first term that can't be an item is told at its place, unless memory runs out.
+    ensures next { (u w : List ℕ) (is : ItemTrees) (why : ItemReason) → code.now ≡ u ++ w → SpellsItems is u → items_height is ≤ depth
+        → Refused why w 0 → IsRefused result why (length u) }
+    // What is read fits.
+    ensures fits { IfOk result (λ v. items_fit (items_tree v.items) ≡ true) }
+    // Where the code is no longer than a table, the bits of each field list are a number of 64 bits.
+    ensures offsets { length code.now ≤ 16777216 → IfOk result (λ v. OffsetsFit (items_tree v.items)) }
+{
+    all_items(alloc, depth.get(), code, code.as_slice())
+}
+
+/// The items that the code spells, all of it, with at most `depth` levels. A place in a fault counts from
+/// the code's first byte.
+pub fn read_items(alloc: Global, code: &[u8], depth: Depth) -> Result<Vec<Item>, ItemFault>
+    // What is read is spelled so, within the limit.
+    ensures found { IfOk result (λ v. SpellsItems (items_tree v.items) code.now × (items_height (items_tree v.items) ≤ depth)) }
+    // What is spelled so within the limit is read, unless memory runs out. So a fault means that nothing is.
+    ensures only { (is : ItemTrees) → SpellsItems is code.now → items_height is ≤ depth → OrMemory result (λ v. items_tree v.items ≡ is) }
+    // What a fault says is true of the code.
+    ensures faults { IfErr result (λ e. Told depth code.now e) }
+    // Behind items, the first term that can't be an item is told at its place, unless memory runs out.
+    ensures next { (u w : List ℕ) (is : ItemTrees) (why : ItemReason) → code.now ≡ u ++ w → SpellsItems is u → items_height is ≤ depth
+        → Refused why w 0 → IsRefused result why (length u) }
+    // What is read fits.
+    ensures fits { IfOk result (λ v. items_fit (items_tree v.items) ≡ true) }
+    // Where the code is no longer than a table, the bits of each field list are a number of 64 bits.
+    ensures offsets { length code.now ≤ 16777216 → IfOk result (λ v. OffsetsFit (items_tree v.items)) }
+{
+    let code = Bytes::copy_from_slice(alloc, code)?;
+    read_items_shared(alloc, &code, depth)
+}
