@@ -130,16 +130,30 @@ impl Path {
         self.segs.is_empty()
     }
 
-    /// The path of the first `count` segments.
+    /// The path of the first `count` segments, in memory for one segment more.
     pub fn beginning(&self, alloc: Global, count: usize) -> Result<Path, AllocError>
         requires { count ≤ length self.now }
         ensures { IfOk result (λ p. p ≡ take count self.now) }
     {
-        let mut path = Path::root(alloc);
-        for seg in &self.segs[..count] {
-            path.push(*seg)?;
-        }
-        Ok(path)
+        self.beginning_with_room(alloc, count, 1)
+    }
+
+    /// The path of the first `count` segments, in memory for `room` segments more: what is put behind them
+    /// takes no memory again.
+    pub(crate) fn beginning_with_room(
+        &self,
+        alloc: Global,
+        count: usize,
+        room: usize,
+    ) -> Result<Path, AllocError>
+        requires within { count ≤ length self.now }
+        requires small { room < 256 }
+        ensures { IfOk result (λ p. p ≡ take count self.now) }
+    {
+        let _len = self.len();
+        let mut segs = Vec::with_capacity(alloc, count + room)?;
+        segs.extend_from_slice(&self.segs[..count])?;
+        Ok(Path { segs })
     }
 
     /// Puts the segments of the name at the end.

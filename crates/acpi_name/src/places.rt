@@ -50,7 +50,7 @@ pub fn place(alloc: Global, scope: &Path, name: NameRef<'_>) -> Result<Path, Pla
     } else {
         return Err(PlaceFault::AboveRoot);
     };
-    let mut path = scope.beginning(alloc, start)?;
+    let mut path = scope.beginning_with_room(alloc, start, name.len())?;
     path.append(name)?;
     Ok(path)
 }
