@@ -1,4 +1,5 @@
 pub mod Spaces
+pub mod Lookups
 pub mod Refusal
 pub mod Search
 pub mod FoundPath

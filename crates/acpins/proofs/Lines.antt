@@ -12,7 +12,7 @@ use Rattle.acpi_space.specs.Spaces.{PathMap}
 use Rattle.acpi_tree.specs.Objects.{ObjectTree, object_view}
 use Rattle.acpi_tree.specs.declared.object.Object.{Object}
 use Rattle.acpi_load.specs.Namespace.{namespace_of}
-use Rattle.acpi_load.specs.Loads.{Links}
+use Rattle.acpi_load.specs.Links.{Links}
 use Rattle.acpi_text.specs.Lines.{line_text, listing_text}
 use Rattle.acpins.specs.Listings.{objects_by_path, Prints}
 

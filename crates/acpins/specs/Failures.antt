@@ -1,8 +1,8 @@
 -- Why a run fails where its tables have no load (docs/COMMAND.md).
 use Rattle.std.specs.Prelude.{ℕ, ◌+◌, ◌-◌, ◌^◌, min}
-use Rattle.acpi_load.specs.declared.fault.LoadFault.{LoadFault}
-use Rattle.acpi_load.specs.declared.fault.LoadFault.TheVariants.{At, Memory}
-use Rattle.acpi_load.specs.declared.fault.LoadReason.TheVariants as reasons
+use Rattle.acpi_declare.specs.declared.fault.LoadFault.{LoadFault}
+use Rattle.acpi_declare.specs.declared.fault.LoadFault.TheVariants.{At, Memory}
+use Rattle.acpi_declare.specs.declared.fault.LoadReason.TheVariants as reasons
 use Rattle.acpins.specs.declared.failure.Failure.{Failure}
 use Rattle.acpins.specs.declared.failure.Failure.TheVariants as failures
 

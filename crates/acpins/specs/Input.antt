@@ -6,7 +6,8 @@ use Rattle.acpi_table.specs.Sources.{one_more}
 use Rattle.acpi_table.specs.Tables.{IsTable, IsRefusedAs}
 use Rattle.acpi_table.specs.declared.tables.TableFault.{TableFault}
 use Rattle.acpi_load.specs.Namespace.{Namespace}
-use Rattle.acpi_load.specs.Loads.{Links, IsLoad}
+use Rattle.acpi_load.specs.Links.{Links}
+use Rattle.acpi_load.specs.Loads.{IsLoad}
 use Rattle.acpins.specs.Hexadecimal.{SpellsInHex}
 use Rattle.acpins.specs.declared.failure.Failure.{Failure}
 use Rattle.acpins.specs.declared.failure.Failure.TheVariants.{Read, BadHex, Table, Memory}
@@ -86,5 +87,4 @@ pub record IsLoadOfFiles (bytes_of : FileBytes) (hex : Bool) (depth : ℕ) (name
   pub tables : List (List ℕ)
   pub of_files : AreTablesOf bytes_of hex names tables
   pub some : tables ≢ []
-  pub counts : List (List Segment → Option ℕ)
-  pub loaded : IsLoad depth tables objects links counts
+  pub loaded : IsLoad depth tables objects links

@@ -4,8 +4,9 @@ use Rattle.std.specs.Io.KnownBytes.{Appends}
 use Rattle.clap.specs.Walk.{Text}
 use Rattle.acpi_name.specs.Names.{Segment}
 use Rattle.acpi_load.specs.Namespace.{Namespace}
-use Rattle.acpi_load.specs.Loads.{Links, IsLoadFault}
-use Rattle.acpi_load.specs.declared.fault.LoadFault.{LoadFault}
+use Rattle.acpi_load.specs.Links.{Links}
+use Rattle.acpi_load.specs.Refusals.{IsLoadFault}
+use Rattle.acpi_declare.specs.declared.fault.LoadFault.{LoadFault}
 use Rattle.acpins.specs.declared.failure.Failure.{Failure}
 use Rattle.acpins.specs.declared.failure.Failure.TheVariants.{WrongWords, NoTable, Read, BadHex, Output, Table, Item, Load, Memory}
 use Rattle.acpins.specs.Words.{Asked, asked_of}

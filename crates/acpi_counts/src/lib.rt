@@ -1,0 +1,75 @@
+//! How many arguments methods take, as the Externals of one table say it (ACPI 6.5, 20.2.5.2 External).
+//!
+//! A `Counts` is seen as a finite map from paths to numbers 0 to 7. The first External of a path counts:
+//! ```text
+//! let mut counts = Counts::new(alloc);
+//! counts.add(path, 2)?;   // \FOO_ takes 2 arguments
+//! counts.add(again, 3)?;  // the same path once more: it keeps 2
+//! ```
+#![tactic(auto)]
+
+ghost use Rattle.std.specs.Prelude.{◌≡◌, ◌≤◌, OnOk, OnErr};
+ghost use Rattle.std.specs.FinMap as finite;
+ghost use Rattle.acpi_counts.specs.Counts.{AreSmall, with_first};
+
+use acpi_name::Path;
+use acpi_space::{MapSpace, Refused, Space};
+use std::alloc::{AllocError, Global};
+use std::marker::Model;
+
+/// The argument counts of methods, by the paths of the methods: numbers 0 to 7.
+#[derive(Drop)]
+pub struct Counts {
+    map: MapSpace<u8>,
+}
+
+impl Model for Counts {
+    ghost use Rattle.std.specs.Prelude.{ℕ};
+    ghost use Rattle.std.specs.FinMap as finite;
+    ghost use Rattle.acpi_counts.specs.Counts.{AreSmall};
+    ghost use Rattle.std.specs.Coded.{coded_ℕ};
+    ghost use Rattle.acpi_space.specs.Spaces.{PathMap, coded_path};
+
+    ghost Value = { PathMap ℕ };
+
+    ghost coded = { finite.code coded_path coded_ℕ };
+
+    ghost view = { λ c. c.map };
+
+    ghost invariant = { λ c. AreSmall c.map };
+}
+
+impl Counts {
+    /// No counts.
+    pub fn new(alloc: Global) -> Counts
+        ensures { result ≡ finite.empty }
+    {
+        Counts {
+            map: MapSpace::new(alloc),
+        }
+    }
+
+    /// The count at a path. Takes no memory.
+    pub fn get(&self, path: &Path) -> Option<u8>
+        ensures found { result ≡ finite.get self.now path.now }
+        ensures small { AreSmall self.now }
+    {
+        self.map.get(path).copied()
+    }
+
+    /// Adds a count of at most 7. A path that has a count keeps it. Where memory is refused no count changes.
+    pub fn add(&mut self, path: Path, count: u8) -> Result<(), AllocError>
+        requires { count ≤ 7 }
+        ensures ok { OnOk result (self.new ≡ with_first self.old path count) }
+        ensures err { OnErr result (self.new ≡ self.old) }
+    {
+        match self.map.insert(path, count) {
+            Ok(()) => Ok(()),
+            Err(Refused::Taken(_)) => Ok(()),
+            Err(Refused::Memory(_)) => Err(AllocError),
+        }
+    }
+}
+
+#[cfg(test)]
+mod tests;

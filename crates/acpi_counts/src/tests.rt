@@ -1,0 +1,15 @@
+//! Counts of paths.
+
+use super::*;
+use std::test::Fail;
+
+#[test]
+fn keeps_the_first_count(rt: HostRuntime) -> Result<(), Fail> {
+    let mut counts = Counts::new(rt.alloc());
+    let path = Path::from_text(rt.alloc(), "\\FOO_")?;
+    counts.add(path.copy()?, 2)?;
+    counts.add(path.copy()?, 3)?;
+    assert_eq!(rt; counts.get(&path), Some(2));
+    assert_eq!(rt; counts.get(&Path::root(rt.alloc())), None);
+    Ok(())
+}

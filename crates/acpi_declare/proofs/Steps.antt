@@ -1,0 +1,138 @@
+-- One step of the pass, from what its parts give.
+use Rattle.std.proofs.Common.{◌≡◌, ◌≢◌, ℕ, List, [], ◌∷◌, ◌++◌, append_assoc, append-nil, Bool, true, false, cond, Option, Some, None, Ok, ◌⊎◌, inl, inr, refl, sym, ap, ◌∙◌}
+use Rattle.acpi_name.specs.Names.{Segment, NameParts}
+use Rattle.acpi_name.specs.Paths.{place_of}
+use Rattle.acpi_space.specs.Lookups.{Lookup, is_defined_in, nothing, singleton, union}
+use Rattle.acpi_space.specs.Search.{missed}
+use Rattle.acpi_tree.specs.Objects.{ObjectTree}
+use Rattle.acpi_declare.specs.Links.{PendingLink}
+use Rattle.acpi_declare.specs.Namespace.{Namespace}
+use Rattle.acpi_declare.specs.Notes.{Method, Notes, count_at}
+use Rattle.acpi_declare.specs.Placing.{declared_path}
+use Rattle.acpi_declare.specs.Sites.{step, plainly, declares, opens, expects}
+use Rattle.acpi_declare.specs.steps.Pass.{Pass, Passing, no_notes, note_of, joined, after, placement, ◌>>=◌, take_step, take_steps}
+use Rattle.acpi_declare.specs.steps.View.{pending_for, with_count, with_method, with_missed}
+use Rattle.acpi_declare.proofs.Laying.{union-nothing, union_assoc}
+
+-- ---- notes
+
+pub nothing_joined : (n : Notes) → joined n no_notes ≡ n
+nothing_joined n = λ i. record { counts = union-nothing n.counts i; methods = append-nil n.methods i; missed = append-nil n.missed i }
+
+pub joined_assoc : (a b c : Notes) → joined (joined a b) c ≡ joined a (joined b c)
+joined_assoc a b c = λ i. record { counts = union_assoc a.counts b.counts c.counts i; methods = append_assoc a.methods b.methods c.methods i; missed = append_assoc a.missed b.missed c.missed i }
+
+-- ---- one step
+
+abbrev pub passed : Pass → Passing
+passed t = Ok t
+
+abbrev pub pass : Namespace → List PendingLink → Notes → Pass
+pass objects links notes = record { objects = objects; links = links; notes = notes }
+
+-- a step gives what its three parts give
+stepped : (t : Pass) (objects : Namespace) (links : List PendingLink) (notes : Notes) (s p : List Segment) (n : NameParts) (o : ObjectTree) (names : List NameParts) (code : Option (List ℕ))
+    → declared_path t.objects s n ≡ Ok p
+    → after t (placement s (step n (declares o names code)) p) ≡ pass objects links notes
+    → take_step t s (step n (declares o names code)) ≡ Ok (pass objects links notes)
+stepped t objects links notes s p n o names code placed e =
+    ap (λ r. r >>= λ p. Ok (after t (placement s (step n (declares o names code)) p))) placed ∙ ap passed e
+
+-- a declaration inside which others stand
+pub declared_scope : (t : Pass) (objects : Namespace) (links : List PendingLink) (notes : Notes) (s p : List Segment) (n : NameParts) (o : ObjectTree)
+    → objects ≡ union t.objects (singleton p o) → links ≡ t.links → notes ≡ t.notes
+    → pass objects links notes ≡ after t (placement s (step n (plainly o)) p)
+declared_scope t objects links notes s p n o laid same_links same_notes = λ i. record {
+  objects = laid i;
+  links = (same_links ∙ sym (append-nil t.links)) i;
+  notes = (same_notes ∙ sym (nothing_joined t.notes)) i;
+}
+
+-- a declaration without links and code changes the objects alone
+pub declared_plainly : (t : Pass) (objects : Namespace) (links : List PendingLink) (notes : Notes) (s p : List Segment) (n : NameParts) (o : ObjectTree)
+    → declared_path t.objects s n ≡ Ok p → objects ≡ union t.objects (singleton p o) → links ≡ t.links → notes ≡ t.notes
+    → take_step t s (step n (plainly o)) ≡ Ok (pass objects links notes)
+declared_plainly t objects links notes s p n o placed laid same_links same_notes =
+    stepped t objects links notes s p n o [] None placed (sym (declared_scope t objects links notes s p n o laid same_links same_notes))
+
+-- a declaration with links adds one path whose links are pending
+pub declared_linked : (t : Pass) (objects : Namespace) (links : List PendingLink) (notes : Notes) (s p : List Segment) (n : NameParts) (o : ObjectTree) (names : List NameParts)
+    → names ≢ [] → declared_path t.objects s n ≡ Ok p → objects ≡ union t.objects (singleton p o) → links ≡ t.links ++ pending_for p s names ∷ [] → notes ≡ t.notes
+    → take_step t s (step n (declares o names None)) ≡ Ok (pass objects links notes)
+declared_linked t objects links notes s p n o [] some placed laid linked same_notes = absurd (some refl)
+declared_linked t objects links notes s p n o (m ∷ ms) some placed laid linked same_notes =
+    stepped t objects links notes s p n o (m ∷ ms) None placed (λ i. record {
+      objects = sym laid i;
+      links = sym linked i;
+      notes = (nothing_joined t.notes ∙ sym same_notes) i;
+    })
+
+-- a method is noted
+pub declared_method : (t : Pass) (objects : Namespace) (links : List PendingLink) (notes : Notes) (s p : List Segment) (n : NameParts) (o : ObjectTree) (code : List ℕ)
+    → declared_path t.objects s n ≡ Ok p → objects ≡ union t.objects (singleton p o) → links ≡ t.links → notes ≡ with_method t.notes (record { path = p; code = code })
+    → take_step t s (step n (declares o [] (Some code))) ≡ Ok (pass objects links notes)
+declared_method t objects links notes s p n o code placed laid same_links noted =
+    stepped t objects links notes s p n o [] (Some code) placed (λ i. record {
+      objects = sym laid i;
+      links = (append-nil t.links ∙ sym same_links) i;
+      notes = (with_one ∙ sym noted) i;
+    })
+  where
+    one : Method
+    one = record { path = p; code = code }
+
+    with_one : joined t.notes (note_of t.objects (placement s (step n (declares o [] (Some code))) p)) ≡ with_method t.notes one
+    with_one = λ i. record { counts = union-nothing t.notes.counts i; methods = t.notes.methods ++ one ∷ []; missed = append-nil t.notes.missed i }
+
+-- a Scope term notes what its search missed
+pub opened_scope : (t : Pass) (objects : Namespace) (links : List PendingLink) (notes : Notes) (s p : List Segment) (n : NameParts)
+    → objects ≡ t.objects → links ≡ t.links → notes ≡ with_missed t.notes (missed (is_defined_in t.objects) s n)
+    → pass objects links notes ≡ after t (placement s (step n opens) p)
+opened_scope t objects links notes s p n same_objects same_links noted = λ i. record {
+  objects = (same_objects ∙ sym (union-nothing t.objects)) i;
+  links = (same_links ∙ sym (append-nil t.links)) i;
+  notes = (noted ∙ with_misses) i;
+}
+  where
+    with_misses : with_missed t.notes (missed (is_defined_in t.objects) s n) ≡ joined t.notes (note_of t.objects (placement s (step n opens) p))
+    with_misses = λ i. record { counts = sym (union-nothing t.notes.counts) i; methods = sym (append-nil t.notes.methods) i; missed = t.notes.missed ++ missed (is_defined_in t.objects) s n }
+
+-- ---- Externals
+
+counted : (t : Pass) (notes : Notes) (s : List Segment) (n : NameParts) (k : ℕ)
+    → union t.notes.counts (count_at k n.segments (place_of s n)) ≡ notes.counts → t.notes.methods ≡ notes.methods → t.notes.missed ≡ notes.missed
+    → take_steps t s (step n (expects k) ∷ []) ≡ passed (pass t.objects t.links notes)
+counted t notes s n k counts methods missed = λ i. passed (record {
+  objects = union-nothing t.objects i;
+  links = append-nil t.links i;
+  notes = record { counts = counts i; methods = (append-nil t.notes.methods ∙ methods) i; missed = (append-nil t.notes.missed ∙ missed) i };
+})
+
+-- an External of a method whose name has a place gives its count
+pub expected_count : (t : Pass) (notes : Notes) (s p : List Segment) (n : NameParts) (k : ℕ)
+    → n.segments ≢ [] → place_of s n ≡ Some p → notes ≡ with_count t.notes p k
+    → take_steps t s (step n (expects k) ∷ []) ≡ passed (pass t.objects t.links notes)
+expected_count t notes s p n k some placed noted =
+    counted t (with_count t.notes p k) s n k (by n.segments some) refl refl ∙ ap (λ m. passed (pass t.objects t.links m)) (sym noted)
+  where
+    by : (gs : List Segment) → gs ≢ [] → union t.notes.counts (count_at k gs (place_of s n)) ≡ union t.notes.counts (singleton p k)
+    by [] h = absurd (h refl)
+    by (x ∷ gs) h = ap (λ o. union t.notes.counts (count_at k (x ∷ gs) o)) placed
+
+-- one whose name has none, or no segments, gives nothing
+pub expected_nothing : (t : Pass) (s : List Segment) (n : NameParts) (k : ℕ)
+    → (n.segments ≡ []) ⊎ (place_of s n ≡ None)
+    → take_steps t s (step n (expects k) ∷ []) ≡ passed t
+expected_nothing t s n k h = counted t t.notes s n k (ap (union t.notes.counts) (none n.segments (place_of s n) h) ∙ union-nothing t.notes.counts) refl refl
+  where
+    none : (gs : List Segment) (o : Option (List Segment)) → (gs ≡ []) ⊎ (o ≡ None) → count_at k gs o ≡ nothing
+    none [] o h = refl
+    none (x ∷ gs) None h = refl
+    none (x ∷ gs) (Some p) (inl e) = cc
+    none (x ∷ gs) (Some p) (inr e) = cc
+
+pub external_nothing : (b : Bool) (t : Pass) (s : List Segment) (n : NameParts) (k : ℕ)
+    → (n.segments ≡ []) ⊎ (place_of s n ≡ None)
+    → take_steps t s (cond b (step n (expects k) ∷ []) []) ≡ passed t
+external_nothing true t s n k h = expected_nothing t s n k h
+external_nothing false t s n k h = refl

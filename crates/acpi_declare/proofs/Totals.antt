@@ -1,0 +1,78 @@
+-- Table after table.
+use Rattle.std.proofs.Common.{◌≡◌, ℕ, suc, ◌+◌, List, [], ◌∷◌, ◌++◌, map, length, refl, sym, ap, subst, ◌∙◌, append_assoc, append-nil, arith}
+use Rattle.acpi_declare.specs.declared.fault.LoadFault.{LoadFault}
+use Rattle.acpi_declare.specs.declared.fault.LoadFault.TheVariants.{At, Memory}
+use Rattle.acpi_space.specs.Lookups.{union}
+use Rattle.acpi_declare.specs.Links.{PendingLink, pending_links, all_pending}
+use Rattle.acpi_declare.specs.Listing.{Placement, declared, IsListing}
+use Rattle.acpi_declare.specs.Loads.{AreListings, objects_after}
+use Rattle.acpi_declare.specs.Namespace.{Namespace}
+use Rattle.acpi_declare.specs.Notes.{Notes, notes_on, all_notes}
+use Rattle.acpi_declare.specs.Predefined.{predefined}
+use Rattle.acpi_declare.specs.Refusals.{IsRefusedAs, IsLoadFault}
+use Rattle.acpi_declare.specs.Sites.{sites}
+use Rattle.acpi_declare.specs.Tables.{IsTableOf}
+use Rattle.acpi_declare.specs.steps.Adding.{State, AddsTable, SoFar}
+use Rattle.acpi_declare.specs.steps.Told.{IsTableFault}
+
+-- the listings of some tables and of one more behind them
+more_listings : (depth k number : ℕ) (objects : Namespace) (bs : List (List ℕ)) (ts : List (List Placement)) (b : List ℕ) (t : List Placement) (is : _)
+    → AreListings depth k objects bs ts → number ≡ k + length bs → IsTableOf depth number b is → IsListing (objects_after objects ts) (sites is) t → AreListings depth k objects (bs ++ b ∷ []) (ts ++ t ∷ [])
+more_listings depth k number objects [] [] b t is h e table listing = ((is, subst (λ n. IsTableOf depth n b is) (e ∙ omega arith) table, listing), tt)
+more_listings depth k number objects (c ∷ bs) (u ∷ ts) b t is h e table listing = (h.0, more_listings depth (suc k) number (union objects (declared u)) bs ts b t is h.1 (e ∙ omega arith) table listing)
+more_listings depth k number objects [] (u ∷ ts) b t is h e table listing = absurd h
+more_listings depth k number objects (c ∷ bs) [] b t is h e table listing = absurd h
+
+more_objects : (objects : Namespace) (ts : List (List Placement)) (t : List Placement) → objects_after objects (ts ++ t ∷ []) ≡ union (objects_after objects ts) (declared t)
+more_objects objects [] t = refl
+more_objects objects (u ∷ ts) t = more_objects (union objects (declared u)) ts t
+
+more_pending : (ts : List (List Placement)) (t : List Placement) → all_pending (ts ++ t ∷ []) ≡ all_pending ts ++ pending_links t
+more_pending [] t = append-nil (pending_links t)
+more_pending (u ∷ ts) t = ap (λ l. pending_links u ++ l) (more_pending ts t) ∙ sym (append_assoc (pending_links u) (all_pending ts) (pending_links t))
+
+more_notes : (objects : Namespace) (ts : List (List Placement)) (t : List Placement) → all_notes objects (ts ++ t ∷ []) ≡ all_notes objects ts ++ notes_on (objects_after objects ts) t ∷ []
+more_notes objects [] t = refl
+more_notes objects (u ∷ ts) t = ap (λ ns. notes_on objects u ∷ ns) (more_notes (union objects (declared u)) ts t)
+
+pub one_more : (depth number : ℕ) (bs : List (List ℕ)) (b : List ℕ) (before now : State) → number ≡ length bs → SoFar depth bs before → AddsTable depth number b before now → SoFar depth (bs ++ b ∷ []) now
+one_more depth number bs b before now e so adds = record {
+  placements = so.placements ++ adds.placements ∷ [];
+  listings = more_listings depth 0 number predefined bs so.placements b adds.placements adds.is so.listings (e ∙ omega arith) adds.table (subst (λ (m : Namespace). IsListing m (sites adds.is) adds.placements) so.objects_are adds.listing);
+  objects_are = adds.objects_are ∙ ap (λ (m : Namespace). union m (declared adds.placements)) so.objects_are ∙ sym (more_objects predefined so.placements adds.placements);
+  links_are = adds.links_are ∙ ap (λ (l : List PendingLink). l ++ pending_links adds.placements) so.links_are ∙ sym (more_pending so.placements adds.placements);
+  notes_are = adds.notes_are ∙ ap (λ (l : List Notes). l ++ notes_on before.objects adds.placements ∷ []) so.notes_are
+      ∙ ap (λ (m : Namespace). all_notes predefined so.placements ++ notes_on m adds.placements ∷ []) so.objects_are ∙ sym (more_notes predefined so.placements adds.placements);
+}
+
+-- nothing was declared yet, whatever the depth
+pub so_far_nothing : (depth other : ℕ) (now : State) → SoFar other [] now → SoFar depth [] now
+so_far_nothing depth other now so = by so.placements refl
+  where
+    by : (ts : List (List Placement)) → so.placements ≡ ts → SoFar depth [] now
+    by [] e = record {
+      placements = [];
+      listings = tt;
+      objects_are = so.objects_are ∙ ap (objects_after predefined) e;
+      links_are = so.links_are ∙ ap all_pending e;
+      notes_are = so.notes_are ∙ ap (all_notes predefined) e;
+    }
+    by (t ∷ ts) e = absurd (subst (AreListings other 0 predefined []) e so.listings)
+
+-- the next table's fault is the load's
+pub next_fault : (depth number : ℕ) (bs later all : List (List ℕ)) (b : List ℕ) (before : State) (f : LoadFault) → all ≡ bs ++ b ∷ later → number ≡ length bs → SoFar depth bs before
+    → IsTableFault depth number before.objects b f → IsLoadFault depth all f
+next_fault depth number bs later all b before Memory splits e so h = tt
+next_fault depth number bs later all b before (At k reason) splits e so h = record {
+  earlier = bs;
+  bytes = b;
+  later = later;
+  splits = splits;
+  count = sym e ∙ sym h.0;
+  placements = so.placements;
+  listings = so.listings;
+  refused = refused;
+}
+  where
+    refused : IsRefusedAs depth k (objects_after predefined so.placements) b reason
+    refused = subst (λ n. IsRefusedAs depth n (objects_after predefined so.placements) b reason) (sym h.0) (subst (λ (m : Namespace). IsRefusedAs depth number m b reason) so.objects_are h.1)

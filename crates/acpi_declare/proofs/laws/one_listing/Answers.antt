@@ -1,0 +1,5 @@
+use Rattle.acpi_declare.proofs.NoLoad.{one_listing}
+use Rattle.acpi_declare.proofs.laws.one_listing.Goals as goal
+
+pub returns : goal.returns
+returns c = one_listing

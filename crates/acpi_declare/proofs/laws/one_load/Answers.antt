@@ -1,0 +1,5 @@
+use Rattle.acpi_declare.proofs.NoLoad.{one_load}
+use Rattle.acpi_declare.proofs.laws.one_load.Goals as goal
+
+pub returns : goal.returns
+returns c = one_load

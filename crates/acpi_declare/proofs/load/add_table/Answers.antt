@@ -1,0 +1,40 @@
+use Rattle.std.proofs.Common.{◌≡◌, ◌∙◌, ◌++◌, ◌∷◌, [], List, map, ap, sym, subst, refl, Ok, Err}
+use Rattle.std.proofs.lemmas.Result.{err_from_is_err_and}
+use Rattle.std.proofs.lemmas.List.{map-append}
+use Rattle.acpi_name.specs.Names.{Segment}
+use Rattle.acpi_tree.specs.View.{items_tree}
+use Rattle.acpi_declare.specs.Namespace.{namespace_of}
+use Rattle.acpi_declare.specs.Notes.{Notes, notes_of}
+use Rattle.acpi_declare.specs.steps.Adding.{AddsTable, state_of}
+use Rattle.acpi_declare.specs.steps.Pass.{pass_items}
+use Rattle.acpi_declare.specs.steps.Told.{IsTableFault, IsTold}
+use Rattle.acpi_declare.specs.steps.View.{pass_of}
+use Rattle.acpi_declare.proofs.Tables.{pass_refused, pass_adds}
+use Rattle.acpi_declare.proofs.load.add_table.Goals as goal
+
+pub returns-in_err-items-clause-err : goal.returns-in_err-items-clause-err
+returns-in_err-items-clause-err g c =
+    let p = err_from_is_err_and c.from_residual.result c.from_residual.ensures.1 in
+    rw (p.1, p.2) (c.in_err-items.ensures.err (namespace_of (g.S.Space.contents c.args.loaded.objects)))
+
+pub returns-in-Err-Refused-clause-err : goal.returns-in-Err-Refused-clause-err
+returns-in-Err-Refused-clause-err g c =
+    let objects = namespace_of (g.S.Space.contents c.args.loaded.objects) in
+    let t = pass_of (g.S.Space.contents c.args.loaded.objects) (record { alloc = c.args.alloc; objects = c.args.loaded.objects; links = c.args.loaded.links; notes = c.new.result }) in
+    let is = items_tree c.in_ok-items.items.items in
+    let told : pass_items t c.root.result is ≡ Err (c.in-Err-Refused.refusal, c.in-Err-Refused.path) = subst (λ f. IsTold f (pass_items t c.root.result is)) c.in-Err-Refused.field-0-is c.in-Err-Refused.ensures.refused in
+    let stopped : pass_items t [] is ≡ Err (c.in-Err-Refused.refusal, c.in-Err-Refused.path) = ap (λ (s : List Segment). pass_items t s is) (sym c.root.ensures) ∙ told in
+    subst (IsTableFault c.args.depth c.args.number objects c.args.bytes.now) (sym c.refused.ensures)
+    (refl, (is, c.in_ok-items.ensures.ok, pass_refused t is (c.in-Err-Refused.refusal, c.in-Err-Refused.path) stopped))
+
+pub returns-clause-ok : goal.returns-clause-ok
+returns-clause-ok g c =
+    let t = pass_of (g.S.Space.contents c.args.loaded.objects) (record { alloc = c.args.alloc; objects = c.args.loaded.objects; links = c.args.loaded.links; notes = c.new.result }) in
+    let u = pass_of (g.S.Space.contents c.declare_items-2.new.self.objects) c.declare_items-2.new.self in
+    let is = items_tree c.in_ok-items.items.items in
+    let before = state_of (g.S.Space.contents c.args.loaded.objects) c.args.loaded in
+    let ran : pass_items t [] is ≡ Ok u = ap (λ (s : List Segment). pass_items t s is) (sym c.root.ensures) ∙ c.in-Ok.ensures.ok in
+    let notes = map notes_of c.args.loaded.notes.items in
+    let pushed : map notes_of c.push.new.self.items ≡ notes ++ u.notes ∷ [] = ap (map notes_of) c.in_ok-push.ensures.items ∙ map-append notes_of c.args.loaded.notes.items (c.declare_items-2.new.self.notes ∷ []) in
+    subst (λ (l : List Notes). AddsTable c.args.depth c.args.number c.args.bytes.now before (record { objects = u.objects; links = u.links; notes = l })) (sym pushed)
+    (pass_adds c.args.depth c.args.number c.args.bytes.now is t u notes c.in_ok-items.ensures.ok ran c.new.ensures)

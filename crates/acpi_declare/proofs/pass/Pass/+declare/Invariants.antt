@@ -1,0 +1,14 @@
+use Rattle.std.proofs.Common.{◌≡◌, true}
+use Rattle.std.specs.Vec.Iter.{into_iter_items}
+use Rattle.acpi_tree.specs.Fits.{items_fit}
+use Rattle.acpi_tree.specs.Offsets.{OffsetsFit}
+use Rattle.acpi_tree.specs.View.{items_tree}
+use Rattle.acpi_declare.specs.steps.View.{pass_of}
+use Rattle.acpi_declare.specs.steps.Pass.{pass_items}
+use Rattle.acpi_declare.proofs.pass.Pass.+declare.Given as goal
+
+abbrev pub invariant-declare_items-loop-item : goal.invariant-declare_items-loop-item
+invariant-declare_items-loop-item g l =
+    (pass_items (pass_of (g.S.Space.contents l.self.objects) l.self) l.scope (items_tree (into_iter_items l.item-iterator))
+    ≡ pass_items (pass_of (g.S.Space.contents l.initial.self.objects) l.initial.self) l.scope (items_tree (into_iter_items l.initial.item-iterator)))
+    × OffsetsFit (items_tree (into_iter_items l.item-iterator)) × (items_fit (items_tree (into_iter_items l.item-iterator)) ≡ true)

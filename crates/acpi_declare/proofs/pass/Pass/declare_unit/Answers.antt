@@ -1,0 +1,13 @@
+use Rattle.std.proofs.Common.{ap}
+use Rattle.acpi_tree.specs.Objects.{object_view}
+use Rattle.acpi_declare.specs.Sites.{unit_name}
+use Rattle.acpi_declare.specs.Notes.{notes_of}
+use Rattle.acpi_declare.specs.steps.View.{pass_of}
+use Rattle.acpi_declare.proofs.Steps.{declared_linked}
+use Rattle.acpi_declare.proofs.pass.Pass.declare_unit.Goals as goal
+
+pub returns-clause-ok : goal.returns-clause-ok
+returns-clause-ok g c =
+    let before = pass_of (g.S.Space.contents c.args.self.now.objects) c.args.self.now in
+    declared_linked before _ _ _ c.args.scope.now _ (unit_name c.args.seg) (object_view c.args.object) c.args.names.items c.requires c.in_ok-path.ensures.ok c.in_ok-put_linked.ensures.objects
+    c.in_ok-put_linked.ensures.links (ap notes_of c.in_ok-put_linked.ensures.notes)

@@ -1,0 +1,21 @@
+use Rattle.std.proofs.Common.{◌≡◌, ◌∙◌, Some, None, ap, sym, subst, rules}
+use Rattle.std.specs.FinMap.{get}
+use Rattle.acpi_space.specs.Spaces.{is_defined}
+use Rattle.acpi_space.specs.Search.{answer}
+use Rattle.acpi_declare.specs.Namespace.{namespace_of}
+use Rattle.acpi_declare.specs.steps.Told.{IsTold}
+use Rattle.acpi_declare.proofs.Lookups.{answer_defined, opened_is}
+use Rattle.acpi_declare.proofs.placing.opened.Goals as goal
+
+pub returns-in-Ok-Missing-clause-refused : goal.returns-in-Ok-Missing-clause-refused
+returns-in-Ok-Missing-clause-refused g c =
+    let objects = g.S.Space.contents c.args.objects.now in
+    let none : answer (is_defined objects) c.args.scope.now c.args.name.now ≡ None = search rules in
+    subst (IsTold c.missing.result) (sym (opened_is objects c.args.scope.now c.args.name.now None none)) (c.missing.ensures (namespace_of objects))
+
+pub unreachable-requires : goal.unreachable-requires
+unreachable-requires g c =
+    let objects = g.S.Space.contents c.args.objects.now in
+    let found : answer (is_defined objects) c.args.scope.now c.args.name.now ≡ Some c.in-Ok-At.path = search rules in
+    let none : get objects c.in-Ok-At.path ≡ None = search rules in
+    answer_defined objects c.args.scope.now c.args.name.now c.in-Ok-At.path found none

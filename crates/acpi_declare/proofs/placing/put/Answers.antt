@@ -1,0 +1,12 @@
+use Rattle.std.proofs.Common.{◌∙◌, ap, rules}
+use Rattle.acpi_declare.specs.Namespace.{namespace_of}
+use Rattle.acpi_declare.proofs.Laying.{namespace_insert}
+use Rattle.acpi_declare.proofs.placing.put.Goals as goal
+use Rattle.acpi_declare.proofs.placing.put.Goals.{in-Ok, in-Err-Memory}
+
+pub returns : goal.returns
+returns g c =
+    elim c.match-insert.branch [
+      | in-Ok w ↦ rw w.result-is (ap namespace_of w.in-Ok.ensures.ok ∙ namespace_insert _ _ _ w.in-Ok.ensures.free)
+      | in-Err-Memory w ↦ search rules
+    ]

@@ -1,0 +1,13 @@
+pub mod Namespace
+pub mod Predefined
+pub mod Sites
+pub mod Placing
+pub mod Listing
+pub mod Links
+pub mod Notes
+pub mod Tables
+pub mod Loads
+pub mod Refusals
+pub mod DeclaredView
+pub mod Laws
+pub mod steps

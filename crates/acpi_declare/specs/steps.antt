@@ -1,0 +1,4 @@
+pub mod Pass
+pub mod View
+pub mod Told
+pub mod Adding

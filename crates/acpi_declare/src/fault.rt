@@ -1,0 +1,115 @@
+//! Why a load is refused.
+
+use acpi_name::Path;
+use acpi_table::TableFault;
+use acpi_terms::ItemReason;
+use std::alloc::{AllocError, AllocFailed};
+use thiserror::Error;
+
+/// Why a declaration or a Scope term is refused (ACPI 6.5, 5.3). The first that holds is told.
+#[derive(Clone, Copy, Debug, PartialEq, Eq, Error)]
+pub enum Refusal {
+    /// The declared name has no segments.
+    #[error("E1 EmptyName")]
+    EmptyName,
+    /// The name goes above the root.
+    #[error("E2 AboveRoot")]
+    AboveRoot,
+    /// A Scope's name is not found.
+    #[error("E3 Missing")]
+    Missing,
+    /// The path without its last segment is not defined.
+    #[error("E4 NoParent")]
+    NoParent,
+    /// No objects may stand below the object there.
+    #[error("E5 NotAScope")]
+    NotAScope,
+    /// An object stands at the path already.
+    #[error("E6 Taken")]
+    Taken,
+}
+
+// Why the pass over a table stops.
+#[derive(Debug, Drop)]
+pub(crate) enum Stop {
+    Refused(Refusal, Path),
+    Memory,
+}
+
+impl From<AllocError> for Stop {
+    ghost use Rattle.std.specs.Prelude.{◌≡◌};
+    ghost use Rattle.acpi_declare.specs.declared.fault.Stop.TheVariants.{Memory};
+
+    ghost from_gives = { λ _ f. f ≡ Memory };
+
+    fn from(_: AllocError) -> Stop {
+        Stop::Memory
+    }
+}
+
+impl<T: Drop> From<AllocFailed<T>> for Stop {
+    ghost use Rattle.std.specs.Prelude.{◌≡◌};
+    ghost use Rattle.acpi_declare.specs.declared.fault.Stop.TheVariants.{Memory};
+
+    ghost from_gives = { λ _ f. f ≡ Memory };
+
+    fn from(_: AllocFailed<T>) -> Stop {
+        Stop::Memory
+    }
+}
+
+/// Why a table can't be loaded.
+#[derive(Debug, Drop, Error)]
+pub enum LoadReason {
+    /// No table stands at the front of the bytes.
+    #[error("{0}")]
+    Table(TableFault),
+    /// Table 0 is no DSDT.
+    #[error("L1 NotDsdt")]
+    NotDsdt,
+    /// A later table is no SSDT.
+    #[error("L2 NotSsdt")]
+    NotSsdt,
+    /// Bytes follow the table.
+    #[error("L3 Trailing")]
+    Trailing,
+    /// The table's code can't be read: the reason, and its place in bytes from the code's first byte.
+    #[error("{reason}")]
+    Item { reason: ItemReason, place: usize },
+    /// A declaration or a Scope term is refused, with the path that the refusal names.
+    #[error("{refusal} {path}")]
+    Refused { refusal: Refusal, path: Path },
+}
+
+/// Why a load is refused.
+#[derive(Debug, Drop, Error)]
+pub enum LoadFault {
+    /// The first table that can't be loaded, by its number in the list, and the reason.
+    #[error("{reason}")]
+    At { table: usize, reason: LoadReason },
+    /// A growth of memory was refused.
+    #[error("M Memory")]
+    Memory,
+}
+
+impl From<AllocError> for LoadFault {
+    ghost use Rattle.std.specs.Prelude.{◌≡◌};
+    ghost use Rattle.acpi_declare.specs.declared.fault.LoadFault.TheVariants.{Memory};
+
+    ghost from_gives = { λ _ f. f ≡ Memory };
+
+    fn from(_: AllocError) -> LoadFault {
+        LoadFault::Memory
+    }
+}
+
+impl<T: Drop> From<AllocFailed<T>> for LoadFault {
+    ghost use Rattle.std.specs.Prelude.{◌≡◌};
+    ghost use Rattle.acpi_declare.specs.declared.fault.LoadFault.TheVariants.{Memory};
+
+    ghost from_gives = { λ _ f. f ≡ Memory };
+
+    fn from(_: AllocFailed<T>) -> LoadFault {
+        LoadFault::Memory
+    }
+}

@@ -1,0 +1,32 @@
+//! The namespace that a DSDT and a list of SSDTs declare (ACPI 6.5, 5.3), without running any of their code.
+//!
+//! ```text
+//! bytes of a table ── cut, read ──► item tree ── pass ──► Space<Object>, pending links, notes      table by table
+//!                                                              └──────► links, searched over the final objects
+//! ```
+//!
+//! What goes in is byte strings that nobody vouches for, one table each. What comes out is what the definitions
+//! of `specs/` give (`IsLoad`, `AreNotes`), or the first table that has no listing, with a reason that is true
+//! of it (`IsLoadFault`). A caller:
+//!
+//! ```text
+//! let declared: Declared<TreeSpace<Object>> = declare(alloc, dsdt, &[ssdt], depth)?;
+//! for (path, object) in &declared.objects().pairs()? { .. }
+//! ```
+#![tactic(auto)]
+
+mod fault;
+pub mod laws;
+mod links;
+mod load;
+mod notes;
+mod pass;
+mod placing;
+mod predefined;
+
+pub use fault::{LoadFault, LoadReason, Refusal};
+pub use load::{Declared, declare, declare_shared};
+pub use notes::{Method, TableNotes};
+
+#[cfg(test)]
+mod tests;

@@ -1,0 +1,84 @@
+//! The links of fields and buffer fields, searched over the final objects.
+
+ghost use Rattle.std.specs.Prelude.{◌≡◌, IfOk, IfErr, OnOk, map};
+ghost use Rattle.std.specs.FinMap as finite;
+ghost use Rattle.acpi_space.specs.Search.{answer};
+ghost use Rattle.acpi_space.specs.Lookups.{is_defined_in};
+ghost use Rattle.acpi_declare.specs.Namespace.{namespace_of};
+ghost use Rattle.acpi_declare.specs.Links.{answers, links_of, link_map, links_at};
+ghost use Rattle.acpi_declare.specs.steps.View.{pending_of};
+
+use crate::fault::LoadFault;
+use crate::pass::PendingLink;
+use acpi_name::{Name, Path};
+use acpi_space::{Found, SearchFault, Space, search};
+use acpi_terms::Object;
+use std::alloc::Global;
+use std::collections::BTreeMap;
+
+// What the search of one name answers.
+fn answer_of<S: Space<Object>>(
+    alloc: Global,
+    objects: &S,
+    scope: &Path,
+    name: &Name,
+) -> Result<Option<Path>, LoadFault>
+    ensures found { IfOk result (λ o. o ≡ answer (is_defined_in (namespace_of (S.contents objects.now))) scope.now name.now) }
+    ensures memory { IfErr result (λ f. f ≡ LoadFault.Memory) }
+{
+    match search(alloc, objects, scope, name.view()) {
+        Ok(Found::At(path)) => Ok(Some(path)),
+        Ok(Found::Missing) => Ok(None),
+        Err(SearchFault::AboveRoot) => Ok(None),
+        Err(SearchFault::Memory) => Err(LoadFault::Memory),
+    }
+}
+
+// What the searches of some names answer.
+fn answers_of<S: Space<Object>>(
+    alloc: Global,
+    objects: &S,
+    scope: &Path,
+    names: &[Name],
+) -> Result<Vec<Option<Path>>, LoadFault>
+    ensures found { IfOk result (λ v. v.items ≡ answers (namespace_of (S.contents objects.now)) scope.now names.now) }
+    ensures memory { IfErr result (λ f. f ≡ LoadFault.Memory) }
+{
+    let mut found = Vec::new(alloc);
+    for name in names {
+        found.push(answer_of(alloc, objects, scope, name)?)?;
+    }
+    Ok(found)
+}
+
+// The answers of one path.
+fn put_link(
+    links: &mut BTreeMap<Path, Vec<Option<Path>>>,
+    path: Path,
+    answers: Vec<Option<Path>>,
+) -> Result<(), LoadFault>
+    ensures ok { OnOk result (link_map links.new ≡ finite.insert (link_map links.old) path answers.items) }
+    ensures memory { IfErr result (λ f. f ≡ LoadFault.Memory) }
+{
+    match links.insert(path, answers) {
+        Ok(_) => Ok(()),
+        Err(_) => Err(LoadFault::Memory),
+    }
+}
+
+/// The answers of all links that wait.
+pub(crate) fn linked<S: Space<Object>>(
+    alloc: Global,
+    objects: &S,
+    pending: Vec<PendingLink>,
+) -> Result<BTreeMap<Path, Vec<Option<Path>>>, LoadFault>
+    ensures found { IfOk result (λ m. links_at m ≡ links_of (namespace_of (S.contents objects.now)) (map pending_of pending.items)) }
+    ensures memory { IfErr result (λ f. f ≡ LoadFault.Memory) }
+{
+    let mut links = BTreeMap::new(alloc);
+    for link in pending {
+        let found = answers_of(alloc, objects, &link.scope, &link.names)?;
+        put_link(&mut links, link.path, found)?;
+    }
+    Ok(links)
+}

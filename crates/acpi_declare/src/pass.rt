@@ -1,0 +1,494 @@
+//! The declaration pass over the items of one table.
+
+ghost use Rattle.std.specs.Prelude.{IsTrue, ◌≡◌, ◌≢◌, true, None, Some, ◌∷◌, [], ◌++◌, ◌+◌, ◌<◌, ◌^◌, map, IfOk, IfErr, OnOk, Ok};
+ghost use Rattle.std.specs.List.{list_all};
+ghost use Rattle.acpi_space.specs.Lookups.{singleton, union};
+ghost use Rattle.acpi_tree.specs.Objects.{object_view, method_object};
+ghost use Rattle.acpi_tree.specs.Fits.{external_fits, item_fits, items_fit};
+ghost use Rattle.acpi_tree.specs.Offsets.{element_bits, list_bits, OffsetFits, OffsetsFit};
+ghost use Rattle.acpi_tree.specs.View.{item_view, items_tree, external_view, externals_view, field_view, fields_view};
+ghost use Rattle.acpi_declare.specs.Namespace.{namespace_of};
+ghost use Rattle.acpi_declare.specs.Sites.{step, plainly, declares, opens, is_leaf, own_steps, external_step, external_steps, unit_step, unit_name, unit_steps};
+ghost use Rattle.acpi_declare.specs.Placing.{declared_path, opened_path};
+ghost use Rattle.acpi_declare.specs.Notes.{notes_of};
+ghost use Rattle.acpi_declare.specs.steps.Pass.{after, placement, take_step, take_steps, pass_item, pass_items};
+ghost use Rattle.acpi_declare.specs.steps.View.{pass_of, pending_of, pending_for, with_method};
+ghost use Rattle.acpi_declare.specs.steps.Told.{IsTold};
+
+use crate::fault::Stop;
+use crate::notes::TableNotes;
+use crate::placing::{declared, declared_unit, opened, put};
+use acpi_name::{Name, Path, PlaceFault, Seg, place};
+use acpi_space::{SearchFault, Space, misses};
+use acpi_terms::{External, FieldElem, FieldForm, Item, Object};
+use bytes::Bytes;
+use std::alloc::{AllocError, Global};
+
+// A declared path whose links are searched when all tables are declared: the names, and the scope
+// from which they are searched.
+#[derive(Debug, Drop)]
+pub(crate) struct PendingLink {
+    pub(crate) path: Path,
+    pub(crate) scope: Path,
+    pub(crate) names: Vec<Name>,
+}
+
+// What the pass has so far: the namespace, the links to search, and what the table notes.
+#[derive(Drop)]
+pub(crate) struct Pass<S> {
+    pub(crate) alloc: Global,
+    pub(crate) objects: S,
+    pub(crate) links: Vec<PendingLink>,
+    pub(crate) notes: TableNotes,
+}
+
+impl<S: Space<Object>> Pass<S> {
+    // Puts an object at a path that is free.
+    fn put(&mut self, path: Path, object: Object) -> Result<(), AllocError>
+        requires { namespace_of (S.contents self.old.objects) path ≡ None }
+        ensures objects { OnOk result (namespace_of (S.contents self.new.objects)
+            ≡ union (namespace_of (S.contents self.old.objects)) (singleton path (object_view object))) }
+        ensures links { self.new.links ≡ self.old.links }
+        ensures notes { self.new.notes ≡ self.old.notes }
+    {
+        put(&mut self.objects, path, object)?;
+        Ok(())
+    }
+
+    // Declares an object that has no links.
+    fn declare(&mut self, scope: &Path, name: &Name, object: Object) -> Result<(), Stop>
+        ensures ok { OnOk result (take_step (pass_of (S.contents self.old.objects) self.old) scope.now (step name.now (plainly (object_view object)))
+            ≡ Ok (pass_of (S.contents self.new.objects) self.new)) }
+        ensures refused { IfErr result (λ f. IsTold f (take_step (pass_of (S.contents self.old.objects) self.old) scope.now (step name.now (plainly (object_view object))))) }
+    {
+        let path = declared(self.alloc, &self.objects, scope, name)?;
+        self.put(path, object)?;
+        Ok(())
+    }
+
+    // Puts a method at a path that is free, and notes it.
+    fn put_method(&mut self, path: Path, flags: u8, code: Bytes) -> Result<(), AllocError>
+        requires { namespace_of (S.contents self.old.objects) path ≡ None }
+        ensures objects { OnOk result (namespace_of (S.contents self.new.objects)
+            ≡ union (namespace_of (S.contents self.old.objects)) (singleton path (method_object flags))) }
+        ensures links { self.new.links ≡ self.old.links }
+        ensures notes { OnOk result (notes_of self.new.notes ≡ with_method (notes_of self.old.notes) (record { path = path; code = code })) }
+    {
+        self.notes.add_method(path.copy()?, code)?;
+        self.put(path, Object::Method(flags))?;
+        Ok(())
+    }
+
+    // Declares a method.
+    fn declare_method(
+        &mut self,
+        scope: &Path,
+        name: &Name,
+        flags: u8,
+        code: Bytes,
+    ) -> Result<(), Stop>
+        ensures ok { OnOk result (take_step (pass_of (S.contents self.old.objects) self.old) scope.now (step name.now (declares (method_object flags) [] (Some code)))
+            ≡ Ok (pass_of (S.contents self.new.objects) self.new)) }
+        ensures refused { IfErr result (λ f. IsTold f (take_step (pass_of (S.contents self.old.objects) self.old) scope.now (step name.now (declares (method_object flags) [] (Some code))))) }
+    {
+        let path = declared(self.alloc, &self.objects, scope, name)?;
+        self.put_method(path, flags, code)?;
+        Ok(())
+    }
+
+    // Puts an object at a path that is free, and keeps the names of its links.
+    fn put_linked(
+        &mut self,
+        path: Path,
+        scope: &Path,
+        object: Object,
+        names: Vec<Name>,
+    ) -> Result<(), Stop>
+        requires { namespace_of (S.contents self.old.objects) path ≡ None }
+        ensures objects { OnOk result (namespace_of (S.contents self.new.objects)
+            ≡ union (namespace_of (S.contents self.old.objects)) (singleton path (object_view object))) }
+        ensures links { OnOk result (map pending_of self.new.links.items ≡ map pending_of self.old.links.items ++ pending_for path scope.now names.items ∷ []) }
+        ensures notes { self.new.notes ≡ self.old.notes }
+        ensures memory { IfErr result (λ f. f ≡ Stop.Memory) }
+    {
+        self.links.push(PendingLink {
+            path: path.copy()?,
+            scope: scope.copy()?,
+            names,
+        })?;
+        self.put(path, object)?;
+        Ok(())
+    }
+
+    // Declares an object of which links are searched.
+    fn declare_linked(
+        &mut self,
+        scope: &Path,
+        name: &Name,
+        object: Object,
+        names: Vec<Name>,
+    ) -> Result<(), Stop>
+        requires { names.items ≢ [] }
+        ensures ok { OnOk result (take_step (pass_of (S.contents self.old.objects) self.old) scope.now (step name.now (declares (object_view object) names.items None))
+            ≡ Ok (pass_of (S.contents self.new.objects) self.new)) }
+        ensures refused { IfErr result (λ f. IsTold f (take_step (pass_of (S.contents self.old.objects) self.old) scope.now (step name.now (declares (object_view object) names.items None)))) }
+    {
+        let path = declared(self.alloc, &self.objects, scope, name)?;
+        self.put_linked(path, scope, object, names)?;
+        Ok(())
+    }
+
+    // Declares a field unit.
+    fn declare_unit(
+        &mut self,
+        scope: &Path,
+        seg: Seg,
+        object: Object,
+        names: Vec<Name>,
+    ) -> Result<(), Stop>
+        requires { names.items ≢ [] }
+        ensures ok { OnOk result (take_step (pass_of (S.contents self.old.objects) self.old) scope.now (step (unit_name seg) (declares (object_view object) names.items None))
+            ≡ Ok (pass_of (S.contents self.new.objects) self.new)) }
+        ensures refused { IfErr result (λ f. IsTold f (take_step (pass_of (S.contents self.old.objects) self.old) scope.now (step (unit_name seg) (declares (object_view object) names.items None)))) }
+    {
+        let path = declared_unit(&self.objects, scope, seg)?;
+        self.put_linked(path, scope, object, names)?;
+        Ok(())
+    }
+
+    // Declares an object inside which others stand, and gives its path.
+    fn declare_scope(&mut self, scope: &Path, name: &Name, object: Object) -> Result<Path, Stop>
+        ensures path { IfOk result (λ p. declared_path (namespace_of (S.contents self.old.objects)) scope.now name.now ≡ Ok p) }
+        ensures ok { IfOk result (λ p. pass_of (S.contents self.new.objects) self.new
+            ≡ after (pass_of (S.contents self.old.objects) self.old) (placement scope.now (step name.now (plainly (object_view object))) p)) }
+        ensures refused { IfErr result (λ f. IsTold f (declared_path (namespace_of (S.contents self.old.objects)) scope.now name.now)) }
+    {
+        let path = declared(self.alloc, &self.objects, scope, name)?;
+        let inside = path.copy()?;
+        self.put(path, object)?;
+        Ok(inside)
+    }
+
+    // Opens a scope, and gives its path.
+    fn open_scope(&mut self, scope: &Path, name: &Name) -> Result<Path, Stop>
+        ensures path { IfOk result (λ p. opened_path (namespace_of (S.contents self.old.objects)) scope.now name.now ≡ Ok p) }
+        ensures ok { IfOk result (λ p. pass_of (S.contents self.new.objects) self.new
+            ≡ after (pass_of (S.contents self.old.objects) self.old) (placement scope.now (step name.now opens) p)) }
+        ensures refused { IfErr result (λ f. IsTold f (opened_path (namespace_of (S.contents self.old.objects)) scope.now name.now)) }
+    {
+        let target = opened(self.alloc, &self.objects, scope, name)?;
+        match misses(self.alloc, &self.objects, scope, name.view()) {
+            Ok(paths) => {
+                self.notes.add_missed(paths)?;
+                Ok(target)
+            }
+            Err(SearchFault::Memory) => Err(Stop::Memory),
+            Err(SearchFault::AboveRoot) => unreachable!(),
+        }
+    }
+
+    // Keeps what an External says.
+    fn expect(&mut self, scope: &Path, external: &External) -> Result<(), Stop>
+        requires { external_fits (external_view external.now) ≡ true }
+        ensures ok { OnOk result (take_steps (pass_of (S.contents self.old.objects) self.old) scope.now (external_step (external_view external.now))
+            ≡ Ok (pass_of (S.contents self.new.objects) self.new)) }
+        ensures memory { IfErr result (λ f. f ≡ Stop.Memory) }
+    {
+        if external.kind != 8 || external.name.view().len() == 0 {
+            return Ok(());
+        }
+        match place(self.alloc, scope, external.name.view()) {
+            Ok(path) => {
+                self.notes.add_count(path, external.args)?;
+                Ok(())
+            }
+            Err(PlaceFault::AboveRoot) => Ok(()),
+            Err(PlaceFault::Memory) => Err(Stop::Memory),
+        }
+    }
+
+    // Keeps what the Externals of a block say.
+    fn expect_all(&mut self, scope: &Path, externals: &[External]) -> Result<(), Stop>
+        requires { list_all external_fits (externals_view externals.now) ≡ true }
+        ensures ok { OnOk result (take_steps (pass_of (S.contents self.old.objects) self.old) scope.now (external_steps (externals_view externals.now))
+            ≡ Ok (pass_of (S.contents self.new.objects) self.new)) }
+        ensures memory { IfErr result (λ f. f ≡ Stop.Memory) }
+    {
+        for external in externals {
+            self.expect(scope, external)?;
+        }
+        Ok(())
+    }
+
+    // Declares what one field element names, and gives the offset behind it.
+    fn declare_elem(
+        &mut self,
+        scope: &Path,
+        fields: &FieldList<'_>,
+        offset: u64,
+        elem: &FieldElem,
+    ) -> Result<u64, Stop>
+        requires some { fields.now.names.now ≢ [] }
+        requires room { offset + element_bits (field_view elem.now) < 2 ^ 64 }
+        ensures ok { OnOk result (take_steps (pass_of (S.contents self.old.objects) self.old) scope.now (unit_step fields.now.form fields.now.flags fields.now.names.now offset (field_view elem.now))
+            ≡ Ok (pass_of (S.contents self.new.objects) self.new)) }
+        ensures behind { IfOk result (λ n. n ≡ offset + element_bits (field_view elem.now)) }
+        ensures refused { IfErr result (λ f. IsTold f (take_steps (pass_of (S.contents self.old.objects) self.old) scope.now (unit_step fields.now.form fields.now.flags fields.now.names.now offset (field_view elem.now)))) }
+    {
+        match elem {
+            FieldElem::Unit(seg, bits) => {
+                let object = Object::Field {
+                    form: fields.form,
+                    flags: fields.flags,
+                    offset,
+                    bits: *bits,
+                };
+                self.declare_unit(scope, *seg, object, copies(self.alloc, fields.names)?)?;
+                Ok(behind(offset, *bits))
+            }
+            FieldElem::Reserved(bits) => Ok(behind(offset, *bits)),
+            _ => Ok(offset),
+        }
+    }
+
+    // Declares the units of a field list.
+    fn declare_units(
+        &mut self,
+        scope: &Path,
+        fields: &FieldList<'_>,
+        elems: &[FieldElem],
+    ) -> Result<(), Stop>
+        requires some { fields.now.names.now ≢ [] }
+        requires room { list_bits (fields_view elems.now) < 2 ^ 64 }
+        ensures ok { OnOk result (take_steps (pass_of (S.contents self.old.objects) self.old) scope.now (unit_steps fields.now.form fields.now.flags fields.now.names.now 0 (fields_view elems.now))
+            ≡ Ok (pass_of (S.contents self.new.objects) self.new)) }
+        ensures refused { IfErr result (λ f. IsTold f (take_steps (pass_of (S.contents self.old.objects) self.old) scope.now (unit_steps fields.now.form fields.now.flags fields.now.names.now 0 (fields_view elems.now)))) }
+    {
+        let mut offset = 0;
+        for elem in elems {
+            offset = self.declare_elem(scope, fields, offset, elem)?;
+        }
+        Ok(())
+    }
+
+    // An item in which no others stand.
+    fn declare_leaf(&mut self, scope: &Path, item: Item) -> Result<(), Stop>
+        requires leaf { IsTrue (is_leaf (item_view item)) }
+        requires room { OffsetFits (item_view item) }
+        requires fits { item_fits (item_view item) ≡ true }
+        ensures ok { OnOk result (take_steps (pass_of (S.contents self.old.objects) self.old) scope.now (own_steps (item_view item))
+            ≡ Ok (pass_of (S.contents self.new.objects) self.new)) }
+        ensures refused { IfErr result (λ f. IsTold f (take_steps (pass_of (S.contents self.old.objects) self.old) scope.now (own_steps (item_view item)))) }
+    {
+        match item {
+            Item::Name(name, data) => self.declare(scope, &name, Object::Name(data)),
+            Item::Method { name, flags, code } => self.declare_method(scope, &name, flags, code),
+            Item::External(external) => self.expect(scope, &external),
+            Item::ExternalBlock(externals) => self.expect_all(scope, &externals),
+            Item::Create {
+                width,
+                source,
+                index,
+                name,
+            } => self.declare_linked(
+                scope,
+                &name,
+                Object::Create { width, index },
+                one(self.alloc, source)?,
+            ),
+            Item::CreateField {
+                source,
+                index,
+                bits,
+                name,
+            } => self.declare_linked(
+                scope,
+                &name,
+                Object::CreateField { index, bits },
+                one(self.alloc, source)?,
+            ),
+            Item::Mutex(name, flags) => self.declare(scope, &name, Object::Mutex(flags)),
+            Item::Event(name) => self.declare(scope, &name, Object::Event),
+            Item::Region {
+                name,
+                space,
+                offset,
+                length,
+            } => self.declare(
+                scope,
+                &name,
+                Object::Region {
+                    space,
+                    offset,
+                    length,
+                },
+            ),
+            Item::Field {
+                region,
+                flags,
+                elems,
+            } => self.declare_fields(
+                scope,
+                FieldForm::Field,
+                flags,
+                &one(self.alloc, region)?,
+                &elems,
+            ),
+            Item::IndexField {
+                index,
+                datum,
+                flags,
+                elems,
+            } => self.declare_fields(
+                scope,
+                FieldForm::Index,
+                flags,
+                &two(self.alloc, index, datum)?,
+                &elems,
+            ),
+            Item::BankField {
+                region,
+                bank,
+                value,
+                flags,
+                elems,
+            } => self.declare_fields(
+                scope,
+                FieldForm::Bank(value),
+                flags,
+                &two(self.alloc, region, bank)?,
+                &elems,
+            ),
+            _ => Ok(()),
+        }
+    }
+
+    // Declares the units of a field list whose links search these names.
+    fn declare_fields(
+        &mut self,
+        scope: &Path,
+        form: FieldForm,
+        flags: u8,
+        names: &[Name],
+        elems: &[FieldElem],
+    ) -> Result<(), Stop>
+        requires some { names.now ≢ [] }
+        requires room { list_bits (fields_view elems.now) < 2 ^ 64 }
+        ensures ok { OnOk result (take_steps (pass_of (S.contents self.old.objects) self.old) scope.now (unit_steps form flags names.now 0 (fields_view elems.now))
+            ≡ Ok (pass_of (S.contents self.new.objects) self.new)) }
+        ensures refused { IfErr result (λ f. IsTold f (take_steps (pass_of (S.contents self.old.objects) self.old) scope.now (unit_steps form flags names.now 0 (fields_view elems.now)))) }
+    {
+        let fields = FieldList { form, flags, names };
+        self.declare_units(scope, &fields, elems)
+    }
+
+    // One item, with all that stands in it.
+    #[cycle(declare)]
+    fn declare_item(&mut self, scope: &Path, item: Item) -> Result<(), Stop>
+        requires room { OffsetFits (item_view item) }
+        requires fits { item_fits (item_view item) ≡ true }
+        ensures ok { OnOk result (pass_item (pass_of (S.contents self.old.objects) self.old) scope.now (item_view item)
+            ≡ Ok (pass_of (S.contents self.new.objects) self.new)) }
+        ensures refused { IfErr result (λ f. IsTold f (pass_item (pass_of (S.contents self.old.objects) self.old) scope.now (item_view item))) }
+    {
+        match item {
+            Item::Scope(name, items) => {
+                let target = self.open_scope(scope, &name)?;
+                self.declare_items(&target, items)
+            }
+            Item::Device(name, items) => {
+                let inside = self.declare_scope(scope, &name, Object::Device)?;
+                self.declare_items(&inside, items)
+            }
+            Item::Processor {
+                name,
+                id,
+                block,
+                length,
+                items,
+            } => {
+                let inside = self.declare_scope(
+                    scope,
+                    &name,
+                    Object::Processor { id, block, length },
+                )?;
+                self.declare_items(&inside, items)
+            }
+            Item::Power {
+                name,
+                level,
+                order,
+                items,
+            } => {
+                let inside = self.declare_scope(scope, &name, Object::Power { level, order })?;
+                self.declare_items(&inside, items)
+            }
+            Item::Thermal(name, items) => {
+                let inside = self.declare_scope(scope, &name, Object::Thermal)?;
+                self.declare_items(&inside, items)
+            }
+            item => self.declare_leaf(scope, item),
+        }
+    }
+
+    // The items of a list, in order.
+    #[cycle(declare)]
+    pub(crate) fn declare_items(&mut self, scope: &Path, items: Vec<Item>) -> Result<(), Stop>
+        requires room { OffsetsFit (items_tree items.items) }
+        requires fits { items_fit (items_tree items.items) ≡ true }
+        ensures ok { OnOk result (pass_items (pass_of (S.contents self.old.objects) self.old) scope.now (items_tree items.items)
+            ≡ Ok (pass_of (S.contents self.new.objects) self.new)) }
+        ensures refused { IfErr result (λ f. IsTold f (pass_items (pass_of (S.contents self.old.objects) self.old) scope.now (items_tree items.items))) }
+    {
+        for item in items {
+            self.declare_item(scope, item)?;
+        }
+        Ok(())
+    }
+}
+
+// What the units of one field list have in common.
+#[derive(Clone, Copy)]
+struct FieldList<'a> {
+    form: FieldForm,
+    flags: u8,
+    names: &'a [Name],
+}
+
+// The offset behind so many bits.
+fn behind(offset: u64, bits: u32) -> u64
+    requires { offset + bits < 2 ^ 64 }
+    ensures { result ≡ offset + bits }
+{
+    offset + u64::from(bits)
+}
+
+// Copies of the names.
+fn copies(alloc: Global, names: &[Name]) -> Result<Vec<Name>, AllocError>
+    ensures { IfOk result (λ v. v.items ≡ names.now) }
+{
+    let mut copies = Vec::new(alloc);
+    for name in names {
+        copies.push(name.copy()?)?;
+    }
+    Ok(copies)
+}
+
+// A list of one name.
+fn one(alloc: Global, name: Name) -> Result<Vec<Name>, AllocError>
+    ensures { IfOk result (λ v. v.items ≡ name ∷ []) }
+{
+    let mut names = Vec::new(alloc);
+    names.push(name)?;
+    Ok(names)
+}
+
+// A list of two names.
+fn two(alloc: Global, first: Name, second: Name) -> Result<Vec<Name>, AllocError>
+    ensures { IfOk result (λ v. v.items ≡ first ∷ second ∷ []) }
+{
+    let mut names = Vec::new(alloc);
+    names.push(first)?;
+    names.push(second)?;
+    Ok(names)
+}

@@ -1,0 +1,141 @@
+//! Where a term puts its object, and which scope it opens.
+
+ghost use Rattle.std.specs.Prelude.{◌≡◌, ◌≢◌, ◌∷◌, [], ◌++◌, option_to_list, None, IfOk, IfErr, OnOk};
+ghost use Rattle.acpi_name.specs.Paths.{parent_of, place_of};
+ghost use Rattle.acpi_tree.specs.Objects.{object_view};
+ghost use Rattle.acpi_space.specs.Lookups.{singleton, union};
+ghost use Rattle.acpi_declare.specs.Namespace.{Namespace, namespace_of};
+ghost use Rattle.acpi_declare.specs.Placing.{below, declared_path, opened_in, opened_path};
+ghost use Rattle.acpi_declare.specs.Sites.{unit_name};
+ghost use Rattle.acpi_declare.specs.steps.Told.{IsTold};
+
+use crate::fault::{Refusal, Stop};
+use acpi_name::{Name, Path, PlaceFault, Seg, place};
+use acpi_space::{Found, Refused, SearchFault, Space, search};
+use acpi_terms::Object;
+use std::alloc::{AllocError, Global};
+
+// Puts an object at a path that is free.
+pub(crate) fn put<S: Space<Object>>(
+    objects: &mut S,
+    path: Path,
+    object: Object,
+) -> Result<(), AllocError>
+    requires { namespace_of (S.contents objects.old) path ≡ None }
+    ensures { OnOk result (namespace_of (S.contents objects.new) ≡ union (namespace_of (S.contents objects.old)) (singleton path (object_view object))) }
+{
+    match objects.insert(path, object) {
+        Ok(()) => Ok(()),
+        Err(Refused::Memory(_)) => Err(AllocError),
+        Err(Refused::Taken(_)) => unreachable!(),
+    }
+}
+
+// The path that has this parent and last segment.
+fn rejoined(parent: Path, last: Option<Seg>) -> Result<Path, AllocError>
+    ensures { IfOk result (λ p. p ≡ parent ++ option_to_list last) }
+{
+    let mut path = parent;
+    if let Some(seg) = last {
+        path.push(seg)?;
+    }
+    Ok(path)
+}
+
+// The path, if an object may be declared there.
+#[tactic(auto, using(crate::proofs::Lookups::rejoined_parts))]
+fn free_below<S: Space<Object>>(objects: &S, path: Path) -> Result<Path, Stop>
+    ensures ok { IfOk result (λ p. below (namespace_of (S.contents objects.now)) path (namespace_of (S.contents objects.now) (parent_of path)) ≡ Ok p) }
+    ensures refused { IfErr result (λ f. IsTold f (below (namespace_of (S.contents objects.now)) path (namespace_of (S.contents objects.now) (parent_of path)))) }
+{
+    let mut path = path;
+    let last = path.pop();
+    match objects.get(&path) {
+        None => Err(Stop::Refused(Refusal::NoParent, path)),
+        Some(object) => {
+            if !object.opens_scope() {
+                return Err(Stop::Refused(Refusal::NotAScope, path));
+            }
+            let path = rejoined(path, last)?;
+            if objects.get(&path).is_some() {
+                return Err(Stop::Refused(Refusal::Taken, path));
+            }
+            Ok(path)
+        }
+    }
+}
+
+// Where a declaration of the name puts its object.
+pub(crate) fn declared<S: Space<Object>>(
+    alloc: Global,
+    objects: &S,
+    scope: &Path,
+    name: &Name,
+) -> Result<Path, Stop>
+    ensures ok { IfOk result (λ p. declared_path (namespace_of (S.contents objects.now)) scope.now name.now ≡ Ok p) }
+    ensures refused { IfErr result (λ f. IsTold f (declared_path (namespace_of (S.contents objects.now)) scope.now name.now)) }
+{
+    if name.view().len() == 0 {
+        return Err(Stop::Refused(Refusal::EmptyName, scope.copy()?));
+    }
+    match place(alloc, scope, name.view()) {
+        Ok(path) => free_below(objects, path),
+        Err(PlaceFault::AboveRoot) => Err(Stop::Refused(Refusal::AboveRoot, scope.copy()?)),
+        Err(PlaceFault::Memory) => Err(Stop::Memory),
+    }
+}
+
+// Where a field unit is declared.
+pub(crate) fn declared_unit<S: Space<Object>>(
+    objects: &S,
+    scope: &Path,
+    seg: Seg,
+) -> Result<Path, Stop>
+    ensures ok { IfOk result (λ p. declared_path (namespace_of (S.contents objects.now)) scope.now (unit_name seg) ≡ Ok p) }
+    ensures refused { IfErr result (λ f. IsTold f (declared_path (namespace_of (S.contents objects.now)) scope.now (unit_name seg))) }
+{
+    let mut path = scope.copy()?;
+    path.push(seg)?;
+    free_below(objects, path)
+}
+
+// The scope that a Scope term opens.
+#[tactic(auto, using(crate::proofs::Lookups::opened_found))]
+pub(crate) fn opened<S: Space<Object>>(
+    alloc: Global,
+    objects: &S,
+    scope: &Path,
+    name: &Name,
+) -> Result<Path, Stop>
+    ensures ok { IfOk result (λ p. opened_path (namespace_of (S.contents objects.now)) scope.now name.now ≡ Ok p) }
+    ensures refused { IfErr result (λ f. IsTold f (opened_path (namespace_of (S.contents objects.now)) scope.now name.now)) }
+{
+    let target = match search(alloc, objects, scope, name.view()) {
+        Ok(Found::At(path)) => path,
+        Ok(Found::Missing) => return Err(missing(alloc, scope, name)),
+        Err(SearchFault::AboveRoot) => return Err(Stop::Refused(Refusal::AboveRoot, scope.copy()?)),
+        Err(SearchFault::Memory) => return Err(Stop::Memory),
+    };
+    match objects.get(&target) {
+        Some(object) => {
+            if object.opens_scope() {
+                Ok(target)
+            } else {
+                Err(Stop::Refused(Refusal::NotAScope, target))
+            }
+        }
+        None => unreachable!(),
+    }
+}
+
+// The refusal of a Scope term without an answer: it names the name's place.
+fn missing(alloc: Global, scope: &Path, name: &Name) -> Stop
+    requires { place_of scope.now name.now ≢ None }
+    ensures { (objects : Namespace) → IsTold result (opened_in objects scope.now (place_of scope.now name.now) None) }
+{
+    match place(alloc, scope, name.view()) {
+        Ok(path) => Stop::Refused(Refusal::Missing, path),
+        Err(PlaceFault::Memory) => Stop::Memory,
+        Err(PlaceFault::AboveRoot) => unreachable!(),
+    }
+}

@@ -1,5 +1,0 @@
-use Rattle.std.proofs.Common.{◌≡◌, map, take}
-use Rattle.acpi_load.proofs.load.shared.Given as goal
-
-abbrev pub invariant-loop-table : goal.invariant-loop-table
-invariant-loop-table l = l.copies.items ≡ map (λ b. b.now) (take l.table-index l.tables)
