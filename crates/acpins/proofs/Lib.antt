@@ -1,6 +1,7 @@
 pub mod Cutting
 mod DepthText
 mod HexFlag
-pub mod Lines
+pub mod Printing
 pub mod LinksAt
+pub mod Telling
 mod WordsAsked

@@ -1,4 +1,4 @@
--- Why a run fails where its tables have no load (docs/COMMAND.md).
+-- The status of a failure, and what a run tells where its tables have no load (docs/COMMAND.md).
 use Rattle.std.specs.Prelude.{ℕ, ◌+◌, ◌-◌, ◌^◌, min}
 use Rattle.acpi_declare.specs.declared.fault.LoadFault.{LoadFault}
 use Rattle.acpi_declare.specs.declared.fault.LoadFault.TheVariants.{At, Memory}
@@ -15,3 +15,8 @@ abbrev pub failure_of : LoadFault → Failure
 failure_of Memory = failures.Memory
 failure_of (At table (reasons.Item reason place)) = failures.Item table reason (place_in_table place)
 failure_of (At table reason) = failures.Load table reason
+
+-- 2 for words, 1 for all else
+abbrev pub status_of : Failure → ℕ
+status_of failures.WrongWords = 2
+status_of _ = 1

@@ -1,4 +1,4 @@
--- What a run prints, and why it prints nothing (docs/COMMAND.md).
+-- What a run prints and says, and why it prints nothing (docs/COMMAND.md).
 use Rattle.std.specs.Prelude.{◌≡◌, ◌≢◌, ℕ, List, [], Option, Some, None}
 use Rattle.std.specs.Io.KnownBytes.{Appends}
 use Rattle.clap.specs.Walk.{Text}
@@ -12,7 +12,8 @@ use Rattle.acpins.specs.declared.failure.Failure.TheVariants.{WrongWords, NoTabl
 use Rattle.acpins.specs.Words.{Asked, asked_of}
 use Rattle.acpins.specs.Input.{FileBytes, AreTablesOf, IsFilesFault, IsLoadOfFiles}
 use Rattle.acpins.specs.Listings.{Prints}
-use Rattle.acpins.specs.Failures.{failure_of}
+use Rattle.acpins.specs.Failures.{failure_of, status_of}
+use Rattle.acpins.specs.FailureLines.{failure_line}
 
 -- ---- what is printed
 
@@ -60,9 +61,11 @@ IsRunFailure bytes_of words Memory = Unit {0}
 IsRunFailure bytes_of words Output = (text : List ℕ) × IsOutput bytes_of words text
 IsRunFailure bytes_of words failure = (asked : Asked) × (asked_of words ≡ Some asked) × IsFailureOf bytes_of asked failure
 
--- a run fails so, and standard output is as it was, unless it could not be written
-pub record FailsWith (bytes_of : FileBytes) (words : List Text) (old new : Option (List ℕ)) : Type 0 where
+-- A run ends with the status of such a failure, and its line is said; standard output is as it was, unless it
+-- could not be written.
+pub record FailsWith (bytes_of : FileBytes) (words : List Text) (status : ℕ) (old new : Option (List ℕ)) (is_said : List ℕ → Type 0) : Type 0 where
   pub failure : Failure
   pub true_of : IsRunFailure bytes_of words failure
-  pub other : failure ≢ WrongWords
+  pub status_is : status ≡ status_of failure
   pub kept : failure ≢ Output → new ≡ old
+  pub said : is_said (failure_line failure)

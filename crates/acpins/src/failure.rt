@@ -1,7 +1,7 @@
 //! Why a run ends with status 1 or 2, and the line that says so.
 
-ghost use Rattle.std.specs.Prelude.{◌≡◌, ◌≢◌};
-ghost use Rattle.acpins.specs.Failures.{failure_of};
+ghost use Rattle.std.specs.Prelude.{◌≡◌};
+ghost use Rattle.acpins.specs.Failures.{failure_of, status_of};
 ghost use Rattle.acpins.specs.declared.failure.Failure.{Failure};
 
 use acpi_load::{LoadFault, LoadReason};
@@ -45,8 +45,7 @@ pub enum Failure<'a> {
 impl<'a> Failure<'a> {
     /// The exit status: 2 for words, 1 for all else.
     pub fn status(&self) -> u8
-        ensures words { self.now ≡ Failure.WrongWords → result ≡ 2 }
-        ensures others { self.now ≢ Failure.WrongWords → result ≡ 1 }
+        ensures { result ≡ status_of self.now }
     {
         match self {
             Failure::WrongWords => 2,

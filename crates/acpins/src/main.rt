@@ -12,7 +12,9 @@ ghost use Rattle.acpins.specs.declared.failure.Failure.{Failure};
 mod failure;
 mod files;
 mod hexadecimal;
+mod lines;
 mod listing;
+mod parts;
 mod program;
 mod tables;
 #[cfg(test)]
@@ -21,6 +23,7 @@ mod words;
 
 use crate::failure::Failure;
 use crate::files::HostFiles;
+use crate::parts::UntilFailure;
 use crate::program::{run, told};
 use std::alloc::Global;
 use std::io::ErrorKind;
@@ -60,7 +63,11 @@ fn failure_of(error: &io::Error) -> Failure<'static>
 fn main(rt: HostRuntime) -> ExitCode {
     let status = match started(&rt, rt.alloc()) {
         Ok(status) => status,
-        Err(error) => told(&failure_of(&error), &mut rt.stderr()),
+        Err(error) => told(
+            &failure_of(&error),
+            &mut rt.stderr(),
+            &mut UntilFailure::new(),
+        ),
     };
     ExitCode::from(status)
 }

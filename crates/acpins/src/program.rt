@@ -7,13 +7,18 @@ ghost use Rattle.acpi_load.specs.Links.{links_at};
 ghost use Rattle.acpi_load.specs.DeclaredView.{objects_in, links_in};
 ghost use Rattle.std.specs.Io.KnownBytes.{Appends};
 ghost use Rattle.acpins.specs.declared.failure.Failure.{Failure};
+ghost use Rattle.acpins.specs.Failures.{status_of};
+ghost use Rattle.acpins.specs.FailureLines.{failure_line};
+ghost use Rattle.acpins.specs.Told.{AppendsBeginning, Tells};
 ghost use Rattle.acpins.specs.Words.{asked_in, asked_of};
 ghost use Rattle.acpins.specs.Input.{files_of, AreTablesOf, IsFilesFault, IsLoadOfFiles};
 ghost use Rattle.acpins.specs.Runs.{IsOutput, GetsOutput, IsFailureOf, IsRunFailure, FailsWith};
 
 use crate::failure::Failure;
 use crate::files::Files;
+use crate::lines::put_line;
 use crate::listing::listed;
+use crate::parts::{PartWriter, UntilFailure};
 use crate::tables::add_tables;
 use crate::words::{Request, read_words};
 use acpi_load::{Declared, declare_shared};
@@ -104,16 +109,39 @@ fn ended<'a, F: Files, O: Write>(
 }
 
 /// Says why a run failed, as far as it can be said, and answers the status.
-pub fn told<E: Write>(failure: &Failure<'_>, err: &mut E) -> u8
-    ensures words { failure.now ≡ Failure.WrongWords → result ≡ 2 }
-    ensures others { failure.now ≢ Failure.WrongWords → result ≡ 1 }
+pub fn told<E, P: PartWriter<E>>(failure: &Failure<'_>, err: &mut E, parts: &mut P) -> u8
+    ensures status { result ≡ status_of failure.now }
+    ensures line { Tells (failure_line failure.now) (P.failed parts.old) (P.contents err.old) (P.failed parts.new) (P.contents err.new) }
 {
-    let _written = writeln!(err, "{failure}");
+    put_line(parts, err, failure);
     failure.status()
 }
 
+/// The same as `run`, by the caller's way to write parts to `err`: so a contract can say whether a write failed.
+pub fn run_telling<'a, F: Files, O: Write, E, P: PartWriter<E>>(
+    alloc: Global,
+    words: &'a [&'a str],
+    files: &mut F,
+    out: &mut O,
+    err: &mut E,
+    parts: &mut P,
+) -> u8
+    ensures done { result ≡ 0 → GetsOutput (F.bytes_of files.old) (texts words.now) (O.contents out.old) (O.contents out.new) }
+    ensures quiet { result ≡ 0 → err.new ≡ err.old }
+    // The failure's line is said whole, unless a write of it failed.
+    ensures failed { 1 ≤ result → FailsWith (F.bytes_of files.old) (texts words.now) result (O.contents out.old) (O.contents out.new)
+        (λ line. Tells line (P.failed parts.old) (P.contents err.old) (P.failed parts.new) (P.contents err.new)) }
+    ensures statuses { result ≤ 2 }
+{
+    match ended(alloc, words, files, out) {
+        Ok(()) => 0,
+        Err(failure) => told(&failure, err, parts),
+    }
+}
+
 /// Runs the command that the words say, and answers its status. The words leave out the program's name.
-/// Nothing is written to `out` before all of the output is made.
+/// Nothing is written to `out` before all of the output is made, and nothing to `err` but one line where the
+/// status is 1 or 2.
 pub fn run<'a, F: Files, O: Write, E: Write>(
     alloc: Global,
     words: &'a [&'a str],
@@ -123,14 +151,13 @@ pub fn run<'a, F: Files, O: Write, E: Write>(
 ) -> u8
     // All that the words ask for is printed, and nothing else.
     ensures done { result ≡ 0 → GetsOutput (F.bytes_of files.old) (texts words.now) (O.contents out.old) (O.contents out.new) }
-    // Something failed, and nothing is printed, unless it was the printing.
-    ensures failed { result ≡ 1 → FailsWith (F.bytes_of files.old) (texts words.now) (O.contents out.old) (O.contents out.new) }
+    ensures quiet { result ≡ 0 → err.new ≡ err.old }
+    // Something failed, and its line is said, or a beginning of it; nothing is printed, unless it was the printing.
+    ensures failed { 1 ≤ result → FailsWith (F.bytes_of files.old) (texts words.now) result (O.contents out.old) (O.contents out.new)
+        (λ line. AppendsBeginning line (E.contents err.old) (E.contents err.new)) }
     // The words ask for nothing, and nothing is printed.
     ensures wrong { result ≡ 2 → (asked_of (texts words.now) ≡ None) × (O.contents out.new ≡ O.contents out.old) }
     ensures statuses { result ≤ 2 }
 {
-    match ended(alloc, words, files, out) {
-        Ok(()) => 0,
-        Err(failure) => told(&failure, err),
-    }
+    run_telling(alloc, words, files, out, err, &mut UntilFailure::new())
 }

@@ -4,6 +4,7 @@ mod cut;
 mod devices;
 mod held;
 mod hexadecimal;
+mod lines;
 mod listings;
 mod memory;
 mod outcome;

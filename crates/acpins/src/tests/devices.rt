@@ -69,8 +69,10 @@ fn keeps_its_status(rt: HostRuntime) -> Result<(), Fail> {
     for k in 1..12usize {
         let wrong = ran_with(alloc, &mut files, "list", 0, k)?;
         assert!(rt; wrong.status == 2 && wrong.out.is_empty());
+        assert!(rt; b"acpins: wrong words\n".starts_with(wrong.err.as_slice()));
         let absent = ran_with(alloc, &mut files, "list|absent", 0, k)?;
         assert!(rt; absent.status == 1 && absent.out.is_empty());
+        assert!(rt; b"acpins: absent: cannot be read\n".starts_with(absent.err.as_slice()));
         let unwritten = ran_with(alloc, &mut files, "list|a", 1, k)?;
         assert_eq!(rt; unwritten.status, 1);
         let done = ran_with(alloc, &mut files, "list|a", 0, k)?;

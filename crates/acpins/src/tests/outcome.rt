@@ -1,6 +1,7 @@
 //! Files in short, and what a run over them answers and prints.
 
 use crate::hexadecimal::from_hex;
+use crate::parts::UntilFailure;
 use crate::program::{made_in, run, told};
 use crate::tests::memory::{Failing, MemoryFiles, MemoryWriter};
 use acpi_space::MapSpace;
@@ -152,7 +153,7 @@ pub fn made_over_map(alloc: Global, files: &mut MemoryFiles, words: &str) -> Res
             err: err.bytes,
         }),
         Err(failure) => {
-            let status = told(&failure, &mut err);
+            let status = told(&failure, &mut err, &mut UntilFailure::new());
             Ok(Outcome {
                 status,
                 out: Vec::new(alloc),

@@ -2,7 +2,7 @@ use Rattle.std.proofs.Common.{map, ap, ◌∙◌}
 use Rattle.std.specs.FinMap.{entries}
 use Rattle.acpi_load.specs.DeclaredView.{objects_in, links_in}
 use Rattle.acpi_load.specs.Links.{links_at}
-use Rattle.acpins.proofs.Lines.{listing_said, prints}
+use Rattle.acpins.proofs.Printing.{listing_said, prints}
 use Rattle.acpins.proofs.listing.listed.Goals as goal
 
 pub returns-clause-exact : goal.returns-clause-exact
