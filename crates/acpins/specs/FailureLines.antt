@@ -5,10 +5,10 @@ use Rattle.acpi_table.specs.declared.tables.TableFault.{TableFault}
 use Rattle.acpi_table.specs.declared.tables.TableFault.TheVariants as tables
 use Rattle.acpi_terms.specs.declared.fault.ItemReason.{ItemReason}
 use Rattle.acpi_terms.specs.declared.fault.ItemReason.TheVariants as items
-use Rattle.acpi_load.specs.declared.fault.Refusal.{Refusal}
-use Rattle.acpi_load.specs.declared.fault.Refusal.TheVariants as refusals
-use Rattle.acpi_load.specs.declared.fault.LoadReason.{LoadReason}
-use Rattle.acpi_load.specs.declared.fault.LoadReason.TheVariants as reasons
+use Rattle.acpi_declare.specs.declared.fault.Refusal.{Refusal}
+use Rattle.acpi_declare.specs.declared.fault.Refusal.TheVariants as refusals
+use Rattle.acpi_declare.specs.declared.fault.LoadReason.{LoadReason}
+use Rattle.acpi_declare.specs.declared.fault.LoadReason.TheVariants as reasons
 use Rattle.acpins.specs.declared.failure.Failure.{Failure}
 use Rattle.acpins.specs.declared.failure.Failure.TheVariants.{WrongWords, NoTable, Read, BadHex, Output, Table, Item, Load, Memory}
 

@@ -8,7 +8,7 @@ use Rattle.acpi_tree.specs.Objects.{ObjectTree, object_view}
 use Rattle.acpi_tree.specs.declared.object.Object.{Object}
 use Rattle.acpi_text.specs.Lines.{listing_text}
 use Rattle.acpi_load.specs.Namespace.{Namespace}
-use Rattle.acpi_load.specs.Loads.{Links}
+use Rattle.acpi_load.specs.Links.{Links}
 
 -- the objects of a space by their paths, in the order of the paths
 abbrev pub objects_by_path : PathMap Object → List (List Segment × ObjectTree)
