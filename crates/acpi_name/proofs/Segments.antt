@@ -1,5 +1,5 @@
 -- The bytes of a segment: text, and a number that is ordered as they are.
-use Rattle.std.proofs.Common.{◌≡◌, ℕ, zero, suc, ◌+◌, ◌*◌, ◌<◌, ◌≤◌, Bool, true, false, ◌&&◌, ◌||◌, leb, eqb, List, [], ◌∷◌, length, take, drop, slice_index_or, refl, sym, arith, ap₂, ◌∙◌}
+use Rattle.std.proofs.Common.{◌≡◌, ℕ, zero, suc, ◌+◌, ◌*◌, ◌<◌, ◌≤◌, Bool, true, false, ◌&&◌, ◌||◌, leb, eqb, List, [], ◌∷◌, length, take, drop, slice_index_or, refl, sym, arith}
 use Rattle.std.proofs.lemmas.Bool.{leb-true, eqb-true}
 use Rattle.std.proofs.lemmas.Str.{IsUtf8-from_ascii}
 use Rattle.std.specs.Cmp.{nat_cmp_is, ranks}
@@ -55,7 +55,7 @@ segment_text (a ∷ b ∷ c ∷ d ∷ e ∷ s) h = absurd cc
 
 module _ (m n : ℕ) where
   -- a number in the place of the order
-  abbrev pub Ranks : Ordering → Type 0
+  abbrev Ranks : Ordering → Type 0
   Ranks o = MatchOrdering o (m < n) (m ≡ n) (n < m)
 
   -- a byte before others decides, unless it is the same
@@ -89,7 +89,7 @@ module _ (a b c d e f g h : ℕ) (p : AreBelow a b c d) (q : AreBelow e f g h) w
   in_order : slice_cmp nat_cmp (a ∷ b ∷ c ∷ d ∷ []) (e ∷ f ∷ g ∷ h ∷ []) ≡ nat_cmp one other
   in_order = nat_cmp_is one other _ by_first
 
-segments_order : (s t : Segment) → is_segment s ≡ true → is_segment t ≡ true → nat_cmp (from_be_bytes w32 s) (from_be_bytes w32 t) ≡ slice_cmp nat_cmp s t
+pub segments_order : (s t : Segment) → is_segment s ≡ true → is_segment t ≡ true → nat_cmp (from_be_bytes w32 s) (from_be_bytes w32 t) ≡ slice_cmp nat_cmp s t
 segments_order (a ∷ b ∷ c ∷ d ∷ []) (e ∷ f ∷ g ∷ h ∷ []) i j = sym (in_order a b c d e f g h (below a b c d i) (below e f g h j))
 segments_order [] t i j = absurd cc
 segments_order (a ∷ []) t i j = absurd cc
@@ -101,10 +101,6 @@ segments_order (a ∷ b ∷ c ∷ d ∷ []) (e ∷ []) i j = absurd cc
 segments_order (a ∷ b ∷ c ∷ d ∷ []) (e ∷ f ∷ []) i j = absurd cc
 segments_order (a ∷ b ∷ c ∷ d ∷ []) (e ∷ f ∷ g ∷ []) i j = absurd cc
 segments_order (a ∷ b ∷ c ∷ d ∷ []) (e ∷ f ∷ g ∷ h ∷ x ∷ t) i j = absurd cc
-
--- the order of the bytes, from that of the numbers
-pub by_numbers : (s t : Segment) (m n : ℕ) (r : Ordering) → is_segment s ≡ true → is_segment t ≡ true → m ≡ from_be_bytes w32 s → n ≡ from_be_bytes w32 t → Ranks m n r → r ≡ slice_cmp nat_cmp s t
-by_numbers s t m n r h k e f ranked = nat_cmp_is m n r ranked ∙ ap₂ nat_cmp e f ∙ segments_order s t h k
 
 -- ---- the segments of a list
 
