@@ -1,4 +1,16 @@
-//! Names of the ACPI namespace: segments, names as they are written, and paths from the root.
+//! Names of the ACPI namespace: segments, names as they are written, and paths from the root (ACPI 6.5,
+//! 5.3 and 20.2.2).
+//!
+//! ```text
+//! bytes ──read_name──► NameRef ──own──► Name
+//!                         │
+//! scope: Path ──place─────┴──► Path ◄──from_text── text
+//! ```
+//!
+//! ```text
+//! let (name, used) = read_name(bytes)?;
+//! let path = place(alloc, &scope, name)?;
+//! ```
 //!
 //! Bytes go in and names come out; a name and the scope in which it stands give a path. A contract
 //! sees a segment as its four bytes, a name as `NameParts` (rooted or not, parents, segments), and a

@@ -11,7 +11,7 @@ use Rattle.acpi_space.specs.declared.nodes.Node.{Node}
 use Rattle.acpi_space.specs.steps.Tree.{node_children, node_value, own_pair, pairs_below, tree_map, IsTree}
 use Rattle.acpi_space.specs.Spaces.{PathMap}
 use Rattle.acpi_space.proofs.Maps.{entries_ascending}
-use Rattle.acpi_space.proofs.Equal.{eq_of, segment_itself}
+use Rattle.acpi_space.proofs.Comparisons.{eq_of, segment_itself}
 
 -- a pair before each of a list
 abbrev Before : {V : Type 0} → List Segment → List (List Segment × V) → Type 0

@@ -12,8 +12,8 @@ use Rattle.acpi_space.specs.declared.nodes.Node.{Node}
 use Rattle.acpi_space.specs.steps.Grown.{IsGrown, IsPadded}
 use Rattle.acpi_space.specs.steps.Tree.{child_of, child_at, node_children, node_value, reached, value_below, IsTree}
 use Rattle.acpi_space.proofs.Tree.{child_within, value_below_step}
-use Rattle.acpi_space.proofs.Written.{past_end}
-use Rattle.acpi_space.proofs.Equal.{same_segment, segment_itself, same_number, other_number}
+use Rattle.acpi_space.proofs.NodeWrites.{past_end}
+use Rattle.acpi_space.proofs.Comparisons.{same_segment, segment_itself, same_number, other_number}
 
 -- ---- nodes with the same children and values
 

@@ -10,9 +10,9 @@ use Rattle.acpi_space.specs.declared.trail.Mark.{Mark}
 use Rattle.acpi_space.specs.steps.Grown.{IsGrown, HasPut}
 use Rattle.acpi_space.specs.steps.Trail.{IsTrail, trail_end, fork_from}
 use Rattle.acpi_space.specs.steps.Tree.{IsTree, child_at, node_children, node_value, reached, value_below}
-use Rattle.acpi_space.proofs.Equal.{same_bytes}
+use Rattle.acpi_space.proofs.Comparisons.{same_bytes}
 use Rattle.acpi_space.proofs.Growth.{same_child}
-use Rattle.acpi_space.proofs.Reached.{reached-append, reached_grown}
+use Rattle.acpi_space.proofs.Walks.{reached-append, reached_grown}
 use Rattle.acpi_space.proofs.Tree.{child_within}
 
 pub trail_grown : {V : Type 0} (old new : List (Node V)) (n : ℕ) (marks : List Mark) → IsGrown old new → IsTrail old n marks → IsTrail new n marks

@@ -14,8 +14,8 @@ use Rattle.acpi_name.specs.steps.PathOrder.{path_cmp_total, path_cmp-IsAntisymme
 use Rattle.acpi_space.specs.declared.nodes.Node.{Node}
 use Rattle.acpi_space.specs.steps.Tree.{own_pair, child_of, child_at, node_children, node_value, pairs_below, reached, value_below, tree_map, IsTree}
 use Rattle.acpi_space.proofs.Maps.{get_is_lookup}
-use Rattle.acpi_space.proofs.Equal.{eq_of}
-use Rattle.acpi_space.proofs.Written.{past_end}
+use Rattle.acpi_space.proofs.Comparisons.{eq_of}
+use Rattle.acpi_space.proofs.NodeWrites.{past_end}
 
 abbrev at : {V : Type 0} → List Segment → List (List Segment × V) → Option V
 at q es = lookup (λ k. is_eq (path_cmp q k)) es

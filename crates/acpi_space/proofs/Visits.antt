@@ -8,8 +8,8 @@ use Rattle.acpi_space.specs.declared.nodes.Node.{Node}
 use Rattle.acpi_space.specs.declared.walk.Step.{Step}
 use Rattle.acpi_space.specs.steps.Tree.{node_children, node_value, own_pair, node_pairs, pairs_below, IsTree}
 use Rattle.acpi_space.specs.steps.Walk.{ahead, next_ahead, enter, pair_at}
-use Rattle.acpi_space.proofs.Written.{past_end}
-use Rattle.acpi_space.proofs.Steps.{ahead_children}
+use Rattle.acpi_space.proofs.NodeWrites.{past_end}
+use Rattle.acpi_space.proofs.WalkSteps.{ahead_children}
 
 abbrev pub total : {X : Type 0} → (X → ℕ) → List X → ℕ
 total f [] = 0

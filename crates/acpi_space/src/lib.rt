@@ -1,9 +1,25 @@
-//! The namespace as a finite map from paths to values, and the search of a name in it.
+//! The namespace as a finite map from paths to values, and the search of a name in it (ACPI 6.5, 5.3).
 //!
-//! A `Space` is kept in an ordered map (`MapSpace`); contracts see it as a finite map, `contents`.
-//! `search` gives the path that a name means in a scope, `misses` the paths that it tried in vain;
-//! both are defined over any test of paths (`answer` and `missed` in specs/Search.antt). What the
-//! standard says of a search, and when its answer stays, are contracts in `laws`.
+//! ```text
+//! Path, value ──insert──► Space ──get──► the value at a path
+//!                           │ ──pairs──► all of them, in the order of the paths
+//! scope, name ──search──────┤ ─────────► the path that the name means
+//!             ──misses──────┘ ─────────► the paths that were tried in vain
+//! ```
+//!
+//! ```text
+//! let mut objects = TreeSpace::new(alloc);
+//! objects.insert(path, object)?;
+//! match search(alloc, &objects, &scope, name)? {
+//!     Found::At(path) => objects.get(&path),
+//!     Found::Missing => None,
+//! }
+//! ```
+//!
+//! A `Space` is kept as a tree (`TreeSpace`) or in an ordered map (`MapSpace`); contracts see either as a
+//! finite map, `contents`. `search` and `misses` are defined over any test of paths (`answer` and
+//! `missed` in specs/Search.antt). What the standard says of a search, and when its answer stays, are
+//! contracts in `laws`.
 #![tactic(auto)]
 
 mod grown;

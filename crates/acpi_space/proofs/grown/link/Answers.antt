@@ -4,7 +4,7 @@ use Rattle.std.specs.List.Sorted.{IsStrictlySortedBy}
 use Rattle.std.specs.BTreeMap.{insert_entry}
 use Rattle.acpi_name.specs.Paths.{segment_cmp}
 use Rattle.acpi_space.specs.steps.Tree.{child_of}
-use Rattle.acpi_space.proofs.Written.{on_err, get_set_other, written_value, written_children, children_before}
+use Rattle.acpi_space.proofs.NodeWrites.{on_err, get_set_other, written_value, written_children, children_before}
 use Rattle.acpi_space.proofs.grown.link.Goals as goal
 
 pub returns-in_err-insert-clause-ordered : goal.returns-in_err-insert-clause-ordered

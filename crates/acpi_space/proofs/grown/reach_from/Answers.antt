@@ -1,8 +1,8 @@
 use Rattle.acpi_space.proofs.Growth.{grown_again}
-use Rattle.acpi_space.proofs.Reached.{step_reached, step_absent}
+use Rattle.acpi_space.proofs.Walks.{step_reached, step_absent}
 use Rattle.acpi_space.proofs.Trails.{trail_grown, trail_extended}
 use Rattle.acpi_space.proofs.Tree.{child_within}
-use Rattle.acpi_space.proofs.Written.{on_err}
+use Rattle.acpi_space.proofs.NodeWrites.{on_err}
 use Rattle.acpi_space.proofs.grown.reach_from.Goals as goal
 
 pub returns-in_err-next-clause-absent : goal.returns-in_err-next-clause-absent

@@ -1,5 +1,5 @@
 use Rattle.acpi_space.specs.Search.{tries}
-use Rattle.acpi_space.proofs.Kept.{fewer_skipped}
+use Rattle.acpi_space.proofs.KeptSearches.{fewer_skipped}
 use Rattle.acpi_space.proofs.laws.missed_are_fewer.Goals as goal
 
 pub returns : goal.returns

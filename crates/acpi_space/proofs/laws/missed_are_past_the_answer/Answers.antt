@@ -1,4 +1,4 @@
-use Rattle.acpi_space.proofs.Standard.{missed_are_past, missed_is_place}
+use Rattle.acpi_space.proofs.LongestAnswer.{missed_are_past, missed_is_place}
 use Rattle.acpi_space.proofs.laws.missed_are_past_the_answer.Goals as goal
 
 pub returns-clause-plain : goal.returns-clause-plain

@@ -1,5 +1,5 @@
 use Rattle.acpi_space.specs.Search.{tries}
-use Rattle.acpi_space.proofs.Kept.{kept_find, kept_skipped}
+use Rattle.acpi_space.proofs.KeptSearches.{kept_find, kept_skipped}
 use Rattle.acpi_space.proofs.laws.search_is_kept.Goals as goal
 
 pub returns-clause-answer : goal.returns-clause-answer

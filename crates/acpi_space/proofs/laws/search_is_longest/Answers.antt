@@ -1,4 +1,4 @@
-use Rattle.acpi_space.proofs.Standard.{plain_is_longest, other_is_at_place}
+use Rattle.acpi_space.proofs.LongestAnswer.{plain_is_longest, other_is_at_place}
 use Rattle.acpi_space.proofs.laws.search_is_longest.Goals as goal
 
 pub returns-clause-plain : goal.returns-clause-plain

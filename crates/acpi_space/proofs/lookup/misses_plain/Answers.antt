@@ -1,6 +1,6 @@
 use Rattle.std.proofs.Common.{◌+◌, ◌-◌, length}
 use Rattle.acpi_space.specs.Spaces.{is_defined}
-use Rattle.acpi_space.proofs.Missed.{missed_paths}
+use Rattle.acpi_space.proofs.MissedPaths.{missed_paths}
 use Rattle.acpi_space.proofs.lookup.misses_plain.Goals as goal
 
 pub returns : goal.returns

@@ -1,5 +1,5 @@
 use Rattle.std.proofs.Common.{sym, ◌∙◌}
-use Rattle.acpi_space.proofs.Steps.{entered}
+use Rattle.acpi_space.proofs.WalkSteps.{entered}
 use Rattle.acpi_space.proofs.walk.advance.Goals as goal
 
 pub returns-in-Enter : goal.returns-in-Enter

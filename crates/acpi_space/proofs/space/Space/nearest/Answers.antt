@@ -1,4 +1,4 @@
-use Rattle.acpi_space.proofs.Upward.{walk_found, walk_on_popped, walk_ended_popped, found_by_get, walk_shrinks}
+use Rattle.acpi_space.proofs.Climbing.{walk_found, walk_on_popped, walk_ended_popped, found_by_get, walk_shrinks}
 use Rattle.acpi_space.specs.Spaces.{is_defined}
 use Rattle.acpi_space.proofs.space.Space.nearest.Goals as goal
 

@@ -1,5 +1,5 @@
 use Rattle.std.proofs.Common.{refl}
-use Rattle.acpi_space.proofs.Inserted.{absent, unchanged, was_free, is_inserted, is_tree, is_unchanged, is_refused}
+use Rattle.acpi_space.proofs.Insertion.{absent, unchanged, was_free, is_inserted, is_tree, is_unchanged, is_refused}
 use Rattle.acpi_space.proofs.Trails.{put_trail}
 use Rattle.acpi_space.proofs.tree_space.TreeSpaceSpace.insert.Goals as goal
 

@@ -15,7 +15,7 @@ use Rattle.acpi_space.specs.steps.Grown.{IsGrown, HasPut}
 use Rattle.acpi_space.specs.steps.Tree.{child_at, node_value, reached, value_below, tree_map, IsTree}
 use Rattle.acpi_space.proofs.Tree.{child_within, get-tree, same_tree, put_tree}
 use Rattle.acpi_space.proofs.Growth.{same_children_tree, same_reached}
-use Rattle.acpi_space.proofs.Equal.{same_path, path_itself, same_number, other_number}
+use Rattle.acpi_space.proofs.Comparisons.{same_path, path_itself, same_number, other_number}
 
 -- ---- two walks that end at one node are the same
 
