@@ -12,19 +12,19 @@ pub record Placement : Type 0 where
   pub scope : List Segment
   pub path : List Segment
 
-abbrev pub given_by : Effect → List Segment → Namespace
-given_by (declares o links code) p = singleton p o
-given_by opens p = nothing
-given_by (expects count) p = nothing
+abbrev pub object_by : Effect → List Segment → Namespace
+object_by (declares o links code) p = singleton p o
+object_by opens p = nothing
+object_by (expects count) p = nothing
 
 -- the one object that an entry declares
-abbrev pub given : Placement → Namespace
-given e = given_by e.step.effect e.path
+abbrev pub object_of : Placement → Namespace
+object_of e = object_by e.step.effect e.path
 
 -- the objects that the entries declare
-abbrev pub declared : List Placement → Namespace
-declared [] = nothing
-declared (e ∷ es) = union (given e) (declared es)
+abbrev pub objects_of : List Placement → Namespace
+objects_of [] = nothing
+objects_of (e ∷ es) = union (object_of e) (objects_of es)
 
 abbrev pub path_at : List (List Segment) → ℕ → List Segment
 path_at [] k = []
@@ -41,7 +41,7 @@ abbrev pub IsJustified : Namespace → List (List Segment) → List Site → Lis
 IsJustified objects before [] [] = ⊤
 IsJustified objects before (x ∷ xs) (e ∷ es) =
     (e.step ≡ x.step) × (e.scope ≡ scope_within before x.inside) × IsPlaced e.step.effect objects e.scope e.step.name e.path
-    × IsJustified (union objects (given e)) (before ++ e.path ∷ []) xs es
+    × IsJustified (union objects (object_of e)) (before ++ e.path ∷ []) xs es
 IsJustified objects before [] (e ∷ es) = ⊥
 IsJustified objects before (x ∷ xs) [] = ⊥
 
@@ -60,4 +60,4 @@ pub record IsFirstRefusal (objects : Namespace) (xs : List Site) (f : RefusedAt)
   pub placements : List Placement
   pub splits : xs ≡ earlier ++ site ∷ later
   pub listing : IsListing objects earlier placements
-  pub refused : placed_path site.step.effect (union objects (declared placements)) (scope_within (paths_of placements) site.inside) site.step.name ≡ Err f
+  pub refused : placed_path site.step.effect (union objects (objects_of placements)) (scope_within (paths_of placements) site.inside) site.step.name ≡ Err f

@@ -5,7 +5,7 @@ use Rattle.acpi_tree.specs.Tree.{ItemTrees}
 use Rattle.acpi_declare.specs.Namespace.{Namespace}
 use Rattle.acpi_declare.specs.Predefined.{predefined}
 use Rattle.acpi_declare.specs.Sites.{sites}
-use Rattle.acpi_declare.specs.Listing.{Placement, declared, IsListing}
+use Rattle.acpi_declare.specs.Listing.{Placement, objects_of, IsListing}
 use Rattle.acpi_declare.specs.Links.{Links, links_of, all_pending}
 use Rattle.acpi_declare.specs.Notes.{Notes, all_notes}
 use Rattle.acpi_declare.specs.Tables.{IsTableOf}
@@ -14,14 +14,14 @@ use Rattle.acpi_declare.specs.Tables.{IsTableOf}
 abbrev pub AreListings : ℕ → ℕ → Namespace → List (List ℕ) → List (List Placement) → Type 0
 AreListings depth number objects [] [] = ⊤
 AreListings depth number objects (b ∷ bs) (t ∷ ts) =
-    ((is : ItemTrees) × IsTableOf depth number b is × IsListing objects (sites is) t) × AreListings depth (suc number) (union objects (declared t)) bs ts
+    ((is : ItemTrees) × IsTableOf depth number b is × IsListing objects (sites is) t) × AreListings depth (suc number) (union objects (objects_of t)) bs ts
 AreListings depth number objects [] (t ∷ ts) = ⊥
 AreListings depth number objects (b ∷ bs) [] = ⊥
 
 -- the objects after some tables
 abbrev pub objects_after : Namespace → List (List Placement) → Namespace
 objects_after objects [] = objects
-objects_after objects (t ∷ ts) = objects_after (union objects (declared t)) ts
+objects_after objects (t ∷ ts) = objects_after (union objects (objects_of t)) ts
 
 -- the objects and links of the tables, without bodies
 pub record IsLoad (depth : ℕ) (tables : List (List ℕ)) (objects : Namespace) (links : Lookup Links) : Type 0 where

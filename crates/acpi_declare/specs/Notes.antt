@@ -10,7 +10,7 @@ use Rattle.acpi_declare.specs.declared.notes.Method as code
 use Rattle.acpi_declare.specs.declared.notes.TableNotes as code_notes
 use Rattle.acpi_declare.specs.Namespace.{Namespace}
 use Rattle.acpi_declare.specs.Sites.{Effect, declares, opens, expects}
-use Rattle.acpi_declare.specs.Listing.{Placement, given, declared}
+use Rattle.acpi_declare.specs.Listing.{Placement, object_of, objects_of}
 
 -- ---- External counts
 
@@ -57,7 +57,7 @@ missed_by (expects count) objects s n = []
 -- the paths that the searches of a table's Scope terms tried in vain, each in the namespace of its moment
 abbrev pub scope_misses : Namespace → List Placement → List (List Segment)
 scope_misses objects [] = []
-scope_misses objects (e ∷ es) = missed_by e.step.effect objects e.scope e.step.name ++ scope_misses (union objects (given e)) es
+scope_misses objects (e ∷ es) = missed_by e.step.effect objects e.scope e.step.name ++ scope_misses (union objects (object_of e)) es
 
 -- ---- all of it
 
@@ -73,7 +73,7 @@ notes_on objects es = record { counts = external_counts es; methods = methods es
 -- the notes of each of several tables
 abbrev pub all_notes : Namespace → List (List Placement) → List Notes
 all_notes objects [] = []
-all_notes objects (t ∷ ts) = notes_on objects t ∷ all_notes (union objects (declared t)) ts
+all_notes objects (t ∷ ts) = notes_on objects t ∷ all_notes (union objects (objects_of t)) ts
 
 -- ---- as the code keeps them
 

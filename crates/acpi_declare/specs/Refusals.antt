@@ -43,13 +43,13 @@ pub record IsCodeFault (depth : ℕ) (code : List ℕ) (reason : ItemReason) (pl
       → (reason ≡ why) × (place ≡ length u)
 
 -- why a table has no listing over the objects before it: the first of these that holds
-abbrev pub IsRefusedAs : ℕ → ℕ → Namespace → List ℕ → LoadReason → Type 0
-IsRefusedAs depth number objects bytes (Table fault) = tables.IsRefusedAs fault bytes
-IsRefusedAs depth number objects bytes NotDsdt = (number ≡ 0) × HasOtherSignature number bytes
-IsRefusedAs depth number objects bytes NotSsdt = (0 < number) × HasOtherSignature number bytes
-IsRefusedAs depth number objects bytes Trailing = HasMore number bytes
-IsRefusedAs depth number objects bytes (Item reason place) = IsNumbered number bytes × IsCodeFault depth (code_of bytes) reason place
-IsRefusedAs depth number objects bytes (Refused refusal path) = (is : ItemTrees) × IsTableOf depth number bytes is × IsFirstRefusal objects (sites is) (refusal, path)
+abbrev pub IsLoadReason : ℕ → ℕ → Namespace → List ℕ → LoadReason → Type 0
+IsLoadReason depth number objects bytes (Table fault) = tables.IsRefusedAs fault bytes
+IsLoadReason depth number objects bytes NotDsdt = (number ≡ 0) × HasOtherSignature number bytes
+IsLoadReason depth number objects bytes NotSsdt = (0 < number) × HasOtherSignature number bytes
+IsLoadReason depth number objects bytes Trailing = HasMore number bytes
+IsLoadReason depth number objects bytes (Item reason place) = IsNumbered number bytes × IsCodeFault depth (code_of bytes) reason place
+IsLoadReason depth number objects bytes (Refused refusal path) = (is : ItemTrees) × IsTableOf depth number bytes is × IsFirstRefusal objects (sites is) (refusal, path)
 
 -- the tables before that one have listings, and it has none
 pub record IsFirstWithout (depth : ℕ) (tables : List (List ℕ)) (number : ℕ) (reason : LoadReason) : Type 0 where
@@ -60,7 +60,7 @@ pub record IsFirstWithout (depth : ℕ) (tables : List (List ℕ)) (number : ℕ
   pub count : length earlier ≡ number
   pub placements : List (List Placement)
   pub listings : AreListings depth 0 predefined earlier placements
-  pub refused : IsRefusedAs depth number (objects_after predefined placements) bytes reason
+  pub refused : IsLoadReason depth number (objects_after predefined placements) bytes reason
 
 abbrev pub IsLoadFault : ℕ → List (List ℕ) → LoadFault → Type 0
 IsLoadFault depth tables (At number reason) = IsFirstWithout depth tables number reason

@@ -14,8 +14,8 @@ pub data Effect : Type 0 where
   expects : (count : ℕ) → Effect
 
 -- an object without links and code
-abbrev pub plainly : ObjectTree → Effect
-plainly o = declares o [] None
+abbrev pub declares_alone : ObjectTree → Effect
+declares_alone o = declares o [] None
 
 -- a name and what is done with it
 pub record Step : Type 0 where
@@ -49,23 +49,23 @@ external_steps (x ∷ xs) = external_step x ++ external_steps xs
 
 -- what a term does itself, what stands inside it left out
 abbrev pub own_steps : ItemTree → List Step
-own_steps (name n d) = step n (plainly (name_object d)) ∷ []
+own_steps (name n d) = step n (declares_alone (name_object d)) ∷ []
 own_steps (scope n is) = step n opens ∷ []
 own_steps (method n flags code) = step n (declares (method_object flags) [] (Some code)) ∷ []
 own_steps (external x) = external_step x
 own_steps (external_block xs) = external_steps xs
 own_steps (create width source index n) = step n (declares (create_object width index) (source ∷ []) None) ∷ []
 own_steps (create_field source index bits n) = step n (declares (create_field_object index bits) (source ∷ []) None) ∷ []
-own_steps (mutex n flags) = step n (plainly (mutex_object flags)) ∷ []
-own_steps (event n) = step n (plainly event_object) ∷ []
-own_steps (region n space offset length) = step n (plainly (region_object space offset length)) ∷ []
+own_steps (mutex n flags) = step n (declares_alone (mutex_object flags)) ∷ []
+own_steps (event n) = step n (declares_alone event_object) ∷ []
+own_steps (region n space offset length) = step n (declares_alone (region_object space offset length)) ∷ []
 own_steps (field r flags es) = unit_steps FieldForm.Field flags (r ∷ []) 0 es
 own_steps (index_field i d flags es) = unit_steps FieldForm.Index flags (i ∷ d ∷ []) 0 es
 own_steps (bank_field r b value flags es) = unit_steps (FieldForm.Bank value) flags (r ∷ b ∷ []) 0 es
-own_steps (device n is) = step n (plainly device_object) ∷ []
-own_steps (processor n id block length is) = step n (plainly (processor_object id block length)) ∷ []
-own_steps (power n level order is) = step n (plainly (power_object level order)) ∷ []
-own_steps (thermal n is) = step n (plainly thermal_object) ∷ []
+own_steps (device n is) = step n (declares_alone device_object) ∷ []
+own_steps (processor n id block length is) = step n (declares_alone (processor_object id block length)) ∷ []
+own_steps (power n level order is) = step n (declares_alone (power_object level order)) ∷ []
+own_steps (thermal n is) = step n (declares_alone thermal_object) ∷ []
 
 -- whether no other terms may stand inside
 abbrev pub is_leaf : ItemTree → Bool

@@ -1,4 +1,4 @@
 pub mod Pass
 pub mod View
-pub mod Told
+pub mod Outcomes
 pub mod Adding

@@ -9,10 +9,10 @@ ghost use Rattle.acpi_declare.specs.Links.{links_at};
 ghost use Rattle.acpi_declare.specs.Notes.{notes_of};
 ghost use Rattle.acpi_declare.specs.Tables.{signature_of, IsTableOf};
 ghost use Rattle.acpi_declare.specs.Loads.{IsLoad, AreNotes, HasNoLoad};
-ghost use Rattle.acpi_declare.specs.Refusals.{HasOtherSignature, IsRefusedAs, IsLoadFault};
+ghost use Rattle.acpi_declare.specs.Refusals.{HasOtherSignature, IsLoadReason, IsLoadFault};
 ghost use Rattle.acpi_declare.specs.DeclaredView.{objects_in, links_in, notes_in};
-ghost use Rattle.acpi_declare.specs.steps.Adding.{AddsTable, SoFar, state_of};
-ghost use Rattle.acpi_declare.specs.steps.Told.{IsCodeOf, IsTableFault};
+ghost use Rattle.acpi_declare.specs.steps.Adding.{AddsTable, HasTables, state_of};
+ghost use Rattle.acpi_declare.specs.steps.Outcomes.{IsCodeOf, IsTableFault};
 
 use crate::fault::{LoadFault, LoadReason, Stop};
 use crate::links::linked;
@@ -90,7 +90,7 @@ fn is_signed(number: usize, signature: [u8; 4]) -> bool
 
 // Why table `number` is refused where it has another signature.
 fn unsigned(number: usize) -> LoadReason
-    ensures { (depth : ℕ) (objects : Namespace) (bytes : List ℕ) → HasOtherSignature number bytes → IsRefusedAs depth number objects bytes result }
+    ensures { (depth : ℕ) (objects : Namespace) (bytes : List ℕ) → HasOtherSignature number bytes → IsLoadReason depth number objects bytes result }
 {
     if number == 0 {
         LoadReason::NotDsdt
@@ -239,7 +239,7 @@ pub fn declare<S: Space<Object>>(
 
 // The predefined objects, and nothing else.
 fn start<S: Space<Object>>(alloc: Global) -> Result<Loaded<S>, LoadFault>
-    ensures ok { IfOk result (λ r. SoFar 0 [] (state_of (S.contents r.objects) r)) }
+    ensures ok { IfOk result (λ r. HasTables 0 [] (state_of (S.contents r.objects) r)) }
     ensures memory { IfErr result (λ e. e ≡ LoadFault.Memory) }
 {
     Ok(Loaded {
@@ -256,7 +256,7 @@ fn declare_all<S: Space<Object>>(
     ssdts: &[Bytes],
     depth: Depth,
 ) -> Result<Loaded<S>, LoadFault>
-    ensures ok { IfOk result (λ r. SoFar depth (dsdt.now ∷ ssdts.now) (state_of (S.contents r.objects) r)) }
+    ensures ok { IfOk result (λ r. HasTables depth (dsdt.now ∷ ssdts.now) (state_of (S.contents r.objects) r)) }
     ensures err { IfErr result (λ e. IsLoadFault depth (dsdt.now ∷ ssdts.now) e) }
 {
     let mut loaded = add_table(alloc, start(alloc)?, 0, dsdt, depth)?;

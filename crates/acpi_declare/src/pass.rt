@@ -8,12 +8,12 @@ ghost use Rattle.acpi_tree.specs.Fits.{external_fits, item_fits, items_fit};
 ghost use Rattle.acpi_tree.specs.Offsets.{element_bits, list_bits, OffsetFits, OffsetsFit};
 ghost use Rattle.acpi_tree.specs.View.{item_view, items_tree, external_view, externals_view, field_view, fields_view};
 ghost use Rattle.acpi_declare.specs.Namespace.{namespace_of};
-ghost use Rattle.acpi_declare.specs.Sites.{step, plainly, declares, opens, is_leaf, own_steps, external_step, external_steps, unit_step, unit_name, unit_steps};
+ghost use Rattle.acpi_declare.specs.Sites.{step, declares_alone, declares, opens, is_leaf, own_steps, external_step, external_steps, unit_step, unit_name, unit_steps};
 ghost use Rattle.acpi_declare.specs.Placing.{declared_path, opened_path};
 ghost use Rattle.acpi_declare.specs.Notes.{notes_of};
 ghost use Rattle.acpi_declare.specs.steps.Pass.{after, placement, take_step, take_steps, pass_item, pass_items};
 ghost use Rattle.acpi_declare.specs.steps.View.{pass_of, pending_of, pending_for, with_method};
-ghost use Rattle.acpi_declare.specs.steps.Told.{IsTold};
+ghost use Rattle.acpi_declare.specs.steps.Outcomes.{IsStopOf};
 
 use crate::fault::Stop;
 use crate::notes::TableNotes;
@@ -57,9 +57,9 @@ impl<S: Space<Object>> Pass<S> {
 
     // Declares an object that has no links.
     fn declare(&mut self, scope: &Path, name: &Name, object: Object) -> Result<(), Stop>
-        ensures ok { OnOk result (take_step (pass_of (S.contents self.old.objects) self.old) scope.now (step name.now (plainly (object_view object)))
+        ensures ok { OnOk result (take_step (pass_of (S.contents self.old.objects) self.old) scope.now (step name.now (declares_alone (object_view object)))
             ≡ Ok (pass_of (S.contents self.new.objects) self.new)) }
-        ensures refused { IfErr result (λ f. IsTold f (take_step (pass_of (S.contents self.old.objects) self.old) scope.now (step name.now (plainly (object_view object))))) }
+        ensures refused { IfErr result (λ f. IsStopOf f (take_step (pass_of (S.contents self.old.objects) self.old) scope.now (step name.now (declares_alone (object_view object))))) }
     {
         let path = declared(self.alloc, &self.objects, scope, name)?;
         self.put(path, object)?;
@@ -89,7 +89,7 @@ impl<S: Space<Object>> Pass<S> {
     ) -> Result<(), Stop>
         ensures ok { OnOk result (take_step (pass_of (S.contents self.old.objects) self.old) scope.now (step name.now (declares (method_object flags) [] (Some code)))
             ≡ Ok (pass_of (S.contents self.new.objects) self.new)) }
-        ensures refused { IfErr result (λ f. IsTold f (take_step (pass_of (S.contents self.old.objects) self.old) scope.now (step name.now (declares (method_object flags) [] (Some code))))) }
+        ensures refused { IfErr result (λ f. IsStopOf f (take_step (pass_of (S.contents self.old.objects) self.old) scope.now (step name.now (declares (method_object flags) [] (Some code))))) }
     {
         let path = declared(self.alloc, &self.objects, scope, name)?;
         self.put_method(path, flags, code)?;
@@ -131,7 +131,7 @@ impl<S: Space<Object>> Pass<S> {
         requires { names.items ≢ [] }
         ensures ok { OnOk result (take_step (pass_of (S.contents self.old.objects) self.old) scope.now (step name.now (declares (object_view object) names.items None))
             ≡ Ok (pass_of (S.contents self.new.objects) self.new)) }
-        ensures refused { IfErr result (λ f. IsTold f (take_step (pass_of (S.contents self.old.objects) self.old) scope.now (step name.now (declares (object_view object) names.items None)))) }
+        ensures refused { IfErr result (λ f. IsStopOf f (take_step (pass_of (S.contents self.old.objects) self.old) scope.now (step name.now (declares (object_view object) names.items None)))) }
     {
         let path = declared(self.alloc, &self.objects, scope, name)?;
         self.put_linked(path, scope, object, names)?;
@@ -149,7 +149,7 @@ impl<S: Space<Object>> Pass<S> {
         requires { names.items ≢ [] }
         ensures ok { OnOk result (take_step (pass_of (S.contents self.old.objects) self.old) scope.now (step (unit_name seg) (declares (object_view object) names.items None))
             ≡ Ok (pass_of (S.contents self.new.objects) self.new)) }
-        ensures refused { IfErr result (λ f. IsTold f (take_step (pass_of (S.contents self.old.objects) self.old) scope.now (step (unit_name seg) (declares (object_view object) names.items None)))) }
+        ensures refused { IfErr result (λ f. IsStopOf f (take_step (pass_of (S.contents self.old.objects) self.old) scope.now (step (unit_name seg) (declares (object_view object) names.items None)))) }
     {
         let path = declared_unit(&self.objects, scope, seg)?;
         self.put_linked(path, scope, object, names)?;
@@ -160,8 +160,8 @@ impl<S: Space<Object>> Pass<S> {
     fn declare_scope(&mut self, scope: &Path, name: &Name, object: Object) -> Result<Path, Stop>
         ensures path { IfOk result (λ p. declared_path (namespace_of (S.contents self.old.objects)) scope.now name.now ≡ Ok p) }
         ensures ok { IfOk result (λ p. pass_of (S.contents self.new.objects) self.new
-            ≡ after (pass_of (S.contents self.old.objects) self.old) (placement scope.now (step name.now (plainly (object_view object))) p)) }
-        ensures refused { IfErr result (λ f. IsTold f (declared_path (namespace_of (S.contents self.old.objects)) scope.now name.now)) }
+            ≡ after (pass_of (S.contents self.old.objects) self.old) (placement scope.now (step name.now (declares_alone (object_view object))) p)) }
+        ensures refused { IfErr result (λ f. IsStopOf f (declared_path (namespace_of (S.contents self.old.objects)) scope.now name.now)) }
     {
         let path = declared(self.alloc, &self.objects, scope, name)?;
         let inside = path.copy()?;
@@ -174,7 +174,7 @@ impl<S: Space<Object>> Pass<S> {
         ensures path { IfOk result (λ p. opened_path (namespace_of (S.contents self.old.objects)) scope.now name.now ≡ Ok p) }
         ensures ok { IfOk result (λ p. pass_of (S.contents self.new.objects) self.new
             ≡ after (pass_of (S.contents self.old.objects) self.old) (placement scope.now (step name.now opens) p)) }
-        ensures refused { IfErr result (λ f. IsTold f (opened_path (namespace_of (S.contents self.old.objects)) scope.now name.now)) }
+        ensures refused { IfErr result (λ f. IsStopOf f (opened_path (namespace_of (S.contents self.old.objects)) scope.now name.now)) }
     {
         let target = opened(self.alloc, &self.objects, scope, name)?;
         match misses(self.alloc, &self.objects, scope, name.view()) {
@@ -233,7 +233,7 @@ impl<S: Space<Object>> Pass<S> {
         ensures ok { OnOk result (take_steps (pass_of (S.contents self.old.objects) self.old) scope.now (unit_step fields.now.form fields.now.flags fields.now.names.now offset (field_view elem.now))
             ≡ Ok (pass_of (S.contents self.new.objects) self.new)) }
         ensures behind { IfOk result (λ n. n ≡ offset + element_bits (field_view elem.now)) }
-        ensures refused { IfErr result (λ f. IsTold f (take_steps (pass_of (S.contents self.old.objects) self.old) scope.now (unit_step fields.now.form fields.now.flags fields.now.names.now offset (field_view elem.now)))) }
+        ensures refused { IfErr result (λ f. IsStopOf f (take_steps (pass_of (S.contents self.old.objects) self.old) scope.now (unit_step fields.now.form fields.now.flags fields.now.names.now offset (field_view elem.now)))) }
     {
         match elem {
             FieldElem::Unit(seg, bits) => {
@@ -262,7 +262,7 @@ impl<S: Space<Object>> Pass<S> {
         requires room { list_bits (fields_view elems.now) < 2 ^ 64 }
         ensures ok { OnOk result (take_steps (pass_of (S.contents self.old.objects) self.old) scope.now (unit_steps fields.now.form fields.now.flags fields.now.names.now 0 (fields_view elems.now))
             ≡ Ok (pass_of (S.contents self.new.objects) self.new)) }
-        ensures refused { IfErr result (λ f. IsTold f (take_steps (pass_of (S.contents self.old.objects) self.old) scope.now (unit_steps fields.now.form fields.now.flags fields.now.names.now 0 (fields_view elems.now)))) }
+        ensures refused { IfErr result (λ f. IsStopOf f (take_steps (pass_of (S.contents self.old.objects) self.old) scope.now (unit_steps fields.now.form fields.now.flags fields.now.names.now 0 (fields_view elems.now)))) }
     {
         let mut offset = 0;
         for elem in elems {
@@ -278,7 +278,7 @@ impl<S: Space<Object>> Pass<S> {
         requires fits { item_fits (item_view item) ≡ true }
         ensures ok { OnOk result (take_steps (pass_of (S.contents self.old.objects) self.old) scope.now (own_steps (item_view item))
             ≡ Ok (pass_of (S.contents self.new.objects) self.new)) }
-        ensures refused { IfErr result (λ f. IsTold f (take_steps (pass_of (S.contents self.old.objects) self.old) scope.now (own_steps (item_view item)))) }
+        ensures refused { IfErr result (λ f. IsStopOf f (take_steps (pass_of (S.contents self.old.objects) self.old) scope.now (own_steps (item_view item)))) }
     {
         match item {
             Item::Name(name, data) => self.declare(scope, &name, Object::Name(data)),
@@ -376,7 +376,7 @@ impl<S: Space<Object>> Pass<S> {
         requires room { list_bits (fields_view elems.now) < 2 ^ 64 }
         ensures ok { OnOk result (take_steps (pass_of (S.contents self.old.objects) self.old) scope.now (unit_steps form flags names.now 0 (fields_view elems.now))
             ≡ Ok (pass_of (S.contents self.new.objects) self.new)) }
-        ensures refused { IfErr result (λ f. IsTold f (take_steps (pass_of (S.contents self.old.objects) self.old) scope.now (unit_steps form flags names.now 0 (fields_view elems.now)))) }
+        ensures refused { IfErr result (λ f. IsStopOf f (take_steps (pass_of (S.contents self.old.objects) self.old) scope.now (unit_steps form flags names.now 0 (fields_view elems.now)))) }
     {
         let fields = FieldList { form, flags, names };
         self.declare_units(scope, &fields, elems)
@@ -389,7 +389,7 @@ impl<S: Space<Object>> Pass<S> {
         requires fits { item_fits (item_view item) ≡ true }
         ensures ok { OnOk result (pass_item (pass_of (S.contents self.old.objects) self.old) scope.now (item_view item)
             ≡ Ok (pass_of (S.contents self.new.objects) self.new)) }
-        ensures refused { IfErr result (λ f. IsTold f (pass_item (pass_of (S.contents self.old.objects) self.old) scope.now (item_view item))) }
+        ensures refused { IfErr result (λ f. IsStopOf f (pass_item (pass_of (S.contents self.old.objects) self.old) scope.now (item_view item))) }
     {
         match item {
             Item::Scope(name, items) => {
@@ -438,7 +438,7 @@ impl<S: Space<Object>> Pass<S> {
         requires fits { items_fit (items_tree items.items) ≡ true }
         ensures ok { OnOk result (pass_items (pass_of (S.contents self.old.objects) self.old) scope.now (items_tree items.items)
             ≡ Ok (pass_of (S.contents self.new.objects) self.new)) }
-        ensures refused { IfErr result (λ f. IsTold f (pass_items (pass_of (S.contents self.old.objects) self.old) scope.now (items_tree items.items))) }
+        ensures refused { IfErr result (λ f. IsStopOf f (pass_items (pass_of (S.contents self.old.objects) self.old) scope.now (items_tree items.items))) }
     {
         for item in items {
             self.declare_item(scope, item)?;

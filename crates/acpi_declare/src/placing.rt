@@ -7,7 +7,7 @@ ghost use Rattle.acpi_space.specs.Lookups.{singleton, union};
 ghost use Rattle.acpi_declare.specs.Namespace.{Namespace, namespace_of};
 ghost use Rattle.acpi_declare.specs.Placing.{below, declared_path, opened_in, opened_path};
 ghost use Rattle.acpi_declare.specs.Sites.{unit_name};
-ghost use Rattle.acpi_declare.specs.steps.Told.{IsTold};
+ghost use Rattle.acpi_declare.specs.steps.Outcomes.{IsStopOf};
 
 use crate::fault::{Refusal, Stop};
 use acpi_name::{Name, Path, PlaceFault, Seg, place};
@@ -43,10 +43,10 @@ fn rejoined(parent: Path, last: Option<Seg>) -> Result<Path, AllocError>
 }
 
 // The path, if an object may be declared there.
-#[tactic(auto, using(crate::proofs::Lookups::rejoined_parts))]
+#[tactic(auto, using(crate::proofs::Searches::rejoined_parts))]
 fn free_below<S: Space<Object>>(objects: &S, path: Path) -> Result<Path, Stop>
     ensures ok { IfOk result (λ p. below (namespace_of (S.contents objects.now)) path (namespace_of (S.contents objects.now) (parent_of path)) ≡ Ok p) }
-    ensures refused { IfErr result (λ f. IsTold f (below (namespace_of (S.contents objects.now)) path (namespace_of (S.contents objects.now) (parent_of path)))) }
+    ensures refused { IfErr result (λ f. IsStopOf f (below (namespace_of (S.contents objects.now)) path (namespace_of (S.contents objects.now) (parent_of path)))) }
 {
     let mut path = path;
     let last = path.pop();
@@ -73,7 +73,7 @@ pub(crate) fn declared<S: Space<Object>>(
     name: &Name,
 ) -> Result<Path, Stop>
     ensures ok { IfOk result (λ p. declared_path (namespace_of (S.contents objects.now)) scope.now name.now ≡ Ok p) }
-    ensures refused { IfErr result (λ f. IsTold f (declared_path (namespace_of (S.contents objects.now)) scope.now name.now)) }
+    ensures refused { IfErr result (λ f. IsStopOf f (declared_path (namespace_of (S.contents objects.now)) scope.now name.now)) }
 {
     if name.view().len() == 0 {
         return Err(Stop::Refused(Refusal::EmptyName, scope.copy()?));
@@ -92,7 +92,7 @@ pub(crate) fn declared_unit<S: Space<Object>>(
     seg: Seg,
 ) -> Result<Path, Stop>
     ensures ok { IfOk result (λ p. declared_path (namespace_of (S.contents objects.now)) scope.now (unit_name seg) ≡ Ok p) }
-    ensures refused { IfErr result (λ f. IsTold f (declared_path (namespace_of (S.contents objects.now)) scope.now (unit_name seg))) }
+    ensures refused { IfErr result (λ f. IsStopOf f (declared_path (namespace_of (S.contents objects.now)) scope.now (unit_name seg))) }
 {
     let mut path = scope.copy()?;
     path.push(seg)?;
@@ -100,7 +100,7 @@ pub(crate) fn declared_unit<S: Space<Object>>(
 }
 
 // The scope that a Scope term opens.
-#[tactic(auto, using(crate::proofs::Lookups::opened_found))]
+#[tactic(auto, using(crate::proofs::Searches::opened_found))]
 pub(crate) fn opened<S: Space<Object>>(
     alloc: Global,
     objects: &S,
@@ -108,7 +108,7 @@ pub(crate) fn opened<S: Space<Object>>(
     name: &Name,
 ) -> Result<Path, Stop>
     ensures ok { IfOk result (λ p. opened_path (namespace_of (S.contents objects.now)) scope.now name.now ≡ Ok p) }
-    ensures refused { IfErr result (λ f. IsTold f (opened_path (namespace_of (S.contents objects.now)) scope.now name.now)) }
+    ensures refused { IfErr result (λ f. IsStopOf f (opened_path (namespace_of (S.contents objects.now)) scope.now name.now)) }
 {
     let target = match search(alloc, objects, scope, name.view()) {
         Ok(Found::At(path)) => path,
@@ -131,7 +131,7 @@ pub(crate) fn opened<S: Space<Object>>(
 // The refusal of a Scope term without an answer: it names the name's place.
 fn missing(alloc: Global, scope: &Path, name: &Name) -> Stop
     requires { place_of scope.now name.now ≢ None }
-    ensures { (objects : Namespace) → IsTold result (opened_in objects scope.now (place_of scope.now name.now) None) }
+    ensures { (objects : Namespace) → IsStopOf result (opened_in objects scope.now (place_of scope.now name.now) None) }
 {
     match place(alloc, scope, name.view()) {
         Ok(path) => Stop::Refused(Refusal::Missing, path),

@@ -8,7 +8,7 @@ use Rattle.acpi_declare.specs.declared.load.Loaded as code
 use Rattle.acpi_declare.specs.Namespace.{Namespace, namespace_of}
 use Rattle.acpi_declare.specs.Predefined.{predefined}
 use Rattle.acpi_declare.specs.Sites.{sites}
-use Rattle.acpi_declare.specs.Listing.{Placement, declared, IsListing}
+use Rattle.acpi_declare.specs.Listing.{Placement, objects_of, IsListing}
 use Rattle.acpi_declare.specs.Links.{PendingLink, pending_links, all_pending}
 use Rattle.acpi_declare.specs.Notes.{Notes, notes_on, notes_of, all_notes}
 use Rattle.acpi_declare.specs.Tables.{IsTableOf}
@@ -29,12 +29,12 @@ pub record AddsTable (depth number : ℕ) (bytes : List ℕ) (before now : State
   pub table : IsTableOf depth number bytes is
   pub placements : List Placement
   pub listing : IsListing before.objects (sites is) placements
-  pub objects_are : now.objects ≡ union before.objects (declared placements)
+  pub objects_are : now.objects ≡ union before.objects (objects_of placements)
   pub links_are : now.links ≡ before.links ++ pending_links placements
   pub notes_are : now.notes ≡ before.notes ++ notes_on before.objects placements ∷ []
 
 -- what the listings of these tables give
-pub record SoFar (depth : ℕ) (tables : List (List ℕ)) (now : State) : Type 0 where
+pub record HasTables (depth : ℕ) (tables : List (List ℕ)) (now : State) : Type 0 where
   pub placements : List (List Placement)
   pub listings : AreListings depth 0 predefined tables placements
   pub objects_are : now.objects ≡ objects_after predefined placements

@@ -5,9 +5,9 @@ use Rattle.acpi_space.specs.Lookups.{nothing, union}
 use Rattle.acpi_tree.specs.Tree.{ItemTree, scope, device, processor, power, thermal, ItemTrees, no_items, item}
 use Rattle.acpi_tree.specs.Objects.{device_object, processor_object, power_object, thermal_object}
 use Rattle.acpi_declare.specs.Namespace.{Namespace}
-use Rattle.acpi_declare.specs.Sites.{opens, plainly, Step, step, own_steps}
+use Rattle.acpi_declare.specs.Sites.{opens, declares_alone, Step, step, own_steps}
 use Rattle.acpi_declare.specs.Placing.{RefusedAt, placed_path}
-use Rattle.acpi_declare.specs.Listing.{Placement, given}
+use Rattle.acpi_declare.specs.Listing.{Placement, object_of}
 use Rattle.acpi_declare.specs.Links.{PendingLink, pending_by}
 use Rattle.acpi_declare.specs.Notes.{counts_by, methods_by, missed_by, Notes}
 
@@ -35,7 +35,7 @@ pub record Pass : Type 0 where
 -- what it has after one more placement, and after several
 abbrev pub after : Pass → Placement → Pass
 after t e = record {
-  objects = union t.objects (given e);
+  objects = union t.objects (object_of e);
   links = t.links ++ pending_by e.step.effect e.scope e.path;
   notes = joined t.notes (note_of t.objects e);
 }
@@ -70,10 +70,10 @@ enter t s x inner = placed_path x.effect t.objects s x.name >>= λ p. inner (aft
 abbrev mutual
   pub pass_item : Pass → List Segment → ItemTree → Passing
   pass_item t s (scope n is) = enter t s (step n opens) (λ u p. pass_items u p is)
-  pass_item t s (device n is) = enter t s (step n (plainly device_object)) (λ u p. pass_items u p is)
-  pass_item t s (processor n id block length is) = enter t s (step n (plainly (processor_object id block length))) (λ u p. pass_items u p is)
-  pass_item t s (power n level order is) = enter t s (step n (plainly (power_object level order))) (λ u p. pass_items u p is)
-  pass_item t s (thermal n is) = enter t s (step n (plainly thermal_object)) (λ u p. pass_items u p is)
+  pass_item t s (device n is) = enter t s (step n (declares_alone device_object)) (λ u p. pass_items u p is)
+  pass_item t s (processor n id block length is) = enter t s (step n (declares_alone (processor_object id block length))) (λ u p. pass_items u p is)
+  pass_item t s (power n level order is) = enter t s (step n (declares_alone (power_object level order))) (λ u p. pass_items u p is)
+  pass_item t s (thermal n is) = enter t s (step n (declares_alone thermal_object)) (λ u p. pass_items u p is)
   pass_item t s i = take_steps t s (own_steps i)
 
   pub pass_items : Pass → List Segment → ItemTrees → Passing

@@ -1,4 +1,4 @@
-use Rattle.acpi_declare.proofs.NoLoad.{one_load}
+use Rattle.acpi_declare.proofs.Refusals.{one_load}
 use Rattle.acpi_declare.proofs.laws.one_load.Goals as goal
 
 pub returns : goal.returns

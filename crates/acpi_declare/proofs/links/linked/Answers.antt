@@ -7,7 +7,7 @@ use Rattle.acpi_space.specs.Lookups.{union}
 use Rattle.acpi_declare.specs.Links.{answers, links_of, link_map, links_at}
 use Rattle.acpi_declare.specs.Namespace.{namespace_of}
 use Rattle.acpi_declare.specs.steps.View.{pending_of}
-use Rattle.acpi_declare.proofs.Linking.{link_moves, no_links}
+use Rattle.acpi_declare.proofs.PendingLinks.{link_moves, no_links}
 use Rattle.acpi_declare.proofs.links.linked.Goals as goal
 
 pub loop-link-init : goal.loop-link-init

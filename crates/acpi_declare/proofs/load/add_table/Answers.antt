@@ -7,9 +7,9 @@ use Rattle.acpi_declare.specs.Namespace.{namespace_of}
 use Rattle.acpi_declare.specs.Notes.{Notes, notes_of}
 use Rattle.acpi_declare.specs.steps.Adding.{AddsTable, state_of}
 use Rattle.acpi_declare.specs.steps.Pass.{pass_items}
-use Rattle.acpi_declare.specs.steps.Told.{IsTableFault, IsTold}
+use Rattle.acpi_declare.specs.steps.Outcomes.{IsTableFault, IsStopOf}
 use Rattle.acpi_declare.specs.steps.View.{pass_of}
-use Rattle.acpi_declare.proofs.Tables.{pass_refused, pass_adds}
+use Rattle.acpi_declare.proofs.TableListings.{pass_refused, pass_adds}
 use Rattle.acpi_declare.proofs.load.add_table.Goals as goal
 
 pub returns-in_err-items-clause-err : goal.returns-in_err-items-clause-err
@@ -22,7 +22,7 @@ returns-in-Err-Refused-clause-err g c =
     let objects = namespace_of (g.S.Space.contents c.args.loaded.objects) in
     let t = pass_of (g.S.Space.contents c.args.loaded.objects) (record { alloc = c.args.alloc; objects = c.args.loaded.objects; links = c.args.loaded.links; notes = c.new.result }) in
     let is = items_tree c.in_ok-items.items.items in
-    let told : pass_items t c.root.result is ≡ Err (c.in-Err-Refused.refusal, c.in-Err-Refused.path) = subst (λ f. IsTold f (pass_items t c.root.result is)) c.in-Err-Refused.field-0-is c.in-Err-Refused.ensures.refused in
+    let told : pass_items t c.root.result is ≡ Err (c.in-Err-Refused.refusal, c.in-Err-Refused.path) = subst (λ f. IsStopOf f (pass_items t c.root.result is)) c.in-Err-Refused.field-0-is c.in-Err-Refused.ensures.refused in
     let stopped : pass_items t [] is ≡ Err (c.in-Err-Refused.refusal, c.in-Err-Refused.path) = ap (λ (s : List Segment). pass_items t s is) (sym c.root.ensures) ∙ told in
     subst (IsTableFault c.args.depth c.args.number objects c.args.bytes.now) (sym c.refused.ensures)
     (refl, (is, c.in_ok-items.ensures.ok, pass_refused t is (c.in-Err-Refused.refusal, c.in-Err-Refused.path) stopped))

@@ -1,22 +1,22 @@
 use Rattle.std.proofs.Common.{◌≡◌, ◌∙◌, ◌++◌, ◌∷◌, ◌+◌, ◌<◌, [], take, drop, length, ap, sym, subst, refl, arith}
 use Rattle.std.proofs.lemmas.Result.{err_from_is_err_and}
 use Rattle.std.proofs.lemmas.List.{drop_more, take_more, take-append-drop, length-take-le}
-use Rattle.acpi_declare.specs.steps.Adding.{SoFar, state_of}
-use Rattle.acpi_declare.proofs.Totals.{one_more, so_far_nothing, next_fault}
+use Rattle.acpi_declare.specs.steps.Adding.{HasTables, state_of}
+use Rattle.acpi_declare.proofs.TableLists.{one_more, no_tables, next_fault}
 use Rattle.acpi_declare.proofs.load.declare_all.Goals as goal
 
 pub returns-in_err-loaded-clause-err : goal.returns-in_err-loaded-clause-err
 returns-in_err-loaded-clause-err g c =
     let p = err_from_is_err_and c.from_residual-in_err-loaded.result c.from_residual-in_err-loaded.ensures.1 in
     let s = c.in_ok-start.field-0 in
-    let begun = so_far_nothing c.args.depth 0 (state_of (g.S.Space.contents s.objects) s) c.in_ok-start.ensures.ok in
+    let begun = no_tables c.args.depth 0 (state_of (g.S.Space.contents s.objects) s) c.in_ok-start.ensures.ok in
     rw (p.1, p.2) (next_fault c.args.depth 0 [] c.args.ssdts.now (c.args.dsdt.now ∷ c.args.ssdts.now) c.args.dsdt.now (state_of (g.S.Space.contents s.objects) s) c.in_err-loaded.field-0.0 refl refl begun c.in_err-loaded.ensures.err)
 
 pub loop-i-init : goal.loop-i-init
 loop-i-init g c =
     let s = c.in_ok-start.field-0 in
     let r = c.in_ok-loaded.loaded in
-    let begun = so_far_nothing c.args.depth 0 (state_of (g.S.Space.contents s.objects) s) c.in_ok-start.ensures.ok in
+    let begun = no_tables c.args.depth 0 (state_of (g.S.Space.contents s.objects) s) c.in_ok-start.ensures.ok in
     one_more c.args.depth 0 [] c.args.dsdt.now (state_of (g.S.Space.contents s.objects) s) (state_of (g.S.Space.contents r.objects) r) refl begun c.in_ok-loaded.ensures.ok
 
 pub returns-in_err-loaded-2-clause-err : goal.returns-in_err-loaded-2-clause-err
@@ -42,5 +42,5 @@ loop-i-preserved g c =
     let longer : take l.i xs ++ x ∷ [] ≡ take (l.i + 1) xs = ap (λ y. take l.i xs ++ y ∷ []) c.index-ssdts-i.is ∙ sym (take_more xs l.i x below) in
     let count : l.i + 1 ≡ length (c.args.dsdt.now ∷ take l.i xs) = omega (arith, length-take-le l.i xs (omega arith)) in
     let now = state_of (g.S.Space.contents r.objects) r in
-    subst (λ ys. SoFar c.args.depth (c.args.dsdt.now ∷ ys) now) longer
+    subst (λ ys. HasTables c.args.depth (c.args.dsdt.now ∷ ys) now) longer
     (one_more c.args.depth (l.i + 1) (c.args.dsdt.now ∷ take l.i xs) x (state_of (g.S.Space.contents l.loaded.objects) l.loaded) now count l.invariant c.in_ok-loaded-2.ensures.ok)

@@ -1,6 +1,6 @@
 use Rattle.std.proofs.Common.{◌∷◌}
 use Rattle.std.proofs.lemmas.Result.{err_from_is_err_and}
-use Rattle.acpi_declare.proofs.NoLoad.{refused_has_no_load}
+use Rattle.acpi_declare.proofs.Refusals.{refused_has_no_load}
 use Rattle.acpi_declare.proofs.load.declare_shared.Goals as goal
 
 pub returns-in_err-objects-clause-none : goal.returns-in_err-objects-clause-none

@@ -2,7 +2,7 @@ use Rattle.std.proofs.Common.{◌≡◌, sym, subst, refl}
 use Rattle.acpi_tree.specs.View.{items_tree}
 use Rattle.std.proofs.lemmas.Result.{err_from_is_err_and}
 use Rattle.acpi_declare.specs.Refusals.{IsCodeFault}
-use Rattle.acpi_declare.specs.steps.Told.{IsTableFault}
+use Rattle.acpi_declare.specs.steps.Outcomes.{IsTableFault}
 use Rattle.acpi_declare.proofs.CodeFaults.{code_fault}
 use Rattle.acpi_declare.proofs.load.table_items.Goals as goal
 

@@ -3,15 +3,15 @@ use Rattle.std.specs.FinMap.{get}
 use Rattle.acpi_space.specs.Spaces.{is_defined}
 use Rattle.acpi_space.specs.Search.{answer}
 use Rattle.acpi_declare.specs.Namespace.{namespace_of}
-use Rattle.acpi_declare.specs.steps.Told.{IsTold}
-use Rattle.acpi_declare.proofs.Lookups.{answer_defined, opened_is}
+use Rattle.acpi_declare.specs.steps.Outcomes.{IsStopOf}
+use Rattle.acpi_declare.proofs.Searches.{answer_defined, opened_is}
 use Rattle.acpi_declare.proofs.placing.opened.Goals as goal
 
 pub returns-in-Ok-Missing-clause-refused : goal.returns-in-Ok-Missing-clause-refused
 returns-in-Ok-Missing-clause-refused g c =
     let objects = g.S.Space.contents c.args.objects.now in
     let none : answer (is_defined objects) c.args.scope.now c.args.name.now ≡ None = search rules in
-    subst (IsTold c.missing.result) (sym (opened_is objects c.args.scope.now c.args.name.now None none)) (c.missing.ensures (namespace_of objects))
+    subst (IsStopOf c.missing.result) (sym (opened_is objects c.args.scope.now c.args.name.now None none)) (c.missing.ensures (namespace_of objects))
 
 pub unreachable-requires : goal.unreachable-requires
 unreachable-requires g c =

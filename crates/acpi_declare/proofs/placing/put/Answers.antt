@@ -1,6 +1,6 @@
 use Rattle.std.proofs.Common.{◌∙◌, ap, rules}
 use Rattle.acpi_declare.specs.Namespace.{namespace_of}
-use Rattle.acpi_declare.proofs.Laying.{namespace_insert}
+use Rattle.acpi_declare.proofs.Unions.{namespace_insert}
 use Rattle.acpi_declare.proofs.placing.put.Goals as goal
 use Rattle.acpi_declare.proofs.placing.put.Goals.{in-Ok, in-Err-Memory}
 

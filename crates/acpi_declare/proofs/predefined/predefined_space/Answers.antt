@@ -3,7 +3,7 @@ use Rattle.acpi_name.specs.Names.{Segment}
 use Rattle.acpi_tree.specs.Objects.{root_object}
 use Rattle.acpi_space.specs.Lookups.{singleton, union, nothing}
 use Rattle.acpi_declare.specs.Namespace.{Namespace, namespace_of}
-use Rattle.acpi_declare.proofs.Laying.{namespace-empty, laid_on, still_free, root_first}
+use Rattle.acpi_declare.proofs.Unions.{namespace-empty, laid_on, still_free, root_first}
 use Rattle.acpi_declare.proofs.predefined.predefined_space.Goals as goal
 
 pub put-requires : goal.put-requires

@@ -1,7 +1,7 @@
 use Rattle.std.proofs.Common.{ap, ◌∙◌}
 use Rattle.std.specs.FinMap.{get}
 use Rattle.acpi_declare.specs.Notes.{notes_of}
-use Rattle.acpi_declare.proofs.Laying.{counts_with_first}
+use Rattle.acpi_declare.proofs.Unions.{counts_with_first}
 use Rattle.acpi_declare.proofs.notes.TableNotes.add_count.Goals as goal
 
 pub returns : goal.returns

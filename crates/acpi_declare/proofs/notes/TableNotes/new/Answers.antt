@@ -1,7 +1,7 @@
 use Rattle.std.proofs.Common.{[], map, ap, ◌∙◌}
 use Rattle.std.specs.FinMap.{get}
 use Rattle.acpi_declare.specs.Notes.{method_of}
-use Rattle.acpi_declare.proofs.Laying.{counts-empty}
+use Rattle.acpi_declare.proofs.Unions.{counts-empty}
 use Rattle.acpi_declare.proofs.notes.TableNotes.new.Goals as goal
 
 pub returns : goal.returns

@@ -1,7 +1,7 @@
 use Rattle.std.proofs.Common.{ap, map}
 use Rattle.acpi_tree.specs.Objects.{method_object}
 use Rattle.acpi_declare.specs.steps.View.{pass_of, pending_of}
-use Rattle.acpi_declare.proofs.Steps.{declared_method}
+use Rattle.acpi_declare.proofs.PassSteps.{declared_method}
 use Rattle.acpi_declare.proofs.pass.Pass.declare_method.Goals as goal
 
 pub returns-clause-ok : goal.returns-clause-ok

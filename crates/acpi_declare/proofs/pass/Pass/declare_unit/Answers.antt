@@ -3,7 +3,7 @@ use Rattle.acpi_tree.specs.Objects.{object_view}
 use Rattle.acpi_declare.specs.Sites.{unit_name}
 use Rattle.acpi_declare.specs.Notes.{notes_of}
 use Rattle.acpi_declare.specs.steps.View.{pass_of}
-use Rattle.acpi_declare.proofs.Steps.{declared_linked}
+use Rattle.acpi_declare.proofs.PassSteps.{declared_linked}
 use Rattle.acpi_declare.proofs.pass.Pass.declare_unit.Goals as goal
 
 pub returns-clause-ok : goal.returns-clause-ok

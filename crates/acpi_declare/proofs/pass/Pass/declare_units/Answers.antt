@@ -7,7 +7,7 @@ use Rattle.acpi_declare.specs.steps.View.{pass_of}
 use Rattle.acpi_declare.specs.Sites.{Step, unit_step, unit_steps}
 use Rattle.acpi_declare.specs.steps.Pass.{take_steps}
 use Rattle.acpi_tree.specs.Offsets.{element_bits}
-use Rattle.acpi_declare.proofs.Sequences.{told_on}
+use Rattle.acpi_declare.proofs.StepLists.{told_on}
 use Rattle.acpi_declare.proofs.pass.Pass.declare_units.Goals as goal
 
 pub returns-in_err-offset-clause-refused : goal.returns-in_err-offset-clause-refused

@@ -4,7 +4,7 @@ use Rattle.acpi_declare.specs.Notes.{notes_of}
 use Rattle.acpi_declare.specs.Sites.{step, expects}
 use Rattle.acpi_declare.specs.steps.Pass.{take_steps}
 use Rattle.acpi_declare.specs.steps.View.{pass_of}
-use Rattle.acpi_declare.proofs.Steps.{expected_count, external_nothing}
+use Rattle.acpi_declare.proofs.PassSteps.{expected_count, external_nothing}
 use Rattle.acpi_declare.proofs.pass.Pass.expect.Goals as goal
 
 pub returns-in-Err-AboveRoot-clause-ok : goal.returns-in-Err-AboveRoot-clause-ok

@@ -6,8 +6,8 @@ use Rattle.acpi_space.specs.Spaces.{is_defined}
 use Rattle.acpi_declare.specs.Namespace.{namespace_of}
 use Rattle.acpi_declare.specs.Notes.{notes_of}
 use Rattle.acpi_declare.specs.steps.View.{pass_of, with_missed}
-use Rattle.acpi_declare.proofs.Lookups.{is_defined-namespace}
-use Rattle.acpi_declare.proofs.Steps.{opened_scope}
+use Rattle.acpi_declare.proofs.Searches.{is_defined-namespace}
+use Rattle.acpi_declare.proofs.PassSteps.{opened_scope}
 use Rattle.acpi_declare.proofs.pass.Pass.open_scope.Goals as goal
 
 pub returns-in_ok-add_missed-in-Ok-clause-ok : goal.returns-in_ok-add_missed-in-Ok-clause-ok

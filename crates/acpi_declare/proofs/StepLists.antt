@@ -4,7 +4,7 @@ use Rattle.acpi_name.specs.Names.{Segment}
 use Rattle.acpi_declare.specs.Placing.{RefusedAt}
 use Rattle.acpi_declare.specs.Sites.{Step}
 use Rattle.acpi_declare.specs.steps.Pass.{Pass, Passing, ◌>>=◌, take_step, take_steps}
-use Rattle.acpi_declare.specs.steps.Told.{IsTold}
+use Rattle.acpi_declare.specs.steps.Outcomes.{IsStopOf}
 use Rattle.acpi_declare.specs.declared.fault.Stop.{Stop}
 use Rattle.acpi_declare.specs.declared.fault.Stop.TheVariants.{Refused, Memory}
 
@@ -30,6 +30,6 @@ pub take_steps_refused : (t : Pass) (s : List Segment) (f : RefusedAt) (xs ys : 
 take_steps_refused t s f xs ys e = take_steps_append t s xs ys ∙ ap (λ r. r >>= λ v. take_steps v s ys) e
 
 -- the refusal of the first steps left is that of all the steps
-pub told_on : (f : Stop) (t first : Pass) (s : List Segment) (xs ys all : List Step) → take_steps t s (xs ++ ys) ≡ take_steps first s all → IsTold f (take_steps t s xs) → IsTold f (take_steps first s all)
+pub told_on : (f : Stop) (t first : Pass) (s : List Segment) (xs ys all : List Step) → take_steps t s (xs ++ ys) ≡ take_steps first s all → IsStopOf f (take_steps t s xs) → IsStopOf f (take_steps first s all)
 told_on Memory t first s xs ys all e h = tt
 told_on (Refused r p) t first s xs ys all e h = sym e ∙ take_steps_refused t s (r, p) xs ys h

@@ -4,13 +4,13 @@ use Rattle.acpi_name.specs.Names.{Segment, NameParts}
 use Rattle.acpi_tree.specs.Tree.{ItemTree, scope, device, processor, power, thermal, ItemTrees, no_items, item}
 use Rattle.acpi_tree.specs.Objects.{device_object, processor_object, power_object, thermal_object}
 use Rattle.acpi_space.specs.Lookups.{union}
-use Rattle.acpi_declare.specs.Listing.{Placement, given, declared, path_at, scope_within, IsJustified, paths_of}
+use Rattle.acpi_declare.specs.Listing.{Placement, object_of, objects_of, path_at, scope_within, IsJustified, paths_of}
 use Rattle.acpi_declare.specs.Namespace.{Namespace}
 use Rattle.acpi_declare.specs.Placing.{RefusedAt, placed_path}
-use Rattle.acpi_declare.specs.Sites.{opens, plainly, Step, step, own_steps, Site, site_in, item_sites, items_sites}
+use Rattle.acpi_declare.specs.Sites.{opens, declares_alone, Step, step, own_steps, Site, site_in, item_sites, items_sites}
 use Rattle.acpi_declare.specs.steps.Pass.{Pass, Passing, after, after_all, placement, ◌>>=◌, take_steps, enter, pass_item, pass_items}
-use Rattle.acpi_declare.proofs.Laying.{union-nothing, union_assoc}
-use Rattle.acpi_declare.proofs.Placed.{placed_ok}
+use Rattle.acpi_declare.proofs.Unions.{union-nothing, union_assoc}
+use Rattle.acpi_declare.proofs.Places.{placed_ok}
 
 -- ---- entries one after another
 
@@ -19,28 +19,28 @@ after_all_append t [] fs = refl
 after_all_append t (e ∷ es) fs = after_all_append (after t e) es fs
 
 -- the objects after some entries
-pub objects_after : (t : Pass) (es : List Placement) → (after_all t es).objects ≡ union t.objects (declared es)
+pub objects_after : (t : Pass) (es : List Placement) → (after_all t es).objects ≡ union t.objects (objects_of es)
 objects_after t [] = sym (union-nothing t.objects)
-objects_after t (e ∷ es) = objects_after (after t e) es ∙ union_assoc t.objects (given e) (declared es)
+objects_after t (e ∷ es) = objects_after (after t e) es ∙ union_assoc t.objects (object_of e) (objects_of es)
 
 pub justified_append : (objects : Namespace) (before : List (List Segment)) (xs ys : List Site) (es fs : List Placement)
-    → IsJustified objects before xs es → IsJustified (union objects (declared es)) (before ++ paths_of es) ys fs → IsJustified objects before (xs ++ ys) (es ++ fs)
+    → IsJustified objects before xs es → IsJustified (union objects (objects_of es)) (before ++ paths_of es) ys fs → IsJustified objects before (xs ++ ys) (es ++ fs)
 justified_append objects before [] ys [] fs h k =
     subst (λ ps. IsJustified objects ps ys fs) (append-nil before) (subst (λ (m : Namespace). IsJustified m (before ++ []) ys fs) (union-nothing objects) k)
 justified_append objects before (x ∷ xs) ys (e ∷ es) fs h k = (
   h.0,
   h.1,
   h.2,
-  justified_append (union objects (given e)) (before ++ e.path ∷ []) xs ys es fs h.3
-      (subst (λ ps. IsJustified (union (union objects (given e)) (declared es)) ps ys fs) (sym (append_assoc before (e.path ∷ []) (paths_of es)))
-      (subst (λ (m : Namespace). IsJustified m (before ++ e.path ∷ paths_of es) ys fs) (sym (union_assoc objects (given e) (declared es))) k)),
+  justified_append (union objects (object_of e)) (before ++ e.path ∷ []) xs ys es fs h.3
+      (subst (λ ps. IsJustified (union (union objects (object_of e)) (objects_of es)) ps ys fs) (sym (append_assoc before (e.path ∷ []) (paths_of es)))
+      (subst (λ (m : Namespace). IsJustified m (before ++ e.path ∷ paths_of es) ys fs) (sym (union_assoc objects (object_of e) (objects_of es))) k)),
 )
 justified_append objects before [] ys (e ∷ es) fs h k = absurd h
 justified_append objects before (x ∷ xs) ys [] fs h k = absurd h
 
 pub length-justified : (objects : Namespace) (before : List (List Segment)) (xs : List Site) (es : List Placement) → IsJustified objects before xs es → length es ≡ length xs
 length-justified objects before [] [] h = refl
-length-justified objects before (x ∷ xs) (e ∷ es) h = ap suc (length-justified (union objects (given e)) (before ++ e.path ∷ []) xs es h.3)
+length-justified objects before (x ∷ xs) (e ∷ es) h = ap suc (length-justified (union objects (object_of e)) (before ++ e.path ∷ []) xs es h.3)
 length-justified objects before [] (e ∷ es) h = absurd h
 length-justified objects before (x ∷ xs) [] h = absurd h
 
@@ -193,19 +193,19 @@ mutual
       (λ p. newest _ before p is (λ k inside e h. items_outcome is _ (before ++ p ∷ []) k inside p e h)))
   item_outcome (device n is) t before k inside s e h =
       subst (λ k. Outcome t before (item_sites k inside (device n is)) (pass_item t s (device n is))) (sym e)
-      (enter_outcome t before inside s (step n (plainly device_object)) (items_sites (suc (length before)) (Some (length before)) is) (λ u p. pass_items u p is) h
+      (enter_outcome t before inside s (step n (declares_alone device_object)) (items_sites (suc (length before)) (Some (length before)) is) (λ u p. pass_items u p is) h
       (λ p. newest _ before p is (λ k inside e h. items_outcome is _ (before ++ p ∷ []) k inside p e h)))
   item_outcome (processor n id block len is) t before k inside s e h =
       subst (λ k. Outcome t before (item_sites k inside (processor n id block len is)) (pass_item t s (processor n id block len is))) (sym e)
-      (enter_outcome t before inside s (step n (plainly (processor_object id block len))) (items_sites (suc (length before)) (Some (length before)) is) (λ u p. pass_items u p is) h
+      (enter_outcome t before inside s (step n (declares_alone (processor_object id block len))) (items_sites (suc (length before)) (Some (length before)) is) (λ u p. pass_items u p is) h
       (λ p. newest _ before p is (λ k inside e h. items_outcome is _ (before ++ p ∷ []) k inside p e h)))
   item_outcome (power n level order is) t before k inside s e h =
       subst (λ k. Outcome t before (item_sites k inside (power n level order is)) (pass_item t s (power n level order is))) (sym e)
-      (enter_outcome t before inside s (step n (plainly (power_object level order))) (items_sites (suc (length before)) (Some (length before)) is) (λ u p. pass_items u p is) h
+      (enter_outcome t before inside s (step n (declares_alone (power_object level order))) (items_sites (suc (length before)) (Some (length before)) is) (λ u p. pass_items u p is) h
       (λ p. newest _ before p is (λ k inside e h. items_outcome is _ (before ++ p ∷ []) k inside p e h)))
   item_outcome (thermal n is) t before k inside s e h =
       subst (λ k. Outcome t before (item_sites k inside (thermal n is)) (pass_item t s (thermal n is))) (sym e)
-      (enter_outcome t before inside s (step n (plainly thermal_object)) (items_sites (suc (length before)) (Some (length before)) is) (λ u p. pass_items u p is) h
+      (enter_outcome t before inside s (step n (declares_alone thermal_object)) (items_sites (suc (length before)) (Some (length before)) is) (λ u p. pass_items u p is) h
       (λ p. newest _ before p is (λ k inside e h. items_outcome is _ (before ++ p ∷ []) k inside p e h)))
   item_outcome i t before k inside s e h = steps_outcome t before inside s (own_steps i) h
 

@@ -8,7 +8,7 @@ use Rattle.acpi_name.specs.steps.PathOrder.{path_cmp_total}
 use Rattle.acpi_space.specs.Lookups.{is_same_path, union}
 use Rattle.acpi_declare.specs.Links.{PendingLink, Links, answers, one_link, links_of}
 use Rattle.acpi_declare.specs.Namespace.{Namespace}
-use Rattle.acpi_declare.proofs.Laying.{union-nothing, union_assoc}
+use Rattle.acpi_declare.proofs.Unions.{union-nothing, union_assoc}
 
 newest : (b : Bool) (v : Links) (a : Option Links) → cond b (Some v) a ≡ option_or (cond b (Some v) None) a
 newest true v a = refl

@@ -7,16 +7,16 @@ use Rattle.acpi_declare.specs.declared.fault.LoadFault.TheVariants as faults
 use Rattle.acpi_declare.specs.Namespace.{Namespace}
 use Rattle.acpi_declare.specs.Placing.{RefusedAt}
 use Rattle.acpi_declare.specs.Tables.{IsNumbered, code_of}
-use Rattle.acpi_declare.specs.Refusals.{IsRefusedAs}
+use Rattle.acpi_declare.specs.Refusals.{IsLoadReason}
 
 -- a refusal is the outcome's; want of memory tells nothing
-abbrev pub IsTold : {A : Type 0} → Stop → Result A RefusedAt → Type 0
-IsTold (Refused r p) outcome = outcome ≡ Err (r, p)
-IsTold Memory outcome = Unit {0}
+abbrev pub IsStopOf : {A : Type 0} → Stop → Result A RefusedAt → Type 0
+IsStopOf (Refused r p) outcome = outcome ≡ Err (r, p)
+IsStopOf Memory outcome = Unit {0}
 
 -- the table of that number is refused over those objects
 abbrev pub IsTableFault : ℕ → ℕ → Namespace → List ℕ → LoadFault → Type 0
-IsTableFault depth number objects bytes (faults.At k reason) = (k ≡ number) × IsRefusedAs depth number objects bytes reason
+IsTableFault depth number objects bytes (faults.At k reason) = (k ≡ number) × IsLoadReason depth number objects bytes reason
 IsTableFault depth number objects bytes faults.Memory = Unit {0}
 
 -- the code of a whole table with the signature of its number

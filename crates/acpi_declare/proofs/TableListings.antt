@@ -3,7 +3,7 @@ use Rattle.std.proofs.Common.{◌≡◌, ℕ, List, [], ◌∷◌, ◌++◌, Non
 use Rattle.acpi_tree.specs.Tree.{ItemTrees}
 use Rattle.acpi_space.specs.Lookups.{union, nothing}
 use Rattle.acpi_declare.specs.Links.{pending_links, pending_by}
-use Rattle.acpi_declare.specs.Listing.{Placement, given, scope_within, paths_of, IsFirstRefusal}
+use Rattle.acpi_declare.specs.Listing.{Placement, object_of, scope_within, paths_of, IsFirstRefusal}
 use Rattle.acpi_declare.specs.Namespace.{Namespace}
 use Rattle.acpi_declare.specs.Notes.{Notes, notes_on}
 use Rattle.acpi_declare.specs.Placing.{RefusedAt, placed_path}
@@ -11,8 +11,8 @@ use Rattle.acpi_declare.specs.Sites.{sites}
 use Rattle.acpi_declare.specs.Tables.{IsTableOf}
 use Rattle.acpi_declare.specs.steps.Adding.{AddsTable}
 use Rattle.acpi_declare.specs.steps.Pass.{Pass, no_notes, note_of, joined, after, after_all, pass_items}
-use Rattle.acpi_declare.proofs.Steps.{nothing_joined, joined_assoc}
-use Rattle.acpi_declare.proofs.Outcome.{Ran, Stopped, Outcome, objects_after, items_outcome}
+use Rattle.acpi_declare.proofs.PassSteps.{nothing_joined, joined_assoc}
+use Rattle.acpi_declare.proofs.Listings.{Ran, Stopped, Outcome, objects_after, items_outcome}
 
 outcome : (t : Pass) (is : ItemTrees) → Outcome t [] (sites is) (pass_items t [] is)
 outcome t is = items_outcome is t [] 0 None [] refl (λ more. refl)
@@ -36,7 +36,7 @@ after_links t (e ∷ es) = after_links (after t e) es ∙ append_assoc t.links (
 
 after_notes : (t : Pass) (es : List Placement) → (after_all t es).notes ≡ joined t.notes (notes_on t.objects es)
 after_notes t [] = sym (nothing_joined t.notes)
-after_notes t (e ∷ es) = after_notes (after t e) es ∙ joined_assoc t.notes (note_of t.objects e) (notes_on (union t.objects (given e)) es)
+after_notes t (e ∷ es) = after_notes (after t e) es ∙ joined_assoc t.notes (note_of t.objects e) (notes_on (union t.objects (object_of e)) es)
 
 -- a pass that begins without notes adds the table
 pub pass_adds : (depth number : ℕ) (bytes : List ℕ) (is : ItemTrees) (t u : Pass) (notes : List Notes)

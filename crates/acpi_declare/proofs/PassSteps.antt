@@ -9,10 +9,10 @@ use Rattle.acpi_declare.specs.Links.{PendingLink}
 use Rattle.acpi_declare.specs.Namespace.{Namespace}
 use Rattle.acpi_declare.specs.Notes.{Method, Notes, count_at}
 use Rattle.acpi_declare.specs.Placing.{declared_path}
-use Rattle.acpi_declare.specs.Sites.{step, plainly, declares, opens, expects}
+use Rattle.acpi_declare.specs.Sites.{step, declares_alone, declares, opens, expects}
 use Rattle.acpi_declare.specs.steps.Pass.{Pass, Passing, no_notes, note_of, joined, after, placement, ◌>>=◌, take_step, take_steps}
 use Rattle.acpi_declare.specs.steps.View.{pending_for, with_count, with_method, with_missed}
-use Rattle.acpi_declare.proofs.Laying.{union-nothing, union_assoc}
+use Rattle.acpi_declare.proofs.Unions.{union-nothing, union_assoc}
 
 -- ---- notes
 
@@ -41,7 +41,7 @@ stepped t objects links notes s p n o names code placed e =
 -- a declaration inside which others stand
 pub declared_scope : (t : Pass) (objects : Namespace) (links : List PendingLink) (notes : Notes) (s p : List Segment) (n : NameParts) (o : ObjectTree)
     → objects ≡ union t.objects (singleton p o) → links ≡ t.links → notes ≡ t.notes
-    → pass objects links notes ≡ after t (placement s (step n (plainly o)) p)
+    → pass objects links notes ≡ after t (placement s (step n (declares_alone o)) p)
 declared_scope t objects links notes s p n o laid same_links same_notes = λ i. record {
   objects = laid i;
   links = (same_links ∙ sym (append-nil t.links)) i;
@@ -51,7 +51,7 @@ declared_scope t objects links notes s p n o laid same_links same_notes = λ i. 
 -- a declaration without links and code changes the objects alone
 pub declared_plainly : (t : Pass) (objects : Namespace) (links : List PendingLink) (notes : Notes) (s p : List Segment) (n : NameParts) (o : ObjectTree)
     → declared_path t.objects s n ≡ Ok p → objects ≡ union t.objects (singleton p o) → links ≡ t.links → notes ≡ t.notes
-    → take_step t s (step n (plainly o)) ≡ Ok (pass objects links notes)
+    → take_step t s (step n (declares_alone o)) ≡ Ok (pass objects links notes)
 declared_plainly t objects links notes s p n o placed laid same_links same_notes =
     stepped t objects links notes s p n o [] None placed (sym (declared_scope t objects links notes s p n o laid same_links same_notes))
 

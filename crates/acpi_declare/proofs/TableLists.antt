@@ -4,28 +4,28 @@ use Rattle.acpi_declare.specs.declared.fault.LoadFault.{LoadFault}
 use Rattle.acpi_declare.specs.declared.fault.LoadFault.TheVariants.{At, Memory}
 use Rattle.acpi_space.specs.Lookups.{union}
 use Rattle.acpi_declare.specs.Links.{PendingLink, pending_links, all_pending}
-use Rattle.acpi_declare.specs.Listing.{Placement, declared, IsListing}
+use Rattle.acpi_declare.specs.Listing.{Placement, objects_of, IsListing}
 use Rattle.acpi_declare.specs.Loads.{AreListings, objects_after}
 use Rattle.acpi_declare.specs.Namespace.{Namespace}
 use Rattle.acpi_declare.specs.Notes.{Notes, notes_on, all_notes}
 use Rattle.acpi_declare.specs.Predefined.{predefined}
-use Rattle.acpi_declare.specs.Refusals.{IsRefusedAs, IsLoadFault}
+use Rattle.acpi_declare.specs.Refusals.{IsLoadReason, IsLoadFault}
 use Rattle.acpi_declare.specs.Sites.{sites}
 use Rattle.acpi_declare.specs.Tables.{IsTableOf}
-use Rattle.acpi_declare.specs.steps.Adding.{State, AddsTable, SoFar}
-use Rattle.acpi_declare.specs.steps.Told.{IsTableFault}
+use Rattle.acpi_declare.specs.steps.Adding.{State, AddsTable, HasTables}
+use Rattle.acpi_declare.specs.steps.Outcomes.{IsTableFault}
 
 -- the listings of some tables and of one more behind them
 more_listings : (depth k number : ℕ) (objects : Namespace) (bs : List (List ℕ)) (ts : List (List Placement)) (b : List ℕ) (t : List Placement) (is : _)
     → AreListings depth k objects bs ts → number ≡ k + length bs → IsTableOf depth number b is → IsListing (objects_after objects ts) (sites is) t → AreListings depth k objects (bs ++ b ∷ []) (ts ++ t ∷ [])
 more_listings depth k number objects [] [] b t is h e table listing = ((is, subst (λ n. IsTableOf depth n b is) (e ∙ omega arith) table, listing), tt)
-more_listings depth k number objects (c ∷ bs) (u ∷ ts) b t is h e table listing = (h.0, more_listings depth (suc k) number (union objects (declared u)) bs ts b t is h.1 (e ∙ omega arith) table listing)
+more_listings depth k number objects (c ∷ bs) (u ∷ ts) b t is h e table listing = (h.0, more_listings depth (suc k) number (union objects (objects_of u)) bs ts b t is h.1 (e ∙ omega arith) table listing)
 more_listings depth k number objects [] (u ∷ ts) b t is h e table listing = absurd h
 more_listings depth k number objects (c ∷ bs) [] b t is h e table listing = absurd h
 
-more_objects : (objects : Namespace) (ts : List (List Placement)) (t : List Placement) → objects_after objects (ts ++ t ∷ []) ≡ union (objects_after objects ts) (declared t)
+more_objects : (objects : Namespace) (ts : List (List Placement)) (t : List Placement) → objects_after objects (ts ++ t ∷ []) ≡ union (objects_after objects ts) (objects_of t)
 more_objects objects [] t = refl
-more_objects objects (u ∷ ts) t = more_objects (union objects (declared u)) ts t
+more_objects objects (u ∷ ts) t = more_objects (union objects (objects_of u)) ts t
 
 more_pending : (ts : List (List Placement)) (t : List Placement) → all_pending (ts ++ t ∷ []) ≡ all_pending ts ++ pending_links t
 more_pending [] t = append-nil (pending_links t)
@@ -33,23 +33,23 @@ more_pending (u ∷ ts) t = ap (λ l. pending_links u ++ l) (more_pending ts t) 
 
 more_notes : (objects : Namespace) (ts : List (List Placement)) (t : List Placement) → all_notes objects (ts ++ t ∷ []) ≡ all_notes objects ts ++ notes_on (objects_after objects ts) t ∷ []
 more_notes objects [] t = refl
-more_notes objects (u ∷ ts) t = ap (λ ns. notes_on objects u ∷ ns) (more_notes (union objects (declared u)) ts t)
+more_notes objects (u ∷ ts) t = ap (λ ns. notes_on objects u ∷ ns) (more_notes (union objects (objects_of u)) ts t)
 
-pub one_more : (depth number : ℕ) (bs : List (List ℕ)) (b : List ℕ) (before now : State) → number ≡ length bs → SoFar depth bs before → AddsTable depth number b before now → SoFar depth (bs ++ b ∷ []) now
+pub one_more : (depth number : ℕ) (bs : List (List ℕ)) (b : List ℕ) (before now : State) → number ≡ length bs → HasTables depth bs before → AddsTable depth number b before now → HasTables depth (bs ++ b ∷ []) now
 one_more depth number bs b before now e so adds = record {
   placements = so.placements ++ adds.placements ∷ [];
   listings = more_listings depth 0 number predefined bs so.placements b adds.placements adds.is so.listings (e ∙ omega arith) adds.table (subst (λ (m : Namespace). IsListing m (sites adds.is) adds.placements) so.objects_are adds.listing);
-  objects_are = adds.objects_are ∙ ap (λ (m : Namespace). union m (declared adds.placements)) so.objects_are ∙ sym (more_objects predefined so.placements adds.placements);
+  objects_are = adds.objects_are ∙ ap (λ (m : Namespace). union m (objects_of adds.placements)) so.objects_are ∙ sym (more_objects predefined so.placements adds.placements);
   links_are = adds.links_are ∙ ap (λ (l : List PendingLink). l ++ pending_links adds.placements) so.links_are ∙ sym (more_pending so.placements adds.placements);
   notes_are = adds.notes_are ∙ ap (λ (l : List Notes). l ++ notes_on before.objects adds.placements ∷ []) so.notes_are
       ∙ ap (λ (m : Namespace). all_notes predefined so.placements ++ notes_on m adds.placements ∷ []) so.objects_are ∙ sym (more_notes predefined so.placements adds.placements);
 }
 
 -- nothing was declared yet, whatever the depth
-pub so_far_nothing : (depth other : ℕ) (now : State) → SoFar other [] now → SoFar depth [] now
-so_far_nothing depth other now so = by so.placements refl
+pub no_tables : (depth other : ℕ) (now : State) → HasTables other [] now → HasTables depth [] now
+no_tables depth other now so = by so.placements refl
   where
-    by : (ts : List (List Placement)) → so.placements ≡ ts → SoFar depth [] now
+    by : (ts : List (List Placement)) → so.placements ≡ ts → HasTables depth [] now
     by [] e = record {
       placements = [];
       listings = tt;
@@ -60,7 +60,7 @@ so_far_nothing depth other now so = by so.placements refl
     by (t ∷ ts) e = absurd (subst (AreListings other 0 predefined []) e so.listings)
 
 -- the next table's fault is the load's
-pub next_fault : (depth number : ℕ) (bs later all : List (List ℕ)) (b : List ℕ) (before : State) (f : LoadFault) → all ≡ bs ++ b ∷ later → number ≡ length bs → SoFar depth bs before
+pub next_fault : (depth number : ℕ) (bs later all : List (List ℕ)) (b : List ℕ) (before : State) (f : LoadFault) → all ≡ bs ++ b ∷ later → number ≡ length bs → HasTables depth bs before
     → IsTableFault depth number before.objects b f → IsLoadFault depth all f
 next_fault depth number bs later all b before Memory splits e so h = tt
 next_fault depth number bs later all b before (At k reason) splits e so h = record {
@@ -74,5 +74,5 @@ next_fault depth number bs later all b before (At k reason) splits e so h = reco
   refused = refused;
 }
   where
-    refused : IsRefusedAs depth k (objects_after predefined so.placements) b reason
-    refused = subst (λ n. IsRefusedAs depth n (objects_after predefined so.placements) b reason) (sym h.0) (subst (λ (m : Namespace). IsRefusedAs depth number m b reason) so.objects_are h.1)
+    refused : IsLoadReason depth k (objects_after predefined so.placements) b reason
+    refused = subst (λ n. IsLoadReason depth n (objects_after predefined so.placements) b reason) (sym h.0) (subst (λ (m : Namespace). IsLoadReason depth number m b reason) so.objects_are h.1)

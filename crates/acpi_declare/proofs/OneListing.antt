@@ -2,12 +2,12 @@
 use Rattle.std.proofs.Common.{◌≡◌, List, [], ◌∷◌, ◌++◌, Ok, Err, refl, sym, ap, subst, ◌∙◌, append_assoc, append-nil}
 use Rattle.acpi_name.specs.Names.{Segment}
 use Rattle.acpi_space.specs.Lookups.{union}
-use Rattle.acpi_declare.specs.Listing.{Placement, given, declared, scope_within, IsJustified, IsListing, paths_of, IsFirstRefusal}
+use Rattle.acpi_declare.specs.Listing.{Placement, object_of, objects_of, scope_within, IsJustified, IsListing, paths_of, IsFirstRefusal}
 use Rattle.acpi_declare.specs.Namespace.{Namespace}
 use Rattle.acpi_declare.specs.Placing.{RefusedAt, Placed, IsPlaced, placed_path}
 use Rattle.acpi_declare.specs.Sites.{Site, Step}
-use Rattle.acpi_declare.proofs.Placed.{placed_once, placed_again}
-use Rattle.acpi_declare.proofs.Laying.{union-nothing, union_assoc}
+use Rattle.acpi_declare.proofs.Places.{placed_once, placed_again}
+use Rattle.acpi_declare.proofs.Unions.{union-nothing, union_assoc}
 
 same_entry : (e f : Placement) → e.step ≡ f.step → e.scope ≡ f.scope → e.path ≡ f.path → e ≡ f
 same_entry e f a b c = λ i. record { step = a i; scope = b i; path = c i }
@@ -27,7 +27,7 @@ pub justified_once : (objects : Namespace) (before : List (List Segment)) (xs : 
 justified_once objects before [] [] [] h k = refl
 justified_once objects before (x ∷ xs) (e ∷ es) (f ∷ fs) h k =
     let same = first_same objects before x e f h.0 h.1 h.2 k.0 k.1 k.2 in
-    ap (λ g. g ∷ es) same ∙ ap (λ gs. f ∷ gs) (justified_once (union objects (given f)) (before ++ f.path ∷ []) xs es fs (subst (λ (g : Placement). IsJustified (union objects (given g)) (before ++ g.path ∷ []) xs es) same h.3) k.3)
+    ap (λ g. g ∷ es) same ∙ ap (λ gs. f ∷ gs) (justified_once (union objects (object_of f)) (before ++ f.path ∷ []) xs es fs (subst (λ (g : Placement). IsJustified (union objects (object_of g)) (before ++ g.path ∷ []) xs es) same h.3) k.3)
 justified_once objects before [] (e ∷ es) fs h k = absurd h
 justified_once objects before [] [] (f ∷ fs) h k = absurd k
 justified_once objects before (x ∷ xs) [] fs h k = absurd h
@@ -43,7 +43,7 @@ no f = Err f
 
 -- a listing of sites up to one and of what follows has a place for that one
 refused_here : (objects : Namespace) (before : List (List Segment)) (earlier later : List Site) (x : Site) (es gs : List Placement) (f : RefusedAt)
-    → IsJustified objects before earlier es → placed_path x.step.effect (union objects (declared es)) (scope_within (before ++ paths_of es) x.inside) x.step.name ≡ Err f
+    → IsJustified objects before earlier es → placed_path x.step.effect (union objects (objects_of es)) (scope_within (before ++ paths_of es) x.inside) x.step.name ≡ Err f
     → IsJustified objects before (earlier ++ x ∷ later) gs → ⊥
 refused_here objects before [] later x [] [] f h r k = k
 refused_here objects before [] later x [] (g ∷ gs) f h r k =
@@ -59,10 +59,10 @@ refused_here objects before (y ∷ earlier) later x [] gs f h r k = absurd h
 refused_here objects before (y ∷ earlier) later x (e ∷ es) [] f h r k = k
 refused_here objects before (y ∷ earlier) later x (e ∷ es) (g ∷ gs) f h r k =
     let same = first_same objects before y g e k.0 k.1 k.2 h.0 h.1 h.2 in
-    refused_here (union objects (given e)) (before ++ e.path ∷ []) earlier later x es gs f h.3
-    (ap (λ (m : Namespace). placed_path x.step.effect m (scope_within ((before ++ e.path ∷ []) ++ paths_of es) x.inside) x.step.name) (union_assoc objects (given e) (declared es))
-    ∙ ap (λ ps. placed_path x.step.effect (union objects (union (given e) (declared es))) (scope_within ps x.inside) x.step.name) (append_assoc before (e.path ∷ []) (paths_of es)) ∙ r)
-    (subst (λ (g : Placement). IsJustified (union objects (given g)) (before ++ g.path ∷ []) (earlier ++ x ∷ later) gs) same k.3)
+    refused_here (union objects (object_of e)) (before ++ e.path ∷ []) earlier later x es gs f h.3
+    (ap (λ (m : Namespace). placed_path x.step.effect m (scope_within ((before ++ e.path ∷ []) ++ paths_of es) x.inside) x.step.name) (union_assoc objects (object_of e) (objects_of es))
+    ∙ ap (λ ps. placed_path x.step.effect (union objects (union (object_of e) (objects_of es))) (scope_within ps x.inside) x.step.name) (append_assoc before (e.path ∷ []) (paths_of es)) ∙ r)
+    (subst (λ (g : Placement). IsJustified (union objects (object_of g)) (before ++ g.path ∷ []) (earlier ++ x ∷ later) gs) same k.3)
 
 -- where a site is refused there is no listing
 pub refused_alone : (objects : Namespace) (xs : List Site) (f : RefusedAt) (gs : List Placement) → IsFirstRefusal objects xs f → IsListing objects xs gs → ⊥

@@ -13,15 +13,15 @@ use Rattle.acpi_declare.specs.declared.fault.LoadFault.TheVariants.{At, Memory}
 use Rattle.acpi_space.specs.Lookups.{union}
 use Rattle.acpi_declare.specs.Laws.{OneListing, OneListOfNotes, OneLoad}
 use Rattle.acpi_declare.specs.Links.{links_of, all_pending}
-use Rattle.acpi_declare.specs.Listing.{Placement, declared, IsListing, IsFirstRefusal}
+use Rattle.acpi_declare.specs.Listing.{Placement, objects_of, IsListing, IsFirstRefusal}
 use Rattle.acpi_declare.specs.Loads.{AreListings, objects_after, HasNoLoad}
 use Rattle.acpi_declare.specs.Namespace.{Namespace}
 use Rattle.acpi_declare.specs.Notes.{all_notes}
 use Rattle.acpi_declare.specs.Predefined.{predefined}
-use Rattle.acpi_declare.specs.Refusals.{IsRefusedAs, IsLoadFault, HasOtherSignature}
+use Rattle.acpi_declare.specs.Refusals.{IsLoadReason, IsLoadFault, HasOtherSignature}
 use Rattle.acpi_declare.specs.Sites.{sites}
 use Rattle.acpi_declare.specs.Tables.{IsTableOf}
-use Rattle.acpi_declare.proofs.Unique.{justified_once, refused_alone}
+use Rattle.acpi_declare.proofs.OneListing.{justified_once, refused_alone}
 
 -- at most one tree stands for a code
 one : (code : List ℕ) (is js : ItemTrees) → SpellsItems is code → SpellsItems js code → is ≡ js
@@ -51,7 +51,7 @@ signed_otherwise number bytes is table r = r.other (ap (take 4) (same_front byte
 
 -- a table with a listing isn't refused
 refuses_none : (depth number : ℕ) (objects : Namespace) (bytes : List ℕ) (reason : LoadReason) (is : ItemTrees) (t : List Placement)
-    → IsTableOf depth number bytes is → IsListing objects (sites is) t → IsRefusedAs depth number objects bytes reason → ⊥
+    → IsTableOf depth number bytes is → IsListing objects (sites is) t → IsLoadReason depth number objects bytes reason → ⊥
 refuses_none depth number objects bytes (Table f) is t table listing r = let never : uncut f ≡ cut_as bytes [] = sym (table_refuses bytes f r) ∙ whole_table bytes table.numbered.table in cc
 refuses_none depth number objects bytes NotDsdt is t table listing r = signed_otherwise number bytes is table r.1
 refuses_none depth number objects bytes NotSsdt is t table listing r = signed_otherwise number bytes is table r.1
@@ -61,18 +61,18 @@ refuses_none depth number objects bytes (Refused refusal path) is t table listin
     refused_alone objects (sites is) (refusal, path) t (subst (λ js. IsFirstRefusal objects (sites js) (refusal, path)) (one _ r.0 is r.1.spelled table.spelled) r.2) listing
 
 never_both : (depth k number : ℕ) (objects : Namespace) (earlier later : List (List ℕ)) (bytes : List ℕ) (reason : LoadReason) (es ts : List (List Placement))
-    → AreListings depth k objects earlier es → number ≡ k + length earlier → IsRefusedAs depth number (objects_after objects es) bytes reason → AreListings depth k objects (earlier ++ bytes ∷ later) ts → ⊥
+    → AreListings depth k objects earlier es → number ≡ k + length earlier → IsLoadReason depth number (objects_after objects es) bytes reason → AreListings depth k objects (earlier ++ bytes ∷ later) ts → ⊥
 never_both depth k number objects [] later bytes reason [] [] h e r a = a
 never_both depth k number objects [] later bytes reason [] (t ∷ ts) h e r a =
-    refuses_none depth k objects bytes reason a.0.0 t a.0.1 a.0.2 (subst (λ n. IsRefusedAs depth n objects bytes reason) (e ∙ omega arith) r)
+    refuses_none depth k objects bytes reason a.0.0 t a.0.1 a.0.2 (subst (λ n. IsLoadReason depth n objects bytes reason) (e ∙ omega arith) r)
 never_both depth k number objects [] later bytes reason (u ∷ es) ts h e r a = absurd h
 never_both depth k number objects (c ∷ earlier) later bytes reason [] ts h e r a = absurd h
 never_both depth k number objects (c ∷ earlier) later bytes reason (u ∷ es) [] h e r a = a
 never_both depth k number objects (c ∷ earlier) later bytes reason (u ∷ es) (t ∷ ts) h e r a =
     let trees : a.0.0 ≡ h.0.0 = one _ a.0.0 h.0.0 a.0.1.spelled h.0.1.spelled in
     let same : t ≡ u = justified_once objects [] (sites h.0.0) t u (subst (λ is. IsListing objects (sites is) t) trees a.0.2) h.0.2 in
-    never_both depth (suc k) number (union objects (declared u)) earlier later bytes reason es ts h.1 (e ∙ omega arith) r
-    (subst (λ (v : List Placement). AreListings depth (suc k) (union objects (declared v)) (earlier ++ bytes ∷ later) ts) same a.1)
+    never_both depth (suc k) number (union objects (objects_of u)) earlier later bytes reason es ts h.1 (e ∙ omega arith) r
+    (subst (λ (v : List Placement). AreListings depth (suc k) (union objects (objects_of v)) (earlier ++ bytes ∷ later) ts) same a.1)
 
 pub refused_has_no_load : (depth : ℕ) (tables : List (List ℕ)) (f : LoadFault) → IsLoadFault depth tables f → f ≢ Memory → HasNoLoad depth tables
 refused_has_no_load depth tables Memory h some = absurd (some refl)
@@ -86,7 +86,7 @@ same_listings depth k objects [] [] [] h a = refl
 same_listings depth k objects (b ∷ bs) (u ∷ es) (t ∷ ts) h a =
     let trees : a.0.0 ≡ h.0.0 = one _ a.0.0 h.0.0 a.0.1.spelled h.0.1.spelled in
     let same : t ≡ u = justified_once objects [] (sites h.0.0) t u (subst (λ is. IsListing objects (sites is) t) trees a.0.2) h.0.2 in
-    ap (λ v. v ∷ es) (sym same) ∙ ap (λ vs. t ∷ vs) (same_listings depth (suc k) (union objects (declared u)) bs es ts h.1 (subst (λ (v : List Placement). AreListings depth (suc k) (union objects (declared v)) bs ts) same a.1))
+    ap (λ v. v ∷ es) (sym same) ∙ ap (λ vs. t ∷ vs) (same_listings depth (suc k) (union objects (objects_of u)) bs es ts h.1 (subst (λ (v : List Placement). AreListings depth (suc k) (union objects (objects_of v)) bs ts) same a.1))
 same_listings depth k objects [] (u ∷ es) ts h a = absurd h
 same_listings depth k objects [] [] (t ∷ ts) h a = absurd a
 same_listings depth k objects (b ∷ bs) [] ts h a = absurd h
