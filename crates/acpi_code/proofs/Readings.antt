@@ -3,7 +3,7 @@ use Rattle.std.proofs.Common.{◌≡◌, ℕ, suc, ◌-◌, ◌+◌, ◌≤◌, 
 use Rattle.std.proofs.lemmas.List.{length-append, drop_at}
 use Rattle.acpi_code.specs.declared.fault.CodeFault.{CodeFault}
 use Rattle.acpi_code.specs.declared.fault.CodeReason.TheVariants.{Cut}
-use Rattle.acpi_code.specs.steps.Reading.{◌>>=◌, Reading, fault_at, no_level}
+use Rattle.acpi_code.specs.steps.Reading.{◌>>=◌, with_fault, Reading, fault_at, no_level}
 use Rattle.acpi_code.specs.Faults.{IsList, ShowsPart}
 
 abbrev pub Judge : {A F : Type 0} → (A → Type 0) → (F → Type 0) → Result A F → Type 0
@@ -22,6 +22,11 @@ judge_into Good Good2 Bad Bad2 (Err f) g b h = b f h
 pub judge_if : {A F : Type 0} (Good : A → Type 0) (Bad : F → Type 0) (b : Bool) (x y : Result A F) → (b ≡ true → Judge Good Bad x) → (b ≡ false → Judge Good Bad y) → Judge Good Bad (cond b x y)
 judge_if Good Bad true x y h k = h refl
 judge_if Good Bad false x y h k = k refl
+
+-- what is judged of a reading is judged of it with its fault told as one of another kind
+pub judge_told : {A F G : Type 0} (Good : A → Type 0) (Bad : F → Type 0) (Bad2 : G → Type 0) (told : F → G) (r : Result A F) → ((f : F) → Bad f → Bad2 (told f)) → Judge Good Bad r → Judge Good Bad2 (with_fault told r)
+judge_told Good Bad Bad2 told (Ok x) b h = h
+judge_told Good Bad Bad2 told (Err f) b h = b f h
 
 -- the same of an equal reading
 pub judge_same : {A F : Type 0} (Good : A → Type 0) (Bad : F → Type 0) (r s : Result A F) → r ≡ s → Judge Good Bad r → Judge Good Bad s

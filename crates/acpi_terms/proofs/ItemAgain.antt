@@ -17,15 +17,15 @@ use Rattle.acpi_code.specs.steps.Reading.{byte_at}
 use Rattle.acpi_terms.proofs.Arguments.{arguments_height, plain_complete, packed_complete}
 use Rattle.acpi_terms.proofs.DataAgain.{data_complete}
 use Rattle.acpi_terms.proofs.FieldsAgain.{fields_complete}
-use Rattle.acpi_terms.specs.Forms.{FixedArgument, name_arg, source_arg, byte_arg, word_arg, dword_arg, int_arg, Values, external_args, external_parts}
+use Rattle.acpi_terms.specs.Forms.{FixedArgument, name_arg, source_arg, byte_arg, word_arg, dword_arg, int_arg, Values, arguments, external_parts}
 use Rattle.acpi_terms.specs.Spelling.{SpellsArguments, SpellsPlain, SpellsPacked, SpellsFields, SpellsExternal, SpellsItem, SpellsItems, data_height, block_height, item_height, items_height}
 use Rattle.acpi_terms.specs.steps.Reading.{Fault, fields_in, bytes_in, plain_at, packed_at, parts_at, external_at, block_content, item_by, items_with, item_at, items_at}
 
 -- ---- Externals in a block
 
-parts_complete : (end : ℕ) (x : ExternalParts) (a rest : List ℕ) → SpellsArguments external_args (x.name, (x.kind, (x.args, tt))) a → parts_at end (a ++ rest) ≡ Ok (x, rest)
+parts_complete : (end : ℕ) (x : ExternalParts) (a rest : List ℕ) → SpellsArguments (arguments opcodes.External) (x.name, (x.kind, (x.args, tt))) a → parts_at end (a ++ rest) ≡ Ok (x, rest)
 unfolding parts_at
-parts_complete end x a rest h = plain_complete external_args external_parts 0 end (x.name, (x.kind, (x.args, tt))) a rest (omega arith) h
+parts_complete end x a rest h = plain_complete (arguments opcodes.External) external_parts 0 end (x.name, (x.kind, (x.args, tt))) a rest (omega arith) h
 
 external_complete : (level end : ℕ) (x : ExternalParts) (a rest : List ℕ) → SpellsExternal x a → external_at (suc level) end (a ++ rest) ≡ Ok (x, rest)
 unfolding external_at

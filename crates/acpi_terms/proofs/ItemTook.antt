@@ -24,7 +24,7 @@ use Rattle.acpi_terms.proofs.FieldsTook.{fields_sound}
 use Rattle.acpi_terms.proofs.ItemAgain.{item_long, external_long, content_complete}
 use Rattle.acpi_terms.proofs.Parts.{Bad, deep_bad, part_sound, refused}
 use Rattle.acpi_terms.specs.Faults.{Shows}
-use Rattle.acpi_terms.specs.Forms.{FixedArgument, name_arg, source_arg, byte_arg, word_arg, dword_arg, int_arg, Values, external_args, external_parts}
+use Rattle.acpi_terms.specs.Forms.{FixedArgument, name_arg, source_arg, byte_arg, word_arg, dword_arg, int_arg, Values, arguments, external_parts}
 use Rattle.acpi_terms.specs.Spelling.{SpellsArguments, SpellsPlain, SpellsFields, SpellsExternal, SpellsItem, SpellsItems, block_height, item_height, items_height}
 use Rattle.acpi_terms.specs.steps.Reading.{Fault, fault_at, data_at, fields_in, bytes_in, parts_at, external_by, external_at, block_content, block_fault, in_block, name_item, block_item, item_by, items_with, item_at, items_at, plain_at, packed_at, create_item, part}
 
@@ -56,7 +56,7 @@ SpellsParts x bytes = SpellsExternal x (21 ∷ bytes)
 
 parts_sound : (s : Source) (level end : ℕ) (bytes rest : List ℕ) → bytes ≡ 21 ∷ rest → Position s.depth level s.code end rest → Judge (Read s level end SpellsExternal bytes) (Bad s) (parts_at end rest)
 unfolding parts_at
-parts_sound s level end bytes rest is h = plain_sound s level end 0 external_args external_parts SpellsExternal bytes (21 ∷ []) rest is (inl refl) (λ v front k le. k) h
+parts_sound s level end bytes rest is h = plain_sound s level end 0 (arguments opcodes.External) external_parts SpellsExternal bytes (21 ∷ []) rest is (inl refl) (λ v front k le. k) h
 
 -- a fault in a block that is told as it is
 abbrev BlockShows : Source → ItemReason → ℕ → Type 0

@@ -8,7 +8,7 @@ use Rattle.acpi_code.specs.Opcodes.{first_opcode}
 use Rattle.acpi_code.specs.Faults.{ShowsPart}
 use Rattle.acpi_code.specs.steps.Left.{Left}
 use Rattle.acpi_code.specs.steps.Reading.{◌>>=◌, Reading, each_at, fault_at, no_level}
-use Rattle.acpi_code.proofs.Readings.{Judge, Source, Position, Shown, stands_at, cut_shows, no_level_shows}
+use Rattle.acpi_code.proofs.Readings.{Judge, judge_told, Source, Position, Shown, stands_at, cut_shows, no_level_shows}
 use Rattle.acpi_code.proofs.Lists.{Turns, stopped}
 use Rattle.acpi_code.proofs.Opcodes.{Opened}
 use Rattle.acpi_terms.specs.declared.fault.ItemReason.{ItemReason}
@@ -62,8 +62,7 @@ deep_bad s end bytes h = part_bad s (no_level end bytes) (no_level_shows s end b
 
 -- what is judged of a part is judged of it among items
 pub part_sound : {A : Type 0} (s : Source) (Good : A → Type 0) (r : Result A CodeFault) → Judge Good (Shown s) r → Judge Good (Bad s) (part r)
-part_sound s Good (Ok x) h = h
-part_sound s Good (Err f) h = part_bad s f h
+part_sound s Good r h = judge_told Good (Shown s) (Bad s) part_fault r (part_bad s) h
 
 -- what begins there is refused by itself
 pub refused : (s : Source) (level end : ℕ) (bytes : List ℕ) (x : Opcode × List ℕ) (why : ItemReason) → Position s.depth level s.code end bytes → Opened bytes x → refusal x.0 ≡ Some why → Refused why s.code (end - length bytes)

@@ -1,8 +1,10 @@
--- The fixed arguments of forms, one after another behind an opcode (ACPI 6.5, 20.2.5).
+-- The forms of terms by their opcodes: which fixed arguments each has (ACPI 6.5, 20.2.5).
 use Rattle.std.specs.Prelude.{ℕ, List, [], ◌∷◌}
 use Rattle.acpi_name.specs.Names.{NameParts, Segment}
 use Rattle.acpi_tree.specs.declared.tree.Int.{Int}
 use Rattle.acpi_tree.specs.Tree.{ExternalParts}
+use Rattle.acpi_code.specs.declared.opcode.Opcode.{Opcode}
+use Rattle.acpi_code.specs.declared.opcode.Opcode.TheVariants as opcodes
 
 -- A fixed argument. A source is a name in the place of a term; a count is one of arguments, 0 to 7; bits are a
 -- number spelled as a package length; a const is a constant with no level, and an int one that is a term.
@@ -31,12 +33,40 @@ Value bits_arg = ℕ
 Value const_arg = Int
 Value int_arg = Int
 
+-- the values of several
 abbrev pub Values : List FixedArgument → Type 0
 Values [] = Unit {0}
 Values (k ∷ ks) = Value k × Values ks
 
-abbrev pub external_args : List FixedArgument
-external_args = name_arg ∷ byte_arg ∷ count_arg ∷ []
+-- ---- what stands behind each opcode
 
-abbrev pub external_parts : Values external_args → ExternalParts
+-- The fixed arguments of each form: behind its opcode, or first in its package (20.2.5.1, 20.2.5.2, 20.2.5.4). A
+-- Processor is as ACPI 6.3 and earlier have it.
+abbrev pub arguments : Opcode → List FixedArgument
+arguments opcodes.Buffer = int_arg ∷ []
+arguments opcodes.Package = byte_arg ∷ []
+arguments opcodes.VarPackage = int_arg ∷ []
+arguments opcodes.Scope = name_arg ∷ []
+arguments opcodes.Method = name_arg ∷ byte_arg ∷ []
+arguments opcodes.External = name_arg ∷ byte_arg ∷ count_arg ∷ []
+arguments (opcodes.Create w) = source_arg ∷ int_arg ∷ name_arg ∷ []
+arguments opcodes.CreateField = source_arg ∷ int_arg ∷ int_arg ∷ name_arg ∷ []
+arguments opcodes.Mutex = name_arg ∷ byte_arg ∷ []
+arguments opcodes.Event = name_arg ∷ []
+arguments opcodes.Region = name_arg ∷ byte_arg ∷ int_arg ∷ int_arg ∷ []
+arguments opcodes.Field = name_arg ∷ byte_arg ∷ []
+arguments opcodes.IndexField = name_arg ∷ name_arg ∷ byte_arg ∷ []
+arguments opcodes.BankField = name_arg ∷ name_arg ∷ int_arg ∷ byte_arg ∷ []
+arguments opcodes.Device = name_arg ∷ []
+arguments opcodes.Processor = name_arg ∷ byte_arg ∷ dword_arg ∷ byte_arg ∷ []
+arguments opcodes.Power = name_arg ∷ byte_arg ∷ word_arg ∷ []
+arguments opcodes.Thermal = name_arg ∷ []
+arguments _ = []
+
+-- their values
+abbrev pub ArgumentsOf : Opcode → Type 0
+ArgumentsOf opcode = Values (arguments opcode)
+
+-- the parts of an External
+abbrev pub external_parts : ArgumentsOf opcodes.External → ExternalParts
 external_parts v = record { name = v.0; kind = v.1.0; args = v.1.1.0 }

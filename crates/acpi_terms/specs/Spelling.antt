@@ -3,10 +3,12 @@
 use Rattle.std.specs.Prelude.{◌≡◌, ◌≤◌, ℕ, suc, max, List, [], ◌∷◌, ◌++◌}
 use Rattle.acpi_name.specs.Spelling.{SpellsName}
 use Rattle.acpi_table.specs.PkgLength.{SpellsPkgLength}
-use Rattle.acpi_code.specs.Opcodes.{width_bytes}
+use Rattle.acpi_code.specs.declared.opcode.Opcode.{Opcode}
+use Rattle.acpi_code.specs.declared.opcode.Opcode.TheVariants as opcodes
+use Rattle.acpi_code.specs.Opcodes.{opcode_bytes}
 use Rattle.acpi_code.specs.Spelling.{SpellsByte, SpellsNumber, SpellsInt, SpellsTermName, SpellsSegment, SpellsText, SpellsEach, Packs}
 use Rattle.acpi_tree.specs.Tree.{DataTree, int, str, buffer, pkg, var_pkg, ElemTree, of_data, of_name, ElemTrees, no_elems, elem, FieldTree, unit, reserved, access, connect_name, connect_buffer, extended, ExternalParts, ItemTree, name, scope, method, external, external_block, create, create_field, mutex, event, region, field, index_field, bank_field, device, processor, power, thermal, ItemTrees, no_items, item}
-use Rattle.acpi_terms.specs.Forms.{FixedArgument, name_arg, source_arg, segment_arg, byte_arg, word_arg, dword_arg, count_arg, bits_arg, const_arg, int_arg, Value, Values, external_args}
+use Rattle.acpi_terms.specs.Forms.{FixedArgument, name_arg, source_arg, segment_arg, byte_arg, word_arg, dword_arg, count_arg, bits_arg, const_arg, int_arg, Value, Values, arguments, ArgumentsOf}
 
 -- ---- fixed arguments
 
@@ -35,6 +37,14 @@ SpellsPlain opcode ks v bytes = (a : List ℕ) × SpellsArguments ks v a × (byt
 abbrev pub SpellsPacked : List ℕ → (ks : List FixedArgument) → Values ks → (List ℕ → Type 0) → List ℕ → Type 0
 SpellsPacked opcode ks v Fills bytes = (a : List ℕ) × (b : List ℕ) × SpellsArguments ks v a × Fills b × Packs opcode (a ++ b) bytes
 
+-- the form of an opcode, which has fixed arguments alone
+abbrev pub SpellsForm : (o : Opcode) → ArgumentsOf o → List ℕ → Type 0
+SpellsForm o v bytes = SpellsPlain (opcode_bytes o) (arguments o) v bytes
+
+-- the form of an opcode, whose package has fixed arguments and what fills it
+abbrev pub SpellsFilled : (o : Opcode) → ArgumentsOf o → (List ℕ → Type 0) → List ℕ → Type 0
+SpellsFilled o v Fills bytes = SpellsPacked (opcode_bytes o) (arguments o) v Fills bytes
+
 -- ---- data (20.2.3 and 20.2.5.4)
 
 -- Integers, String, DefBuffer, DefPackage, DefVarPackage; an element is data or a name
@@ -42,9 +52,9 @@ abbrev mutual
   pub SpellsData : DataTree → List ℕ → Type 0
   SpellsData (int i) bytes = SpellsInt i bytes
   SpellsData (str text) bytes = (b : List ℕ) × SpellsText text b × (bytes ≡ 0x0D ∷ b)
-  SpellsData (buffer size content) bytes = SpellsPacked (0x11 ∷ []) (int_arg ∷ []) (size, tt) (λ b. b ≡ content) bytes
-  SpellsData (pkg count es) bytes = SpellsPacked (0x12 ∷ []) (byte_arg ∷ []) (count, tt) (λ b. SpellsElems es b) bytes
-  SpellsData (var_pkg count es) bytes = SpellsPacked (0x13 ∷ []) (int_arg ∷ []) (count, tt) (λ b. SpellsElems es b) bytes
+  SpellsData (buffer size content) bytes = SpellsFilled opcodes.Buffer (size, tt) (λ b. b ≡ content) bytes
+  SpellsData (pkg count es) bytes = SpellsFilled opcodes.Package (count, tt) (λ b. SpellsElems es b) bytes
+  SpellsData (var_pkg count es) bytes = SpellsFilled opcodes.VarPackage (count, tt) (λ b. SpellsElems es b) bytes
 
   pub SpellsElem : ElemTree → List ℕ → Type 0
   SpellsElem (of_data d) bytes = SpellsData d bytes
@@ -72,29 +82,29 @@ SpellsFields es bytes = SpellsEach SpellsField es bytes
 
 -- DefExternal
 abbrev pub SpellsExternal : ExternalParts → List ℕ → Type 0
-SpellsExternal x bytes = SpellsPlain (0x15 ∷ []) external_args (x.name, (x.kind, (x.args, tt))) bytes
+SpellsExternal x bytes = SpellsForm opcodes.External (x.name, (x.kind, (x.args, tt))) bytes
 
 -- Module-level terms. A block is `If (Zero)` round Externals alone; method code is any bytes; a Processor
 -- is as ACPI 6.3 and earlier have it.
 abbrev mutual
   pub SpellsItem : ItemTree → List ℕ → Type 0
   SpellsItem (name n d) bytes = (a : List ℕ) × (b : List ℕ) × SpellsName n a × SpellsData d b × (bytes ≡ 0x08 ∷ (a ++ b))
-  SpellsItem (scope n is) bytes = SpellsPacked (0x10 ∷ []) (name_arg ∷ []) (n, tt) (λ b. SpellsItems is b) bytes
-  SpellsItem (method n flags code) bytes = SpellsPacked (0x14 ∷ []) (name_arg ∷ byte_arg ∷ []) (n, (flags, tt)) (λ b. b ≡ code) bytes
+  SpellsItem (scope n is) bytes = SpellsFilled opcodes.Scope (n, tt) (λ b. SpellsItems is b) bytes
+  SpellsItem (method n flags code) bytes = SpellsFilled opcodes.Method (n, (flags, tt)) (λ b. b ≡ code) bytes
   SpellsItem (external x) bytes = SpellsExternal x bytes
   SpellsItem (external_block xs) bytes = (b : List ℕ) × SpellsEach SpellsExternal xs b × Packs (0xA0 ∷ []) (0x00 ∷ b) bytes
-  SpellsItem (create w source index n) bytes = SpellsPlain (width_bytes w) (source_arg ∷ int_arg ∷ name_arg ∷ []) (source, (index, (n, tt))) bytes
-  SpellsItem (create_field source index bits n) bytes = SpellsPlain (0x5B ∷ 0x13 ∷ []) (source_arg ∷ int_arg ∷ int_arg ∷ name_arg ∷ []) (source, (index, (bits, (n, tt)))) bytes
-  SpellsItem (mutex n flags) bytes = SpellsPlain (0x5B ∷ 0x01 ∷ []) (name_arg ∷ byte_arg ∷ []) (n, (flags, tt)) bytes
-  SpellsItem (event n) bytes = SpellsPlain (0x5B ∷ 0x02 ∷ []) (name_arg ∷ []) (n, tt) bytes
-  SpellsItem (region n space offset len) bytes = SpellsPlain (0x5B ∷ 0x80 ∷ []) (name_arg ∷ byte_arg ∷ int_arg ∷ int_arg ∷ []) (n, (space, (offset, (len, tt)))) bytes
-  SpellsItem (field r flags es) bytes = SpellsPacked (0x5B ∷ 0x81 ∷ []) (name_arg ∷ byte_arg ∷ []) (r, (flags, tt)) (λ b. SpellsFields es b) bytes
-  SpellsItem (index_field i d flags es) bytes = SpellsPacked (0x5B ∷ 0x86 ∷ []) (name_arg ∷ name_arg ∷ byte_arg ∷ []) (i, (d, (flags, tt))) (λ b. SpellsFields es b) bytes
-  SpellsItem (bank_field r bank value flags es) bytes = SpellsPacked (0x5B ∷ 0x87 ∷ []) (name_arg ∷ name_arg ∷ int_arg ∷ byte_arg ∷ []) (r, (bank, (value, (flags, tt)))) (λ b. SpellsFields es b) bytes
-  SpellsItem (device n is) bytes = SpellsPacked (0x5B ∷ 0x82 ∷ []) (name_arg ∷ []) (n, tt) (λ b. SpellsItems is b) bytes
-  SpellsItem (processor n id block len is) bytes = SpellsPacked (0x5B ∷ 0x83 ∷ []) (name_arg ∷ byte_arg ∷ dword_arg ∷ byte_arg ∷ []) (n, (id, (block, (len, tt)))) (λ b. SpellsItems is b) bytes
-  SpellsItem (power n level order is) bytes = SpellsPacked (0x5B ∷ 0x84 ∷ []) (name_arg ∷ byte_arg ∷ word_arg ∷ []) (n, (level, (order, tt))) (λ b. SpellsItems is b) bytes
-  SpellsItem (thermal n is) bytes = SpellsPacked (0x5B ∷ 0x85 ∷ []) (name_arg ∷ []) (n, tt) (λ b. SpellsItems is b) bytes
+  SpellsItem (create w source index n) bytes = SpellsForm (opcodes.Create w) (source, (index, (n, tt))) bytes
+  SpellsItem (create_field source index bits n) bytes = SpellsForm opcodes.CreateField (source, (index, (bits, (n, tt)))) bytes
+  SpellsItem (mutex n flags) bytes = SpellsForm opcodes.Mutex (n, (flags, tt)) bytes
+  SpellsItem (event n) bytes = SpellsForm opcodes.Event (n, tt) bytes
+  SpellsItem (region n space offset len) bytes = SpellsForm opcodes.Region (n, (space, (offset, (len, tt)))) bytes
+  SpellsItem (field r flags es) bytes = SpellsFilled opcodes.Field (r, (flags, tt)) (λ b. SpellsFields es b) bytes
+  SpellsItem (index_field i d flags es) bytes = SpellsFilled opcodes.IndexField (i, (d, (flags, tt))) (λ b. SpellsFields es b) bytes
+  SpellsItem (bank_field r bank value flags es) bytes = SpellsFilled opcodes.BankField (r, (bank, (value, (flags, tt)))) (λ b. SpellsFields es b) bytes
+  SpellsItem (device n is) bytes = SpellsFilled opcodes.Device (n, tt) (λ b. SpellsItems is b) bytes
+  SpellsItem (processor n id block len is) bytes = SpellsFilled opcodes.Processor (n, (id, (block, (len, tt)))) (λ b. SpellsItems is b) bytes
+  SpellsItem (power n level order is) bytes = SpellsFilled opcodes.Power (n, (level, (order, tt))) (λ b. SpellsItems is b) bytes
+  SpellsItem (thermal n is) bytes = SpellsFilled opcodes.Thermal (n, tt) (λ b. SpellsItems is b) bytes
 
   pub SpellsItems : ItemTrees → List ℕ → Type 0
   SpellsItems no_items bytes = bytes ≡ []

@@ -33,6 +33,11 @@ abbrev pub ◌>>=◌ : {F A B : Type 0} → Result A F → (A → Result B F) �
 (Ok x) >>= f = f x
 (Err e) >>= f = Err e
 
+-- the same reading, its fault told as one of another kind
+abbrev pub with_fault : {F G A : Type 0} → (F → G) → Result A F → Result A G
+with_fault told (Ok x) = Ok x
+with_fault told (Err f) = Err (told f)
+
 -- One after another to the end of the bytes. The number bounds the turns, and the length is enough.
 unfoldable pub each_with : {F A : Type 0} → (List ℕ → Reading F A) → ℕ → List ℕ → Result (List A) F
 each_with one zero bytes = Ok []

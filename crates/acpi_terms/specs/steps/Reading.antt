@@ -9,13 +9,13 @@ use Rattle.acpi_code.specs.declared.opcode.ConstantForm.{ConstantForm}
 use Rattle.acpi_code.specs.declared.opcode.Opcode.{Opcode}
 use Rattle.acpi_code.specs.declared.opcode.Opcode.TheVariants as opcodes
 use Rattle.acpi_code.specs.Opcodes.{is_name_opcode}
-use Rattle.acpi_code.specs.steps.Reading.{◌>>=◌, Reading, each_at, no_level, byte_at, number_at, length_in, package_at, name_in, segment_in, opcode_at, constant_at, string_at}
+use Rattle.acpi_code.specs.steps.Reading.{◌>>=◌, Reading, with_fault, each_at, no_level, byte_at, number_at, length_in, package_at, name_in, segment_in, opcode_at, constant_at, string_at}
 use Rattle.acpi_terms.specs.declared.fault.ItemReason.{ItemReason}
 use Rattle.acpi_terms.specs.declared.fault.ItemReason.TheVariants.{BadOpcode, ReservedBits, BadName, Computed, Alias, ModuleIf, ModuleCode, Load, NotData, TooDeep, DataRegion}
 use Rattle.acpi_terms.specs.declared.fault.ItemFault.{ItemFault}
 use Rattle.acpi_terms.specs.declared.fault.ItemFault.TheVariants as errors
 use Rattle.acpi_terms.specs.Faults.{reason_of}
-use Rattle.acpi_terms.specs.Forms.{FixedArgument, name_arg, source_arg, segment_arg, byte_arg, word_arg, dword_arg, count_arg, bits_arg, const_arg, int_arg, Value, Values, external_args, external_parts}
+use Rattle.acpi_terms.specs.Forms.{FixedArgument, name_arg, source_arg, segment_arg, byte_arg, word_arg, dword_arg, count_arg, bits_arg, const_arg, int_arg, Value, Values, arguments, external_parts}
 
 -- ---- faults
 
@@ -33,8 +33,7 @@ abbrev pub part_fault : CodeFault → Fault
 part_fault f = record { reason = reason_of f.reason; place = f.place }
 
 abbrev pub part : {A : Type 0} → Result A CodeFault → Result A Fault
-part (Ok x) = Ok x
-part (Err f) = Err (part_fault f)
+part read = with_fault part_fault read
 
 -- ---- constants
 
@@ -125,15 +124,15 @@ string_data end bytes = do
 
 -- DefBuffer: the size is a constant (20.2.5.4)
 abbrev pub buffer_data : ℕ → ℕ → List ℕ → Reading Fault DataTree
-buffer_data level = packed_at (int_arg ∷ []) (λ v content. buffer v.0 content) level bytes_in
+buffer_data level = packed_at (arguments opcodes.Buffer) (λ v content. buffer v.0 content) level bytes_in
 
 -- DefPackage (20.2.5.4)
 abbrev pub package_data : (ℕ → List ℕ → Result ElemTrees Fault) → ℕ → ℕ → List ℕ → Reading Fault DataTree
-package_data inner level = packed_at (byte_arg ∷ []) (λ v es. pkg v.0 es) level inner
+package_data inner level = packed_at (arguments opcodes.Package) (λ v es. pkg v.0 es) level inner
 
 -- DefVarPackage: the count is a constant (20.2.5.4)
 abbrev pub var_package_data : (ℕ → List ℕ → Result ElemTrees Fault) → ℕ → ℕ → List ℕ → Reading Fault DataTree
-var_package_data inner level = packed_at (int_arg ∷ []) (λ v es. var_pkg v.0 es) level inner
+var_package_data inner level = packed_at (arguments opcodes.VarPackage) (λ v es. var_pkg v.0 es) level inner
 
 -- Data, by what begins there. `inner` reads elements; they and constants have `level` levels left.
 abbrev pub data_by : (ℕ → List ℕ → Result ElemTrees Fault) → ℕ → ℕ → List ℕ → Opcode → List ℕ → Reading Fault DataTree
@@ -234,13 +233,13 @@ name_item level end bytes = do
   Ok (name n.0 d.0, d.1)
 
 abbrev pub scope_item : (ℕ → List ℕ → Result ItemTrees Fault) → ℕ → ℕ → List ℕ → Reading Fault ItemTree
-scope_item inner level = packed_at (name_arg ∷ []) (λ v is. scope v.0 is) level inner
+scope_item inner level = packed_at (arguments opcodes.Scope) (λ v is. scope v.0 is) level inner
 
 abbrev pub method_item : ℕ → ℕ → List ℕ → Reading Fault ItemTree
-method_item level = packed_at (name_arg ∷ byte_arg ∷ []) (λ v code. method v.0 v.1.0 code) level bytes_in
+method_item level = packed_at (arguments opcodes.Method) (λ v code. method v.0 v.1.0 code) level bytes_in
 
 unfoldable pub parts_at : ℕ → List ℕ → Reading Fault ExternalParts
-parts_at = plain_at external_args external_parts 0
+parts_at = plain_at (arguments opcodes.External) external_parts 0
 
 -- DefExternal
 abbrev pub external_item : ℕ → List ℕ → Reading Fault ItemTree
@@ -249,41 +248,41 @@ external_item end bytes = do
   Ok (external x.0, x.1)
 
 abbrev pub create_item : Width → ℕ → ℕ → List ℕ → Reading Fault ItemTree
-create_item w = plain_at (source_arg ∷ int_arg ∷ name_arg ∷ []) (λ v. create w v.0 v.1.0 v.1.1.0)
+create_item w = plain_at (arguments (opcodes.Create w)) (λ v. create w v.0 v.1.0 v.1.1.0)
 
 abbrev pub create_field_item : ℕ → ℕ → List ℕ → Reading Fault ItemTree
-create_field_item = plain_at (source_arg ∷ int_arg ∷ int_arg ∷ name_arg ∷ []) (λ v. create_field v.0 v.1.0 v.1.1.0 v.1.1.1.0)
+create_field_item = plain_at (arguments opcodes.CreateField) (λ v. create_field v.0 v.1.0 v.1.1.0 v.1.1.1.0)
 
 abbrev pub mutex_item : ℕ → ℕ → List ℕ → Reading Fault ItemTree
-mutex_item = plain_at (name_arg ∷ byte_arg ∷ []) (λ v. mutex v.0 v.1.0)
+mutex_item = plain_at (arguments opcodes.Mutex) (λ v. mutex v.0 v.1.0)
 
 abbrev pub event_item : ℕ → ℕ → List ℕ → Reading Fault ItemTree
-event_item = plain_at (name_arg ∷ []) (λ v. event v.0)
+event_item = plain_at (arguments opcodes.Event) (λ v. event v.0)
 
 abbrev pub region_item : ℕ → ℕ → List ℕ → Reading Fault ItemTree
-region_item = plain_at (name_arg ∷ byte_arg ∷ int_arg ∷ int_arg ∷ []) (λ v. region v.0 v.1.0 v.1.1.0 v.1.1.1.0)
+region_item = plain_at (arguments opcodes.Region) (λ v. region v.0 v.1.0 v.1.1.0 v.1.1.1.0)
 
 abbrev pub field_item : ℕ → ℕ → List ℕ → Reading Fault ItemTree
-field_item level = packed_at (name_arg ∷ byte_arg ∷ []) (λ v es. field v.0 v.1.0 es) level fields_in
+field_item level = packed_at (arguments opcodes.Field) (λ v es. field v.0 v.1.0 es) level fields_in
 
 abbrev pub index_field_item : ℕ → ℕ → List ℕ → Reading Fault ItemTree
-index_field_item level = packed_at (name_arg ∷ name_arg ∷ byte_arg ∷ []) (λ v es. index_field v.0 v.1.0 v.1.1.0 es) level fields_in
+index_field_item level = packed_at (arguments opcodes.IndexField) (λ v es. index_field v.0 v.1.0 v.1.1.0 es) level fields_in
 
 abbrev pub bank_field_item : ℕ → ℕ → List ℕ → Reading Fault ItemTree
-bank_field_item level = packed_at (name_arg ∷ name_arg ∷ int_arg ∷ byte_arg ∷ []) (λ v es. bank_field v.0 v.1.0 v.1.1.0 v.1.1.1.0 es) level fields_in
+bank_field_item level = packed_at (arguments opcodes.BankField) (λ v es. bank_field v.0 v.1.0 v.1.1.0 v.1.1.1.0 es) level fields_in
 
 abbrev pub device_item : (ℕ → List ℕ → Result ItemTrees Fault) → ℕ → ℕ → List ℕ → Reading Fault ItemTree
-device_item inner level = packed_at (name_arg ∷ []) (λ v is. device v.0 is) level inner
+device_item inner level = packed_at (arguments opcodes.Device) (λ v is. device v.0 is) level inner
 
 -- DefProcessor of ACPI 6.3 and earlier
 abbrev pub processor_item : (ℕ → List ℕ → Result ItemTrees Fault) → ℕ → ℕ → List ℕ → Reading Fault ItemTree
-processor_item inner level = packed_at (name_arg ∷ byte_arg ∷ dword_arg ∷ byte_arg ∷ []) (λ v is. processor v.0 v.1.0 v.1.1.0 v.1.1.1.0 is) level inner
+processor_item inner level = packed_at (arguments opcodes.Processor) (λ v is. processor v.0 v.1.0 v.1.1.0 v.1.1.1.0 is) level inner
 
 abbrev pub power_item : (ℕ → List ℕ → Result ItemTrees Fault) → ℕ → ℕ → List ℕ → Reading Fault ItemTree
-power_item inner level = packed_at (name_arg ∷ byte_arg ∷ word_arg ∷ []) (λ v is. power v.0 v.1.0 v.1.1.0 is) level inner
+power_item inner level = packed_at (arguments opcodes.Power) (λ v is. power v.0 v.1.0 v.1.1.0 is) level inner
 
 abbrev pub thermal_item : (ℕ → List ℕ → Result ItemTrees Fault) → ℕ → ℕ → List ℕ → Reading Fault ItemTree
-thermal_item inner level = packed_at (name_arg ∷ []) (λ v is. thermal v.0 is) level inner
+thermal_item inner level = packed_at (arguments opcodes.Thermal) (λ v is. thermal v.0 is) level inner
 
 -- an External in a block, by what begins there
 abbrev pub external_by : ℕ → List ℕ → Opcode → List ℕ → Reading Fault ExternalParts
