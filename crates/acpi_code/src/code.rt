@@ -8,7 +8,11 @@ use bytes::Bytes;
 use std::alloc::{AllocError, Global};
 use std::marker::Model;
 
-/// What is left of a list of terms. A clause sees the bytes that are left, and the place of their end.
+/// What is left of a list of terms: all of the code, or what a package of it holds (ACPI 6.5, 20.2.4).
+///
+/// Each reader takes what stands at its front, and leaves what is behind it; after a fault it is known no longer
+/// what is left. Places count bytes from the first byte of the code. A clause sees the bytes that are left, and
+/// the place of their end.
 #[derive(Drop)]
 pub struct Code<'a> {
     left: &'a [u8],
@@ -30,7 +34,7 @@ impl<'a> Model for Code<'a> {
 }
 
 impl<'a> Code<'a> {
-    /// All of the code.
+    /// All of the code. Shares of it are copies.
     pub fn new(code: &'a [u8]) -> Code<'a>
         ensures bytes { result.bytes ≡ code.now }
         ensures ends { result.end ≡ length code.now }
@@ -42,7 +46,7 @@ impl<'a> Code<'a> {
         }
     }
 
-    /// All of the code, whose bytes are to be shared.
+    /// All of the code, which `shared` holds too, so that shares of it take no copy.
     pub fn shared(code: &'a [u8], shared: &'a Bytes) -> Code<'a>
         requires { shared.now ≡ code.now }
         ensures bytes { result.bytes ≡ code.now }
@@ -62,20 +66,21 @@ impl<'a> Code<'a> {
         self.left
     }
 
-    /// The place of the next byte, or of the end.
+    /// The place of the next byte, or of the end: a number of bytes from the first byte of the code.
     pub fn place(&self) -> usize
         ensures { result ≡ self.now.end - length self.now.bytes }
     {
         self.end - self.left.len()
     }
 
+    /// Whether nothing is left.
     pub fn is_empty(&self) -> bool
         ensures { result ≡ (length self.now.bytes == 0) }
     {
         self.left.is_empty()
     }
 
-    /// Another cursor, which stands where this one does.
+    /// Another one that stands where this one does, to look ahead or to come back to.
     pub fn fork(&self) -> Code<'a>
         ensures { result ≡ self.now }
     {
@@ -86,7 +91,7 @@ impl<'a> Code<'a> {
         }
     }
 
-    /// The bytes that are left, shared where they can be.
+    /// The bytes that are left: a share of the code where it was given to be shared, and else a copy.
     pub fn share(&self, alloc: Global) -> Result<Bytes, AllocError>
         ensures { IfOk result (λ b. b ≡ self.now.bytes) }
     {
@@ -96,7 +101,7 @@ impl<'a> Code<'a> {
         }
     }
 
-    /// Goes past so many bytes.
+    /// Goes past so many bytes, which must be left.
     pub fn skip(&mut self, count: usize)
         requires { count ≤ length self.old.bytes }
         ensures bytes { self.new.bytes ≡ drop count self.old.bytes }
@@ -105,7 +110,7 @@ impl<'a> Code<'a> {
         self.left = &self.left[count..];
     }
 
-    /// Goes past so many bytes, and answers a cursor over them.
+    /// Goes past so many bytes, which must be left, and answers what they are: a list of their own.
     pub fn split(&mut self, count: usize) -> Code<'a>
         requires { count ≤ length self.old.bytes }
         ensures bytes { result.bytes ≡ take count self.old.bytes }
@@ -122,7 +127,7 @@ impl<'a> Code<'a> {
         }
     }
 
-    /// The fault that the next byte shows.
+    /// The fault whose place is that of the next byte, or of the end.
     pub fn stop(&self, reason: CodeReason) -> CodeFault
         ensures { result ≡ fault_at self.now.end self.now.bytes reason }
     {
@@ -132,7 +137,7 @@ impl<'a> Code<'a> {
         }
     }
 
-    /// The fault that the list ends where a byte is needed.
+    /// The fault that the list ends where a byte is needed: `Cut` at the end.
     pub fn cut(&self) -> CodeFault
         ensures { result ≡ fault_at self.now.end [] CodeReason.Cut }
     {
@@ -142,7 +147,8 @@ impl<'a> Code<'a> {
         }
     }
 
-    /// The fault where a term must begin and no level is left for it.
+    /// The fault where a term must begin and no level is left for it: `TooDeep` at the next byte, or `Cut` where
+    /// nothing is left.
     pub fn too_deep(&self) -> CodeFault
         ensures { result ≡ no_level self.now.end self.now.bytes }
     {

@@ -29,7 +29,7 @@ impl Model for Depth {
 impl Depth {
     ghost use Rattle.std.specs.Prelude.{◌≤◌};
 
-    /// The limit of so many levels. None unless it is 1 to 4,096.
+    /// The limit of so many levels. `None` unless it is 1 to 4,096.
     pub fn new(limit: u32) -> Option<Depth>
         ensures { result ≡ (if nat_le 1 limit && nat_le limit 4096 then Some limit else None) }
     {

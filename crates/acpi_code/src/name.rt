@@ -13,7 +13,8 @@ use crate::opcode::{lead_char, name_char};
 use acpi_name::{NameFault, NameRef, Seg, read_name};
 
 impl<'a> Code<'a> {
-    /// A NameString.
+    /// A NameString (ACPI 6.5, 20.2.2). `BadName` where none begins there, however the bytes go on; `Cut` where the
+    /// list ends inside one.
     #[tactic(auto, unfolding(crate::specs::steps::Reading::name_in))]
     pub fn name(&mut self) -> Result<NameRef<'a>, CodeFault>
         ensures { Finds name_parts name_in self.old self.new result }
@@ -30,7 +31,8 @@ impl<'a> Code<'a> {
         }
     }
 
-    /// A NameSeg.
+    /// A NameSeg: four characters, the first no digit (20.2.2). `BadName` where up to four bytes that are left can
+    /// begin none, `Cut` where fewer than four are left.
     #[tactic(auto, unfolding(crate::specs::steps::Reading::segment_in, acpi_name::specs::steps::Reading::segment_at))]
     pub fn segment(&mut self) -> Result<Seg, CodeFault>
         ensures { Finds (λ s. s) segment_in self.old self.new result }

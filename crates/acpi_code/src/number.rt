@@ -12,7 +12,7 @@ use acpi_table::{PkgFault, read_pkg_length};
 use byteorder::{ByteOrder, LittleEndian};
 
 impl<'a> Code<'a> {
-    /// ByteData
+    /// ByteData: one byte (ACPI 6.5, 20.2.3). `Cut` where none is left.
     #[tactic(auto, using(crate::proofs::Left::first_byte), unfolding(crate::specs::steps::Reading::byte_at))]
     pub fn byte(&mut self) -> Result<u8, CodeFault>
         ensures { Finds (λ n. n) byte_at self.old self.new result }
@@ -25,7 +25,7 @@ impl<'a> Code<'a> {
         Ok(left[0])
     }
 
-    /// WordData
+    /// WordData: two bytes, the lower first (20.2.3). `Cut` where fewer are left.
     #[tactic(auto, unfolding(crate::specs::steps::Reading::number_at))]
     pub fn word(&mut self) -> Result<u16, CodeFault>
         ensures { Finds (λ n. n) (number_at 2) self.old self.new result }
@@ -38,7 +38,7 @@ impl<'a> Code<'a> {
         Ok(LittleEndian::read_u16(left))
     }
 
-    /// DWordData
+    /// DWordData: four bytes, the lowest first (20.2.3). `Cut` where fewer are left.
     #[tactic(auto, unfolding(crate::specs::steps::Reading::number_at))]
     pub fn dword(&mut self) -> Result<u32, CodeFault>
         ensures { Finds (λ n. n) (number_at 4) self.old self.new result }
@@ -51,7 +51,7 @@ impl<'a> Code<'a> {
         Ok(LittleEndian::read_u32(left))
     }
 
-    /// QWordData
+    /// QWordData: eight bytes, the lowest first (20.2.3). `Cut` where fewer are left.
     #[tactic(auto, unfolding(crate::specs::steps::Reading::number_at))]
     pub fn qword(&mut self) -> Result<u64, CodeFault>
         ensures { Finds (λ n. n) (number_at 8) self.old self.new result }
@@ -64,7 +64,9 @@ impl<'a> Code<'a> {
         Ok(LittleEndian::read_u64(left))
     }
 
-    /// A number spelled as a PkgLength.
+    /// A number spelled as a PkgLength: one to four bytes, a number below 2^28 (20.2.4). A field element has a
+    /// number of bits so. `ReservedBits` where bit 4 or 5 of a lead byte that has more bytes behind it is set, at
+    /// that byte; `Cut` where bytes lack.
     #[tactic(auto, unfolding(crate::specs::steps::Reading::length_in))]
     pub fn pkg_length(&mut self) -> Result<u32, CodeFault>
         ensures { Finds (λ n. n) length_in self.old self.new result }
@@ -79,7 +81,9 @@ impl<'a> Code<'a> {
         }
     }
 
-    /// The content of the package whose length stands there. What is behind the package is left.
+    /// What the package holds whose length stands there; what is behind the package is left (20.2.4). The faults of
+    /// `pkg_length`, and `Overrun` at the length where its number is less than its own bytes, or goes past the end
+    /// of the list.
     #[tactic(auto, unfolding(crate::specs::steps::Reading::package_at))]
     pub fn package(&mut self) -> Result<Code<'a>, CodeFault>
         ensures { Opens self.old self.new result }

@@ -52,7 +52,7 @@ pub enum Opcode {
     Arg(u8),
     /// DebugOp
     Debug,
-    /// An operator.
+    /// An operator (20.2.5.3, 20.2.5.4)
     Operator(Op),
     /// IfOp
     If,
@@ -114,7 +114,8 @@ pub(crate) fn name_char(b: u8) -> bool
     lead_char(b) || (48 <= b && b <= 57)
 }
 
-/// Whether a name in the place of a term begins with the byte.
+/// Whether a name in the place of a term begins with the byte: '\\', '^', '.', '/', a capital letter or '_'
+/// (ACPI 6.5, 20.2.2).
 pub fn name_start(b: u8) -> bool
     ensures { result ≡ is_name_start b }
 {
@@ -245,7 +246,7 @@ fn extended_opcode(b: u8) -> Opcode
     }
 }
 
-/// Whether a name begins so.
+/// Whether it is a name.
 pub fn is_name(opcode: Opcode) -> bool
     ensures { result ≡ is_name_opcode opcode }
 {
@@ -256,7 +257,8 @@ pub fn is_name(opcode: Opcode) -> bool
 }
 
 impl Code<'_> {
-    /// What begins there. What is behind its opcode is left.
+    /// What begins there; what is behind its one or two bytes is left (ACPI 6.5, 20.3). Of a name the first byte is
+    /// taken alone. `Nothing` where no opcode is known; `Cut` where nothing is left, or a 5B alone.
     #[tactic(auto, unfolding(crate::specs::steps::Reading::opcode_at))]
     pub fn opcode(&mut self) -> Result<Opcode, CodeFault>
         ensures { Finds (λ o. o) opcode_at self.old self.new result }

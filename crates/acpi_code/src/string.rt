@@ -16,7 +16,8 @@ fn text_len(bytes: &[u8]) -> usize
 }
 
 impl<'a> Code<'a> {
-    /// The text up to the 00 that ends it.
+    /// The text up to the 00 that ends it, which is no part of it: bytes 01 to 7F (ACPI 6.5, 20.2.3). `BadString` at
+    /// a byte above 7F, `Cut` where no 00 is left.
     #[tactic(auto, unfolding(crate::specs::steps::Reading::string_at))]
     pub fn string(&mut self) -> Result<&'a [u8], CodeFault>
         ensures { Finds (λ s. s.now) string_at self.old self.new result }

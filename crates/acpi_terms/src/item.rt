@@ -168,8 +168,9 @@ fn all_items(alloc: Global, depth: u32, shared: &Bytes, code: &[u8]) -> Result<V
     items(alloc, depth, &mut Code::shared(code, shared))
 }
 
-/// The items that the code spells, all of it, with at most `depth` levels. The methods share the code's
-/// bytes. A place in a fault counts from the code's first byte.
+/// The module-level terms that the code spells, all of it, with at most `depth` levels (ACPI 6.5, 20.2.5). The
+/// methods share the code's bytes. A fault tells the first reason from the left, and its place in bytes from the
+/// code's first byte; or that a growth of memory was refused.
 pub fn read_items_shared(alloc: Global, code: &Bytes, depth: Depth) -> Result<Vec<Item>, ItemFault>
     // What is read is spelled so, within the limit.
     ensures found { IfOk result (λ v. SpellsItems (items_tree v.items) code.now × (items_height (items_tree v.items) ≤ depth)) }
@@ -188,8 +189,9 @@ pub fn read_items_shared(alloc: Global, code: &Bytes, depth: Depth) -> Result<Ve
     all_items(alloc, depth.get(), code, code.as_slice())
 }
 
-/// The items that the code spells, all of it, with at most `depth` levels. A place in a fault counts from
-/// the code's first byte.
+/// The module-level terms that the code spells, all of it, with at most `depth` levels (ACPI 6.5, 20.2.5). A
+/// fault tells the first reason from the left, and its place in bytes from the code's first byte; or that a
+/// growth of memory was refused.
 pub fn read_items(alloc: Global, code: &[u8], depth: Depth) -> Result<Vec<Item>, ItemFault>
     // What is read is spelled so, within the limit.
     ensures found { IfOk result (λ v. SpellsItems (items_tree v.items) code.now × (items_height (items_tree v.items) ≤ depth)) }

@@ -28,8 +28,8 @@ fn front_int(bytes: &[u8]) -> Option<(Int, usize)>
     }
 }
 
-/// The constant at the front of the bytes, and how many bytes spell it. None where no constant is spelled
-/// there. It takes no memory.
+/// The constant at the front of the bytes, and how many bytes spell it (ACPI 6.5, 20.2.3). `None` where no
+/// constant is spelled there. It takes no memory.
 pub fn read_int(bytes: &[u8]) -> Option<(Int, usize)>
     // What is answered is spelled at the front.
     ensures found { IfSome result (λ x. SpellsInt x.0 (take x.1 bytes.now)) }
@@ -49,8 +49,9 @@ fn front_elem(alloc: Global, bytes: &[u8]) -> Result<(FieldElem, usize), ItemFau
     Ok((elem, bytes.len() - code.left().len()))
 }
 
-/// The field element at the front of the bytes, which are the rest of a field list, and how many bytes
-/// spell it. A place in a fault counts from the first byte.
+/// The field element at the front of the bytes, which are the rest of a field list, and how many bytes spell it
+/// (ACPI 6.5, 20.2.5.2 FieldElement). A place in a fault counts bytes from the first one. An element has no level,
+/// so no fault is `TooDeep`.
 pub fn read_elem(alloc: Global, bytes: &[u8]) -> Result<(FieldElem, usize), ItemFault>
     // What is answered is spelled at the front.
     ensures found { IfOk result (λ x. SpellsField (field_view x.0) (take x.1 bytes.now)) }
