@@ -9,8 +9,7 @@ ghost use Rattle.acpi_code.specs.steps.Cursor.{Finds};
 
 use crate::code::Code;
 use crate::fault::{CodeFault, CodeReason};
-use crate::opcode::{lead_char, name_char};
-use acpi_name::{NameFault, NameRef, Seg, read_name};
+use acpi_name::{NameFault, NameRef, Seg, begins_segment, read_name};
 
 impl<'a> Code<'a> {
     /// A NameString (ACPI 6.5, 20.2.2). `BadName` where none begins there, however the bytes go on; `Cut` where the
@@ -55,19 +54,6 @@ fn front_name(bytes: &[u8]) -> Result<(NameRef<'_>, usize), NameFault>
     ensures used { IfOk result (λ x. (0 < x.1) × (x.1 ≤ length bytes.now)) }
 {
     read_name(bytes)
-}
-
-// Whether what stands there, up to four bytes, may begin a segment.
-fn begins_segment(bytes: &[u8]) -> bool
-    ensures { result ≡ is_segment_front bytes.now }
-{
-    match bytes {
-        [] => true,
-        [a] => lead_char(*a),
-        [a, b] => lead_char(*a) && name_char(*b),
-        [a, b, c] => lead_char(*a) && name_char(*b) && name_char(*c),
-        [a, b, c, d, ..] => lead_char(*a) && name_char(*b) && name_char(*c) && name_char(*d),
-    }
 }
 
 fn first_segment(bytes: &[u8]) -> Seg

@@ -1,13 +1,13 @@
 //! What begins with which bytes.
 
 ghost use Rattle.std.specs.Prelude.{◌≡◌};
-ghost use Rattle.acpi_name.specs.Names.{is_lead_char, is_name_char};
 ghost use Rattle.acpi_code.specs.Opcodes.{is_name_opcode, is_name_start, plain_opcode_of, extended_opcode_of};
 ghost use Rattle.acpi_code.specs.steps.Reading.{opcode_at};
 ghost use Rattle.acpi_code.specs.steps.Cursor.{Finds};
 
 use crate::code::Code;
 use crate::fault::CodeFault;
+use acpi_name::is_lead_char;
 use acpi_tree::{Op, Width};
 
 /// How a constant integer is written (ACPI 6.5, 20.2.3 ComputationalData).
@@ -102,24 +102,12 @@ pub enum Opcode {
     Nothing,
 }
 
-pub(crate) fn lead_char(b: u8) -> bool
-    ensures { result ≡ is_lead_char b }
-{
-    (65 <= b && b <= 90) || b == 95
-}
-
-pub(crate) fn name_char(b: u8) -> bool
-    ensures { result ≡ is_name_char b }
-{
-    lead_char(b) || (48 <= b && b <= 57)
-}
-
 /// Whether a name in the place of a term begins with the byte: '\\', '^', '.', '/', a capital letter or '_'
 /// (ACPI 6.5, 20.2.2).
 pub fn name_start(b: u8) -> bool
     ensures { result ≡ is_name_start b }
 {
-    b == 92 || b == 94 || b == 46 || b == 47 || lead_char(b)
+    b == b'\\' || b == b'^' || b == b'.' || b == b'/' || is_lead_char(b)
 }
 
 fn plain_opcode(b: u8) -> Opcode

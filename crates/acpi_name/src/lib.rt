@@ -30,7 +30,7 @@ mod writing;
 pub use name::{Name, NameRef};
 pub use path::Path;
 pub use places::{PlaceFault, place};
-pub use reading::{NameFault, read_name};
+pub use reading::{NameFault, begins_segment, read_name};
 pub use seg::{Seg, is_lead_char, is_name_char};
 pub use text::PathFault;
 pub use writing::write_name;

@@ -28,8 +28,8 @@ pub enum NameFault {
     TooManyUps,
 }
 
-// Whether what stands there, up to four bytes, may begin a segment.
-fn begins_segment(bytes: &[u8]) -> bool
+/// Whether the first bytes, up to four, may begin a segment (ACPI 6.5, 20.2.2 NameSeg). It takes no memory.
+pub fn begins_segment(bytes: &[u8]) -> bool
     ensures { result ≡ is_segment_front bytes.now }
 {
     match bytes {
