@@ -39,9 +39,10 @@ impl<'a> Code<'a> {
         ensures bytes { result.bytes ≡ code.now }
         ensures ends { result.end ≡ length code.now }
     {
+        let end = code.len();
         Code {
             left: code,
-            end: code.len(),
+            end,
             shared: None,
         }
     }
@@ -96,7 +97,7 @@ impl<'a> Code<'a> {
         ensures { IfOk result (λ b. b ≡ self.now.bytes) }
     {
         match self.shared {
-            Some(code) => code.slice(self.end - self.left.len()..self.end),
+            Some(code) => code.slice(self.place()..self.end),
             None => Bytes::copy_from_slice(alloc, self.left),
         }
     }
