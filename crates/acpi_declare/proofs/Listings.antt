@@ -1,6 +1,6 @@
 -- The pass over a tree makes a justified listing of its sites, or stops at the first that is refused.
-use Rattle.std.proofs.Common.{◌≡◌, ℕ, suc, ◌+◌, List, [], ◌∷◌, ◌++◌, map, length, Option, Some, None, Result, Ok, Err, refl, sym, ap, subst, ◌∙◌, append_assoc, append-nil, length-append, arith}
-use Rattle.acpi_name.specs.Names.{Segment, NameParts}
+use Rattle.std.proofs.Common.{◌≡◌, ℕ, suc, ◌+◌, List, [], ◌∷◌, ◌++◌, map, length, Option, Some, Result, Ok, Err, refl, sym, ap, subst, ◌∙◌, append_assoc, append-nil, length-append, arith}
+use Rattle.acpi_name.specs.Names.{Segment}
 use Rattle.acpi_tree.specs.Tree.{ItemTree, scope, device, processor, power, thermal, ItemTrees, no_items, item}
 use Rattle.acpi_tree.specs.Objects.{device_object, processor_object, power_object, thermal_object}
 use Rattle.acpi_space.specs.Lookups.{union}

@@ -2,7 +2,7 @@
 use Rattle.std.proofs.Common.{◌≡◌, ◌≢◌, ℕ, List, [], ◌∷◌, ◌++◌, append_assoc, append-nil, Bool, true, false, cond, Option, Some, None, Ok, ◌⊎◌, inl, inr, refl, sym, ap, ◌∙◌}
 use Rattle.acpi_name.specs.Names.{Segment, NameParts}
 use Rattle.acpi_name.specs.Paths.{place_of}
-use Rattle.acpi_space.specs.Lookups.{Lookup, is_defined_in, nothing, singleton, union}
+use Rattle.acpi_space.specs.Lookups.{is_defined_in, nothing, singleton, union}
 use Rattle.acpi_space.specs.Search.{missed}
 use Rattle.acpi_tree.specs.Objects.{ObjectTree}
 use Rattle.acpi_declare.specs.Links.{PendingLink}
@@ -136,3 +136,12 @@ pub external_nothing : (b : Bool) (t : Pass) (s : List Segment) (n : NameParts) 
     → take_steps t s (cond b (step n (expects k) ∷ []) []) ≡ passed t
 external_nothing true t s n k h = expected_nothing t s n k h
 external_nothing false t s n k h = refl
+
+-- ---- links of a field list
+
+-- no links more
+pub with_nothing : (t : Pass) (more : List PendingLink) → more ≡ [] → pass t.objects (t.links ++ more) t.notes ≡ t
+with_nothing t more none = λ i. record { objects = t.objects; links = (ap (λ l. t.links ++ l) none ∙ append-nil t.links) i; notes = t.notes }
+
+pub with_links : (t : Pass) (links links' : List PendingLink) → links ≡ links' → pass t.objects links t.notes ≡ pass t.objects links' t.notes
+with_links t links links' e = ap (λ l. pass t.objects l t.notes) e

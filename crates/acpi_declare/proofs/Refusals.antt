@@ -1,5 +1,5 @@
 -- Where a table is refused, the tables have no load.
-use Rattle.std.proofs.Common.{◌≡◌, ◌≢◌, ℕ, suc, ◌+◌, List, [], ◌∷◌, ◌++◌, map, length, take, Result, Ok, Err, refl, sym, ap, subst, ◌∙◌, arith}
+use Rattle.std.proofs.Common.{◌≡◌, ◌≢◌, ℕ, suc, ◌+◌, List, [], ◌∷◌, ◌++◌, length, take, Result, Ok, Err, refl, sym, ap, subst, ◌∙◌, arith}
 use Rattle.acpi_table.specs.declared.tables.TableFault.{TableFault}
 use Rattle.acpi_table.specs.Tables.{IsTable, table_at}
 use Rattle.acpi_table.proofs.TableLaws.{table_again, whole_table, table_refuses}

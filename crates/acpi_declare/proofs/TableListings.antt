@@ -1,7 +1,7 @@
 -- From the pass over the items of a table to its listing.
 use Rattle.std.proofs.Common.{◌≡◌, ℕ, List, [], ◌∷◌, ◌++◌, None, Ok, Err, refl, sym, ap, subst, ◌∙◌, append_assoc, append-nil}
 use Rattle.acpi_tree.specs.Tree.{ItemTrees}
-use Rattle.acpi_space.specs.Lookups.{union, nothing}
+use Rattle.acpi_space.specs.Lookups.{union}
 use Rattle.acpi_declare.specs.Links.{pending_links, pending_by}
 use Rattle.acpi_declare.specs.Listing.{Placement, object_of, scope_within, paths_of, IsFirstRefusal}
 use Rattle.acpi_declare.specs.Namespace.{Namespace}

@@ -1,5 +1,5 @@
 -- Table after table.
-use Rattle.std.proofs.Common.{◌≡◌, ℕ, suc, ◌+◌, List, [], ◌∷◌, ◌++◌, map, length, refl, sym, ap, subst, ◌∙◌, append_assoc, append-nil, arith}
+use Rattle.std.proofs.Common.{◌≡◌, ℕ, suc, ◌+◌, List, [], ◌∷◌, ◌++◌, length, refl, sym, ap, subst, ◌∙◌, append_assoc, append-nil, arith}
 use Rattle.acpi_declare.specs.declared.fault.LoadFault.{LoadFault}
 use Rattle.acpi_declare.specs.declared.fault.LoadFault.TheVariants.{At, Memory}
 use Rattle.acpi_space.specs.Lookups.{union}

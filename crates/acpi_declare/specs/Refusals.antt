@@ -1,5 +1,5 @@
 -- Why a list of tables has no load: the first table that has no listing, and the reason (ACPI 6.5, 5.3).
-use Rattle.std.specs.Prelude.{◌≡◌, ◌≢◌, ℕ, zero, suc, ◌≤◌, ◌<◌, List, [], ◌∷◌, ◌++◌, length, take}
+use Rattle.std.specs.Prelude.{◌≡◌, ◌≢◌, ℕ, ◌≤◌, ◌<◌, List, [], ◌∷◌, ◌++◌, length, take}
 use Rattle.acpi_table.specs.Tables.{IsTable}
 use Rattle.acpi_table.specs.Tables as tables
 use Rattle.acpi_tree.specs.Tree.{ItemTrees}

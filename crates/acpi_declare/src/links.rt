@@ -1,19 +1,19 @@
 //! The links of fields and buffer fields, searched over the final objects.
 
-ghost use Rattle.std.specs.Prelude.{◌≡◌, IfOk, IfErr, OnOk, map};
+ghost use Rattle.std.specs.Prelude.{◌≡◌, IfOk, IfErr, OnOk};
 ghost use Rattle.std.specs.FinMap as finite;
 ghost use Rattle.acpi_space.specs.Search.{answer};
-ghost use Rattle.acpi_space.specs.Lookups.{is_defined_in};
+ghost use Rattle.acpi_space.specs.Lookups.{is_defined_in, union};
 ghost use Rattle.acpi_declare.specs.Namespace.{namespace_of};
 ghost use Rattle.acpi_declare.specs.Links.{answers, links_of, link_map, links_at};
-ghost use Rattle.acpi_declare.specs.steps.View.{pending_of};
+ghost use Rattle.acpi_declare.specs.steps.View.{all_pending_of, links_with};
 
 use crate::fault::LoadFault;
-use crate::pass::PendingLink;
+use crate::pass::PendingLinks;
 use acpi_name::{Name, Path};
 use acpi_space::{Found, SearchFault, Space, search};
 use acpi_terms::Object;
-use std::alloc::Global;
+use std::alloc::{AllocError, Global};
 use std::collections::BTreeMap;
 
 // What the search of one name answers.
@@ -66,19 +66,49 @@ fn put_link(
     }
 }
 
-/// The answers of all links that wait.
+// The same answers once more.
+fn copies(alloc: Global, answers: &[Option<Path>]) -> Result<Vec<Option<Path>>, AllocError>
+    ensures { IfOk result (λ v. v.items ≡ answers.now) }
+{
+    let mut copies = Vec::new(alloc);
+    for answer in answers {
+        copies.push(match answer {
+            Some(path) => Some(path.copy()?),
+            None => None,
+        })?;
+    }
+    Ok(copies)
+}
+
+// The same answers at each of the paths.
+fn put_links(
+    alloc: Global,
+    links: &mut BTreeMap<Path, Vec<Option<Path>>>,
+    paths: Vec<Path>,
+    answers: &[Option<Path>],
+) -> Result<(), LoadFault>
+    ensures ok { OnOk result (links_at links.new ≡ union (links_with answers.now paths.items) (links_at links.old)) }
+    ensures memory { IfErr result (λ f. f ≡ LoadFault.Memory) }
+{
+    for path in paths {
+        put_link(links, path, copies(alloc, answers)?)?;
+    }
+    Ok(())
+}
+
+/// The answers of all links that are pending.
 pub(crate) fn linked<S: Space<Object>>(
     alloc: Global,
     objects: &S,
-    pending: Vec<PendingLink>,
+    pending: Vec<PendingLinks>,
 ) -> Result<BTreeMap<Path, Vec<Option<Path>>>, LoadFault>
-    ensures found { IfOk result (λ m. links_at m ≡ links_of (namespace_of (S.contents objects.now)) (map pending_of pending.items)) }
+    ensures found { IfOk result (λ m. links_at m ≡ links_of (namespace_of (S.contents objects.now)) (all_pending_of pending.items)) }
     ensures memory { IfErr result (λ f. f ≡ LoadFault.Memory) }
 {
     let mut links = BTreeMap::new(alloc);
     for link in pending {
         let found = answers_of(alloc, objects, &link.scope, &link.names)?;
-        put_link(&mut links, link.path, found)?;
+        put_links(alloc, &mut links, link.paths, &found)?;
     }
     Ok(links)
 }

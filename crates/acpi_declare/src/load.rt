@@ -17,7 +17,7 @@ ghost use Rattle.acpi_declare.specs.steps.Outcomes.{IsCodeOf, IsTableFault};
 use crate::fault::{LoadFault, LoadReason, Stop};
 use crate::links::linked;
 use crate::notes::TableNotes;
-use crate::pass::{Pass, PendingLink};
+use crate::pass::{Pass, PendingLinks};
 use crate::predefined::predefined_space;
 use acpi_name::Path;
 use acpi_space::Space;
@@ -67,7 +67,7 @@ impl<S> Declared<S> {
 #[derive(Drop)]
 struct Loaded<S> {
     objects: S,
-    links: Vec<PendingLink>,
+    links: Vec<PendingLinks>,
     notes: Vec<TableNotes>,
 }
 

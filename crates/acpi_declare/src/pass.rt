@@ -1,6 +1,6 @@
 //! The declaration pass over the items of one table.
 
-ghost use Rattle.std.specs.Prelude.{IsTrue, ◌≡◌, ◌≢◌, true, None, Some, ◌∷◌, [], ◌++◌, ◌+◌, ◌<◌, ◌^◌, map, IfOk, IfErr, OnOk, Ok};
+ghost use Rattle.std.specs.Prelude.{IsTrue, ◌≡◌, ◌≢◌, true, None, Some, ◌∷◌, [], ◌++◌, ◌+◌, ◌<◌, ◌^◌, IfOk, IfErr, OnOk, Ok};
 ghost use Rattle.std.specs.List.{list_all};
 ghost use Rattle.acpi_space.specs.Lookups.{singleton, union};
 ghost use Rattle.acpi_tree.specs.Objects.{object_view, method_object};
@@ -12,7 +12,7 @@ ghost use Rattle.acpi_declare.specs.Sites.{step, declares_alone, declares, opens
 ghost use Rattle.acpi_declare.specs.Placing.{declared_path, opened_path};
 ghost use Rattle.acpi_declare.specs.Notes.{notes_of};
 ghost use Rattle.acpi_declare.specs.steps.Pass.{after, placement, take_step, take_steps, pass_item, pass_items};
-ghost use Rattle.acpi_declare.specs.steps.View.{pass_of, pending_of, pending_for, with_method};
+ghost use Rattle.acpi_declare.specs.steps.View.{pass_of, pass_with, all_pending_of, pending_from, pending_for, with_method};
 ghost use Rattle.acpi_declare.specs.steps.Outcomes.{IsStopOf};
 
 use crate::fault::Stop;
@@ -24,11 +24,11 @@ use acpi_terms::{External, FieldElem, FieldForm, Item, Object};
 use bytes::Bytes;
 use std::alloc::{AllocError, Global};
 
-// A declared path whose links are searched when all tables are declared: the names, and the scope
-// from which they are searched.
+// Declared paths whose links are searched when all tables are declared: the units of one field list, or one
+// buffer field. They have the same names, searched from the same scope.
 #[derive(Debug, Drop)]
-pub(crate) struct PendingLink {
-    pub(crate) path: Path,
+pub(crate) struct PendingLinks {
+    pub(crate) paths: Vec<Path>,
     pub(crate) scope: Path,
     pub(crate) names: Vec<Name>,
 }
@@ -38,7 +38,7 @@ pub(crate) struct PendingLink {
 pub(crate) struct Pass<S> {
     pub(crate) alloc: Global,
     pub(crate) objects: S,
-    pub(crate) links: Vec<PendingLink>,
+    pub(crate) links: Vec<PendingLinks>,
     pub(crate) notes: TableNotes,
 }
 
@@ -103,16 +103,17 @@ impl<S: Space<Object>> Pass<S> {
         scope: &Path,
         object: Object,
         names: Vec<Name>,
-    ) -> Result<(), Stop>
+    ) -> Result<(), AllocError>
         requires { namespace_of (S.contents self.old.objects) path ≡ None }
         ensures objects { OnOk result (namespace_of (S.contents self.new.objects)
             ≡ union (namespace_of (S.contents self.old.objects)) (singleton path (object_view object))) }
-        ensures links { OnOk result (map pending_of self.new.links.items ≡ map pending_of self.old.links.items ++ pending_for path scope.now names.items ∷ []) }
+        ensures links { OnOk result (all_pending_of self.new.links.items ≡ all_pending_of self.old.links.items ++ pending_for path scope.now names.items ∷ []) }
         ensures notes { self.new.notes ≡ self.old.notes }
-        ensures memory { IfErr result (λ f. f ≡ Stop.Memory) }
     {
-        self.links.push(PendingLink {
-            path: path.copy()?,
+        let mut paths = Vec::new(self.alloc);
+        paths.push(path.copy()?)?;
+        self.links.push(PendingLinks {
+            paths,
             scope: scope.copy()?,
             names,
         })?;
@@ -138,21 +139,23 @@ impl<S: Space<Object>> Pass<S> {
         Ok(())
     }
 
-    // Declares a field unit.
+    // Declares a field unit, and adds its path to those of its list.
     fn declare_unit(
         &mut self,
         scope: &Path,
+        fields: &FieldList<'_>,
+        paths: &mut Vec<Path>,
         seg: Seg,
         object: Object,
-        names: Vec<Name>,
     ) -> Result<(), Stop>
-        requires { names.items ≢ [] }
-        ensures ok { OnOk result (take_step (pass_of (S.contents self.old.objects) self.old) scope.now (step (unit_name seg) (declares (object_view object) names.items None))
-            ≡ Ok (pass_of (S.contents self.new.objects) self.new)) }
-        ensures refused { IfErr result (λ f. IsStopOf f (take_step (pass_of (S.contents self.old.objects) self.old) scope.now (step (unit_name seg) (declares (object_view object) names.items None)))) }
+        requires { fields.now.names.now ≢ [] }
+        ensures ok { OnOk result (take_step (pass_with (S.contents self.old.objects) self.old (pending_from scope.now fields.now.names.now paths.old.items)) scope.now (step (unit_name seg) (declares (object_view object) fields.now.names.now None))
+            ≡ Ok (pass_with (S.contents self.new.objects) self.new (pending_from scope.now fields.now.names.now paths.new.items))) }
+        ensures refused { IfErr result (λ f. IsStopOf f (take_step (pass_with (S.contents self.old.objects) self.old (pending_from scope.now fields.now.names.now paths.old.items)) scope.now (step (unit_name seg) (declares (object_view object) fields.now.names.now None)))) }
     {
         let path = declared_unit(&self.objects, scope, seg)?;
-        self.put_linked(path, scope, object, names)?;
+        paths.push(path.copy()?)?;
+        self.put(path, object)?;
         Ok(())
     }
 
@@ -225,15 +228,16 @@ impl<S: Space<Object>> Pass<S> {
         &mut self,
         scope: &Path,
         fields: &FieldList<'_>,
+        paths: &mut Vec<Path>,
         offset: u64,
         elem: &FieldElem,
     ) -> Result<u64, Stop>
         requires some { fields.now.names.now ≢ [] }
         requires room { offset + element_bits (field_view elem.now) < 2 ^ 64 }
-        ensures ok { OnOk result (take_steps (pass_of (S.contents self.old.objects) self.old) scope.now (unit_step fields.now.form fields.now.flags fields.now.names.now offset (field_view elem.now))
-            ≡ Ok (pass_of (S.contents self.new.objects) self.new)) }
+        ensures ok { OnOk result (take_steps (pass_with (S.contents self.old.objects) self.old (pending_from scope.now fields.now.names.now paths.old.items)) scope.now (unit_step fields.now.form fields.now.flags fields.now.names.now offset (field_view elem.now))
+            ≡ Ok (pass_with (S.contents self.new.objects) self.new (pending_from scope.now fields.now.names.now paths.new.items))) }
         ensures behind { IfOk result (λ n. n ≡ offset + element_bits (field_view elem.now)) }
-        ensures refused { IfErr result (λ f. IsStopOf f (take_steps (pass_of (S.contents self.old.objects) self.old) scope.now (unit_step fields.now.form fields.now.flags fields.now.names.now offset (field_view elem.now)))) }
+        ensures refused { IfErr result (λ f. IsStopOf f (take_steps (pass_with (S.contents self.old.objects) self.old (pending_from scope.now fields.now.names.now paths.old.items)) scope.now (unit_step fields.now.form fields.now.flags fields.now.names.now offset (field_view elem.now)))) }
     {
         match elem {
             FieldElem::Unit(seg, bits) => {
@@ -243,7 +247,7 @@ impl<S: Space<Object>> Pass<S> {
                     offset,
                     bits: *bits,
                 };
-                self.declare_unit(scope, *seg, object, copies(self.alloc, fields.names)?)?;
+                self.declare_unit(scope, fields, paths, *seg, object)?;
                 Ok(behind(offset, *bits))
             }
             FieldElem::Reserved(bits) => Ok(behind(offset, *bits)),
@@ -251,22 +255,23 @@ impl<S: Space<Object>> Pass<S> {
         }
     }
 
-    // Declares the units of a field list.
+    // Declares the units of a field list, and adds their paths.
     fn declare_units(
         &mut self,
         scope: &Path,
         fields: &FieldList<'_>,
+        paths: &mut Vec<Path>,
         elems: &[FieldElem],
     ) -> Result<(), Stop>
         requires some { fields.now.names.now ≢ [] }
         requires room { list_bits (fields_view elems.now) < 2 ^ 64 }
-        ensures ok { OnOk result (take_steps (pass_of (S.contents self.old.objects) self.old) scope.now (unit_steps fields.now.form fields.now.flags fields.now.names.now 0 (fields_view elems.now))
-            ≡ Ok (pass_of (S.contents self.new.objects) self.new)) }
-        ensures refused { IfErr result (λ f. IsStopOf f (take_steps (pass_of (S.contents self.old.objects) self.old) scope.now (unit_steps fields.now.form fields.now.flags fields.now.names.now 0 (fields_view elems.now)))) }
+        ensures ok { OnOk result (take_steps (pass_with (S.contents self.old.objects) self.old (pending_from scope.now fields.now.names.now paths.old.items)) scope.now (unit_steps fields.now.form fields.now.flags fields.now.names.now 0 (fields_view elems.now))
+            ≡ Ok (pass_with (S.contents self.new.objects) self.new (pending_from scope.now fields.now.names.now paths.new.items))) }
+        ensures refused { IfErr result (λ f. IsStopOf f (take_steps (pass_with (S.contents self.old.objects) self.old (pending_from scope.now fields.now.names.now paths.old.items)) scope.now (unit_steps fields.now.form fields.now.flags fields.now.names.now 0 (fields_view elems.now)))) }
     {
         let mut offset = 0;
         for elem in elems {
-            offset = self.declare_elem(scope, fields, offset, elem)?;
+            offset = self.declare_elem(scope, fields, paths, offset, elem)?;
         }
         Ok(())
     }
@@ -331,7 +336,7 @@ impl<S: Space<Object>> Pass<S> {
                 scope,
                 FieldForm::Field,
                 flags,
-                &one(self.alloc, region)?,
+                one(self.alloc, region)?,
                 &elems,
             ),
             Item::IndexField {
@@ -343,7 +348,7 @@ impl<S: Space<Object>> Pass<S> {
                 scope,
                 FieldForm::Index,
                 flags,
-                &two(self.alloc, index, datum)?,
+                two(self.alloc, index, datum)?,
                 &elems,
             ),
             Item::BankField {
@@ -356,7 +361,7 @@ impl<S: Space<Object>> Pass<S> {
                 scope,
                 FieldForm::Bank(value),
                 flags,
-                &two(self.alloc, region, bank)?,
+                two(self.alloc, region, bank)?,
                 &elems,
             ),
             _ => Ok(()),
@@ -369,17 +374,28 @@ impl<S: Space<Object>> Pass<S> {
         scope: &Path,
         form: FieldForm,
         flags: u8,
-        names: &[Name],
+        names: Vec<Name>,
         elems: &[FieldElem],
     ) -> Result<(), Stop>
-        requires some { names.now ≢ [] }
+        requires some { names.items ≢ [] }
         requires room { list_bits (fields_view elems.now) < 2 ^ 64 }
-        ensures ok { OnOk result (take_steps (pass_of (S.contents self.old.objects) self.old) scope.now (unit_steps form flags names.now 0 (fields_view elems.now))
+        ensures ok { OnOk result (take_steps (pass_of (S.contents self.old.objects) self.old) scope.now (unit_steps form flags names.items 0 (fields_view elems.now))
             ≡ Ok (pass_of (S.contents self.new.objects) self.new)) }
-        ensures refused { IfErr result (λ f. IsStopOf f (take_steps (pass_of (S.contents self.old.objects) self.old) scope.now (unit_steps form flags names.now 0 (fields_view elems.now)))) }
+        ensures refused { IfErr result (λ f. IsStopOf f (take_steps (pass_of (S.contents self.old.objects) self.old) scope.now (unit_steps form flags names.items 0 (fields_view elems.now)))) }
     {
-        let fields = FieldList { form, flags, names };
-        self.declare_units(scope, &fields, elems)
+        let mut paths = Vec::new(self.alloc);
+        let fields = FieldList {
+            form,
+            flags,
+            names: &names,
+        };
+        self.declare_units(scope, &fields, &mut paths, elems)?;
+        self.links.push(PendingLinks {
+            paths,
+            scope: scope.copy()?,
+            names,
+        })?;
+        Ok(())
     }
 
     // One item, with all that stands in it.
@@ -461,17 +477,6 @@ fn behind(offset: u64, bits: u32) -> u64
     ensures { result ≡ offset + bits }
 {
     offset + u64::from(bits)
-}
-
-// Copies of the names.
-fn copies(alloc: Global, names: &[Name]) -> Result<Vec<Name>, AllocError>
-    ensures { IfOk result (λ v. v.items ≡ names.now) }
-{
-    let mut copies = Vec::new(alloc);
-    for name in names {
-        copies.push(name.copy()?)?;
-    }
-    Ok(copies)
 }
 
 // A list of one name.

@@ -13,7 +13,7 @@ use Rattle.acpi_declare.specs.Links.{PendingLink, pending_links, all_pending}
 use Rattle.acpi_declare.specs.Notes.{Notes, notes_on, notes_of, all_notes}
 use Rattle.acpi_declare.specs.Tables.{IsTableOf}
 use Rattle.acpi_declare.specs.Loads.{AreListings, objects_after}
-use Rattle.acpi_declare.specs.steps.View.{pending_of}
+use Rattle.acpi_declare.specs.steps.View.{all_pending_of}
 
 pub record State : Type 0 where
   pub objects : Namespace
@@ -21,7 +21,7 @@ pub record State : Type 0 where
   pub notes : List Notes
 
 abbrev pub state_of : {S : Type 0} → PathMap Object → code.Loaded S → State
-state_of objects t = record { objects = namespace_of objects; links = map pending_of t.links.items; notes = map notes_of t.notes.items }
+state_of objects t = record { objects = namespace_of objects; links = all_pending_of t.links.items; notes = map notes_of t.notes.items }
 
 -- a table's listing goes over what is there
 pub record AddsTable (depth number : ℕ) (bytes : List ℕ) (before now : State) : Type 0 where

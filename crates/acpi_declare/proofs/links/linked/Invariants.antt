@@ -1,12 +1,12 @@
-use Rattle.std.proofs.Common.{◌≡◌, map}
+use Rattle.std.proofs.Common.{◌≡◌}
 use Rattle.std.specs.Vec.Iter.{into_iter_items}
 use Rattle.acpi_space.specs.Lookups.{union}
 use Rattle.acpi_declare.specs.Links.{links_of, links_at}
 use Rattle.acpi_declare.specs.Namespace.{namespace_of}
-use Rattle.acpi_declare.specs.steps.View.{pending_of}
+use Rattle.acpi_declare.specs.steps.View.{all_pending_of}
 use Rattle.acpi_declare.proofs.links.linked.Given as goal
 
 abbrev pub invariant-loop-link : goal.invariant-loop-link
 invariant-loop-link g l =
-    union (links_of (namespace_of (g.S.Space.contents l.objects)) (map pending_of (into_iter_items l.link-iterator))) (links_at l.links)
-    ≡ links_of (namespace_of (g.S.Space.contents l.objects)) (map pending_of (into_iter_items l.initial.link-iterator))
+    union (links_of (namespace_of (g.S.Space.contents l.objects)) (all_pending_of (into_iter_items l.link-iterator))) (links_at l.links)
+    ≡ links_of (namespace_of (g.S.Space.contents l.objects)) (all_pending_of (into_iter_items l.initial.link-iterator))

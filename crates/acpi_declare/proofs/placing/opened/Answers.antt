@@ -1,4 +1,4 @@
-use Rattle.std.proofs.Common.{◌≡◌, ◌∙◌, Some, None, ap, sym, subst, rules}
+use Rattle.std.proofs.Common.{◌≡◌, Some, None, sym, subst, rules}
 use Rattle.std.specs.FinMap.{get}
 use Rattle.acpi_space.specs.Spaces.{is_defined}
 use Rattle.acpi_space.specs.Search.{answer}

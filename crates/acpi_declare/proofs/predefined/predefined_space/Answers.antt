@@ -1,4 +1,4 @@
-use Rattle.std.proofs.Common.{◌∙◌, [], List, ap, refl}
+use Rattle.std.proofs.Common.{◌∙◌, List, ap, refl}
 use Rattle.acpi_name.specs.Names.{Segment}
 use Rattle.acpi_tree.specs.Objects.{root_object}
 use Rattle.acpi_space.specs.Lookups.{singleton, union, nothing}

@@ -1,4 +1,4 @@
-use Rattle.std.proofs.Common.{[], map, ap, ◌∙◌}
+use Rattle.std.proofs.Common.{map, ap, ◌∙◌}
 use Rattle.std.specs.FinMap.{get}
 use Rattle.acpi_declare.specs.Notes.{method_of}
 use Rattle.acpi_declare.proofs.Unions.{counts-empty}

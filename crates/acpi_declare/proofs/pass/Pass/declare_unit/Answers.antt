@@ -1,13 +1,18 @@
 use Rattle.std.proofs.Common.{ap}
 use Rattle.acpi_tree.specs.Objects.{object_view}
-use Rattle.acpi_declare.specs.Sites.{unit_name}
 use Rattle.acpi_declare.specs.Notes.{notes_of}
-use Rattle.acpi_declare.specs.steps.View.{pass_of}
+use Rattle.acpi_declare.specs.Sites.{unit_name}
+use Rattle.acpi_declare.specs.steps.View.{pass_with, all_pending_of, pending_from}
 use Rattle.acpi_declare.proofs.PassSteps.{declared_linked}
+use Rattle.acpi_declare.proofs.PendingLinks.{unit_links}
 use Rattle.acpi_declare.proofs.pass.Pass.declare_unit.Goals as goal
 
 pub returns-clause-ok : goal.returns-clause-ok
 returns-clause-ok g c =
-    let before = pass_of (g.S.Space.contents c.args.self.now.objects) c.args.self.now in
-    declared_linked before _ _ _ c.args.scope.now _ (unit_name c.args.seg) (object_view c.args.object) c.args.names.items c.requires c.in_ok-path.ensures.ok c.in_ok-put_linked.ensures.objects
-    c.in_ok-put_linked.ensures.links (ap notes_of c.in_ok-put_linked.ensures.notes)
+    let s = c.args.scope.now in
+    let names = c.args.fields.now.names.now in
+    let paths = c.args.paths.now.items in
+    let before = pass_with (g.S.Space.contents c.args.self.now.objects) c.args.self.now (pending_from s names paths) in
+    declared_linked before _ _ _ s _ (unit_name c.args.seg) (object_view c.args.object) names c.requires c.in_ok-path.ensures.ok c.in_ok-put.ensures.objects
+    (unit_links (all_pending_of c.args.self.now.links.items) _ s names paths _ _ _ (ap (λ v. all_pending_of v.items) c.in_ok-put.ensures.links) c.in_ok-push.ensures.items c.in_ok-copy.ensures)
+    (ap notes_of c.in_ok-put.ensures.notes)

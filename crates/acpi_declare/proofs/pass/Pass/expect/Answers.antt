@@ -1,4 +1,4 @@
-use Rattle.std.proofs.Common.{◌≡◌, ◌≢◌, ◌∙◌, ◌==◌, [], ◌∷◌, Bool, true, cond, Some, Err, inr, ap, sym, rules, arith}
+use Rattle.std.proofs.Common.{◌≡◌, ◌≢◌, ◌∙◌, ◌==◌, [], ◌∷◌, Bool, true, cond, Some, Err, inr, ap, sym, rules}
 use Rattle.acpi_name.specs.Paths.{place_of}
 use Rattle.acpi_declare.specs.Notes.{notes_of}
 use Rattle.acpi_declare.specs.Sites.{step, expects}
