@@ -9,6 +9,7 @@ use Rattle.acpi_name.specs.Names.{Segment}
 use Rattle.acpi_name.specs.Paths.{path_cmp}
 use Rattle.acpi_space.proofs.Maps.{get_is_lookup}
 use Rattle.acpi_load.specs.Links.{links_at}
+use Rattle.acpins.specs.steps.Merging.{entries_in}
 
 lookup_mapped : {V W : Type 0} (f : V → W) (t : List Segment → Bool) (es : List (List Segment × V)) → lookup t (map (λ e. (e.0, f e.1)) es) ≡ option_map f (lookup t es)
 lookup_mapped f t [] = refl
@@ -21,3 +22,7 @@ lookup_mapped f t (e ∷ es) =
 pub links_answered : (m : BTreeMap (List Segment) (Vec (Option (List Segment)))) (p : List Segment) (o : Option (Vec (Option (List Segment))))
     → o ≡ lookup (λ k. is_eq (path_cmp p k)) m.entries → links_at m p ≡ option_map (λ v. v.items) o
 links_answered m p o e = get_is_lookup _ p ∙ lookup_mapped (λ v. v.items) _ m.entries ∙ ap (option_map (λ v. v.items)) (sym e)
+
+-- the same over the entries as links
+pub links_searched : (m : BTreeMap (List Segment) (Vec (Option (List Segment)))) (p : List Segment) → links_at m p ≡ lookup (λ k. is_eq (path_cmp p k)) (entries_in m)
+links_searched m p = get_is_lookup _ p

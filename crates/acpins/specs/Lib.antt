@@ -6,3 +6,4 @@ pub mod Failures
 pub mod FailureLines
 pub mod Told
 pub mod Runs
+pub mod steps
