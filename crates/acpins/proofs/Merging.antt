@@ -16,7 +16,7 @@ use Rattle.std.specs.FinMap.{is_sorted}
 use Rattle.std.specs.FinMap.Entries.{below_all}
 use Rattle.acpi_name.specs.Names.{Segment}
 use Rattle.acpi_name.specs.Paths.{path_cmp, path_cmp_total}
-use Rattle.acpi_load.specs.Loads.{Links}
+use Rattle.acpi_load.specs.Links.{Links}
 use Rattle.acpins.specs.steps.Merging.{LinksEntry, entries_in, links_ahead, left_ahead}
 
 abbrev pub Below : List Segment → List (List Segment) → Type 0

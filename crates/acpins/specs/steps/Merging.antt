@@ -6,7 +6,7 @@ use Rattle.std.specs.Global.{Vec}
 use denote.Ref.{Bor}
 use Rattle.acpi_name.specs.Names.{Segment}
 use Rattle.acpi_name.specs.Paths.{path_cmp}
-use Rattle.acpi_load.specs.Loads.{Links}
+use Rattle.acpi_load.specs.Links.{Links}
 
 -- a path and its links
 abbrev pub LinksEntry : Type 0
