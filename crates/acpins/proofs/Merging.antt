@@ -15,7 +15,8 @@ use Rattle.std.specs.Cmp.{IsTotalOrder}
 use Rattle.std.specs.FinMap.{is_sorted}
 use Rattle.std.specs.FinMap.Entries.{below_all}
 use Rattle.acpi_name.specs.Names.{Segment}
-use Rattle.acpi_name.specs.Paths.{path_cmp, path_cmp_total}
+use Rattle.acpi_name.specs.Paths.{path_cmp}
+use Rattle.acpi_name.specs.steps.PathOrder.{path_cmp_total}
 use Rattle.acpi_load.specs.Links.{Links}
 use Rattle.acpins.specs.steps.Merging.{LinksEntry, entries_in, links_ahead, left_ahead}
 
