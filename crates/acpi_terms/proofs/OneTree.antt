@@ -1,9 +1,9 @@
 -- At most one tree is spelled by some bytes.
 use Rattle.std.proofs.Common.{◌≡◌, ℕ, ◌+◌, List, [], Result, Ok, sym, ap, ◌∙◌, arith}
 use Rattle.acpi_tree.specs.Tree.{DataTree}
-use Rattle.acpi_terms.proofs.DataAgain.{data_complete}
-use Rattle.acpi_terms.proofs.FieldsAgain.{fields_complete}
-use Rattle.acpi_terms.proofs.ItemAgain.{code_complete}
+use Rattle.acpi_terms.proofs.DataTrees.{data_complete}
+use Rattle.acpi_terms.proofs.Fields.{fields_complete}
+use Rattle.acpi_terms.proofs.Items.{code_complete}
 use Rattle.acpi_terms.specs.Spelling.{data_height, items_height}
 use Rattle.acpi_terms.specs.steps.Reading.{Fault}
 use Rattle.acpi_terms.specs.Laws.{OneItemTree, OneDataTree, OneFieldList}

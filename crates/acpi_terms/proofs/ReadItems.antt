@@ -7,9 +7,8 @@ use Rattle.acpi_terms.specs.declared.fault.ItemFault.TheVariants as errors
 use Rattle.acpi_tree.specs.Tree.{ItemTrees}
 use Rattle.acpi_code.proofs.Readings.{Judge}
 use Rattle.acpi_terms.proofs.Fitting.{AreBytes, items_are_fit}
-use Rattle.acpi_terms.proofs.ItemAgain.{code_complete}
-use Rattle.acpi_terms.proofs.ItemTook.{code_sound}
-use Rattle.acpi_terms.proofs.NextTold.{next_told}
+use Rattle.acpi_terms.proofs.Items.{code_complete, code_sound}
+use Rattle.acpi_terms.proofs.Refusals.{next_told}
 use Rattle.acpi_terms.proofs.ShortOffsets.{offsets_fit}
 use Rattle.acpi_terms.specs.Faults.{Shows, Told, Refused, IsRefused, OrMemory}
 use Rattle.acpi_terms.specs.Spelling.{SpellsItems, items_height}

@@ -10,8 +10,7 @@ use Rattle.acpi_tree.specs.Tree.{FieldTree}
 use Rattle.acpi_code.proofs.Readings.{Judge, Front, Position, Source, Read}
 use Rattle.acpi_code.specs.Spelling.{SpellsInt}
 use Rattle.acpi_terms.proofs.Constants.{const_complete, const_sound}
-use Rattle.acpi_terms.proofs.FieldsAgain.{field_complete}
-use Rattle.acpi_terms.proofs.FieldsTook.{field_sound}
+use Rattle.acpi_terms.proofs.Fields.{field_complete, field_sound}
 use Rattle.acpi_terms.proofs.Parts.{Bad}
 use Rattle.acpi_terms.specs.Faults.{OrMemory, Shows, ToldOfElem}
 use Rattle.acpi_terms.specs.Spelling.{SpellsField}

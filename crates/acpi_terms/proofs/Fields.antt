@@ -1,6 +1,7 @@
--- Field elements that are spelled are read again.
-use Rattle.std.proofs.Common.{◌≡◌, ℕ, ◌<◌, true, false, eqb, ◌&&◌, List, [], ◌∷◌, ◌++◌, length, Ok, Err, refl, sym, ap, subst, ◌∙◌, append_assoc, arith}
+-- Field elements: what is spelled is read, what is read is spelled, or the fault is true.
+use Rattle.std.proofs.Common.{◌≡◌, ℕ, ◌<◌, true, false, eqb, ◌&&◌, List, [], ◌∷◌, ◌++◌, length, Ok, Err, refl, sym, ap, subst, ◌∙◌, append_assoc, arith, inl}
 use Rattle.std.proofs.lemmas.List.{append-nil}
+use Rattle.std.proofs.lemmas.Bool.{eqb-true}
 use Rattle.acpi_name.specs.Names.{NameParts, is_segment, is_lead_char, is_name_char}
 use Rattle.acpi_name.specs.Spelling.{SpellsName}
 use Rattle.acpi_name.proofs.NameAgain.{neq, name_again, name_long, lead_above, and_true}
@@ -8,12 +9,16 @@ use Rattle.acpi_name.proofs.NameFaults.{failed, ok_no_err}
 use Rattle.acpi_name.specs.declared.reading.NameFault.TheVariants.{BadChar}
 use Rattle.acpi_name.specs.steps.Reading.{segment_at, segments_at, path_at, relative_at, name_at}
 use Rattle.acpi_tree.specs.Tree.{FieldTree, unit, reserved, access, connect_name, connect_buffer, extended}
-use Rattle.acpi_code.proofs.Lists.{each_complete, all_at}
+use Rattle.acpi_code.proofs.Lists.{each_complete, all_at, all_sound}
 use Rattle.acpi_code.specs.steps.Reading.{byte_at}
-use Rattle.acpi_terms.proofs.Arguments.{plain_complete, packed_complete}
+use Rattle.acpi_terms.proofs.Arguments.{plain_complete, packed_complete, plain_sound, packed_sound}
 use Rattle.acpi_terms.specs.Forms.{name_arg, segment_arg, byte_arg, bits_arg, const_arg}
 use Rattle.acpi_terms.specs.Spelling.{SpellsArguments, SpellsField, SpellsFields}
 use Rattle.acpi_terms.specs.steps.Reading.{bytes_in, connect_at, connect_name_at, unit_at, field_at, fields_in}
+use Rattle.acpi_code.proofs.Readings.{Judge, judge_if, Position, Source, Read, position_after}
+use Rattle.acpi_terms.proofs.Parts.{Bad, cut_bad}
+
+-- ==== what is spelled is read
 
 -- ---- what begins with neither of the bytes 00 to 03, and with no 11
 
@@ -99,3 +104,36 @@ field_long (extended kind attribute len) a h = rw h.2 (omega arith)
 pub fields_complete : (es : List FieldTree) (end : ℕ) (b : List ℕ) → SpellsFields es b → fields_in end b ≡ Ok es
 fields_complete es end b h =
     all_at (field_at end) b es (each_complete SpellsField (field_at end) field_long (λ e a rest s. field_complete e end a rest s) es b h)
+
+-- ==== what is read is spelled
+
+-- the bytes behind 02
+connect_sound : (s : Source) (level end : ℕ) (bytes rest : List ℕ) → bytes ≡ 2 ∷ rest → Position s.depth level s.code end rest → Judge (Read s level end SpellsField bytes) (Bad s) (connect_at end rest)
+unfolding connect_at byte_at
+connect_sound s level end bytes [] is h = cut_bad s level end [] h
+connect_sound s level end bytes (b ∷ rest) is h =
+    judge_if (Read s level end SpellsField bytes) (Bad s) (eqb b 17) _ _
+    (λ is_buffer.
+    packed_sound s level end 0 (const_arg ∷ []) (λ v content. connect_buffer v.0 content) bytes_in (λ content b. b ≡ content) SpellsField bytes (2 ∷ 17 ∷ []) rest (is ∙ rw (eqb-true b 17 is_buffer) refl) (inl refl)
+    (λ v x front a b k le fills p. (a, b, k, fills, p)) (λ end b k. refl) (position_after s level end (b ∷ rest) (b ∷ []) rest refl h))
+    (λ is_name.
+    plain_sound s level end 0 (name_arg ∷ []) (λ v. connect_name v.0) SpellsField bytes (2 ∷ []) (b ∷ rest) is (inl refl) (λ v front k le. k) h)
+
+pub field_sound : (s : Source) (level end : ℕ) (bytes : List ℕ) → Position s.depth level s.code end bytes → Judge (Read s level end SpellsField bytes) (Bad s) (field_at end bytes)
+unfolding field_at byte_at
+field_sound s level end [] h = cut_bad s level end [] h
+field_sound s level end (b ∷ rest) h =
+    let G : FieldTree × List ℕ → Type 0 = Read s level end SpellsField (b ∷ rest) in
+    let behind = position_after s level end (b ∷ rest) (b ∷ []) rest refl h in
+    judge_if G (Bad s) (eqb b 0) _ _
+    (λ is. plain_sound s level end 0 (bits_arg ∷ []) (λ v. reserved v.0) SpellsField (b ∷ rest) (0 ∷ []) rest (rw (eqb-true b 0 is) refl) (inl refl) (λ v front k le. k) behind)
+    (λ not_0. judge_if G (Bad s) (eqb b 1) _ _
+    (λ is. plain_sound s level end 0 (byte_arg ∷ byte_arg ∷ []) (λ v. access v.0 v.1.0) SpellsField (b ∷ rest) (1 ∷ []) rest (rw (eqb-true b 1 is) refl) (inl refl) (λ v front k le. k) behind)
+    (λ not_1. judge_if G (Bad s) (eqb b 2) _ _
+    (λ is. connect_sound s level end (b ∷ rest) rest (rw (eqb-true b 2 is) refl) behind)
+    (λ not_2. judge_if G (Bad s) (eqb b 3) _ _
+    (λ is. plain_sound s level end 0 (byte_arg ∷ byte_arg ∷ byte_arg ∷ []) (λ v. extended v.0 v.1.0 v.1.1.0) SpellsField (b ∷ rest) (3 ∷ []) rest (rw (eqb-true b 3 is) refl) (inl refl) (λ v front k le. k) behind)
+    (λ not_3. plain_sound s level end 0 (segment_arg ∷ bits_arg ∷ []) (λ v. unit v.0 v.1.0) SpellsField (b ∷ rest) [] (b ∷ rest) refl (inl refl) (λ v front k le. k) h))))
+
+pub fields_sound : (s : Source) (level end : ℕ) (bytes : List ℕ) → Position s.depth level s.code end bytes → Judge (λ es. SpellsFields es bytes) (Bad s) (fields_in end bytes)
+fields_sound s level end bytes h = all_sound s level end SpellsField (Bad s) (field_at end) field_long (λ bytes k. field_sound s level end bytes k) bytes h

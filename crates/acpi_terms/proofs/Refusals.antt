@@ -7,7 +7,7 @@ use Rattle.acpi_code.specs.declared.opcode.Opcode.TheVariants as opcodes
 use Rattle.acpi_code.proofs.Lists.{StopsAt, stops_here, stops_behind}
 use Rattle.acpi_code.specs.Opcodes.{plain_opcode_of, extended_opcode_of, extended_opcode, first_opcode}
 use Rattle.acpi_code.specs.steps.Reading.{Reading, byte_at, extended_opcode_at, opcode_at}
-use Rattle.acpi_terms.proofs.ItemAgain.{item_long, item_complete}
+use Rattle.acpi_terms.proofs.Items.{item_long, item_complete}
 use Rattle.acpi_terms.specs.Faults.{refusal, Refused}
 use Rattle.acpi_terms.specs.Spelling.{SpellsItems, items_height}
 use Rattle.acpi_terms.specs.steps.Reading.{Fault, fault_at, item_by, items_with, item_at, items_at}
