@@ -12,5 +12,4 @@
 //! ```
 #![tactic(auto)]
 
-pub use acpi_declare::laws;
-pub use acpi_declare::{Declared, LoadFault, LoadReason, Refusal, declare, declare_shared};
+pub use acpi_declare::{Declared, LoadFault, LoadReason, Refusal, declare, declare_shared, laws};

@@ -14,9 +14,12 @@ use Rattle.acpins.proofs.listing.listed.Goals as goal
 pub loop-path-init : goal.loop-path-init
 loop-path-init g c =
     let links : IsOrdered path_cmp (links_in c.args.declared.now) = rw c.links.ensures at c.in_ok-linked.ensures.ordered in
-    let all : map entry_of c.in_ok-linked.linked.items ≡ entries_in (links_in c.args.declared.now) = rw c.links.ensures at c.in_ok-linked.ensures.all in
-    (omega arith, c.new-text.ensures.items, serves_all (λ p. (p.0, p.1.now)) c.deref-path-items.result.now (g.S.Space.contents (objects_in c.args.declared.now)) (links_in c.args.declared.now) _
-    (ap (map (λ p. (p.0, p.1.now))) c.deref-path-items.ensures.value ∙ c.in_ok-pairs.ensures ∙ ap (λ s. entries (g.S.Space.contents s)) c.objects.ensures) all links)
+    let all : map entry_of c.in_ok-linked.linked.items ≡ entries_in (links_in c.args.declared.now) = rw c.links.ensures at c.in_ok-linked.ensures.all in (
+      omega arith,
+      c.new-text.ensures.items,
+      serves_all (λ p. (p.0, p.1.now)) c.deref-path-items.result.now (g.S.Space.contents (objects_in c.args.declared.now)) (links_in c.args.declared.now) _
+          (ap (map (λ p. (p.0, p.1.now))) c.deref-path-items.ensures.value ∙ c.in_ok-pairs.ensures ∙ ap (λ s. entries (g.S.Space.contents s)) c.objects.ensures) all links,
+    )
 
 pub loop-path-preserved : goal.loop-path-preserved
 loop-path-preserved g c =
@@ -30,13 +33,14 @@ loop-path-preserved g c =
     let served = next_served known (λ p. p.0) items c.loop-path.path-index item es c.loop-path-test.true c.loop-path-item.is c.loop-path.invariant.2 in
     let own : c.links_from-count.result.0.now ≡ links_ahead (known item.0) item.0 es = rw (c.links-in-loop-path.ensures, c.deref.ensures.value, ahead_is entry_of linked read) at c.links_from-count.ensures.own in
     let left : map entry_of (drop (read + count) linked) ≡ left_ahead item.0 es =
-        left_is entry_of linked read count (left_ahead item.0 es) (rw c.deref.ensures.value at c.links_from-count.ensures.left ∙ ap (left_ahead item.0) (ahead_is entry_of linked read)) in
-    (left_fits linked read count c.loop-path.invariant.0 (rw c.deref.ensures.value at c.links_from-count.ensures.within),
-    c.in_ok-put_line.ensures
-    ∙ ap (λ o. c.loop-path.text.items ++ line_text item.0 (object_view item.1.now) o) (own ∙ served.0)
-    ∙ ap (λ l. l ++ line_text item.0 (object_view item.1.now) (unwrap_or (known item.0) [])) c.loop-path.invariant.1
-    ∙ sym (line_more (λ p. line_text p.0 (object_view p.1.now) (unwrap_or (known p.0) [])) items c.loop-path.path-index item c.loop-path-test.true c.loop-path-item.is),
-    rw left served.1)
+    left_is entry_of linked read count (left_ahead item.0 es) (rw c.deref.ensures.value at c.links_from-count.ensures.left ∙ ap (left_ahead item.0) (ahead_is entry_of linked read)) in (
+      left_fits linked read count c.loop-path.invariant.0 (rw c.deref.ensures.value at c.links_from-count.ensures.within),
+      c.in_ok-put_line.ensures
+          ∙ ap (λ o. c.loop-path.text.items ++ line_text item.0 (object_view item.1.now) o) (own ∙ served.0)
+          ∙ ap (λ l. l ++ line_text item.0 (object_view item.1.now) (unwrap_or (known item.0) [])) c.loop-path.invariant.1
+          ∙ sym (line_more (λ p. line_text p.0 (object_view p.1.now) (unwrap_or (known p.0) [])) items c.loop-path.path-index item c.loop-path-test.true c.loop-path-item.is),
+      rw left served.1,
+    )
 
 pub returns-clause-exact : goal.returns-clause-exact
 returns-clause-exact g c =
