@@ -1,5 +1,5 @@
 -- Entries that ascend are read beside paths that ascend as a search reads them.
-use Rattle.std.proofs.Common.{◌≡◌, ℕ, ◌+◌, ◌<◌, ◌≤◌, arith, length, drop, drop-cons, drop-drop, take, take_all, length-drop, le_of_eq, ◌-◌, ◌++◌, add-one, get_or, Bool, true, false, cond, List, [], ◌∷◌, map, Option, Some, None, refl, sym, ap, ◌∙◌, unwrap_or, Ordering, Less, Equal, Greater, is_eq, is_lt, T, ◌&&◌}
+use Rattle.std.proofs.Common.{◌≡◌, ℕ, ◌+◌, ◌<◌, ◌≤◌, arith, length, drop, drop-cons, drop-drop, take, take_all, length-drop, le_of_eq, ◌-◌, ◌++◌, add-one, get_or, Bool, true, false, List, [], ◌∷◌, map, Option, Some, None, refl, sym, ap, ◌∙◌, unwrap_or, Ordering, Less, Equal, Greater, is_eq, is_lt, T, ◌&&◌}
 use Rattle.std.specs.List.{AllByRecursion, flat_map, drop-map}
 use Rattle.std.specs.BTreeMap.{BTreeMap, IsOrdered}
 use Rattle.std.specs.Global.{Vec}
@@ -11,7 +11,6 @@ use Rattle.acpins.proofs.LinksAt.{links_searched}
 use Rattle.std.specs.List.Sorted.{IsStrictlySortedBy}
 use Rattle.std.specs.Map.{lookup}
 use Rattle.std.specs.Ordering.{match_ordering, ordering_reverse}
-use Rattle.std.specs.Cmp.{IsTotalOrder}
 use Rattle.std.specs.FinMap.{is_sorted}
 use Rattle.std.specs.FinMap.Entries.{below_all}
 use Rattle.acpi_name.specs.Names.{Segment}
