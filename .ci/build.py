@@ -49,23 +49,27 @@ def prove(crate, jobs):
         return status, crate.out.read()
 
 
-def lines_behind(crate, crates):
+def chain(crate, crates):
     """The lines of the longest chain of crates that begins with this one and goes up."""
-    above = [lines_behind(it, crates) for it in crates if crate in it.deps]
+    above = [chain(it, crates) for it in crates if crate in it.deps]
     return crate.count(rb"\n") + max(above, default=0)
 
 
 def prove_all(crates, steps, processors):
-    """Proves the libraries. The longest chain goes first and takes all processors, the others one each."""
-    left = sorted((it for it in crates if not it.is_built()), key=lambda it: -lines_behind(it, crates))
+    """Proves the libraries, at most as many at once as there are processors. The one with the longest chain of
+    others behind it may use all processors, each other one only one."""
+    length = {it: chain(it, crates) for it in crates}
+    left = sorted((it for it in crates if not it.is_built()), key=lambda it: -length[it])
     done, running = [it for it in crates if it not in left], {}
     with ThreadPoolExecutor(processors) as pool:
         while left or running:
-            for crate in [it for it in left if all(dep in done for dep in it.deps)][: processors - len(running)]:
+            ready = [it for it in left if all(dep in done for dep in it.deps)]
+            for crate in ready[: processors - len(running)]:
                 steps["begun"] += 1
                 say(f"proving {crate.name}, {steps['begun']} of {steps['all']}, {so_far()}")
+                is_longest = all(length[it] < length[crate] for it in running.values())
                 left.remove(crate)
-                running[pool.submit(prove, crate, 1 if running else processors)] = crate
+                running[pool.submit(prove, crate, processors if is_longest else 1)] = crate
             for ended in wait(running, return_when=FIRST_COMPLETED).done:
                 crate, (status, said) = running.pop(ended), ended.result()
                 if status:
@@ -93,12 +97,12 @@ def build_program(processors):
             os.utime(file)
 
 
-def main():
-    signal.signal(signal.SIGINT, signal.SIG_DFL)
+def prove_libraries(processors):
+    """Proves what the program stands on, and gives the number of the program among the crates that were to be proved."""
     library = rt_library()
     os.chdir(PROGRAM)
     program = library.Crate(PROGRAM, TOP, {})
-    crates, processors = program.below(), len(os.sched_getaffinity(0))
+    crates = program.below()
     held = library.lock([*crates, program])
     todo = [it for it in crates if not it.is_built()]
     steps = {"all": len(todo) + 1, "begun": 0}
@@ -107,7 +111,17 @@ def main():
     prove_all(crates, steps, processors)
     for it in held:
         os.close(it)
-    say(f"proving and building acpins, {steps['all']} of {steps['all']}, {so_far()}")
+    return steps["all"]
+
+
+def main():
+    signal.signal(signal.SIGINT, signal.SIG_DFL)
+    processors = len(os.sched_getaffinity(0))
+    try:
+        number = prove_libraries(processors)
+        say(f"proving and building acpins, {number} of {number}, {so_far()}")
+    except (AttributeError, TypeError) as error:
+        say(f"this kit's rt has other parts ({error}): proving one crate after another, {so_far()}")
     build_program(processors)
     say(f"acpins is built, {so_far()}")
 
