@@ -47,16 +47,16 @@ impl<'a> Code<'a> {
         }
     }
 
-    /// All of the code, which `shared` holds too, so that shares of it take no copy.
-    pub fn shared(code: &'a [u8], shared: &'a Bytes) -> Code<'a>
-        requires { shared.now ≡ code.now }
+    /// All of the code, whose shares take no copy.
+    pub fn shared(code: &'a Bytes) -> Code<'a>
         ensures bytes { result.bytes ≡ code.now }
         ensures ends { result.end ≡ length code.now }
     {
+        let left = code.as_slice();
         Code {
-            left: code,
-            end: code.len(),
-            shared: Some(shared),
+            left,
+            end: left.len(),
+            shared: Some(code),
         }
     }
 

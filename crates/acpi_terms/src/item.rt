@@ -165,7 +165,7 @@ fn all_items(alloc: Global, depth: u32, shared: &Bytes, code: &[u8]) -> Result<V
     ensures offsets { length code.now ≤ 16777216 → IfOk result (λ v. OffsetsFit (items_tree v.items)) }
     ensures exact { Gives (λ v. items_tree v.items) result (items_at depth code.now) }
 {
-    items(alloc, depth, &mut Code::shared(code, shared))
+    items(alloc, depth, &mut Code::shared(shared))
 }
 
 /// The module-level terms that the code spells, all of it, with at most `depth` levels (ACPI 6.5, 20.2.5). The
