@@ -8,12 +8,15 @@
 //! ```
 #![tactic(auto)]
 
-ghost use Rattle.std.specs.Prelude.{◌≡◌, ◌≤◌, OnOk, OnErr};
+ghost use Rattle.std.specs.Prelude.{◌≡◌, ◌≤◌, OnOk, OnErr, IfOk};
 ghost use Rattle.std.specs.FinMap as finite;
+ghost use Rattle.acpi_name.specs.NameRefs.{name_parts};
+ghost use Rattle.acpi_space.specs.Spaces.{is_defined};
+ghost use Rattle.acpi_space.specs.Search.{answer};
 ghost use Rattle.acpi_counts.specs.Counts.{AreSmall, with_first};
 
-use acpi_name::Path;
-use acpi_space::{MapSpace, Refused, Space};
+use acpi_name::{NameRef, Path};
+use acpi_space::{Found, MapSpace, Refused, SearchFault, Space, search};
 use std::alloc::{AllocError, Global};
 use std::marker::Model;
 
@@ -67,6 +70,24 @@ impl Counts {
             Ok(()) => Ok(()),
             Err(Refused::Taken(_)) => Ok(()),
             Err(Refused::Memory(_)) => Err(AllocError),
+        }
+    }
+
+    /// The path that a name means among those that have counts, as a search finds it in a namespace (ACPI 6.5,
+    /// 5.3). None where the search has no answer.
+    pub fn find(
+        &self,
+        alloc: Global,
+        scope: &Path,
+        name: NameRef<'_>,
+    ) -> Result<Option<Path>, AllocError>
+        ensures { IfOk result (λ p. p ≡ answer (is_defined self.now) scope.now (name_parts name.entry)) }
+    {
+        match search(alloc, &self.map, scope, name) {
+            Ok(Found::At(path)) => Ok(Some(path)),
+            Ok(Found::Missing) => Ok(None),
+            Err(SearchFault::AboveRoot) => Ok(None),
+            Err(SearchFault::Memory) => Err(AllocError),
         }
     }
 }

@@ -1,0 +1,17 @@
+pub mod Parts
+pub mod Overlaid
+pub mod InOrder
+pub mod Opened
+pub mod Plain
+pub mod Stated
+pub mod Branches
+pub mod Allowed
+pub mod Places
+pub mod TermComplete
+pub mod TermSound
+pub mod Fields
+pub mod StatementComplete
+pub mod StatementSound
+pub mod Next
+pub mod Kept
+pub mod ReadBodies

@@ -1,0 +1,93 @@
+-- What the faults of places and of parts show of a body.
+use Rattle.std.proofs.Common.{◌≡◌, ℕ, ◌-◌, Bool, true, false, cond, Option, Some, None, List, ◌++◌, length, drop, Result, Ok, Err, refl, sym, ap, ◌∙◌, inl, inr}
+use Rattle.acpi_name.specs.Names.{Segment}
+use Rattle.acpi_tree.specs.Operators.{is_expression, is_reference}
+use Rattle.acpi_tree.specs.declared.place.Place.{Place}
+use Rattle.acpi_tree.specs.declared.place.Place.TheVariants.{Value, SuperName, SimpleName, Element, Data, Statement}
+use Rattle.acpi_code.specs.declared.fault.CodeFault.{CodeFault}
+use Rattle.acpi_code.specs.declared.fault.CodeReason.{CodeReason}
+use Rattle.acpi_code.specs.declared.fault.CodeReason.TheVariants as codes
+use Rattle.acpi_code.specs.declared.opcode.Opcode.{Opcode}
+use Rattle.acpi_code.specs.declared.opcode.Opcode.TheVariants as opcodes
+use Rattle.acpi_code.specs.Opcodes.{first_opcode}
+use Rattle.acpi_code.specs.Faults.{ShowsPart}
+use Rattle.acpi_code.proofs.Readings.{Judge, Source, Position, Shown, stands_at}
+use Rattle.acpi_code.proofs.Opcodes.{Opened}
+use Rattle.acpi_body.specs.declared.fault.BodyReason.{BodyReason}
+use Rattle.acpi_body.specs.declared.fault.BodyReason.TheVariants.{BadOpcode, NotStatement, NotValue, NotTarget, LeftOut, NotData}
+use Rattle.acpi_body.specs.declared.fault.BodyFault.{BodyFault}
+use Rattle.acpi_body.specs.Refusals.{simple_name_refusal, super_name_refusal, data_refusal, refusal_at}
+use Rattle.acpi_body.specs.Faults.{reason_of, fault_of, IsMisplaced, Shows}
+use Rattle.acpi_body.specs.steps.Reading.{part, unless}
+
+-- ---- parts
+
+-- what a fault shows of the body of a method at a path
+abbrev pub Bad : List Segment → Source → BodyFault → Type 0
+Bad m s f = Shows m s.depth s.code f.reason f.place
+
+part_shows : (m : List Segment) (depth : ℕ) (code : List ℕ) (why : CodeReason) (place : ℕ) → ShowsPart depth code why place → Shows m depth code (reason_of why) place
+part_shows m depth code codes.Cut place h = h
+part_shows m depth code codes.ReservedBits place h = h
+part_shows m depth code codes.BadName place h = h
+part_shows m depth code codes.Overrun place h = h
+part_shows m depth code codes.BadString place h = h
+part_shows m depth code codes.TooDeep place h = h
+
+pub part_bad : (m : List Segment) (s : Source) (f : CodeFault) → Shown s f → Bad m s (fault_of f)
+part_bad m s f h = part_shows m s.depth s.code f.reason f.place h
+
+-- what is judged of a part is judged of it in a body
+pub part_sound : {A : Type 0} (m : List Segment) (s : Source) (Good : A → Type 0) (r : Result A CodeFault) → Judge Good (Shown s) r → Judge Good (Bad m s) (part r)
+part_sound m s Good (Ok x) h = h
+part_sound m s Good (Err f) h = part_bad m s f h
+
+-- ---- the reasons of places
+
+abbrev of_place : Option BodyReason → Bool
+of_place None = true
+of_place (Some BadOpcode) = true
+of_place (Some NotStatement) = true
+of_place (Some NotValue) = true
+of_place (Some NotTarget) = true
+of_place (Some LeftOut) = true
+of_place (Some NotData) = true
+of_place (Some _) = false
+
+either : (t : Bool) (x y : Option BodyReason) → of_place x ≡ true → of_place y ≡ true → of_place (cond t x y) ≡ true
+either true x y h k = h
+either false x y h k = k
+
+refusals : (p : Place) (o : Opcode) → of_place (refusal_at p o) ≡ true
+refusals Value (opcodes.Operator op) = either (is_expression op) None (Some NotValue) refl refl
+refusals Value _ = refl
+refusals SuperName (opcodes.Operator op) = either (is_reference op) None (Some NotTarget) refl refl
+refusals SuperName _ = refl
+refusals SimpleName opcodes.Name = refl
+refusals SimpleName _ = refl
+refusals Element opcodes.Name = refl
+refusals Element _ = refl
+refusals Data opcodes.Str = refl
+refusals Data _ = refl
+refusals Statement opcodes.Str = refl
+refusals Statement _ = refl
+
+shows_misplaced : (m : List Segment) (s : Source) (why : BodyReason) (place : ℕ) → of_place (Some why) ≡ true → IsMisplaced why (drop place s.code) → Shows m s.depth s.code why place
+shows_misplaced m s BadOpcode place e h = h
+shows_misplaced m s NotStatement place e h = h
+shows_misplaced m s NotValue place e h = h
+shows_misplaced m s NotTarget place e h = h
+shows_misplaced m s LeftOut place e h = h
+shows_misplaced m s NotData place e h = inl h
+shows_misplaced m s _ place e h = absurd cc
+
+-- what begins there is refused at the place, or is judged where it isn't
+pub unless_sound : {A : Type 0} (m : List Segment) (s : Source) (level end : ℕ) (bytes : List ℕ) (p : Place) (x : Opcode × List ℕ) (Good : A → Type 0) (r : Result A BodyFault) → Position s.depth level s.code end bytes → Opened bytes x
+    → (refusal_at p x.0 ≡ None → Judge Good (Bad m s) r) → Judge Good (Bad m s) (unless (refusal_at p x.0) end bytes r)
+unless_sound m s level end bytes p x Good r h o k = by_refusal (refusal_at p x.0) refl
+  where
+    by_refusal : (w : Option BodyReason) → refusal_at p x.0 ≡ w → Judge Good (Bad m s) (unless w end bytes r)
+    by_refusal None is = k is
+    by_refusal (Some why) is =
+        shows_misplaced m s why (end - length bytes) (ap of_place (sym is) ∙ refusals p x.0)
+        (record { kind = p; opcode = x.0; begins = ap first_opcode (stands_at s level end bytes h) ∙ o.is_opcode h.after; refused = is })

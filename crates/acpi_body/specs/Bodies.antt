@@ -1,0 +1,22 @@
+-- A method body: its terms, or its bytes where no terms stand for them.
+use Rattle.std.specs.Prelude.{◌≡◌, ℕ, List}
+use Rattle.acpi_name.specs.Names.{Segment}
+use Rattle.acpi_tree.specs.Terms.{TermTrees}
+use Rattle.acpi_tree.specs.TermView.{terms_tree}
+use Rattle.acpi_body.specs.Arguments.{Arguments}
+use Rattle.acpi_body.specs.Statements.{Reads}
+use Rattle.acpi_body.specs.declared.body.Body.{Body}
+use Rattle.acpi_body.specs.declared.body.Body.TheVariants.{Terms, Opaque}
+
+pub data BodyTree : Type 0 where
+  read : TermTrees → BodyTree
+  unread : List ℕ → BodyTree
+
+abbrev pub body_view : Body → BodyTree
+body_view (Terms v) = read (terms_tree v.items)
+body_view (Opaque v) = unread v.items
+
+-- what the bytes are: their one reading, or the bytes themselves where they have none
+abbrev pub IsBodyOf : Arguments → List Segment → ℕ → List ℕ → BodyTree → Type 0
+IsBodyOf args s depth bytes (read ts) = Reads args s depth bytes ts
+IsBodyOf args s depth bytes (unread kept) = (kept ≡ bytes) × ((ts : TermTrees) → ¬ Reads args s depth bytes ts)

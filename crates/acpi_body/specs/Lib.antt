@@ -1,0 +1,10 @@
+pub mod Arguments
+pub mod Spelling
+pub mod Fields
+pub mod Statements
+pub mod Refusals
+pub mod Faults
+pub mod Bodies
+pub mod Searches
+pub mod Laws
+pub mod steps

@@ -1,0 +1,82 @@
+-- The bytes that spell a term of a method body, given how many values follow each name (ACPI 6.5, 20.2.5).
+use Rattle.std.specs.Prelude.{◌≡◌, ◌+◌, ◌≤◌, ℕ, zero, suc, max, true, List, [], ◌∷◌, ◌++◌}
+use Rattle.acpi_name.specs.Names.{NameParts}
+use Rattle.acpi_tree.specs.declared.place.Place.{Place}
+use Rattle.acpi_tree.specs.declared.place.Place.TheVariants.{Value, Element}
+use Rattle.acpi_tree.specs.declared.place.OperandKind.{OperandKind}
+use Rattle.acpi_tree.specs.declared.place.OperandKind.TheVariants.{At}
+use Rattle.acpi_tree.specs.Terms.{TermTree, TermTrees, int, str, buffer, pkg, var_pkg, local, arg, debug, no_target, raw, ref, call, apply, ElseTree, if_do, no_else, else_do, while_do, declare, declare_units, no_terms, more}
+use Rattle.acpi_tree.specs.Operators.{operands_of}
+use Rattle.acpi_tree.specs.Places.{may_stand, may_be}
+use Rattle.acpi_code.specs.Opcodes.{operator_bytes}
+use Rattle.acpi_code.specs.Spelling.{SpellsNumber, SpellsInt, SpellsTermName, SpellsText, Packs}
+
+-- the term may stand at the place
+abbrev pub Stands : Place → TermTree → Type 0
+Stands place t = may_stand place t ≡ true
+
+-- the term may be that operand
+abbrev pub StandsFor : OperandKind → TermTree → Type 0
+StandsFor kind t = may_be kind t ≡ true
+
+-- so many values
+abbrev pub values : ℕ → List OperandKind
+values zero = []
+values (suc n) = At Value ∷ values n
+
+-- Terms that are no blocks and no declarations: DataObject, Locals, Args, DebugObj, a name where it is never
+-- a call, a call and its arguments, an operator and its operands.
+abbrev mutual
+  pub Spells : (NameParts → ℕ) → TermTree → List ℕ → Type 0
+  Spells args (int i) bytes = SpellsInt i bytes
+  Spells args (str text) bytes = (b : List ℕ) × SpellsText text b × (bytes ≡ 0x0D ∷ b)
+  Spells args (buffer size content) bytes = (s : List ℕ) × Stands Value size × Spells args size s × Packs (0x11 ∷ []) (s ++ content) bytes
+  Spells args (pkg count es) bytes = (b : List ℕ) × AreElements args es b × Packs (0x12 ∷ []) (count ∷ b) bytes
+  Spells args (var_pkg count es) bytes = (s : List ℕ) × (b : List ℕ) × Stands Value count × Spells args count s × AreElements args es b × Packs (0x13 ∷ []) (s ++ b) bytes
+  Spells args (local n) bytes = (bytes ≡ (n + 0x60) ∷ []) × (n ≤ 7)
+  Spells args (arg n) bytes = (bytes ≡ (n + 0x68) ∷ []) × (n ≤ 6)
+  Spells args debug bytes = bytes ≡ 0x5B ∷ 0x31 ∷ []
+  Spells args no_target bytes = bytes ≡ 0x00 ∷ []
+  Spells args (raw k n) bytes = SpellsNumber k n bytes
+  Spells args (ref n) bytes = SpellsTermName n bytes
+  Spells args (call n vs) bytes = (w : List ℕ) × (x : List ℕ) × SpellsTermName n w × AreOperands args (values (args n)) vs x × (bytes ≡ w ++ x)
+  Spells args (apply op vs) bytes = (x : List ℕ) × AreOperands args (operands_of op) vs x × (bytes ≡ operator_bytes op ++ x)
+  Spells args _ bytes = ⊥
+
+  -- they are operands of these kinds, in order
+  pub AreOperands : (NameParts → ℕ) → List OperandKind → TermTrees → List ℕ → Type 0
+  AreOperands args [] no_terms bytes = bytes ≡ []
+  AreOperands args (k ∷ ks) (more t ts) bytes = (a : List ℕ) × (b : List ℕ) × StandsFor k t × Spells args t a × AreOperands args ks ts b × (bytes ≡ a ++ b)
+  AreOperands args _ _ bytes = ⊥
+
+  -- the elements of a package
+  pub AreElements : (NameParts → ℕ) → TermTrees → List ℕ → Type 0
+  AreElements args no_terms bytes = bytes ≡ []
+  AreElements args (more t ts) bytes = (a : List ℕ) × (b : List ℕ) × Stands Element t × Spells args t a × AreElements args ts b × (bytes ≡ a ++ b)
+
+-- ---- heights
+-- A term has a level more than the highest term in it. Raw operands, the byte 00 for no target, names and field
+-- elements have no level. The statements of an Else have the level of those of its If.
+
+abbrev mutual
+  pub height : TermTree → ℕ
+  height (buffer size content) = suc (height size)
+  height (pkg count es) = suc (heights es)
+  height (var_pkg count es) = suc (max (height count) (heights es))
+  height (call n vs) = suc (heights vs)
+  height (apply op vs) = suc (heights vs)
+  height (if_do v ts e) = suc (max (height v) (max (heights ts) (else_height e)))
+  height (while_do v ts) = suc (max (height v) (heights ts))
+  height (declare form before n behind) = suc (max (heights before) (heights behind))
+  height (declare_units form ns vs es) = suc (heights vs)
+  height (raw k n) = 0
+  height no_target = 0
+  height _ = 1
+
+  pub else_height : ElseTree → ℕ
+  else_height no_else = 0
+  else_height (else_do ts) = heights ts
+
+  pub heights : TermTrees → ℕ
+  heights no_terms = 0
+  heights (more t ts) = max (height t) (heights ts)

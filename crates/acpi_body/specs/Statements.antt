@@ -1,0 +1,110 @@
+-- The bytes that spell the statements of a method body, and the paths that they declare (ACPI 6.5, 20.2.5).
+use Rattle.std.specs.Prelude.{◌≡◌, ◌<◌, ◌≤◌, ℕ, List, [], ◌∷◌, ◌++◌, length, Option, Some, None}
+use Rattle.std.specs.FinMap as finite
+use Rattle.acpi_name.specs.Names.{Segment, NameParts}
+use Rattle.acpi_name.specs.Paths.{place_of}
+use Rattle.acpi_name.specs.Spelling.{SpellsName}
+use Rattle.acpi_tree.specs.declared.place.Place.TheVariants.{Value, Statement}
+use Rattle.acpi_tree.specs.declared.place.NamedForm.{NamedForm}
+use Rattle.acpi_tree.specs.declared.place.NamedForm.TheVariants as named
+use Rattle.acpi_tree.specs.declared.place.UnitsForm.{UnitsForm}
+use Rattle.acpi_tree.specs.declared.place.UnitsForm.TheVariants as units
+use Rattle.acpi_tree.specs.Tree.{FieldTree, unit}
+use Rattle.acpi_tree.specs.Terms.{TermTree, TermTrees, ElseTree, if_do, no_else, else_do, while_do, declare, declare_units, no_terms, more}
+use Rattle.acpi_tree.specs.Operators.{operands_before, operands_behind, names_of_units, operands_of_units}
+use Rattle.acpi_code.specs.declared.opcode.Opcode.{Opcode}
+use Rattle.acpi_code.specs.declared.opcode.Opcode.TheVariants as opcodes
+use Rattle.acpi_code.specs.Opcodes.{opcode_bytes}
+use Rattle.acpi_code.specs.Spelling.{SpellsEach, Packs}
+use Rattle.acpi_body.specs.Arguments.{Locals, with_local, Arguments}
+use Rattle.acpi_body.specs.Spelling.{Stands, Spells, AreOperands, heights}
+use Rattle.acpi_body.specs.Fields.{SpellsFields}
+
+-- ---- declarations (20.2.5.1 and 20.2.5.2)
+
+abbrev pub named_opcode : NamedForm → Opcode
+named_opcode named.Name = opcodes.DeclareName
+named_opcode (named.Create w) = opcodes.Create w
+named_opcode named.CreateField = opcodes.CreateField
+named_opcode named.Region = opcodes.Region
+named_opcode named.Mutex = opcodes.Mutex
+named_opcode named.Event = opcodes.Event
+
+abbrev pub units_opcode : UnitsForm → Opcode
+units_opcode units.Field = opcodes.Field
+units_opcode units.IndexField = opcodes.IndexField
+units_opcode units.BankField = opcodes.BankField
+
+-- the name can be declared: it has segments, and a place in the scope
+pub record MayDeclare (s : List Segment) (n : NameParts) : Type 0 where
+  pub path : List Segment
+  pub place : place_of s n ≡ Some path
+  pub some : 0 < length n.segments
+
+-- ---- what a term declares
+
+abbrev pub with_place : Locals → Option (List Segment) → Locals
+with_place locals None = locals
+with_place locals (Some p) = with_local locals p
+
+-- each named element of a field list stands in the method's path
+abbrev pub locals_after_unit : List Segment → Locals → FieldTree → Locals
+locals_after_unit s locals (unit g bits) = with_local locals (s ++ g ∷ [])
+locals_after_unit s locals _ = locals
+
+abbrev pub locals_after_units : List Segment → Locals → List FieldTree → Locals
+locals_after_units s locals [] = locals
+locals_after_units s locals (e ∷ es) = locals_after_units s (locals_after_unit s locals e) es
+
+-- the paths that the body has declared behind a term; they stay behind the block in which it stands
+abbrev mutual
+  pub locals_after : List Segment → Locals → TermTree → Locals
+  locals_after s locals (if_do v ts e) = locals_after_else s (locals_after_all s locals ts) e
+  locals_after s locals (while_do v ts) = locals_after_all s locals ts
+  locals_after s locals (declare form before n behind) = with_place locals (place_of s n)
+  locals_after s locals (declare_units form ns vs es) = locals_after_units s locals es
+  locals_after s locals _ = locals
+
+  pub locals_after_else : List Segment → Locals → ElseTree → Locals
+  locals_after_else s locals no_else = locals
+  locals_after_else s locals (else_do ts) = locals_after_all s locals ts
+
+  pub locals_after_all : List Segment → Locals → TermTrees → Locals
+  locals_after_all s locals no_terms = locals
+  locals_after_all s locals (more t ts) = locals_after_all s (locals_after s locals t) ts
+
+-- ---- statements
+
+-- DefIfElse, DefWhile, the declarations, and the other terms where a statement stands. Each name is followed by as
+-- many values as `args` says behind what was declared before it. No statement begins with ElseOp, so an Else belongs to
+-- the If before it.
+abbrev mutual
+  pub IsStatement : Arguments → List Segment → Locals → TermTree → List ℕ → Type 0
+  IsStatement args s locals (if_do v ts e) bytes = (a : List ℕ) × (b : List ℕ) × (x : List ℕ) × (y : List ℕ)
+      × Stands Value v × Spells (args locals) v a × AreStatements args s locals ts b × Packs (0xA0 ∷ []) (a ++ b) x
+      × IsElse args s (locals_after_all s locals ts) e y × (bytes ≡ x ++ y)
+  IsStatement args s locals (while_do v ts) bytes = (a : List ℕ) × (b : List ℕ)
+      × Stands Value v × Spells (args locals) v a × AreStatements args s locals ts b × Packs (0xA2 ∷ []) (a ++ b) bytes
+  IsStatement args s locals (declare form before n behind) bytes = (a : List ℕ) × (b : List ℕ) × (c : List ℕ)
+      × AreOperands (args locals) (operands_before form) before a × MayDeclare s n × SpellsName n b × AreOperands (args locals) (operands_behind form) behind c
+      × (bytes ≡ opcode_bytes (named_opcode form) ++ (a ++ (b ++ c)))
+  IsStatement args s locals (declare_units form ns vs es) bytes = (a : List ℕ) × (b : List ℕ) × (c : List ℕ)
+      × (length ns ≡ names_of_units form) × SpellsEach SpellsName ns a × AreOperands (args locals) (operands_of_units form) vs b × SpellsFields es c
+      × Packs (opcode_bytes (units_opcode form)) (a ++ (b ++ c)) bytes
+  IsStatement args s locals t bytes = Stands Statement t × Spells (args locals) t bytes
+
+  pub IsElse : Arguments → List Segment → Locals → ElseTree → List ℕ → Type 0
+  IsElse args s locals no_else bytes = bytes ≡ []
+  IsElse args s locals (else_do ts) bytes = (b : List ℕ) × AreStatements args s locals ts b × Packs (0xA1 ∷ []) b bytes
+
+  pub AreStatements : Arguments → List Segment → Locals → TermTrees → List ℕ → Type 0
+  AreStatements args s locals no_terms bytes = bytes ≡ []
+  AreStatements args s locals (more t ts) bytes = (a : List ℕ) × (b : List ℕ)
+      × IsStatement args s locals t a × AreStatements args s (locals_after s locals t) ts b × (bytes ≡ a ++ b)
+
+-- ---- bodies
+
+-- the bytes of the body of a method at the path `s` are these statements, none of them deeper than `depth`
+pub record Reads (args : Arguments) (s : List Segment) (depth : ℕ) (bytes : List ℕ) (ts : TermTrees) : Type 0 where
+  pub spelled : AreStatements args s finite.empty ts bytes
+  pub within : heights ts ≤ depth

@@ -1,0 +1,4 @@
+pub mod Reading
+pub mod Cursor
+pub mod Setting
+pub mod Answers

@@ -1,0 +1,342 @@
+-- Reading a method body from left to right, up to the first fault (ACPI 6.5, 20.2.5), over the readings of parts.
+use Rattle.std.specs.Prelude.{◌-◌, ℕ, zero, suc, Bool, true, false, List, [], ◌∷◌, length, Option, Some, None, Result, Ok, Err, ◌==◌, if◌then◌else◌}
+use Rattle.acpi_name.specs.Names.{Segment, NameParts}
+use Rattle.acpi_name.specs.Paths.{place_of}
+use Rattle.acpi_tree.specs.declared.tree.Int.{Int}
+use Rattle.acpi_tree.specs.declared.op.Op.{Op}
+use Rattle.acpi_tree.specs.declared.place.Place.{Place}
+use Rattle.acpi_tree.specs.declared.place.Place.TheVariants.{Value, SuperName, SimpleName, Element, Data, Statement}
+use Rattle.acpi_tree.specs.declared.place.OperandKind.{OperandKind}
+use Rattle.acpi_tree.specs.declared.place.OperandKind.TheVariants.{At, Target, Byte, Word, DWord}
+use Rattle.acpi_tree.specs.declared.place.NamedForm.{NamedForm}
+use Rattle.acpi_tree.specs.declared.place.NamedForm.TheVariants as named
+use Rattle.acpi_tree.specs.declared.place.UnitsForm.{UnitsForm}
+use Rattle.acpi_tree.specs.declared.place.UnitsForm.TheVariants as units
+use Rattle.acpi_tree.specs.Tree.{FieldTree, unit, reserved, access, connect_name, connect_buffer, extended}
+use Rattle.acpi_tree.specs.Terms.{TermTree, TermTrees, int, str, buffer, pkg, var_pkg, local, arg, debug, no_target, raw, ref, call, apply, ElseTree, if_do, no_else, else_do, while_do, declare, declare_units, no_terms, more, terms_of}
+use Rattle.acpi_tree.specs.Operators.{operands_of, operands_before, operands_behind, names_of_units, operands_of_units}
+use Rattle.acpi_code.specs.declared.fault.CodeFault.{CodeFault}
+use Rattle.acpi_code.specs.declared.opcode.ConstantForm.{ConstantForm}
+use Rattle.acpi_code.specs.declared.opcode.Opcode.{Opcode}
+use Rattle.acpi_code.specs.declared.opcode.Opcode.TheVariants as opcodes
+use Rattle.acpi_code.specs.steps.Reading.{◌>>=◌, Reading, each_at, no_level, byte_at, number_at, length_in, package_at, name_in, segment_in, opcode_at, constant_at, string_at}
+use Rattle.acpi_body.specs.declared.fault.BodyReason.{BodyReason}
+use Rattle.acpi_body.specs.declared.fault.BodyReason.TheVariants.{NotStatement, NotData, BadPlace}
+use Rattle.acpi_body.specs.declared.fault.BodyFault.{BodyFault}
+use Rattle.acpi_body.specs.Arguments.{Locals, Arguments}
+use Rattle.acpi_body.specs.Spelling.{values}
+use Rattle.acpi_body.specs.Statements.{locals_after, locals_after_all}
+use Rattle.acpi_body.specs.Refusals.{refusal_at}
+use Rattle.acpi_body.specs.Faults.{fault_of}
+
+-- ---- faults
+
+-- the fault whose place is the first of these bytes, or their end
+abbrev pub fault_at : ℕ → List ℕ → BodyReason → BodyFault
+fault_at end bytes why = record { reason = why; place = end - length bytes }
+
+-- the reading of a part, with its fault as one of bodies
+abbrev pub part : {A : Type 0} → Result A CodeFault → Result A BodyFault
+part (Ok x) = Ok x
+part (Err f) = Err (fault_of f)
+
+-- ---- operands
+
+-- a reader of what stands at a place
+abbrev pub Reader : Type 0
+Reader = Place → ℕ → List ℕ → Reading BodyFault TermTree
+
+abbrev pub as_raw : ℕ → Reading CodeFault ℕ → Reading BodyFault TermTree
+as_raw k read = part read >>= λ n. Ok (raw k n.0, n.1)
+
+-- the byte 00 is no target, and has no level
+abbrev pub target_at : Reader → ℕ → List ℕ → Reading BodyFault TermTree
+target_at inner end [] = inner SuperName end []
+target_at inner end (b ∷ rest) = if b == 0x00 then Ok (no_target, rest) else inner SuperName end (b ∷ rest)
+
+unfoldable pub operand_at : Reader → OperandKind → ℕ → List ℕ → Reading BodyFault TermTree
+operand_at inner (At place) end bytes = inner place end bytes
+operand_at inner Target end bytes = target_at inner end bytes
+operand_at inner Byte end bytes = as_raw 1 (byte_at end bytes)
+operand_at inner Word end bytes = as_raw 2 (number_at 2 end bytes)
+operand_at inner DWord end bytes = as_raw 4 (number_at 4 end bytes)
+
+-- one operand of each kind, in order
+unfoldable pub operands_at : Reader → List OperandKind → ℕ → List ℕ → Reading BodyFault (List TermTree)
+operands_at inner [] end bytes = Ok ([], bytes)
+operands_at inner (k ∷ ks) end bytes = do
+  v ← operand_at inner k end bytes
+  vs ← operands_at inner ks end v.1
+  Ok (v.0 ∷ vs.0, vs.1)
+
+-- ---- terms, behind their opcodes
+
+unfoldable pub constant_form : ConstantForm → ℕ → List ℕ → Reading BodyFault TermTree
+constant_form form end bytes = do
+  i ← part (constant_at form end bytes)
+  Ok (int i.0, i.1)
+
+unfoldable pub string_form : ℕ → List ℕ → Reading BodyFault TermTree
+string_form end bytes = do
+  s ← part (string_at end bytes)
+  Ok (str s.0, s.1)
+
+unfoldable pub buffer_form : Reader → ℕ → List ℕ → Reading BodyFault TermTree
+buffer_form inner end bytes = do
+  p ← part (package_at end bytes)
+  size ← inner Value p.end p.content
+  Ok (buffer size.0 size.1, p.rest)
+
+unfoldable pub package_form : Reader → ℕ → List ℕ → Reading BodyFault TermTree
+package_form inner end bytes = do
+  p ← part (package_at end bytes)
+  count ← part (byte_at p.end p.content)
+  es ← each_at (inner Element p.end) count.1
+  Ok (pkg count.0 (terms_of es), p.rest)
+
+unfoldable pub var_package_form : Reader → ℕ → List ℕ → Reading BodyFault TermTree
+var_package_form inner end bytes = do
+  p ← part (package_at end bytes)
+  count ← inner Value p.end p.content
+  es ← each_at (inner Element p.end) count.1
+  Ok (var_pkg count.0 (terms_of es), p.rest)
+
+-- a name calls where a value or a statement stands
+abbrev pub calls : Place → Bool
+calls Value = true
+calls Statement = true
+calls _ = false
+
+abbrev pub named_by : (NameParts → ℕ) → Reader → ℕ → Bool → NameParts × List ℕ → Reading BodyFault TermTree
+named_by args inner end true n = do
+  vs ← operands_at inner (values (args n.0)) end n.1
+  Ok (call n.0 (terms_of vs.0), vs.1)
+named_by args inner end false n = Ok (ref n.0, n.1)
+
+unfoldable pub name_form : (NameParts → ℕ) → Reader → Place → ℕ → List ℕ → Reading BodyFault TermTree
+name_form args inner place end bytes = do
+  n ← part (name_in end bytes)
+  named_by args inner end (calls place) n
+
+unfoldable pub operator_form : Reader → Op → ℕ → List ℕ → Reading BodyFault TermTree
+operator_form inner op end bytes = do
+  vs ← operands_at inner (operands_of op) end bytes
+  Ok (apply op (terms_of vs.0), vs.1)
+
+-- A term that is no block and no declaration, by what begins there; `whole` from the opcode on, `rest` behind it.
+unfoldable pub form_by : (NameParts → ℕ) → Reader → Place → ℕ → List ℕ → Opcode → List ℕ → Reading BodyFault TermTree
+form_by args inner place end whole (opcodes.Constant form) rest = constant_form form end rest
+form_by args inner place end whole opcodes.Str rest = string_form end rest
+form_by args inner place end whole opcodes.Buffer rest = buffer_form inner end rest
+form_by args inner place end whole opcodes.Package rest = package_form inner end rest
+form_by args inner place end whole opcodes.VarPackage rest = var_package_form inner end rest
+form_by args inner place end whole (opcodes.Local n) rest = Ok (local n, rest)
+form_by args inner place end whole (opcodes.Arg n) rest = Ok (arg n, rest)
+form_by args inner place end whole opcodes.Debug rest = Ok (debug, rest)
+form_by args inner place end whole opcodes.Name rest = name_form args inner place end whole
+form_by args inner place end whole (opcodes.Operator op) rest = operator_form inner op end rest
+form_by args inner place end whole _ rest = Err (fault_at end whole NotStatement)
+
+abbrev pub unless : {A : Type 0} → Option BodyReason → ℕ → List ℕ → Result A BodyFault → Result A BodyFault
+unless None end bytes r = r
+unless (Some why) end bytes r = Err (fault_at end bytes why)
+
+-- the same, where it may stand there
+unfoldable pub placed_by : (NameParts → ℕ) → Reader → Place → ℕ → List ℕ → Opcode → List ℕ → Reading BodyFault TermTree
+placed_by args inner place end whole opcode rest = unless (refusal_at place opcode) end whole (form_by args inner place end whole opcode rest)
+
+-- a term at a place, `level` levels being left
+unfoldable pub term_at : (NameParts → ℕ) → ℕ → Reader
+term_at args zero place end bytes = Err (fault_of (no_level end bytes))
+term_at args (suc level) place end bytes = do
+  x ← part (opcode_at end bytes)
+  placed_by args (term_at args level) place end bytes x.0 x.1
+
+-- ---- field elements, which have no level (20.2.5.2 FieldElement)
+
+abbrev pub const_by : ℕ → List ℕ → Opcode → List ℕ → Reading BodyFault Int
+const_by end whole (opcodes.Constant form) rest = part (constant_at form end rest)
+const_by end whole _ rest = Err (fault_at end whole NotData)
+
+-- the size of a Connect buffer
+unfoldable pub const_at : ℕ → List ℕ → Reading BodyFault Int
+const_at end bytes = do
+  x ← part (opcode_at end bytes)
+  const_by end bytes x.0 x.1
+
+unfoldable pub connect_buffer_at : ℕ → List ℕ → Reading BodyFault FieldTree
+connect_buffer_at end bytes = do
+  p ← part (package_at end bytes)
+  size ← const_at p.end p.content
+  Ok (connect_buffer size.0 size.1, p.rest)
+
+unfoldable pub connect_name_at : ℕ → List ℕ → Reading BodyFault FieldTree
+connect_name_at end bytes = do
+  n ← part (name_in end bytes)
+  Ok (connect_name n.0, n.1)
+
+unfoldable pub connect_at : ℕ → List ℕ → Reading BodyFault FieldTree
+connect_at end bytes = do
+  b ← part (byte_at end bytes)
+  if b.0 == 0x11 then connect_buffer_at end b.1 else connect_name_at end bytes
+
+unfoldable pub unit_at : ℕ → List ℕ → Reading BodyFault FieldTree
+unit_at end bytes = do
+  g ← part (segment_in end bytes)
+  bits ← part (length_in end g.1)
+  Ok (unit g.0 bits.0, bits.1)
+
+unfoldable pub reserved_at : ℕ → List ℕ → Reading BodyFault FieldTree
+reserved_at end bytes = do
+  bits ← part (length_in end bytes)
+  Ok (reserved bits.0, bits.1)
+
+unfoldable pub access_at : ℕ → List ℕ → Reading BodyFault FieldTree
+access_at end bytes = do
+  kind ← part (byte_at end bytes)
+  attribute ← part (byte_at end kind.1)
+  Ok (access kind.0 attribute.0, attribute.1)
+
+unfoldable pub extended_at : ℕ → List ℕ → Reading BodyFault FieldTree
+extended_at end bytes = do
+  kind ← part (byte_at end bytes)
+  attribute ← part (byte_at end kind.1)
+  len ← part (byte_at end attribute.1)
+  Ok (extended kind.0 attribute.0 len.0, len.1)
+
+-- a field element, by its first byte
+abbrev pub field_by : ℕ → List ℕ → ℕ → List ℕ → Reading BodyFault FieldTree
+field_by end whole b rest =
+    if b == 0x00 then reserved_at end rest else
+    if b == 0x01 then access_at end rest else
+    if b == 0x02 then connect_at end rest else
+    if b == 0x03 then extended_at end rest else
+    unit_at end whole
+
+unfoldable pub field_at : ℕ → List ℕ → Reading BodyFault FieldTree
+field_at end bytes = do
+  b ← part (byte_at end bytes)
+  field_by end bytes b.0 b.1
+
+abbrev pub fields_in : ℕ → List ℕ → Result (List FieldTree) BodyFault
+fields_in end bytes = each_at (field_at end) bytes
+
+-- ---- declarations
+
+-- a declared name has segments and a place
+abbrev pub declared_if : {A : Type 0} → Option (List Segment) → List Segment → ℕ → List ℕ → Result A BodyFault → Result A BodyFault
+declared_if None segments end bytes r = Err (fault_at end bytes BadPlace)
+declared_if (Some p) [] end bytes r = Err (fault_at end bytes BadPlace)
+declared_if (Some p) (g ∷ gs) end bytes r = r
+
+unfoldable pub declared_at : List Segment → ℕ → List ℕ → Reading BodyFault NameParts
+declared_at s end bytes = do
+  n ← part (name_in end bytes)
+  declared_if (place_of s n.0) n.0.segments end bytes (Ok n)
+
+-- a declaration of one name, with the operands before and behind it
+unfoldable pub named_form : Reader → List Segment → NamedForm → ℕ → List ℕ → Reading BodyFault TermTree
+named_form inner s form end bytes = do
+  before ← operands_at inner (operands_before form) end bytes
+  n ← declared_at s end before.1
+  behind ← operands_at inner (operands_behind form) end n.1
+  Ok (declare form (terms_of before.0) n.0 (terms_of behind.0), behind.1)
+
+-- so many names
+unfoldable pub names_at : ℕ → ℕ → List ℕ → Reading BodyFault (List NameParts)
+names_at zero end bytes = Ok ([], bytes)
+names_at (suc count) end bytes = do
+  n ← part (name_in end bytes)
+  ns ← names_at count end n.1
+  Ok (n.0 ∷ ns.0, ns.1)
+
+-- a declaration of field units, in its package
+unfoldable pub units_form : Reader → UnitsForm → ℕ → List ℕ → Reading BodyFault TermTree
+units_form inner form end bytes = do
+  p ← part (package_at end bytes)
+  ns ← names_at (names_of_units form) p.end p.content
+  vs ← operands_at inner (operands_of_units form) p.end ns.1
+  es ← fields_in p.end vs.1
+  Ok (declare_units form ns.0 (terms_of vs.0) es, p.rest)
+
+-- ---- statements
+
+-- neither block nor declaration
+abbrev pub is_plain : TermTree → Bool
+is_plain (if_do v ts e) = false
+is_plain (while_do v ts) = false
+is_plain (declare form before n behind) = false
+is_plain (declare_units form ns vs es) = false
+is_plain _ = true
+
+-- a reader of statements to the end of the bytes
+abbrev pub Statements : Type 0
+Statements = Locals → ℕ → List ℕ → Result (List TermTree) BodyFault
+
+-- One after another to the end of the bytes, each with the locals that those before it leave. The number bounds the
+-- turns, and the length is enough.
+unfoldable pub statements_with : (Locals → List ℕ → Reading BodyFault TermTree) → List Segment → ℕ → Locals → List ℕ → Result (List TermTree) BodyFault
+statements_with one s zero locals bytes = Ok []
+statements_with one s (suc n) locals [] = Ok []
+statements_with one s (suc n) locals (b ∷ rest) = do
+  x ← one locals (b ∷ rest)
+  xs ← statements_with one s n (locals_after s locals x.0) x.1
+  Ok (x.0 ∷ xs)
+
+abbrev pub statements_by : (Locals → List ℕ → Reading BodyFault TermTree) → List Segment → Locals → List ℕ → Result (List TermTree) BodyFault
+statements_by one s locals bytes = statements_with one s (length bytes) locals bytes
+
+-- the statements of the Else, where one begins
+unfoldable pub else_at : (ℕ → List ℕ → Result (List TermTree) BodyFault) → ℕ → List ℕ → Reading BodyFault ElseTree
+else_at inner end [] = Ok (no_else, [])
+else_at inner end (b ∷ rest) =
+    if b == 0xA1 then (do
+      p ← part (package_at end rest)
+      ts ← inner p.end p.content
+      Ok (else_do (terms_of ts), p.rest))
+    else Ok (no_else, b ∷ rest)
+
+unfoldable pub if_form : Reader → Statements → List Segment → Locals → ℕ → List ℕ → Reading BodyFault TermTree
+if_form value inner s locals end bytes = do
+  p ← part (package_at end bytes)
+  v ← value Value p.end p.content
+  ts ← inner locals p.end v.1
+  e ← else_at (inner (locals_after_all s locals (terms_of ts))) end p.rest
+  Ok (if_do v.0 (terms_of ts) e.0, e.1)
+
+unfoldable pub while_form : Reader → Statements → Locals → ℕ → List ℕ → Reading BodyFault TermTree
+while_form value inner locals end bytes = do
+  p ← part (package_at end bytes)
+  v ← value Value p.end p.content
+  ts ← inner locals p.end v.1
+  Ok (while_do v.0 (terms_of ts), p.rest)
+
+-- A statement, by what begins there; `value` and `inner` read what stands in it.
+unfoldable pub statement_by : (NameParts → ℕ) → Reader → Statements → List Segment → Locals → ℕ → List ℕ → Opcode → List ℕ → Reading BodyFault TermTree
+statement_by args value inner s locals end whole opcodes.If rest = if_form value inner s locals end rest
+statement_by args value inner s locals end whole opcodes.While rest = while_form value inner locals end rest
+statement_by args value inner s locals end whole opcodes.DeclareName rest = named_form value s named.Name end rest
+statement_by args value inner s locals end whole (opcodes.Create w) rest = named_form value s (named.Create w) end rest
+statement_by args value inner s locals end whole opcodes.CreateField rest = named_form value s named.CreateField end rest
+statement_by args value inner s locals end whole opcodes.Region rest = named_form value s named.Region end rest
+statement_by args value inner s locals end whole opcodes.Mutex rest = named_form value s named.Mutex end rest
+statement_by args value inner s locals end whole opcodes.Event rest = named_form value s named.Event end rest
+statement_by args value inner s locals end whole opcodes.Field rest = units_form value units.Field end rest
+statement_by args value inner s locals end whole opcodes.IndexField rest = units_form value units.IndexField end rest
+statement_by args value inner s locals end whole opcodes.BankField rest = units_form value units.BankField end rest
+statement_by args value inner s locals end whole opcode rest = placed_by args value Statement end whole opcode rest
+
+-- a statement, `level` levels being left
+unfoldable pub statement_at : Arguments → List Segment → ℕ → Locals → ℕ → List ℕ → Reading BodyFault TermTree
+statement_at args s zero locals end bytes = Err (fault_of (no_level end bytes))
+statement_at args s (suc level) locals end bytes = do
+  x ← part (opcode_at end bytes)
+  statement_by (args locals) (term_at (args locals) level) (λ locals end bytes. statements_by (λ locals. statement_at args s level locals end) s locals bytes) s locals end bytes x.0 x.1
+
+-- the statements of a list, `level` levels being left
+abbrev pub statements_at : Arguments → List Segment → ℕ → Statements
+statements_at args s level locals end bytes = statements_by (λ locals. statement_at args s level locals end) s locals bytes
+
+-- all of a body
+abbrev pub body_at : Arguments → List Segment → ℕ → Locals → List ℕ → Result (List TermTree) BodyFault
+body_at args s depth locals bytes = statements_at args s depth locals (length bytes) bytes

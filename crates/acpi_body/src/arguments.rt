@@ -1,0 +1,199 @@
+//! How many values follow a name.
+
+ghost use Rattle.std.specs.Prelude.{◌≡◌, ◌≤◌, ◌<◌, ◌++◌, ◌∷◌, [], IfOk, OnOk, Some, None, length, take};
+ghost use Rattle.std.specs.Option.{option_map};
+ghost use Rattle.acpi_name.specs.NameRefs.{name_parts};
+ghost use Rattle.acpi_name.specs.Names.{plain_segment};
+ghost use Rattle.acpi_space.specs.Spaces.{is_defined};
+ghost use Rattle.acpi_space.specs.Search.{nearest_scope};
+ghost use Rattle.acpi_name.specs.Paths.{place_of};
+ghost use Rattle.acpi_body.specs.Arguments.{args_there, with_local, defined_with, expected_at, expected_place};
+ghost use Rattle.acpi_body.specs.steps.Setting.{args_of, deeper};
+
+use acpi_counts::Counts;
+use acpi_name::{NameRef, Path, PlaceFault, Seg, place};
+use acpi_space::{MapSpace, Refused, Space};
+use acpi_tree::Object;
+use std::alloc::{AllocError, Global};
+use std::marker::Model;
+
+/// What a body is read against: a namespace, what the table's Externals say, and the method's path.
+#[derive(Drop)]
+pub(crate) struct Context<'a, S: Space<Object>> {
+    alloc: Global,
+    space: &'a S,
+    counts: &'a Counts,
+    method: &'a Path,
+}
+
+impl<'a, S: Space<Object>> Model for Context<'a, S> {
+    ghost use Rattle.acpi_body.specs.steps.Setting.{Setting, setting_code};
+
+    ghost Value = { Setting };
+
+    ghost coded = { setting_code };
+
+    ghost view = { λ c. record { objects = S.contents c.space.now; externals = c.counts.now; method = c.method.now } };
+}
+
+impl<'a, S: Space<Object>> Context<'a, S> {
+    pub(crate) fn new(
+        alloc: Global,
+        space: &'a S,
+        counts: &'a Counts,
+        method: &'a Path,
+    ) -> Context<'a, S>
+        ensures { result ≡ record { objects = S.contents space.now; externals = counts.now; method = method.now } }
+    {
+        Context {
+            alloc,
+            space,
+            counts,
+            method,
+        }
+    }
+
+    pub(crate) fn alloc(&self) -> Global {
+        self.alloc
+    }
+
+    pub(crate) fn space(&self) -> &'a S
+        ensures { S.contents result.now ≡ self.now.objects }
+    {
+        self.space
+    }
+
+    fn counts(&self) -> &'a Counts
+        ensures { result.now ≡ self.now.externals }
+    {
+        self.counts
+    }
+
+    pub(crate) fn method(&self) -> &'a Path
+        ensures { result.now ≡ self.now.method }
+    {
+        self.method
+    }
+}
+
+/// Adds the path, if it isn't there.
+pub(crate) fn add(locals: &mut MapSpace<()>, path: Path) -> Result<(), AllocError>
+    ensures { OnOk result (locals.new ≡ with_local locals.old path) }
+{
+    if locals.get(&path).is_some() {
+        return Ok(());
+    }
+    match locals.insert(path, ()) {
+        Ok(()) => Ok(()),
+        Err(_) => Err(AllocError),
+    }
+}
+
+fn args_there<S: Space<Object>>(space: &S, locals: &MapSpace<()>, path: &Path) -> u8
+    ensures { result ≡ args_there (S.contents space.now) locals.now path.now }
+{
+    if locals.get(path).is_some() {
+        return 0;
+    }
+    match space.get(path) {
+        Some(object) => object.args(),
+        None => 0,
+    }
+}
+
+fn expected<S: Space<Object>>(context: &Context<'_, S>, name: NameRef<'_>) -> Result<u8, AllocError>
+    ensures { IfOk result (λ n. n ≡ expected_at context.now.externals (expected_place context.now.externals context.now.method (name_parts name.entry))) }
+{
+    match context
+        .counts()
+        .find(context.alloc(), context.method(), name)?
+    {
+        Some(path) => match context.counts().get(&path) {
+            Some(count) => Ok(count),
+            None => Ok(0),
+        },
+        None => Ok(0),
+    }
+}
+
+// The length of the longest beginning of the method's path below which the segment is a local or an object.
+fn nearest<S: Space<Object>>(
+    context: &Context<'_, S>,
+    locals: &MapSpace<()>,
+    seg: Seg,
+) -> Result<Option<usize>, AllocError>
+    ensures { IfOk result (λ n. n ≡ option_map length (nearest_scope (defined_with context.now.objects locals.now) context.now.method seg)) }
+{
+    let method = context.method();
+    let space = context.space();
+    let local = locals.nearest(method, seg)?;
+    let object = space.nearest(method, seg)?;
+    Ok(deeper(local, object))
+}
+
+fn deeper(first: Option<usize>, second: Option<usize>) -> Option<usize>
+    ensures { result ≡ deeper first second }
+{
+    match (first, second) {
+        (Some(a), Some(b)) => Some(if a < b { b } else { a }),
+        (Some(a), None) => Some(a),
+        (None, b) => b,
+    }
+}
+
+fn plain_count<S: Space<Object>>(
+    context: &Context<'_, S>,
+    locals: &MapSpace<()>,
+    name: NameRef<'_>,
+    seg: Seg,
+) -> Result<u8, AllocError>
+    requires { plain_segment (name_parts name) ≡ Some seg }
+    ensures { IfOk result (λ n. n ≡ args_of context.now locals.now (name_parts name.entry)) }
+{
+    let method = context.method();
+    match nearest(context, locals, seg)? {
+        None => {
+            let count = expected(context, name)?;
+            Ok(count)
+        }
+        Some(depth) => {
+            let mut path = method.beginning(context.alloc(), depth)?;
+            path.push(seg)?;
+            Ok(args_there(context.space(), locals, &path))
+        }
+    }
+}
+
+fn placed_count<S: Space<Object>>(
+    context: &Context<'_, S>,
+    locals: &MapSpace<()>,
+    name: NameRef<'_>,
+    path: &Path,
+) -> Result<u8, AllocError>
+    requires plain { plain_segment (name_parts name) ≡ None }
+    requires place { place_of context.now.method (name_parts name) ≡ Some path.now }
+    ensures { IfOk result (λ n. n ≡ args_of context.now locals.now (name_parts name.entry)) }
+{
+    if locals.get(path).is_some() || context.space().get(path).is_some() {
+        return Ok(args_there(context.space(), locals, path));
+    }
+    expected(context, name)
+}
+
+/// How many values follow the name.
+pub(crate) fn count<S: Space<Object>>(
+    context: &Context<'_, S>,
+    locals: &MapSpace<()>,
+    name: NameRef<'_>,
+) -> Result<u8, AllocError>
+    ensures { IfOk result (λ n. n ≡ args_of context.now locals.now (name_parts name.entry)) }
+{
+    if let Some(seg) = name.plain() {
+        return plain_count(context, locals, name, seg);
+    }
+    match place(context.alloc(), context.method(), name) {
+        Ok(path) => placed_count(context, locals, name, &path),
+        Err(PlaceFault::AboveRoot) => Ok(0),
+        Err(PlaceFault::Memory) => Err(AllocError),
+    }
+}

@@ -1,0 +1,103 @@
+//! Reading method bodies.
+
+ghost use Rattle.std.specs.Prelude.{◌≡◌, ◌++◌, ◌↔◌, ℕ, List, length, Some, None, IfOk, IfSome};
+ghost use Rattle.std.specs.FinMap as finite;
+ghost use Rattle.acpi_tree.specs.Terms.{TermTrees};
+ghost use Rattle.acpi_body.specs.declared.fault.BodyReason.{BodyReason};
+ghost use Rattle.acpi_body.specs.Arguments.{arguments};
+ghost use Rattle.acpi_body.specs.Statements.{Reads};
+ghost use Rattle.acpi_body.specs.Faults.{Shows, IsRefused};
+ghost use Rattle.acpi_body.specs.Bodies.{read, body_view, IsBodyOf};
+ghost use Rattle.acpi_body.specs.steps.Reading.{body_at};
+ghost use Rattle.acpi_body.specs.steps.Answers.{body_of, told};
+
+use crate::arguments::Context;
+use crate::fault::{BodyFault, Stop};
+use crate::statement::body;
+use acpi_code::Depth;
+use acpi_counts::Counts;
+use acpi_name::Path;
+use acpi_space::Space;
+use acpi_tree::{Object, Term};
+use std::alloc::{AllocError, Global};
+
+/// A method body (ACPI 6.5, 20.2.5.2 TermList of a DefMethod).
+#[derive(Debug, Drop)]
+pub enum Body {
+    /// The statements that its bytes spell.
+    Terms(Vec<Term>),
+    /// Its bytes, which spell no statements.
+    Opaque(Vec<u8>),
+}
+
+fn body_or_bytes<S: Space<Object>>(
+    alloc: Global,
+    space: &S,
+    method: &Path,
+    bytes: &[u8],
+    depth: u32,
+    counts: &Counts,
+) -> Result<Body, AllocError>
+    ensures { IfOk result (λ b. body_view b ≡ body_of bytes.now (body_at (arguments (S.contents space.now) counts.now method.now) method.now depth finite.empty bytes.now)) }
+{
+    match body(&Context::new(alloc, space, counts, method), depth, bytes) {
+        Ok(terms) => Ok(Body::Terms(terms)),
+        Err(Stop::Fault(_)) => Ok(Body::Opaque(Vec::from_slice(alloc, bytes)?)),
+        Err(Stop::Memory) => Err(AllocError),
+    }
+}
+
+/// The terms of a method's body, or its bytes where no terms stand for them. A name is followed by as many values as
+/// the namespace says, and where nothing of it is defined, as `counts` says: the Externals of the method's table.
+pub fn read_body<S: Space<Object>>(
+    alloc: Global,
+    space: &S,
+    method: &Path,
+    bytes: &[u8],
+    depth: Depth,
+    counts: &Counts,
+) -> Result<Body, AllocError>
+    // Terms are the reading of the bytes; opaque bytes are the same, and have no reading.
+    ensures body { IfOk result (λ b. IsBodyOf (arguments (S.contents space.now) counts.now method.now) method.now depth bytes.now (body_view b)) }
+    // So it is read exactly where it has a reading, and as that.
+    ensures read { IfOk result (λ b. (ts : TermTrees) → (body_view b ≡ read ts) ↔ Reads (arguments (S.contents space.now) counts.now method.now) method.now depth bytes.now ts) }
+{
+    body_or_bytes(alloc, space, method, bytes, depth.get(), counts)
+}
+
+fn fault_in<S: Space<Object>>(
+    alloc: Global,
+    space: &S,
+    method: &Path,
+    bytes: &[u8],
+    depth: u32,
+    counts: &Counts,
+) -> Result<Option<BodyFault>, AllocError>
+    ensures { IfOk result (λ w. w ≡ told (body_at (arguments (S.contents space.now) counts.now method.now) method.now depth finite.empty bytes.now)) }
+{
+    match body(&Context::new(alloc, space, counts, method), depth, bytes) {
+        Ok(_) => Ok(None),
+        Err(Stop::Fault(fault)) => Ok(Some(fault)),
+        Err(Stop::Memory) => Err(AllocError),
+    }
+}
+
+/// Why a method's body is not read, if it isn't. A place counts from the body's first byte.
+pub fn why<S: Space<Object>>(
+    alloc: Global,
+    space: &S,
+    method: &Path,
+    bytes: &[u8],
+    depth: Depth,
+    counts: &Counts,
+) -> Result<Option<BodyFault>, AllocError>
+    // None exactly where the bytes have a reading.
+    ensures read { IfOk result (λ w. (w ≡ None) ↔ ((ts : TermTrees) × Reads (arguments (S.contents space.now) counts.now method.now) method.now depth bytes.now ts)) }
+    // What a fault says is true of the bytes.
+    ensures faults { IfOk result (λ w. IfSome w (λ f. Shows method.now depth bytes.now f.reason f.place)) }
+    // Behind statements, what can't begin one is told at its place.
+    ensures next { (u w : List ℕ) (ts : TermTrees) (reason : BodyReason) → bytes.now ≡ u ++ w → Reads (arguments (S.contents space.now) counts.now method.now) method.now depth u ts → IsRefused reason w
+        → IfOk result (λ f. f ≡ Some (record { reason = reason; place = length u })) }
+{
+    fault_in(alloc, space, method, bytes, depth.get(), counts)
+}

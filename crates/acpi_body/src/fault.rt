@@ -1,0 +1,128 @@
+//! Why a method body can't be read.
+
+ghost use Rattle.std.specs.Prelude.{◌≡◌};
+ghost use Rattle.acpi_body.specs.declared.fault.Stop.TheVariants as stops;
+ghost use Rattle.acpi_body.specs.Faults.{reason_of, fault_of};
+ghost use Rattle.acpi_body.specs.steps.Reading.{fault_at};
+
+use acpi_code::{Code, CodeFault, CodeReason};
+use std::alloc::{AllocError, AllocFailed};
+use thiserror::Error;
+
+/// Why no term is read at a place.
+#[derive(Clone, Copy, Debug, PartialEq, Eq, Error)]
+pub enum BodyReason {
+    /// The list ends there, and the form needs a byte there.
+    #[error("B1 Cut")]
+    Cut,
+    /// At the place of a value or a statement, no term begins there.
+    #[error("B2 BadOpcode")]
+    BadOpcode,
+    /// A package length or bit count whose lead byte has reserved bits (ACPI 6.5, 20.2.4).
+    #[error("B3 ReservedBits")]
+    ReservedBits,
+    /// A name or segment must stand there, and none does (20.2.2).
+    #[error("B4 BadName")]
+    BadName,
+    /// A package length below its own number of bytes, or past the list's end.
+    #[error("B5 Overrun")]
+    Overrun,
+    /// At the place of a statement, a term that is none: a constant, a string, a Local, an Arg, Debug, or an
+    /// Else that follows no If.
+    #[error("B6 NotStatement")]
+    NotStatement,
+    /// At the place of a value, a term that has none: an operator without a value, If, Else, While, Debug or a
+    /// declaration.
+    #[error("B7 NotValue")]
+    NotValue,
+    /// No super name, target or simple name begins there.
+    #[error("B8 NotTarget")]
+    NotTarget,
+    /// At the place of a value or a statement, a term that bodies may not have: Alias, Scope, Method, External,
+    /// Device, Processor, PowerResource, ThermalZone, LoadTable, Load, Unload or DataTableRegion.
+    #[error("B9 LeftOut")]
+    LeftOut,
+    /// A byte above 7F inside a string.
+    #[error("B10 BadString")]
+    BadString,
+    /// A term of a level above the limit.
+    #[error("B11 TooDeep")]
+    TooDeep,
+    /// No data begins there, no element of a package, or no constant that is the size of a Connect buffer.
+    #[error("B12 NotData")]
+    NotData,
+    /// A declared name that has no segments, or whose place would be above the root.
+    #[error("B13 BadPlace")]
+    BadPlace,
+}
+
+/// Why a method body can't be read.
+#[derive(Clone, Copy, Debug, PartialEq, Eq, Error)]
+#[error("{reason}")]
+pub struct BodyFault {
+    /// What is wrong.
+    pub reason: BodyReason,
+    /// Where, in bytes from the body's first byte.
+    pub place: usize,
+}
+
+/// Why reading a body stopped.
+#[derive(Clone, Copy, Debug, PartialEq, Eq)]
+pub(crate) enum Stop {
+    /// The body can't be read.
+    Fault(BodyFault),
+    /// A growth of memory was refused.
+    Memory,
+}
+
+impl From<AllocError> for Stop {
+    ghost from_gives = { λ _ s. s ≡ stops.Memory };
+
+    fn from(_e: AllocError) -> Stop {
+        Stop::Memory
+    }
+}
+
+impl<T: Drop> From<AllocFailed<T>> for Stop {
+    ghost from_gives = { λ _ s. s ≡ stops.Memory };
+
+    fn from(_e: AllocFailed<T>) -> Stop {
+        Stop::Memory
+    }
+}
+
+impl From<CodeReason> for BodyReason {
+    ghost from_gives = { λ reason body. body ≡ reason_of reason };
+
+    fn from(reason: CodeReason) -> BodyReason {
+        match reason {
+            CodeReason::Cut => BodyReason::Cut,
+            CodeReason::ReservedBits => BodyReason::ReservedBits,
+            CodeReason::BadName => BodyReason::BadName,
+            CodeReason::Overrun => BodyReason::Overrun,
+            CodeReason::BadString => BodyReason::BadString,
+            CodeReason::TooDeep => BodyReason::TooDeep,
+        }
+    }
+}
+
+impl From<CodeFault> for Stop {
+    ghost from_gives = { λ fault stop. stop ≡ stops.Fault (fault_of fault) };
+
+    fn from(fault: CodeFault) -> Stop {
+        Stop::Fault(BodyFault {
+            reason: fault.reason.into(),
+            place: fault.place,
+        })
+    }
+}
+
+/// The fault that the next byte shows.
+pub(crate) fn refused(code: &Code<'_>, reason: BodyReason) -> Stop
+    ensures { result ≡ stops.Fault (fault_at code.now.end code.now.bytes reason) }
+{
+    Stop::Fault(BodyFault {
+        reason,
+        place: code.place(),
+    })
+}

@@ -1,0 +1,15 @@
+//! Laws of the readings of method bodies, of the definitions alone.
+
+ghost use Rattle.acpi_body.specs.Laws.{AtMostOneReading, ReadingIsKept, SearchesAreSpelled, ReadingsAreSame};
+
+/// Bytes have at most one reading.
+pub fn at_most_one_reading()
+    ensures { AtMostOneReading }
+{}
+
+/// A reading depends on a namespace only by the argument counts of names that are spelled in its bytes.
+pub fn reading_is_kept()
+    ensures kept { ReadingIsKept }
+    ensures spelled { SearchesAreSpelled }
+    ensures same { ReadingsAreSame }
+{}

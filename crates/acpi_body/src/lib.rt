@@ -1,0 +1,27 @@
+//! Method bodies as terms: read from their bytes, or kept as bytes where no terms stand for them.
+//!
+//! How many arguments follow a name is told by what the name means, so a body is read against a namespace:
+//!
+//! ```text
+//!   A4 4D 54 48 32 0A 01 0A 02      read_body ─►  Return(MTH2(0x01, 0x02))    where \MTH2 takes two arguments
+//!                                             ─►  the bytes themselves        where nothing is known of MTH2
+//! ```
+//!
+//! A contract sees a body as terms of `acpi_tree`, and says of which bytes they are the reading by the relation of
+//! `specs/Statements.antt`, and of a fault what it shows of them by `specs/Faults.antt`.
+#![tactic(auto)]
+
+mod arguments;
+mod body;
+mod declare;
+mod fault;
+mod field;
+pub mod laws;
+mod refusal;
+mod statement;
+mod term;
+
+pub use acpi_code::Depth;
+pub use body::{Body, read_body, why};
+pub use acpi_counts::Counts;
+pub use fault::{BodyFault, BodyReason};

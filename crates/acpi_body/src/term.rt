@@ -1,0 +1,298 @@
+//! Reading terms that are no blocks and no declarations.
+
+ghost use Rattle.std.specs.Prelude.{◌≡◌, ◌<◌, true, length, IfOk};
+ghost use Rattle.acpi_tree.specs.TermView.{term_view, terms_view, operand_view, operands_view};
+ghost use Rattle.acpi_tree.specs.declared.place.Place.TheVariants.{Element};
+ghost use Rattle.acpi_code.specs.steps.Reading.{each_at};
+ghost use Rattle.acpi_body.specs.Spelling.{values};
+ghost use Rattle.acpi_body.specs.steps.Setting.{args_of};
+ghost use Rattle.acpi_body.specs.steps.Reading.{constant_form, string_form, buffer_form, package_form, var_package_form, name_form, operator_form, operand_at, operands_at, calls, is_plain, form_by, placed_by, term_at};
+ghost use Rattle.acpi_body.specs.steps.Cursor.{Reads, ReadsOn, ReadsAll};
+
+use crate::arguments::{Context, count};
+use crate::fault::{BodyReason, Stop, refused};
+use crate::refusal::refusal;
+use acpi_code::{Code, ConstantForm, Opcode};
+use acpi_space::{MapSpace, Space};
+use acpi_tree::{Object, Op, Operand, OperandKind, Place, Term};
+use std::alloc::Global;
+
+#[inline(never)]
+#[tactic(auto, using(crate::proofs::Parts::part_fails), unfolding(crate::specs::steps::Reading::constant_form))]
+fn constant(form: ConstantForm, code: &mut Code<'_>) -> Result<Term, Stop>
+    ensures exact { ReadsOn term_view (constant_form form) code.old code.new result }
+    ensures plain { IfOk result (λ t. is_plain (term_view t) ≡ true) }
+{
+    Ok(Term::Int(code.constant(form)?))
+}
+
+#[inline(never)]
+#[tactic(auto, using(crate::proofs::Parts::part_fails), unfolding(crate::specs::steps::Reading::string_form))]
+fn string(alloc: Global, code: &mut Code<'_>) -> Result<Term, Stop>
+    ensures exact { Reads term_view string_form code.old code.new result }
+    ensures plain { IfOk result (λ t. is_plain (term_view t) ≡ true) }
+{
+    let text = code.string()?;
+    Ok(Term::Str(Vec::from_slice(alloc, text)?))
+}
+
+#[cycle(read)]
+#[tactic(auto, using(crate::proofs::Parts::part_fails), unfolding(crate::specs::steps::Reading::buffer_form))]
+#[inline(never)]
+fn buffer<S: Space<Object>>(
+    context: &Context<'_, S>,
+    locals: &MapSpace<()>,
+    level: u32,
+    code: &mut Code<'_>,
+) -> Result<Term, Stop>
+    ensures exact { Reads term_view (buffer_form (term_at (args_of context.now locals.now) level)) code.old code.new result }
+    ensures plain { IfOk result (λ t. is_plain (term_view t) ≡ true) }
+{
+    let mut inner = code.package()?;
+    let size = term(context, locals, level, Place::Value, &mut inner)?;
+    let content = Vec::from_slice(context.alloc(), inner.left())?;
+    Ok(Term::Buffer(Box::new(context.alloc(), size)?, content))
+}
+
+#[cycle(read)]
+fn elements<S: Space<Object>>(
+    context: &Context<'_, S>,
+    locals: &MapSpace<()>,
+    level: u32,
+    code: &mut Code<'_>,
+) -> Result<Vec<Term>, Stop>
+    ensures { ReadsAll (λ v. terms_view v.items) (λ end bytes. each_at (term_at (args_of context.now locals.now) level Element end) bytes) code.old result }
+{
+    let mut found = Vec::new(context.alloc());
+    'each: while !code.is_empty() {
+        found.push(term(context, locals, level, Place::Element, code)?)?;
+    }
+    Ok(found)
+}
+
+#[cycle(read)]
+#[tactic(auto, using(crate::proofs::Parts::part_fails), unfolding(crate::specs::steps::Reading::package_form))]
+#[inline(never)]
+fn package<S: Space<Object>>(
+    context: &Context<'_, S>,
+    locals: &MapSpace<()>,
+    level: u32,
+    code: &mut Code<'_>,
+) -> Result<Term, Stop>
+    ensures exact { Reads term_view (package_form (term_at (args_of context.now locals.now) level)) code.old code.new result }
+    ensures plain { IfOk result (λ t. is_plain (term_view t) ≡ true) }
+{
+    let mut inner = code.package()?;
+    let count = inner.byte()?;
+    let elements = elements(context, locals, level, &mut inner)?;
+    Ok(Term::Package(count, elements))
+}
+
+#[cycle(read)]
+#[tactic(auto, using(crate::proofs::Parts::part_fails), unfolding(crate::specs::steps::Reading::var_package_form))]
+#[inline(never)]
+fn var_package<S: Space<Object>>(
+    context: &Context<'_, S>,
+    locals: &MapSpace<()>,
+    level: u32,
+    code: &mut Code<'_>,
+) -> Result<Term, Stop>
+    ensures exact { Reads term_view (var_package_form (term_at (args_of context.now locals.now) level)) code.old code.new result }
+    ensures plain { IfOk result (λ t. is_plain (term_view t) ≡ true) }
+{
+    let mut inner = code.package()?;
+    let count = term(context, locals, level, Place::Value, &mut inner)?;
+    let elements = elements(context, locals, level, &mut inner)?;
+    Ok(Term::VarPackage(Box::new(context.alloc(), count)?, elements))
+}
+
+// The values that follow a name.
+#[cycle(read)]
+fn arguments<S: Space<Object>>(
+    context: &Context<'_, S>,
+    locals: &MapSpace<()>,
+    level: u32,
+    count: u8,
+    code: &mut Code<'_>,
+) -> Result<Vec<Term>, Stop>
+    ensures { ReadsOn (λ v. terms_view v.items) (operands_at (term_at (args_of context.now locals.now) level) (values count)) code.old code.new result }
+{
+    let mut found = Vec::new(context.alloc());
+    'each: for _ in 0..count {
+        found.push(term(context, locals, level, Place::Value, code)?)?;
+    }
+    Ok(found)
+}
+
+fn is_call(place: Place) -> bool
+    ensures { result ≡ calls place }
+{
+    match place {
+        Place::Value => true,
+        Place::Statement => true,
+        _ => false,
+    }
+}
+
+// A name, and the values that follow it where it calls.
+#[cycle(read)]
+#[tactic(auto, using(crate::proofs::Parts::part_fails), unfolding(crate::specs::steps::Reading::name_form))]
+#[inline(never)]
+fn named<S: Space<Object>>(
+    context: &Context<'_, S>,
+    locals: &MapSpace<()>,
+    level: u32,
+    place: Place,
+    code: &mut Code<'_>,
+) -> Result<Term, Stop>
+    ensures exact { Reads term_view (name_form (args_of context.now locals.now) (term_at (args_of context.now locals.now) level) place) code.old code.new result }
+    ensures plain { IfOk result (λ t. is_plain (term_view t) ≡ true) }
+{
+    let name = code.name()?;
+    if is_call(place) {
+        let count = count(context, locals, name)?;
+        let values = arguments(context, locals, level, count, code)?;
+        Ok(Term::Call(name.own(context.alloc())?, values))
+    } else {
+        Ok(Term::Ref(name.own(context.alloc())?))
+    }
+}
+
+// A super name, or the byte 00 for none.
+#[cycle(read)]
+#[tactic(auto, using(crate::proofs::Parts::part_fails), unfolding(crate::specs::steps::Reading::operand_at))]
+fn operand<S: Space<Object>>(
+    context: &Context<'_, S>,
+    locals: &MapSpace<()>,
+    level: u32,
+    kind: OperandKind,
+    code: &mut Code<'_>,
+) -> Result<Operand, Stop>
+    ensures { Reads operand_view (operand_at (term_at (args_of context.now locals.now) level) kind) code.old code.new result }
+{
+    match kind {
+        OperandKind::At(place) => Ok(Operand::Term(term(context, locals, level, place, code)?)),
+        OperandKind::Target => {
+            if code.left().first() == Some(&0x00) {
+                code.skip(1);
+                return Ok(Operand::Term(Term::NoTarget));
+            }
+            Ok(Operand::Term(term(context, locals, level, Place::SuperName, code)?))
+        }
+        OperandKind::Byte => Ok(Operand::Byte(code.byte()?)),
+        OperandKind::Word => Ok(Operand::Word(code.word()?)),
+        OperandKind::DWord => Ok(Operand::DWord(code.dword()?)),
+    }
+}
+
+#[cycle(read)]
+fn operands<S: Space<Object>>(
+    context: &Context<'_, S>,
+    locals: &MapSpace<()>,
+    level: u32,
+    kinds: &[OperandKind],
+    code: &mut Code<'_>,
+) -> Result<Vec<Operand>, Stop>
+    ensures { ReadsOn (λ v. operands_view v.items) (operands_at (term_at (args_of context.now locals.now) level) kinds.now) code.old code.new result }
+{
+    let mut found = Vec::new(context.alloc());
+    'each: for kind in kinds {
+        found.push(operand(context, locals, level, *kind, code)?)?;
+    }
+    Ok(found)
+}
+
+#[cycle(read)]
+#[tactic(auto, unfolding(crate::specs::steps::Reading::operator_form))]
+fn operator<S: Space<Object>>(
+    context: &Context<'_, S>,
+    locals: &MapSpace<()>,
+    level: u32,
+    op: Op,
+    code: &mut Code<'_>,
+) -> Result<Term, Stop>
+    ensures exact { ReadsOn term_view (operator_form (term_at (args_of context.now locals.now) level) op) code.old code.new result }
+    ensures plain { IfOk result (λ t. is_plain (term_view t) ≡ true) }
+{
+    let operands = operands(context, locals, level, op.operands(), code)?;
+    Ok(Term::Op(op, operands))
+}
+
+// The term whose first opcode, behind `front`, was read; `level` levels are left inside it.
+#[cycle(read)]
+#[tactic(auto, unfolding(crate::specs::steps::Reading::form_by))]
+fn form<'a, S: Space<Object>>(
+    context: &Context<'_, S>,
+    locals: &MapSpace<()>,
+    level: u32,
+    place: Place,
+    front: &Code<'a>,
+    opcode: Opcode,
+    code: &mut Code<'a>,
+) -> Result<Term, Stop>
+    requires ends { front.now.end ≡ code.old.end }
+    requires behind { length code.old.bytes < length front.now.bytes }
+    ensures exact { Reads term_view (λ end whole. form_by (args_of context.now locals.now) (term_at (args_of context.now locals.now) level) place end whole opcode code.old.bytes) front.now code.new result }
+    ensures plain { IfOk result (λ t. is_plain (term_view t) ≡ true) }
+{
+    match opcode {
+        Opcode::Constant(form) => constant(form, code),
+        Opcode::Str => string(context.alloc(), code),
+        Opcode::Buffer => buffer(context, locals, level, code),
+        Opcode::Package => package(context, locals, level, code),
+        Opcode::VarPackage => var_package(context, locals, level, code),
+        Opcode::Local(n) => Ok(Term::Local(n)),
+        Opcode::Arg(n) => Ok(Term::Arg(n)),
+        Opcode::Debug => Ok(Term::Debug),
+        Opcode::Name => {
+            *code = front.fork();
+            named(context, locals, level, place, code)
+        }
+        Opcode::Operator(op) => operator(context, locals, level, op, code),
+        _ => Err(refused(front, BodyReason::NotStatement)),
+    }
+}
+
+/// The same, where it may stand at the place.
+#[cycle(read)]
+#[tactic(auto, unfolding(crate::specs::steps::Reading::placed_by))]
+pub(crate) fn placed<'a, S: Space<Object>>(
+    context: &Context<'_, S>,
+    locals: &MapSpace<()>,
+    level: u32,
+    place: Place,
+    front: &Code<'a>,
+    opcode: Opcode,
+    code: &mut Code<'a>,
+) -> Result<Term, Stop>
+    requires ends { front.now.end ≡ code.old.end }
+    requires behind { length code.old.bytes < length front.now.bytes }
+    ensures exact { Reads term_view (λ end whole. placed_by (args_of context.now locals.now) (term_at (args_of context.now locals.now) level) place end whole opcode code.old.bytes) front.now code.new result }
+    ensures plain { IfOk result (λ t. is_plain (term_view t) ≡ true) }
+{
+    if let Some(reason) = refusal(place, opcode) {
+        return Err(refused(front, reason));
+    }
+    form(context, locals, level, place, front, opcode, code)
+}
+
+/// The term at the front, at a place, `level` levels being left for it.
+#[cycle(read)]
+#[tactic(auto, using(crate::proofs::Parts::part_fails), unfolding(crate::specs::steps::Reading::term_at))]
+pub(crate) fn term<S: Space<Object>>(
+    context: &Context<'_, S>,
+    locals: &MapSpace<()>,
+    level: u32,
+    place: Place,
+    code: &mut Code<'_>,
+) -> Result<Term, Stop>
+    ensures exact { Reads term_view (term_at (args_of context.now locals.now) level place) code.old code.new result }
+    ensures plain { IfOk result (λ t. is_plain (term_view t) ≡ true) }
+{
+    if level == 0 {
+        return Err(code.too_deep().into());
+    }
+    let front = code.fork();
+    let opcode = code.opcode()?;
+    placed(context, locals, level - 1, place, &front, opcode, code)
+}
