@@ -2,3 +2,4 @@ pub mod Reading
 pub mod Cursor
 pub mod Setting
 pub mod Answers
+pub mod BodyEquality

@@ -18,6 +18,7 @@ mod fault;
 mod field;
 pub mod laws;
 mod refusal;
+mod same;
 mod statement;
 mod term;
 
@@ -25,3 +26,6 @@ pub use acpi_code::Depth;
 pub use body::{Body, read_body, why};
 pub use acpi_counts::Counts;
 pub use fault::{BodyFault, BodyReason};
+
+#[cfg(test)]
+mod tests;

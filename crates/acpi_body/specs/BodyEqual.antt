@@ -1,0 +1,10 @@
+-- Whether two bodies are equal, as a test.
+use Rattle.std.specs.Prelude.{Bool, false}
+use Rattle.acpi_tree.specs.Equal.{bytes_eq}
+use Rattle.acpi_tree.specs.TermEqual.{terms_eq}
+use Rattle.acpi_body.specs.Bodies.{BodyTree, read, unread}
+
+abbrev pub body_eq : BodyTree → BodyTree → Bool
+body_eq (read ts) (read us) = terms_eq ts us
+body_eq (unread a) (unread b) = bytes_eq a b
+body_eq _ _ = false
