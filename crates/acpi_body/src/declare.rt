@@ -20,7 +20,9 @@ use acpi_name::{Name, Path, PlaceFault, place};
 use acpi_space::{MapSpace, Space};
 use acpi_tree::{Decl, Object, Place, Term, Width};
 
-fn value<S: Space<Object>>(
+/// A value, which lies apart from the frame that asks for it.
+#[inline(never)]
+pub(crate) fn value<S: Space<Object>>(
     context: &Context<'_, S>,
     locals: &MapSpace<()>,
     level: u32,

@@ -13,10 +13,10 @@ ghost use Rattle.acpi_body.specs.steps.Cursor.{Gives, Reads, ReadsOn, ReadsAll};
 use crate::arguments::Context;
 use crate::declare::{
     bank_field_declared, create_declared, create_field_declared, event_declared, field_declared,
-    index_field_declared, mutex_declared, name_declared, region_declared,
+    index_field_declared, mutex_declared, name_declared, region_declared, value,
 };
 use crate::fault::Stop;
-use crate::term::{placed, term};
+use crate::term::placed;
 use acpi_code::{Code, Opcode};
 use acpi_space::{MapSpace, Space};
 use acpi_tree::{Object, Place, Term};
@@ -39,6 +39,7 @@ fn branch(predicate: Box<Term>, then: Vec<Term>, other: Option<Vec<Term>>) -> Te
 // The statements of an If, and of its Else where one follows.
 #[cycle(statement)]
 #[tactic(auto, using(crate::proofs::Parts::part_fails), unfolding(crate::specs::steps::Reading::if_form))]
+#[inline(never)]
 fn if_statement<S: Space<Object>>(
     context: &Context<'_, S>,
     locals: &mut MapSpace<()>,
@@ -49,10 +50,9 @@ fn if_statement<S: Space<Object>>(
     ensures locals { IfOk result (λ t. locals.new ≡ locals_after context.now.method locals.old (term_view t)) }
 {
     let mut inner = code.package()?;
-    let predicate = term(context, locals, level, Place::Value, &mut inner)?;
+    let predicate = value(context, locals, level, &mut inner)?;
     let then = statements(context, locals, level, &mut inner)?;
     let other = else_statements(context, locals, level, code)?;
-    let predicate = Box::new(context.alloc(), predicate)?;
     Ok(branch(predicate, then, other))
 }
 
@@ -88,8 +88,7 @@ fn while_statement<S: Space<Object>>(
     ensures locals { IfOk result (λ t. locals.new ≡ locals_after context.now.method locals.old (term_view t)) }
 {
     let mut inner = code.package()?;
-    let predicate = term(context, locals, level, Place::Value, &mut inner)?;
-    let predicate = Box::new(context.alloc(), predicate)?;
+    let predicate = value(context, locals, level, &mut inner)?;
     let then = statements(context, locals, level, &mut inner)?;
     Ok(Term::While(predicate, then))
 }

@@ -204,6 +204,7 @@ fn operands<S: Space<Object>>(
 
 #[cycle(read)]
 #[tactic(auto, unfolding(crate::specs::steps::Reading::operator_form))]
+#[inline(never)]
 fn operator<S: Space<Object>>(
     context: &Context<'_, S>,
     locals: &MapSpace<()>,

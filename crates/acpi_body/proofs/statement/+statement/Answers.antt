@@ -54,20 +54,20 @@ if_statement-returns-in_err-then-clause-exact g t c =
     let r : Reader = term_at (args_of c.args.context.now c.args.locals.now) c.args.level in
     let i : Statements = statements_at (args_of c.args.context.now) c.args.context.now.method c.args.level in
     let p = err_from_is_err_and c.from_residual-in_err-then.result c.from_residual-in_err-then.ensures.1 in
-    rw (p.1, p.2) (then_fails r i c.args.context.now.method c.args.locals.now c.args.code.now.end c.args.code.now.bytes _ _ _ _ c.in_ok-inner.ensures.0 c.in_ok-predicate.ensures.exact.0 c.in_ok-predicate.ensures.exact.1.same_end c.in_err-then.ensures.exact)
+    rw (p.1, p.2) (then_fails r i c.args.context.now.method c.args.locals.now c.args.code.now.end c.args.code.now.bytes _ _ _ _ c.in_ok-inner.ensures.0 c.in_ok-predicate.ensures.0 c.in_ok-predicate.ensures.1.same_end c.in_err-then.ensures.exact)
 
 pub if_statement-returns-in_err-other-clause-exact : goal.if_statement-returns-in_err-other-clause-exact
 if_statement-returns-in_err-other-clause-exact g t c =
     let r : Reader = term_at (args_of c.args.context.now c.args.locals.now) c.args.level in
     let i : Statements = statements_at (args_of c.args.context.now) c.args.context.now.method c.args.level in
     let p = err_from_is_err_and c.from_residual-in_err-other.result c.from_residual-in_err-other.ensures.1 in
-    rw (p.1, p.2) (else_fails r i c.args.context.now.method c.args.locals.now _ c.args.code.now.end c.args.code.now.bytes _ _ _ _ _ _ c.in_ok-inner.ensures.0 c.in_ok-predicate.ensures.exact.0 c.in_ok-predicate.ensures.exact.1.same_end c.in_ok-then.ensures.exact c.in_ok-then.ensures.locals c.in_ok-inner.ensures.1.same_end c.in_err-other.ensures.exact)
+    rw (p.1, p.2) (else_fails r i c.args.context.now.method c.args.locals.now _ c.args.code.now.end c.args.code.now.bytes _ _ _ _ _ _ c.in_ok-inner.ensures.0 c.in_ok-predicate.ensures.0 c.in_ok-predicate.ensures.1.same_end c.in_ok-then.ensures.exact c.in_ok-then.ensures.locals c.in_ok-inner.ensures.1.same_end c.in_err-other.ensures.exact)
 
 pub if_statement-returns-clause-exact : goal.if_statement-returns-clause-exact
 if_statement-returns-clause-exact g t c =
     let r : Reader = term_at (args_of c.args.context.now c.args.locals.now) c.args.level in
     let i : Statements = statements_at (args_of c.args.context.now) c.args.context.now.method c.args.level in (
-      if_made r i c.args.context.now.method c.args.locals.now _ c.args.code.now.end c.args.code.now.bytes _ _ _ _ _ _ _ _ c.in_ok-inner.ensures.0 c.in_ok-predicate.ensures.exact.0 c.in_ok-predicate.ensures.exact.1.same_end c.in_ok-then.ensures.exact c.in_ok-then.ensures.locals c.in_ok-inner.ensures.1.same_end c.in_ok-other.ensures.exact.0 (search rules),
+      if_made r i c.args.context.now.method c.args.locals.now _ c.args.code.now.end c.args.code.now.bytes _ _ _ _ _ _ _ _ c.in_ok-inner.ensures.0 c.in_ok-predicate.ensures.0 c.in_ok-predicate.ensures.1.same_end c.in_ok-then.ensures.exact c.in_ok-then.ensures.locals c.in_ok-inner.ensures.1.same_end c.in_ok-other.ensures.exact.0 (search rules),
       search rules,
     )
 
@@ -76,4 +76,4 @@ while_statement-returns-in_err-then-clause-exact g t c =
     let r : Reader = term_at (args_of c.args.context.now c.args.locals.now) c.args.level in
     let i : Statements = statements_at (args_of c.args.context.now) c.args.context.now.method c.args.level in
     let p = err_from_is_err_and c.from_residual-in_err-then.result c.from_residual-in_err-then.ensures.1 in
-    rw (p.1, p.2) (while_fails r i c.args.locals.now c.args.code.now.end c.args.code.now.bytes _ _ _ _ c.in_ok-inner.ensures.0 c.in_ok-predicate.ensures.exact.0 c.in_ok-predicate.ensures.exact.1.same_end c.in_err-then.ensures.exact)
+    rw (p.1, p.2) (while_fails r i c.args.locals.now c.args.code.now.end c.args.code.now.bytes _ _ _ _ c.in_ok-inner.ensures.0 c.in_ok-predicate.ensures.0 c.in_ok-predicate.ensures.1.same_end c.in_err-then.ensures.exact)
