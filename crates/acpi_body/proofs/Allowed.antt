@@ -8,7 +8,7 @@ use Rattle.acpi_tree.specs.Operators.{is_expression, is_reference}
 use Rattle.acpi_tree.specs.Places.{may_stand}
 use Rattle.acpi_code.specs.declared.opcode.Opcode.{Opcode}
 use Rattle.acpi_code.specs.declared.opcode.Opcode.TheVariants as opcodes
-use Rattle.acpi_code.proofs.Constants.{int_form}
+use Rattle.acpi_code.proofs.Constants.{form_of}
 use Rattle.acpi_body.specs.declared.fault.BodyReason.{BodyReason}
 use Rattle.acpi_body.specs.declared.fault.BodyReason.TheVariants.{NotValue, NotTarget}
 use Rattle.acpi_body.specs.Refusals.{refusal_at}
@@ -17,7 +17,7 @@ use Rattle.acpi_body.specs.steps.Reading.{calls}
 
 -- what a term begins with that is no block and no declaration
 abbrev pub lead_of : TermTree → Opcode
-lead_of (int i) = opcodes.Constant (int_form i)
+lead_of (int i) = opcodes.Constant (form_of i)
 lead_of (str text) = opcodes.Str
 lead_of (buffer size content) = opcodes.Buffer
 lead_of (pkg count es) = opcodes.Package

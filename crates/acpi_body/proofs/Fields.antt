@@ -16,9 +16,9 @@ use Rattle.acpi_code.specs.declared.opcode.Opcode.TheVariants as opcodes
 use Rattle.acpi_code.specs.Spelling.{SpellsByte, SpellsInt, SpellsSegment, SpellsEach, Packs}
 use Rattle.acpi_code.specs.steps.Reading.{◌>>=◌, Reading, Package, byte_at, length_in, package_at, or_name_fault, name_in, segment_in, each_at, opcode_at, constant_at}
 use Rattle.acpi_code.proofs.Readings.{Judge, judge_bind, judge_into, judge_if, Source, Position, Front, Read, Shown, position_after, read_behind}
-use Rattle.acpi_code.proofs.Constants.{int_form, int_complete, whole_constant}
+use Rattle.acpi_code.proofs.Constants.{form_of, int_opens, whole_constant}
 use Rattle.acpi_code.proofs.Lists.{each_complete, all_at, all_sound}
-use Rattle.acpi_code.proofs.Names.{name_in_complete, seg_in_complete, name_sound, segment_sound}
+use Rattle.acpi_code.proofs.Names.{name_in_complete, segment_in_complete, name_sound, segment_sound}
 use Rattle.acpi_code.proofs.Numbers.{byte_complete, length_complete, byte_sound, length_sound}
 use Rattle.acpi_code.proofs.Opcodes.{Opened, opcode_sound, begins}
 use Rattle.acpi_code.proofs.Packages.{GoodPackage, package_complete, package_sound}
@@ -34,7 +34,7 @@ use Rattle.acpi_body.proofs.TermComplete.{front_is}
 
 const_complete : (end : ℕ) (i : Int) (a rest : List ℕ) → SpellsInt i a → const_at end (a ++ rest) ≡ Ok (i, rest)
 unfolding const_at
-const_complete end i a rest h = let o = int_complete i end a rest h in rw (o.1, o.2) refl
+const_complete end i a rest h = let o = int_opens i end a rest h in rw (o.1, o.2) refl
 
 buffer_complete : (end : ℕ) (size : Int) (content a len rest : List ℕ) → SpellsInt size a → SpellsPkgLength (length len + length (a ++ content)) len → connect_buffer_at end (len ++ ((a ++ content) ++ rest)) ≡ Ok (connect_buffer size content, rest)
 unfolding connect_buffer_at
@@ -46,7 +46,7 @@ connect_name_complete end n a rest h = rw (name_in_complete end n a rest h) refl
 
 unit_complete : (end : ℕ) (g : Segment) (bits : ℕ) (b rest : List ℕ) → is_segment g ≡ true → SpellsPkgLength bits b → unit_at end (g ++ (b ++ rest)) ≡ Ok (unit g bits, rest)
 unfolding unit_at
-unit_complete end g bits b rest h l = rw (seg_in_complete end g (b ++ rest) h, length_complete bits end b rest l) refl
+unit_complete end g bits b rest h l = rw (segment_in_complete end g (b ++ rest) h, length_complete bits end b rest l) refl
 
 reserved_complete : (end bits : ℕ) (b rest : List ℕ) → SpellsPkgLength bits b → reserved_at end (b ++ rest) ≡ Ok (reserved bits, rest)
 unfolding reserved_at

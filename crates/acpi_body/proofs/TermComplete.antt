@@ -19,7 +19,7 @@ use Rattle.acpi_code.specs.declared.opcode.ConstantForm.{ConstantForm}
 use Rattle.acpi_code.specs.Opcodes.{operator_bytes, is_name_start}
 use Rattle.acpi_code.specs.Spelling.{SpellsNumber, SpellsTermName}
 use Rattle.acpi_code.specs.steps.Reading.{◌>>=◌, Reading, byte_at, number_at, package_at, package_of, name_in, each_at, opcode_at, constant_at, string_at}
-use Rattle.acpi_code.proofs.Constants.{int_form, int_complete, int_long}
+use Rattle.acpi_code.proofs.Constants.{form_of, int_opens, int_long}
 use Rattle.acpi_code.proofs.Lists.{AreAll, none_left, one_more, all_at}
 use Rattle.acpi_code.proofs.Names.{name_in_complete}
 use Rattle.acpi_code.proofs.Numbers.{byte_complete, number_complete}
@@ -189,8 +189,8 @@ mutual
 
   pub form_complete : (args : NameParts → ℕ) (t : TermTree) (level : ℕ) (p : Place) (end : ℕ) (b rest : List ℕ) → Allowed p t → Spells args t b → height t ≤ suc level → Leads args level p end (b ++ rest) t rest
   form_complete args (int i) level p end b rest a h le =
-      let o = int_complete i end b rest h in
-      (o.0, o.1, constant_made (int_form i) end i o.0 rest o.2)
+      let o = int_opens i end b rest h in
+      (o.0, o.1, constant_made (form_of i) end i o.0 rest o.2)
   form_complete args (str text) level p end b rest a (x, spells, whole) le =
       let is : b ++ rest ≡ 0x0D ∷ (text ++ 0 ∷ rest) = ap (λ (b : List ℕ). b ++ rest) (whole ∙ ap (λ (x : List ℕ). 0x0D ∷ x) spells.1) ∙ ap (λ (l : List ℕ). 0x0D ∷ l) (append_assoc text (0 ∷ []) rest) in
       rw is (text ++ 0 ∷ rest, opens end opcodes.Str (text ++ 0 ∷ rest) refl, string_made end text (text ++ 0 ∷ rest) rest (string_complete end text rest spells.0))

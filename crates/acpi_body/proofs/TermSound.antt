@@ -22,7 +22,7 @@ use Rattle.acpi_code.specs.Opcodes.{operator_bytes, opcode_bytes}
 use Rattle.acpi_code.specs.Spelling.{SpellsByte, SpellsNumber, SpellsInt, SpellsTermName, SpellsText, SpellsEach, Packs}
 use Rattle.acpi_code.specs.steps.Reading.{◌>>=◌, Reading, Package, byte_at, number_at, package_at, name_in, each_at, opcode_at, constant_at, string_at}
 use Rattle.acpi_code.proofs.Readings.{Judge, judge_bind, judge_into, judge_if, Source, Position, Front, Read, Shown, position_after, position_deeper, position_up, no_level_shows, read_as, read_behind}
-use Rattle.acpi_code.proofs.Constants.{int_form, whole_constant}
+use Rattle.acpi_code.proofs.Constants.{form_of, whole_constant}
 use Rattle.acpi_code.proofs.Lists.{all_sound}
 use Rattle.acpi_code.proofs.Names.{name_sound, term_name_sound}
 use Rattle.acpi_code.proofs.Numbers.{byte_sound, number_sound}
@@ -277,7 +277,7 @@ module _ (m : List Segment) (s : Source) (args : NameParts → ℕ) where
   constant_up : (level : ℕ) (p : Place) (form : ConstantForm) (end : ℕ) (bytes rest : List ℕ) → Position s.depth (suc level) s.code end bytes → Opened bytes (opcodes.Constant form, rest) → Judge (Read s (suc level) end (Formed args level p (opcodes.Constant form)) bytes) (Bad m s) (constant_form form end rest)
   unfolding constant_form
   constant_up level p form end bytes rest h o =
-      read_as (Bad m s) s (suc level) end SpellsInt (Formed args level p (opcodes.Constant form)) (λ i. int i) bytes (part (constant_at form end rest)) (λ i a k. record { leads = same_refusal p (int_form i) form; suits = tt; spells = k; within = omega arith })
+      read_as (Bad m s) s (suc level) end SpellsInt (Formed args level p (opcodes.Constant form)) (λ i. int i) bytes (part (constant_at form end rest)) (λ i a k. record { leads = same_refusal p (form_of i) form; suits = tt; spells = k; within = omega arith })
       (part_sound m s (Read s (suc level) end SpellsInt bytes) (constant_at form end rest) (whole_constant s (suc level) end form bytes rest h o))
 
   -- a name, with what follows it

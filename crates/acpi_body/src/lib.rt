@@ -23,8 +23,8 @@ mod statement;
 mod term;
 
 pub use acpi_code::Depth;
-pub use body::{Body, read_body, why};
 pub use acpi_counts::Counts;
+pub use body::{Body, read_body, why};
 pub use fault::{BodyFault, BodyReason};
 
 #[cfg(test)]
