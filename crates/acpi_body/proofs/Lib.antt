@@ -1,5 +1,10 @@
 pub mod Parts
 pub mod Overlaid
+pub mod Missed
+pub mod Gathering
+pub mod Grown
+pub mod SpelledNames
+pub mod Listed
 pub mod InOrder
 pub mod Opened
 pub mod Plain
@@ -15,3 +20,4 @@ pub mod StatementSound
 pub mod Next
 pub mod Kept
 pub mod ReadBodies
+pub mod Fitting

@@ -1,14 +1,17 @@
 -- The search of a plain name with the locals of a body laid over the namespace.
-use Rattle.std.proofs.Common.{◌≡◌, ℕ, suc, ◌<◌, ◌≤◌, Bool, true, false, cond, ltb, ◌||◌, List, [], ◌∷◌, ◌++◌, map, find, length, take, Option, Some, None, refl, sym, ap, ap₂, ◌∙◌, arith}
+use Rattle.std.proofs.Common.{◌≡◌, ℕ, suc, ◌<◌, ◌≤◌, Bool, true, false, cond, ltb, ◌||◌, List, [], ◌∷◌, ◌++◌, map, find, length, take, is_some, Option, Some, None, refl, sym, ap, ap₂, ◌∙◌, arith}
 use Rattle.std.proofs.lemmas.Bool.{lt-ltb, le-ltb}
 use Rattle.std.specs.Option.{option_map}
+use Rattle.std.specs.FinMap.{get}
 use Rattle.std.specs.List.{AllByRecursion}
 use Rattle.acpi_name.specs.Names.{Segment, NameParts, plain_segment}
 use Rattle.acpi_space.specs.Spaces.{PathMap, is_defined}
+use Rattle.acpi_space.specs.Lookups.{Lookup, is_defined_in}
 use Rattle.acpi_space.specs.Search.{beginnings, tries_of, answer, nearest_scope}
 use Rattle.acpi_space.proofs.Beginnings.{find_map, found_within, found_there, not_found}
 use Rattle.acpi_tree.specs.declared.object.Object.{Object}
-use Rattle.acpi_body.specs.Arguments.{Locals, defined_with, args_there, args_at, expected_at, expected_place, arguments}
+use Rattle.acpi_tree.specs.Objects.{object_view}
+use Rattle.acpi_body.specs.Arguments.{Namespace, namespace_of, Locals, defined_with, args_there, args_at, expected_at, expected_place, arguments}
 use Rattle.acpi_body.specs.steps.Setting.{deeper}
 
 -- ---- each beginning is longer than those behind it
@@ -78,13 +81,13 @@ overlaid p q s g = found_deeper (λ b. p (b ++ g ∷ [])) (λ b. q (b ++ g ∷ [
 
 -- ---- how many values follow a plain name
 
-pub plain_found : (objects : PathMap Object) (externals : PathMap ℕ) (s : List Segment) (locals : Locals) (n : NameParts) (g : Segment) (q : List Segment) → plain_segment n ≡ Some g
+pub plain_found : (objects : Namespace) (externals : Lookup ℕ) (s : List Segment) (locals : Locals) (n : NameParts) (g : Segment) (q : List Segment) → plain_segment n ≡ Some g
     → find (λ q. defined_with objects locals (q ++ g ∷ [])) (beginnings s) ≡ Some q → args_there objects locals (q ++ g ∷ []) ≡ arguments objects externals s locals n
 plain_found objects externals s locals n g q plain e =
     let there : answer (defined_with objects locals) s n ≡ Some (q ++ g ∷ []) = ap (λ o. find (defined_with objects locals) (tries_of s n o)) plain ∙ find_map (defined_with objects locals) (λ q. q ++ g ∷ []) (beginnings s) ∙ ap (option_map (λ q. q ++ g ∷ [])) e in
     ap (args_at objects locals (expected_at externals (expected_place externals s n))) (sym there)
 
-pub plain_missed : (objects : PathMap Object) (externals : PathMap ℕ) (s : List Segment) (locals : Locals) (n : NameParts) (g : Segment) → plain_segment n ≡ Some g
+pub plain_missed : (objects : Namespace) (externals : Lookup ℕ) (s : List Segment) (locals : Locals) (n : NameParts) (g : Segment) → plain_segment n ≡ Some g
     → find (λ q. defined_with objects locals (q ++ g ∷ [])) (beginnings s) ≡ None → expected_at externals (expected_place externals s n) ≡ arguments objects externals s locals n
 plain_missed objects externals s locals n g plain e =
     let there : answer (defined_with objects locals) s n ≡ None = ap (λ o. find (defined_with objects locals) (tries_of s n o)) plain ∙ find_map (defined_with objects locals) (λ q. q ++ g ∷ []) (beginnings s) ∙ ap (option_map (λ q. q ++ g ∷ [])) e in
@@ -92,22 +95,30 @@ plain_missed objects externals s locals n g plain e =
 
 -- ---- as the code finds them
 
-pub nearest_of : (objects : PathMap Object) (locals : Locals) (s : List Segment) (g : Segment) (a b r : Option ℕ)
-    → r ≡ deeper a b → a ≡ option_map length (nearest_scope (is_defined locals) s g) → b ≡ option_map length (nearest_scope (is_defined objects) s g)
-    → r ≡ option_map length (nearest_scope (defined_with objects locals) s g)
-nearest_of objects locals s g a b r h e f = h ∙ ap₂ deeper e f ∙ sym (overlaid (is_defined locals) (is_defined objects) s g)
+is_some-view : (o : Option Object) → is_some (option_map object_view o) ≡ is_some o
+is_some-view None = refl
+is_some-view (Some o) = refl
 
-pub depth_within : (objects : PathMap Object) (locals : Locals) (s : List Segment) (g : Segment) (r : Option ℕ) (depth : ℕ)
+-- the same paths are defined in a map and in the namespace that it holds
+pub is_defined-namespace : (m : PathMap Object) → is_defined m ≡ is_defined_in (namespace_of m)
+is_defined-namespace m = sym (λ i p. is_some-view (get m p) i)
+
+pub nearest_of : (objects : Namespace) (locals : Locals) (s : List Segment) (g : Segment) (a b r : Option ℕ)
+    → r ≡ deeper a b → a ≡ option_map length (nearest_scope (is_defined locals) s g) → b ≡ option_map length (nearest_scope (is_defined_in objects) s g)
+    → r ≡ option_map length (nearest_scope (defined_with objects locals) s g)
+nearest_of objects locals s g a b r h e f = h ∙ ap₂ deeper e f ∙ sym (overlaid (is_defined locals) (is_defined_in objects) s g)
+
+pub depth_within : (objects : Namespace) (locals : Locals) (s : List Segment) (g : Segment) (r : Option ℕ) (depth : ℕ)
     → r ≡ option_map length (nearest_scope (defined_with objects locals) s g) → r ≡ Some depth → depth ≤ length s
 depth_within objects locals s g r depth e f = found_within (λ q. defined_with objects locals (q ++ g ∷ [])) s r depth e f
 
-pub count_found : (objects : PathMap Object) (externals : PathMap ℕ) (s : List Segment) (locals : Locals) (n : NameParts) (g : Segment) (r : Option ℕ) (depth : ℕ) (path : List Segment) (count : ℕ)
+pub count_found : (objects : Namespace) (externals : Lookup ℕ) (s : List Segment) (locals : Locals) (n : NameParts) (g : Segment) (r : Option ℕ) (depth : ℕ) (path : List Segment) (count : ℕ)
     → plain_segment n ≡ Some g → r ≡ option_map length (nearest_scope (defined_with objects locals) s g) → r ≡ Some depth → path ≡ take depth s ++ g ∷ [] → count ≡ args_there objects locals path
     → count ≡ arguments objects externals s locals n
 count_found objects externals s locals n g r depth path count plain e f is h =
     h ∙ ap (args_there objects locals) is ∙ plain_found objects externals s locals n g (take depth s) plain (found_there (λ q. defined_with objects locals (q ++ g ∷ [])) s r depth e f)
 
-pub count_missed : (objects : PathMap Object) (externals : PathMap ℕ) (s : List Segment) (locals : Locals) (n : NameParts) (g : Segment) (r : Option ℕ) (count : ℕ)
+pub count_missed : (objects : Namespace) (externals : Lookup ℕ) (s : List Segment) (locals : Locals) (n : NameParts) (g : Segment) (r : Option ℕ) (count : ℕ)
     → plain_segment n ≡ Some g → r ≡ option_map length (nearest_scope (defined_with objects locals) s g) → r ≡ None → count ≡ expected_at externals (expected_place externals s n)
     → count ≡ arguments objects externals s locals n
 count_missed objects externals s locals n g r count plain e none h =

@@ -1,8 +1,9 @@
 -- A method body: its terms, or its bytes where no terms stand for them.
-use Rattle.std.specs.Prelude.{◌≡◌, ℕ, List}
+use Rattle.std.specs.Prelude.{◌≡◌, ℕ, Bool, true, List}
 use Rattle.acpi_name.specs.Names.{Segment}
 use Rattle.acpi_tree.specs.Terms.{TermTrees}
 use Rattle.acpi_tree.specs.TermView.{terms_tree}
+use Rattle.acpi_tree.specs.TermFits.{terms_fit}
 use Rattle.acpi_body.specs.Arguments.{Arguments}
 use Rattle.acpi_body.specs.Statements.{Reads}
 use Rattle.acpi_body.specs.declared.body.Body.{Body}
@@ -20,3 +21,8 @@ body_view (Opaque v) = unread v.items
 abbrev pub IsBodyOf : Arguments → List Segment → ℕ → List ℕ → BodyTree → Type 0
 IsBodyOf args s depth bytes (read ts) = Reads args s depth bytes ts
 IsBodyOf args s depth bytes (unread kept) = (kept ≡ bytes) × ((ts : TermTrees) → ¬ Reads args s depth bytes ts)
+
+-- its terms have a spelling, but for the lengths of packages
+abbrev pub body_fits : BodyTree → Bool
+body_fits (read ts) = terms_fit ts
+body_fits (unread kept) = true

@@ -1,5 +1,5 @@
 -- Laws of the readings of method bodies.
-use Rattle.std.specs.Prelude.{◌≡◌, ℕ, List}
+use Rattle.std.specs.Prelude.{◌≡◌, ◌⊎◌, ℕ, List}
 use Rattle.std.specs.List.{AllByRecursion}
 use Rattle.acpi_name.specs.Names.{Segment, NameParts}
 use Rattle.acpi_tree.specs.Terms.{TermTrees}
@@ -11,6 +11,10 @@ use Rattle.acpi_body.specs.Searches.{all_searches, IsSpelledIn}
 abbrev pub AtMostOneReading : Type 0
 AtMostOneReading = (args : Arguments) (s : List Segment) (depth : ℕ) (bytes : List ℕ) (ts us : TermTrees)
     → Reads args s depth bytes ts → Reads args s depth bytes us → ts ≡ us
+
+-- Bytes are read, or have no reading.
+abbrev pub ReadOrNot : Type 0
+ReadOrNot = (args : Arguments) (s : List Segment) (depth : ℕ) (bytes : List ℕ) → ((ts : TermTrees) × Reads args s depth bytes ts) ⊎ ((ts : TermTrees) → ¬ Reads args s depth bytes ts)
 
 abbrev pub AgreeAt : Arguments → Arguments → Locals × NameParts → Type 0
 AgreeAt a b e = a e.0 e.1 ≡ b e.0 e.1

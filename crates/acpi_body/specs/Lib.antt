@@ -4,8 +4,10 @@ pub mod Fields
 pub mod Statements
 pub mod Refusals
 pub mod Faults
+pub mod Reasons
 pub mod Bodies
 pub mod BodyEqual
 pub mod Searches
+pub mod Misses
 pub mod Laws
 pub mod steps

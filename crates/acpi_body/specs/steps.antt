@@ -3,3 +3,4 @@ pub mod Cursor
 pub mod Setting
 pub mod Answers
 pub mod BodyEquality
+pub mod Gathering

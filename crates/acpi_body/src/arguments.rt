@@ -7,7 +7,8 @@ ghost use Rattle.acpi_name.specs.Names.{plain_segment};
 ghost use Rattle.acpi_space.specs.Spaces.{is_defined};
 ghost use Rattle.acpi_space.specs.Search.{nearest_scope};
 ghost use Rattle.acpi_name.specs.Paths.{place_of};
-ghost use Rattle.acpi_body.specs.Arguments.{args_there, with_local, defined_with, expected_at, expected_place};
+ghost use Rattle.acpi_body.specs.Arguments.{namespace_of, args_there, with_local, defined_with, expected_at, expected_place};
+ghost use Rattle.std.specs.FinMap.{get};
 ghost use Rattle.acpi_body.specs.steps.Setting.{args_of, deeper};
 
 use acpi_counts::Counts;
@@ -63,7 +64,7 @@ impl<'a, S: Space<Object>> Context<'a, S> {
         self.space
     }
 
-    fn counts(&self) -> &'a Counts
+    pub(crate) fn counts(&self) -> &'a Counts
         ensures { result.now ≡ self.now.externals }
     {
         self.counts
@@ -90,7 +91,7 @@ pub(crate) fn add(locals: &mut MapSpace<()>, path: Path) -> Result<(), AllocErro
 }
 
 fn args_there<S: Space<Object>>(space: &S, locals: &MapSpace<()>, path: &Path) -> u8
-    ensures { result ≡ args_there (S.contents space.now) locals.now path.now }
+    ensures { result ≡ args_there (namespace_of (S.contents space.now)) locals.now path.now }
 {
     if locals.get(path).is_some() {
         return 0;
@@ -102,7 +103,7 @@ fn args_there<S: Space<Object>>(space: &S, locals: &MapSpace<()>, path: &Path) -
 }
 
 fn expected<S: Space<Object>>(context: &Context<'_, S>, name: NameRef<'_>) -> Result<u8, AllocError>
-    ensures { IfOk result (λ n. n ≡ expected_at context.now.externals (expected_place context.now.externals context.now.method (name_parts name.entry))) }
+    ensures { IfOk result (λ n. n ≡ expected_at (get context.now.externals) (expected_place (get context.now.externals) context.now.method (name_parts name.entry))) }
 {
     match context
         .counts()
@@ -122,7 +123,7 @@ fn nearest<S: Space<Object>>(
     locals: &MapSpace<()>,
     seg: Seg,
 ) -> Result<Option<usize>, AllocError>
-    ensures { IfOk result (λ n. n ≡ option_map length (nearest_scope (defined_with context.now.objects locals.now) context.now.method seg)) }
+    ensures { IfOk result (λ n. n ≡ option_map length (nearest_scope (defined_with (namespace_of context.now.objects) locals.now) context.now.method seg)) }
 {
     let method = context.method();
     let space = context.space();
@@ -141,6 +142,7 @@ fn deeper(first: Option<usize>, second: Option<usize>) -> Option<usize>
     }
 }
 
+#[tactic(auto, unfolding(crate::specs::steps::Setting::args_of))]
 fn plain_count<S: Space<Object>>(
     context: &Context<'_, S>,
     locals: &MapSpace<()>,
@@ -164,6 +166,7 @@ fn plain_count<S: Space<Object>>(
     }
 }
 
+#[tactic(auto, unfolding(crate::specs::steps::Setting::args_of))]
 fn placed_count<S: Space<Object>>(
     context: &Context<'_, S>,
     locals: &MapSpace<()>,
@@ -180,7 +183,9 @@ fn placed_count<S: Space<Object>>(
     expected(context, name)
 }
 
-/// How many values follow the name.
+/// How many values follow the name. It has a frame of its own, so that a level of calls costs less stack.
+#[tactic(auto, unfolding(crate::specs::steps::Setting::args_of))]
+#[inline(never)]
 pub(crate) fn count<S: Space<Object>>(
     context: &Context<'_, S>,
     locals: &MapSpace<()>,

@@ -1,13 +1,13 @@
 //! Reading method bodies.
 
-ghost use Rattle.std.specs.Prelude.{◌≡◌, ◌++◌, ◌↔◌, ℕ, List, length, Some, None, IfOk, IfSome};
+ghost use Rattle.std.specs.Prelude.{◌≡◌, ◌++◌, ◌↔◌, ℕ, List, length, true, Some, None, IfOk, IfSome};
 ghost use Rattle.std.specs.FinMap as finite;
 ghost use Rattle.acpi_tree.specs.Terms.{TermTrees};
 ghost use Rattle.acpi_body.specs.declared.fault.BodyReason.{BodyReason};
-ghost use Rattle.acpi_body.specs.Arguments.{arguments};
+ghost use Rattle.acpi_body.specs.Arguments.{namespace_of, arguments};
 ghost use Rattle.acpi_body.specs.Statements.{Reads};
 ghost use Rattle.acpi_body.specs.Faults.{Shows, IsRefused};
-ghost use Rattle.acpi_body.specs.Bodies.{read, body_view, IsBodyOf};
+ghost use Rattle.acpi_body.specs.Bodies.{read, body_view, body_fits, IsBodyOf};
 ghost use Rattle.acpi_body.specs.steps.Reading.{body_at};
 ghost use Rattle.acpi_body.specs.steps.Answers.{body_of, told};
 
@@ -30,6 +30,7 @@ pub enum Body {
     Opaque(Vec<u8>),
 }
 
+#[tactic(auto, unfolding(crate::specs::steps::Setting::args_of))]
 fn body_or_bytes<S: Space<Object>>(
     alloc: Global,
     space: &S,
@@ -38,7 +39,7 @@ fn body_or_bytes<S: Space<Object>>(
     depth: u32,
     counts: &Counts,
 ) -> Result<Body, AllocError>
-    ensures { IfOk result (λ b. body_view b ≡ body_of bytes.now (body_at (arguments (S.contents space.now) counts.now method.now) method.now depth finite.empty bytes.now)) }
+    ensures { IfOk result (λ b. body_view b ≡ body_of bytes.now (body_at (arguments (namespace_of (S.contents space.now)) (finite.get counts.now) method.now) method.now depth finite.empty bytes.now)) }
 {
     match body(&Context::new(alloc, space, counts, method), depth, bytes) {
         Ok(terms) => Ok(Body::Terms(terms)),
@@ -58,13 +59,16 @@ pub fn read_body<S: Space<Object>>(
     counts: &Counts,
 ) -> Result<Body, AllocError>
     // Terms are the reading of the bytes; opaque bytes are the same, and have no reading.
-    ensures body { IfOk result (λ b. IsBodyOf (arguments (S.contents space.now) counts.now method.now) method.now depth bytes.now (body_view b)) }
+    ensures body { IfOk result (λ b. IsBodyOf (arguments (namespace_of (S.contents space.now)) (finite.get counts.now) method.now) method.now depth bytes.now (body_view b)) }
     // So it is read exactly where it has a reading, and as that.
-    ensures read { IfOk result (λ b. (ts : TermTrees) → (body_view b ≡ read ts) ↔ Reads (arguments (S.contents space.now) counts.now method.now) method.now depth bytes.now ts) }
+    ensures read { IfOk result (λ b. (ts : TermTrees) → (body_view b ≡ read ts) ↔ Reads (arguments (namespace_of (S.contents space.now)) (finite.get counts.now) method.now) method.now depth bytes.now ts) }
+    // What is read fits.
+    ensures fits { IfOk result (λ b. body_fits (body_view b) ≡ true) }
 {
     body_or_bytes(alloc, space, method, bytes, depth.get(), counts)
 }
 
+#[tactic(auto, unfolding(crate::specs::steps::Setting::args_of))]
 fn fault_in<S: Space<Object>>(
     alloc: Global,
     space: &S,
@@ -73,7 +77,7 @@ fn fault_in<S: Space<Object>>(
     depth: u32,
     counts: &Counts,
 ) -> Result<Option<BodyFault>, AllocError>
-    ensures { IfOk result (λ w. w ≡ told (body_at (arguments (S.contents space.now) counts.now method.now) method.now depth finite.empty bytes.now)) }
+    ensures { IfOk result (λ w. w ≡ told (body_at (arguments (namespace_of (S.contents space.now)) (finite.get counts.now) method.now) method.now depth finite.empty bytes.now)) }
 {
     match body(&Context::new(alloc, space, counts, method), depth, bytes) {
         Ok(_) => Ok(None),
@@ -92,11 +96,11 @@ pub fn why<S: Space<Object>>(
     counts: &Counts,
 ) -> Result<Option<BodyFault>, AllocError>
     // None exactly where the bytes have a reading.
-    ensures read { IfOk result (λ w. (w ≡ None) ↔ ((ts : TermTrees) × Reads (arguments (S.contents space.now) counts.now method.now) method.now depth bytes.now ts)) }
+    ensures read { IfOk result (λ w. (w ≡ None) ↔ ((ts : TermTrees) × Reads (arguments (namespace_of (S.contents space.now)) (finite.get counts.now) method.now) method.now depth bytes.now ts)) }
     // What a fault says is true of the bytes.
     ensures faults { IfOk result (λ w. IfSome w (λ f. Shows method.now depth bytes.now f.reason f.place)) }
     // Behind statements, what can't begin one is told at its place.
-    ensures next { (u w : List ℕ) (ts : TermTrees) (reason : BodyReason) → bytes.now ≡ u ++ w → Reads (arguments (S.contents space.now) counts.now method.now) method.now depth u ts → IsRefused reason w
+    ensures next { (u w : List ℕ) (ts : TermTrees) (reason : BodyReason) → bytes.now ≡ u ++ w → Reads (arguments (namespace_of (S.contents space.now)) (finite.get counts.now) method.now) method.now depth u ts → IsRefused reason w
         → IfOk result (λ f. f ≡ Some (record { reason = reason; place = length u })) }
 {
     fault_in(alloc, space, method, bytes, depth.get(), counts)

@@ -1,10 +1,15 @@
 //! Laws of the readings of method bodies, of the definitions alone.
 
-ghost use Rattle.acpi_body.specs.Laws.{AtMostOneReading, ReadingIsKept, SearchesAreSpelled, ReadingsAreSame};
+ghost use Rattle.acpi_body.specs.Laws.{AtMostOneReading, ReadOrNot, ReadingIsKept, SearchesAreSpelled, ReadingsAreSame};
 
 /// Bytes have at most one reading.
 pub fn at_most_one_reading()
     ensures { AtMostOneReading }
+{}
+
+/// Bytes are read, or have no reading.
+pub fn read_or_not()
+    ensures { ReadOrNot }
 {}
 
 /// A reading depends on a namespace only by the argument counts of names that are spelled in its bytes.

@@ -16,9 +16,13 @@ mod body;
 mod declare;
 mod fault;
 mod field;
+mod gathered;
 pub mod laws;
+mod misses;
 mod refusal;
 mod same;
+mod searched;
+mod spelled;
 mod statement;
 mod term;
 
@@ -26,6 +30,7 @@ pub use acpi_code::Depth;
 pub use acpi_counts::Counts;
 pub use body::{Body, read_body, why};
 pub use fault::{BodyFault, BodyReason};
+pub use misses::{BodyMisses, OpenMiss, body_misses};
 
 #[cfg(test)]
 mod tests;

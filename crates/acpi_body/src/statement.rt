@@ -16,7 +16,7 @@ use crate::declare::{
     index_field_declared, mutex_declared, name_declared, region_declared, value,
 };
 use crate::fault::Stop;
-use crate::term::placed;
+use crate::term::{buffer, package, placed, var_package};
 use acpi_code::{Code, Opcode};
 use acpi_space::{MapSpace, Space};
 use acpi_tree::{Object, Place, Term};
@@ -112,7 +112,7 @@ fn statements<S: Space<Object>>(
 
 // The statement whose first opcode, behind `front`, was read; `level` levels are left inside it.
 #[cycle(statement)]
-#[tactic(auto, using(crate::proofs::Plain::plain_keeps), unfolding(crate::specs::steps::Reading::statement_by))]
+#[tactic(auto, using(crate::proofs::Plain::plain_keeps), unfolding(crate::specs::steps::Reading::statement_by, crate::specs::steps::Reading::placed_by, crate::specs::steps::Reading::form_by))]
 fn form<'a, S: Space<Object>>(
     context: &Context<'_, S>,
     locals: &mut MapSpace<()>,
@@ -138,6 +138,9 @@ fn form<'a, S: Space<Object>>(
         Opcode::Field => field_declared(context, locals, level, code),
         Opcode::IndexField => index_field_declared(context, locals, level, code),
         Opcode::BankField => bank_field_declared(context, locals, level, code),
+        Opcode::Buffer => buffer(context, locals, level, code),
+        Opcode::Package => package(context, locals, level, code),
+        Opcode::VarPackage => var_package(context, locals, level, code),
         _ => placed(
             context,
             locals,

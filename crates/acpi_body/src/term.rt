@@ -1,6 +1,8 @@
 //! Reading terms that are no blocks and no declarations.
 
 ghost use Rattle.std.specs.Prelude.{◌≡◌, ◌<◌, true, length, IfOk};
+ghost use Rattle.acpi_name.specs.NameRefs.{name_parts};
+ghost use Rattle.acpi_tree.specs.Terms.{terms_of, ref, call};
 ghost use Rattle.acpi_tree.specs.TermView.{term_view, terms_view, operand_view, operands_view};
 ghost use Rattle.acpi_tree.specs.declared.place.Place.TheVariants.{Element};
 ghost use Rattle.acpi_code.specs.steps.Reading.{each_at};
@@ -13,9 +15,10 @@ use crate::arguments::{Context, count};
 use crate::fault::{BodyReason, Stop, refused};
 use crate::refusal::refusal;
 use acpi_code::{Code, ConstantForm, Opcode};
+use acpi_name::NameRef;
 use acpi_space::{MapSpace, Space};
 use acpi_tree::{Object, Op, Operand, OperandKind, Place, Term};
-use std::alloc::Global;
+use std::alloc::{AllocError, Global};
 
 #[inline(never)]
 #[tactic(auto, using(crate::proofs::Parts::part_fails), unfolding(crate::specs::steps::Reading::constant_form))]
@@ -39,7 +42,7 @@ fn string(alloc: Global, code: &mut Code<'_>) -> Result<Term, Stop>
 #[cycle(read)]
 #[tactic(auto, using(crate::proofs::Parts::part_fails), unfolding(crate::specs::steps::Reading::buffer_form))]
 #[inline(never)]
-fn buffer<S: Space<Object>>(
+pub(crate) fn buffer<S: Space<Object>>(
     context: &Context<'_, S>,
     locals: &MapSpace<()>,
     level: u32,
@@ -73,7 +76,7 @@ fn elements<S: Space<Object>>(
 #[cycle(read)]
 #[tactic(auto, using(crate::proofs::Parts::part_fails), unfolding(crate::specs::steps::Reading::package_form))]
 #[inline(never)]
-fn package<S: Space<Object>>(
+pub(crate) fn package<S: Space<Object>>(
     context: &Context<'_, S>,
     locals: &MapSpace<()>,
     level: u32,
@@ -91,7 +94,7 @@ fn package<S: Space<Object>>(
 #[cycle(read)]
 #[tactic(auto, using(crate::proofs::Parts::part_fails), unfolding(crate::specs::steps::Reading::var_package_form))]
 #[inline(never)]
-fn var_package<S: Space<Object>>(
+pub(crate) fn var_package<S: Space<Object>>(
     context: &Context<'_, S>,
     locals: &MapSpace<()>,
     level: u32,
@@ -117,7 +120,7 @@ fn arguments<S: Space<Object>>(
 ) -> Result<Vec<Term>, Stop>
     ensures { ReadsOn (λ v. terms_view v.items) (operands_at (term_at (args_of context.now locals.now) level) (values count)) code.old code.new result }
 {
-    let mut found = Vec::new(context.alloc());
+    let mut found = Vec::with_capacity(context.alloc(), usize::from(count))?;
     'each: for _ in 0..count {
         found.push(term(context, locals, level, Place::Value, code)?)?;
     }
@@ -132,6 +135,22 @@ fn is_call(place: Place) -> bool
         Place::Statement => true,
         _ => false,
     }
+}
+
+// A call. With a frame of its own, a level of calls costs less stack.
+#[inline(never)]
+fn call_of(alloc: Global, name: NameRef<'_>, values: Vec<Term>) -> Result<Term, AllocError>
+    ensures { IfOk result (λ t. term_view t ≡ call (name_parts name.entry) (terms_of (terms_view values.items))) }
+{
+    Ok(Term::Call(name.own(alloc)?, values))
+}
+
+// A name where it is never a call.
+#[inline(never)]
+fn reference_to(alloc: Global, name: NameRef<'_>) -> Result<Term, AllocError>
+    ensures { IfOk result (λ t. term_view t ≡ ref (name_parts name.entry)) }
+{
+    Ok(Term::Ref(name.own(alloc)?))
 }
 
 // A name, and the values that follow it where it calls.
@@ -152,9 +171,9 @@ fn named<S: Space<Object>>(
     if is_call(place) {
         let count = count(context, locals, name)?;
         let values = arguments(context, locals, level, count, code)?;
-        Ok(Term::Call(name.own(context.alloc())?, values))
+        Ok(call_of(context.alloc(), name, values)?)
     } else {
-        Ok(Term::Ref(name.own(context.alloc())?))
+        Ok(reference_to(context.alloc(), name)?)
     }
 }
 
@@ -195,7 +214,7 @@ fn operands<S: Space<Object>>(
 ) -> Result<Vec<Operand>, Stop>
     ensures { ReadsOn (λ v. operands_view v.items) (operands_at (term_at (args_of context.now locals.now) level) kinds.now) code.old code.new result }
 {
-    let mut found = Vec::new(context.alloc());
+    let mut found = Vec::with_capacity(context.alloc(), kinds.len())?;
     'each: for kind in kinds {
         found.push(operand(context, locals, level, *kind, code)?)?;
     }

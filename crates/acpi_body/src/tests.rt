@@ -164,3 +164,105 @@ fn prints_reasons(rt: HostRuntime) -> Result<(), Fail> {
     );
     Ok(())
 }
+
+// What a body misses, as a text: the firm paths, a bar, and the open misses.
+fn missed<S: Space<Object>>(
+    alloc: Global,
+    space: &S,
+    method: &str,
+    bytes: &[u8],
+) -> Result<String, Fail> {
+    let method = Path::from_text(alloc, method)?;
+    let mut counts = Counts::new(alloc);
+    counts.add(Path::from_text(alloc, "\\MTH0")?, 0)?;
+    counts.add(Path::from_text(alloc, "\\MTH2")?, 2)?;
+    counts.add(Path::from_text(alloc, "\\MTH3")?, 2)?;
+    counts.add(Path::from_text(alloc, "\\BOTH")?, 1)?;
+    counts.add(Path::from_text(alloc, "\\_SB_.BOTH")?, 2)?;
+    let depth = Depth::new(1024).ok_or("no depth")?;
+    let body = read_body(alloc, space, &method, bytes, depth, &counts)?;
+    let misses = body_misses(alloc, space, &method, &body, &counts)?;
+    let mut text = String::new(alloc);
+    for path in &misses.firm {
+        text.push_str(format!(in alloc; "{path} ")?.as_str())?;
+    }
+    text.push_str("|")?;
+    for miss in &misses.open {
+        text.push_str(format!(in alloc; " {}={}", miss.path, miss.count)?.as_str())?;
+    }
+    Ok(text)
+}
+
+// Bodies of \_SB_.M001 where \MTH2 is a method of two arguments.
+const MISSES: [(&[u8], &str); 18] = [
+    // A name before its declaration, and behind it.
+    (
+        b"\xA4\x41\x41\x5F\x5F\x08\x41\x41\x5F\x5F\x00",
+        "\\AA__ \\_SB_.AA__ \\_SB_.M001.AA__ |",
+    ),
+    (b"\x08\x41\x41\x5F\x5F\x00\xA4\x41\x41\x5F\x5F", "|"),
+    // A declaration in an If hides from its end on.
+    (b"\xA0\x08\x60\x08\x41\x41\x5F\x5F\x00\x41\x41\x5F\x5F", "|"),
+    (
+        b"\x08\x41\x41\x5F\x5F\x11\x07\x41\x41\x5F\x5F\x00\x00",
+        "\\AA__ \\_SB_.AA__ \\_SB_.M001.AA__ |",
+    ),
+    // Calls that an External expects, of two arguments and of none; another one that is found.
+    (
+        b"\xA4\x4D\x54\x48\x33\x0A\x01\x0A\x02",
+        "\\_SB_.M001.MTH3 \\_SB_.MTH3 | \\MTH3=2",
+    ),
+    (
+        b"\xA4\x4D\x54\x48\x30",
+        "\\_SB_.M001.MTH0 \\_SB_.MTH0 | \\MTH0=0",
+    ),
+    (
+        b"\xA4\x4D\x54\x48\x32\x0A\x01\x0A\x02",
+        "\\_SB_.M001.MTH2 \\_SB_.MTH2 |",
+    ),
+    // One path by two names: firm by the plain one, which an External nearer to the method expects, and open by the rooted one.
+    (
+        b"\x42\x4F\x54\x48\x60\x60\x5C\x42\x4F\x54\x48\x60",
+        "\\BOTH \\_SB_.M001.BOTH | \\BOTH=1 \\_SB_.BOTH=2",
+    ),
+    // Names that are no values: a super name, a target, a simple name, an element of a package.
+    (b"\x75\x41\x41\x5F\x5F", "|"),
+    (b"\x70\x60\x41\x41\x5F\x5F", "|"),
+    (b"\x72\x60\x61\x41\x41\x5F\x5F", "|"),
+    (b"\x9D\x60\x41\x41\x5F\x5F", "|"),
+    (b"\xA4\x12\x06\x01\x41\x41\x5F\x5F", "|"),
+    // A rooted name, a parent's, and one without a place.
+    (b"\xA4\x5C\x41\x41\x5F\x5F", "\\AA__ |"),
+    (b"\xA4\x5E\x41\x41\x5F\x5F", "\\_SB_.AA__ |"),
+    (b"\xA4\x5E\x5E\x5E\x41\x41\x5F\x5F", "|"),
+    // Opaque: a name at each place, in other names too; no locals.
+    (
+        b"\x2E\x41\x41\x41\x41\x42\x42\x42\x06",
+        "\\AAAA \\AAAB \\AABB \\ABBB \\_SB_.AAAA \\_SB_.AAAB \\_SB_.AABB \\_SB_.ABBB \\_SB_.M001.AAAA \\_SB_.M001.AAAB \\_SB_.M001.AABB \\_SB_.M001.ABBB |",
+    ),
+    (
+        b"\x5E\x5E\x5E\x41\x41\x5F\x5F\x06",
+        "\\AA__ \\_SB_.AA__ \\_SB_.M001.AA__ |",
+    ),
+];
+
+fn expect_missed<S: Space<Object>>(rt: &impl Abort, alloc: Global) -> Result<(), Fail> {
+    let space: S = with_method(alloc)?;
+    for (bytes, text) in &MISSES {
+        assert_eq!(rt;
+            missed(alloc, &space, "\\_SB_.M001", *bytes)?.as_str(),
+            *text
+        );
+    }
+    Ok(())
+}
+
+#[test]
+fn misses_in_a_map(rt: HostRuntime) -> Result<(), Fail> {
+    expect_missed::<MapSpace<Object>>(&rt, rt.alloc())
+}
+
+#[test]
+fn misses_in_a_tree(rt: HostRuntime) -> Result<(), Fail> {
+    expect_missed::<TreeSpace<Object>>(&rt, rt.alloc())
+}

@@ -7,3 +7,4 @@ pub mod Packages
 pub mod Names
 pub mod Constants
 pub mod Strings
+pub mod Fitting

@@ -1,11 +1,13 @@
--- Links by path.
-use Rattle.std.proofs.Common.{◌≡◌, Bool, true, false, cond, List, [], ◌∷◌, map, Option, Some, refl, sym, ap, ◌∙◌}
-use Rattle.std.specs.Option.{option_map}
+-- Values by path.
+use Rattle.std.proofs.Common.{◌≡◌, Bool, true, false, cond, List, [], ◌∷◌, map, Option, Some, None, refl, sym, ap, ◌∙◌}
+use Rattle.std.specs.Option.{option_map, option_or}
 use Rattle.std.specs.Ordering.{is_eq}
 use Rattle.std.specs.Map.{lookup}
-use Rattle.std.specs.FinMap.{insert, from_entries}
+use Rattle.std.specs.FinMap.{FinMap, get, insert, get-insert, get-empty, from_entries}
 use Rattle.acpi_name.specs.Names.{Segment}
 use Rattle.acpi_name.specs.Paths.{path_cmp}
+use Rattle.acpi_name.specs.steps.PathOrder.{path_cmp_total}
+use Rattle.acpi_space.specs.Lookups.{is_same_path, nothing, singleton, union}
 use Rattle.acpi_space.proofs.Maps.{put_is_insert}
 
 lookup_mapped : {V W : Type 0} (f : V → W) (t : List Segment → Bool) (es : List (List Segment × V)) → lookup t (map (λ e. (e.0, f e.1)) es) ≡ option_map f (lookup t es)
@@ -26,3 +28,20 @@ pub put_mapped : {V W : Type 0} (f : V → W) (es fs : List (List Segment × V))
 put_mapped f es fs k v h =
     put_is_insert _ _ k (f v)
     (λ q. lookup_mapped f _ fs ∙ ap (option_map f) (h q) ∙ map_cond f _ v _ ∙ ap (cond (is_eq (path_cmp k q)) (Some (f v))) (sym (lookup_mapped f _ es)))
+
+newest : {V : Type 0} (b : Bool) (v : V) (a : Option V) → cond b (Some v) a ≡ option_or (cond b (Some v) None) a
+newest true v a = refl
+newest false v a = refl
+
+-- the newest value stands before those that are there
+pub get_inserted : {V : Type 0} (m : FinMap path_cmp V) (p : List Segment) (v : V) → get (insert m p v) ≡ union (singleton p v) (get m)
+get_inserted m p v = λ i q. at q i
+  where
+    at : (q : List Segment) → get (insert m p v) q ≡ union (singleton p v) (get m) q
+    at q = get-insert path_cmp_total m p v q ∙ newest (is_same_path q p) v (get m q)
+
+pub get_none : {V : Type 0} (es : List (List Segment × V)) → es ≡ [] → get (from_entries {R = path_cmp} es) ≡ nothing
+get_none es none = λ i q. at q i
+  where
+    at : (q : List Segment) → get (from_entries {R = path_cmp} es) q ≡ None
+    at q = ap (λ es. get (from_entries {R = path_cmp} es) q) none ∙ get-empty path_cmp q

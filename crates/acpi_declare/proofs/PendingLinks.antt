@@ -1,38 +1,24 @@
 -- Links: what is pending goes, path after path, to those that are there.
-use Rattle.std.proofs.Common.{◌≡◌, Bool, true, false, cond, List, [], ◌∷◌, ◌++◌, Option, Some, None, append_assoc, append-nil, refl, sym, ap, ◌∙◌}
-use Rattle.std.specs.FinMap.{FinMap, get, insert, get-insert, get-empty, from_entries}
+use Rattle.std.proofs.Common.{◌≡◌, List, [], ◌∷◌, ◌++◌, Option, append_assoc, append-nil, refl, sym, ap, ◌∙◌}
+use Rattle.std.specs.FinMap.{FinMap, get, insert, from_entries}
 use Rattle.std.proofs.lemmas.List.{map-append}
-use Rattle.std.specs.Option.{option_or}
 use Rattle.acpi_name.specs.Names.{Segment, NameParts}
 use Rattle.acpi_name.specs.Paths.{path_cmp}
-use Rattle.acpi_name.specs.steps.PathOrder.{path_cmp_total}
-use Rattle.acpi_space.specs.Lookups.{is_same_path, singleton, union}
+use Rattle.acpi_space.specs.Lookups.{singleton, union}
 use Rattle.acpi_declare.specs.declared.pass.PendingLinks.{PendingLinks}
 use Rattle.acpi_declare.specs.Links.{PendingLink, Links, answers, one_link, links_of}
 use Rattle.acpi_declare.specs.Namespace.{Namespace}
 use Rattle.acpi_declare.specs.steps.View.{pending_for, pending_from, pending_of, all_pending_of, links_with}
+use Rattle.acpi_declare.proofs.LinkMap.{get_inserted, get_none}
 use Rattle.acpi_declare.proofs.Unions.{union-nothing, union_assoc}
-
-newest : (b : Bool) (v : Links) (a : Option Links) → cond b (Some v) a ≡ option_or (cond b (Some v) None) a
-newest true v a = refl
-newest false v a = refl
 
 -- the next path goes from those that wait to those that are there
 pub path_moves : (found : Links) (p : List Segment) (ps : List (List Segment)) (m : FinMap path_cmp Links)
     → union (links_with found ps) (get (insert m p found)) ≡ union (links_with found (p ∷ ps)) (get m)
-path_moves found p ps m = ap (union (links_with found ps)) inserted ∙ sym (union_assoc (links_with found ps) (singleton p found) (get m))
-  where
-    inserted : get (insert m p found) ≡ union (singleton p found) (get m)
-    inserted = λ i q. at q i
-      where
-        at : (q : List Segment) → get (insert m p found) q ≡ union (singleton p found) (get m) q
-        at q = get-insert path_cmp_total m p found q ∙ newest (is_same_path q p) found (get m q)
+path_moves found p ps m = ap (union (links_with found ps)) (get_inserted m p found) ∙ sym (union_assoc (links_with found ps) (singleton p found) (get m))
 
 pub no_links : (objects : Namespace) (ws : List PendingLink) (es : List (List Segment × Links)) → es ≡ [] → union (links_of objects ws) (get (from_entries {R = path_cmp} es)) ≡ links_of objects ws
-no_links objects ws es none = ap (union (links_of objects ws)) (λ i q. at q i) ∙ union-nothing (links_of objects ws)
-  where
-    at : (q : List Segment) → get (from_entries {R = path_cmp} es) q ≡ None
-    at q = ap (λ es. get (from_entries {R = path_cmp} es) q) none ∙ get-empty path_cmp q
+no_links objects ws es none = ap (union (links_of objects ws)) (get_none es none) ∙ union-nothing (links_of objects ws)
 
 -- ---- several paths with the same names
 

@@ -4,7 +4,7 @@ use Rattle.acpi_table.specs.declared.tables.TableFault.{TableFault}
 use Rattle.acpi_table.specs.Tables.{IsTable, table_at}
 use Rattle.acpi_table.proofs.TableLaws.{table_again, whole_table, table_refuses}
 use Rattle.acpi_tree.specs.Tree.{ItemTrees}
-use Rattle.acpi_terms.specs.Spelling.{SpellsItems, items_height}
+use Rattle.acpi_terms.specs.Spelling.{SpellsItems}
 use Rattle.acpi_terms.proofs.OneTree.{one_item_tree}
 use Rattle.acpi_declare.specs.declared.fault.LoadReason.{LoadReason}
 use Rattle.acpi_declare.specs.declared.fault.LoadReason.TheVariants.{Table, NotDsdt, NotSsdt, Trailing, Item, Refused}

@@ -25,7 +25,7 @@ mod placing;
 mod predefined;
 
 pub use fault::{LoadFault, LoadReason, Refusal};
-pub use load::{Declared, declare, declare_shared};
+pub use load::{Declared, declare, declare_shared, shared_tables};
 pub use notes::{Method, TableNotes};
 
 #[cfg(test)]

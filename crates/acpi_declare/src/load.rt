@@ -61,6 +61,20 @@ impl<S> Declared<S> {
     {
         &self.notes
     }
+
+    /// The namespace, the links and the notes, each for its new owner.
+    pub fn into_parts(self) -> (S, BTreeMap<Path, Vec<Option<Path>>>, Vec<TableNotes>)
+        ensures objects { result.0 ≡ objects_in self }
+        ensures links { result.1 ≡ links_in self }
+        ensures notes { result.2.items ≡ notes_in self }
+    {
+        let Declared {
+            objects,
+            links,
+            notes,
+        } = self;
+        (objects, links, notes)
+    }
 }
 
 // What was declared so far.
@@ -209,8 +223,8 @@ pub fn declare_shared<S: Space<Object>>(
     })
 }
 
-// Each table's bytes, once more.
-fn shared(alloc: Global, tables: &[&[u8]]) -> Result<Vec<Bytes>, AllocError>
+/// Each table's bytes, once more: copies that can be shared.
+pub fn shared_tables(alloc: Global, tables: &[&[u8]]) -> Result<Vec<Bytes>, AllocError>
     ensures { IfOk result (λ v. v.items ≡ map (λ b. b.now) tables.now) }
 {
     let mut copies = Vec::new(alloc);
@@ -233,7 +247,7 @@ pub fn declare<S: Space<Object>>(
     ensures none { IfErr result (λ e. e ≢ LoadFault.Memory → HasNoLoad depth (dsdt.now ∷ map (λ b. b.now) ssdts.now)) }
 {
     let dsdt = Bytes::copy_from_slice(alloc, dsdt)?;
-    let ssdts = shared(alloc, ssdts)?;
+    let ssdts = shared_tables(alloc, ssdts)?;
     declare_shared(alloc, &dsdt, &ssdts, depth)
 }
 

@@ -4,3 +4,8 @@ pub use Rattle.acpi_declare.specs.Notes
 pub use Rattle.acpi_declare.specs.Loads
 pub use Rattle.acpi_declare.specs.Refusals
 pub use Rattle.acpi_declare.specs.DeclaredView
+pub use Rattle.acpi_order.specs.Bodies
+pub use Rattle.acpi_order.specs.Machines
+pub mod MachineView
+pub mod Explaining
+pub mod steps

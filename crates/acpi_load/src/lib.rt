@@ -1,15 +1,35 @@
 //! The load of a DSDT and a list of SSDTs (ACPI 6.5, 5.3), without running any of their code.
 //!
 //! ```text
-//! bytes of tables ── acpi_declare ──► namespace, links, notes of each table
+//!                 ┌─ acpi_declare ─┐          ┌─ acpi_body ─┐
+//! bytes of tables ──► namespace ──────────────────────────────► Machine: objects
+//!                 ──► links ──────────────────────────────────►          links
+//!                 ──► notes: methods, External counts ──► read ►          bodies
 //! ```
 //!
-//! So far this crate gives on what `acpi_declare` declares. A caller:
+//! The bodies are read when all tables are declared, over the final namespace. What comes out is the machine of the
+//! tables (`IsMachine` of `acpi_order`), or the first table that has no listing, with a reason that is true of it. A
+//! body that can't be read stays as its bytes, and `explain` tells why (`IsExplained`). A caller that prints which
+//! methods can't be read:
 //!
 //! ```text
-//! let declared: Declared<TreeSpace<Object>> = declare(alloc, dsdt, &[ssdt], depth)?;
-//! for (path, object) in &declared.objects().pairs()? { .. }
+//! let machine: Machine<TreeSpace<Object>> = load(alloc, dsdt, &[ssdt], depth)?;
+//! for (path, body) in machine.bodies() {
+//!     if let Body::Opaque(_) = body {
+//!         // Loads the tables anew: for the few that are not read.
+//!         let fault = explain::<TreeSpace<Object>>(alloc, dsdt, &[ssdt], path, depth)?;
+//!     }
+//! }
 //! ```
 #![tactic(auto)]
 
+mod bodies;
+mod machine;
+mod reasons;
+
 pub use acpi_declare::{Declared, LoadFault, LoadReason, Refusal, declare, declare_shared, laws};
+pub use machine::{Machine, load, load_shared};
+pub use reasons::{explain, explain_shared};
+
+#[cfg(test)]
+mod tests;

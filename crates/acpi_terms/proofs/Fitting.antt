@@ -7,82 +7,12 @@ use Rattle.byteorder.specs.Endian.{little_number}
 use Rattle.acpi_name.specs.Names.{NameParts}
 use Rattle.acpi_name.specs.Spelling.{SpellsName, SpellsPath}
 use Rattle.acpi_table.specs.PkgLength.{SpellsPkgLength}
-use Rattle.acpi_code.specs.Opcodes.{is_name_start}
 use Rattle.acpi_code.specs.Spelling.{IsText, SpellsTermName, SpellsEach, Packs}
 use Rattle.acpi_terms.specs.Forms.{FixedArgument, name_arg, byte_arg, int_arg, Values}
 use Rattle.acpi_terms.specs.Spelling.{SpellsPacked, SpellsData, SpellsElem, SpellsElems, SpellsField, SpellsFields, SpellsExternal, SpellsItem, SpellsItems}
 use Rattle.acpi_tree.specs.Tree.{DataTree, int, str, buffer, pkg, var_pkg, ElemTree, of_data, of_name, ElemTrees, no_elems, elem, FieldTree, unit, reserved, access, connect_name, connect_buffer, extended, ExternalParts, ItemTree, name, scope, method, external, external_block, create, create_field, mutex, event, region, field, index_field, bank_field, device, processor, power, thermal, ItemTrees, no_items, item}
 use Rattle.acpi_tree.specs.Fits.{text_fits, is_null_name, data_fits, elem_fits, elems_fit, bits_fit, field_fits, external_fits, item_fits, items_fit}
-
-abbrev pub AreBytes : List ℕ → Type 0
-AreBytes = AllByRecursion (λ b. b < 256)
-
-pub are_bytes : (bytes : List ℕ) → ((i : ℕ) → Fits w8 (get_or bytes i 0)) → AreBytes bytes
-are_bytes [] each = tt
-are_bytes (b ∷ bytes) each = (Fits-lt-pow (each 0), are_bytes bytes (λ i. each (suc i)))
-
-both : {a b : Bool} → a ≡ true → b ≡ true → (a && b) ≡ true
-both e f = rw (e, f) refl
-
-pub front_bytes : (a b : List ℕ) → AreBytes (a ++ b) → AreBytes a
-front_bytes [] b all = tt
-front_bytes (x ∷ a) b all = (all.0, front_bytes a b all.1)
-
-pub back_bytes : (a b : List ℕ) → AreBytes (a ++ b) → AreBytes b
-back_bytes [] b all = all
-back_bytes (x ∷ a) b all = back_bytes a b all.1
-
-parts : (a b bytes : List ℕ) → bytes ≡ a ++ b → AreBytes bytes → AreBytes a × AreBytes b
-parts a b bytes whole all = let split : AreBytes (a ++ b) = subst AreBytes whole all in (front_bytes a b split, back_bytes a b split)
-
-packed : (opcode content bytes : List ℕ) → Packs opcode content bytes → AreBytes bytes → AreBytes content
-packed opcode content bytes p all = (parts p.len content (p.len ++ content) refl (parts opcode (p.len ++ content) bytes p.whole all).1).1
-
--- ---- package lengths, names, text
-
-wide : (n opcode k : ℕ) (tail : List ℕ) → k ≤ 3 → AreBytes tail → length tail ≡ k → opcode % 64 < 16 → n ≡ opcode % 64 + 16 * little_number k tail → n ≤ 268435455
-wide n opcode zero tail le all is low e = let f : n ≡ opcode % 64 + 16 * 0 = e in omega (arith, f, low)
-wide n opcode (suc zero) (a ∷ []) le all is low e =
-    let f : n ≡ opcode % 64 + 16 * (a + 256 * 0) = e in let h : a < 256 = all.0 in omega (arith, f, low, h)
-wide n opcode (suc (suc zero)) (a ∷ b ∷ []) le all is low e =
-    let f : n ≡ opcode % 64 + 16 * (a + 256 * (b + 256 * 0)) = e in let h : a < 256 = all.0 in let i : b < 256 = all.1.0 in omega (arith, f, low, h, i)
-wide n opcode (suc (suc (suc zero))) (a ∷ b ∷ c ∷ []) le all is low e =
-    let f : n ≡ opcode % 64 + 16 * (a + 256 * (b + 256 * (c + 256 * 0))) = e in let h : a < 256 = all.0 in let i : b < 256 = all.1.0 in let j : c < 256 = all.1.1.0 in omega (arith, f, low, h, i, j)
-wide n opcode (suc (suc (suc (suc k)))) tail le all is low e = absurd (omega (arith, le))
-wide n opcode k tail le all is low e = absurd (omega (arith, is))
-
-pub length_fits : (n : ℕ) (bytes : List ℕ) → SpellsPkgLength n bytes → AreBytes bytes → bits_fit n ≡ true
-length_fits n [] h all = absurd h
-length_fits n (opcode ∷ tail) h all = le-leb n 268435455 (elim h [ inl s ↦ let lt : opcode < 64 = s.0 in omega (arith, lt, s.2) | inr l ↦ few l ])
-  where
-    few : ((64 ≤ opcode) × (opcode % 64 < 16) × (length tail ≡ opcode / 64) × (n ≡ opcode % 64 + 16 * little_number (opcode / 64) tail)) → n ≤ 268435455
-    few l = let byte : opcode < 256 = all.0 in let le : opcode / 64 ≤ 3 = omega (arith, byte) in wide n opcode (opcode / 64) tail le all.1 l.2 l.1 l.3
-
-null_is : (n : NameParts) (a : List ℕ) → SpellsName n a → n.rooted ≡ false → n.parents ≡ 0 → length n.segments ≡ 0 → a ≡ 0 ∷ []
-null_is n a h rooted parents none = h.whole ∙ rw (rooted, parents) (path_is h.spells_path)
-  where
-    path_is : SpellsPath n.segments h.path → h.path ≡ 0 ∷ []
-    path_is p = elim p [
-      | inl e ↦ e.1
-      | inr q ↦ elim q [ inl f ↦ absurd (omega (arith, none, f.0)) | inr r ↦ elim r [ inl g ↦ absurd (omega (arith, none, g.0)) | inr o ↦ absurd (omega (arith, none, o.0)) ] ]
-    ]
-
-term_name_fits : (n : NameParts) (a : List ℕ) → SpellsTermName n a → not (is_null_name n) ≡ true
-term_name_fits n a h = by_parts n.rooted (eqb n.parents 0) (eqb (length n.segments) 0) refl refl refl
-  where
-    by_parts : (r p s : Bool) → n.rooted ≡ r → eqb n.parents 0 ≡ p → eqb (length n.segments) 0 ≡ s → not (not r && p && s) ≡ true
-    by_parts true p s er ep es = refl
-    by_parts false false s er ep es = refl
-    by_parts false true false er ep es = refl
-    by_parts false true true er ep es =
-        let is : a ≡ 0 ∷ [] = null_is n a h.0 er (eqb-true n.parents 0 ep) (eqb-true (length n.segments) 0 es) in
-        let start : is_name_start (slice_index a 0) ≡ true = h.1 in
-        let never : false ≡ true = subst (λ b. is_name_start (slice_index b 0) ≡ true) is start in
-        absurd cc
-
-text_all : (text : List ℕ) → AllByRecursion IsText text → list_all text_fits text ≡ true
-text_all [] h = refl
-text_all (b ∷ text) h = both (both (lt-ltb 0 b h.0.0) (lt-ltb b 128 h.0.1)) (text_all text h.1)
+use Rattle.acpi_code.proofs.Fitting.{AreBytes, both, front_bytes, back_bytes, parts, packed, length_fits, term_name_fits, text_all, each_fits}
 
 -- ---- data
 
@@ -119,12 +49,6 @@ field_fit (access k a) bytes h all = refl
 field_fit (connect_name n) bytes h all = refl
 field_fit (connect_buffer i s) bytes h all = refl
 field_fit (extended k a l) bytes h all = refl
-
-each_fits : {A : Type 0} (Spells : A → List ℕ → Type 0) (fits : A → Bool) → ((x : A) (a : List ℕ) → Spells x a → AreBytes a → fits x ≡ true)
-    → (xs : List A) (bytes : List ℕ) → SpellsEach Spells xs bytes → AreBytes bytes → list_all fits xs ≡ true
-each_fits Spells fits one [] bytes h all = refl
-each_fits Spells fits one (x ∷ xs) bytes h all =
-    let split = parts h.0 h.1 bytes h.4 all in both (one x h.0 h.2 split.0) (each_fits Spells fits one xs h.1 h.3 split.1)
 
 external_fit : (x : ExternalParts) (bytes : List ℕ) → SpellsExternal x bytes → AreBytes bytes → external_fits x ≡ true
 external_fit x bytes h all = le-leb x.args 7 h.1.3.3.2.0

@@ -6,7 +6,8 @@ use Rattle.acpi_terms.specs.declared.fault.ItemFault.{ItemFault}
 use Rattle.acpi_terms.specs.declared.fault.ItemFault.TheVariants as errors
 use Rattle.acpi_tree.specs.Tree.{ItemTrees}
 use Rattle.acpi_code.proofs.Readings.{Judge}
-use Rattle.acpi_terms.proofs.Fitting.{AreBytes, items_are_fit}
+use Rattle.acpi_terms.proofs.Fitting.{items_are_fit}
+use Rattle.acpi_code.proofs.Fitting.{AreBytes}
 use Rattle.acpi_terms.proofs.Items.{code_complete, code_sound}
 use Rattle.acpi_terms.proofs.Refusals.{next_told}
 use Rattle.acpi_terms.proofs.ShortOffsets.{offsets_fit}

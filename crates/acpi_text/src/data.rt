@@ -13,7 +13,7 @@ use acpi_tree::{Data, Elem, Int};
 use std::alloc::AllocError;
 
 // A word, and a constant in parentheses.
-fn put_sized(text: &mut Vec<u8>, word: &str, size: Int) -> Result<(), AllocError>
+pub(crate) fn put_sized(text: &mut Vec<u8>, word: &str, size: Int) -> Result<(), AllocError>
     ensures { OnOk result (text.new.items ≡ text.old.items ++ (word.now ++ codes "(" ++ int_text size ++ codes ")")) }
 {
     put(text, word)?;

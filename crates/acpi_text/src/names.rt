@@ -9,7 +9,7 @@ use acpi_name::{NameRef, Path, Seg};
 use std::alloc::AllocError;
 
 // A segment's four characters.
-fn put_segment(text: &mut Vec<u8>, seg: Seg) -> Result<(), AllocError>
+pub(crate) fn put_segment(text: &mut Vec<u8>, seg: Seg) -> Result<(), AllocError>
     ensures { OnOk result (text.new.items ≡ text.old.items ++ seg) }
 {
     text.extend_from_slice(&seg.bytes())

@@ -3,6 +3,7 @@
 ghost use Rattle.std.specs.Prelude.{◌≡◌, ◌<◌, ◌++◌, true, OnOk, decimal, codes};
 ghost use Rattle.std.specs.Fmt.{digit_glyph};
 ghost use Rattle.acpi_text.specs.Constants.{hex_digits, int_text};
+ghost use Rattle.acpi_text.specs.Terms.{raw_text};
 
 use acpi_tree::Int;
 use std::alloc::AllocError;
@@ -48,6 +49,14 @@ fn put_qword(text: &mut Vec<u8>, n: u64) -> Result<(), AllocError>
 {
     put_dword(text, (n / 0x1_0000_0000) as u32)?;
     put_dword(text, (n % 0x1_0000_0000) as u32)
+}
+
+// A byte that is no constant: `0x` and its two digits.
+pub(crate) fn put_raw(text: &mut Vec<u8>, n: u8) -> Result<(), AllocError>
+    ensures { OnOk result (text.new.items ≡ text.old.items ++ raw_text 1 n) }
+{
+    put(text, "0x")?;
+    put_byte(text, n)
 }
 
 /// Puts a number's decimal digits: those of its tenth part, and the last one.

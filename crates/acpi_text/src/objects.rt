@@ -109,7 +109,7 @@ fn put_field(
 }
 
 // The width of a Create field, as it stands in the field's kind.
-fn put_width(text: &mut Vec<u8>, width: Width) -> Result<(), AllocError>
+pub(crate) fn put_width(text: &mut Vec<u8>, width: Width) -> Result<(), AllocError>
     ensures { OnOk result (text.new.items ≡ text.old.items ++ width_text width) }
 {
     put(

@@ -11,7 +11,7 @@ use Rattle.acpi_table.specs.declared.tables.TableFault.{TableFault}
 use Rattle.acpins.specs.Hexadecimal.{SpellsInHex}
 use Rattle.acpins.specs.Input.{FileBytes, Stores, AreTablesIn, AreTablesOf, AddsTablesOf, BreaksOff, IsReadFault, IsFileFault, IsFilesFault}
 use Rattle.acpins.specs.declared.failure.Failure.{Failure}
-use Rattle.acpins.specs.declared.failure.Failure.TheVariants.{WrongWords, NoTable, Read, BadHex, Output, Table, Item, Load, Memory}
+use Rattle.acpins.specs.declared.failure.Failure.TheVariants.{WrongWords, BadPath, NoSuchPath, NoTable, Read, BadHex, Output, Table, Item, Load, Memory}
 
 -- ---- bytes that are taken, piece by piece
 
@@ -94,6 +94,8 @@ breaks_in_hex (Some text) bytes tables fault spells breaks = record {
 pub fault_from_hex : (name : List ℕ) (known : Option (List ℕ)) (bytes : List ℕ) (before : ℕ) (failure : Failure)
     → IfSome known (λ content. SpellsInHex bytes content) → IsFileFault false name (Some bytes) before failure → IsFileFault true name known before failure
 fault_from_hex name known bytes before WrongWords spells fault = absurd fault
+fault_from_hex name known bytes before BadPath spells fault = absurd fault
+fault_from_hex name known bytes before NoSuchPath spells fault = absurd fault
 fault_from_hex name known bytes before NoTable spells fault = absurd fault
 fault_from_hex name known bytes before (Read word) spells fault = fault
 fault_from_hex name known bytes before (BadHex word) spells fault = absurd (cc (fault.1))
@@ -106,6 +108,8 @@ fault_from_hex name known bytes before Memory spells fault = tt
 -- a file that can't be read gives no tables
 pub read_is_file_fault : (hex : Bool) (name : List ℕ) (known : Option (List ℕ)) (before : ℕ) (failure : Failure) → IsReadFault name failure → IsFileFault hex name known before failure
 read_is_file_fault hex name known before WrongWords fault = absurd fault
+read_is_file_fault hex name known before BadPath fault = absurd fault
+read_is_file_fault hex name known before NoSuchPath fault = absurd fault
 read_is_file_fault hex name known before NoTable fault = absurd fault
 read_is_file_fault hex name known before (Read word) fault = fault
 read_is_file_fault hex name known before (BadHex word) fault = absurd fault

@@ -1,4 +1,4 @@
--- The links at a path, as the map of links answers them.
+-- The links and the body at a path, as their maps answer them.
 use Rattle.std.proofs.Common.{◌≡◌, Bool, true, false, cond, List, [], ◌∷◌, map, Option, Some, refl, sym, ap, ◌∙◌}
 use Rattle.std.specs.Option.{option_map}
 use Rattle.std.specs.Ordering.{is_eq}
@@ -9,6 +9,9 @@ use Rattle.acpi_name.specs.Names.{Segment}
 use Rattle.acpi_name.specs.Paths.{path_cmp}
 use Rattle.acpi_space.proofs.Maps.{get_is_lookup}
 use Rattle.acpi_load.specs.Links.{links_at}
+use Rattle.acpi_body.specs.declared.body.Body.{Body}
+use Rattle.acpi_body.specs.Bodies.{body_view}
+use Rattle.acpi_load.specs.MachineView.{bodies_of}
 use Rattle.acpins.specs.steps.Merging.{entries_in}
 
 lookup_mapped : {V W : Type 0} (f : V → W) (t : List Segment → Bool) (es : List (List Segment × V)) → lookup t (map (λ e. (e.0, f e.1)) es) ≡ option_map f (lookup t es)
@@ -26,3 +29,6 @@ links_answered m p o e = get_is_lookup _ p ∙ lookup_mapped (λ v. v.items) _ m
 -- the same over the entries as links
 pub links_searched : (m : BTreeMap (List Segment) (Vec (Option (List Segment)))) (p : List Segment) → links_at m p ≡ lookup (λ k. is_eq (path_cmp p k)) (entries_in m)
 links_searched m p = get_is_lookup _ p
+
+pub body_answered : (m : BTreeMap (List Segment) Body) (p : List Segment) (o : Option Body) → o ≡ lookup (λ k. is_eq (path_cmp p k)) m.entries → bodies_of m p ≡ option_map body_view o
+body_answered m p o e = get_is_lookup _ p ∙ lookup_mapped body_view _ m.entries ∙ ap (option_map body_view) (sym e)

@@ -10,7 +10,7 @@ use Rattle.acpi_declare.specs.declared.fault.Refusal.TheVariants as refusals
 use Rattle.acpi_declare.specs.declared.fault.LoadReason.{LoadReason}
 use Rattle.acpi_declare.specs.declared.fault.LoadReason.TheVariants as reasons
 use Rattle.acpins.specs.declared.failure.Failure.{Failure}
-use Rattle.acpins.specs.declared.failure.Failure.TheVariants.{WrongWords, NoTable, Read, BadHex, Output, Table, Item, Load, Memory}
+use Rattle.acpins.specs.declared.failure.Failure.TheVariants.{WrongWords, BadPath, NoSuchPath, NoTable, Read, BadHex, Output, Table, Item, Load, Memory}
 
 -- why no table stands there
 abbrev pub table_fault_text : TableFault → List ℕ
@@ -62,6 +62,8 @@ in_table number what = codes "table " ++ decimal number ++ codes ": " ++ what
 -- a failure
 abbrev pub failure_text : Failure → List ℕ
 failure_text WrongWords = codes "wrong words"
+failure_text BadPath = codes "bad path"
+failure_text NoSuchPath = codes "no such path"
 failure_text NoTable = codes "no table"
 failure_text (Read file) = file.now ++ codes ": cannot be read"
 failure_text (BadHex file) = file.now ++ codes ": bad hexadecimal text"

@@ -16,7 +16,8 @@ failure_of Memory = failures.Memory
 failure_of (At table (reasons.Item reason place)) = failures.Item table reason (place_in_table place)
 failure_of (At table reason) = failures.Load table reason
 
--- 2 for words, 1 for all else
+-- 2 for words and paths that are none, 1 for all else
 abbrev pub status_of : Failure → ℕ
 status_of failures.WrongWords = 2
+status_of failures.BadPath = 2
 status_of _ = 1

@@ -1,13 +1,10 @@
 -- What the files of a run hold: definition blocks, one after another (ACPI 6.5, 5.2.6).
 use Rattle.std.specs.Prelude.{◌≡◌, ◌≢◌, ◌+◌, ℕ, Bool, true, false, IsTrue, List, [], ◌∷◌, ◌++◌, length, map, All, Option, IfSome, Result, Err}
 use Rattle.std.specs.List.{concat}
-use Rattle.acpi_name.specs.Names.{Segment}
 use Rattle.acpi_table.specs.Sources.{one_more}
 use Rattle.acpi_table.specs.Tables.{IsTable, IsRefusedAs}
 use Rattle.acpi_table.specs.declared.tables.TableFault.{TableFault}
-use Rattle.acpi_load.specs.Namespace.{Namespace}
-use Rattle.acpi_load.specs.Links.{Links}
-use Rattle.acpi_load.specs.Loads.{IsLoad}
+use Rattle.acpi_order.specs.Machines.{Machine, IsMachine}
 use Rattle.acpins.specs.Hexadecimal.{SpellsInHex}
 use Rattle.acpins.specs.declared.failure.Failure.{Failure}
 use Rattle.acpins.specs.declared.failure.Failure.TheVariants.{Read, BadHex, Table, Memory}
@@ -82,9 +79,8 @@ pub record IsFilesFault (bytes_of : FileBytes) (hex : Bool) (names : List (List 
 
 -- ---- loads of files
 
--- the objects and links of the tables that the files hold, at least one
-pub record IsLoadOfFiles (bytes_of : FileBytes) (hex : Bool) (depth : ℕ) (names : List (List ℕ)) (objects : Namespace) (links : List Segment → Option Links) : Type 0 where
-  pub tables : List (List ℕ)
+-- the machine of the tables that the files hold, at least one
+pub record IsLoadOfFiles (bytes_of : FileBytes) (hex : Bool) (depth : ℕ) (names : List (List ℕ)) (tables : List (List ℕ)) (m : Machine) : Type 0 where
   pub of_files : AreTablesOf bytes_of hex names tables
   pub some : tables ≢ []
-  pub loaded : IsLoad depth tables objects links
+  pub loaded : IsMachine depth tables m

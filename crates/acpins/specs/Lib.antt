@@ -2,6 +2,7 @@ pub mod Hexadecimal
 pub mod Words
 pub mod Input
 pub mod Listings
+pub mod Shown
 pub mod Failures
 pub mod FailureLines
 pub mod Told

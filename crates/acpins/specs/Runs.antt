@@ -1,17 +1,18 @@
 -- What a run prints and says, and why it prints nothing (docs/COMMAND.md).
-use Rattle.std.specs.Prelude.{◌≡◌, ◌≢◌, ℕ, List, [], Option, Some, None}
+use Rattle.std.specs.Prelude.{◌≡◌, ◌≢◌, ◌⊎◌, ℕ, List, [], Option, Some, None}
 use Rattle.std.specs.Io.KnownBytes.{Appends}
 use Rattle.clap.specs.Walk.{Text}
 use Rattle.acpi_name.specs.Names.{Segment}
-use Rattle.acpi_load.specs.Namespace.{Namespace}
-use Rattle.acpi_load.specs.Links.{Links}
-use Rattle.acpi_load.specs.Refusals.{IsLoadFault}
+use Rattle.acpi_name.specs.Text.{SpellsPathText, IsPathText}
+use Rattle.acpi_order.specs.Machines.{Machine}
+use Rattle.acpi_declare.specs.Refusals.{IsLoadFault}
 use Rattle.acpi_declare.specs.declared.fault.LoadFault.{LoadFault}
 use Rattle.acpins.specs.declared.failure.Failure.{Failure}
-use Rattle.acpins.specs.declared.failure.Failure.TheVariants.{WrongWords, NoTable, Read, BadHex, Output, Table, Item, Load, Memory}
-use Rattle.acpins.specs.Words.{Asked, asked_of}
+use Rattle.acpins.specs.declared.failure.Failure.TheVariants.{WrongWords, BadPath, NoSuchPath, NoTable, Read, BadHex, Output, Table, Item, Load, Memory}
+use Rattle.acpins.specs.Words.{Command, listing, showing, Asked, asked_of}
 use Rattle.acpins.specs.Input.{FileBytes, AreTablesOf, IsFilesFault, IsLoadOfFiles}
 use Rattle.acpins.specs.Listings.{Prints}
+use Rattle.acpins.specs.Shown.{Shows}
 use Rattle.acpins.specs.Failures.{failure_of, status_of}
 use Rattle.acpins.specs.FailureLines.{failure_line}
 
@@ -19,14 +20,27 @@ use Rattle.acpins.specs.FailureLines.{failure_line}
 
 -- the text prints the objects and links of the tables in the files
 pub record IsListing (bytes_of : FileBytes) (asked : Asked) (text : List ℕ) : Type 0 where
-  pub objects : Namespace
-  pub links : List Segment → Option Links
-  pub loaded : IsLoadOfFiles bytes_of asked.hex asked.depth asked.files objects links
-  pub printed : Prints objects links text
+  pub tables : List (List ℕ)
+  pub machine : Machine
+  pub loaded : IsLoadOfFiles bytes_of asked.hex asked.depth asked.files tables machine
+  pub printed : Prints machine.objects machine.links text
 
--- the words ask for that listing
+-- the text prints the object at the path that the word spells
+pub record IsShowing (bytes_of : FileBytes) (asked : Asked) (word : Text) (text : List ℕ) : Type 0 where
+  pub path : List Segment
+  pub spelled : SpellsPathText path word
+  pub tables : List (List ℕ)
+  pub machine : Machine
+  pub loaded : IsLoadOfFiles bytes_of asked.hex asked.depth asked.files tables machine
+  pub printed : Shows asked.depth tables machine path text
+
+abbrev pub IsPrinted : FileBytes → Asked → Command → List ℕ → Type 0
+IsPrinted bytes_of asked listing text = IsListing bytes_of asked text
+IsPrinted bytes_of asked (showing word) text = IsShowing bytes_of asked word text
+
+-- the words ask for that text
 abbrev pub IsOutput : FileBytes → List Text → List ℕ → Type 0
-IsOutput bytes_of words text = (asked : Asked) × (asked_of words ≡ Some asked) × IsListing bytes_of asked text
+IsOutput bytes_of words text = (asked : Asked) × (asked_of words ≡ Some asked) × IsPrinted bytes_of asked asked.command text
 
 -- standard output gets it, whole
 abbrev pub GetsOutput : FileBytes → List Text → Option (List ℕ) → Option (List ℕ) → Type 0
@@ -42,12 +56,32 @@ pub record IsRefusal (bytes_of : FileBytes) (asked : Asked) (failure : Failure) 
   pub refused : IsLoadFault asked.depth tables fault
   pub told : failure ≡ failure_of fault
 
--- why what the words ask for can't be made: the files can't be read or cut into tables, they hold none,
+-- the words ask for the object of a path, and the namespace has none there
+pub record IsNoSuchPath (bytes_of : FileBytes) (asked : Asked) (word : Text) : Type 0 where
+  pub path : List Segment
+  pub spelled : SpellsPathText path word
+  pub tables : List (List ℕ)
+  pub machine : Machine
+  pub loaded : IsLoadOfFiles bytes_of asked.hex asked.depth asked.files tables machine
+  pub none : machine.objects path ≡ None
+
+-- no path is spelled by the word, or none has an object
+abbrev pub IsBadPath : Command → Type 0
+IsBadPath listing = ⊥
+IsBadPath (showing word) = ¬ IsPathText word
+
+abbrev pub IsMissingPath : FileBytes → Asked → Command → Type 0
+IsMissingPath bytes_of asked listing = ⊥
+IsMissingPath bytes_of asked (showing word) = IsNoSuchPath bytes_of asked word
+
+-- why what the words ask for can't be made: the path is none or has no object; the files can't be read or cut into tables, they hold none,
 -- the tables have no load, or there is no memory
 abbrev pub IsFailureOf : FileBytes → Asked → Failure → Type 0
 IsFailureOf bytes_of asked (Read word) = IsFilesFault bytes_of asked.hex asked.files (Read word)
 IsFailureOf bytes_of asked (BadHex word) = IsFilesFault bytes_of asked.hex asked.files (BadHex word)
 IsFailureOf bytes_of asked (Table number fault) = IsFilesFault bytes_of asked.hex asked.files (Table number fault)
+IsFailureOf bytes_of asked BadPath = IsBadPath asked.command
+IsFailureOf bytes_of asked NoSuchPath = IsMissingPath bytes_of asked asked.command
 IsFailureOf bytes_of asked NoTable = AreTablesOf bytes_of asked.hex asked.files []
 IsFailureOf bytes_of asked (Item number reason place) = IsRefusal bytes_of asked (Item number reason place)
 IsFailureOf bytes_of asked (Load number reason) = IsRefusal bytes_of asked (Load number reason)
@@ -60,6 +94,10 @@ IsRunFailure bytes_of words WrongWords = asked_of words ≡ None
 IsRunFailure bytes_of words Memory = Unit {0}
 IsRunFailure bytes_of words Output = (text : List ℕ) × IsOutput bytes_of words text
 IsRunFailure bytes_of words failure = (asked : Asked) × (asked_of words ≡ Some asked) × IsFailureOf bytes_of asked failure
+
+-- the words ask for nothing, or for a path that is none
+abbrev pub IsWrong : List Text → Type 0
+IsWrong words = (asked_of words ≡ None) ⊎ ((asked : Asked) × (asked_of words ≡ Some asked) × IsBadPath asked.command)
 
 -- A run ends with the status of such a failure, and its line is said; standard output is as it was, unless it
 -- could not be written.

@@ -2,7 +2,7 @@
 use Rattle.std.specs.Prelude.{◌≡◌, ℕ, Bool, true, ◌&&◌, List, [], ◌∷◌, Option, Some, None, codes}
 use Rattle.std.specs.Prelude.{if◌then◌else◌, nat_le, option_and_then, option_map}
 use Rattle.std.specs.Option.{option_map_or}
-use Rattle.std.specs.Str.{all_ascii_digits}
+use Rattle.std.specs.Str.{all_ascii_digits, bytes_eq}
 use Rattle.std.specs.Str.Parse.{digits_value}
 use Rattle.clap.specs.Lexer.{usize_max}
 use Rattle.clap.specs.Faults.{fault_of}
@@ -12,6 +12,8 @@ use Rattle.clap.specs.Walk.{Row, Rule, Text, all_of, first_of, is_empty, one_of}
 use Rattle.clap.specs.Walk.{texts}
 use Rattle.clap.specs.Values.{bool_text}
 use Rattle.clap.specs.declared.builder.ArgAction.TheVariants.{Append, Set, SetTrue}
+use Rattle.acpins.specs.declared.words.Command.{Command as CommandWords}
+use Rattle.acpins.specs.declared.words.Command.TheVariants as read
 use Rattle.acpins.specs.declared.words.Request.{Request}
 
 -- ---- the command
@@ -23,6 +25,10 @@ hex_rule = record (new_rule (codes "hex")) { long = Some (codes "hex"); action =
 -- `--depth NUMBER`
 abbrev pub depth_rule : Rule
 depth_rule = record (new_rule (codes "depth")) { long = Some (codes "depth"); action = Some Set }
+
+-- the path of an object
+abbrev pub path_rule : Rule
+path_rule = record (new_rule (codes "path")) { required = true }
 
 -- one file or more
 abbrev pub file_rule : Rule
@@ -36,6 +42,10 @@ file_rule = record (new_rule (codes "file")) {
 abbrev pub list_shape : Shape
 list_shape = record (new_shape (codes "list")) { rules = hex_rule ∷ depth_rule ∷ file_rule ∷ [] }
 
+-- `show`: the first word that is no option is the path, and the others are files
+abbrev pub show_shape : Shape
+show_shape = record (new_shape (codes "show")) { rules = hex_rule ∷ depth_rule ∷ path_rule ∷ file_rule ∷ [] }
+
 -- a subcommand is wanted, and there is no help and no version to ask for
 abbrev pub acpins_shape : Shape
 acpins_shape = record (new_shape (codes "acpins")) {
@@ -46,15 +56,25 @@ acpins_shape = record (new_shape (codes "acpins")) {
   subcommand_required = true;
 }
 
+-- a command with no subcommand
+abbrev pub alone : Shape → App
+alone shape = record { top = shape; subs = [] }
+
 -- the command, as clap reads it
 abbrev pub acpins_app : App
-acpins_app = with_subcommand (record { top = acpins_shape; subs = [] }) list_shape
+acpins_app = with_subcommand (with_subcommand (alone acpins_shape) list_shape) show_shape
 
 -- ---- what words ask for
 
--- a list of tables: whether their files are hexadecimal text, how many levels terms may have, and
--- the files
+-- what is printed: the listing of the objects, or the object whose path a text spells
+pub data Command : Type 0 where
+  listing : Command
+  showing : Text → Command
+
+-- a command over a list of tables: whether their files are hexadecimal text, how many levels terms
+-- may have, and the files
 pub record Asked : Type 0 where
+  pub command : Command
   pub hex : Bool
   pub depth : ℕ
   pub files : List Text
@@ -71,13 +91,24 @@ depth_said text = if is_depth text then Some (digits_value 10 text) else None
 abbrev pub depth_or_usual : Option Text → Option ℕ
 depth_or_usual said = option_map_or depth_said said (Some 1024)
 
--- what clap found of `list`: `--hex`, the value of `--depth`, and the files
-abbrev pub asked_by : List Row → Option Asked
-asked_by rows = option_and_then (λ depth. option_map (λ files. record {
-  hex = is_given (codes "hex") rows;
-  depth = depth;
-  files = files;
-}) (all_of (codes "file") rows)) (depth_or_usual (first_of (codes "depth") rows))
+-- the command of this name; for `show` the text that stands as PATH
+abbrev pub command_by : Text → List Row → Option Command
+command_by name rows =
+    if bytes_eq name (codes "list") then Some listing
+    else (if bytes_eq name (codes "show") then option_map showing (first_of (codes "path") rows)
+    else None)
+
+-- what clap found: the command, `--hex`, the value of `--depth`, and the files
+abbrev pub asked_by : Text → List Row → Option Asked
+asked_by name rows =
+    option_and_then (λ command. option_and_then (λ depth. option_map (λ files. record {
+      command = command;
+      hex = is_given (codes "hex") rows;
+      depth = depth;
+      files = files;
+    }) (all_of (codes "file") rows))
+    (depth_or_usual (first_of (codes "depth") rows)))
+    (command_by name rows)
 
 -- of `--hex` a typed getter reads `true` where the words say it, and else `false`
 abbrev pub ReadsHex : List Row → Type 0
@@ -87,9 +118,18 @@ ReadsHex rows = one_of (codes "hex") rows ≡ Some (bool_text (is_given (codes "
 unfoldable pub asked_of : List Text → Option Asked
 asked_of words =
     if is_empty (fault_of acpins_app words)
-    then option_and_then (λ list. asked_by list.1) (subcommand_of acpins_app words)
+    then option_and_then (λ found. asked_by found.0 found.1) (subcommand_of acpins_app words)
     else None
+
+abbrev pub command_in : CommandWords → Command
+command_in read.List = listing
+command_in (read.Show path) = showing path.now
 
 -- a request, as what it asks for
 abbrev pub asked_in : Request → Asked
-asked_in r = record { hex = r.hex; depth = r.depth; files = texts r.files.items }
+asked_in r = record {
+  command = command_in r.command;
+  hex = r.hex;
+  depth = r.depth;
+  files = texts r.files.items;
+}

@@ -16,6 +16,12 @@ pub enum Failure<'a> {
     /// The words are none that the command knows.
     #[error("acpins: wrong words")]
     WrongWords,
+    /// The words ask for the object of a path, and the word of the path spells none.
+    #[error("acpins: bad path")]
+    BadPath,
+    /// The namespace has no object at the path.
+    #[error("acpins: no such path")]
+    NoSuchPath,
     /// The files hold no table.
     #[error("acpins: no table")]
     NoTable,
@@ -48,7 +54,7 @@ impl<'a> Failure<'a> {
         ensures { result ≡ status_of self.now }
     {
         match self {
-            Failure::WrongWords => 2,
+            Failure::WrongWords | Failure::BadPath => 2,
             _ => 1,
         }
     }

@@ -150,6 +150,8 @@ fn put_failure<E, P: PartWriter<E>>(parts: &mut P, err: &mut E, failure: &Failur
 {
     match failure {
         Failure::WrongWords => put(parts, err, "wrong words"),
+        Failure::BadPath => put(parts, err, "bad path"),
+        Failure::NoSuchPath => put(parts, err, "no such path"),
         Failure::NoTable => put(parts, err, "no table"),
         Failure::Read(file) => {
             put(parts, err, file);

@@ -16,6 +16,7 @@ mod lines;
 mod listing;
 mod parts;
 mod program;
+mod showing;
 mod tables;
 #[cfg(test)]
 mod tests;

@@ -1,29 +1,32 @@
 //! One run of the program.
 
-ghost use Rattle.std.specs.Prelude.{◌≡◌, ◌≢◌, ◌≤◌, IfOk, IfErr, OnOk, IsTrue, None};
+ghost use Rattle.std.specs.Prelude.{◌≡◌, ◌≢◌, ◌≤◌, ◌⊎◌, ◌∷◌, IfOk, IfErr, OnOk, IsTrue, None};
 ghost use Rattle.clap.specs.Walk.{texts};
-ghost use Rattle.acpi_load.specs.Namespace.{namespace_of};
-ghost use Rattle.acpi_load.specs.Links.{links_at};
-ghost use Rattle.acpi_load.specs.DeclaredView.{objects_in, links_in};
+ghost use Rattle.acpi_name.specs.Text.{SpellsPathText, IsPathText};
+ghost use Rattle.acpi_declare.specs.Refusals.{IsLoadFault};
+ghost use Rattle.acpi_order.specs.Machines.{IsMachine};
+ghost use Rattle.acpi_load.specs.MachineView.{objects_in, machine_of};
 ghost use Rattle.std.specs.Io.KnownBytes.{Appends};
 ghost use Rattle.acpins.specs.declared.failure.Failure.{Failure};
 ghost use Rattle.acpins.specs.Failures.{status_of};
 ghost use Rattle.acpins.specs.FailureLines.{failure_line};
 ghost use Rattle.acpins.specs.Told.{AppendsBeginning, Tells};
-ghost use Rattle.acpins.specs.Words.{asked_in, asked_of};
+ghost use Rattle.acpins.specs.Words.{showing, asked_in, asked_of};
 ghost use Rattle.acpins.specs.Input.{files_of, AreTablesOf, IsFilesFault, IsLoadOfFiles};
-ghost use Rattle.acpins.specs.Runs.{IsOutput, GetsOutput, IsFailureOf, IsRunFailure, FailsWith};
+ghost use Rattle.acpins.specs.Runs.{IsListing, IsShowing, IsWrong, IsOutput, GetsOutput, IsFailureOf, IsRunFailure, FailsWith};
 
 use crate::failure::Failure;
 use crate::files::Files;
 use crate::lines::put_line;
 use crate::listing::listed;
 use crate::parts::{PartWriter, UntilFailure};
+use crate::showing::shown;
 use crate::tables::add_tables;
-use crate::words::{Request, read_words};
-use acpi_load::{Declared, declare_shared};
+use crate::words::{Command, Request, read_words};
+use acpi_load::{LoadFault, Machine, load_shared};
+use acpi_name::{Path, PathFault};
 use acpi_space::{Space, TreeSpace};
-use acpi_terms::Object;
+use acpi_terms::{Depth, Object};
 use bytes::Bytes;
 use std::alloc::Global;
 use std::io::Write;
@@ -45,20 +48,84 @@ fn tables_of<'a, F: Files>(
     Ok(tables)
 }
 
-// The load of the tables that the files hold.
+// The machine that a DSDT and SSDTs load to. Of what `load_shared` promises, a run needs this much.
+fn load_tables<S: Space<Object>>(
+    alloc: Global,
+    dsdt: &Bytes,
+    ssdts: &[Bytes],
+    depth: Depth,
+) -> Result<Machine<S>, LoadFault>
+    ensures ok { IfOk result (λ m. IsMachine depth (dsdt.now ∷ ssdts.now) (machine_of (S.contents (objects_in m)) m)) }
+    ensures err { IfErr result (λ e. IsLoadFault depth (dsdt.now ∷ ssdts.now) e) }
+{
+    load_shared(alloc, dsdt, ssdts, depth)
+}
+
+// The tables that the files hold, and the machine that they load to.
 fn loaded<'a, S: Space<Object>, F: Files>(
     alloc: Global,
     request: &Request<'a>,
     files: &mut F,
-) -> Result<Declared<S>, Failure<'a>>
-    ensures ok { IfOk result (λ d. IsLoadOfFiles (F.bytes_of files.old) request.now.hex request.now.depth (files_of request.now) (namespace_of (S.contents (objects_in d))) (links_at (links_in d))) }
+) -> Result<(Vec<Bytes>, Machine<S>), Failure<'a>>
+    ensures ok { IfOk result (λ r. IsLoadOfFiles (F.bytes_of files.old) request.now.hex request.now.depth (files_of request.now) r.0.items (machine_of (S.contents (objects_in r.1)) r.1)) }
     ensures err { IfErr result (IsFailureOf (F.bytes_of files.old) (asked_in request.now)) }
 {
     let tables = tables_of(alloc, request, files)?;
     let Some((dsdt, ssdts)) = tables.split_first() else {
         return Err(Failure::NoTable);
     };
-    Ok(declare_shared(alloc, dsdt, ssdts, request.depth)?)
+    let machine = load_tables(alloc, dsdt, ssdts, request.depth)?;
+    Ok((tables, machine))
+}
+
+// The listing of what the files hold.
+fn listing_of<'a, S: Space<Object>, F: Files>(
+    alloc: Global,
+    request: &Request<'a>,
+    files: &mut F,
+) -> Result<Vec<u8>, Failure<'a>>
+    ensures ok { IfOk result (λ text. IsListing (F.bytes_of files.old) (asked_in request.now) text.items) }
+    ensures err { IfErr result (IsFailureOf (F.bytes_of files.old) (asked_in request.now)) }
+{
+    let (_tables, machine) = loaded::<S, F>(alloc, request, files)?;
+    let text = listed(alloc, &machine)?;
+    // The process ends soon and gives all memory back at once; to take the machine apart first costs time.
+    mem::forget(machine);
+    Ok(text)
+}
+
+// The path that the word spells.
+fn path_of<'a>(alloc: Global, word: &str) -> Result<Path, Failure<'a>>
+    ensures ok { IfOk result (λ p. SpellsPathText p word.now) }
+    ensures err { IfErr result (λ f. ((f ≡ Failure.BadPath) × (IsPathText word.now → ⊥)) ⊎ (f ≡ Failure.Memory)) }
+{
+    match Path::from_text(alloc, word) {
+        Ok(path) => Ok(path),
+        Err(PathFault::BadText) => Err(Failure::BadPath),
+        Err(PathFault::Memory) => Err(Failure::Memory),
+    }
+}
+
+// What is shown of the path that the word spells.
+fn showing_of<'a, S: Space<Object>, F: Files>(
+    alloc: Global,
+    request: &Request<'a>,
+    word: &str,
+    files: &mut F,
+) -> Result<Vec<u8>, Failure<'a>>
+    requires { (asked_in request.now).command ≡ showing word.now }
+    ensures ok { IfOk result (λ text. IsShowing (F.bytes_of files.old) (asked_in request.now) word.now text.items) }
+    ensures err { IfErr result (IsFailureOf (F.bytes_of files.old) (asked_in request.now)) }
+{
+    let path = path_of(alloc, word)?;
+    let (tables, machine) = loaded::<S, F>(alloc, request, files)?;
+    let Some((dsdt, ssdts)) = tables.split_first() else {
+        unreachable!()
+    };
+    match shown(alloc, dsdt, ssdts, request.depth, &machine, &path)? {
+        Some(text) => Ok(text),
+        None => Err(Failure::NoSuchPath),
+    }
 }
 
 /// What a run prints, whole, with the objects kept in a space of the caller's choice.
@@ -71,11 +138,10 @@ pub fn made_in<'a, S: Space<Object>, F: Files>(
     ensures err { IfErr result (IsRunFailure (F.bytes_of files.old) (texts words.now)) }
 {
     let request = read_words(alloc, words)?;
-    let declared: Declared<S> = loaded(alloc, &request, files)?;
-    let text = listed(alloc, &declared)?;
-    // The process ends soon and gives all memory back at once; to take the namespace apart first costs time.
-    mem::forget(declared);
-    Ok(text)
+    match request.command {
+        Command::List => listing_of::<S, F>(alloc, &request, files),
+        Command::Show(word) => showing_of::<S, F>(alloc, &request, word, files),
+    }
 }
 
 fn made<'a, F: Files>(
@@ -155,8 +221,8 @@ pub fn run<'a, F: Files, O: Write, E: Write>(
     // Something failed, and its line is said, or a beginning of it; nothing is printed, unless it was the printing.
     ensures failed { 1 ≤ result → FailsWith (F.bytes_of files.old) (texts words.now) result (O.contents out.old) (O.contents out.new)
         (λ line. AppendsBeginning line (E.contents err.old) (E.contents err.new)) }
-    // The words ask for nothing, and nothing is printed.
-    ensures wrong { result ≡ 2 → (asked_of (texts words.now) ≡ None) × (O.contents out.new ≡ O.contents out.old) }
+    // The words ask for nothing, or for a path that is none, and nothing is printed.
+    ensures wrong { result ≡ 2 → IsWrong (texts words.now) × (O.contents out.new ≡ O.contents out.old) }
     ensures statuses { result ≤ 2 }
 {
     run_telling(alloc, words, files, out, err, &mut UntilFailure::new())

@@ -1,5 +1,6 @@
 //! Runs over files in memory: worked rows, failing devices, the forms of words, and printed texts.
 
+mod chains;
 mod cut;
 mod devices;
 mod held;
@@ -10,4 +11,5 @@ mod memory;
 mod outcome;
 mod refusals;
 mod rows;
+mod shown;
 mod words;

@@ -1,25 +1,38 @@
 //! The words of the command.
 
-ghost use Rattle.std.specs.Prelude.{◌≡◌, ◌⊎◌, IfErr, IfOk, codes};
+ghost use Rattle.std.specs.Prelude.{◌≡◌, ◌⊎◌, false, IfErr, IfOk, codes, option_map};
 ghost use Rattle.clap.specs.Matches.{found_of};
 ghost use Rattle.clap.specs.Simple.{app_of};
 ghost use Rattle.clap.specs.Values.{kind_of};
-ghost use Rattle.clap.specs.Walk.{first_of, rows_of, texts};
-ghost use Rattle.acpins.specs.Words.{acpins_app, asked_by, asked_in, asked_of, depth_or_usual};
-ghost use Rattle.acpins.specs.Words.{depth_said, ReadsHex};
+ghost use Rattle.clap.specs.Walk.{first_of, rows_of, rule_of, texts};
+ghost use Rattle.clap.specs.declared.builder.command.Command.TheViews.{out-Command as fields_of};
+ghost use Rattle.acpins.specs.Words.{acpins_app, alone, asked_by, asked_in, asked_of, command_by};
+ghost use Rattle.acpins.specs.Words.{command_in, depth_or_usual, depth_rule, depth_said, file_rule};
+ghost use Rattle.acpins.specs.Words.{hex_rule, list_shape, path_rule, ReadsHex, show_shape};
 
 use crate::failure::Failure;
 use acpi_terms::Depth;
 use clap::error::ErrorKind;
-use clap::{Arg, ArgAction, ArgMatches, Command, Error};
+use clap::{Arg, ArgAction, ArgMatches, Error};
 use std::alloc::{AllocError, Global};
 
 /// The levels that terms may have where no word says so.
 const USUAL_DEPTH: u32 = 1024;
 
-/// What the words ask for: the listing of the tables in these files.
+/// What is printed of the tables.
+#[derive(Debug, Drop)]
+pub enum Command<'a> {
+    /// A line for each object.
+    List,
+    /// The object whose path this text spells. Whether it spells one has not been looked at.
+    Show(&'a str),
+}
+
+/// What the words ask for: a command over the tables in these files.
 #[derive(Debug, Drop)]
 pub struct Request<'a> {
+    /// What is printed.
+    pub command: Command<'a>,
     /// Whether the files are hexadecimal text.
     pub hex: bool,
     /// The greatest level that a term may have.
@@ -28,30 +41,75 @@ pub struct Request<'a> {
     pub files: Vec<&'a str>,
 }
 
-fn forms<'a>(alloc: Global) -> Result<Command<'a>, AllocError>
-    ensures { IfOk result (λ command. app_of command ≡ acpins_app) }
+fn hex<'a>(alloc: Global) -> Arg<'a>
+    ensures rule { rule_of result ≡ hex_rule }
+    ensures local { result.global ≡ false }
 {
-    let hex = Arg::new(alloc, "hex")
+    Arg::new(alloc, "hex")
         .long("hex")
-        .action(ArgAction::SetTrue);
-    let depth = Arg::new(alloc, "depth")
+        .action(ArgAction::SetTrue)
+}
+
+fn depth<'a>(alloc: Global) -> Arg<'a>
+    ensures rule { rule_of result ≡ depth_rule }
+    ensures local { result.global ≡ false }
+{
+    Arg::new(alloc, "depth")
         .long("depth")
-        .action(ArgAction::Set);
-    let files = Arg::new(alloc, "file")
+        .action(ArgAction::Set)
+}
+
+fn path<'a>(alloc: Global) -> Arg<'a>
+    ensures rule { rule_of result ≡ path_rule }
+    ensures local { result.global ≡ false }
+{
+    Arg::new(alloc, "path").required(true)
+}
+
+fn files<'a>(alloc: Global) -> Arg<'a>
+    ensures rule { rule_of result ≡ file_rule }
+    ensures local { result.global ≡ false }
+{
+    Arg::new(alloc, "file")
         .required(true)
         .num_args(1..)
-        .action(ArgAction::Append);
-    let list = Command::new(alloc, "list")
-        .arg(hex)?
-        .arg(depth)?
-        .arg(files)?;
-    Command::new(alloc, "acpins")
+        .action(ArgAction::Append)
+}
+
+fn list<'a>(alloc: Global) -> Result<clap::Command<'a>, AllocError>
+    ensures app { IfOk result (λ list. app_of list ≡ alone list_shape) }
+    ensures local { IfOk result (λ list. (fields_of list).has_globals ≡ false) }
+{
+    clap::Command::new(alloc, "list")
+        .arg(hex(alloc))?
+        .arg(depth(alloc))?
+        .arg(files(alloc))
+}
+
+fn show<'a>(alloc: Global) -> Result<clap::Command<'a>, AllocError>
+    ensures app { IfOk result (λ show. app_of show ≡ alone show_shape) }
+    ensures local { IfOk result (λ show. (fields_of show).has_globals ≡ false) }
+{
+    clap::Command::new(alloc, "show")
+        .arg(hex(alloc))?
+        .arg(depth(alloc))?
+        .arg(path(alloc))?
+        .arg(files(alloc))
+}
+
+fn forms<'a>(alloc: Global) -> Result<clap::Command<'a>, AllocError>
+    ensures { IfOk result (λ command. app_of command ≡ acpins_app) }
+{
+    let list = list(alloc)?;
+    let show = show(alloc)?;
+    clap::Command::new(alloc, "acpins")
         .no_binary_name(true)
         .disable_help_flag(true)
         .disable_version_flag(true)
         .disable_help_subcommand(true)
         .subcommand_required(true)
-        .subcommand(list)
+        .subcommand(list)?
+        .subcommand(show)
 }
 
 // A number of decimal digits, from 1 to 4,096.
@@ -78,35 +136,54 @@ fn failure_of<'a>(error: &Error) -> Failure<'a>
     }
 }
 
-// The depth that `list` was found to ask for.
-fn depth_in(list: &ArgMatches<'_>) -> Option<Depth>
-    ensures { result ≡ depth_or_usual (first_of (codes "depth") (rows_of (found_of list.now))) }
+// The command of this name, with what was found for it.
+fn command_in<'a>(name: &str, found: &ArgMatches<'a>) -> Option<Command<'a>>
+    ensures { option_map command_in result ≡ command_by name.now (rows_of (found_of found.now)) }
 {
-    match list.get_str("depth") {
+    match name {
+        "list" => Some(Command::List),
+        "show" => Some(Command::Show(found.get_str("path")?)),
+        _ => None,
+    }
+}
+
+// The depth that a command was found to ask for.
+fn depth_in(found: &ArgMatches<'_>) -> Option<Depth>
+    ensures { result ≡ depth_or_usual (first_of (codes "depth") (rows_of (found_of found.now))) }
+{
+    match found.get_str("depth") {
         Some(text) => depth_of(text),
         None => Depth::new(USUAL_DEPTH),
     }
 }
 
-// What `list` was found to ask for.
-fn request_of<'a>(alloc: Global, list: &ArgMatches<'a>) -> Result<Request<'a>, Failure<'a>>
-    requires { ReadsHex (rows_of (found_of list.now)) }
+// What the command of this name was found to ask for.
+fn request_of<'a>(
+    alloc: Global,
+    name: &str,
+    found: &ArgMatches<'a>,
+) -> Result<Request<'a>, Failure<'a>>
+    requires { ReadsHex (rows_of (found_of found.now)) }
     ensures found { IfOk result (λ request.
-        asked_by (rows_of (found_of list.now)) ≡ Some (asked_in request)) }
+        asked_by name.now (rows_of (found_of found.now)) ≡ Some (asked_in request)) }
     ensures wrong { result ≡ Err Failure.WrongWords
-        → asked_by (rows_of (found_of list.now)) ≡ None }
+        → asked_by name.now (rows_of (found_of found.now)) ≡ None }
     ensures kinds { IfErr result (λ failure.
         (failure ≡ Failure.WrongWords) ⊎ (failure ≡ Failure.Memory)) }
 {
-    let Some(depth) = depth_in(list) else {
+    let Some(command) = command_in(name, found) else {
         return Err(Failure::WrongWords);
     };
-    let Some(files) = list.get_strs("file") else {
+    let Some(depth) = depth_in(found) else {
+        return Err(Failure::WrongWords);
+    };
+    let Some(files) = found.get_strs("file") else {
         return Err(Failure::WrongWords);
     };
     match Vec::from_slice(alloc, files) {
         Ok(files) => Ok(Request {
-            hex: list.get_flag("hex"),
+            command,
+            hex: found.get_flag("hex"),
             depth,
             files,
         }),
@@ -129,8 +206,8 @@ pub fn read_words<'a>(alloc: Global, words: &'a [&'a str]) -> Result<Request<'a>
         Ok(matches) => matches,
         Err(error) => return Err(failure_of(&error)),
     };
-    let Some((_name, list)) = matches.subcommand() else {
+    let Some((name, found)) = matches.subcommand() else {
         return Err(Failure::WrongWords);
     };
-    request_of(alloc, list)
+    request_of(alloc, name, found)
 }

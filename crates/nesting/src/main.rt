@@ -1,27 +1,50 @@
-//! Items nested as deep as may be are read, tested, copied, compared and dropped. The gate runs this program
-//! as two compilers build it; its stack is what the tests give it.
+//! Items and method bodies nested as deep as may be are read, tested, copied, compared and dropped. The gate runs
+//! this program as two compilers build it; its stack is what the tests give it.
 #![tactic(auto)]
 
 ghost use Rattle.std.specs.Prelude.{◌≡◌, IfOk};
 ghost use Rattle.acpi_tree.specs.View.{items_view};
 
+use acpi_body::{Body, Counts, read_body};
+use acpi_name::Path;
+use acpi_space::{Space, TreeSpace};
 use acpi_terms::{Depth, Item, items_fit, read_items};
+use acpi_tree::{Object, terms_fit};
 use std::alloc::{AllocError, Global};
 
 /// The most levels that a term may have.
 const LEVELS: u32 = 4096;
 
+/// What is said where all is as it should be.
+const RIGHT: &str = "read, tested, copied, compared";
+
 // Code that begins so, and so many packages, each inside the one before: the opcode, a length of four bytes
-// that counts all that follows, and a byte 00, a Scope's name or a Package's count.
-fn nested(alloc: Global, front: &[u8], opcode: u8, levels: u32) -> Result<Vec<u8>, AllocError> {
+// that counts all that follows, and a byte: a Scope's name, a Package's count, the predicate of an If.
+fn nested(
+    alloc: Global,
+    front: &[u8],
+    opcode: u8,
+    first: u8,
+    levels: u32,
+) -> Result<Vec<u8>, AllocError> {
     let mut code = Vec::from_slice(alloc, front)?;
     for left in (1..=levels).rev() {
         let length = left.saturating_mul(6).saturating_sub(1);
         let [low, middle, high, _] = (length >> 4).to_le_bytes();
         code.push(opcode)?;
         code.push(0xC0 | (length % 16) as u8)?;
-        code.extend_from_slice(&[low, middle, high, 0])?;
+        code.extend_from_slice(&[low, middle, high, first])?;
     }
+    Ok(code)
+}
+
+// So many times the same bytes, and the last ones.
+fn repeated(alloc: Global, bytes: &[u8], times: u32, last: &[u8]) -> Result<Vec<u8>, AllocError> {
+    let mut code = Vec::new(alloc);
+    for _ in 0..times {
+        code.extend_from_slice(bytes)?;
+    }
+    code.extend_from_slice(last)?;
     Ok(code)
 }
 
@@ -37,16 +60,30 @@ fn copied(alloc: Global, items: &[Item]) -> Result<Vec<Item>, AllocError>
 }
 
 // What becomes of the code.
-fn outcome(alloc: Global, code: &[u8]) -> Result<&'static str, AllocError> {
-    let Some(depth) = Depth::new(LEVELS) else {
-        return Ok("no depth");
-    };
+fn outcome(alloc: Global, code: &[u8], depth: Depth) -> Result<&'static str, AllocError> {
     let Ok(items) = read_items(alloc, code, depth) else {
         return Ok("not read");
     };
     let copies = copied(alloc, &items)?;
     if items_fit(&items) && copies == items {
-        Ok("read, tested, copied, compared")
+        Ok(RIGHT)
+    } else {
+        Ok("read wrong")
+    }
+}
+
+// What becomes of the body, in a namespace with a method \M of one argument.
+fn body_outcome(alloc: Global, bytes: &[u8], depth: Depth) -> anyhow::Result<&'static str> {
+    let method = Path::from_text(alloc, "\\M")?;
+    let mut space: TreeSpace<Object> = TreeSpace::new(alloc);
+    space.insert(method.copy()?, Object::Method(1))?;
+    let body = read_body(alloc, &space, &method, bytes, depth, &Counts::new(alloc))?;
+    let fits = match &body {
+        Body::Terms(terms) => terms_fit(terms),
+        Body::Opaque(_) => return Ok("not read"),
+    };
+    if fits && body.copy(alloc)? == body {
+        Ok(RIGHT)
     } else {
         Ok("read wrong")
     }
@@ -54,12 +91,34 @@ fn outcome(alloc: Global, code: &[u8]) -> Result<&'static str, AllocError> {
 
 fn main(rt: HostRuntime) -> anyhow::Result<()> {
     let alloc = rt.alloc();
-    let scopes = nested(alloc, &[], 0x10, LEVELS)?;
-    println!(rt; "{LEVELS} Scopes: {}", outcome(alloc, &scopes)?)?;
-    let packages = nested(alloc, b"\x08ABCD", 0x12, LEVELS - 1)?;
-    println!(rt;
-        "{LEVELS} levels of Package: {}",
-        outcome(alloc, &packages)?
-    )?;
+    let Some(depth) = Depth::new(LEVELS) else {
+        return Ok(());
+    };
+    let items = [
+        ("Scope", nested(alloc, &[], 0x10, 0, LEVELS)?),
+        (
+            "Package in a Name",
+            nested(alloc, b"\x08ABCD", 0x12, 0, LEVELS - 1)?,
+        ),
+    ];
+    for (form, code) in items.iter() {
+        println!(rt;
+            "{LEVELS} levels of {form}: {}",
+            outcome(alloc, code, depth)?
+        )?;
+    }
+    let bodies = [
+        ("LNot", repeated(alloc, &[0x92], LEVELS - 1, &[0x60])?),
+        ("a call", repeated(alloc, b"M___", LEVELS - 1, &[0x60])?),
+        ("Package", nested(alloc, &[], 0x12, 0, LEVELS)?),
+        ("If", nested(alloc, &[], 0xA0, 0x60, LEVELS - 1)?),
+        ("While", nested(alloc, &[], 0xA2, 0x60, LEVELS - 1)?),
+    ];
+    for (form, bytes) in bodies.iter() {
+        println!(rt;
+            "{LEVELS} levels of {form} in a body: {}",
+            body_outcome(alloc, bytes, depth)?
+        )?;
+    }
     Ok(())
 }

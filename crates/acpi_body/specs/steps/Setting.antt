@@ -7,7 +7,7 @@ use Rattle.acpi_name.specs.Paths.{path_cmp}
 use Rattle.acpi_space.specs.Spaces.{PathMap, coded_path}
 use Rattle.acpi_tree.specs.declared.object.Object.{Object}
 use Rattle.acpi_tree.specs.contracts.object.Object as object
-use Rattle.acpi_body.specs.Arguments.{Arguments, arguments}
+use Rattle.acpi_body.specs.Arguments.{Arguments, namespace_of, arguments}
 
 -- the objects of the namespace, what the table's Externals say, and the method's path
 pub record Setting : Type 0 where
@@ -25,8 +25,8 @@ abbrev pub setting_code : Coded Setting
 setting_code = code_by (PathMap Object × (PathMap ℕ × List Segment)) (coded× coded_objects (coded× coded_counts coded_path)) (λ s. (s.objects, (s.externals, s.method))) (λ p. record { objects = p.0; externals = p.1.0; method = p.1.1 }) (λ _. refl)
 
 -- how many values follow a name there
-abbrev pub args_of : Setting → Arguments
-args_of s = arguments s.objects s.externals s.method
+unfoldable pub args_of : Setting → Arguments
+args_of s = arguments (namespace_of s.objects) (finite.get s.externals) s.method
 
 -- the greater of two numbers, or the one that is there
 abbrev pub deeper : Option ℕ → Option ℕ → Option ℕ

@@ -59,7 +59,9 @@ fn agrees(rt: &impl Abort, alloc: Global, failure: Failure<'_>) -> Result<(), Fa
 fn says_what_is_displayed(rt: HostRuntime) -> Result<(), Fail> {
     let alloc = rt.alloc();
     agrees(&rt, alloc, Failure::WrongWords)?;
-    agrees(&rt, alloc, Failure::NoTable)?;
+    for failure in [Failure::BadPath, Failure::NoSuchPath, Failure::NoTable] {
+        agrees(&rt, alloc, failure)?;
+    }
     agrees(&rt, alloc, Failure::Read("a file"))?;
     agrees(&rt, alloc, Failure::BadHex("-"))?;
     agrees(&rt, alloc, Failure::Output)?;

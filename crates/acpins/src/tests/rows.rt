@@ -4,6 +4,7 @@ use crate::tests::listings::LISTINGS;
 use crate::tests::memory::NONE;
 use crate::tests::outcome::{Kept, files_of, made_over_map, ran_with};
 use crate::tests::refusals::{CODES, FILES, LOADS, MORE_CODES};
+use crate::tests::shown::{OBJECTS, READ, UNREAD, UNREAD_HERE};
 use std::alloc::Global;
 use std::process::Abort;
 use std::test::Fail;
@@ -64,4 +65,24 @@ fn refuses_more_codes(rt: HostRuntime) -> Result<(), Fail> {
 #[test]
 fn refuses_loads(rt: HostRuntime) -> Result<(), Fail> {
     answers(&rt, rt.alloc(), &LOADS)
+}
+
+#[test]
+fn shows_bodies(rt: HostRuntime) -> Result<(), Fail> {
+    answers(&rt, rt.alloc(), &READ)
+}
+
+#[test]
+fn shows_why_bodies_are_not_read(rt: HostRuntime) -> Result<(), Fail> {
+    answers(&rt, rt.alloc(), &UNREAD)
+}
+
+#[test]
+fn shows_why_bodies_are_not_read_here(rt: HostRuntime) -> Result<(), Fail> {
+    answers(&rt, rt.alloc(), &UNREAD_HERE)
+}
+
+#[test]
+fn shows_objects(rt: HostRuntime) -> Result<(), Fail> {
+    answers(&rt, rt.alloc(), &OBJECTS)
 }

@@ -1,7 +1,7 @@
 //! Which words are read, and as what.
 
 use crate::failure::Failure;
-use crate::words::read_words;
+use crate::words::{Command, read_words};
 use std::alloc::Global;
 use std::test::Fail;
 
@@ -30,8 +30,26 @@ static READ: [(&str, Asked); 18] = [
     ("list|f|--|-g", (false, 1024, "f|-g")),
 ];
 
+// Words parted by bars that ask for an object, its path, and what else they ask for.
+static SHOWN: [(&str, &str, Asked); 14] = [
+    ("show|\\CALL|f", "\\CALL", (false, 1024, "f")),
+    ("show|\\|f|g|h", "\\", (false, 1024, "f|g|h")),
+    ("show|--hex|\\CALL|f", "\\CALL", (true, 1024, "f")),
+    ("show|\\CALL|--hex|f", "\\CALL", (true, 1024, "f")),
+    ("show|\\CALL|f|--hex|g", "\\CALL", (true, 1024, "f|g")),
+    ("show|--depth|4|\\CALL|f", "\\CALL", (false, 4, "f")),
+    ("show|\\CALL|--depth=4|f|--hex", "\\CALL", (true, 4, "f")),
+    ("show|no path text|f", "no path text", (false, 1024, "f")),
+    ("show||f", "", (false, 1024, "f")),
+    ("show|list|show", "list", (false, 1024, "show")),
+    ("show|-|-", "-", (false, 1024, "-")),
+    ("show|--|--hex|f", "--hex", (false, 1024, "f")),
+    ("show|\\CALL|--|-f", "\\CALL", (false, 1024, "-f")),
+    ("show|\\CALL|f|--|--", "\\CALL", (false, 1024, "f|--")),
+];
+
 // Words parted by bars that ask for nothing.
-static WRONG: [&str; 50] = [
+static WRONG: [&str; 68] = [
     "",
     "list",
     "lis|f",
@@ -82,21 +100,50 @@ static WRONG: [&str; 50] = [
     "list|--",
     "list|--hex|--",
     "list|f|-g",
+    "show",
+    "show|\\CALL",
+    "show|--hex|\\CALL",
+    "show|\\CALL|--hex",
+    "show|\\CALL|--",
+    "show|--|\\CALL",
+    "show|--depth|4|\\CALL",
+    "show|--depth|0|\\CALL|f",
+    "show|\\CALL|f|--depth",
+    "show|\\CALL|--depth=4|f|--depth=4",
+    "show|--hex|\\CALL|f|--hex",
+    "show|-p|f",
+    "show|\\CALL|-f",
+    "show|--path|\\CALL|f",
+    "show|--help",
+    "shows|\\CALL|f",
+    "--hex|show|\\CALL|f",
+    "\\CALL|f",
 ];
 
-// What the words ask for; none where they are wrong.
-fn asks(alloc: Global, text: &str, asked: Option<Asked>) -> Result<bool, Fail> {
+// The path of the object that a command shows.
+fn shown_by<'a>(command: &Command<'a>) -> Option<&'a str> {
+    match command {
+        Command::List => None,
+        Command::Show(path) => Some(*path),
+    }
+}
+
+// Whether the words ask for this: the path where an object is shown, and the rest; none where they are wrong.
+fn asks(alloc: Global, text: &str, path: Option<&str>, asked: Option<Asked>) -> Result<bool, Fail> {
     let words: Vec<&str> = if text.is_empty() {
         Vec::new(alloc)
     } else {
         text.split('|').collect(alloc)?
     };
     match (read_words(alloc, words.as_slice()), asked) {
-        (Ok(got), Some((hex, depth, files))) => Ok(
-            got.hex == hex
-                && got.depth.get() == depth
-                && got.files.iter().copied().eq(files.split('|')),
-        ),
+        (Ok(got), Some((hex, depth, files))) => {
+            Ok(
+                shown_by(&got.command) == path
+                    && got.hex == hex
+                    && got.depth.get() == depth
+                    && got.files.iter().copied().eq(files.split('|')),
+            )
+        }
         (Err(Failure::WrongWords), None) => Ok(true),
         _ => Ok(false),
     }
@@ -105,10 +152,16 @@ fn asks(alloc: Global, text: &str, asked: Option<Asked>) -> Result<bool, Fail> {
 #[test]
 fn reads_words(rt: HostRuntime) -> Result<(), Fail> {
     for (words, asked) in READ.iter() {
-        assert!(rt; asks(rt.alloc(), words, Some(*asked))?, "{words}");
+        assert!(rt; asks(rt.alloc(), words, None, Some(*asked))?, "{words}");
+    }
+    for (words, path, asked) in SHOWN.iter() {
+        assert!(rt;
+            asks(rt.alloc(), words, Some(*path), Some(*asked))?,
+            "{words}"
+        );
     }
     for words in WRONG.iter() {
-        assert!(rt; asks(rt.alloc(), words, None)?, "{words}");
+        assert!(rt; asks(rt.alloc(), words, None, None)?, "{words}");
     }
     Ok(())
 }

@@ -1,20 +1,21 @@
 use Rattle.std.proofs.Common.{◌<◌, arith}
-use Rattle.acpi_body.specs.Arguments.{arguments}
+use Rattle.std.specs.FinMap.{get}
+use Rattle.acpi_body.specs.Arguments.{namespace_of, arguments}
 use Rattle.acpi_body.proofs.ReadBodies.{why_law, next_law, faults_law}
 use Rattle.acpi_body.proofs.body.why.Goals as goal
 
 pub returns-clause-read : goal.returns-clause-read
 returns-clause-read g c =
-    let args = arguments (g.S.Space.contents c.args.space.now) c.args.counts.now c.args.method.now in
+    let args = arguments (namespace_of (g.S.Space.contents c.args.space.now)) (get c.args.counts.now) c.args.method.now in
     why_law args c.args.method.now c.args.depth c.args.bytes.now c.fault_in.result (rw c.get.ensures.number at c.fault_in.ensures)
 
 pub returns-clause-faults : goal.returns-clause-faults
 returns-clause-faults g c =
-    let args = arguments (g.S.Space.contents c.args.space.now) c.args.counts.now c.args.method.now in
+    let args = arguments (namespace_of (g.S.Space.contents c.args.space.now)) (get c.args.counts.now) c.args.method.now in
     faults_law args c.args.method.now c.args.depth c.args.bytes.now c.fault_in.result (rw c.get.ensures.number at c.fault_in.ensures)
 
 pub returns-clause-next : goal.returns-clause-next
 returns-clause-next g c =
-    let args = arguments (g.S.Space.contents c.args.space.now) c.args.counts.now c.args.method.now in
+    let args = arguments (namespace_of (g.S.Space.contents c.args.space.now)) (get c.args.counts.now) c.args.method.now in
     let some : 0 < c.args.depth = omega (arith, c.get.ensures.number, c.get.ensures.least) in
     next_law args c.args.method.now c.args.depth c.args.bytes.now c.fault_in.result (rw c.get.ensures.number at c.fault_in.ensures) some

@@ -39,7 +39,7 @@ elements-returns g t c =
 pub arguments-returns-in_err-term : goal.arguments-returns-in_err-term
 arguments-returns-in_err-term g t c =
     let r : Reader = term_at (args_of c.args.context.now c.args.locals.now) c.args.level in
-    let p = err_from_is_err_and c.from_residual.result c.from_residual.ensures.1 in
+    let p = err_from_is_err_and c.from_residual-in_err-term.result c.from_residual-in_err-term.ensures.1 in
     let left = values_left c.args.count c.each.counter (grind arith) in
     let so : Operated r (values c.args.count) (At Value ∷ values (c.args.count - (c.each.counter + 1))) c.args.code.now c.each.code (terms_view c.each.found.items) = subst (λ ks. Operated r (values c.args.count) ks c.args.code.now c.each.code (terms_view c.each.found.items)) left c.each.invariant in
     rw (p.1, p.2) (operated_ends r (values c.args.count) (At Value) _ c.args.code.now c.each.code _ _ (rw (value_operand r c.each.code.end c.each.code.bytes) c.in_err-term.ensures.exact) so)
@@ -62,7 +62,7 @@ arguments-returns g t c =
 pub operands-returns-in_err-operand : goal.operands-returns-in_err-operand
 operands-returns-in_err-operand g t c =
     let r : Reader = term_at (args_of c.args.context.now c.args.locals.now) c.args.level in
-    let p = err_from_is_err_and c.from_residual.result c.from_residual.ensures.1 in
+    let p = err_from_is_err_and c.from_residual-in_err-operand.result c.from_residual-in_err-operand.ensures.1 in
     let next = drop_more c.args.kinds.now c.each.kind-index (At Value) (grind arith) in
     let so = subst (λ ks. Operated r c.args.kinds.now ks c.args.code.now c.each.code (operands_view c.each.found.items)) next c.each.invariant in
     rw (p.1, p.2) (operated_ends r c.args.kinds.now _ _ c.args.code.now c.each.code _ _ c.in_err-operand.ensures so)

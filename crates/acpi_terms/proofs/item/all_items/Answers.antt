@@ -1,6 +1,6 @@
 use Rattle.std.proofs.Common.{◌∙◌, ap, ap₂, subst, length}
 use Rattle.acpi_tree.specs.View.{items_tree}
-use Rattle.acpi_terms.proofs.Fitting.{are_bytes}
+use Rattle.acpi_code.proofs.Fitting.{are_bytes}
 use Rattle.acpi_terms.proofs.ReadItems.{fits_law, offsets_law}
 use Rattle.acpi_terms.specs.steps.Cursor.{Gives}
 use Rattle.acpi_terms.specs.steps.Reading.{item_at, items_with, items_at}

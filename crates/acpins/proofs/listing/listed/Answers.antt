@@ -3,7 +3,7 @@ use Rattle.std.specs.BTreeMap.{IsOrdered}
 use Rattle.acpi_name.specs.Paths.{path_cmp}
 use Rattle.acpins.specs.steps.Merging.{entries_in, entry_of, links_ahead, left_ahead}
 use Rattle.std.specs.FinMap.{entries}
-use Rattle.acpi_load.specs.DeclaredView.{objects_in, links_in}
+use Rattle.acpi_load.specs.MachineView.{objects_in, links_in}
 use Rattle.acpi_load.specs.Links.{links_at}
 use Rattle.acpi_tree.specs.Objects.{object_view}
 use Rattle.acpi_text.specs.Lines.{line_text}
@@ -13,17 +13,17 @@ use Rattle.acpins.proofs.listing.listed.Goals as goal
 
 pub loop-path-init : goal.loop-path-init
 loop-path-init g c =
-    let links : IsOrdered path_cmp (links_in c.args.declared.now) = rw c.links.ensures at c.in_ok-linked.ensures.ordered in
-    let all : map entry_of c.in_ok-linked.linked.items ≡ entries_in (links_in c.args.declared.now) = rw c.links.ensures at c.in_ok-linked.ensures.all in (
+    let links : IsOrdered path_cmp (links_in c.args.machine.now) = rw c.links.ensures at c.in_ok-linked.ensures.ordered in
+    let all : map entry_of c.in_ok-linked.linked.items ≡ entries_in (links_in c.args.machine.now) = rw c.links.ensures at c.in_ok-linked.ensures.all in (
       omega arith,
       c.new-text.ensures.items,
-      serves_all (λ p. (p.0, p.1.now)) c.deref-path-items.result.now (g.S.Space.contents (objects_in c.args.declared.now)) (links_in c.args.declared.now) _
+      serves_all (λ p. (p.0, p.1.now)) c.deref-path-items.result.now (g.S.Space.contents (objects_in c.args.machine.now)) (links_in c.args.machine.now) _
           (ap (map (λ p. (p.0, p.1.now))) c.deref-path-items.ensures.value ∙ c.in_ok-pairs.ensures ∙ ap (λ s. entries (g.S.Space.contents s)) c.objects.ensures) all links,
     )
 
 pub loop-path-preserved : goal.loop-path-preserved
 loop-path-preserved g c =
-    let known = links_at (links_in c.args.declared.now) in
+    let known = links_at (links_in c.args.machine.now) in
     let items = c.deref-path-items.result.now in
     let item = c.loop-path-item.result in
     let linked = c.in_ok-linked.linked.items in
@@ -45,7 +45,7 @@ loop-path-preserved g c =
 pub returns-clause-exact : goal.returns-clause-exact
 returns-clause-exact g c =
     c.loop-path.invariant.1
-    ∙ listing_said (λ p. (p.0, p.1.now)) c.deref-path-items.result.now c.loop-path.path-index (g.S.Space.contents (objects_in c.args.declared.now)) (links_at (links_in c.args.declared.now))
+    ∙ listing_said (λ p. (p.0, p.1.now)) c.deref-path-items.result.now c.loop-path.path-index (g.S.Space.contents (objects_in c.args.machine.now)) (links_at (links_in c.args.machine.now))
     c.loop-path-test.false
     (ap (map (λ p. (p.0, p.1.now))) c.deref-path-items.ensures.value ∙ c.in_ok-pairs.ensures ∙ ap (λ s. entries (g.S.Space.contents s)) c.objects.ensures)
 

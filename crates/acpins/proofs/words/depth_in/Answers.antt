@@ -6,8 +6,8 @@ use Rattle.acpins.proofs.words.depth_in.Goals as goal
 
 pub returns-in-Some : goal.returns-in-Some
 returns-in-Some c =
-    c.depth_of.ensures ∙ ap depth_or_usual (c.in-Some.ensures ∙ first_value-rows (found_of c.args.list.now) (codes "depth"))
+    c.depth_of.ensures ∙ ap depth_or_usual (c.in-Some.ensures ∙ first_value-rows (found_of c.args.found.now) (codes "depth"))
 
 pub returns-in-None : goal.returns-in-None
 returns-in-None c =
-    c.new.ensures ∙ ap depth_or_usual (c.in-None.ensures ∙ first_value-rows (found_of c.args.list.now) (codes "depth"))
+    c.new.ensures ∙ ap depth_or_usual (c.in-None.ensures ∙ first_value-rows (found_of c.args.found.now) (codes "depth"))

@@ -1,16 +1,16 @@
-use Rattle.std.proofs.Common.{◌≡◌, ◌∙◌, ap, sym, subst, inl, inr, List, Some}
-use Rattle.std.specs.Prelude.{option_map}
+use Rattle.std.proofs.Common.{◌≡◌, ◌∙◌, ap, sym, subst, inl, inr, Some}
 use Rattle.std.proofs.lemmas.Result.{IfOk-weaker}
 use Rattle.clap.specs.Faults.{fault_of, is_simple_and_free}
 use Rattle.clap.specs.Kinds.{IsAmong}
 use Rattle.clap.specs.Values.{kind_of}
 use Rattle.clap.specs.Matches.{found_of}
 use Rattle.clap.specs.Simple.{App, app_of, is_simple, subcommand_of}
-use Rattle.clap.specs.Walk.{Row, Text, rows_of, texts}
+use Rattle.clap.specs.Walk.{rows_of, texts}
+use Rattle.clap.specs.declared.parser.matches.ArgMatches.TheViews.{out-ArgMatches}
 use Rattle.acpins.specs.Words.{acpins_app, asked_by, asked_of}
 use Rattle.acpins.specs.declared.failure.Failure.TheVariants.{Memory, WrongWords}
 use Rattle.acpins.proofs.HexFlag.{hex_read}
-use Rattle.acpins.proofs.WordsAsked.{app_is_free, app_is_simple, faulty_words, sound_words}
+use Rattle.acpins.proofs.WordsAsked.{app_is_free, app_is_simple, faulty_words, found_whole, sound_words}
 use Rattle.acpins.proofs.words.read_words.Goals as goal
 use Rattle.acpins.proofs.words.read_words.Goals.{In-Some}
 
@@ -26,23 +26,23 @@ returns-in-Err-clause-wrong c e =
       | inr among ↦ faulty_words words _ (subst (λ (a : App). IsAmong (kind_of c.in-Err.error) (fault_of a words)) app_is among)
     ]
 
--- the rows of the subcommand are those of clap's account
-rows_are : (c : In-Some) → Some (rows_of (found_of c.in-Some.list.now)) ≡ option_map (λ p. p.1) (subcommand_of acpins_app (texts c.args.words.now))
-rows_are c =
+-- the command and its rows are those of clap's account
+found_are : (c : In-Some) → Some (c.in-Some.name.now, rows_of (found_of c.in-Some.found.now)) ≡ subcommand_of acpins_app (texts c.args.words.now)
+found_are c =
     let app_is : app_of c.in-Ok.command ≡ acpins_app = c.in-Ok.ensures in
     let met = c.in-Ok-try_get_matches_from.ensures.matches (ap is_simple app_is ∙ app_is_simple) in
-    c.in-Some.ensures.rows
-    ∙ ap (option_map (λ (p : Text × List Row). p.1)) (met.1 ∙ ap (λ (a : App). subcommand_of a (texts c.args.words.now)) app_is)
+    found_whole (out-ArgMatches c.in-Ok-try_get_matches_from.matches).subcommand _ _ c.in-Some.ensures.name c.in-Some.ensures.rows
+    ∙ met.1 ∙ ap (λ (a : App). subcommand_of a (texts c.args.words.now)) app_is
 
-asked_are : (c : In-Some) → asked_of (texts c.args.words.now) ≡ asked_by (rows_of (found_of c.in-Some.list.now))
+asked_are : (c : In-Some) → asked_of (texts c.args.words.now) ≡ asked_by c.in-Some.name.now (rows_of (found_of c.in-Some.found.now))
 asked_are c =
     let app_is : app_of c.in-Ok.command ≡ acpins_app = c.in-Ok.ensures in
     let none = c.in-Ok-try_get_matches_from.ensures.kinds (ap is_simple_and_free app_is ∙ app_is_free) in
-    sound_words (texts c.args.words.now) (Some (rows_of (found_of c.in-Some.list.now)))
-    (ap (λ (a : App). fault_of a (texts c.args.words.now)) (sym app_is) ∙ none) (rows_are c)
+    sound_words (texts c.args.words.now) c.in-Some.name.now (rows_of (found_of c.in-Some.found.now))
+    (ap (λ (a : App). fault_of a (texts c.args.words.now)) (sym app_is) ∙ none) (found_are c)
 
 pub request_of-requires : goal.request_of-requires
-request_of-requires c = hex_read (texts c.args.words.now) (rows_of (found_of c.in-Some.list.now)) (rows_are c)
+request_of-requires c = hex_read (texts c.args.words.now) c.in-Some.name.now (rows_of (found_of c.in-Some.found.now)) (found_are c)
 
 pub returns-clause-found : goal.returns-clause-found
 returns-clause-found c =

@@ -1,0 +1,210 @@
+//! The searches of a read body, term after term.
+
+ghost use Rattle.std.specs.Prelude.{◌≡◌, OnOk};
+ghost use Rattle.acpi_name.specs.Paths.{place_of};
+ghost use Rattle.acpi_tree.specs.Terms.{terms_of};
+ghost use Rattle.acpi_tree.specs.TermView.{term_view, terms_tree, else_view, operands_view, decl_view};
+ghost use Rattle.acpi_body.specs.Statements.{with_place, locals_after, locals_after_else, locals_after_all};
+ghost use Rattle.acpi_body.specs.steps.Gathering.{after_value, after_values, after_statement, after_else, after_statements};
+
+use crate::arguments::{Context, add};
+use crate::field::add_units;
+use crate::gathered::{Gathered, gather_search};
+use acpi_name::{Name, PlaceFault, place};
+use acpi_space::{MapSpace, Space};
+use acpi_tree::{Decl, Object, Operand, Term};
+use std::alloc::AllocError;
+
+// What the names in a value search.
+#[cycle(value)]
+fn value<S: Space<Object>>(
+    context: &Context<'_, S>,
+    locals: &MapSpace<()>,
+    gathered: &mut Gathered,
+    term: &Term,
+) -> Result<(), AllocError>
+    ensures { OnOk result (gathered.new ≡ after_value context.now locals.now gathered.old (term_view term.now)) }
+{
+    match term {
+        Term::Buffer(size, _) => value(context, locals, gathered, size),
+        Term::Package(_, elements) => values(context, locals, gathered, elements),
+        Term::VarPackage(count, elements) => {
+            value(context, locals, gathered, count)?;
+            values(context, locals, gathered, elements)
+        }
+        Term::Call(name, args) => {
+            gather_search(context, locals, gathered, name.view())?;
+            values(context, locals, gathered, args)
+        }
+        Term::Op(_, operands) => operand_values(context, locals, gathered, operands),
+        _ => Ok(()),
+    }
+}
+
+#[cycle(value)]
+fn values<S: Space<Object>>(
+    context: &Context<'_, S>,
+    locals: &MapSpace<()>,
+    gathered: &mut Gathered,
+    terms: &[Term],
+) -> Result<(), AllocError>
+    ensures { OnOk result (gathered.new ≡ after_values context.now locals.now gathered.old (terms_tree terms.now)) }
+{
+    'each: for term in terms {
+        value(context, locals, gathered, term)?;
+    }
+    Ok(())
+}
+
+#[cycle(value)]
+fn operand_values<S: Space<Object>>(
+    context: &Context<'_, S>,
+    locals: &MapSpace<()>,
+    gathered: &mut Gathered,
+    operands: &[Operand],
+) -> Result<(), AllocError>
+    ensures { OnOk result (gathered.new ≡ after_values context.now locals.now gathered.old (terms_of (operands_view operands.now))) }
+{
+    'each: for operand in operands {
+        if let Operand::Term(term) = operand {
+            value(context, locals, gathered, term)?;
+        }
+    }
+    Ok(())
+}
+
+// Adds the place of a declared name, if it has one.
+fn declare<S: Space<Object>>(
+    context: &Context<'_, S>,
+    locals: &mut MapSpace<()>,
+    name: &Name,
+) -> Result<(), AllocError>
+    ensures { OnOk result (locals.new ≡ with_place locals.old (place_of context.now.method name.now)) }
+{
+    match place(context.alloc(), context.method(), name.view()) {
+        Ok(path) => add(locals, path),
+        Err(PlaceFault::AboveRoot) => Ok(()),
+        Err(PlaceFault::Memory) => Err(AllocError),
+    }
+}
+
+// The operands of a declaration see the locals before it.
+#[inline(never)]
+fn declaration<S: Space<Object>>(
+    context: &Context<'_, S>,
+    locals: &mut MapSpace<()>,
+    gathered: &mut Gathered,
+    decl: &Decl,
+) -> Result<(), AllocError>
+    ensures gathered { OnOk result (gathered.new ≡ after_statement context.now locals.old gathered.old (decl_view decl.now)) }
+    ensures locals { OnOk result (locals.new ≡ locals_after context.now.method locals.old (decl_view decl.now)) }
+{
+    match decl {
+        Decl::Name(name, data) => {
+            value(context, locals, gathered, data)?;
+            declare(context, locals, name)
+        }
+        Decl::Create {
+            source,
+            index,
+            name,
+            ..
+        } => {
+            value(context, locals, gathered, source)?;
+            value(context, locals, gathered, index)?;
+            declare(context, locals, name)
+        }
+        Decl::CreateField {
+            source,
+            index,
+            bits,
+            name,
+        } => {
+            value(context, locals, gathered, source)?;
+            value(context, locals, gathered, index)?;
+            value(context, locals, gathered, bits)?;
+            declare(context, locals, name)
+        }
+        Decl::Mutex(name, _) => declare(context, locals, name),
+        Decl::Event(name) => declare(context, locals, name),
+        Decl::Region {
+            name,
+            offset,
+            length,
+            ..
+        } => {
+            value(context, locals, gathered, offset)?;
+            value(context, locals, gathered, length)?;
+            declare(context, locals, name)
+        }
+        Decl::Field { elems, .. } => add_units(locals, context.method(), elems),
+        Decl::IndexField { elems, .. } => add_units(locals, context.method(), elems),
+        Decl::BankField {
+            value: bank,
+            elems,
+            ..
+        } => {
+            value(context, locals, gathered, bank)?;
+            add_units(locals, context.method(), elems)
+        }
+    }
+}
+
+// What the names in a statement search, and the paths that it declares.
+#[cycle(statement)]
+fn statement<S: Space<Object>>(
+    context: &Context<'_, S>,
+    locals: &mut MapSpace<()>,
+    gathered: &mut Gathered,
+    term: &Term,
+) -> Result<(), AllocError>
+    ensures gathered { OnOk result (gathered.new ≡ after_statement context.now locals.old gathered.old (term_view term.now)) }
+    ensures locals { OnOk result (locals.new ≡ locals_after context.now.method locals.old (term_view term.now)) }
+{
+    match term {
+        Term::If(test, then, other) => {
+            value(context, locals, gathered, test)?;
+            statements(context, locals, gathered, then)?;
+            else_statements(context, locals, gathered, other)
+        }
+        Term::While(test, then) => {
+            value(context, locals, gathered, test)?;
+            statements(context, locals, gathered, then)
+        }
+        Term::Declare(decl) => declaration(context, locals, gathered, decl),
+        _ => value(context, locals, gathered, term),
+    }
+}
+
+#[cycle(statement)]
+fn else_statements<S: Space<Object>>(
+    context: &Context<'_, S>,
+    locals: &mut MapSpace<()>,
+    gathered: &mut Gathered,
+    other: &Option<Vec<Term>>,
+) -> Result<(), AllocError>
+    ensures gathered { OnOk result (gathered.new ≡ after_else context.now locals.old gathered.old (else_view other.now)) }
+    ensures locals { OnOk result (locals.new ≡ locals_after_else context.now.method locals.old (else_view other.now)) }
+{
+    match other {
+        Some(other) => statements(context, locals, gathered, other),
+        None => Ok(()),
+    }
+}
+
+/// Gathers what the searches of statements miss, one after another, and the paths that they declare.
+#[cycle(statement)]
+pub(crate) fn statements<S: Space<Object>>(
+    context: &Context<'_, S>,
+    locals: &mut MapSpace<()>,
+    gathered: &mut Gathered,
+    terms: &[Term],
+) -> Result<(), AllocError>
+    ensures gathered { OnOk result (gathered.new ≡ after_statements context.now locals.old gathered.old (terms_tree terms.now)) }
+    ensures locals { OnOk result (locals.new ≡ locals_after_all context.now.method locals.old (terms_tree terms.now)) }
+{
+    'each: for term in terms {
+        statement(context, locals, gathered, term)?;
+    }
+    Ok(())
+}

@@ -1,0 +1,20 @@
+-- Bodies, one method after another.
+use Rattle.std.specs.Prelude.{◌≡◌, ℕ, List, [], ◌∷◌, ◌++◌, map}
+use Rattle.acpi_space.specs.Lookups.{Lookup, singleton, union}
+use Rattle.acpi_declare.specs.Namespace.{Namespace}
+use Rattle.acpi_declare.specs.Notes.{Notes}
+use Rattle.acpi_body.specs.Bodies.{BodyTree}
+use Rattle.acpi_order.specs.Bodies.{Method, with_counts, IsBody}
+
+-- the methods that are noted of a table, and of all tables
+abbrev pub noted : Notes → List Method
+noted n = map (with_counts n.counts) n.methods
+
+abbrev pub all_noted : List Notes → List Method
+all_noted [] = []
+all_noted (n ∷ ns) = noted n ++ all_noted ns
+
+-- each method's body goes over what is there
+abbrev pub AddsBodies : ℕ → Namespace → List Method → Lookup BodyTree → Lookup BodyTree → Type 0
+AddsBodies depth objects [] before now = now ≡ before
+AddsBodies depth objects (m ∷ ms) before now = (b : BodyTree) × IsBody depth objects m b × AddsBodies depth objects ms (union (singleton m.path b) before) now

@@ -1,0 +1,17 @@
+pub mod Lists
+pub mod ReadBodies
+pub mod Once
+pub mod Listings
+pub mod Picked
+pub mod Counted
+pub mod Items
+pub mod Sources
+pub mod Joined
+pub mod Orders
+pub mod Told
+pub mod Verdicts
+pub mod Stays
+pub mod Sharing
+pub mod Singles
+pub mod Found
+pub mod Examples

@@ -1,0 +1,84 @@
+-- What a load tells of independent SSDTs, and joins of lists of machines.
+use Rattle.std.proofs.Common.{◌≡◌, ◌≢◌, ℕ, List, [], ◌∷◌, Option, Some, None, Result, Ok, Err, IfOk, IfErr, MatchResult, inl, inr, refl, sym, ap, subst, ◌∙◌}
+use Rattle.std.specs.Option.{option_or}
+use Rattle.acpi_name.specs.Names.{Segment}
+use Rattle.acpi_space.specs.Lookups.{Lookup}
+use Rattle.acpi_space.specs.Laws.{Among}
+use Rattle.acpi_declare.specs.Loads.{HasNoLoad}
+use Rattle.acpi_declare.specs.declared.fault.LoadFault.{LoadFault}
+use Rattle.acpi_declare.specs.declared.fault.LoadFault.TheVariants.{At, Memory}
+use Rattle.acpi_order.specs.Machines.{Machine, IsMachine}
+use Rattle.acpi_order.specs.Joins.{IsUnion, IsJoin, IsSingleLoad, Agree, AllAgree}
+use Rattle.acpi_order.specs.Independent.{IsIndependent}
+use Rattle.acpi_order.proofs.Lists.{one_some}
+use Rattle.acpi_order.proofs.Joined.{load_exists, load_joins}
+use Rattle.acpi_order.proofs.Orders.{one_join}
+
+memory_only : (e : LoadFault) → (e ≢ Memory → ⊥) → e ≡ Memory
+memory_only Memory f = refl
+memory_only (At k reason) f = absurd (f (λ e. cc))
+
+pub load_tells_join : (depth : ℕ) (dsdt : List ℕ) (ssdts : List (List ℕ)) (told : Result (Machine) LoadFault)
+    → IfOk told (λ m. IsMachine depth (dsdt ∷ ssdts) m) → IfErr told (λ e. e ≢ Memory → HasNoLoad depth (dsdt ∷ ssdts))
+    → ssdts ≢ [] → IsIndependent depth dsdt ssdts → MatchResult told (λ m. IsJoin (IsSingleLoad depth dsdt ssdts) m) (λ e. e ≡ Memory)
+load_tells_join depth dsdt ssdts (Ok m) ok err some h = load_joins depth dsdt ssdts m some h ok
+load_tells_join depth dsdt ssdts (Err e) ok err some h =
+    let r = load_exists depth dsdt ssdts some h in
+    memory_only e (λ other. err other r.1.placements r.1.listings)
+
+-- ---- the first value of several maps
+
+abbrev first_value : {X V : Type 0} → (X → Lookup V) → List X → Lookup V
+first_value values [] p = None
+first_value values (x ∷ xs) p = option_or (values x p) (first_value values xs p)
+
+module _ {X V : Type 0} (values : X → Lookup V) where
+  first_at : (y : X) (ys : List X) (p : List Segment) (v : V) → (first_value values ys p ≡ Some v → (z : X) × Among ys z × (values z p ≡ Some v)) → (a : Option V)
+      → values y p ≡ a → option_or a (first_value values ys p) ≡ Some v → (z : X) × Among (y ∷ ys) z × (values z p ≡ Some v)
+  first_at y ys p v rest None at e = let r = rest e in (r.0, inr r.1, r.2)
+  first_at y ys p v rest (Some a) at e = (y, inl refl, at ∙ e)
+
+  first_is : (ys : List X) (p : List Segment) (v : V) → first_value values ys p ≡ Some v → (z : X) × Among ys z × (values z p ≡ Some v)
+  first_is [] p v e = cc
+  first_is (y ∷ ys) p v e = first_at y ys p v (first_is ys p v) (values y p) refl e
+
+  or_is_some : (a b : Option V) → ((v : V) × (b ≡ Some v)) → (v : V) × (option_or a b ≡ Some v)
+  or_is_some None b h = h
+  or_is_some (Some a) b h = (a, refl)
+
+  some_first : (ys : List X) (y : X) (p : List Segment) (v : V) → Among ys y → values y p ≡ Some v → (w : V) × (first_value values ys p ≡ Some w)
+  some_first [] y p v m e = absurd m
+  some_first (z ∷ zs) y p v (inl is) e = let e₁ : values z p ≡ Some v = subst (λ (x : X). values x p ≡ Some v) (sym is) e in (v, ap (λ a. option_or a (first_value values zs p)) e₁)
+  some_first (z ∷ zs) y p v (inr m) e = or_is_some (values z p) (first_value values zs p) (some_first zs y p v m e)
+
+  first_joins : (parts : List X) → Agree parts values → IsUnion (Among parts) values (first_value values parts)
+  first_joins parts agree p v = (
+    (λ e. first_is parts p v e),
+    (λ r.
+        let f = some_first parts r.0 p v r.1 r.2 in
+        let z = first_is parts p f.0 f.1 in
+        f.1 ∙ ap (λ (u : V). Some u) (agree z.0 r.0 p f.0 v z.1 r.1 z.2 r.2)),
+  )
+
+  joined_agree : (parts : List X) (whole : Lookup V) → IsUnion (Among parts) values whole → Agree parts values
+  joined_agree parts whole h x y p v w mx my ex ey = one_some v w (sym ((h p v).1 (x, mx, ex)) ∙ (h p w).1 (y, my, ey))
+
+pub agreeing_have_join : (parts : List Machine) → AllAgree parts → (m : Machine) × IsJoin (Among parts) m
+agreeing_have_join parts h = (
+  record { objects = first_value (λ x. x.objects) parts; links = first_value (λ x. x.links) parts; bodies = first_value (λ x. x.bodies) parts },
+  record {
+    objects_join = first_joins (λ x. x.objects) parts h.objects_agree;
+    links_join = first_joins (λ x. x.links) parts h.links_agree;
+    bodies_join = first_joins (λ x. x.bodies) parts h.bodies_agree;
+  },
+)
+
+pub joined_all_agree : (parts : List Machine) (m : Machine) → IsJoin (Among parts) m → AllAgree parts
+joined_all_agree parts m h = record {
+  objects_agree = joined_agree (λ x. x.objects) parts m.objects h.objects_join;
+  links_agree = joined_agree (λ x. x.links) parts m.links h.links_join;
+  bodies_agree = joined_agree (λ x. x.bodies) parts m.bodies h.bodies_join;
+}
+
+pub one_join_of : (parts : List Machine) (m n : Machine) → IsJoin (Among parts) m → IsJoin (Among parts) n → m ≡ n
+one_join_of parts m n h k = one_join (Among parts) m n h k

@@ -1,0 +1,9 @@
+pub mod Bodies
+pub mod Machines
+pub mod Joins
+pub mod Misses
+pub mod Independent
+pub mod Verdicts
+pub mod Singles
+pub mod Sharing
+pub mod Laws

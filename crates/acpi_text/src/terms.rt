@@ -1,0 +1,137 @@
+//! Terms of method bodies, each in one line.
+
+ghost use Rattle.std.specs.Prelude.{◌≡◌, ◌++◌, OnOk, codes};
+ghost use Rattle.acpi_tree.specs.Terms.{terms_of};
+ghost use Rattle.acpi_tree.specs.TermView.{term_view, operand_view, decl_view, terms_tree, operands_view};
+ghost use Rattle.acpi_text.specs.Terms.{joined, arguments_text, term_text, term_texts};
+
+use crate::bytes::{put_bytes, put_string};
+use crate::declarations::put_decl;
+use crate::names::put_name;
+use crate::numbers::{put, put_decimal, put_int};
+use crate::operators::op_name;
+use acpi_tree::{Int, Operand, Term};
+use std::alloc::AllocError;
+
+// A term, in one line; of an If or a While its head alone.
+#[cycle(put_term)]
+pub(crate) fn put_term(text: &mut Vec<u8>, term: &Term) -> Result<(), AllocError>
+    ensures { OnOk result (text.new.items ≡ text.old.items ++ term_text (term_view term.now)) }
+{
+    match term {
+        Term::Int(int) => put_int(text, *int),
+        Term::Str(bytes) => put_string(text, bytes),
+        Term::Buffer(size, bytes) => {
+            put_of(text, "Buffer", size)?;
+            put_bytes(text, bytes)
+        }
+        Term::Package(count, elems) => {
+            put(text, "Package(")?;
+            put_decimal(text, u64::from(*count))?;
+            put(text, "){")?;
+            put_joined(text, elems)?;
+            put(text, "}")
+        }
+        Term::VarPackage(count, elems) => {
+            put_of(text, "VarPackage", count)?;
+            put(text, "{")?;
+            put_joined(text, elems)?;
+            put(text, "}")
+        }
+        Term::Local(number) => {
+            put(text, "Local")?;
+            put_decimal(text, u64::from(*number))
+        }
+        Term::Arg(number) => {
+            put(text, "Arg")?;
+            put_decimal(text, u64::from(*number))
+        }
+        Term::Debug => put(text, "Debug"),
+        Term::NoTarget => put(text, "-"),
+        Term::Ref(name) => put_name(text, name.view()),
+        Term::Call(name, args) => {
+            put_name(text, name.view())?;
+            put_args(text, args)
+        }
+        Term::Op(op, operands) => {
+            put(text, op_name(*op))?;
+            put_operands(text, operands)
+        }
+        Term::If(test, _, _) => put_of(text, "If ", test),
+        Term::While(test, _) => put_of(text, "While ", test),
+        Term::Declare(decl) => put_decl(text, decl),
+    }
+}
+
+// A word, and a term in parentheses.
+#[cycle(put_term)]
+fn put_of(text: &mut Vec<u8>, word: &str, term: &Term) -> Result<(), AllocError>
+    ensures { OnOk result (text.new.items ≡ text.old.items ++ (word.now ++ codes "(" ++ term_text (term_view term.now) ++ codes ")")) }
+{
+    put(text, word)?;
+    put(text, "(")?;
+    put_term(text, term)?;
+    put(text, ")")
+}
+
+// Terms with a comma between each two.
+#[cycle(put_term)]
+fn put_joined(text: &mut Vec<u8>, terms: &[Term]) -> Result<(), AllocError>
+    ensures { OnOk result (text.new.items ≡ text.old.items ++ joined (term_texts (terms_tree terms.now))) }
+{
+    match terms {
+        [] => Ok(()),
+        [first, rest @ ..] => {
+            put_term(text, first)?;
+            for term in rest {
+                put(text, ", ")?;
+                put_term(text, term)?;
+            }
+            Ok(())
+        }
+    }
+}
+
+// The arguments of a call.
+#[cycle(put_term)]
+fn put_args(text: &mut Vec<u8>, args: &[Term]) -> Result<(), AllocError>
+    ensures { OnOk result (text.new.items ≡ text.old.items ++ arguments_text (term_texts (terms_tree args.now))) }
+{
+    if args.is_empty() {
+        return Ok(());
+    }
+    put(text, "(")?;
+    put_joined(text, args)?;
+    put(text, ")")
+}
+
+// The operands of an operator.
+#[cycle(put_term)]
+fn put_operands(text: &mut Vec<u8>, operands: &[Operand]) -> Result<(), AllocError>
+    ensures { OnOk result (text.new.items ≡ text.old.items ++ arguments_text (term_texts (terms_of (operands_view operands.now)))) }
+{
+    match operands {
+        [] => Ok(()),
+        [first, rest @ ..] => {
+            put(text, "(")?;
+            put_operand(text, first)?;
+            for operand in rest {
+                put(text, ", ")?;
+                put_operand(text, operand)?;
+            }
+            put(text, ")")
+        }
+    }
+}
+
+#[cycle(put_term)]
+fn put_operand(text: &mut Vec<u8>, operand: &Operand) -> Result<(), AllocError>
+    ensures { OnOk result (text.new.items ≡ text.old.items ++ term_text (operand_view operand.now)) }
+{
+    match operand {
+        Operand::Term(term) => put_term(text, term),
+        Operand::Byte(number) => put_int(text, Int::Byte(*number)),
+        Operand::Word(number) => put_int(text, Int::Word(*number)),
+        Operand::DWord(number) => put_int(text, Int::DWord(*number)),
+    }
+}

@@ -1,0 +1,259 @@
+-- What is written spells its tree.
+use Rattle.std.proofs.Common.{◌≡◌, ℕ, zero, suc, ◌<◌, ◌≤◌, ◌^◌, Bool, true, false, ◌&&◌, ◌||◌, ◌==◌, not, List, [], ◌∷◌, ◌++◌, length, slice_index, append-nil, Option, Some, None, refl, sym, ap, subst, ◌∙◌, arith}
+use Rattle.std.specs.List.{AllByRecursion, list_all}
+use Rattle.std.specs.Fmt.{option_append}
+use Rattle.std.specs.Prelude.{nat_le, nat_lt, nat_eq, cond}
+use Rattle.std.proofs.lemmas.Bool.{ltb-true, leb-true}
+use Rattle.byteorder.specs.Endian.{little_number, little_bytes}
+use Rattle.byteorder.specs.Numbers.{little_number-reads_back, length-bytes_low_first}
+use Rattle.acpi_name.specs.Names.{NameParts, IsName, Segment, is_segment, is_lead_char, is_name_char}
+use Rattle.acpi_name.specs.Spelling.{name_bytes, prefix_of, path_bytes}
+use Rattle.acpi_name.proofs.NameWritten.{name_written}
+use Rattle.acpi_table.specs.PkgLength.{SpellsPkgLength, shortest_pkg_length, package_number}
+use Rattle.acpi_table.proofs.PkgLengths.{shortest_spells, number_counts}
+use Rattle.acpi_code.specs.Opcodes.{is_name_start}
+use Rattle.acpi_code.specs.declared.opcode.Opcode.{Opcode}
+use Rattle.acpi_code.specs.declared.opcode.Opcode.TheVariants as opcodes
+use Rattle.acpi_code.specs.Spelling.{SpellsNumber, SpellsInt, SpellsTermName, SpellsEach, IsText, Packs}
+use Rattle.acpi_tree.specs.declared.tree.Int.{Int}
+use Rattle.acpi_tree.specs.declared.tree.Int.TheVariants.{Zero, One, Ones, Revision, Byte, Word, DWord, QWord}
+use Rattle.acpi_tree.specs.Tree.{DataTree, int, str, buffer, pkg, var_pkg, ElemTree, of_data, of_name, ElemTrees, no_elems, elem, FieldTree, unit, reserved, access, connect_name, connect_buffer, extended, ExternalParts, ItemTree, name, scope, method, external, external_block, create, create_field, mutex, event, region, field, index_field, bank_field, device, processor, power, thermal, ItemTrees, no_items, item}
+use Rattle.acpi_tree.specs.Fits.{text_fits, is_null_name, data_fits, elem_fits, elems_fit, bits_fit, field_fits, external_fits, item_fits, items_fit}
+use Rattle.acpi_terms.specs.Forms.{FixedArgument, name_arg, source_arg, segment_arg, byte_arg, word_arg, dword_arg, count_arg, bits_arg, const_arg, int_arg, Value, Values, arguments, ArgumentsOf}
+use Rattle.acpi_terms.specs.Spelling.{SpellsArgument, SpellsArguments, SpellsPlain, SpellsPacked, SpellsForm, SpellsData, SpellsElem, SpellsElems, SpellsField, SpellsFields, SpellsExternal, SpellsItem, SpellsItems}
+use Rattle.acpi_write.specs.Canonical.{int_bytes, argument_bytes, arguments_bytes, form_bytes, packed_bytes, filled_with, each_bytes, data_bytes, elem_bytes, elems_bytes, bits_bytes, field_bytes, fields_bytes, external_bytes, item_bytes, items_bytes}
+use Rattle.acpi_write.specs.Laws.{IsIntTyped, IsTyped, AreTyped, IsDataTyped, IsElemTyped, AreElemsTyped, IsFieldTyped, IsExternalTyped, IsItemTyped, AreItemsTyped}
+
+-- ---- both tests of an `&&`, and both parts of a pair of spellings
+
+first_of : (a b : Bool) → (a && b) ≡ true → a ≡ true
+first_of true b e = refl
+first_of false b e = absurd cc
+
+second_of : (a b : Bool) → (a && b) ≡ true → b ≡ true
+second_of true b e = e
+second_of false b e = absurd cc
+
+record Both (a b : Option (List ℕ)) (bytes : List ℕ) : Type 0 where
+  front : List ℕ
+  back : List ℕ
+  is_front : a ≡ Some front
+  is_back : b ≡ Some back
+  whole : bytes ≡ front ++ back
+
+some_is : (a b : List ℕ) → Some a ≡ Some b → a ≡ b
+some_is a b e = cc
+
+both_of : (a b : Option (List ℕ)) (bytes : List ℕ) → option_append a b ≡ Some bytes → Both a b bytes
+both_of None b bytes e = absurd cc
+both_of (Some a) None bytes e = absurd cc
+both_of (Some a) (Some b) bytes e = record { front = a; back = b; is_front = refl; is_back = refl; whole = sym (some_is (a ++ b) bytes e) }
+
+-- ---- fixed arguments
+
+number_written : (k n : ℕ) → n < 256 ^ k → SpellsNumber k n (little_bytes k n)
+number_written k n few = (length-bytes_low_first 0 k n, ap (little_number k) (sym (append-nil (little_bytes k n))) ∙ little_number-reads_back k n [] few)
+
+int_written : (i : Int) → IsIntTyped i → SpellsInt i (int_bytes i)
+int_written Zero f = refl
+int_written One f = refl
+int_written Ones f = refl
+int_written Revision f = refl
+int_written (Byte n) f = refl
+int_written (Word n) f = (little_bytes 2 n, number_written 2 n f, refl)
+int_written (DWord n) f = (little_bytes 4 n, number_written 4 n f, refl)
+int_written (QWord n) f = (little_bytes 8 n, number_written 8 n f, refl)
+
+-- what an argument must be besides, to have a spelling
+abbrev Stands : (k : FixedArgument) → Value k → Type 0
+Stands source_arg n = is_null_name n ≡ false
+Stands count_arg n = n ≤ 7
+Stands bits_arg n = n < 268435456
+Stands _ v = Unit {0}
+
+abbrev AllStand : (ks : List FixedArgument) → Values ks → Type 0
+AllStand [] v = Unit {0}
+AllStand (k ∷ ks) v = Stands k v.0 × AllStand ks v.1
+
+or_last : (w x y z l : Bool) → l ≡ true → (w || x || y || z || l) ≡ true
+or_last true x y z l e = refl
+or_last false true y z l e = refl
+or_last false false true z l e = refl
+or_last false false false true l e = refl
+or_last false false false false l e = e
+
+lead_starts : (s : Segment) → is_segment s ≡ true → is_name_start (slice_index s 0) ≡ true
+lead_starts [] e = absurd cc
+lead_starts (a ∷ []) e = absurd cc
+lead_starts (a ∷ b ∷ []) e = absurd cc
+lead_starts (a ∷ b ∷ c ∷ []) e = absurd cc
+lead_starts (a ∷ b ∷ c ∷ d ∷ []) e = or_last (a == 0x5C) (a == 0x5E) (a == 0x2E) (a == 0x2F) (is_lead_char a) (first_of (is_lead_char a) (is_name_char b) (first_of (is_lead_char a && is_name_char b) (is_name_char c) (first_of (is_lead_char a && is_name_char b && is_name_char c) (is_name_char d) e)))
+lead_starts (a ∷ b ∷ c ∷ d ∷ x ∷ xs) e = absurd cc
+
+parts_start : (rooted : Bool) (parents : ℕ) (ss : List Segment) → list_all is_segment ss ≡ true → (not rooted && nat_eq parents 0 && nat_eq (length ss) 0) ≡ false
+    → is_name_start (slice_index (prefix_of rooted parents ++ path_bytes ss) 0) ≡ true
+parts_start true parents ss h some = refl
+parts_start false (suc p) ss h some = refl
+parts_start false zero [] h some = absurd cc
+parts_start false zero (s ∷ []) h some = lead_starts s (first_of (is_segment s) true h)
+parts_start false zero (s ∷ t ∷ []) h some = refl
+parts_start false zero (s ∷ t ∷ u ∷ ss) h some = refl
+
+not_false : (b : Bool) → not b ≡ true → b ≡ false
+not_false true e = absurd cc
+not_false false e = refl
+
+term_name_written : (n : NameParts) → IsName n → is_null_name n ≡ false → SpellsTermName n (name_bytes n)
+term_name_written n h some = (name_written n h, parts_start n.rooted n.parents n.segments h.are_segments some)
+
+argument_written : (k : FixedArgument) (v : Value k) → IsTyped k v → Stands k v → SpellsArgument k v (argument_bytes k v)
+argument_written name_arg n f s = name_written n f
+argument_written source_arg n f s = term_name_written n f s
+argument_written segment_arg g f s = (f, refl)
+argument_written byte_arg n f s = refl
+argument_written word_arg n f s = number_written 2 n f
+argument_written dword_arg n f s = number_written 4 n f
+argument_written count_arg n f s = (s, refl)
+argument_written bits_arg n f s = shortest_spells n s
+argument_written const_arg i f s = int_written i f
+argument_written int_arg i f s = int_written i f
+
+arguments_written : (ks : List FixedArgument) (v : Values ks) → AreTyped ks v → AllStand ks v → SpellsArguments ks v (arguments_bytes ks v)
+arguments_written [] v f s = refl
+arguments_written (k ∷ ks) v f s = (argument_bytes k v.0, arguments_bytes ks v.1, argument_written k v.0 f.0 s.0, arguments_written ks v.1 f.1 s.1, refl)
+
+-- ---- forms
+
+form_written : (o : Opcode) (v : ArgumentsOf o) (bytes : List ℕ) → AreTyped (arguments o) v → AllStand (arguments o) v → Some (form_bytes o v) ≡ Some bytes → SpellsForm o v bytes
+form_written o v bytes f s e = (arguments_bytes (arguments o) v, arguments_written (arguments o) v f s, sym (some_is (form_bytes o v) bytes e))
+
+packs : (opcode content : List ℕ) → length content < 268435452 → Packs opcode content (opcode ++ (shortest_pkg_length (package_number (length content)) ++ content))
+packs opcode content few =
+    let number = package_number (length content) in
+    let counts = number_counts (length content) few in
+    record {
+      len = shortest_pkg_length number;
+      spells_len = subst (λ n. SpellsPkgLength n (shortest_pkg_length number)) (sym counts.0) (shortest_spells number counts.1);
+      whole = refl;
+    }
+
+packed_written : (opcode content bytes : List ℕ) → packed_bytes opcode content ≡ Some bytes → Packs opcode content bytes
+packed_written opcode content bytes e = by_test (nat_le (length content) 268435451) refl e
+  where
+    spelled : List ℕ
+    spelled = opcode ++ (shortest_pkg_length (package_number (length content)) ++ content)
+
+    by_test : (t : Bool) → nat_le (length content) 268435451 ≡ t → cond t (Some spelled) None ≡ Some bytes → Packs opcode content bytes
+    by_test true few e = let le : length content ≤ 268435451 = leb-true _ _ few in subst (Packs opcode content) (some_is spelled bytes e) (packs opcode content (omega (arith, le)))
+    by_test false few e = absurd cc
+
+filled_written : (opcode : List ℕ) (ks : List FixedArgument) (v : Values ks) (Fills : List ℕ → Type 0) (content : Option (List ℕ)) (bytes : List ℕ) → AreTyped ks v → AllStand ks v
+    → ((b : List ℕ) → content ≡ Some b → Fills b) → filled_with opcode (arguments_bytes ks v) content ≡ Some bytes → SpellsPacked opcode ks v Fills bytes
+filled_written opcode ks v Fills None bytes f s fills e = absurd cc
+filled_written opcode ks v Fills (Some b) bytes f s fills e = (arguments_bytes ks v, b, arguments_written ks v f s, fills b refl, packed_written opcode (arguments_bytes ks v ++ b) bytes e)
+
+each_written : {A : Type 0} (f : A → Option (List ℕ)) (Spells : A → List ℕ → Type 0) (Holds : A → Type 0) (fits : A → Bool)
+    → ((x : A) (b : List ℕ) → Holds x → fits x ≡ true → f x ≡ Some b → Spells x b)
+    → (xs : List A) (bytes : List ℕ) → AllByRecursion Holds xs → list_all fits xs ≡ true → each_bytes f xs ≡ Some bytes → SpellsEach Spells xs bytes
+each_written f Spells Holds fits one [] bytes h all e = sym (some_is [] bytes e)
+each_written f Spells Holds fits one (x ∷ xs) bytes h all e =
+    let b = both_of (f x) (each_bytes f xs) bytes e in
+    (b.front, b.back, one x b.front h.0 (first_of (fits x) (list_all fits xs) all) b.is_front, each_written f Spells Holds fits one xs b.back h.1 (second_of (fits x) (list_all fits xs) all) b.is_back, b.whole)
+
+-- ---- data
+
+text_written : (text : List ℕ) → list_all text_fits text ≡ true → AllByRecursion IsText text
+text_written [] e = tt
+text_written (b ∷ text) e =
+    let one : (nat_lt 0 b && nat_lt b 128) ≡ true = first_of (text_fits b) (list_all text_fits text) e in
+    ((ltb-true 0 b (first_of (nat_lt 0 b) (nat_lt b 128) one), ltb-true b 128 (second_of (nat_lt 0 b) (nat_lt b 128) one)), text_written text (second_of (text_fits b) (list_all text_fits text) e))
+
+mutual
+  data_written : (d : DataTree) (bytes : List ℕ) → IsDataTyped d → data_fits d ≡ true → data_bytes d ≡ Some bytes → SpellsData d bytes
+  data_written (int i) bytes h fit e = subst (SpellsInt i) (some_is (int_bytes i) bytes e) (int_written i h)
+  data_written (str text) bytes h fit e = (text ++ 0 ∷ [], (text_written text fit, refl), sym (some_is (13 ∷ (text ++ 0 ∷ [])) bytes e))
+  data_written (buffer size content) bytes h fit e = filled_written (17 ∷ []) (int_arg ∷ []) (size, tt) (λ b. b ≡ content) (Some content) bytes (h, tt) (tt, tt) (λ b e. sym (some_is content b e)) e
+  data_written (pkg count es) bytes h fit e = filled_written (18 ∷ []) (byte_arg ∷ []) (count, tt) (λ b. SpellsElems es b) (elems_bytes es) bytes (tt, tt) (tt, tt) (λ b e. elems_written es b h fit e) e
+  data_written (var_pkg count es) bytes h fit e = filled_written (19 ∷ []) (int_arg ∷ []) (count, tt) (λ b. SpellsElems es b) (elems_bytes es) bytes (h.0, tt) (tt, tt) (λ b e. elems_written es b h.1 fit e) e
+
+  elem_written : (e : ElemTree) (bytes : List ℕ) → IsElemTyped e → elem_fits e ≡ true → elem_bytes e ≡ Some bytes → SpellsElem e bytes
+  elem_written (of_data d) bytes h fit e = data_written d bytes h fit e
+  elem_written (of_name n) bytes h fit e = subst (SpellsTermName n) (some_is (name_bytes n) bytes e) (term_name_written n h (not_false (is_null_name n) fit))
+
+  elems_written : (es : ElemTrees) (bytes : List ℕ) → AreElemsTyped es → elems_fit es ≡ true → elems_bytes es ≡ Some bytes → SpellsElems es bytes
+  elems_written no_elems bytes h fit e = sym (some_is [] bytes e)
+  elems_written (elem x es) bytes h fit e =
+      let b = both_of (elem_bytes x) (elems_bytes es) bytes e in
+      (b.front, b.back, elem_written x b.front h.0 (first_of (elem_fits x) (elems_fit es) fit) b.is_front, elems_written es b.back h.1 (second_of (elem_fits x) (elems_fit es) fit) b.is_back, b.whole)
+
+-- ---- field elements
+
+bits_few : (n : ℕ) → bits_fit n ≡ true → n < 268435456
+bits_few n e = let le : n ≤ 268435455 = leb-true _ _ e in omega (arith, le)
+
+bits_are : (n : ℕ) (b : List ℕ) → bits_bytes n ≡ Some b → b ≡ shortest_pkg_length n
+bits_are n b e = by_test (nat_le n 268435455) e
+  where
+    by_test : (t : Bool) → cond t (Some (shortest_pkg_length n)) None ≡ Some b → b ≡ shortest_pkg_length n
+    by_test true e = sym (some_is (shortest_pkg_length n) b e)
+    by_test false e = absurd cc
+
+plain_written : (opcode : List ℕ) (ks : List FixedArgument) (v : Values ks) (bytes : List ℕ) → AreTyped ks v → AllStand ks v → bytes ≡ opcode ++ arguments_bytes ks v → SpellsPlain opcode ks v bytes
+plain_written opcode ks v bytes f s e = (arguments_bytes ks v, arguments_written ks v f s, e)
+
+field_written : (x : FieldTree) (bytes : List ℕ) → IsFieldTyped x → field_fits x ≡ true → field_bytes x ≡ Some bytes → SpellsField x bytes
+field_written (unit s bits) bytes h fit e =
+    let b = both_of (Some s) (bits_bytes bits) bytes e in
+    plain_written [] (segment_arg ∷ bits_arg ∷ []) (s, (bits, tt)) bytes (h, (tt, tt)) (tt, (bits_few bits fit, tt))
+    (b.whole ∙ ap (λ a. a ++ b.back) (sym (some_is s b.front b.is_front)) ∙ ap (λ a. s ++ a) (bits_are bits b.back b.is_back ∙ sym (append-nil (shortest_pkg_length bits))))
+field_written (reserved bits) bytes h fit e =
+    let b = both_of (Some (0 ∷ [])) (bits_bytes bits) bytes e in
+    plain_written (0 ∷ []) (bits_arg ∷ []) (bits, tt) bytes (tt, tt) (bits_few bits fit, tt)
+    (b.whole ∙ ap (λ a. a ++ b.back) (sym (some_is (0 ∷ []) b.front b.is_front)) ∙ ap (λ (a : List ℕ). 0 ∷ a) (bits_are bits b.back b.is_back ∙ sym (append-nil (shortest_pkg_length bits))))
+field_written (access kind attribute) bytes h fit e = plain_written (1 ∷ []) (byte_arg ∷ byte_arg ∷ []) (kind, (attribute, tt)) bytes (tt, (tt, tt)) (tt, (tt, tt)) (sym (some_is _ bytes e))
+field_written (connect_name n) bytes h fit e = plain_written (2 ∷ []) (name_arg ∷ []) (n, tt) bytes (h, tt) (tt, tt) (sym (some_is (2 ∷ name_bytes n) bytes e) ∙ ap (λ (a : List ℕ). 2 ∷ a) (sym (append-nil (name_bytes n))))
+field_written (connect_buffer size content) bytes h fit e =
+    filled_written (2 ∷ 17 ∷ []) (const_arg ∷ []) (size, tt) (λ b. b ≡ content) (Some content) bytes (h, tt) (tt, tt) (λ b e. sym (some_is content b e))
+    (ap (λ a. filled_with (2 ∷ 17 ∷ []) a (Some content)) (append-nil (int_bytes size)) ∙ e)
+field_written (extended kind attribute len) bytes h fit e = plain_written (3 ∷ []) (byte_arg ∷ byte_arg ∷ byte_arg ∷ []) (kind, (attribute, (len, tt))) bytes (tt, (tt, (tt, tt))) (tt, (tt, (tt, tt))) (sym (some_is _ bytes e))
+
+fields_written : (es : List FieldTree) (bytes : List ℕ) → AllByRecursion IsFieldTyped es → list_all field_fits es ≡ true → fields_bytes es ≡ Some bytes → SpellsFields es bytes
+fields_written es bytes h fit e = each_written field_bytes SpellsField IsFieldTyped field_fits field_written es bytes h fit e
+
+-- ---- items
+
+external_written : (x : ExternalParts) (bytes : List ℕ) → IsExternalTyped x → external_fits x ≡ true → Some (external_bytes x) ≡ Some bytes → SpellsExternal x bytes
+external_written x bytes h fit e = form_written opcodes.External (x.name, (x.kind, (x.args, tt))) bytes (h, (tt, (tt, tt))) (tt, (tt, (leb-true x.args 7 fit, tt))) e
+
+mutual
+  item_written : (i : ItemTree) (bytes : List ℕ) → IsItemTyped i → item_fits i ≡ true → item_bytes i ≡ Some bytes → SpellsItem i bytes
+  item_written (name n d) bytes h fit e =
+      let b = both_of (Some (8 ∷ name_bytes n)) (data_bytes d) bytes e in
+      (name_bytes n, b.back, name_written n h.0, data_written d b.back h.1 fit b.is_back, b.whole ∙ ap (λ a. a ++ b.back) (sym (some_is (8 ∷ name_bytes n) b.front b.is_front)))
+  item_written (scope n is) bytes h fit e = filled_written (16 ∷ []) (name_arg ∷ []) (n, tt) (λ b. SpellsItems is b) (items_bytes is) bytes h.0 (tt, tt) (λ b e. items_written is b h.1 fit e) e
+  item_written (method n flags code) bytes h fit e = filled_written (20 ∷ []) (name_arg ∷ byte_arg ∷ []) (n, (flags, tt)) (λ b. b ≡ code) (Some code) bytes h (tt, (tt, tt)) (λ b e. sym (some_is code b e)) e
+  item_written (external x) bytes h fit e = external_written x bytes h fit e
+  item_written (external_block xs) bytes h fit e = block_written (each_bytes (λ x. Some (external_bytes x)) xs) refl e
+    where
+      block_written : (content : Option (List ℕ)) → each_bytes (λ x. Some (external_bytes x)) xs ≡ content → filled_with (160 ∷ []) (0 ∷ []) content ≡ Some bytes
+          → (b : List ℕ) × SpellsEach SpellsExternal xs b × Packs (160 ∷ []) (0 ∷ b) bytes
+      block_written None is e = absurd cc
+      block_written (Some b) is e = (b, each_written (λ x. Some (external_bytes x)) SpellsExternal IsExternalTyped external_fits external_written xs b h fit is, packed_written (160 ∷ []) (0 ∷ b) bytes e)
+  item_written (create w source index n) bytes h fit e = form_written (opcodes.Create w) (source, (index, (n, tt))) bytes h (not_false (is_null_name source) fit, (tt, (tt, tt))) e
+  item_written (create_field source index bits n) bytes h fit e = form_written opcodes.CreateField (source, (index, (bits, (n, tt)))) bytes h (not_false (is_null_name source) fit, (tt, (tt, (tt, tt)))) e
+  item_written (mutex n flags) bytes h fit e = form_written opcodes.Mutex (n, (flags, tt)) bytes h (tt, (tt, tt)) e
+  item_written (event n) bytes h fit e = form_written opcodes.Event (n, tt) bytes h (tt, tt) e
+  item_written (region n space offset len) bytes h fit e = form_written opcodes.Region (n, (space, (offset, (len, tt)))) bytes h (tt, (tt, (tt, (tt, tt)))) e
+  item_written (field r flags es) bytes h fit e = filled_written (91 ∷ 129 ∷ []) (name_arg ∷ byte_arg ∷ []) (r, (flags, tt)) (λ b. SpellsFields es b) (fields_bytes es) bytes h.0 (tt, (tt, tt)) (λ b e. fields_written es b h.1 fit e) e
+  item_written (index_field i d flags es) bytes h fit e = filled_written (91 ∷ 134 ∷ []) (name_arg ∷ name_arg ∷ byte_arg ∷ []) (i, (d, (flags, tt))) (λ b. SpellsFields es b) (fields_bytes es) bytes h.0 (tt, (tt, (tt, tt))) (λ b e. fields_written es b h.1 fit e) e
+  item_written (bank_field r bank value flags es) bytes h fit e = filled_written (91 ∷ 135 ∷ []) (name_arg ∷ name_arg ∷ int_arg ∷ byte_arg ∷ []) (r, (bank, (value, (flags, tt)))) (λ b. SpellsFields es b) (fields_bytes es) bytes h.0 (tt, (tt, (tt, (tt, tt)))) (λ b e. fields_written es b h.1 fit e) e
+  item_written (device n is) bytes h fit e = filled_written (91 ∷ 130 ∷ []) (name_arg ∷ []) (n, tt) (λ b. SpellsItems is b) (items_bytes is) bytes h.0 (tt, tt) (λ b e. items_written is b h.1 fit e) e
+  item_written (processor n id block len is) bytes h fit e = filled_written (91 ∷ 131 ∷ []) (name_arg ∷ byte_arg ∷ dword_arg ∷ byte_arg ∷ []) (n, (id, (block, (len, tt)))) (λ b. SpellsItems is b) (items_bytes is) bytes h.0 (tt, (tt, (tt, (tt, tt)))) (λ b e. items_written is b h.1 fit e) e
+  item_written (power n level order is) bytes h fit e = filled_written (91 ∷ 132 ∷ []) (name_arg ∷ byte_arg ∷ word_arg ∷ []) (n, (level, (order, tt))) (λ b. SpellsItems is b) (items_bytes is) bytes h.0 (tt, (tt, (tt, tt))) (λ b e. items_written is b h.1 fit e) e
+  item_written (thermal n is) bytes h fit e = filled_written (91 ∷ 133 ∷ []) (name_arg ∷ []) (n, tt) (λ b. SpellsItems is b) (items_bytes is) bytes h.0 (tt, tt) (λ b e. items_written is b h.1 fit e) e
+
+  pub items_written : (is : ItemTrees) (bytes : List ℕ) → AreItemsTyped is → items_fit is ≡ true → items_bytes is ≡ Some bytes → SpellsItems is bytes
+  items_written no_items bytes h fit e = sym (some_is [] bytes e)
+  items_written (item i is) bytes h fit e =
+      let b = both_of (item_bytes i) (items_bytes is) bytes e in
+      (b.front, b.back, item_written i b.front h.0 (first_of (item_fits i) (items_fit is) fit) b.is_front, items_written is b.back h.1 (second_of (item_fits i) (items_fit is) fit) b.is_back, b.whole)

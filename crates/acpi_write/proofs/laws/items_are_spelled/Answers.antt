@@ -1,0 +1,5 @@
+use Rattle.acpi_write.proofs.Written.{items_written}
+use Rattle.acpi_write.proofs.laws.items_are_spelled.Goals as goal
+
+pub returns : goal.returns
+returns c = items_written

@@ -1,0 +1,6 @@
+use Rattle.std.proofs.Common.{◌-◌, arith}
+use Rattle.acpi_write.proofs.Fronts.{piece_ahead}
+use Rattle.acpi_write.proofs.writer.Writer.arguments.Goals as goal
+
+pub loop-i-preserved : goal.loop-i-preserved
+loop-i-preserved c = piece_ahead c.args.arguments.now c.loop-i.i (c.loop-i.i - 1) c.index-arguments-i.result c.args.self.now c.loop-i.self c.argument.new.self (omega arith) (omega arith) c.index-arguments-i.is c.loop-i.invariant c.in_ok-argument.ensures

@@ -1,0 +1,133 @@
+-- The one spelling of a tree that is written (ACPI 6.5, 20.2): the shortest of each part.
+use Rattle.std.specs.Prelude.{ℕ, List, [], ◌∷◌, ◌++◌, length, nat_le, if◌then◌else◌, Option, Some, None}
+use Rattle.std.specs.Fmt.{option_append}
+use Rattle.byteorder.specs.Endian.{little_bytes}
+use Rattle.acpi_name.specs.Spelling.{name_bytes}
+use Rattle.acpi_table.specs.PkgLength.{shortest_pkg_length, package_number}
+use Rattle.acpi_code.specs.declared.opcode.Opcode.{Opcode}
+use Rattle.acpi_code.specs.declared.opcode.Opcode.TheVariants as opcodes
+use Rattle.acpi_code.specs.Opcodes.{opcode_bytes}
+use Rattle.acpi_tree.specs.declared.tree.Int.{Int}
+use Rattle.acpi_tree.specs.declared.tree.Int.TheVariants.{Zero, One, Ones, Revision, Byte, Word, DWord, QWord}
+use Rattle.acpi_tree.specs.Tree.{DataTree, int, str, buffer, pkg, var_pkg, ElemTree, of_data, of_name, ElemTrees, no_elems, elem, FieldTree, unit, reserved, access, connect_name, connect_buffer, extended, ExternalParts, ItemTree, name, scope, method, external, external_block, create, create_field, mutex, event, region, field, index_field, bank_field, device, processor, power, thermal, ItemTrees, no_items, item}
+use Rattle.acpi_terms.specs.Forms.{FixedArgument, name_arg, source_arg, segment_arg, byte_arg, word_arg, dword_arg, count_arg, bits_arg, const_arg, int_arg, Value, Values, arguments, ArgumentsOf}
+
+-- ---- fixed arguments
+
+-- a constant in the form in which it was written (20.2.3)
+abbrev pub int_bytes : Int → List ℕ
+int_bytes Zero = 0x00 ∷ []
+int_bytes One = 0x01 ∷ []
+int_bytes Ones = 0xFF ∷ []
+int_bytes Revision = 0x5B ∷ 0x30 ∷ []
+int_bytes (Byte n) = 0x0A ∷ n ∷ []
+int_bytes (Word n) = 0x0B ∷ little_bytes 2 n
+int_bytes (DWord n) = 0x0C ∷ little_bytes 4 n
+int_bytes (QWord n) = 0x0E ∷ little_bytes 8 n
+
+-- names and bit counts as short as they can be
+abbrev pub argument_bytes : (k : FixedArgument) → Value k → List ℕ
+argument_bytes name_arg n = name_bytes n
+argument_bytes source_arg n = name_bytes n
+argument_bytes segment_arg s = s
+argument_bytes byte_arg n = n ∷ []
+argument_bytes word_arg n = little_bytes 2 n
+argument_bytes dword_arg n = little_bytes 4 n
+argument_bytes count_arg n = n ∷ []
+argument_bytes bits_arg n = shortest_pkg_length n
+argument_bytes const_arg i = int_bytes i
+argument_bytes int_arg i = int_bytes i
+
+-- one after another
+abbrev pub arguments_bytes : (ks : List FixedArgument) → Values ks → List ℕ
+arguments_bytes [] v = []
+arguments_bytes (k ∷ ks) v = argument_bytes k v.0 ++ arguments_bytes ks v.1
+
+-- ---- forms
+
+-- an opcode and its fixed arguments
+abbrev pub form_bytes : (o : Opcode) → ArgumentsOf o → List ℕ
+form_bytes o v = opcode_bytes o ++ arguments_bytes (arguments o) v
+
+-- An opcode, the least package length and the content; no package holds more than 268,435,451 bytes (20.2.4).
+abbrev pub packed_bytes : List ℕ → List ℕ → Option (List ℕ)
+packed_bytes opcode content = if nat_le (length content) 268435451 then Some (opcode ++ (shortest_pkg_length (package_number (length content)) ++ content)) else None
+
+-- a package of fixed arguments and of what fills it
+abbrev pub filled_with : List ℕ → List ℕ → Option (List ℕ) → Option (List ℕ)
+filled_with opcode front None = None
+filled_with opcode front (Some b) = packed_bytes opcode (front ++ b)
+
+abbrev pub filled_bytes : (o : Opcode) → ArgumentsOf o → Option (List ℕ) → Option (List ℕ)
+filled_bytes o v b = filled_with (opcode_bytes o) (arguments_bytes (arguments o) v) b
+
+-- trees of a list one after another; None where one has no spelling
+abbrev pub each_bytes : {A : Type 0} → (A → Option (List ℕ)) → List A → Option (List ℕ)
+each_bytes f [] = Some []
+each_bytes f (x ∷ xs) = option_append (f x) (each_bytes f xs)
+
+-- ---- data (20.2.3 and 20.2.5.4)
+
+-- None where a package is too long, here and below.
+abbrev mutual
+  pub data_bytes : DataTree → Option (List ℕ)
+  data_bytes (int i) = Some (int_bytes i)
+  data_bytes (str text) = Some (0x0D ∷ (text ++ 0x00 ∷ []))
+  data_bytes (buffer size content) = filled_bytes opcodes.Buffer (size, tt) (Some content)
+  data_bytes (pkg count es) = filled_bytes opcodes.Package (count, tt) (elems_bytes es)
+  data_bytes (var_pkg count es) = filled_bytes opcodes.VarPackage (count, tt) (elems_bytes es)
+
+  pub elem_bytes : ElemTree → Option (List ℕ)
+  elem_bytes (of_data d) = data_bytes d
+  elem_bytes (of_name n) = Some (name_bytes n)
+
+  pub elems_bytes : ElemTrees → Option (List ℕ)
+  elems_bytes no_elems = Some []
+  elems_bytes (elem e es) = option_append (elem_bytes e) (elems_bytes es)
+
+-- ---- field elements (20.2.5.2 FieldElement)
+
+-- a number of bits, which counts no bytes of its own, and has at most 28 bits (20.2.4)
+abbrev pub bits_bytes : ℕ → Option (List ℕ)
+bits_bytes n = if nat_le n 268435455 then Some (shortest_pkg_length n) else None
+
+abbrev pub field_bytes : FieldTree → Option (List ℕ)
+field_bytes (unit s bits) = option_append (Some s) (bits_bytes bits)
+field_bytes (reserved bits) = option_append (Some (0x00 ∷ [])) (bits_bytes bits)
+field_bytes (access kind attribute) = Some (0x01 ∷ kind ∷ attribute ∷ [])
+field_bytes (connect_name n) = Some (0x02 ∷ name_bytes n)
+field_bytes (connect_buffer size content) = filled_with (0x02 ∷ 0x11 ∷ []) (int_bytes size) (Some content)
+field_bytes (extended kind attribute len) = Some (0x03 ∷ kind ∷ attribute ∷ len ∷ [])
+
+abbrev pub fields_bytes : List FieldTree → Option (List ℕ)
+fields_bytes es = each_bytes field_bytes es
+
+-- ---- items (20.2.5.1 and 20.2.5.2)
+
+abbrev pub external_bytes : ExternalParts → List ℕ
+external_bytes x = form_bytes opcodes.External (x.name, (x.kind, (x.args, tt)))
+
+abbrev mutual
+  pub item_bytes : ItemTree → Option (List ℕ)
+  item_bytes (name n d) = option_append (Some (0x08 ∷ name_bytes n)) (data_bytes d)
+  item_bytes (scope n is) = filled_bytes opcodes.Scope (n, tt) (items_bytes is)
+  item_bytes (method n flags code) = filled_bytes opcodes.Method (n, (flags, tt)) (Some code)
+  item_bytes (external x) = Some (external_bytes x)
+  item_bytes (external_block xs) = filled_with (0xA0 ∷ []) (0x00 ∷ []) (each_bytes (λ x. Some (external_bytes x)) xs)
+  item_bytes (create w source index n) = Some (form_bytes (opcodes.Create w) (source, (index, (n, tt))))
+  item_bytes (create_field source index bits n) = Some (form_bytes opcodes.CreateField (source, (index, (bits, (n, tt)))))
+  item_bytes (mutex n flags) = Some (form_bytes opcodes.Mutex (n, (flags, tt)))
+  item_bytes (event n) = Some (form_bytes opcodes.Event (n, tt))
+  item_bytes (region n space offset len) = Some (form_bytes opcodes.Region (n, (space, (offset, (len, tt)))))
+  item_bytes (field r flags es) = filled_bytes opcodes.Field (r, (flags, tt)) (fields_bytes es)
+  item_bytes (index_field i d flags es) = filled_bytes opcodes.IndexField (i, (d, (flags, tt))) (fields_bytes es)
+  item_bytes (bank_field r bank value flags es) = filled_bytes opcodes.BankField (r, (bank, (value, (flags, tt)))) (fields_bytes es)
+  item_bytes (device n is) = filled_bytes opcodes.Device (n, tt) (items_bytes is)
+  item_bytes (processor n id block len is) = filled_bytes opcodes.Processor (n, (id, (block, (len, tt)))) (items_bytes is)
+  item_bytes (power n level order is) = filled_bytes opcodes.Power (n, (level, (order, tt))) (items_bytes is)
+  item_bytes (thermal n is) = filled_bytes opcodes.Thermal (n, tt) (items_bytes is)
+
+  -- one after another
+  pub items_bytes : ItemTrees → Option (List ℕ)
+  items_bytes no_items = Some []
+  items_bytes (item i is) = option_append (item_bytes i) (items_bytes is)

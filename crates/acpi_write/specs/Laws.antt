@@ -1,0 +1,92 @@
+-- What is written is read again.
+use Rattle.std.specs.Prelude.{◌≡◌, ◌<◌, ℕ, true, List, [], ◌∷◌, Some}
+use Rattle.std.specs.List.{AllByRecursion}
+use Rattle.acpi_name.specs.Names.{IsName, is_segment}
+use Rattle.acpi_tree.specs.declared.tree.Int.{Int}
+use Rattle.acpi_tree.specs.declared.tree.Int.TheVariants.{Word, DWord, QWord}
+use Rattle.acpi_tree.specs.Tree.{DataTree, int, str, buffer, pkg, var_pkg, ElemTree, of_data, of_name, ElemTrees, no_elems, elem, FieldTree, unit, connect_name, connect_buffer, ExternalParts, ItemTree, name, scope, method, external, external_block, create, create_field, mutex, event, region, field, index_field, bank_field, device, processor, power, thermal, ItemTrees, no_items, item}
+use Rattle.acpi_tree.specs.Fits.{items_fit}
+use Rattle.acpi_terms.specs.Forms.{FixedArgument, name_arg, source_arg, segment_arg, word_arg, dword_arg, const_arg, int_arg, Value, Values, arguments, ArgumentsOf}
+use Rattle.acpi_code.specs.declared.opcode.Opcode.{Opcode}
+use Rattle.acpi_code.specs.declared.opcode.Opcode.TheVariants as opcodes
+use Rattle.acpi_terms.specs.Spelling.{SpellsItems}
+use Rattle.acpi_write.specs.Canonical.{items_bytes}
+
+-- A tree apart from memory has numbers of any size and names of any length. These trees have values of the
+-- types that a value in memory has: numbers of their width, names, segments.
+
+abbrev pub IsIntTyped : Int → Type 0
+IsIntTyped (Word n) = n < 65536
+IsIntTyped (DWord n) = n < 4294967296
+IsIntTyped (QWord n) = n < 18446744073709551616
+IsIntTyped _ = Unit {0}
+
+abbrev pub IsTyped : (k : FixedArgument) → Value k → Type 0
+IsTyped name_arg n = IsName n
+IsTyped source_arg n = IsName n
+IsTyped segment_arg s = is_segment s ≡ true
+IsTyped word_arg n = n < 65536
+IsTyped dword_arg n = n < 4294967296
+IsTyped const_arg i = IsIntTyped i
+IsTyped int_arg i = IsIntTyped i
+IsTyped _ v = Unit {0}
+
+abbrev pub AreTyped : (ks : List FixedArgument) → Values ks → Type 0
+AreTyped [] v = Unit {0}
+AreTyped (k ∷ ks) v = IsTyped k v.0 × AreTyped ks v.1
+
+abbrev pub IsFormTyped : (o : Opcode) → ArgumentsOf o → Type 0
+IsFormTyped o v = AreTyped (arguments o) v
+
+abbrev mutual
+  pub IsDataTyped : DataTree → Type 0
+  IsDataTyped (int i) = IsIntTyped i
+  IsDataTyped (str text) = Unit {0}
+  IsDataTyped (buffer size content) = IsIntTyped size
+  IsDataTyped (pkg count es) = AreElemsTyped es
+  IsDataTyped (var_pkg count es) = IsIntTyped count × AreElemsTyped es
+
+  pub IsElemTyped : ElemTree → Type 0
+  IsElemTyped (of_data d) = IsDataTyped d
+  IsElemTyped (of_name n) = IsName n
+
+  pub AreElemsTyped : ElemTrees → Type 0
+  AreElemsTyped no_elems = Unit {0}
+  AreElemsTyped (elem e es) = IsElemTyped e × AreElemsTyped es
+
+abbrev pub IsFieldTyped : FieldTree → Type 0
+IsFieldTyped (unit s bits) = is_segment s ≡ true
+IsFieldTyped (connect_name n) = IsName n
+IsFieldTyped (connect_buffer size content) = IsIntTyped size
+IsFieldTyped _ = Unit {0}
+
+abbrev pub IsExternalTyped : ExternalParts → Type 0
+IsExternalTyped x = IsName x.name
+
+abbrev mutual
+  pub IsItemTyped : ItemTree → Type 0
+  IsItemTyped (name n d) = IsName n × IsDataTyped d
+  IsItemTyped (scope n is) = IsFormTyped opcodes.Scope (n, tt) × AreItemsTyped is
+  IsItemTyped (method n flags code) = IsFormTyped opcodes.Method (n, (flags, tt))
+  IsItemTyped (external x) = IsExternalTyped x
+  IsItemTyped (external_block xs) = AllByRecursion IsExternalTyped xs
+  IsItemTyped (create w source index n) = IsFormTyped (opcodes.Create w) (source, (index, (n, tt)))
+  IsItemTyped (create_field source index bits n) = IsFormTyped opcodes.CreateField (source, (index, (bits, (n, tt))))
+  IsItemTyped (mutex n flags) = IsFormTyped opcodes.Mutex (n, (flags, tt))
+  IsItemTyped (event n) = IsFormTyped opcodes.Event (n, tt)
+  IsItemTyped (region n space offset len) = IsFormTyped opcodes.Region (n, (space, (offset, (len, tt))))
+  IsItemTyped (field r flags es) = IsFormTyped opcodes.Field (r, (flags, tt)) × AllByRecursion IsFieldTyped es
+  IsItemTyped (index_field i d flags es) = IsFormTyped opcodes.IndexField (i, (d, (flags, tt))) × AllByRecursion IsFieldTyped es
+  IsItemTyped (bank_field r bank value flags es) = IsFormTyped opcodes.BankField (r, (bank, (value, (flags, tt)))) × AllByRecursion IsFieldTyped es
+  IsItemTyped (device n is) = IsFormTyped opcodes.Device (n, tt) × AreItemsTyped is
+  IsItemTyped (processor n id block len is) = IsFormTyped opcodes.Processor (n, (id, (block, (len, tt)))) × AreItemsTyped is
+  IsItemTyped (power n level order is) = IsFormTyped opcodes.Power (n, (level, (order, tt))) × AreItemsTyped is
+  IsItemTyped (thermal n is) = IsFormTyped opcodes.Thermal (n, tt) × AreItemsTyped is
+
+  pub AreItemsTyped : ItemTrees → Type 0
+  AreItemsTyped no_items = Unit {0}
+  AreItemsTyped (item i is) = IsItemTyped i × AreItemsTyped is
+
+-- what is written of items spells them
+abbrev pub ItemsAreSpelled : Type 0
+ItemsAreSpelled = (is : ItemTrees) (bytes : List ℕ) → AreItemsTyped is → items_fit is ≡ true → items_bytes is ≡ Some bytes → SpellsItems is bytes

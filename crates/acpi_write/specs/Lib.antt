@@ -1,0 +1,4 @@
+pub mod Canonical
+pub mod Tables
+pub mod Laws
+pub mod steps

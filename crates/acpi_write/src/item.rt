@@ -1,0 +1,261 @@
+//! Items.
+
+ghost use Rattle.std.specs.Prelude.{◌≡◌, ◌∷◌, [], Some, false};
+ghost use Rattle.acpi_code.specs.Opcodes.{width_bytes};
+ghost use Rattle.acpi_tree.specs.Tree.{name as named_item};
+ghost use Rattle.acpi_tree.specs.View.{data_view, external_view, externals_view, fields_view, item_view, items_tree};
+ghost use Rattle.acpi_tree.specs.Fits.{holds_items};
+ghost use Rattle.acpi_write.specs.Canonical.{each_bytes, filled_with, external_bytes, fields_bytes, item_bytes, items_bytes};
+ghost use Rattle.acpi_write.specs.steps.Writing.{Puts, pieces};
+
+use crate::fault::WriteFault;
+use crate::writer::{Argument, Writer};
+use acpi_name::Name;
+use acpi_tree::{Data, External, FieldElem, Int, Item, Width};
+
+// CreateDWordFieldOp and the like (ACPI 6.5, 20.2.5.2)
+fn width_opcode(width: Width) -> u8
+    ensures { width_bytes width ≡ result ∷ [] }
+{
+    match width {
+        Width::DWord => 0x8A,
+        Width::Word => 0x8B,
+        Width::Byte => 0x8C,
+        Width::Bit => 0x8D,
+        Width::QWord => 0x8F,
+    }
+}
+
+impl Writer {
+    /// Items one after another (20.2.5).
+    #[cycle(items)]
+    pub(crate) fn items(&mut self, items: &[Item]) -> Result<(), WriteFault>
+        ensures { Puts result (items_bytes (items_tree items.now)) self.old self.new }
+    {
+        for i in (0..items.len()).rev() {
+            self.item(&items[i])?;
+        }
+        Ok(())
+    }
+
+    #[cycle(items)]
+    fn item(&mut self, item: &Item) -> Result<(), WriteFault>
+        ensures { Puts result (item_bytes (item_view item.now)) self.old self.new }
+    {
+        let end = self.len();
+        match item {
+            Item::Scope(name, items) => {
+                self.items(items)?;
+                self.fill(end, &[0x10], &[Argument::Name(name)])
+            }
+            Item::Device(name, items) => {
+                self.items(items)?;
+                self.fill(end, &[0x5B, 0x82], &[Argument::Name(name)])
+            }
+            Item::Processor {
+                name,
+                id,
+                block,
+                length,
+                items,
+            } => {
+                self.items(items)?;
+                let front = [
+                    Argument::Name(name),
+                    Argument::Byte(*id),
+                    Argument::DWord(*block),
+                    Argument::Byte(*length),
+                ];
+                self.fill(end, &[0x5B, 0x83], &front)
+            }
+            Item::Power {
+                name,
+                level,
+                order,
+                items,
+            } => {
+                self.items(items)?;
+                let front = [
+                    Argument::Name(name),
+                    Argument::Byte(*level),
+                    Argument::Word(*order),
+                ];
+                self.fill(end, &[0x5B, 0x84], &front)
+            }
+            Item::Thermal(name, items) => {
+                self.items(items)?;
+                self.fill(end, &[0x5B, 0x85], &[Argument::Name(name)])
+            }
+            _ => self.leaf(item),
+        }
+    }
+
+    // Apart from the items that hold items, so that a level of these costs little stack.
+    #[inline(never)]
+    fn leaf(&mut self, item: &Item) -> Result<(), WriteFault>
+        requires { holds_items (item_view item.now) ≡ false }
+        ensures { Puts result (item_bytes (item_view item.now)) self.old self.new }
+    {
+        match item {
+            Item::Name(name, data) => self.named(name, data),
+            Item::Method { name, flags, code } => {
+                let end = self.len();
+                self.bytes(code)?;
+                self.fill(
+                    end,
+                    &[0x14],
+                    &[Argument::Name(name), Argument::Byte(*flags)],
+                )
+            }
+            Item::External(external) => self.external(external),
+            Item::ExternalBlock(externals) => {
+                let end = self.len();
+                self.externals(externals)?;
+                self.fill(end, &[0xA0], &[Argument::Int(Int::Zero)])
+            }
+            Item::Create {
+                width,
+                source,
+                index,
+                name,
+            } => {
+                let parts = [
+                    Argument::Name(source),
+                    Argument::Int(*index),
+                    Argument::Name(name),
+                ];
+                self.form(&[width_opcode(*width)], &parts)?;
+                Ok(())
+            }
+            Item::CreateField {
+                source,
+                index,
+                bits,
+                name,
+            } => {
+                let parts = [
+                    Argument::Name(source),
+                    Argument::Int(*index),
+                    Argument::Int(*bits),
+                    Argument::Name(name),
+                ];
+                self.form(&[0x5B, 0x13], &parts)?;
+                Ok(())
+            }
+            Item::Mutex(name, flags) => {
+                self.form(
+                    &[0x5B, 0x01],
+                    &[Argument::Name(name), Argument::Byte(*flags)],
+                )?;
+                Ok(())
+            }
+            Item::Event(name) => {
+                self.form(&[0x5B, 0x02], &[Argument::Name(name)])?;
+                Ok(())
+            }
+            Item::Region {
+                name,
+                space,
+                offset,
+                length,
+            } => {
+                let parts = [
+                    Argument::Name(name),
+                    Argument::Byte(*space),
+                    Argument::Int(*offset),
+                    Argument::Int(*length),
+                ];
+                self.form(&[0x5B, 0x80], &parts)?;
+                Ok(())
+            }
+            Item::Field {
+                region,
+                flags,
+                elems,
+            } => self.units(
+                &[0x5B, 0x81],
+                &[Argument::Name(region), Argument::Byte(*flags)],
+                elems,
+            ),
+            Item::IndexField {
+                index,
+                datum,
+                flags,
+                elems,
+            } => {
+                let front = [
+                    Argument::Name(index),
+                    Argument::Name(datum),
+                    Argument::Byte(*flags),
+                ];
+                self.units(&[0x5B, 0x86], &front, elems)
+            }
+            Item::BankField {
+                region,
+                bank,
+                value,
+                flags,
+                elems,
+            } => {
+                let front = [
+                    Argument::Name(region),
+                    Argument::Name(bank),
+                    Argument::Int(*value),
+                    Argument::Byte(*flags),
+                ];
+                self.units(&[0x5B, 0x87], &front, elems)
+            }
+            Item::Scope(..) => unreachable!(),
+            Item::Device(..) => unreachable!(),
+            Item::Processor { .. } => unreachable!(),
+            Item::Power { .. } => unreachable!(),
+            Item::Thermal(..) => unreachable!(),
+        }
+    }
+
+    // DefName
+    fn named(&mut self, name: &Name, data: &Data) -> Result<(), WriteFault>
+        ensures { Puts result (item_bytes (named_item name.now (data_view «data».now))) self.old self.new }
+    {
+        self.data(data)?;
+        self.name(name)?;
+        self.byte(0x08)?;
+        Ok(())
+    }
+
+    // DefExternal
+    fn external(&mut self, external: &External) -> Result<(), WriteFault>
+        ensures { Puts result (Some (external_bytes (external_view external.now))) self.old self.new }
+    {
+        let parts = [
+            Argument::Name(&external.name),
+            Argument::Byte(external.kind),
+            Argument::Byte(external.args),
+        ];
+        self.form(&[0x15], &parts)?;
+        Ok(())
+    }
+
+    fn externals(&mut self, externals: &[External]) -> Result<(), WriteFault>
+        ensures { Puts result (each_bytes (λ x. Some (external_bytes x)) (externals_view externals.now)) self.old self.new }
+    {
+        for i in (0..externals.len()).rev() {
+            self.external(&externals[i])?;
+        }
+        Ok(())
+    }
+
+    // A package of fixed arguments and a field list.
+    fn units(
+        &mut self,
+        opcode: &[u8],
+        front: &[Argument<'_>],
+        elems: &[FieldElem],
+    ) -> Result<(), WriteFault>
+        ensures { Puts result (filled_with opcode.now (pieces front.now) (fields_bytes (fields_view elems.now))) self.old self.new }
+    {
+        let end = self.len();
+        self.fields(elems)?;
+        self.fill(end, opcode, front)
+    }
+}

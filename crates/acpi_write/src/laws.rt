@@ -1,0 +1,8 @@
+//! What follows from the definitions alone. Each law is the contract of a call that does nothing.
+
+ghost use Rattle.acpi_write.specs.Laws.{ItemsAreSpelled};
+
+/// The shortest spelling of items spells them, so that they are read from it again.
+pub fn items_are_spelled()
+    ensures { ItemsAreSpelled }
+{}

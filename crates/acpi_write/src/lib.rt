@@ -1,0 +1,15 @@
+//! Trees as bytes: the one spelling that is the shortest (ACPI 6.5, 20.2).
+#![tactic(auto)]
+
+mod data;
+mod fault;
+mod item;
+pub mod laws;
+mod writer;
+mod writing;
+
+pub use fault::WriteFault;
+pub use writing::{write_items, write_table};
+
+#[cfg(test)]
+mod tests;
