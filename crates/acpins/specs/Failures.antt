@@ -3,6 +3,8 @@ use Rattle.std.specs.Prelude.{ℕ, ◌+◌, ◌-◌, ◌^◌, min}
 use Rattle.acpi_declare.specs.declared.fault.LoadFault.{LoadFault}
 use Rattle.acpi_declare.specs.declared.fault.LoadFault.TheVariants.{At, Memory}
 use Rattle.acpi_declare.specs.declared.fault.LoadReason.TheVariants as reasons
+use Rattle.acpins_words.specs.declared.fault.WordsFault.{WordsFault}
+use Rattle.acpins_words.specs.declared.fault.WordsFault.TheVariants as words
 use Rattle.acpins.specs.declared.failure.Failure.{Failure}
 use Rattle.acpins.specs.declared.failure.Failure.TheVariants as failures
 
@@ -15,6 +17,11 @@ abbrev pub failure_of : LoadFault → Failure
 failure_of Memory = failures.Memory
 failure_of (At table (reasons.Item reason place)) = failures.Item table reason (place_in_table place)
 failure_of (At table reason) = failures.Load table reason
+
+-- .. and of words that ask for nothing
+abbrev pub failure_of_words : WordsFault → Failure
+failure_of_words words.Wrong = failures.WrongWords
+failure_of_words words.Memory = failures.Memory
 
 -- 2 for words and paths that are none, 1 for all else
 abbrev pub status_of : Failure → ℕ

@@ -8,7 +8,7 @@ use Rattle.acpi_order.specs.Machines.{Machine, IsMachine}
 use Rattle.acpins.specs.Hexadecimal.{SpellsInHex}
 use Rattle.acpins.specs.declared.failure.Failure.{Failure}
 use Rattle.acpins.specs.declared.failure.Failure.TheVariants.{Read, BadHex, Table, Memory}
-use Rattle.acpins.specs.declared.words.Request.{Request}
+use Rattle.acpins_words.specs.declared.words.Request.{Request}
 
 -- the names of the files that a request has, in order
 abbrev pub files_of : Request → List (List ℕ)

@@ -1,5 +1,4 @@
 pub mod Hexadecimal
-pub mod Words
 pub mod Input
 pub mod Listings
 pub mod Shown

@@ -1,7 +1,6 @@
 -- What a run prints and says, and why it prints nothing (docs/COMMAND.md).
 use Rattle.std.specs.Prelude.{◌≡◌, ◌≢◌, ◌⊎◌, ℕ, List, [], Option, Some, None}
 use Rattle.std.specs.Io.KnownBytes.{Appends}
-use Rattle.clap.specs.Walk.{Text}
 use Rattle.acpi_name.specs.Names.{Segment}
 use Rattle.acpi_name.specs.Text.{SpellsPathText, IsPathText}
 use Rattle.acpi_order.specs.Machines.{Machine}
@@ -9,7 +8,7 @@ use Rattle.acpi_declare.specs.Refusals.{IsLoadFault}
 use Rattle.acpi_declare.specs.declared.fault.LoadFault.{LoadFault}
 use Rattle.acpins.specs.declared.failure.Failure.{Failure}
 use Rattle.acpins.specs.declared.failure.Failure.TheVariants.{WrongWords, BadPath, NoSuchPath, NoTable, Read, BadHex, Output, Table, Item, Load, Memory}
-use Rattle.acpins.specs.Words.{Command, listing, showing, Asked, asked_of}
+use Rattle.acpins_words.specs.Words.{Text, Command, listing, showing, Asked, asked_of}
 use Rattle.acpins.specs.Input.{FileBytes, AreTablesOf, IsFilesFault, IsLoadOfFiles}
 use Rattle.acpins.specs.Listings.{Prints}
 use Rattle.acpins.specs.Shown.{Shows}

@@ -1,12 +1,13 @@
 //! Why a run ends with status 1 or 2, and the line that says so.
 
 ghost use Rattle.std.specs.Prelude.{◌≡◌};
-ghost use Rattle.acpins.specs.Failures.{failure_of, status_of};
+ghost use Rattle.acpins.specs.Failures.{failure_of, failure_of_words, status_of};
 ghost use Rattle.acpins.specs.declared.failure.Failure.{Failure};
 
 use acpi_load::{LoadFault, LoadReason};
 use acpi_table::{HEADER_BYTES, TableFault};
 use acpi_terms::ItemReason;
+use acpins_words::WordsFault;
 use std::alloc::{AllocError, AllocFailed};
 use thiserror::Error;
 
@@ -56,6 +57,17 @@ impl<'a> Failure<'a> {
         match self {
             Failure::WrongWords | Failure::BadPath => 2,
             _ => 1,
+        }
+    }
+}
+
+impl<'a> From<WordsFault> for Failure<'a> {
+    ghost from_gives = { λ e f. f ≡ failure_of_words e };
+
+    fn from(fault: WordsFault) -> Failure<'a> {
+        match fault {
+            WordsFault::Wrong => Failure::WrongWords,
+            WordsFault::Memory => Failure::Memory,
         }
     }
 }

@@ -20,7 +20,6 @@ mod showing;
 mod tables;
 #[cfg(test)]
 mod tests;
-mod words;
 
 use crate::failure::Failure;
 use crate::files::HostFiles;

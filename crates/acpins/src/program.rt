@@ -1,7 +1,6 @@
 //! One run of the program.
 
 ghost use Rattle.std.specs.Prelude.{◌≡◌, ◌≢◌, ◌≤◌, ◌⊎◌, ◌∷◌, IfOk, IfErr, OnOk, IsTrue, None};
-ghost use Rattle.clap.specs.Walk.{texts};
 ghost use Rattle.acpi_name.specs.Text.{SpellsPathText, IsPathText};
 ghost use Rattle.acpi_declare.specs.Refusals.{IsLoadFault};
 ghost use Rattle.acpi_order.specs.Machines.{IsMachine};
@@ -11,7 +10,7 @@ ghost use Rattle.acpins.specs.declared.failure.Failure.{Failure};
 ghost use Rattle.acpins.specs.Failures.{status_of};
 ghost use Rattle.acpins.specs.FailureLines.{failure_line};
 ghost use Rattle.acpins.specs.Told.{AppendsBeginning, Tells};
-ghost use Rattle.acpins.specs.Words.{showing, asked_in, asked_of};
+ghost use Rattle.acpins_words.specs.Words.{texts, showing, asked_in, asked_of};
 ghost use Rattle.acpins.specs.Input.{files_of, AreTablesOf, IsFilesFault, IsLoadOfFiles};
 ghost use Rattle.acpins.specs.Runs.{IsListing, IsShowing, IsWrong, IsOutput, GetsOutput, IsFailureOf, IsRunFailure, FailsWith};
 
@@ -22,11 +21,11 @@ use crate::listing::listed;
 use crate::parts::{PartWriter, UntilFailure};
 use crate::showing::shown;
 use crate::tables::add_tables;
-use crate::words::{Command, Request, read_words};
 use acpi_load::{LoadFault, Machine, load_shared};
 use acpi_name::{Path, PathFault};
 use acpi_space::{Space, TreeSpace};
 use acpi_terms::{Depth, Object};
+use acpins_words::{Command, Request, read_words};
 use bytes::Bytes;
 use std::alloc::Global;
 use std::io::Write;

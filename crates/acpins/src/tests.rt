@@ -12,4 +12,3 @@ mod outcome;
 mod refusals;
 mod rows;
 mod shown;
-mod words;

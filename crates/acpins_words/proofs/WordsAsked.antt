@@ -13,7 +13,7 @@ use Rattle.clap.specs.declared.error.kind.ErrorKind.{ErrorKind}
 use Rattle.clap.specs.declared.parser.matches.ArgMatches.TheViews.{out-SubCommand}
 use Rattle.clap.specs.declared.parser.matches.SubCommand.{SubCommand}
 use Rattle.clap.proofs.OnLiterals.{clap_on_literals}
-use Rattle.acpins.specs.Words.{Asked, Command, acpins_app, asked_by, asked_of, command_by, depth_or_usual, showing}
+use Rattle.acpins_words.specs.Words.{Asked, Command, acpins_app, asked_by, asked_of, command_by, depth_or_usual, showing}
 
 pub app_is_simple : is_simple acpins_app ≡ true
 unfolding clap_on_literals

@@ -1,7 +1,7 @@
 use Rattle.std.proofs.Common.{◌≡◌, ◌∙◌, ap, sym, arith, inl, inr, drop, drop-cons, length, get_or, suc, ◌≤◌, drop_of_length-le, ◌+◌, ◌∷◌, None}
-use Rattle.acpins.specs.Words.{depth_said}
-use Rattle.acpins.proofs.DepthText.{depth_after, digit_read, not_digit, too_large}
-use Rattle.acpins.proofs.words.depth_of.Goals as goal
+use Rattle.acpins_words.specs.Words.{depth_said}
+use Rattle.acpins_words.proofs.DepthText.{depth_after, digit_read, not_digit, too_large}
+use Rattle.acpins_words.proofs.words.depth_of.Goals as goal
 
 pub loop-digit-init : goal.loop-digit-init
 loop-digit-init c = ap depth_said c.as_bytes-digit-items.ensures.value

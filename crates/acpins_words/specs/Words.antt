@@ -8,13 +8,13 @@ use Rattle.clap.specs.Lexer.{usize_max}
 use Rattle.clap.specs.Faults.{fault_of}
 use Rattle.clap.specs.Simple.{App, Shape, new_rule, new_shape, subcommand_of, with_subcommand}
 use Rattle.clap.specs.Takes.{is_given}
-use Rattle.clap.specs.Walk.{Row, Rule, Text, all_of, first_of, is_empty, one_of}
-use Rattle.clap.specs.Walk.{texts}
+use Rattle.clap.specs.Walk.{Row, Rule, all_of, first_of, is_empty, one_of}
+pub use Rattle.clap.specs.Walk.{Text, texts}
 use Rattle.clap.specs.Values.{bool_text}
 use Rattle.clap.specs.declared.builder.ArgAction.TheVariants.{Append, Set, SetTrue}
-use Rattle.acpins.specs.declared.words.Command.{Command as CommandWords}
-use Rattle.acpins.specs.declared.words.Command.TheVariants as read
-use Rattle.acpins.specs.declared.words.Request.{Request}
+use Rattle.acpins_words.specs.declared.words.Command.{Command as CommandWords}
+use Rattle.acpins_words.specs.declared.words.Command.TheVariants as read
+use Rattle.acpins_words.specs.declared.words.Request.{Request}
 
 -- ---- the command
 

@@ -1,7 +1,6 @@
 //! Which words are read, and as what.
 
-use crate::failure::Failure;
-use crate::words::{Command, read_words};
+use crate::{Command, WordsFault, read_words};
 use std::alloc::Global;
 use std::test::Fail;
 
@@ -144,7 +143,7 @@ fn asks(alloc: Global, text: &str, path: Option<&str>, asked: Option<Asked>) -> 
                     && got.files.iter().copied().eq(files.split('|')),
             )
         }
-        (Err(Failure::WrongWords), None) => Ok(true),
+        (Err(WordsFault::Wrong), None) => Ok(true),
         _ => Ok(false),
     }
 }

@@ -1,17 +1,18 @@
 //! The words of the command.
 
-ghost use Rattle.std.specs.Prelude.{◌≡◌, ◌⊎◌, false, IfErr, IfOk, codes, option_map};
+ghost use Rattle.std.specs.Prelude.{◌≡◌, false, IfOk, codes, option_map};
 ghost use Rattle.clap.specs.Matches.{found_of};
 ghost use Rattle.clap.specs.Simple.{app_of};
 ghost use Rattle.clap.specs.Values.{kind_of};
 ghost use Rattle.clap.specs.Walk.{first_of, rows_of, rule_of, texts};
 ghost use Rattle.clap.specs.declared.builder.command.Command.TheViews.{out-Command as fields_of};
-ghost use Rattle.acpins.specs.Words.{acpins_app, alone, asked_by, asked_in, asked_of, command_by};
-ghost use Rattle.acpins.specs.Words.{command_in, depth_or_usual, depth_rule, depth_said, file_rule};
-ghost use Rattle.acpins.specs.Words.{hex_rule, list_shape, path_rule, ReadsHex, show_shape};
+ghost use Rattle.acpins_words.specs.declared.fault.WordsFault.{WordsFault};
+ghost use Rattle.acpins_words.specs.Words.{acpins_app, alone, asked_by, asked_in, asked_of, command_by};
+ghost use Rattle.acpins_words.specs.Words.{command_in, depth_or_usual, depth_rule, depth_said, file_rule};
+ghost use Rattle.acpins_words.specs.Words.{hex_rule, list_shape, path_rule, ReadsHex, show_shape};
 
-use crate::failure::Failure;
-use acpi_terms::Depth;
+use crate::fault::WordsFault;
+use acpi_code::Depth;
 use clap::error::ErrorKind;
 use clap::{Arg, ArgAction, ArgMatches, Error};
 use std::alloc::{AllocError, Global};
@@ -126,13 +127,13 @@ fn depth_of(text: &str) -> Option<Depth>
     Depth::new(depth)
 }
 
-fn failure_of<'a>(error: &Error) -> Failure<'a>
-    ensures memory { kind_of error.now ≡ ErrorKind.OutOfMemory → result ≡ Failure.Memory }
-    ensures words { (kind_of error.now ≡ ErrorKind.OutOfMemory → ⊥) → result ≡ Failure.WrongWords }
+fn fault_of(error: &Error) -> WordsFault
+    ensures memory { kind_of error.now ≡ ErrorKind.OutOfMemory → result ≡ WordsFault.Memory }
+    ensures words { (kind_of error.now ≡ ErrorKind.OutOfMemory → ⊥) → result ≡ WordsFault.Wrong }
 {
     match error.kind() {
-        ErrorKind::OutOfMemory => Failure::Memory,
-        _ => Failure::WrongWords,
+        ErrorKind::OutOfMemory => WordsFault::Memory,
+        _ => WordsFault::Wrong,
     }
 }
 
@@ -162,52 +163,44 @@ fn request_of<'a>(
     alloc: Global,
     name: &str,
     found: &ArgMatches<'a>,
-) -> Result<Request<'a>, Failure<'a>>
+) -> Result<Request<'a>, WordsFault>
     requires { ReadsHex (rows_of (found_of found.now)) }
     ensures found { IfOk result (λ request.
         asked_by name.now (rows_of (found_of found.now)) ≡ Some (asked_in request)) }
-    ensures wrong { result ≡ Err Failure.WrongWords
+    ensures wrong { result ≡ Err WordsFault.Wrong
         → asked_by name.now (rows_of (found_of found.now)) ≡ None }
-    ensures kinds { IfErr result (λ failure.
-        (failure ≡ Failure.WrongWords) ⊎ (failure ≡ Failure.Memory)) }
 {
     let Some(command) = command_in(name, found) else {
-        return Err(Failure::WrongWords);
+        return Err(WordsFault::Wrong);
     };
     let Some(depth) = depth_in(found) else {
-        return Err(Failure::WrongWords);
+        return Err(WordsFault::Wrong);
     };
     let Some(files) = found.get_strs("file") else {
-        return Err(Failure::WrongWords);
+        return Err(WordsFault::Wrong);
     };
-    match Vec::from_slice(alloc, files) {
-        Ok(files) => Ok(Request {
-            command,
-            hex: found.get_flag("hex"),
-            depth,
-            files,
-        }),
-        Err(_) => Err(Failure::Memory),
-    }
+    let files = Vec::from_slice(alloc, files)?;
+    Ok(Request {
+        command,
+        hex: found.get_flag("hex"),
+        depth,
+        files,
+    })
 }
 
-/// Reads the words that follow the program's name.
-pub fn read_words<'a>(alloc: Global, words: &'a [&'a str]) -> Result<Request<'a>, Failure<'a>>
+/// Reads the words that follow the program's name. `WordsFault::Wrong` where they ask for nothing.
+pub fn read_words<'a>(alloc: Global, words: &'a [&'a str]) -> Result<Request<'a>, WordsFault>
     ensures found { IfOk result (λ request.
         asked_of (texts words.now) ≡ Some (asked_in request)) }
-    ensures wrong { result ≡ Err Failure.WrongWords → asked_of (texts words.now) ≡ None }
-    ensures kinds { IfErr result (λ failure.
-        (failure ≡ Failure.WrongWords) ⊎ (failure ≡ Failure.Memory)) }
+    ensures wrong { result ≡ Err WordsFault.Wrong → asked_of (texts words.now) ≡ None }
 {
-    let Ok(command) = forms(alloc) else {
-        return Err(Failure::Memory);
-    };
+    let command = forms(alloc)?;
     let matches = match command.try_get_matches_from(words) {
         Ok(matches) => matches,
-        Err(error) => return Err(failure_of(&error)),
+        Err(error) => return Err(fault_of(&error)),
     };
     let Some((name, found)) = matches.subcommand() else {
-        return Err(Failure::WrongWords);
+        return Err(WordsFault::Wrong);
     };
     request_of(alloc, name, found)
 }

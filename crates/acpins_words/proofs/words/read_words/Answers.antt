@@ -7,21 +7,21 @@ use Rattle.clap.specs.Matches.{found_of}
 use Rattle.clap.specs.Simple.{App, app_of, is_simple, subcommand_of}
 use Rattle.clap.specs.Walk.{rows_of, texts}
 use Rattle.clap.specs.declared.parser.matches.ArgMatches.TheViews.{out-ArgMatches}
-use Rattle.acpins.specs.Words.{acpins_app, asked_by, asked_of}
-use Rattle.acpins.specs.declared.failure.Failure.TheVariants.{Memory, WrongWords}
-use Rattle.acpins.proofs.HexFlag.{hex_read}
-use Rattle.acpins.proofs.WordsAsked.{app_is_free, app_is_simple, faulty_words, found_whole, sound_words}
-use Rattle.acpins.proofs.words.read_words.Goals as goal
-use Rattle.acpins.proofs.words.read_words.Goals.{In-Some}
+use Rattle.acpins_words.specs.Words.{acpins_app, asked_by, asked_of}
+use Rattle.acpins_words.specs.declared.fault.WordsFault.TheVariants.{Memory, Wrong}
+use Rattle.acpins_words.proofs.HexFlag.{hex_read}
+use Rattle.acpins_words.proofs.WordsAsked.{app_is_free, app_is_simple, faulty_words, found_whole, sound_words}
+use Rattle.acpins_words.proofs.words.read_words.Goals as goal
+use Rattle.acpins_words.proofs.words.read_words.Goals.{In-Some}
 
 pub returns-in-Err-clause-wrong : goal.returns-in-Err-clause-wrong
 returns-in-Err-clause-wrong c e =
     let words = texts c.args.words.now in
-    let app_is : app_of c.in-Ok.command ≡ acpins_app = c.in-Ok.ensures in
+    let app_is : app_of c.in_ok-command.command ≡ acpins_app = c.in_ok-command.ensures in
     let kinds = c.in-Err.ensures.kinds (ap is_simple_and_free app_is ∙ app_is_free) in
     elim kinds [
-      | inl memory ↦ let is : c.failure_of.result ≡ Memory = c.failure_of.ensures.memory memory in
-          let other : c.failure_of.result ≡ WrongWords = cc e in
+      | inl memory ↦ let is : c.fault_of.result ≡ Memory = c.fault_of.ensures.memory memory in
+          let other : c.fault_of.result ≡ Wrong = cc e in
           absurd (cc)
       | inr among ↦ faulty_words words _ (subst (λ (a : App). IsAmong (kind_of c.in-Err.error) (fault_of a words)) app_is among)
     ]
@@ -29,15 +29,15 @@ returns-in-Err-clause-wrong c e =
 -- the command and its rows are those of clap's account
 found_are : (c : In-Some) → Some (c.in-Some.name.now, rows_of (found_of c.in-Some.found.now)) ≡ subcommand_of acpins_app (texts c.args.words.now)
 found_are c =
-    let app_is : app_of c.in-Ok.command ≡ acpins_app = c.in-Ok.ensures in
-    let met = c.in-Ok-try_get_matches_from.ensures.matches (ap is_simple app_is ∙ app_is_simple) in
-    found_whole (out-ArgMatches c.in-Ok-try_get_matches_from.matches).subcommand _ _ c.in-Some.ensures.name c.in-Some.ensures.rows
+    let app_is : app_of c.in_ok-command.command ≡ acpins_app = c.in_ok-command.ensures in
+    let met = c.in-Ok.ensures.matches (ap is_simple app_is ∙ app_is_simple) in
+    found_whole (out-ArgMatches c.in-Ok.matches).subcommand _ _ c.in-Some.ensures.name c.in-Some.ensures.rows
     ∙ met.1 ∙ ap (λ (a : App). subcommand_of a (texts c.args.words.now)) app_is
 
 asked_are : (c : In-Some) → asked_of (texts c.args.words.now) ≡ asked_by c.in-Some.name.now (rows_of (found_of c.in-Some.found.now))
 asked_are c =
-    let app_is : app_of c.in-Ok.command ≡ acpins_app = c.in-Ok.ensures in
-    let none = c.in-Ok-try_get_matches_from.ensures.kinds (ap is_simple_and_free app_is ∙ app_is_free) in
+    let app_is : app_of c.in_ok-command.command ≡ acpins_app = c.in_ok-command.ensures in
+    let none = c.in-Ok.ensures.kinds (ap is_simple_and_free app_is ∙ app_is_free) in
     sound_words (texts c.args.words.now) c.in-Some.name.now (rows_of (found_of c.in-Some.found.now))
     (ap (λ (a : App). fault_of a (texts c.args.words.now)) (sym app_is) ∙ none) (found_are c)
 

@@ -2,9 +2,9 @@ use Rattle.std.proofs.Common.{◌∙◌, ap, None, Some, codes, option_map}
 use Rattle.clap.proofs.WalkLemmas.{first_value-rows}
 use Rattle.clap.specs.Matches.{found_of}
 use Rattle.clap.specs.Walk.{rows_of}
-use Rattle.acpins.specs.Words.{command_in}
-use Rattle.acpins.proofs.WordsAsked.{show_is}
-use Rattle.acpins.proofs.words.command_in.Goals as goal
+use Rattle.acpins_words.specs.Words.{command_in}
+use Rattle.acpins_words.proofs.WordsAsked.{show_is}
+use Rattle.acpins_words.proofs.words.command_in.Goals as goal
 
 pub returns-in_err-get_str-in-show : goal.returns-in_err-get_str-in-show
 returns-in_err-get_str-in-show c =

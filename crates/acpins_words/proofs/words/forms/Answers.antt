@@ -3,8 +3,8 @@ use Rattle.std.proofs.lemmas.Result.{IfOk-weaker}
 use Rattle.clap.specs.Simple.{App, Shape, app_of, app_of_fields, on_top, with_subcommand}
 use Rattle.clap.specs.declared.builder.command.Command.{Command}
 use Rattle.clap.specs.declared.builder.command.Command.TheOpen.{Command-F}
-use Rattle.acpins.specs.Words.{acpins_shape, alone}
-use Rattle.acpins.proofs.words.forms.Goals as goal
+use Rattle.acpins_words.specs.Words.{acpins_shape, alone}
+use Rattle.acpins_words.proofs.words.forms.Goals as goal
 
 -- the settings of the command, over what it was
 abbrev set_up : Shape → Shape

@@ -14,7 +14,7 @@ use Rattle.clap.specs.declared.builder.value_parser.Reading.{Reading}
 use Rattle.clap.specs.declared.builder.value_parser.Reading.TheVariants.{AsWritten}
 use Rattle.clap.specs.declared.parser.matches.ValueSource.{ValueSource}
 use Rattle.clap.specs.declared.parser.matches.ValueSource.TheVariants.{CommandLine, DefaultValue}
-use Rattle.acpins.specs.Words.{ReadsHex, acpins_app, hex_rule, depth_rule, file_rule, list_shape, path_rule, show_shape}
+use Rattle.acpins_words.specs.Words.{ReadsHex, acpins_app, hex_rule, depth_rule, file_rule, list_shape, path_rule, show_shape}
 
 -- ---- the rows of `--hex`
 

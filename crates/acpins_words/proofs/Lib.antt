@@ -1,0 +1,3 @@
+mod DepthText
+mod HexFlag
+mod WordsAsked
