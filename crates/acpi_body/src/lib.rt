@@ -31,6 +31,3 @@ pub use acpi_counts::Counts;
 pub use body::{Body, read_body, why};
 pub use fault::{BodyFault, BodyReason};
 pub use misses::{BodyMisses, OpenMiss, body_misses};
-
-#[cfg(test)]
-mod tests;

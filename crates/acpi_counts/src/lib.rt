@@ -91,6 +91,3 @@ impl Counts {
         }
     }
 }
-
-#[cfg(test)]
-mod tests;

@@ -27,6 +27,3 @@ mod predefined;
 pub use fault::{LoadFault, LoadReason, Refusal};
 pub use load::{Declared, declare, declare_shared, shared_tables};
 pub use notes::{Method, TableNotes};
-
-#[cfg(test)]
-mod tests;

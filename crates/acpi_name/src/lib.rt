@@ -34,6 +34,3 @@ pub use reading::{NameFault, begins_segment, read_name};
 pub use seg::{Seg, is_lead_char, is_name_char};
 pub use text::PathFault;
 pub use writing::write_name;
-
-#[cfg(test)]
-mod tests;

@@ -28,8 +28,6 @@ mod lookup;
 mod map_space;
 mod nodes;
 mod space;
-#[cfg(test)]
-mod tests;
 mod trail;
 mod tree_space;
 mod walk;

@@ -17,8 +17,3 @@ pub use sources::{FromRead, SliceSource, Source, SourceFault};
 pub use streams::{ReadFault, read_table};
 pub use sums::{byte_sum, checksum_for};
 pub use tables::{HEADER_BYTES, Header, TABLE_LIMIT, Table, TableFault, split_table};
-
-#[cfg(test)]
-mod stream_tests;
-#[cfg(test)]
-mod tests;

@@ -33,6 +33,3 @@ pub use acpi_tree::{
 pub use fault::{ItemFault, ItemReason};
 pub use item::{read_items, read_items_shared};
 pub use part::{read_elem, read_int};
-
-#[cfg(test)]
-mod tests;

@@ -32,6 +32,3 @@ pub use names::{put_name, put_path};
 pub use numbers::{put_decimal, put_int};
 pub use objects::put_object;
 pub use statements::{put_opaque, put_terms};
-
-#[cfg(test)]
-mod tests;

@@ -1,7 +1,7 @@
 //! Bodies as they are printed.
 
-use super::*;
 use acpi_name::{Name, Seg, read_name};
+use acpi_text::*;
 use acpi_tree::{Decl, FieldElem, Int, Op, Operand, Term, Width};
 use std::alloc::{AllocError, Global};
 use std::process::Abort;

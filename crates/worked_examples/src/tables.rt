@@ -1,6 +1,6 @@
 //! Worked rows from outside, and the printed texts of faults.
 
-use super::*;
+use acpi_table::*;
 use std::test::Fail;
 
 // A DSDT: Scope (\_SB) { Device (PCI0) { Name (_ADR, Zero) } }.

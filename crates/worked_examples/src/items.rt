@@ -2,7 +2,7 @@
 
 ghost use Rattle.std.specs.Prelude.{◌<◌};
 
-use super::*;
+use acpi_terms::*;
 use bytes::Bytes;
 use std::alloc::{AllocError, Global};
 use std::process::Abort;

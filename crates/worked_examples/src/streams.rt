@@ -1,7 +1,7 @@
 //! Worked rows of tables read from a source, and devices that give little or fail.
 
-use super::tests::{DSDT, EMPTY};
-use super::*;
+use crate::tables::{DSDT, EMPTY};
+use acpi_table::*;
 use std::io;
 use std::io::{ErrorKind, Read};
 use std::test::Fail;

@@ -1,6 +1,6 @@
 //! Loads of small tables over both kinds of space, and printed texts, which no clause states.
 
-use super::*;
+use acpi_declare::*;
 use acpi_name::Path;
 use acpi_space::{MapSpace, Space, TreeSpace};
 use acpi_table::{HEADER_BYTES, TableFault, checksum_for};

@@ -1,6 +1,7 @@
 //! Counts of paths.
 
-use super::*;
+use acpi_counts::Counts;
+use acpi_name::Path;
 use std::test::Fail;
 
 #[test]

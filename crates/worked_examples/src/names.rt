@@ -1,6 +1,6 @@
 //! Worked rows and printed texts.
 
-use super::*;
+use acpi_name::*;
 use std::test::Fail;
 
 #[test]

@@ -1,7 +1,7 @@
 //! Worked rows and printed texts, which no clause states.
 
-use super::*;
 use acpi_name::{Path, Seg, read_name};
+use acpi_space::*;
 use std::alloc::Global;
 use std::process::Abort;
 use std::test::Fail;

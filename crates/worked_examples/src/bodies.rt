@@ -1,6 +1,6 @@
 //! Worked rows, which no contract states: which fault is told, and its printed text.
 
-use super::*;
+use acpi_body::*;
 use acpi_name::Path;
 use acpi_space::{MapSpace, Space, TreeSpace};
 use acpi_tree::Object;

@@ -1,0 +1,22 @@
+//! Worked examples of the libraries, each by the public calls of one: rows whose answer is known from outside, and
+//! texts that are printed. They test what no contract states; nothing here is called from elsewhere.
+#![tactic(auto)]
+
+#[cfg(test)]
+mod bodies;
+#[cfg(test)]
+mod counts;
+#[cfg(test)]
+mod declarations;
+#[cfg(test)]
+mod items;
+#[cfg(test)]
+mod names;
+#[cfg(test)]
+mod printed;
+#[cfg(test)]
+mod spaces;
+#[cfg(test)]
+mod streams;
+#[cfg(test)]
+mod tables;
