@@ -8,9 +8,14 @@ use Rattle.acpi_write.specs.declared.fault.WriteFault.TheVariants.{TooLong, Memo
 use Rattle.acpi_write.specs.declared.writer.Argument.{Argument}
 use Rattle.acpi_tree.specs.declared.tree.Elem.{Elem}
 use Rattle.acpi_tree.specs.declared.tree.Item.{Item}
+use Rattle.acpi_tree.specs.declared.term.Operand.{Operand}
+use Rattle.acpi_tree.specs.declared.term.Term.{Term}
 use Rattle.acpi_tree.specs.Tree.{elems_of}
+use Rattle.acpi_tree.specs.Terms.{terms_of}
+use Rattle.acpi_tree.specs.TermView.{term_view, terms_tree, operand_view, operands_view}
 use Rattle.acpi_tree.specs.View.{elem_view, elems_view, item_view, items_tree}
 use Rattle.acpi_write.specs.Canonical.{each_bytes, elem_bytes, elems_bytes, item_bytes, items_bytes}
+use Rattle.acpi_write.specs.CanonicalTerms.{term_bytes, terms_bytes}
 use Rattle.acpi_write.specs.steps.Writing.{Puts, Ahead, argument_piece, pieces}
 
 abbrev Bytes : Type 0
@@ -22,9 +27,17 @@ both_assoc (Some a) None c = refl
 both_assoc (Some a) (Some b) None = refl
 both_assoc (Some a) (Some b) (Some c) = ap Some (simp append_assoc)
 
-none_behind : (a : Bytes) → option_append a None ≡ None
+pub none_behind : (a : Bytes) → option_append a None ≡ None
 none_behind None = refl
 none_behind (Some a) = refl
+
+pub nothing_behind : (a : Bytes) → option_append a (Some []) ≡ a
+nothing_behind None = refl
+nothing_behind (Some a) = ap Some (append-nil a)
+
+pub nothing_ahead : (a : Bytes) → option_append (Some []) a ≡ a
+nothing_ahead None = refl
+nothing_ahead (Some a) = refl
 
 none_before : (a : Bytes) (b : List ℕ) → option_append a (Some b) ≡ None → a ≡ None
 none_before None b e = refl
@@ -97,6 +110,14 @@ elems_each (x ∷ xs) = ap (option_append (elem_bytes (elem_view x))) (elems_eac
 pub items_each : (xs : List Item) → items_bytes (items_tree xs) ≡ each_bytes (λ x. item_bytes (item_view x)) xs
 items_each [] = refl
 items_each (x ∷ xs) = ap (option_append (item_bytes (item_view x))) (items_each xs)
+
+pub terms_each : (xs : List Term) → terms_bytes (terms_tree xs) ≡ each_bytes (λ x. term_bytes (term_view x)) xs
+terms_each [] = refl
+terms_each (x ∷ xs) = ap (option_append (term_bytes (term_view x))) (terms_each xs)
+
+pub operands_each : (xs : List Operand) → terms_bytes (terms_of (operands_view xs)) ≡ each_bytes (λ x. term_bytes (operand_view x)) xs
+operands_each [] = refl
+operands_each (x ∷ xs) = ap (option_append (term_bytes (operand_view x))) (operands_each xs)
 
 -- what is put in front of nothing
 pub put_alone : (a : Bytes) (old new : List ℕ) → old ≡ [] → option_append a (Some old) ≡ Some new → a ≡ Some new

@@ -1,3 +1,4 @@
 pub mod Fronts
+pub mod Declared
 pub mod Framed
 pub mod Written

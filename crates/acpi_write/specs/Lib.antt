@@ -1,4 +1,5 @@
 pub mod Canonical
+pub mod CanonicalTerms
 pub mod Tables
 pub mod Laws
 pub mod steps

@@ -13,7 +13,7 @@ use acpi_tree::{Data, Elem, FieldElem, Int};
 
 impl Writer {
     /// A string, with the 00 that ends it (ACPI 6.5, 20.2.3).
-    fn string(&mut self, text: &[u8]) -> Result<(), WriteFault>
+    pub(crate) fn string(&mut self, text: &[u8]) -> Result<(), WriteFault>
         ensures { Puts result (Some (0x0D ∷ (text.now ++ 0x00 ∷ []))) self.old self.new }
     {
         self.byte(0x00)?;

@@ -14,7 +14,7 @@ use acpi_name::Name;
 use acpi_tree::{Data, External, FieldElem, Int, Item, Width};
 
 // CreateDWordFieldOp and the like (ACPI 6.5, 20.2.5.2)
-fn width_opcode(width: Width) -> u8
+pub(crate) fn width_opcode(width: Width) -> u8
     ensures { width_bytes width ≡ result ∷ [] }
 {
     match width {

@@ -2,14 +2,17 @@
 #![tactic(auto)]
 
 mod data;
+mod declaration;
 mod fault;
 mod item;
 pub mod laws;
+mod operator;
+mod term;
 mod writer;
 mod writing;
 
 pub use fault::WriteFault;
-pub use writing::{write_items, write_table};
+pub use writing::{write_items, write_table, write_terms};
 
 #[cfg(test)]
 mod tests;

@@ -3,15 +3,18 @@
 ghost use Rattle.std.specs.Prelude.{◌≡◌, ◌+◌, ◌<◌, ◌++◌, ℕ, List, IfOk, OnOk, IsTrue, Some, None, Err, drop, length};
 ghost use Rattle.acpi_table.specs.Tables.{IsTable, header_of};
 ghost use Rattle.acpi_tree.specs.View.{items_tree};
+ghost use Rattle.acpi_tree.specs.TermView.{terms_tree};
+ghost use Rattle.acpi_tree.specs.TermFits.{terms_fit};
 ghost use Rattle.acpi_tree.specs.Fits.{items_fit};
 ghost use Rattle.acpi_write.specs.Canonical.{items_bytes};
+ghost use Rattle.acpi_write.specs.CanonicalTerms.{terms_bytes};
 ghost use Rattle.acpi_write.specs.Tables.{header_for};
 ghost use Rattle.acpi_write.specs.steps.Writing.{header_bytes, HasWidths};
 
 use crate::fault::WriteFault;
 use crate::writer::Writer;
 use acpi_table::{HEADER_BYTES, Header, TABLE_LIMIT, checksum_for};
-use acpi_tree::Item;
+use acpi_tree::{Item, Term};
 use std::alloc::{AllocError, Global};
 
 /// The shortest spelling of items (ACPI 6.5, 20.2.5), which have one but for the lengths of their packages.
@@ -23,6 +26,18 @@ pub fn write_items(alloc: Global, items: &[Item]) -> Result<Vec<u8>, WriteFault>
 {
     let mut writer = Writer::new(alloc);
     writer.items(items)?;
+    Ok(writer.into_bytes())
+}
+
+/// The shortest spelling of the terms of a method body (ACPI 6.5, 20.2.5), which have one but for the lengths of
+/// their packages. `TooLong` exactly where a package would have more than 268,435,455 bytes.
+pub fn write_terms(alloc: Global, terms: &[Term]) -> Result<Vec<u8>, WriteFault>
+    requires fit { IsTrue (terms_fit (terms_tree terms.now)) }
+    ensures ok { IfOk result (λ bytes. terms_bytes (terms_tree terms.now) ≡ Some bytes.items) }
+    ensures long { result ≡ Err WriteFault.TooLong → terms_bytes (terms_tree terms.now) ≡ None }
+{
+    let mut writer = Writer::new(alloc);
+    writer.terms(terms)?;
     Ok(writer.into_bytes())
 }
 
