@@ -26,35 +26,35 @@ use Rattle.acpi_write.specs.Laws.{IsIntTyped, IsTyped, AreTyped, IsDataTyped, Is
 
 -- ---- both tests of an `&&`, and both parts of a pair of spellings
 
-first_of : (a b : Bool) → (a && b) ≡ true → a ≡ true
+pub first_of : (a b : Bool) → (a && b) ≡ true → a ≡ true
 first_of true b e = refl
 first_of false b e = absurd cc
 
-second_of : (a b : Bool) → (a && b) ≡ true → b ≡ true
+pub second_of : (a b : Bool) → (a && b) ≡ true → b ≡ true
 second_of true b e = e
 second_of false b e = absurd cc
 
-record Both (a b : Option (List ℕ)) (bytes : List ℕ) : Type 0 where
-  front : List ℕ
-  back : List ℕ
-  is_front : a ≡ Some front
-  is_back : b ≡ Some back
-  whole : bytes ≡ front ++ back
+pub record Both (a b : Option (List ℕ)) (bytes : List ℕ) : Type 0 where
+  pub front : List ℕ
+  pub back : List ℕ
+  pub is_front : a ≡ Some front
+  pub is_back : b ≡ Some back
+  pub whole : bytes ≡ front ++ back
 
-some_is : (a b : List ℕ) → Some a ≡ Some b → a ≡ b
+pub some_is : (a b : List ℕ) → Some a ≡ Some b → a ≡ b
 some_is a b e = cc
 
-both_of : (a b : Option (List ℕ)) (bytes : List ℕ) → option_append a b ≡ Some bytes → Both a b bytes
+pub both_of : (a b : Option (List ℕ)) (bytes : List ℕ) → option_append a b ≡ Some bytes → Both a b bytes
 both_of None b bytes e = absurd cc
 both_of (Some a) None bytes e = absurd cc
 both_of (Some a) (Some b) bytes e = record { front = a; back = b; is_front = refl; is_back = refl; whole = sym (some_is (a ++ b) bytes e) }
 
 -- ---- fixed arguments
 
-number_written : (k n : ℕ) → n < 256 ^ k → SpellsNumber k n (little_bytes k n)
+pub number_written : (k n : ℕ) → n < 256 ^ k → SpellsNumber k n (little_bytes k n)
 number_written k n few = (length-bytes_low_first 0 k n, ap (little_number k) (sym (append-nil (little_bytes k n))) ∙ little_number-reads_back k n [] few)
 
-int_written : (i : Int) → IsIntTyped i → SpellsInt i (int_bytes i)
+pub int_written : (i : Int) → IsIntTyped i → SpellsInt i (int_bytes i)
 int_written Zero f = refl
 int_written One f = refl
 int_written Ones f = refl
@@ -99,11 +99,11 @@ parts_start false zero (s ∷ []) h some = lead_starts s (first_of (is_segment s
 parts_start false zero (s ∷ t ∷ []) h some = refl
 parts_start false zero (s ∷ t ∷ u ∷ ss) h some = refl
 
-not_false : (b : Bool) → not b ≡ true → b ≡ false
+pub not_false : (b : Bool) → not b ≡ true → b ≡ false
 not_false true e = absurd cc
 not_false false e = refl
 
-term_name_written : (n : NameParts) → IsName n → is_null_name n ≡ false → SpellsTermName n (name_bytes n)
+pub term_name_written : (n : NameParts) → IsName n → is_null_name n ≡ false → SpellsTermName n (name_bytes n)
 term_name_written n h some = (name_written n h, parts_start n.rooted n.parents n.segments h.are_segments some)
 
 argument_written : (k : FixedArgument) (v : Value k) → IsTyped k v → Stands k v → SpellsArgument k v (argument_bytes k v)
@@ -127,7 +127,7 @@ arguments_written (k ∷ ks) v f s = (argument_bytes k v.0, arguments_bytes ks v
 form_written : (o : Opcode) (v : ArgumentsOf o) (bytes : List ℕ) → AreTyped (arguments o) v → AllStand (arguments o) v → Some (form_bytes o v) ≡ Some bytes → SpellsForm o v bytes
 form_written o v bytes f s e = (arguments_bytes (arguments o) v, arguments_written (arguments o) v f s, sym (some_is (form_bytes o v) bytes e))
 
-packs : (opcode content : List ℕ) → length content < 268435452 → Packs opcode content (opcode ++ (shortest_pkg_length (package_number (length content)) ++ content))
+pub packs : (opcode content : List ℕ) → length content < 268435452 → Packs opcode content (opcode ++ (shortest_pkg_length (package_number (length content)) ++ content))
 packs opcode content few =
     let number = package_number (length content) in
     let counts = number_counts (length content) few in
@@ -137,7 +137,7 @@ packs opcode content few =
       whole = refl;
     }
 
-packed_written : (opcode content bytes : List ℕ) → packed_bytes opcode content ≡ Some bytes → Packs opcode content bytes
+pub packed_written : (opcode content bytes : List ℕ) → packed_bytes opcode content ≡ Some bytes → Packs opcode content bytes
 packed_written opcode content bytes e = by_test (nat_le (length content) 268435451) refl e
   where
     spelled : List ℕ
@@ -152,7 +152,7 @@ filled_written : (opcode : List ℕ) (ks : List FixedArgument) (v : Values ks) (
 filled_written opcode ks v Fills None bytes f s fills e = absurd cc
 filled_written opcode ks v Fills (Some b) bytes f s fills e = (arguments_bytes ks v, b, arguments_written ks v f s, fills b refl, packed_written opcode (arguments_bytes ks v ++ b) bytes e)
 
-each_written : {A : Type 0} (f : A → Option (List ℕ)) (Spells : A → List ℕ → Type 0) (Holds : A → Type 0) (fits : A → Bool)
+pub each_written : {A : Type 0} (f : A → Option (List ℕ)) (Spells : A → List ℕ → Type 0) (Holds : A → Type 0) (fits : A → Bool)
     → ((x : A) (b : List ℕ) → Holds x → fits x ≡ true → f x ≡ Some b → Spells x b)
     → (xs : List A) (bytes : List ℕ) → AllByRecursion Holds xs → list_all fits xs ≡ true → each_bytes f xs ≡ Some bytes → SpellsEach Spells xs bytes
 each_written f Spells Holds fits one [] bytes h all e = sym (some_is [] bytes e)
@@ -162,7 +162,7 @@ each_written f Spells Holds fits one (x ∷ xs) bytes h all e =
 
 -- ---- data
 
-text_written : (text : List ℕ) → list_all text_fits text ≡ true → AllByRecursion IsText text
+pub text_written : (text : List ℕ) → list_all text_fits text ≡ true → AllByRecursion IsText text
 text_written [] e = tt
 text_written (b ∷ text) e =
     let one : (nat_lt 0 b && nat_lt b 128) ≡ true = first_of (text_fits b) (list_all text_fits text) e in
@@ -188,10 +188,10 @@ mutual
 
 -- ---- field elements
 
-bits_few : (n : ℕ) → bits_fit n ≡ true → n < 268435456
+pub bits_few : (n : ℕ) → bits_fit n ≡ true → n < 268435456
 bits_few n e = let le : n ≤ 268435455 = leb-true _ _ e in omega (arith, le)
 
-bits_are : (n : ℕ) (b : List ℕ) → bits_bytes n ≡ Some b → b ≡ shortest_pkg_length n
+pub bits_are : (n : ℕ) (b : List ℕ) → bits_bytes n ≡ Some b → b ≡ shortest_pkg_length n
 bits_are n b e = by_test (nat_le n 268435455) e
   where
     by_test : (t : Bool) → cond t (Some (shortest_pkg_length n)) None ≡ Some b → b ≡ shortest_pkg_length n

@@ -1,5 +1,5 @@
 -- The one spelling of the terms of a method body that is written (ACPI 6.5, 20.2.5): the shortest of each part.
-use Rattle.std.specs.Prelude.{◌+◌, ◌%◌, ℕ, List, [], ◌∷◌, ◌++◌, Option, Some, None}
+use Rattle.std.specs.Prelude.{◌+◌, ◌%◌, ℕ, List, [], ◌∷◌, ◌++◌, Option, Some}
 use Rattle.std.specs.Fmt.{option_append}
 use Rattle.byteorder.specs.Endian.{little_bytes}
 use Rattle.acpi_name.specs.Names.{NameParts}

@@ -2,4 +2,5 @@ pub mod Canonical
 pub mod CanonicalTerms
 pub mod Tables
 pub mod Laws
+pub mod TermLaws
 pub mod steps

@@ -1,15 +1,15 @@
-use Rattle.std.proofs.Common.{◌≡◌, ◌-◌, ◌++◌, ◌∷◌, [], ℕ, List, Option, Some, None, ap, refl, ◌∙◌, arith}
+use Rattle.std.proofs.Common.{◌-◌, ◌++◌, ◌∷◌, [], ℕ, List, Option, Some, ap, refl, ◌∙◌, arith}
 use Rattle.std.proofs.lemmas.Result.{err_from_is_err_and}
 use Rattle.std.specs.Fmt.{option_append}
 use Rattle.acpi_name.specs.Spelling.{name_bytes}
 use Rattle.byteorder.specs.Endian.{little_bytes}
 use Rattle.acpi_code.specs.Opcodes.{width_bytes}
-use Rattle.acpi_tree.specs.TermView.{term_view, terms_tree, operand_view}
+use Rattle.acpi_tree.specs.TermView.{term_view, operand_view}
 use Rattle.acpi_tree.specs.View.{fields_view}
 use Rattle.acpi_write.specs.Canonical.{fields_bytes, filled_with}
-use Rattle.acpi_write.specs.CanonicalTerms.{term_bytes, terms_bytes}
+use Rattle.acpi_write.specs.CanonicalTerms.{term_bytes}
 use Rattle.acpi_write.proofs.Fronts.{one_ahead, none_ahead, all_ahead, puts_fault, terms_each, operands_each}
-use Rattle.acpi_write.proofs.Declared.{onto, puts_onto, puts_as, none_first, none_under, none_within, puts_round, name_is, create_is, create_field_is, mutex_is, region_is, bank_field_is, if_else_is}
+use Rattle.acpi_write.proofs.Declared.{onto, puts_onto, puts_as, none_first, none_under, none_within, puts_round, name_is, create_is, create_field_is, mutex_is, region_is, bank_field_is}
 use Rattle.acpi_write.proofs.writer.Writer.+terms.Goals as goal
 
 pub terms-loop-i-preserved : goal.terms-loop-i-preserved
