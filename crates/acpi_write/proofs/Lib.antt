@@ -3,3 +3,5 @@ pub mod Declared
 pub mod Framed
 pub mod Written
 pub mod TermsWritten
+pub mod Shorter
+pub mod TermsShorter

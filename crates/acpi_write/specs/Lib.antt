@@ -3,4 +3,5 @@ pub mod CanonicalTerms
 pub mod Tables
 pub mod Laws
 pub mod TermLaws
+pub mod Shortest
 pub mod steps

@@ -1,0 +1,351 @@
+-- No spelling is shorter: parts and items.
+use Rattle.std.proofs.Common.{◌≡◌, ◌<◌, ◌≤◌, ◌+◌, ◌^◌, ℕ, zero, suc, Bool, true, false, cond, ltb, List, [], ◌∷◌, ◌++◌, length, slice_index, Option, Some, None, All, refl, sym, ap, subst, ◌∙◌, arith}
+use Rattle.std.proofs.lemmas.List.{length-append, append-nil}
+use Rattle.std.proofs.lemmas.List.Elements.{All-from_recursion, recursion_from_All}
+use Rattle.std.proofs.lemmas.Bool.{ltb-true, ltb-false, le-leb}
+use Rattle.std.specs.List.{AllByRecursion}
+use Rattle.std.specs.Fmt.{option_append}
+use Rattle.byteorder.specs.Endian.{little_bytes}
+use Rattle.byteorder.specs.Numbers.{little_from-lt, length-bytes_low_first}
+use Rattle.acpi_name.specs.Spelling.{name_bytes}
+use Rattle.acpi_name.proofs.NameWritten.{name_shortest}
+use Rattle.acpi_table.specs.PkgLength.{SpellsPkgLength, shortest_pkg_length, package_number}
+use Rattle.acpi_table.proofs.PkgLengths.{number_counts, number_least, shortest_least, spelled_fits, Fits}
+use Rattle.acpi_code.specs.declared.opcode.Opcode.{Opcode}
+use Rattle.acpi_code.specs.declared.opcode.Opcode.TheVariants as opcodes
+use Rattle.acpi_code.specs.Opcodes.{opcode_bytes}
+use Rattle.acpi_code.specs.Spelling.{SpellsNumber, SpellsInt, SpellsEach, Packs}
+use Rattle.acpi_code.proofs.Fitting.{AreBytes, parts, packed}
+use Rattle.acpi_tree.specs.declared.tree.Int.{Int}
+use Rattle.acpi_tree.specs.declared.tree.Int.TheVariants.{Zero, One, Ones, Revision, Byte, Word, DWord, QWord}
+use Rattle.acpi_tree.specs.Tree.{DataTree, int, str, buffer, pkg, var_pkg, ElemTree, of_data, of_name, ElemTrees, no_elems, elem, FieldTree, unit, reserved, access, connect_name, connect_buffer, extended, ExternalParts, ItemTree, name, scope, method, external, external_block, create, create_field, mutex, event, region, field, index_field, bank_field, device, processor, power, thermal, ItemTrees, no_items, item}
+use Rattle.acpi_terms.specs.Forms.{FixedArgument, name_arg, source_arg, segment_arg, byte_arg, word_arg, dword_arg, count_arg, bits_arg, const_arg, int_arg, Value, Values, arguments, ArgumentsOf}
+use Rattle.acpi_terms.specs.Spelling.{SpellsArgument, SpellsArguments, SpellsPlain, SpellsPacked, SpellsForm, SpellsData, SpellsElem, SpellsElems, SpellsField, SpellsFields, SpellsExternal, SpellsItem, SpellsItems}
+use Rattle.acpi_write.specs.Canonical.{int_bytes, argument_bytes, arguments_bytes, form_bytes, filled_with, each_bytes, data_bytes, elem_bytes, elems_bytes, bits_bytes, field_bytes, fields_bytes, external_bytes, item_bytes, items_bytes}
+use Rattle.acpi_write.specs.Laws.{IsIntTyped, IsTyped, AreTyped, IsDataTyped, IsElemTyped, AreElemsTyped, IsFieldTyped, IsExternalTyped, IsItemTyped, AreItemsTyped}
+use Rattle.acpi_write.specs.Shortest.{HasWithin, IsShortened, AreShortened, NoItemsAreShorter, SpelledItemsAreTyped}
+
+-- ---- package lengths
+
+pub all_of : (bytes : List ℕ) → AreBytes bytes → All (λ b. b < 256) bytes
+all_of bytes all = All-from_recursion (λ b. b < 256) bytes all
+
+-- a smaller payload has no greater number
+number_grows : (p q : ℕ) → p ≤ q → package_number p ≤ package_number q
+unfolding package_number
+number_grows p q le = by_tests (ltb (p + 1) 64) (ltb (p + 2) 4096) (ltb (p + 3) 1048576) (ltb (q + 1) 64) (ltb (q + 2) 4096) (ltb (q + 3) 1048576) refl refl refl refl refl refl
+  where
+    by_tests : (a b c d e f : Bool) → ltb (p + 1) 64 ≡ a → ltb (p + 2) 4096 ≡ b → ltb (p + 3) 1048576 ≡ c → ltb (q + 1) 64 ≡ d → ltb (q + 2) 4096 ≡ e → ltb (q + 3) 1048576 ≡ f
+        → cond a (p + 1) (cond b (p + 2) (cond c (p + 3) (p + 4))) ≤ cond d (q + 1) (cond e (q + 2) (cond f (q + 3) (q + 4)))
+    by_tests true b c true e f x y z u v w = let h = ltb-true _ _ x in let k = ltb-true _ _ u in omega arith
+    by_tests true b c false true f x y z u v w = let h = ltb-true _ _ x in let k = ltb-true _ _ v in let l = ltb-false _ _ u in omega arith
+    by_tests true b c false false true x y z u v w = let h = ltb-true _ _ x in let k = ltb-true _ _ w in let l = ltb-false _ _ v in omega arith
+    by_tests true b c false false false x y z u v w = let h = ltb-true _ _ x in let l = ltb-false _ _ w in omega arith
+    by_tests false true c true e f x y z u v w = let h = ltb-true _ _ y in let g = ltb-false _ _ x in let k = ltb-true _ _ u in omega arith
+    by_tests false true c false true f x y z u v w = let h = ltb-true _ _ y in let g = ltb-false _ _ x in let k = ltb-true _ _ v in let l = ltb-false _ _ u in omega arith
+    by_tests false true c false false true x y z u v w = let h = ltb-true _ _ y in let g = ltb-false _ _ x in let k = ltb-true _ _ w in let l = ltb-false _ _ v in omega arith
+    by_tests false true c false false false x y z u v w = let h = ltb-true _ _ y in let g = ltb-false _ _ x in let l = ltb-false _ _ w in omega arith
+    by_tests false false true true e f x y z u v w = let h = ltb-true _ _ z in let g = ltb-false _ _ y in let k = ltb-true _ _ u in omega arith
+    by_tests false false true false true f x y z u v w = let h = ltb-true _ _ z in let g = ltb-false _ _ y in let k = ltb-true _ _ v in let l = ltb-false _ _ u in omega arith
+    by_tests false false true false false true x y z u v w = let h = ltb-true _ _ z in let g = ltb-false _ _ y in let k = ltb-true _ _ w in let l = ltb-false _ _ v in omega arith
+    by_tests false false true false false false x y z u v w = let h = ltb-true _ _ z in let g = ltb-false _ _ y in let l = ltb-false _ _ w in omega arith
+    by_tests false false false true e f x y z u v w = let g = ltb-false _ _ z in let k = ltb-true _ _ u in omega arith
+    by_tests false false false false true f x y z u v w = let g = ltb-false _ _ z in let k = ltb-true _ _ v in let l = ltb-false _ _ u in omega arith
+    by_tests false false false false false true x y z u v w = let g = ltb-false _ _ z in let k = ltb-true _ _ w in let l = ltb-false _ _ v in omega arith
+    by_tests false false false false false false x y z u v w = let g = ltb-false _ _ z in let l = ltb-false _ _ w in omega arith
+
+-- a package whose number has a spelling has a payload that the greatest number counts
+few : (own number payload : ℕ) → number ≡ own + payload → 1 ≤ own → (own ≡ 1 → number < 64) → (own ≡ 2 → number < 4096) → (own ≡ 3 → number < 1048576) → number < 268435456 → payload < 268435452
+few zero number payload is some one two three all = absurd (omega (arith, some))
+few (suc zero) number payload is some one two three all = let lt : number < 64 = one refl in omega (arith, is, lt)
+few (suc (suc zero)) number payload is some one two three all = let lt : number < 4096 = two refl in omega (arith, is, lt)
+few (suc (suc (suc zero))) number payload is some one two three all = let lt : number < 1048576 = three refl in omega (arith, is, lt)
+few (suc (suc (suc (suc own)))) number payload is some one two three all = omega (arith, is, all)
+
+-- ---- what is put together
+
+pub within_both : (a b : Option (List ℕ)) (x y whole : List ℕ) → HasWithin a x → HasWithin b y → whole ≡ x ++ y → HasWithin (option_append a b) whole
+within_both None b x y whole h k e = absurd h
+within_both (Some a) None x y whole h k e = absurd k
+within_both (Some a) (Some b) x y whole h k e = rw e (omega (arith, length-append a b, length-append x y, h, k))
+
+pub within_packed : (op front : List ℕ) (content : Option (List ℕ)) (inner bytes : List ℕ) → AreBytes bytes → Packs op inner bytes → HasWithin (option_append (Some front) content) inner → HasWithin (filled_with op front content) bytes
+within_packed op front None inner bytes all p h = absurd h
+within_packed op front (Some c) inner bytes all p h =
+    let split = parts op (p.len ++ inner) bytes p.whole all in
+    let own : All (λ b. b < 256) p.len = all_of p.len (parts p.len inner (p.len ++ inner) refl split.1).0 in
+    let f : Fits (length p.len + length inner) p.len = spelled_fits (length p.len + length inner) p.len own p.spells_len in
+    let payload : length inner < 268435452 = few (length p.len) (length p.len + length inner) (length inner) refl f.some f.in_one f.in_two f.in_three f.in_all in
+    let least : package_number (length inner) ≤ length p.len + length inner = number_least (length inner) (length p.len + length inner) p.len own p.spells_len refl in
+    let grows : package_number (length (front ++ c)) ≤ package_number (length inner) = number_grows (length (front ++ c)) (length inner) h in
+    let below : length (front ++ c) < 268435452 = omega (arith, h, payload) in
+    let counts = (number_counts (length (front ++ c)) below).0 in
+    let mine : List ℕ = shortest_pkg_length (package_number (length (front ++ c))) in
+    let sizes : length (op ++ (mine ++ (front ++ c))) ≤ length bytes =
+    omega (arith, counts, grows, least, length-append op (mine ++ (front ++ c)), length-append mine (front ++ c), ap length p.whole, length-append op (p.len ++ inner), length-append p.len inner) in
+    rw (le-leb (length (front ++ c)) 268435451 (omega (arith, below))) sizes
+
+-- ---- fixed arguments
+
+pub number_short : (k n : ℕ) (b : List ℕ) → SpellsNumber k n b → length (little_bytes k n) ≤ length b
+number_short k n b h = omega (arith, length-bytes_low_first 0 k n, h.0)
+
+pub int_short : (i : Int) (b : List ℕ) → SpellsInt i b → length (int_bytes i) ≤ length b
+int_short Zero b h = rw h (omega arith)
+int_short One b h = rw h (omega arith)
+int_short Ones b h = rw h (omega arith)
+int_short Revision b h = rw h (omega arith)
+int_short (Byte n) b h = rw h (omega arith)
+int_short (Word n) b h = rw h.2 (omega (arith, number_short 2 n h.0 h.1))
+int_short (DWord n) b h = rw h.2 (omega (arith, number_short 4 n h.0 h.1))
+int_short (QWord n) b h = rw h.2 (omega (arith, number_short 8 n h.0 h.1))
+
+argument_short : (k : FixedArgument) (v : Value k) (b : List ℕ) → AreBytes b → SpellsArgument k v b → length (argument_bytes k v) ≤ length b
+argument_short name_arg n b all h = name_shortest n b h
+argument_short source_arg n b all h = name_shortest n b h.0
+argument_short segment_arg s b all h = rw h.1 (omega arith)
+argument_short byte_arg n b all h = rw h (omega arith)
+argument_short word_arg n b all h = number_short 2 n b h
+argument_short dword_arg n b all h = number_short 4 n b h
+argument_short count_arg n b all h = rw h.1 (omega arith)
+argument_short bits_arg n b all h = shortest_least n b (all_of b all) h
+argument_short const_arg i b all h = int_short i b h
+argument_short int_arg i b all h = int_short i b h
+
+arguments_short : (ks : List FixedArgument) (v : Values ks) (b : List ℕ) → AreBytes b → SpellsArguments ks v b → length (arguments_bytes ks v) ≤ length b
+arguments_short [] v b all h = rw h (omega arith)
+arguments_short (k ∷ ks) v b all (x, y, one, rest, whole) =
+    let split = parts x y b whole all in
+    within_both (Some (argument_bytes k v.0)) (Some (arguments_bytes ks v.1)) x y b (argument_short k v.0 x split.0 one) (arguments_short ks v.1 y split.1 rest) whole
+
+-- ---- forms
+
+plain_short : (op : List ℕ) (ks : List FixedArgument) (v : Values ks) (bytes : List ℕ) → AreBytes bytes → SpellsPlain op ks v bytes → length (op ++ arguments_bytes ks v) ≤ length bytes
+plain_short op ks v bytes all h =
+    let split = parts op h.0 bytes h.2 all in
+    within_both (Some op) (Some (arguments_bytes ks v)) op h.0 bytes (omega arith) (arguments_short ks v h.0 split.1 h.1) h.2
+
+filled_short : (op : List ℕ) (ks : List FixedArgument) (v : Values ks) (Fills : List ℕ → Type 0) (content : Option (List ℕ)) (bytes : List ℕ) → AreBytes bytes → SpellsPacked op ks v Fills bytes
+    → ((b : List ℕ) → AreBytes b → Fills b → HasWithin content b) → HasWithin (filled_with op (arguments_bytes ks v) content) bytes
+filled_short op ks v Fills content bytes all (a, b, front, fills, packs) one =
+    let split = parts a b (a ++ b) refl (packed op (a ++ b) bytes packs all) in
+    within_packed op (arguments_bytes ks v) content (a ++ b) bytes all packs (within_both (Some (arguments_bytes ks v)) content a b (a ++ b) (arguments_short ks v a split.0 front) (one b split.1 fills) refl)
+
+pub each_short : {A : Type 0} (f : A → Option (List ℕ)) (Spells : A → List ℕ → Type 0) → ((x : A) (b : List ℕ) → AreBytes b → Spells x b → HasWithin (f x) b)
+    → (xs : List A) (bytes : List ℕ) → AreBytes bytes → SpellsEach Spells xs bytes → HasWithin (each_bytes f xs) bytes
+each_short f Spells one [] bytes all h = rw h (omega arith)
+each_short f Spells one (x ∷ xs) bytes all (a, b, first, rest, whole) =
+    let split = parts a b bytes whole all in
+    within_both (f x) (each_bytes f xs) a b bytes (one x a split.0 first) (each_short f Spells one xs b split.1 rest) whole
+
+-- ---- data
+
+mutual
+  data_short : (d : DataTree) (bytes : List ℕ) → AreBytes bytes → SpellsData d bytes → HasWithin (data_bytes d) bytes
+  data_short (int i) bytes all h = int_short i bytes h
+  data_short (str text) bytes all h = rw (h.2, h.1.1) (omega arith)
+  data_short (buffer size content) bytes all h = filled_short (17 ∷ []) (int_arg ∷ []) (size, tt) (λ b. b ≡ content) (Some content) bytes all h (λ b small e. omega (arith, ap length e))
+  data_short (pkg count es) bytes all h = filled_short (18 ∷ []) (byte_arg ∷ []) (count, tt) (λ b. SpellsElems es b) (elems_bytes es) bytes all h (λ b small e. elems_short es b small e)
+  data_short (var_pkg count es) bytes all h = filled_short (19 ∷ []) (int_arg ∷ []) (count, tt) (λ b. SpellsElems es b) (elems_bytes es) bytes all h (λ b small e. elems_short es b small e)
+
+  elem_short : (e : ElemTree) (bytes : List ℕ) → AreBytes bytes → SpellsElem e bytes → HasWithin (elem_bytes e) bytes
+  elem_short (of_data d) bytes all h = data_short d bytes all h
+  elem_short (of_name n) bytes all h = name_shortest n bytes h.0
+
+  elems_short : (es : ElemTrees) (bytes : List ℕ) → AreBytes bytes → SpellsElems es bytes → HasWithin (elems_bytes es) bytes
+  elems_short no_elems bytes all h = rw h (omega arith)
+  elems_short (elem e es) bytes all (a, b, first, rest, whole) =
+      let split = parts a b bytes whole all in
+      within_both (elem_bytes e) (elems_bytes es) a b bytes (elem_short e a split.0 first) (elems_short es b split.1 rest) whole
+
+-- ---- field elements
+
+pub bits_short : (n : ℕ) (b : List ℕ) → AreBytes b → SpellsPkgLength n b → HasWithin (bits_bytes n) b
+bits_short n b all h =
+    let f : Fits n b = spelled_fits n b (all_of b all) h in
+    rw (le-leb n 268435455 (omega (arith, f.in_all))) (shortest_least n b (all_of b all) h)
+
+field_short : (x : FieldTree) (bytes : List ℕ) → AreBytes bytes → SpellsField x bytes → HasWithin (field_bytes x) bytes
+field_short (unit s bits) bytes all (a, (x, y, segment, (z, w, number, none, rest), first), whole) =
+    let split = parts x y a first (parts [] a bytes whole all).1 in
+    let second = parts z w y rest split.1 in
+    let one : HasWithin (bits_bytes bits) y = subst (HasWithin (bits_bytes bits)) (sym (rest ∙ ap (λ l. z ++ l) none ∙ append-nil z)) (bits_short bits z second.0 number) in
+    within_both (Some s) (bits_bytes bits) x y bytes (rw segment.1 (omega arith)) one (whole ∙ first)
+field_short (reserved bits) bytes all (a, (z, w, number, none, rest), whole) =
+    let split = parts z w a rest (parts (0 ∷ []) a bytes whole all).1 in
+    let one : HasWithin (bits_bytes bits) a = subst (HasWithin (bits_bytes bits)) (sym (rest ∙ ap (λ l. z ++ l) none ∙ append-nil z)) (bits_short bits z split.0 number) in
+    within_both (Some (0 ∷ [])) (bits_bytes bits) (0 ∷ []) a bytes (omega arith) one whole
+field_short (access kind attribute) bytes all h = plain_short (1 ∷ []) (byte_arg ∷ byte_arg ∷ []) (kind, (attribute, tt)) bytes all h
+field_short (connect_name n) bytes all h = let s = plain_short (2 ∷ []) (name_arg ∷ []) (n, tt) bytes all h in subst (λ l. length (2 ∷ l) ≤ length bytes) (append-nil (name_bytes n)) s
+field_short (connect_buffer size content) bytes all h =
+    let s = filled_short (2 ∷ 17 ∷ []) (const_arg ∷ []) (size, tt) (λ b. b ≡ content) (Some content) bytes all h (λ b small e. omega (arith, ap length e)) in
+    subst (λ l. HasWithin (filled_with (2 ∷ 17 ∷ []) l (Some content)) bytes) (append-nil (int_bytes size)) s
+field_short (extended kind attribute len) bytes all h = plain_short (3 ∷ []) (byte_arg ∷ byte_arg ∷ byte_arg ∷ []) (kind, (attribute, (len, tt))) bytes all h
+
+pub fields_short : (es : List FieldTree) (b : List ℕ) → AreBytes b → SpellsFields es b → HasWithin (fields_bytes es) b
+fields_short es b all h = each_short field_bytes SpellsField field_short es b all h
+
+-- ---- items
+
+external_short : (x : ExternalParts) (bytes : List ℕ) → AreBytes bytes → SpellsExternal x bytes → HasWithin (Some (external_bytes x)) bytes
+external_short x bytes all h = plain_short (21 ∷ []) (arguments opcodes.External) (x.name, (x.kind, (x.args, tt))) bytes all h
+
+form_short : (o : Opcode) (v : ArgumentsOf o) (i j : ItemTree) (bytes : List ℕ) → AreBytes bytes → SpellsForm o v bytes → item_bytes i ≡ Some (form_bytes o v) → j ≡ i → HasWithin (item_bytes j) bytes
+form_short o v i j bytes all h is e = subst (λ x. HasWithin (item_bytes x) bytes) (sym e) (subst (λ x. HasWithin x bytes) (sym is) (plain_short (opcode_bytes o) (arguments o) v bytes all h))
+
+mutual
+  item_short : (i j : ItemTree) (bytes : List ℕ) → AreBytes bytes → SpellsItem i bytes → IsShortened i j → HasWithin (item_bytes j) bytes
+  item_short (name n d) j bytes all (a, b, named, fills, whole) e =
+      let split = parts (8 ∷ a) b bytes whole all in
+      let le : length (name_bytes n) ≤ length a = name_shortest n a named in
+      subst (λ x. HasWithin (item_bytes x) bytes) (sym e) (within_both (Some (8 ∷ name_bytes n)) (data_bytes d) (8 ∷ a) b bytes (omega (arith, le)) (data_short d b split.1 fills) whole)
+  item_short (scope n is) j bytes all h (js, s, e) = subst (λ x. HasWithin (item_bytes x) bytes) (sym e) (filled_short (16 ∷ []) (name_arg ∷ []) (n, tt) (λ b. SpellsItems is b) (items_bytes js) bytes all h (λ b small k. items_short is js b small k s))
+  item_short (method n flags code) j bytes all h (short, le, e) =
+      subst (λ x. HasWithin (item_bytes x) bytes) (sym e) (filled_short (20 ∷ []) (name_arg ∷ byte_arg ∷ []) (n, (flags, tt)) (λ b. b ≡ code) (Some short) bytes all h (λ b small k. omega (arith, ap length k, le)))
+  item_short (external x) j bytes all h e = subst (λ x. HasWithin (item_bytes x) bytes) (sym e) (external_short x bytes all h)
+  item_short (external_block xs) j bytes all (b, each, packs) e =
+      let inner = parts (0 ∷ []) b (0 ∷ b) refl (packed (160 ∷ []) (0 ∷ b) bytes packs all) in
+      let content = each_short (λ x. Some (external_bytes x)) SpellsExternal external_short xs b inner.1 each in
+      subst (λ x. HasWithin (item_bytes x) bytes) (sym e) (within_packed (160 ∷ []) (0 ∷ []) (each_bytes (λ x. Some (external_bytes x)) xs) (0 ∷ b) bytes all packs (within_both (Some (0 ∷ [])) _ (0 ∷ []) b (0 ∷ b) (omega arith) content refl))
+  item_short (create w source index n) j bytes all h e = form_short (opcodes.Create w) (source, (index, (n, tt))) (create w source index n) j bytes all h refl e
+  item_short (create_field source index bits n) j bytes all h e = form_short opcodes.CreateField (source, (index, (bits, (n, tt)))) (create_field source index bits n) j bytes all h refl e
+  item_short (mutex n flags) j bytes all h e = form_short opcodes.Mutex (n, (flags, tt)) (mutex n flags) j bytes all h refl e
+  item_short (event n) j bytes all h e = form_short opcodes.Event (n, tt) (event n) j bytes all h refl e
+  item_short (region n space offset len) j bytes all h e = form_short opcodes.Region (n, (space, (offset, (len, tt)))) (region n space offset len) j bytes all h refl e
+  item_short (field r flags es) j bytes all h e =
+      subst (λ x. HasWithin (item_bytes x) bytes) (sym e) (filled_short (91 ∷ 129 ∷ []) (name_arg ∷ byte_arg ∷ []) (r, (flags, tt)) (λ b. SpellsFields es b) (fields_bytes es) bytes all h (λ b small k. fields_short es b small k))
+  item_short (index_field i d flags es) j bytes all h e =
+      subst (λ x. HasWithin (item_bytes x) bytes) (sym e) (filled_short (91 ∷ 134 ∷ []) (name_arg ∷ name_arg ∷ byte_arg ∷ []) (i, (d, (flags, tt))) (λ b. SpellsFields es b) (fields_bytes es) bytes all h (λ b small k. fields_short es b small k))
+  item_short (bank_field r bank value flags es) j bytes all h e =
+      subst (λ x. HasWithin (item_bytes x) bytes) (sym e)
+      (filled_short (91 ∷ 135 ∷ []) (name_arg ∷ name_arg ∷ int_arg ∷ byte_arg ∷ []) (r, (bank, (value, (flags, tt)))) (λ b. SpellsFields es b) (fields_bytes es) bytes all h (λ b small k. fields_short es b small k))
+  item_short (device n is) j bytes all h (js, s, e) = subst (λ x. HasWithin (item_bytes x) bytes) (sym e) (filled_short (91 ∷ 130 ∷ []) (name_arg ∷ []) (n, tt) (λ b. SpellsItems is b) (items_bytes js) bytes all h (λ b small k. items_short is js b small k s))
+  item_short (processor n id block len is) j bytes all h (js, s, e) =
+      subst (λ x. HasWithin (item_bytes x) bytes) (sym e)
+      (filled_short (91 ∷ 131 ∷ []) (name_arg ∷ byte_arg ∷ dword_arg ∷ byte_arg ∷ []) (n, (id, (block, (len, tt)))) (λ b. SpellsItems is b) (items_bytes js) bytes all h (λ b small k. items_short is js b small k s))
+  item_short (power n level order is) j bytes all h (js, s, e) =
+      subst (λ x. HasWithin (item_bytes x) bytes) (sym e)
+      (filled_short (91 ∷ 132 ∷ []) (name_arg ∷ byte_arg ∷ word_arg ∷ []) (n, (level, (order, tt))) (λ b. SpellsItems is b) (items_bytes js) bytes all h (λ b small k. items_short is js b small k s))
+  item_short (thermal n is) j bytes all h (js, s, e) = subst (λ x. HasWithin (item_bytes x) bytes) (sym e) (filled_short (91 ∷ 133 ∷ []) (name_arg ∷ []) (n, tt) (λ b. SpellsItems is b) (items_bytes js) bytes all h (λ b small k. items_short is js b small k s))
+
+  items_short : (is js : ItemTrees) (bytes : List ℕ) → AreBytes bytes → SpellsItems is bytes → AreShortened is js → HasWithin (items_bytes js) bytes
+  items_short no_items js bytes all h e = rw (e, h) (omega arith)
+  items_short (item i is) js bytes all (a, b, first, rest, whole) (k, ks, s, t, e) =
+      let split = parts a b bytes whole all in
+      subst (λ x. HasWithin (items_bytes x) bytes) (sym e) (within_both (item_bytes k) (items_bytes ks) a b bytes (item_short i k a split.0 first s) (items_short is ks b split.1 rest t) whole)
+
+pub items_are_shortest : NoItemsAreShorter
+items_are_shortest is js bytes all h s = items_short is js bytes (recursion_from_All (λ b. b < 256) bytes all) h s
+
+-- ---- what is spelled has the values that a value in memory has
+
+pub number_below : (k n : ℕ) (b : List ℕ) → AreBytes b → SpellsNumber k n b → n < 256 ^ k
+number_below k n b all h = subst (λ m. m < 256 ^ k) h.1 (little_from-lt 0 k b (each b all))
+  where
+    each : (b : List ℕ) → AreBytes b → (i : ℕ) → slice_index b i < 256
+    each [] all i = omega arith
+    each (x ∷ b) all zero = all.0
+    each (x ∷ b) all (suc i) = each b all.1 i
+
+pub int_typed : (i : Int) (b : List ℕ) → AreBytes b → SpellsInt i b → IsIntTyped i
+int_typed (Word n) b all h = number_below 2 n h.0 (parts (11 ∷ []) h.0 b h.2 all).1 h.1
+int_typed (DWord n) b all h = number_below 4 n h.0 (parts (12 ∷ []) h.0 b h.2 all).1 h.1
+int_typed (QWord n) b all h = number_below 8 n h.0 (parts (14 ∷ []) h.0 b h.2 all).1 h.1
+int_typed _ b all h = tt
+
+argument_typed : (k : FixedArgument) (v : Value k) (b : List ℕ) → AreBytes b → SpellsArgument k v b → IsTyped k v
+argument_typed name_arg n b all h = h.is_name
+argument_typed source_arg n b all h = h.0.is_name
+argument_typed segment_arg s b all h = h.0
+argument_typed word_arg n b all h = number_below 2 n b all h
+argument_typed dword_arg n b all h = number_below 4 n b all h
+argument_typed const_arg i b all h = int_typed i b all h
+argument_typed int_arg i b all h = int_typed i b all h
+argument_typed byte_arg n b all h = tt
+argument_typed count_arg n b all h = tt
+argument_typed bits_arg n b all h = tt
+
+arguments_typed : (ks : List FixedArgument) (v : Values ks) (b : List ℕ) → AreBytes b → SpellsArguments ks v b → AreTyped ks v
+arguments_typed [] v b all h = tt
+arguments_typed (k ∷ ks) v b all (x, y, one, rest, whole) = let split = parts x y b whole all in (argument_typed k v.0 x split.0 one, arguments_typed ks v.1 y split.1 rest)
+
+plain_typed : (op : List ℕ) (ks : List FixedArgument) (v : Values ks) (bytes : List ℕ) → AreBytes bytes → SpellsPlain op ks v bytes → AreTyped ks v
+plain_typed op ks v bytes all h = arguments_typed ks v h.0 (parts op h.0 bytes h.2 all).1 h.1
+
+front_typed : (op : List ℕ) (ks : List FixedArgument) (v : Values ks) (Fills : List ℕ → Type 0) (bytes : List ℕ) → AreBytes bytes → SpellsPacked op ks v Fills bytes → AreTyped ks v
+front_typed op ks v Fills bytes all (a, b, front, fills, packs) = arguments_typed ks v a (parts a b (a ++ b) refl (packed op (a ++ b) bytes packs all)).0 front
+
+content_of : (op : List ℕ) (ks : List FixedArgument) (v : Values ks) (Fills : List ℕ → Type 0) (bytes : List ℕ) → AreBytes bytes → SpellsPacked op ks v Fills bytes → (b : List ℕ) × AreBytes b × Fills b
+content_of op ks v Fills bytes all (a, b, front, fills, packs) = (b, (parts a b (a ++ b) refl (packed op (a ++ b) bytes packs all)).1, fills)
+
+pub each_typed : {A : Type 0} (Spells : A → List ℕ → Type 0) (Holds : A → Type 0) → ((x : A) (b : List ℕ) → AreBytes b → Spells x b → Holds x)
+    → (xs : List A) (bytes : List ℕ) → AreBytes bytes → SpellsEach Spells xs bytes → AllByRecursion Holds xs
+each_typed Spells Holds one [] bytes all h = tt
+each_typed Spells Holds one (x ∷ xs) bytes all (a, b, first, rest, whole) = let split = parts a b bytes whole all in (one x a split.0 first, each_typed Spells Holds one xs b split.1 rest)
+
+mutual
+  data_typed : (d : DataTree) (bytes : List ℕ) → AreBytes bytes → SpellsData d bytes → IsDataTyped d
+  data_typed (int i) bytes all h = int_typed i bytes all h
+  data_typed (str text) bytes all h = tt
+  data_typed (buffer size content) bytes all h = (front_typed (17 ∷ []) (int_arg ∷ []) (size, tt) (λ b. b ≡ content) bytes all h).0
+  data_typed (pkg count es) bytes all h = let c = content_of (18 ∷ []) (byte_arg ∷ []) (count, tt) (λ b. SpellsElems es b) bytes all h in elems_typed es c.0 c.1 c.2
+  data_typed (var_pkg count es) bytes all h =
+      let c = content_of (19 ∷ []) (int_arg ∷ []) (count, tt) (λ b. SpellsElems es b) bytes all h in
+      ((front_typed (19 ∷ []) (int_arg ∷ []) (count, tt) (λ b. SpellsElems es b) bytes all h).0, elems_typed es c.0 c.1 c.2)
+
+  elem_typed : (e : ElemTree) (bytes : List ℕ) → AreBytes bytes → SpellsElem e bytes → IsElemTyped e
+  elem_typed (of_data d) bytes all h = data_typed d bytes all h
+  elem_typed (of_name n) bytes all h = h.0.is_name
+
+  elems_typed : (es : ElemTrees) (bytes : List ℕ) → AreBytes bytes → SpellsElems es bytes → AreElemsTyped es
+  elems_typed no_elems bytes all h = tt
+  elems_typed (elem e es) bytes all (a, b, first, rest, whole) = let split = parts a b bytes whole all in (elem_typed e a split.0 first, elems_typed es b split.1 rest)
+
+field_typed : (x : FieldTree) (bytes : List ℕ) → AreBytes bytes → SpellsField x bytes → IsFieldTyped x
+field_typed (unit s bits) bytes all h = (plain_typed [] (segment_arg ∷ bits_arg ∷ []) (s, (bits, tt)) bytes all h).0
+field_typed (connect_name n) bytes all h = (plain_typed (2 ∷ []) (name_arg ∷ []) (n, tt) bytes all h).0
+field_typed (connect_buffer size content) bytes all h = (front_typed (2 ∷ 17 ∷ []) (const_arg ∷ []) (size, tt) (λ b. b ≡ content) bytes all h).0
+field_typed (reserved bits) bytes all h = tt
+field_typed (access kind attribute) bytes all h = tt
+field_typed (extended kind attribute len) bytes all h = tt
+
+external_typed : (x : ExternalParts) (bytes : List ℕ) → AreBytes bytes → SpellsExternal x bytes → IsExternalTyped x
+external_typed x bytes all h = (plain_typed (21 ∷ []) (arguments opcodes.External) (x.name, (x.kind, (x.args, tt))) bytes all h).0
+
+units_typed : (op : List ℕ) (ks : List FixedArgument) (v : Values ks) (es : List FieldTree) (bytes : List ℕ) → AreBytes bytes → SpellsPacked op ks v (λ b. SpellsFields es b) bytes → AreTyped ks v × AllByRecursion IsFieldTyped es
+units_typed op ks v es bytes all h =
+    let c = content_of op ks v (λ b. SpellsFields es b) bytes all h in
+    (front_typed op ks v (λ b. SpellsFields es b) bytes all h, each_typed SpellsField IsFieldTyped field_typed es c.0 c.1 c.2)
+
+-- a package of items
+held_typed : (op : List ℕ) (ks : List FixedArgument) (v : Values ks) (is : ItemTrees) (bytes : List ℕ) → AreBytes bytes → SpellsPacked op ks v (λ b. SpellsItems is b) bytes → ((b : List ℕ) → AreBytes b → SpellsItems is b → AreItemsTyped is) → AreTyped ks v × AreItemsTyped is
+held_typed op ks v is bytes all h each =
+    let c = content_of op ks v (λ b. SpellsItems is b) bytes all h in
+    (front_typed op ks v (λ b. SpellsItems is b) bytes all h, each c.0 c.1 c.2)
+
+mutual
+  item_typed : (i : ItemTree) (bytes : List ℕ) → AreBytes bytes → SpellsItem i bytes → IsItemTyped i
+  item_typed (name n d) bytes all (a, b, named, fills, whole) = (named.is_name, data_typed d b (parts (8 ∷ a) b bytes whole all).1 fills)
+  item_typed (scope n is) bytes all h = held_typed (16 ∷ []) (name_arg ∷ []) (n, tt) is bytes all h (λ b small k. items_typed is b small k)
+  item_typed (method n flags code) bytes all h = front_typed (20 ∷ []) (name_arg ∷ byte_arg ∷ []) (n, (flags, tt)) (λ b. b ≡ code) bytes all h
+  item_typed (external x) bytes all h = external_typed x bytes all h
+  item_typed (external_block xs) bytes all (b, each, packs) = each_typed SpellsExternal IsExternalTyped external_typed xs b (parts (0 ∷ []) b (0 ∷ b) refl (packed (160 ∷ []) (0 ∷ b) bytes packs all)).1 each
+  item_typed (create w source index n) bytes all h = plain_typed (opcode_bytes (opcodes.Create w)) (arguments (opcodes.Create w)) (source, (index, (n, tt))) bytes all h
+  item_typed (create_field source index bits n) bytes all h = plain_typed (91 ∷ 19 ∷ []) (arguments opcodes.CreateField) (source, (index, (bits, (n, tt)))) bytes all h
+  item_typed (mutex n flags) bytes all h = plain_typed (91 ∷ 1 ∷ []) (arguments opcodes.Mutex) (n, (flags, tt)) bytes all h
+  item_typed (event n) bytes all h = plain_typed (91 ∷ 2 ∷ []) (arguments opcodes.Event) (n, tt) bytes all h
+  item_typed (region n space offset len) bytes all h = plain_typed (91 ∷ 128 ∷ []) (arguments opcodes.Region) (n, (space, (offset, (len, tt)))) bytes all h
+  item_typed (field r flags es) bytes all h = units_typed (91 ∷ 129 ∷ []) (name_arg ∷ byte_arg ∷ []) (r, (flags, tt)) es bytes all h
+  item_typed (index_field i d flags es) bytes all h = units_typed (91 ∷ 134 ∷ []) (name_arg ∷ name_arg ∷ byte_arg ∷ []) (i, (d, (flags, tt))) es bytes all h
+  item_typed (bank_field r bank value flags es) bytes all h = units_typed (91 ∷ 135 ∷ []) (name_arg ∷ name_arg ∷ int_arg ∷ byte_arg ∷ []) (r, (bank, (value, (flags, tt)))) es bytes all h
+  item_typed (device n is) bytes all h = held_typed (91 ∷ 130 ∷ []) (name_arg ∷ []) (n, tt) is bytes all h (λ b small k. items_typed is b small k)
+  item_typed (processor n id block len is) bytes all h = held_typed (91 ∷ 131 ∷ []) (name_arg ∷ byte_arg ∷ dword_arg ∷ byte_arg ∷ []) (n, (id, (block, (len, tt)))) is bytes all h (λ b small k. items_typed is b small k)
+  item_typed (power n level order is) bytes all h = held_typed (91 ∷ 132 ∷ []) (name_arg ∷ byte_arg ∷ word_arg ∷ []) (n, (level, (order, tt))) is bytes all h (λ b small k. items_typed is b small k)
+  item_typed (thermal n is) bytes all h = held_typed (91 ∷ 133 ∷ []) (name_arg ∷ []) (n, tt) is bytes all h (λ b small k. items_typed is b small k)
+
+  items_typed : (is : ItemTrees) (bytes : List ℕ) → AreBytes bytes → SpellsItems is bytes → AreItemsTyped is
+  items_typed no_items bytes all h = tt
+  items_typed (item i is) bytes all (a, b, first, rest, whole) = let split = parts a b bytes whole all in (item_typed i a split.0 first, items_typed is b split.1 rest)
+
+pub items_are_typed : SpelledItemsAreTyped
+items_are_typed is bytes all h = items_typed is bytes (recursion_from_All (λ b. b < 256) bytes all) h
