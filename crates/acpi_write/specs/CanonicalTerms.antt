@@ -1,5 +1,5 @@
 -- The one spelling of the terms of a method body that is written (ACPI 6.5, 20.2.5): the shortest of each part.
-use Rattle.std.specs.Prelude.{◌+◌, ◌%◌, ℕ, List, [], ◌∷◌, ◌++◌, Option, Some}
+use Rattle.std.specs.Prelude.{◌+◌, ℕ, List, [], ◌∷◌, ◌++◌, Option, Some}
 use Rattle.std.specs.Fmt.{option_append}
 use Rattle.byteorder.specs.Endian.{little_bytes}
 use Rattle.acpi_name.specs.Names.{NameParts}
@@ -22,8 +22,8 @@ abbrev mutual
   term_bytes (buffer size content) = filled_with (0x11 ∷ []) [] (option_append (term_bytes size) (Some content))
   term_bytes (pkg count es) = filled_with (0x12 ∷ []) (count ∷ []) (terms_bytes es)
   term_bytes (var_pkg count es) = filled_with (0x13 ∷ []) [] (option_append (term_bytes count) (terms_bytes es))
-  term_bytes (local n) = Some (((n + 0x60) % 256) ∷ [])
-  term_bytes (arg n) = Some (((n + 0x68) % 256) ∷ [])
+  term_bytes (local n) = Some (little_bytes 1 (n + 0x60))
+  term_bytes (arg n) = Some (little_bytes 1 (n + 0x68))
   term_bytes debug = Some (0x5B ∷ 0x31 ∷ [])
   term_bytes no_target = Some (0x00 ∷ [])
   term_bytes (raw k n) = Some (little_bytes k n)
