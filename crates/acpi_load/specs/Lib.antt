@@ -6,6 +6,9 @@ pub use Rattle.acpi_declare.specs.Refusals
 pub use Rattle.acpi_declare.specs.DeclaredView
 pub use Rattle.acpi_order.specs.Bodies
 pub use Rattle.acpi_order.specs.Machines
+pub use Rattle.acpi_order.specs.Joins
+pub use Rattle.acpi_order.specs.Singles
 pub mod MachineView
+pub mod SingleView
 pub mod Explaining
 pub mod steps

@@ -24,12 +24,18 @@
 #![tactic(auto)]
 
 mod bodies;
+mod joining;
 mod machine;
+mod pair;
 mod reasons;
+mod singles;
 
 pub use acpi_declare::{Declared, LoadFault, LoadReason, Refusal, declare, declare_shared, laws};
+pub use joining::join;
 pub use machine::{Machine, load, load_shared};
+pub use pair::{single, single_shared};
 pub use reasons::{explain, explain_shared};
+pub use singles::{Awaited, Single};
 
 #[cfg(test)]
 mod tests;
