@@ -12,3 +12,4 @@ pub mod CodeFaults
 pub mod TableListings
 pub mod TableLists
 pub mod Refusals
+pub mod LinkMisses

@@ -5,13 +5,14 @@ use Rattle.acpi_name.specs.Paths.{place_of}
 use Rattle.acpi_space.specs.Lookups.{is_defined_in, nothing, singleton, union}
 use Rattle.acpi_space.specs.Search.{missed}
 use Rattle.acpi_tree.specs.Objects.{ObjectTree}
+use Rattle.acpi_declare.specs.Declaring.{pending_for}
 use Rattle.acpi_declare.specs.Links.{PendingLink}
 use Rattle.acpi_declare.specs.Namespace.{Namespace}
 use Rattle.acpi_declare.specs.Notes.{Method, Notes, count_at}
 use Rattle.acpi_declare.specs.Placing.{declared_path}
 use Rattle.acpi_declare.specs.Sites.{step, declares_alone, declares, opens, expects}
 use Rattle.acpi_declare.specs.steps.Pass.{Pass, Passing, no_notes, note_of, joined, after, placement, ◌>>=◌, take_step, take_steps}
-use Rattle.acpi_declare.specs.steps.View.{pending_for, with_count, with_method, with_missed}
+use Rattle.acpi_declare.specs.steps.View.{with_count, with_method, with_missed}
 use Rattle.acpi_declare.proofs.Unions.{union-nothing, union_assoc}
 
 -- ---- notes

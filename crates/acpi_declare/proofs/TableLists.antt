@@ -1,5 +1,7 @@
 -- Table after table.
-use Rattle.std.proofs.Common.{◌≡◌, ℕ, suc, ◌+◌, List, [], ◌∷◌, ◌++◌, length, refl, sym, ap, subst, ◌∙◌, append_assoc, append-nil, arith}
+use Rattle.std.proofs.Common.{◌≡◌, ℕ, suc, ◌+◌, List, [], ◌∷◌, ◌++◌, length, Result, IfOk, IfErr, refl, sym, ap, subst, ◌∙◌, append_assoc, append-nil, arith}
+use Rattle.acpi_declare.specs.Declaring.{State, HasTables}
+use Rattle.std.proofs.lemmas.Result.{MatchResult-weaker}
 use Rattle.acpi_declare.specs.declared.fault.LoadFault.{LoadFault}
 use Rattle.acpi_declare.specs.declared.fault.LoadFault.TheVariants.{At, Memory}
 use Rattle.acpi_space.specs.Lookups.{union}
@@ -12,7 +14,7 @@ use Rattle.acpi_declare.specs.Predefined.{predefined}
 use Rattle.acpi_declare.specs.Refusals.{IsLoadReason, IsLoadFault}
 use Rattle.acpi_declare.specs.Sites.{sites}
 use Rattle.acpi_declare.specs.Tables.{IsTableOf}
-use Rattle.acpi_declare.specs.steps.Adding.{State, AddsTable, HasTables}
+use Rattle.acpi_declare.specs.steps.Adding.{AddsTable}
 use Rattle.acpi_declare.specs.steps.Outcomes.{IsTableFault}
 
 -- the listings of some tables and of one more behind them
@@ -76,3 +78,27 @@ next_fault depth number bs later all b before (At k reason) splits e so h = reco
   where
     refused : IsLoadReason depth k (objects_after predefined so.placements) b reason
     refused = subst (λ n. IsLoadReason depth n (objects_after predefined so.placements) b reason) (sym h.0) (subst (λ (m : Namespace). IsLoadReason depth number m b reason) so.objects_are h.1)
+
+-- ---- as many notes as tables
+
+count_listings : (depth k : ℕ) (objects : Namespace) (bs : List (List ℕ)) (ts : List (List Placement)) → AreListings depth k objects bs ts → length ts ≡ length bs
+count_listings depth k objects [] [] h = refl
+count_listings depth k objects (b ∷ bs) (t ∷ ts) h = ap suc (count_listings depth (suc k) (union objects (objects_of t)) bs ts h.1)
+count_listings depth k objects [] (t ∷ ts) h = absurd h
+count_listings depth k objects (b ∷ bs) [] h = absurd h
+
+count_notes : (objects : Namespace) (ts : List (List Placement)) → length (all_notes objects ts) ≡ length ts
+count_notes objects [] = refl
+count_notes objects (t ∷ ts) = ap suc (count_notes (union objects (objects_of t)) ts)
+
+pub count_tables : (depth : ℕ) (bs : List (List ℕ)) (now : State) → HasTables depth bs now → length now.notes ≡ length bs
+count_tables depth bs now so = ap length so.notes_are ∙ count_notes predefined so.placements ∙ count_listings depth 0 predefined bs so.placements so.listings
+
+-- ---- what the addition of a table tells
+
+module _ {T : Type 0} (state : T → State) (depth number : ℕ) (bs : List (List ℕ)) (b : List ℕ) (before : State) (r : Result T LoadFault) (e : number ≡ length bs) (so : HasTables depth bs before) where
+  pub adds_ok : IfOk r (λ d. AddsTable depth number b before (state d)) → IfOk r (λ d. HasTables depth (bs ++ b ∷ []) (state d))
+  adds_ok h = MatchResult-weaker r h (λ d a. one_more depth number bs b before (state d) e so a) (λ f u. u)
+
+  pub adds_err : IfErr r (λ f. IsTableFault depth number before.objects b f) → (later : List (List ℕ)) → IfErr r (λ f. IsLoadFault depth (bs ++ b ∷ later) f)
+  adds_err h later = MatchResult-weaker r h (λ d u. u) (λ f t. next_fault depth number bs later (bs ++ b ∷ later) b before f refl e so t)

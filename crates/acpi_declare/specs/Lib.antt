@@ -9,5 +9,6 @@ pub mod Tables
 pub mod Loads
 pub mod Refusals
 pub mod DeclaredView
+pub mod Declaring
 pub mod Laws
 pub mod steps

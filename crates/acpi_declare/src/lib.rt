@@ -15,6 +15,7 @@
 //! ```
 #![tactic(auto)]
 
+mod declaring;
 mod fault;
 pub mod laws;
 mod links;
@@ -24,6 +25,7 @@ mod pass;
 mod placing;
 mod predefined;
 
+pub use declaring::Declaring;
 pub use fault::{LoadFault, LoadReason, Refusal};
 pub use load::{Declared, declare, declare_shared, shared_tables};
 pub use notes::{Method, TableNotes};

@@ -1,17 +1,21 @@
 //! The links of fields and buffer fields, searched over the final objects.
 
-ghost use Rattle.std.specs.Prelude.{◌≡◌, IfOk, IfErr, OnOk};
+ghost use Rattle.std.specs.Prelude.{◌≡◌, ◌++◌, ◌↔◌, List, IfOk, IfErr, OnOk};
 ghost use Rattle.std.specs.FinMap as finite;
-ghost use Rattle.acpi_space.specs.Search.{answer};
+ghost use Rattle.acpi_name.specs.Names.{Segment};
+ghost use Rattle.acpi_space.specs.Laws.{Among};
+ghost use Rattle.acpi_space.specs.Search.{answer, missed};
 ghost use Rattle.acpi_space.specs.Lookups.{is_defined_in, union};
+ghost use Rattle.acpi_declare.specs.Declaring.{IsMissedLink, all_pending_of};
 ghost use Rattle.acpi_declare.specs.Namespace.{namespace_of};
 ghost use Rattle.acpi_declare.specs.Links.{answers, links_of, link_map, links_at};
-ghost use Rattle.acpi_declare.specs.steps.View.{all_pending_of, links_with};
+ghost use Rattle.acpi_declare.specs.steps.View.{links_with};
+ghost use Rattle.acpi_declare.specs.steps.Missing.{misses_from};
 
 use crate::fault::LoadFault;
 use crate::pass::PendingLinks;
 use acpi_name::{Name, Path};
-use acpi_space::{Found, SearchFault, Space, search};
+use acpi_space::{Found, SearchFault, Space, misses, search};
 use acpi_terms::Object;
 use std::alloc::{AllocError, Global};
 use std::collections::BTreeMap;
@@ -111,4 +115,55 @@ pub(crate) fn linked<S: Space<Object>>(
         put_links(alloc, &mut links, link.paths, &found)?;
     }
     Ok(links)
+}
+
+// The paths that the search of one name misses.
+fn misses_of_name<S: Space<Object>>(
+    alloc: Global,
+    objects: &S,
+    scope: &Path,
+    name: &Name,
+) -> Result<Vec<Path>, AllocError>
+    ensures { IfOk result (λ v. v.items ≡ missed (is_defined_in (namespace_of (S.contents objects.now))) scope.now name.now) }
+{
+    match misses(alloc, objects, scope, name.view()) {
+        Ok(paths) => Ok(paths),
+        Err(SearchFault::AboveRoot) => Ok(Vec::new(alloc)),
+        Err(SearchFault::Memory) => Err(AllocError),
+    }
+}
+
+// Adds the paths that the searches of some names miss.
+fn add_misses<S: Space<Object>>(
+    alloc: Global,
+    objects: &S,
+    scope: &Path,
+    names: &[Name],
+    missed: &mut Vec<Path>,
+) -> Result<(), AllocError>
+    ensures { OnOk result (missed.new.items ≡ missed.old.items ++ misses_from (namespace_of (S.contents objects.now)) scope.now names.now) }
+{
+    for name in names {
+        let mut paths = misses_of_name(alloc, objects, scope, name)?;
+        missed.append(&mut paths)?;
+    }
+    Ok(())
+}
+
+/// The paths that the searches of all links that are pending miss.
+pub(crate) fn misses_of_links<S: Space<Object>>(
+    alloc: Global,
+    objects: &S,
+    pending: &[PendingLinks],
+) -> Result<Vec<Path>, AllocError>
+    ensures { IfOk result (λ v. (p : List Segment) → Among v.items p ↔ IsMissedLink (namespace_of (S.contents objects.now)) (all_pending_of pending.now) p) }
+{
+    let mut missed = Vec::new(alloc);
+    for link in pending {
+        // A field list without a named unit has no links.
+        if !link.paths.is_empty() {
+            add_misses(alloc, objects, &link.scope, &link.names, &mut missed)?;
+        }
+    }
+    Ok(missed)
 }

@@ -4,6 +4,7 @@ ghost use Rattle.std.specs.Prelude.{◌≡◌, ◌≢◌, ◌∷◌, [], ◌≤�
 ghost use Rattle.acpi_tree.specs.Fits.{items_fit};
 ghost use Rattle.acpi_tree.specs.Offsets.{OffsetsFit};
 ghost use Rattle.acpi_tree.specs.View.{items_tree};
+ghost use Rattle.acpi_declare.specs.Declaring.{HasTables, state_of};
 ghost use Rattle.acpi_declare.specs.Namespace.{Namespace, namespace_of};
 ghost use Rattle.acpi_declare.specs.Links.{links_at};
 ghost use Rattle.acpi_declare.specs.Notes.{notes_of};
@@ -11,13 +12,13 @@ ghost use Rattle.acpi_declare.specs.Tables.{signature_of, IsTableOf};
 ghost use Rattle.acpi_declare.specs.Loads.{IsLoad, AreNotes, HasNoLoad};
 ghost use Rattle.acpi_declare.specs.Refusals.{HasOtherSignature, IsLoadReason, IsLoadFault};
 ghost use Rattle.acpi_declare.specs.DeclaredView.{objects_in, links_in, notes_in};
-ghost use Rattle.acpi_declare.specs.steps.Adding.{AddsTable, HasTables, state_of};
+ghost use Rattle.acpi_declare.specs.steps.Adding.{AddsTable};
 ghost use Rattle.acpi_declare.specs.steps.Outcomes.{IsCodeOf, IsTableFault};
 
+use crate::declaring::Declaring;
 use crate::fault::{LoadFault, LoadReason, Stop};
-use crate::links::linked;
 use crate::notes::TableNotes;
-use crate::pass::{Pass, PendingLinks};
+use crate::pass::Pass;
 use crate::predefined::predefined_space;
 use acpi_name::Path;
 use acpi_space::Space;
@@ -31,9 +32,9 @@ use std::collections::BTreeMap;
 /// the bodies of its methods.
 #[derive(Drop)]
 pub struct Declared<S> {
-    objects: S,
-    links: BTreeMap<Path, Vec<Option<Path>>>,
-    notes: Vec<TableNotes>,
+    pub(crate) objects: S,
+    pub(crate) links: BTreeMap<Path, Vec<Option<Path>>>,
+    pub(crate) notes: Vec<TableNotes>,
 }
 
 impl<S> Declared<S> {
@@ -75,14 +76,6 @@ impl<S> Declared<S> {
         } = self;
         (objects, links, notes)
     }
-}
-
-// What was declared so far.
-#[derive(Drop)]
-struct Loaded<S> {
-    objects: S,
-    links: Vec<PendingLinks>,
-    notes: Vec<TableNotes>,
 }
 
 fn refused(table: usize, reason: LoadReason) -> LoadFault
@@ -156,19 +149,19 @@ fn table_items(
     }
 }
 
-// Declares the items of table `number` over what is there.
-fn add_table<S: Space<Object>>(
+/// Declares the items of table `number` over what is there.
+pub(crate) fn add_table<S: Space<Object>>(
     alloc: Global,
-    loaded: Loaded<S>,
+    loaded: Declaring<S>,
     number: usize,
     bytes: &Bytes,
     depth: Depth,
-) -> Result<Loaded<S>, LoadFault>
+) -> Result<Declaring<S>, LoadFault>
     ensures ok { IfOk result (λ r. AddsTable depth number bytes.now (state_of (S.contents loaded.objects) loaded) (state_of (S.contents r.objects) r)) }
     ensures err { IfErr result (λ e. IsTableFault depth number (namespace_of (S.contents loaded.objects)) bytes.now e) }
 {
     let items = table_items(alloc, number, bytes, depth)?;
-    let Loaded {
+    let Declaring {
         objects,
         links,
         notes,
@@ -189,7 +182,7 @@ fn add_table<S: Space<Object>>(
         Err(Stop::Memory) => return Err(LoadFault::Memory),
     }
     notes.push(pass.notes)?;
-    Ok(Loaded {
+    Ok(Declaring {
         objects: pass.objects,
         links: pass.links,
         notes,
@@ -210,17 +203,7 @@ pub fn declare_shared<S: Space<Object>>(
     ensures err { IfErr result (λ e. IsLoadFault depth (dsdt.now ∷ ssdts.now) e) }
     ensures none { IfErr result (λ e. e ≢ LoadFault.Memory → HasNoLoad depth (dsdt.now ∷ ssdts.now)) }
 {
-    let Loaded {
-        objects,
-        links,
-        notes,
-    } = declare_all(alloc, dsdt, ssdts, depth)?;
-    let links = linked(alloc, &objects, links)?;
-    Ok(Declared {
-        objects,
-        links,
-        notes,
-    })
+    declare_all(alloc, dsdt, ssdts, depth)?.finish(alloc)
 }
 
 /// Each table's bytes, once more: copies that can be shared.
@@ -251,12 +234,12 @@ pub fn declare<S: Space<Object>>(
     declare_shared(alloc, &dsdt, &ssdts, depth)
 }
 
-// The predefined objects, and nothing else.
-fn start<S: Space<Object>>(alloc: Global) -> Result<Loaded<S>, LoadFault>
+/// The predefined objects, and nothing else.
+pub(crate) fn start<S: Space<Object>>(alloc: Global) -> Result<Declaring<S>, LoadFault>
     ensures ok { IfOk result (λ r. HasTables 0 [] (state_of (S.contents r.objects) r)) }
     ensures memory { IfErr result (λ e. e ≡ LoadFault.Memory) }
 {
-    Ok(Loaded {
+    Ok(Declaring {
         objects: predefined_space(alloc)?,
         links: Vec::new(alloc),
         notes: Vec::new(alloc),
@@ -269,7 +252,7 @@ fn declare_all<S: Space<Object>>(
     dsdt: &Bytes,
     ssdts: &[Bytes],
     depth: Depth,
-) -> Result<Loaded<S>, LoadFault>
+) -> Result<Declaring<S>, LoadFault>
     ensures ok { IfOk result (λ r. HasTables depth (dsdt.now ∷ ssdts.now) (state_of (S.contents r.objects) r)) }
     ensures err { IfErr result (λ e. IsLoadFault depth (dsdt.now ∷ ssdts.now) e) }
 {

@@ -7,12 +7,13 @@ ghost use Rattle.acpi_tree.specs.Objects.{object_view, method_object};
 ghost use Rattle.acpi_tree.specs.Fits.{external_fits, item_fits, items_fit};
 ghost use Rattle.acpi_tree.specs.Offsets.{element_bits, list_bits, OffsetFits, OffsetsFit};
 ghost use Rattle.acpi_tree.specs.View.{item_view, items_tree, external_view, externals_view, field_view, fields_view};
+ghost use Rattle.acpi_declare.specs.Declaring.{all_pending_of, pending_from, pending_for};
 ghost use Rattle.acpi_declare.specs.Namespace.{namespace_of};
 ghost use Rattle.acpi_declare.specs.Sites.{step, declares_alone, declares, opens, is_leaf, own_steps, external_step, external_steps, unit_step, unit_name, unit_steps};
 ghost use Rattle.acpi_declare.specs.Placing.{declared_path, opened_path};
 ghost use Rattle.acpi_declare.specs.Notes.{notes_of};
 ghost use Rattle.acpi_declare.specs.steps.Pass.{after, placement, take_step, take_steps, pass_item, pass_items};
-ghost use Rattle.acpi_declare.specs.steps.View.{pass_of, pass_with, all_pending_of, pending_from, pending_for, with_method};
+ghost use Rattle.acpi_declare.specs.steps.View.{pass_of, pass_with, with_method};
 ghost use Rattle.acpi_declare.specs.steps.Outcomes.{IsStopOf};
 
 use crate::fault::Stop;

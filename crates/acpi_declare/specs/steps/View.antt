@@ -4,26 +4,12 @@ use Rattle.acpi_name.specs.Names.{Segment, NameParts}
 use Rattle.acpi_space.specs.Spaces.{PathMap}
 use Rattle.acpi_space.specs.Lookups.{Lookup, nothing, singleton, union}
 use Rattle.acpi_tree.specs.declared.object.Object.{Object}
-use Rattle.acpi_declare.specs.declared.pass.PendingLinks as code_links
 use Rattle.acpi_declare.specs.declared.pass.Pass as code
 use Rattle.acpi_declare.specs.Namespace.{namespace_of}
+use Rattle.acpi_declare.specs.Declaring.{all_pending_of}
 use Rattle.acpi_declare.specs.Links.{PendingLink, Links}
 use Rattle.acpi_declare.specs.Notes.{Method, Notes, notes_of}
 use Rattle.acpi_declare.specs.steps.Pass.{Pass}
-
-abbrev pub pending_for : List Segment → List Segment → List NameParts → PendingLink
-pending_for p s names = record { path = p; scope = s; names = names }
-
--- the links of several paths that have the same names, searched from one scope
-abbrev pub pending_from : List Segment → List NameParts → List (List Segment) → List PendingLink
-pending_from s names paths = map (λ p. pending_for p s names) paths
-
-abbrev pub pending_of : code_links.PendingLinks → List PendingLink
-pending_of w = pending_from w.scope w.names.items w.paths.items
-
-abbrev pub all_pending_of : List code_links.PendingLinks → List PendingLink
-all_pending_of [] = []
-all_pending_of (w ∷ ws) = pending_of w ++ all_pending_of ws
 
 abbrev pub pass_of : {S : Type 0} → PathMap Object → code.Pass S → Pass
 pass_of objects t = record { objects = namespace_of objects; links = all_pending_of t.links.items; notes = notes_of t.notes }

@@ -1,11 +1,12 @@
 use Rattle.std.proofs.Common.{◌≡◌, ◌∙◌, ◌∷◌, List, length, map, ap, sym, rules}
 use Rattle.std.proofs.lemmas.List.{nil_from_length}
 use Rattle.std.specs.Vec.Iter.{into_iter_items}
+use Rattle.acpi_declare.specs.Declaring.{all_pending_of}
 use Rattle.acpi_declare.specs.declared.pass.PendingLinks.{PendingLinks}
 use Rattle.acpi_space.specs.Lookups.{union}
 use Rattle.acpi_declare.specs.Links.{answers, Links, links_of, links_at}
 use Rattle.acpi_declare.specs.Namespace.{namespace_of}
-use Rattle.acpi_declare.specs.steps.View.{all_pending_of, links_with}
+use Rattle.acpi_declare.specs.steps.View.{links_with}
 use Rattle.acpi_declare.proofs.PendingLinks.{links_move, no_links}
 use Rattle.acpi_declare.proofs.links.linked.Goals as goal
 

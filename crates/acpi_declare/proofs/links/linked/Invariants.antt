@@ -1,9 +1,9 @@
 use Rattle.std.proofs.Common.{◌≡◌}
 use Rattle.std.specs.Vec.Iter.{into_iter_items}
 use Rattle.acpi_space.specs.Lookups.{union}
+use Rattle.acpi_declare.specs.Declaring.{all_pending_of}
 use Rattle.acpi_declare.specs.Links.{links_of, links_at}
 use Rattle.acpi_declare.specs.Namespace.{namespace_of}
-use Rattle.acpi_declare.specs.steps.View.{all_pending_of}
 use Rattle.acpi_declare.proofs.links.linked.Given as goal
 
 abbrev pub invariant-loop-link : goal.invariant-loop-link

@@ -3,9 +3,10 @@ use Rattle.std.proofs.lemmas.Result.{err_from_is_err_and}
 use Rattle.std.proofs.lemmas.List.{map-append}
 use Rattle.acpi_name.specs.Names.{Segment}
 use Rattle.acpi_tree.specs.View.{items_tree}
+use Rattle.acpi_declare.specs.Declaring.{state_of}
 use Rattle.acpi_declare.specs.Namespace.{namespace_of}
 use Rattle.acpi_declare.specs.Notes.{Notes, notes_of}
-use Rattle.acpi_declare.specs.steps.Adding.{AddsTable, state_of}
+use Rattle.acpi_declare.specs.steps.Adding.{AddsTable}
 use Rattle.acpi_declare.specs.steps.Pass.{pass_items}
 use Rattle.acpi_declare.specs.steps.Outcomes.{IsTableFault, IsStopOf}
 use Rattle.acpi_declare.specs.steps.View.{pass_of}

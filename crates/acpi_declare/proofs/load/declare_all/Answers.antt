@@ -1,7 +1,7 @@
 use Rattle.std.proofs.Common.{◌≡◌, ◌∙◌, ◌++◌, ◌∷◌, ◌+◌, ◌<◌, [], take, drop, length, ap, sym, subst, refl, arith}
 use Rattle.std.proofs.lemmas.Result.{err_from_is_err_and}
 use Rattle.std.proofs.lemmas.List.{drop_more, take_more, take-append-drop, length-take-le}
-use Rattle.acpi_declare.specs.steps.Adding.{HasTables, state_of}
+use Rattle.acpi_declare.specs.Declaring.{HasTables, state_of}
 use Rattle.acpi_declare.proofs.TableLists.{one_more, no_tables, next_fault}
 use Rattle.acpi_declare.proofs.load.declare_all.Goals as goal
 

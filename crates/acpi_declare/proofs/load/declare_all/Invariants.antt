@@ -1,5 +1,5 @@
 use Rattle.std.proofs.Common.{◌∷◌, take}
-use Rattle.acpi_declare.specs.steps.Adding.{HasTables, state_of}
+use Rattle.acpi_declare.specs.Declaring.{HasTables, state_of}
 use Rattle.acpi_declare.proofs.load.declare_all.Given as goal
 
 abbrev pub invariant-loop-i : goal.invariant-loop-i

@@ -1,7 +1,8 @@
 use Rattle.std.proofs.Common.{ap}
 use Rattle.acpi_tree.specs.Objects.{object_view}
+use Rattle.acpi_declare.specs.Declaring.{all_pending_of}
 use Rattle.acpi_declare.specs.Notes.{notes_of}
-use Rattle.acpi_declare.specs.steps.View.{pass_of, all_pending_of}
+use Rattle.acpi_declare.specs.steps.View.{pass_of}
 use Rattle.acpi_declare.proofs.PassSteps.{declared_plainly}
 use Rattle.acpi_declare.proofs.pass.Pass.declare.Goals as goal
 

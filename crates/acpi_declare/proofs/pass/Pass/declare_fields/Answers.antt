@@ -1,9 +1,10 @@
 use Rattle.std.proofs.Common.{◌≡◌, ◌∙◌, ◌++◌, List, ap, sym}
 use Rattle.acpi_name.specs.Names.{Segment, NameParts}
 use Rattle.acpi_tree.specs.View.{fields_view}
+use Rattle.acpi_declare.specs.Declaring.{all_pending_of, pending_from}
 use Rattle.acpi_declare.specs.Sites.{Step, unit_steps}
 use Rattle.acpi_declare.specs.steps.Pass.{Pass, take_steps}
-use Rattle.acpi_declare.specs.steps.View.{pass_of, pass_with, all_pending_of, pending_from}
+use Rattle.acpi_declare.specs.steps.View.{pass_of, pass_with}
 use Rattle.acpi_declare.proofs.PassSteps.{passed, with_nothing, with_links}
 use Rattle.acpi_declare.proofs.PendingLinks.{one_more_pending}
 use Rattle.acpi_declare.proofs.pass.Pass.declare_fields.Goals as goal

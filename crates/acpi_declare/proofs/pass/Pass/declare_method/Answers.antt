@@ -1,6 +1,7 @@
 use Rattle.std.proofs.Common.{ap}
 use Rattle.acpi_tree.specs.Objects.{method_object}
-use Rattle.acpi_declare.specs.steps.View.{pass_of, all_pending_of}
+use Rattle.acpi_declare.specs.Declaring.{all_pending_of}
+use Rattle.acpi_declare.specs.steps.View.{pass_of}
 use Rattle.acpi_declare.proofs.PassSteps.{declared_method}
 use Rattle.acpi_declare.proofs.pass.Pass.declare_method.Goals as goal
 

@@ -1,10 +1,11 @@
 use Rattle.std.proofs.Common.{◌∙◌, List, ap, sym}
 use Rattle.acpi_name.specs.Names.{Segment}
 use Rattle.acpi_tree.specs.Objects.{object_view}
+use Rattle.acpi_declare.specs.Declaring.{all_pending_of}
 use Rattle.acpi_declare.specs.Notes.{notes_of}
 use Rattle.acpi_declare.specs.Sites.{step, declares_alone}
 use Rattle.acpi_declare.specs.steps.Pass.{after, placement}
-use Rattle.acpi_declare.specs.steps.View.{pass_of, all_pending_of}
+use Rattle.acpi_declare.specs.steps.View.{pass_of}
 use Rattle.acpi_declare.proofs.PassSteps.{declared_scope}
 use Rattle.acpi_declare.proofs.pass.Pass.declare_scope.Goals as goal
 

@@ -1,8 +1,9 @@
 use Rattle.std.proofs.Common.{ap}
 use Rattle.acpi_tree.specs.Objects.{object_view}
+use Rattle.acpi_declare.specs.Declaring.{all_pending_of, pending_from}
 use Rattle.acpi_declare.specs.Notes.{notes_of}
 use Rattle.acpi_declare.specs.Sites.{unit_name}
-use Rattle.acpi_declare.specs.steps.View.{pass_with, all_pending_of, pending_from}
+use Rattle.acpi_declare.specs.steps.View.{pass_with}
 use Rattle.acpi_declare.proofs.PassSteps.{declared_linked}
 use Rattle.acpi_declare.proofs.PendingLinks.{unit_links}
 use Rattle.acpi_declare.proofs.pass.Pass.declare_unit.Goals as goal

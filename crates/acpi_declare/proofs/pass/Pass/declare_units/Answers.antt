@@ -5,7 +5,8 @@ use Rattle.std.specs.Global.{Vec}
 use Rattle.acpi_name.specs.Names.{Segment}
 use Rattle.acpi_tree.specs.View.{field_view, fields_view}
 use Rattle.acpi_tree.specs.declared.tree.FieldElem.{FieldElem}
-use Rattle.acpi_declare.specs.steps.View.{pass_with, pending_from}
+use Rattle.acpi_declare.specs.Declaring.{pending_from}
+use Rattle.acpi_declare.specs.steps.View.{pass_with}
 use Rattle.acpi_declare.specs.Sites.{Step, unit_step, unit_steps}
 use Rattle.acpi_declare.specs.steps.Pass.{take_steps}
 use Rattle.acpi_tree.specs.Offsets.{element_bits}

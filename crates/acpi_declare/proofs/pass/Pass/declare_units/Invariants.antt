@@ -1,7 +1,8 @@
 use Rattle.std.proofs.Common.{◌≡◌, ◌+◌, drop}
 use Rattle.acpi_tree.specs.Offsets.{list_bits}
 use Rattle.acpi_tree.specs.View.{fields_view}
-use Rattle.acpi_declare.specs.steps.View.{pass_with, pending_from}
+use Rattle.acpi_declare.specs.Declaring.{pending_from}
+use Rattle.acpi_declare.specs.steps.View.{pass_with}
 use Rattle.acpi_declare.specs.Sites.{unit_steps}
 use Rattle.acpi_declare.specs.steps.Pass.{take_steps}
 use Rattle.acpi_declare.proofs.pass.Pass.declare_units.Given as goal

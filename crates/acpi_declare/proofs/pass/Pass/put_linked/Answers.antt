@@ -1,6 +1,6 @@
 use Rattle.std.proofs.Common.{◌∙◌, ◌∷◌, [], ◌++◌, List, ap}
 use Rattle.acpi_name.specs.Names.{Segment}
-use Rattle.acpi_declare.specs.steps.View.{all_pending_of, pending_from, pending_for}
+use Rattle.acpi_declare.specs.Declaring.{all_pending_of, pending_from, pending_for}
 use Rattle.acpi_declare.proofs.PendingLinks.{one_more_pending}
 use Rattle.acpi_declare.proofs.pass.Pass.put_linked.Goals as goal
 

@@ -1,0 +1,109 @@
+-- What the searches of pending links miss, one after another.
+use Rattle.std.proofs.Common.{◌≡◌, ◌≢◌, ◌⊎◌, ◌↔◌, inl, inr, List, [], ◌∷◌, ◌++◌, refl, sym, ap, subst, ◌∙◌}
+use Rattle.acpi_name.specs.Names.{Segment, NameParts}
+use Rattle.acpi_space.specs.Laws.{Among}
+use Rattle.acpi_space.specs.Lookups.{is_defined_in}
+use Rattle.acpi_space.specs.Search.{missed}
+use Rattle.acpi_declare.specs.declared.pass.PendingLinks.{PendingLinks}
+use Rattle.acpi_declare.specs.Declaring.{IsMissedLink, pending_from, pending_of, all_pending_of}
+use Rattle.acpi_declare.specs.Links.{PendingLink}
+use Rattle.acpi_declare.specs.Namespace.{Namespace}
+use Rattle.acpi_declare.specs.steps.Missing.{misses_from}
+use Rattle.acpi_declare.proofs.PendingLinks.{one_more_pending}
+
+-- ---- one of two lists
+
+pub among_either : {X : Type 0} (xs ys : List X) (x : X) → Among (xs ++ ys) x → Among xs x ⊎ Among ys x
+among_either [] ys x i = inr i
+among_either (z ∷ xs) ys x (inl e) = inl (inl e)
+among_either (z ∷ xs) ys x (inr i) = by (among_either xs ys x i)
+  where
+    by : Among xs x ⊎ Among ys x → Among (z ∷ xs) x ⊎ Among ys x
+    by (inl j) = inl (inr j)
+    by (inr j) = inr j
+
+pub among_both : {X : Type 0} (xs ys : List X) (x : X) → Among xs x ⊎ Among ys x → Among (xs ++ ys) x
+among_both [] ys x (inl i) = absurd i
+among_both [] ys x (inr i) = i
+among_both (z ∷ xs) ys x (inl (inl e)) = inl e
+among_both (z ∷ xs) ys x (inl (inr i)) = inr (among_both xs ys x (inl i))
+among_both (z ∷ xs) ys x (inr i) = inr (among_both xs ys x (inr i))
+
+-- ---- the names of a link
+
+module _ (objects : Namespace) (s : List Segment) where
+  abbrev IsMissedName : List NameParts → List Segment → Type 0
+  IsMissedName ns p = (n : NameParts) × Among ns n × Among (missed (is_defined_in objects) s n) p
+
+  pub some_name : (ns : List NameParts) (p : List Segment) → Among (misses_from objects s ns) p → IsMissedName ns p
+  some_name [] p i = absurd i
+  some_name (n ∷ ns) p i = by (some_name ns p) (among_either (missed (is_defined_in objects) s n) (misses_from objects s ns) p i)
+    where
+      by : (Among (misses_from objects s ns) p → IsMissedName ns p) → Among (missed (is_defined_in objects) s n) p ⊎ Among (misses_from objects s ns) p → IsMissedName (n ∷ ns) p
+      by more (inl j) = (n, inl refl, j)
+      by more (inr j) = let r = more j in (r.0, inr r.1, r.2)
+
+  pub any_name : (ns : List NameParts) (p : List Segment) (n : NameParts) → Among ns n → Among (missed (is_defined_in objects) s n) p → Among (misses_from objects s ns) p
+  any_name [] p n i j = absurd i
+  any_name (m ∷ ns) p n (inl e) j =
+      among_both (missed (is_defined_in objects) s m) (misses_from objects s ns) p (inl (subst (λ (k : NameParts). Among (missed (is_defined_in objects) s k) p) (sym e) j))
+  any_name (m ∷ ns) p n (inr i) j = among_both (missed (is_defined_in objects) s m) (misses_from objects s ns) p (inr (any_name ns p n i j))
+
+-- ---- the links of several paths
+
+-- they all have that scope and those names
+alike : (s : List Segment) (ns : List NameParts) (ps : List (List Segment)) (w : PendingLink) → Among (pending_from s ns ps) w → (w.scope ≡ s) × (w.names ≡ ns)
+alike s ns [] w i = absurd i
+alike s ns (p ∷ ps) w (inl e) = (ap (λ (v : PendingLink). v.scope) (sym e), ap (λ (v : PendingLink). v.names) (sym e))
+alike s ns (p ∷ ps) w (inr i) = alike s ns ps w i
+
+to_names : (objects : Namespace) (s : List Segment) (ns : List NameParts) (ps : List (List Segment)) (p : List Segment) → IsMissedLink objects (pending_from s ns ps) p → Among (misses_from objects s ns) p
+to_names objects s ns ps p r =
+    let a = alike s ns ps r.0 r.1 in
+    any_name objects s ns p r.2 (subst (λ (l : List NameParts). Among l r.2) a.1 r.3) (subst (λ (t : List Segment). Among (missed (is_defined_in objects) t r.2) p) a.0 r.4)
+
+from_names : (objects : Namespace) (s : List Segment) (ns : List NameParts) (ps : List (List Segment)) → ps ≢ [] → (p : List Segment) → Among (misses_from objects s ns) p → IsMissedLink objects (pending_from s ns ps) p
+from_names objects s ns [] some p i = absurd (some refl)
+from_names objects s ns (q ∷ ps) some p i = let r = some_name objects s ns p i in (record { path = q; scope = s; names = ns }, inl refl, r.0, r.1, r.2)
+
+-- ---- the links so far, and one more
+
+module _ (objects : Namespace) (ws : List PendingLinks) (w : PendingLinks) (before : List (List Segment)) (are : (p : List Segment) → Among before p ↔ IsMissedLink objects (all_pending_of ws) p) where
+  earlier : (p : List Segment) → IsMissedLink objects (all_pending_of ws) p → IsMissedLink objects (all_pending_of ws ++ pending_of w) p
+  earlier p r = (r.0, among_both (all_pending_of ws) (pending_of w) r.0 (inl r.1), r.2, r.3, r.4)
+
+  this : (p : List Segment) → IsMissedLink objects (pending_of w) p → IsMissedLink objects (all_pending_of ws ++ pending_of w) p
+  this p r = (r.0, among_both (all_pending_of ws) (pending_of w) r.0 (inr r.1), r.2, r.3, r.4)
+
+  either : (p : List Segment) → IsMissedLink objects (all_pending_of ws ++ pending_of w) p → IsMissedLink objects (all_pending_of ws) p ⊎ IsMissedLink objects (pending_of w) p
+  either p r = by (among_either (all_pending_of ws) (pending_of w) r.0 r.1)
+    where
+      by : Among (all_pending_of ws) r.0 ⊎ Among (pending_of w) r.0 → IsMissedLink objects (all_pending_of ws) p ⊎ IsMissedLink objects (pending_of w) p
+      by (inl i) = inl (r.0, i, r.2, r.3, r.4)
+      by (inr i) = inr (r.0, i, r.2, r.3, r.4)
+
+  abbrev AreMissed : List (List Segment) → List PendingLink → Type 0
+  AreMissed items links = (p : List Segment) → Among items p ↔ IsMissedLink objects links p
+
+  pub with_paths : (after : List (List Segment)) → w.paths.items ≢ [] → after ≡ before ++ misses_from objects w.scope w.names.items → AreMissed after (all_pending_of (ws ++ w ∷ []))
+  with_paths after some e =
+      subst (λ (l : List (List Segment)). AreMissed l (all_pending_of (ws ++ w ∷ []))) (sym e)
+      (subst (AreMissed (before ++ misses_from objects w.scope w.names.items)) (sym (one_more_pending ws w)) (λ p. (
+        (λ i. to p (among_either before (misses_from objects w.scope w.names.items) p i)),
+        (λ r. from p (either p r)),
+      )))
+    where
+      to : (p : List Segment) → Among before p ⊎ Among (misses_from objects w.scope w.names.items) p → IsMissedLink objects (all_pending_of ws ++ pending_of w) p
+      to p (inl i) = earlier p ((are p).0 i)
+      to p (inr i) = this p (from_names objects w.scope w.names.items w.paths.items some p i)
+
+      from : (p : List Segment) → IsMissedLink objects (all_pending_of ws) p ⊎ IsMissedLink objects (pending_of w) p → Among (before ++ misses_from objects w.scope w.names.items) p
+      from p (inl r) = among_both before (misses_from objects w.scope w.names.items) p (inl ((are p).1 r))
+      from p (inr r) = among_both before (misses_from objects w.scope w.names.items) p (inr (to_names objects w.scope w.names.items w.paths.items p r))
+
+  pub without_paths : w.paths.items ≡ [] → AreMissed before (all_pending_of (ws ++ w ∷ []))
+  without_paths none = subst (AreMissed before) (sym (one_more_pending ws w)) (λ p. ((λ i. earlier p ((are p).0 i)), (λ r. back p (either p r))))
+    where
+      back : (p : List Segment) → IsMissedLink objects (all_pending_of ws) p ⊎ IsMissedLink objects (pending_of w) p → Among before p
+      back p (inl r) = (are p).1 r
+      back p (inr r) = absurd (subst (λ (ps : List (List Segment)). Among (pending_from w.scope w.names.items ps) r.0) none r.1)
