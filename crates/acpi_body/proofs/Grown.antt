@@ -58,7 +58,7 @@ grows_then a b c P Q f g p = (λ h. to ((g p).0 h), from)
     from (inr (inr h)) = (g p).1 (inr h)
 
 -- one path more
-grows_local : (m : Paths) (q : List Segment) → Grows m (with_local m q) (λ p. q ≡ p)
+pub grows_local : (m : Paths) (q : List Segment) → Grows m (with_local m q) (λ p. q ≡ p)
 grows_local m q p = by (is_defined m q) refl
   where
     put : (b : Bool) → is_same_path p q ≡ b → IsTrue (is_some (cond b (Some tt) (get m p))) ↔ (IsTrue (is_defined m p) ⊎ (q ≡ p))
@@ -163,14 +163,14 @@ read_firm c g ts none p =
 -- ---- counts that are awaited
 
 -- they are those of the Externals at the paths with P
-abbrev Holds : Lookup ℕ → PathMap ℕ → (List Segment → Type 0) → Type 0
+abbrev pub Holds : Lookup ℕ → PathMap ℕ → (List Segment → Type 0) → Type 0
 Holds externals m P = (p : List Segment) (n : ℕ) → (get m p ≡ Some n) ↔ (P p × (externals p ≡ Some n))
 
-holds_as : (externals : Lookup ℕ) (m : PathMap ℕ) (P Q : List Segment → Type 0) → ((p : List Segment) → P p ↔ Q p) → Holds externals m P → Holds externals m Q
+pub holds_as : (externals : Lookup ℕ) (m : PathMap ℕ) (P Q : List Segment → Type 0) → ((p : List Segment) → P p ↔ Q p) → Holds externals m P → Holds externals m Q
 holds_as externals m P Q same h p n = (λ e. let r : P p × (externals p ≡ Some n) = (h p n).0 e in ((same p).0 r.0, r.1), λ r. (h p n).1 ((same p).1 r.0, r.1))
 
 -- the count of an External more
-one_count : (externals : Lookup ℕ) (m : PathMap ℕ) (P : List Segment → Type 0) (q : List Segment) (k : ℕ) → externals q ≡ Some k → Holds externals m P
+pub one_count : (externals : Lookup ℕ) (m : PathMap ℕ) (P : List Segment → Type 0) (q : List Segment) (k : ℕ) → externals q ≡ Some k → Holds externals m P
     → Holds externals (with_first m q (unwrap_or (externals q) 0)) (λ p. P p ⊎ (q ≡ p))
 one_count externals m P q k there h = by (get m q) refl
   where

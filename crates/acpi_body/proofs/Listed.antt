@@ -39,7 +39,7 @@ true_of : (b : Bool) → T b → IsTrue b
 true_of true h = refl
 true_of false h = absurd h
 
-rising : {V : Type 0} (m : PathMap V) → IsStrictlySortedBy path_cmp (map (λ e. e.0) (entries m))
+pub rising : {V : Type 0} (m : PathMap V) → IsStrictlySortedBy path_cmp (map (λ e. e.0) (entries m))
 rising m = ascend (entries m) (true_of (is_sorted path_cmp (entries m)) (entries_sorted m))
 
 -- ---- what stands in them
@@ -64,7 +64,7 @@ above_all k (e ∷ es) p v a (inr h) = above_all k es p v a.1 h
 not_above : (k p : List Segment) → p ≡ k → path_cmp k p ≡ Less → ⊥
 not_above k p e h = true≢false (sym ((path_eq_Decides k p).1 (sym e)) ∙ ap is_eq h)
 
-pair_found : {V : Type 0} (es : List (List Segment × V)) (p : List Segment) (v : V) → IsStrictlySortedBy path_cmp (map (λ e. e.0) es) → Among es (p, v) ↔ (find path_cmp p es ≡ Some v)
+pub pair_found : {V : Type 0} (es : List (List Segment × V)) (p : List Segment) (v : V) → IsStrictlySortedBy path_cmp (map (λ e. e.0) es) → Among es (p, v) ↔ (find path_cmp p es ≡ Some v)
 unfolding IsStrictlySortedBy
 pair_found [] p v rise = (λ h. absurd h, λ h. absurd (true≢false (sym (ap is_some h))))
 pair_found {V} (e ∷ es) p v rise = by (is_same_path p e.0) refl (pair_found es p v rise.1)
@@ -100,7 +100,7 @@ paths_ascend m items e = subst (IsStrictlySortedBy path_cmp) (sym e) (rising m)
 abbrev pub pair_of : OpenMiss → List Segment × ℕ
 pair_of o = (o.path, o.count)
 
-pair_among : (items : List OpenMiss) (p : List Segment) (n : ℕ) → Among items (record { path = p; count = n }) ↔ Among (map pair_of items) (p, n)
+pub pair_among : (items : List OpenMiss) (p : List Segment) (n : ℕ) → Among items (record { path = p; count = n }) ↔ Among (map pair_of items) (p, n)
 pair_among [] p n = (λ h. h, λ h. h)
 pair_among (o ∷ items) p n = (to (pair_among items p n).0, from (pair_among items p n).1)
   where

@@ -17,8 +17,12 @@ use acpi_terms::{Depth, Object};
 use std::alloc::{AllocError, Global};
 use std::collections::BTreeMap;
 
-// The body of one path.
-fn put_body(bodies: &mut BTreeMap<Path, Body>, path: Path, body: Body) -> Result<(), AllocError>
+/// The body of one path.
+pub(crate) fn put_body(
+    bodies: &mut BTreeMap<Path, Body>,
+    path: Path,
+    body: Body,
+) -> Result<(), AllocError>
     ensures { OnOk result (body_map bodies.new ≡ finite.insert (body_map bodies.old) path (body_view body)) }
 {
     match bodies.insert(path, body) {

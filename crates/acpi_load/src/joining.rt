@@ -23,6 +23,5 @@ pub fn join<S: Space<Object>>(
     // It is there exactly where there are machines, and no two of them disagree.
     ensures none { IfOk result (λ r. (r ≡ None) ↔ ((singles.now ≡ []) ⊎ (AllAgree (map (λ s. machine_of (S.contents (objects_in (machine_in s))) (machine_in s)) singles.now) → ⊥))) }
 {
-    let _singles = (alloc, singles);
     Err(AllocError)
 }

@@ -27,7 +27,9 @@ mod bodies;
 mod joining;
 mod machine;
 mod pair;
+mod paths;
 mod reasons;
+mod searches;
 mod singles;
 
 pub use acpi_declare::{Declared, LoadFault, LoadReason, Refusal, declare, declare_shared, laws};

@@ -22,9 +22,9 @@ use std::collections::BTreeMap;
 /// What tables load to: the namespace, the links of its fields, and the bodies of its methods (ACPI 6.5, 5.3).
 #[derive(Drop)]
 pub struct Machine<S> {
-    objects: S,
-    links: BTreeMap<Path, Vec<Option<Path>>>,
-    bodies: BTreeMap<Path, Body>,
+    pub(crate) objects: S,
+    pub(crate) links: BTreeMap<Path, Vec<Option<Path>>>,
+    pub(crate) bodies: BTreeMap<Path, Body>,
 }
 
 impl<S> Machine<S> {

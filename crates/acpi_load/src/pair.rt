@@ -26,7 +26,6 @@ pub fn single_shared<S: Space<Object>>(
     ensures err { IfErr result (λ e. IsLoadFault depth (dsdt.now ∷ ssdt.now ∷ []) e) }
     ensures none { IfErr result (λ e. e ≢ LoadFault.Memory → HasNoLoad depth (dsdt.now ∷ ssdt.now ∷ [])) }
 {
-    let _tables = (alloc, dsdt, ssdt, depth);
     Err(LoadFault::Memory)
 }
 
