@@ -44,7 +44,7 @@ rising m = ascend (entries m) (true_of (is_sorted path_cmp (entries m)) (entries
 
 -- ---- what stands in them
 
-key_found : {V : Type 0} (es : List (List Segment × V)) (p : List Segment) → Among (map (λ e. e.0) es) p ↔ IsTrue (is_some (find path_cmp p es))
+pub key_found : {V : Type 0} (es : List (List Segment × V)) (p : List Segment) → Among (map (λ e. e.0) es) p ↔ IsTrue (is_some (find path_cmp p es))
 key_found [] p = (λ h. absurd h, λ h. absurd (true≢false (sym h)))
 key_found (e ∷ es) p = by (is_same_path p e.0) refl (key_found es p)
   where

@@ -4,3 +4,7 @@ pub mod Explained
 pub mod Orders
 pub mod PathSets
 pub mod Searched
+pub mod DefinedPaths
+pub mod MissedPaths
+pub mod AwaitedMethods
+pub mod SingleLoads

@@ -7,9 +7,12 @@ ghost use Rattle.acpi_order.specs.Singles.{IsSingle};
 ghost use Rattle.acpi_load.specs.MachineView.{objects_in, machine_of};
 ghost use Rattle.acpi_load.specs.SingleView.{machine_in, defined_in, missed_in, awaits_in};
 
+use crate::machine::Machine;
+use crate::paths::{add_paths, keep_new, paths_of};
+use crate::searches::{Told, search_tables};
 use crate::singles::Single;
-use acpi_declare::LoadFault;
-use acpi_space::Space;
+use acpi_declare::{Declaring, LoadFault};
+use acpi_space::{MapSpace, Space};
 use acpi_terms::{Depth, Object};
 use bytes::Bytes;
 use std::alloc::Global;
@@ -26,7 +29,32 @@ pub fn single_shared<S: Space<Object>>(
     ensures err { IfErr result (λ e. IsLoadFault depth (dsdt.now ∷ ssdt.now ∷ []) e) }
     ensures none { IfErr result (λ e. e ≢ LoadFault.Memory → HasNoLoad depth (dsdt.now ∷ ssdt.now ∷ [])) }
 {
-    Err(LoadFault::Memory)
+    let first: Declaring<S> = Declaring::dsdt(alloc, dsdt, depth)?;
+    let mut known = MapSpace::new(alloc);
+    add_paths(&mut known, paths_of(alloc, first.objects())?)?;
+    let both = first.with_ssdt(alloc, ssdt, depth)?;
+    let mut defined = paths_of(alloc, both.objects())?;
+    keep_new(&mut defined, &known);
+    let mut missed = MapSpace::new(alloc);
+    add_paths(&mut missed, both.link_misses(alloc)?)?;
+    let (objects, links, notes) = both.finish(alloc)?.into_parts();
+    let Told {
+        bodies,
+        missed,
+        awaited,
+    } = search_tables(alloc, &objects, notes, depth, missed)?;
+    let missed = paths_of(alloc, &missed)?;
+    let machine = Machine {
+        objects,
+        links,
+        bodies,
+    };
+    Ok(Single {
+        machine,
+        defined,
+        missed,
+        awaited,
+    })
 }
 
 /// The same as `single_shared`, over one copy of each table.
