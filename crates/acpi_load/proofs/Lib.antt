@@ -8,3 +8,7 @@ pub mod DefinedPaths
 pub mod MissedPaths
 pub mod AwaitedMethods
 pub mod SingleLoads
+pub mod AscendingPaths
+pub mod FirstClash
+pub mod AloneLoads
+pub mod FoundVerdict

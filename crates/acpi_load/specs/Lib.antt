@@ -10,5 +10,6 @@ pub use Rattle.acpi_order.specs.Joins
 pub use Rattle.acpi_order.specs.Singles
 pub mod MachineView
 pub mod SingleView
+pub mod VerdictView
 pub mod Explaining
 pub mod steps

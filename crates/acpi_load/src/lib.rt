@@ -23,7 +23,10 @@
 //! ```
 #![tactic(auto)]
 
+mod alone;
 mod bodies;
+mod clashes;
+mod commuting;
 mod joining;
 mod machine;
 mod pair;
@@ -31,13 +34,16 @@ mod paths;
 mod reasons;
 mod searches;
 mod singles;
+mod verdicts;
 
 pub use acpi_declare::{Declared, LoadFault, LoadReason, Refusal, declare, declare_shared, laws};
+pub use commuting::{verdict, verdict_shared};
 pub use joining::join;
 pub use machine::{Machine, load, load_shared};
 pub use pair::{single, single_shared};
 pub use reasons::{explain, explain_shared};
 pub use singles::{Awaited, Single};
+pub use verdicts::{Satisfied, Verdict};
 
 #[cfg(test)]
 mod tests;

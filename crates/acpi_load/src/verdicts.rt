@@ -1,0 +1,41 @@
+//! What is told of SSDTs over a DSDT: whether they commute, and which Externals of one another they satisfy.
+
+use acpi_declare::LoadFault;
+use acpi_name::Path;
+
+/// Whether SSDTs commute over a DSDT: given in any order, they load to the union of their single loads (ACPI 6.5,
+/// 5.2.11). SSDTs are numbered from 1.
+#[derive(Debug, Drop)]
+pub enum Verdict {
+    /// The first SSDT that doesn't load over the DSDT alone, and why; the fault has the same number.
+    NotAlone {
+        ssdt: usize,
+        fault: LoadFault,
+    },
+    /// The first two SSDTs that declare one path, and the first such path.
+    Same {
+        first: usize,
+        second: usize,
+        path: Path,
+    },
+    /// The first two SSDTs of which the load of the one missed what the other declares, and the first such path.
+    Missed {
+        searcher: usize,
+        definer: usize,
+        path: Path,
+    },
+    /// None of these: they load alike in any order.
+    Commute,
+}
+
+/// An External of a table that an SSDT satisfies (ACPI 6.5, 20.2.5.2 DefExternal): a body of the user awaits a method,
+/// and the definer declares one of as many arguments at its path.
+#[derive(Debug, Drop)]
+pub struct Satisfied {
+    /// The table of the body: 0 is the DSDT, and SSDTs are numbered from 1.
+    pub user: usize,
+    /// The SSDT that declares the method, from 1.
+    pub definer: usize,
+    /// The path of the method.
+    pub path: Path,
+}
