@@ -68,7 +68,7 @@ number_within f xs (suc i) y h = let more = place_within f xs i y h in omega ari
 
 -- ---- what is unmet
 
-and_both : (a b : Bool) → a && b ≡ true → (a ≡ true) × (b ≡ true)
+pub and_both : (a b : Bool) → a && b ≡ true → (a ≡ true) × (b ≡ true)
 and_both true b e = (refl, e)
 and_both false b e = cc
 
@@ -109,7 +109,7 @@ of_unmet : (s r : SingleTree) (p : List Segment) → Among s.missed p ⊎ IsOthe
 of_unmet s r p (inl m) = ap (λ b. b || awaits_other s.awaited p (r.machine.objects p)) (among_has s.missed p m)
 of_unmet s r p (inr h) = or_true (has s.missed p) (awaits_other s.awaited p (r.machine.objects p)) (of_other s.awaited p (r.machine.objects p) h)
 
-any_seen : {X Y : Type 0} (test : Y → Bool) (f : X → Y) (xs : List X) → list_any (λ x. test (f x)) xs ≡ list_any test (map f xs)
+pub any_seen : {X Y : Type 0} (test : Y → Bool) (f : X → Y) (xs : List X) → list_any (λ x. test (f x)) xs ≡ list_any test (map f xs)
 any_seen test f [] = refl
 any_seen test f (x ∷ xs) = ap (λ b. test (f x) || b) (any_seen test f xs)
 

@@ -12,3 +12,7 @@ pub mod AscendingPaths
 pub mod FirstClash
 pub mod AloneLoads
 pub mod FoundVerdict
+pub mod MetLists
+pub mod AwaitsAlone
+pub mod SatisfiedBy
+pub mod SatisfiedTables

@@ -11,5 +11,6 @@ pub use Rattle.acpi_order.specs.Singles
 pub mod MachineView
 pub mod SingleView
 pub mod VerdictView
+pub mod SatisfiedView
 pub mod Explaining
 pub mod steps

@@ -24,6 +24,7 @@
 #![tactic(auto)]
 
 mod alone;
+mod awaits;
 mod bodies;
 mod clashes;
 mod commuting;
@@ -33,6 +34,7 @@ mod pair;
 mod paths;
 mod reasons;
 mod searches;
+mod satisfying;
 mod singles;
 mod verdicts;
 
@@ -42,6 +44,7 @@ pub use joining::join;
 pub use machine::{Machine, load, load_shared};
 pub use pair::{single, single_shared};
 pub use reasons::{explain, explain_shared};
+pub use satisfying::{satisfied, satisfied_shared};
 pub use singles::{Awaited, Single};
 pub use verdicts::{Satisfied, Verdict};
 

@@ -1,0 +1,24 @@
+use Rattle.std.proofs.Common.{◌≡◌, ◌∷◌, ◌+◌, ◌++◌, nat_eq, false, List, drop, map, sym, ap, ◌∙◌, arith}
+use Rattle.std.proofs.lemmas.Bool.Decides.{nat_tests}
+use Rattle.std.proofs.lemmas.List.{drop_more}
+use Rattle.acpi_load.specs.declared.singles.Single.{Single}
+use Rattle.acpi_load.specs.declared.verdicts.Satisfied.{Satisfied}
+use Rattle.acpi_load.specs.SingleView.{awaited_view}
+use Rattle.acpi_load.specs.steps.Clashing.{single_tree, single_trees}
+use Rattle.acpi_load.specs.steps.Meeting.{met_from}
+use Rattle.acpi_load.proofs.MetLists.{from_more}
+use Rattle.acpi_load.proofs.satisfying.add_user.Goals as goal
+
+pub loop-k-preserved : goal.loop-k-preserved
+loop-k-preserved g c =
+    let k = c.loop-k.k in
+    let singles = c.args.singles.now in
+    let x = c.index-singles-k.result in
+    let ws = map awaited_view c.args.awaited.now in
+    let found = c.loop-k.found.items in
+    let contents = g.S.Space.contents in
+    let here : drop k singles ≡ x ∷ drop (k + 1) singles = drop_more singles k x (grind arith) ∙ ap (λ y. y ∷ drop (k + 1) singles) (sym c.index-singles-k.is) in
+    let other : nat_eq (k + 1) c.args.user ≡ false = grind (arith, nat_tests) in
+    ap (λ (ts : List Satisfied). ts ++ met_from c.args.user ws (k + 1 + 1) (single_trees contents (drop (k + 1) singles))) c.in_ok-add_met.ensures
+    ∙ from_more c.args.user ws (k + 1) (single_tree contents x) found (single_trees contents (drop (k + 1) singles)) other
+    ∙ ap (λ (l : List (Single _)). found ++ met_from c.args.user ws (k + 1) (single_trees contents l)) (sym here) ∙ c.loop-k.invariant
