@@ -16,3 +16,9 @@ pub mod MetLists
 pub mod AwaitsAlone
 pub mod SatisfiedBy
 pub mod SatisfiedTables
+pub mod Recoded
+pub mod Relisted
+pub mod Rewritten
+pub mod Recoding
+pub mod SpelledCodes
+pub mod Shortened

@@ -13,4 +13,6 @@ pub mod SingleView
 pub mod VerdictView
 pub mod SatisfiedView
 pub mod Explaining
+pub mod Rewriting
+pub mod RewritingLaws
 pub mod steps

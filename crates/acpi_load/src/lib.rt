@@ -33,8 +33,10 @@ mod machine;
 mod pair;
 mod paths;
 mod reasons;
-mod searches;
+mod rewriting;
+pub mod rewriting_laws;
 mod satisfying;
+mod searches;
 mod singles;
 mod verdicts;
 
@@ -44,9 +46,12 @@ pub use joining::join;
 pub use machine::{Machine, load, load_shared};
 pub use pair::{single, single_shared};
 pub use reasons::{explain, explain_shared};
+pub use rewriting::{rewrite, rewrite_shared};
 pub use satisfying::{satisfied, satisfied_shared};
 pub use singles::{Awaited, Single};
 pub use verdicts::{Satisfied, Verdict};
 
+#[cfg(test)]
+mod rewriting_tests;
 #[cfg(test)]
 mod tests;

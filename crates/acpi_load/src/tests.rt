@@ -59,7 +59,7 @@ const UNREAD: [(&[&[u8]], &[&[u8]], usize); 7] = [
 ];
 
 // A whole table of this signature and code.
-fn table(alloc: Global, signature: [u8; 4], parts: &[&[u8]]) -> Result<Bytes, Fail> {
+pub(crate) fn table(alloc: Global, signature: [u8; 4], parts: &[&[u8]]) -> Result<Bytes, Fail> {
     let mut code = Vec::new(alloc);
     for part in parts {
         code.extend_from_slice(*part)?;
@@ -79,7 +79,7 @@ fn table(alloc: Global, signature: [u8; 4], parts: &[&[u8]]) -> Result<Bytes, Fa
 }
 
 // SSDTs of these codes.
-fn tables(alloc: Global, codes: &[&[u8]]) -> Result<Vec<Bytes>, Fail> {
+pub(crate) fn tables(alloc: Global, codes: &[&[u8]]) -> Result<Vec<Bytes>, Fail> {
     let mut tables = Vec::new(alloc);
     for code in codes {
         tables.push(table(alloc, *b"SSDT", &[*code])?)?;
