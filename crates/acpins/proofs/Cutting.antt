@@ -11,7 +11,7 @@ use Rattle.acpi_table.specs.declared.tables.TableFault.{TableFault}
 use Rattle.acpins.specs.Hexadecimal.{SpellsInHex}
 use Rattle.acpins.specs.Input.{FileBytes, Stores, AreTablesIn, AreTablesOf, AddsTablesOf, BreaksOff, IsReadFault, IsFileFault, IsFilesFault}
 use Rattle.acpins.specs.declared.failure.Failure.{Failure}
-use Rattle.acpins.specs.declared.failure.Failure.TheVariants.{WrongWords, BadPath, NoSuchPath, NoTable, Read, BadHex, Output, Table, Item, Load, Memory}
+use Rattle.acpins.specs.declared.failure.Failure.TheVariants.{WrongWords, BadPath, NoSuchPath, NoTable, Read, BadHex, Out, Output, Table, Item, Load, Memory}
 
 -- ---- bytes that are taken, piece by piece
 
@@ -99,6 +99,7 @@ fault_from_hex name known bytes before NoSuchPath spells fault = absurd fault
 fault_from_hex name known bytes before NoTable spells fault = absurd fault
 fault_from_hex name known bytes before (Read word) spells fault = fault
 fault_from_hex name known bytes before (BadHex word) spells fault = absurd (cc (fault.1))
+fault_from_hex name known bytes before (Out word) spells fault = absurd fault
 fault_from_hex name known bytes before Output spells fault = absurd fault
 fault_from_hex name known bytes before (Table number reason) spells fault = (fault.0, fault.1, breaks_in_hex known bytes fault.0 reason spells fault.2)
 fault_from_hex name known bytes before (Item number reason place) spells fault = absurd fault
@@ -113,6 +114,7 @@ read_is_file_fault hex name known before NoSuchPath fault = absurd fault
 read_is_file_fault hex name known before NoTable fault = absurd fault
 read_is_file_fault hex name known before (Read word) fault = fault
 read_is_file_fault hex name known before (BadHex word) fault = absurd fault
+read_is_file_fault hex name known before (Out word) fault = absurd fault
 read_is_file_fault hex name known before Output fault = absurd fault
 read_is_file_fault hex name known before (Table number reason) fault = absurd fault
 read_is_file_fault hex name known before (Item number reason place) fault = absurd fault

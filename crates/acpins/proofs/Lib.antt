@@ -3,3 +3,4 @@ pub mod Printing
 pub mod LinksAt
 pub mod Merging
 pub mod Telling
+pub mod Verdicts

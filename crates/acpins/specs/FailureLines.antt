@@ -9,8 +9,9 @@ use Rattle.acpi_declare.specs.declared.fault.Refusal.{Refusal}
 use Rattle.acpi_declare.specs.declared.fault.Refusal.TheVariants as refusals
 use Rattle.acpi_declare.specs.declared.fault.LoadReason.{LoadReason}
 use Rattle.acpi_declare.specs.declared.fault.LoadReason.TheVariants as reasons
+use Rattle.acpins.specs.Failures.{place_in_table}
 use Rattle.acpins.specs.declared.failure.Failure.{Failure}
-use Rattle.acpins.specs.declared.failure.Failure.TheVariants.{WrongWords, BadPath, NoSuchPath, NoTable, Read, BadHex, Output, Table, Item, Load, Memory}
+use Rattle.acpins.specs.declared.failure.Failure.TheVariants.{WrongWords, BadPath, NoSuchPath, NoTable, Read, BadHex, Out, Output, Table, Item, Load, Memory}
 
 -- why no table stands there
 abbrev pub table_fault_text : TableFault → List ℕ
@@ -55,6 +56,11 @@ load_reason_text reasons.Trailing = codes "L3 Trailing"
 load_reason_text (reasons.Item reason place) = item_reason_text reason
 load_reason_text (reasons.Refused refusal path) = refusal_text refusal ++ codes " " ++ path_text path
 
+-- .. with the place of a reason in its code, in the table
+abbrev pub fault_text : LoadReason → List ℕ
+fault_text (reasons.Item reason place) = item_reason_text reason ++ codes " at " ++ decimal (place_in_table place)
+fault_text reason = load_reason_text reason
+
 -- what fails in a table, by the table's number
 abbrev pub in_table : ℕ → List ℕ → List ℕ
 in_table number what = codes "table " ++ decimal number ++ codes ": " ++ what
@@ -67,6 +73,7 @@ failure_text NoSuchPath = codes "no such path"
 failure_text NoTable = codes "no table"
 failure_text (Read file) = file.now ++ codes ": cannot be read"
 failure_text (BadHex file) = file.now ++ codes ": bad hexadecimal text"
+failure_text (Out file) = file.now ++ codes ": cannot be written"
 failure_text Output = codes "standard output cannot be written"
 failure_text (Table number fault) = in_table number (table_fault_text fault)
 failure_text (Item number reason place) = in_table number (item_reason_text reason ++ codes " at " ++ decimal place)

@@ -1,17 +1,20 @@
 -- What a run prints and says, and why it prints nothing (docs/COMMAND.md).
-use Rattle.std.specs.Prelude.{◌≡◌, ◌≢◌, ◌⊎◌, ℕ, List, [], Option, Some, None}
+use Rattle.std.specs.Prelude.{◌≡◌, ◌≢◌, ◌⊎◌, ◌∷◌, ℕ, List, [], Option, Some, None}
 use Rattle.std.specs.Io.KnownBytes.{Appends}
 use Rattle.acpi_name.specs.Names.{Segment}
 use Rattle.acpi_name.specs.Text.{SpellsPathText, IsPathText}
 use Rattle.acpi_order.specs.Machines.{Machine}
+use Rattle.acpi_load.specs.Rewriting.{AreRewritten}
 use Rattle.acpi_declare.specs.Refusals.{IsLoadFault}
 use Rattle.acpi_declare.specs.declared.fault.LoadFault.{LoadFault}
 use Rattle.acpins.specs.declared.failure.Failure.{Failure}
-use Rattle.acpins.specs.declared.failure.Failure.TheVariants.{WrongWords, BadPath, NoSuchPath, NoTable, Read, BadHex, Output, Table, Item, Load, Memory}
-use Rattle.acpins_words.specs.Words.{Text, Command, listing, showing, Asked, asked_of}
+use Rattle.acpins.specs.declared.failure.Failure.TheVariants.{WrongWords, BadPath, NoSuchPath, NoTable, Read, BadHex, Out, Output, Table, Item, Load, Memory}
+use Rattle.acpins_words.specs.Words.{Text, Command, listing, showing, checking, rewriting, Asked, asked_of}
 use Rattle.acpins.specs.Input.{FileBytes, AreTablesOf, IsFilesFault, IsLoadOfFiles}
 use Rattle.acpins.specs.Listings.{Prints}
 use Rattle.acpins.specs.Shown.{Shows}
+use Rattle.acpins.specs.Checked.{Checks}
+use Rattle.acpins.specs.Rewritten.{IsUnwritten}
 use Rattle.acpins.specs.Failures.{failure_of, status_of}
 use Rattle.acpins.specs.FailureLines.{failure_line}
 
@@ -33,17 +36,34 @@ pub record IsShowing (bytes_of : FileBytes) (asked : Asked) (word : Text) (text 
   pub loaded : IsLoadOfFiles bytes_of asked.hex asked.depth asked.files tables machine
   pub printed : Shows asked.depth tables machine path text
 
-abbrev pub IsPrinted : FileBytes → Asked → Command → List ℕ → Type 0
-IsPrinted bytes_of asked listing text = IsListing bytes_of asked text
-IsPrinted bytes_of asked (showing word) text = IsShowing bytes_of asked word text
+-- the text and the status are those of the verdict on the SSDTs in the files, over the DSDT, the first of all tables
+pub record IsChecking (bytes_of : FileBytes) (asked : Asked) (status : ℕ) (text : List ℕ) : Type 0 where
+  pub dsdt : List ℕ
+  pub ssdts : List (List ℕ)
+  pub of_files : AreTablesOf bytes_of asked.hex asked.files (dsdt ∷ ssdts)
+  pub checked : Checks asked.depth dsdt ssdts status text
+
+-- the tables in the files, and the same in their shortest spelling
+pub record IsRewriting (bytes_of : FileBytes) (asked : Asked) : Type 0 where
+  pub tables : List (List ℕ)
+  pub of_files : AreTablesOf bytes_of asked.hex asked.files tables
+  pub rewritten : List (List ℕ)
+  pub are : AreRewritten asked.depth tables rewritten
+
+-- What is printed, and the status with which the run ends then. Rewritten tables are written to a file, and nothing is printed.
+abbrev pub IsPrinted : FileBytes → Asked → Command → ℕ → List ℕ → Type 0
+IsPrinted bytes_of asked listing status text = (status ≡ 0) × IsListing bytes_of asked text
+IsPrinted bytes_of asked (showing word) status text = (status ≡ 0) × IsShowing bytes_of asked word text
+IsPrinted bytes_of asked checking status text = IsChecking bytes_of asked status text
+IsPrinted bytes_of asked (rewriting word) status text = (status ≡ 0) × IsRewriting bytes_of asked × (text ≡ [])
 
 -- the words ask for that text
-abbrev pub IsOutput : FileBytes → List Text → List ℕ → Type 0
-IsOutput bytes_of words text = (asked : Asked) × (asked_of words ≡ Some asked) × IsPrinted bytes_of asked asked.command text
+abbrev pub IsOutput : FileBytes → List Text → ℕ → List ℕ → Type 0
+IsOutput bytes_of words status text = (asked : Asked) × (asked_of words ≡ Some asked) × IsPrinted bytes_of asked asked.command status text
 
 -- standard output gets it, whole
-abbrev pub GetsOutput : FileBytes → List Text → Option (List ℕ) → Option (List ℕ) → Type 0
-GetsOutput bytes_of words old new = (text : List ℕ) × IsOutput bytes_of words text × Appends old new text
+abbrev pub GetsOutput : FileBytes → List Text → ℕ → Option (List ℕ) → Option (List ℕ) → Type 0
+GetsOutput bytes_of words status old new = (text : List ℕ) × IsOutput bytes_of words status text × Appends old new text
 
 -- ---- why nothing is
 
@@ -68,19 +88,29 @@ pub record IsNoSuchPath (bytes_of : FileBytes) (asked : Asked) (word : Text) : T
 abbrev pub IsBadPath : Command → Type 0
 IsBadPath listing = ⊥
 IsBadPath (showing word) = ¬ IsPathText word
+IsBadPath checking = ⊥
+IsBadPath (rewriting word) = ⊥
 
 abbrev pub IsMissingPath : FileBytes → Asked → Command → Type 0
 IsMissingPath bytes_of asked listing = ⊥
 IsMissingPath bytes_of asked (showing word) = IsNoSuchPath bytes_of asked word
+IsMissingPath bytes_of asked checking = ⊥
+IsMissingPath bytes_of asked (rewriting word) = ⊥
+
+-- the rewritten tables are made, and the file of that name can't be written
+abbrev pub IsUnwrittenFile : FileBytes → Asked → Command → Failure → Type 0
+IsUnwrittenFile bytes_of asked (rewriting word) failure = IsRewriting bytes_of asked × IsUnwritten word failure
+IsUnwrittenFile bytes_of asked _ failure = ⊥
 
 -- why what the words ask for can't be made: the path is none or has no object; the files can't be read or cut into tables, they hold none,
--- the tables have no load, or there is no memory
+-- the tables have no load; a file can't be written; or there is no memory
 abbrev pub IsFailureOf : FileBytes → Asked → Failure → Type 0
 IsFailureOf bytes_of asked (Read word) = IsFilesFault bytes_of asked.hex asked.files (Read word)
 IsFailureOf bytes_of asked (BadHex word) = IsFilesFault bytes_of asked.hex asked.files (BadHex word)
 IsFailureOf bytes_of asked (Table number fault) = IsFilesFault bytes_of asked.hex asked.files (Table number fault)
 IsFailureOf bytes_of asked BadPath = IsBadPath asked.command
 IsFailureOf bytes_of asked NoSuchPath = IsMissingPath bytes_of asked asked.command
+IsFailureOf bytes_of asked (Out word) = IsUnwrittenFile bytes_of asked asked.command (Out word)
 IsFailureOf bytes_of asked NoTable = AreTablesOf bytes_of asked.hex asked.files []
 IsFailureOf bytes_of asked (Item number reason place) = IsRefusal bytes_of asked (Item number reason place)
 IsFailureOf bytes_of asked (Load number reason) = IsRefusal bytes_of asked (Load number reason)
@@ -91,7 +121,7 @@ IsFailureOf bytes_of asked _ = ⊥
 abbrev pub IsRunFailure : FileBytes → List Text → Failure → Type 0
 IsRunFailure bytes_of words WrongWords = asked_of words ≡ None
 IsRunFailure bytes_of words Memory = Unit {0}
-IsRunFailure bytes_of words Output = (text : List ℕ) × IsOutput bytes_of words text
+IsRunFailure bytes_of words Output = (status : ℕ) × (text : List ℕ) × IsOutput bytes_of words status text
 IsRunFailure bytes_of words failure = (asked : Asked) × (asked_of words ≡ Some asked) × IsFailureOf bytes_of asked failure
 
 -- the words ask for nothing, or for a path that is none

@@ -32,6 +32,9 @@ pub enum Failure<'a> {
     /// This file is no hexadecimal text.
     #[error("acpins: {0}: bad hexadecimal text")]
     BadHex(&'a str),
+    /// This file could not be made or written.
+    #[error("acpins: {0}: cannot be written")]
+    Out(&'a str),
     /// Standard output could not be written.
     #[error("acpins: standard output cannot be written")]
     Output,

@@ -4,13 +4,13 @@ ghost use Rattle.std.specs.Prelude.{◌≡◌, ◌++◌, ◌∷◌, codes, decim
 ghost use Rattle.std.specs.List.{flat_map};
 ghost use Rattle.acpi_name.specs.Text.{path_text};
 ghost use Rattle.acpins.specs.Told.{Tells};
-ghost use Rattle.acpins.specs.FailureLines.{table_fault_text, item_reason_text, refusal_text, load_reason_text, failure_text, failure_line};
+ghost use Rattle.acpins.specs.FailureLines.{table_fault_text, item_reason_text, refusal_text, load_reason_text, fault_text, failure_text, failure_line};
 
 use crate::failure::Failure;
 use crate::parts::PartWriter;
 use acpi_load::{LoadReason, Refusal};
 use acpi_name::{Path, Seg};
-use acpi_table::TableFault;
+use acpi_table::{HEADER_BYTES, TableFault};
 use acpi_terms::ItemReason;
 
 fn table_fault_word(fault: TableFault) -> &'static str
@@ -145,6 +145,18 @@ fn put_item<E, P: PartWriter<E>>(parts: &mut P, err: &mut E, reason: ItemReason,
     put_decimal(parts, err, place)
 }
 
+/// Writes why a table can't be loaded; a reason of its code with its place, in bytes from the table's first byte.
+pub fn put_fault<E, P: PartWriter<E>>(parts: &mut P, err: &mut E, reason: &LoadReason)
+    ensures { Tells (fault_text reason.now) (P.failed parts.old) (P.contents err.old) (P.failed parts.new) (P.contents err.new) }
+{
+    match reason {
+        LoadReason::Item { reason, place } => {
+            put_item(parts, err, *reason, place.saturating_add(HEADER_BYTES))
+        }
+        reason => put_load_reason(parts, err, reason),
+    }
+}
+
 fn put_failure<E, P: PartWriter<E>>(parts: &mut P, err: &mut E, failure: &Failure<'_>)
     ensures { Tells (failure_text failure.now) (P.failed parts.old) (P.contents err.old) (P.failed parts.new) (P.contents err.new) }
 {
@@ -160,6 +172,10 @@ fn put_failure<E, P: PartWriter<E>>(parts: &mut P, err: &mut E, failure: &Failur
         Failure::BadHex(file) => {
             put(parts, err, file);
             put(parts, err, ": bad hexadecimal text")
+        }
+        Failure::Out(file) => {
+            put(parts, err, file);
+            put(parts, err, ": cannot be written")
         }
         Failure::Output => put(parts, err, "standard output cannot be written"),
         Failure::Table(number, fault) => {

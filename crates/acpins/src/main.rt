@@ -9,13 +9,16 @@ ghost use Rattle.std.specs.Prelude.{◌≡◌, ◌≢◌, ◌≤◌, IfOk};
 ghost use Rattle.std.specs.IoError.{error_kind};
 ghost use Rattle.acpins.specs.declared.failure.Failure.{Failure};
 
+mod checking;
 mod failure;
 mod files;
 mod hexadecimal;
 mod lines;
 mod listing;
+mod made;
 mod parts;
 mod program;
+mod rewriting;
 mod showing;
 mod tables;
 #[cfg(test)]
@@ -32,7 +35,7 @@ use std::{env, io};
 
 // What the host gives: its words, its files and its two streams.
 fn started(rt: &HostRuntime, alloc: Global) -> io::Result<u8>
-    ensures { IfOk result (λ status. status ≤ 2) }
+    ensures { IfOk result (λ status. status ≤ 3) }
 {
     let args: Vec<String> = env::args(rt)?.collect(alloc)?;
     let mut words: Vec<&str> = Vec::new(alloc);

@@ -1,6 +1,6 @@
 //! Parts of a line, written one after another to a stream.
 
-ghost use Rattle.std.specs.Prelude.{◌≡◌, ℕ, List, Option, Bool, IsTrue, true, false};
+ghost use Rattle.std.specs.Prelude.{◌≡◌, ℕ, List, Option, Some, Bool, IsTrue, true, false};
 ghost use Rattle.std.specs.Io.KnownBytes.{Appends};
 ghost use Rattle.acpins.specs.Told.{AppendsBeginning, Tells};
 
@@ -61,6 +61,40 @@ impl<E: Write> PartWriter<E> for UntilFailure {
     fn write_part(&mut self, stream: &mut E, part: &[u8]) {
         if !self.failed {
             self.failed = !is_written(stream, part);
+        }
+    }
+}
+
+/// Puts parts behind a text until a growth of memory is refused, and leaves out what comes after that.
+#[derive(Debug, Drop)]
+pub struct IntoText {
+    failed: bool,
+}
+
+impl IntoText {
+    /// No growth was refused.
+    pub fn new() -> IntoText
+        ensures { result.failed ≡ false }
+    {
+        IntoText { failed: false }
+    }
+
+    /// Whether a growth was refused.
+    pub fn failed(&self) -> bool
+        ensures { result ≡ self.now.failed }
+    {
+        self.failed
+    }
+}
+
+impl PartWriter<Vec<u8>> for IntoText {
+    ghost contents = { λ text. Some text.items };
+
+    ghost failed = { λ parts. parts.failed };
+
+    fn write_part(&mut self, stream: &mut Vec<u8>, part: &[u8]) {
+        if !self.failed {
+            self.failed = stream.extend_from_slice(part).is_err();
         }
     }
 }

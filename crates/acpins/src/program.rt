@@ -1,6 +1,6 @@
 //! One run of the program.
 
-ghost use Rattle.std.specs.Prelude.{◌≡◌, ◌≢◌, ◌≤◌, ◌⊎◌, ◌∷◌, IfOk, IfErr, OnOk, IsTrue, None};
+ghost use Rattle.std.specs.Prelude.{◌≡◌, ◌≢◌, ◌≤◌, ◌⊎◌, ◌∷◌, [], IfOk, IfErr, OnOk, IsTrue, None};
 ghost use Rattle.acpi_name.specs.Text.{SpellsPathText, IsPathText};
 ghost use Rattle.acpi_declare.specs.Refusals.{IsLoadFault};
 ghost use Rattle.acpi_order.specs.Machines.{IsMachine};
@@ -10,18 +10,21 @@ ghost use Rattle.acpins.specs.declared.failure.Failure.{Failure};
 ghost use Rattle.acpins.specs.Failures.{status_of};
 ghost use Rattle.acpins.specs.FailureLines.{failure_line};
 ghost use Rattle.acpins.specs.Told.{AppendsBeginning, Tells};
-ghost use Rattle.acpins_words.specs.Words.{texts, showing, asked_in, asked_of};
+ghost use Rattle.acpins_words.specs.Words.{texts, showing, rewriting, asked_in, asked_of};
 ghost use Rattle.acpins.specs.Input.{files_of, AreTablesOf, IsFilesFault, IsLoadOfFiles};
-ghost use Rattle.acpins.specs.Runs.{IsListing, IsShowing, IsWrong, IsOutput, GetsOutput, IsFailureOf, IsRunFailure, FailsWith};
+ghost use Rattle.acpins.specs.Runs.{IsListing, IsShowing, IsChecking, IsRewriting, IsWrong, IsOutput, GetsOutput, IsFailureOf, IsRunFailure, FailsWith};
 
+use crate::checking::checked;
 use crate::failure::Failure;
 use crate::files::Files;
 use crate::lines::put_line;
 use crate::listing::listed;
+use crate::made::Made;
 use crate::parts::{PartWriter, UntilFailure};
+use crate::rewriting::{file_text, put_file};
 use crate::showing::shown;
 use crate::tables::add_tables;
-use acpi_load::{LoadFault, Machine, load_shared};
+use acpi_load::{LoadFault, Machine, load_shared, rewrite_shared};
 use acpi_name::{Path, PathFault};
 use acpi_space::{Space, TreeSpace};
 use acpi_terms::{Depth, Object};
@@ -43,6 +46,23 @@ fn tables_of<'a, F: Files>(
     let mut tables = Vec::new(alloc);
     for name in request.files.iter() {
         add_tables(alloc, files, *name, request.hex, &mut tables)?;
+    }
+    Ok(tables)
+}
+
+// The same, where there is one at least.
+fn some_tables_of<'a, F: Files>(
+    alloc: Global,
+    request: &Request<'a>,
+    files: &mut F,
+) -> Result<Vec<Bytes>, Failure<'a>>
+    ensures ok { IfOk result (λ v. AreTablesOf (F.bytes_of files.old) request.now.hex (files_of request.now) v.items) }
+    ensures some { IfOk result (λ v. v.items ≢ []) }
+    ensures err { IfErr result (IsFailureOf (F.bytes_of files.old) (asked_in request.now)) }
+{
+    let tables = tables_of(alloc, request, files)?;
+    if tables.is_empty() {
+        return Err(Failure::NoTable);
     }
     Ok(tables)
 }
@@ -69,9 +89,9 @@ fn loaded<'a, S: Space<Object>, F: Files>(
     ensures ok { IfOk result (λ r. IsLoadOfFiles (F.bytes_of files.old) request.now.hex request.now.depth (files_of request.now) r.0.items (machine_of (S.contents (objects_in r.1)) r.1)) }
     ensures err { IfErr result (IsFailureOf (F.bytes_of files.old) (asked_in request.now)) }
 {
-    let tables = tables_of(alloc, request, files)?;
+    let tables = some_tables_of(alloc, request, files)?;
     let Some((dsdt, ssdts)) = tables.split_first() else {
-        return Err(Failure::NoTable);
+        unreachable!()
     };
     let machine = load_tables(alloc, dsdt, ssdts, request.depth)?;
     Ok((tables, machine))
@@ -127,50 +147,96 @@ fn showing_of<'a, S: Space<Object>, F: Files>(
     }
 }
 
-/// What a run prints, whole, with the objects kept in a space of the caller's choice.
+// The verdict on the SSDTs that the files hold.
+fn checking_of<'a, S: Space<Object>, F: Files>(
+    alloc: Global,
+    request: &Request<'a>,
+    files: &mut F,
+) -> Result<Made, Failure<'a>>
+    ensures ok { IfOk result (λ m. IsChecking (F.bytes_of files.old) (asked_in request.now) m.status m.text.items) }
+    ensures err { IfErr result (IsFailureOf (F.bytes_of files.old) (asked_in request.now)) }
+{
+    let tables = some_tables_of(alloc, request, files)?;
+    let Some((dsdt, ssdts)) = tables.split_first() else {
+        unreachable!()
+    };
+    Ok(checked::<S>(alloc, dsdt, ssdts, request.depth)?)
+}
+
+// Writes the tables that the files hold to the file of that name, each in its shortest spelling. All are made before
+// the file is.
+fn rewriting_of<'a, S: Space<Object>, F: Files>(
+    alloc: Global,
+    request: &Request<'a>,
+    out: &'a str,
+    files: &mut F,
+) -> Result<(), Failure<'a>>
+    requires { (asked_in request.now).command ≡ rewriting out.now }
+    ensures ok { OnOk result (IsRewriting (F.bytes_of files.old) (asked_in request.now)) }
+    ensures err { IfErr result (IsFailureOf (F.bytes_of files.old) (asked_in request.now)) }
+{
+    let tables = some_tables_of(alloc, request, files)?;
+    let Some((dsdt, ssdts)) = tables.split_first() else {
+        unreachable!()
+    };
+    let rewritten = rewrite_shared::<S>(alloc, dsdt, ssdts, request.depth)?;
+    let text = file_text(alloc, request.hex, &rewritten)?;
+    put_file(files, out, &text)
+}
+
+/// What a run prints, whole, with the objects kept in a space of the caller's choice. Rewritten tables stand in their
+/// file then.
 pub fn made_in<'a, S: Space<Object>, F: Files>(
     alloc: Global,
     words: &'a [&'a str],
     files: &mut F,
-) -> Result<Vec<u8>, Failure<'a>>
-    ensures ok { IfOk result (λ text. IsOutput (F.bytes_of files.old) (texts words.now) text.items) }
+) -> Result<Made, Failure<'a>>
+    ensures ok { IfOk result (λ m. IsOutput (F.bytes_of files.old) (texts words.now) m.status m.text.items) }
     ensures err { IfErr result (IsRunFailure (F.bytes_of files.old) (texts words.now)) }
 {
     let request = read_words(alloc, words)?;
-    match request.command {
-        Command::List => listing_of::<S, F>(alloc, &request, files),
-        Command::Show(word) => showing_of::<S, F>(alloc, &request, word, files),
-    }
+    let text = match request.command {
+        Command::List => listing_of::<S, F>(alloc, &request, files)?,
+        Command::Show(word) => showing_of::<S, F>(alloc, &request, word, files)?,
+        Command::Check => return checking_of::<S, F>(alloc, &request, files),
+        Command::Rewrite(out) => {
+            rewriting_of::<S, F>(alloc, &request, out, files)?;
+            Vec::new(alloc)
+        }
+    };
+    Ok(Made { text, status: 0 })
 }
 
 fn made<'a, F: Files>(
     alloc: Global,
     words: &'a [&'a str],
     files: &mut F,
-) -> Result<Vec<u8>, Failure<'a>>
-    ensures ok { IfOk result (λ text. IsOutput (F.bytes_of files.old) (texts words.now) text.items) }
+) -> Result<Made, Failure<'a>>
+    ensures ok { IfOk result (λ m. IsOutput (F.bytes_of files.old) (texts words.now) m.status m.text.items) }
     ensures err { IfErr result (IsRunFailure (F.bytes_of files.old) (texts words.now)) }
 {
     made_in::<TreeSpace<Object>, F>(alloc, words, files)
 }
 
-// Makes what the words ask for, and prints it. Where anything but printing fails, nothing was printed.
+// Makes what the words ask for, prints it, and answers the status. Where anything but printing fails, nothing was
+// printed.
 fn ended<'a, F: Files, O: Write>(
     alloc: Global,
     words: &'a [&'a str],
     files: &mut F,
     out: &mut O,
-) -> Result<(), Failure<'a>>
-    ensures ok { OnOk result (GetsOutput (F.bytes_of files.old) (texts words.now) (O.contents out.old) (O.contents out.new)) }
+) -> Result<u8, Failure<'a>>
+    ensures ok { IfOk result (λ status. GetsOutput (F.bytes_of files.old) (texts words.now) status (O.contents out.old) (O.contents out.new)) }
+    ensures statuses { IfOk result (λ status. (status ≡ 0) ⊎ (status ≡ 3)) }
     ensures err { IfErr result (IsRunFailure (F.bytes_of files.old) (texts words.now)) }
     ensures kept { IfErr result (λ f. f ≢ Failure.Output → O.contents out.new ≡ O.contents out.old) }
 {
-    let text = made(alloc, words, files)?;
+    let Made { text, status } = made(alloc, words, files)?;
     let written = out.write_all(text.as_slice()).is_ok() && out.flush().is_ok();
     if !written {
         return Err(Failure::Output);
     }
-    Ok(())
+    Ok(status)
 }
 
 /// Says why a run failed, as far as it can be said, and answers the status.
@@ -191,15 +257,15 @@ pub fn run_telling<'a, F: Files, O: Write, E, P: PartWriter<E>>(
     err: &mut E,
     parts: &mut P,
 ) -> u8
-    ensures done { result ≡ 0 → GetsOutput (F.bytes_of files.old) (texts words.now) (O.contents out.old) (O.contents out.new) }
-    ensures quiet { result ≡ 0 → err.new ≡ err.old }
+    ensures done { result ≢ 1 → result ≢ 2 → GetsOutput (F.bytes_of files.old) (texts words.now) result (O.contents out.old) (O.contents out.new) }
+    ensures quiet { result ≢ 1 → result ≢ 2 → err.new ≡ err.old }
     // The failure's line is said whole, unless a write of it failed.
-    ensures failed { 1 ≤ result → FailsWith (F.bytes_of files.old) (texts words.now) result (O.contents out.old) (O.contents out.new)
+    ensures failed { 1 ≤ result → result ≤ 2 → FailsWith (F.bytes_of files.old) (texts words.now) result (O.contents out.old) (O.contents out.new)
         (λ line. Tells line (P.failed parts.old) (P.contents err.old) (P.failed parts.new) (P.contents err.new)) }
-    ensures statuses { result ≤ 2 }
+    ensures statuses { result ≤ 3 }
 {
     match ended(alloc, words, files, out) {
-        Ok(()) => 0,
+        Ok(status) => status,
         Err(failure) => told(&failure, err, parts),
     }
 }
@@ -215,14 +281,14 @@ pub fn run<'a, F: Files, O: Write, E: Write>(
     err: &mut E,
 ) -> u8
     // All that the words ask for is printed, and nothing else.
-    ensures done { result ≡ 0 → GetsOutput (F.bytes_of files.old) (texts words.now) (O.contents out.old) (O.contents out.new) }
-    ensures quiet { result ≡ 0 → err.new ≡ err.old }
+    ensures done { result ≢ 1 → result ≢ 2 → GetsOutput (F.bytes_of files.old) (texts words.now) result (O.contents out.old) (O.contents out.new) }
+    ensures quiet { result ≢ 1 → result ≢ 2 → err.new ≡ err.old }
     // Something failed, and its line is said, or a beginning of it; nothing is printed, unless it was the printing.
-    ensures failed { 1 ≤ result → FailsWith (F.bytes_of files.old) (texts words.now) result (O.contents out.old) (O.contents out.new)
+    ensures failed { 1 ≤ result → result ≤ 2 → FailsWith (F.bytes_of files.old) (texts words.now) result (O.contents out.old) (O.contents out.new)
         (λ line. AppendsBeginning line (E.contents err.old) (E.contents err.new)) }
     // The words ask for nothing, or for a path that is none, and nothing is printed.
     ensures wrong { result ≡ 2 → IsWrong (texts words.now) × (O.contents out.new ≡ O.contents out.old) }
-    ensures statuses { result ≤ 2 }
+    ensures statuses { result ≤ 3 }
 {
     run_telling(alloc, words, files, out, err, &mut UntilFailure::new())
 }

@@ -8,6 +8,7 @@ ghost use Rattle.acpi_load.specs.MachineView.{objects_in, bodies_of, machine_of}
 ghost use Rattle.acpins.specs.Shown.{body_reason_text, reason_text, IsBodyText, ShowsOrNone};
 
 use crate::listing::links_of;
+use crate::made::put;
 use acpi_body::{Body, BodyFault, BodyReason};
 use acpi_load::{LoadFault, Machine, explain_shared};
 use acpi_name::Path;
@@ -36,12 +37,6 @@ fn reason_word(reason: BodyReason) -> &'static str
         BodyReason::NotData => "B12 NotData",
         BodyReason::BadPlace => "B13 BadPlace",
     }
-}
-
-fn put(text: &mut Vec<u8>, part: &str) -> Result<(), AllocError>
-    ensures { OnOk result (text.new.items ≡ text.old.items ++ part.now) }
-{
-    text.extend_from_slice(part.as_bytes())
 }
 
 // Puts the line that says why a body is not read, and where.

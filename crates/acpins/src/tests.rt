@@ -1,6 +1,7 @@
 //! Runs over files in memory: worked rows, failing devices, the forms of words, and printed texts.
 
 mod chains;
+mod checked;
 mod cut;
 mod devices;
 mod held;
@@ -12,3 +13,4 @@ mod outcome;
 mod refusals;
 mod rows;
 mod shown;
+mod written;

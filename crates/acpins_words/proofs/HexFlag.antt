@@ -1,4 +1,4 @@
--- What clap reads of `--hex`: the rows of `list` and of `show` have one row for it, from the words or the default.
+-- What clap reads of `--hex`: the rows of each command have one row for it, from the words or the default.
 use Rattle.std.proofs.Common.{◌≡◌, ◌∙◌, ◌∷◌, ◌++◌, [], ℕ, zero, suc, ◌⊎◌, inl, inr, Bool, true, false, cond, List, Option, Some, None, ap, refl, sym, subst, codes, drop}
 use Rattle.std.specs.Bool.{⊤}
 use Rattle.std.specs.Prelude.{◌||◌, ◌==◌, IfSome, option_map, find, filter, fold, slice_get, not, is_some, ◌&&◌, nat_lt, length, encode_utf8}
@@ -14,7 +14,7 @@ use Rattle.clap.specs.declared.builder.value_parser.Reading.{Reading}
 use Rattle.clap.specs.declared.builder.value_parser.Reading.TheVariants.{AsWritten}
 use Rattle.clap.specs.declared.parser.matches.ValueSource.{ValueSource}
 use Rattle.clap.specs.declared.parser.matches.ValueSource.TheVariants.{CommandLine, DefaultValue}
-use Rattle.acpins_words.specs.Words.{ReadsHex, acpins_app, hex_rule, depth_rule, file_rule, list_shape, path_rule, show_shape}
+use Rattle.acpins_words.specs.Words.{ReadsHex, acpins_app, check_shape, hex_rule, depth_rule, file_rule, list_shape, out_rule, path_rule, rewrite_shape, show_shape}
 
 -- ---- the rows of `--hex`
 
@@ -378,7 +378,7 @@ module _ (others : List Rule) (are : AreOther others) where
   rows_read words = reads_end (rows_after rules [] words) (finished_end (walk rules [] nothing_held words).held
       (walk_sound words (walk_from nothing_held) ((inl refl, tt), tt)).0)
 
--- ---- the two commands
+-- ---- the commands
 
 no_default : (b : Bool) (rows : List Row) → cond b rows rows ≡ rows
 no_default true rows = refl
@@ -389,6 +389,9 @@ depth = with_index 1 (filled depth_rule)
 
 abbrev path : Rule
 path = with_index 1 (filled path_rule)
+
+abbrev out : Rule
+out = with_index 1 (filled out_rule)
 
 -- the files, as the positional of this number
 abbrev file : ℕ → Rule
@@ -408,6 +411,13 @@ path_is_other = record {
   leaves = λ rows. no_default (has_row (codes "path") rows) rows;
 }
 
+out_is_other : IsOtherRule out
+out_is_other = record {
+  named = refl;
+  keeps = λ values rows. kept_set (codes "out") (reading_by out) (values_or_missing out values) refl rows;
+  leaves = λ rows. no_default (has_row (codes "out") rows) rows;
+}
+
 file_is_other : (i : ℕ) → IsOtherRule (file i)
 file_is_other i = record {
   named = refl;
@@ -421,6 +431,12 @@ list_read = rows_read (depth ∷ file 1 ∷ []) (depth_is_other, (file_is_other 
 show_read : (words : List Text) → ReadsHex (rows_after (filled_from 1 show_shape.rules) [] words)
 show_read = rows_read (depth ∷ path ∷ file 2 ∷ []) (depth_is_other, (path_is_other, (file_is_other 2, tt)))
 
+check_read : (words : List Text) → ReadsHex (rows_after (filled_from 1 check_shape.rules) [] words)
+check_read = rows_read (depth ∷ file 1 ∷ []) (depth_is_other, (file_is_other 1, tt))
+
+rewrite_read : (words : List Text) → ReadsHex (rows_after (filled_from 1 rewrite_shape.rules) [] words)
+rewrite_read = rows_read (depth ∷ out ∷ file 2 ∷ []) (depth_is_other, (out_is_other, (file_is_other 2, tt)))
+
 abbrev leaf : Shape → Shape
 leaf shape = built_leaf (inherited (built acpins_app).top shape)
 
@@ -428,12 +444,15 @@ leaf shape = built_leaf (inherited (built acpins_app).top shape)
 pub hex_read : (words : List Text) (name : Text) (rows : List Row) → Some (name, rows) ≡ subcommand_of acpins_app words → ReadsHex rows
 hex_read words name rows is = go (stop_after (built acpins_app).top.rules (names_of (built acpins_app)) (argument_words acpins_app words)) is
   where
-    entry : (is_list is_show : Bool) (below : List Text)
-        → Some (name, rows) ≡ option_map (λ s. rows_at s below) (cond is_list (Some (leaf list_shape)) (cond is_show (Some (leaf show_shape)) None)) → ReadsHex rows
-    entry true is_show below e = subst (λ o. ReadsHex (option_map_or (λ p. p.1) o [])) (sym e) (list_read below)
-    entry false true below e = subst (λ o. ReadsHex (option_map_or (λ p. p.1) o [])) (sym e) (show_read below)
-    entry false false below e = absurd (cc)
+    entry : (is_list is_show is_check is_rewrite : Bool) (below : List Text)
+        → Some (name, rows) ≡ option_map (λ s. rows_at s below) (cond is_list (Some (leaf list_shape)) (cond is_show (Some (leaf show_shape))
+        (cond is_check (Some (leaf check_shape)) (cond is_rewrite (Some (leaf rewrite_shape)) None)))) → ReadsHex rows
+    entry true is_show is_check is_rewrite below e = subst (λ o. ReadsHex (option_map_or (λ p. p.1) o [])) (sym e) (list_read below)
+    entry false true is_check is_rewrite below e = subst (λ o. ReadsHex (option_map_or (λ p. p.1) o [])) (sym e) (show_read below)
+    entry false false true is_rewrite below e = subst (λ o. ReadsHex (option_map_or (λ p. p.1) o [])) (sym e) (check_read below)
+    entry false false false true below e = subst (λ o. ReadsHex (option_map_or (λ p. p.1) o [])) (sym e) (rewrite_read below)
+    entry false false false false below e = absurd (cc)
 
     go : (stop : Option (Text × List Text)) → Some (name, rows) ≡ entered (built acpins_app) stop → ReadsHex rows
     go None e = absurd (cc)
-    go (Some p) e = entry (answers_to p.0 (codes "list", [])) (answers_to p.0 (codes "show", [])) p.1 e
+    go (Some p) e = entry (answers_to p.0 (codes "list", [])) (answers_to p.0 (codes "show", [])) (answers_to p.0 (codes "check", [])) (answers_to p.0 (codes "rewrite", [])) p.1 e

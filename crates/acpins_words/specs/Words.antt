@@ -30,6 +30,10 @@ depth_rule = record (new_rule (codes "depth")) { long = Some (codes "depth"); ac
 abbrev pub path_rule : Rule
 path_rule = record (new_rule (codes "path")) { required = true }
 
+-- the file that is written
+abbrev pub out_rule : Rule
+out_rule = record (new_rule (codes "out")) { required = true }
+
 -- one file or more
 abbrev pub file_rule : Rule
 file_rule = record (new_rule (codes "file")) {
@@ -45,6 +49,14 @@ list_shape = record (new_shape (codes "list")) { rules = hex_rule ∷ depth_rule
 -- `show`: the first word that is no option is the path, and the others are files
 abbrev pub show_shape : Shape
 show_shape = record (new_shape (codes "show")) { rules = hex_rule ∷ depth_rule ∷ path_rule ∷ file_rule ∷ [] }
+
+-- `check`
+abbrev pub check_shape : Shape
+check_shape = record (new_shape (codes "check")) { rules = hex_rule ∷ depth_rule ∷ file_rule ∷ [] }
+
+-- `rewrite`: the first word that is no option is the file that is written, and the others are read
+abbrev pub rewrite_shape : Shape
+rewrite_shape = record (new_shape (codes "rewrite")) { rules = hex_rule ∷ depth_rule ∷ out_rule ∷ file_rule ∷ [] }
 
 -- a subcommand is wanted, and there is no help and no version to ask for
 abbrev pub acpins_shape : Shape
@@ -62,14 +74,17 @@ alone shape = record { top = shape; subs = [] }
 
 -- the command, as clap reads it
 abbrev pub acpins_app : App
-acpins_app = with_subcommand (with_subcommand (alone acpins_shape) list_shape) show_shape
+acpins_app = with_subcommand (with_subcommand (with_subcommand (with_subcommand (alone acpins_shape) list_shape) show_shape) check_shape) rewrite_shape
 
 -- ---- what words ask for
 
--- what is printed: the listing of the objects, or the object whose path a text spells
+-- what is made of tables: the listing of the objects; the object whose path a text spells; the verdict on the SSDTs; the
+-- tables in their shortest spelling, in the file of a name
 pub data Command : Type 0 where
   listing : Command
   showing : Text → Command
+  checking : Command
+  rewriting : Text → Command
 
 -- a command over a list of tables: whether their files are hexadecimal text, how many levels terms
 -- may have, and the files
@@ -91,12 +106,14 @@ depth_said text = if is_depth text then Some (digits_value 10 text) else None
 abbrev pub depth_or_usual : Option Text → Option ℕ
 depth_or_usual said = option_map_or depth_said said (Some 1024)
 
--- the command of this name; for `show` the text that stands as PATH
+-- the command of this name; for `show` the text that stands as PATH, and for `rewrite` the one that stands as OUT
 abbrev pub command_by : Text → List Row → Option Command
 command_by name rows =
     if bytes_eq name (codes "list") then Some listing
     else (if bytes_eq name (codes "show") then option_map showing (first_of (codes "path") rows)
-    else None)
+    else (if bytes_eq name (codes "check") then Some checking
+    else (if bytes_eq name (codes "rewrite") then option_map rewriting (first_of (codes "out") rows)
+    else None)))
 
 -- what clap found: the command, `--hex`, the value of `--depth`, and the files
 abbrev pub asked_by : Text → List Row → Option Asked
@@ -124,6 +141,8 @@ asked_of words =
 abbrev pub command_in : CommandWords → Command
 command_in read.List = listing
 command_in (read.Show path) = showing path.now
+command_in read.Check = checking
+command_in (read.Rewrite out) = rewriting out.now
 
 -- a request, as what it asks for
 abbrev pub asked_in : Request → Asked

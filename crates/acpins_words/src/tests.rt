@@ -47,8 +47,26 @@ static SHOWN: [(&str, &str, Asked); 14] = [
     ("show|\\CALL|f|--|--", "\\CALL", (false, 1024, "f|--")),
 ];
 
+// Words parted by bars that ask whether SSDTs commute.
+static CHECKED: [(&str, Asked); 4] = [
+    ("check|f", (false, 1024, "f")),
+    ("check|f|g|--hex|h", (true, 1024, "f|g|h")),
+    ("check|--depth|4|f|g", (false, 4, "f|g")),
+    ("check|--|--hex", (false, 1024, "--hex")),
+];
+
+// Words parted by bars that ask for tables to be written, their file, and what else they ask for.
+static WRITTEN: [(&str, &str, Asked); 6] = [
+    ("rewrite|out|f", "out", (false, 1024, "f")),
+    ("rewrite|out|f|g|h", "out", (false, 1024, "f|g|h")),
+    ("rewrite|--hex|out|f", "out", (true, 1024, "f")),
+    ("rewrite|out|--depth=4|f|--hex", "out", (true, 4, "f")),
+    ("rewrite|-|-", "-", (false, 1024, "-")),
+    ("rewrite|--|--hex|f", "--hex", (false, 1024, "f")),
+];
+
 // Words parted by bars that ask for nothing.
-static WRONG: [&str; 68] = [
+static WRONG: [&str; 78] = [
     "",
     "list",
     "lis|f",
@@ -117,18 +135,35 @@ static WRONG: [&str; 68] = [
     "shows|\\CALL|f",
     "--hex|show|\\CALL|f",
     "\\CALL|f",
+    "check",
+    "check|--hex",
+    "check|-f",
+    "check|f|--depth|0",
+    "check|--hex|--hex|f",
+    "rewrite",
+    "rewrite|out",
+    "rewrite|out|--hex",
+    "rewrite|-o|out|f",
+    "rewrite|--out|out|f",
 ];
 
-// The path of the object that a command shows.
-fn shown_by<'a>(command: &Command<'a>) -> Option<&'a str> {
+// The name of a command, and its own word.
+fn named<'a>(command: &Command<'a>) -> (&'static str, &'a str) {
     match command {
-        Command::List => None,
-        Command::Show(path) => Some(*path),
+        Command::List => ("list", ""),
+        Command::Show(path) => ("show", *path),
+        Command::Check => ("check", ""),
+        Command::Rewrite(out) => ("rewrite", *out),
     }
 }
 
-// Whether the words ask for this: the path where an object is shown, and the rest; none where they are wrong.
-fn asks(alloc: Global, text: &str, path: Option<&str>, asked: Option<Asked>) -> Result<bool, Fail> {
+// Whether the words ask for this command, and for the rest; none where they are wrong.
+fn asks(
+    alloc: Global,
+    text: &str,
+    command: (&str, &str),
+    asked: Option<Asked>,
+) -> Result<bool, Fail> {
     let words: Vec<&str> = if text.is_empty() {
         Vec::new(alloc)
     } else {
@@ -137,7 +172,7 @@ fn asks(alloc: Global, text: &str, path: Option<&str>, asked: Option<Asked>) -> 
     match (read_words(alloc, words.as_slice()), asked) {
         (Ok(got), Some((hex, depth, files))) => {
             Ok(
-                shown_by(&got.command) == path
+                named(&got.command) == command
                     && got.hex == hex
                     && got.depth.get() == depth
                     && got.files.iter().copied().eq(files.split('|')),
@@ -151,16 +186,31 @@ fn asks(alloc: Global, text: &str, path: Option<&str>, asked: Option<Asked>) -> 
 #[test]
 fn reads_words(rt: HostRuntime) -> Result<(), Fail> {
     for (words, asked) in READ.iter() {
-        assert!(rt; asks(rt.alloc(), words, None, Some(*asked))?, "{words}");
+        assert!(rt;
+            asks(rt.alloc(), words, ("list", ""), Some(*asked))?,
+            "{words}"
+        );
     }
     for (words, path, asked) in SHOWN.iter() {
         assert!(rt;
-            asks(rt.alloc(), words, Some(*path), Some(*asked))?,
+            asks(rt.alloc(), words, ("show", *path), Some(*asked))?,
+            "{words}"
+        );
+    }
+    for (words, asked) in CHECKED.iter() {
+        assert!(rt;
+            asks(rt.alloc(), words, ("check", ""), Some(*asked))?,
+            "{words}"
+        );
+    }
+    for (words, out, asked) in WRITTEN.iter() {
+        assert!(rt;
+            asks(rt.alloc(), words, ("rewrite", *out), Some(*asked))?,
             "{words}"
         );
     }
     for words in WRONG.iter() {
-        assert!(rt; asks(rt.alloc(), words, None, None)?, "{words}");
+        assert!(rt; asks(rt.alloc(), words, ("", ""), None)?, "{words}");
     }
     Ok(())
 }

@@ -9,7 +9,7 @@ ghost use Rattle.clap.specs.declared.builder.command.Command.TheViews.{out-Comma
 ghost use Rattle.acpins_words.specs.declared.fault.WordsFault.{WordsFault};
 ghost use Rattle.acpins_words.specs.Words.{acpins_app, alone, asked_by, asked_in, asked_of, command_by};
 ghost use Rattle.acpins_words.specs.Words.{command_in, depth_or_usual, depth_rule, depth_said, file_rule};
-ghost use Rattle.acpins_words.specs.Words.{hex_rule, list_shape, path_rule, ReadsHex, show_shape};
+ghost use Rattle.acpins_words.specs.Words.{check_shape, hex_rule, list_shape, out_rule, path_rule, ReadsHex, rewrite_shape, show_shape};
 
 use crate::fault::WordsFault;
 use acpi_code::Depth;
@@ -20,19 +20,23 @@ use std::alloc::{AllocError, Global};
 /// The levels that terms may have where no word says so.
 const USUAL_DEPTH: u32 = 1024;
 
-/// What is printed of the tables.
+/// What is made of the tables.
 #[derive(Debug, Drop)]
 pub enum Command<'a> {
     /// A line for each object.
     List,
     /// The object whose path this text spells. Whether it spells one has not been looked at.
     Show(&'a str),
+    /// Whether the SSDTs may be loaded in any order.
+    Check,
+    /// Nothing: the tables are written to this file, each in its shortest spelling.
+    Rewrite(&'a str),
 }
 
 /// What the words ask for: a command over the tables in these files.
 #[derive(Debug, Drop)]
 pub struct Request<'a> {
-    /// What is printed.
+    /// What is made.
     pub command: Command<'a>,
     /// Whether the files are hexadecimal text.
     pub hex: bool,
@@ -67,6 +71,13 @@ fn path<'a>(alloc: Global) -> Arg<'a>
     Arg::new(alloc, "path").required(true)
 }
 
+fn out<'a>(alloc: Global) -> Arg<'a>
+    ensures rule { rule_of result ≡ out_rule }
+    ensures local { result.global ≡ false }
+{
+    Arg::new(alloc, "out").required(true)
+}
+
 fn files<'a>(alloc: Global) -> Arg<'a>
     ensures rule { rule_of result ≡ file_rule }
     ensures local { result.global ≡ false }
@@ -98,11 +109,34 @@ fn show<'a>(alloc: Global) -> Result<clap::Command<'a>, AllocError>
         .arg(files(alloc))
 }
 
+fn check<'a>(alloc: Global) -> Result<clap::Command<'a>, AllocError>
+    ensures app { IfOk result (λ check. app_of check ≡ alone check_shape) }
+    ensures local { IfOk result (λ check. (fields_of check).has_globals ≡ false) }
+{
+    clap::Command::new(alloc, "check")
+        .arg(hex(alloc))?
+        .arg(depth(alloc))?
+        .arg(files(alloc))
+}
+
+fn rewrite<'a>(alloc: Global) -> Result<clap::Command<'a>, AllocError>
+    ensures app { IfOk result (λ rewrite. app_of rewrite ≡ alone rewrite_shape) }
+    ensures local { IfOk result (λ rewrite. (fields_of rewrite).has_globals ≡ false) }
+{
+    clap::Command::new(alloc, "rewrite")
+        .arg(hex(alloc))?
+        .arg(depth(alloc))?
+        .arg(out(alloc))?
+        .arg(files(alloc))
+}
+
 fn forms<'a>(alloc: Global) -> Result<clap::Command<'a>, AllocError>
     ensures { IfOk result (λ command. app_of command ≡ acpins_app) }
 {
     let list = list(alloc)?;
     let show = show(alloc)?;
+    let check = check(alloc)?;
+    let rewrite = rewrite(alloc)?;
     clap::Command::new(alloc, "acpins")
         .no_binary_name(true)
         .disable_help_flag(true)
@@ -110,7 +144,9 @@ fn forms<'a>(alloc: Global) -> Result<clap::Command<'a>, AllocError>
         .disable_help_subcommand(true)
         .subcommand_required(true)
         .subcommand(list)?
-        .subcommand(show)
+        .subcommand(show)?
+        .subcommand(check)?
+        .subcommand(rewrite)
 }
 
 // A number of decimal digits, from 1 to 4,096.
@@ -144,6 +180,8 @@ fn command_in<'a>(name: &str, found: &ArgMatches<'a>) -> Option<Command<'a>>
     match name {
         "list" => Some(Command::List),
         "show" => Some(Command::Show(found.get_str("path")?)),
+        "check" => Some(Command::Check),
+        "rewrite" => Some(Command::Rewrite(found.get_str("out")?)),
         _ => None,
     }
 }

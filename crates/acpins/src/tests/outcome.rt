@@ -147,9 +147,9 @@ pub fn made_over_map(alloc: Global, files: &mut MemoryFiles, words: &str) -> Res
     let words: Vec<&str> = words.split('|').collect(alloc)?;
     let mut err = MemoryWriter::new(alloc, 0);
     match made_in::<MapSpace<Object>, MemoryFiles>(alloc, words.as_slice(), files) {
-        Ok(text) => Ok(Outcome {
-            status: 0,
-            out: text,
+        Ok(made) => Ok(Outcome {
+            status: made.status,
+            out: made.text,
             err: err.bytes,
         }),
         Err(failure) => {

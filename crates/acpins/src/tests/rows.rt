@@ -1,5 +1,6 @@
 //! Worked rows: runs over tables, and all that they answer and print.
 
+use crate::tests::checked::CHECKED;
 use crate::tests::listings::LISTINGS;
 use crate::tests::memory::NONE;
 use crate::tests::outcome::{Kept, files_of, made_over_map, ran_with};
@@ -85,4 +86,9 @@ fn shows_why_bodies_are_not_read_here(rt: HostRuntime) -> Result<(), Fail> {
 #[test]
 fn shows_objects(rt: HostRuntime) -> Result<(), Fail> {
     answers(&rt, rt.alloc(), &OBJECTS)
+}
+
+#[test]
+fn checks_tables(rt: HostRuntime) -> Result<(), Fail> {
+    answers(&rt, rt.alloc(), &CHECKED)
 }

@@ -7,6 +7,9 @@ returns-in-Read g c = rw c.in-Read.is (tells_more _ _ _ _ _ _ _ _ c.put-in-Read.
 pub returns-in-BadHex : goal.returns-in-BadHex
 returns-in-BadHex g c = rw c.in-BadHex.is (tells_more _ _ _ _ _ _ _ _ c.put-in-BadHex.ensures c.put-in-BadHex-2.ensures)
 
+pub returns-in-Out : goal.returns-in-Out
+returns-in-Out g c = rw c.in-Out.is (tells_more _ _ _ _ _ _ _ _ c.put-in-Out.ensures c.put-in-Out-2.ensures)
+
 pub returns-in-Output : goal.returns-in-Output
 returns-in-Output g c = rw c.in-Output.is c.put-in-Output.ensures
 

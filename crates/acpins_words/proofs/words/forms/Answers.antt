@@ -27,5 +27,9 @@ returns c =
     ∙ ap (on_top set_up) c.new.ensures.app in
     let with_list = c.in_ok-subcommand.ensures.shape c.in_ok-list.ensures.local
     ∙ ap₂ with_subcommand top_is (ap (λ (a : App). a.top) c.in_ok-list.ensures.app) in
-    IfOk-weaker c.subcommand-2.result _ _ (λ command h. h.shape c.in_ok-show.ensures.local
-    ∙ ap₂ with_subcommand with_list (ap (λ (a : App). a.top) c.in_ok-show.ensures.app)) c.subcommand-2.ensures
+    let with_show = c.in_ok-subcommand-2.ensures.shape c.in_ok-show.ensures.local
+    ∙ ap₂ with_subcommand with_list (ap (λ (a : App). a.top) c.in_ok-show.ensures.app) in
+    let with_check = c.in_ok-subcommand-3.ensures.shape c.in_ok-check.ensures.local
+    ∙ ap₂ with_subcommand with_show (ap (λ (a : App). a.top) c.in_ok-check.ensures.app) in
+    IfOk-weaker c.subcommand-4.result _ _ (λ command h. h.shape c.in_ok-rewrite.ensures.local
+    ∙ ap₂ with_subcommand with_check (ap (λ (a : App). a.top) c.in_ok-rewrite.ensures.app)) c.subcommand-4.ensures
