@@ -1,22 +1,23 @@
-//! Items and method bodies nested as deep as may be are read, tested, copied, compared and dropped. The gate runs
+//! Items and method bodies nested as deep as may be are read, tested, copied, compared, searched, written and dropped. The gate runs
 //! this program as two compilers build it; its stack is what the tests give it.
 #![tactic(auto)]
 
 ghost use Rattle.std.specs.Prelude.{◌≡◌, IfOk};
 ghost use Rattle.acpi_tree.specs.View.{items_view};
 
-use acpi_body::{Body, Counts, read_body};
+use acpi_body::{Body, Counts, body_misses, read_body};
 use acpi_name::Path;
 use acpi_space::{Space, TreeSpace};
 use acpi_terms::{Depth, Item, items_fit, read_items};
 use acpi_tree::{Object, terms_fit};
+use acpi_write::{write_items, write_terms};
 use std::alloc::{AllocError, Global};
 
 /// The most levels that a term may have.
 const LEVELS: u32 = 4096;
 
 /// What is said where all is as it should be.
-const RIGHT: &str = "read, tested, copied, compared";
+const RIGHT: &str = "read, tested, copied, compared, written";
 
 // Code that begins so, and so many packages, each inside the one before: the opcode, a length of four bytes
 // that counts all that follows, and a byte: a Scope's name, a Package's count, the predicate of an If.
@@ -65,10 +66,15 @@ fn outcome(alloc: Global, code: &[u8], depth: Depth) -> Result<&'static str, All
         return Ok("not read");
     };
     let copies = copied(alloc, &items)?;
-    if items_fit(&items) && copies == items {
-        Ok(RIGHT)
-    } else {
-        Ok("read wrong")
+    if !items_fit(&items) || copies != items {
+        return Ok("read wrong");
+    }
+    let Ok(written) = write_items(alloc, &items) else {
+        return Ok("not written");
+    };
+    match read_items(alloc, &written, depth) {
+        Ok(again) if again == items => Ok(RIGHT),
+        _ => Ok("written wrong"),
     }
 }
 
@@ -77,15 +83,27 @@ fn body_outcome(alloc: Global, bytes: &[u8], depth: Depth) -> anyhow::Result<&'s
     let method = Path::from_text(alloc, "\\M")?;
     let mut space: TreeSpace<Object> = TreeSpace::new(alloc);
     space.insert(method.copy()?, Object::Method(1))?;
-    let body = read_body(alloc, &space, &method, bytes, depth, &Counts::new(alloc))?;
-    let fits = match &body {
-        Body::Terms(terms) => terms_fit(terms),
-        Body::Opaque(_) => return Ok("not read"),
+    let counts = Counts::new(alloc);
+    let body = read_body(alloc, &space, &method, bytes, depth, &counts)?;
+    let Body::Terms(terms) = &body else {
+        return Ok("not read");
     };
-    if fits && body.copy(alloc)? == body {
+    if !terms_fit(terms) || body.copy(alloc)? != body {
+        return Ok("read wrong");
+    }
+    if !body_misses(alloc, &space, &method, &body, &counts)?
+        .open
+        .is_empty()
+    {
+        return Ok("searched wrong");
+    }
+    let Ok(written) = write_terms(alloc, terms) else {
+        return Ok("not written");
+    };
+    if read_body(alloc, &space, &method, &written, depth, &counts)? == body {
         Ok(RIGHT)
     } else {
-        Ok("read wrong")
+        Ok("written wrong")
     }
 }
 
