@@ -5,3 +5,4 @@ pub mod Written
 pub mod TermsWritten
 pub mod Shorter
 pub mod TermsShorter
+pub mod Seen

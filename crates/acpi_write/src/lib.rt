@@ -8,6 +8,7 @@ mod item;
 pub mod laws;
 mod operator;
 mod term;
+mod typed;
 mod writer;
 mod writing;
 
