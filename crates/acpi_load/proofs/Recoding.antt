@@ -20,6 +20,7 @@ use Rattle.acpi_write.specs.Canonical.{items_bytes}
 use Rattle.acpi_write.specs.Shortest.{HasWithin}
 use Rattle.acpi_order.specs.Bodies.{Method, with_counts, methods_of}
 use Rattle.acpi_load.specs.Rewriting.{item_codes, codes, item_without_code, without_code, IsNewCode, IsShortest, IsRewritten, AreEachRewritten}
+use Rattle.acpi_load.specs.RewritingLaws.{AreTablesOfBytes}
 use Rattle.acpi_load.specs.steps.Adding.{noted}
 use Rattle.acpi_load.specs.steps.Recoding.{IsNoted}
 use Rattle.acpi_load.proofs.Recoded.{alike_item_count, alike_count}
@@ -196,3 +197,16 @@ module _ (depth : ℕ) (objects : Namespace) where
   all_rewritten ts bs ns i h past each =
       subst (λ (us : List (List Placement)). AreEachRewritten depth objects us bs ns) (take_all i ts (omega (arith, as_many_listings depth 0 predefined bs ts h, past)))
       (subst (λ (cs : List (List ℕ)). AreEachRewritten depth objects (take i ts) cs ns) (take_all i bs past) each)
+
+-- .. which is bytes, and is rewritten to bytes
+bytes_pushed : (bs : List (List ℕ)) (b : List ℕ) → AreTablesOfBytes bs → All (λ n. n < 256) b → AreTablesOfBytes (bs ++ b ∷ [])
+bytes_pushed [] b h one = (one, tt)
+bytes_pushed (c ∷ bs) b h one = (h.0, bytes_pushed bs b h.1 one)
+
+pub more_old : (bs : List (List ℕ)) (i : ℕ) (b : List ℕ) → i < length bs → b ≡ get_or bs i [] → AreTablesOfBytes (take i bs) → All (λ n. n < 256) b → AreTablesOfBytes (take (i + 1) bs)
+more_old bs i b below there before one =
+    subst AreTablesOfBytes (sym (take_more bs i [] below)) (bytes_pushed (take i bs) (get_or bs i []) before (subst (All (λ n. n < 256)) there one))
+
+pub more_new : (done now : List Bytes) (new : Bytes) → now ≡ done ++ new ∷ [] → AreTablesOfBytes (map items_in done) → All (λ n. n < 256) (items_in new) → AreTablesOfBytes (map items_in now)
+more_new done now new pushed before one =
+    subst AreTablesOfBytes (sym (ap (map items_in) pushed ∙ map-append items_in done (new ∷ []))) (bytes_pushed (map items_in done) (items_in new) before one)

@@ -1,6 +1,6 @@
 //! Tables in their shortest spelling.
 
-ghost use Rattle.std.specs.Prelude.{◌≡◌, ◌≢◌, ◌<◌, ◌≤◌, ◌∷◌, ◌++◌, ℕ, List, length, map, All, IfOk, IfErr, true};
+ghost use Rattle.std.specs.Prelude.{◌≡◌, ◌≢◌, ◌↔◌, ◌<◌, ◌≤◌, ◌∷◌, ◌++◌, ℕ, List, length, map, All, IfOk, IfErr, true};
 ghost use Rattle.std.specs.FinMap.{get};
 ghost use Rattle.std.specs.List.{AllZip};
 ghost use Rattle.std.specs.Vec.Iter.{into_iter_items};
@@ -14,10 +14,13 @@ ghost use Rattle.acpi_declare.specs.Notes.{method_of, notes_of};
 ghost use Rattle.acpi_declare.specs.Refusals.{IsLoadFault};
 ghost use Rattle.acpi_declare.specs.Tables.{IsTableOf};
 ghost use Rattle.acpi_order.specs.Bodies.{with_counts};
+ghost use Rattle.acpi_order.specs.Machines.{Machine, IsMachine};
 ghost use Rattle.acpi_load.specs.Rewriting.{item_codes, codes, item_without_code, without_code, IsNewCode, IsRewritten, AreRewritten};
+ghost use Rattle.acpi_load.specs.RewritingLaws.{AreTablesOfBytes};
 ghost use Rattle.acpi_load.specs.steps.Adding.{noted};
 ghost use Rattle.acpi_load.specs.steps.Recoding.{IsNoted};
 
+use crate::rewriting_laws::{none_grows, rewritten_load_alike, rewritten_stay};
 use acpi_body::{Body, read_body};
 use acpi_counts::Counts;
 use acpi_declare::{Declared, LoadFault, Method, TableNotes, declare_shared, shared_tables};
@@ -157,7 +160,8 @@ fn rewritten_table<S: Space<Object>>(
     depth: Depth,
 ) -> Result<Vec<u8>, AllocError>
     requires { (t : List Placement) × IsNoted depth table.now t (notes_of notes.now) }
-    ensures { (t : List Placement) → IsNoted depth table.now t (notes_of notes.now) → IfOk result (λ b. IsRewritten depth (namespace_of (S.contents objects.now)) t table.now b.items) }
+    ensures bytes { IfOk result (λ b. All (λ n. n < 256) table.now × All (λ n. n < 256) b.items) }
+    ensures rewritten { (t : List Placement) → IsNoted depth table.now t (notes_of notes.now) → IfOk result (λ b. IsRewritten depth (namespace_of (S.contents objects.now)) t table.now b.items) }
 {
     let items = table_items(alloc, table, depth)?;
     let mut fresh = new_codes(alloc, objects, notes, depth)?.into_iter();
@@ -168,22 +172,24 @@ fn rewritten_table<S: Space<Object>>(
         unreachable!()
     };
     match write_table(alloc, &old.header(), &items) {
-        Ok(bytes) => Ok(bytes),
+        Ok(bytes) => {
+            has_bytes(&bytes);
+            Ok(bytes)
+        }
         Err(WriteFault::TooLong) => unreachable!(),
         Err(WriteFault::Memory) => Err(AllocError),
     }
 }
 
-/// Rewrites a DSDT and SSDTs that load, each in its shortest spelling: package lengths, bit counts and names are as
-/// short as they can be, in items and in the bodies of methods that are read. A body that isn't read stays as it is.
-/// Length and Checksum of the headers are computed, and all else of them is kept. It is refused as `load_shared`.
-pub fn rewrite_shared<S: Space<Object>>(
+// The tables of a load, rewritten one after another.
+fn rewrite_tables<S: Space<Object>>(
     alloc: Global,
     dsdt: &Bytes,
     ssdts: &[Bytes],
     depth: Depth,
 ) -> Result<Vec<Vec<u8>>, LoadFault>
     ensures ok { IfOk result (λ v. AreRewritten depth (dsdt.now ∷ ssdts.now) (map (λ b. b.items) v.items)) }
+    ensures bytes { IfOk result (λ v. AreTablesOfBytes (dsdt.now ∷ ssdts.now) × AreTablesOfBytes (map (λ b. b.items) v.items)) }
     ensures err { IfErr result (λ e. IsLoadFault depth (dsdt.now ∷ ssdts.now) e) }
     ensures none { IfErr result (λ e. e ≢ LoadFault.Memory → HasNoLoad depth (dsdt.now ∷ ssdts.now)) }
 {
@@ -198,6 +204,31 @@ pub fn rewrite_shared<S: Space<Object>>(
     Ok(rewritten)
 }
 
+/// Rewrites a DSDT and SSDTs that load, each in its shortest spelling: package lengths, bit counts and names are as
+/// short as they can be, in items and in the bodies of methods that are read. A body that isn't read stays as it is.
+/// Length and Checksum of the headers are computed, and all else of them is kept. It is refused as `load_shared`.
+pub fn rewrite_shared<S: Space<Object>>(
+    alloc: Global,
+    dsdt: &Bytes,
+    ssdts: &[Bytes],
+    depth: Depth,
+) -> Result<Vec<Vec<u8>>, LoadFault>
+    ensures ok { IfOk result (λ v. AreRewritten depth (dsdt.now ∷ ssdts.now) (map (λ b. b.items) v.items)) }
+    // They load to the same machine.
+    ensures alike { IfOk result (λ v. (m : Machine) → IsMachine depth (dsdt.now ∷ ssdts.now) m ↔ IsMachine depth (map (λ b. b.items) v.items) m) }
+    // No table has grown.
+    ensures no_longer { IfOk result (λ v. AllZip (λ old now. length now ≤ length old) (dsdt.now ∷ ssdts.now) (map (λ b. b.items) v.items)) }
+    // Rewritten again, they stay as they are.
+    ensures stay { IfOk result (λ v. AreRewritten depth (map (λ b. b.items) v.items) (map (λ b. b.items) v.items)) }
+    ensures err { IfErr result (λ e. IsLoadFault depth (dsdt.now ∷ ssdts.now) e) }
+    ensures none { IfErr result (λ e. e ≢ LoadFault.Memory → HasNoLoad depth (dsdt.now ∷ ssdts.now)) }
+{
+    rewritten_load_alike();
+    none_grows();
+    rewritten_stay();
+    rewrite_tables::<S>(alloc, dsdt, ssdts, depth)
+}
+
 /// The same as `rewrite_shared`, over one copy of each table.
 pub fn rewrite<S: Space<Object>>(
     alloc: Global,
@@ -206,6 +237,9 @@ pub fn rewrite<S: Space<Object>>(
     depth: Depth,
 ) -> Result<Vec<Vec<u8>>, LoadFault>
     ensures ok { IfOk result (λ v. AreRewritten depth (dsdt.now ∷ map (λ b. b.now) ssdts.now) (map (λ b. b.items) v.items)) }
+    ensures alike { IfOk result (λ v. (m : Machine) → IsMachine depth (dsdt.now ∷ map (λ b. b.now) ssdts.now) m ↔ IsMachine depth (map (λ b. b.items) v.items) m) }
+    ensures no_longer { IfOk result (λ v. AllZip (λ old now. length now ≤ length old) (dsdt.now ∷ map (λ b. b.now) ssdts.now) (map (λ b. b.items) v.items)) }
+    ensures stay { IfOk result (λ v. AreRewritten depth (map (λ b. b.items) v.items) (map (λ b. b.items) v.items)) }
     ensures err { IfErr result (λ e. IsLoadFault depth (dsdt.now ∷ map (λ b. b.now) ssdts.now) e) }
     ensures none { IfErr result (λ e. e ≢ LoadFault.Memory → HasNoLoad depth (dsdt.now ∷ map (λ b. b.now) ssdts.now)) }
 {

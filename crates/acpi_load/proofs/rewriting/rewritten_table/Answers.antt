@@ -39,16 +39,25 @@ write_table-requires g c =
     }
 
 pub returns-in-Ok-write_table : goal.returns-in-Ok-write_table
-returns-in-Ok-write_table g c = λ t n.
+returns-in-Ok-write_table g c =
     let objects = namespace_of (g.S.Space.contents c.args.objects.now) in
-    let same : items_tree c.in_ok-items.items.items ≡ n.items = c.in_ok-items.ensures.same n.number n.items n.table in
     let js = items_tree c.in_ok-items-2.items.items in
-    let alike : without_code js ≡ without_code n.items = c.in_ok-items-2.ensures.alike ∙ ap without_code same in
     let bytes = c.in-Ok-write_table.bytes.items in
-    let whole : c.in-Ok.old ≡ c.args.table.now = (c.in-Ok.ensures.only c.args.table.now [] n.table.numbered.table (c.as_slice-bytes.ensures ∙ sym (append-nil c.args.table.now))).0 in
-    is_rewritten c.args.depth objects c.args.table.now t (notes_of c.args.notes.now) n c.in_ok-new_codes.field-0.items c.in_ok-new_codes.ensures js (into_iter_items c.recoded_items.new.fresh) bytes alike
-    (c.in_ok-items-2.ensures.codes ∙ c.into_iter-fresh.ensures.rest)
-    record { table = c.in-Ok-write_table.ensures.table; header = c.in-Ok-write_table.ensures.header ∙ ap (λ (h : Header). header_for h bytes) (c.header.ensures ∙ ap header_of whole); spelling = sym (ap (λ (is : List Item). items_bytes (items_tree is)) c.deref.ensures.value) ∙ c.in-Ok-write_table.ensures.code }
+    let below : All (λ b. b < 256) c.args.table.now = subst (All (λ b. b < 256)) c.as_slice-bytes.ensures c.has_bytes.ensures in
+    let below_now : All (λ b. b < 256) bytes = subst (All (λ b. b < 256)) c.deref-in-Ok-write_table.ensures.value c.has_bytes-in-Ok-write_table.ensures in
+    record {
+      bytes = (below, below_now);
+      rewritten = λ t n.
+          let alike : without_code js ≡ without_code n.items = c.in_ok-items-2.ensures.alike ∙ ap without_code (c.in_ok-items.ensures.same n.number n.items n.table) in
+          let whole : c.in-Ok.old ≡ c.args.table.now = (c.in-Ok.ensures.only c.args.table.now [] n.table.numbered.table (c.as_slice-bytes.ensures ∙ sym (append-nil c.args.table.now))).0 in
+          is_rewritten c.args.depth objects c.args.table.now t (notes_of c.args.notes.now) n c.in_ok-new_codes.field-0.items c.in_ok-new_codes.ensures js (into_iter_items c.recoded_items.new.fresh) bytes alike
+          (c.in_ok-items-2.ensures.codes ∙ c.into_iter-fresh.ensures.rest)
+          record {
+            table = c.in-Ok-write_table.ensures.table;
+            header = c.in-Ok-write_table.ensures.header ∙ ap (λ (h : Header). header_for h bytes) (c.header.ensures ∙ ap header_of whole);
+            spelling = sym (ap (λ (is : List Item). items_bytes (items_tree is)) c.deref.ensures.value) ∙ c.in-Ok-write_table.ensures.code;
+          };
+    }
 
 pub unreachable-requires-in-Err-TooLong : goal.unreachable-requires-in-Err-TooLong
 unreachable-requires-in-Err-TooLong g c =

@@ -1,12 +1,13 @@
-use Rattle.std.proofs.Common.{◌≡◌, ◌+◌, ◌<◌, [], ◌∷◌, ◌++◌, length, map, get_or, refl, ap, subst, ◌∙◌, arith, rules}
+use Rattle.std.proofs.Common.{◌≡◌, ◌+◌, ◌<◌, [], ◌∷◌, ◌++◌, length, map, get_or, take_all, refl, ap, subst, ◌∙◌, arith, rules}
 use Rattle.acpi_declare.specs.Loads.{objects_after}
 use Rattle.acpi_declare.specs.Namespace.{Namespace, namespace_of}
 use Rattle.acpi_declare.specs.Notes.{notes_of, all_notes}
 use Rattle.acpi_declare.specs.Predefined.{predefined}
 use Rattle.acpi_declare.proofs.Refusals.{same_listings}
 use Rattle.acpi_load.specs.Rewriting.{AreEachRewritten}
-use Rattle.acpi_load.proofs.Recoding.{as_many_notes, noted_there, behind_first, more_rewritten, all_rewritten}
-use Rattle.acpi_load.proofs.rewriting.rewrite_shared.Goals as goal
+use Rattle.acpi_load.specs.RewritingLaws.{AreTablesOfBytes}
+use Rattle.acpi_load.proofs.Recoding.{as_many_notes, noted_there, behind_first, more_rewritten, more_old, more_new, all_rewritten}
+use Rattle.acpi_load.proofs.rewriting.rewrite_tables.Goals as goal
 
 pub rewritten_table-requires : goal.rewritten_table-requires
 rewritten_table-requires g c =
@@ -16,11 +17,16 @@ rewritten_table-requires g c =
     (get_or n.placements 0 [], noted_there c.args.depth tables n.placements c.notes-notes.result.now 0 c.args.dsdt.now c.index-notes-0.result n.listings notes (omega arith) refl c.index-notes-0.is)
 
 pub loop-i-init : goal.loop-i-init
-loop-i-init g c = λ ts h notes.
+loop-i-init g c =
     let tables = c.args.dsdt.now ∷ c.args.ssdts.now in
-    let pushed : c.push.new.self.items ≡ [] ++ c.in_ok-rewritten_table.field-0 ∷ [] = search rules in
-    more_rewritten c.args.depth (namespace_of (g.S.Space.contents c.objects-objects.result.now)) ts tables 0 [] c.push.new.self.items c.args.dsdt.now c.in_ok-rewritten_table.field-0 h (omega arith) refl pushed tt
-    (c.in_ok-rewritten_table.ensures (get_or ts 0 []) (noted_there c.args.depth tables ts c.notes-notes.result.now 0 c.args.dsdt.now c.index-notes-0.result h notes (omega arith) refl c.index-notes-0.is))
+    let one = c.in_ok-rewritten_table in
+    let pushed : c.push.new.self.items ≡ [] ++ one.field-0 ∷ [] = search rules in (
+      (λ ts h notes.
+          more_rewritten c.args.depth (namespace_of (g.S.Space.contents c.objects-objects.result.now)) ts tables 0 [] c.push.new.self.items c.args.dsdt.now one.field-0 h (omega arith) refl pushed tt
+          (one.ensures.rewritten (get_or ts 0 []) (noted_there c.args.depth tables ts c.notes-notes.result.now 0 c.args.dsdt.now c.index-notes-0.result h notes (omega arith) refl c.index-notes-0.is))),
+      more_old tables 0 c.args.dsdt.now (omega arith) refl tt one.ensures.bytes.0,
+      more_new [] c.push.new.self.items one.field-0 pushed tt one.ensures.bytes.1,
+    )
 
 pub bounds-notes-i : goal.bounds-notes-i
 bounds-notes-i g c =
@@ -42,16 +48,26 @@ rewritten_table-requires-in-loop-i g c =
     )
 
 pub loop-i-preserved : goal.loop-i-preserved
-loop-i-preserved g c = λ ts h notes.
+loop-i-preserved g c =
     let tables = c.args.dsdt.now ∷ c.args.ssdts.now in
     let i = c.loop-i.i in
     let b = c.index-ssdts-i.result in
+    let one = c.in_ok-rewritten_table-2 in
     let below : i + 1 < length tables = omega (arith, c.loop-i-test.true) in
     let there = behind_first c.args.dsdt.now b c.args.ssdts.now i c.loop-i-test.true c.index-ssdts-i.is in
-    let pushed : c.push-in-loop-i.new.self.items ≡ c.loop-i.rewritten.items ++ c.in_ok-rewritten_table-2.field-0 ∷ [] = search rules in
-    more_rewritten c.args.depth (namespace_of (g.S.Space.contents c.objects-objects.result.now)) ts tables (i + 1) c.loop-i.rewritten.items c.push-in-loop-i.new.self.items b c.in_ok-rewritten_table-2.field-0
-    h below there pushed (c.loop-i.invariant ts h notes)
-    (c.in_ok-rewritten_table-2.ensures (get_or ts (i + 1) []) (noted_there c.args.depth tables ts c.notes-notes.result.now (i + 1) b c.index-notes-i.result h notes below there c.index-notes-i.is))
+    let pushed : c.push-in-loop-i.new.self.items ≡ c.loop-i.rewritten.items ++ one.field-0 ∷ [] = search rules in (
+      (λ ts h notes.
+          more_rewritten c.args.depth (namespace_of (g.S.Space.contents c.objects-objects.result.now)) ts tables (i + 1) c.loop-i.rewritten.items c.push-in-loop-i.new.self.items b one.field-0
+          h below there pushed (c.loop-i.invariant.0 ts h notes)
+          (one.ensures.rewritten (get_or ts (i + 1) []) (noted_there c.args.depth tables ts c.notes-notes.result.now (i + 1) b c.index-notes-i.result h notes below there c.index-notes-i.is))),
+      more_old tables (i + 1) b below there c.loop-i.invariant.1 one.ensures.bytes.0,
+      more_new c.loop-i.rewritten.items c.push-in-loop-i.new.self.items one.field-0 pushed c.loop-i.invariant.2 one.ensures.bytes.1,
+    )
+
+pub returns-clause-bytes : goal.returns-clause-bytes
+returns-clause-bytes g c =
+    let tables = c.args.dsdt.now ∷ c.args.ssdts.now in
+    (subst AreTablesOfBytes (take_all (c.loop-i.i + 1) tables (omega (arith, c.loop-i-test.false))) c.loop-i.invariant.1, c.loop-i.invariant.2)
 
 pub returns-clause-ok : goal.returns-clause-ok
 returns-clause-ok g c =
@@ -67,5 +83,5 @@ returns-clause-ok g c =
       placements = n.placements;
       listings = n.listings;
       each = subst (λ (M : Namespace). AreEachRewritten c.args.depth M n.placements tables new) objects
-          (all_rewritten c.args.depth O n.placements tables new (c.loop-i.i + 1) n.listings (omega (arith, c.loop-i-test.false)) (c.loop-i.invariant n.placements n.listings notes));
+          (all_rewritten c.args.depth O n.placements tables new (c.loop-i.i + 1) n.listings (omega (arith, c.loop-i-test.false)) (c.loop-i.invariant.0 n.placements n.listings notes));
     }
