@@ -10,7 +10,7 @@ use Rattle.acpi_name.specs.steps.PathOrder.{path_cmp_total}
 use Rattle.acpi_space.specs.Lookups.{is_same_path, nothing, singleton, union}
 use Rattle.acpi_space.proofs.Maps.{put_is_insert}
 
-lookup_mapped : {V W : Type 0} (f : V → W) (t : List Segment → Bool) (es : List (List Segment × V)) → lookup t (map (λ e. (e.0, f e.1)) es) ≡ option_map f (lookup t es)
+pub lookup_mapped : {V W : Type 0} (f : V → W) (t : List Segment → Bool) (es : List (List Segment × V)) → lookup t (map (λ e. (e.0, f e.1)) es) ≡ option_map f (lookup t es)
 lookup_mapped f t [] = refl
 lookup_mapped f t (e ∷ es) =
     elim (t e.0) as (λ b. cond b (Some (f e.1)) (lookup t (map (λ e. (e.0, f e.1)) es)) ≡ option_map f (cond b (Some e.1) (lookup t es))) [

@@ -27,5 +27,6 @@ mod predefined;
 
 pub use declaring::Declaring;
 pub use fault::{LoadFault, LoadReason, Refusal};
+pub use links::copy_answers;
 pub use load::{Declared, declare, declare_shared, shared_tables};
 pub use notes::{Method, TableNotes};

@@ -70,8 +70,11 @@ fn put_link(
     }
 }
 
-// The same answers once more.
-fn copies(alloc: Global, answers: &[Option<Path>]) -> Result<Vec<Option<Path>>, AllocError>
+/// The same answers once more, with memory of their own.
+pub fn copy_answers(
+    alloc: Global,
+    answers: &[Option<Path>],
+) -> Result<Vec<Option<Path>>, AllocError>
     ensures { IfOk result (λ v. v.items ≡ answers.now) }
 {
     let mut copies = Vec::new(alloc);
@@ -95,7 +98,7 @@ fn put_links(
     ensures memory { IfErr result (λ f. f ≡ LoadFault.Memory) }
 {
     for path in paths {
-        put_link(links, path, copies(alloc, answers)?)?;
+        put_link(links, path, copy_answers(alloc, answers)?)?;
     }
     Ok(())
 }

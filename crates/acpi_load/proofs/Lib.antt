@@ -22,3 +22,5 @@ pub mod Rewritten
 pub mod Recoding
 pub mod SpelledCodes
 pub mod Shortened
+pub mod JoinedValues
+pub mod JoinedMachines

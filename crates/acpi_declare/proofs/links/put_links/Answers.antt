@@ -16,7 +16,7 @@ loop-path-preserved c =
     let p = c.in-Some.path in
     let later = into_iter_items c.next.new.self in
     let front : into_iter_items c.loop-path.path-iterator ≡ p ∷ later = search rules in
-    ap (λ m. union (links_with found later) (get m)) (c.in_ok-put_link.ensures.ok ∙ ap (λ (l : Links). insert before p l) c.in_ok-copies.ensures)
+    ap (λ m. union (links_with found later) (get m)) (c.in_ok-put_link.ensures.ok ∙ ap (λ (l : Links). insert before p l) c.in_ok-copy_answers.ensures)
     ∙ path_moves found p later before
     ∙ ap (λ (ps : List (List Segment)). union (links_with found ps) (get before)) (sym front)
     ∙ c.loop-path.invariant
