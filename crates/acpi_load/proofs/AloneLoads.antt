@@ -1,5 +1,6 @@
 -- The single loads of SSDTs, one after another.
-use Rattle.std.proofs.Common.{◌≡◌, ℕ, zero, suc, ◌+◌, ◌<◌, List, [], ◌∷◌, ◌++◌, map, length, take, get_or, refl, sym, ap, subst, arith, add-one}
+use Rattle.std.proofs.Common.{◌≡◌, ℕ, zero, suc, ◌+◌, ◌<◌, List, [], ◌∷◌, ◌++◌, map, length, take, get_or, refl, sym, subst, arith, add-one}
+use Rattle.std.proofs.lemmas.List.{map-append}
 use Rattle.acpi_declare.specs.declared.fault.LoadReason.{LoadReason}
 use Rattle.acpi_declare.specs.declared.fault.LoadFault.{LoadFault}
 use Rattle.acpi_declare.specs.declared.fault.LoadFault.TheVariants.{At, Memory}
@@ -76,11 +77,7 @@ module _ (depth : ℕ) (dsdt : List ℕ) where
   pub are_singles_more : {X : Type 0} (seen : X → SingleTree) (bs : List (List ℕ)) (xs : List X) (i : ℕ) (b : List ℕ) (x : X) → AreSingles depth dsdt (take i bs) (map seen xs) → i < length bs → b ≡ get_or bs i b
       → IsSingleTree depth dsdt b (seen x) → AreSingles depth dsdt (take (i + 1) bs) (map seen (xs ++ x ∷ []))
   are_singles_more seen bs xs i b x h within e k =
-      rw add-one (subst (AreSingles depth dsdt (take (suc i) bs)) (sym (map_push seen xs x)) (one_more bs (map seen xs) i b (seen x) h within e k))
-    where
-      map_push : {X Y : Type 0} (f : X → Y) (xs : List X) (x : X) → map f (xs ++ x ∷ []) ≡ map f xs ++ f x ∷ []
-      map_push f [] x = refl
-      map_push f (y ∷ ys) x = ap (λ zs. f y ∷ zs) (map_push f ys x)
+      rw add-one (subst (AreSingles depth dsdt (take (suc i) bs)) (sym (map-append seen xs (x ∷ []))) (one_more bs (map seen xs) i b (seen x) h within e k))
 
   loads_at : (bs : List (List ℕ)) (ss : List SingleTree) (i n : ℕ) (b : List ℕ) → AreSingles depth dsdt (take i bs) ss → n < i → StandsAt bs n b → LoadsAlone depth dsdt b
   loads_at [] ss i n b h less at = absurd at

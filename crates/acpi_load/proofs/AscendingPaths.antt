@@ -1,7 +1,7 @@
 -- Ascending lists of paths: what they have, and the first of them that passes a test.
 use Rattle.std.proofs.Common.{◌≡◌, ℕ, zero, suc, ◌+◌, ◌<◌, ◌≤◌, Bool, true, false, cond, ◌||◌, List, [], ◌∷◌, length, get_or, find, Option, Some, None, Result, Ok, Err, is_ok, ◌⊎◌, inl, inr, refl, sym, ap, subst, ◌∙◌, arith}
 use Rattle.std.specs.declared.cmp.Ordering.TheVariants.{Less, Equal, Greater}
-use Rattle.std.specs.List.{AllByRecursion, AllWithin, list_any}
+use Rattle.std.specs.List.{AllWithin, list_any}
 use Rattle.std.specs.List.Sorted.{IsStrictlySortedBy, IsSortedBy, IsBinarySearchResult, IsSearchInRange}
 use Rattle.std.specs.Ordering.{is_lt, is_eq, ordering_reverse}
 use Rattle.std.proofs.lemmas.Cmp.{tied_itself}
@@ -14,6 +14,7 @@ use Rattle.acpi_space.specs.Laws.{Among}
 use Rattle.acpi_space.specs.Lookups.{is_same_path}
 use Rattle.acpi_space.proofs.Comparisons.{path_itself}
 use Rattle.acpi_declare.proofs.Unions.{path_same}
+use Rattle.acpi_order.proofs.Lists.{among_all}
 use Rattle.acpi_load.specs.steps.Clashing.{has}
 
 -- ---- tests of lists
@@ -93,13 +94,8 @@ least_map H K to from (Some p) h = (to p h.0, λ q less k. h.1 q less (from q k)
 not_below : (p : List Segment) (ps : List (List Segment)) → IsStrictlySortedBy path_cmp (p ∷ ps) → (q : List Segment) → path_cmp q p ≡ Less → Among (p ∷ ps) q → ⊥
 not_below p ps up q less (inl is) = let e : path_cmp p p ≡ Less = subst (λ (x : List Segment). path_cmp x p ≡ Less) (sym is) less in let t : path_cmp p p ≡ Equal = tied_itself path_cmp_total p in let never : ⊥ = cc in never
 not_below p ps up q less (inr m) =
-    let above : path_cmp p q ≡ Less = among_above (λ y. path_cmp p y ≡ Less) ps (sorted_head path_cmp p ps up) q m in
+    let above : path_cmp p q ≡ Less = among_all (λ y. path_cmp p y ≡ Less) ps (sorted_head path_cmp p ps up) q m in
     let e : path_cmp q p ≡ Greater = below_is_greater p q above in let never : ⊥ = cc in never
-  where
-    among_above : (P : List Segment → Type 0) (xs : List (List Segment)) → AllByRecursion P xs → (x : List Segment) → Among xs x → P x
-    among_above P [] all x m = absurd m
-    among_above P (y ∷ ys) all x (inl is) = subst P is all.0
-    among_above P (y ∷ ys) all x (inr m) = among_above P ys all.1 x m
 
 module _ (test : List Segment → Bool) where
   abbrev Passes : List (List Segment) → List Segment → Type 0

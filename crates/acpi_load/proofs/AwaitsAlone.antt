@@ -1,6 +1,7 @@
 -- What bodies of a DSDT await alone, one method after another.
 use Rattle.std.proofs.Common.{Result, Ok, Err, ◌≡◌, ◌↔◌, ◌⊎◌, inl, inr, ℕ, List, [], ◌∷◌, ◌++◌, map, refl, sym, ap, subst}
 use Rattle.std.specs.Prelude.{OnOk}
+use Rattle.std.proofs.lemmas.List.{append-nil}
 use Rattle.acpi_name.specs.Names.{Segment}
 use Rattle.acpi_space.specs.Laws.{Among}
 use Rattle.acpi_space.specs.Lookups.{Lookup}
@@ -95,10 +96,6 @@ module _ (depth : ℕ) (objects : Namespace) where
 
 -- ---- of the DSDT
 
-no_others : (ms : List Method) → ms ++ [] ≡ ms
-no_others [] = refl
-no_others (m ∷ ms) = ap (λ xs. m ∷ xs) (no_others ms)
-
 pub awaits_are : (depth : ℕ) (dsdt : List ℕ) (objects : Namespace) (links : Lookup Links) (notes : List Notes) (ws : Awaits) → IsLoad depth (dsdt ∷ []) objects links → AreNotes depth (dsdt ∷ []) notes
     → AddsAllAwaits depth objects (all_noted notes) [] ws → AreAwaitsAlone depth dsdt ws
 awaits_are depth dsdt objects links notes ws load are added =
@@ -110,6 +107,6 @@ awaits_are depth dsdt objects links notes ws load are added =
     by (t ∷ []) a h = record {
       first = t;
       listings = a;
-      awaits_are = λ p args. await_all depth (objects_of_first t) (methods_of t) ws (subst (λ (ms : List Method). AddsAllAwaits depth (objects_of_first t) ms [] ws) (no_others (methods_of t)) h) p args;
+      awaits_are = λ p args. await_all depth (objects_of_first t) (methods_of t) ws (subst (λ (ms : List Method). AddsAllAwaits depth (objects_of_first t) ms [] ws) (append-nil (methods_of t)) h) p args;
     }
     by (t ∷ u ∷ us) a h = absurd a.1

@@ -13,6 +13,7 @@ use Rattle.acpi_space.specs.Lookups.{is_same_path}
 use Rattle.acpi_space.proofs.Comparisons.{path_itself}
 use Rattle.acpi_tree.specs.Objects.{ObjectTree}
 use Rattle.acpi_declare.proofs.Unions.{path_same}
+use Rattle.acpi_order.proofs.Lists.{all_among, among_all, among_append, appended}
 use Rattle.acpi_order.specs.Independent.{StandsAt, is_method_of}
 use Rattle.acpi_load.specs.declared.verdicts.Satisfied.{Satisfied}
 use Rattle.acpi_load.specs.SatisfiedView.{satisfied_cmp}
@@ -68,24 +69,6 @@ pub record IsMetFor (user : ℕ) (us ss : List SingleTree) (t : Satisfied) : Typ
   pub single : SingleTree
   pub stands : StandsAt us place single
   pub is_met_from : IsMetFrom (user + place) single.awaited 1 ss t
-
-among_append : {X : Type 0} (xs ys : List X) (x : X) → Among (xs ++ ys) x → Among xs x ⊎ Among ys x
-among_append [] ys x m = inr m
-among_append (y ∷ xs) ys x (inl e) = inl (inl e)
-among_append (y ∷ xs) ys x (inr m) = by (among_append xs ys x m)
-  where
-    by : Among xs x ⊎ Among ys x → Among (y ∷ xs) x ⊎ Among ys x
-    by (inl m) = inl (inr m)
-    by (inr m) = inr m
-
-among_front : {X : Type 0} (xs ys : List X) (x : X) → Among xs x → Among (xs ++ ys) x
-among_front [] ys x m = absurd m
-among_front (y ∷ xs) ys x (inl e) = inl e
-among_front (y ∷ xs) ys x (inr m) = inr (among_front xs ys x m)
-
-among_behind : {X : Type 0} (xs ys : List X) (x : X) → Among ys x → Among (xs ++ ys) x
-among_behind [] ys x m = m
-among_behind (y ∷ xs) ys x m = inr (among_behind xs ys x m)
 
 module _ (user : ℕ) (ws : Awaits) (definer : ℕ) (r : SingleTree) where
   one_path_more : (p : List Segment) (ps : List (List Segment)) (t : Satisfied) → IsMetAt user ws definer r ps t → IsMetAt user ws definer r (p ∷ ps) t
@@ -166,13 +149,13 @@ module _ (user : ℕ) (ws : Awaits) where
       → Among (met_from user ws definer rs) t
   of_place definer [] t place s at ne h = absurd at
   of_place definer (r ∷ rs) t zero s at ne h =
-      among_front (met_by user ws definer r) (met_from user ws (definer + 1) rs) t
-      (of_by user ws definer r t (subst (λ (n : ℕ). n ≢ user) (no_place definer) ne)
-      (subst (λ (x : SingleTree). IsMetAt user ws definer x x.defined t) (sym at) (subst (λ (n : ℕ). IsMetAt user ws n s s.defined t) (no_place definer) h)))
+      appended (met_by user ws definer r) (met_from user ws (definer + 1) rs) t
+      (inl (of_by user ws definer r t (subst (λ (n : ℕ). n ≢ user) (no_place definer) ne)
+      (subst (λ (x : SingleTree). IsMetAt user ws definer x x.defined t) (sym at) (subst (λ (n : ℕ). IsMetAt user ws n s s.defined t) (no_place definer) h))))
   of_place definer (r ∷ rs) t (suc place) s at ne h =
-      among_behind (met_by user ws definer r) (met_from user ws (definer + 1) rs) t
-      (of_place (definer + 1) rs t place s at (subst (λ (n : ℕ). n ≢ user) (sym (here_or_later definer place)) ne)
-      (subst (λ (n : ℕ). IsMetAt user ws n s s.defined t) (sym (here_or_later definer place)) h))
+      appended (met_by user ws definer r) (met_from user ws (definer + 1) rs) t
+      (inr (of_place (definer + 1) rs t place s at (subst (λ (n : ℕ). n ≢ user) (sym (here_or_later definer place)) ne)
+      (subst (λ (n : ℕ). IsMetAt user ws n s s.defined t) (sym (here_or_later definer place)) h)))
 
   pub of_from : (definer : ℕ) (rs : List SingleTree) (t : Satisfied) → IsMetFrom user ws definer rs t → Among (met_from user ws definer rs) t
   of_from definer rs t h = of_place definer rs t h.place h.single h.stands h.different h.is_met_at
@@ -204,11 +187,11 @@ users_of user (u ∷ us) ss t m = by (λ m. users_of (user + 1) us ss t m) (amon
 of_user_at : (user : ℕ) (us ss : List SingleTree) (t : Satisfied) (place : ℕ) (u : SingleTree) → StandsAt us place u → IsMetFrom (user + place) u.awaited 1 ss t → Among (met_users user us ss) t
 of_user_at user [] ss t place u at h = absurd at
 of_user_at user (x ∷ us) ss t zero u at h =
-    among_front (met_from user x.awaited 1 ss) (met_users (user + 1) us ss) t
-    (of_from user x.awaited 1 ss t (subst (λ (y : SingleTree). IsMetFrom user y.awaited 1 ss t) (sym at) (subst (λ (n : ℕ). IsMetFrom n u.awaited 1 ss t) (first_place user) h)))
+    appended (met_from user x.awaited 1 ss) (met_users (user + 1) us ss) t
+    (inl (of_from user x.awaited 1 ss t (subst (λ (y : SingleTree). IsMetFrom user y.awaited 1 ss t) (sym at) (subst (λ (n : ℕ). IsMetFrom n u.awaited 1 ss t) (first_place user) h))))
 of_user_at user (x ∷ us) ss t (suc place) u at h =
-    among_behind (met_from user x.awaited 1 ss) (met_users (user + 1) us ss) t
-    (of_user_at (user + 1) us ss t place u at (subst (λ (n : ℕ). IsMetFrom n u.awaited 1 ss t) (sym (next_place user place)) h))
+    appended (met_from user x.awaited 1 ss) (met_users (user + 1) us ss) t
+    (inr (of_user_at (user + 1) us ss t place u at (subst (λ (n : ℕ). IsMetFrom n u.awaited 1 ss t) (sym (next_place user place)) h)))
 
 pub of_users : (user : ℕ) (us ss : List SingleTree) (t : Satisfied) → IsMetFor user us ss t → Among (met_users user us ss) t
 of_users user us ss t h = of_user_at user us ss t h.place h.single h.stands h.is_met_from
@@ -221,8 +204,10 @@ all_of ws ss t m = by (among_append (met_from 0 ws 1 ss) (met_users 1 ss ss) t m
     by (inr m) = inr (users_of 1 ss ss t m)
 
 pub of_all : (ws : Awaits) (ss : List SingleTree) (t : Satisfied) → IsMetFrom 0 ws 1 ss t ⊎ IsMetFor 1 ss ss t → Among (all_met ws ss) t
-of_all ws ss t (inl h) = among_front (met_from 0 ws 1 ss) (met_users 1 ss ss) t (of_from 0 ws 1 ss t h)
-of_all ws ss t (inr h) = among_behind (met_from 0 ws 1 ss) (met_users 1 ss ss) t (of_users 1 ss ss t h)
+of_all ws ss t (inl h) = appended (met_from 0 ws 1 ss) (met_users 1 ss ss) t
+    (inl (of_from 0 ws 1 ss t h))
+of_all ws ss t (inr h) = appended (met_from 0 ws 1 ss) (met_users 1 ss ss) t
+    (inr (of_users 1 ss ss t h))
 
 -- ---- their order
 
@@ -241,22 +226,13 @@ definer_below x y e h =
     ∙ ap (λ o. ordering_then o (ordering_then (nat_cmp x.definer y.definer) (path_cmp x.path y.path))) (same_cmp y.user)
     ∙ ap (λ o. ordering_then o (path_cmp x.path y.path)) (less_number x.definer y.definer h)
 
-all_of_list : {X : Type 0} (P : X → Type 0) (xs : List X) → ((x : X) → Among xs x → P x) → AllByRecursion P xs
-all_of_list P [] f = tt
-all_of_list P (x ∷ xs) f = (f x (inl refl), all_of_list P xs (λ y m. f y (inr m)))
-
-among_all : {X : Type 0} (P : X → Type 0) (xs : List X) → AllByRecursion P xs → (x : X) → Among xs x → P x
-among_all P [] all x m = absurd m
-among_all P (y ∷ ys) all x (inl e) = subst P e all.0
-among_all P (y ∷ ys) all x (inr m) = among_all P ys all.1 x m
-
 -- lists one after the other, where all of the first is below all of the second
 sorted_append : (xs ys : List Satisfied) → IsStrictlySortedBy satisfied_cmp xs → IsStrictlySortedBy satisfied_cmp ys
     → ((x y : Satisfied) → Among xs x → Among ys y → satisfied_cmp x y ≡ Less) → IsStrictlySortedBy satisfied_cmp (xs ++ ys)
 unfolding IsStrictlySortedBy
 sorted_append [] ys up ups below = ups
 sorted_append (x ∷ xs) ys up ups below = (
-  all_of_list (λ y. satisfied_cmp x y ≡ Less) (xs ++ ys) (λ y m. by up.0 y (among_append xs ys y m)),
+  all_among (λ y. satisfied_cmp x y ≡ Less) (xs ++ ys) (λ y m. by up.0 y (among_append xs ys y m)),
   sorted_append xs ys up.1 ups (λ a b m n. below a b (inr m) n),
 )
   where

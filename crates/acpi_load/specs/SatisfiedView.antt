@@ -1,4 +1,4 @@
--- The order of satisfied Externals, and when single loads tell of them (ACPI 6.5, 5.3 and 20.2.5.2).
+-- The order of satisfied Externals (ACPI 6.5, 20.2.5.2 DefExternal).
 use Rattle.std.specs.declared.cmp.Ordering.{Ordering}
 use Rattle.std.specs.Ordering.{nat_cmp, ordering_then}
 use Rattle.acpi_name.specs.Paths.{path_cmp}

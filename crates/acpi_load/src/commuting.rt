@@ -52,7 +52,7 @@ fn verdict_of<S: Space<Object>>(singles: &[Single<S>]) -> Result<Verdict, AllocE
 }
 
 // The DSDT loads by itself.
-pub(crate) fn load_dsdt<S: Space<Object>>(
+fn load_dsdt<S: Space<Object>>(
     alloc: Global,
     dsdt: &Bytes,
     depth: Depth,

@@ -21,6 +21,17 @@
 //!     }
 //! }
 //! ```
+//!
+//! `single` tells of the load with one SSDT what it declares, misses and awaits. From the single loads of all SSDTs
+//! `verdict` finds whether they may be loaded in any order, or the first reason that they may not (`IsVerdict` of
+//! `acpi_order`), and `satisfied` which methods that bodies await another SSDT declares (`IsSatisfied`):
+//!
+//! ```text
+//! match verdict::<TreeSpace<Object>>(alloc, dsdt, &ssdts, depth)? {
+//!     Verdict::Commute => satisfied::<TreeSpace<Object>>(alloc, dsdt, &ssdts, depth)?,
+//!     Verdict::Missed { searcher, definer, path } => ..
+//! }
+//! ```
 #![tactic(auto)]
 
 mod alone;
@@ -51,6 +62,7 @@ pub use satisfying::{satisfied, satisfied_shared};
 pub use singles::{Awaited, Single};
 pub use verdicts::{Satisfied, Verdict};
 
+mod order_tests;
 #[cfg(test)]
 mod rewriting_tests;
 #[cfg(test)]

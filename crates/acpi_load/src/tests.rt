@@ -13,13 +13,13 @@ use std::process::Abort;
 use std::test::Fail;
 
 // Method (CALL) { Return (MTH2 (1, 2)) }
-const CALL: &[u8] = b"\x14\x0FCALL\x00\xA4MTH2\x0A\x01\x0A\x02";
+pub(crate) const CALL: &[u8] = b"\x14\x0FCALL\x00\xA4MTH2\x0A\x01\x0A\x02";
 
 // Method (MTH2, 2 arguments) {}
-const MTH2: &[u8] = b"\x14\x06MTH2\x02";
+pub(crate) const MTH2: &[u8] = b"\x14\x06MTH2\x02";
 
 // External (\MTH2, MethodObj, 2 arguments), and the same with 1 argument, and of another type
-const EXTERNAL: &[u8] = b"\x15\\MTH2\x08\x02";
+pub(crate) const EXTERNAL: &[u8] = b"\x15\\MTH2\x08\x02";
 
 const OF_ONE: &[u8] = b"\x15\\MTH2\x08\x01";
 
@@ -31,7 +31,7 @@ const BELOW: &[u8] = b"\x10\x0D\\_SB_\x15MTH2\x08\x02";
 // Name (MTH2, Zero), and Name (XYZ, Zero)
 const NAME: &[u8] = b"\x08MTH2\x00";
 
-const OTHER: &[u8] = b"\x08XYZ_\x00";
+pub(crate) const OTHER: &[u8] = b"\x08XYZ_\x00";
 
 // Scope (\_SB) { Method (M001) { Name (MTH2, Zero) Return (MTH2) } }
 const LOCAL: &[u8] = b"\x10\x18\\_SB_\x14\x11M001\x00\x08MTH2\x00\xA4MTH2";
