@@ -62,6 +62,7 @@ pub use satisfying::{satisfied, satisfied_shared};
 pub use singles::{Awaited, Single};
 pub use verdicts::{Satisfied, Verdict};
 
+#[cfg(test)]
 mod order_tests;
 #[cfg(test)]
 mod rewriting_tests;
