@@ -65,13 +65,6 @@ impl<S: Space<Object>> Declaring<S> {
         &self.objects
     }
 
-    /// What each table notes, by the table's number.
-    pub fn notes(&self) -> &[TableNotes]
-        ensures { result.now ≡ notes_so_far self.now }
-    {
-        &self.notes
-    }
-
     /// The paths that the searches of the links miss, where no further table is declared: in the order of the searches,
     /// and one may be there several times.
     pub fn link_misses(&self, alloc: Global) -> Result<Vec<Path>, AllocError>

@@ -10,9 +10,7 @@ use Rattle.acpi_name.specs.Names.{Segment}
 use Rattle.acpi_name.specs.Paths.{path_cmp}
 use Rattle.acpi_space.specs.Laws.{Among}
 use Rattle.acpi_space.specs.Spaces.{PathMap}
-use Rattle.acpi_declare.specs.Namespace.{Namespace}
 use Rattle.acpi_body.proofs.Listed.{pair_found, rising}
-use Rattle.acpi_order.specs.Bodies.{methods_of}
 use Rattle.acpi_order.specs.Misses.{Listing, objects_of_both}
 use Rattle.acpi_order.specs.Singles.{awaited_cmp, IsAwaitedInTable, IsAwaitedBy}
 use Rattle.acpi_order.proofs.Lists.{among_append, appended}

@@ -1,5 +1,5 @@
 -- The paths that the second of two tables declares: those of both that the first alone has not.
-use Rattle.std.proofs.Common.{◌≡◌, ◌⊎◌, ◌↔◌, inl, inr, ℕ, Bool, true, false, cond, not, List, [], ◌∷◌, map, is_some, filter, Option, Some, None, true≢false, refl, sym, ap, subst, ◌∙◌}
+use Rattle.std.proofs.Common.{◌≡◌, ◌⊎◌, ◌↔◌, inl, inr, ℕ, Bool, true, false, cond, not, List, [], ◌∷◌, is_some, filter, Option, Some, None, true≢false, refl, sym, ap, subst, ◌∙◌}
 use Rattle.std.specs.Prelude.{IsTrue}
 use Rattle.std.specs.Option.{option_map, option_or}
 use Rattle.std.specs.FinMap.{empty, entries, get, get-entries, keys}

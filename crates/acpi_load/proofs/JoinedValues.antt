@@ -1,5 +1,5 @@
 -- Values by path that are put together, part after part.
-use Rattle.std.proofs.Common.{◌≡◌, ◌≢◌, ◌⊎◌, ◌↔◌, inl, inr, Bool, true, false, cond, List, [], ◌∷◌, map, Option, Some, None, is_some, true≢false, refl, sym, ap, subst, ◌∙◌}
+use Rattle.std.proofs.Common.{◌≡◌, ◌⊎◌, ◌↔◌, inl, inr, Bool, true, false, cond, List, [], ◌∷◌, map, Option, Some, None, true≢false, refl, sym, ap, subst, ◌∙◌}
 use Rattle.std.specs.Prelude.{IsTrue}
 use Rattle.std.specs.Option.{option_map, option_or}
 use Rattle.std.specs.FinMap.{FinMap, entries, from_entries, get, get-entries}
@@ -12,7 +12,7 @@ use Rattle.acpi_name.specs.Names.{Segment}
 use Rattle.acpi_name.specs.Paths.{path_cmp}
 use Rattle.acpi_name.proofs.EqualPaths.{path_eq_Decides}
 use Rattle.acpi_space.specs.Laws.{Among}
-use Rattle.acpi_space.specs.Lookups.{Lookup, nothing, is_same_path, singleton, union}
+use Rattle.acpi_space.specs.Lookups.{Lookup, is_same_path, singleton, union}
 use Rattle.acpi_space.specs.Spaces.{PathMap}
 use Rattle.acpi_space.proofs.Maps.{entries_ascending, get_is_lookup}
 use Rattle.acpi_tree.specs.steps.Equality.{Tells, lists_tell}

@@ -1,10 +1,8 @@
 -- The paths that a load of two tables missed: by links, by Scope terms of the second, and by bodies of both.
-use Rattle.std.proofs.Common.{◌≡◌, ◌⊎◌, ◌↔◌, inl, inr, ℕ, List, [], ◌∷◌, ◌++◌, refl, sym, ap, subst, ◌∙◌}
+use Rattle.std.proofs.Common.{◌≡◌, ◌⊎◌, ◌↔◌, inl, inr, ℕ, List, [], ◌∷◌, subst}
 use Rattle.std.specs.Prelude.{IsTrue}
 use Rattle.std.specs.FinMap.{empty, keys}
-use Rattle.std.specs.List.Sorted.{IsStrictlySortedBy}
 use Rattle.acpi_name.specs.Names.{Segment}
-use Rattle.acpi_name.specs.Paths.{path_cmp}
 use Rattle.acpi_space.specs.Laws.{Among}
 use Rattle.acpi_space.specs.Spaces.{is_defined}
 use Rattle.acpi_declare.specs.Declaring.{IsMissedLink}
@@ -12,7 +10,7 @@ use Rattle.acpi_declare.specs.Links.{all_pending}
 use Rattle.acpi_declare.specs.Notes.{scope_misses}
 use Rattle.acpi_body.specs.steps.Gathering.{Paths, Grows}
 use Rattle.acpi_body.proofs.Grown.{from_none, grows_then}
-use Rattle.acpi_body.proofs.Listed.{paths_among, paths_ascend}
+use Rattle.acpi_body.proofs.Listed.{paths_among}
 use Rattle.acpi_order.specs.Bodies.{Method, methods_of}
 use Rattle.acpi_order.specs.Misses.{Listing, objects_of_first, objects_of_both, IsBodyMiss, IsMiss}
 use Rattle.acpi_order.proofs.Sharing.{of_two, first_of, second_of}

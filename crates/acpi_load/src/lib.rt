@@ -67,4 +67,6 @@ mod order_tests;
 #[cfg(test)]
 mod rewriting_tests;
 #[cfg(test)]
+mod single_tests;
+#[cfg(test)]
 mod tests;

@@ -1,6 +1,6 @@
 -- Bodies, one method after another, with what they miss and await.
-use Rattle.std.specs.Prelude.{◌≡◌, ◌⊎◌, ◌↔◌, ℕ, List, [], ◌∷◌, ◌++◌, map, Some}
-use Rattle.std.specs.FinMap.{get, empty, entries}
+use Rattle.std.specs.Prelude.{◌≡◌, ◌↔◌, ℕ, List, [], ◌∷◌, ◌++◌, map}
+use Rattle.std.specs.FinMap.{empty, entries}
 use Rattle.acpi_name.specs.Names.{Segment}
 use Rattle.acpi_space.specs.Spaces.{PathMap}
 use Rattle.acpi_space.specs.Lookups.{Lookup, nothing, singleton, union}

@@ -1,4 +1,4 @@
-use Rattle.std.proofs.Common.{◌≡◌, ◌∙◌, None, Some, ap}
+use Rattle.std.proofs.Common.{◌≡◌, ◌∙◌, None, ap}
 use Rattle.std.specs.Option.{option_copied, option_map}
 use Rattle.acpi_tree.specs.steps.Equality.{decides}
 use Rattle.acpi_body.specs.Bodies.{body_view}

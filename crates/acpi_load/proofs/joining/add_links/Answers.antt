@@ -1,8 +1,7 @@
-use Rattle.std.proofs.Common.{◌≡◌, ◌∙◌, ◌↔◌, ◌∷◌, [], List, Some, ap, sym, subst}
-use Rattle.acpi_name.specs.Names.{Segment}
+use Rattle.std.proofs.Common.{◌≡◌, ◌∙◌, ap, subst}
 use Rattle.acpi_declare.specs.Links.{Links, links_at}
 use Rattle.acpi_load.specs.steps.Joining.{JoinsValue}
-use Rattle.acpi_load.proofs.JoinedValues.{InList, mapped, ordered_pairs, pair_joined, pair_clashes, pairs_joined}
+use Rattle.acpi_load.proofs.JoinedValues.{mapped, ordered_pairs, pair_joined, pair_clashes, pairs_joined}
 use Rattle.acpi_load.proofs.joining.add_links.Goals as goal
 
 pub loop-path-preserved : goal.loop-path-preserved

@@ -1,10 +1,8 @@
-use Rattle.std.proofs.Common.{◌≡◌, ◌∙◌, ◌∷◌, [], List, length, map, ap, sym, rules}
+use Rattle.std.proofs.Common.{◌≡◌, ◌∙◌, ◌∷◌, length, map, ap, sym, rules}
 use Rattle.std.proofs.lemmas.List.{nil_from_length}
 use Rattle.std.specs.FinMap.{entries}
 use Rattle.std.specs.Vec.Iter.{into_iter_items}
-use Rattle.acpi_name.specs.Names.{Segment}
 use Rattle.acpi_tree.specs.Objects.{object_view}
-use Rattle.acpi_tree.specs.declared.object.Object.{Object}
 use Rattle.acpi_declare.specs.Namespace.{namespace_of}
 use Rattle.acpi_load.proofs.JoinedValues.{mapped, seen_pairs, pair_joined, pair_clashes, pairs_joined}
 use Rattle.acpi_load.proofs.joining.add_objects.Goals as goal

@@ -1,4 +1,4 @@
-use Rattle.std.proofs.Common.{◌≡◌, ◌≢◌, ◌∙◌, ◌∷◌, [], ◌+◌, ◌<◌, inr, List, length, map, drop, refl, ap, sym, arith, rules}
+use Rattle.std.proofs.Common.{◌≡◌, ◌≢◌, ◌∙◌, ◌∷◌, [], ◌+◌, ◌<◌, inr, length, map, drop, refl, ap, sym, arith, rules}
 use Rattle.std.proofs.lemmas.List.{drop_more}
 use Rattle.acpi_declare.specs.Namespace.{namespace_of}
 use Rattle.acpi_declare.proofs.LinkMap.{get_none}

@@ -6,7 +6,6 @@ use Rattle.acpi_space.specs.Laws.{Among}
 use Rattle.acpi_space.specs.Spaces.{is_defined}
 use Rattle.acpi_body.specs.steps.Gathering.{Grows}
 use Rattle.acpi_declare.specs.Declaring.{objects_so_far, state_of}
-use Rattle.acpi_declare.specs.DeclaredView.{objects_in, links_in}
 use Rattle.acpi_declare.specs.Links.{links_at}
 use Rattle.acpi_declare.specs.Loads.{IsLoad}
 use Rattle.acpi_declare.specs.Namespace.{namespace_of}

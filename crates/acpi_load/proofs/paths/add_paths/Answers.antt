@@ -1,4 +1,4 @@
-use Rattle.std.proofs.Common.{◌≡◌, ◌∙◌, [], None, length, ap, sym, rules}
+use Rattle.std.proofs.Common.{◌≡◌, ◌∙◌, None, length, ap, sym, rules}
 use Rattle.std.proofs.lemmas.List.{nil_from_length}
 use Rattle.std.specs.Vec.Iter.{into_iter_items}
 use Rattle.acpi_body.specs.steps.Gathering.{with_misses}
