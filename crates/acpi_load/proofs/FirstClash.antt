@@ -51,7 +51,7 @@ stands_seen f (y ∷ ys) zero x h e = ap f (sym e)
 stands_seen f (y ∷ ys) (suc i) x h e = stands_seen f ys i x (omega arith) e
 
 -- what is seen of an element has the next number
-pub number_of : {X Y : Type 0} (f : X → Y) (xs : List X) (i : ℕ) (x : X) → i < length xs → x ≡ get_or xs i x → IsNumber (map f xs) (i + 1) (f x)
+number_of : {X Y : Type 0} (f : X → Y) (xs : List X) (i : ℕ) (x : X) → i < length xs → x ≡ get_or xs i x → IsNumber (map f xs) (i + 1) (f x)
 number_of f xs i x h e = rw add-one (stands_seen f xs i x h e)
 
 pub number_at : {X Y : Type 0} (f : X → Y) (xs : List X) (i : ℕ) (x : X) → 0 < i → i ≤ length xs → x ≡ get_or xs (i - 1) x → IsNumber (map f xs) i (f x)
@@ -153,38 +153,49 @@ path_found Missed i j s r up = by (eqb i j) refl
         (λ p h. (other_than i j e, (h.0, unmet_of s r p h.1))) (λ p h. (h.1.0, of_unmet s r p h.1.1))
         (find (is_unmet s r) r.defined) (found_least (is_unmet s r) r.defined up.0)
 
-pub least_found : (kind : Kind) (ss : List SingleTree) (i j : ℕ) (s r : SingleTree) → AreSorted ss → IsNumber ss j r → (o : Option (List Segment)) → clash_path kind i j s r ≡ o
-    → IsLeastPath (Clashes kind i j s r) o
-least_found kind ss i j s r up other o found = subst (IsLeastPath (Clashes kind i j s r)) found (path_found kind i j s r (all_numbers IsSortedTree ss up j r other))
-
 -- ---- the first clash of a number
 
-module _ (kind : Kind) (ss : List SingleTree) (i k : ℕ) (s r : SingleTree) (is_this : IsNumber ss i s) (is_other : IsNumber ss (k + 1) r) where
+up_to : (b k : ℕ) → b ≤ k + 1 → (b ≤ k) ⊎ (b ≡ k + 1)
+up_to b k h = grind arith
+
+-- x is the single load of number i, and y that of number k + 1
+module _ {X : Type 0} (seen : X → SingleTree) (xs : List X) (up : AreSorted (map seen xs)) (kind : Kind) (i k : ℕ) (x y : X)
+    (above : 0 < i) (within : i ≤ length xs) (is_x : x ≡ get_or xs (i - 1) x) (inside : k < length xs) (is_y : y ≡ get_or xs k y) where
+  abbrev NoneSoFar : ℕ → Type 0
+  NoneSoFar n = (b : ℕ) (p : List Segment) → b ≤ n → IsClash kind (map seen xs) i b p → ⊥
+
+  this : IsNumber (map seen xs) i (seen x)
+  this = number_at seen xs i x above within is_x
+
+  other : IsNumber (map seen xs) (k + 1) (seen y)
+  other = number_of seen xs k y inside is_y
+
   -- a clash of the two numbers is one of the two single loads
-  of_two : (p : List Segment) → IsClash kind ss i (k + 1) p → Clashes kind i (k + 1) s r p
+  of_two : (p : List Segment) → IsClash kind (map seen xs) i (k + 1) p → Clashes kind i (k + 1) (seen x) (seen y) p
   of_two p c =
-      subst (λ (x : SingleTree). Clashes kind i (k + 1) x r p) (one_number ss i c.this s c.is_this is_this)
-      (subst (λ (x : SingleTree). Clashes kind i (k + 1) c.this x p) (one_number ss (k + 1) c.other r c.is_other is_other) c.clashes)
+      subst (λ (s : SingleTree). Clashes kind i (k + 1) s (seen y) p) (one_number (map seen xs) i c.this (seen x) c.is_this this)
+      (subst (λ (s : SingleTree). Clashes kind i (k + 1) c.this s p) (one_number (map seen xs) (k + 1) c.other (seen y) c.is_other other) c.clashes)
 
-  up_to : (b : ℕ) → b ≤ k + 1 → (b ≤ k) ⊎ (b ≡ k + 1)
-  up_to b h = grind arith
+  least_found : (o : Option (List Segment)) → clash_path kind i (k + 1) (seen x) (seen y) ≡ o → IsLeastPath (Clashes kind i (k + 1) (seen x) (seen y)) o
+  least_found o found =
+      subst (IsLeastPath (Clashes kind i (k + 1) (seen x) (seen y))) found (path_found kind i (k + 1) (seen x) (seen y) (all_numbers IsSortedTree (map seen xs) up (k + 1) (seen y) other))
 
-  pub none_more : ((p : List Segment) → Clashes kind i (k + 1) s r p → ⊥) → ((b : ℕ) (p : List Segment) → b ≤ k → IsClash kind ss i b p → ⊥) → (b : ℕ) (p : List Segment) → b ≤ k + 1
-      → IsClash kind ss i b p → ⊥
-  none_more here before b p h c = by (up_to b h)
+  pub none_more : clash_path kind i (k + 1) (seen x) (seen y) ≡ None → NoneSoFar k → NoneSoFar (k + 1)
+  none_more found before b p h c = by (up_to b k h)
     where
       by : (b ≤ k) ⊎ (b ≡ k + 1) → ⊥
       by (inl less) = before b p less c
-      by (inr is) = here p (of_two p (subst (λ (n : ℕ). IsClash kind ss i n p) is c))
+      by (inr is) = least_found None found p (of_two p (subst (λ (n : ℕ). IsClash kind (map seen xs) i n p) is c))
 
-  pub first_here : (p : List Segment) → IsLeastPath (Clashes kind i (k + 1) s r) (Some p) → ((b : ℕ) (p : List Segment) → b ≤ k → IsClash kind ss i b p → ⊥)
-      → IsFirstFrom kind ss i (record { first = i; second = k + 1; path = p })
-  first_here p least before = record {
-    of_first = refl;
-    holds = record { this = s; other = r; is_this = is_this; is_other = is_other; clashes = least.0 };
-    none_before = λ j q less c. before j q (omega arith) c;
-    none_below = λ q less c. least.1 q less (of_two q c);
-  }
+  pub first_here : (p : List Segment) → clash_path kind i (k + 1) (seen x) (seen y) ≡ Some p → NoneSoFar k → IsFirstFrom kind (map seen xs) i (record { first = i; second = k + 1; path = p })
+  first_here p found before =
+      let least : IsLeastPath (Clashes kind i (k + 1) (seen x) (seen y)) (Some p) = least_found (Some p) found in
+      record {
+        of_first = refl;
+        holds = record { this = seen x; other = seen y; is_this = this; is_other = other; clashes = least.0 };
+        none_before = λ j q less c. before j q (omega arith) c;
+        none_below = λ q less c. least.1 q less (of_two q c);
+      }
 
 pub none_past : {X : Type 0} (seen : X → SingleTree) (xs : List X) (kind : Kind) (i n : ℕ) → length xs ≤ n → ((b : ℕ) (p : List Segment) → b ≤ n → IsClash kind (map seen xs) i b p → ⊥)
     → IsFirstWith kind (map seen xs) i None
@@ -205,11 +216,8 @@ least_of kind ss i c before h =
 
 pub none_of_next : (kind : Kind) (ss : List SingleTree) (i : ℕ) → ((a b : ℕ) (p : List Segment) → a ≤ i → IsClash kind ss a b p → ⊥) → IsFirstWith kind ss (i + 1) None
     → (a b : ℕ) (p : List Segment) → a ≤ i + 1 → IsClash kind ss a b p → ⊥
-none_of_next kind ss i before here a b p h c = by (up_to_next a h)
+none_of_next kind ss i before here a b p h c = by (up_to a i h)
   where
-    up_to_next : (a : ℕ) → a ≤ i + 1 → (a ≤ i) ⊎ (a ≡ i + 1)
-    up_to_next a h = grind arith
-
     by : (a ≤ i) ⊎ (a ≡ i + 1) → ⊥
     by (inl less) = before a b p less c
     by (inr is) = here b p (subst (λ (n : ℕ). IsClash kind ss n b p) is c)
