@@ -61,12 +61,3 @@ pub use rewriting::{rewrite, rewrite_shared};
 pub use satisfying::{satisfied, satisfied_shared};
 pub use singles::{Awaited, Single};
 pub use verdicts::{Satisfied, Verdict};
-
-#[cfg(test)]
-mod order_tests;
-#[cfg(test)]
-mod rewriting_tests;
-#[cfg(test)]
-mod single_tests;
-#[cfg(test)]
-mod tests;

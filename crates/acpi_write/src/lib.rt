@@ -14,6 +14,3 @@ mod writing;
 
 pub use fault::WriteFault;
 pub use writing::{write_items, write_table, write_terms};
-
-#[cfg(test)]
-mod tests;

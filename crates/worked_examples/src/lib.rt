@@ -11,12 +11,22 @@ mod declarations;
 #[cfg(test)]
 mod items;
 #[cfg(test)]
+mod machines;
+#[cfg(test)]
 mod names;
 #[cfg(test)]
+mod orders;
+#[cfg(test)]
 mod printed;
+#[cfg(test)]
+mod rewritten;
+#[cfg(test)]
+mod singles;
 #[cfg(test)]
 mod spaces;
 #[cfg(test)]
 mod streams;
 #[cfg(test)]
 mod tables;
+#[cfg(test)]
+mod written;

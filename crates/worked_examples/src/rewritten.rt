@@ -1,7 +1,7 @@
 //! Worked tables and what they are rewritten to.
 
-use super::*;
-use crate::tests::{table, tables};
+use crate::machines::{table, tables};
+use acpi_load::*;
 use acpi_space::{MapSpace, Space, TreeSpace};
 use acpi_terms::{Depth, Object};
 use bytes::Bytes;

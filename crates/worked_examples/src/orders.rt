@@ -1,7 +1,7 @@
 //! Worked lists of SSDTs over both kinds of space: the verdict on them, and which Externals they satisfy.
 
-use super::*;
-use crate::tests::{CALL, EXTERNAL, MTH2, OTHER, table, tables};
+use crate::machines::{CALL, EXTERNAL, MTH2, OTHER, table, tables};
+use acpi_load::*;
 use acpi_space::{MapSpace, Space, TreeSpace};
 use acpi_terms::{Depth, Object};
 use bytes::Bytes;

@@ -1,7 +1,7 @@
 //! Worked tables over both kinds of space: the bodies of their methods, and why one isn't read.
 
-use super::*;
 use acpi_body::{Body, BodyFault, BodyReason};
+use acpi_load::*;
 use acpi_name::{Name, Path, read_name};
 use acpi_space::{MapSpace, Space, TreeSpace};
 use acpi_table::{HEADER_BYTES, checksum_for};

@@ -1,7 +1,7 @@
 //! Worked single loads over both kinds of space: what they declare, miss and await, and their joins.
 
-use super::*;
-use crate::tests::{CALL, EXTERNAL, MTH2, OTHER, table, tables};
+use crate::machines::{CALL, EXTERNAL, MTH2, OTHER, table, tables};
+use acpi_load::*;
 use acpi_name::Path;
 use acpi_space::{MapSpace, Space, TreeSpace};
 use acpi_terms::{Depth, Object};

@@ -1,12 +1,12 @@
 //! Worked rows: codes and what is written of them.
 
-use super::*;
 use acpi_body::{Body, Counts, read_body};
 use acpi_name::Path;
 use acpi_space::{MapSpace, Space};
 use acpi_table::split_table;
 use acpi_terms::{Depth, read_items};
 use acpi_tree::Object;
+use acpi_write::*;
 use std::alloc::Global;
 use std::test::Fail;
 
