@@ -41,6 +41,11 @@ front_is : (a : List ℕ) (b : Option (List ℕ)) (bytes : List ℕ) → option_
 front_is a None bytes e = absurd cc
 front_is a (Some rest) bytes e = (rest, refl, sym (some_is (a ++ rest) bytes e))
 
+-- arguments of a call are operands, each of which is a value
+as_operands : (ts : TermTrees) → all_stand Value ts ≡ operands_fit (values (count_of ts)) ts
+as_operands no_terms = refl
+as_operands (more t ts) = ap (λ b. may_stand Value t && term_fits t && b) (as_operands ts)
+
 -- ---- values
 
 mutual
@@ -75,7 +80,8 @@ mutual
   term_written args (call n vs) bytes h fit k e =
       let b = front_is (name_bytes n) (terms_bytes vs) bytes e in
       let named = term_name_written n h.0 (not_false (is_null_name n) (first_of (not (is_null_name n)) (all_stand Value vs) fit)) in
-      let operands = values_written args vs b.0 h.1 (second_of (not (is_null_name n)) (all_stand Value vs) fit) k.1 b.1 in
+      let fits_values = sym (as_operands vs) ∙ second_of (not (is_null_name n)) (all_stand Value vs) fit in
+      let operands = operands_written args (values (count_of vs)) vs b.0 h.1 fits_values k.1 b.1 in
       (name_bytes n, b.0, named, subst (λ c. AreOperands args (values c) vs b.0) k.0 operands, b.2)
   term_written args (apply op vs) bytes h fit k e =
       let b = front_is (operator_bytes op) (terms_bytes vs) bytes e in
@@ -95,19 +101,6 @@ mutual
         first_of (may_stand Element t) (term_fits t) one,
         term_written args t b.front h.0 (second_of (may_stand Element t) (term_fits t) one) k.0 b.is_front,
         elements_written args ts b.back h.1 (second_of (may_stand Element t && term_fits t) (all_stand Element ts) fit) k.1 b.is_back,
-        b.whole,
-      )
-
-  values_written : (args : NameParts → ℕ) (ts : TermTrees) (bytes : List ℕ) → AreTermsTyped ts → all_stand Value ts ≡ true → AreCounted args ts → terms_bytes ts ≡ Some bytes → AreOperands args (values (count_of ts)) ts bytes
-  values_written args no_terms bytes h fit k e = sym (some_is [] bytes e)
-  values_written args (more t ts) bytes h fit k e =
-      let b = both_of (term_bytes t) (terms_bytes ts) bytes e in
-      let one = first_of (may_stand Value t && term_fits t) (all_stand Value ts) fit in (
-        b.front,
-        b.back,
-        first_of (may_stand Value t) (term_fits t) one,
-        term_written args t b.front h.0 (second_of (may_stand Value t) (term_fits t) one) k.0 b.is_front,
-        values_written args ts b.back h.1 (second_of (may_stand Value t && term_fits t) (all_stand Value ts) fit) k.1 b.is_back,
         b.whole,
       )
 
