@@ -24,3 +24,4 @@ pub mod SpelledCodes
 pub mod Shortened
 pub mod JoinedValues
 pub mod JoinedMachines
+pub mod OneRewriting

@@ -1,5 +1,5 @@
 -- Rewritten tables load as they did before.
-use Rattle.std.proofs.Common.{◌≡◌, ◌↔◌, ℕ, suc, ◌<◌, ◌≤◌, List, [], ◌∷◌, ◌++◌, map, length, Option, Some, refl, sym, ap, subst, ◌∙◌, All, arith}
+use Rattle.std.proofs.Common.{◌≡◌, ◌↔◌, ℕ, suc, ◌<◌, ◌≤◌, List, [], ◌∷◌, ◌++◌, map, length, Option, Some, Result, Ok, Err, IfOk, refl, sym, ap, subst, ◌∙◌, All, arith}
 use Rattle.std.specs.List.{AllByRecursion, AllZip}
 use Rattle.std.proofs.lemmas.List.{length-drop}
 use Rattle.std.proofs.lemmas.List.Elements.{All-drop, recursion_from_All}
@@ -272,3 +272,9 @@ module _ (depth : ℕ) (tables new : List (List ℕ)) (below : AreTablesOfBytes 
 
   pub none_grows : AreNoLonger tables new
   none_grows = none_longer_each depth 0 predefined objects h.placements tables new below h.listings h.each
+
+-- .. as a call tells it
+pub told_alike : {T E : Type 0} (r : Result T E) (new : T → List (List ℕ)) (depth : ℕ) (tables : List (List ℕ)) → IfOk r (λ v. AreRewritten depth tables (new v))
+    → IfOk r (λ v. AreTablesOfBytes tables × AreTablesOfBytes (new v)) → IfOk r (λ v. (m : Machine) → IsMachine depth tables m ↔ IsMachine depth (new v) m)
+told_alike (Ok v) new depth tables h below = load_alike depth tables (new v) below.0 h
+told_alike (Err e) new depth tables h below = tt

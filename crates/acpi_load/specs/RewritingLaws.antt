@@ -1,5 +1,5 @@
 -- What rewriting keeps (ACPI 6.5, 5.2.6, 5.3 and 20.2).
-use Rattle.std.specs.Prelude.{◌↔◌, ◌<◌, ◌≤◌, ℕ, List, length, All}
+use Rattle.std.specs.Prelude.{◌≡◌, ◌↔◌, ◌<◌, ◌≤◌, ℕ, List, length, All}
 use Rattle.std.specs.List.{AllByRecursion, AllZip}
 use Rattle.acpi_order.specs.Machines.{Machine, IsMachine}
 use Rattle.acpi_load.specs.Rewriting.{AreRewritten}
@@ -15,6 +15,10 @@ RewrittenLoadAlike = (depth : ℕ) (tables new : List (List ℕ)) (m : Machine) 
 -- they are their own rewritten tables
 abbrev pub RewrittenStay : Type 0
 RewrittenStay = (depth : ℕ) (tables new : List (List ℕ)) → AreTablesOfBytes tables → AreRewritten depth tables new → AreRewritten depth new new
+
+-- tables are rewritten in one way
+abbrev pub OneRewriting : Type 0
+OneRewriting = (depth : ℕ) (tables new other : List (List ℕ)) → AreTablesOfBytes new → AreTablesOfBytes other → AreRewritten depth tables new → AreRewritten depth tables other → new ≡ other
 
 -- none of them is longer than it was
 abbrev pub NoneGrows : Type 0

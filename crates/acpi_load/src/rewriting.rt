@@ -20,7 +20,7 @@ ghost use Rattle.acpi_load.specs.RewritingLaws.{AreTablesOfBytes};
 ghost use Rattle.acpi_load.specs.steps.Adding.{noted};
 ghost use Rattle.acpi_load.specs.steps.Recoding.{IsNoted};
 
-use crate::rewriting_laws::{none_grows, rewritten_load_alike, rewritten_stay};
+use crate::rewriting_laws::{none_grows, one_rewriting, rewritten_load_alike, rewritten_stay};
 use acpi_body::{Body, read_body};
 use acpi_counts::Counts;
 use acpi_declare::{Declared, LoadFault, Method, TableNotes, declare_shared, shared_tables};
@@ -218,14 +218,16 @@ pub fn rewrite_shared<S: Space<Object>>(
     ensures alike { IfOk result (λ v. (m : Machine) → IsMachine depth (dsdt.now ∷ ssdts.now) m ↔ IsMachine depth (map (λ b. b.items) v.items) m) }
     // No table has grown.
     ensures no_longer { IfOk result (λ v. AllZip (λ old now. length now ≤ length old) (dsdt.now ∷ ssdts.now) (map (λ b. b.items) v.items)) }
-    // Rewritten again, they stay as they are.
+    // Rewritten again, they stay as they are, and nothing else is their rewriting.
     ensures stay { IfOk result (λ v. AreRewritten depth (map (λ b. b.items) v.items) (map (λ b. b.items) v.items)) }
+    ensures only { IfOk result (λ v. (again : List (List ℕ)) → AreTablesOfBytes again → AreRewritten depth (map (λ b. b.items) v.items) again → again ≡ map (λ b. b.items) v.items) }
     ensures err { IfErr result (λ e. IsLoadFault depth (dsdt.now ∷ ssdts.now) e) }
     ensures none { IfErr result (λ e. e ≢ LoadFault.Memory → HasNoLoad depth (dsdt.now ∷ ssdts.now)) }
 {
     rewritten_load_alike();
     none_grows();
     rewritten_stay();
+    one_rewriting();
     rewrite_tables::<S>(alloc, dsdt, ssdts, depth)
 }
 
@@ -240,6 +242,7 @@ pub fn rewrite<S: Space<Object>>(
     ensures alike { IfOk result (λ v. (m : Machine) → IsMachine depth (dsdt.now ∷ map (λ b. b.now) ssdts.now) m ↔ IsMachine depth (map (λ b. b.items) v.items) m) }
     ensures no_longer { IfOk result (λ v. AllZip (λ old now. length now ≤ length old) (dsdt.now ∷ map (λ b. b.now) ssdts.now) (map (λ b. b.items) v.items)) }
     ensures stay { IfOk result (λ v. AreRewritten depth (map (λ b. b.items) v.items) (map (λ b. b.items) v.items)) }
+    ensures only { IfOk result (λ v. (again : List (List ℕ)) → AreTablesOfBytes again → AreRewritten depth (map (λ b. b.items) v.items) again → again ≡ map (λ b. b.items) v.items) }
     ensures err { IfErr result (λ e. IsLoadFault depth (dsdt.now ∷ map (λ b. b.now) ssdts.now) e) }
     ensures none { IfErr result (λ e. e ≢ LoadFault.Memory → HasNoLoad depth (dsdt.now ∷ map (λ b. b.now) ssdts.now)) }
 {
