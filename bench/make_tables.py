@@ -200,4 +200,5 @@ def main():
         print(file, os.path.getsize(os.path.join(folder, file)))
 
 
-main()
+if __name__ == "__main__":
+    main()
