@@ -1,6 +1,6 @@
 -- What bodies of two tables await, as one list.
 use Rattle.std.proofs.Common.{◌≡◌, ◌⊎◌, ◌↔◌, inl, inr, ℕ, zero, suc, List, [], ◌∷◌, ◌++◌, map, Some, refl, sym, ap, subst, ◌∙◌}
-use Rattle.std.specs.FinMap.{entries, get, get-entries}
+use Rattle.std.specs.FinMap.{entries, get}
 use Rattle.std.specs.List.{AllByRecursion}
 use Rattle.std.specs.List.Sorted.{IsStrictlySortedBy}
 use Rattle.std.specs.Ordering.{nat_cmp, ordering_then}
@@ -10,11 +10,12 @@ use Rattle.acpi_name.specs.Names.{Segment}
 use Rattle.acpi_name.specs.Paths.{path_cmp}
 use Rattle.acpi_space.specs.Laws.{Among}
 use Rattle.acpi_space.specs.Spaces.{PathMap}
-use Rattle.acpi_body.proofs.Listed.{pair_found, rising}
+use Rattle.acpi_body.proofs.Listed.{rising}
 use Rattle.acpi_order.specs.Misses.{Listing, objects_of_both}
 use Rattle.acpi_order.specs.Singles.{awaited_cmp, IsAwaitedInTable, IsAwaitedBy}
 use Rattle.acpi_order.proofs.Lists.{among_append, appended}
 use Rattle.acpi_load.specs.steps.Searching.{tagged}
+use Rattle.acpi_load.proofs.PathSets.{pair_is}
 
 abbrev Entry : Type 0
 Entry = ℕ × List Segment × ℕ
@@ -62,10 +63,6 @@ in_table k p n [] i = absurd i
 in_table k p n (e ∷ es) (inl s) = inl (λ i. (k, (s i).0, (s i).1))
 in_table k p n (e ∷ es) (inr i) = inr (in_table k p n es i)
 
--- the entries of a map are its counts
-counted : (m : PathMap ℕ) (p : List Segment) (n : ℕ) → Among (entries m) (p, n) ↔ (get m p ≡ Some n)
-counted m p n = let r = pair_found (entries m) p n (rising m) in (λ i. get-entries m p ∙ r.0 i, λ e. r.1 (sym (get-entries m p) ∙ e))
-
 module _ (depth : ℕ) (first t : Listing) (one two : PathMap ℕ) (items : List Entry) (list : items ≡ tagged 0 (entries one) ++ tagged 1 (entries two)) where
   pub awaited_ascend : IsStrictlySortedBy awaited_cmp items
   awaited_ascend =
@@ -77,18 +74,18 @@ module _ (depth : ℕ) (first t : Listing) (one two : PathMap ℕ) (items : List
 
   module _ (of_first : AreCounts one first) (of_second : AreCounts two t) where
     to_first : (k : ℕ) (p : List Segment) (n : ℕ) → (0 ≡ k) × Among (entries one) (p, n) → IsAwaitedBy depth first t k p n
-    to_first k p n r = subst (λ (j : ℕ). IsAwaitedBy depth first t j p n) r.0 ((of_first p n).0 ((counted one p n).0 r.1))
+    to_first k p n r = subst (λ (j : ℕ). IsAwaitedBy depth first t j p n) r.0 ((of_first p n).0 ((pair_is one p n).0 r.1))
 
     to_second : (k : ℕ) (p : List Segment) (n : ℕ) → (1 ≡ k) × Among (entries two) (p, n) → IsAwaitedBy depth first t k p n
-    to_second k p n r = subst (λ (j : ℕ). IsAwaitedBy depth first t j p n) r.0 ((of_second p n).0 ((counted two p n).0 r.1))
+    to_second k p n r = subst (λ (j : ℕ). IsAwaitedBy depth first t j p n) r.0 ((of_second p n).0 ((pair_is two p n).0 r.1))
 
     to : (k : ℕ) (p : List Segment) (n : ℕ) → Among (tagged 0 (entries one)) (entry k p n) ⊎ Among (tagged 1 (entries two)) (entry k p n) → IsAwaitedBy depth first t k p n
     to k p n (inl i) = to_first k p n (of_table 0 k p n (entries one) i)
     to k p n (inr i) = to_second k p n (of_table 1 k p n (entries two) i)
 
     from : (k : ℕ) (p : List Segment) (n : ℕ) → IsAwaitedBy depth first t k p n → Among (tagged 0 (entries one)) (entry k p n) ⊎ Among (tagged 1 (entries two)) (entry k p n)
-    from zero p n h = inl (in_table 0 p n (entries one) ((counted one p n).1 ((of_first p n).1 h)))
-    from (suc zero) p n h = inr (in_table 1 p n (entries two) ((counted two p n).1 ((of_second p n).1 h)))
+    from zero p n h = inl (in_table 0 p n (entries one) ((pair_is one p n).1 ((of_first p n).1 h)))
+    from (suc zero) p n h = inr (in_table 1 p n (entries two) ((pair_is two p n).1 ((of_second p n).1 h)))
     from (suc (suc k)) p n h = absurd h
 
     pub awaited_by : (k : ℕ) (p : List Segment) (n : ℕ) → Among items (entry k p n) ↔ IsAwaitedBy depth first t k p n

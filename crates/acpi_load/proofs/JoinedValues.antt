@@ -2,7 +2,7 @@
 use Rattle.std.proofs.Common.{◌≡◌, ◌⊎◌, ◌↔◌, inl, inr, Bool, true, false, cond, List, [], ◌∷◌, map, Option, Some, None, true≢false, refl, sym, ap, subst, ◌∙◌}
 use Rattle.std.specs.Prelude.{IsTrue}
 use Rattle.std.specs.Option.{option_map, option_or}
-use Rattle.std.specs.FinMap.{FinMap, entries, from_entries, get, get-entries}
+use Rattle.std.specs.FinMap.{FinMap, entries, from_entries, get}
 use Rattle.std.specs.Map.{lookup}
 use Rattle.std.specs.Option.{option_eq}
 use Rattle.std.specs.Ordering.{is_eq}
@@ -17,9 +17,9 @@ use Rattle.acpi_space.specs.Spaces.{PathMap}
 use Rattle.acpi_space.proofs.Maps.{entries_ascending, get_is_lookup}
 use Rattle.acpi_tree.specs.steps.Equality.{Tells, lists_tell}
 use Rattle.acpi_declare.proofs.LinkMap.{get_inserted, lookup_mapped, put_mapped}
-use Rattle.acpi_body.proofs.Listed.{pair_found, rising}
 use Rattle.acpi_order.proofs.Lists.{one_some}
 use Rattle.acpi_load.specs.steps.Joining.{Gains, Clash, JoinsValue}
+use Rattle.acpi_load.proofs.PathSets.{pair_is}
 
 -- ---- one value
 
@@ -177,9 +177,6 @@ first_or_later {V} q u es p v = (to, from)
     from : ((q ≡ p) × (u ≡ v)) ⊎ InList es p v → (pair q u ≡ pair p v) ⊎ InList es p v
     from (inl r) = inl (λ i. (r.0 i, r.1 i))
     from (inr i) = inr i
-
-pub pair_is : {V : Type 0} (m : PathMap V) (p : List Segment) (v : V) → Among (entries m) (p, v) ↔ (get m p ≡ Some v)
-pair_is m p v = let r = pair_found (entries m) p v (rising m) in (λ i. get-entries m p ∙ r.0 i, λ e. r.1 (sym (get-entries m p) ∙ e))
 
 module _ {V W : Type 0} (f : V → W) where
   of_mapped : (es : List (List Segment × V)) (p : List Segment) (w : W) → Among (mapped f es) (p, w) → (v : V) × Among es (p, v) × (f v ≡ w)

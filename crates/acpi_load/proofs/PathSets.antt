@@ -1,9 +1,12 @@
 -- Sets of paths that grow by lists.
-use Rattle.std.proofs.Common.{◌≡◌, ◌≢◌, List, map, None, Some}
+use Rattle.std.proofs.Common.{◌≡◌, ◌≢◌, ◌↔◌, ◌∙◌, List, map, None, Some, sym}
+use Rattle.std.specs.FinMap.{entries, get, get-entries}
 use Rattle.acpi_name.specs.Names.{Segment}
 use Rattle.acpi_space.specs.Laws.{Among}
+use Rattle.acpi_space.specs.Spaces.{PathMap}
 use Rattle.acpi_body.specs.steps.Gathering.{Paths, Grows, with_misses}
 use Rattle.acpi_body.proofs.Grown.{grows_as, misses_grow}
+use Rattle.acpi_body.proofs.Listed.{pair_found, rising}
 
 none_some : (p : List Segment) → None ≢ Some p
 none_some p e = cc
@@ -16,3 +19,7 @@ list_grows m n ps e =
 -- the paths of some pairs
 abbrev pub paths_in : {V : Type 0} → List (List Segment × V) → List (List Segment)
 paths_in es = map (λ e. e.0) es
+
+-- the pairs of a map are its values
+pub pair_is : {V : Type 0} (m : PathMap V) (p : List Segment) (v : V) → Among (entries m) (p, v) ↔ (get m p ≡ Some v)
+pair_is m p v = let r = pair_found (entries m) p v (rising m) in (λ i. get-entries m p ∙ r.0 i, λ e. r.1 (sym (get-entries m p) ∙ e))
