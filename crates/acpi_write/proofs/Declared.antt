@@ -1,6 +1,6 @@
 -- What is put of a declaration, one part in front of the other.
-use Rattle.std.proofs.Common.{◌≡◌, ◌∙◌, ap, sym, refl, ℕ, List, [], ◌∷◌, ◌++◌, length, Option, Some, None, Result, Ok, Err, box_value, append_assoc}
-use Rattle.std.proofs.lemmas.List.{append-nil}
+use Rattle.std.proofs.Common.{◌≡◌, ◌∙◌, ap, sym, refl, ℕ, List, [], ◌∷◌, ◌++◌, length, Option, Some, None, Result, Ok, Err, box_value, append_assoc, arith, ◌≤◌}
+use Rattle.std.proofs.lemmas.List.{append-nil, length-append}
 use Rattle.std.specs.Fmt.{option_append}
 use Rattle.std.specs.Global.{Vec, Box}
 use Rattle.byteorder.specs.Endian.{little_bytes}
@@ -15,11 +15,11 @@ use Rattle.acpi_tree.specs.declared.term.Decl.{Decl, Decl-F, fold-roll-Decl}
 use Rattle.acpi_tree.specs.declared.term.Decl.TheVariants as decl
 use Rattle.acpi_tree.specs.Terms.{TermTree}
 use Rattle.acpi_tree.specs.View.{fields_view}
-use Rattle.acpi_tree.specs.TermView.{decl_step, operand_step, term_step, term_view, decl_view, terms_tree}
+use Rattle.acpi_tree.specs.TermView.{decl_step, operand_step, term_step, term_view, decl_view, terms_tree, else_view}
 use Rattle.acpi_write.specs.declared.fault.WriteFault.{WriteFault}
 use Rattle.acpi_write.specs.declared.fault.WriteFault.TheVariants.{TooLong, Memory}
 use Rattle.acpi_write.specs.Canonical.{filled_with, fields_bytes}
-use Rattle.acpi_write.specs.CanonicalTerms.{term_bytes, terms_bytes}
+use Rattle.acpi_write.specs.CanonicalTerms.{term_bytes, terms_bytes, else_bytes}
 use Rattle.acpi_write.specs.steps.Writing.{Puts}
 use Rattle.acpi_write.proofs.Fronts.{both_assoc, none_behind}
 
@@ -50,6 +50,11 @@ none_under a b none = ap (option_append a) none ∙ none_behind a
 
 pub none_within : (op front : List ℕ) (b : Bytes) → b ≡ None → filled_with op front b ≡ None
 none_within op front b none = ap (filled_with op front) none
+
+-- what is put makes nothing shorter
+pub longer : (b : Bytes) (old mid : List ℕ) → option_append b (Some old) ≡ Some mid → length old ≤ length mid
+longer None old mid put = absurd cc
+longer (Some b) old mid put = let e : mid ≡ b ++ old = cc in omega (arith, ap length e, length-append b old)
 
 -- a package round what is put
 pub puts_round : (r : Done) (round : Bytes → Bytes) (content : Bytes) (end : ℕ) (old mid new : List ℕ) → option_append content (Some old) ≡ Some mid → end ≡ length old
@@ -121,9 +126,38 @@ bank_field_is d r b i f v x es is same units =
     rw (same, units) (ap (λ e. term_bytes (decl_view e)) (is ∙ sym (decl.rolls-BankField r b i f v)) ∙ ap term_bytes (fold-roll-Decl TermTree TermTree TermTree decl_step operand_step term_step (Decl-F.BankField r b i f v))
     ∙ bank_parts (0x5B ∷ 0x87 ∷ []) (name_bytes r) (name_bytes b) (little_bytes 1 f) (term_bytes (term_view (box_value i))) (fields_bytes (fields_view v.items)))
 
--- ---- an If with an Else
+-- ---- terms with packages, form by form
 
-pub if_else_is : (t : Term) (b : Box Term) (v o : Vec Term) (w : Option (Vec Term)) (x : Term) (ts us : List Term) → t ≡ term.If b v w → w ≡ Some o → x ≡ box_value b → ts ≡ v.items → us ≡ o.items
-    → term_bytes (term_view t) ≡ option_append (filled_with (0xA0 ∷ []) [] (option_append (term_bytes (term_view x)) (terms_bytes (terms_tree ts)))) (filled_with (0xA1 ∷ []) [] (terms_bytes (terms_tree us)))
-if_else_is t b v o w x ts us is some test then other =
-    rw (test, then, other) (ap (λ e. term_bytes (term_view e)) (is ∙ ap (term.If b v) some ∙ sym (term.rolls-If b v (Some o))) ∙ ap term_bytes (fold-roll-Term TermTree TermTree TermTree decl_step operand_step term_step (Term-F.If b v (Some o))))
+pub buffer_is : (t : Term) (b : Box Term) (v : Vec ℕ) (x : Term) (content : List ℕ) → t ≡ term.Buffer b v → x ≡ box_value b → content ≡ v.items
+    → term_bytes (term_view t) ≡ filled_with (0x11 ∷ []) [] (option_append (term_bytes (term_view x)) (Some content))
+buffer_is t b v x content is first same =
+    rw (first, same) (ap (λ e. term_bytes (term_view e)) (is ∙ sym (term.rolls-Buffer b v)) ∙ ap term_bytes (fold-roll-Term TermTree TermTree TermTree decl_step operand_step term_step (Term-F.Buffer b v)))
+
+pub pkg_is : (t : Term) (n : ℕ) (v : Vec Term) (ts : List Term) → t ≡ term.Package n v → ts ≡ v.items → term_bytes (term_view t) ≡ filled_with (0x12 ∷ []) (n ∷ []) (terms_bytes (terms_tree ts))
+pkg_is t n v ts is same =
+    rw same (ap (λ e. term_bytes (term_view e)) (is ∙ sym (term.rolls-Package n v)) ∙ ap term_bytes (fold-roll-Term TermTree TermTree TermTree decl_step operand_step term_step (Term-F.Package n v)))
+
+pub var_pkg_is : (t : Term) (b : Box Term) (v : Vec Term) (x : Term) (ts : List Term) → t ≡ term.VarPackage b v → x ≡ box_value b → ts ≡ v.items
+    → term_bytes (term_view t) ≡ filled_with (0x13 ∷ []) [] (option_append (term_bytes (term_view x)) (terms_bytes (terms_tree ts)))
+var_pkg_is t b v x ts is first same =
+    rw (first, same) (ap (λ e. term_bytes (term_view e)) (is ∙ sym (term.rolls-VarPackage b v)) ∙ ap term_bytes (fold-roll-Term TermTree TermTree TermTree decl_step operand_step term_step (Term-F.VarPackage b v)))
+
+pub while_is : (t : Term) (b : Box Term) (v : Vec Term) (x : Term) (ts : List Term) → t ≡ term.While b v → x ≡ box_value b → ts ≡ v.items
+    → term_bytes (term_view t) ≡ filled_with (0xA2 ∷ []) [] (option_append (term_bytes (term_view x)) (terms_bytes (terms_tree ts)))
+while_is t b v x ts is first same =
+    rw (first, same) (ap (λ e. term_bytes (term_view e)) (is ∙ sym (term.rolls-While b v)) ∙ ap term_bytes (fold-roll-Term TermTree TermTree TermTree decl_step operand_step term_step (Term-F.While b v)))
+
+pub if_is : (t : Term) (b : Box Term) (v : Vec Term) (o : Option (Vec Term)) (x : Term) (ts : List Term) → t ≡ term.If b v o → x ≡ box_value b → ts ≡ v.items
+    → term_bytes (term_view t) ≡ option_append (filled_with (0xA0 ∷ []) [] (option_append (term_bytes (term_view x)) (terms_bytes (terms_tree ts)))) (else_bytes (else_view o))
+if_is t b v None x ts is first same =
+    rw (first, same) (ap (λ e. term_bytes (term_view e)) (is ∙ sym (term.rolls-If b v None)) ∙ ap term_bytes (fold-roll-Term TermTree TermTree TermTree decl_step operand_step term_step (Term-F.If b v None)))
+if_is t b v (Some o) x ts is first same =
+    rw (first, same) (ap (λ e. term_bytes (term_view e)) (is ∙ sym (term.rolls-If b v (Some o))) ∙ ap term_bytes (fold-roll-Term TermTree TermTree TermTree decl_step operand_step term_step (Term-F.If b v (Some o))))
+
+-- the package of an Else stands where there is one
+pub else_put : (o : Option (Vec Term)) (v : Vec Term) (ts : List Term) (old mid new : List ℕ) → o ≡ Some v → ts ≡ v.items → option_append (filled_with (0xA1 ∷ []) [] (terms_bytes (terms_tree ts))) (Some old) ≡ Some mid → new ≡ mid
+    → option_append (else_bytes (else_view o)) (Some old) ≡ Some new
+else_put o v ts old mid new is same put last = rw (is, ← same, last) put
+
+pub no_else_put : (o : Option (Vec Term)) (old new : List ℕ) → o ≡ None → new ≡ old → option_append (else_bytes (else_view o)) (Some old) ≡ Some new
+no_else_put o old new is last = rw (is, last) refl

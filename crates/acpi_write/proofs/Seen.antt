@@ -1,5 +1,5 @@
--- Values of lists that a loop goes over, each of which is of its types.
-use Rattle.std.proofs.Common.{◌≡◌, ℕ, ◌≤◌, ◌<◌, ◌+◌, List, [], ◌∷◌, length, drop, get_or, map, sym, subst}
+-- Values of lists that a loop goes over from the end, each of which is of its types.
+use Rattle.std.proofs.Common.{◌≡◌, ℕ, ◌≤◌, ◌<◌, ◌+◌, suc, List, [], ◌∷◌, length, drop, get_or, map, sym, subst, arith}
 use Rattle.std.proofs.lemmas.List.{drop_more}
 use Rattle.std.proofs.Math.ListN.{drop_of_length-le}
 use Rattle.std.specs.List.{AllByRecursion}
@@ -15,15 +15,22 @@ use Rattle.acpi_write.specs.Laws.{IsElemTyped, AreElemsTyped, IsItemTyped, AreIt
 use Rattle.acpi_write.specs.TermLaws.{IsTermTyped, AreTermsTyped}
 
 module _ {A : Type 0} (P : A → Type 0) where
-  -- where it holds of the elements from the i-th on, it holds of all
-  abbrev pub Seen : List A → ℕ → Type 0
-  Seen xs i = AllByRecursion P (drop i xs) → AllByRecursion P xs
+  -- it holds of the elements from the i-th on
+  abbrev pub Behind : List A → ℕ → Type 0
+  Behind xs i = AllByRecursion P (drop i xs)
 
-  pub seen_on : (xs : List A) (i : ℕ) (x : A) → i < length xs → x ≡ get_or xs i x → P x → Seen xs i → Seen xs (i + 1)
-  seen_on xs i x lt at holds seen rest = seen (subst (AllByRecursion P) (sym (drop_more xs i x lt)) (subst P at holds, rest))
+  pub behind_none : (xs : List A) (i : ℕ) → length xs ≤ i → Behind xs i
+  behind_none xs i le = subst (AllByRecursion P) (sym (drop_of_length-le xs {i = i} le)) tt
 
-  pub seen_all : (xs : List A) (i : ℕ) → length xs ≤ i → Seen xs i → AllByRecursion P xs
-  seen_all xs i le seen = seen (subst (AllByRecursion P) (sym (drop_of_length-le xs {i = i} le)) tt)
+  pub behind_one : (xs : List A) (i j : ℕ) (x : A) → i ≡ suc j → j < length xs → x ≡ get_or xs j x → P x → Behind xs i → Behind xs j
+  behind_one xs i j x is lt at holds behind =
+      let rest : AllByRecursion P (drop (j + 1) xs) = subst (Behind xs) (omega (arith, is)) behind in
+      subst (AllByRecursion P) (sym (drop_more xs j x lt)) (subst P at holds, rest)
+
+  pub behind_all : (xs : List A) (i : ℕ) → i ≡ 0 → Behind xs i → AllByRecursion P xs
+  behind_all xs i is behind = subst (Behind xs) is behind
+
+-- ---- lists
 
 pub seen_map : {A B : Type 0} (P : B → Type 0) (f : A → B) (xs : List A) → AllByRecursion (λ x. P (f x)) xs → AllByRecursion P (map f xs)
 seen_map P f [] h = tt

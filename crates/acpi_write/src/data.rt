@@ -1,10 +1,12 @@
 //! Data and field elements.
 
-ghost use Rattle.std.specs.Prelude.{◌++◌, ◌∷◌, [], Some};
+ghost use Rattle.std.specs.Prelude.{◌++◌, ◌∷◌, [], Some, OnOk};
 ghost use Rattle.acpi_tree.specs.View.{data_view, elem_view, elems_view, field_view, fields_view};
 ghost use Rattle.acpi_tree.specs.Tree.{elems_of};
 ghost use Rattle.acpi_write.specs.Canonical.{int_bytes, filled_with, data_bytes, elem_bytes, elems_bytes, bits_bytes, field_bytes, fields_bytes};
 ghost use Rattle.acpi_write.specs.steps.Writing.{Puts};
+ghost use Rattle.std.specs.List.{AllByRecursion};
+ghost use Rattle.acpi_write.specs.Laws.{IsIntTyped, IsDataTyped, IsElemTyped, AreElemsTyped, IsFieldTyped};
 
 use crate::fault::WriteFault;
 use crate::writer::{Argument, Writer};
@@ -23,7 +25,8 @@ impl Writer {
     }
 
     fn buffer(&mut self, opcode: &[u8], size: Int, content: &[u8]) -> Result<(), WriteFault>
-        ensures { Puts result (filled_with opcode.now (int_bytes size) (Some content.now)) self.old self.new }
+        ensures put { Puts result (filled_with opcode.now (int_bytes size) (Some content.now)) self.old self.new }
+        ensures typed { OnOk result (IsIntTyped size) }
     {
         let end = self.len();
         self.bytes(content)?;
@@ -33,7 +36,8 @@ impl Writer {
     /// Data (20.2.3, 20.2.5.4).
     #[cycle(data)]
     pub(crate) fn data(&mut self, data: &Data) -> Result<(), WriteFault>
-        ensures { Puts result (data_bytes (data_view «data».now)) self.old self.new }
+        ensures put { Puts result (data_bytes (data_view «data».now)) self.old self.new }
+        ensures typed { OnOk result (IsDataTyped (data_view «data».now)) }
     {
         match data {
             Data::Int(int) => {
@@ -57,7 +61,8 @@ impl Writer {
 
     #[cycle(data)]
     fn elem(&mut self, elem: &Elem) -> Result<(), WriteFault>
-        ensures { Puts result (elem_bytes (elem_view elem.now)) self.old self.new }
+        ensures put { Puts result (elem_bytes (elem_view elem.now)) self.old self.new }
+        ensures typed { OnOk result (IsElemTyped (elem_view elem.now)) }
     {
         match elem {
             Elem::Data(data) => self.data(data),
@@ -70,7 +75,8 @@ impl Writer {
 
     #[cycle(data)]
     fn elems(&mut self, elems: &[Elem]) -> Result<(), WriteFault>
-        ensures { Puts result (elems_bytes (elems_of (elems_view elems.now))) self.old self.new }
+        ensures put { Puts result (elems_bytes (elems_of (elems_view elems.now))) self.old self.new }
+        ensures typed { OnOk result (AreElemsTyped (elems_of (elems_view elems.now))) }
     {
         for i in (0..elems.len()).rev() {
             self.elem(&elems[i])?;
@@ -90,7 +96,8 @@ impl Writer {
     }
 
     fn field(&mut self, elem: &FieldElem) -> Result<(), WriteFault>
-        ensures { Puts result (field_bytes (field_view elem.now)) self.old self.new }
+        ensures put { Puts result (field_bytes (field_view elem.now)) self.old self.new }
+        ensures typed { OnOk result (IsFieldTyped (field_view elem.now)) }
     {
         match elem {
             FieldElem::Unit(seg, bits) => {
@@ -122,7 +129,8 @@ impl Writer {
 
     /// A field list (20.2.5.2 FieldList).
     pub(crate) fn fields(&mut self, elems: &[FieldElem]) -> Result<(), WriteFault>
-        ensures { Puts result (fields_bytes (fields_view elems.now)) self.old self.new }
+        ensures put { Puts result (fields_bytes (fields_view elems.now)) self.old self.new }
+        ensures typed { OnOk result (AllByRecursion IsFieldTyped (fields_view elems.now)) }
     {
         for i in (0..elems.len()).rev() {
             self.field(&elems[i])?;

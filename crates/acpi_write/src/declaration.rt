@@ -1,6 +1,6 @@
 //! Declarations in method bodies.
 
-ghost use Rattle.std.specs.Prelude.{◌++◌, Some};
+ghost use Rattle.std.specs.Prelude.{◌++◌, Some, OnOk};
 ghost use Rattle.std.specs.Fmt.{option_append};
 ghost use Rattle.acpi_name.specs.Spelling.{name_bytes};
 ghost use Rattle.byteorder.specs.Endian.{little_bytes};
@@ -9,6 +9,10 @@ ghost use Rattle.acpi_tree.specs.View.{fields_view};
 ghost use Rattle.acpi_write.specs.Canonical.{fields_bytes};
 ghost use Rattle.acpi_write.specs.CanonicalTerms.{term_bytes};
 ghost use Rattle.acpi_write.specs.steps.Writing.{Puts};
+ghost use Rattle.std.specs.List.{AllByRecursion};
+ghost use Rattle.acpi_name.specs.Names.{IsName};
+ghost use Rattle.acpi_write.specs.Laws.{IsFieldTyped};
+ghost use Rattle.acpi_write.specs.TermLaws.{IsTermTyped};
 
 use crate::fault::WriteFault;
 use crate::item::width_opcode;
@@ -21,7 +25,8 @@ impl Writer {
     #[cycle(terms)]
     #[inline(never)]
     pub(crate) fn declaration(&mut self, decl: &Decl) -> Result<(), WriteFault>
-        ensures { Puts result (term_bytes (decl_view decl.now)) self.old self.new }
+        ensures put { Puts result (term_bytes (decl_view decl.now)) self.old self.new }
+        ensures typed { OnOk result (IsTermTyped (decl_view decl.now)) }
     {
         match decl {
             Decl::Name(name, data) => {
@@ -112,7 +117,8 @@ impl Writer {
     // An opcode and the name that it declares.
     #[inline(never)]
     fn fronted(&mut self, opcode: &[u8], name: &Name) -> Result<(), WriteFault>
-        ensures { Puts result (Some (opcode.now ++ name_bytes name.now)) self.old self.new }
+        ensures put { Puts result (Some (opcode.now ++ name_bytes name.now)) self.old self.new }
+        ensures typed { IsName name.now }
     {
         self.name(name)?;
         self.bytes(opcode)?;
@@ -131,7 +137,8 @@ impl Writer {
     // The flags of a Field and its field list.
     #[inline(never)]
     fn flagged(&mut self, flags: u8, elems: &[FieldElem]) -> Result<(), WriteFault>
-        ensures { Puts result (option_append (Some (little_bytes 1 flags)) (fields_bytes (fields_view elems.now))) self.old self.new }
+        ensures put { Puts result (option_append (Some (little_bytes 1 flags)) (fields_bytes (fields_view elems.now))) self.old self.new }
+        ensures typed { OnOk result (AllByRecursion IsFieldTyped (fields_view elems.now)) }
     {
         self.fields(elems)?;
         self.raw_byte(flags)

@@ -1,12 +1,15 @@
 //! Items.
 
-ghost use Rattle.std.specs.Prelude.{◌≡◌, ◌∷◌, [], Some, false};
+ghost use Rattle.std.specs.Prelude.{◌≡◌, ◌∷◌, [], Some, false, OnOk};
 ghost use Rattle.acpi_code.specs.Opcodes.{width_bytes};
 ghost use Rattle.acpi_tree.specs.Tree.{name as named_item};
 ghost use Rattle.acpi_tree.specs.View.{data_view, external_view, externals_view, fields_view, item_view, items_tree};
 ghost use Rattle.acpi_tree.specs.Fits.{holds_items};
 ghost use Rattle.acpi_write.specs.Canonical.{each_bytes, filled_with, external_bytes, fields_bytes, item_bytes, items_bytes};
-ghost use Rattle.acpi_write.specs.steps.Writing.{Puts, pieces};
+ghost use Rattle.acpi_write.specs.steps.Writing.{Puts, pieces, AreArgumentsTyped};
+ghost use Rattle.std.specs.List.{AllByRecursion};
+ghost use Rattle.acpi_name.specs.Names.{IsName};
+ghost use Rattle.acpi_write.specs.Laws.{IsDataTyped, IsFieldTyped, IsExternalTyped, IsItemTyped, AreItemsTyped};
 
 use crate::fault::WriteFault;
 use crate::writer::{Argument, Writer};
@@ -30,7 +33,8 @@ impl Writer {
     /// Items one after another (20.2.5).
     #[cycle(items)]
     pub(crate) fn items(&mut self, items: &[Item]) -> Result<(), WriteFault>
-        ensures { Puts result (items_bytes (items_tree items.now)) self.old self.new }
+        ensures put { Puts result (items_bytes (items_tree items.now)) self.old self.new }
+        ensures typed { OnOk result (AreItemsTyped (items_tree items.now)) }
     {
         for i in (0..items.len()).rev() {
             self.item(&items[i])?;
@@ -40,7 +44,8 @@ impl Writer {
 
     #[cycle(items)]
     fn item(&mut self, item: &Item) -> Result<(), WriteFault>
-        ensures { Puts result (item_bytes (item_view item.now)) self.old self.new }
+        ensures put { Puts result (item_bytes (item_view item.now)) self.old self.new }
+        ensures typed { OnOk result (IsItemTyped (item_view item.now)) }
     {
         let end = self.len();
         match item {
@@ -94,7 +99,8 @@ impl Writer {
     #[inline(never)]
     fn leaf(&mut self, item: &Item) -> Result<(), WriteFault>
         requires { holds_items (item_view item.now) ≡ false }
-        ensures { Puts result (item_bytes (item_view item.now)) self.old self.new }
+        ensures put { Puts result (item_bytes (item_view item.now)) self.old self.new }
+        ensures typed { OnOk result (IsItemTyped (item_view item.now)) }
     {
         match item {
             Item::Name(name, data) => self.named(name, data),
@@ -215,7 +221,8 @@ impl Writer {
 
     // DefName
     fn named(&mut self, name: &Name, data: &Data) -> Result<(), WriteFault>
-        ensures { Puts result (item_bytes (named_item name.now (data_view «data».now))) self.old self.new }
+        ensures put { Puts result (item_bytes (named_item name.now (data_view «data».now))) self.old self.new }
+        ensures typed { OnOk result (IsName name.now × IsDataTyped (data_view «data».now)) }
     {
         self.data(data)?;
         self.name(name)?;
@@ -225,7 +232,8 @@ impl Writer {
 
     // DefExternal
     fn external(&mut self, external: &External) -> Result<(), WriteFault>
-        ensures { Puts result (Some (external_bytes (external_view external.now))) self.old self.new }
+        ensures put { Puts result (Some (external_bytes (external_view external.now))) self.old self.new }
+        ensures typed { OnOk result (IsExternalTyped (external_view external.now)) }
     {
         let parts = [
             Argument::Name(&external.name),
@@ -237,7 +245,8 @@ impl Writer {
     }
 
     fn externals(&mut self, externals: &[External]) -> Result<(), WriteFault>
-        ensures { Puts result (each_bytes (λ x. Some (external_bytes x)) (externals_view externals.now)) self.old self.new }
+        ensures put { Puts result (each_bytes (λ x. Some (external_bytes x)) (externals_view externals.now)) self.old self.new }
+        ensures typed { OnOk result (AllByRecursion IsExternalTyped (externals_view externals.now)) }
     {
         for i in (0..externals.len()).rev() {
             self.external(&externals[i])?;
@@ -252,7 +261,8 @@ impl Writer {
         front: &[Argument<'_>],
         elems: &[FieldElem],
     ) -> Result<(), WriteFault>
-        ensures { Puts result (filled_with opcode.now (pieces front.now) (fields_bytes (fields_view elems.now))) self.old self.new }
+        ensures put { Puts result (filled_with opcode.now (pieces front.now) (fields_bytes (fields_view elems.now))) self.old self.new }
+        ensures typed { OnOk result (AreArgumentsTyped front.now × AllByRecursion IsFieldTyped (fields_view elems.now)) }
     {
         let end = self.len();
         self.fields(elems)?;

@@ -1,11 +1,8 @@
-//! What follows from the definitions alone, and from the types of values in memory. Each law is the contract of a call
-//! that does nothing, or nothing but read its argument.
+//! What follows from the definitions alone. Each law is the contract of a call that does nothing.
 
 ghost use Rattle.acpi_write.specs.Laws.{ItemsAreSpelled};
 ghost use Rattle.acpi_write.specs.Shortest.{NoItemsAreShorter, ReadTermsAreWritten, SpelledItemsAreTyped};
 ghost use Rattle.acpi_write.specs.TermLaws.{TermsAreSpelled};
-
-pub use crate::typed::{items_are_typed, terms_are_typed};
 
 /// The shortest spelling of items spells them, so that they are read from it again.
 pub fn items_are_spelled()

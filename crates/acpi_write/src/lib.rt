@@ -8,7 +8,6 @@ mod item;
 pub mod laws;
 mod operator;
 mod term;
-mod typed;
 mod writer;
 mod writing;
 

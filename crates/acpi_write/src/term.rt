@@ -1,6 +1,6 @@
 //! Terms of method bodies.
 
-ghost use Rattle.std.specs.Prelude.{◌≡◌, ◌≤◌, ◌+◌, ◌%◌, ◌∷◌, ◌++◌, [], ℕ, List, length, Some};
+ghost use Rattle.std.specs.Prelude.{◌≡◌, ◌≤◌, ◌+◌, ◌%◌, ◌∷◌, ◌++◌, [], ℕ, List, length, Some, OnOk};
 ghost use Rattle.std.specs.Fmt.{option_append};
 ghost use Rattle.acpi_tree.specs.Terms.{terms_of};
 ghost use Rattle.acpi_tree.specs.TermView.{term_view, terms_tree, operand_view, operands_view};
@@ -9,6 +9,9 @@ ghost use Rattle.acpi_code.specs.Opcodes as opcodes;
 ghost use Rattle.acpi_write.specs.Canonical.{int_bytes, filled_with};
 ghost use Rattle.acpi_write.specs.CanonicalTerms.{term_bytes, terms_bytes};
 ghost use Rattle.acpi_write.specs.steps.Writing.{Puts};
+ghost use Rattle.acpi_name.specs.Names.{IsName};
+ghost use Rattle.acpi_write.specs.Laws.{IsIntTyped};
+ghost use Rattle.acpi_write.specs.TermLaws.{IsTermTyped, AreTermsTyped};
 
 use crate::fault::WriteFault;
 use crate::operator::operator_bytes;
@@ -20,7 +23,8 @@ impl Writer {
     /// Terms one after another (ACPI 6.5, 20.2.5).
     #[cycle(terms)]
     pub(crate) fn terms(&mut self, terms: &[Term]) -> Result<(), WriteFault>
-        ensures { Puts result (terms_bytes (terms_tree terms.now)) self.old self.new }
+        ensures put { Puts result (terms_bytes (terms_tree terms.now)) self.old self.new }
+        ensures typed { OnOk result (AreTermsTyped (terms_tree terms.now)) }
     {
         for i in (0..terms.len()).rev() {
             self.term(&terms[i])?;
@@ -30,7 +34,8 @@ impl Writer {
 
     #[cycle(terms)]
     pub(crate) fn term(&mut self, term: &Term) -> Result<(), WriteFault>
-        ensures { Puts result (term_bytes (term_view term.now)) self.old self.new }
+        ensures put { Puts result (term_bytes (term_view term.now)) self.old self.new }
+        ensures typed { OnOk result (IsTermTyped (term_view term.now)) }
     {
         match term {
             Term::Int(int) => self.constant(*int),
@@ -38,7 +43,8 @@ impl Writer {
             Term::Buffer(size, content) => {
                 let end = self.len();
                 self.bytes(content)?;
-                self.close(end, &[0x11], size)
+                self.term(size)?;
+                self.fill(end, &[0x11], &[])
             }
             Term::Package(count, elems) => {
                 let end = self.len();
@@ -48,7 +54,8 @@ impl Writer {
             Term::VarPackage(count, elems) => {
                 let end = self.len();
                 self.terms(elems)?;
-                self.close(end, &[0x13], count)
+                self.term(count)?;
+                self.fill(end, &[0x13], &[])
             }
             Term::Local(number) => self.numbered(0x60, *number),
             Term::Arg(number) => self.numbered(0x68, *number),
@@ -63,12 +70,14 @@ impl Writer {
                 }
                 let end = self.len();
                 self.terms(then)?;
-                self.close(end, &[0xA0], test)
+                self.term(test)?;
+                self.fill(end, &[0xA0], &[])
             }
             Term::While(test, then) => {
                 let end = self.len();
                 self.terms(then)?;
-                self.close(end, &[0xA2], test)
+                self.term(test)?;
+                self.fill(end, &[0xA2], &[])
             }
             Term::Declare(decl) => self.declaration(decl),
         }
@@ -76,7 +85,8 @@ impl Writer {
 
     #[inline(never)]
     fn constant(&mut self, int: Int) -> Result<(), WriteFault>
-        ensures { Puts result (Some (int_bytes int)) self.old self.new }
+        ensures put { Puts result (Some (int_bytes int)) self.old self.new }
+        ensures typed { IsIntTyped int }
     {
         self.int(int)?;
         Ok(())
@@ -101,27 +111,18 @@ impl Writer {
 
     #[inline(never)]
     pub(crate) fn reference(&mut self, name: &Name) -> Result<(), WriteFault>
-        ensures { Puts result (Some (name_bytes name.now)) self.old self.new }
+        ensures put { Puts result (Some (name_bytes name.now)) self.old self.new }
+        ensures typed { IsName name.now }
     {
         self.name(name)?;
         Ok(())
     }
 
-    // A value in front of what fills the rest of a package, which ends where the writer had so many bytes.
-    #[cycle(terms)]
-    fn close(&mut self, end: usize, opcode: &[u8], value: &Term) -> Result<(), WriteFault>
-        requires { end ≤ length self.old }
-        ensures { (content rest : List ℕ) → self.old ≡ content ++ rest → length rest ≡ end
-            → Puts result (filled_with opcode.now [] (option_append (term_bytes (term_view value.now)) (Some content))) rest self.new }
-    {
-        self.term(value)?;
-        self.fill(end, opcode, &[])
-    }
-
     // The package of an Else.
     #[cycle(terms)]
     fn alternative(&mut self, terms: &[Term]) -> Result<(), WriteFault>
-        ensures { Puts result (filled_with (0xA1 ∷ []) [] (terms_bytes (terms_tree terms.now))) self.old self.new }
+        ensures put { Puts result (filled_with (0xA1 ∷ []) [] (terms_bytes (terms_tree terms.now))) self.old self.new }
+        ensures typed { OnOk result (AreTermsTyped (terms_tree terms.now)) }
     {
         let end = self.len();
         self.terms(terms)?;
@@ -131,7 +132,8 @@ impl Writer {
     // A name and its arguments.
     #[cycle(terms)]
     fn call(&mut self, name: &Name, args: &[Term]) -> Result<(), WriteFault>
-        ensures { Puts result (option_append (Some (name_bytes name.now)) (terms_bytes (terms_tree args.now))) self.old self.new }
+        ensures put { Puts result (option_append (Some (name_bytes name.now)) (terms_bytes (terms_tree args.now))) self.old self.new }
+        ensures typed { OnOk result (IsName name.now × AreTermsTyped (terms_tree args.now)) }
     {
         self.terms(args)?;
         self.reference(name)
@@ -140,7 +142,8 @@ impl Writer {
     // An operator and its operands.
     #[cycle(terms)]
     fn operation(&mut self, op: Op, operands: &[Operand]) -> Result<(), WriteFault>
-        ensures { Puts result (option_append (Some (opcodes.operator_bytes op)) (terms_bytes (terms_of (operands_view operands.now)))) self.old self.new }
+        ensures put { Puts result (option_append (Some (opcodes.operator_bytes op)) (terms_bytes (terms_of (operands_view operands.now)))) self.old self.new }
+        ensures typed { OnOk result (AreTermsTyped (terms_of (operands_view operands.now))) }
     {
         self.operands(operands)?;
         self.fixed(operator_bytes(op))
@@ -148,7 +151,8 @@ impl Writer {
 
     #[cycle(terms)]
     fn operands(&mut self, operands: &[Operand]) -> Result<(), WriteFault>
-        ensures { Puts result (terms_bytes (terms_of (operands_view operands.now))) self.old self.new }
+        ensures put { Puts result (terms_bytes (terms_of (operands_view operands.now))) self.old self.new }
+        ensures typed { OnOk result (AreTermsTyped (terms_of (operands_view operands.now))) }
     {
         for i in (0..operands.len()).rev() {
             self.operand(&operands[i])?;
@@ -158,7 +162,8 @@ impl Writer {
 
     #[cycle(terms)]
     fn operand(&mut self, operand: &Operand) -> Result<(), WriteFault>
-        ensures { Puts result (term_bytes (operand_view operand.now)) self.old self.new }
+        ensures put { Puts result (term_bytes (operand_view operand.now)) self.old self.new }
+        ensures typed { OnOk result (IsTermTyped (operand_view operand.now)) }
     {
         match operand {
             Operand::Term(term) => self.term(term),

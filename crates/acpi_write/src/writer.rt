@@ -4,7 +4,9 @@ ghost use Rattle.std.specs.Prelude.{◌≡◌, ◌++◌, ◌∷◌, [], ◌≤�
 ghost use Rattle.byteorder.specs.Endian.{little_bytes};
 ghost use Rattle.acpi_name.specs.Spelling.{name_bytes};
 ghost use Rattle.acpi_write.specs.Canonical.{int_bytes, filled_with};
-ghost use Rattle.acpi_write.specs.steps.Writing.{argument_piece, pieces, length_bytes, Puts};
+ghost use Rattle.acpi_write.specs.steps.Writing.{argument_piece, pieces, length_bytes, Puts, IsArgumentTyped, AreArgumentsTyped};
+ghost use Rattle.acpi_name.specs.Names.{IsName};
+ghost use Rattle.acpi_write.specs.Laws.{IsIntTyped};
 
 use crate::fault::WriteFault;
 use acpi_name::{Name, write_name};
@@ -91,14 +93,16 @@ impl Writer {
     }
 
     pub(crate) fn name(&mut self, name: &Name) -> Result<(), AllocError>
-        ensures { OnOk result (self.new ≡ name_bytes name.now ++ self.old) }
+        ensures put { OnOk result (self.new ≡ name_bytes name.now ++ self.old) }
+        ensures typed { IsName name.now }
     {
         let bytes = write_name(self.alloc, name.view())?;
         self.bytes(&bytes)
     }
 
     pub(crate) fn int(&mut self, int: Int) -> Result<(), AllocError>
-        ensures { OnOk result (self.new ≡ int_bytes int ++ self.old) }
+        ensures put { OnOk result (self.new ≡ int_bytes int ++ self.old) }
+        ensures typed { IsIntTyped int }
     {
         match int {
             Int::Zero => self.byte(0x00),
@@ -120,7 +124,8 @@ impl Writer {
     }
 
     pub(crate) fn argument(&mut self, argument: Argument<'_>) -> Result<(), AllocError>
-        ensures { OnOk result (self.new ≡ argument_piece argument.entry ++ self.old) }
+        ensures put { OnOk result (self.new ≡ argument_piece argument.entry ++ self.old) }
+        ensures typed { IsArgumentTyped argument.entry }
     {
         match argument {
             Argument::Name(name) => self.name(name),
@@ -132,7 +137,8 @@ impl Writer {
     }
 
     pub(crate) fn arguments(&mut self, arguments: &[Argument<'_>]) -> Result<(), AllocError>
-        ensures { OnOk result (self.new ≡ pieces arguments.now ++ self.old) }
+        ensures put { OnOk result (self.new ≡ pieces arguments.now ++ self.old) }
+        ensures typed { OnOk result (AreArgumentsTyped arguments.now) }
     {
         for i in (0..arguments.len()).rev() {
             self.argument(arguments[i])?;
@@ -165,8 +171,9 @@ impl Writer {
         arguments: &[Argument<'_>],
     ) -> Result<(), WriteFault>
         requires { end ≤ length self.old }
-        ensures { (content rest : List ℕ) → self.old ≡ content ++ rest → length rest ≡ end
+        ensures put { (content rest : List ℕ) → self.old ≡ content ++ rest → length rest ≡ end
             → Puts result (filled_with opcode.now (pieces arguments.now) (Some content)) rest self.new }
+        ensures typed { OnOk result (AreArgumentsTyped arguments.now) }
     {
         self.arguments(arguments)?;
         self.package_length(self.len() - end)?;
@@ -180,7 +187,8 @@ impl Writer {
         opcode: &[u8],
         arguments: &[Argument<'_>],
     ) -> Result<(), AllocError>
-        ensures { OnOk result (self.new ≡ (opcode.now ++ pieces arguments.now) ++ self.old) }
+        ensures put { OnOk result (self.new ≡ (opcode.now ++ pieces arguments.now) ++ self.old) }
+        ensures typed { OnOk result (AreArgumentsTyped arguments.now) }
     {
         self.arguments(arguments)?;
         self.bytes(opcode)

@@ -1,13 +1,20 @@
 //! Items and tables as bytes.
 
-ghost use Rattle.std.specs.Prelude.{◌≡◌, ◌+◌, ◌<◌, ◌++◌, ℕ, List, IfOk, OnOk, IsTrue, Some, None, Err, drop, length};
+ghost use Rattle.std.specs.Prelude.{◌≡◌, ◌+◌, ◌<◌, ◌≤◌, ◌++◌, ℕ, List, IfOk, OnOk, IsTrue, Some, None, Err, drop, length};
+ghost use Rattle.std.specs.FinMap as finite;
+ghost use Rattle.acpi_name.specs.Names.{Segment};
 ghost use Rattle.acpi_table.specs.Tables.{IsTable, header_of};
 ghost use Rattle.acpi_tree.specs.View.{items_tree};
 ghost use Rattle.acpi_tree.specs.TermView.{terms_tree};
 ghost use Rattle.acpi_tree.specs.TermFits.{terms_fit};
 ghost use Rattle.acpi_tree.specs.Fits.{items_fit};
+ghost use Rattle.acpi_terms.specs.Spelling.{SpellsItems};
+ghost use Rattle.acpi_body.specs.Arguments.{Arguments};
+ghost use Rattle.acpi_body.specs.Spelling.{heights};
+ghost use Rattle.acpi_body.specs.Statements.{Reads};
 ghost use Rattle.acpi_write.specs.Canonical.{items_bytes};
 ghost use Rattle.acpi_write.specs.CanonicalTerms.{terms_bytes};
+ghost use Rattle.acpi_write.specs.TermLaws.{AllMayStandIn};
 ghost use Rattle.acpi_write.specs.Tables.{header_for};
 ghost use Rattle.acpi_write.specs.steps.Writing.{header_bytes, HasWidths};
 
@@ -23,6 +30,8 @@ pub fn write_items(alloc: Global, items: &[Item]) -> Result<Vec<u8>, WriteFault>
     requires fit { IsTrue (items_fit (items_tree items.now)) }
     ensures ok { IfOk result (λ bytes. items_bytes (items_tree items.now) ≡ Some bytes.items) }
     ensures long { result ≡ Err WriteFault.TooLong → items_bytes (items_tree items.now) ≡ None }
+    // So they are read from it again.
+    ensures spells { IfOk result (λ bytes. SpellsItems (items_tree items.now) bytes.items) }
 {
     let mut writer = Writer::new(alloc);
     writer.items(items)?;
@@ -35,6 +44,9 @@ pub fn write_terms(alloc: Global, terms: &[Term]) -> Result<Vec<u8>, WriteFault>
     requires fit { IsTrue (terms_fit (terms_tree terms.now)) }
     ensures ok { IfOk result (λ bytes. terms_bytes (terms_tree terms.now) ≡ Some bytes.items) }
     ensures long { result ≡ Err WriteFault.TooLong → terms_bytes (terms_tree terms.now) ≡ None }
+    // So they are read from it again, where each call has the arguments that its name asks for and each declared name
+    // has a place, at any depth not below their height.
+    ensures spells { IfOk result (λ bytes. (args : Arguments) (s : List Segment) (depth : ℕ) → AllMayStandIn args s finite.empty (terms_tree terms.now) → heights (terms_tree terms.now) ≤ depth → Reads args s depth bytes.items (terms_tree terms.now)) }
 {
     let mut writer = Writer::new(alloc);
     writer.terms(terms)?;
@@ -49,6 +61,7 @@ pub fn write_table(alloc: Global, header: &Header, items: &[Item]) -> Result<Vec
     ensures table { IfOk result (λ bytes. IsTable bytes.items) }
     ensures header { IfOk result (λ bytes. header_of bytes.items ≡ header_for header.now bytes.items) }
     ensures code { IfOk result (λ bytes. items_bytes (items_tree items.now) ≡ Some (drop 36 bytes.items)) }
+    ensures spells { IfOk result (λ bytes. SpellsItems (items_tree items.now) (drop 36 bytes.items)) }
     ensures long { result ≡ Err WriteFault.TooLong → (code : List ℕ) → items_bytes (items_tree items.now) ≡ Some code → 16777216 < 36 + length code }
 {
     let mut writer = Writer::new(alloc);

@@ -1,15 +1,18 @@
 -- What the writer puts in front of what it has.
 use Rattle.std.specs.Prelude.{◌≡◌, ◌<◌, length, ℕ, List, [], ◌∷◌, ◌++◌, take, nat_le, if◌then◌else◌, Option, Some, None, Result, Ok, Err}
 use Rattle.std.specs.Fmt.{option_append}
+use Rattle.std.specs.List.{AllByRecursion}
 use Rattle.acpi_table.specs.declared.tables.Header.{Header}
 use Rattle.acpi_table.specs.PkgLength.{shortest_pkg_length, package_number}
 use Rattle.acpi_write.specs.declared.fault.WriteFault.{WriteFault}
 use Rattle.acpi_write.specs.declared.fault.WriteFault.TheVariants.{TooLong, Memory}
 use Rattle.byteorder.specs.Endian.{little_bytes}
+use Rattle.acpi_name.specs.Names.{IsName}
 use Rattle.acpi_name.specs.Spelling.{name_bytes}
 use Rattle.acpi_write.specs.declared.writer.Argument.{Argument}
 use Rattle.acpi_write.specs.declared.writer.Argument.TheVariants as arguments
 use Rattle.acpi_write.specs.Canonical.{int_bytes, each_bytes}
+use Rattle.acpi_write.specs.Laws.{IsIntTyped}
 
 abbrev pub argument_piece : Argument → List ℕ
 argument_piece (arguments.Name n) = name_bytes n.now
@@ -21,6 +24,17 @@ argument_piece (arguments.Int i) = int_bytes i
 abbrev pub pieces : List Argument → List ℕ
 pieces [] = []
 pieces (a ∷ rest) = argument_piece a ++ pieces rest
+
+-- what the types of fixed arguments say of them
+abbrev pub IsArgumentTyped : Argument → Type 0
+IsArgumentTyped (arguments.Name n) = IsName n.now
+IsArgumentTyped (arguments.Byte n) = Unit {0}
+IsArgumentTyped (arguments.Word n) = n < 65536
+IsArgumentTyped (arguments.DWord n) = n < 4294967296
+IsArgumentTyped (arguments.Int i) = IsIntTyped i
+
+abbrev pub AreArgumentsTyped : List Argument → Type 0
+AreArgumentsTyped xs = AllByRecursion IsArgumentTyped xs
 
 -- the package length of so many bytes behind it
 abbrev pub length_bytes : ℕ → Option (List ℕ)
