@@ -51,4 +51,5 @@ pub record IsWritten (args : Arguments) (s : List Segment) (depth : ℕ) (bytes 
   pub within : length written ≤ length bytes
 
 abbrev pub ReadTermsAreWritten : Type 0
-ReadTermsAreWritten = (args : Arguments) (s : List Segment) (depth : ℕ) (bytes : List ℕ) (ts : TermTrees) → All (λ b. b < 256) bytes → Reads args s depth bytes ts → IsWritten args s depth bytes ts
+ReadTermsAreWritten = (args : Arguments) (s : List Segment) (depth : ℕ) (bytes : List ℕ) (ts : TermTrees)
+    → All (λ b. b < 256) bytes → Reads args s depth bytes ts → IsWritten args s depth bytes ts

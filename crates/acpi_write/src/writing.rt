@@ -46,7 +46,9 @@ pub fn write_terms(alloc: Global, terms: &[Term]) -> Result<Vec<u8>, WriteFault>
     ensures long { result ≡ Err WriteFault.TooLong → terms_bytes (terms_tree terms.now) ≡ None }
     // So they are read from it again, where each call has the arguments that its name asks for and each declared name
     // has a place, at any depth not below their height.
-    ensures spells { IfOk result (λ bytes. (args : Arguments) (s : List Segment) (depth : ℕ) → AllMayStandIn args s finite.empty (terms_tree terms.now) → heights (terms_tree terms.now) ≤ depth → Reads args s depth bytes.items (terms_tree terms.now)) }
+    ensures spells { IfOk result (λ bytes. (args : Arguments) (s : List Segment) (depth : ℕ)
+        → AllMayStandIn args s finite.empty (terms_tree terms.now) → heights (terms_tree terms.now) ≤ depth
+        → Reads args s depth bytes.items (terms_tree terms.now)) }
 {
     let mut writer = Writer::new(alloc);
     writer.terms(terms)?;
