@@ -9,7 +9,7 @@ ghost use Rattle.acpi_load.specs.VerdictView.{verdict_view, IsFaultOf};
 ghost use Rattle.acpi_load.specs.steps.Clashing.{single_trees, AreSorted, IsFirstOfAll};
 
 use crate::alone::single_loads;
-use crate::clashes::{Clash, Kind, first_clash};
+use crate::clashes::{Kind, first_clash};
 use crate::singles::Single;
 use crate::verdicts::Verdict;
 use acpi_declare::{Declared, LoadFault, declare_shared, shared_tables};
@@ -25,27 +25,17 @@ fn verdict_of<S: Space<Object>>(singles: &[Single<S>]) -> Result<Verdict, AllocE
     ensures { IfOk result (λ v. IsFirstOfAll (single_trees S.contents singles.now) v) }
 {
     if let Some(clash) = first_clash(Kind::Same, singles)? {
-        let Clash {
-            first,
-            second,
-            path,
-        } = clash;
         return Ok(Verdict::Same {
-            first,
-            second,
-            path,
+            first: clash.first,
+            second: clash.second,
+            path: clash.path,
         });
     }
     if let Some(clash) = first_clash(Kind::Missed, singles)? {
-        let Clash {
-            first,
-            second,
-            path,
-        } = clash;
         return Ok(Verdict::Missed {
-            searcher: first,
-            definer: second,
-            path,
+            searcher: clash.first,
+            definer: clash.second,
+            path: clash.path,
         });
     }
     Ok(Verdict::Commute)
