@@ -96,7 +96,7 @@ is_commute (verdicts.Same i j p) e = cc
 is_commute (verdicts.Missed i j p) e = cc
 is_commute verdicts.Commute e = refl
 
-commutes : (depth : ℕ) (dsdt : List ℕ) (ssdts : List (List ℕ)) → OneVerdict → CommuteIsIndependent → ssdts ≢ [] → (v : Verdict) → IsVerdict depth dsdt ssdts (verdict_view v)
+pub commutes : (depth : ℕ) (dsdt : List ℕ) (ssdts : List (List ℕ)) → OneVerdict → CommuteIsIndependent → ssdts ≢ [] → (v : Verdict) → IsVerdict depth dsdt ssdts (verdict_view v)
     → (v ≡ verdicts.Commute) ↔ IsIndependent depth dsdt ssdts
 commutes depth dsdt ssdts one law some v h = (
   (λ e. (law depth dsdt ssdts some).0 (let P : Verdict → Type 0 = λ x. IsVerdict depth dsdt ssdts (verdict_view x) in subst P e h)),

@@ -16,6 +16,7 @@ pub mod MetLists
 pub mod AwaitsAlone
 pub mod SatisfiedBy
 pub mod SatisfiedTables
+pub mod CheckedTables
 pub mod Recoded
 pub mod Relisted
 pub mod Rewritten

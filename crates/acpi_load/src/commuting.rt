@@ -19,8 +19,8 @@ use acpi_terms::{Depth, Object};
 use bytes::Bytes;
 use std::alloc::{AllocError, Global};
 
-// The verdict on SSDTs that all load alone.
-fn verdict_of<S: Space<Object>>(singles: &[Single<S>]) -> Result<Verdict, AllocError>
+/// The verdict on SSDTs that all load alone.
+pub(crate) fn verdict_of<S: Space<Object>>(singles: &[Single<S>]) -> Result<Verdict, AllocError>
     requires { AreSorted (single_trees S.contents singles.now) }
     ensures { IfOk result (λ v. IsFirstOfAll (single_trees S.contents singles.now) v) }
 {

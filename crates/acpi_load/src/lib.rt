@@ -24,11 +24,13 @@
 //!
 //! `single` tells of the load with one SSDT what it declares, misses and awaits. From the single loads of all SSDTs
 //! `verdict` finds whether they may be loaded in any order, or the first reason that they may not (`IsVerdict` of
-//! `acpi_order`), and `satisfied` which methods that bodies await another SSDT declares (`IsSatisfied`):
+//! `acpi_order`), and `satisfied` which methods that bodies await another SSDT declares (`IsSatisfied`). `check_shared`
+//! tells both, and makes the single loads once:
 //!
 //! ```text
-//! match verdict::<TreeSpace<Object>>(alloc, dsdt, &ssdts, depth)? {
-//!     Verdict::Commute => satisfied::<TreeSpace<Object>>(alloc, dsdt, &ssdts, depth)?,
+//! let checked = check_shared::<TreeSpace<Object>>(alloc, &dsdt, &ssdts, depth)?;
+//! match checked.verdict {
+//!     Verdict::Commute => checked.satisfied,
 //!     Verdict::Missed { searcher, definer, path } => ..
 //! }
 //! ```
@@ -37,6 +39,7 @@
 mod alone;
 mod awaits;
 mod bodies;
+mod checking;
 mod clashes;
 mod commuting;
 mod joining;
@@ -52,6 +55,7 @@ mod singles;
 mod verdicts;
 
 pub use acpi_declare::{Declared, LoadFault, LoadReason, Refusal, declare, declare_shared, laws};
+pub use checking::check_shared;
 pub use commuting::{verdict, verdict_shared};
 pub use joining::join;
 pub use machine::{Machine, load, load_shared};
@@ -60,4 +64,4 @@ pub use reasons::{explain, explain_shared};
 pub use rewriting::{rewrite, rewrite_shared};
 pub use satisfying::{satisfied, satisfied_shared};
 pub use singles::{Awaited, Single};
-pub use verdicts::{Satisfied, Verdict};
+pub use verdicts::{Checked, Satisfied, Verdict};

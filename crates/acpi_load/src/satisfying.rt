@@ -98,8 +98,8 @@ fn add_user<S: Space<Object>>(
     Ok(())
 }
 
-// What SSDTs satisfy of what bodies of the DSDT and of one another await.
-fn all_met<S: Space<Object>>(
+/// What SSDTs satisfy of what bodies of the DSDT and of one another await.
+pub(crate) fn all_met<S: Space<Object>>(
     alloc: Global,
     awaited: &[Awaited],
     singles: &[Single<S>],

@@ -39,3 +39,12 @@ pub struct Satisfied {
     /// The path of the method.
     pub path: Path,
 }
+
+/// What is told of SSDTs over a DSDT.
+#[derive(Debug, Drop)]
+pub struct Checked {
+    /// Whether they commute.
+    pub verdict: Verdict,
+    /// The Externals that they satisfy, by user, definer and path; none where one of them doesn't load alone.
+    pub satisfied: Vec<Satisfied>,
+}

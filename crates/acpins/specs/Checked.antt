@@ -1,15 +1,12 @@
 -- What `check` prints of SSDTs over a DSDT, and its status (docs/COMMAND.md).
-use Rattle.std.specs.Prelude.{◌≡◌, ◌↔◌, ℕ, List, [], ◌∷◌, ◌++◌, codes, decimal}
+use Rattle.std.specs.Prelude.{◌≡◌, ℕ, List, [], ◌∷◌, ◌++◌, codes, decimal}
 use Rattle.std.specs.List.{flat_map}
-use Rattle.std.specs.List.Sorted.{IsStrictlySortedBy}
 use Rattle.acpi_name.specs.Names.{Segment}
 use Rattle.acpi_name.specs.Text.{path_text}
-use Rattle.acpi_space.specs.Laws.{Among}
 use Rattle.acpi_declare.specs.declared.fault.LoadReason.{LoadReason}
 use Rattle.acpi_order.specs.Verdicts.{VerdictTree, commute, not_alone, same, missed, IsReasonAt, IsVerdict}
-use Rattle.acpi_order.specs.Singles.{IsSatisfied}
 use Rattle.acpi_load.specs.declared.verdicts.Satisfied.{Satisfied}
-use Rattle.acpi_load.specs.SatisfiedView.{satisfied_cmp}
+use Rattle.acpi_load.specs.SatisfiedView.{AreSatisfied}
 use Rattle.acpins.specs.FailureLines.{fault_text}
 
 -- two numbers of tables and a path, behind a word
@@ -19,11 +16,6 @@ triple_line word i j p = word ++ codes " " ++ decimal i ++ codes " " ++ decimal 
 -- an External of the user that the definer satisfies
 abbrev pub satisfied_line : Satisfied → List ℕ
 satisfied_line t = triple_line (codes "satisfied") t.user t.definer t.path
-
--- all Externals that other tables satisfy, by user, definer and path
-pub record AreSatisfied (depth : ℕ) (dsdt : List ℕ) (ssdts : List (List ℕ)) (triples : List Satisfied) : Type 0 where
-  pub ascend : IsStrictlySortedBy satisfied_cmp triples
-  pub are : (t : Satisfied) → Among triples t ↔ IsSatisfied depth dsdt ssdts t.user t.definer t.path
 
 -- what is printed for a verdict: `commute` and a line for each satisfied External, with status 0; else its one line, with status 3
 abbrev pub ChecksAs : ℕ → List ℕ → List (List ℕ) → VerdictTree → ℕ → List ℕ → Type 0

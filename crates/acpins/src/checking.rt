@@ -3,17 +3,17 @@
 ghost use Rattle.std.specs.Prelude.{◌≡◌, ◌≢◌, ◌∷◌, ℕ, ◌++◌, [], codes, decimal, IfErr, IfOk, OnOk};
 ghost use Rattle.std.specs.List.{flat_map};
 ghost use Rattle.acpi_declare.specs.Refusals.{IsLoadFault};
-ghost use Rattle.acpi_order.specs.Verdicts.{commute, IsVerdict};
+ghost use Rattle.acpi_order.specs.Verdicts.{AllAlone, IsVerdict};
+ghost use Rattle.acpi_load.specs.SatisfiedView.{AreSatisfied};
 ghost use Rattle.acpi_load.specs.VerdictView.{verdict_view, IsFaultOf};
-ghost use Rattle.acpins.specs.Checked.{triple_line, satisfied_line, AreSatisfied, Checks};
+ghost use Rattle.acpins.specs.Checked.{triple_line, satisfied_line, Checks};
 ghost use Rattle.acpins.specs.FailureLines.{fault_text};
 
 use crate::lines::put_fault;
 use crate::made::{Made, put};
 use crate::parts::IntoText;
-use acpi_load::{LoadFault, LoadReason, Satisfied, Verdict, satisfied_shared, verdict_shared};
+use acpi_load::{Checked, LoadFault, LoadReason, Satisfied, Verdict, check_shared};
 use acpi_name::Path;
-use acpi_order::laws::{one_verdict, verdict_is_found_in_order};
 use acpi_space::Space;
 use acpi_terms::{Depth, Object};
 use acpi_text::{put_decimal, put_path};
@@ -84,37 +84,19 @@ fn put_satisfied(text: &mut Vec<u8>, satisfied: &[Satisfied]) -> Result<(), Allo
     Ok(())
 }
 
-// The verdict on the SSDTs. A refusal of the DSDT is one of all tables.
-fn verdict_on<S: Space<Object>>(
+// The verdict on the SSDTs, and what they satisfy. A refusal of the DSDT is one of all tables.
+fn check_tables<S: Space<Object>>(
     alloc: Global,
     dsdt: &Bytes,
     ssdts: &[Bytes],
     depth: Depth,
-) -> Result<Verdict, LoadFault>
-    ensures ok { IfOk result (λ v. IsVerdict depth dsdt.now ssdts.now (verdict_view v)) }
-    ensures fault { IfOk result (λ v. IsFaultOf depth dsdt.now ssdts.now v) }
+) -> Result<Checked, LoadFault>
+    ensures ok { IfOk result (λ c. IsVerdict depth dsdt.now ssdts.now (verdict_view c.verdict)) }
+    ensures fault { IfOk result (λ c. IsFaultOf depth dsdt.now ssdts.now c.verdict) }
+    ensures satisfied { IfOk result (λ c. AllAlone depth dsdt.now ssdts.now → AreSatisfied depth dsdt.now ssdts.now c.satisfied.items) }
     ensures err { IfErr result (λ e. IsLoadFault depth (dsdt.now ∷ ssdts.now) e) }
 {
-    verdict_shared::<S>(alloc, dsdt, ssdts, depth)
-}
-
-// The Externals that tables satisfy, where the SSDTs commute: then each table loads.
-fn satisfied_of<S: Space<Object>>(
-    alloc: Global,
-    dsdt: &Bytes,
-    ssdts: &[Bytes],
-    depth: Depth,
-) -> Result<Vec<Satisfied>, AllocError>
-    requires { IsVerdict depth dsdt.now ssdts.now commute }
-    ensures { IfOk result (λ v. AreSatisfied depth dsdt.now ssdts.now v.items) }
-{
-    one_verdict();
-    verdict_is_found_in_order();
-    match satisfied_shared::<S>(alloc, dsdt, ssdts, depth) {
-        Ok(satisfied) => Ok(satisfied),
-        Err(LoadFault::At { .. }) => unreachable!(),
-        Err(LoadFault::Memory) => Err(AllocError),
-    }
+    check_shared::<S>(alloc, dsdt, ssdts, depth)
 }
 
 /// Whether the SSDTs may be loaded in any order over the DSDT: `commute`, with status 0, and a line for each External
@@ -129,10 +111,11 @@ pub fn checked<S: Space<Object>>(
     ensures err { IfErr result (λ e. IsLoadFault depth (dsdt.now ∷ ssdts.now) e) }
 {
     let mut text = Vec::new(alloc);
-    match verdict_on::<S>(alloc, dsdt, ssdts, depth)? {
+    let Checked { verdict, satisfied } = check_tables::<S>(alloc, dsdt, ssdts, depth)?;
+    match verdict {
         Verdict::Commute => {
             put(&mut text, "commute\n")?;
-            put_satisfied(&mut text, &satisfied_of::<S>(alloc, dsdt, ssdts, depth)?)?;
+            put_satisfied(&mut text, &satisfied)?;
             Ok(Made { text, status: 0 })
         }
         Verdict::NotAlone { ssdt, fault } => {
