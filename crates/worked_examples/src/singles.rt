@@ -111,6 +111,15 @@ fn joined<S: Space<Object>>(
     Ok(join(alloc, &singles)?)
 }
 
+// What stands at each path.
+fn listed<S: Space<Object>>(alloc: Global, objects: &S) -> Result<String, Fail> {
+    let mut text = String::new(alloc);
+    for (path, object) in &objects.pairs()? {
+        text.push_str(format!(in alloc; "{path} {object:?}; ")?.as_str())?;
+    }
+    Ok(text)
+}
+
 // The join is what all tables load to.
 fn expect_join<S: Space<Object>>(
     rt: &impl Abort,
@@ -122,7 +131,8 @@ fn expect_join<S: Space<Object>>(
     let join: Machine<S> = joined(alloc, dsdt, ssdts)?.ok_or("no join")?;
     let dsdt = table(alloc, *b"DSDT", dsdt)?;
     let loaded: Machine<S> = load_shared(alloc, &dsdt, &tables(alloc, ssdts)?, depth)?;
-    assert!(rt; join.objects().pairs()? == loaded.objects().pairs()?);
+    let objects = listed(alloc, join.objects())?;
+    assert_eq!(rt; objects.as_str(), listed(alloc, loaded.objects())?.as_str());
     assert!(rt; join.links() == loaded.links());
     assert!(rt; join.bodies() == loaded.bodies());
     Ok(())
