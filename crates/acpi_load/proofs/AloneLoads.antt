@@ -28,7 +28,8 @@ dsdt_loads depth dsdt objects links h = by h.placements h.listings
     by (t ∷ u ∷ us) a = absurd a.1
 
 -- a load with one SSDT that is refused is refused at the SSDT, where the DSDT loads
-refused_at : (depth : ℕ) (dsdt b : List ℕ) (reason : LoadReason) (number : ℕ) (earlier : List (List ℕ)) (bytes : List ℕ) (later : List (List ℕ)) (placements : List (List Placement)) → DsdtLoads depth dsdt
+refused_at : (depth : ℕ) (dsdt b : List ℕ) (reason : LoadReason) (number : ℕ) (earlier : List (List ℕ)) (bytes : List ℕ) (later : List (List ℕ)) (placements : List (List Placement))
+    → DsdtLoads depth dsdt
     → dsdt ∷ b ∷ [] ≡ earlier ++ bytes ∷ later → length earlier ≡ number → AreListings depth 0 predefined earlier placements
     → IsLoadReason depth number (objects_after predefined placements) bytes reason → number ≡ 1
 refused_at depth dsdt b reason number [] bytes later ts loads splits count listings refused =
@@ -41,7 +42,8 @@ refused_at depth dsdt b reason number [] bytes later ts loads splits count listi
       count = refl;
       placements = ts;
       listings = listings;
-      refused = subst (λ (n : ℕ). IsLoadReason depth n (objects_after predefined ts) dsdt reason) (sym count) (subst (λ (x : List ℕ). IsLoadReason depth number (objects_after predefined ts) x reason) (sym same) refused);
+      refused = subst (λ (n : ℕ). IsLoadReason depth n (objects_after predefined ts) dsdt reason) (sym count) (subst (λ (x : List ℕ). IsLoadReason depth number
+          (objects_after predefined ts) x reason) (sym same) refused);
     } in
     absurd (refused_has_no_load depth (dsdt ∷ []) (At 0 reason) none (λ e. let never : ⊥ = cc in never) (loads.0 ∷ []) loads.1)
 refused_at depth dsdt b reason number (x ∷ []) bytes later ts loads splits count listings refused = sym count
@@ -54,7 +56,8 @@ refused_at depth dsdt b reason number (x ∷ y ∷ xs) bytes later ts loads spli
     none [] e = cc
     none (z ∷ zs) e = cc
 
-pub at_ssdt : (depth : ℕ) (dsdt b : List ℕ) (number : ℕ) (reason : LoadReason) → DsdtLoads depth dsdt → IsFirstWithout depth (dsdt ∷ b ∷ []) number reason → IsFirstWithout depth (dsdt ∷ b ∷ []) 1 reason
+pub at_ssdt : (depth : ℕ) (dsdt b : List ℕ) (number : ℕ) (reason : LoadReason) → DsdtLoads depth dsdt → IsFirstWithout depth (dsdt ∷ b ∷ []) number reason
+    → IsFirstWithout depth (dsdt ∷ b ∷ []) 1 reason
 at_ssdt depth dsdt b number reason loads h =
     subst (λ (n : ℕ). IsFirstWithout depth (dsdt ∷ b ∷ []) n reason)
     (refused_at depth dsdt b reason number h.earlier h.bytes h.later h.placements loads h.splits h.count h.listings h.refused) h
@@ -74,7 +77,8 @@ module _ (depth : ℕ) (dsdt : List ℕ) where
   one_more (x ∷ bs) [] (suc i) b s h within e k = absurd h
   one_more (x ∷ bs) (y ∷ ss) (suc i) b s h within e k = (h.0, one_more bs ss i b s h.1 (omega arith) e k)
 
-  pub are_singles_more : {X : Type 0} (seen : X → SingleTree) (bs : List (List ℕ)) (xs : List X) (i : ℕ) (b : List ℕ) (x : X) → AreSingles depth dsdt (take i bs) (map seen xs) → i < length bs → b ≡ get_or bs i b
+  pub are_singles_more : {X : Type 0} (seen : X → SingleTree) (bs : List (List ℕ)) (xs : List X) (i : ℕ) (b : List ℕ) (x : X) → AreSingles depth dsdt (take i bs) (map seen xs)
+      → i < length bs → b ≡ get_or bs i b
       → IsSingleTree depth dsdt b (seen x) → AreSingles depth dsdt (take (i + 1) bs) (map seen (xs ++ x ∷ []))
   are_singles_more seen bs xs i b x h within e k =
       rw add-one (subst (AreSingles depth dsdt (take (suc i) bs)) (sym (map-append seen xs (x ∷ []))) (one_more bs (map seen xs) i b (seen x) h within e k))
@@ -103,7 +107,8 @@ module _ (depth : ℕ) (dsdt : List ℕ) where
     is_reason = (b, rw add-one (place_of_item bs i b within e), at_ssdt depth dsdt b number reason loads refused);
   }
 
-  pub refused_so : (bs : List (List ℕ)) (ss : List SingleTree) (i : ℕ) (b : List ℕ) (fault : LoadFault) → DsdtLoads depth dsdt → AreSingles depth dsdt (take i bs) ss → i < length bs → b ≡ get_or bs i b
+  pub refused_so : (bs : List (List ℕ)) (ss : List SingleTree) (i : ℕ) (b : List ℕ) (fault : LoadFault) → DsdtLoads depth dsdt → AreSingles depth dsdt (take i bs) ss → i < length bs
+      → b ≡ get_or bs i b
       → IsLoadFault depth (dsdt ∷ b ∷ []) fault → IsSinglesFault depth dsdt bs (told_of (i + 1) fault)
   refused_so bs ss i b (At number reason) loads h within e refused = refused_here bs ss i b number reason loads h within e refused
   refused_so bs ss i b Memory loads h within e refused = tt

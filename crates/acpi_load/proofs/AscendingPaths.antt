@@ -92,7 +92,8 @@ least_map H K to from (Some p) h = (to p h.0, λ q less k. h.1 q less (from q k)
 
 -- what is among an ascending list is not below its head
 not_below : (p : List Segment) (ps : List (List Segment)) → IsStrictlySortedBy path_cmp (p ∷ ps) → (q : List Segment) → path_cmp q p ≡ Less → Among (p ∷ ps) q → ⊥
-not_below p ps up q less (inl is) = let e : path_cmp p p ≡ Less = subst (λ (x : List Segment). path_cmp x p ≡ Less) (sym is) less in let t : path_cmp p p ≡ Equal = tied_itself path_cmp_total p in let never : ⊥ = cc in never
+not_below p ps up q less (inl is) = let e : path_cmp p p ≡ Less = subst (λ (x : List Segment). path_cmp x p ≡ Less)
+    (sym is) less in let t : path_cmp p p ≡ Equal = tied_itself path_cmp_total p in let never : ⊥ = cc in never
 not_below p ps up q less (inr m) =
     let above : path_cmp p q ≡ Less = among_all (λ y. path_cmp p y ≡ Less) ps (sorted_head path_cmp p ps up) q m in
     let e : path_cmp q p ≡ Greater = below_is_greater p q above in let never : ⊥ = cc in never

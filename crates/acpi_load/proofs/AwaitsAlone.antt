@@ -62,7 +62,8 @@ module _ (depth : ℕ) (objects : Namespace) where
   abbrev AwaitsOf : List Method → List Segment → ℕ → Type 0
   AwaitsOf ms p args = (m : Method) × Among ms m × IsAwaiting depth objects m p args
 
-  to_method : (ms : List Method) (before now : Awaits) → AddsAllAwaits depth objects ms before now → (p : List Segment) (args : ℕ) → Among now (0, p, args) → Among before (0, p, args) ⊎ AwaitsOf ms p args
+  to_method : (ms : List Method) (before now : Awaits) → AddsAllAwaits depth objects ms before now → (p : List Segment) (args : ℕ) → Among now (0, p, args)
+      → Among before (0, p, args) ⊎ AwaitsOf ms p args
   to_method [] before now h p args i = inl (subst (λ (ws : Awaits). Among ws (0, p, args)) h i)
   to_method (m ∷ ms) before now h p args i = by (to_method ms h.0 now h.2 p args i)
     where
@@ -74,7 +75,8 @@ module _ (depth : ℕ) (objects : Namespace) where
       by (inl j) = one (among_append before (map open_view h.1.opens) (0, p, args) (subst (λ (ws : Awaits). Among ws (0, p, args)) h.1.now_is j))
       by (inr (n, j, k)) = inr (n, inr j, k)
 
-  of_method : (ms : List Method) (before now : Awaits) → AddsAllAwaits depth objects ms before now → (p : List Segment) (args : ℕ) → Among before (0, p, args) ⊎ AwaitsOf ms p args → Among now (0, p, args)
+  of_method : (ms : List Method) (before now : Awaits) → AddsAllAwaits depth objects ms before now → (p : List Segment) (args : ℕ) → Among before (0, p, args) ⊎ AwaitsOf ms p args
+      → Among now (0, p, args)
   of_method [] before now h p args (inl i) = subst (λ (ws : Awaits). Among ws (0, p, args)) (sym h) i
   of_method [] before now h p args (inr (m, j, k)) = absurd j
   of_method (m ∷ ms) before now h p args i = of_method ms h.0 now h.2 p args (by i)
@@ -107,6 +109,7 @@ awaits_are depth dsdt objects links notes ws load are added =
     by (t ∷ []) a h = record {
       first = t;
       listings = a;
-      awaits_are = λ p args. await_all depth (objects_of_first t) (methods_of t) ws (subst (λ (ms : List Method). AddsAllAwaits depth (objects_of_first t) ms [] ws) (append-nil (methods_of t)) h) p args;
+      awaits_are = λ p args. await_all depth (objects_of_first t) (methods_of t) ws (subst (λ (ms : List Method). AddsAllAwaits depth (objects_of_first t) ms [] ws) (append-nil
+          (methods_of t)) h) p args;
     }
     by (t ∷ u ∷ us) a h = absurd a.1

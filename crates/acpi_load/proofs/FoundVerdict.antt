@@ -52,12 +52,14 @@ module _ (depth : ℕ) (dsdt : List ℕ) (ssdts : List (List ℕ)) (ss : List Si
       let y = single_of depth dsdt ssdts ss singles j h.definer h.is_definer in
       let s = x.0 in
       let r = y.0 in
+      let unmet = missed_by_lists depth dsdt ssdts i j h.searcher h.definer h.is_searcher h.is_definer s.machine r.machine s.defined r.defined s.missed r.missed s.awaited r.awaited
+      x.2 y.2 h.different p in
       record {
         this = s;
         other = r;
         is_this = x.1;
         is_other = y.1;
-        clashes = (h.different, (missed_by_lists depth dsdt ssdts i j h.searcher h.definer h.is_searcher h.is_definer s.machine r.machine s.defined r.defined s.missed r.missed s.awaited r.awaited x.2 y.2 h.different p).0 h);
+        clashes = (h.different, unmet.0 h);
       }
 
   pub found_verdict : (v : Verdict) → DsdtLoads depth dsdt → IsFirstOfAll ss v → IsVerdict depth dsdt ssdts (verdict_view v)
@@ -103,8 +105,8 @@ commutes depth dsdt ssdts one law some v h = (
   (λ free. is_commute v (one depth dsdt ssdts (verdict_view v) commute h ((law depth dsdt ssdts some).1 free))),
 )
 
-pub told_commute : (depth : ℕ) (dsdt : List ℕ) (ssdts : List (List ℕ)) (r : Result Verdict LoadFault) → OneVerdict → CommuteIsIndependent → IfOk r (λ v. IsVerdict depth dsdt ssdts (verdict_view v)) → ssdts ≢ []
-    → IfOk r (λ v. (v ≡ verdicts.Commute) ↔ IsIndependent depth dsdt ssdts)
+pub told_commute : (depth : ℕ) (dsdt : List ℕ) (ssdts : List (List ℕ)) (r : Result Verdict LoadFault) → OneVerdict → CommuteIsIndependent
+    → IfOk r (λ v. IsVerdict depth dsdt ssdts (verdict_view v)) → ssdts ≢ [] → IfOk r (λ v. (v ≡ verdicts.Commute) ↔ IsIndependent depth dsdt ssdts)
 told_commute depth dsdt ssdts (Ok v) one law h some = commutes depth dsdt ssdts one law some v h
 told_commute depth dsdt ssdts (Err e) one law h some = tt
 

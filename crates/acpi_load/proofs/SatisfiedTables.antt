@@ -100,7 +100,8 @@ module _ (depth : ℕ) (dsdt : List ℕ) (ssdts : List (List ℕ)) (ss : List Si
   to_satisfied ws alone t (inl h) = from_listed 0 ws t (λ p args m. (alone.first, alone.listings, (alone.awaits_are p args).0 m)) h
   to_satisfied ws alone t (inr h) =
       let next : IsMetFrom (suc h.place) h.single.awaited 1 ss t = subst (λ (n : ℕ). IsMetFrom n h.single.awaited 1 ss t) (sym (one_more h.place)) h.is_met_from in
-      from_listed (suc h.place) h.single.awaited t (λ p args m. awaits_of_single h.place h.single h.stands p args (subst (λ (n : ℕ). Among h.single.awaited (n, p, args)) (table_of_ssdt h.place) m)) next
+      from_listed (suc h.place) h.single.awaited t (λ p args m. awaits_of_single h.place h.single h.stands p args (subst (λ (n : ℕ). Among h.single.awaited (n, p, args))
+      (table_of_ssdt h.place) m)) next
 
   -- ---- what is satisfied is listed
 
@@ -111,7 +112,8 @@ module _ (depth : ℕ) (dsdt : List ℕ) (ssdts : List (List ℕ)) (ss : List Si
   table_is : (b : List ℕ) (r : SingleTree) (s : IsSingleTree depth dsdt b r) (first t : Listing) → AreSingleListings depth dsdt b first t → t ≡ s.t
   table_is b r s first t h = same_second depth dsdt b s.first t s.t (subst (λ (f : Listing). AreSingleListings depth dsdt b f t) (first_is b r s first t h) h) s.listings
 
-  listed_at : (user : ℕ) (ws : Awaits) (t : Satisfied) (h : IsSatisfied depth dsdt ssdts user t.definer t.path) → t.user ≡ user → Among ws (table_of user, t.path, h.args) → (definer : ℕ) → t.definer ≡ definer
+  listed_at : (user : ℕ) (ws : Awaits) (t : Satisfied) (h : IsSatisfied depth dsdt ssdts user t.definer t.path) → t.user ≡ user → Among ws (table_of user, t.path, h.args) → (definer : ℕ)
+      → t.definer ≡ definer
       → IsSsdt ssdts definer h.ssdt → IsMetFrom user ws 1 ss t
   listed_at user ws t h of_user awaits zero e is = absurd is
   listed_at user ws t h of_user awaits (suc place) e is =
@@ -134,7 +136,8 @@ module _ (depth : ℕ) (dsdt : List ℕ) (ssdts : List (List ℕ)) (ss : List Si
         };
       }
 
-  of_satisfied : (ws : Awaits) → AreAwaitsAlone depth dsdt ws → (t : Satisfied) (user : ℕ) → t.user ≡ user → IsSatisfied depth dsdt ssdts user t.definer t.path → IsMetFrom 0 ws 1 ss t ⊎ IsMetFor 1 ss ss t
+  of_satisfied : (ws : Awaits) → AreAwaitsAlone depth dsdt ws → (t : Satisfied) (user : ℕ) → t.user ≡ user → IsSatisfied depth dsdt ssdts user t.definer t.path
+      → IsMetFrom 0 ws 1 ss t ⊎ IsMetFor 1 ss ss t
   of_satisfied ws alone t zero e h =
       let first : h.awaits.0 ≡ alone.first = one_dsdt depth dsdt h.awaits.0 alone.first h.awaits.1 alone.listings in
       let awaits : Among ws (0, t.path, h.args) =
@@ -152,7 +155,8 @@ module _ (depth : ℕ) (dsdt : List ℕ) (ssdts : List (List ℕ)) (ss : List Si
         place = k;
         single = u;
         stands = x.1;
-        is_met_from = subst (λ (n : ℕ). IsMetFrom n u.awaited 1 ss t) (one_more k) (listed_at (suc k) u.awaited t h e (subst (λ (n : ℕ). Among u.awaited (n, t.path, h.args)) (sym (table_of_ssdt k)) awaits) t.definer refl h.is_definer);
+        is_met_from = subst (λ (n : ℕ). IsMetFrom n u.awaited 1 ss t) (one_more k) (listed_at (suc k) u.awaited t h e (subst (λ (n : ℕ). Among u.awaited (n, t.path, h.args)) (sym
+            (table_of_ssdt k)) awaits) t.definer refl h.is_definer);
       })
 
   pub all_satisfied : (ws : Awaits) → AreAwaitsAlone depth dsdt ws → (t : Satisfied) → Among (all_met ws ss) t ↔ IsSatisfied depth dsdt ssdts t.user t.definer t.path

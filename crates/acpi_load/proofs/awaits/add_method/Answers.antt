@@ -18,5 +18,6 @@ returns g c =
     let code : c.deref.result.now ≡ m.code = search rules in
     let body = subst (λ (bytes : List ℕ). IsBodyOf (arguments objects counts m.path) m.path c.args.depth bytes b) code c.in_ok-body.ensures.body in
     let misses = c.in_ok-misses.misses in
-    adds_one c.list_open.result c.args.depth objects (with_counts counts (method_of m)) b misses.«open».items (map awaited_view c.args.awaited.now.items) (map awaited_view c.list_open.new.awaited.items)
+    adds_one c.list_open.result c.args.depth objects (with_counts counts (method_of m)) b misses.«open».items (map awaited_view c.args.awaited.now.items)
+    (map awaited_view c.list_open.new.awaited.items)
     body c.in_ok-misses.ensures.«open» c.list_open.ensures

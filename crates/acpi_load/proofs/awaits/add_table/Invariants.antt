@@ -11,5 +11,6 @@ use Rattle.acpi_load.proofs.awaits.add_table.Given as goal
 abbrev pub invariant-loop-method : goal.invariant-loop-method
 invariant-loop-method g l =
     (now : Awaits)
-    → AddsAllAwaits l.depth (namespace_of (g.S.Space.contents l.objects)) (map (with_counts (get l.notes.counts)) (map method_of (drop l.method-index l.notes.methods.items))) (map awaited_view l.awaited.items) now
+    → AddsAllAwaits l.depth (namespace_of (g.S.Space.contents l.objects)) (map (with_counts (get l.notes.counts)) (map method_of (drop l.method-index l.notes.methods.items)))
+    (map awaited_view l.awaited.items) now
     → AddsAllAwaits l.depth (namespace_of (g.S.Space.contents l.objects)) (map (with_counts (get l.notes.counts)) (map method_of l.notes.methods.items)) (map awaited_view l.initial.awaited.items) now

@@ -18,4 +18,5 @@ loop-table-preserved g c = λ now h.
     let here : drop i notes ≡ t ∷ drop (i + 1) notes = drop_more notes i t (grind arith) ∙ ap (λ y. y ∷ drop (i + 1) notes) (sym c.table-item.is) in
     c.loop-table.invariant now
     (subst (λ (l : List TableNotes). AddsAllAwaits c.args.depth objects (all_noted (map notes_of l)) (map awaited_view c.loop-table.awaited.items) now) (sym here)
-    (adds_both c.args.depth objects (noted (notes_of t)) (all_noted (map notes_of (drop (i + 1) notes))) (map awaited_view c.loop-table.awaited.items) (map awaited_view c.add_table.new.awaited.items) now c.in_ok-add_table.ensures h))
+    (adds_both c.args.depth objects (noted (notes_of t)) (all_noted (map notes_of (drop (i + 1) notes))) (map awaited_view c.loop-table.awaited.items)
+    (map awaited_view c.add_table.new.awaited.items) now c.in_ok-add_table.ensures h))

@@ -19,7 +19,8 @@ returns-in_err-verdict_of-in-Ok-clause-none g c =
 
 pub returns-in_ok-verdict_of-in-Ok-clause-ok : goal.returns-in_ok-verdict_of-in-Ok-clause-ok
 returns-in_ok-verdict_of-in-Ok-clause-ok g c =
-    found_verdict c.args.depth c.args.dsdt.now c.args.ssdts.now (single_trees g.S.Space.contents c.in-Ok.singles.items) c.in-Ok.ensures.ok c.in_ok-verdict_of-in-Ok.field-0 c.in_ok-load_dsdt.ensures.loads
+    found_verdict c.args.depth c.args.dsdt.now c.args.ssdts.now
+    (single_trees g.S.Space.contents c.in-Ok.singles.items) c.in-Ok.ensures.ok c.in_ok-verdict_of-in-Ok.field-0 c.in_ok-load_dsdt.ensures.loads
     (rw c.deref.ensures.value at c.in_ok-verdict_of-in-Ok.ensures)
 
 pub returns-in-Err-At-clause-ok : goal.returns-in-Err-At-clause-ok
