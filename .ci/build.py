@@ -107,7 +107,7 @@ def prove_libraries(processors):
     todo = [it for it in crates if not it.is_built()]
     steps = {"all": len(todo) + 1, "begun": 0}
     if len(todo) == len(crates):
-        say(f"the first run proves {steps['all']} crates: it takes about 25 minutes on 4 processors (here are {processors})")
+        say(f"the first run proves {steps['all']} crates: it takes about 30 minutes on 4 processors (here are {processors})")
     prove_all(crates, steps, processors)
     for it in held:
         os.close(it)
