@@ -41,7 +41,7 @@ one_place [] i x y h k = absurd h
 one_place (z ∷ xs) zero x y h k = sym h ∙ k
 one_place (z ∷ xs) (suc i) x y h k = one_place xs i x y h k
 
-one_number : {X : Type 0} (xs : List X) (i : ℕ) (x y : X) → IsNumber xs i x → IsNumber xs i y → x ≡ y
+pub one_number : {X : Type 0} (xs : List X) (i : ℕ) (x y : X) → IsNumber xs i x → IsNumber xs i y → x ≡ y
 one_number xs zero x y h k = absurd h
 one_number xs (suc i) x y h k = one_place xs i x y h k
 
@@ -62,7 +62,7 @@ place_within f [] i y h = absurd h
 place_within f (x ∷ xs) zero y h = omega arith
 place_within f (x ∷ xs) (suc i) y h = let more = place_within f xs i y h in omega arith
 
-number_within : {X Y : Type 0} (f : X → Y) (xs : List X) (i : ℕ) (y : Y) → IsNumber (map f xs) i y → i ≤ length xs
+pub number_within : {X Y : Type 0} (f : X → Y) (xs : List X) (i : ℕ) (y : Y) → IsNumber (map f xs) i y → i ≤ length xs
 number_within f xs zero y h = absurd h
 number_within f xs (suc i) y h = let more = place_within f xs i y h in omega arith
 

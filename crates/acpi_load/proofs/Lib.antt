@@ -10,6 +10,7 @@ pub mod AwaitedMethods
 pub mod SingleLoads
 pub mod AscendingPaths
 pub mod FirstClash
+pub mod LastDefiners
 pub mod AloneLoads
 pub mod FoundVerdict
 pub mod MetLists

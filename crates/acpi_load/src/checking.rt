@@ -34,7 +34,7 @@ fn checked_of<S: Space<Object>>(
     ensures verdict { IfOk result (λ c. IsFirstOfAll (single_trees S.contents singles.now) c.verdict) }
     ensures satisfied { IfOk result (λ c. c.satisfied.items ≡ all_met (map awaited_view awaited.now) (single_trees S.contents singles.now)) }
 {
-    let verdict = verdict_of(singles)?;
+    let verdict = verdict_of(alloc, singles)?;
     let satisfied = all_met(alloc, awaited, singles)?;
     Ok(Checked { verdict, satisfied })
 }

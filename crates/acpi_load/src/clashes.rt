@@ -1,6 +1,6 @@
 //! Where the single loads of two SSDTs clash.
 
-ghost use Rattle.std.specs.Prelude.{◌≡◌, ◌≤◌, ◌<◌, ◌&&◌, not, IfOk, find, length};
+ghost use Rattle.std.specs.Prelude.{◌≡◌, ◌≤◌, ◌<◌, ◌&&◌, false, not, None, IfOk, find, length};
 ghost use Rattle.std.specs.List.{list_any};
 ghost use Rattle.std.specs.List.Sorted.{IsStrictlySortedBy};
 ghost use Rattle.std.specs.Option.{option_copied};
@@ -9,12 +9,15 @@ ghost use Rattle.acpi_space.specs.Lookups.{is_same_path};
 ghost use Rattle.acpi_tree.specs.Objects.{object_view};
 ghost use Rattle.acpi_order.specs.Independent.{is_method_of};
 ghost use Rattle.acpi_load.specs.steps.Clashing.{has, is_unmet, single_tree, single_trees, IsSortedTree, AreSorted, clash_path, IsFirstWith, IsFirstClash};
+ghost use Rattle.acpi_load.specs.steps.Defining.{last_in, AreDefiners};
 
+use crate::definers::{any_elsewhere, any_other};
 use crate::singles::{Awaited, Single};
 use acpi_name::Path;
 use acpi_space::Space;
 use acpi_terms::Object;
 use std::alloc::AllocError;
+use std::collections::BTreeMap;
 
 /// How two SSDTs clash.
 #[derive(Clone, Copy)]
@@ -139,16 +142,64 @@ fn clash_with<S: Space<Object>>(
     Ok(None)
 }
 
-/// The first two SSDTs that clash so.
+// Whether SSDT `first` may clash so with another; if not, it doesn't.
+fn may_clash<S: Space<Object>>(
+    kind: Kind,
+    singles: &[Single<S>],
+    last: &BTreeMap<Path, usize>,
+    first: usize,
+) -> bool
+    requires above { 0 < first }
+    requires within { first ≤ length singles.now }
+    requires definers { AreDefiners (single_trees S.contents singles.now) (last_in last.now) }
+    requires unique { kind ≡ Kind.Missed → IsFirstClash Kind.Same (single_trees S.contents singles.now) None }
+    ensures { result ≡ false → IsFirstWith kind (single_trees S.contents singles.now) first None }
+{
+    let single = &singles[first - 1];
+    match kind {
+        Kind::Same => any_elsewhere(last, first, single.defined()),
+        Kind::Missed => {
+            any_elsewhere(last, first, single.missed())
+                || any_other(last, singles, first, single.awaited())
+        }
+    }
+}
+
+// The first SSDT with which SSDT `first` clashes so. Others are compared with it only where it may clash.
+fn clash_of<S: Space<Object>>(
+    kind: Kind,
+    singles: &[Single<S>],
+    last: &BTreeMap<Path, usize>,
+    first: usize,
+) -> Result<Option<Clash>, AllocError>
+    requires above { 0 < first }
+    requires within { first ≤ length singles.now }
+    requires sorted { AreSorted (single_trees S.contents singles.now) }
+    requires definers { AreDefiners (single_trees S.contents singles.now) (last_in last.now) }
+    requires unique { kind ≡ Kind.Missed → IsFirstClash Kind.Same (single_trees S.contents singles.now) None }
+    ensures { IfOk result (λ o. IsFirstWith kind (single_trees S.contents singles.now) first o) }
+{
+    if may_clash(kind, singles, last, first) {
+        clash_with(kind, singles, first)
+    } else {
+        Ok(None)
+    }
+}
+
+/// The first two SSDTs that clash so, where `last` tells the last of them that declares each path. It is asked for
+/// missed paths only where no two of them declare one path.
 pub(crate) fn first_clash<S: Space<Object>>(
     kind: Kind,
     singles: &[Single<S>],
+    last: &BTreeMap<Path, usize>,
 ) -> Result<Option<Clash>, AllocError>
-    requires { AreSorted (single_trees S.contents singles.now) }
+    requires sorted { AreSorted (single_trees S.contents singles.now) }
+    requires definers { AreDefiners (single_trees S.contents singles.now) (last_in last.now) }
+    requires unique { kind ≡ Kind.Missed → IsFirstClash Kind.Same (single_trees S.contents singles.now) None }
     ensures { IfOk result (λ o. IsFirstClash kind (single_trees S.contents singles.now) o) }
 {
     for i in 0..singles.len() {
-        if let Some(clash) = clash_with(kind, singles, i + 1)? {
+        if let Some(clash) = clash_of(kind, singles, last, i + 1)? {
             return Ok(Some(clash));
         }
     }

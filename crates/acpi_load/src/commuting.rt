@@ -10,6 +10,7 @@ ghost use Rattle.acpi_load.specs.steps.Clashing.{single_trees, AreSorted, IsFirs
 
 use crate::alone::single_loads;
 use crate::clashes::{Kind, first_clash};
+use crate::definers::last_definers;
 use crate::singles::Single;
 use crate::verdicts::Verdict;
 use acpi_declare::{Declared, LoadFault, declare_shared, shared_tables};
@@ -20,18 +21,22 @@ use bytes::Bytes;
 use std::alloc::{AllocError, Global};
 
 /// The verdict on SSDTs that all load alone.
-pub(crate) fn verdict_of<S: Space<Object>>(singles: &[Single<S>]) -> Result<Verdict, AllocError>
+pub(crate) fn verdict_of<S: Space<Object>>(
+    alloc: Global,
+    singles: &[Single<S>],
+) -> Result<Verdict, AllocError>
     requires { AreSorted (single_trees S.contents singles.now) }
     ensures { IfOk result (λ v. IsFirstOfAll (single_trees S.contents singles.now) v) }
 {
-    if let Some(clash) = first_clash(Kind::Same, singles)? {
+    let last = last_definers(alloc, singles)?;
+    if let Some(clash) = first_clash(Kind::Same, singles, &last)? {
         return Ok(Verdict::Same {
             first: clash.first,
             second: clash.second,
             path: clash.path,
         });
     }
-    if let Some(clash) = first_clash(Kind::Missed, singles)? {
+    if let Some(clash) = first_clash(Kind::Missed, singles, &last)? {
         return Ok(Verdict::Missed {
             searcher: clash.first,
             definer: clash.second,
@@ -68,7 +73,7 @@ fn first_of_four<S: Space<Object>>(
 {
     load_dsdt::<S>(alloc, dsdt, depth)?;
     match single_loads::<S>(alloc, dsdt, ssdts, depth) {
-        Ok(singles) => Ok(verdict_of(&singles)?),
+        Ok(singles) => Ok(verdict_of(alloc, &singles)?),
         Err(LoadFault::At { table, reason }) => Ok(Verdict::NotAlone {
             ssdt: table,
             fault: LoadFault::At { table, reason },

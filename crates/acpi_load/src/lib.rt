@@ -42,6 +42,7 @@ mod bodies;
 mod checking;
 mod clashes;
 mod commuting;
+mod definers;
 mod joining;
 mod machine;
 mod pair;

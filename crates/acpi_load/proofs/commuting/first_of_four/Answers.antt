@@ -1,5 +1,6 @@
-use Rattle.std.proofs.Common.{refl, subst}
+use Rattle.std.proofs.Common.{ℕ, refl, sym, subst}
 use Rattle.std.proofs.lemmas.Result.{err_from_is_err_and}
+use Rattle.acpi_order.specs.Verdicts.{not_alone, IsVerdict}
 use Rattle.acpi_load.specs.VerdictView.{IsSinglesFault}
 use Rattle.acpi_load.specs.steps.Clashing.{single_trees}
 use Rattle.acpi_load.proofs.AloneLoads.{all_sorted}
@@ -25,5 +26,6 @@ returns-in_ok-verdict_of-in-Ok-clause-ok g c =
 
 pub returns-in-Err-At-clause-ok : goal.returns-in-Err-At-clause-ok
 returns-in-Err-At-clause-ok g c =
-    not_alone_verdict c.args.depth c.args.dsdt.now c.args.ssdts.now c.in-Err-At.table c.in-Err-At.reason
-    (subst (IsSinglesFault c.args.depth c.args.dsdt.now c.args.ssdts.now) c.in-Err-At.field-0-is c.in-Err-At.ensures.err)
+    subst (λ (n : ℕ). IsVerdict c.args.depth c.args.dsdt.now c.args.ssdts.now (not_alone n)) (sym c.in-Err-At.table-is)
+    (not_alone_verdict c.args.depth c.args.dsdt.now c.args.ssdts.now c.in-Err-At.table c.in-Err-At.reason
+    (subst (IsSinglesFault c.args.depth c.args.dsdt.now c.args.ssdts.now) c.in-Err-At.field-0-is c.in-Err-At.ensures.err))
