@@ -1,7 +1,7 @@
 -- The satisfied Externals that are listed are all that there are, in their order.
 use Rattle.std.proofs.Common.{◌≡◌, ◌≢◌, ◌⊎◌, inl, inr, ℕ, zero, suc, ◌+◌, ◌<◌, Bool, true, false, cond, ◌&&◌, nat_eq, eqb, List, [], ◌∷◌, ◌++◌, map, Option, Some, None, refl, sym, ap, subst, ◌∙◌, arith}
 use Rattle.std.specs.declared.cmp.Ordering.TheVariants.{Less, Equal}
-use Rattle.std.specs.List.{AllByRecursion, filter}
+use Rattle.std.specs.List.{AllByRecursion, filter, list_any}
 use Rattle.std.specs.List.Sorted.{IsStrictlySortedBy}
 use Rattle.std.specs.Ordering.{nat_cmp, ordering_then}
 use Rattle.std.proofs.lemmas.Bool.Decides.{nat_tests}
@@ -15,12 +15,14 @@ use Rattle.acpi_tree.specs.Objects.{ObjectTree}
 use Rattle.acpi_declare.proofs.Unions.{path_same}
 use Rattle.acpi_order.proofs.Lists.{all_among, among_all, among_append, appended}
 use Rattle.acpi_order.specs.Independent.{StandsAt, is_method_of}
+use Rattle.acpi_load.specs.declared.singles.Awaited.{Awaited}
 use Rattle.acpi_load.specs.declared.verdicts.Satisfied.{Satisfied}
 use Rattle.acpi_load.specs.SatisfiedView.{satisfied_cmp}
-use Rattle.acpi_load.specs.steps.Clashing.{SingleTree, IsSortedTree, AreSorted}
-use Rattle.acpi_load.specs.steps.Meeting.{Awaits, awaits_such, is_met, satisfied_at, met_at, met_by, met_from, met_users, all_met}
-use Rattle.acpi_load.proofs.AscendingPaths.{any_among, among_any}
-use Rattle.acpi_load.proofs.FirstClash.{and_both}
+use Rattle.acpi_load.specs.SingleView.{awaited_view}
+use Rattle.acpi_load.specs.steps.Clashing.{SingleTree, has, IsSortedTree, AreSorted}
+use Rattle.acpi_load.specs.steps.Meeting.{Awaits, table_of, awaits_such, is_met, satisfied_at, met_at, met_by, met_from, met_users, all_met}
+use Rattle.acpi_load.proofs.AscendingPaths.{any_among, among_any, among_has}
+use Rattle.acpi_load.proofs.FirstClash.{and_both, any_seen}
 
 -- ---- what is met
 
@@ -208,6 +210,25 @@ of_all ws ss t (inl h) = appended (met_from 0 ws 1 ss) (met_users 1 ss ss) t
     (inl (of_from 0 ws 1 ss t h))
 of_all ws ss t (inr h) = appended (met_from 0 ws 1 ss) (met_users 1 ss ss) t
     (inr (of_users 1 ss ss t h))
+
+-- ---- nothing is
+
+no_filter : (test : List Segment → Bool) (ps : List (List Segment)) → ((p : List Segment) → Among ps p → test p ≡ false) → filter test ps ≡ []
+no_filter test [] none = refl
+no_filter test (p ∷ ps) none = ap (λ b. cond b (p ∷ filter test ps) (filter test ps)) (none p (inl refl)) ∙ no_filter test ps (λ q m. none q (inr m))
+
+-- where no method is awaited at one of the paths
+pub none_met : (user : ℕ) (ones : List Awaited) (definer : ℕ) (r : SingleTree) (ps : List (List Segment)) → list_any (λ a. has ps a.path) ones ≡ false → met_at user (map awaited_view ones) definer r ps ≡ []
+none_met user ones definer r ps none = ap (map (satisfied_at user definer)) (no_filter (is_met user (map awaited_view ones) r) ps (λ p m. by p m (is_met user (map awaited_view ones) r p) refl))
+  where
+    by : (p : List Segment) → Among ps p → (b : Bool) → is_met user (map awaited_view ones) r p ≡ b → is_met user (map awaited_view ones) r p ≡ false
+    by p m false e = e
+    by p m true e =
+        let such = such_of (table_of user) (map awaited_view ones) p (r.machine.objects p) e in
+        let t : list_any (λ w. has ps w.1) (map awaited_view ones) ≡ true = among_any (λ w. has ps w.1) (map awaited_view ones) (table_of user, p, such.0) such.2 (among_has ps p m) in
+        let f : list_any (λ w. has ps w.1) (map awaited_view ones) ≡ false = sym (any_seen (λ w. has ps w.1) awaited_view ones) ∙ none in
+        let never : ⊥ = cc in
+        absurd never
 
 -- ---- their order
 

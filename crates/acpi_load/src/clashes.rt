@@ -36,7 +36,7 @@ pub(crate) struct Clash {
     pub(crate) path: Path,
 }
 
-// Whether the path is one of these, which ascend.
+/// Whether the path is one of these, which ascend.
 pub(crate) fn has_path(paths: &[Path], path: &Path) -> bool
     requires { IsStrictlySortedBy path_cmp paths.now }
     ensures { result ≡ has paths.now path.now }

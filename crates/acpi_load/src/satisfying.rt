@@ -3,6 +3,7 @@
 ghost use Rattle.std.specs.Prelude.{◌≡◌, ◌↔◌, ◌⊎◌, ◌&&◌, ◌∷◌, [], ◌++◌, nat_eq, map, IfOk, IfErr, OnOk};
 ghost use Rattle.std.specs.List.{list_any};
 ghost use Rattle.std.specs.List.Sorted.{IsStrictlySortedBy};
+ghost use Rattle.acpi_name.specs.Paths.{path_cmp};
 ghost use Rattle.acpi_space.specs.Laws.{Among};
 ghost use Rattle.acpi_space.specs.Lookups.{is_same_path};
 ghost use Rattle.acpi_tree.specs.Objects.{object_view};
@@ -13,12 +14,12 @@ ghost use Rattle.acpi_order.specs.Verdicts.{DsdtLoads, AllAlone};
 ghost use Rattle.acpi_load.specs.SatisfiedView.{satisfied_cmp};
 ghost use Rattle.acpi_load.specs.SingleView.{defined_in, awaited_view};
 ghost use Rattle.acpi_load.specs.VerdictView.{IsSinglesFault};
-ghost use Rattle.acpi_load.specs.steps.Clashing.{single_tree, single_trees};
+ghost use Rattle.acpi_load.specs.steps.Clashing.{has, single_tree, single_trees, IsSortedTree, AreSorted};
 ghost use Rattle.acpi_load.specs.steps.Meeting.{table_of, is_met, met_at, met_from, all_met};
 
 use crate::alone::single_loads;
 use crate::awaits::awaits_alone;
-use crate::clashes::is_method;
+use crate::clashes::{has_path, is_method};
 use crate::singles::{Awaited, Single};
 use crate::verdicts::Satisfied;
 use acpi_declare::{LoadFault, shared_tables};
@@ -57,8 +58,8 @@ fn is_met<S: Space<Object>>(
     }
 }
 
-// What the definer satisfies of what bodies of the user await.
-fn add_met<S: Space<Object>>(
+// What the definer satisfies of what bodies of the user await, each of its paths tested.
+fn add_each_met<S: Space<Object>>(
     found: &mut Vec<Satisfied>,
     user: usize,
     awaited: &[Awaited],
@@ -79,6 +80,32 @@ fn add_met<S: Space<Object>>(
     Ok(())
 }
 
+// Whether a method is awaited at one of the paths, which ascend.
+fn any_awaited(awaited: &[Awaited], paths: &[Path]) -> bool
+    requires { IsStrictlySortedBy path_cmp paths.now }
+    ensures { result ≡ list_any (λ a. has paths.now a.path) awaited.now }
+{
+    awaited.iter().any(|a| has_path(paths, &a.path))
+}
+
+// What the definer satisfies of what bodies of the user await.
+fn add_met<S: Space<Object>>(
+    found: &mut Vec<Satisfied>,
+    user: usize,
+    awaited: &[Awaited],
+    definer: usize,
+    single: &Single<S>,
+) -> Result<(), AllocError>
+    requires { IsSortedTree (single_tree S.contents single.now) }
+    ensures { OnOk result (found.new.items ≡ found.old.items ++ met_at user (map awaited_view awaited.now) definer (single_tree S.contents single.now) (defined_in single.now)) }
+{
+    if any_awaited(awaited, single.defined()) {
+        add_each_met(found, user, awaited, definer, single)
+    } else {
+        Ok(())
+    }
+}
+
 // What SSDTs satisfy of what bodies of the user await.
 fn add_user<S: Space<Object>>(
     found: &mut Vec<Satisfied>,
@@ -86,6 +113,7 @@ fn add_user<S: Space<Object>>(
     awaited: &[Awaited],
     singles: &[Single<S>],
 ) -> Result<(), AllocError>
+    requires { AreSorted (single_trees S.contents singles.now) }
     ensures { OnOk result (found.new.items ≡ found.old.items ++ met_from user (map awaited_view awaited.now) 1 (single_trees S.contents singles.now)) }
 {
     for (k, single) in singles.iter().enumerate() {
@@ -104,6 +132,7 @@ pub(crate) fn all_met<S: Space<Object>>(
     awaited: &[Awaited],
     singles: &[Single<S>],
 ) -> Result<Vec<Satisfied>, AllocError>
+    requires { AreSorted (single_trees S.contents singles.now) }
     ensures { IfOk result (λ v. v.items ≡ all_met (map awaited_view awaited.now) (single_trees S.contents singles.now)) }
 {
     let mut found = Vec::new(alloc);

@@ -4,10 +4,18 @@ use Rattle.std.proofs.lemmas.List.{drop_more}
 use Rattle.acpi_load.specs.declared.singles.Single.{Single}
 use Rattle.acpi_load.specs.declared.verdicts.Satisfied.{Satisfied}
 use Rattle.acpi_load.specs.SingleView.{awaited_view}
-use Rattle.acpi_load.specs.steps.Clashing.{single_tree, single_trees}
+use Rattle.acpi_load.specs.steps.Clashing.{single_tree, single_trees, IsSortedTree}
 use Rattle.acpi_load.specs.steps.Meeting.{met_from}
+use Rattle.acpi_load.proofs.FirstClash.{all_numbers, number_of}
 use Rattle.acpi_load.proofs.MetLists.{from_more}
 use Rattle.acpi_load.proofs.satisfying.add_user.Goals as goal
+
+pub add_met-requires : goal.add_met-requires
+add_met-requires g c =
+    let seen = single_tree g.S.Space.contents in
+    let singles = c.args.singles.now in
+    all_numbers IsSortedTree (single_trees g.S.Space.contents singles) c.requires (c.loop-k.k + 1) (seen c.index-singles-k.result)
+    (number_of seen singles c.loop-k.k c.index-singles-k.result c.loop-k-test.true c.index-singles-k.is)
 
 pub loop-k-preserved : goal.loop-k-preserved
 loop-k-preserved g c =

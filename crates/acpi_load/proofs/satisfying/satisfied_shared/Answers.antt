@@ -11,6 +11,10 @@ use Rattle.acpi_load.proofs.SatisfiedBy.{all_met_sorted}
 use Rattle.acpi_load.proofs.SatisfiedTables.{all_satisfied}
 use Rattle.acpi_load.proofs.satisfying.satisfied_shared.Goals as goal
 
+pub all_met-requires : goal.all_met-requires
+all_met-requires g c =
+    rw c.deref-2.ensures.value (all_sorted c.args.depth c.args.dsdt.now c.args.ssdts.now (single_trees g.S.Space.contents c.in_ok-singles.singles.items) c.in_ok-singles.ensures.ok)
+
 pub returns-clause-ok : goal.returns-clause-ok
 returns-clause-ok g c t =
     let ss = single_trees g.S.Space.contents c.in_ok-singles.singles.items in

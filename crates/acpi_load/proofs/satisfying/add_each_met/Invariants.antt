@@ -2,7 +2,7 @@ use Rattle.std.proofs.Common.{◌≡◌, ◌++◌, map, drop}
 use Rattle.acpi_load.specs.SingleView.{awaited_view, defined_in}
 use Rattle.acpi_load.specs.steps.Clashing.{single_tree}
 use Rattle.acpi_load.specs.steps.Meeting.{met_at}
-use Rattle.acpi_load.proofs.satisfying.add_met.Given as goal
+use Rattle.acpi_load.proofs.satisfying.add_each_met.Given as goal
 
 -- with what is left it is the whole
 abbrev pub invariant-loop-path : goal.invariant-loop-path
