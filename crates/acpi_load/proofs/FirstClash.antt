@@ -51,7 +51,7 @@ stands_seen f (y ∷ ys) zero x h e = ap f (sym e)
 stands_seen f (y ∷ ys) (suc i) x h e = stands_seen f ys i x (omega arith) e
 
 -- what is seen of an element has the next number
-number_of : {X Y : Type 0} (f : X → Y) (xs : List X) (i : ℕ) (x : X) → i < length xs → x ≡ get_or xs i x → IsNumber (map f xs) (i + 1) (f x)
+pub number_of : {X Y : Type 0} (f : X → Y) (xs : List X) (i : ℕ) (x : X) → i < length xs → x ≡ get_or xs i x → IsNumber (map f xs) (i + 1) (f x)
 number_of f xs i x h e = rw add-one (stands_seen f xs i x h e)
 
 pub number_at : {X Y : Type 0} (f : X → Y) (xs : List X) (i : ℕ) (x : X) → 0 < i → i ≤ length xs → x ≡ get_or xs (i - 1) x → IsNumber (map f xs) i (f x)
