@@ -187,6 +187,8 @@ def main():
     write("many-dsdt.aml", namespace(32, 150))
     for i in range(64):
         write(f"many-ssdt-{i:02}.aml", namespace(8, 150, 100 + 8 * i), b"SSDT")
+    for i in range(256):
+        write(f"small-ssdt-{i:03}.aml", scope_of(100 + i, 75), b"SSDT")
     for count in (10_000, 100_000, 1_000_000):
         write(f"one-scope-{count}.aml", in_random_order(count))
     for count in (1_000, 10_000, 100_000):
