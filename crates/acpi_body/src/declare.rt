@@ -2,7 +2,7 @@
 
 ghost use Rattle.std.specs.Prelude.{◌≡◌, IfOk, Some, box_value};
 ghost use Rattle.acpi_name.specs.Paths.{place_of};
-ghost use Rattle.acpi_tree.specs.TermView.{term_view};
+ghost use Rattle.acpi_tree.specs.TermView.{term_view, decl_view};
 ghost use Rattle.acpi_tree.specs.declared.place.Place.TheVariants.{Value};
 ghost use Rattle.acpi_tree.specs.declared.place.NamedForm.TheVariants as named;
 ghost use Rattle.acpi_tree.specs.declared.place.UnitsForm.TheVariants as units;
@@ -19,6 +19,7 @@ use acpi_code::Code;
 use acpi_name::{Name, Path, PlaceFault, place};
 use acpi_space::{MapSpace, Space};
 use acpi_tree::{Decl, Object, Place, Term, Width};
+use std::alloc::{AllocError, Global};
 
 /// A value, which lies apart from the frame that asks for it.
 #[inline(never)]
@@ -58,6 +59,14 @@ fn declared<S: Space<Object>>(
     }
 }
 
+// A declaration as a term.
+#[inline(never)]
+fn declaration(alloc: Global, decl: Decl) -> Result<Term, AllocError>
+    ensures { IfOk result (λ t. term_view t ≡ decl_view decl) }
+{
+    Ok(Term::Declare(Box::new(alloc, decl)?))
+}
+
 #[inline(never)]
 #[tactic(auto, using(crate::proofs::Parts::part_fails), unfolding(crate::specs::steps::Reading::named_form, crate::specs::steps::Reading::operands_at, crate::specs::steps::Reading::operand_at))]
 pub(crate) fn name_declared<S: Space<Object>>(
@@ -72,7 +81,8 @@ pub(crate) fn name_declared<S: Space<Object>>(
     let (name, path) = declared(context, code)?;
     let data = term(context, locals, level, Place::Data, code)?;
     add(locals, path)?;
-    Ok(Term::Declare(Decl::Name(name, Box::new(context.alloc(), data)?)))
+    let data = Box::new(context.alloc(), data)?;
+    Ok(declaration(context.alloc(), Decl::Name(name, data))?)
 }
 
 #[inline(never)]
@@ -93,12 +103,13 @@ pub(crate) fn create_declared<S: Space<Object>>(
     add(locals, path)?;
     let source = Box::new(context.alloc(), source)?;
     let index = Box::new(context.alloc(), index)?;
-    Ok(Term::Declare(Decl::Create {
+    let decl = Decl::Create {
         width,
         source,
         index,
         name,
-    }))
+    };
+    Ok(declaration(context.alloc(), decl)?)
 }
 
 #[inline(never)]
@@ -117,12 +128,13 @@ pub(crate) fn create_field_declared<S: Space<Object>>(
     let bits = value(context, locals, level, code)?;
     let (name, path) = declared(context, code)?;
     add(locals, path)?;
-    Ok(Term::Declare(Decl::CreateField {
+    let decl = Decl::CreateField {
         source,
         index,
         bits,
         name,
-    }))
+    };
+    Ok(declaration(context.alloc(), decl)?)
 }
 
 #[inline(never)]
@@ -143,12 +155,13 @@ pub(crate) fn region_declared<S: Space<Object>>(
     add(locals, path)?;
     let offset = Box::new(context.alloc(), offset)?;
     let length = Box::new(context.alloc(), length)?;
-    Ok(Term::Declare(Decl::Region {
+    let decl = Decl::Region {
         name,
         space,
         offset,
         length,
-    }))
+    };
+    Ok(declaration(context.alloc(), decl)?)
 }
 
 #[inline(never)]
@@ -165,7 +178,7 @@ pub(crate) fn mutex_declared<S: Space<Object>>(
     let (name, path) = declared(context, code)?;
     let flags = code.byte()?;
     add(locals, path)?;
-    Ok(Term::Declare(Decl::Mutex(name, flags)))
+    Ok(declaration(context.alloc(), Decl::Mutex(name, flags))?)
 }
 
 #[inline(never)]
@@ -181,7 +194,7 @@ pub(crate) fn event_declared<S: Space<Object>>(
 {
     let (name, path) = declared(context, code)?;
     add(locals, path)?;
-    Ok(Term::Declare(Decl::Event(name)))
+    Ok(declaration(context.alloc(), Decl::Event(name))?)
 }
 
 #[inline(never)]
@@ -200,11 +213,12 @@ pub(crate) fn field_declared<S: Space<Object>>(
     let flags = inner.byte()?;
     let elems = elements(context.alloc(), &mut inner)?;
     add_units(locals, context.method(), &elems)?;
-    Ok(Term::Declare(Decl::Field {
+    let decl = Decl::Field {
         region,
         flags,
         elems,
-    }))
+    };
+    Ok(declaration(context.alloc(), decl)?)
 }
 
 #[inline(never)]
@@ -224,12 +238,13 @@ pub(crate) fn index_field_declared<S: Space<Object>>(
     let flags = inner.byte()?;
     let elems = elements(context.alloc(), &mut inner)?;
     add_units(locals, context.method(), &elems)?;
-    Ok(Term::Declare(Decl::IndexField {
+    let decl = Decl::IndexField {
         index,
         datum,
         flags,
         elems,
-    }))
+    };
+    Ok(declaration(context.alloc(), decl)?)
 }
 
 #[inline(never)]
@@ -251,11 +266,12 @@ pub(crate) fn bank_field_declared<S: Space<Object>>(
     let elems = elements(context.alloc(), &mut inner)?;
     add_units(locals, context.method(), &elems)?;
     let value = Box::new(context.alloc(), value)?;
-    Ok(Term::Declare(Decl::BankField {
+    let decl = Decl::BankField {
         region,
         bank,
         value,
         flags,
         elems,
-    }))
+    };
+    Ok(declaration(context.alloc(), decl)?)
 }

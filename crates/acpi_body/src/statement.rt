@@ -93,6 +93,13 @@ fn while_statement<S: Space<Object>>(
     Ok(Term::While(predicate, then))
 }
 
+// How many statements there is room for at first where so many bytes are left: few have less than three, and the
+// list of a long body grows.
+fn room(left: usize) -> usize {
+    let most = left / 3 + 1;
+    if most < 16 { most } else { 16 }
+}
+
 #[cycle(statement)]
 fn statements<S: Space<Object>>(
     context: &Context<'_, S>,
@@ -103,7 +110,7 @@ fn statements<S: Space<Object>>(
     ensures exact { ReadsAll (λ v. terms_view v.items) (statements_at (args_of context.now) context.now.method level locals.old) code.old result }
     ensures locals { IfOk result (λ v. locals.new ≡ locals_after_all context.now.method locals.old (terms_tree v.items)) }
 {
-    let mut found = Vec::new(context.alloc());
+    let mut found = Vec::with_capacity(context.alloc(), room(code.left().len()))?;
     'each: while !code.is_empty() {
         found.push(statement(context, locals, level, code)?)?;
     }

@@ -34,7 +34,7 @@ term_step (Term-F.Call n v) = call n (terms_of v.items)
 term_step (Term-F.Op op v) = apply op (terms_of v.items)
 term_step (Term-F.If b v o) = if_do (box_value b) (terms_of v.items) (else_of o)
 term_step (Term-F.While b v) = while_do (box_value b) (terms_of v.items)
-term_step (Term-F.Declare d) = d
+term_step (Term-F.Declare b) = box_value b
 
 abbrev pub decl_step : Decl-F TermTree TermTree TermTree → TermTree
 decl_step (Decl-F.Name n b) = declare named.Name no_terms n (more (box_value b) no_terms)

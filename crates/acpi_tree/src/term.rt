@@ -50,8 +50,8 @@ pub enum Term {
     If(Box<Term>, Vec<Term>, Option<Vec<Term>>),
     /// DefWhile: the predicate, and the statements behind it.
     While(Box<Term>, Vec<Term>),
-    /// A declaration.
-    Declare(Decl),
+    /// A declaration. It is rare and large, so it lies apart.
+    Declare(Box<Decl>),
 }
 
 /// A declaration in a method body, with terms where one at module level has constants (ACPI 6.5, 20.2.5.2).

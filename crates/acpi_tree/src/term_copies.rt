@@ -143,7 +143,7 @@ fn copy_while(alloc: Global, then: &[Term], test: Box<Term>) -> Result<Term, All
 fn copy_declaration(alloc: Global, decl: &Decl) -> Result<Term, AllocError>
     ensures { IfOk result (λ t. term_view t ≡ decl_view decl.now) }
 {
-    Ok(Term::Declare(decl.copy(alloc)?))
+    Ok(Term::Declare(Box::new(alloc, decl.copy(alloc)?)?))
 }
 
 // An If with an Else.

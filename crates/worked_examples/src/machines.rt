@@ -163,7 +163,8 @@ fn reads_calls(rt: HostRuntime) -> Result<(), Fail> {
 fn reads_locals(rt: HostRuntime) -> Result<(), Fail> {
     let alloc = rt.alloc();
     let zero = Box::new(alloc, Term::Int(Int::Zero))?;
-    let name = Term::Declare(Decl::Name(name(alloc, b"MTH2")?, zero));
+    let name = Decl::Name(name(alloc, b"MTH2")?, zero);
+    let name = Term::Declare(Box::new(alloc, name)?);
     let body = Body::Terms(vec![in alloc; name, returns(alloc, Vec::new(alloc))?]?);
     let tables: (&[&[u8]], &[&[u8]]) = (&[MTH2, LOCAL], &[]);
     expect::<MapSpace<Object>>(&rt, alloc, tables, "\\_SB_.M001", &body, None)?;

@@ -17,6 +17,10 @@ fn boxed(alloc: Global, term: Term) -> Result<Box<Term>, Fail> {
     Ok(Box::new(alloc, term)?)
 }
 
+fn declared(alloc: Global, decl: Decl) -> Result<Term, AllocError> {
+    Ok(Term::Declare(Box::new(alloc, decl)?))
+}
+
 // An operator of one operand that is a term.
 fn unary(alloc: Global, op: Op, operand: Term) -> Result<Term, AllocError> {
     Ok(Term::Op(op, vec![in alloc; Operand::Term(operand)]?))
@@ -44,7 +48,7 @@ fn prints_names_without_arguments(rt: HostRuntime) -> Result<(), Fail> {
     let alloc = rt.alloc();
     let local = Decl::Name(name(alloc, b"MTH2")?, boxed(alloc, Term::Int(Int::Zero))?);
     let call = Term::Call(name(alloc, b"MTH2")?, Vec::new(alloc));
-    let body = [Term::Declare(local), unary(alloc, Op::Return, call)?];
+    let body = [declared(alloc, local)?, unary(alloc, Op::Return, call)?];
     expect(&rt, alloc, &body, "Name(MTH2, Zero)\nReturn(MTH2)\n")
 }
 
@@ -137,9 +141,9 @@ fn prints_declarations(rt: HostRuntime) -> Result<(), Fail> {
         length: boxed(alloc, Term::Int(Int::Word(16)))?,
     };
     let body = [
-        Term::Declare(region),
-        Term::Declare(Decl::Mutex(name(alloc, b"MTX0")?, 5)),
-        Term::Declare(Decl::Event(name(alloc, b"EVT0")?)),
+        declared(alloc, region)?,
+        declared(alloc, Decl::Mutex(name(alloc, b"MTX0")?, 5))?,
+        declared(alloc, Decl::Event(name(alloc, b"EVT0")?))?,
     ];
     let expected = "OperationRegion(REG0, 0x01, Arg0, 0x0010)\nMutex(MTX0, 0x05)\nEvent(EVT0)\n";
     expect(&rt, alloc, &body, expected)
@@ -160,7 +164,7 @@ fn prints_fields_of_buffers(rt: HostRuntime) -> Result<(), Fail> {
         bits: boxed(alloc, Term::Int(Int::Byte(3)))?,
         name: name(alloc, b"BBBB")?,
     };
-    let body = [Term::Declare(create), Term::Declare(create_field)];
+    let body = [declared(alloc, create)?, declared(alloc, create_field)?];
     let expected = "CreateDWordField(Local0, Zero, AAAA)\nCreateField(Local0, One, 0x03, BBBB)\n";
     expect(&rt, alloc, &body, expected)
 }
@@ -185,7 +189,7 @@ fn prints_field_lists(rt: HostRuntime) -> Result<(), Fail> {
     };
     let expected =
         "Field(REG0, 0x01) {AA__ 8, Reserved 4, Access 0x01 0x00, Connect GPIO, Connect Buffer(0x01){00}, Extended 0x02 0x0B 0x02}\n";
-    expect(&rt, alloc, &[Term::Declare(field)], expected)
+    expect(&rt, alloc, &[declared(alloc, field)?], expected)
 }
 
 #[test]
@@ -198,7 +202,7 @@ fn prints_index_fields(rt: HostRuntime) -> Result<(), Fail> {
         elems: vec![in alloc; FieldElem::Reserved(300)]?,
     };
     let expected = "IndexField(IDX0, DAT0, 0x21) {Reserved 300}\n";
-    expect(&rt, alloc, &[Term::Declare(field)], expected)
+    expect(&rt, alloc, &[declared(alloc, field)?], expected)
 }
 
 #[test]
@@ -212,7 +216,7 @@ fn prints_bank_fields(rt: HostRuntime) -> Result<(), Fail> {
         elems: Vec::new(alloc),
     };
     let expected = "BankField(REG0, BNK0, Local2, 0x01) {}\n";
-    expect(&rt, alloc, &[Term::Declare(field)], expected)
+    expect(&rt, alloc, &[declared(alloc, field)?], expected)
 }
 
 #[test]

@@ -14,7 +14,7 @@ use Rattle.acpi_body.proofs.statement.+statement.Goals as goal
 pub statements-returns-in_err-statement-clause-exact : goal.statements-returns-in_err-statement-clause-exact
 statements-returns-in_err-statement-clause-exact g t c =
     let r : One = statement_at (args_of c.args.context.now) c.args.context.now.method c.args.level in
-    let p = err_from_is_err_and c.from_residual.result c.from_residual.ensures.1 in
+    let p = err_from_is_err_and c.from_residual-in_err-statement.result c.from_residual-in_err-statement.ensures.1 in
     let some : 0 < length c.each.code.bytes = grind arith in
     rw (p.1, p.2) (stated_ends r c.args.context.now.method _ c.args.code.now _ c.each.code _ _ some c.in_err-statement.ensures.exact c.each.invariant)
 
