@@ -13,6 +13,7 @@ pub mod Branches
 pub mod Allowed
 pub mod Places
 pub mod TermComplete
+pub mod Registers
 pub mod TermSound
 pub mod Fields
 pub mod StatementComplete

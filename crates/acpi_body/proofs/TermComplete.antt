@@ -159,7 +159,7 @@ unfolding term_at placed_by opcode_at byte_at
 no_zero args zero end rest x e = cc
 no_zero args (suc level) end rest x e = cc
 
-super_is_target : (args : NameParts → ℕ) (level end : ℕ) (bytes : List ℕ) (x : TermTree × List ℕ) → term_at args level SuperName end bytes ≡ Ok x → target_at (term_at args level) end bytes ≡ Ok x
+pub super_is_target : (args : NameParts → ℕ) (level end : ℕ) (bytes : List ℕ) (x : TermTree × List ℕ) → term_at args level SuperName end bytes ≡ Ok x → target_at (term_at args level) end bytes ≡ Ok x
 super_is_target args level end [] x e = e
 super_is_target args level end (b ∷ rest) x e = by_test (eqb b 0) refl
   where

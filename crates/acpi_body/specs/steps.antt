@@ -4,3 +4,4 @@ pub mod Setting
 pub mod Answers
 pub mod BodyEquality
 pub mod Gathering
+pub mod Registers

@@ -20,6 +20,7 @@ mod gathered;
 pub mod laws;
 mod misses;
 mod refusal;
+mod register;
 mod same;
 mod searched;
 mod spelled;

@@ -14,6 +14,7 @@ ghost use Rattle.acpi_body.specs.steps.Cursor.{Reads, ReadsOn, ReadsAll};
 use crate::arguments::{Context, count};
 use crate::fault::{BodyReason, Stop, refused};
 use crate::refusal::refusal;
+use crate::register::add_register;
 use acpi_code::{Code, ConstantForm, Opcode};
 use acpi_name::NameRef;
 use acpi_space::{MapSpace, Space};
@@ -216,6 +217,9 @@ fn operands<S: Space<Object>>(
 {
     let mut found = Vec::with_capacity(context.alloc(), kinds.len())?;
     'each: for kind in kinds {
+        if add_register(level, *kind, code, &mut found)? {
+            continue;
+        }
         found.push(operand(context, locals, level, *kind, code)?)?;
     }
     Ok(found)

@@ -1,6 +1,6 @@
-use Rattle.std.proofs.Common.{◌≡◌, ℕ, ◌+◌, ◌-◌, ◌<◌, ◌≤◌, ◌++◌, ◌∷◌, [], List, length, drop, arith, refl, sym, subst, ◌∙◌}
+use Rattle.std.proofs.Common.{rules, true, false, ◌≡◌, ℕ, ◌+◌, ◌-◌, ◌<◌, ◌≤◌, ◌++◌, ◌∷◌, [], List, length, drop, arith, refl, sym, subst, ◌∙◌}
 use Rattle.std.proofs.lemmas.Result.{err_from_is_err_and}
-use Rattle.std.proofs.lemmas.List.{map_push, drop_more}
+use Rattle.std.proofs.lemmas.List.{map_push, drop_more, length-drop}
 use Rattle.acpi_tree.specs.TermView.{term_view, terms_view, operand_view, operands_view}
 use Rattle.acpi_tree.specs.declared.place.Place.TheVariants.{Element, Value}
 use Rattle.acpi_tree.specs.declared.place.OperandKind.{OperandKind}
@@ -10,9 +10,11 @@ use Rattle.acpi_body.specs.Spelling.{values}
 use Rattle.acpi_body.specs.steps.Cursor.{Reads}
 use Rattle.acpi_body.specs.steps.Setting.{args_of}
 use Rattle.acpi_body.specs.steps.Reading.{Reader, operand_at, placed_by, term_at}
+use Rattle.acpi_body.specs.steps.Registers.{front_register}
 use Rattle.acpi_body.proofs.Parts.{stopped_there, reads_as}
 use Rattle.acpi_body.proofs.Opened.{term_opened, term_unopened}
 use Rattle.acpi_body.proofs.InOrder.{Operated, operated_starts, operated_goes_on, operated_ends, operated_is_done, none_left_of, values_left, no_values_left, value_operand}
+use Rattle.acpi_body.proofs.Registers.{register_front, some_register}
 use Rattle.acpi_body.proofs.term.+read.Goals as goal
 
 pub elements-returns-in_err-term : goal.elements-returns-in_err-term
@@ -59,22 +61,39 @@ arguments-returns g t c =
     let so : Operated r (values c.args.count) [] c.args.code.now c.each.code (terms_view c.each.found.items) = subst (λ ks. Operated r (values c.args.count) ks c.args.code.now c.each.code (terms_view c.each.found.items)) (no_values_left c.args.count c.each.counter (grind arith)) c.each.invariant in
     (operated_is_done r (values c.args.count) c.args.code.now c.each.code _ so, record { same_end = so.same_end; at_most = so.within })
 
+pub operands-each-preserved-then-branch : goal.operands-each-preserved-then-branch
+operands-each-preserved-then-branch g t c =
+    let args = args_of c.args.context.now c.args.locals.now in
+    let r : Reader = term_at args c.args.level in
+    let next = drop_more c.args.kinds.now c.each.kind-index (At Value) (grind arith) in
+    let so = subst (λ ks. Operated r c.args.kinds.now ks c.args.code.now c.each.code (operands_view c.each.found.items)) next c.each.invariant in
+    let yes : c.in_ok-add_register.field-0 ≡ true = search rules in
+    let begins = sym c.in_ok-add_register.ensures.told ∙ yes in
+    let behind = c.in_ok-add_register.ensures.behind yes in
+    let read = register_front args c.args.level _ c.each.code.end c.each.code.bytes begins in
+    let some = some_register c.args.level _ c.each.code.bytes begins in
+    rw (c.in_ok-add_register.ensures.put yes) (operated_goes_on r c.args.kinds.now _ _ c.args.code.now c.each.code c.add_register.new.code _ (front_register c.each.code.bytes) (rw behind.0 read) (record { same_end = behind.1; less = rw behind.0 (omega (arith, some, length-drop 1 c.each.code.bytes)) }) so)
+
 pub operands-returns-in_err-operand : goal.operands-returns-in_err-operand
 operands-returns-in_err-operand g t c =
     let r : Reader = term_at (args_of c.args.context.now c.args.locals.now) c.args.level in
+    let no : c.in_ok-add_register.field-0 ≡ false = search rules in
+    let kept = c.in_ok-add_register.ensures.kept no in
     let p = err_from_is_err_and c.from_residual-in_err-operand.result c.from_residual-in_err-operand.ensures.1 in
     let next = drop_more c.args.kinds.now c.each.kind-index (At Value) (grind arith) in
     let so = subst (λ ks. Operated r c.args.kinds.now ks c.args.code.now c.each.code (operands_view c.each.found.items)) next c.each.invariant in
-    rw (p.1, p.2) (operated_ends r c.args.kinds.now _ _ c.args.code.now c.each.code _ _ c.in_err-operand.ensures so)
+    rw (p.1, p.2) (operated_ends r c.args.kinds.now _ _ c.args.code.now c.each.code _ _ (rw kept.0 at c.in_err-operand.ensures) so)
 
 pub operands-each-preserved : goal.operands-each-preserved
 operands-each-preserved g t c =
     let r : Reader = term_at (args_of c.args.context.now c.args.locals.now) c.args.level in
     let n = c.in_ok-operand.field-0 in
+    let no : c.in_ok-add_register.field-0 ≡ false = search rules in
+    let kept = c.in_ok-add_register.ensures.kept no in
     let next = drop_more c.args.kinds.now c.each.kind-index (At Value) (grind arith) in
     let so = subst (λ ks. Operated r c.args.kinds.now ks c.args.code.now c.each.code (operands_view c.each.found.items)) next c.each.invariant in
-    let e : operands_view c.push.new.self.items ≡ operands_view c.each.found.items ++ operand_view n ∷ [] = rw c.in_ok-push.ensures.items (map_push _ c.each.found.items n) in
-    rw e (operated_goes_on r c.args.kinds.now _ _ c.args.code.now c.each.code c.operand.new.code _ _ c.in_ok-operand.ensures.0 c.in_ok-operand.ensures.1 so)
+    let e : operands_view c.push.new.self.items ≡ operands_view c.each.found.items ++ operand_view n ∷ [] = rw (c.in_ok-push.ensures.items, kept.1) (map_push _ c.each.found.items n) in
+    rw e (operated_goes_on r c.args.kinds.now _ _ c.args.code.now c.each.code c.operand.new.code _ _ (rw kept.0 at c.in_ok-operand.ensures.0) (rw kept.0 at c.in_ok-operand.ensures.1) so)
 
 pub operands-returns : goal.operands-returns
 operands-returns g t c =
