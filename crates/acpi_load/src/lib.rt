@@ -22,6 +22,9 @@
 //! }
 //! ```
 //!
+//! What is loaded stands in `acpi_machine`, what is told of an order in `acpi_verdict`, and rewriting in `acpi_rewrite`;
+//! this crate gives them all on.
+//!
 //! `single` tells of the load with one SSDT what it declares, misses and awaits. From the single loads of all SSDTs
 //! `verdict` finds whether they may be loaded in any order, or the first reason that they may not (`IsVerdict` of
 //! `acpi_order`), and `satisfied` which methods that bodies await another SSDT declares (`IsSatisfied`). `check_shared`
@@ -36,33 +39,10 @@
 //! ```
 #![tactic(auto)]
 
-mod alone;
-mod awaits;
-mod bodies;
-mod checking;
-mod clashes;
-mod commuting;
-mod definers;
-mod joining;
-mod machine;
-mod pair;
-mod paths;
-mod reasons;
-mod rewriting;
-pub mod rewriting_laws;
-mod satisfying;
-mod searches;
-mod singles;
-mod verdicts;
-
 pub use acpi_declare::{Declared, LoadFault, LoadReason, Refusal, declare, declare_shared, laws};
-pub use checking::check_shared;
-pub use commuting::{verdict, verdict_shared};
-pub use joining::join;
-pub use machine::{Machine, load, load_shared};
-pub use pair::{single, single_shared};
-pub use reasons::{explain, explain_shared};
-pub use rewriting::{rewrite, rewrite_shared};
-pub use satisfying::{satisfied, satisfied_shared};
-pub use singles::{Awaited, Single};
-pub use verdicts::{Checked, Satisfied, Verdict};
+pub use acpi_machine::{Machine, explain, explain_shared, load, load_shared};
+pub use acpi_rewrite::{rewrite, rewrite_shared, rewriting_laws};
+pub use acpi_verdict::{
+    Awaited, Checked, Satisfied, Single, Verdict, check_shared, join, satisfied, satisfied_shared,
+    single, single_shared, verdict, verdict_shared,
+};

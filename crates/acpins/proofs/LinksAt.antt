@@ -11,7 +11,7 @@ use Rattle.acpi_space.proofs.Maps.{get_is_lookup}
 use Rattle.acpi_load.specs.Links.{links_at}
 use Rattle.acpi_body.specs.declared.body.Body.{Body}
 use Rattle.acpi_body.specs.Bodies.{body_view}
-use Rattle.acpi_load.specs.MachineView.{bodies_of}
+use Rattle.acpi_machine.specs.MachineView.{bodies_of}
 use Rattle.acpins.specs.steps.Merging.{entries_in}
 
 lookup_mapped : {V W : Type 0} (f : V → W) (t : List Segment → Bool) (es : List (List Segment × V)) → lookup t (map (λ e. (e.0, f e.1)) es) ≡ option_map f (lookup t es)

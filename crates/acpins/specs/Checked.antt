@@ -5,8 +5,8 @@ use Rattle.acpi_name.specs.Names.{Segment}
 use Rattle.acpi_name.specs.Text.{path_text}
 use Rattle.acpi_declare.specs.declared.fault.LoadReason.{LoadReason}
 use Rattle.acpi_order.specs.Verdicts.{VerdictTree, commute, not_alone, same, missed, IsReasonAt, IsVerdict}
-use Rattle.acpi_load.specs.declared.verdicts.Satisfied.{Satisfied}
-use Rattle.acpi_load.specs.SatisfiedView.{AreSatisfied}
+use Rattle.acpi_verdict.specs.declared.verdicts.Satisfied.{Satisfied}
+use Rattle.acpi_verdict.specs.SatisfiedView.{AreSatisfied}
 use Rattle.acpins.specs.FailureLines.{fault_text}
 
 -- two numbers of tables and a path, behind a word

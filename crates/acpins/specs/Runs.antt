@@ -4,7 +4,7 @@ use Rattle.std.specs.Io.KnownBytes.{Appends}
 use Rattle.acpi_name.specs.Names.{Segment}
 use Rattle.acpi_name.specs.Text.{SpellsPathText, IsPathText}
 use Rattle.acpi_order.specs.Machines.{Machine}
-use Rattle.acpi_load.specs.Rewriting.{AreRewritten}
+use Rattle.acpi_rewrite.specs.Rewriting.{AreRewritten}
 use Rattle.acpi_declare.specs.Refusals.{IsLoadFault}
 use Rattle.acpi_declare.specs.declared.fault.LoadFault.{LoadFault}
 use Rattle.acpins.specs.declared.failure.Failure.{Failure}

@@ -9,7 +9,7 @@ use Rattle.acpi_body.specs.declared.fault.BodyReason.TheVariants.{Cut, BadOpcode
 use Rattle.acpi_body.specs.declared.fault.BodyFault.{BodyFault}
 use Rattle.acpi_body.specs.Bodies.{BodyTree, read, unread}
 use Rattle.acpi_order.specs.Machines.{Machine}
-use Rattle.acpi_load.specs.Explaining.{IsExplained}
+use Rattle.acpi_machine.specs.Explaining.{IsExplained}
 
 -- why a body isn't read
 abbrev pub body_reason_text : BodyReason → List ℕ

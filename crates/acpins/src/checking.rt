@@ -4,8 +4,8 @@ ghost use Rattle.std.specs.Prelude.{◌≡◌, ◌≢◌, ◌∷◌, ℕ, ◌++�
 ghost use Rattle.std.specs.List.{flat_map};
 ghost use Rattle.acpi_declare.specs.Refusals.{IsLoadFault};
 ghost use Rattle.acpi_order.specs.Verdicts.{AllAlone, IsVerdict};
-ghost use Rattle.acpi_load.specs.SatisfiedView.{AreSatisfied};
-ghost use Rattle.acpi_load.specs.VerdictView.{verdict_view, IsFaultOf};
+ghost use Rattle.acpi_verdict.specs.SatisfiedView.{AreSatisfied};
+ghost use Rattle.acpi_verdict.specs.VerdictView.{verdict_view, IsFaultOf};
 ghost use Rattle.acpins.specs.Checked.{triple_line, satisfied_line, Checks};
 ghost use Rattle.acpins.specs.FailureLines.{fault_text};
 

@@ -5,7 +5,7 @@ ghost use Rattle.std.specs.BTreeMap.{IsOrdered};
 ghost use Rattle.acpi_name.specs.Paths.{path_cmp};
 ghost use Rattle.acpi_text.specs.Lines.{listing_text};
 ghost use Rattle.acpi_load.specs.Namespace.{namespace_of};
-ghost use Rattle.acpi_load.specs.MachineView.{objects_in, links_in};
+ghost use Rattle.acpi_machine.specs.MachineView.{objects_in, links_in};
 ghost use Rattle.acpi_load.specs.Links.{links_at};
 ghost use Rattle.acpins.specs.Listings.{objects_by_path, Prints};
 ghost use Rattle.acpins.specs.steps.Merging.{entries_in, entry_of, left_ahead, links_ahead};

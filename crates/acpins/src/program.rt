@@ -4,7 +4,7 @@ ghost use Rattle.std.specs.Prelude.{◌≡◌, ◌≢◌, ◌≤◌, ◌⊎◌, 
 ghost use Rattle.acpi_name.specs.Text.{SpellsPathText, IsPathText};
 ghost use Rattle.acpi_declare.specs.Refusals.{IsLoadFault};
 ghost use Rattle.acpi_order.specs.Machines.{IsMachine};
-ghost use Rattle.acpi_load.specs.MachineView.{objects_in, machine_of};
+ghost use Rattle.acpi_machine.specs.MachineView.{objects_in, machine_of};
 ghost use Rattle.std.specs.Io.KnownBytes.{Appends};
 ghost use Rattle.acpins.specs.declared.failure.Failure.{Failure};
 ghost use Rattle.acpins.specs.Failures.{status_of};

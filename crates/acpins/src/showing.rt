@@ -4,7 +4,7 @@ ghost use Rattle.std.specs.Prelude.{◌≡◌, ◌∷◌, ◌++◌, ℕ, List, I
 ghost use Rattle.std.specs.Option.{option_map, option_copied};
 ghost use Rattle.acpi_body.specs.Bodies.{body_view};
 ghost use Rattle.acpi_declare.specs.Refusals.{IsLoadFault};
-ghost use Rattle.acpi_load.specs.MachineView.{objects_in, bodies_of, machine_of};
+ghost use Rattle.acpi_machine.specs.MachineView.{objects_in, bodies_of, machine_of};
 ghost use Rattle.acpins.specs.Shown.{body_reason_text, reason_text, IsBodyText, ShowsOrNone};
 
 use crate::listing::links_of;

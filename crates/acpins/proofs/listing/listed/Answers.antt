@@ -3,7 +3,7 @@ use Rattle.std.specs.BTreeMap.{IsOrdered}
 use Rattle.acpi_name.specs.Paths.{path_cmp}
 use Rattle.acpins.specs.steps.Merging.{entries_in, entry_of, links_ahead, left_ahead}
 use Rattle.std.specs.FinMap.{entries}
-use Rattle.acpi_load.specs.MachineView.{objects_in, links_in}
+use Rattle.acpi_machine.specs.MachineView.{objects_in, links_in}
 use Rattle.acpi_load.specs.Links.{links_at}
 use Rattle.acpi_tree.specs.Objects.{object_view}
 use Rattle.acpi_text.specs.Lines.{line_text}

@@ -1,7 +1,7 @@
 use Rattle.std.proofs.Common.{◌≡◌, ◌≤◌, length, map, take, drop, [], unwrap_or}
 use Rattle.std.specs.List.{flat_map}
 use Rattle.acpi_tree.specs.Objects.{object_view}
-use Rattle.acpi_load.specs.MachineView.{links_in}
+use Rattle.acpi_machine.specs.MachineView.{links_in}
 use Rattle.acpi_load.specs.Links.{links_at}
 use Rattle.acpi_text.specs.Lines.{line_text}
 use Rattle.acpins.specs.steps.Merging.{entry_of}

@@ -1,7 +1,0 @@
-use Rattle.std.proofs.Common.{◌∷◌, map}
-use Rattle.acpi_load.proofs.Rewritten.{told_alike}
-use Rattle.acpi_load.proofs.rewriting.rewrite_shared.Goals as goal
-
-pub returns-clause-alike : goal.returns-clause-alike
-returns-clause-alike g c =
-    told_alike c.rewrite_tables.result (λ v. map (λ b. b.items) v.items) c.args.depth (c.args.dsdt.now ∷ c.args.ssdts.now) c.rewrite_tables.ensures.ok c.rewrite_tables.ensures.bytes

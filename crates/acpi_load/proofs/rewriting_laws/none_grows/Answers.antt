@@ -1,5 +1,0 @@
-use Rattle.acpi_load.proofs.Rewritten.{none_grows}
-use Rattle.acpi_load.proofs.rewriting_laws.none_grows.Goals as goal
-
-pub returns : goal.returns
-returns c = λ depth tables new below h. none_grows depth tables new below h

@@ -1,5 +1,0 @@
-use Rattle.acpi_load.proofs.OneRewriting.{one_rewriting}
-use Rattle.acpi_load.proofs.rewriting_laws.one_rewriting.Goals as goal
-
-pub returns : goal.returns
-returns c = one_rewriting

@@ -1,0 +1,4 @@
+pub mod AddedBodies
+pub mod Machines
+pub mod Explained
+pub mod Orders

@@ -1,0 +1,3 @@
+pub mod MachineView
+pub mod Explaining
+pub mod steps

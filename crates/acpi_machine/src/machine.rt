@@ -1,0 +1,120 @@
+//! What a DSDT and SSDTs load to.
+
+ghost use Rattle.std.specs.Prelude.{◌≡◌, ◌≢◌, ◌∷◌, [], map, IfOk, IfErr, MatchResult};
+ghost use Rattle.acpi_declare.specs.Loads.{HasNoLoad};
+ghost use Rattle.acpi_declare.specs.Refusals.{IsLoadFault};
+ghost use Rattle.acpi_order.specs.Machines.{IsMachine};
+ghost use Rattle.acpi_order.specs.Joins.{IsJoin, IsSingleLoad};
+ghost use Rattle.acpi_order.specs.Independent.{IsIndependent};
+ghost use Rattle.acpi_machine.specs.MachineView.{objects_in, links_in, bodies_in, machine_of};
+
+use crate::bodies::read_bodies;
+use acpi_body::Body;
+use acpi_declare::{LoadFault, declare_shared, shared_tables};
+use acpi_name::Path;
+use acpi_order::laws::independent_tables_load;
+use acpi_space::Space;
+use acpi_terms::{Depth, Object};
+use bytes::Bytes;
+use std::alloc::Global;
+use std::collections::BTreeMap;
+
+/// What tables load to: the namespace, the links of its fields, and the bodies of its methods (ACPI 6.5, 5.3).
+#[derive(Drop)]
+pub struct Machine<S> {
+    /// The namespace.
+    pub objects: S,
+    /// What the search of each link answers, by the path of the field.
+    pub links: BTreeMap<Path, Vec<Option<Path>>>,
+    /// The body of each method that a table declares, by the method's path.
+    pub bodies: BTreeMap<Path, Body>,
+}
+
+impl<S> Machine<S> {
+    ghost use Rattle.acpi_machine.specs.MachineView.{objects_in, links_in, bodies_in};
+
+    /// The namespace.
+    pub fn objects(&self) -> &S
+        ensures { result.now ≡ objects_in self.now }
+    {
+        &self.objects
+    }
+
+    /// What the search of each link answers, by the path of the field: the region of a field; index and data
+    /// register of an index field; region and bank register of a bank field; the source of a buffer field.
+    pub fn links(&self) -> &BTreeMap<Path, Vec<Option<Path>>>
+        ensures { result.now ≡ links_in self.now }
+    {
+        &self.links
+    }
+
+    /// The body of each method that a table declares, by the method's path: its terms, or its bytes where they
+    /// can't be read.
+    pub fn bodies(&self) -> &BTreeMap<Path, Body>
+        ensures { result.now ≡ bodies_in self.now }
+    {
+        &self.bodies
+    }
+}
+
+// Loads the tables in the order in which they are given.
+fn load_in_order<S: Space<Object>>(
+    alloc: Global,
+    dsdt: &Bytes,
+    ssdts: &[Bytes],
+    depth: Depth,
+) -> Result<Machine<S>, LoadFault>
+    ensures ok { IfOk result (λ m. IsMachine depth (dsdt.now ∷ ssdts.now) (machine_of (S.contents (objects_in m)) m)) }
+    ensures err { IfErr result (λ e. IsLoadFault depth (dsdt.now ∷ ssdts.now) e) }
+    ensures none { IfErr result (λ e. e ≢ LoadFault.Memory → HasNoLoad depth (dsdt.now ∷ ssdts.now)) }
+{
+    let (objects, links, notes) = declare_shared(alloc, dsdt, ssdts, depth)?.into_parts();
+    let bodies = read_bodies(alloc, &objects, notes, depth)?;
+    Ok(Machine {
+        objects,
+        links,
+        bodies,
+    })
+}
+
+/// Loads a DSDT and SSDTs: declares their items, one table after another, and then searches the links of fields
+/// and reads the bodies of methods, over the final namespace. Nothing is executed. Each table is one whole table in
+/// its bytes; `depth` is the greatest level that a term may have. The first table without a listing refuses the load.
+///
+/// If each SSDT loads alone over the DSDT, no two of them declare one path, and none declares a path that a search in
+/// another's single load tried and missed, then what they load to, given in any order, is the union of their single
+/// loads: its objects, links and bodies.
+pub fn load_shared<S: Space<Object>>(
+    alloc: Global,
+    dsdt: &Bytes,
+    ssdts: &[Bytes],
+    depth: Depth,
+) -> Result<Machine<S>, LoadFault>
+    ensures ok { IfOk result (λ m. IsMachine depth (dsdt.now ∷ ssdts.now) (machine_of (S.contents (objects_in m)) m)) }
+    ensures err { IfErr result (λ e. IsLoadFault depth (dsdt.now ∷ ssdts.now) e) }
+    ensures none { IfErr result (λ e. e ≢ LoadFault.Memory → HasNoLoad depth (dsdt.now ∷ ssdts.now)) }
+    // Independent SSDTs load to the join of their single loads, or memory is refused.
+    ensures independent { ssdts.now ≢ [] → IsIndependent depth dsdt.now ssdts.now
+        → MatchResult result (λ m. IsJoin (IsSingleLoad depth dsdt.now ssdts.now) (machine_of (S.contents (objects_in m)) m)) (λ e. e ≡ LoadFault.Memory) }
+{
+    independent_tables_load();
+    load_in_order(alloc, dsdt, ssdts, depth)
+}
+
+/// The same as `load_shared`, over one copy of each table.
+pub fn load<S: Space<Object>>(
+    alloc: Global,
+    dsdt: &[u8],
+    ssdts: &[&[u8]],
+    depth: Depth,
+) -> Result<Machine<S>, LoadFault>
+    ensures ok { IfOk result (λ m. IsMachine depth (dsdt.now ∷ map (λ b. b.now) ssdts.now) (machine_of (S.contents (objects_in m)) m)) }
+    ensures err { IfErr result (λ e. IsLoadFault depth (dsdt.now ∷ map (λ b. b.now) ssdts.now) e) }
+    ensures none { IfErr result (λ e. e ≢ LoadFault.Memory → HasNoLoad depth (dsdt.now ∷ map (λ b. b.now) ssdts.now)) }
+    ensures independent { map (λ b. b.now) ssdts.now ≢ [] → IsIndependent depth dsdt.now (map (λ b. b.now) ssdts.now)
+        → MatchResult result (λ m. IsJoin (IsSingleLoad depth dsdt.now (map (λ b. b.now) ssdts.now)) (machine_of (S.contents (objects_in m)) m)) (λ e. e ≡ LoadFault.Memory) }
+{
+    let dsdt = Bytes::copy_from_slice(alloc, dsdt)?;
+    let ssdts = shared_tables(alloc, ssdts)?;
+    load_shared(alloc, &dsdt, &ssdts, depth)
+}

@@ -1,0 +1,7 @@
+pub mod Recoded
+pub mod Relisted
+pub mod Rewritten
+pub mod Recoding
+pub mod SpelledCodes
+pub mod Shortened
+pub mod OneRewriting

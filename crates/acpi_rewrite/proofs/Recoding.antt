@@ -1,0 +1,212 @@
+-- Codes and items of one table, one after another; and the rewritten table.
+use Rattle.std.proofs.Common.{◌≡◌, ℕ, zero, suc, ◌+◌, ◌<◌, ◌≤◌, List, [], ◌∷◌, ◌++◌, map, length, get_or, take, refl, sym, ap, subst, ◌∙◌, append_assoc, append-nil, All, Option, Some, None, arith}
+use Rattle.std.specs.Global.{Vec}
+use Rattle.std.specs.List.{AllZip}
+use Rattle.std.proofs.lemmas.List.{length-append, length-map, nil_from_length, length-drop, map-append, take_more, take_all, get_or-map}
+use Rattle.acpi_tree.specs.Tree.{ItemTree, ItemTrees, item}
+use Rattle.acpi_tree.specs.View.{item_view, items_tree}
+use Rattle.acpi_tree.specs.declared.tree.Item.{Item}
+use Rattle.acpi_space.specs.Lookups.{union}
+use Rattle.acpi_declare.specs.Listing.{Placement, objects_of}
+use Rattle.acpi_declare.specs.Loads.{AreListings}
+use Rattle.acpi_declare.specs.Predefined.{predefined}
+use Rattle.acpi_declare.specs.declared.notes.TableNotes.{TableNotes}
+use Rattle.acpi_declare.specs.Namespace.{Namespace}
+use Rattle.acpi_declare.specs.Notes.{external_counts, methods, Notes, all_notes, notes_of}
+use Rattle.acpi_declare.specs.Notes as notes
+use Rattle.acpi_declare.specs.Sites.{sites}
+use Rattle.acpi_declare.specs.Tables.{code_of}
+use Rattle.acpi_write.specs.Canonical.{items_bytes}
+use Rattle.acpi_write.specs.Shortest.{HasWithin}
+use Rattle.acpi_order.specs.Bodies.{Method, with_counts, methods_of}
+use Rattle.acpi_rewrite.specs.Rewriting.{item_codes, codes, item_without_code, without_code, IsNewCode, IsShortest, IsRewritten, AreEachRewritten}
+use Rattle.acpi_rewrite.specs.RewritingLaws.{AreTablesOfBytes}
+use Rattle.acpi_machine.specs.steps.Adding.{noted}
+use Rattle.acpi_rewrite.specs.steps.Recoding.{IsNoted}
+use Rattle.acpi_rewrite.proofs.Recoded.{alike_item_count, alike_count}
+use Rattle.acpi_rewrite.proofs.Rewritten.{shorter_items}
+use Rattle.acpi_rewrite.proofs.Relisted.{table_codes, listed_codes}
+
+-- ---- pairs
+
+zip_push : {X Y : Type 0} (R : X → Y → Type 0) (xs : List X) (ys : List Y) (x : X) (y : Y) → AllZip R xs ys → R x y → AllZip R (xs ++ x ∷ []) (ys ++ y ∷ [])
+zip_push R [] [] x y h one = (one, tt)
+zip_push R [] (z ∷ ys) x y h one = absurd h
+zip_push R (z ∷ xs) [] x y h one = absurd h
+zip_push R (z ∷ xs) (w ∷ ys) x y h one = (h.0, zip_push R xs ys x y h.1 one)
+
+pub zip_more : {X Y : Type 0} (R : X → Y → Type 0) (xs : List X) (ys now : List Y) (i : ℕ) (x : X) (y : Y) → i < length xs → x ≡ get_or xs i x → AllZip R (take i xs) ys → R x y
+    → now ≡ ys ++ y ∷ [] → AllZip R (take (i + 1) xs) now
+zip_more R xs ys now i x y below there before one e =
+    let longer : take (i + 1) xs ≡ take i xs ++ x ∷ [] = take_more xs i x below ∙ ap (λ z. take i xs ++ z ∷ []) (sym there) in
+    subst (λ zs. AllZip R zs now) (sym longer) (subst (AllZip R (take i xs ++ x ∷ [])) (sym e) (zip_push R (take i xs) ys x y before one))
+
+zip_length : {X Y : Type 0} (R : X → Y → Type 0) (xs : List X) (ys : List Y) → AllZip R xs ys → length xs ≡ length ys
+zip_length R [] [] h = refl
+zip_length R [] (y ∷ ys) h = absurd h
+zip_length R (x ∷ xs) [] h = absurd h
+zip_length R (x ∷ xs) (y ∷ ys) h = ap (λ (k : ℕ). suc k) (zip_length R xs ys h.1)
+
+pub zip_mapped : {X Y Z : Type 0} (R : Y → Z → Type 0) (f : X → Y) (xs : List X) (zs : List Z) → AllZip (λ x z. R (f x) z) xs zs → AllZip R (map f xs) zs
+zip_mapped R f [] [] h = tt
+zip_mapped R f [] (z ∷ zs) h = absurd h
+zip_mapped R f (x ∷ xs) [] h = absurd h
+zip_mapped R f (x ∷ xs) (z ∷ zs) h = (h.0, zip_mapped R f xs zs h.1)
+
+-- ---- items one after another
+
+module _ (x y : Item) (same : item_without_code (item_view y) ≡ item_without_code (item_view x)) where
+  next_alike : (done rest : List Item) → without_code (items_tree ((done ++ y ∷ []) ++ rest)) ≡ without_code (items_tree (done ++ x ∷ rest))
+  next_alike [] rest = ap (λ (i : ItemTree). item i (without_code (items_tree rest))) same
+  next_alike (z ∷ done) rest = ap (item (item_without_code (item_view z))) (next_alike done rest)
+
+  next_codes : (done : List Item) → codes (items_tree (done ++ y ∷ [])) ≡ codes (items_tree done) ++ item_codes (item_view y)
+  next_codes [] = append-nil (item_codes (item_view y))
+  next_codes (z ∷ done) = ap (λ (cs : List (List ℕ)). item_codes (item_view z) ++ cs) (next_codes done) ∙ sym (append_assoc (item_codes (item_view z)) (codes (items_tree done)) (item_codes (item_view y)))
+
+  -- the invariant of a list of items, at the next one
+  pub next_item : (done now before rest all : List Item) (fresh left given : List (List ℕ)) → now ≡ done ++ y ∷ [] → before ≡ x ∷ rest → item_codes (item_view y) ++ left ≡ fresh
+      → (without_code (items_tree (done ++ before)) ≡ without_code (items_tree all)) × (codes (items_tree done) ++ fresh ≡ given) × (length (codes (items_tree before)) ≤ length fresh)
+      → (without_code (items_tree (now ++ rest)) ≡ without_code (items_tree all)) × (codes (items_tree now) ++ left ≡ given) × (length (codes (items_tree rest)) ≤ length left)
+  next_item done now before rest all fresh left given e front taken h =
+      let size : length (item_codes (item_view y)) + length left ≡ length fresh = sym (length-append (item_codes (item_view y)) left) ∙ ap length taken in
+      let counted : length (codes (items_tree before)) ≡ length (item_codes (item_view x)) + length (codes (items_tree rest)) =
+      ap (λ (is : List Item). length (codes (items_tree is))) front ∙ length-append (item_codes (item_view x)) (codes (items_tree rest)) in
+      let as_many = alike_item_count (item_view x) (item_view y) same in (
+        ap (λ (is : List Item). without_code (items_tree (is ++ rest))) e ∙ next_alike done rest ∙ ap (λ (is : List Item). without_code (items_tree (done ++ is))) (sym front) ∙ h.0,
+        ap (λ (is : List Item). codes (items_tree is) ++ left) e ∙ ap (λ (cs : List (List ℕ)). cs ++ left) (next_codes done)
+            ∙ append_assoc (codes (items_tree done)) (item_codes (item_view y)) left ∙ ap (λ (cs : List (List ℕ)). codes (items_tree done) ++ cs) taken ∙ h.1,
+        omega (arith, size, counted, as_many, h.2),
+      )
+
+-- ---- a table
+
+behind_all : {X : Type 0} (xs left ys : List X) → xs ++ left ≡ ys → length xs ≡ length ys → xs ≡ ys
+behind_all xs left ys e same =
+    let none : left ≡ [] = nil_from_length left (omega (arith, ap length e, length-append xs left, same)) in
+    sym (append-nil xs) ∙ ap (λ l. xs ++ l) (sym none) ∙ e
+
+module _ (depth : ℕ) (objects : Namespace) (bytes : List ℕ) (t : List Placement) (n : Notes) (h : IsNoted depth bytes t n) (cs : List (List ℕ))
+    (new : AllZip (IsNewCode depth objects) (noted n) cs) where
+  pub as_many_codes : length (codes h.items) ≡ length cs
+  as_many_codes =
+      sym (ap length (listed_codes h.objects [] (sites h.items) t h.listing ∙ table_codes h.items)) ∙ length-map (methods t) (λ (m : notes.Method). m.code)
+      ∙ sym (length-map (methods t) (with_counts (external_counts t))) ∙ ap length (sym h.methods_are) ∙ zip_length (IsNewCode depth objects) (noted n) cs new
+
+  new_code_of : (js : ItemTrees) (left : List (List ℕ)) → without_code js ≡ without_code h.items → codes js ++ left ≡ cs → AllZip (IsNewCode depth objects) (methods_of t) (codes js)
+  new_code_of js left same fresh =
+      subst (AllZip (IsNewCode depth objects) (methods_of t)) (sym (behind_all (codes js) left cs fresh (alike_count h.items js same ∙ as_many_codes)))
+      (subst (λ (ms : List Method). AllZip (IsNewCode depth objects) ms cs) h.methods_are new)
+
+  -- so there is room for what is written
+  pub has_room : (js : ItemTrees) (left : List (List ℕ)) → All (λ b. b < 256) bytes → without_code js ≡ without_code h.items → codes js ++ left ≡ cs
+      → ((code : List ℕ) → items_bytes js ≡ Some code → 16777216 < 36 + length code) → ⊥
+  has_room js left below same fresh long =
+      by (items_bytes js) refl (shorter_items depth h.objects objects bytes below h.items h.table.spelled t h.listing js same (new_code_of js left same fresh))
+    where
+      by : (o : Option (List ℕ)) → items_bytes js ≡ o → HasWithin o (code_of bytes) → ⊥
+      by None e within = within
+      by (Some code) e within = omega (arith, long code e, within, length-drop 36 bytes, h.table.numbered.table.has_header, h.table.numbered.table.within_limit)
+
+  pub is_rewritten : (js : ItemTrees) (left : List (List ℕ)) (now : List ℕ) → without_code js ≡ without_code h.items → codes js ++ left ≡ cs → IsShortest bytes js now → IsRewritten depth objects t bytes now
+  is_rewritten js left now same fresh written = record {
+    items = h.items;
+    spelled = h.table.spelled;
+    rewritten = js;
+    alike = same;
+    bodies = new_code_of js left same fresh;
+    written = written;
+  }
+
+-- ---- tables one after another
+
+abbrev Bytes : Type 0
+Bytes = Vec ℕ
+
+abbrev items_in : Bytes → List ℕ
+items_in b = b.items
+
+-- the table at a place of a load, whose notes are at the same place
+pub noted_at : (depth number : ℕ) (N : Namespace) (bs : List (List ℕ)) (ts : List (List Placement)) → AreListings depth number N bs ts → (i : ℕ) (n : Notes) → i < length bs
+    → n ≡ get_or (all_notes N ts) i n → IsNoted depth (get_or bs i []) (get_or ts i []) n
+noted_at depth number N [] ts h i n below e = absurd (omega arith)
+noted_at depth number N (b ∷ bs) [] h i n below e = absurd h
+noted_at depth number N (b ∷ bs) (t ∷ ts) h zero n below e =
+    record { number = number; objects = N; items = h.0.0; table = h.0.1; listing = h.0.2; methods_are = ap noted e }
+noted_at depth number N (b ∷ bs) (t ∷ ts) h (suc i) n below e = noted_at depth (suc number) (union N (objects_of t)) bs ts h.1 i n (omega arith) e
+
+pub as_many_listings : (depth number : ℕ) (N : Namespace) (bs : List (List ℕ)) (ts : List (List Placement)) → AreListings depth number N bs ts → length ts ≡ length bs
+as_many_listings depth number N [] [] h = refl
+as_many_listings depth number N [] (t ∷ ts) h = absurd h
+as_many_listings depth number N (b ∷ bs) [] h = absurd h
+as_many_listings depth number N (b ∷ bs) (t ∷ ts) h = ap (λ (k : ℕ). suc k) (as_many_listings depth (suc number) (union N (objects_of t)) bs ts h.1)
+
+as_many_noted : (N : Namespace) (ts : List (List Placement)) → length (all_notes N ts) ≡ length ts
+as_many_noted N [] = refl
+as_many_noted N (t ∷ ts) = ap (λ (k : ℕ). suc k) (as_many_noted (union N (objects_of t)) ts)
+
+pub as_many_notes : (depth : ℕ) (bs : List (List ℕ)) (ts : List (List Placement)) (ns : List TableNotes) → AreListings depth 0 predefined bs ts → map notes_of ns ≡ all_notes predefined ts → length ns ≡ length bs
+as_many_notes depth bs ts ns h e = sym (length-map ns notes_of) ∙ ap length e ∙ as_many_noted predefined ts ∙ as_many_listings depth 0 predefined bs ts h
+
+-- .. as the code reaches them
+pub noted_there : (depth : ℕ) (bs : List (List ℕ)) (ts : List (List Placement)) (ns : List TableNotes) (i : ℕ) (b : List ℕ) (n : TableNotes) → AreListings depth 0 predefined bs ts → map notes_of ns ≡ all_notes predefined ts
+    → i < length bs → b ≡ get_or bs i [] → n ≡ get_or ns i n → IsNoted depth b (get_or ts i []) (notes_of n)
+noted_there depth bs ts ns i b n h e below there at =
+    let reach : i < length ns = omega (arith, as_many_notes depth bs ts ns h e, below) in
+    subst (λ (c : List ℕ). IsNoted depth c (get_or ts i []) (notes_of n)) (sym there)
+    (noted_at depth 0 predefined bs ts h i (notes_of n) below (ap notes_of at ∙ sym (get_or-map notes_of ns i n (notes_of n) reach) ∙ ap (λ (l : List Notes). get_or l i (notes_of n)) e))
+
+-- what stands behind the first
+pub behind_first : (x b : List ℕ) (xs : List (List ℕ)) (i : ℕ) → i < length xs → b ≡ get_or xs i b → b ≡ get_or (x ∷ xs) (i + 1) []
+behind_first x b xs i below e =
+    let next : i + 1 ≡ suc i = omega arith in
+    there xs i below e ∙ sym (ap (λ k. get_or (x ∷ xs) k []) next)
+  where
+    there : (xs : List (List ℕ)) (i : ℕ) → i < length xs → b ≡ get_or xs i b → b ≡ get_or xs i []
+    there [] i below e = absurd (omega arith)
+    there (y ∷ ys) zero below e = e
+    there (y ∷ ys) (suc i) below e = there ys i (omega arith) e
+
+module _ (depth : ℕ) (objects : Namespace) where
+  push_each : (ts : List (List Placement)) (bs ns : List (List ℕ)) (t : List Placement) (b n : List ℕ) → AreEachRewritten depth objects ts bs ns → IsRewritten depth objects t b n
+      → AreEachRewritten depth objects (ts ++ t ∷ []) (bs ++ b ∷ []) (ns ++ n ∷ [])
+  push_each [] [] [] t b n h one = (one, tt)
+  push_each [] [] (m ∷ ns) t b n h one = absurd h
+  push_each [] (c ∷ bs) [] t b n h one = absurd h
+  push_each [] (c ∷ bs) (m ∷ ns) t b n h one = absurd h
+  push_each (u ∷ ts) [] [] t b n h one = absurd h
+  push_each (u ∷ ts) [] (m ∷ ns) t b n h one = absurd h
+  push_each (u ∷ ts) (c ∷ bs) [] t b n h one = absurd h
+  push_each (u ∷ ts) (c ∷ bs) (m ∷ ns) t b n h one = (h.0, push_each ts bs ns t b n h.1 one)
+
+  -- one more table
+  pub more_rewritten : (ts : List (List Placement)) (bs : List (List ℕ)) (i : ℕ) (done now : List Bytes) (b : List ℕ) (new : Bytes) → AreListings depth 0 predefined bs ts → i < length bs → b ≡ get_or bs i []
+      → now ≡ done ++ new ∷ [] → AreEachRewritten depth objects (take i ts) (take i bs) (map items_in done) → IsRewritten depth objects (get_or ts i []) b (items_in new)
+      → AreEachRewritten depth objects (take (i + 1) ts) (take (i + 1) bs) (map items_in now)
+  more_rewritten ts bs i done now b new h below there pushed before one =
+      let reach : i < length ts = omega (arith, as_many_listings depth 0 predefined bs ts h, below) in
+      let all : map items_in now ≡ map items_in done ++ items_in new ∷ [] = ap (map items_in) pushed ∙ map-append items_in done (new ∷ []) in
+      subst (AreEachRewritten depth objects (take (i + 1) ts) (take (i + 1) bs)) (sym all)
+      (subst (λ (us : List (List Placement)). AreEachRewritten depth objects us (take (i + 1) bs) (map items_in done ++ items_in new ∷ [])) (sym (take_more ts i [] reach))
+      (subst (λ (cs : List (List ℕ)). AreEachRewritten depth objects (take i ts ++ get_or ts i [] ∷ []) cs (map items_in done ++ items_in new ∷ [])) (sym (take_more bs i [] below))
+      (push_each (take i ts) (take i bs) (map items_in done) (get_or ts i []) (get_or bs i []) (items_in new) before (subst (λ (c : List ℕ). IsRewritten depth objects (get_or ts i []) c (items_in new)) there one))))
+
+  -- all of them
+  pub all_rewritten : (ts : List (List Placement)) (bs ns : List (List ℕ)) (i : ℕ) → AreListings depth 0 predefined bs ts → length bs ≤ i → AreEachRewritten depth objects (take i ts) (take i bs) ns
+      → AreEachRewritten depth objects ts bs ns
+  all_rewritten ts bs ns i h past each =
+      subst (λ (us : List (List Placement)). AreEachRewritten depth objects us bs ns) (take_all i ts (omega (arith, as_many_listings depth 0 predefined bs ts h, past)))
+      (subst (λ (cs : List (List ℕ)). AreEachRewritten depth objects (take i ts) cs ns) (take_all i bs past) each)
+
+-- .. which is bytes, and is rewritten to bytes
+bytes_pushed : (bs : List (List ℕ)) (b : List ℕ) → AreTablesOfBytes bs → All (λ n. n < 256) b → AreTablesOfBytes (bs ++ b ∷ [])
+bytes_pushed [] b h one = (one, tt)
+bytes_pushed (c ∷ bs) b h one = (h.0, bytes_pushed bs b h.1 one)
+
+pub more_old : (bs : List (List ℕ)) (i : ℕ) (b : List ℕ) → i < length bs → b ≡ get_or bs i [] → AreTablesOfBytes (take i bs) → All (λ n. n < 256) b → AreTablesOfBytes (take (i + 1) bs)
+more_old bs i b below there before one =
+    subst AreTablesOfBytes (sym (take_more bs i [] below)) (bytes_pushed (take i bs) (get_or bs i []) before (subst (All (λ n. n < 256)) there one))
+
+pub more_new : (done now : List Bytes) (new : Bytes) → now ≡ done ++ new ∷ [] → AreTablesOfBytes (map items_in done) → All (λ n. n < 256) (items_in new) → AreTablesOfBytes (map items_in now)
+more_new done now new pushed before one =
+    subst AreTablesOfBytes (sym (ap (map items_in) pushed ∙ map-append items_in done (new ∷ []))) (bytes_pushed (map items_in done) (items_in new) before one)

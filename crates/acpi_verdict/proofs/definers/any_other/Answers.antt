@@ -1,0 +1,27 @@
+use Rattle.std.proofs.Common.{◌≡◌, ◌∷◌, [], ◌+◌, List, drop, map, sym, ap, subst, ◌∙◌, arith}
+use Rattle.std.proofs.lemmas.List.{drop_more, drop_all}
+use Rattle.acpi_verdict.specs.declared.singles.Awaited.{Awaited}
+use Rattle.acpi_verdict.specs.SingleView.{awaited_view}
+use Rattle.acpi_verdict.specs.steps.Clashing.{single_trees}
+use Rattle.acpi_verdict.specs.steps.Defining.{last_in, NoneOther}
+use Rattle.acpi_verdict.proofs.LastDefiners.{none_other_more}
+use Rattle.acpi_verdict.proofs.definers.any_other.Goals as goal
+
+pub loop-one-preserved : goal.loop-one-preserved
+loop-one-preserved g c = λ h.
+    let i = c.loop-one.one-index in
+    let awaited = c.args.awaited.now in
+    let a = c.one-item.result in
+    let last = last_in c.args.last.now in
+    let ss = single_trees g.S.Space.contents c.args.singles.now in
+    let here : drop i awaited ≡ a ∷ drop (i + 1) awaited = drop_more awaited i a (grind arith) ∙ ap (λ y. y ∷ drop (i + 1) awaited) (sym c.one-item.is) in
+    c.loop-one.invariant
+    (subst (λ (l : List Awaited). NoneOther last ss c.args.number (map awaited_view l)) (sym here)
+    (none_other_more last ss c.args.number (awaited_view a) (map awaited_view (drop (i + 1) awaited)) (c.is_other.ensures c.if-is_other.false) h))
+
+pub returns : goal.returns
+returns g c = λ e.
+    let none : drop c.loop-one.one-index c.args.awaited.now ≡ [] = drop_all _ _ c.loop-one-test.false in
+    c.loop-one.invariant
+    (subst (λ (l : List Awaited). NoneOther (last_in c.args.last.now) (single_trees g.S.Space.contents c.args.singles.now) c.args.number (map awaited_view l)) (sym none)
+    (λ table p args k r o m. absurd m))

@@ -1,0 +1,4 @@
+pub mod SingleView
+pub mod VerdictView
+pub mod SatisfiedView
+pub mod steps

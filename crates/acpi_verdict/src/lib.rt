@@ -1,0 +1,43 @@
+//! Whether a DSDT's SSDTs may be loaded in any order (ACPI 6.5, 5.2.11 and 5.3).
+//!
+//! ```text
+//! DSDT and one SSDT ──► single ──► machine, paths that are declared, missed and awaited
+//!                         │
+//! those of all SSDTs ─────┴─► verdict, satisfied, join
+//! ```
+//!
+//! `single` tells of the load with one SSDT what it declares, misses and awaits. From the single loads of all SSDTs
+//! `verdict` finds whether they may be loaded in any order, or the first reason that they may not (`IsVerdict` of
+//! `acpi_order`), and `satisfied` which methods that bodies await another SSDT declares (`IsSatisfied`). `check_shared`
+//! tells both, and makes the single loads once:
+//!
+//! ```text
+//! let checked = check_shared::<TreeSpace<Object>>(alloc, &dsdt, &ssdts, depth)?;
+//! match checked.verdict {
+//!     Verdict::Commute => checked.satisfied,
+//!     Verdict::Missed { searcher, definer, path } => ..
+//! }
+//! ```
+#![tactic(auto)]
+
+mod alone;
+mod awaits;
+mod checking;
+mod clashes;
+mod commuting;
+mod definers;
+mod joining;
+mod pair;
+mod paths;
+mod satisfying;
+mod searches;
+mod singles;
+mod verdicts;
+
+pub use checking::check_shared;
+pub use commuting::{verdict, verdict_shared};
+pub use joining::join;
+pub use pair::{single, single_shared};
+pub use satisfying::{satisfied, satisfied_shared};
+pub use singles::{Awaited, Single};
+pub use verdicts::{Checked, Satisfied, Verdict};
