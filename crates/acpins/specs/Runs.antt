@@ -14,7 +14,7 @@ use Rattle.acpins.specs.Input.{FileBytes, AreTablesOf, IsFilesFault, IsLoadOfFil
 use Rattle.acpins.specs.Listings.{Prints}
 use Rattle.acpins.specs.Shown.{Shows}
 use Rattle.acpins.specs.Checked.{Checks}
-use Rattle.acpins.specs.Rewritten.{IsUnwritten}
+use Rattle.acpins.specs.Rewritten.{file_text, IsUnwritten, Holds}
 use Rattle.acpins.specs.Failures.{failure_of, status_of}
 use Rattle.acpins.specs.FailureLines.{failure_line}
 
@@ -64,6 +64,38 @@ IsOutput bytes_of words status text = (asked : Asked) × (asked_of words ≡ Som
 -- standard output gets it, whole
 abbrev pub GetsOutput : FileBytes → List Text → ℕ → Option (List ℕ) → Option (List ℕ) → Type 0
 GetsOutput bytes_of words status old new = (text : List ℕ) × IsOutput bytes_of words status text × Appends old new text
+
+-- ---- what is written to files
+
+-- What was written to each file, where it is known.
+-- The file of that name holds the tables of the files in their shortest spelling, and the others are as they were.
+pub record IsStored (bytes_of : FileBytes) (asked : Asked) (name : Text) (old new : FileBytes) : Type 0 where
+  pub tables : List (List ℕ)
+  pub of_files : AreTablesOf bytes_of asked.hex asked.files tables
+  pub rewritten : List (List ℕ)
+  pub are : AreRewritten asked.depth tables rewritten
+  pub held : Holds (old name) (new name) (file_text asked.hex rewritten)
+  pub others : (other : List ℕ) → other ≢ name → new other ≡ old other
+
+-- rewritten tables are, and no other command writes to a file
+abbrev pub IsStoredFor : FileBytes → Asked → Command → FileBytes → FileBytes → Type 0
+IsStoredFor bytes_of asked listing old new = new ≡ old
+IsStoredFor bytes_of asked (showing word) old new = new ≡ old
+IsStoredFor bytes_of asked checking old new = new ≡ old
+IsStoredFor bytes_of asked (rewriting word) old new = IsStored bytes_of asked word old new
+
+abbrev pub StoresOutput : FileBytes → List Text → FileBytes → FileBytes → Type 0
+StoresOutput bytes_of words old new = (asked : Asked) × (asked_of words ≡ Some asked) × IsStoredFor bytes_of asked asked.command old new
+
+-- all files are as they were, but for one that the failure says can't be written
+abbrev pub KeepsOthers : Failure → FileBytes → FileBytes → Type 0
+KeepsOthers (Out word) old new = (other : List ℕ) → other ≢ word.now → new other ≡ old other
+KeepsOthers _ old new = new ≡ old
+
+-- .. and so a failure leaves them; where standard output can't be written, all else is done
+abbrev pub LeavesFiles : FileBytes → List Text → Failure → FileBytes → FileBytes → Type 0
+LeavesFiles bytes_of words Output old new = StoresOutput bytes_of words old new
+LeavesFiles bytes_of words failure old new = KeepsOthers failure old new
 
 -- ---- why nothing is
 
@@ -129,10 +161,11 @@ abbrev pub IsWrong : List Text → Type 0
 IsWrong words = (asked_of words ≡ None) ⊎ ((asked : Asked) × (asked_of words ≡ Some asked) × IsBadPath asked.command)
 
 -- A run ends with the status of such a failure, and its line is said; standard output is as it was, unless it
--- could not be written.
-pub record FailsWith (bytes_of : FileBytes) (words : List Text) (status : ℕ) (old new : Option (List ℕ)) (is_said : List ℕ → Type 0) : Type 0 where
+-- could not be written, and so is what was written to files.
+pub record FailsWith (bytes_of : FileBytes) (words : List Text) (status : ℕ) (old new : Option (List ℕ)) (before after : FileBytes) (is_said : List ℕ → Type 0) : Type 0 where
   pub failure : Failure
   pub true_of : IsRunFailure bytes_of words failure
   pub status_is : status ≡ status_of failure
   pub kept : failure ≢ Output → new ≡ old
+  pub left : LeavesFiles bytes_of words failure before after
   pub said : is_said (failure_line failure)

@@ -5,12 +5,10 @@ ghost use Rattle.std.specs.BTreeMap.{IsOrdered};
 ghost use Rattle.acpi_name.specs.Paths.{path_cmp};
 ghost use Rattle.acpi_text.specs.Lines.{listing_text};
 ghost use Rattle.acpi_load.specs.Namespace.{namespace_of};
-ghost use Rattle.acpi_machine.specs.MachineView.{objects_in, links_in};
 ghost use Rattle.acpi_load.specs.Links.{links_at};
 ghost use Rattle.acpins.specs.Listings.{objects_by_path, Prints};
 ghost use Rattle.acpins.specs.steps.Merging.{entries_in, entry_of, left_ahead, links_ahead};
 
-use acpi_load::Machine;
 use acpi_name::Path;
 use acpi_space::Space;
 use acpi_terms::Object;
@@ -69,15 +67,19 @@ fn links_from<'a>(
 }
 
 /// A line for each object, in the order of the paths.
-pub fn listed<S: Space<Object>>(alloc: Global, machine: &Machine<S>) -> Result<Vec<u8>, AllocError>
-    ensures exact { IfOk result (λ text. text.items ≡ listing_text (objects_by_path (S.contents (objects_in machine.now))) (links_at (links_in machine.now))) }
-    ensures namespace { IfOk result (λ text. Prints (namespace_of (S.contents (objects_in machine.now))) (links_at (links_in machine.now)) text.items) }
+pub fn listed<S: Space<Object>>(
+    alloc: Global,
+    objects: &S,
+    links: &BTreeMap<Path, Vec<Option<Path>>>,
+) -> Result<Vec<u8>, AllocError>
+    ensures exact { IfOk result (λ text. text.items ≡ listing_text (objects_by_path (S.contents objects.now)) (links_at links.now)) }
+    ensures namespace { IfOk result (λ text. Prints (namespace_of (S.contents objects.now)) (links_at links.now) text.items) }
 {
     let mut text = Vec::new(alloc);
-    let linked = linked_in(alloc, machine.links())?;
+    let linked = linked_in(alloc, links)?;
     let mut read = 0;
-    for (path, object) in machine.objects().pairs()?.iter() {
-        let (own, count) = links_from(machine.links(), &linked[read..], path);
+    for (path, object) in objects.pairs()?.iter() {
+        let (own, count) = links_from(links, &linked[read..], path);
         put_line(&mut text, path, object, own)?;
         read = read + count;
     }

@@ -2,6 +2,9 @@
 
 ghost use Rattle.std.specs.Prelude.{◌≡◌, ◌≢◌, ◌≤◌, ◌⊎◌, ◌∷◌, [], IfOk, IfErr, OnOk, IsTrue, None};
 ghost use Rattle.acpi_name.specs.Text.{SpellsPathText, IsPathText};
+ghost use Rattle.acpi_declare.specs.DeclaredView as declared;
+ghost use Rattle.acpi_declare.specs.Links.{links_at};
+ghost use Rattle.acpi_declare.specs.Namespace.{namespace_of};
 ghost use Rattle.acpi_declare.specs.Refusals.{IsLoadFault};
 ghost use Rattle.acpi_order.specs.Machines.{IsMachine};
 ghost use Rattle.acpi_machine.specs.MachineView.{objects_in, machine_of};
@@ -12,7 +15,8 @@ ghost use Rattle.acpins.specs.FailureLines.{failure_line};
 ghost use Rattle.acpins.specs.Told.{AppendsBeginning, Tells};
 ghost use Rattle.acpins_words.specs.Words.{texts, showing, rewriting, asked_in, asked_of};
 ghost use Rattle.acpins.specs.Input.{files_of, AreTablesOf, IsFilesFault, IsLoadOfFiles};
-ghost use Rattle.acpins.specs.Runs.{IsListing, IsShowing, IsChecking, IsRewriting, IsWrong, IsOutput, GetsOutput, IsFailureOf, IsRunFailure, FailsWith};
+ghost use Rattle.acpins.specs.steps.Loading.{HasMachine};
+ghost use Rattle.acpins.specs.Runs.{IsListing, IsShowing, IsChecking, IsRewriting, IsWrong, IsOutput, GetsOutput, IsFailureOf, IsRunFailure, IsStored, StoresOutput, KeepsOthers, LeavesFiles, FailsWith};
 
 use crate::checking::checked;
 use crate::failure::Failure;
@@ -24,7 +28,7 @@ use crate::parts::{PartWriter, UntilFailure};
 use crate::rewriting::{file_text, put_file};
 use crate::showing::shown;
 use crate::tables::add_tables;
-use acpi_load::{LoadFault, Machine, load_shared, rewrite_shared};
+use acpi_load::{Declared, LoadFault, Machine, declare_shared, load_shared, rewrite_shared};
 use acpi_name::{Path, PathFault};
 use acpi_space::{Space, TreeSpace};
 use acpi_terms::{Depth, Object};
@@ -42,6 +46,7 @@ fn tables_of<'a, F: Files>(
 ) -> Result<Vec<Bytes>, Failure<'a>>
     ensures ok { IfOk result (λ v. AreTablesOf (F.bytes_of files.old) request.now.hex (files_of request.now) v.items) }
     ensures err { IfErr result (IsFilesFault (F.bytes_of files.old) request.now.hex (files_of request.now)) }
+    ensures others { F.written_to files.new ≡ F.written_to files.old }
 {
     let mut tables = Vec::new(alloc);
     for name in request.files.iter() {
@@ -59,6 +64,7 @@ fn some_tables_of<'a, F: Files>(
     ensures ok { IfOk result (λ v. AreTablesOf (F.bytes_of files.old) request.now.hex (files_of request.now) v.items) }
     ensures some { IfOk result (λ v. v.items ≢ []) }
     ensures err { IfErr result (IsFailureOf (F.bytes_of files.old) (asked_in request.now)) }
+    ensures others { F.written_to files.new ≡ F.written_to files.old }
 {
     let tables = tables_of(alloc, request, files)?;
     if tables.is_empty() {
@@ -88,6 +94,7 @@ fn loaded<'a, S: Space<Object>, F: Files>(
 ) -> Result<(Vec<Bytes>, Machine<S>), Failure<'a>>
     ensures ok { IfOk result (λ r. IsLoadOfFiles (F.bytes_of files.old) request.now.hex request.now.depth (files_of request.now) r.0.items (machine_of (S.contents (objects_in r.1)) r.1)) }
     ensures err { IfErr result (IsFailureOf (F.bytes_of files.old) (asked_in request.now)) }
+    ensures others { F.written_to files.new ≡ F.written_to files.old }
 {
     let tables = some_tables_of(alloc, request, files)?;
     let Some((dsdt, ssdts)) = tables.split_first() else {
@@ -95,6 +102,20 @@ fn loaded<'a, S: Space<Object>, F: Files>(
     };
     let machine = load_tables(alloc, dsdt, ssdts, request.depth)?;
     Ok((tables, machine))
+}
+
+// What a DSDT and SSDTs declare: the objects and links of the machine to which they load. Bodies are not listed and
+// refuse nothing, so they are not read.
+fn declare_tables<S: Space<Object>>(
+    alloc: Global,
+    dsdt: &Bytes,
+    ssdts: &[Bytes],
+    depth: Depth,
+) -> Result<Declared<S>, LoadFault>
+    ensures ok { IfOk result (λ d. HasMachine depth (dsdt.now ∷ ssdts.now) (namespace_of (S.contents (declared.objects_in d))) (links_at (declared.links_in d))) }
+    ensures err { IfErr result (λ e. IsLoadFault depth (dsdt.now ∷ ssdts.now) e) }
+{
+    declare_shared(alloc, dsdt, ssdts, depth)
 }
 
 // The listing of what the files hold.
@@ -105,11 +126,16 @@ fn listing_of<'a, S: Space<Object>, F: Files>(
 ) -> Result<Vec<u8>, Failure<'a>>
     ensures ok { IfOk result (λ text. IsListing (F.bytes_of files.old) (asked_in request.now) text.items) }
     ensures err { IfErr result (IsFailureOf (F.bytes_of files.old) (asked_in request.now)) }
+    ensures others { F.written_to files.new ≡ F.written_to files.old }
 {
-    let (_tables, machine) = loaded::<S, F>(alloc, request, files)?;
-    let text = listed(alloc, &machine)?;
-    // The process ends soon and gives all memory back at once; to take the machine apart first costs time.
-    mem::forget(machine);
+    let tables = some_tables_of(alloc, request, files)?;
+    let Some((dsdt, ssdts)) = tables.split_first() else {
+        unreachable!()
+    };
+    let declared = declare_tables::<S>(alloc, dsdt, ssdts, request.depth)?;
+    let text = listed(alloc, declared.objects(), declared.links())?;
+    // The process ends soon and gives all memory back at once; to take the namespace apart first costs time.
+    mem::forget(declared);
     Ok(text)
 }
 
@@ -135,6 +161,7 @@ fn showing_of<'a, S: Space<Object>, F: Files>(
     requires { (asked_in request.now).command ≡ showing word.now }
     ensures ok { IfOk result (λ text. IsShowing (F.bytes_of files.old) (asked_in request.now) word.now text.items) }
     ensures err { IfErr result (IsFailureOf (F.bytes_of files.old) (asked_in request.now)) }
+    ensures others { F.written_to files.new ≡ F.written_to files.old }
 {
     let path = path_of(alloc, word)?;
     let (tables, machine) = loaded::<S, F>(alloc, request, files)?;
@@ -155,6 +182,7 @@ fn checking_of<'a, S: Space<Object>, F: Files>(
 ) -> Result<Made, Failure<'a>>
     ensures ok { IfOk result (λ m. IsChecking (F.bytes_of files.old) (asked_in request.now) m.status m.text.items) }
     ensures err { IfErr result (IsFailureOf (F.bytes_of files.old) (asked_in request.now)) }
+    ensures others { F.written_to files.new ≡ F.written_to files.old }
 {
     let tables = some_tables_of(alloc, request, files)?;
     let Some((dsdt, ssdts)) = tables.split_first() else {
@@ -174,6 +202,8 @@ fn rewriting_of<'a, S: Space<Object>, F: Files>(
     requires { (asked_in request.now).command ≡ rewriting out.now }
     ensures ok { OnOk result (IsRewriting (F.bytes_of files.old) (asked_in request.now)) }
     ensures err { IfErr result (IsFailureOf (F.bytes_of files.old) (asked_in request.now)) }
+    ensures stored { OnOk result (IsStored (F.bytes_of files.old) (asked_in request.now) out.now (F.written_to files.old) (F.written_to files.new)) }
+    ensures left { IfErr result (λ f. KeepsOthers f (F.written_to files.old) (F.written_to files.new)) }
 {
     let tables = some_tables_of(alloc, request, files)?;
     let Some((dsdt, ssdts)) = tables.split_first() else {
@@ -193,6 +223,8 @@ pub fn made_in<'a, S: Space<Object>, F: Files>(
 ) -> Result<Made, Failure<'a>>
     ensures ok { IfOk result (λ m. IsOutput (F.bytes_of files.old) (texts words.now) m.status m.text.items) }
     ensures err { IfErr result (IsRunFailure (F.bytes_of files.old) (texts words.now)) }
+    ensures stored { OnOk result (StoresOutput (F.bytes_of files.old) (texts words.now) (F.written_to files.old) (F.written_to files.new)) }
+    ensures left { IfErr result (λ f. LeavesFiles (F.bytes_of files.old) (texts words.now) f (F.written_to files.old) (F.written_to files.new)) }
 {
     let request = read_words(alloc, words)?;
     let text = match request.command {
@@ -214,6 +246,8 @@ fn made<'a, F: Files>(
 ) -> Result<Made, Failure<'a>>
     ensures ok { IfOk result (λ m. IsOutput (F.bytes_of files.old) (texts words.now) m.status m.text.items) }
     ensures err { IfErr result (IsRunFailure (F.bytes_of files.old) (texts words.now)) }
+    ensures stored { OnOk result (StoresOutput (F.bytes_of files.old) (texts words.now) (F.written_to files.old) (F.written_to files.new)) }
+    ensures left { IfErr result (λ f. LeavesFiles (F.bytes_of files.old) (texts words.now) f (F.written_to files.old) (F.written_to files.new)) }
 {
     made_in::<TreeSpace<Object>, F>(alloc, words, files)
 }
@@ -230,6 +264,8 @@ fn ended<'a, F: Files, O: Write>(
     ensures statuses { IfOk result (λ status. (status ≡ 0) ⊎ (status ≡ 3)) }
     ensures err { IfErr result (IsRunFailure (F.bytes_of files.old) (texts words.now)) }
     ensures kept { IfErr result (λ f. f ≢ Failure.Output → O.contents out.new ≡ O.contents out.old) }
+    ensures stored { OnOk result (StoresOutput (F.bytes_of files.old) (texts words.now) (F.written_to files.old) (F.written_to files.new)) }
+    ensures left { IfErr result (λ f. LeavesFiles (F.bytes_of files.old) (texts words.now) f (F.written_to files.old) (F.written_to files.new)) }
 {
     let Made { text, status } = made(alloc, words, files)?;
     let written = out.write_all(text.as_slice()).is_ok() && out.flush().is_ok();
@@ -259,9 +295,10 @@ pub fn run_telling<'a, F: Files, O: Write, E, P: PartWriter<E>>(
 ) -> u8
     ensures done { result ≢ 1 → result ≢ 2 → GetsOutput (F.bytes_of files.old) (texts words.now) result (O.contents out.old) (O.contents out.new) }
     ensures quiet { result ≢ 1 → result ≢ 2 → err.new ≡ err.old }
+    ensures stored { result ≢ 1 → result ≢ 2 → StoresOutput (F.bytes_of files.old) (texts words.now) (F.written_to files.old) (F.written_to files.new) }
     // The failure's line is said whole, unless a write of it failed.
     ensures failed { 1 ≤ result → result ≤ 2 → FailsWith (F.bytes_of files.old) (texts words.now) result (O.contents out.old) (O.contents out.new)
-        (λ line. Tells line (P.failed parts.old) (P.contents err.old) (P.failed parts.new) (P.contents err.new)) }
+        (F.written_to files.old) (F.written_to files.new) (λ line. Tells line (P.failed parts.old) (P.contents err.old) (P.failed parts.new) (P.contents err.new)) }
     ensures statuses { result ≤ 3 }
 {
     match ended(alloc, words, files, out) {
@@ -283,9 +320,10 @@ pub fn run<'a, F: Files, O: Write, E: Write>(
     // All that the words ask for is printed, and nothing else.
     ensures done { result ≢ 1 → result ≢ 2 → GetsOutput (F.bytes_of files.old) (texts words.now) result (O.contents out.old) (O.contents out.new) }
     ensures quiet { result ≢ 1 → result ≢ 2 → err.new ≡ err.old }
+    ensures stored { result ≢ 1 → result ≢ 2 → StoresOutput (F.bytes_of files.old) (texts words.now) (F.written_to files.old) (F.written_to files.new) }
     // Something failed, and its line is said, or a beginning of it; nothing is printed, unless it was the printing.
     ensures failed { 1 ≤ result → result ≤ 2 → FailsWith (F.bytes_of files.old) (texts words.now) result (O.contents out.old) (O.contents out.new)
-        (λ line. AppendsBeginning line (E.contents err.old) (E.contents err.new)) }
+        (F.written_to files.old) (F.written_to files.new) (λ line. AppendsBeginning line (E.contents err.old) (E.contents err.new)) }
     // The words ask for nothing, or for a path that is none, and nothing is printed.
     ensures wrong { result ≡ 2 → IsWrong (texts words.now) × (O.contents out.new ≡ O.contents out.old) }
     ensures statuses { result ≤ 3 }

@@ -1,7 +1,7 @@
 //! Tables that are written to a file.
 
-ghost use Rattle.std.specs.Prelude.{◌≡◌, ◌++◌, IfErr, IfOk, OnOk, map};
-ghost use Rattle.acpins.specs.Rewritten.{file_text, table_text, IsUnwritten};
+ghost use Rattle.std.specs.Prelude.{◌≡◌, ◌≢◌, ◌++◌, ℕ, List, IfErr, IfOk, OnOk, map};
+ghost use Rattle.acpins.specs.Rewritten.{file_text, table_text, IsUnwritten, Holds};
 
 use crate::failure::Failure;
 use crate::files::Files;
@@ -33,13 +33,15 @@ pub fn file_text(alloc: Global, hex: bool, tables: &[Vec<u8>]) -> Result<Vec<u8>
 
 /// Makes the file of that name, and writes the bytes to it.
 pub fn put_file<'a, F: Files>(files: &mut F, name: &'a str, bytes: &[u8]) -> Result<(), Failure<'a>>
-    ensures { IfErr result (IsUnwritten name.now) }
+    ensures held { OnOk result (Holds (F.written_to files.old name.now) (F.written_to files.new name.now) bytes.now) }
+    ensures others { (other : List ℕ) → other ≢ name.now → F.written_to files.new other ≡ F.written_to files.old other }
+    ensures err { IfErr result (IsUnwritten name.now) }
 {
     let Ok(mut file) = files.create(name) else {
         return Err(Failure::Out(name));
     };
     let written = file.write_all(bytes).is_ok() && file.flush().is_ok();
-    if !written || files.close(file).is_err() {
+    if !written || files.close(name, file).is_err() {
         return Err(Failure::Out(name));
     }
     Ok(())

@@ -85,6 +85,7 @@ pub fn add_tables<'a, F: Files>(
     ensures ok { OnOk result (AddsTablesOf hex (F.bytes_of files.old name.now) tables.old.items tables.new.items) }
     ensures err { IfErr result (λ f. IsFileFault hex name.now (F.bytes_of files.old name.now) (vec_len tables.old) f) }
     ensures stays { F.bytes_of files.new ≡ F.bytes_of files.old }
+    ensures others { F.written_to files.new ≡ F.written_to files.old }
 {
     let Ok(mut file) = files.open(name) else {
         return Err(Failure::Read(name));

@@ -34,7 +34,7 @@ impl<'a> Files for Held<'a> {
         Err(FileFault)
     }
 
-    fn close(&mut self, _file: Sink) -> Result<(), FileFault> {
+    fn close(&mut self, _name: &str, _file: Sink) -> Result<(), FileFault> {
         Err(FileFault)
     }
 }

@@ -103,7 +103,6 @@ pub struct MemoryFiles {
     alloc: Global,
     pub kept: Vec<(String, Vec<u8>)>,
     failing: Failing,
-    open: Option<String>,
 }
 
 impl MemoryFiles {
@@ -112,7 +111,6 @@ impl MemoryFiles {
             alloc,
             kept: Vec::new(alloc),
             failing,
-            open: None,
         }
     }
 
@@ -156,22 +154,18 @@ impl Files for MemoryFiles {
         })
     }
 
-    fn create(&mut self, name: &str) -> Result<MemoryWriter, FileFault> {
+    fn create(&mut self, _name: &str) -> Result<MemoryWriter, FileFault> {
         if self.failing.create {
             return Err(FileFault);
-        }
-        match String::from_str(self.alloc, name) {
-            Ok(name) => self.open = Some(name),
-            Err(_) => return Err(FileFault),
         }
         Ok(MemoryWriter::new(self.alloc, self.failing.write))
     }
 
-    fn close(&mut self, file: MemoryWriter) -> Result<(), FileFault> {
+    fn close(&mut self, name: &str, file: MemoryWriter) -> Result<(), FileFault> {
         if self.failing.close {
             return Err(FileFault);
         }
-        let Some(name) = self.open.take() else {
+        let Ok(name) = String::from_str(self.alloc, name) else {
             return Err(FileFault);
         };
         match self.kept.push((name, file.bytes)) {
