@@ -106,8 +106,9 @@ pub(crate) fn var_package<S: Space<Object>>(
 {
     let mut inner = code.package()?;
     let count = term(context, locals, level, Place::Value, &mut inner)?;
+    let count = Box::new(context.alloc(), count)?;
     let elements = elements(context, locals, level, &mut inner)?;
-    Ok(Term::VarPackage(Box::new(context.alloc(), count)?, elements))
+    Ok(Term::VarPackage(count, elements))
 }
 
 // The values that follow a name.

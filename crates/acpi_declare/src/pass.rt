@@ -160,7 +160,9 @@ impl<S: Space<Object>> Pass<S> {
         Ok(())
     }
 
-    // Declares an object inside which others stand, and gives its path.
+    // Declares an object inside which others stand, and gives its path. With a frame of its own, a level of scopes
+    // costs less stack.
+    #[inline(never)]
     fn declare_scope(&mut self, scope: &Path, name: &Name, object: Object) -> Result<Path, Stop>
         ensures path { IfOk result (λ p. declared_path (namespace_of (S.contents self.old.objects)) scope.now name.now ≡ Ok p) }
         ensures ok { IfOk result (λ p. pass_of (S.contents self.new.objects) self.new
@@ -174,6 +176,7 @@ impl<S: Space<Object>> Pass<S> {
     }
 
     // Opens a scope, and gives its path.
+    #[inline(never)]
     fn open_scope(&mut self, scope: &Path, name: &Name) -> Result<Path, Stop>
         ensures path { IfOk result (λ p. opened_path (namespace_of (S.contents self.old.objects)) scope.now name.now ≡ Ok p) }
         ensures ok { IfOk result (λ p. pass_of (S.contents self.new.objects) self.new
@@ -278,6 +281,7 @@ impl<S: Space<Object>> Pass<S> {
     }
 
     // An item in which no others stand.
+    #[inline(never)]
     fn declare_leaf(&mut self, scope: &Path, item: Item) -> Result<(), Stop>
         requires leaf { IsTrue (is_leaf (item_view item)) }
         requires room { OffsetFits (item_view item) }
