@@ -27,6 +27,7 @@ pub mod laws;
 mod lookup;
 mod map_space;
 mod nodes;
+mod overlay;
 mod space;
 mod trail;
 mod tree_space;
@@ -34,5 +35,6 @@ mod walk;
 
 pub use lookup::{Found, SearchFault, misses, search};
 pub use map_space::MapSpace;
+pub use overlay::Overlay;
 pub use space::{Refused, Space};
 pub use tree_space::TreeSpace;
