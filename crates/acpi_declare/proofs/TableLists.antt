@@ -1,6 +1,6 @@
 -- Table after table.
 use Rattle.std.proofs.Common.{◌≡◌, ℕ, suc, ◌+◌, List, [], ◌∷◌, ◌++◌, length, Result, IfOk, IfErr, refl, sym, ap, subst, ◌∙◌, append_assoc, append-nil, arith}
-use Rattle.acpi_declare.specs.Declaring.{State, HasTables}
+use Rattle.acpi_declare.specs.Declaring.{State, HasTables, HasTableOver}
 use Rattle.std.proofs.lemmas.Result.{MatchResult-weaker}
 use Rattle.acpi_declare.specs.declared.fault.LoadFault.{LoadFault}
 use Rattle.acpi_declare.specs.declared.fault.LoadFault.TheVariants.{At, Memory}
@@ -46,6 +46,20 @@ one_more depth number bs b before now e so adds = record {
   notes_are = adds.notes_are ∙ ap (λ (l : List Notes). l ++ notes_on before.objects adds.placements ∷ []) so.notes_are
       ∙ ap (λ (m : Namespace). all_notes predefined so.placements ++ notes_on m adds.placements ∷ []) so.objects_are ∙ sym (more_notes predefined so.placements adds.placements);
 }
+
+-- .. where it alone keeps its links and notes
+pub one_over : (depth number : ℕ) (bs : List (List ℕ)) (b : List ℕ) (all before now : State) → number ≡ length bs → (so : HasTables depth bs all) → before.objects ≡ all.objects → before.links ≡ [] → before.notes ≡ []
+    → AddsTable depth number b before now → HasTableOver depth bs so.placements b now
+one_over depth number bs b all before now e so same no_links no_notes adds = record {
+  placements = adds.placements;
+  listings = more_listings depth 0 number predefined bs so.placements b adds.placements adds.is so.listings (e ∙ omega arith) adds.table (subst (λ (m : Namespace). IsListing m (sites adds.is) adds.placements) objects adds.listing);
+  objects_are = adds.objects_are ∙ ap (λ (m : Namespace). union m (objects_of adds.placements)) objects;
+  links_are = adds.links_are ∙ ap (λ (l : List PendingLink). l ++ pending_links adds.placements) no_links;
+  notes_are = adds.notes_are ∙ ap (λ (l : List Notes). l ++ notes_on before.objects adds.placements ∷ []) no_notes ∙ ap (λ (m : Namespace). notes_on m adds.placements ∷ []) objects;
+}
+  where
+    objects : before.objects ≡ objects_after predefined so.placements
+    objects = same ∙ so.objects_are
 
 -- nothing was declared yet, whatever the depth
 pub no_tables : (depth other : ℕ) (now : State) → HasTables other [] now → HasTables depth [] now
@@ -102,3 +116,8 @@ module _ {T : Type 0} (state : T → State) (depth number : ℕ) (bs : List (Lis
 
   pub adds_err : IfErr r (λ f. IsTableFault depth number before.objects b f) → (later : List (List ℕ)) → IfErr r (λ f. IsLoadFault depth (bs ++ b ∷ later) f)
   adds_err h later = MatchResult-weaker r h (λ d u. u) (λ f t. next_fault depth number bs later (bs ++ b ∷ later) b before f refl e so t)
+
+-- .. over the objects of these tables alone
+pub adds_over : {T : Type 0} (state : T → State) (depth number : ℕ) (bs : List (List ℕ)) (b : List ℕ) (all before : State) (r : Result T LoadFault) → number ≡ length bs → (so : HasTables depth bs all)
+    → before.objects ≡ all.objects → before.links ≡ [] → before.notes ≡ [] → IfOk r (λ d. AddsTable depth number b before (state d)) → IfOk r (λ d. HasTableOver depth bs so.placements b (state d))
+adds_over state depth number bs b all before r e so same no_links no_notes h = MatchResult-weaker r h (λ d a. one_over depth number bs b all before (state d) e so same no_links no_notes a) (λ f u. u)

@@ -2,7 +2,7 @@
 use Rattle.std.specs.Prelude.{◌≡◌, ℕ, List, [], ◌∷◌, ◌++◌, map}
 use Rattle.acpi_name.specs.Names.{Segment, NameParts}
 use Rattle.acpi_space.specs.Spaces.{PathMap}
-use Rattle.acpi_space.specs.Lookups.{is_defined_in}
+use Rattle.acpi_space.specs.Lookups.{is_defined_in, union}
 use Rattle.acpi_space.specs.Search.{missed}
 use Rattle.acpi_space.specs.Laws.{Among}
 use Rattle.acpi_tree.specs.declared.object.Object.{Object}
@@ -11,9 +11,9 @@ use Rattle.acpi_declare.specs.declared.declaring.Declaring as code
 use Rattle.acpi_declare.specs.declared.notes.TableNotes.{TableNotes}
 use Rattle.acpi_declare.specs.Namespace.{Namespace, namespace_of}
 use Rattle.acpi_declare.specs.Predefined.{predefined}
-use Rattle.acpi_declare.specs.Listing.{Placement}
-use Rattle.acpi_declare.specs.Links.{PendingLink, all_pending}
-use Rattle.acpi_declare.specs.Notes.{Notes, notes_of, all_notes}
+use Rattle.acpi_declare.specs.Listing.{Placement, objects_of}
+use Rattle.acpi_declare.specs.Links.{PendingLink, all_pending, pending_links}
+use Rattle.acpi_declare.specs.Notes.{Notes, notes_of, notes_on, all_notes}
 use Rattle.acpi_declare.specs.Loads.{AreListings, objects_after}
 
 pub record State : Type 0 where
@@ -28,6 +28,14 @@ pub record HasTables (depth : ℕ) (tables : List (List ℕ)) (now : State) : Ty
   pub objects_are : now.objects ≡ objects_after predefined placements
   pub links_are : now.links ≡ all_pending placements
   pub notes_are : now.notes ≡ all_notes predefined placements
+
+-- what the listing of one more table gives over those of these tables: the objects of all, and the links and the notes of that table alone
+pub record HasTableOver (depth : ℕ) (tables : List (List ℕ)) (before : List (List Placement)) (bytes : List ℕ) (now : State) : Type 0 where
+  pub placements : List Placement
+  pub listings : AreListings depth 0 predefined (tables ++ bytes ∷ []) (before ++ placements ∷ [])
+  pub objects_are : now.objects ≡ union (objects_after predefined before) (objects_of placements)
+  pub links_are : now.links ≡ pending_links placements
+  pub notes_are : now.notes ≡ notes_on (objects_after predefined before) placements ∷ []
 
 -- a search of one of the links misses the path
 abbrev pub IsMissedLink : Namespace → List PendingLink → List Segment → Type 0

@@ -3,7 +3,8 @@
 ghost use Rattle.std.specs.Prelude.{◌≡◌, ◌∷◌, [], ◌++◌, ℕ, List, map, IfOk, IfErr, ◌↔◌};
 ghost use Rattle.acpi_name.specs.Names.{Segment};
 ghost use Rattle.acpi_space.specs.Laws.{Among};
-ghost use Rattle.acpi_declare.specs.Declaring.{HasTables, IsMissedLink, all_pending_of, objects_so_far, notes_so_far, state_of};
+ghost use Rattle.acpi_space.specs.Overlays.{contents_over, lower_of};
+ghost use Rattle.acpi_declare.specs.Declaring.{HasTableOver, HasTables, IsMissedLink, all_pending_of, objects_so_far, notes_so_far, state_of};
 ghost use Rattle.acpi_declare.specs.DeclaredView.{objects_in, links_in, notes_in};
 ghost use Rattle.acpi_declare.specs.Links.{links_at};
 ghost use Rattle.acpi_declare.specs.Loads.{IsLoad, AreNotes};
@@ -17,7 +18,7 @@ use crate::load::{Declared, add_table, start};
 use crate::notes::TableNotes;
 use crate::pass::PendingLinks;
 use acpi_name::Path;
-use acpi_space::Space;
+use acpi_space::{Overlay, Space};
 use acpi_terms::{Depth, Object};
 use bytes::Bytes;
 use std::alloc::{AllocError, Global};
@@ -58,11 +59,40 @@ impl<S: Space<Object>> Declaring<S> {
         add_table(alloc, self, number, ssdt, depth)
     }
 
+    /// What one SSDT declares over these tables, which are borrowed and stay as they are: the namespace of all of them
+    /// with it, and its own links and notes.
+    pub fn ssdt_over(
+        &self,
+        alloc: Global,
+        ssdt: &Bytes,
+        depth: Depth,
+    ) -> Result<Declaring<Overlay<'_, S>>, LoadFault>
+        ensures ok { (tables : List (List ℕ)) → (so : HasTables depth tables (state_of (S.contents (objects_so_far self.now)) self.now))
+            → IfOk result (λ d. HasTableOver depth tables so.placements ssdt.now (state_of (contents_over S.contents (objects_so_far d)) d)) }
+        ensures lower { IfOk result (λ d. lower_of S.contents (objects_so_far d) ≡ S.contents (objects_so_far self.now)) }
+        ensures err { (tables later : List (List ℕ)) → HasTables depth tables (state_of (S.contents (objects_so_far self.now)) self.now)
+            → IfErr result (λ e. IsLoadFault depth (tables ++ ssdt.now ∷ later) e) }
+    {
+        let layer = Declaring {
+            objects: Overlay::over(alloc, &self.objects),
+            links: Vec::new(alloc),
+            notes: Vec::new(alloc),
+        };
+        add_table(alloc, layer, self.notes.len(), ssdt, depth)
+    }
+
     /// The namespace.
     pub fn objects(&self) -> &S
         ensures { result.now ≡ objects_so_far self.now }
     {
         &self.objects
+    }
+
+    /// What each table notes, in the order of the tables.
+    pub fn notes(&self) -> &[TableNotes]
+        ensures { result.now ≡ notes_so_far self.now }
+    {
+        &self.notes
     }
 
     /// The paths that the searches of the links miss, where no further table is declared: in the order of the searches,

@@ -13,6 +13,9 @@
 //! let declared: Declared<TreeSpace<Object>> = declare(alloc, dsdt, &[ssdt], depth)?;
 //! for (path, object) in &declared.objects().pairs()? { .. }
 //! ```
+//!
+//! Tables can be declared one after another (`Declaring`), and an SSDT over tables that are only borrowed
+//! (`Declaring::ssdt_over`): so many SSDTs are each declared over one DSDT, which is read once.
 #![tactic(auto)]
 
 mod declaring;

@@ -158,6 +158,7 @@ pub(crate) fn add_table<S: Space<Object>>(
     depth: Depth,
 ) -> Result<Declaring<S>, LoadFault>
     ensures ok { IfOk result (λ r. AddsTable depth number bytes.now (state_of (S.contents loaded.objects) loaded) (state_of (S.contents r.objects) r)) }
+    ensures lower { IfOk result (λ r. S.lower r.objects ≡ S.lower loaded.objects) }
     ensures err { IfErr result (λ e. IsTableFault depth number (namespace_of (S.contents loaded.objects)) bytes.now e) }
 {
     let items = table_items(alloc, number, bytes, depth)?;

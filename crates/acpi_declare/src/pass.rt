@@ -51,6 +51,7 @@ impl<S: Space<Object>> Pass<S> {
             ≡ union (namespace_of (S.contents self.old.objects)) (singleton path (object_view object))) }
         ensures links { self.new.links ≡ self.old.links }
         ensures notes { self.new.notes ≡ self.old.notes }
+        ensures lower { OnOk result (S.lower self.new.objects ≡ S.lower self.old.objects) }
     {
         put(&mut self.objects, path, object)?;
         Ok(())
@@ -61,6 +62,7 @@ impl<S: Space<Object>> Pass<S> {
         ensures ok { OnOk result (take_step (pass_of (S.contents self.old.objects) self.old) scope.now (step name.now (declares_alone (object_view object)))
             ≡ Ok (pass_of (S.contents self.new.objects) self.new)) }
         ensures refused { IfErr result (λ f. IsStopOf f (take_step (pass_of (S.contents self.old.objects) self.old) scope.now (step name.now (declares_alone (object_view object))))) }
+        ensures lower { OnOk result (S.lower self.new.objects ≡ S.lower self.old.objects) }
     {
         let path = declared(self.alloc, &self.objects, scope, name)?;
         self.put(path, object)?;
@@ -74,6 +76,7 @@ impl<S: Space<Object>> Pass<S> {
             ≡ union (namespace_of (S.contents self.old.objects)) (singleton path (method_object flags))) }
         ensures links { self.new.links ≡ self.old.links }
         ensures notes { OnOk result (notes_of self.new.notes ≡ with_method (notes_of self.old.notes) (record { path = path; code = code })) }
+        ensures lower { OnOk result (S.lower self.new.objects ≡ S.lower self.old.objects) }
     {
         self.notes.add_method(path.copy()?, code)?;
         self.put(path, Object::Method(flags))?;
@@ -91,6 +94,7 @@ impl<S: Space<Object>> Pass<S> {
         ensures ok { OnOk result (take_step (pass_of (S.contents self.old.objects) self.old) scope.now (step name.now (declares (method_object flags) [] (Some code)))
             ≡ Ok (pass_of (S.contents self.new.objects) self.new)) }
         ensures refused { IfErr result (λ f. IsStopOf f (take_step (pass_of (S.contents self.old.objects) self.old) scope.now (step name.now (declares (method_object flags) [] (Some code))))) }
+        ensures lower { OnOk result (S.lower self.new.objects ≡ S.lower self.old.objects) }
     {
         let path = declared(self.alloc, &self.objects, scope, name)?;
         self.put_method(path, flags, code)?;
@@ -110,6 +114,7 @@ impl<S: Space<Object>> Pass<S> {
             ≡ union (namespace_of (S.contents self.old.objects)) (singleton path (object_view object))) }
         ensures links { OnOk result (all_pending_of self.new.links.items ≡ all_pending_of self.old.links.items ++ pending_for path scope.now names.items ∷ []) }
         ensures notes { self.new.notes ≡ self.old.notes }
+        ensures lower { OnOk result (S.lower self.new.objects ≡ S.lower self.old.objects) }
     {
         let mut paths = Vec::new(self.alloc);
         paths.push(path.copy()?)?;
@@ -134,6 +139,7 @@ impl<S: Space<Object>> Pass<S> {
         ensures ok { OnOk result (take_step (pass_of (S.contents self.old.objects) self.old) scope.now (step name.now (declares (object_view object) names.items None))
             ≡ Ok (pass_of (S.contents self.new.objects) self.new)) }
         ensures refused { IfErr result (λ f. IsStopOf f (take_step (pass_of (S.contents self.old.objects) self.old) scope.now (step name.now (declares (object_view object) names.items None)))) }
+        ensures lower { OnOk result (S.lower self.new.objects ≡ S.lower self.old.objects) }
     {
         let path = declared(self.alloc, &self.objects, scope, name)?;
         self.put_linked(path, scope, object, names)?;
@@ -153,6 +159,7 @@ impl<S: Space<Object>> Pass<S> {
         ensures ok { OnOk result (take_step (pass_with (S.contents self.old.objects) self.old (pending_from scope.now fields.now.names.now paths.old.items)) scope.now (step (unit_name seg) (declares (object_view object) fields.now.names.now None))
             ≡ Ok (pass_with (S.contents self.new.objects) self.new (pending_from scope.now fields.now.names.now paths.new.items))) }
         ensures refused { IfErr result (λ f. IsStopOf f (take_step (pass_with (S.contents self.old.objects) self.old (pending_from scope.now fields.now.names.now paths.old.items)) scope.now (step (unit_name seg) (declares (object_view object) fields.now.names.now None)))) }
+        ensures lower { OnOk result (S.lower self.new.objects ≡ S.lower self.old.objects) }
     {
         let path = declared_unit(&self.objects, scope, seg)?;
         paths.push(path.copy()?)?;
@@ -168,6 +175,7 @@ impl<S: Space<Object>> Pass<S> {
         ensures ok { IfOk result (λ p. pass_of (S.contents self.new.objects) self.new
             ≡ after (pass_of (S.contents self.old.objects) self.old) (placement scope.now (step name.now (declares_alone (object_view object))) p)) }
         ensures refused { IfErr result (λ f. IsStopOf f (declared_path (namespace_of (S.contents self.old.objects)) scope.now name.now)) }
+        ensures lower { OnOk result (S.lower self.new.objects ≡ S.lower self.old.objects) }
     {
         let path = declared(self.alloc, &self.objects, scope, name)?;
         let inside = path.copy()?;
@@ -182,6 +190,7 @@ impl<S: Space<Object>> Pass<S> {
         ensures ok { IfOk result (λ p. pass_of (S.contents self.new.objects) self.new
             ≡ after (pass_of (S.contents self.old.objects) self.old) (placement scope.now (step name.now opens) p)) }
         ensures refused { IfErr result (λ f. IsStopOf f (opened_path (namespace_of (S.contents self.old.objects)) scope.now name.now)) }
+        ensures lower { OnOk result (S.lower self.new.objects ≡ S.lower self.old.objects) }
     {
         let target = opened(self.alloc, &self.objects, scope, name)?;
         match misses(self.alloc, &self.objects, scope, name.view()) {
@@ -200,6 +209,7 @@ impl<S: Space<Object>> Pass<S> {
         ensures ok { OnOk result (take_steps (pass_of (S.contents self.old.objects) self.old) scope.now (external_step (external_view external.now))
             ≡ Ok (pass_of (S.contents self.new.objects) self.new)) }
         ensures memory { IfErr result (λ f. f ≡ Stop.Memory) }
+        ensures lower { OnOk result (S.lower self.new.objects ≡ S.lower self.old.objects) }
     {
         if external.kind != 8 || external.name.view().len() == 0 {
             return Ok(());
@@ -220,6 +230,7 @@ impl<S: Space<Object>> Pass<S> {
         ensures ok { OnOk result (take_steps (pass_of (S.contents self.old.objects) self.old) scope.now (external_steps (externals_view externals.now))
             ≡ Ok (pass_of (S.contents self.new.objects) self.new)) }
         ensures memory { IfErr result (λ f. f ≡ Stop.Memory) }
+        ensures lower { OnOk result (S.lower self.new.objects ≡ S.lower self.old.objects) }
     {
         for external in externals {
             self.expect(scope, external)?;
@@ -242,6 +253,7 @@ impl<S: Space<Object>> Pass<S> {
             ≡ Ok (pass_with (S.contents self.new.objects) self.new (pending_from scope.now fields.now.names.now paths.new.items))) }
         ensures behind { IfOk result (λ n. n ≡ offset + element_bits (field_view elem.now)) }
         ensures refused { IfErr result (λ f. IsStopOf f (take_steps (pass_with (S.contents self.old.objects) self.old (pending_from scope.now fields.now.names.now paths.old.items)) scope.now (unit_step fields.now.form fields.now.flags fields.now.names.now offset (field_view elem.now)))) }
+        ensures lower { OnOk result (S.lower self.new.objects ≡ S.lower self.old.objects) }
     {
         match elem {
             FieldElem::Unit(seg, bits) => {
@@ -272,6 +284,7 @@ impl<S: Space<Object>> Pass<S> {
         ensures ok { OnOk result (take_steps (pass_with (S.contents self.old.objects) self.old (pending_from scope.now fields.now.names.now paths.old.items)) scope.now (unit_steps fields.now.form fields.now.flags fields.now.names.now 0 (fields_view elems.now))
             ≡ Ok (pass_with (S.contents self.new.objects) self.new (pending_from scope.now fields.now.names.now paths.new.items))) }
         ensures refused { IfErr result (λ f. IsStopOf f (take_steps (pass_with (S.contents self.old.objects) self.old (pending_from scope.now fields.now.names.now paths.old.items)) scope.now (unit_steps fields.now.form fields.now.flags fields.now.names.now 0 (fields_view elems.now)))) }
+        ensures lower { OnOk result (S.lower self.new.objects ≡ S.lower self.old.objects) }
     {
         let mut offset = 0;
         for elem in elems {
@@ -289,6 +302,7 @@ impl<S: Space<Object>> Pass<S> {
         ensures ok { OnOk result (take_steps (pass_of (S.contents self.old.objects) self.old) scope.now (own_steps (item_view item))
             ≡ Ok (pass_of (S.contents self.new.objects) self.new)) }
         ensures refused { IfErr result (λ f. IsStopOf f (take_steps (pass_of (S.contents self.old.objects) self.old) scope.now (own_steps (item_view item)))) }
+        ensures lower { OnOk result (S.lower self.new.objects ≡ S.lower self.old.objects) }
     {
         match item {
             Item::Name(name, data) => self.declare(scope, &name, Object::Name(data)),
@@ -387,6 +401,7 @@ impl<S: Space<Object>> Pass<S> {
         ensures ok { OnOk result (take_steps (pass_of (S.contents self.old.objects) self.old) scope.now (unit_steps form flags names.items 0 (fields_view elems.now))
             ≡ Ok (pass_of (S.contents self.new.objects) self.new)) }
         ensures refused { IfErr result (λ f. IsStopOf f (take_steps (pass_of (S.contents self.old.objects) self.old) scope.now (unit_steps form flags names.items 0 (fields_view elems.now)))) }
+        ensures lower { OnOk result (S.lower self.new.objects ≡ S.lower self.old.objects) }
     {
         let mut paths = Vec::new(self.alloc);
         let fields = FieldList {
@@ -411,6 +426,7 @@ impl<S: Space<Object>> Pass<S> {
         ensures ok { OnOk result (pass_item (pass_of (S.contents self.old.objects) self.old) scope.now (item_view item)
             ≡ Ok (pass_of (S.contents self.new.objects) self.new)) }
         ensures refused { IfErr result (λ f. IsStopOf f (pass_item (pass_of (S.contents self.old.objects) self.old) scope.now (item_view item))) }
+        ensures lower { OnOk result (S.lower self.new.objects ≡ S.lower self.old.objects) }
     {
         match item {
             Item::Scope(name, items) => {
@@ -460,6 +476,7 @@ impl<S: Space<Object>> Pass<S> {
         ensures ok { OnOk result (pass_items (pass_of (S.contents self.old.objects) self.old) scope.now (items_tree items.items)
             ≡ Ok (pass_of (S.contents self.new.objects) self.new)) }
         ensures refused { IfErr result (λ f. IsStopOf f (pass_items (pass_of (S.contents self.old.objects) self.old) scope.now (items_tree items.items))) }
+        ensures lower { OnOk result (S.lower self.new.objects ≡ S.lower self.old.objects) }
     {
         for item in items {
             self.declare_item(scope, item)?;

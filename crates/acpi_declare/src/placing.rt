@@ -22,7 +22,8 @@ pub(crate) fn put<S: Space<Object>>(
     object: Object,
 ) -> Result<(), AllocError>
     requires { namespace_of (S.contents objects.old) path ≡ None }
-    ensures { OnOk result (namespace_of (S.contents objects.new) ≡ union (namespace_of (S.contents objects.old)) (singleton path (object_view object))) }
+    ensures objects { OnOk result (namespace_of (S.contents objects.new) ≡ union (namespace_of (S.contents objects.old)) (singleton path (object_view object))) }
+    ensures lower { OnOk result (S.lower objects.new ≡ S.lower objects.old) }
 {
     match objects.insert(path, object) {
         Ok(()) => Ok(()),

@@ -15,3 +15,5 @@ pub mod Insertion
 pub mod WalkSteps
 pub mod Visits
 pub mod Ascending
+pub mod Keys
+pub mod Laid

@@ -3,7 +3,7 @@ use Rattle.std.proofs.Common.{◌≡◌, Bool, true, false, cond, List, [], ◌�
 use Rattle.std.specs.Ordering.{is_eq}
 use Rattle.std.specs.Cmp.{eq_by_cmp_equiv}
 use Rattle.std.specs.Map.{lookup}
-use Rattle.std.specs.FinMap.{FinMap, get, insert, from_entries, get-empty, get-insert, same_map, entries, entries-insert, len-entries, len-empty}
+use Rattle.std.specs.FinMap.{FinMap, empty, get, insert, from_entries, get-empty, get-insert, same_map, entries, entries-insert, len-entries, len-empty}
 use Rattle.std.specs.FinMap.Entries.{put, by_order}
 use Rattle.std.specs.List.{AllByRecursion}
 use Rattle.std.specs.List.Sorted.{IsStrictlySortedBy}
@@ -49,9 +49,12 @@ no_length : {A : Type 0} (l : List A) → length l ≡ 0 → l ≡ []
 no_length [] e = refl
 no_length (x ∷ l) e = absurd (omega arith)
 
+pub entries_none : {V : Type 0} → entries (empty {K = List Segment} {X = V} {R = path_cmp}) ≡ []
+entries_none = no_length _ (sym (len-entries _) ∙ len-empty path_cmp _)
+
 pub entries_ascending : {V : Type 0} (es : List (List Segment × V)) → IsStrictlySortedBy path_cmp (map (λ e. e.0) es) → entries (from_entries {R = path_cmp} es) ≡ es
 unfolding IsStrictlySortedBy
-entries_ascending [] h = no_length _ (sym (len-entries _) ∙ len-empty path_cmp _)
+entries_ascending [] h = entries_none
 entries_ascending (e ∷ es) h = entries-insert path_cmp_total (from_entries es) e.0 e.1 ∙ ap (put path_cmp e.0 e.1) (entries_ascending es h.1) ∙ first_put e.0 e.1 es h.0
 
 -- one more pair of a map that is listed

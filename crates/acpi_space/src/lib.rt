@@ -16,10 +16,10 @@
 //! }
 //! ```
 //!
-//! A `Space` is kept as a tree (`TreeSpace`) or in an ordered map (`MapSpace`); contracts see either as a
-//! finite map, `contents`. `search` and `misses` are defined over any test of paths (`answer` and
-//! `missed` in specs/Search.antt). What the standard says of a search, and when its answer stays, are
-//! contracts in `laws`.
+//! A `Space` is kept as a tree (`TreeSpace`) or in an ordered map (`MapSpace`), or it is laid over another,
+//! which is only borrowed (`Overlay`); contracts see each as a finite map, `contents`. `search` and
+//! `misses` are defined over any test of paths (`answer` and `missed` in specs/Search.antt). What the
+//! standard says of a search, and when its answer stays, are contracts in `laws`.
 #![tactic(auto)]
 
 mod grown;
@@ -27,6 +27,7 @@ pub mod laws;
 mod lookup;
 mod map_space;
 mod nodes;
+mod overlay;
 mod space;
 mod trail;
 mod tree_space;
@@ -34,5 +35,6 @@ mod walk;
 
 pub use lookup::{Found, SearchFault, misses, search};
 pub use map_space::MapSpace;
+pub use overlay::Overlay;
 pub use space::{Refused, Space};
 pub use tree_space::TreeSpace;

@@ -1,5 +1,7 @@
 //! A namespace that is kept in an ordered map.
 
+ghost use Rattle.std.specs.FinMap as finite;
+
 use crate::space::{Refused, Space};
 use acpi_name::Path;
 use std::alloc::{AllocError, Global};
@@ -26,6 +28,8 @@ impl<V> Model for MapSpace<V> {
 
 impl<V: Drop> Space<V> for MapSpace<V> {
     ghost contents = { λ s. s };
+
+    ghost lower = { λ _. finite.empty };
 
     fn new(alloc: Global) -> Self {
         MapSpace {

@@ -25,6 +25,9 @@ pub enum Refused<V> {
 pub trait Space<V>: Drop {
     ghost contents: { Self → PathMap V };
 
+    // What a space below it has, if it is laid over one.
+    ghost lower: { Self → PathMap V };
+
     /// A space in which nothing is defined.
     fn new(alloc: Global) -> Self
         ensures { contents result ≡ finite.empty };
@@ -34,12 +37,13 @@ pub trait Space<V>: Drop {
         ensures { option_copied result ≡ finite.get (contents self.now) path.now };
 
     /// Adds one pair. Where the path has a value already, or memory is refused, the value is handed
-    /// back and no pair changes.
+    /// back and no pair changes. A space below never changes.
     fn insert(&mut self, path: Path, value: V) -> Result<(), Refused<V>>
         ensures free { OnOk result (finite.get (contents self.old) path ≡ None) }
         ensures ok { OnOk result (contents self.new ≡ finite.insert (contents self.old) path value) }
         ensures refused { IfErr result (IsRefusal (contents self.old) path value) }
-        ensures err { OnErr result (contents self.new ≡ contents self.old) };
+        ensures err { OnErr result (contents self.new ≡ contents self.old) }
+        ensures lower { lower self.new ≡ lower self.old };
 
     /// All pairs, in the order of the paths.
     fn pairs(&self) -> Result<Vec<(Path, &V)>, AllocError>

@@ -4,8 +4,8 @@ use Rattle.acpi_declare.proofs.Unions.{namespace_insert}
 use Rattle.acpi_declare.proofs.placing.put.Goals as goal
 use Rattle.acpi_declare.proofs.placing.put.Goals.{in-Ok, in-Err-Memory}
 
-pub returns : goal.returns
-returns g c =
+pub returns-clause-objects : goal.returns-clause-objects
+returns-clause-objects g c =
     elim c.match-insert.branch [
       | in-Ok w ↦ rw w.result-is (ap namespace_of w.in-Ok.ensures.ok ∙ namespace_insert _ _ _ w.in-Ok.ensures.free)
       | in-Err-Memory w ↦ search rules

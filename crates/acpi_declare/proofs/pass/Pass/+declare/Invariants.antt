@@ -12,3 +12,4 @@ invariant-declare_items-loop-item g l =
     (pass_items (pass_of (g.S.Space.contents l.self.objects) l.self) l.scope (items_tree (into_iter_items l.item-iterator))
     ≡ pass_items (pass_of (g.S.Space.contents l.initial.self.objects) l.initial.self) l.scope (items_tree (into_iter_items l.initial.item-iterator)))
     × OffsetsFit (items_tree (into_iter_items l.item-iterator)) × (items_fit (items_tree (into_iter_items l.item-iterator)) ≡ true)
+    × (g.S.Space.lower l.self.objects ≡ g.S.Space.lower l.initial.self.objects)

@@ -11,4 +11,4 @@ abbrev pub invariant-loop-external : goal.invariant-loop-external
 invariant-loop-external g l =
     (take_steps (pass_of (g.S.Space.contents l.self.objects) l.self) l.scope (external_steps (externals_view (drop l.external-index l.externals)))
     ≡ take_steps (pass_of (g.S.Space.contents l.initial.self.objects) l.initial.self) l.scope (external_steps (externals_view l.externals)))
-    × (list_all external_fits (externals_view (drop l.external-index l.externals)) ≡ true)
+    × (list_all external_fits (externals_view (drop l.external-index l.externals)) ≡ true) × (g.S.Space.lower l.self.objects ≡ g.S.Space.lower l.initial.self.objects)
