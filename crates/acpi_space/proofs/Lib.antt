@@ -3,6 +3,7 @@ pub mod Comparisons
 pub mod Beginnings
 pub mod Climbing
 pub mod MissedPaths
+pub mod AmongPaths
 pub mod KeptSearches
 pub mod LongestAnswer
 pub mod Nearest

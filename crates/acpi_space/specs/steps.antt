@@ -2,3 +2,4 @@ pub mod Tree
 pub mod Grown
 pub mod Trail
 pub mod Walk
+pub mod Within

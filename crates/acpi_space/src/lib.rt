@@ -5,6 +5,7 @@
 //!                           │ ──pairs──► all of them, in the order of the paths
 //! scope, name ──search──────┤ ─────────► the path that the name means
 //!             ──misses──────┘ ─────────► the paths that were tried in vain
+//!       ──misses_among──┘ ─────────► those of them that another space has
 //! ```
 //!
 //! ```text
@@ -22,6 +23,7 @@
 //! contracts in `laws`.
 #![tactic(auto)]
 
+mod among;
 mod grown;
 pub mod laws;
 mod lookup;
@@ -32,7 +34,8 @@ mod trail;
 mod tree_space;
 mod walk;
 
-pub use lookup::{Found, SearchFault, misses, search};
+pub use among::{misses_among, paths_among};
+pub use lookup::{Found, SearchFault, misses, paths_below, search};
 pub use map_space::MapSpace;
 pub use space::{Refused, Space};
 pub use tree_space::TreeSpace;

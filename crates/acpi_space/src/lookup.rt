@@ -135,8 +135,12 @@ fn misses_plain<V, S: Space<V>>(
     paths_below(alloc, scope, seg, outer)
 }
 
-// The length of the shortest beginning of the scope below which the segment is missed.
-fn first_missed<V, S: Space<V>>(space: &S, scope: &Path, seg: Seg) -> Result<usize, AllocError>
+/// The length of the shortest beginning of the scope below which the segment is missed.
+pub(crate) fn first_missed<V, S: Space<V>>(
+    space: &S,
+    scope: &Path,
+    seg: Seg,
+) -> Result<usize, AllocError>
     ensures missed { IfOk result (λ n. skipped (λ q. is_defined (S.contents space.now) (q ++ seg ∷ [])) (beginnings scope.now) ≡ take (length scope.now + 1 - n) (beginnings scope.now)) }
     ensures within { IfOk result (λ n. n ≤ length scope.now + 1) }
 {
@@ -147,8 +151,13 @@ fn first_missed<V, S: Space<V>>(space: &S, scope: &Path, seg: Seg) -> Result<usi
     }
 }
 
-// The segment below each beginning of the scope that has at least `outer` segments, the longest first.
-fn paths_below(alloc: Global, scope: &Path, seg: Seg, outer: usize) -> Result<Vec<Path>, AllocError>
+/// The segment below each beginning of the scope that has at least `outer` segments, the longest first.
+pub fn paths_below(
+    alloc: Global,
+    scope: &Path,
+    seg: Seg,
+    outer: usize,
+) -> Result<Vec<Path>, AllocError>
     requires { outer ≤ length scope.now + 1 }
     ensures { IfOk result (λ v. v.items ≡ map (λ q. q ++ seg ∷ []) (take (length scope.now + 1 - outer) (beginnings scope.now))) }
 {
