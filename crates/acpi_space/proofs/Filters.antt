@@ -1,5 +1,5 @@
 -- What is among the elements of a list that pass a test.
-use Rattle.std.proofs.Common.{◌≡◌, ◌⊎◌, ◌↔◌, inl, inr, Bool, true, false, cond, List, [], ◌∷◌, true≢false, refl, sym, ap, subst, ◌∙◌}
+use Rattle.std.proofs.Common.{◌≡◌, ◌⊎◌, ◌↔◌, inl, inr, Bool, true, false, cond, List, [], ◌∷◌, Result, Ok, Err, IfOk, true≢false, refl, sym, ap, subst, ◌∙◌}
 use Rattle.std.specs.Prelude.{IsTrue}
 use Rattle.std.specs.List.{filter}
 use Rattle.acpi_space.specs.Laws.{Among}
@@ -29,3 +29,17 @@ pub among_filtered : {X : Type 0} (f : X → Bool) (xs ys : List X) (P : X → T
 among_filtered f xs ys P e h x =
     let a = among_filter f xs x in
     (λ i. let r = a.0 (subst (λ l. Among l x) e i) in ((h x).0 r.0, r.1), λ r. subst (λ l. Among l x) (sym e) (a.1 ((h x).1 r.0, r.1)))
+
+-- ---- where all pass
+
+filter_all : {X : Type 0} (l : List X) → filter (λ _. true) l ≡ l
+filter_all [] = refl
+filter_all (x ∷ l) = ap (λ r. x ∷ r) (filter_all l)
+
+pub all_pass : {R E X : Type 0} (r : Result R E) (items : R → List X) (l : List X) → IfOk r (λ v. items v ≡ l) → IfOk r (λ v. items v ≡ filter (λ _. true) l)
+all_pass (Ok v) items l h = h ∙ sym (filter_all l)
+all_pass (Err f) items l h = tt
+
+pub all_passed : {R E X : Type 0} (r : Result R E) (items : R → List X) (l : List X) → IfOk r (λ v. items v ≡ filter (λ _. true) l) → IfOk r (λ v. items v ≡ l)
+all_passed (Ok v) items l h = h ∙ filter_all l
+all_passed (Err f) items l h = tt

@@ -23,19 +23,20 @@
 //! contracts in `laws`.
 #![tactic(auto)]
 
-mod among;
 mod grown;
 pub mod laws;
 mod lookup;
 mod map_space;
 mod nodes;
+mod scopes;
 mod space;
 mod trail;
 mod tree_space;
 mod walk;
+mod wanted;
 
-pub use among::{misses_among, paths_among};
-pub use lookup::{Found, SearchFault, misses, paths_below, search};
+pub use lookup::{Found, SearchFault, search};
 pub use map_space::MapSpace;
 pub use space::{Refused, Space};
 pub use tree_space::TreeSpace;
+pub use wanted::{AllPaths, PathsOf, Wanted, misses, misses_among, wanted_misses};

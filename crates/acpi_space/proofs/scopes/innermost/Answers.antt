@@ -2,7 +2,7 @@ use Rattle.std.proofs.Common.{◌++◌, [], ◌∷◌}
 use Rattle.acpi_space.specs.Spaces.{is_defined}
 use Rattle.acpi_space.proofs.Beginnings.{found_within}
 use Rattle.acpi_space.proofs.AmongPaths.{innermost_is, none_inside, none_at_all}
-use Rattle.acpi_space.proofs.among.innermost.Goals as goal
+use Rattle.acpi_space.proofs.scopes.innermost.Goals as goal
 
 pub beginning-requires : goal.beginning-requires
 beginning-requires g c = found_within (λ q. is_defined (g.T.Space.contents c.args.among.now) (q ++ c.args.seg ∷ [])) _ _ _ c.in_ok-depth.ensures c.in-Some.is

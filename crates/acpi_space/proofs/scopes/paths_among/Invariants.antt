@@ -2,7 +2,7 @@ use Rattle.std.proofs.Common.{◌≡◌, ◌++◌, [], ◌∷◌, map, length, �
 use Rattle.std.specs.Prelude.{IsTrue}
 use Rattle.acpi_space.specs.Spaces.{is_defined}
 use Rattle.acpi_space.specs.steps.Within.{passing}
-use Rattle.acpi_space.proofs.among.paths_among.Given as goal
+use Rattle.acpi_space.proofs.scopes.paths_among.Given as goal
 
 abbrev pub invariant-loop-inner : goal.invariant-loop-inner
 invariant-loop-inner g l = record {

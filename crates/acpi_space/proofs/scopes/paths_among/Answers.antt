@@ -3,7 +3,7 @@ use Rattle.acpi_name.specs.Names.{Segment}
 use Rattle.acpi_space.specs.Spaces.{is_defined}
 use Rattle.acpi_space.specs.steps.Within.{IsInnermost}
 use Rattle.acpi_space.proofs.AmongPaths.{Here, none_are, first_is, nothing_taken, taken_last, put_last, put_end, put_on}
-use Rattle.acpi_space.proofs.among.paths_among.Goals as goal
+use Rattle.acpi_space.proofs.scopes.paths_among.Goals as goal
 
 pub returns-in_default : goal.returns-in_default
 returns-in_default g c = c.new-paths.ensures.items ∙ none_are (is_defined (g.T.Space.contents c.args.among.now)) c.args.seg c.args.outer c.args.scope.now c.in_ok-inner.field-0 c.in_ok-inner.ensures c.in_default.is
