@@ -31,4 +31,4 @@ pub use acpi_code::Depth;
 pub use acpi_counts::Counts;
 pub use body::{Body, read_body, why};
 pub use fault::{BodyFault, BodyReason};
-pub use misses::{BodyMisses, OpenMiss, body_misses};
+pub use misses::{BodyMisses, OpenMiss, body_misses, body_misses_among};

@@ -1,6 +1,6 @@
 //! What a method body searches in vain.
 
-ghost use Rattle.std.specs.Prelude.{◌≡◌, ◌↔◌, ℕ, List, IfOk, Some, IsTrue, map};
+ghost use Rattle.std.specs.Prelude.{◌≡◌, ◌↔◌, ℕ, List, IfOk, Some, IsTrue, map, filter};
 ghost use Rattle.std.specs.FinMap as finite;
 ghost use Rattle.std.specs.List.Sorted.{IsStrictlySortedBy};
 ghost use Rattle.acpi_name.specs.Names.{Segment};
@@ -132,4 +132,39 @@ pub fn body_misses<S: Space<Object>>(
         firm: paths_of(alloc, &gathered.firm)?,
         open: open_misses_of(alloc, &gathered.awaited)?,
     })
+}
+
+/// What the body of a method searches in vain, as `body_misses` tells it, of the paths that another space has.
+pub fn body_misses_among<S: Space<Object>, W, T: Space<W>>(
+    alloc: Global,
+    space: &S,
+    method: &Path,
+    body: &Body,
+    counts: &Counts,
+    among: &T,
+) -> Result<BodyMisses, AllocError>
+    ensures firm { IfOk result (λ m. (p : List Segment) → Among m.firm.items p ↔ (IsFirmMiss (namespace_of (S.contents space.now)) (finite.get counts.now) method.now (body_view body.now) p × IsTrue (is_defined (T.contents among.now) p))) }
+    ensures firm_ascend { IfOk result (λ m. IsStrictlySortedBy path_cmp m.firm.items) }
+    ensures open { IfOk result (λ m. (p : List Segment) (count : ℕ) → Among m.open.items (record { path = p; count = count }) ↔ (IsOpenMiss (namespace_of (S.contents space.now)) (finite.get counts.now) method.now (body_view body.now) p count × IsTrue (is_defined (T.contents among.now) p))) }
+    ensures open_ascend { IfOk result (λ m. IsStrictlySortedBy path_cmp (map (λ o. o.path) m.open.items)) }
+{
+    let BodyMisses { firm, open } = body_misses(alloc, space, method, body, counts)?;
+    Ok(BodyMisses {
+        firm: firm_among(firm, among),
+        open: open_among(open, among),
+    })
+}
+
+fn firm_among<W, T: Space<W>>(mut paths: Vec<Path>, among: &T) -> Vec<Path>
+    ensures { result.items ≡ filter (is_defined (T.contents among.now)) paths.items }
+{
+    paths.retain(|path| among.get(path).is_some());
+    paths
+}
+
+fn open_among<W, T: Space<W>>(mut misses: Vec<OpenMiss>, among: &T) -> Vec<OpenMiss>
+    ensures { result.items ≡ filter (λ o. is_defined (T.contents among.now) o.path) misses.items }
+{
+    misses.retain(|miss| among.get(&miss.path).is_some());
+    misses
 }

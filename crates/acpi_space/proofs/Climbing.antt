@@ -31,6 +31,14 @@ walk_on defined g x path pushed popped shorter scope found inv e f d t s m =
     let fails : defined ((shorter ++ x ∷ []) ++ g ∷ []) ≡ false = ap (λ l. defined (l ++ g ∷ [])) (sym at) ∙ ap defined (sym e) ∙ sym d ∙ t in
     sym (found_shorter (λ q. defined (q ++ g ∷ [])) shorter x fails) ∙ ap (λ l. nearest_below defined l g) (sym at) ∙ inv
 
+some_last : {B : Type 0} (x : B) (l : List B) → last_or (Some x) l ≡ None → ⊥
+some_last x [] e = cc
+some_last x (y ∷ l) e = some_last y l e
+
+pub no_last : {B : Type 0} (l : List B) → last_or None l ≡ None → l ≡ []
+no_last [] e = refl
+no_last (x ∷ l) e = absurd (some_last x l e)
+
 walk_ended : {A : Type 0} (defined : List A → Bool) (g : A) (path pushed popped scope : List A) (found : Bool)
     → nearest_below defined path g ≡ nearest_below defined scope g
     → pushed ≡ path ++ g ∷ [] → popped ≡ parent_of pushed → found ≡ defined pushed → found ≡ false
@@ -41,14 +49,6 @@ walk_ended defined g path pushed popped scope found inv e f d t s =
     let nil : path ≡ [] = sym same ∙ no_last popped s in
     let fails : defined ([] ++ g ∷ []) ≡ false = ap (λ l. defined (l ++ g ∷ [])) (sym nil) ∙ ap defined (sym e) ∙ sym d ∙ t in
     ap (option_map length) (sym (found_nowhere (λ q. defined (q ++ g ∷ [])) fails) ∙ ap (λ l. nearest_below defined l g) (sym nil) ∙ inv)
-  where
-    some_last : {B : Type 0} (x : B) (l : List B) → last_or (Some x) l ≡ None → ⊥
-    some_last x [] e = cc
-    some_last x (y ∷ l) e = some_last y l e
-
-    no_last : {B : Type 0} (l : List B) → last_or None l ≡ None → l ≡ []
-    no_last [] e = refl
-    no_last (x ∷ l) e = absurd (some_last x l e)
 
 is_some-copied : {X : Type 0} (o : Option (Bor X)) → is_some (option_copied o) ≡ is_some o
 is_some-copied None = refl

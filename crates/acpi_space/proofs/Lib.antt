@@ -3,6 +3,8 @@ pub mod Comparisons
 pub mod Beginnings
 pub mod Climbing
 pub mod MissedPaths
+pub mod AmongPaths
+pub mod Filters
 pub mod KeptSearches
 pub mod LongestAnswer
 pub mod Nearest

@@ -1,6 +1,5 @@
 -- The beginnings of a scope that are longer than the one found.
-use Rattle.std.proofs.Common.{◌≡◌, ℕ, zero, suc, ◌+◌, ◌-◌, ◌≤◌, Bool, true, false, cond, List, [], ◌∷◌, ◌++◌, map, find, length, take, Option, Some, None, refl, sym, ap, ◌∙◌, arith, Result, Ok, Err, IfOk}
-use Rattle.acpi_name.specs.Names.{Segment}
+use Rattle.std.proofs.Common.{◌≡◌, ℕ, zero, suc, ◌+◌, ◌-◌, ◌≤◌, Bool, true, false, cond, List, [], ◌∷◌, ◌++◌, map, find, length, take, Option, Some, None, refl, sym, ap, ◌∙◌, arith}
 use Rattle.std.specs.Option.{option_map, option_or}
 use Rattle.std.proofs.lemmas.List.{take-append-le, append-nil, map-append, take-map, length-map}
 use Rattle.acpi_space.specs.Search.{beginnings, skipped}
@@ -138,11 +137,3 @@ one_more_out f xs items more path depth outer e m p d w =
 -- none at the start
 pub none_out : {A B : Type 0} (f : List A → B) (xs : List A) (depth : ℕ) → depth ≡ length xs + 1 → [] ≡ map f (take (length xs + 1 - depth) (beginnings xs))
 none_out f xs depth e = let z : length xs + 1 - depth ≡ 0 = omega arith in ap (λ i. map f (take i (beginnings xs))) (sym z)
-
--- the paths below, as a search would skip them
-pub missed_paths : {R E : Type 0} (r : Result R E) (items : R → List (List Segment)) (p : List Segment → Bool) (g : Segment) (xs : List Segment) (n : ℕ)
-    → skipped (λ q. p (q ++ g ∷ [])) (beginnings xs) ≡ take n (beginnings xs)
-    → IfOk r (λ v. items v ≡ map (λ q. q ++ g ∷ []) (take n (beginnings xs)))
-    → IfOk r (λ v. items v ≡ skipped p (map (λ q. q ++ g ∷ []) (beginnings xs)))
-missed_paths (Ok v) items p g xs n e m = m ∙ ap (map (λ q. q ++ g ∷ [])) (sym e) ∙ sym (skipped_map p (λ q. q ++ g ∷ []) (beginnings xs))
-missed_paths (Err f) items p g xs n e m = tt

@@ -3,6 +3,7 @@ pub mod Lookups
 pub mod Refusal
 pub mod Search
 pub mod Overlays
+pub mod Wanted
 pub mod FoundPath
 pub mod Laws
 pub mod steps

@@ -3,3 +3,4 @@ pub mod Grown
 pub mod Trail
 pub mod Walk
 pub mod Layers
+pub mod Within

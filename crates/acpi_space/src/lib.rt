@@ -5,6 +5,7 @@
 //!                           │ ──pairs──► all of them, in the order of the paths
 //! scope, name ──search──────┤ ─────────► the path that the name means
 //!             ──misses──────┘ ─────────► the paths that were tried in vain
+//!       ──misses_among──┘ ─────────► those of them that another space has
 //! ```
 //!
 //! ```text
@@ -28,13 +29,16 @@ mod lookup;
 mod map_space;
 mod nodes;
 mod overlay;
+mod scopes;
 mod space;
 mod trail;
 mod tree_space;
 mod walk;
+mod wanted;
 
-pub use lookup::{Found, SearchFault, misses, search};
+pub use lookup::{Found, SearchFault, search};
 pub use map_space::MapSpace;
 pub use overlay::Overlay;
 pub use space::{Refused, Space};
 pub use tree_space::TreeSpace;
+pub use wanted::{AllPaths, PathsOf, Wanted, misses, misses_among, wanted_misses};

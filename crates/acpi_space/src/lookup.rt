@@ -1,9 +1,9 @@
-//! What a name means in a scope, and which paths it missed.
-ghost use Rattle.std.specs.Prelude.{◌≡◌, ◌↔◌, IfOk, Err, None, ◌++◌, [], ◌∷◌, map, find, length, take, ◌≤◌, ◌+◌, ◌-◌};
+//! What a name means in a scope.
+ghost use Rattle.std.specs.Prelude.{◌≡◌, ◌↔◌, IfOk, Err, None, ◌++◌, [], ◌∷◌, map, find};
 ghost use Rattle.acpi_name.specs.NameRefs.{name_parts};
 ghost use Rattle.acpi_name.specs.Paths.{place_of};
 ghost use Rattle.acpi_space.specs.Spaces.{is_defined};
-ghost use Rattle.acpi_space.specs.Search.{answer, beginnings, missed, skipped};
+ghost use Rattle.acpi_space.specs.Search.{answer, beginnings};
 ghost use Rattle.acpi_space.specs.FoundPath.{found_path, search_fault};
 ghost use Rattle.acpi_space.specs.declared.lookup.SearchFault.TheVariants.{Memory};
 
@@ -81,28 +81,6 @@ pub fn search<V, S: Space<V>>(
     })
 }
 
-/// The paths that the search of a name tries in vain, the innermost first: those before its answer, or
-/// all of them where it has none.
-pub fn misses<V, S: Space<V>>(
-    alloc: Global,
-    space: &S,
-    scope: &Path,
-    name: NameRef<'_>,
-) -> Result<Vec<Path>, SearchFault>
-    ensures missed { IfOk result (λ v. v.items ≡ missed (is_defined (S.contents space.now)) scope.now (name_parts name.entry)) }
-    ensures above { (result ≡ Err SearchFault.AboveRoot) ↔ (place_of scope.now (name_parts name.entry) ≡ None) }
-{
-    if let Some(seg) = name.plain() {
-        return Ok(misses_plain(alloc, space, scope, seg)?);
-    }
-    let path = place(alloc, scope, name)?;
-    let mut paths = Vec::new(alloc);
-    if space.get(&path).is_none() {
-        paths.push(path)?;
-    }
-    Ok(paths)
-}
-
 // A plain name is looked for in the scope and in each of its parents.
 fn search_plain<V, S: Space<V>>(
     alloc: Global,
@@ -120,45 +98,4 @@ fn search_plain<V, S: Space<V>>(
             Ok(Found::At(path))
         }
     }
-}
-
-// The paths that the search of a plain name tries in vain.
-fn misses_plain<V, S: Space<V>>(
-    alloc: Global,
-    space: &S,
-    scope: &Path,
-    seg: Seg,
-) -> Result<Vec<Path>, AllocError>
-    ensures { IfOk result (λ v. v.items ≡ skipped (is_defined (S.contents space.now)) (map (λ q. q ++ seg ∷ []) (beginnings scope.now))) }
-{
-    let outer = first_missed(space, scope, seg)?;
-    paths_below(alloc, scope, seg, outer)
-}
-
-// The length of the shortest beginning of the scope below which the segment is missed.
-fn first_missed<V, S: Space<V>>(space: &S, scope: &Path, seg: Seg) -> Result<usize, AllocError>
-    ensures missed { IfOk result (λ n. skipped (λ q. is_defined (S.contents space.now) (q ++ seg ∷ [])) (beginnings scope.now) ≡ take (length scope.now + 1 - n) (beginnings scope.now)) }
-    ensures within { IfOk result (λ n. n ≤ length scope.now + 1) }
-{
-    let _len = scope.len();
-    match space.nearest(scope, seg)? {
-        None => Ok(0),
-        Some(depth) => Ok(depth + 1),
-    }
-}
-
-// The segment below each beginning of the scope that has at least `outer` segments, the longest first.
-fn paths_below(alloc: Global, scope: &Path, seg: Seg, outer: usize) -> Result<Vec<Path>, AllocError>
-    requires { outer ≤ length scope.now + 1 }
-    ensures { IfOk result (λ v. v.items ≡ map (λ q. q ++ seg ∷ []) (take (length scope.now + 1 - outer) (beginnings scope.now))) }
-{
-    let mut paths = Vec::new(alloc);
-    let mut depth = scope.len() + 1;
-    while outer < depth {
-        depth -= 1;
-        let mut path = scope.beginning(alloc, depth)?;
-        path.push(seg)?;
-        paths.push(path)?;
-    }
-    Ok(paths)
 }

@@ -1,7 +1,7 @@
 use Rattle.std.proofs.Common.{◌≡◌, ◌++◌, [], ◌∷◌, ◌∙◌, map, length, take, ap, arith, ◌+◌, ◌-◌}
 use Rattle.acpi_space.specs.Search.{beginnings}
 use Rattle.acpi_space.proofs.MissedPaths.{none_out, one_more_out}
-use Rattle.acpi_space.proofs.lookup.paths_below.Goals as goal
+use Rattle.acpi_space.proofs.scopes.paths_below.Goals as goal
 
 pub loop-depth-init : goal.loop-depth-init
 loop-depth-init c = record {

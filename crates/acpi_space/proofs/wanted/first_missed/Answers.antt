@@ -2,7 +2,7 @@ use Rattle.std.proofs.Common.{◌++◌, [], ◌∷◌, ◌≤◌, length, arith}
 use Rattle.acpi_space.specs.Spaces.{is_defined}
 use Rattle.acpi_space.proofs.Beginnings.{found_within}
 use Rattle.acpi_space.proofs.MissedPaths.{missed_none, missed_some}
-use Rattle.acpi_space.proofs.lookup.first_missed.Goals as goal
+use Rattle.acpi_space.proofs.wanted.first_missed.Goals as goal
 
 pub overflow_add-result : goal.overflow_add-result
 overflow_add-result g c =

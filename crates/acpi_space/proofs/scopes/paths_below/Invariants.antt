@@ -1,6 +1,6 @@
 use Rattle.std.proofs.Common.{◌≡◌, ◌+◌, ◌-◌, ◌≤◌, ◌++◌, [], ◌∷◌, map, length, take}
 use Rattle.acpi_space.specs.Search.{beginnings}
-use Rattle.acpi_space.proofs.lookup.paths_below.Given as goal
+use Rattle.acpi_space.proofs.scopes.paths_below.Given as goal
 
 abbrev pub invariant-loop-depth : goal.invariant-loop-depth
 invariant-loop-depth l = record {
