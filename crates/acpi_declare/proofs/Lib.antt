@@ -11,5 +11,6 @@ pub mod Ranges
 pub mod CodeFaults
 pub mod TableListings
 pub mod TableLists
+pub mod OverOne
 pub mod Refusals
 pub mod LinkMisses

@@ -1,5 +1,5 @@
 -- The paths of a map: they ascend, and are those that it has.
-use Rattle.std.proofs.Common.{◌≡◌, ◌⊎◌, ◌↔◌, inl, inr, Bool, true, false, cond, ◌&&◌, List, [], ◌∷◌, map, filter, is_some, Some, true≢false, refl, sym, ap, ◌∙◌}
+use Rattle.std.proofs.Common.{◌≡◌, ◌⊎◌, ◌↔◌, inl, inr, Bool, true, false, cond, ◌&&◌, List, [], ◌∷◌, map, is_some, Some, true≢false, refl, sym, ap, ◌∙◌}
 use lib.Dec.{T}
 use Rattle.std.specs.Prelude.{IsTrue}
 use Rattle.std.specs.declared.cmp.Ordering.{Ordering}
@@ -56,24 +56,3 @@ pub key_is : {V : Type 0} (m : PathMap V) (p : List Segment) → Among (keys m) 
 key_is m p =
     let k = key_found (entries m) p in
     (λ i. ap is_some (get-entries m p) ∙ k.0 i, λ h. k.1 (ap is_some (sym (get-entries m p)) ∙ h))
-
--- what passes a test
-pub among_filter : {X : Type 0} (f : X → Bool) (xs : List X) (x : X) → Among (filter f xs) x ↔ (Among xs x × (f x ≡ true))
-among_filter f [] x = (λ i. absurd i, λ r. absurd r.0)
-among_filter {X} f (y ∷ ys) x = by (f y) refl (among_filter f ys x)
-  where
-    by : (b : Bool) → f y ≡ b → Among (filter f ys) x ↔ (Among ys x × (f x ≡ true)) → Among (cond b (y ∷ filter f ys) (filter f ys)) x ↔ (((y ≡ x) ⊎ Among ys x) × (f x ≡ true))
-    by true e more = (to, λ r. from r.0 r.1)
-      where
-        to : (y ≡ x) ⊎ Among (filter f ys) x → ((y ≡ x) ⊎ Among ys x) × (f x ≡ true)
-        to (inl s) = (inl s, ap f (sym s) ∙ e)
-        to (inr i) = let r = more.0 i in (inr r.0, r.1)
-
-        from : (y ≡ x) ⊎ Among ys x → f x ≡ true → (y ≡ x) ⊎ Among (filter f ys) x
-        from (inl s) t = inl s
-        from (inr i) t = inr (more.1 (i, t))
-    by false e more = (λ i. let r = more.0 i in (inr r.0, r.1), λ r. from r.0 r.1)
-      where
-        from : (y ≡ x) ⊎ Among ys x → f x ≡ true → Among (filter f ys) x
-        from (inl s) t = absurd (true≢false (sym t ∙ ap f (sym s) ∙ e))
-        from (inr i) t = more.1 (i, t)

@@ -23,7 +23,8 @@ use Rattle.acpi_space.specs.declared.space.Refused.TheVariants.{Taken, Memory}
 use Rattle.acpi_space.specs.steps.Layers.{longer, pairs_of}
 use Rattle.acpi_space.proofs.Beginnings.{found_cons}
 use Rattle.acpi_space.proofs.Comparisons.{same_path}
-use Rattle.acpi_space.proofs.Keys.{among_filter, key_is, keys_ascend}
+use Rattle.acpi_space.proofs.Filters.{among_filter}
+use Rattle.acpi_space.proofs.Keys.{key_is, keys_ascend}
 use Rattle.acpi_space.proofs.Maps.{entries_ascending, entries_none, get_is_lookup, none_of_not_some, put_is_insert}
 
 find_both : {V : Type 0} (es fs : List (List Segment × V)) (q : List Segment) → find path_cmp q (es ++ fs) ≡ option_or (find path_cmp q es) (find path_cmp q fs)
