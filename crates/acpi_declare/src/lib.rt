@@ -20,6 +20,7 @@
 
 mod declaring;
 mod fault;
+mod field_list;
 pub mod laws;
 mod links;
 mod load;

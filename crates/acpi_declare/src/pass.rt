@@ -17,6 +17,7 @@ ghost use Rattle.acpi_declare.specs.steps.View.{pass_of, pass_with, with_method}
 ghost use Rattle.acpi_declare.specs.steps.Outcomes.{IsStopOf};
 
 use crate::fault::Stop;
+use crate::field_list::{FieldList, behind, one, two};
 use crate::notes::TableNotes;
 use crate::placing::{declared, declared_unit, opened, put};
 use acpi_name::{Name, Path, PlaceFault, Seg, place};
@@ -483,39 +484,4 @@ impl<S: Space<Object>> Pass<S> {
         }
         Ok(())
     }
-}
-
-// What the units of one field list have in common.
-#[derive(Clone, Copy)]
-struct FieldList<'a> {
-    form: FieldForm,
-    flags: u8,
-    names: &'a [Name],
-}
-
-// The offset behind so many bits.
-fn behind(offset: u64, bits: u32) -> u64
-    requires { offset + bits < 2 ^ 64 }
-    ensures { result ≡ offset + bits }
-{
-    offset + u64::from(bits)
-}
-
-// A list of one name.
-fn one(alloc: Global, name: Name) -> Result<Vec<Name>, AllocError>
-    ensures { IfOk result (λ v. v.items ≡ name ∷ []) }
-{
-    let mut names = Vec::new(alloc);
-    names.push(name)?;
-    Ok(names)
-}
-
-// A list of two names.
-fn two(alloc: Global, first: Name, second: Name) -> Result<Vec<Name>, AllocError>
-    ensures { IfOk result (λ v. v.items ≡ first ∷ second ∷ []) }
-{
-    let mut names = Vec::new(alloc);
-    names.push(first)?;
-    names.push(second)?;
-    Ok(names)
 }
