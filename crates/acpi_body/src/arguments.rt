@@ -13,7 +13,7 @@ ghost use Rattle.acpi_body.specs.steps.Setting.{args_of, deeper};
 
 use acpi_counts::Counts;
 use acpi_name::{NameRef, Path, PlaceFault, Seg, place};
-use acpi_space::{MapSpace, Refused, Space};
+use acpi_space::{Refused, Space, TreeSpace};
 use acpi_tree::Object;
 use std::alloc::{AllocError, Global};
 use std::marker::Model;
@@ -78,7 +78,7 @@ impl<'a, S: Space<Object>> Context<'a, S> {
 }
 
 /// Adds the path, if it isn't there.
-pub(crate) fn add(locals: &mut MapSpace<()>, path: Path) -> Result<(), AllocError>
+pub(crate) fn add(locals: &mut TreeSpace<()>, path: Path) -> Result<(), AllocError>
     ensures { OnOk result (locals.new ≡ with_local locals.old path) }
 {
     if locals.get(&path).is_some() {
@@ -90,7 +90,7 @@ pub(crate) fn add(locals: &mut MapSpace<()>, path: Path) -> Result<(), AllocErro
     }
 }
 
-fn args_there<S: Space<Object>>(space: &S, locals: &MapSpace<()>, path: &Path) -> u8
+fn args_there<S: Space<Object>>(space: &S, locals: &TreeSpace<()>, path: &Path) -> u8
     ensures { result ≡ args_there (namespace_of (S.contents space.now)) locals.now path.now }
 {
     if locals.get(path).is_some() {
@@ -120,7 +120,7 @@ fn expected<S: Space<Object>>(context: &Context<'_, S>, name: NameRef<'_>) -> Re
 /// The length of the longest beginning of the method's path below which the segment is a local or an object.
 pub(crate) fn nearest<S: Space<Object>>(
     context: &Context<'_, S>,
-    locals: &MapSpace<()>,
+    locals: &TreeSpace<()>,
     seg: Seg,
 ) -> Result<Option<usize>, AllocError>
     ensures { IfOk result (λ n. n ≡ option_map length (nearest_scope (defined_with (namespace_of context.now.objects) locals.now) context.now.method seg)) }
@@ -145,7 +145,7 @@ fn deeper(first: Option<usize>, second: Option<usize>) -> Option<usize>
 #[tactic(auto, unfolding(crate::specs::steps::Setting::args_of))]
 fn plain_count<S: Space<Object>>(
     context: &Context<'_, S>,
-    locals: &MapSpace<()>,
+    locals: &TreeSpace<()>,
     name: NameRef<'_>,
     seg: Seg,
 ) -> Result<u8, AllocError>
@@ -169,7 +169,7 @@ fn plain_count<S: Space<Object>>(
 #[tactic(auto, unfolding(crate::specs::steps::Setting::args_of))]
 fn placed_count<S: Space<Object>>(
     context: &Context<'_, S>,
-    locals: &MapSpace<()>,
+    locals: &TreeSpace<()>,
     name: NameRef<'_>,
     path: &Path,
 ) -> Result<u8, AllocError>
@@ -188,7 +188,7 @@ fn placed_count<S: Space<Object>>(
 #[inline(never)]
 pub(crate) fn count<S: Space<Object>>(
     context: &Context<'_, S>,
-    locals: &MapSpace<()>,
+    locals: &TreeSpace<()>,
     name: NameRef<'_>,
 ) -> Result<u8, AllocError>
     ensures { IfOk result (λ n. n ≡ args_of context.now locals.now (name_parts name.entry)) }

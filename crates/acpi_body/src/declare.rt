@@ -17,7 +17,7 @@ use crate::field::{add_units, elements};
 use crate::term::term;
 use acpi_code::Code;
 use acpi_name::{Name, Path, PlaceFault, place};
-use acpi_space::{MapSpace, Space};
+use acpi_space::{Space, TreeSpace};
 use acpi_tree::{Decl, Object, Place, Term, Width};
 use std::alloc::{AllocError, Global};
 
@@ -25,7 +25,7 @@ use std::alloc::{AllocError, Global};
 #[inline(never)]
 pub(crate) fn value<S: Space<Object>>(
     context: &Context<'_, S>,
-    locals: &MapSpace<()>,
+    locals: &TreeSpace<()>,
     level: u32,
     code: &mut Code<'_>,
 ) -> Result<Box<Term>, Stop>
@@ -71,7 +71,7 @@ fn declaration(alloc: Global, decl: Decl) -> Result<Term, AllocError>
 #[tactic(auto, using(crate::proofs::Parts::part_fails), unfolding(crate::specs::steps::Reading::named_form, crate::specs::steps::Reading::operands_at, crate::specs::steps::Reading::operand_at))]
 pub(crate) fn name_declared<S: Space<Object>>(
     context: &Context<'_, S>,
-    locals: &mut MapSpace<()>,
+    locals: &mut TreeSpace<()>,
     level: u32,
     code: &mut Code<'_>,
 ) -> Result<Term, Stop>
@@ -89,7 +89,7 @@ pub(crate) fn name_declared<S: Space<Object>>(
 #[tactic(auto, using(crate::proofs::Parts::part_fails), unfolding(crate::specs::steps::Reading::named_form, crate::specs::steps::Reading::operands_at, crate::specs::steps::Reading::operand_at))]
 pub(crate) fn create_declared<S: Space<Object>>(
     context: &Context<'_, S>,
-    locals: &mut MapSpace<()>,
+    locals: &mut TreeSpace<()>,
     level: u32,
     width: Width,
     code: &mut Code<'_>,
@@ -116,7 +116,7 @@ pub(crate) fn create_declared<S: Space<Object>>(
 #[tactic(auto, using(crate::proofs::Parts::part_fails), unfolding(crate::specs::steps::Reading::named_form, crate::specs::steps::Reading::operands_at, crate::specs::steps::Reading::operand_at))]
 pub(crate) fn create_field_declared<S: Space<Object>>(
     context: &Context<'_, S>,
-    locals: &mut MapSpace<()>,
+    locals: &mut TreeSpace<()>,
     level: u32,
     code: &mut Code<'_>,
 ) -> Result<Term, Stop>
@@ -141,7 +141,7 @@ pub(crate) fn create_field_declared<S: Space<Object>>(
 #[tactic(auto, using(crate::proofs::Parts::part_fails), unfolding(crate::specs::steps::Reading::named_form, crate::specs::steps::Reading::operands_at, crate::specs::steps::Reading::operand_at))]
 pub(crate) fn region_declared<S: Space<Object>>(
     context: &Context<'_, S>,
-    locals: &mut MapSpace<()>,
+    locals: &mut TreeSpace<()>,
     level: u32,
     code: &mut Code<'_>,
 ) -> Result<Term, Stop>
@@ -168,7 +168,7 @@ pub(crate) fn region_declared<S: Space<Object>>(
 #[tactic(auto, using(crate::proofs::Parts::part_fails), unfolding(crate::specs::steps::Reading::named_form, crate::specs::steps::Reading::operands_at, crate::specs::steps::Reading::operand_at))]
 pub(crate) fn mutex_declared<S: Space<Object>>(
     context: &Context<'_, S>,
-    locals: &mut MapSpace<()>,
+    locals: &mut TreeSpace<()>,
     level: u32,
     code: &mut Code<'_>,
 ) -> Result<Term, Stop>
@@ -185,7 +185,7 @@ pub(crate) fn mutex_declared<S: Space<Object>>(
 #[tactic(auto, using(crate::proofs::Parts::part_fails), unfolding(crate::specs::steps::Reading::named_form, crate::specs::steps::Reading::operands_at, crate::specs::steps::Reading::operand_at))]
 pub(crate) fn event_declared<S: Space<Object>>(
     context: &Context<'_, S>,
-    locals: &mut MapSpace<()>,
+    locals: &mut TreeSpace<()>,
     level: u32,
     code: &mut Code<'_>,
 ) -> Result<Term, Stop>
@@ -201,7 +201,7 @@ pub(crate) fn event_declared<S: Space<Object>>(
 #[tactic(auto, using(crate::proofs::Parts::part_fails), unfolding(crate::specs::steps::Reading::units_form, crate::specs::steps::Reading::names_at, crate::specs::steps::Reading::operands_at, crate::specs::steps::Reading::operand_at))]
 pub(crate) fn field_declared<S: Space<Object>>(
     context: &Context<'_, S>,
-    locals: &mut MapSpace<()>,
+    locals: &mut TreeSpace<()>,
     level: u32,
     code: &mut Code<'_>,
 ) -> Result<Term, Stop>
@@ -225,7 +225,7 @@ pub(crate) fn field_declared<S: Space<Object>>(
 #[tactic(auto, using(crate::proofs::Parts::part_fails), unfolding(crate::specs::steps::Reading::units_form, crate::specs::steps::Reading::names_at, crate::specs::steps::Reading::operands_at, crate::specs::steps::Reading::operand_at))]
 pub(crate) fn index_field_declared<S: Space<Object>>(
     context: &Context<'_, S>,
-    locals: &mut MapSpace<()>,
+    locals: &mut TreeSpace<()>,
     level: u32,
     code: &mut Code<'_>,
 ) -> Result<Term, Stop>
@@ -251,7 +251,7 @@ pub(crate) fn index_field_declared<S: Space<Object>>(
 #[tactic(auto, using(crate::proofs::Parts::part_fails), unfolding(crate::specs::steps::Reading::units_form, crate::specs::steps::Reading::names_at, crate::specs::steps::Reading::operands_at, crate::specs::steps::Reading::operand_at))]
 pub(crate) fn bank_field_declared<S: Space<Object>>(
     context: &Context<'_, S>,
-    locals: &mut MapSpace<()>,
+    locals: &mut TreeSpace<()>,
     level: u32,
     code: &mut Code<'_>,
 ) -> Result<Term, Stop>

@@ -10,7 +10,7 @@ use crate::arguments::add;
 use crate::fault::{BodyReason, Stop, refused};
 use acpi_code::{Code, Opcode};
 use acpi_name::Path;
-use acpi_space::MapSpace;
+use acpi_space::TreeSpace;
 use acpi_tree::{FieldElem, Int};
 use std::alloc::{AllocError, Global};
 
@@ -120,7 +120,11 @@ pub(crate) fn elements(alloc: Global, code: &mut Code<'_>) -> Result<Vec<FieldEl
     Ok(found)
 }
 
-fn add_unit(locals: &mut MapSpace<()>, method: &Path, element: &FieldElem) -> Result<(), AllocError>
+fn add_unit(
+    locals: &mut TreeSpace<()>,
+    method: &Path,
+    element: &FieldElem,
+) -> Result<(), AllocError>
     ensures { OnOk result (locals.new ≡ locals_after_unit method.now locals.old (field_view element.now)) }
 {
     match element {
@@ -135,7 +139,7 @@ fn add_unit(locals: &mut MapSpace<()>, method: &Path, element: &FieldElem) -> Re
 
 /// Adds the path of each named element.
 pub(crate) fn add_units(
-    locals: &mut MapSpace<()>,
+    locals: &mut TreeSpace<()>,
     method: &Path,
     elements: &[FieldElem],
 ) -> Result<(), AllocError>

@@ -13,15 +13,15 @@ ghost use Rattle.acpi_body.specs.steps.Gathering.{is_at, with_misses, with_await
 use crate::arguments::{Context, add, nearest};
 use acpi_counts::Counts;
 use acpi_name::{NameRef, Path, PlaceFault, Seg, place};
-use acpi_space::{MapSpace, Refused, SearchFault, Space, Wanted, wanted_misses};
+use acpi_space::{Refused, SearchFault, Space, TreeSpace, Wanted, wanted_misses};
 use acpi_tree::Object;
 use std::alloc::AllocError;
 
 /// What was missed so far: the firm paths, and the counts that are awaited.
 #[derive(Drop)]
 pub(crate) struct Gathered {
-    pub(crate) firm: MapSpace<()>,
-    pub(crate) awaited: MapSpace<u8>,
+    pub(crate) firm: TreeSpace<()>,
+    pub(crate) awaited: TreeSpace<u8>,
 }
 
 /// What a search tried in vain of the paths that are asked for, the innermost first, and whether it found something then.
@@ -56,7 +56,7 @@ pub(crate) fn missed<S: Space<Object>, Q: Wanted>(
 // The search of a plain name, with the locals laid over the namespace.
 fn plain_search<S: Space<Object>, Q: Wanted>(
     context: &Context<'_, S>,
-    locals: &MapSpace<()>,
+    locals: &TreeSpace<()>,
     wanted: &Q,
     seg: Seg,
 ) -> Result<Tried, AllocError>
@@ -86,7 +86,7 @@ fn plain_search<S: Space<Object>, Q: Wanted>(
 // The search at one path alone, with the locals laid over the namespace.
 fn place_search<S: Space<Object>, Q: Wanted>(
     context: &Context<'_, S>,
-    locals: &MapSpace<()>,
+    locals: &TreeSpace<()>,
     wanted: &Q,
     path: Path,
 ) -> Result<Tried, AllocError>
@@ -104,7 +104,7 @@ fn place_search<S: Space<Object>, Q: Wanted>(
 // The search of a name with the locals laid over the namespace.
 fn search_with<S: Space<Object>, Q: Wanted>(
     context: &Context<'_, S>,
-    locals: &MapSpace<()>,
+    locals: &TreeSpace<()>,
     wanted: &Q,
     name: NameRef<'_>,
 ) -> Result<Tried, AllocError>
@@ -127,7 +127,7 @@ fn search_with<S: Space<Object>, Q: Wanted>(
 // The path whose External gives the count of a name, unless something was found.
 fn awaited<S: Space<Object>>(
     context: &Context<'_, S>,
-    locals: &MapSpace<()>,
+    locals: &TreeSpace<()>,
     name: NameRef<'_>,
     found: bool,
 ) -> Result<Option<Path>, AllocError>
@@ -153,7 +153,7 @@ fn is_at(awaited: &Option<Path>, path: &Path) -> bool
 
 /// Adds the paths that a search missed, but for the one that it awaits.
 pub(crate) fn add_missed(
-    firm: &mut MapSpace<()>,
+    firm: &mut TreeSpace<()>,
     awaited: &Option<Path>,
     missed: Vec<Path>,
 ) -> Result<(), AllocError>
@@ -169,7 +169,7 @@ pub(crate) fn add_missed(
 
 // Adds the count of a path that is awaited.
 fn add_awaited(
-    awaited: &mut MapSpace<u8>,
+    awaited: &mut TreeSpace<u8>,
     counts: &Counts,
     path: Option<Path>,
 ) -> Result<(), AllocError>
@@ -201,7 +201,7 @@ fn if_wanted<Q: Wanted>(wanted: &Q, path: Option<Path>) -> Option<Path>
 #[tactic(auto, unfolding(crate::specs::steps::Gathering::with_search))]
 pub(crate) fn gather_search<S: Space<Object>, Q: Wanted>(
     context: &Context<'_, S>,
-    locals: &MapSpace<()>,
+    locals: &TreeSpace<()>,
     wanted: &Q,
     gathered: &mut Gathered,
     name: NameRef<'_>,

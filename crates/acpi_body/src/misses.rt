@@ -19,7 +19,7 @@ use crate::searched::statements;
 use crate::spelled::add_spelled;
 use acpi_counts::Counts;
 use acpi_name::Path;
-use acpi_space::{AllPaths, MapSpace, PathsOf, Space, Wanted};
+use acpi_space::{AllPaths, PathsOf, Space, TreeSpace, Wanted};
 use acpi_tree::{Object, Term};
 use std::alloc::{AllocError, Global};
 
@@ -45,8 +45,8 @@ fn none(alloc: Global) -> Gathered
     ensures { result ≡ record { firm = finite.empty; awaited = finite.empty } }
 {
     Gathered {
-        firm: MapSpace::new(alloc),
-        awaited: MapSpace::new(alloc),
+        firm: TreeSpace::new(alloc),
+        awaited: TreeSpace::new(alloc),
     }
 }
 
@@ -60,7 +60,7 @@ fn gather_terms<S: Space<Object>, Q: Wanted>(
     ensures awaited { IfOk result (λ g. (p : List Segment) (count : ℕ) → (finite.get g.awaited p ≡ Some count) ↔ (IsAwaitedIn (namespace_of context.now.objects) (finite.get context.now.externals) context.now.method (terms_tree terms.now) p count × IsTrue (Q.wanted wanted.now p))) }
 {
     let mut gathered = none(context.alloc());
-    let mut locals = MapSpace::new(context.alloc());
+    let mut locals = TreeSpace::new(context.alloc());
     statements(context, &mut locals, wanted, &mut gathered, terms)?;
     Ok(gathered)
 }
@@ -93,7 +93,7 @@ fn gather<S: Space<Object>, Q: Wanted>(
     }
 }
 
-fn paths_of(alloc: Global, paths: &MapSpace<()>) -> Result<Vec<Path>, AllocError>
+fn paths_of(alloc: Global, paths: &TreeSpace<()>) -> Result<Vec<Path>, AllocError>
     ensures { IfOk result (λ v. v.items ≡ finite.keys paths.now) }
 {
     let mut list = Vec::new(alloc);
@@ -103,7 +103,7 @@ fn paths_of(alloc: Global, paths: &MapSpace<()>) -> Result<Vec<Path>, AllocError
     Ok(list)
 }
 
-fn open_misses_of(alloc: Global, counts: &MapSpace<u8>) -> Result<Vec<OpenMiss>, AllocError>
+fn open_misses_of(alloc: Global, counts: &TreeSpace<u8>) -> Result<Vec<OpenMiss>, AllocError>
     ensures { IfOk result (λ v. map (λ m. (m.path, m.count)) v.items ≡ finite.entries counts.now) }
 {
     let mut list = Vec::new(alloc);

@@ -11,7 +11,7 @@ use crate::arguments::{Context, add};
 use crate::field::add_units;
 use crate::gathered::{Gathered, gather_search};
 use acpi_name::{Name, PlaceFault, place};
-use acpi_space::{MapSpace, Space, Wanted};
+use acpi_space::{Space, TreeSpace, Wanted};
 use acpi_tree::{Decl, Object, Operand, Term};
 use std::alloc::AllocError;
 
@@ -19,7 +19,7 @@ use std::alloc::AllocError;
 #[cycle(value)]
 fn value<S: Space<Object>, Q: Wanted>(
     context: &Context<'_, S>,
-    locals: &MapSpace<()>,
+    locals: &TreeSpace<()>,
     wanted: &Q,
     gathered: &mut Gathered,
     term: &Term,
@@ -45,7 +45,7 @@ fn value<S: Space<Object>, Q: Wanted>(
 #[cycle(value)]
 fn values<S: Space<Object>, Q: Wanted>(
     context: &Context<'_, S>,
-    locals: &MapSpace<()>,
+    locals: &TreeSpace<()>,
     wanted: &Q,
     gathered: &mut Gathered,
     terms: &[Term],
@@ -61,7 +61,7 @@ fn values<S: Space<Object>, Q: Wanted>(
 #[cycle(value)]
 fn operand_values<S: Space<Object>, Q: Wanted>(
     context: &Context<'_, S>,
-    locals: &MapSpace<()>,
+    locals: &TreeSpace<()>,
     wanted: &Q,
     gathered: &mut Gathered,
     operands: &[Operand],
@@ -79,7 +79,7 @@ fn operand_values<S: Space<Object>, Q: Wanted>(
 // Adds the place of a declared name, if it has one.
 fn declare<S: Space<Object>>(
     context: &Context<'_, S>,
-    locals: &mut MapSpace<()>,
+    locals: &mut TreeSpace<()>,
     name: &Name,
 ) -> Result<(), AllocError>
     ensures { OnOk result (locals.new ≡ with_place locals.old (place_of context.now.method name.now)) }
@@ -95,7 +95,7 @@ fn declare<S: Space<Object>>(
 #[inline(never)]
 fn declaration<S: Space<Object>, Q: Wanted>(
     context: &Context<'_, S>,
-    locals: &mut MapSpace<()>,
+    locals: &mut TreeSpace<()>,
     wanted: &Q,
     gathered: &mut Gathered,
     decl: &Decl,
@@ -158,7 +158,7 @@ fn declaration<S: Space<Object>, Q: Wanted>(
 #[cycle(statement)]
 fn statement<S: Space<Object>, Q: Wanted>(
     context: &Context<'_, S>,
-    locals: &mut MapSpace<()>,
+    locals: &mut TreeSpace<()>,
     wanted: &Q,
     gathered: &mut Gathered,
     term: &Term,
@@ -184,7 +184,7 @@ fn statement<S: Space<Object>, Q: Wanted>(
 #[cycle(statement)]
 fn else_statements<S: Space<Object>, Q: Wanted>(
     context: &Context<'_, S>,
-    locals: &mut MapSpace<()>,
+    locals: &mut TreeSpace<()>,
     wanted: &Q,
     gathered: &mut Gathered,
     other: &Option<Vec<Term>>,
@@ -202,7 +202,7 @@ fn else_statements<S: Space<Object>, Q: Wanted>(
 #[cycle(statement)]
 pub(crate) fn statements<S: Space<Object>, Q: Wanted>(
     context: &Context<'_, S>,
-    locals: &mut MapSpace<()>,
+    locals: &mut TreeSpace<()>,
     wanted: &Q,
     gathered: &mut Gathered,
     terms: &[Term],

@@ -9,7 +9,7 @@ ghost use Rattle.acpi_body.specs.steps.Gathering.{Asked, Grows, goes_above, IsFr
 use crate::arguments::Context;
 use crate::gathered::{add_missed, missed};
 use acpi_name::{Path, read_name};
-use acpi_space::{MapSpace, Space, Wanted};
+use acpi_space::{Space, TreeSpace, Wanted};
 use acpi_tree::Object;
 use std::alloc::AllocError;
 
@@ -37,7 +37,7 @@ fn goes_above(method: &Path, bytes: &[u8]) -> bool
 fn add_front<S: Space<Object>, Q: Wanted>(
     context: &Context<'_, S>,
     wanted: &Q,
-    firm: &mut MapSpace<()>,
+    firm: &mut TreeSpace<()>,
     bytes: &[u8],
 ) -> Result<(), AllocError>
     ensures { OnOk result (Grows firm.old firm.new (Asked (Q.wanted wanted.now) (IsFrontMiss (namespace_of context.now.objects) context.now.method bytes.now))) }
@@ -55,7 +55,7 @@ fn add_front<S: Space<Object>, Q: Wanted>(
 pub(crate) fn add_spelled<S: Space<Object>, Q: Wanted>(
     context: &Context<'_, S>,
     wanted: &Q,
-    firm: &mut MapSpace<()>,
+    firm: &mut TreeSpace<()>,
     bytes: &[u8],
 ) -> Result<(), AllocError>
     ensures { OnOk result (Grows firm.old firm.new (Asked (Q.wanted wanted.now) (IsMissedBy (namespace_of context.now.objects) context.now.method bytes.now))) }

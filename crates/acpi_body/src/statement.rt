@@ -18,7 +18,7 @@ use crate::declare::{
 use crate::fault::Stop;
 use crate::term::{buffer, package, placed, var_package};
 use acpi_code::{Code, Opcode};
-use acpi_space::{MapSpace, Space};
+use acpi_space::{Space, TreeSpace};
 use acpi_tree::{Object, Place, Term};
 
 fn with_else(predicate: Box<Term>, then: Vec<Term>, other: Vec<Term>) -> Term
@@ -42,7 +42,7 @@ fn branch(predicate: Box<Term>, then: Vec<Term>, other: Option<Vec<Term>>) -> Te
 #[inline(never)]
 fn if_statement<S: Space<Object>>(
     context: &Context<'_, S>,
-    locals: &mut MapSpace<()>,
+    locals: &mut TreeSpace<()>,
     level: u32,
     code: &mut Code<'_>,
 ) -> Result<Term, Stop>
@@ -60,7 +60,7 @@ fn if_statement<S: Space<Object>>(
 #[tactic(auto, using(crate::proofs::Parts::part_fails), unfolding(crate::specs::steps::Reading::else_at))]
 fn else_statements<S: Space<Object>>(
     context: &Context<'_, S>,
-    locals: &mut MapSpace<()>,
+    locals: &mut TreeSpace<()>,
     level: u32,
     code: &mut Code<'_>,
 ) -> Result<Option<Vec<Term>>, Stop>
@@ -80,7 +80,7 @@ fn else_statements<S: Space<Object>>(
 #[inline(never)]
 fn while_statement<S: Space<Object>>(
     context: &Context<'_, S>,
-    locals: &mut MapSpace<()>,
+    locals: &mut TreeSpace<()>,
     level: u32,
     code: &mut Code<'_>,
 ) -> Result<Term, Stop>
@@ -103,7 +103,7 @@ fn room(left: usize) -> usize {
 #[cycle(statement)]
 fn statements<S: Space<Object>>(
     context: &Context<'_, S>,
-    locals: &mut MapSpace<()>,
+    locals: &mut TreeSpace<()>,
     level: u32,
     code: &mut Code<'_>,
 ) -> Result<Vec<Term>, Stop>
@@ -122,7 +122,7 @@ fn statements<S: Space<Object>>(
 #[tactic(auto, using(crate::proofs::Plain::plain_keeps), unfolding(crate::specs::steps::Reading::statement_by, crate::specs::steps::Reading::placed_by, crate::specs::steps::Reading::form_by))]
 fn form<'a, S: Space<Object>>(
     context: &Context<'_, S>,
-    locals: &mut MapSpace<()>,
+    locals: &mut TreeSpace<()>,
     level: u32,
     front: &Code<'a>,
     opcode: Opcode,
@@ -164,7 +164,7 @@ fn form<'a, S: Space<Object>>(
 #[tactic(auto, using(crate::proofs::Parts::part_fails), unfolding(crate::specs::steps::Reading::statement_at))]
 fn statement<S: Space<Object>>(
     context: &Context<'_, S>,
-    locals: &mut MapSpace<()>,
+    locals: &mut TreeSpace<()>,
     level: u32,
     code: &mut Code<'_>,
 ) -> Result<Term, Stop>
@@ -187,6 +187,6 @@ pub(crate) fn body<S: Space<Object>>(
 ) -> Result<Vec<Term>, Stop>
     ensures { Gives (λ v. terms_view v.items) result (body_at (args_of context.now) context.now.method depth finite.empty bytes.now) }
 {
-    let mut locals = MapSpace::new(context.alloc());
+    let mut locals = TreeSpace::new(context.alloc());
     statements(context, &mut locals, depth, &mut Code::new(bytes))
 }

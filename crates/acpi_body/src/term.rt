@@ -17,7 +17,7 @@ use crate::refusal::refusal;
 use crate::register::add_register;
 use acpi_code::{Code, ConstantForm, Opcode};
 use acpi_name::NameRef;
-use acpi_space::{MapSpace, Space};
+use acpi_space::{Space, TreeSpace};
 use acpi_tree::{Object, Op, Operand, OperandKind, Place, Term};
 use std::alloc::{AllocError, Global};
 
@@ -45,7 +45,7 @@ fn string(alloc: Global, code: &mut Code<'_>) -> Result<Term, Stop>
 #[inline(never)]
 pub(crate) fn buffer<S: Space<Object>>(
     context: &Context<'_, S>,
-    locals: &MapSpace<()>,
+    locals: &TreeSpace<()>,
     level: u32,
     code: &mut Code<'_>,
 ) -> Result<Term, Stop>
@@ -61,7 +61,7 @@ pub(crate) fn buffer<S: Space<Object>>(
 #[cycle(read)]
 fn elements<S: Space<Object>>(
     context: &Context<'_, S>,
-    locals: &MapSpace<()>,
+    locals: &TreeSpace<()>,
     level: u32,
     code: &mut Code<'_>,
 ) -> Result<Vec<Term>, Stop>
@@ -79,7 +79,7 @@ fn elements<S: Space<Object>>(
 #[inline(never)]
 pub(crate) fn package<S: Space<Object>>(
     context: &Context<'_, S>,
-    locals: &MapSpace<()>,
+    locals: &TreeSpace<()>,
     level: u32,
     code: &mut Code<'_>,
 ) -> Result<Term, Stop>
@@ -97,7 +97,7 @@ pub(crate) fn package<S: Space<Object>>(
 #[inline(never)]
 pub(crate) fn var_package<S: Space<Object>>(
     context: &Context<'_, S>,
-    locals: &MapSpace<()>,
+    locals: &TreeSpace<()>,
     level: u32,
     code: &mut Code<'_>,
 ) -> Result<Term, Stop>
@@ -115,7 +115,7 @@ pub(crate) fn var_package<S: Space<Object>>(
 #[cycle(read)]
 fn arguments<S: Space<Object>>(
     context: &Context<'_, S>,
-    locals: &MapSpace<()>,
+    locals: &TreeSpace<()>,
     level: u32,
     count: u8,
     code: &mut Code<'_>,
@@ -161,7 +161,7 @@ fn reference_to(alloc: Global, name: NameRef<'_>) -> Result<Term, AllocError>
 #[inline(never)]
 fn named<S: Space<Object>>(
     context: &Context<'_, S>,
-    locals: &MapSpace<()>,
+    locals: &TreeSpace<()>,
     level: u32,
     place: Place,
     code: &mut Code<'_>,
@@ -184,7 +184,7 @@ fn named<S: Space<Object>>(
 #[tactic(auto, using(crate::proofs::Parts::part_fails), unfolding(crate::specs::steps::Reading::operand_at))]
 fn operand<S: Space<Object>>(
     context: &Context<'_, S>,
-    locals: &MapSpace<()>,
+    locals: &TreeSpace<()>,
     level: u32,
     kind: OperandKind,
     code: &mut Code<'_>,
@@ -209,7 +209,7 @@ fn operand<S: Space<Object>>(
 #[cycle(read)]
 fn operands<S: Space<Object>>(
     context: &Context<'_, S>,
-    locals: &MapSpace<()>,
+    locals: &TreeSpace<()>,
     level: u32,
     kinds: &[OperandKind],
     code: &mut Code<'_>,
@@ -231,7 +231,7 @@ fn operands<S: Space<Object>>(
 #[inline(never)]
 fn operator<S: Space<Object>>(
     context: &Context<'_, S>,
-    locals: &MapSpace<()>,
+    locals: &TreeSpace<()>,
     level: u32,
     op: Op,
     code: &mut Code<'_>,
@@ -248,7 +248,7 @@ fn operator<S: Space<Object>>(
 #[tactic(auto, unfolding(crate::specs::steps::Reading::form_by))]
 fn form<'a, S: Space<Object>>(
     context: &Context<'_, S>,
-    locals: &MapSpace<()>,
+    locals: &TreeSpace<()>,
     level: u32,
     place: Place,
     front: &Code<'a>,
@@ -283,7 +283,7 @@ fn form<'a, S: Space<Object>>(
 #[tactic(auto, unfolding(crate::specs::steps::Reading::placed_by))]
 pub(crate) fn placed<'a, S: Space<Object>>(
     context: &Context<'_, S>,
-    locals: &MapSpace<()>,
+    locals: &TreeSpace<()>,
     level: u32,
     place: Place,
     front: &Code<'a>,
@@ -306,7 +306,7 @@ pub(crate) fn placed<'a, S: Space<Object>>(
 #[tactic(auto, using(crate::proofs::Parts::part_fails), unfolding(crate::specs::steps::Reading::term_at))]
 pub(crate) fn term<S: Space<Object>>(
     context: &Context<'_, S>,
-    locals: &MapSpace<()>,
+    locals: &TreeSpace<()>,
     level: u32,
     place: Place,
     code: &mut Code<'_>,
