@@ -7,27 +7,9 @@
 
 ghost use Rattle.std.specs.Prelude.{◌≡◌, ◌≢◌, ◌≤◌, IfOk};
 ghost use Rattle.std.specs.IoError.{error_kind};
-ghost use Rattle.acpins.specs.declared.failure.Failure.{Failure};
+ghost use Rattle.acpins_run.specs.declared.failure.Failure.{Failure};
 
-mod checking;
-mod failure;
-mod files;
-mod hexadecimal;
-mod lines;
-mod listing;
-mod made;
-mod parts;
-mod program;
-mod rewriting;
-mod showing;
-mod tables;
-#[cfg(test)]
-mod tests;
-
-use crate::failure::Failure;
-use crate::files::HostFiles;
-use crate::parts::UntilFailure;
-use crate::program::{run, told};
+use acpins_run::{Failure, HostFiles, UntilFailure, run, told};
 use std::alloc::Global;
 use std::io::ErrorKind;
 use std::process::ExitCode;

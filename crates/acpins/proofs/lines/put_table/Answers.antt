@@ -1,5 +1,0 @@
-use Rattle.acpins.proofs.Telling.{tells_more}
-use Rattle.acpins.proofs.lines.put_table.Goals as goal
-
-pub returns : goal.returns
-returns g c = tells_more _ _ _ _ _ _ _ _ (tells_more _ _ _ _ _ _ _ _ c.put.ensures c.put_decimal.ensures) c.put-2.ensures

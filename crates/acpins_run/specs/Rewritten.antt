@@ -1,0 +1,24 @@
+-- What `rewrite` puts into its file (docs/COMMAND.md).
+use Rattle.std.specs.Prelude.{◌≡◌, ℕ, Bool, true, false, List, [], ◌∷◌, ◌++◌, Option, IfSome, Some}
+use Rattle.std.specs.List.{flat_map}
+use Rattle.acpins_run.specs.declared.failure.Failure.{Failure}
+use Rattle.acpins_run.specs.declared.failure.Failure.TheVariants.{Out}
+use Rattle.hex.specs.Hex.{encode_lower}
+
+-- a table: its bytes, or a line of their lower-case digits
+abbrev pub table_text : Bool → List ℕ → List ℕ
+table_text true table = encode_lower table ++ 10 ∷ []
+table_text false table = table
+
+-- tables, one after another
+abbrev pub file_text : Bool → List (List ℕ) → List ℕ
+file_text hex tables = flat_map (table_text hex) tables
+
+-- the failure says that the file of this name can't be written
+abbrev pub IsUnwritten : List ℕ → Failure → Type 0
+IsUnwritten name (Out word) = word.now ≡ name
+IsUnwritten name _ = ⊥
+
+-- where it is known what was written to a file before, it holds these bytes now
+abbrev pub Holds : Option (List ℕ) → Option (List ℕ) → List ℕ → Type 0
+Holds old new bytes = IfSome old (λ _. new ≡ Some bytes)

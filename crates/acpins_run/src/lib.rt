@@ -1,0 +1,39 @@
+//! One run of the command `acpins`, over any files and streams.
+//!
+//! ```text
+//! words ── acpins_words ──► what they ask for
+//! files by name (Files) ──► tables ── acpi_load ──► text, whole or not at all ──► standard output
+//!                                                   rewritten tables ───────────► a file
+//!                                                   the line of a failure ──────► standard error
+//! ```
+//!
+//! `run` is the whole program; the host's files are `HostFiles`:
+//!
+//! ```text
+//! let mut files = HostFiles::new(rt);
+//! let status = run(alloc, &["list", "a.dsdt"], &mut files, &mut rt.stdout(), &mut rt.stderr());
+//! ```
+//!
+//! `told` says a failure alone, for a caller that never came to a run.
+#![tactic(auto)]
+
+mod checking;
+mod failure;
+mod files;
+mod hexadecimal;
+mod lines;
+mod listing;
+mod made;
+mod parts;
+mod program;
+mod rewriting;
+mod showing;
+mod tables;
+
+pub use failure::Failure;
+pub use files::{FileFault, Files, HostFiles};
+pub use hexadecimal::{HexFault, from_hex};
+pub use made::Made;
+pub use parts::{PartWriter, UntilFailure};
+pub use program::{made_in, run, run_telling, told};
+pub use tables::add_tables;

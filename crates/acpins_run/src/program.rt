@@ -1,0 +1,332 @@
+//! One run of the program.
+
+ghost use Rattle.std.specs.Prelude.{◌≡◌, ◌≢◌, ◌≤◌, ◌⊎◌, ◌∷◌, [], IfOk, IfErr, OnOk, IsTrue, None};
+ghost use Rattle.acpi_name.specs.Text.{SpellsPathText, IsPathText};
+ghost use Rattle.acpi_declare.specs.DeclaredView as declared;
+ghost use Rattle.acpi_declare.specs.Links.{links_at};
+ghost use Rattle.acpi_declare.specs.Namespace.{namespace_of};
+ghost use Rattle.acpi_declare.specs.Refusals.{IsLoadFault};
+ghost use Rattle.acpi_order.specs.Machines.{IsMachine};
+ghost use Rattle.acpi_machine.specs.MachineView.{objects_in, machine_of};
+ghost use Rattle.std.specs.Io.KnownBytes.{Appends};
+ghost use Rattle.acpins_run.specs.declared.failure.Failure.{Failure};
+ghost use Rattle.acpins_run.specs.Failures.{status_of};
+ghost use Rattle.acpins_run.specs.FailureLines.{failure_line};
+ghost use Rattle.acpins_run.specs.Told.{AppendsBeginning, Tells};
+ghost use Rattle.acpins_words.specs.Words.{texts, showing, rewriting, asked_in, asked_of};
+ghost use Rattle.acpins_run.specs.Input.{files_of, AreTablesOf, IsFilesFault, IsLoadOfFiles};
+ghost use Rattle.acpins_run.specs.steps.Loading.{HasMachine};
+ghost use Rattle.acpins_run.specs.Runs.{IsListing, IsShowing, IsChecking, IsRewriting, IsWrong, IsOutput, GetsOutput, IsFailureOf, IsRunFailure, IsStored, StoresOutput, KeepsOthers, LeavesFiles, FailsWith};
+
+use crate::checking::checked;
+use crate::failure::Failure;
+use crate::files::Files;
+use crate::lines::put_line;
+use crate::listing::listed;
+use crate::made::Made;
+use crate::parts::{PartWriter, UntilFailure};
+use crate::rewriting::{file_text, put_file};
+use crate::showing::shown;
+use crate::tables::add_tables;
+use acpi_load::{Declared, LoadFault, Machine, declare_shared, load_shared, rewrite_shared};
+use acpi_name::{Path, PathFault};
+use acpi_space::{Space, TreeSpace};
+use acpi_terms::{Depth, Object};
+use acpins_words::{Command, Request, read_words};
+use bytes::Bytes;
+use std::alloc::Global;
+use std::io::Write;
+use std::mem;
+
+// All tables of all files, in order.
+fn tables_of<'a, F: Files>(
+    alloc: Global,
+    request: &Request<'a>,
+    files: &mut F,
+) -> Result<Vec<Bytes>, Failure<'a>>
+    ensures ok { IfOk result (λ v. AreTablesOf (F.bytes_of files.old) request.now.hex (files_of request.now) v.items) }
+    ensures err { IfErr result (IsFilesFault (F.bytes_of files.old) request.now.hex (files_of request.now)) }
+    ensures others { F.written_to files.new ≡ F.written_to files.old }
+{
+    let mut tables = Vec::new(alloc);
+    for name in request.files.iter() {
+        add_tables(alloc, files, *name, request.hex, &mut tables)?;
+    }
+    Ok(tables)
+}
+
+// The same, where there is one at least.
+fn some_tables_of<'a, F: Files>(
+    alloc: Global,
+    request: &Request<'a>,
+    files: &mut F,
+) -> Result<Vec<Bytes>, Failure<'a>>
+    ensures ok { IfOk result (λ v. AreTablesOf (F.bytes_of files.old) request.now.hex (files_of request.now) v.items) }
+    ensures some { IfOk result (λ v. v.items ≢ []) }
+    ensures err { IfErr result (IsFailureOf (F.bytes_of files.old) (asked_in request.now)) }
+    ensures others { F.written_to files.new ≡ F.written_to files.old }
+{
+    let tables = tables_of(alloc, request, files)?;
+    if tables.is_empty() {
+        return Err(Failure::NoTable);
+    }
+    Ok(tables)
+}
+
+// The machine that a DSDT and SSDTs load to. Of what `load_shared` promises, a run needs this much.
+fn load_tables<S: Space<Object>>(
+    alloc: Global,
+    dsdt: &Bytes,
+    ssdts: &[Bytes],
+    depth: Depth,
+) -> Result<Machine<S>, LoadFault>
+    ensures ok { IfOk result (λ m. IsMachine depth (dsdt.now ∷ ssdts.now) (machine_of (S.contents (objects_in m)) m)) }
+    ensures err { IfErr result (λ e. IsLoadFault depth (dsdt.now ∷ ssdts.now) e) }
+{
+    load_shared(alloc, dsdt, ssdts, depth)
+}
+
+// The tables that the files hold, and the machine that they load to.
+fn loaded<'a, S: Space<Object>, F: Files>(
+    alloc: Global,
+    request: &Request<'a>,
+    files: &mut F,
+) -> Result<(Vec<Bytes>, Machine<S>), Failure<'a>>
+    ensures ok { IfOk result (λ r. IsLoadOfFiles (F.bytes_of files.old) request.now.hex request.now.depth (files_of request.now) r.0.items (machine_of (S.contents (objects_in r.1)) r.1)) }
+    ensures err { IfErr result (IsFailureOf (F.bytes_of files.old) (asked_in request.now)) }
+    ensures others { F.written_to files.new ≡ F.written_to files.old }
+{
+    let tables = some_tables_of(alloc, request, files)?;
+    let Some((dsdt, ssdts)) = tables.split_first() else {
+        unreachable!()
+    };
+    let machine = load_tables(alloc, dsdt, ssdts, request.depth)?;
+    Ok((tables, machine))
+}
+
+// What a DSDT and SSDTs declare: the objects and links of the machine to which they load. Bodies are not listed and
+// refuse nothing, so they are not read.
+fn declare_tables<S: Space<Object>>(
+    alloc: Global,
+    dsdt: &Bytes,
+    ssdts: &[Bytes],
+    depth: Depth,
+) -> Result<Declared<S>, LoadFault>
+    ensures ok { IfOk result (λ d. HasMachine depth (dsdt.now ∷ ssdts.now) (namespace_of (S.contents (declared.objects_in d))) (links_at (declared.links_in d))) }
+    ensures err { IfErr result (λ e. IsLoadFault depth (dsdt.now ∷ ssdts.now) e) }
+{
+    declare_shared(alloc, dsdt, ssdts, depth)
+}
+
+// The listing of what the files hold.
+fn listing_of<'a, S: Space<Object>, F: Files>(
+    alloc: Global,
+    request: &Request<'a>,
+    files: &mut F,
+) -> Result<Vec<u8>, Failure<'a>>
+    ensures ok { IfOk result (λ text. IsListing (F.bytes_of files.old) (asked_in request.now) text.items) }
+    ensures err { IfErr result (IsFailureOf (F.bytes_of files.old) (asked_in request.now)) }
+    ensures others { F.written_to files.new ≡ F.written_to files.old }
+{
+    let tables = some_tables_of(alloc, request, files)?;
+    let Some((dsdt, ssdts)) = tables.split_first() else {
+        unreachable!()
+    };
+    let declared = declare_tables::<S>(alloc, dsdt, ssdts, request.depth)?;
+    let text = listed(alloc, declared.objects(), declared.links())?;
+    // The process ends soon and gives all memory back at once; to take the namespace apart first costs time.
+    mem::forget(declared);
+    Ok(text)
+}
+
+// The path that the word spells.
+fn path_of<'a>(alloc: Global, word: &str) -> Result<Path, Failure<'a>>
+    ensures ok { IfOk result (λ p. SpellsPathText p word.now) }
+    ensures err { IfErr result (λ f. ((f ≡ Failure.BadPath) × (IsPathText word.now → ⊥)) ⊎ (f ≡ Failure.Memory)) }
+{
+    match Path::from_text(alloc, word) {
+        Ok(path) => Ok(path),
+        Err(PathFault::BadText) => Err(Failure::BadPath),
+        Err(PathFault::Memory) => Err(Failure::Memory),
+    }
+}
+
+// What is shown of the path that the word spells.
+fn showing_of<'a, S: Space<Object>, F: Files>(
+    alloc: Global,
+    request: &Request<'a>,
+    word: &str,
+    files: &mut F,
+) -> Result<Vec<u8>, Failure<'a>>
+    requires { (asked_in request.now).command ≡ showing word.now }
+    ensures ok { IfOk result (λ text. IsShowing (F.bytes_of files.old) (asked_in request.now) word.now text.items) }
+    ensures err { IfErr result (IsFailureOf (F.bytes_of files.old) (asked_in request.now)) }
+    ensures others { F.written_to files.new ≡ F.written_to files.old }
+{
+    let path = path_of(alloc, word)?;
+    let (tables, machine) = loaded::<S, F>(alloc, request, files)?;
+    let Some((dsdt, ssdts)) = tables.split_first() else {
+        unreachable!()
+    };
+    match shown(alloc, dsdt, ssdts, request.depth, &machine, &path)? {
+        Some(text) => Ok(text),
+        None => Err(Failure::NoSuchPath),
+    }
+}
+
+// The verdict on the SSDTs that the files hold.
+fn checking_of<'a, S: Space<Object>, F: Files>(
+    alloc: Global,
+    request: &Request<'a>,
+    files: &mut F,
+) -> Result<Made, Failure<'a>>
+    ensures ok { IfOk result (λ m. IsChecking (F.bytes_of files.old) (asked_in request.now) m.status m.text.items) }
+    ensures err { IfErr result (IsFailureOf (F.bytes_of files.old) (asked_in request.now)) }
+    ensures others { F.written_to files.new ≡ F.written_to files.old }
+{
+    let tables = some_tables_of(alloc, request, files)?;
+    let Some((dsdt, ssdts)) = tables.split_first() else {
+        unreachable!()
+    };
+    Ok(checked::<S>(alloc, dsdt, ssdts, request.depth)?)
+}
+
+// Writes the tables that the files hold to the file of that name, each in its shortest spelling. All are made before
+// the file is.
+fn rewriting_of<'a, S: Space<Object>, F: Files>(
+    alloc: Global,
+    request: &Request<'a>,
+    out: &'a str,
+    files: &mut F,
+) -> Result<(), Failure<'a>>
+    requires { (asked_in request.now).command ≡ rewriting out.now }
+    ensures ok { OnOk result (IsRewriting (F.bytes_of files.old) (asked_in request.now)) }
+    ensures err { IfErr result (IsFailureOf (F.bytes_of files.old) (asked_in request.now)) }
+    ensures stored { OnOk result (IsStored (F.bytes_of files.old) (asked_in request.now) out.now (F.written_to files.old) (F.written_to files.new)) }
+    ensures left { IfErr result (λ f. KeepsOthers f (F.written_to files.old) (F.written_to files.new)) }
+{
+    let tables = some_tables_of(alloc, request, files)?;
+    let Some((dsdt, ssdts)) = tables.split_first() else {
+        unreachable!()
+    };
+    let rewritten = rewrite_shared::<S>(alloc, dsdt, ssdts, request.depth)?;
+    let text = file_text(alloc, request.hex, &rewritten)?;
+    put_file(files, out, &text)
+}
+
+/// What a run prints, whole, with the objects kept in a space of the caller's choice. Rewritten tables stand in their
+/// file then.
+pub fn made_in<'a, S: Space<Object>, F: Files>(
+    alloc: Global,
+    words: &'a [&'a str],
+    files: &mut F,
+) -> Result<Made, Failure<'a>>
+    ensures ok { IfOk result (λ m. IsOutput (F.bytes_of files.old) (texts words.now) m.status m.text.items) }
+    ensures err { IfErr result (IsRunFailure (F.bytes_of files.old) (texts words.now)) }
+    ensures stored { OnOk result (StoresOutput (F.bytes_of files.old) (texts words.now) (F.written_to files.old) (F.written_to files.new)) }
+    ensures left { IfErr result (λ f. LeavesFiles (F.bytes_of files.old) (texts words.now) f (F.written_to files.old) (F.written_to files.new)) }
+{
+    let request = read_words(alloc, words)?;
+    let text = match request.command {
+        Command::List => listing_of::<S, F>(alloc, &request, files)?,
+        Command::Show(word) => showing_of::<S, F>(alloc, &request, word, files)?,
+        Command::Check => return checking_of::<S, F>(alloc, &request, files),
+        Command::Rewrite(out) => {
+            rewriting_of::<S, F>(alloc, &request, out, files)?;
+            Vec::new(alloc)
+        }
+    };
+    Ok(Made { text, status: 0 })
+}
+
+fn made<'a, F: Files>(
+    alloc: Global,
+    words: &'a [&'a str],
+    files: &mut F,
+) -> Result<Made, Failure<'a>>
+    ensures ok { IfOk result (λ m. IsOutput (F.bytes_of files.old) (texts words.now) m.status m.text.items) }
+    ensures err { IfErr result (IsRunFailure (F.bytes_of files.old) (texts words.now)) }
+    ensures stored { OnOk result (StoresOutput (F.bytes_of files.old) (texts words.now) (F.written_to files.old) (F.written_to files.new)) }
+    ensures left { IfErr result (λ f. LeavesFiles (F.bytes_of files.old) (texts words.now) f (F.written_to files.old) (F.written_to files.new)) }
+{
+    made_in::<TreeSpace<Object>, F>(alloc, words, files)
+}
+
+// Makes what the words ask for, prints it, and answers the status. Where anything but printing fails, nothing was
+// printed.
+fn ended<'a, F: Files, O: Write>(
+    alloc: Global,
+    words: &'a [&'a str],
+    files: &mut F,
+    out: &mut O,
+) -> Result<u8, Failure<'a>>
+    ensures ok { IfOk result (λ status. GetsOutput (F.bytes_of files.old) (texts words.now) status (O.contents out.old) (O.contents out.new)) }
+    ensures statuses { IfOk result (λ status. (status ≡ 0) ⊎ (status ≡ 3)) }
+    ensures err { IfErr result (IsRunFailure (F.bytes_of files.old) (texts words.now)) }
+    ensures kept { IfErr result (λ f. f ≢ Failure.Output → O.contents out.new ≡ O.contents out.old) }
+    ensures stored { OnOk result (StoresOutput (F.bytes_of files.old) (texts words.now) (F.written_to files.old) (F.written_to files.new)) }
+    ensures left { IfErr result (λ f. LeavesFiles (F.bytes_of files.old) (texts words.now) f (F.written_to files.old) (F.written_to files.new)) }
+{
+    let Made { text, status } = made(alloc, words, files)?;
+    let written = out.write_all(text.as_slice()).is_ok() && out.flush().is_ok();
+    if !written {
+        return Err(Failure::Output);
+    }
+    Ok(status)
+}
+
+/// Says why a run failed, as far as it can be said, and answers the status.
+pub fn told<E, P: PartWriter<E>>(failure: &Failure<'_>, err: &mut E, parts: &mut P) -> u8
+    ensures status { result ≡ status_of failure.now }
+    ensures line { Tells (failure_line failure.now) (P.failed parts.old) (P.contents err.old) (P.failed parts.new) (P.contents err.new) }
+{
+    put_line(parts, err, failure);
+    failure.status()
+}
+
+/// The same as `run`, by the caller's way to write parts to `err`: so a contract can say whether a write failed.
+pub fn run_telling<'a, F: Files, O: Write, E, P: PartWriter<E>>(
+    alloc: Global,
+    words: &'a [&'a str],
+    files: &mut F,
+    out: &mut O,
+    err: &mut E,
+    parts: &mut P,
+) -> u8
+    ensures done { result ≢ 1 → result ≢ 2 → GetsOutput (F.bytes_of files.old) (texts words.now) result (O.contents out.old) (O.contents out.new) }
+    ensures quiet { result ≢ 1 → result ≢ 2 → err.new ≡ err.old }
+    ensures stored { result ≢ 1 → result ≢ 2 → StoresOutput (F.bytes_of files.old) (texts words.now) (F.written_to files.old) (F.written_to files.new) }
+    // The failure's line is said whole, unless a write of it failed.
+    ensures failed { 1 ≤ result → result ≤ 2 → FailsWith (F.bytes_of files.old) (texts words.now) result (O.contents out.old) (O.contents out.new)
+        (F.written_to files.old) (F.written_to files.new) (λ line. Tells line (P.failed parts.old) (P.contents err.old) (P.failed parts.new) (P.contents err.new)) }
+    ensures statuses { result ≤ 3 }
+{
+    match ended(alloc, words, files, out) {
+        Ok(status) => status,
+        Err(failure) => told(&failure, err, parts),
+    }
+}
+
+/// Runs the command that the words say, and answers its status. The words leave out the program's name.
+/// Nothing is written to `out` before all of the output is made, and nothing to `err` but one line where the
+/// status is 1 or 2.
+pub fn run<'a, F: Files, O: Write, E: Write>(
+    alloc: Global,
+    words: &'a [&'a str],
+    files: &mut F,
+    out: &mut O,
+    err: &mut E,
+) -> u8
+    // All that the words ask for is printed, and nothing else.
+    ensures done { result ≢ 1 → result ≢ 2 → GetsOutput (F.bytes_of files.old) (texts words.now) result (O.contents out.old) (O.contents out.new) }
+    ensures quiet { result ≢ 1 → result ≢ 2 → err.new ≡ err.old }
+    ensures stored { result ≢ 1 → result ≢ 2 → StoresOutput (F.bytes_of files.old) (texts words.now) (F.written_to files.old) (F.written_to files.new) }
+    // Something failed, and its line is said, or a beginning of it; nothing is printed, unless it was the printing.
+    ensures failed { 1 ≤ result → result ≤ 2 → FailsWith (F.bytes_of files.old) (texts words.now) result (O.contents out.old) (O.contents out.new)
+        (F.written_to files.old) (F.written_to files.new) (λ line. AppendsBeginning line (E.contents err.old) (E.contents err.new)) }
+    // The words ask for nothing, or for a path that is none, and nothing is printed.
+    ensures wrong { result ≡ 2 → IsWrong (texts words.now) × (O.contents out.new ≡ O.contents out.old) }
+    ensures statuses { result ≤ 3 }
+{
+    run_telling(alloc, words, files, out, err, &mut UntilFailure::new())
+}

@@ -1,0 +1,221 @@
+//! Worked rows of SSDTs that may be loaded in any order, or perhaps not.
+
+use crate::outcome::Kept;
+use crate::rows::Row;
+
+/// The rows.
+pub static CHECKED: [Row; 18] = [
+    Row {
+        shows: "a DSDT alone",
+        words: "check|a",
+        files: &[Kept::Dsdt("")],
+        status: 0,
+        out: "commute\n",
+        err: "",
+    },
+    Row {
+        shows: "a Scope of the DSDT that an SSDT would shadow",
+        words: "check|a|b|c",
+        files: &[
+            Kept::Dsdt("10 0C 5C 5F 53 42 5F 10 05 5F 50 52 5F"),
+            Kept::Ssdt("10 0D 5C 5F 53 42 5F 5B 82 05 5F 50 52 5F"),
+            Kept::Ssdt("08 58 59 5A 5F 00"),
+        ],
+        status: 0,
+        out: "commute\n",
+        err: "",
+    },
+    Row {
+        shows: "a link that another SSDT would answer",
+        words: "check|a|b|c",
+        files: &[
+            Kept::Dsdt("5B 81 12 52 45 47 30 01 41 41 5F 5F 08 00 04 42 42 5F 5F 14"),
+            Kept::Ssdt("5B 80 52 45 47 30 00 00 0A 10"),
+            Kept::Ssdt("08 58 59 5A 5F 00"),
+        ],
+        status: 3,
+        out: "missed 2 1 \\REG0\n",
+        err: "",
+    },
+    Row {
+        shows: "no DSDT",
+        words: "check|a|b",
+        files: &[
+            Kept::Ssdt("10 11 5C 2E 5F 53 42 5F 50 43 49 30 08 5F 55 49 44 01"),
+            Kept::Dsdt(""),
+        ],
+        status: 1,
+        out: "",
+        err: "acpins: table 0: L1 NotDsdt\n",
+    },
+    Row {
+        shows: "a Scope that another SSDT would answer",
+        words: "check|a|b|c",
+        files: &[
+            Kept::Dsdt(""),
+            Kept::Ssdt("10 0C 5C 5F 53 42 5F 10 05 5F 50 52 5F"),
+            Kept::Ssdt("10 0D 5C 5F 53 42 5F 5B 82 05 5F 50 52 5F"),
+        ],
+        status: 3,
+        out: "missed 1 2 \\_SB_._PR_\n",
+        err: "",
+    },
+    Row {
+        shows: "four SSDTs",
+        words: "check|a|b|c|d|e",
+        files: &[
+            Kept::Dsdt("10 13 5C 5F 53 42 5F 5B 82 0B 50 43 49 30 08 5F 41 44 52 00"),
+            Kept::Ssdt("10 11 5C 2E 5F 53 42 5F 50 43 49 30 08 5F 55 49 44 01"),
+            Kept::Ssdt("10 12 5C 2E 5F 53 42 5F 50 43 49 30 08 5F 53 54 41 0A 0F"),
+            Kept::Ssdt("10 0D 5C 5F 53 42 5F 5B 82 05 44 45 56 31"),
+            Kept::Ssdt("14 06 4D 54 48 32 02"),
+        ],
+        status: 0,
+        out: "commute\n",
+        err: "",
+    },
+    Row {
+        shows: "an External that meets a device",
+        words: "check|a|b|c",
+        files: &[
+            Kept::Dsdt(""),
+            Kept::Ssdt("15 5C 4D 54 48 32 08 02 14 0F 43 41 4C 4C 00 A4 4D 54 48 32 0A 01 0A 02"),
+            Kept::Ssdt("5B 82 05 4D 54 48 32"),
+        ],
+        status: 3,
+        out: "missed 1 2 \\MTH2\n",
+        err: "",
+    },
+    Row {
+        shows: "an External of the DSDT that is satisfied",
+        words: "check|a|b|c",
+        files: &[
+            Kept::Dsdt("15 5C 4D 54 48 32 08 02 14 0F 43 41 4C 4C 00 A4 4D 54 48 32 0A 01 0A 02"),
+            Kept::Ssdt("14 06 4D 54 48 32 02"),
+            Kept::Ssdt("08 58 59 5A 5F 00"),
+        ],
+        status: 0,
+        out: "commute\nsatisfied 0 1 \\MTH2\n",
+        err: "",
+    },
+    Row {
+        shows: "an External that meets a method of one argument",
+        words: "check|a|b|c",
+        files: &[
+            Kept::Dsdt(""),
+            Kept::Ssdt("15 5C 4D 54 48 32 08 02 14 0F 43 41 4C 4C 00 A4 4D 54 48 32 0A 01 0A 02"),
+            Kept::Ssdt("14 06 4D 54 48 32 01"),
+        ],
+        status: 3,
+        out: "missed 1 2 \\MTH2\n",
+        err: "",
+    },
+    Row {
+        shows: "an External that the next SSDT satisfies",
+        words: "check|a|b|c",
+        files: &[
+            Kept::Dsdt(""),
+            Kept::Ssdt("15 5C 4D 54 48 32 08 02 14 0F 43 41 4C 4C 00 A4 4D 54 48 32 0A 01 0A 02"),
+            Kept::Ssdt("14 06 4D 54 48 32 02"),
+        ],
+        status: 0,
+        out: "commute\nsatisfied 1 2 \\MTH2\n",
+        err: "",
+    },
+    Row {
+        shows: "an External that the SSDT before satisfies",
+        words: "check|a|b|c",
+        files: &[
+            Kept::Dsdt(""),
+            Kept::Ssdt("14 06 4D 54 48 32 02"),
+            Kept::Ssdt("15 5C 4D 54 48 32 08 02 14 0F 43 41 4C 4C 00 A4 4D 54 48 32 0A 01 0A 02"),
+        ],
+        status: 0,
+        out: "commute\nsatisfied 2 1 \\MTH2\n",
+        err: "",
+    },
+    Row {
+        shows: "a call without an External",
+        words: "check|a|b|c",
+        files: &[
+            Kept::Dsdt(""),
+            Kept::Ssdt("14 0F 43 41 4C 4C 00 A4 4D 54 48 32 0A 01 0A 02"),
+            Kept::Ssdt("14 06 4D 54 48 32 02"),
+        ],
+        status: 3,
+        out: "missed 1 2 \\MTH2\n",
+        err: "",
+    },
+    Row {
+        shows: "two SSDTs",
+        words: "check|a|b|c",
+        files: &[
+            Kept::Dsdt("10 13 5C 5F 53 42 5F 5B 82 0B 50 43 49 30 08 5F 41 44 52 00"),
+            Kept::Ssdt("10 11 5C 2E 5F 53 42 5F 50 43 49 30 08 5F 55 49 44 01"),
+            Kept::Ssdt("10 12 5C 2E 5F 53 42 5F 50 43 49 30 08 5F 53 54 41 0A 0F"),
+        ],
+        status: 0,
+        out: "commute\n",
+        err: "",
+    },
+    Row {
+        shows: "an SSDT twice",
+        words: "check|a|b|c",
+        files: &[
+            Kept::Dsdt("10 13 5C 5F 53 42 5F 5B 82 0B 50 43 49 30 08 5F 41 44 52 00"),
+            Kept::Ssdt("10 11 5C 2E 5F 53 42 5F 50 43 49 30 08 5F 55 49 44 01"),
+            Kept::Ssdt("10 11 5C 2E 5F 53 42 5F 50 43 49 30 08 5F 55 49 44 01"),
+        ],
+        status: 3,
+        out: "same 1 2 \\_SB_.PCI0._UID\n",
+        err: "",
+    },
+    Row {
+        shows: "a name that another SSDT declares nearer",
+        words: "check|a|b|c",
+        files: &[
+            Kept::Dsdt("08 46 4F 4F 5F 00"),
+            Kept::Ssdt("10 12 5C 5F 53 42 5F 14 0B 4D 30 30 31 00 A4 46 4F 4F 5F"),
+            Kept::Ssdt("10 0C 5C 5F 53 42 5F 08 46 4F 4F 5F 01"),
+        ],
+        status: 3,
+        out: "missed 1 2 \\_SB_.FOO_\n",
+        err: "",
+    },
+    Row {
+        shows: "an opaque body of the DSDT",
+        words: "check|a|b|c",
+        files: &[
+            Kept::Dsdt("14 0F 43 41 4C 4C 00 A4 4D 54 48 32 0A 01 0A 02"),
+            Kept::Ssdt("14 06 4D 54 48 32 02"),
+            Kept::Ssdt("08 58 59 5A 5F 00"),
+        ],
+        status: 3,
+        out: "missed 2 1 \\MTH2\n",
+        err: "",
+    },
+    Row {
+        shows: "a call that another SSDT answers",
+        words: "check|a|b|c",
+        files: &[
+            Kept::Dsdt(""),
+            Kept::Ssdt("14 0F 43 41 4C 4C 00 A4 4D 54 48 32 0A 01 0A 02"),
+            Kept::Ssdt("14 06 4D 54 48 32 02"),
+        ],
+        status: 3,
+        out: "missed 1 2 \\MTH2\n",
+        err: "",
+    },
+    Row {
+        shows: "an SSDT that needs the one before",
+        words: "check|a|b|c",
+        files: &[
+            Kept::Dsdt("10 13 5C 5F 53 42 5F 5B 82 0B 50 43 49 30 08 5F 41 44 52 00"),
+            Kept::Ssdt("10 0D 5C 5F 53 42 5F 5B 82 05 44 45 56 31"),
+            Kept::Ssdt("10 11 5C 2E 5F 53 42 5F 44 45 56 31 08 5F 55 49 44 01"),
+        ],
+        status: 3,
+        out: "not alone 2: E3 Missing \\_SB_.DEV1\n",
+        err: "",
+    },
+];

@@ -1,0 +1,176 @@
+//! Files and streams in memory, which fail when they are told to.
+
+use acpins_run::{FileFault, Files};
+use std::alloc::{AllocError, Global};
+use std::io;
+use std::io::{Read, Write};
+
+/// Which step fails; steps are counted from 1, and 0 is none.
+#[derive(Clone, Copy, Debug, PartialEq, Eq)]
+pub struct Failing {
+    /// The file whose reads are counted.
+    pub file: &'static str,
+    pub read: usize,
+    pub write: usize,
+    pub create: bool,
+    pub close: bool,
+}
+
+pub const NONE: Failing = Failing {
+    file: "",
+    read: 0,
+    write: 0,
+    create: false,
+    close: false,
+};
+
+/// Reads at most seven bytes a call.
+#[derive(Drop)]
+pub struct MemoryReader {
+    bytes: Vec<u8>,
+    at: usize,
+    left: Countdown,
+}
+
+/// Counts the steps down to the one that fails.
+#[derive(Clone, Copy, Debug, PartialEq, Eq)]
+pub struct Countdown(pub usize);
+
+impl Countdown {
+    // Whether this step fails.
+    fn fails(&mut self) -> bool {
+        match self.0 {
+            0 => false,
+            n => {
+                self.0 = n - 1;
+                n == 1
+            }
+        }
+    }
+}
+
+impl Read for MemoryReader {
+    fn read(&mut self, buf: &mut [u8]) -> io::Result<usize> {
+        if self.left.fails() {
+            return Err(io::Error::from(io::ErrorKind::Other));
+        }
+        let rest = self.bytes.get(self.at..).unwrap_or(&[]);
+        let n = buf.len().min(rest.len()).min(7);
+        buf[..n].copy_from_slice(&rest[..n]);
+        self.at = self.at.saturating_add(n);
+        Ok(n)
+    }
+}
+
+/// Takes at most five bytes a call.
+#[derive(Drop)]
+pub struct MemoryWriter {
+    pub bytes: Vec<u8>,
+    pub left: Countdown,
+}
+
+impl MemoryWriter {
+    pub fn new(alloc: Global, failing: usize) -> MemoryWriter {
+        MemoryWriter {
+            bytes: Vec::new(alloc),
+            left: Countdown(failing),
+        }
+    }
+}
+
+impl Write for MemoryWriter {
+    fn write(&mut self, buf: &[u8]) -> io::Result<usize> {
+        if self.left.fails() {
+            return Err(io::Error::from(io::ErrorKind::Other));
+        }
+        let n = buf.len().min(5);
+        self.bytes.extend_from_slice(&buf[..n])?;
+        Ok(n)
+    }
+
+    // To flush is a step too.
+    fn flush(&mut self) -> io::Result<()> {
+        if self.left.fails() {
+            return Err(io::Error::from(io::ErrorKind::Other));
+        }
+        Ok(())
+    }
+}
+
+/// Files by name. What is written to one is seen once it is closed.
+#[derive(Drop)]
+pub struct MemoryFiles {
+    alloc: Global,
+    pub kept: Vec<(String, Vec<u8>)>,
+    failing: Failing,
+}
+
+impl MemoryFiles {
+    pub fn new(alloc: Global, failing: Failing) -> MemoryFiles {
+        MemoryFiles {
+            alloc,
+            kept: Vec::new(alloc),
+            failing,
+        }
+    }
+
+    pub fn add(&mut self, name: &str, bytes: &[u8]) -> Result<(), AllocError> {
+        let name = String::from_str(self.alloc, name)?;
+        self.kept.push((name, Vec::from_slice(self.alloc, bytes)?))?;
+        Ok(())
+    }
+
+    pub fn get(&self, name: &str) -> Option<&[u8]> {
+        for (known, bytes) in self.kept.iter() {
+            if known.as_str() == name {
+                return Some(bytes.as_slice());
+            }
+        }
+        None
+    }
+}
+
+impl Files for MemoryFiles {
+    type R = MemoryReader;
+
+    type W = MemoryWriter;
+
+    fn open(&mut self, name: &str) -> Result<MemoryReader, FileFault> {
+        let Some(bytes) = self.get(name) else {
+            return Err(FileFault);
+        };
+        let Ok(bytes) = Vec::from_slice(self.alloc, bytes) else {
+            return Err(FileFault);
+        };
+        let step = if self.failing.file == name {
+            self.failing.read
+        } else {
+            0
+        };
+        Ok(MemoryReader {
+            bytes,
+            at: 0,
+            left: Countdown(step),
+        })
+    }
+
+    fn create(&mut self, _name: &str) -> Result<MemoryWriter, FileFault> {
+        if self.failing.create {
+            return Err(FileFault);
+        }
+        Ok(MemoryWriter::new(self.alloc, self.failing.write))
+    }
+
+    fn close(&mut self, name: &str, file: MemoryWriter) -> Result<(), FileFault> {
+        if self.failing.close {
+            return Err(FileFault);
+        }
+        let Ok(name) = String::from_str(self.alloc, name) else {
+            return Err(FileFault);
+        };
+        match self.kept.push((name, file.bytes)) {
+            Ok(_) => Ok(()),
+            Err(_) => Err(FileFault),
+        }
+    }
+}

@@ -1,0 +1,162 @@
+//! Files in short, and what a run over them answers and prints.
+
+use crate::memory::{Failing, MemoryFiles, MemoryWriter};
+use acpi_space::MapSpace;
+use acpi_table::checksum_for;
+use acpi_terms::Object;
+use acpins_run::{UntilFailure, from_hex, made_in, run, told};
+use std::alloc::{AllocError, Global};
+use std::str::from_utf8;
+use std::test::Fail;
+
+/// The names of the files of a run, in order.
+const NAMES: [&str; 5] = ["a", "b", "c", "d", "e"];
+
+/// What lists print where no table declares anything.
+pub const PREDEFINED: &str = "\\ Root\n\
+\\_GL_ Mutex 00\n\
+\\_GPE Scope\n\
+\\_OSI Method 1\n\
+\\_OS_ Predefined\n\
+\\_PR_ Scope\n\
+\\_REV Predefined\n\
+\\_SB_ Scope\n\
+\\_SI_ Scope\n\
+\\_TZ_ Scope\n";
+
+/// Scope (\_SB) { Device (PCI0) { Name (_ADR, Zero) } }
+pub const PCI0: &str = "10 13 5C 5F 53 42 5F 5B 82 0B 50 43 49 30 08 5F 41 44 52 00";
+
+/// What lists print where one table declares that.
+pub const PCI0_LISTED: &str = "\\ Root\n\
+\\_GL_ Mutex 00\n\
+\\_GPE Scope\n\
+\\_OSI Method 1\n\
+\\_OS_ Predefined\n\
+\\_PR_ Scope\n\
+\\_REV Predefined\n\
+\\_SB_ Scope\n\
+\\_SB_.PCI0 Device\n\
+\\_SB_.PCI0._ADR Name Zero\n\
+\\_SI_ Scope\n\
+\\_TZ_ Scope\n";
+
+/// What a file holds.
+#[derive(Clone, Copy, Debug)]
+pub enum Kept {
+    /// A DSDT of this code, in hexadecimal.
+    Dsdt(&'static str),
+    /// An SSDT of this code, in hexadecimal.
+    Ssdt(&'static str),
+    /// These bytes, in hexadecimal.
+    Raw(&'static str),
+    /// This text.
+    Text(&'static str),
+}
+
+/// A table of revision 2 with this signature and code, the right length and checksum, and zeros.
+pub fn table_of(alloc: Global, signature: &str, code: &[u8]) -> Result<Vec<u8>, AllocError> {
+    let length = u32::try_from(code.len().saturating_add(36)).unwrap_or(u32::MAX);
+    let mut bytes = Vec::from_slice(alloc, signature.as_bytes())?;
+    bytes.extend_from_slice(&length.to_le_bytes())?;
+    bytes.push(2)?;
+    bytes.extend_from_slice(&[0u8; 27])?;
+    bytes.extend_from_slice(code)?;
+    let checksum = checksum_for(bytes.as_slice());
+    if let Some(place) = bytes.get_mut(9) {
+        *place = checksum;
+    }
+    Ok(bytes)
+}
+
+/// The bytes of a hexadecimal text.
+pub fn bytes_of(alloc: Global, text: &str) -> Result<Vec<u8>, Fail> {
+    Ok(
+        from_hex(alloc, text.as_bytes())
+            .ok()
+            .ok_or("a hexadecimal text")?,
+    )
+}
+
+/// The bytes of a file.
+pub fn kept_bytes(alloc: Global, kept: Kept) -> Result<Vec<u8>, Fail> {
+    match kept {
+        Kept::Dsdt(code) => Ok(table_of(alloc, "DSDT", bytes_of(alloc, code)?.as_slice())?),
+        Kept::Ssdt(code) => Ok(table_of(alloc, "SSDT", bytes_of(alloc, code)?.as_slice())?),
+        Kept::Raw(text) => bytes_of(alloc, text),
+        Kept::Text(text) => Ok(Vec::from_slice(alloc, text.as_bytes())?),
+    }
+}
+
+/// Files `a`, `b` and so on.
+pub fn files_of(alloc: Global, kept: &[Kept], failing: Failing) -> Result<MemoryFiles, Fail> {
+    let mut files = MemoryFiles::new(alloc, failing);
+    for (name, kept) in NAMES.iter().zip(kept.iter()) {
+        files.add(name, kept_bytes(alloc, *kept)?.as_slice())?;
+    }
+    Ok(files)
+}
+
+/// What a run answered and wrote.
+#[derive(Debug, Drop)]
+pub struct Outcome {
+    pub status: u8,
+    pub out: Vec<u8>,
+    pub err: Vec<u8>,
+}
+
+impl Outcome {
+    pub fn is(&self, status: u8, out: &str, err: &str) -> bool {
+        self.status == status
+            && from_utf8(self.out.as_slice()) == Ok(out)
+            && from_utf8(self.err.as_slice()) == Ok(err)
+    }
+
+    /// Whether the run was refused with this status and line, and printed nothing.
+    pub fn is_refusal(&self, status: u8, line: &str) -> bool {
+        let text = self.err.as_slice();
+        self.status == status
+            && self.out.is_empty()
+            && text.strip_suffix(b"\n") == Some(line.as_bytes())
+    }
+}
+
+/// Runs the words, parted by bars, over files whose steps fail as told, with streams whose step of this number fails.
+pub fn ran_with(
+    alloc: Global,
+    files: &mut MemoryFiles,
+    words: &str,
+    out: usize,
+    err: usize,
+) -> Result<Outcome, Fail> {
+    let words: Vec<&str> = words.split('|').collect(alloc)?;
+    let mut out = MemoryWriter::new(alloc, out);
+    let mut err = MemoryWriter::new(alloc, err);
+    let status = run(alloc, words.as_slice(), files, &mut out, &mut err);
+    Ok(Outcome {
+        status,
+        out: out.bytes,
+        err: err.bytes,
+    })
+}
+
+/// The same as a run whose streams never fail, with the objects kept in a map of paths.
+pub fn made_over_map(alloc: Global, files: &mut MemoryFiles, words: &str) -> Result<Outcome, Fail> {
+    let words: Vec<&str> = words.split('|').collect(alloc)?;
+    let mut err = MemoryWriter::new(alloc, 0);
+    match made_in::<MapSpace<Object>, MemoryFiles>(alloc, words.as_slice(), files) {
+        Ok(made) => Ok(Outcome {
+            status: made.status,
+            out: made.text,
+            err: err.bytes,
+        }),
+        Err(failure) => {
+            let status = told(&failure, &mut err, &mut UntilFailure::new());
+            Ok(Outcome {
+                status,
+                out: Vec::new(alloc),
+                err: err.bytes,
+            })
+        }
+    }
+}
