@@ -8,6 +8,7 @@ use acpi_terms::{Depth, ItemReason, Object};
 use bytes::Bytes;
 use std::alloc::Global;
 use std::collections::BTreeMap;
+use std::process::Abort;
 use std::test::Fail;
 
 // A DSDT: Scope (\_SB) { Device (PCI0) { Name (_ADR, Zero) } }.
@@ -29,6 +30,9 @@ const FIELD: &[u8] = b"\x5B\x81\x12REG0\x01AA__\x08\x00\x04BB__\x14";
 
 // OperationRegion (REG0, SystemMemory, 0, 0x10)
 const REGION: &[u8] = b"\x5B\x80REG0\x00\x00\x0A\x10";
+
+// Device (\_SB.PCI0) {}
+const TAKEN: &[u8] = b"\x5B\x82\x0B\\\x2E_SB_PCI0";
 
 // A whole table of this signature and code.
 fn table(alloc: Global, signature: [u8; 4], code: &[u8]) -> Result<Vec<u8>, Fail> {
@@ -119,6 +123,53 @@ fn loads_into_a_tree(rt: HostRuntime) -> Result<(), Fail> {
     let shared = shared::<TreeSpace<Object>>(rt.alloc(), UID, EVENT)?;
     assert_eq!(rt; listed(rt.alloc(), shared.objects())?.as_str(), LISTED);
     Ok(())
+}
+
+// What one SSDT declares over the DSDT, as the paths that are its own.
+fn own_paths<S: Space<Object>>(
+    alloc: Global,
+    dsdt: &Declaring<S>,
+    code: &[u8],
+) -> Result<String, Fail> {
+    let ssdt = Bytes::copy_from_slice(alloc, &table(alloc, *b"SSDT", code)?)?;
+    let mut text = String::new(alloc);
+    match dsdt.ssdt_over(alloc, &ssdt, Depth::new(4).ok_or("no limit")?) {
+        Ok(over) => {
+            for path in &over.objects().own_paths()? {
+                text.push_str(format!(in alloc; "{path} ")?.as_str())?;
+            }
+            for notes in over.notes() {
+                for path in &notes.missed {
+                    text.push_str(format!(in alloc; "missed {path} ")?.as_str())?;
+                }
+            }
+        }
+        Err(LoadFault::At { table, reason }) => {
+            text.push_str(format!(in alloc; "{table}: {reason}")?.as_str())?;
+        }
+        Err(LoadFault::Memory) => return Err(LoadFault::Memory.into()),
+    }
+    Ok(text)
+}
+
+fn expect_over<S: Space<Object>>(rt: &impl Abort, alloc: Global) -> Result<(), Fail> {
+    let dsdt = Bytes::copy_from_slice(alloc, &DSDT)?;
+    let dsdt: Declaring<S> = Declaring::dsdt(alloc, &dsdt, Depth::new(4).ok_or("no limit")?)?;
+    for (code, text) in [
+        (UID, "\\_SB_.PCI0._UID "),
+        (EVENT, "\\EVT0 "),
+        (UID, "\\_SB_.PCI0._UID "),
+        (TAKEN, "1: E6 Taken \\_SB_.PCI0"),
+    ] {
+        assert_eq!(rt; own_paths(alloc, &dsdt, code)?.as_str(), text);
+    }
+    Ok(())
+}
+
+#[test]
+fn declares_over_one_dsdt(rt: HostRuntime) -> Result<(), Fail> {
+    expect_over::<MapSpace<Object>>(&rt, rt.alloc())?;
+    expect_over::<TreeSpace<Object>>(&rt, rt.alloc())
 }
 
 // The count that an External of a table gives \FOO_.

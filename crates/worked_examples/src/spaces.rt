@@ -166,6 +166,56 @@ fn ordered_in_a_tree(rt: HostRuntime) -> Result<(), Fail> {
     ordered::<TreeSpace<usize>>(&rt, rt.alloc())
 }
 
+// What stands at each path.
+fn listed<S: Space<usize>>(alloc: Global, space: &S) -> Result<String, Fail> {
+    let mut text = String::new(alloc);
+    for (path, value) in &space.pairs()? {
+        text.push_str(format!(in alloc; "{path}={value} ")?.as_str())?;
+    }
+    Ok(text)
+}
+
+// Over a space that is only borrowed: a path of it is taken, and the nearest scope is that of either part.
+fn laid_over<S: Space<usize>>(rt: &impl Abort, alloc: Global) -> Result<(), Fail> {
+    let lower: S = space_of(alloc, &["\\A___", "\\A___.B___", "\\A___.B___.C___"])?;
+    let mut over: Overlay<'_, S> = Overlay::over(alloc, &lower);
+    assert!(rt;
+        over.insert(Path::from_text(alloc, "\\A___.B___")?, 3)
+            .is_err()
+    );
+    over.insert(Path::from_text(alloc, "\\C___")?, 4)?;
+    over.insert(Path::from_text(alloc, "\\A___.B___.A___")?, 5)?;
+    assert!(rt; over.insert(Path::from_text(alloc, "\\C___")?, 6).is_err());
+    assert_eq!(rt;
+        listed(alloc, &over)?.as_str(),
+        "\\A___=0 \\A___.B___=1 \\A___.B___.A___=5 \\A___.B___.C___=2 \\C___=4 "
+    );
+    let scope = Path::from_text(alloc, "\\A___.B___.D___")?;
+    for (seg, depth) in [
+        (*b"A___", Some(2)),
+        (*b"B___", Some(1)),
+        (*b"C___", Some(2)),
+        (*b"D___", None),
+    ] {
+        assert_eq!(rt;
+            over.nearest(&scope, Seg::new(seg).ok_or("no segment")?)?,
+            depth
+        );
+    }
+    let mut text = String::new(alloc);
+    for path in &over.own_paths()? {
+        text.push_str(format!(in alloc; "{path} ")?.as_str())?;
+    }
+    assert_eq!(rt; text.as_str(), "\\A___.B___.A___ \\C___ ");
+    Ok(())
+}
+
+#[test]
+fn laid_over_others(rt: HostRuntime) -> Result<(), Fail> {
+    laid_over::<MapSpace<usize>>(&rt, rt.alloc())?;
+    laid_over::<TreeSpace<usize>>(&rt, rt.alloc())
+}
+
 // A path of 100,000 segments is walked, and its space dropped, without a deep stack.
 #[test]
 fn deep_in_a_tree(rt: HostRuntime) -> Result<(), Fail> {
