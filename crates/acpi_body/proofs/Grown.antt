@@ -1,8 +1,9 @@
 -- What the gathered sets hold: the misses of each search.
-use Rattle.std.proofs.Common.{◌≡◌, ◌≢◌, ◌⊎◌, ◌↔◌, inl, inr, ℕ, Bool, true, false, cond, List, [], ◌∷◌, find, is_some, Option, Some, None, true≢false, refl, sym, ap, subst, ◌∙◌}
+use Rattle.std.proofs.Common.{◌≡◌, ◌≢◌, ◌⊎◌, ◌↔◌, inl, inr, ℕ, Bool, true, false, cond, List, [], ◌∷◌, find, is_some, Option, Some, None, Result, Ok, Err, IfOk, true≢false, refl, sym, ap, subst, ◌∙◌}
 use Rattle.std.specs.Prelude.{IsTrue}
+use Rattle.std.specs.List.{filter}
 use Rattle.std.specs.Option.{unwrap_or}
-use Rattle.std.specs.FinMap.{FinMap, get, insert, empty, get-insert, get-empty}
+use Rattle.std.specs.FinMap.{get, insert, empty, get-insert, get-empty}
 use Rattle.acpi_name.specs.Names.{Segment, NameParts}
 use Rattle.acpi_name.specs.Paths.{path_cmp}
 use Rattle.acpi_name.specs.steps.PathOrder.{path_cmp_total}
@@ -11,14 +12,16 @@ use Rattle.acpi_space.specs.Spaces.{PathMap, is_defined}
 use Rattle.acpi_space.specs.Lookups.{Lookup, is_same_path, is_defined_in}
 use Rattle.acpi_space.specs.Search.{answer, missed, tries}
 use Rattle.acpi_space.specs.Laws.{Among}
+use Rattle.acpi_space.specs.Wanted.{Wants}
+use Rattle.acpi_space.proofs.Filters.{among_filter}
 use Rattle.acpi_counts.specs.Counts.{first_of, with_first}
 use Rattle.acpi_tree.specs.Terms.{TermTrees}
 use Rattle.acpi_body.specs.declared.gathered.Gathered.{Gathered}
-use Rattle.acpi_body.specs.Arguments.{Namespace, namespace_of, Locals, with_local, defined_with, expected_place}
+use Rattle.acpi_body.specs.Arguments.{namespace_of, Locals, with_local, defined_with, expected_place}
 use Rattle.acpi_body.specs.Searches.{Searched, all_searches}
 use Rattle.acpi_body.specs.Misses.{unless_found, awaited_place, IsMissedIn, IsAwaitedIn}
 use Rattle.acpi_body.specs.steps.Setting.{Setting}
-use Rattle.acpi_body.specs.steps.Gathering.{Paths, is_at, with_misses, with_awaited, with_search, with_searches, after_statements, Grows}
+use Rattle.acpi_body.specs.steps.Gathering.{Paths, is_at, with_misses, with_awaited, if_wanted, with_search, with_searches, after_statements, Grows}
 use Rattle.acpi_body.proofs.Gathering.{after_statements_are}
 
 -- ---- sets that grow
@@ -127,15 +130,18 @@ among_any P (y ∷ xs) x (inr m) h = inr (among_any P xs x m h)
 abbrev place_of_search : Setting → Searched → Option (List Segment)
 place_of_search c e = awaited_place (namespace_of c.objects) (get c.externals) c.method e.0 e.1
 
-abbrev IsMissOf : Setting → List Segment → Searched → Type 0
-IsMissOf c p e = Among (missed (defined_with (namespace_of c.objects) e.0) c.method e.1) p × (place_of_search c e ≢ Some p)
+abbrev IsMissOf : Wants → Setting → List Segment → Searched → Type 0
+IsMissOf w c p e = Among (filter w (missed (defined_with (namespace_of c.objects) e.0) c.method e.1)) p × (place_of_search c e ≢ Some p)
 
-searches_grow : (c : Setting) (g : Gathered) (es : List Searched) → Grows g.firm (with_searches c g es).firm (λ p. AnyOf (IsMissOf c p) es)
+abbrev AwaitsAt : Wants → Setting → List Segment → Searched → Type 0
+AwaitsAt w c p e = if_wanted w (place_of_search c e) ≡ Some p
+
+searches_grow : (w : Wants) (c : Setting) (g : Gathered) (es : List Searched) → Grows g.firm (with_searches w c g es).firm (λ p. AnyOf (IsMissOf w c p) es)
 unfolding with_search
-searches_grow c g [] = grows_not g.firm
-searches_grow c g (e ∷ es) =
-    grows_then g.firm (with_search c g e).firm (with_searches c (with_search c g e) es).firm (λ p. IsMissOf c p e) (λ p. AnyOf (IsMissOf c p) es)
-    (misses_grow (place_of_search c e) g.firm (missed (defined_with (namespace_of c.objects) e.0) c.method e.1)) (searches_grow c (with_search c g e) es)
+searches_grow w c g [] = grows_not g.firm
+searches_grow w c g (e ∷ es) =
+    grows_then g.firm (with_search w c g e).firm (with_searches w c (with_search w c g e) es).firm (λ p. IsMissOf w c p e) (λ p. AnyOf (IsMissOf w c p) es)
+    (misses_grow (place_of_search c e) g.firm (filter w (missed (defined_with (namespace_of c.objects) e.0) c.method e.1))) (searches_grow w c (with_search w c g e) es)
 
 none_at_first : (p : List Segment) → IsTrue (is_defined (empty {X = Unit {0}} {R = path_cmp}) p) → ⊥
 none_at_first p h = true≢false (sym h ∙ ap is_some (get-empty path_cmp p))
@@ -147,18 +153,20 @@ from_none m P g p = (λ h. to ((g p).0 h), λ h. (g p).1 (inr h))
     to (inl h) = absurd (none_at_first p h)
     to (inr h) = h
 
-pub read_firm : (c : Setting) (g : Gathered) (ts : TermTrees) → g.firm ≡ empty → (p : List Segment)
-    → IsTrue (is_defined (with_searches c g (all_searches c.method empty ts)).firm p) ↔ IsMissedIn (namespace_of c.objects) (get c.externals) c.method ts p
-read_firm c g ts none p =
+pub read_firm : (w : Wants) (c : Setting) (g : Gathered) (ts : TermTrees) → g.firm ≡ empty → (p : List Segment)
+    → IsTrue (is_defined (with_searches w c g (all_searches c.method empty ts)).firm p) ↔ (IsMissedIn (namespace_of c.objects) (get c.externals) c.method ts p × IsTrue (w p))
+read_firm w c g ts none p =
     let es = all_searches c.method empty ts in
-    (λ h. to (any_among (IsMissOf c p) es ((all p).0 h)), λ h. (all p).1 (among_any (IsMissOf c p) es (h.locals, h.name) h.searched (h.misses, h.firm)))
+    (λ h. to (any_among (IsMissOf w c p) es ((all p).0 h)), λ h. (all p).1 (among_any (IsMissOf w c p) es (h.0.locals, h.0.name) h.0.searched ((among_filter w (missed (defined_with (namespace_of c.objects) h.0.locals) c.method h.0.name) p).1 (h.0.misses, h.1), h.0.firm)))
   where
-    all : (p : List Segment) → IsTrue (is_defined (with_searches c g (all_searches c.method empty ts)).firm p) ↔ AnyOf (IsMissOf c p) (all_searches c.method empty ts)
-    all = from_none (with_searches c g (all_searches c.method empty ts)).firm (λ p. AnyOf (IsMissOf c p) (all_searches c.method empty ts))
-        (subst (λ (m : Paths). Grows m (with_searches c g (all_searches c.method empty ts)).firm (λ p. AnyOf (IsMissOf c p) (all_searches c.method empty ts))) none (searches_grow c g (all_searches c.method empty ts)))
+    all : (p : List Segment) → IsTrue (is_defined (with_searches w c g (all_searches c.method empty ts)).firm p) ↔ AnyOf (IsMissOf w c p) (all_searches c.method empty ts)
+    all = from_none (with_searches w c g (all_searches c.method empty ts)).firm (λ p. AnyOf (IsMissOf w c p) (all_searches c.method empty ts))
+        (subst (λ (m : Paths). Grows m (with_searches w c g (all_searches c.method empty ts)).firm (λ p. AnyOf (IsMissOf w c p) (all_searches c.method empty ts))) none (searches_grow w c g (all_searches c.method empty ts)))
 
-    to : ((e : Searched) × Among (all_searches c.method empty ts) e × IsMissOf c p e) → IsMissedIn (namespace_of c.objects) (get c.externals) c.method ts p
-    to r = record { locals = r.0.0; name = r.0.1; searched = r.1; misses = r.2.0; firm = r.2.1 }
+    to : ((e : Searched) × Among (all_searches c.method empty ts) e × IsMissOf w c p e) → (IsMissedIn (namespace_of c.objects) (get c.externals) c.method ts p × IsTrue (w p))
+    to r =
+        let k = (among_filter w (missed (defined_with (namespace_of c.objects) r.0.0) c.method r.0.1) p).0 r.2.0 in
+        (record { locals = r.0.0; name = r.0.1; searched = r.1; misses = k.0; firm = r.2.1 }, k.1)
 
 -- ---- counts that are awaited
 
@@ -229,35 +237,45 @@ one_search externals m P (Some q) there h =
     from p (inl x) = inl x
     from p (inr e) = let same : q ≡ p = cc in inr same
 
-searches_hold : (c : Setting) (g : Gathered) (P : List Segment → Type 0) (es : List Searched) → Holds (get c.externals) g.awaited P
-    → Holds (get c.externals) (with_searches c g es).awaited (λ p. P p ⊎ AnyOf (λ e. place_of_search c e ≡ Some p) es)
+-- a path that is asked for
+wanted_is : (w : Wants) (o : Option (List Segment)) (p : List Segment) → (if_wanted w o ≡ Some p) ↔ ((o ≡ Some p) × IsTrue (w p))
+wanted_is w None p = (λ e. cc, λ r. r.0)
+wanted_is w (Some q) p = by (w q) refl
+  where
+    by : (b : Bool) → w q ≡ b → (cond b (Some q) None ≡ Some p) ↔ ((Some q ≡ Some p) × IsTrue (w p))
+    by true e = (λ h. let same : q ≡ p = cc in (h, ap w (sym same) ∙ e), λ r. r.0)
+    by false e = (λ h. cc, λ r. let h : Some q ≡ Some p = r.0 in let same : q ≡ p = cc in absurd (true≢false (sym r.1 ∙ ap w (sym same) ∙ e)))
+
+searches_hold : (w : Wants) (c : Setting) (g : Gathered) (P : List Segment → Type 0) (es : List Searched) → Holds (get c.externals) g.awaited P
+    → Holds (get c.externals) (with_searches w c g es).awaited (λ p. P p ⊎ AnyOf (AwaitsAt w c p) es)
 unfolding with_search
-searches_hold c g P [] h = holds_as (get c.externals) g.awaited P (λ p. P p ⊎ ⊥) (λ p. (λ x. inl x, λ x. by p x)) h
+searches_hold w c g P [] h = holds_as (get c.externals) g.awaited P (λ p. P p ⊎ ⊥) (λ p. (λ x. inl x, λ x. by p x)) h
   where
     by : (p : List Segment) → P p ⊎ ⊥ → P p
     by p (inl x) = x
     by p (inr x) = absurd x
-searches_hold c g P (e ∷ es) h =
-    holds_as (get c.externals) (with_searches c (with_search c g e) es).awaited (λ p. (P p ⊎ (place_of_search c e ≡ Some p)) ⊎ AnyOf (λ e. place_of_search c e ≡ Some p) es) (λ p. P p ⊎ AnyOf (λ e. place_of_search c e ≡ Some p) (e ∷ es))
+searches_hold w c g P (e ∷ es) h =
+    holds_as (get c.externals) (with_searches w c (with_search w c g e) es).awaited (λ p. (P p ⊎ AwaitsAt w c p e) ⊎ AnyOf (AwaitsAt w c p) es) (λ p. P p ⊎ AnyOf (AwaitsAt w c p) (e ∷ es))
     (λ p. (λ x. to p x, λ x. from p x))
-    (searches_hold c (with_search c g e) (λ p. P p ⊎ (place_of_search c e ≡ Some p)) es
-    (one_search (get c.externals) g.awaited P (place_of_search c e) (awaited_counts (get c.externals) c.method e.1 (answer (defined_with (namespace_of c.objects) e.0) c.method e.1)) h))
+    (searches_hold w c (with_search w c g e) (λ p. P p ⊎ AwaitsAt w c p e) es
+    (one_search (get c.externals) g.awaited P (if_wanted w (place_of_search c e))
+    (λ q i. awaited_counts (get c.externals) c.method e.1 (answer (defined_with (namespace_of c.objects) e.0) c.method e.1) q ((wanted_is w (place_of_search c e) q).0 i).0) h))
   where
-    to : (p : List Segment) → (P p ⊎ (place_of_search c e ≡ Some p)) ⊎ AnyOf (λ e. place_of_search c e ≡ Some p) es → P p ⊎ AnyOf (λ e. place_of_search c e ≡ Some p) (e ∷ es)
+    to : (p : List Segment) → (P p ⊎ AwaitsAt w c p e) ⊎ AnyOf (AwaitsAt w c p) es → P p ⊎ AnyOf (AwaitsAt w c p) (e ∷ es)
     to p (inl (inl x)) = inl x
     to p (inl (inr x)) = inr (inl x)
     to p (inr x) = inr (inr x)
 
-    from : (p : List Segment) → P p ⊎ AnyOf (λ e. place_of_search c e ≡ Some p) (e ∷ es) → (P p ⊎ (place_of_search c e ≡ Some p)) ⊎ AnyOf (λ e. place_of_search c e ≡ Some p) es
+    from : (p : List Segment) → P p ⊎ AnyOf (AwaitsAt w c p) (e ∷ es) → (P p ⊎ AwaitsAt w c p e) ⊎ AnyOf (AwaitsAt w c p) es
     from p (inl x) = inl (inl x)
     from p (inr (inl x)) = inl (inr x)
     from p (inr (inr x)) = inr x
 
-pub read_awaited : (c : Setting) (g : Gathered) (ts : TermTrees) → g.awaited ≡ empty → (p : List Segment) (count : ℕ)
-    → (get (with_searches c g (all_searches c.method empty ts)).awaited p ≡ Some count) ↔ IsAwaitedIn (namespace_of c.objects) (get c.externals) c.method ts p count
-read_awaited c g ts none p count =
+pub read_awaited : (w : Wants) (c : Setting) (g : Gathered) (ts : TermTrees) → g.awaited ≡ empty → (p : List Segment) (count : ℕ)
+    → (get (with_searches w c g (all_searches c.method empty ts)).awaited p ≡ Some count) ↔ (IsAwaitedIn (namespace_of c.objects) (get c.externals) c.method ts p count × IsTrue (w p))
+read_awaited w c g ts none p count =
     let es = all_searches c.method empty ts in
-    (λ h. let r = (all p count).0 h in to (part r.0) r.1, λ h. (all p count).1 (inr (among_any (λ e. place_of_search c e ≡ Some p) es (h.locals, h.name) h.searched h.awaits), h.expects))
+    (λ h. let r = (all p count).0 h in to (part r.0) r.1, λ h. (all p count).1 (inr (among_any (AwaitsAt w c p) es (h.0.locals, h.0.name) h.0.searched ((wanted_is w (place_of_search c (h.0.locals, h.0.name)) p).1 (h.0.awaits, h.1))), h.0.expects))
   where
     at_first : Holds (get c.externals) g.awaited (λ p. ⊥)
     at_first p n = (λ e. not (get g.awaited p) (ap (λ (m : PathMap ℕ). get m p) none ∙ get-empty path_cmp p) e, λ r. absurd r.0)
@@ -265,36 +283,43 @@ read_awaited c g ts none p count =
         not : (o : Option ℕ) → o ≡ None → o ≡ Some n → ⊥ × (get c.externals p ≡ Some n)
         not o e f = absurd (true≢false (sym (ap is_some (sym e ∙ f))))
 
-    all : Holds (get c.externals) (with_searches c g (all_searches c.method empty ts)).awaited (λ p. ⊥ ⊎ AnyOf (λ e. place_of_search c e ≡ Some p) (all_searches c.method empty ts))
-    all = searches_hold c g (λ p. ⊥) (all_searches c.method empty ts) at_first
+    all : Holds (get c.externals) (with_searches w c g (all_searches c.method empty ts)).awaited (λ p. ⊥ ⊎ AnyOf (AwaitsAt w c p) (all_searches c.method empty ts))
+    all = searches_hold w c g (λ p. ⊥) (all_searches c.method empty ts) at_first
 
-    part : ⊥ ⊎ AnyOf (λ e. place_of_search c e ≡ Some p) (all_searches c.method empty ts) → (e : Searched) × Among (all_searches c.method empty ts) e × (place_of_search c e ≡ Some p)
+    part : ⊥ ⊎ AnyOf (AwaitsAt w c p) (all_searches c.method empty ts) → (e : Searched) × Among (all_searches c.method empty ts) e × AwaitsAt w c p e
     part (inl x) = absurd x
-    part (inr x) = any_among (λ e. place_of_search c e ≡ Some p) (all_searches c.method empty ts) x
+    part (inr x) = any_among (AwaitsAt w c p) (all_searches c.method empty ts) x
 
-    to : ((e : Searched) × Among (all_searches c.method empty ts) e × (place_of_search c e ≡ Some p)) → get c.externals p ≡ Some count → IsAwaitedIn (namespace_of c.objects) (get c.externals) c.method ts p count
-    to r e = record { locals = r.0.0; name = r.0.1; searched = r.1; awaits = r.2; expects = e }
+    to : ((e : Searched) × Among (all_searches c.method empty ts) e × AwaitsAt w c p e) → get c.externals p ≡ Some count → (IsAwaitedIn (namespace_of c.objects) (get c.externals) c.method ts p count × IsTrue (w p))
+    to r e =
+        let k = (wanted_is w (place_of_search c r.0) p).0 r.2 in
+        (record { locals = r.0.0; name = r.0.1; searched = r.1; awaits = k.0; expects = e }, k.1)
 
 -- ---- as the code gathers them
 
 abbrev pub nothing_gathered : Gathered
 nothing_gathered = record { firm = empty; awaited = empty }
 
-gathered_is : (c : Setting) (locals : Locals) (g h : Gathered) (ts : TermTrees) → locals ≡ empty → h ≡ after_statements c locals g ts → h ≡ with_searches c g (all_searches c.method empty ts)
-gathered_is c locals g h ts none e = e ∙ after_statements_are c locals g ts ∙ ap (λ (l : Locals). with_searches c g (all_searches c.method l ts)) none
+gathered_is : (w : Wants) (c : Setting) (locals : Locals) (g h : Gathered) (ts : TermTrees) → locals ≡ empty → h ≡ after_statements w c locals g ts → h ≡ with_searches w c g (all_searches c.method empty ts)
+gathered_is w c locals g h ts none e = e ∙ after_statements_are w c locals g ts ∙ ap (λ (l : Locals). with_searches w c g (all_searches c.method l ts)) none
 
-pub terms_firm : (c : Setting) (locals : Locals) (g h : Gathered) (ts : TermTrees) → locals ≡ empty → g ≡ nothing_gathered → h ≡ after_statements c locals g ts
-    → (p : List Segment) → IsTrue (is_defined h.firm p) ↔ IsMissedIn (namespace_of c.objects) (get c.externals) c.method ts p
-terms_firm c locals g h ts none start e p =
-    subst (λ (k : Gathered). IsTrue (is_defined k.firm p) ↔ IsMissedIn (namespace_of c.objects) (get c.externals) c.method ts p) (sym (gathered_is c locals g h ts none e)) (read_firm c g ts (ap (λ (k : Gathered). k.firm) start) p)
+pub terms_firm : (w : Wants) (c : Setting) (locals : Locals) (g h : Gathered) (ts : TermTrees) → locals ≡ empty → g ≡ nothing_gathered → h ≡ after_statements w c locals g ts
+    → (p : List Segment) → IsTrue (is_defined h.firm p) ↔ (IsMissedIn (namespace_of c.objects) (get c.externals) c.method ts p × IsTrue (w p))
+terms_firm w c locals g h ts none start e p =
+    subst (λ (k : Gathered). IsTrue (is_defined k.firm p) ↔ (IsMissedIn (namespace_of c.objects) (get c.externals) c.method ts p × IsTrue (w p))) (sym (gathered_is w c locals g h ts none e)) (read_firm w c g ts (ap (λ (k : Gathered). k.firm) start) p)
 
-pub terms_awaited : (c : Setting) (locals : Locals) (g h : Gathered) (ts : TermTrees) → locals ≡ empty → g ≡ nothing_gathered → h ≡ after_statements c locals g ts
-    → (p : List Segment) (count : ℕ) → (get h.awaited p ≡ Some count) ↔ IsAwaitedIn (namespace_of c.objects) (get c.externals) c.method ts p count
-terms_awaited c locals g h ts none start e p count =
-    subst (λ (k : Gathered). (get k.awaited p ≡ Some count) ↔ IsAwaitedIn (namespace_of c.objects) (get c.externals) c.method ts p count) (sym (gathered_is c locals g h ts none e)) (read_awaited c g ts (ap (λ (k : Gathered). k.awaited) start) p count)
+pub terms_awaited : (w : Wants) (c : Setting) (locals : Locals) (g h : Gathered) (ts : TermTrees) → locals ≡ empty → g ≡ nothing_gathered → h ≡ after_statements w c locals g ts
+    → (p : List Segment) (count : ℕ) → (get h.awaited p ≡ Some count) ↔ (IsAwaitedIn (namespace_of c.objects) (get c.externals) c.method ts p count × IsTrue (w p))
+terms_awaited w c locals g h ts none start e p count =
+    subst (λ (k : Gathered). (get k.awaited p ≡ Some count) ↔ (IsAwaitedIn (namespace_of c.objects) (get c.externals) c.method ts p count × IsTrue (w p))) (sym (gathered_is w c locals g h ts none e)) (read_awaited w c g ts (ap (λ (k : Gathered). k.awaited) start) p count)
 
 pub bytes_firm : (g : Gathered) (m : Paths) (P : List Segment → Type 0) → g ≡ nothing_gathered → Grows g.firm m P → (p : List Segment) → IsTrue (is_defined m p) ↔ P p
 bytes_firm g m P start h = from_none m P (subst (λ (k : Gathered). Grows k.firm m P) start h)
 
 pub bytes_awaited : (g : Gathered) → g ≡ nothing_gathered → (p : List Segment) (count : ℕ) → (get g.awaited p ≡ Some count) ↔ ⊥
 bytes_awaited g start p count = (λ e. true≢false (ap is_some (sym e ∙ ap (λ (k : Gathered). get k.awaited p) start ∙ get-empty path_cmp p)), λ x. absurd x)
+
+pub none_asked : {E : Type 0} (r : Result Gathered E) (w : Wants) → IfOk r (λ k. (p : List Segment) (count : ℕ) → (get k.awaited p ≡ Some count) ↔ ⊥)
+    → IfOk r (λ k. (p : List Segment) (count : ℕ) → (get k.awaited p ≡ Some count) ↔ (⊥ × IsTrue (w p)))
+none_asked (Ok k) w h = λ p count. (λ e. absurd ((h p count).0 e), λ r. absurd r.0)
+none_asked (Err f) w h = tt

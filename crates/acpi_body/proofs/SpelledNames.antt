@@ -1,7 +1,7 @@
 -- The names that are spelled in the bytes of a body, place by place.
 use Rattle.std.proofs.Common.{◌≡◌, ◌⊎◌, ◌↔◌, inl, inr, ℕ, zero, suc, ◌+◌, ◌-◌, ◌<◌, ◌≤◌, Bool, true, false, cond, ltb, eqb, List, [], ◌∷◌, ◌++◌, length, take, drop, replicate, Option, Some, None, Result, Ok, Err, refl, sym, ap, subst, ◌∙◌, append_assoc, length-append, length-drop, arith}
-use Rattle.std.specs.Prelude.{OnOk, nat_le, option_to_list}
-use Rattle.std.specs.List.{prefix_len}
+use Rattle.std.specs.Prelude.{OnOk, IsTrue, nat_le, option_to_list}
+use Rattle.std.specs.List.{prefix_len, filter}
 use Rattle.std.proofs.lemmas.Bool.{ltb-true}
 use Rattle.std.proofs.lemmas.List.Folds.{length-prefix_len}
 use Rattle.acpi_name.specs.Names.{Segment, NameParts, plain_segment, only_segment}
@@ -12,10 +12,12 @@ use Rattle.acpi_name.proofs.NameAgain.{neq, path_start, ups_of, name_long, one_s
 use Rattle.acpi_space.specs.Lookups.{is_defined_in}
 use Rattle.acpi_space.specs.Search.{skipped, tries_of, missed}
 use Rattle.acpi_space.specs.Laws.{Among}
+use Rattle.acpi_space.specs.Wanted.{Wants}
+use Rattle.acpi_space.proofs.Filters.{among_filter}
 use Rattle.acpi_body.specs.Arguments.{Namespace}
 use Rattle.acpi_body.specs.Searches.{IsSpelledIn}
 use Rattle.acpi_body.specs.Misses.{IsMissedBy}
-use Rattle.acpi_body.specs.steps.Gathering.{Paths, with_misses, Grows, IsFrontMiss, goes_above}
+use Rattle.acpi_body.specs.steps.Gathering.{Asked, Paths, with_misses, Grows, IsFrontMiss, goes_above}
 use Rattle.acpi_body.proofs.Grown.{grows_not, grows_as, grows_then, misses_grow}
 
 split : {A : Type 0} (k : ℕ) (xs : List A) → take k xs ++ drop k xs ≡ xs
@@ -99,26 +101,30 @@ none_above objects s bytes p above h =
 one_name : (m n : NameParts) (j k : ℕ) (bytes : List ℕ) → BeginsWithName m j bytes → BeginsWithName n k bytes → m ≡ n
 one_name m n j k bytes f g = (one_spelling m n (take j bytes) (take k bytes) (drop j bytes) (drop k bytes) f.spells g.spells (split j bytes ∙ sym (split k bytes))).0
 
-pub front_none : (objects : Namespace) (s : List Segment) (bytes : List ℕ) (old : Paths) → ((p : List Segment) → IsFrontMiss objects s bytes p → ⊥) → Grows old old (IsFrontMiss objects s bytes)
-front_none objects s bytes old none = grows_as old old (λ p. ⊥) (IsFrontMiss objects s bytes) (λ p. (λ h. absurd h, λ h. none p h)) (grows_not old)
+pub front_none : (w : Wants) (objects : Namespace) (s : List Segment) (bytes : List ℕ) (old : Paths) → ((p : List Segment) → IsFrontMiss objects s bytes p → ⊥) → Grows old old (Asked w (IsFrontMiss objects s bytes))
+front_none w objects s bytes old none = grows_as old old (λ p. ⊥) (Asked w (IsFrontMiss objects s bytes)) (λ p. (λ h. absurd h, λ h. none p h.0)) (grows_not old)
 
-front_grows : (objects : Namespace) (s : List Segment) (bytes : List ℕ) (old new : Paths) (n : NameParts) (count : ℕ) (paths : List (List Segment))
-    → BeginsWithName n count bytes → paths ≡ missed (is_defined_in objects) s n → new ≡ with_misses None old paths → Grows old new (IsFrontMiss objects s bytes)
-front_grows objects s bytes old new n count paths begins is e =
-    let ps = missed (is_defined_in objects) s n in
-    subst (λ (m : Paths). Grows old m (IsFrontMiss objects s bytes)) (sym (e ∙ ap (with_misses None old) is))
-    (grows_as old (with_misses None old ps) (λ p. Among ps p × (None ≡ Some p → ⊥)) (IsFrontMiss objects s bytes) (λ p. (to p, from p)) (misses_grow None old ps))
+front_grows : (w : Wants) (objects : Namespace) (s : List Segment) (bytes : List ℕ) (old new : Paths) (n : NameParts) (count : ℕ) (paths : List (List Segment))
+    → BeginsWithName n count bytes → paths ≡ filter w (missed (is_defined_in objects) s n) → new ≡ with_misses None old paths → Grows old new (Asked w (IsFrontMiss objects s bytes))
+front_grows w objects s bytes old new n count paths begins is e =
+    let ps = filter w (missed (is_defined_in objects) s n) in
+    subst (λ (m : Paths). Grows old m (Asked w (IsFrontMiss objects s bytes))) (sym (e ∙ ap (with_misses None old) is))
+    (grows_as old (with_misses None old ps) (λ p. Among ps p × (None ≡ Some p → ⊥)) (Asked w (IsFrontMiss objects s bytes)) (λ p. (to p, from p)) (misses_grow None old ps))
   where
-    to : (p : List Segment) → Among (missed (is_defined_in objects) s n) p × (None ≡ Some p → ⊥) → IsFrontMiss objects s bytes p
-    to p h = record { name = n; count = count; begins = begins; misses = h.0 }
+    to : (p : List Segment) → Among (filter w (missed (is_defined_in objects) s n)) p × (None ≡ Some p → ⊥) → Asked w (IsFrontMiss objects s bytes) p
+    to p h =
+        let r = (among_filter w (missed (is_defined_in objects) s n) p).0 h.0 in
+        (record { name = n; count = count; begins = begins; misses = r.0 }, r.1)
 
-    from : (p : List Segment) → IsFrontMiss objects s bytes p → Among (missed (is_defined_in objects) s n) p × (None ≡ Some p → ⊥)
-    from p h = (subst (λ (m : NameParts). Among (missed (is_defined_in objects) s m) p) (one_name h.name n h.count count bytes h.begins begins) h.misses, λ e. cc)
+    from : (p : List Segment) → Asked w (IsFrontMiss objects s bytes) p → Among (filter w (missed (is_defined_in objects) s n)) p × (None ≡ Some p → ⊥)
+    from p h =
+        let i = subst (λ (m : NameParts). Among (missed (is_defined_in objects) s m) p) (one_name h.0.name n h.0.count count bytes h.0.begins begins) h.0.misses in
+        ((among_filter w (missed (is_defined_in objects) s n) p).1 (i, h.1), λ e. cc)
 
-pub front_found : {E : Type 0} (r : Result (Unit {0}) E) (objects : Namespace) (s : List Segment) (bytes : List ℕ) (old new : Paths) (n : NameParts) (count : ℕ) (paths : List (List Segment))
-    → BeginsWithName n count bytes → paths ≡ missed (is_defined_in objects) s n → OnOk r (new ≡ with_misses None old paths) → OnOk r (Grows old new (IsFrontMiss objects s bytes))
-front_found (Ok x) objects s bytes old new n count paths begins is e = front_grows objects s bytes old new n count paths begins is e
-front_found (Err x) objects s bytes old new n count paths begins is e = tt
+pub front_found : {E : Type 0} (r : Result (Unit {0}) E) (w : Wants) (objects : Namespace) (s : List Segment) (bytes : List ℕ) (old new : Paths) (n : NameParts) (count : ℕ) (paths : List (List Segment))
+    → BeginsWithName n count bytes → paths ≡ filter w (missed (is_defined_in objects) s n) → OnOk r (new ≡ with_misses None old paths) → OnOk r (Grows old new (Asked w (IsFrontMiss objects s bytes)))
+front_found (Ok x) w objects s bytes old new n count paths begins is e = front_grows w objects s bytes old new n count paths begins is e
+front_found (Err x) w objects s bytes old new n count paths begins is e = tt
 
 -- ---- at each place
 
@@ -127,31 +133,32 @@ pub record IsMissedBefore (objects : Namespace) (s : List Segment) (bytes : List
   pub before : place < end
   pub miss : IsFrontMiss objects s (drop place bytes) p
 
-pub none_before : (objects : Namespace) (s : List Segment) (bytes : List ℕ) (old : Paths) → Grows old old (IsMissedBefore objects s bytes 0)
-none_before objects s bytes old = grows_as old old (λ p. ⊥) (IsMissedBefore objects s bytes 0) (λ p. (λ h. absurd h, λ h. let b : h.place < 0 = h.before in omega arith)) (grows_not old)
+pub none_before : (w : Wants) (objects : Namespace) (s : List Segment) (bytes : List ℕ) (old : Paths) → Grows old old (Asked w (IsMissedBefore objects s bytes 0))
+none_before w objects s bytes old = grows_as old old (λ p. ⊥) (Asked w (IsMissedBefore objects s bytes 0)) (λ p. (λ h. absurd h, λ h. let b : h.0.place < 0 = h.0.before in omega arith)) (grows_not old)
 
-pub one_place_more : (objects : Namespace) (s : List Segment) (bytes : List ℕ) (end : ℕ) (old mid new : Paths)
-    → Grows old mid (IsMissedBefore objects s bytes end) → Grows mid new (IsFrontMiss objects s (drop end bytes)) → Grows old new (IsMissedBefore objects s bytes (end + 1))
-one_place_more objects s bytes end old mid new f g =
-    grows_as old new (λ p. IsMissedBefore objects s bytes end p ⊎ IsFrontMiss objects s (drop end bytes) p) (IsMissedBefore objects s bytes (end + 1)) (λ p. (to p, from p))
-    (grows_then old mid new (IsMissedBefore objects s bytes end) (IsFrontMiss objects s (drop end bytes)) f g)
+pub one_place_more : (w : Wants) (objects : Namespace) (s : List Segment) (bytes : List ℕ) (end : ℕ) (old mid new : Paths)
+    → Grows old mid (Asked w (IsMissedBefore objects s bytes end)) → Grows mid new (Asked w (IsFrontMiss objects s (drop end bytes))) → Grows old new (Asked w (IsMissedBefore objects s bytes (end + 1)))
+one_place_more w objects s bytes end old mid new f g =
+    grows_as old new (λ p. Asked w (IsMissedBefore objects s bytes end) p ⊎ Asked w (IsFrontMiss objects s (drop end bytes)) p) (Asked w (IsMissedBefore objects s bytes (end + 1))) (λ p. (to p, from p))
+    (grows_then old mid new (Asked w (IsMissedBefore objects s bytes end)) (Asked w (IsFrontMiss objects s (drop end bytes))) f g)
   where
-    to : (p : List Segment) → IsMissedBefore objects s bytes end p ⊎ IsFrontMiss objects s (drop end bytes) p → IsMissedBefore objects s bytes (end + 1) p
-    to p (inl h) = record { place = h.place; before = let b : h.place < end = h.before in omega arith; miss = h.miss }
-    to p (inr h) = record { place = end; before = omega arith; miss = h }
+    to : (p : List Segment) → Asked w (IsMissedBefore objects s bytes end) p ⊎ Asked w (IsFrontMiss objects s (drop end bytes)) p → Asked w (IsMissedBefore objects s bytes (end + 1)) p
+    to p (inl h) = (record { place = h.0.place; before = let b : h.0.place < end = h.0.before in omega arith; miss = h.0.miss }, h.1)
+    to p (inr h) = (record { place = end; before = omega arith; miss = h.0 }, h.1)
 
-    by : (p : List Segment) (k : ℕ) → IsFrontMiss objects s (drop k bytes) p → (k < end) ⊎ (k ≡ end) → IsMissedBefore objects s bytes end p ⊎ IsFrontMiss objects s (drop end bytes) p
-    by p k h (inl lt) = inl (record { place = k; before = lt; miss = h })
-    by p k h (inr e) = inr (subst (λ (i : ℕ). IsFrontMiss objects s (drop i bytes) p) e h)
+    by : (p : List Segment) (k : ℕ) → IsFrontMiss objects s (drop k bytes) p → IsTrue (w p) → (k < end) ⊎ (k ≡ end) → Asked w (IsMissedBefore objects s bytes end) p ⊎ Asked w (IsFrontMiss objects s (drop end bytes)) p
+    by p k h t (inl lt) = inl (record { place = k; before = lt; miss = h }, t)
+    by p k h t (inr e) = inr (subst (λ (i : ℕ). IsFrontMiss objects s (drop i bytes) p) e h, t)
 
-    from : (p : List Segment) → IsMissedBefore objects s bytes (end + 1) p → IsMissedBefore objects s bytes end p ⊎ IsFrontMiss objects s (drop end bytes) p
-    from p h = by p h.place h.miss (below_or_at h.place end h.before)
+    from : (p : List Segment) → Asked w (IsMissedBefore objects s bytes (end + 1)) p → Asked w (IsMissedBefore objects s bytes end) p ⊎ Asked w (IsFrontMiss objects s (drop end bytes)) p
+    from p h = by p h.0.place h.0.miss h.1 (below_or_at h.0.place end h.0.before)
       where
         below_or_at : (k end : ℕ) → k < end + 1 → (k < end) ⊎ (k ≡ end)
         below_or_at k end h = grind arith
 
-pub every_place : (objects : Namespace) (s : List Segment) (bytes : List ℕ) (end : ℕ) (old new : Paths) → length bytes ≤ end → Grows old new (IsMissedBefore objects s bytes end) → Grows old new (IsMissedBy objects s bytes)
-every_place objects s bytes end old new all = grows_as old new (IsMissedBefore objects s bytes end) (IsMissedBy objects s bytes) (λ p. (to p, from p))
+pub every_place : (w : Wants) (objects : Namespace) (s : List Segment) (bytes : List ℕ) (end : ℕ) (old new : Paths) → length bytes ≤ end → Grows old new (Asked w (IsMissedBefore objects s bytes end)) → Grows old new (Asked w (IsMissedBy objects s bytes))
+every_place w objects s bytes end old new all =
+    grows_as old new (Asked w (IsMissedBefore objects s bytes end)) (Asked w (IsMissedBy objects s bytes)) (λ p. (λ h. (to p h.0, h.1), λ h. (from p h.0, h.1)))
   where
     to : (p : List Segment) → IsMissedBefore objects s bytes end p → IsMissedBy objects s bytes p
     to p h =

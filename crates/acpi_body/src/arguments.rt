@@ -117,8 +117,8 @@ fn expected<S: Space<Object>>(context: &Context<'_, S>, name: NameRef<'_>) -> Re
     }
 }
 
-// The length of the longest beginning of the method's path below which the segment is a local or an object.
-fn nearest<S: Space<Object>>(
+/// The length of the longest beginning of the method's path below which the segment is a local or an object.
+pub(crate) fn nearest<S: Space<Object>>(
     context: &Context<'_, S>,
     locals: &MapSpace<()>,
     seg: Seg,

@@ -1,20 +1,19 @@
 //! The misses of a body, gathered search after search.
 
-ghost use Rattle.std.specs.Prelude.{◌≡◌, IfOk, OnOk, is_some, not, length};
-ghost use Rattle.std.specs.List.{take_while};
+ghost use Rattle.std.specs.Prelude.{◌≡◌, ◌++◌, [], ◌∷◌, IfOk, OnOk, find, is_some, map};
+ghost use Rattle.std.specs.List.{filter};
 ghost use Rattle.std.specs.FinMap.{get};
 ghost use Rattle.acpi_name.specs.NameRefs.{name_parts};
-ghost use Rattle.acpi_space.specs.Search.{answer, missed};
-ghost use Rattle.acpi_space.specs.Spaces.{is_defined};
+ghost use Rattle.acpi_space.specs.Search.{answer, beginnings, missed, skipped};
 ghost use Rattle.acpi_space.specs.Lookups.{is_defined_in};
 ghost use Rattle.acpi_body.specs.Arguments.{namespace_of, defined_with};
 ghost use Rattle.acpi_body.specs.Misses.{awaited_place};
-ghost use Rattle.acpi_body.specs.steps.Gathering.{is_at, with_misses, with_awaited, with_search};
+ghost use Rattle.acpi_body.specs.steps.Gathering.{is_at, with_misses, with_awaited, if_wanted, with_search};
 
-use crate::arguments::{Context, add};
+use crate::arguments::{Context, add, nearest};
 use acpi_counts::Counts;
-use acpi_name::{NameRef, Path};
-use acpi_space::{Found, MapSpace, Refused, SearchFault, Space, misses, search};
+use acpi_name::{NameRef, Path, PlaceFault, Seg, place};
+use acpi_space::{MapSpace, Refused, SearchFault, Space, Wanted, wanted_misses};
 use acpi_tree::Object;
 use std::alloc::AllocError;
 
@@ -25,69 +24,104 @@ pub(crate) struct Gathered {
     pub(crate) awaited: MapSpace<u8>,
 }
 
-/// What a search tried in vain, the innermost path first, and whether it found something then.
+/// What a search tried in vain of the paths that are asked for, the innermost first, and whether it found something then.
 #[derive(Drop)]
 struct Tried {
     missed: Vec<Path>,
     found: bool,
 }
 
-/// The paths that the search of a name in the namespace tries in vain, the innermost first. Locals are not laid over.
-pub(crate) fn missed<S: Space<Object>>(
+/// The paths that the search of a name in the namespace tries in vain, the innermost first, of those that are asked for.
+/// Locals are not laid over.
+pub(crate) fn missed<S: Space<Object>, Q: Wanted>(
     context: &Context<'_, S>,
+    wanted: &Q,
     name: NameRef<'_>,
 ) -> Result<Vec<Path>, AllocError>
-    ensures { IfOk result (λ v. v.items ≡ missed (is_defined_in (namespace_of context.now.objects)) context.now.method (name_parts name.entry)) }
+    ensures { IfOk result (λ v. v.items ≡ filter (Q.wanted wanted.now) (missed (is_defined_in (namespace_of context.now.objects)) context.now.method (name_parts name.entry))) }
 {
-    match misses(context.alloc(), context.space(), context.method(), name) {
+    match wanted_misses(
+        context.alloc(),
+        context.space(),
+        context.method(),
+        name,
+        wanted,
+    ) {
         Ok(paths) => Ok(paths),
         Err(SearchFault::AboveRoot) => Ok(Vec::new(context.alloc())),
         Err(SearchFault::Memory) => Err(AllocError),
     }
 }
 
-// Whether that search finds something.
-fn finds<S: Space<Object>>(context: &Context<'_, S>, name: NameRef<'_>) -> Result<bool, AllocError>
-    ensures { IfOk result (λ b. b ≡ is_some (answer (is_defined_in (namespace_of context.now.objects)) context.now.method (name_parts name.entry))) }
+// The search of a plain name, with the locals laid over the namespace.
+fn plain_search<S: Space<Object>, Q: Wanted>(
+    context: &Context<'_, S>,
+    locals: &MapSpace<()>,
+    wanted: &Q,
+    seg: Seg,
+) -> Result<Tried, AllocError>
+    ensures missed { IfOk result (λ t. t.missed.items ≡ filter (Q.wanted wanted.now) (skipped (defined_with (namespace_of context.now.objects) locals.now) (map (λ q. q ++ seg ∷ []) (beginnings context.now.method)))) }
+    ensures found { IfOk result (λ t. t.found ≡ is_some (find (defined_with (namespace_of context.now.objects) locals.now) (map (λ q. q ++ seg ∷ []) (beginnings context.now.method)))) }
 {
-    match search(context.alloc(), context.space(), context.method(), name) {
-        Ok(Found::At(_)) => Ok(true),
-        Ok(Found::Missing) => Ok(false),
-        Err(SearchFault::AboveRoot) => Ok(false),
-        Err(SearchFault::Memory) => Err(AllocError),
+    let method = context.method();
+    let _len = method.len();
+    match nearest(context, locals, seg)? {
+        Some(depth) => {
+            let missed = wanted.below(context.alloc(), method, seg, depth + 1)?;
+            Ok(Tried {
+                missed,
+                found: true,
+            })
+        }
+        None => {
+            let missed = wanted.below(context.alloc(), method, seg, 0)?;
+            Ok(Tried {
+                missed,
+                found: false,
+            })
+        }
     }
 }
 
-fn is_local(locals: &MapSpace<()>, path: &Path) -> bool
-    ensures { result ≡ is_defined locals.now path.now }
-{
-    locals.get(path).is_some()
-}
-
-// How many paths stand before the first local.
-fn before_local(locals: &MapSpace<()>, paths: &[Path]) -> usize
-    ensures { result ≡ length (take_while (λ p. not (is_defined locals.now p)) paths.now) }
-{
-    paths
-        .iter()
-        .take_while(|path| !is_local(locals, path))
-        .count()
-}
-
-// The search of a name with the locals laid over the namespace: it ends at the first local.
-fn search_with<S: Space<Object>>(
+// The search at one path alone, with the locals laid over the namespace.
+fn place_search<S: Space<Object>, Q: Wanted>(
     context: &Context<'_, S>,
     locals: &MapSpace<()>,
+    wanted: &Q,
+    path: Path,
+) -> Result<Tried, AllocError>
+    ensures missed { IfOk result (λ t. t.missed.items ≡ filter (Q.wanted wanted.now) (skipped (defined_with (namespace_of context.now.objects) locals.now) (path ∷ []))) }
+    ensures found { IfOk result (λ t. t.found ≡ is_some (find (defined_with (namespace_of context.now.objects) locals.now) (path ∷ []))) }
+{
+    let found = locals.get(&path).is_some() || context.space().get(&path).is_some();
+    let mut missed = Vec::new(context.alloc());
+    if !found && wanted.wants(&path) {
+        missed.push(path)?;
+    }
+    Ok(Tried { missed, found })
+}
+
+// The search of a name with the locals laid over the namespace.
+fn search_with<S: Space<Object>, Q: Wanted>(
+    context: &Context<'_, S>,
+    locals: &MapSpace<()>,
+    wanted: &Q,
     name: NameRef<'_>,
 ) -> Result<Tried, AllocError>
-    ensures missed { IfOk result (λ t. t.missed.items ≡ missed (defined_with (namespace_of context.now.objects) locals.now) context.now.method (name_parts name.entry)) }
+    ensures missed { IfOk result (λ t. t.missed.items ≡ filter (Q.wanted wanted.now) (missed (defined_with (namespace_of context.now.objects) locals.now) context.now.method (name_parts name.entry))) }
     ensures found { IfOk result (λ t. t.found ≡ is_some (answer (defined_with (namespace_of context.now.objects) locals.now) context.now.method (name_parts name.entry))) }
 {
-    let mut missed = missed(context, name)?;
-    let count = before_local(locals, &missed);
-    let found = count < missed.len() || finds(context, name)?;
-    missed.truncate(count);
-    Ok(Tried { missed, found })
+    if let Some(seg) = name.plain() {
+        return plain_search(context, locals, wanted, seg);
+    }
+    match place(context.alloc(), context.method(), name) {
+        Ok(path) => place_search(context, locals, wanted, path),
+        Err(PlaceFault::AboveRoot) => Ok(Tried {
+            missed: Vec::new(context.alloc()),
+            found: false,
+        }),
+        Err(PlaceFault::Memory) => Err(AllocError),
+    }
 }
 
 // The path whose External gives the count of a name, unless something was found.
@@ -152,19 +186,34 @@ fn add_awaited(
     }
 }
 
-/// Gathers what the search of a name in a read body misses, with the locals laid over.
+// A path that is asked for.
+fn if_wanted<Q: Wanted>(wanted: &Q, path: Option<Path>) -> Option<Path>
+    ensures { result ≡ if_wanted (Q.wanted wanted.now) path }
+{
+    match path {
+        Some(path) if wanted.wants(&path) => Some(path),
+        _ => None,
+    }
+}
+
+/// Gathers what the search of a name in a read body misses of the paths that are asked for, with the locals laid over.
 #[inline(never)]
 #[tactic(auto, unfolding(crate::specs::steps::Gathering::with_search))]
-pub(crate) fn gather_search<S: Space<Object>>(
+pub(crate) fn gather_search<S: Space<Object>, Q: Wanted>(
     context: &Context<'_, S>,
     locals: &MapSpace<()>,
+    wanted: &Q,
     gathered: &mut Gathered,
     name: NameRef<'_>,
 ) -> Result<(), AllocError>
-    ensures { OnOk result (gathered.new ≡ with_search context.now gathered.old (locals.now, name_parts name.entry)) }
+    ensures { OnOk result (gathered.new ≡ with_search (Q.wanted wanted.now) context.now gathered.old (locals.now, name_parts name.entry)) }
 {
-    let tried = search_with(context, locals, name)?;
+    let tried = search_with(context, locals, wanted, name)?;
     let awaited = awaited(context, locals, name, tried.found)?;
     add_missed(&mut gathered.firm, &awaited, tried.missed)?;
-    add_awaited(&mut gathered.awaited, context.counts(), awaited)
+    add_awaited(
+        &mut gathered.awaited,
+        context.counts(),
+        if_wanted(wanted, awaited),
+    )
 }

@@ -1,6 +1,6 @@
 //! What a method body searches in vain.
 
-ghost use Rattle.std.specs.Prelude.{◌≡◌, ◌↔◌, ℕ, List, IfOk, Some, IsTrue, map, filter};
+ghost use Rattle.std.specs.Prelude.{◌≡◌, ◌↔◌, ℕ, List, IfOk, Some, IsTrue, map};
 ghost use Rattle.std.specs.FinMap as finite;
 ghost use Rattle.std.specs.List.Sorted.{IsStrictlySortedBy};
 ghost use Rattle.acpi_name.specs.Names.{Segment};
@@ -19,7 +19,7 @@ use crate::searched::statements;
 use crate::spelled::add_spelled;
 use acpi_counts::Counts;
 use acpi_name::Path;
-use acpi_space::{MapSpace, Space};
+use acpi_space::{AllPaths, MapSpace, PathsOf, Space, Wanted};
 use acpi_tree::{Object, Term};
 use std::alloc::{AllocError, Global};
 
@@ -50,40 +50,46 @@ fn none(alloc: Global) -> Gathered
     }
 }
 
-// What a read body misses.
-fn gather_terms<S: Space<Object>>(
+// What a read body misses of the paths that are asked for.
+fn gather_terms<S: Space<Object>, Q: Wanted>(
     context: &Context<'_, S>,
+    wanted: &Q,
     terms: &[Term],
 ) -> Result<Gathered, AllocError>
-    ensures firm { IfOk result (λ g. (p : List Segment) → IsTrue (is_defined g.firm p) ↔ IsMissedIn (namespace_of context.now.objects) (finite.get context.now.externals) context.now.method (terms_tree terms.now) p) }
-    ensures awaited { IfOk result (λ g. (p : List Segment) (count : ℕ) → (finite.get g.awaited p ≡ Some count) ↔ IsAwaitedIn (namespace_of context.now.objects) (finite.get context.now.externals) context.now.method (terms_tree terms.now) p count) }
+    ensures firm { IfOk result (λ g. (p : List Segment) → IsTrue (is_defined g.firm p) ↔ (IsMissedIn (namespace_of context.now.objects) (finite.get context.now.externals) context.now.method (terms_tree terms.now) p × IsTrue (Q.wanted wanted.now p))) }
+    ensures awaited { IfOk result (λ g. (p : List Segment) (count : ℕ) → (finite.get g.awaited p ≡ Some count) ↔ (IsAwaitedIn (namespace_of context.now.objects) (finite.get context.now.externals) context.now.method (terms_tree terms.now) p count × IsTrue (Q.wanted wanted.now p))) }
 {
     let mut gathered = none(context.alloc());
     let mut locals = MapSpace::new(context.alloc());
-    statements(context, &mut locals, &mut gathered, terms)?;
+    statements(context, &mut locals, wanted, &mut gathered, terms)?;
     Ok(gathered)
 }
 
-// What an opaque body misses.
-fn gather_bytes<S: Space<Object>>(
+// What an opaque body misses of the paths that are asked for.
+fn gather_bytes<S: Space<Object>, Q: Wanted>(
     context: &Context<'_, S>,
+    wanted: &Q,
     bytes: &[u8],
 ) -> Result<Gathered, AllocError>
-    ensures firm { IfOk result (λ g. (p : List Segment) → IsTrue (is_defined g.firm p) ↔ IsMissedBy (namespace_of context.now.objects) context.now.method bytes.now p) }
+    ensures firm { IfOk result (λ g. (p : List Segment) → IsTrue (is_defined g.firm p) ↔ (IsMissedBy (namespace_of context.now.objects) context.now.method bytes.now p × IsTrue (Q.wanted wanted.now p))) }
     ensures awaited { IfOk result (λ g. (p : List Segment) (count : ℕ) → (finite.get g.awaited p ≡ Some count) ↔ ⊥) }
 {
     let mut gathered = none(context.alloc());
-    add_spelled(context, &mut gathered.firm, bytes)?;
+    add_spelled(context, wanted, &mut gathered.firm, bytes)?;
     Ok(gathered)
 }
 
-fn gather<S: Space<Object>>(context: &Context<'_, S>, body: &Body) -> Result<Gathered, AllocError>
-    ensures firm { IfOk result (λ g. (p : List Segment) → IsTrue (is_defined g.firm p) ↔ IsFirmMiss (namespace_of context.now.objects) (finite.get context.now.externals) context.now.method (body_view body.now) p) }
-    ensures awaited { IfOk result (λ g. (p : List Segment) (count : ℕ) → (finite.get g.awaited p ≡ Some count) ↔ IsOpenMiss (namespace_of context.now.objects) (finite.get context.now.externals) context.now.method (body_view body.now) p count) }
+fn gather<S: Space<Object>, Q: Wanted>(
+    context: &Context<'_, S>,
+    wanted: &Q,
+    body: &Body,
+) -> Result<Gathered, AllocError>
+    ensures firm { IfOk result (λ g. (p : List Segment) → IsTrue (is_defined g.firm p) ↔ (IsFirmMiss (namespace_of context.now.objects) (finite.get context.now.externals) context.now.method (body_view body.now) p × IsTrue (Q.wanted wanted.now p))) }
+    ensures awaited { IfOk result (λ g. (p : List Segment) (count : ℕ) → (finite.get g.awaited p ≡ Some count) ↔ (IsOpenMiss (namespace_of context.now.objects) (finite.get context.now.externals) context.now.method (body_view body.now) p count × IsTrue (Q.wanted wanted.now p))) }
 {
     match body {
-        Body::Terms(terms) => gather_terms(context, terms),
-        Body::Opaque(bytes) => gather_bytes(context, bytes),
+        Body::Terms(terms) => gather_terms(context, wanted, terms),
+        Body::Opaque(bytes) => gather_bytes(context, wanted, bytes),
     }
 }
 
@@ -127,11 +133,7 @@ pub fn body_misses<S: Space<Object>>(
     ensures open { IfOk result (λ m. (p : List Segment) (count : ℕ) → Among m.open.items (record { path = p; count = count }) ↔ IsOpenMiss (namespace_of (S.contents space.now)) (finite.get counts.now) method.now (body_view body.now) p count) }
     ensures open_ascend { IfOk result (λ m. IsStrictlySortedBy path_cmp (map (λ o. o.path) m.open.items)) }
 {
-    let gathered = gather(&Context::new(alloc, space, counts, method), body)?;
-    Ok(BodyMisses {
-        firm: paths_of(alloc, &gathered.firm)?,
-        open: open_misses_of(alloc, &gathered.awaited)?,
-    })
+    misses_of(&Context::new(alloc, space, counts, method), &AllPaths, body)
 }
 
 /// What the body of a method searches in vain, as `body_misses` tells it, of the paths that another space has.
@@ -148,23 +150,24 @@ pub fn body_misses_among<S: Space<Object>, W, T: Space<W>>(
     ensures open { IfOk result (λ m. (p : List Segment) (count : ℕ) → Among m.open.items (record { path = p; count = count }) ↔ (IsOpenMiss (namespace_of (S.contents space.now)) (finite.get counts.now) method.now (body_view body.now) p count × IsTrue (is_defined (T.contents among.now) p))) }
     ensures open_ascend { IfOk result (λ m. IsStrictlySortedBy path_cmp (map (λ o. o.path) m.open.items)) }
 {
-    let BodyMisses { firm, open } = body_misses(alloc, space, method, body, counts)?;
+    let context = Context::new(alloc, space, counts, method);
+    misses_of(&context, &PathsOf::new(among), body)
+}
+
+// What a body misses of the paths that are asked for.
+fn misses_of<S: Space<Object>, Q: Wanted>(
+    context: &Context<'_, S>,
+    wanted: &Q,
+    body: &Body,
+) -> Result<BodyMisses, AllocError>
+    ensures firm { IfOk result (λ m. (p : List Segment) → Among m.firm.items p ↔ (IsFirmMiss (namespace_of context.now.objects) (finite.get context.now.externals) context.now.method (body_view body.now) p × IsTrue (Q.wanted wanted.now p))) }
+    ensures firm_ascend { IfOk result (λ m. IsStrictlySortedBy path_cmp m.firm.items) }
+    ensures open { IfOk result (λ m. (p : List Segment) (count : ℕ) → Among m.open.items (record { path = p; count = count }) ↔ (IsOpenMiss (namespace_of context.now.objects) (finite.get context.now.externals) context.now.method (body_view body.now) p count × IsTrue (Q.wanted wanted.now p))) }
+    ensures open_ascend { IfOk result (λ m. IsStrictlySortedBy path_cmp (map (λ o. o.path) m.open.items)) }
+{
+    let gathered = gather(context, wanted, body)?;
     Ok(BodyMisses {
-        firm: firm_among(firm, among),
-        open: open_among(open, among),
+        firm: paths_of(context.alloc(), &gathered.firm)?,
+        open: open_misses_of(context.alloc(), &gathered.awaited)?,
     })
-}
-
-fn firm_among<W, T: Space<W>>(mut paths: Vec<Path>, among: &T) -> Vec<Path>
-    ensures { result.items ≡ filter (is_defined (T.contents among.now)) paths.items }
-{
-    paths.retain(|path| among.get(path).is_some());
-    paths
-}
-
-fn open_among<W, T: Space<W>>(mut misses: Vec<OpenMiss>, among: &T) -> Vec<OpenMiss>
-    ensures { result.items ≡ filter (λ o. is_defined (T.contents among.now) o.path) misses.items }
-{
-    misses.retain(|miss| among.get(&miss.path).is_some());
-    misses
 }

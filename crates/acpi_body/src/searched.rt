@@ -11,63 +11,66 @@ use crate::arguments::{Context, add};
 use crate::field::add_units;
 use crate::gathered::{Gathered, gather_search};
 use acpi_name::{Name, PlaceFault, place};
-use acpi_space::{MapSpace, Space};
+use acpi_space::{MapSpace, Space, Wanted};
 use acpi_tree::{Decl, Object, Operand, Term};
 use std::alloc::AllocError;
 
 // What the names in a value search.
 #[cycle(value)]
-fn value<S: Space<Object>>(
+fn value<S: Space<Object>, Q: Wanted>(
     context: &Context<'_, S>,
     locals: &MapSpace<()>,
+    wanted: &Q,
     gathered: &mut Gathered,
     term: &Term,
 ) -> Result<(), AllocError>
-    ensures { OnOk result (gathered.new ≡ after_value context.now locals.now gathered.old (term_view term.now)) }
+    ensures { OnOk result (gathered.new ≡ after_value (Q.wanted wanted.now) context.now locals.now gathered.old (term_view term.now)) }
 {
     match term {
-        Term::Buffer(size, _) => value(context, locals, gathered, size),
-        Term::Package(_, elements) => values(context, locals, gathered, elements),
+        Term::Buffer(size, _) => value(context, locals, wanted, gathered, size),
+        Term::Package(_, elements) => values(context, locals, wanted, gathered, elements),
         Term::VarPackage(count, elements) => {
-            value(context, locals, gathered, count)?;
-            values(context, locals, gathered, elements)
+            value(context, locals, wanted, gathered, count)?;
+            values(context, locals, wanted, gathered, elements)
         }
         Term::Call(name, args) => {
-            gather_search(context, locals, gathered, name.view())?;
-            values(context, locals, gathered, args)
+            gather_search(context, locals, wanted, gathered, name.view())?;
+            values(context, locals, wanted, gathered, args)
         }
-        Term::Op(_, operands) => operand_values(context, locals, gathered, operands),
+        Term::Op(_, operands) => operand_values(context, locals, wanted, gathered, operands),
         _ => Ok(()),
     }
 }
 
 #[cycle(value)]
-fn values<S: Space<Object>>(
+fn values<S: Space<Object>, Q: Wanted>(
     context: &Context<'_, S>,
     locals: &MapSpace<()>,
+    wanted: &Q,
     gathered: &mut Gathered,
     terms: &[Term],
 ) -> Result<(), AllocError>
-    ensures { OnOk result (gathered.new ≡ after_values context.now locals.now gathered.old (terms_tree terms.now)) }
+    ensures { OnOk result (gathered.new ≡ after_values (Q.wanted wanted.now) context.now locals.now gathered.old (terms_tree terms.now)) }
 {
     'each: for term in terms {
-        value(context, locals, gathered, term)?;
+        value(context, locals, wanted, gathered, term)?;
     }
     Ok(())
 }
 
 #[cycle(value)]
-fn operand_values<S: Space<Object>>(
+fn operand_values<S: Space<Object>, Q: Wanted>(
     context: &Context<'_, S>,
     locals: &MapSpace<()>,
+    wanted: &Q,
     gathered: &mut Gathered,
     operands: &[Operand],
 ) -> Result<(), AllocError>
-    ensures { OnOk result (gathered.new ≡ after_values context.now locals.now gathered.old (terms_of (operands_view operands.now))) }
+    ensures { OnOk result (gathered.new ≡ after_values (Q.wanted wanted.now) context.now locals.now gathered.old (terms_of (operands_view operands.now))) }
 {
     'each: for operand in operands {
         if let Operand::Term(term) = operand {
-            value(context, locals, gathered, term)?;
+            value(context, locals, wanted, gathered, term)?;
         }
     }
     Ok(())
@@ -90,18 +93,19 @@ fn declare<S: Space<Object>>(
 
 // The operands of a declaration see the locals before it.
 #[inline(never)]
-fn declaration<S: Space<Object>>(
+fn declaration<S: Space<Object>, Q: Wanted>(
     context: &Context<'_, S>,
     locals: &mut MapSpace<()>,
+    wanted: &Q,
     gathered: &mut Gathered,
     decl: &Decl,
 ) -> Result<(), AllocError>
-    ensures gathered { OnOk result (gathered.new ≡ after_statement context.now locals.old gathered.old (decl_view decl.now)) }
+    ensures gathered { OnOk result (gathered.new ≡ after_statement (Q.wanted wanted.now) context.now locals.old gathered.old (decl_view decl.now)) }
     ensures locals { OnOk result (locals.new ≡ locals_after context.now.method locals.old (decl_view decl.now)) }
 {
     match decl {
         Decl::Name(name, data) => {
-            value(context, locals, gathered, data)?;
+            value(context, locals, wanted, gathered, data)?;
             declare(context, locals, name)
         }
         Decl::Create {
@@ -110,8 +114,8 @@ fn declaration<S: Space<Object>>(
             name,
             ..
         } => {
-            value(context, locals, gathered, source)?;
-            value(context, locals, gathered, index)?;
+            value(context, locals, wanted, gathered, source)?;
+            value(context, locals, wanted, gathered, index)?;
             declare(context, locals, name)
         }
         Decl::CreateField {
@@ -120,9 +124,9 @@ fn declaration<S: Space<Object>>(
             bits,
             name,
         } => {
-            value(context, locals, gathered, source)?;
-            value(context, locals, gathered, index)?;
-            value(context, locals, gathered, bits)?;
+            value(context, locals, wanted, gathered, source)?;
+            value(context, locals, wanted, gathered, index)?;
+            value(context, locals, wanted, gathered, bits)?;
             declare(context, locals, name)
         }
         Decl::Mutex(name, _) => declare(context, locals, name),
@@ -133,8 +137,8 @@ fn declaration<S: Space<Object>>(
             length,
             ..
         } => {
-            value(context, locals, gathered, offset)?;
-            value(context, locals, gathered, length)?;
+            value(context, locals, wanted, gathered, offset)?;
+            value(context, locals, wanted, gathered, length)?;
             declare(context, locals, name)
         }
         Decl::Field { elems, .. } => add_units(locals, context.method(), elems),
@@ -144,7 +148,7 @@ fn declaration<S: Space<Object>>(
             elems,
             ..
         } => {
-            value(context, locals, gathered, bank)?;
+            value(context, locals, wanted, gathered, bank)?;
             add_units(locals, context.method(), elems)
         }
     }
@@ -152,59 +156,62 @@ fn declaration<S: Space<Object>>(
 
 // What the names in a statement search, and the paths that it declares.
 #[cycle(statement)]
-fn statement<S: Space<Object>>(
+fn statement<S: Space<Object>, Q: Wanted>(
     context: &Context<'_, S>,
     locals: &mut MapSpace<()>,
+    wanted: &Q,
     gathered: &mut Gathered,
     term: &Term,
 ) -> Result<(), AllocError>
-    ensures gathered { OnOk result (gathered.new ≡ after_statement context.now locals.old gathered.old (term_view term.now)) }
+    ensures gathered { OnOk result (gathered.new ≡ after_statement (Q.wanted wanted.now) context.now locals.old gathered.old (term_view term.now)) }
     ensures locals { OnOk result (locals.new ≡ locals_after context.now.method locals.old (term_view term.now)) }
 {
     match term {
         Term::If(test, then, other) => {
-            value(context, locals, gathered, test)?;
-            statements(context, locals, gathered, then)?;
-            else_statements(context, locals, gathered, other)
+            value(context, locals, wanted, gathered, test)?;
+            statements(context, locals, wanted, gathered, then)?;
+            else_statements(context, locals, wanted, gathered, other)
         }
         Term::While(test, then) => {
-            value(context, locals, gathered, test)?;
-            statements(context, locals, gathered, then)
+            value(context, locals, wanted, gathered, test)?;
+            statements(context, locals, wanted, gathered, then)
         }
-        Term::Declare(decl) => declaration(context, locals, gathered, decl),
-        _ => value(context, locals, gathered, term),
+        Term::Declare(decl) => declaration(context, locals, wanted, gathered, decl),
+        _ => value(context, locals, wanted, gathered, term),
     }
 }
 
 #[cycle(statement)]
-fn else_statements<S: Space<Object>>(
+fn else_statements<S: Space<Object>, Q: Wanted>(
     context: &Context<'_, S>,
     locals: &mut MapSpace<()>,
+    wanted: &Q,
     gathered: &mut Gathered,
     other: &Option<Vec<Term>>,
 ) -> Result<(), AllocError>
-    ensures gathered { OnOk result (gathered.new ≡ after_else context.now locals.old gathered.old (else_view other.now)) }
+    ensures gathered { OnOk result (gathered.new ≡ after_else (Q.wanted wanted.now) context.now locals.old gathered.old (else_view other.now)) }
     ensures locals { OnOk result (locals.new ≡ locals_after_else context.now.method locals.old (else_view other.now)) }
 {
     match other {
-        Some(other) => statements(context, locals, gathered, other),
+        Some(other) => statements(context, locals, wanted, gathered, other),
         None => Ok(()),
     }
 }
 
 /// Gathers what the searches of statements miss, one after another, and the paths that they declare.
 #[cycle(statement)]
-pub(crate) fn statements<S: Space<Object>>(
+pub(crate) fn statements<S: Space<Object>, Q: Wanted>(
     context: &Context<'_, S>,
     locals: &mut MapSpace<()>,
+    wanted: &Q,
     gathered: &mut Gathered,
     terms: &[Term],
 ) -> Result<(), AllocError>
-    ensures gathered { OnOk result (gathered.new ≡ after_statements context.now locals.old gathered.old (terms_tree terms.now)) }
+    ensures gathered { OnOk result (gathered.new ≡ after_statements (Q.wanted wanted.now) context.now locals.old gathered.old (terms_tree terms.now)) }
     ensures locals { OnOk result (locals.new ≡ locals_after_all context.now.method locals.old (terms_tree terms.now)) }
 {
     'each: for term in terms {
-        statement(context, locals, gathered, term)?;
+        statement(context, locals, wanted, gathered, term)?;
     }
     Ok(())
 }

@@ -4,12 +4,12 @@ ghost use Rattle.std.specs.Prelude.{◌≡◌, OnOk, length, take};
 ghost use Rattle.acpi_name.specs.steps.Reading.{ups};
 ghost use Rattle.acpi_body.specs.Arguments.{namespace_of};
 ghost use Rattle.acpi_body.specs.Misses.{IsMissedBy};
-ghost use Rattle.acpi_body.specs.steps.Gathering.{Grows, goes_above, IsFrontMiss};
+ghost use Rattle.acpi_body.specs.steps.Gathering.{Asked, Grows, goes_above, IsFrontMiss};
 
 use crate::arguments::Context;
 use crate::gathered::{add_missed, missed};
 use acpi_name::{Path, read_name};
-use acpi_space::{MapSpace, Space};
+use acpi_space::{MapSpace, Space, Wanted};
 use acpi_tree::Object;
 use std::alloc::AllocError;
 
@@ -33,33 +33,35 @@ fn goes_above(method: &Path, bytes: &[u8]) -> bool
     depth < ups_within(depth + 1, bytes)
 }
 
-// Adds the paths that the name at the front misses, if one stands there.
-fn add_front<S: Space<Object>>(
+// Adds the paths that the name at the front misses, if one stands there: those that are asked for.
+fn add_front<S: Space<Object>, Q: Wanted>(
     context: &Context<'_, S>,
+    wanted: &Q,
     firm: &mut MapSpace<()>,
     bytes: &[u8],
 ) -> Result<(), AllocError>
-    ensures { OnOk result (Grows firm.old firm.new (IsFrontMiss (namespace_of context.now.objects) context.now.method bytes.now)) }
+    ensures { OnOk result (Grows firm.old firm.new (Asked (Q.wanted wanted.now) (IsFrontMiss (namespace_of context.now.objects) context.now.method bytes.now))) }
 {
     if goes_above(context.method(), bytes) {
         return Ok(());
     }
     match read_name(bytes) {
-        Ok((name, _)) => add_missed(firm, &None, missed(context, name)?),
+        Ok((name, _)) => add_missed(firm, &None, missed(context, wanted, name)?),
         Err(_) => Ok(()),
     }
 }
 
-/// Adds the paths that the names miss which are spelled in the bytes, at whatever place.
-pub(crate) fn add_spelled<S: Space<Object>>(
+/// Adds the paths that the names miss which are spelled in the bytes, at whatever place: those that are asked for.
+pub(crate) fn add_spelled<S: Space<Object>, Q: Wanted>(
     context: &Context<'_, S>,
+    wanted: &Q,
     firm: &mut MapSpace<()>,
     bytes: &[u8],
 ) -> Result<(), AllocError>
-    ensures { OnOk result (Grows firm.old firm.new (IsMissedBy (namespace_of context.now.objects) context.now.method bytes.now)) }
+    ensures { OnOk result (Grows firm.old firm.new (Asked (Q.wanted wanted.now) (IsMissedBy (namespace_of context.now.objects) context.now.method bytes.now))) }
 {
     for place in 0..bytes.len() {
-        add_front(context, firm, &bytes[place..])?;
+        add_front(context, wanted, firm, &bytes[place..])?;
     }
     Ok(())
 }

@@ -1,9 +1,10 @@
 //! What tables declare, one after another, before the links are searched.
 
-ghost use Rattle.std.specs.Prelude.{◌≡◌, ◌∷◌, [], ◌++◌, ℕ, List, map, IfOk, IfErr, ◌↔◌};
+ghost use Rattle.std.specs.Prelude.{◌≡◌, ◌∷◌, [], ◌++◌, ℕ, List, map, IfOk, IfErr, IsTrue, ◌↔◌};
 ghost use Rattle.acpi_name.specs.Names.{Segment};
 ghost use Rattle.acpi_space.specs.Laws.{Among};
 ghost use Rattle.acpi_space.specs.Overlays.{contents_over, lower_of};
+ghost use Rattle.acpi_space.specs.Spaces.{is_defined};
 ghost use Rattle.acpi_declare.specs.Declaring.{HasTableOver, HasTables, IsMissedLink, all_pending_of, objects_so_far, notes_so_far, state_of};
 ghost use Rattle.acpi_declare.specs.DeclaredView.{objects_in, links_in, notes_in};
 ghost use Rattle.acpi_declare.specs.Links.{links_at};
@@ -18,7 +19,7 @@ use crate::load::{Declared, add_table, start};
 use crate::notes::TableNotes;
 use crate::pass::PendingLinks;
 use acpi_name::Path;
-use acpi_space::{Overlay, Space};
+use acpi_space::{AllPaths, Overlay, PathsOf, Space};
 use acpi_terms::{Depth, Object};
 use bytes::Bytes;
 use std::alloc::{AllocError, Global};
@@ -101,7 +102,21 @@ impl<S: Space<Object>> Declaring<S> {
         ensures { IfOk result (λ v. (p : List Segment) → Among v.items p
             ↔ IsMissedLink (state_of (S.contents (objects_so_far self.now)) self.now).objects (state_of (S.contents (objects_so_far self.now)) self.now).links p) }
     {
-        misses_of_links(alloc, &self.objects, &self.links)
+        misses_of_links(alloc, &self.objects, &self.links, &AllPaths)
+    }
+
+    /// The paths that the searches of the links miss over those objects, and that another space has.
+    pub fn link_misses_over<O: Space<Object>, W, T: Space<W>>(
+        &self,
+        alloc: Global,
+        objects: &O,
+        among: &T,
+    ) -> Result<Vec<Path>, AllocError>
+        ensures { IfOk result (λ v. (p : List Segment) → Among v.items p
+            ↔ (IsMissedLink (namespace_of (O.contents objects.now)) (state_of (S.contents (objects_so_far self.now)) self.now).links p
+            × IsTrue (is_defined (T.contents among.now) p))) }
+    {
+        misses_of_links(alloc, objects, &self.links, &PathsOf::new(among))
     }
 
     /// The namespace, the links, searched over it, and the notes.

@@ -1,6 +1,7 @@
 //! The links of fields and buffer fields, searched over the final objects.
 
-ghost use Rattle.std.specs.Prelude.{◌≡◌, ◌++◌, ◌↔◌, List, IfOk, IfErr, OnOk};
+ghost use Rattle.std.specs.Prelude.{◌≡◌, ◌++◌, ◌↔◌, List, IfOk, IfErr, IsTrue, OnOk};
+ghost use Rattle.std.specs.List.{filter};
 ghost use Rattle.std.specs.FinMap as finite;
 ghost use Rattle.acpi_name.specs.Names.{Segment};
 ghost use Rattle.acpi_space.specs.Laws.{Among};
@@ -15,7 +16,7 @@ ghost use Rattle.acpi_declare.specs.steps.Missing.{misses_from};
 use crate::fault::LoadFault;
 use crate::pass::PendingLinks;
 use acpi_name::{Name, Path};
-use acpi_space::{Found, SearchFault, Space, misses, search};
+use acpi_space::{Found, SearchFault, Space, Wanted, search, wanted_misses};
 use acpi_terms::Object;
 use std::alloc::{AllocError, Global};
 use std::collections::BTreeMap;
@@ -120,52 +121,62 @@ pub(crate) fn linked<S: Space<Object>>(
     Ok(links)
 }
 
-// The paths that the search of one name misses.
-fn misses_of_name<S: Space<Object>>(
+// The paths that the search of one name misses, of those that are asked for.
+fn misses_of_name<S: Space<Object>, Q: Wanted>(
     alloc: Global,
     objects: &S,
     scope: &Path,
     name: &Name,
+    wanted: &Q,
 ) -> Result<Vec<Path>, AllocError>
-    ensures { IfOk result (λ v. v.items ≡ missed (is_defined_in (namespace_of (S.contents objects.now))) scope.now name.now) }
+    ensures { IfOk result (λ v. v.items ≡ filter (Q.wanted wanted.now) (missed (is_defined_in (namespace_of (S.contents objects.now))) scope.now name.now)) }
 {
-    match misses(alloc, objects, scope, name.view()) {
+    match wanted_misses(alloc, objects, scope, name.view(), wanted) {
         Ok(paths) => Ok(paths),
         Err(SearchFault::AboveRoot) => Ok(Vec::new(alloc)),
         Err(SearchFault::Memory) => Err(AllocError),
     }
 }
 
-// Adds the paths that the searches of some names miss.
-fn add_misses<S: Space<Object>>(
+// Adds the paths that the searches of some names miss, of those that are asked for.
+fn add_misses<S: Space<Object>, Q: Wanted>(
     alloc: Global,
     objects: &S,
     scope: &Path,
     names: &[Name],
+    wanted: &Q,
     missed: &mut Vec<Path>,
 ) -> Result<(), AllocError>
-    ensures { OnOk result (missed.new.items ≡ missed.old.items ++ misses_from (namespace_of (S.contents objects.now)) scope.now names.now) }
+    ensures { OnOk result (missed.new.items ≡ missed.old.items ++ misses_from (Q.wanted wanted.now) (namespace_of (S.contents objects.now)) scope.now names.now) }
 {
     for name in names {
-        let mut paths = misses_of_name(alloc, objects, scope, name)?;
+        let mut paths = misses_of_name(alloc, objects, scope, name, wanted)?;
         missed.append(&mut paths)?;
     }
     Ok(())
 }
 
-/// The paths that the searches of all links that are pending miss.
-pub(crate) fn misses_of_links<S: Space<Object>>(
+/// The paths that the searches of all links that are pending miss, of those that are asked for.
+pub(crate) fn misses_of_links<S: Space<Object>, Q: Wanted>(
     alloc: Global,
     objects: &S,
     pending: &[PendingLinks],
+    wanted: &Q,
 ) -> Result<Vec<Path>, AllocError>
-    ensures { IfOk result (λ v. (p : List Segment) → Among v.items p ↔ IsMissedLink (namespace_of (S.contents objects.now)) (all_pending_of pending.now) p) }
+    ensures { IfOk result (λ v. (p : List Segment) → Among v.items p ↔ (IsMissedLink (namespace_of (S.contents objects.now)) (all_pending_of pending.now) p × IsTrue (Q.wanted wanted.now p))) }
 {
     let mut missed = Vec::new(alloc);
     for link in pending {
         // A field list without a named unit has no links.
         if !link.paths.is_empty() {
-            add_misses(alloc, objects, &link.scope, &link.names, &mut missed)?;
+            add_misses(
+                alloc,
+                objects,
+                &link.scope,
+                &link.names,
+                wanted,
+                &mut missed,
+            )?;
         }
     }
     Ok(missed)

@@ -1,4 +1,5 @@
 use Rattle.std.proofs.Common.{◌↔◌, List, take}
+use Rattle.std.specs.Prelude.{IsTrue}
 use Rattle.acpi_name.specs.Names.{Segment}
 use Rattle.acpi_space.specs.Laws.{Among}
 use Rattle.acpi_declare.specs.Declaring.{IsMissedLink, all_pending_of}
@@ -6,4 +7,4 @@ use Rattle.acpi_declare.specs.Namespace.{namespace_of}
 use Rattle.acpi_declare.proofs.links.misses_of_links.Given as goal
 
 abbrev pub invariant-loop-link : goal.invariant-loop-link
-invariant-loop-link g l = (p : List Segment) → Among l.missed.items p ↔ IsMissedLink (namespace_of (g.S.Space.contents l.objects)) (all_pending_of (take l.link-index l.pending)) p
+invariant-loop-link g l = (p : List Segment) → Among l.missed.items p ↔ (IsMissedLink (namespace_of (g.S.Space.contents l.objects)) (all_pending_of (take l.link-index l.pending)) p × IsTrue (g.Q.Wanted.wanted l.wanted p))
