@@ -1,26 +1,77 @@
--- The single loads of SSDTs, one after another.
+-- SSDTs over a DSDT, one after another.
 use Rattle.std.proofs.Common.{◌≡◌, ℕ, zero, suc, ◌+◌, ◌<◌, List, [], ◌∷◌, ◌++◌, map, length, take, get_or, refl, sym, subst, arith, add-one}
 use Rattle.std.proofs.lemmas.List.{map-append}
+use Rattle.std.specs.List.{AllByRecursion}
 use Rattle.acpi_declare.specs.declared.fault.LoadReason.{LoadReason}
 use Rattle.acpi_declare.specs.declared.fault.LoadFault.{LoadFault}
 use Rattle.acpi_declare.specs.declared.fault.LoadFault.TheVariants.{At, Memory}
+use Rattle.acpi_declare.specs.Declaring.{State, HasTables}
 use Rattle.acpi_declare.specs.Listing.{Placement}
-use Rattle.acpi_declare.specs.Loads.{AreListings, IsLoad, objects_after}
-use Rattle.acpi_declare.specs.Namespace.{Namespace}
-use Rattle.acpi_declare.specs.Links.{Links}
+use Rattle.acpi_declare.specs.Loads.{AreListings, objects_after}
 use Rattle.acpi_declare.specs.Predefined.{predefined}
 use Rattle.acpi_declare.specs.Refusals.{IsLoadReason, IsFirstWithout, IsLoadFault}
 use Rattle.acpi_declare.proofs.Refusals.{refused_has_no_load}
-use Rattle.acpi_space.specs.Lookups.{Lookup}
 use Rattle.acpi_order.specs.Independent.{StandsAt, LoadsAlone}
 use Rattle.acpi_order.specs.Verdicts.{IsSsdt, DsdtLoads, AllAlone}
 use Rattle.acpi_verdict.specs.VerdictView.{IsFirstRefused, IsSinglesFault}
-use Rattle.acpi_verdict.specs.steps.Clashing.{SingleTree, told_of, IsSingleTree, AreSingles, AreSorted, IsNumber}
+use Rattle.acpi_verdict.specs.steps.Clashing.{told_of, IsNumber}
+use Rattle.acpi_verdict.specs.steps.Telling.{AreEach, LaidTree, IsLaid, AreLaid}
+
+-- ---- lists at whose places P holds
+
+module _ {X Y : Type 0} (P : X → Y → Type 0) where
+  pub none_each : (xs : List X) → AreEach P (take 0 xs) []
+  none_each [] = tt
+  none_each (x ∷ xs) = tt
+
+  one_more : (xs : List X) (ys : List Y) (i : ℕ) (x : X) (y : Y) → AreEach P (take i xs) ys → i < length xs → x ≡ get_or xs i x → P x y → AreEach P (take (suc i) xs) (ys ++ y ∷ [])
+  one_more [] ys i x y h within e k = absurd (omega arith)
+  one_more (z ∷ xs) [] zero x y h within e k = (subst (λ (w : X). P w y) e k, tt)
+  one_more (z ∷ xs) (w ∷ ys) zero x y h within e k = absurd h
+  one_more (z ∷ xs) [] (suc i) x y h within e k = absurd h
+  one_more (z ∷ xs) (w ∷ ys) (suc i) x y h within e k = (h.0, one_more xs ys i x y h.1 (omega arith) e k)
+
+  pub each_more : {Z : Type 0} (seen : Z → Y) (xs : List X) (zs : List Z) (i : ℕ) (x : X) (z : Z) → AreEach P (take i xs) (map seen zs) → i < length xs → x ≡ get_or xs i x → P x (seen z)
+      → AreEach P (take (i + 1) xs) (map seen (zs ++ z ∷ []))
+  each_more seen xs zs i x z h within e k =
+      rw add-one (subst (AreEach P (take (suc i) xs)) (sym (map-append seen zs (z ∷ []))) (one_more xs (map seen zs) i x (seen z) h within e k))
+
+  -- what stands at the place of the other list
+  each_at : (xs : List X) (ys : List Y) → AreEach P xs ys → (i : ℕ) (x : X) → StandsAt xs i x → (y : Y) × StandsAt ys i y × P x y
+  each_at [] ys h i x at = absurd at
+  each_at (z ∷ xs) [] h i x at = absurd h
+  each_at (z ∷ xs) (w ∷ ys) h zero x at = (w, refl, subst (λ (v : X). P v w) at h.0)
+  each_at (z ∷ xs) (w ∷ ys) h (suc i) x at = each_at xs ys h.1 i x at
+
+  pub each_of : (xs : List X) (ys : List Y) → AreEach P xs ys → (i : ℕ) (x : X) → IsNumber xs i x → (y : Y) × IsNumber ys i y × P x y
+  each_of xs ys h zero x at = absurd at
+  each_of xs ys h (suc i) x at = each_at xs ys h i x at
+
+  at_each : (xs : List X) (ys : List Y) → AreEach P xs ys → (i : ℕ) (y : Y) → StandsAt ys i y → (x : X) × StandsAt xs i x × P x y
+  at_each xs [] h i y at = absurd at
+  at_each [] (w ∷ ys) h i y at = absurd h
+  at_each (z ∷ xs) (w ∷ ys) h zero y at = (z, refl, subst (P z) at h.0)
+  at_each (z ∷ xs) (w ∷ ys) h (suc i) y at = at_each xs ys h.1 i y at
+
+  pub of_each : (xs : List X) (ys : List Y) → AreEach P xs ys → (i : ℕ) (y : Y) → IsNumber ys i y → (x : X) × IsNumber xs i x × P x y
+  of_each xs ys h zero y at = absurd at
+  of_each xs ys h (suc i) y at = at_each xs ys h i y at
+
+  -- what follows for each of the first, and for each of the second
+  pub all_first : (Q : X → Type 0) → ((x : X) (y : Y) → P x y → Q x) → (xs : List X) (ys : List Y) → AreEach P xs ys → AllByRecursion Q xs
+  all_first Q f [] ys h = tt
+  all_first Q f (x ∷ xs) [] h = absurd h
+  all_first Q f (x ∷ xs) (y ∷ ys) h = (f x y h.0, all_first Q f xs ys h.1)
+
+  pub all_second : (Q : Y → Type 0) → ((x : X) (y : Y) → P x y → Q y) → (xs : List X) (ys : List Y) → AreEach P xs ys → AllByRecursion Q ys
+  all_second Q f xs [] h = tt
+  all_second Q f [] (y ∷ ys) h = absurd h
+  all_second Q f (x ∷ xs) (y ∷ ys) h = (f x y h.0, all_second Q f xs ys h.1)
 
 -- ---- the DSDT alone
 
-pub dsdt_loads : (depth : ℕ) (dsdt : List ℕ) (objects : Namespace) (links : Lookup Links) → IsLoad depth (dsdt ∷ []) objects links → DsdtLoads depth dsdt
-dsdt_loads depth dsdt objects links h = by h.placements h.listings
+pub dsdt_loads : (depth : ℕ) (dsdt : List ℕ) (one : State) → HasTables depth (dsdt ∷ []) one → DsdtLoads depth dsdt
+dsdt_loads depth dsdt one h = by h.placements h.listings
   where
     by : (ts : List (List Placement)) → AreListings depth 0 predefined (dsdt ∷ []) ts → DsdtLoads depth dsdt
     by [] a = absurd a
@@ -65,85 +116,35 @@ at_ssdt depth dsdt b number reason loads h =
 -- ---- the SSDTs so far
 
 module _ (depth : ℕ) (dsdt : List ℕ) where
-  none_yet : (bs : List (List ℕ)) → AreSingles depth dsdt (take 0 bs) []
-  none_yet [] = tt
-  none_yet (b ∷ bs) = tt
-
-  one_more : (bs : List (List ℕ)) (ss : List SingleTree) (i : ℕ) (b : List ℕ) (s : SingleTree) → AreSingles depth dsdt (take i bs) ss → i < length bs → b ≡ get_or bs i b → IsSingleTree depth dsdt b s
-      → AreSingles depth dsdt (take (suc i) bs) (ss ++ s ∷ [])
-  one_more [] ss i b s h within e k = absurd (omega arith)
-  one_more (x ∷ bs) [] zero b s h within e k = (subst (λ (y : List ℕ). IsSingleTree depth dsdt y s) e k, tt)
-  one_more (x ∷ bs) (y ∷ ss) zero b s h within e k = absurd h
-  one_more (x ∷ bs) [] (suc i) b s h within e k = absurd h
-  one_more (x ∷ bs) (y ∷ ss) (suc i) b s h within e k = (h.0, one_more bs ss i b s h.1 (omega arith) e k)
-
-  pub are_singles_more : {X : Type 0} (seen : X → SingleTree) (bs : List (List ℕ)) (xs : List X) (i : ℕ) (b : List ℕ) (x : X) → AreSingles depth dsdt (take i bs) (map seen xs)
-      → i < length bs → b ≡ get_or bs i b
-      → IsSingleTree depth dsdt b (seen x) → AreSingles depth dsdt (take (i + 1) bs) (map seen (xs ++ x ∷ []))
-  are_singles_more seen bs xs i b x h within e k =
-      rw add-one (subst (AreSingles depth dsdt (take (suc i) bs)) (sym (map-append seen xs (x ∷ []))) (one_more bs (map seen xs) i b (seen x) h within e k))
-
-  loads_at : (bs : List (List ℕ)) (ss : List SingleTree) (i n : ℕ) (b : List ℕ) → AreSingles depth dsdt (take i bs) ss → n < i → StandsAt bs n b → LoadsAlone depth dsdt b
-  loads_at [] ss i n b h less at = absurd at
-  loads_at (x ∷ bs) ss zero n b h less at = absurd (omega arith)
+  loads_at : (bs : List (List ℕ)) (ls : List LaidTree) (i n : ℕ) (b : List ℕ) → AreLaid depth dsdt (take i bs) ls → n < i → StandsAt bs n b → LoadsAlone depth dsdt b
+  loads_at [] ls i n b h less at = absurd at
+  loads_at (x ∷ bs) ls zero n b h less at = absurd (omega arith)
   loads_at (x ∷ bs) [] (suc i) n b h less at = absurd h
-  loads_at (x ∷ bs) (y ∷ ss) (suc i) zero b h less at = subst (LoadsAlone depth dsdt) at (h.0.first, h.0.t, h.0.listings)
-  loads_at (x ∷ bs) (y ∷ ss) (suc i) (suc n) b h less at = loads_at bs ss i n b h.1 (omega arith) at
+  loads_at (x ∷ bs) (y ∷ ls) (suc i) zero b h less at = subst (LoadsAlone depth dsdt) at (h.0.over.first, h.0.over.t, h.0.over.listings)
+  loads_at (x ∷ bs) (y ∷ ls) (suc i) (suc n) b h less at = loads_at bs ls i n b h.1 (omega arith) at
 
-  earlier_load : (bs : List (List ℕ)) (ss : List SingleTree) (i k : ℕ) (b : List ℕ) → AreSingles depth dsdt (take i bs) ss → k < i + 1 → IsSsdt bs k b → LoadsAlone depth dsdt b
-  earlier_load bs ss i zero b h less at = absurd at
-  earlier_load bs ss i (suc k) b h less at = loads_at bs ss i k b h (omega arith) at
+  earlier_load : (bs : List (List ℕ)) (ls : List LaidTree) (i k : ℕ) (b : List ℕ) → AreLaid depth dsdt (take i bs) ls → k < i + 1 → IsSsdt bs k b → LoadsAlone depth dsdt b
+  earlier_load bs ls i zero b h less at = absurd at
+  earlier_load bs ls i (suc k) b h less at = loads_at bs ls i k b h (omega arith) at
 
   place_of_item : (bs : List (List ℕ)) (i : ℕ) (b : List ℕ) → i < length bs → b ≡ get_or bs i b → StandsAt bs i b
   place_of_item [] i b within e = absurd (omega arith)
   place_of_item (x ∷ bs) zero b within e = sym e
   place_of_item (x ∷ bs) (suc i) b within e = place_of_item bs i b (omega arith) e
 
-  refused_here : (bs : List (List ℕ)) (ss : List SingleTree) (i : ℕ) (b : List ℕ) (number : ℕ) (reason : LoadReason) → DsdtLoads depth dsdt → AreSingles depth dsdt (take i bs) ss → i < length bs
+  refused_here : (bs : List (List ℕ)) (ls : List LaidTree) (i : ℕ) (b : List ℕ) (number : ℕ) (reason : LoadReason) → DsdtLoads depth dsdt → AreLaid depth dsdt (take i bs) ls → i < length bs
       → b ≡ get_or bs i b → IsFirstWithout depth (dsdt ∷ b ∷ []) number reason → IsFirstRefused depth dsdt bs (i + 1) reason
-  refused_here bs ss i b number reason loads h within e refused = record {
+  refused_here bs ls i b number reason loads h within e refused = record {
     loads = loads;
-    earlier = λ k b less at. earlier_load bs ss i k b h less at;
+    earlier = λ k b less at. earlier_load bs ls i k b h less at;
     is_reason = (b, rw add-one (place_of_item bs i b within e), at_ssdt depth dsdt b number reason loads refused);
   }
 
-  pub refused_so : (bs : List (List ℕ)) (ss : List SingleTree) (i : ℕ) (b : List ℕ) (fault : LoadFault) → DsdtLoads depth dsdt → AreSingles depth dsdt (take i bs) ss → i < length bs
+  pub refused_so : (bs : List (List ℕ)) (ls : List LaidTree) (i : ℕ) (b : List ℕ) (fault : LoadFault) → DsdtLoads depth dsdt → AreLaid depth dsdt (take i bs) ls → i < length bs
       → b ≡ get_or bs i b
       → IsLoadFault depth (dsdt ∷ b ∷ []) fault → IsSinglesFault depth dsdt bs (told_of (i + 1) fault)
-  refused_so bs ss i b (At number reason) loads h within e refused = refused_here bs ss i b number reason loads h within e refused
-  refused_so bs ss i b Memory loads h within e refused = tt
+  refused_so bs ls i b (At number reason) loads h within e refused = refused_here bs ls i b number reason loads h within e refused
+  refused_so bs ls i b Memory loads h within e refused = tt
 
-  -- ---- all of them
-
-  pub all_sorted : (bs : List (List ℕ)) (ss : List SingleTree) → AreSingles depth dsdt bs ss → AreSorted ss
-  all_sorted [] [] h = tt
-  all_sorted (b ∷ bs) (s ∷ ss) h = ((h.0.defined_ascend, h.0.missed_ascend), all_sorted bs ss h.1)
-  all_sorted [] (s ∷ ss) h = absurd h
-  all_sorted (b ∷ bs) [] h = absurd h
-
-  pub all_alone : (bs : List (List ℕ)) (ss : List SingleTree) → AreSingles depth dsdt bs ss → AllAlone depth dsdt bs
-  all_alone [] [] h = tt
-  all_alone (b ∷ bs) (s ∷ ss) h = ((h.0.first, h.0.t, h.0.listings), all_alone bs ss h.1)
-  all_alone [] (s ∷ ss) h = absurd h
-  all_alone (b ∷ bs) [] h = absurd h
-
-  -- the single load of an SSDT, and the SSDT of a single load
-  single_at : (bs : List (List ℕ)) (ss : List SingleTree) → AreSingles depth dsdt bs ss → (i : ℕ) (b : List ℕ) → StandsAt bs i b → (s : SingleTree) × StandsAt ss i s × IsSingleTree depth dsdt b s
-  single_at [] ss h i b at = absurd at
-  single_at (x ∷ bs) [] h i b at = absurd h
-  single_at (x ∷ bs) (y ∷ ss) h zero b at = (y, refl, subst (λ (z : List ℕ). IsSingleTree depth dsdt z y) at h.0)
-  single_at (x ∷ bs) (y ∷ ss) h (suc i) b at = single_at bs ss h.1 i b at
-
-  pub single_of : (bs : List (List ℕ)) (ss : List SingleTree) → AreSingles depth dsdt bs ss → (i : ℕ) (b : List ℕ) → IsSsdt bs i b → (s : SingleTree) × IsNumber ss i s × IsSingleTree depth dsdt b s
-  single_of bs ss h zero b at = absurd at
-  single_of bs ss h (suc i) b at = single_at bs ss h i b at
-
-  ssdt_at : (bs : List (List ℕ)) (ss : List SingleTree) → AreSingles depth dsdt bs ss → (i : ℕ) (s : SingleTree) → StandsAt ss i s → (b : List ℕ) × StandsAt bs i b × IsSingleTree depth dsdt b s
-  ssdt_at bs [] h i s at = absurd at
-  ssdt_at [] (y ∷ ss) h i s at = absurd h
-  ssdt_at (x ∷ bs) (y ∷ ss) h zero s at = (x, refl, subst (IsSingleTree depth dsdt x) at h.0)
-  ssdt_at (x ∷ bs) (y ∷ ss) h (suc i) s at = ssdt_at bs ss h.1 i s at
-
-  pub ssdt_of : (bs : List (List ℕ)) (ss : List SingleTree) → AreSingles depth dsdt bs ss → (i : ℕ) (s : SingleTree) → IsNumber ss i s → (b : List ℕ) × IsSsdt bs i b × IsSingleTree depth dsdt b s
-  ssdt_of bs ss h zero s at = absurd at
-  ssdt_of bs ss h (suc i) s at = ssdt_at bs ss h i s at
+  pub all_alone : (bs : List (List ℕ)) (ls : List LaidTree) → AreLaid depth dsdt bs ls → AllAlone depth dsdt bs
+  all_alone bs ls h = all_first (IsLaid depth dsdt) (LoadsAlone depth dsdt) (λ b l k. (k.over.first, k.over.t, k.over.listings)) bs ls h

@@ -42,7 +42,7 @@ among_filter {X} f (y ∷ ys) x = by (f y) refl (among_filter f ys x)
         from (inr i) t = more.1 (i, t)
 
 -- the keys of a map are the paths that have values
-key_is : {V : Type 0} (m : PathMap V) (p : List Segment) → Among (keys m) p ↔ IsTrue (is_defined m p)
+pub key_is : {V : Type 0} (m : PathMap V) (p : List Segment) → Among (keys m) p ↔ IsTrue (is_defined m p)
 key_is m p =
     let k = key_found (entries m) p in
     (λ i. ap is_some (get-entries m p) ∙ k.0 i, λ h. k.1 (ap is_some (sym (get-entries m p)) ∙ h))
@@ -52,11 +52,11 @@ seen : (a : Option Object) → is_some (option_map object_view a) ≡ is_some a
 seen None = refl
 seen (Some o) = refl
 
-there : (m : PathMap Object) (p : List Segment) → is_some (namespace_of m p) ≡ is_defined m p
+pub there : (m : PathMap Object) (p : List Segment) → is_some (namespace_of m p) ≡ is_defined m p
 there m p = seen (get m p)
 
 -- what is there with the second table, and not without it
-new_object : (b a : Option ObjectTree) → taken_away a (option_or b a) ≡ b → (IsTrue (is_some (option_or b a)) × (is_some b ≡ false)) ↔ ((o : ObjectTree) × (a ≡ Some o))
+pub new_object : (b a : Option ObjectTree) → taken_away a (option_or b a) ≡ b → (IsTrue (is_some (option_or b a)) × (is_some b ≡ false)) ↔ ((o : ObjectTree) × (a ≡ Some o))
 new_object None None e = (λ r. absurd (true≢false (sym r.0)), λ r. absurd (true≢false (sym (ap is_some r.1))))
 new_object None (Some x) e = (λ r. (x, refl), λ r. (refl, refl))
 new_object (Some y) None e = (λ r. absurd (true≢false r.1), λ r. absurd (true≢false (sym (ap is_some r.1))))

@@ -8,9 +8,11 @@ pub mod AscendingPaths
 pub mod FirstClash
 pub mod LastDefiners
 pub mod AloneLoads
+pub mod LaidTables
+pub mod TriedTables
+pub mod ToldTables
 pub mod FoundVerdict
 pub mod MetLists
-pub mod AwaitsAlone
 pub mod SatisfiedBy
 pub mod SatisfiedTables
 pub mod CheckedTables

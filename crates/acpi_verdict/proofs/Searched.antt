@@ -17,12 +17,20 @@ use Rattle.acpi_body.specs.Misses.{IsFirmMiss, IsOpenMiss}
 use Rattle.acpi_body.specs.steps.Gathering.{Paths, Grows}
 use Rattle.acpi_body.proofs.Listed.{pair_among}
 use Rattle.acpi_body.proofs.Grown.{Holds, holds_as, one_count, grows_not, grows_as, grows_then}
-use Rattle.acpi_order.specs.Bodies.{Method, IsBody}
+use Rattle.acpi_declare.specs.Notes as notes
+use Rattle.acpi_order.specs.Bodies.{Method, with_counts, IsBody}
 use Rattle.acpi_order.specs.Misses.{IsBodyMiss, IsAwaiting}
 use Rattle.acpi_order.proofs.Lists.{one_some}
 use Rattle.acpi_order.proofs.ReadBodies.{one_body_there}
 use Rattle.acpi_machine.specs.steps.Adding.{AddsBodies}
 use Rattle.acpi_verdict.specs.steps.Searching.{Found, open_pair, with_opens, SearchesMethod, SearchesAll}
+use Rattle.acpi_verdict.specs.steps.Trying.{IsMissedByAny, IsAwaitedByAny}
+
+-- the methods of a table have its counts
+pub alike : (counts : Lookup ℕ) (ms : List notes.Method) (m : Method) → Among (map (with_counts counts) ms) m → m.counts ≡ counts
+alike counts [] m i = absurd i
+alike counts (x ∷ ms) m (inl e) = ap (λ (k : Method). k.counts) (sym e)
+alike counts (x ∷ ms) m (inr i) = alike counts ms m i
 
 -- ---- one method, as the code does it
 
@@ -50,10 +58,6 @@ adds_bodies depth objects (m ∷ ms) before now h =
     (one.body, one.is_body, subst (λ (l : Lookup BodyTree). AddsBodies depth objects ms l now.bodies) one.bodies_are (adds_bodies depth objects ms h.0 now h.2))
 
 -- ---- what they miss
-
--- a body of one of them misses the path
-abbrev pub IsMissedByAny : ℕ → Namespace → List Method → List Segment → Type 0
-IsMissedByAny depth objects ms p = (m : Method) × Among ms m × IsBodyMiss depth objects m p
 
 module _ (depth : ℕ) (objects : Namespace) (m : Method) (b : BodyTree) (is_body : IsBody depth objects m b) where
   of_body : (p : List Segment) → IsBodyMiss depth objects m p ↔ IsFirmMiss objects m.counts m.path b p
@@ -89,17 +93,13 @@ misses_grow depth objects (m ∷ ms) before now h =
 
 -- ---- what they await
 
--- a body of one of them awaits a method of so many arguments
-abbrev pub IsAwaitedByAny : ℕ → Namespace → List Method → List Segment → ℕ → Type 0
-IsAwaitedByAny depth objects ms p n = (m : Method) × Among ms m × IsAwaiting depth objects m p n
-
 -- what a body awaits has the count of the External
-open_expects : (objects : Namespace) (externals : Lookup ℕ) (s : List Segment) (b : BodyTree) (p : List Segment) (n : ℕ) → IsOpenMiss objects externals s b p n → externals p ≡ Some n
+pub open_expects : (objects : Namespace) (externals : Lookup ℕ) (s : List Segment) (b : BodyTree) (p : List Segment) (n : ℕ) → IsOpenMiss objects externals s b p n → externals p ≡ Some n
 open_expects objects externals s (read ts) p n h = h.expects
 open_expects objects externals s (unread bytes) p n h = absurd h
 
 -- counts of a list more, all of them the Externals'
-opens_hold : (externals : Lookup ℕ) (m : PathMap ℕ) (P : List Segment → Type 0) (es : List (List Segment × ℕ)) → ((p : List Segment) (n : ℕ) → Among es (p, n) → externals p ≡ Some n)
+pub opens_hold : (externals : Lookup ℕ) (m : PathMap ℕ) (P : List Segment → Type 0) (es : List (List Segment × ℕ)) → ((p : List Segment) (n : ℕ) → Among es (p, n) → externals p ≡ Some n)
     → Holds externals m P → Holds externals (with_opens m es) (λ p. P p ⊎ ((n : ℕ) × Among es (p, n)))
 opens_hold externals m P [] told h = holds_as externals m P (λ p. P p ⊎ ((n : ℕ) × ⊥)) (λ p. (λ x. inl x, by p)) h
   where

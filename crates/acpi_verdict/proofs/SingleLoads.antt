@@ -1,5 +1,5 @@
 -- The load of two tables, with all that it tells.
-use Rattle.std.proofs.Common.{◌≡◌, ◌↔◌, inl, inr, ℕ, List, [], ◌∷◌, ◌++◌, map, not, filter, length, refl, sym, ap, subst, ◌∙◌}
+use Rattle.std.proofs.Common.{◌≡◌, ◌↔◌, ℕ, List, [], ◌∷◌, ◌++◌, map, not, filter, length, refl, sym, ap, subst, ◌∙◌}
 use Rattle.std.proofs.lemmas.List.{length-map}
 use Rattle.std.specs.FinMap.{empty, keys}
 use Rattle.acpi_name.specs.Names.{Segment}
@@ -19,7 +19,7 @@ use Rattle.acpi_declare.proofs.Refusals.{same_listings}
 use Rattle.acpi_declare.proofs.TableLists.{count_tables}
 use Rattle.acpi_body.specs.Bodies.{BodyTree}
 use Rattle.acpi_body.specs.steps.Gathering.{Paths, Grows}
-use Rattle.acpi_order.specs.Bodies.{Method, methods_of, with_counts}
+use Rattle.acpi_order.specs.Bodies.{Method, methods_of}
 use Rattle.acpi_order.specs.Independent.{AreSingleListings}
 use Rattle.acpi_order.specs.Machines.{IsMachine}
 use Rattle.acpi_order.specs.Misses.{Listing, objects_of_first, objects_of_both}
@@ -28,13 +28,14 @@ use Rattle.acpi_machine.specs.MachineView.{bodies_of}
 use Rattle.acpi_verdict.specs.SingleView.{awaited_view}
 use Rattle.acpi_verdict.specs.declared.searches.Told.{Told}
 use Rattle.acpi_machine.specs.steps.Adding.{noted, all_noted, AddsBodies}
+use Rattle.acpi_verdict.specs.steps.Trying.{IsMissedByAny}
 use Rattle.acpi_verdict.specs.steps.Searching.{Found, SearchesAll, SearchesTables}
 use Rattle.acpi_machine.proofs.AddedBodies.{adds_both}
 use Rattle.acpi_verdict.proofs.AwaitedMethods.{awaited_ascend, awaited_by}
 use Rattle.acpi_verdict.proofs.DefinedPaths.{defined_are, defined_ascend}
 use Rattle.acpi_machine.proofs.Machines.{has_machine}
 use Rattle.acpi_verdict.proofs.MissedPaths.{missed_are}
-use Rattle.acpi_verdict.proofs.Searched.{IsMissedByAny, adds_bodies, misses_grow, awaited_are}
+use Rattle.acpi_verdict.proofs.Searched.{alike, adds_bodies, misses_grow, awaited_are}
 use Rattle.acpi_body.proofs.Listed.{paths_ascend}
 
 -- as many notes as tables
@@ -55,12 +56,6 @@ pair_of depth dsdt ssdt (f ∷ t ∷ u ∷ us) h = absurd h.1.1
 
 both_same : (a b c d : Notes) → a ∷ b ∷ [] ≡ c ∷ d ∷ [] → (a ≡ c) × (b ≡ d)
 both_same a b c d e = (cc, cc)
-
--- the methods of a table have its counts
-alike : (counts : Lookup ℕ) (ms : List notes.Method) (m : Method) → Among (map (with_counts counts) ms) m → m.counts ≡ counts
-alike counts [] m i = absurd i
-alike counts (x ∷ ms) m (inl e) = ap (λ (k : Method). k.counts) (sym e)
-alike counts (x ∷ ms) m (inr i) = alike counts ms m i
 
 module _ (depth : ℕ) (dsdt ssdt : List ℕ) (one two : State) (h1 : HasTables depth (dsdt ∷ []) one) (h2 : HasTables depth (dsdt ∷ ssdt ∷ []) two) (before now : PathMap Object)
     (one_is : namespace_of before ≡ one.objects) (two_is : namespace_of now ≡ two.objects) (links : Lookup Links) (load : IsLoad depth (dsdt ∷ ssdt ∷ []) (namespace_of now) links)

@@ -1,16 +1,18 @@
-//! The load of a DSDT with each of several SSDTs alone.
+//! SSDTs, each declared over a DSDT.
 
-ghost use Rattle.std.specs.Prelude.{◌≡◌, ◌≢◌, ◌∷◌, [], IfOk, IfErr, OnOk};
-ghost use Rattle.acpi_declare.specs.Loads.{HasNoLoad};
+ghost use Rattle.std.specs.Prelude.{◌≡◌, ◌∷◌, [], ℕ, List, IfOk, IfErr};
+ghost use Rattle.std.specs.List.Sorted.{IsStrictlySortedBy};
+ghost use Rattle.acpi_declare.specs.Declaring.{HasTables, objects_so_far, state_of};
 ghost use Rattle.acpi_declare.specs.Refusals.{IsLoadFault};
-ghost use Rattle.acpi_order.specs.Verdicts.{DsdtLoads};
+ghost use Rattle.acpi_name.specs.Paths.{path_cmp};
+ghost use Rattle.acpi_space.specs.Overlays.{contents_over};
 ghost use Rattle.acpi_verdict.specs.VerdictView.{IsSinglesFault};
-ghost use Rattle.acpi_verdict.specs.steps.Clashing.{told_of, single_trees, AreSingles};
+ghost use Rattle.acpi_verdict.specs.steps.Clashing.{told_of};
+ghost use Rattle.acpi_verdict.specs.steps.Telling.{laid_tree, laid_trees, defined_in, IsLaid, AreLaid, AreLaidSorted};
 
-use crate::pair::single_shared;
-use crate::singles::Single;
-use acpi_declare::LoadFault;
-use acpi_space::Space;
+use crate::told::Laid;
+use acpi_declare::{Declaring, LoadFault};
+use acpi_space::{Overlay, Space};
 use acpi_terms::{Depth, Object};
 use bytes::Bytes;
 use std::alloc::Global;
@@ -25,24 +27,44 @@ fn renumbered(fault: LoadFault, table: usize) -> LoadFault
     }
 }
 
-/// The single loads of all SSDTs, in their order; or why the first one that doesn't load alone is refused, under its
-/// number from 1.
-pub(crate) fn single_loads<S: Space<Object>>(
+// What one SSDT declares over the DSDT. It is refused as in the load of the two.
+fn lay<'a, S: Space<Object>>(
     alloc: Global,
-    dsdt: &Bytes,
+    dsdt: &'a Declaring<S>,
+    ssdt: &Bytes,
+    depth: Depth,
+) -> Result<Laid<Overlay<'a, S>>, LoadFault>
+    ensures ok { (bytes : List ℕ) → HasTables depth (bytes ∷ []) (state_of (S.contents (objects_so_far dsdt.now)) dsdt.now)
+        → IfOk result (λ l. IsLaid depth bytes ssdt.now (laid_tree (contents_over S.contents) l)) }
+    ensures sorted { IfOk result (λ l. IsStrictlySortedBy path_cmp (defined_in l)) }
+    ensures err { (bytes : List ℕ) → HasTables depth (bytes ∷ []) (state_of (S.contents (objects_so_far dsdt.now)) dsdt.now)
+        → IfErr result (λ e. IsLoadFault depth (bytes ∷ ssdt.now ∷ []) e) }
+{
+    let declared = dsdt.ssdt_over(alloc, ssdt, depth)?;
+    let defined = declared.objects().own_paths()?;
+    Ok(Laid { declared, defined })
+}
+
+/// What each SSDT declares over the DSDT, in their order; or why the first one that doesn't load alone is refused, under its
+/// number from 1.
+pub(crate) fn laid_over<'a, S: Space<Object>>(
+    alloc: Global,
+    dsdt: &'a Declaring<S>,
     ssdts: &[Bytes],
     depth: Depth,
-) -> Result<Vec<Single<S>>, LoadFault>
-    requires { DsdtLoads depth dsdt.now }
-    ensures ok { IfOk result (λ v. AreSingles depth dsdt.now ssdts.now (single_trees S.contents v.items)) }
-    ensures err { IfErr result (λ e. IsSinglesFault depth dsdt.now ssdts.now e) }
+) -> Result<Vec<Laid<Overlay<'a, S>>>, LoadFault>
+    ensures ok { (bytes : List ℕ) → HasTables depth (bytes ∷ []) (state_of (S.contents (objects_so_far dsdt.now)) dsdt.now)
+        → IfOk result (λ v. AreLaid depth bytes ssdts.now (laid_trees (contents_over S.contents) v.items)) }
+    ensures sorted { IfOk result (λ v. AreLaidSorted (laid_trees (contents_over S.contents) v.items)) }
+    ensures err { (bytes : List ℕ) → HasTables depth (bytes ∷ []) (state_of (S.contents (objects_so_far dsdt.now)) dsdt.now)
+        → IfErr result (λ e. IsSinglesFault depth bytes ssdts.now e) }
 {
-    let mut singles = Vec::new(alloc);
+    let mut laid = Vec::new(alloc);
     for (i, ssdt) in ssdts.iter().enumerate() {
-        match single_shared(alloc, dsdt, ssdt, depth) {
-            Ok(single) => singles.push(single)?,
+        match lay(alloc, dsdt, ssdt, depth) {
+            Ok(one) => laid.push(one)?,
             Err(fault) => return Err(renumbered(fault, i + 1)),
         }
     }
-    Ok(singles)
+    Ok(laid)
 }

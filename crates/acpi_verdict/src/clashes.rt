@@ -1,23 +1,26 @@
-//! Where the single loads of two SSDTs clash.
+//! Where two SSDTs clash.
 
-ghost use Rattle.std.specs.Prelude.{◌≡◌, ◌≤◌, ◌<◌, ◌&&◌, false, not, None, IfOk, find, length};
-ghost use Rattle.std.specs.List.{list_any};
+ghost use Rattle.std.specs.Prelude.{◌≡◌, ◌≤◌, ◌<◌, false, None, IfOk, find, length, map};
+ghost use Rattle.std.specs.FinMap as finite;
 ghost use Rattle.std.specs.List.Sorted.{IsStrictlySortedBy};
-ghost use Rattle.std.specs.Option.{option_copied};
+ghost use Rattle.std.specs.Option.{option_copied, option_map};
 ghost use Rattle.acpi_name.specs.Paths.{path_cmp};
-ghost use Rattle.acpi_space.specs.Lookups.{is_same_path};
 ghost use Rattle.acpi_tree.specs.Objects.{object_view};
 ghost use Rattle.acpi_order.specs.Independent.{is_method_of};
-ghost use Rattle.acpi_verdict.specs.steps.Clashing.{has, is_unmet, single_tree, single_trees, IsSortedTree, AreSorted, clash_path, IsFirstWith, IsFirstClash};
-ghost use Rattle.acpi_verdict.specs.steps.Defining.{last_in, AreDefiners};
+ghost use Rattle.acpi_verdict.specs.steps.Clashing.{has, is_unmet_in, is_unmet, AreSorted, clash_path, IsFirstWith, IsFirstClash};
+ghost use Rattle.acpi_verdict.specs.steps.Defining.{declared_in, AreDefiners, NoneTried};
+ghost use Rattle.acpi_verdict.specs.steps.Searching.{open_pair};
+ghost use Rattle.acpi_verdict.specs.steps.Telling.{told_tree, told_trees, IsSortedTree};
+ghost use Rattle.acpi_verdict.specs.steps.Trying.{tried_of};
 
 use crate::definers::{any_elsewhere, any_other};
-use crate::singles::{Awaited, Single};
+use crate::paths::paths_of;
+use crate::told::{Told, Tried};
+use acpi_body::OpenMiss;
 use acpi_name::Path;
-use acpi_space::Space;
+use acpi_space::{MapSpace, Space, TreeSpace};
 use acpi_terms::Object;
-use std::alloc::AllocError;
-use std::collections::BTreeMap;
+use std::alloc::{AllocError, Global};
 
 /// How two SSDTs clash.
 #[derive(Clone, Copy)]
@@ -62,36 +65,33 @@ fn first_common<'a>(paths: &'a [Path], others: &[Path]) -> Option<&'a Path>
     paths.iter().find(|path| has_path(others, *path))
 }
 
-// Whether a method is awaited at the path, and the object is no method of so many arguments.
-fn awaits_other(awaited: &[Awaited], path: &Path, object: &Object) -> bool
-    ensures { result ≡ list_any (λ a. is_same_path a.path path.now && not (is_method_of (object_view object.now) a.count)) awaited.now }
+// Whether the path was missed, or a method is awaited there and the object is none of so many arguments.
+fn is_unmet_in(tried: &Tried, path: &Path, object: Option<&Object>) -> bool
+    ensures { result ≡ is_unmet_in (tried_of tried.now) path.now (option_map object_view (option_copied object.entry)) }
 {
-    awaited
-        .iter()
-        .any(|a| a.path == *path && !is_method(object, a.count))
+    if tried.missed.get(path).is_some() {
+        return true;
+    }
+    match (tried.awaited.get(path), object) {
+        (Some(count), Some(object)) => !is_method(object, *count),
+        _ => false,
+    }
 }
 
 // Whether the load of the searcher missed the path, or awaits another method there than what the definer has.
-fn is_unmet_at<S: Space<Object>>(searcher: &Single<S>, definer: &Single<S>, path: &Path) -> bool
-    requires { IsSortedTree (single_tree S.contents searcher.now) }
-    ensures { result ≡ is_unmet (single_tree S.contents searcher.now) (single_tree S.contents definer.now) path.now }
+fn is_unmet_at<O: Space<Object>>(searcher: &Told<'_, O>, definer: &Told<'_, O>, path: &Path) -> bool
+    ensures { result ≡ is_unmet (told_tree O.contents searcher.now) (told_tree O.contents definer.now) path.now }
 {
-    if has_path(searcher.missed(), path) {
-        return true;
-    }
-    match definer.machine().objects().get(path) {
-        Some(object) => awaits_other(searcher.awaited(), path, object),
-        None => false,
-    }
+    let object = definer.laid.declared.objects().get(path);
+    is_unmet_in(&searcher.own, path, object) || is_unmet_in(searcher.under.tried(), path, object)
 }
 
 // The first path of the definer that the searcher misses so.
-fn first_unmet<'a, S: Space<Object>>(
-    searcher: &Single<S>,
-    definer: &'a Single<S>,
+fn first_unmet<'a, O: Space<Object>>(
+    searcher: &Told<'_, O>,
+    definer: &'a Told<'_, O>,
 ) -> Option<&'a Path>
-    requires { IsSortedTree (single_tree S.contents searcher.now) }
-    ensures { option_copied result ≡ find (is_unmet (single_tree S.contents searcher.now) (single_tree S.contents definer.now)) (single_tree S.contents definer.now).defined }
+    ensures { option_copied result ≡ find (is_unmet (told_tree O.contents searcher.now) (told_tree O.contents definer.now)) (told_tree O.contents definer.now).defined }
 {
     definer
         .defined()
@@ -100,15 +100,15 @@ fn first_unmet<'a, S: Space<Object>>(
 }
 
 // The first path at which SSDTs of those numbers clash so.
-fn path_of<'a, S: Space<Object>>(
+fn path_of<'a, O: Space<Object>>(
     kind: Kind,
     i: usize,
-    first: &Single<S>,
+    first: &Told<'_, O>,
     j: usize,
-    second: &'a Single<S>,
+    second: &'a Told<'_, O>,
 ) -> Option<&'a Path>
-    requires { IsSortedTree (single_tree S.contents first.now) }
-    ensures { option_copied result ≡ clash_path kind i j (single_tree S.contents first.now) (single_tree S.contents second.now) }
+    requires { IsSortedTree (told_tree O.contents first.now) }
+    ensures { option_copied result ≡ clash_path kind i j (told_tree O.contents first.now) (told_tree O.contents second.now) }
 {
     match kind {
         Kind::Same if i < j => first_common(second.defined(), first.defined()),
@@ -118,20 +118,20 @@ fn path_of<'a, S: Space<Object>>(
 }
 
 // The first SSDT with which SSDT `first` clashes so.
-fn clash_with<S: Space<Object>>(
+fn clash_with<O: Space<Object>>(
     kind: Kind,
-    singles: &[Single<S>],
+    told: &[Told<'_, O>],
     first: usize,
 ) -> Result<Option<Clash>, AllocError>
     requires above { 0 < first }
-    requires within { first ≤ length singles.now }
-    requires sorted { AreSorted (single_trees S.contents singles.now) }
-    ensures { IfOk result (λ o. IsFirstWith kind (single_trees S.contents singles.now) first o) }
+    requires within { first ≤ length told.now }
+    requires sorted { AreSorted (told_trees O.contents told.now) }
+    ensures { IfOk result (λ o. IsFirstWith kind (told_trees O.contents told.now) first o) }
 {
-    let single = &singles[first - 1];
-    for (k, other) in singles.iter().enumerate() {
+    let one = &told[first - 1];
+    for (k, other) in told.iter().enumerate() {
         let second = k + 1;
-        if let Some(path) = path_of(kind, first, single, second, other) {
+        if let Some(path) = path_of(kind, first, one, second, other) {
             return Ok(Some(Clash {
                 first,
                 second,
@@ -142,45 +142,77 @@ fn clash_with<S: Space<Object>>(
     Ok(None)
 }
 
-// Whether SSDT `first` may clash so with another; if not, it doesn't.
-fn may_clash<S: Space<Object>>(
-    kind: Kind,
-    singles: &[Single<S>],
-    last: &BTreeMap<Path, usize>,
-    first: usize,
-) -> bool
-    requires above { 0 < first }
-    requires within { first ≤ length singles.now }
-    requires definers { AreDefiners (single_trees S.contents singles.now) (last_in last.now) }
-    requires unique { kind ≡ Kind.Missed → IsFirstClash Kind.Same (single_trees S.contents singles.now) None }
-    ensures { result ≡ false → IsFirstWith kind (single_trees S.contents singles.now) first None }
+// The methods that are awaited, in the order of their paths.
+fn awaits_of(alloc: Global, awaited: &MapSpace<u8>) -> Result<Vec<OpenMiss>, AllocError>
+    ensures { IfOk result (λ v. map open_pair v.items ≡ finite.entries awaited.now) }
 {
-    let single = &singles[first - 1];
+    let mut list = Vec::new(alloc);
+    for (path, count) in awaited.pairs()? {
+        list.push(OpenMiss {
+            path,
+            count: *count,
+        })?;
+    }
+    Ok(list)
+}
+
+// Whether another SSDT than that one may declare what was missed, or something else than what is awaited; if not, none does.
+fn may_miss<O: Space<Object>>(
+    alloc: Global,
+    told: &[Told<'_, O>],
+    last: &TreeSpace<usize>,
+    number: usize,
+    tried: &Tried,
+) -> Result<bool, AllocError>
+    requires definers { AreDefiners (declared_in (told_trees O.contents told.now)) (finite.get last.now) }
+    ensures { IfOk result (λ b. b ≡ false → NoneTried (finite.get last.now) (told_trees O.contents told.now) number (tried_of tried.now)) }
+{
+    let missed = paths_of(alloc, &tried.missed)?;
+    let awaited = awaits_of(alloc, &tried.awaited)?;
+    Ok(any_elsewhere(last, number, &missed) || any_other(last, told, number, &awaited))
+}
+
+// Whether SSDT `first` may clash so with another; if not, it doesn't.
+fn may_clash<O: Space<Object>>(
+    alloc: Global,
+    kind: Kind,
+    told: &[Told<'_, O>],
+    last: &TreeSpace<usize>,
+    first: usize,
+) -> Result<bool, AllocError>
+    requires above { 0 < first }
+    requires within { first ≤ length told.now }
+    requires definers { AreDefiners (declared_in (told_trees O.contents told.now)) (finite.get last.now) }
+    requires unique { kind ≡ Kind.Missed → IsFirstClash Kind.Same (told_trees O.contents told.now) None }
+    ensures { IfOk result (λ b. b ≡ false → IsFirstWith kind (told_trees O.contents told.now) first None) }
+{
+    let one = &told[first - 1];
     match kind {
-        Kind::Same => any_elsewhere(last, first, single.defined()),
-        Kind::Missed => {
-            any_elsewhere(last, first, single.missed())
-                || any_other(last, singles, first, single.awaited())
-        }
+        Kind::Same => Ok(any_elsewhere(last, first, one.defined())),
+        Kind::Missed => Ok(
+            may_miss(alloc, told, last, first, &one.own)?
+                || may_miss(alloc, told, last, first, one.under.tried())?,
+        ),
     }
 }
 
 // The first SSDT with which SSDT `first` clashes so. Others are compared with it only where it may clash.
-fn clash_of<S: Space<Object>>(
+fn clash_of<O: Space<Object>>(
+    alloc: Global,
     kind: Kind,
-    singles: &[Single<S>],
-    last: &BTreeMap<Path, usize>,
+    told: &[Told<'_, O>],
+    last: &TreeSpace<usize>,
     first: usize,
 ) -> Result<Option<Clash>, AllocError>
     requires above { 0 < first }
-    requires within { first ≤ length singles.now }
-    requires sorted { AreSorted (single_trees S.contents singles.now) }
-    requires definers { AreDefiners (single_trees S.contents singles.now) (last_in last.now) }
-    requires unique { kind ≡ Kind.Missed → IsFirstClash Kind.Same (single_trees S.contents singles.now) None }
-    ensures { IfOk result (λ o. IsFirstWith kind (single_trees S.contents singles.now) first o) }
+    requires within { first ≤ length told.now }
+    requires sorted { AreSorted (told_trees O.contents told.now) }
+    requires definers { AreDefiners (declared_in (told_trees O.contents told.now)) (finite.get last.now) }
+    requires unique { kind ≡ Kind.Missed → IsFirstClash Kind.Same (told_trees O.contents told.now) None }
+    ensures { IfOk result (λ o. IsFirstWith kind (told_trees O.contents told.now) first o) }
 {
-    if may_clash(kind, singles, last, first) {
-        clash_with(kind, singles, first)
+    if may_clash(alloc, kind, told, last, first)? {
+        clash_with(kind, told, first)
     } else {
         Ok(None)
     }
@@ -188,18 +220,19 @@ fn clash_of<S: Space<Object>>(
 
 /// The first two SSDTs that clash so, where `last` tells the last of them that declares each path. It is asked for
 /// missed paths only where no two of them declare one path.
-pub(crate) fn first_clash<S: Space<Object>>(
+pub(crate) fn first_clash<O: Space<Object>>(
+    alloc: Global,
     kind: Kind,
-    singles: &[Single<S>],
-    last: &BTreeMap<Path, usize>,
+    told: &[Told<'_, O>],
+    last: &TreeSpace<usize>,
 ) -> Result<Option<Clash>, AllocError>
-    requires sorted { AreSorted (single_trees S.contents singles.now) }
-    requires definers { AreDefiners (single_trees S.contents singles.now) (last_in last.now) }
-    requires unique { kind ≡ Kind.Missed → IsFirstClash Kind.Same (single_trees S.contents singles.now) None }
-    ensures { IfOk result (λ o. IsFirstClash kind (single_trees S.contents singles.now) o) }
+    requires sorted { AreSorted (told_trees O.contents told.now) }
+    requires definers { AreDefiners (declared_in (told_trees O.contents told.now)) (finite.get last.now) }
+    requires unique { kind ≡ Kind.Missed → IsFirstClash Kind.Same (told_trees O.contents told.now) None }
+    ensures { IfOk result (λ o. IsFirstClash kind (told_trees O.contents told.now) o) }
 {
-    for i in 0..singles.len() {
-        if let Some(clash) = clash_of(kind, singles, last, i + 1)? {
+    for i in 0..told.len() {
+        if let Some(clash) = clash_of(alloc, kind, told, last, i + 1)? {
             return Ok(Some(clash));
         }
     }

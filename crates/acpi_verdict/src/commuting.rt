@@ -1,42 +1,44 @@
 //! Whether SSDTs commute over a DSDT.
 
-ghost use Rattle.std.specs.Prelude.{◌≡◌, ◌≢◌, ◌↔◌, ◌∷◌, [], map, IfOk, IfErr, OnOk};
+ghost use Rattle.std.specs.Prelude.{◌≡◌, ◌≢◌, ◌↔◌, ◌∷◌, [], map, IfOk, IfErr};
+ghost use Rattle.std.specs.FinMap as finite;
 ghost use Rattle.acpi_declare.specs.Loads.{HasNoLoad};
 ghost use Rattle.acpi_declare.specs.Refusals.{IsLoadFault};
 ghost use Rattle.acpi_order.specs.Independent.{IsIndependent};
-ghost use Rattle.acpi_order.specs.Verdicts.{DsdtLoads, IsVerdict};
+ghost use Rattle.acpi_order.specs.Verdicts.{IsVerdict};
 ghost use Rattle.acpi_verdict.specs.VerdictView.{verdict_view, IsFaultOf};
-ghost use Rattle.acpi_verdict.specs.steps.Clashing.{single_trees, AreSorted, IsFirstOfAll};
+ghost use Rattle.acpi_verdict.specs.steps.Clashing.{AreSorted, IsFirstOfAll};
+ghost use Rattle.acpi_verdict.specs.steps.Defining.{declared_in, AreDefiners};
+ghost use Rattle.acpi_verdict.specs.steps.Telling.{told_trees};
 
-use crate::alone::single_loads;
+use crate::checking::check_shared;
 use crate::clashes::{Kind, first_clash};
-use crate::definers::last_definers;
-use crate::singles::Single;
+use crate::told::Told;
 use crate::verdicts::Verdict;
-use acpi_declare::{Declared, LoadFault, declare_shared, shared_tables};
-use acpi_order::laws::one_verdict;
-use acpi_space::Space;
+use acpi_declare::{LoadFault, shared_tables};
+use acpi_space::{Space, TreeSpace};
 use acpi_terms::{Depth, Object};
 use bytes::Bytes;
 use std::alloc::{AllocError, Global};
 
-/// The verdict on SSDTs that all load alone.
-pub(crate) fn verdict_of<S: Space<Object>>(
+/// The verdict on SSDTs that all load alone, where `last` tells the last of them that declares each path.
+pub(crate) fn verdict_of<O: Space<Object>>(
     alloc: Global,
-    singles: &[Single<S>],
+    told: &[Told<'_, O>],
+    last: &TreeSpace<usize>,
 ) -> Result<Verdict, AllocError>
-    requires { AreSorted (single_trees S.contents singles.now) }
-    ensures { IfOk result (λ v. IsFirstOfAll (single_trees S.contents singles.now) v) }
+    requires sorted { AreSorted (told_trees O.contents told.now) }
+    requires definers { AreDefiners (declared_in (told_trees O.contents told.now)) (finite.get last.now) }
+    ensures { IfOk result (λ v. IsFirstOfAll (told_trees O.contents told.now) v) }
 {
-    let last = last_definers(alloc, singles)?;
-    if let Some(clash) = first_clash(Kind::Same, singles, &last)? {
+    if let Some(clash) = first_clash(alloc, Kind::Same, told, last)? {
         return Ok(Verdict::Same {
             first: clash.first,
             second: clash.second,
             path: clash.path,
         });
     }
-    if let Some(clash) = first_clash(Kind::Missed, singles, &last)? {
+    if let Some(clash) = first_clash(alloc, Kind::Missed, told, last)? {
         return Ok(Verdict::Missed {
             searcher: clash.first,
             definer: clash.second,
@@ -44,42 +46,6 @@ pub(crate) fn verdict_of<S: Space<Object>>(
         });
     }
     Ok(Verdict::Commute)
-}
-
-// The DSDT loads by itself.
-fn load_dsdt<S: Space<Object>>(
-    alloc: Global,
-    dsdt: &Bytes,
-    depth: Depth,
-) -> Result<Declared<S>, LoadFault>
-    ensures loads { OnOk result (DsdtLoads depth dsdt.now) }
-    ensures err { IfErr result (λ e. IsLoadFault depth (dsdt.now ∷ []) e) }
-    ensures none { IfErr result (λ e. e ≢ LoadFault.Memory → HasNoLoad depth (dsdt.now ∷ [])) }
-{
-    declare_shared(alloc, dsdt, &[], depth)
-}
-
-// The first of the four that holds.
-fn first_of_four<S: Space<Object>>(
-    alloc: Global,
-    dsdt: &Bytes,
-    ssdts: &[Bytes],
-    depth: Depth,
-) -> Result<Verdict, LoadFault>
-    ensures ok { IfOk result (λ v. IsVerdict depth dsdt.now ssdts.now (verdict_view v)) }
-    ensures fault { IfOk result (λ v. IsFaultOf depth dsdt.now ssdts.now v) }
-    ensures err { IfErr result (λ e. IsLoadFault depth (dsdt.now ∷ []) e) }
-    ensures none { IfErr result (λ e. e ≢ LoadFault.Memory → HasNoLoad depth (dsdt.now ∷ [])) }
-{
-    load_dsdt::<S>(alloc, dsdt, depth)?;
-    match single_loads::<S>(alloc, dsdt, ssdts, depth) {
-        Ok(singles) => Ok(verdict_of(alloc, &singles)?),
-        Err(LoadFault::At { table, reason }) => Ok(Verdict::NotAlone {
-            ssdt: table,
-            fault: LoadFault::At { table, reason },
-        }),
-        Err(LoadFault::Memory) => Err(LoadFault::Memory),
-    }
 }
 
 /// Whether SSDTs commute over a DSDT: the first of these that holds. One SSDT is refused over the DSDT alone; two declare
@@ -102,8 +68,7 @@ pub fn verdict_shared<S: Space<Object>>(
     ensures err { IfErr result (λ e. IsLoadFault depth (dsdt.now ∷ []) e) }
     ensures none { IfErr result (λ e. e ≢ LoadFault.Memory → HasNoLoad depth (dsdt.now ∷ [])) }
 {
-    one_verdict();
-    first_of_four::<S>(alloc, dsdt, ssdts, depth)
+    Ok(check_shared::<S>(alloc, dsdt, ssdts, depth)?.verdict)
 }
 
 /// The same as `verdict_shared`, over one copy of each table.

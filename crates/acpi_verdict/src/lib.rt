@@ -21,7 +21,6 @@
 #![tactic(auto)]
 
 mod alone;
-mod awaits;
 mod checking;
 mod clashes;
 mod commuting;
@@ -32,6 +31,9 @@ mod paths;
 mod satisfying;
 mod searches;
 mod singles;
+mod telling;
+mod told;
+mod trying;
 mod verdicts;
 
 pub use checking::check_shared;

@@ -11,8 +11,8 @@ use acpi_name::Path;
 use acpi_space::{MapSpace, Refused, Space};
 use std::alloc::{AllocError, Global};
 
-// Adds the path, if it isn't there.
-fn add_path(paths: &mut MapSpace<()>, path: Path) -> Result<(), AllocError>
+/// Adds the path, if it isn't there.
+pub(crate) fn add_path(paths: &mut MapSpace<()>, path: Path) -> Result<(), AllocError>
     ensures { OnOk result (paths.new ≡ with_local paths.old path) }
 {
     if paths.get(&path).is_some() {

@@ -1,75 +1,54 @@
 //! Which Externals of one another's tables SSDTs satisfy.
 
-ghost use Rattle.std.specs.Prelude.{◌≡◌, ◌↔◌, ◌⊎◌, ◌&&◌, ◌∷◌, [], ◌++◌, nat_eq, map, IfOk, IfErr, OnOk};
+ghost use Rattle.std.specs.Prelude.{◌≡◌, ◌↔◌, ◌⊎◌, ◌∷◌, [], ◌++◌, map, IfOk, IfErr, OnOk};
+ghost use Rattle.std.specs.FinMap as finite;
 ghost use Rattle.std.specs.List.{list_any};
 ghost use Rattle.std.specs.List.Sorted.{IsStrictlySortedBy};
 ghost use Rattle.acpi_name.specs.Paths.{path_cmp};
 ghost use Rattle.acpi_space.specs.Laws.{Among};
-ghost use Rattle.acpi_space.specs.Lookups.{is_same_path};
-ghost use Rattle.acpi_tree.specs.Objects.{object_view};
 ghost use Rattle.acpi_declare.specs.Refusals.{IsLoadFault};
-ghost use Rattle.acpi_order.specs.Independent.{is_method_of};
 ghost use Rattle.acpi_order.specs.Singles.{IsSatisfied};
 ghost use Rattle.acpi_order.specs.Verdicts.{DsdtLoads, AllAlone};
 ghost use Rattle.acpi_verdict.specs.SatisfiedView.{satisfied_cmp};
-ghost use Rattle.acpi_verdict.specs.SingleView.{defined_in, awaited_view};
 ghost use Rattle.acpi_verdict.specs.VerdictView.{IsSinglesFault};
-ghost use Rattle.acpi_verdict.specs.steps.Clashing.{has, single_tree, single_trees, IsSortedTree, AreSorted};
-ghost use Rattle.acpi_verdict.specs.steps.Meeting.{table_of, is_met, met_at, met_from, all_met};
+ghost use Rattle.acpi_verdict.specs.steps.Clashing.{has, AreSorted};
+ghost use Rattle.acpi_verdict.specs.steps.Meeting.{is_met, met_at, met_from, all_met};
+ghost use Rattle.acpi_verdict.specs.steps.Telling.{defined_in, told_tree, told_trees, IsSortedTree};
 
-use crate::alone::single_loads;
-use crate::awaits::awaits_alone;
+use crate::checking::check_shared;
 use crate::clashes::{has_path, is_method};
-use crate::singles::{Awaited, Single};
-use crate::verdicts::Satisfied;
+use crate::paths::paths_of;
+use crate::told::Told;
+use crate::verdicts::{Checked, Satisfied, Verdict};
 use acpi_declare::{LoadFault, shared_tables};
 use acpi_name::Path;
-use acpi_space::Space;
+use acpi_space::{MapSpace, Space};
 use acpi_terms::{Depth, Object};
 use bytes::Bytes;
 use std::alloc::{AllocError, Global};
 
-// The table of the user in its load: 0 the DSDT, 1 an SSDT.
-fn table_of(user: usize) -> u32
-    ensures { result ≡ table_of user }
+// Whether the definer has at the path the method that is awaited there.
+fn is_met<O: Space<Object>>(awaited: &MapSpace<u8>, definer: &Told<'_, O>, path: &Path) -> bool
+    ensures { result ≡ is_met awaited.now (told_tree O.contents definer.now) path.now }
 {
-    if user == 0 { 0 } else { 1 }
-}
-
-// Whether bodies of the table await a method at the path, and the object is one of so many arguments.
-fn awaits_such(awaited: &[Awaited], table: u32, path: &Path, object: &Object) -> bool
-    ensures { result ≡ list_any (λ a. nat_eq a.table table && is_same_path a.path path.now && is_method_of (object_view object.now) a.count) awaited.now }
-{
-    awaited.iter().any(|a| a.table == table && a.path == *path && is_method(object, a.count))
-}
-
-// Whether the definer has at the path what bodies of the user await there.
-fn is_met<S: Space<Object>>(
-    user: usize,
-    awaited: &[Awaited],
-    definer: &Single<S>,
-    path: &Path,
-) -> bool
-    ensures { result ≡ is_met user (map awaited_view awaited.now) (single_tree S.contents definer.now) path.now }
-{
-    match definer.machine().objects().get(path) {
-        Some(object) => awaits_such(awaited, table_of(user), path, object),
-        None => false,
+    match (awaited.get(path), definer.laid.declared.objects().get(path)) {
+        (Some(count), Some(object)) => is_method(object, *count),
+        _ => false,
     }
 }
 
 // What the definer satisfies of what bodies of the user await, each of its paths tested.
-fn add_each_met<S: Space<Object>>(
+fn add_each_met<O: Space<Object>>(
     found: &mut Vec<Satisfied>,
     user: usize,
-    awaited: &[Awaited],
+    awaited: &MapSpace<u8>,
     definer: usize,
-    single: &Single<S>,
+    told: &Told<'_, O>,
 ) -> Result<(), AllocError>
-    ensures { OnOk result (found.new.items ≡ found.old.items ++ met_at user (map awaited_view awaited.now) definer (single_tree S.contents single.now) (defined_in single.now)) }
+    ensures { OnOk result (found.new.items ≡ found.old.items ++ met_at user awaited.now definer (told_tree O.contents told.now) (defined_in told.now.laid)) }
 {
-    for path in single.defined() {
-        if is_met(user, awaited, single, path) {
+    for path in told.defined() {
+        if is_met(awaited, told, path) {
             found.push(Satisfied {
                 user,
                 definer,
@@ -80,65 +59,69 @@ fn add_each_met<S: Space<Object>>(
     Ok(())
 }
 
-// Whether a method is awaited at one of the paths, which ascend.
-fn any_awaited(awaited: &[Awaited], paths: &[Path]) -> bool
-    requires { IsStrictlySortedBy path_cmp paths.now }
-    ensures { result ≡ list_any (λ a. has paths.now a.path) awaited.now }
+// Whether one of the paths is among the others, which ascend.
+fn any_among(paths: &[Path], others: &[Path]) -> bool
+    requires { IsStrictlySortedBy path_cmp others.now }
+    ensures { result ≡ list_any (λ p. has others.now p) paths.now }
 {
-    awaited.iter().any(|a| has_path(paths, &a.path))
+    paths.iter().any(|path| has_path(others, path))
 }
 
-// What the definer satisfies of what bodies of the user await.
-fn add_met<S: Space<Object>>(
+// What the definer satisfies of what bodies of the user await, at those paths.
+fn add_met<O: Space<Object>>(
     found: &mut Vec<Satisfied>,
     user: usize,
-    awaited: &[Awaited],
+    awaited: &MapSpace<u8>,
+    paths: &[Path],
     definer: usize,
-    single: &Single<S>,
+    told: &Told<'_, O>,
 ) -> Result<(), AllocError>
-    requires { IsSortedTree (single_tree S.contents single.now) }
-    ensures { OnOk result (found.new.items ≡ found.old.items ++ met_at user (map awaited_view awaited.now) definer (single_tree S.contents single.now) (defined_in single.now)) }
+    requires keys { paths.now ≡ finite.keys awaited.now }
+    requires sorted { IsSortedTree (told_tree O.contents told.now) }
+    ensures { OnOk result (found.new.items ≡ found.old.items ++ met_at user awaited.now definer (told_tree O.contents told.now) (defined_in told.now.laid)) }
 {
-    if any_awaited(awaited, single.defined()) {
-        add_each_met(found, user, awaited, definer, single)
+    if any_among(paths, told.defined()) {
+        add_each_met(found, user, awaited, definer, told)
     } else {
         Ok(())
     }
 }
 
 // What SSDTs satisfy of what bodies of the user await.
-fn add_user<S: Space<Object>>(
+fn add_user<O: Space<Object>>(
+    alloc: Global,
     found: &mut Vec<Satisfied>,
     user: usize,
-    awaited: &[Awaited],
-    singles: &[Single<S>],
+    awaited: &MapSpace<u8>,
+    told: &[Told<'_, O>],
 ) -> Result<(), AllocError>
-    requires { AreSorted (single_trees S.contents singles.now) }
-    ensures { OnOk result (found.new.items ≡ found.old.items ++ met_from user (map awaited_view awaited.now) 1 (single_trees S.contents singles.now)) }
+    requires { AreSorted (told_trees O.contents told.now) }
+    ensures { OnOk result (found.new.items ≡ found.old.items ++ met_from user awaited.now 1 (told_trees O.contents told.now)) }
 {
-    for (k, single) in singles.iter().enumerate() {
+    let paths = paths_of(alloc, awaited)?;
+    for (k, one) in told.iter().enumerate() {
         let definer = k + 1;
         if definer == user {
             continue;
         }
-        add_met(found, user, awaited, definer, single)?;
+        add_met(found, user, awaited, &paths, definer, one)?;
     }
     Ok(())
 }
 
 /// What SSDTs satisfy of what bodies of the DSDT and of one another await.
-pub(crate) fn all_met<S: Space<Object>>(
+pub(crate) fn all_met<O: Space<Object>>(
     alloc: Global,
-    awaited: &[Awaited],
-    singles: &[Single<S>],
+    awaited: &MapSpace<u8>,
+    told: &[Told<'_, O>],
 ) -> Result<Vec<Satisfied>, AllocError>
-    requires { AreSorted (single_trees S.contents singles.now) }
-    ensures { IfOk result (λ v. v.items ≡ all_met (map awaited_view awaited.now) (single_trees S.contents singles.now)) }
+    requires { AreSorted (told_trees O.contents told.now) }
+    ensures { IfOk result (λ v. v.items ≡ all_met awaited.now (told_trees O.contents told.now)) }
 {
     let mut found = Vec::new(alloc);
-    add_user(&mut found, 0, awaited, singles)?;
-    for (k, single) in singles.iter().enumerate() {
-        add_user(&mut found, k + 1, single.awaited(), singles)?;
+    add_user(alloc, &mut found, 0, awaited, told)?;
+    for (k, one) in told.iter().enumerate() {
+        add_user(alloc, &mut found, k + 1, &one.own.awaited, told)?;
     }
     Ok(found)
 }
@@ -158,9 +141,11 @@ pub fn satisfied_shared<S: Space<Object>>(
     ensures loads { OnOk result (DsdtLoads depth dsdt.now × AllAlone depth dsdt.now ssdts.now) }
     ensures err { IfErr result (λ e. IsLoadFault depth (dsdt.now ∷ []) e ⊎ IsSinglesFault depth dsdt.now ssdts.now e) }
 {
-    let awaited = awaits_alone::<S>(alloc, dsdt, depth)?;
-    let singles = single_loads::<S>(alloc, dsdt, ssdts, depth)?;
-    Ok(all_met(alloc, &awaited, &singles)?)
+    let Checked { verdict, satisfied } = check_shared::<S>(alloc, dsdt, ssdts, depth)?;
+    match verdict {
+        Verdict::NotAlone { ssdt: _, fault } => Err(fault),
+        _ => Ok(satisfied),
+    }
 }
 
 /// The same as `satisfied_shared`, over one copy of each table.

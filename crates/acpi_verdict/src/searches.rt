@@ -40,8 +40,8 @@ fn add_count(awaited: &mut MapSpace<u8>, path: Path, count: u8) -> Result<(), Al
     }
 }
 
-// Adds what one body awaits.
-fn add_open(awaited: &mut MapSpace<u8>, open: Vec<OpenMiss>) -> Result<(), AllocError>
+/// Adds what one body awaits.
+pub(crate) fn add_open(awaited: &mut MapSpace<u8>, open: Vec<OpenMiss>) -> Result<(), AllocError>
     ensures { OnOk result (awaited.new ≡ with_opens awaited.old (map open_pair open.items)) }
 {
     for miss in open {

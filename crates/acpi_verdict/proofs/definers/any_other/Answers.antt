@@ -1,9 +1,10 @@
 use Rattle.std.proofs.Common.{◌≡◌, ◌∷◌, [], ◌+◌, List, drop, map, sym, ap, subst, ◌∙◌, arith}
 use Rattle.std.proofs.lemmas.List.{drop_more, drop_all}
-use Rattle.acpi_verdict.specs.declared.singles.Awaited.{Awaited}
-use Rattle.acpi_verdict.specs.SingleView.{awaited_view}
-use Rattle.acpi_verdict.specs.steps.Clashing.{single_trees}
-use Rattle.acpi_verdict.specs.steps.Defining.{last_in, NoneOther}
+use Rattle.std.specs.FinMap.{get}
+use Rattle.acpi_body.specs.declared.misses.OpenMiss.{OpenMiss}
+use Rattle.acpi_verdict.specs.steps.Defining.{NoneOther}
+use Rattle.acpi_verdict.specs.steps.Searching.{open_pair}
+use Rattle.acpi_verdict.specs.steps.Telling.{told_trees}
 use Rattle.acpi_verdict.proofs.LastDefiners.{none_other_more}
 use Rattle.acpi_verdict.proofs.definers.any_other.Goals as goal
 
@@ -12,16 +13,16 @@ loop-one-preserved g c = λ h.
     let i = c.loop-one.one-index in
     let awaited = c.args.awaited.now in
     let a = c.one-item.result in
-    let last = last_in c.args.last.now in
-    let ss = single_trees g.S.Space.contents c.args.singles.now in
+    let last = get c.args.last.now in
+    let ss = told_trees g.O.Space.contents c.args.told.now in
     let here : drop i awaited ≡ a ∷ drop (i + 1) awaited = drop_more awaited i a (grind arith) ∙ ap (λ y. y ∷ drop (i + 1) awaited) (sym c.one-item.is) in
     c.loop-one.invariant
-    (subst (λ (l : List Awaited). NoneOther last ss c.args.number (map awaited_view l)) (sym here)
-    (none_other_more last ss c.args.number (awaited_view a) (map awaited_view (drop (i + 1) awaited)) (c.is_other.ensures c.if-is_other.false) h))
+    (subst (λ (l : List OpenMiss). NoneOther last ss c.args.number (map open_pair l)) (sym here)
+    (none_other_more last ss c.args.number (open_pair a) (map open_pair (drop (i + 1) awaited)) (c.is_other.ensures c.if-is_other.false) h))
 
 pub returns : goal.returns
 returns g c = λ e.
     let none : drop c.loop-one.one-index c.args.awaited.now ≡ [] = drop_all _ _ c.loop-one-test.false in
     c.loop-one.invariant
-    (subst (λ (l : List Awaited). NoneOther (last_in c.args.last.now) (single_trees g.S.Space.contents c.args.singles.now) c.args.number (map awaited_view l)) (sym none)
-    (λ table p args k r o m. absurd m))
+    (subst (λ (l : List OpenMiss). NoneOther (get c.args.last.now) (told_trees g.O.Space.contents c.args.told.now) c.args.number (map open_pair l)) (sym none)
+    (λ p args k r o m. absurd m))

@@ -1,11 +1,15 @@
-use Rattle.std.proofs.Common.{◌≡◌, Some, sym, ◌∙◌}
-use Rattle.acpi_verdict.specs.steps.Clashing.{single_tree}
-use Rattle.acpi_verdict.specs.steps.Defining.{last_in}
+use Rattle.std.proofs.Common.{◌≡◌, Some, sym, ap, ◌∙◌}
+use Rattle.std.specs.FinMap.{get}
+use Rattle.std.specs.Option.{option_copied}
+use Rattle.acpi_verdict.specs.steps.Telling.{told_tree, told_trees}
 use Rattle.acpi_verdict.proofs.FirstClash.{number_within}
+use Rattle.acpi_verdict.proofs.LastDefiners.{told_of_number}
 use Rattle.acpi_verdict.proofs.definers.is_other.Goals as goal
 
 pub is_other_at-requires-clause-within : goal.is_other_at-requires-clause-within
 is_other_at-requires-clause-within g c =
-    let there : last_in c.args.last.now c.args.awaited.now.path ≡ Some c.in-Some.definer = sym c.last_of.ensures ∙ c.in-Some.is in
-    let d = c.requires.declares c.in-Some.definer c.args.awaited.now.path there in
-    number_within (single_tree g.S.Space.contents) c.args.singles.now c.in-Some.definer d.0 d.1
+    let k = c.in-Some.definer.now in
+    let there : get c.args.last.now c.args.awaited.now.path ≡ Some k = sym c.get.ensures ∙ ap option_copied c.in-Some.is in
+    let d = c.requires.declares k c.args.awaited.now.path there in
+    let r = told_of_number (told_trees g.O.Space.contents c.args.told.now) k d.0 d.1 in
+    number_within (told_tree g.O.Space.contents) c.args.told.now k r.0 r.1

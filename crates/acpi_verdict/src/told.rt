@@ -1,0 +1,66 @@
+//! What is told of SSDTs, each laid over a DSDT.
+
+ghost use Rattle.std.specs.Prelude.{◌≡◌};
+ghost use Rattle.acpi_verdict.specs.steps.Telling.{defined_in, under_of};
+ghost use Rattle.acpi_verdict.specs.steps.Trying.{tried_of};
+
+use acpi_declare::Declaring;
+use acpi_name::Path;
+use acpi_space::MapSpace;
+
+/// An SSDT that is declared over the DSDT.
+#[derive(Drop)]
+pub(crate) struct Laid<O> {
+    /// The namespace of both, and the links and notes of the SSDT.
+    pub(crate) declared: Declaring<O>,
+    /// The paths that the SSDT declares, in their order.
+    pub(crate) defined: Vec<Path>,
+}
+
+/// What Scope terms, links and bodies tried in vain, of the paths that SSDTs declare.
+#[derive(Drop)]
+pub(crate) struct Tried {
+    /// The paths that were missed.
+    pub(crate) missed: MapSpace<()>,
+    /// How many arguments the methods take that bodies await.
+    pub(crate) awaited: MapSpace<u8>,
+}
+
+/// What links and bodies of the DSDT tried, in its load with an SSDT.
+#[derive(Drop)]
+pub(crate) enum Under<'a> {
+    /// The same as in the load of the DSDT alone.
+    Alone(&'a Tried),
+    /// What they tried again, since the SSDT declares a path of those.
+    Again(Tried),
+}
+
+/// What the load of the DSDT with an SSDT tells.
+#[derive(Drop)]
+pub(crate) struct Told<'a, O> {
+    pub(crate) laid: Laid<O>,
+    /// What the SSDT tried.
+    pub(crate) own: Tried,
+    /// What the DSDT tried.
+    pub(crate) under: Under<'a>,
+}
+
+impl Under<'_> {
+    pub(crate) fn tried(&self) -> &Tried
+        ensures { tried_of result.now ≡ under_of self.now }
+    {
+        match self {
+            Under::Alone(tried) => *tried,
+            Under::Again(tried) => tried,
+        }
+    }
+}
+
+impl<O> Told<'_, O> {
+    /// The paths that the SSDT declares.
+    pub(crate) fn defined(&self) -> &[Path]
+        ensures { result.now ≡ defined_in self.now.laid }
+    {
+        &self.laid.defined
+    }
+}
