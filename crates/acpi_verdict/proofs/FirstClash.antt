@@ -61,10 +61,6 @@ number_within f xs (suc i) y h = let more = place_within f xs i y h in omega ari
 
 -- ---- what is unmet
 
-pub and_both : (a b : Bool) → a && b ≡ true → (a ≡ true) × (b ≡ true)
-and_both true b e = (refl, e)
-and_both false b e = cc
-
 not_true : (a : Bool) → not a ≡ true → a ≡ false
 not_true true e = cc
 not_true false e = refl

@@ -205,11 +205,6 @@ commutes depth dsdt ssdts one law some v h = (
   (λ free. is_commute v (one depth dsdt ssdts (verdict_view v) commute h ((law depth dsdt ssdts some).1 free))),
 )
 
-pub told_commute : (depth : ℕ) (dsdt : List ℕ) (ssdts : List (List ℕ)) (r : Result Verdict LoadFault) → OneVerdict → CommuteIsIndependent
-    → IfOk r (λ v. IsVerdict depth dsdt ssdts (verdict_view v)) → ssdts ≢ [] → IfOk r (λ v. (v ≡ verdicts.Commute) ↔ IsIndependent depth dsdt ssdts)
-told_commute depth dsdt ssdts (Ok v) one law h some = commutes depth dsdt ssdts one law some v h
-told_commute depth dsdt ssdts (Err e) one law h some = tt
-
 -- ---- tables and their copies
 
 pub of_copies : (P : List ℕ → List (List ℕ) → Type 0) (dsdt copy : List ℕ) (ssdts copies : List (List ℕ)) → copy ≡ dsdt → copies ≡ ssdts → P copy copies → P dsdt ssdts
