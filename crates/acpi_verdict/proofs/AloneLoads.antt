@@ -63,11 +63,6 @@ module _ {X Y : Type 0} (P : X → Y → Type 0) where
   all_first Q f (x ∷ xs) [] h = absurd h
   all_first Q f (x ∷ xs) (y ∷ ys) h = (f x y h.0, all_first Q f xs ys h.1)
 
-  pub all_second : (Q : Y → Type 0) → ((x : X) (y : Y) → P x y → Q y) → (xs : List X) (ys : List Y) → AreEach P xs ys → AllByRecursion Q ys
-  all_second Q f xs [] h = tt
-  all_second Q f [] (y ∷ ys) h = absurd h
-  all_second Q f (x ∷ xs) (y ∷ ys) h = (f x y h.0, all_second Q f xs ys h.1)
-
 -- ---- the DSDT alone
 
 pub dsdt_loads : (depth : ℕ) (dsdt : List ℕ) (one : State) → HasTables depth (dsdt ∷ []) one → DsdtLoads depth dsdt

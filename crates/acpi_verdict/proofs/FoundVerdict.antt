@@ -1,13 +1,12 @@
 -- What was found of what is told is the verdict.
-use Rattle.std.proofs.Common.{◌≡◌, ◌≢◌, ◌↔◌, ◌⊎◌, inl, inr, ℕ, zero, suc, false, List, [], Option, Some, Result, Ok, Err, refl, sym, subst, ◌∙◌}
-use Rattle.std.specs.Prelude.{IfOk, IsTrue}
+use Rattle.std.proofs.Common.{◌≡◌, ◌≢◌, ◌↔◌, ◌⊎◌, inl, inr, ℕ, zero, suc, false, List, [], Option, Some, refl, sym, subst, ◌∙◌}
+use Rattle.std.specs.Prelude.{IsTrue}
 use Rattle.std.specs.FinMap.{get}
 use Rattle.acpi_name.specs.Names.{Segment}
 use Rattle.acpi_space.specs.Laws.{Among}
 use Rattle.acpi_space.specs.Spaces.{is_defined}
 use Rattle.acpi_tree.specs.Objects.{ObjectTree}
 use Rattle.acpi_declare.specs.declared.fault.LoadReason.{LoadReason}
-use Rattle.acpi_declare.specs.declared.fault.LoadFault.{LoadFault}
 use Rattle.acpi_declare.specs.Listing.{objects_of}
 use Rattle.acpi_order.specs.Independent.{AreSingleListings, is_method_of, IsIndependent}
 use Rattle.acpi_order.specs.Laws.{CommuteIsIndependent, OneVerdict}
@@ -204,11 +203,6 @@ commutes depth dsdt ssdts one law some v h = (
   (λ e. (law depth dsdt ssdts some).0 (let P : Verdict → Type 0 = λ x. IsVerdict depth dsdt ssdts (verdict_view x) in subst P e h)),
   (λ free. is_commute v (one depth dsdt ssdts (verdict_view v) commute h ((law depth dsdt ssdts some).1 free))),
 )
-
-pub told_commute : (depth : ℕ) (dsdt : List ℕ) (ssdts : List (List ℕ)) (r : Result Verdict LoadFault) → OneVerdict → CommuteIsIndependent
-    → IfOk r (λ v. IsVerdict depth dsdt ssdts (verdict_view v)) → ssdts ≢ [] → IfOk r (λ v. (v ≡ verdicts.Commute) ↔ IsIndependent depth dsdt ssdts)
-told_commute depth dsdt ssdts (Ok v) one law h some = commutes depth dsdt ssdts one law some v h
-told_commute depth dsdt ssdts (Err e) one law h some = tt
 
 -- ---- tables and their copies
 

@@ -2,14 +2,19 @@
 //!
 //! ```text
 //! DSDT and one SSDT ──► single ──► machine, paths that are declared, missed and awaited
-//!                         │
-//! those of all SSDTs ─────┴─► verdict, satisfied, join
+//! those of all SSDTs ──► join
+//!
+//! DSDT ──► each SSDT laid over it ──► the last SSDT that declares each path
+//!                │                               │
+//!                └── what Scope terms, links and bodies miss and await of these paths ──► verdict, satisfied
 //! ```
 //!
-//! `single` tells of the load with one SSDT what it declares, misses and awaits. From the single loads of all SSDTs
-//! `verdict` finds whether they may be loaded in any order, or the first reason that they may not (`IsVerdict` of
+//! `single` tells of the load with one SSDT what it declares, misses and awaits, and `join` puts such loads together.
+//! `verdict` finds whether SSDTs may be loaded in any order, or the first reason that they may not (`IsVerdict` of
 //! `acpi_order`), and `satisfied` which methods that bodies await another SSDT declares (`IsSatisfied`). `check_shared`
-//! tells both, and makes the single loads once:
+//! tells both. It declares the DSDT once, and each SSDT over it, and gathers what is missed and awaited only of paths
+//! that some SSDT declares, since no other decides. What the DSDT's links and bodies missed alone stands for each SSDT
+//! that declares none of it; for another they are searched once more:
 //!
 //! ```text
 //! let checked = check_shared::<TreeSpace<Object>>(alloc, &dsdt, &ssdts, depth)?;
