@@ -168,8 +168,7 @@ impl<S: Space<Object>> Pass<S> {
         Ok(())
     }
 
-    // Declares an object inside which others stand, and gives its path. With a frame of its own, a level of scopes
-    // costs less stack.
+    // Declares an object inside which others stand, and gives its path.
     #[inline(never)]
     fn declare_scope(&mut self, scope: &Path, name: &Name, object: Object) -> Result<Path, Stop>
         ensures path { IfOk result (λ p. declared_path (namespace_of (S.contents self.old.objects)) scope.now name.now ≡ Ok p) }
