@@ -15,6 +15,7 @@
 //! ```
 //!
 //! `told` says a failure alone, for a caller that never came to a run.
+//! `made_in`, `add_tables` and `from_hex` are parts of a run, public so that `worked_runs` can try them by themselves.
 #![tactic(auto)]
 
 mod checking;
