@@ -16,14 +16,14 @@ ghost use Rattle.acpi_space.specs.Search.{answer};
 ghost use Rattle.acpi_counts.specs.Counts.{AreSmall, with_first};
 
 use acpi_name::{NameRef, Path};
-use acpi_space::{Found, MapSpace, Refused, SearchFault, Space, search};
+use acpi_space::{Found, Refused, SearchFault, Space, TreeSpace, search};
 use std::alloc::{AllocError, Global};
 use std::marker::Model;
 
 /// The argument counts of methods, by the paths of the methods: numbers 0 to 7.
 #[derive(Drop)]
 pub struct Counts {
-    map: MapSpace<u8>,
+    map: TreeSpace<u8>,
 }
 
 impl Model for Counts {
@@ -48,7 +48,7 @@ impl Counts {
         ensures { result ≡ finite.empty }
     {
         Counts {
-            map: MapSpace::new(alloc),
+            map: TreeSpace::new(alloc),
         }
     }
 

@@ -1,6 +1,6 @@
 //! Tables in their shortest spelling.
 
-ghost use Rattle.std.specs.Prelude.{◌≡◌, ◌≢◌, ◌↔◌, ◌<◌, ◌≤◌, ◌∷◌, ◌++◌, ℕ, List, length, map, All, IfOk, IfErr, true};
+ghost use Rattle.std.specs.Prelude.{◌≡◌, ◌≢◌, ◌↔◌, ◌<◌, ◌≤◌, ◌∷◌, ◌++◌, ℕ, List, length, get_or, map, All, IfOk, IfErr, true};
 ghost use Rattle.std.specs.FinMap.{get};
 ghost use Rattle.std.specs.List.{AllZip};
 ghost use Rattle.std.specs.Vec.Iter.{into_iter_items};
@@ -181,6 +181,14 @@ fn rewritten_table<S: Space<Object>>(
     }
 }
 
+// What the table of this number notes.
+fn notes_at(notes: &[TableNotes], number: usize) -> &TableNotes
+    requires { number < length notes.now }
+    ensures { result.now ≡ get_or notes.now number result.now }
+{
+    &notes[number]
+}
+
 // The tables of a load, rewritten one after another.
 fn rewrite_tables<S: Space<Object>>(
     alloc: Global,
@@ -199,7 +207,8 @@ fn rewrite_tables<S: Space<Object>>(
     let mut rewritten = Vec::new(alloc);
     rewritten.push(rewritten_table(alloc, objects, &notes[0], dsdt, depth)?)?;
     for (i, ssdt) in ssdts.iter().enumerate() {
-        rewritten.push(rewritten_table(alloc, objects, &notes[i + 1], ssdt, depth)?)?;
+        let noted = notes_at(notes, i + 1);
+        rewritten.push(rewritten_table(alloc, objects, noted, ssdt, depth)?)?;
     }
     Ok(rewritten)
 }

@@ -28,8 +28,8 @@ loop-i-init g c =
       more_new [] c.push.new.self.items one.field-0 pushed tt one.ensures.bytes.1,
     )
 
-pub bounds-notes-i : goal.bounds-notes-i
-bounds-notes-i g c =
+pub notes_at-noted-requires : goal.notes_at-noted-requires
+notes_at-noted-requires g c =
     let tables = c.args.dsdt.now ∷ c.args.ssdts.now in
     let n = c.in_ok-declared.ensures.notes in
     let notes : map notes_of c.notes-notes.result.now ≡ all_notes predefined n.placements = ap (map notes_of) c.notes-notes.ensures ∙ n.notes_are in
@@ -43,8 +43,8 @@ rewritten_table-requires-in-loop-i g c =
     let n = c.in_ok-declared.ensures.notes in
     let notes : map notes_of c.notes-notes.result.now ≡ all_notes predefined n.placements = ap (map notes_of) c.notes-notes.ensures ∙ n.notes_are in (
       get_or n.placements (i + 1) [],
-      noted_there c.args.depth tables n.placements c.notes-notes.result.now (i + 1) b c.index-notes-i.result n.listings notes (omega (arith, c.loop-i-test.true))
-          (behind_first c.args.dsdt.now b c.args.ssdts.now i c.loop-i-test.true c.index-ssdts-i.is) c.index-notes-i.is,
+      noted_there c.args.depth tables n.placements c.notes-notes.result.now (i + 1) b c.notes_at-noted.result.now n.listings notes (omega (arith, c.loop-i-test.true))
+          (behind_first c.args.dsdt.now b c.args.ssdts.now i c.loop-i-test.true c.index-ssdts-i.is) c.notes_at-noted.ensures,
     )
 
 pub loop-i-preserved : goal.loop-i-preserved
@@ -59,7 +59,7 @@ loop-i-preserved g c =
       (λ ts h notes.
           more_rewritten c.args.depth (namespace_of (g.S.Space.contents c.objects-objects.result.now)) ts tables (i + 1) c.loop-i.rewritten.items c.push-in-loop-i.new.self.items b one.field-0
           h below there pushed (c.loop-i.invariant.0 ts h notes)
-          (one.ensures.rewritten (get_or ts (i + 1) []) (noted_there c.args.depth tables ts c.notes-notes.result.now (i + 1) b c.index-notes-i.result h notes below there c.index-notes-i.is))),
+          (one.ensures.rewritten (get_or ts (i + 1) []) (noted_there c.args.depth tables ts c.notes-notes.result.now (i + 1) b c.notes_at-noted.result.now h notes below there c.notes_at-noted.ensures))),
       more_old tables (i + 1) b below there c.loop-i.invariant.1 one.ensures.bytes.0,
       more_new c.loop-i.rewritten.items c.push-in-loop-i.new.self.items one.field-0 pushed c.loop-i.invariant.2 one.ensures.bytes.1,
     )
