@@ -21,6 +21,7 @@
 mod declaring;
 mod fault;
 mod field_list;
+mod items;
 pub mod laws;
 mod links;
 mod load;

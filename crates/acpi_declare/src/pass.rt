@@ -4,24 +4,23 @@ ghost use Rattle.std.specs.Prelude.{IsTrue, ◌≡◌, ◌≢◌, true, None, So
 ghost use Rattle.std.specs.List.{list_all};
 ghost use Rattle.acpi_space.specs.Lookups.{singleton, union};
 ghost use Rattle.acpi_tree.specs.Objects.{object_view, method_object};
-ghost use Rattle.acpi_tree.specs.Fits.{external_fits, item_fits, items_fit};
-ghost use Rattle.acpi_tree.specs.Offsets.{element_bits, list_bits, OffsetFits, OffsetsFit};
-ghost use Rattle.acpi_tree.specs.View.{item_view, items_tree, external_view, externals_view, field_view, fields_view};
+ghost use Rattle.acpi_tree.specs.Fits.{external_fits, item_fits};
+ghost use Rattle.acpi_tree.specs.Offsets.{element_bits, list_bits, OffsetFits};
+ghost use Rattle.acpi_tree.specs.View.{item_view, external_view, externals_view, field_view, fields_view};
 ghost use Rattle.acpi_declare.specs.Declaring.{all_pending_of, pending_from, pending_for};
 ghost use Rattle.acpi_declare.specs.Namespace.{namespace_of};
-ghost use Rattle.acpi_declare.specs.Sites.{step, declares_alone, declares, opens, is_leaf, own_steps, external_step, external_steps, unit_step, unit_name, unit_steps};
-ghost use Rattle.acpi_declare.specs.Placing.{declared_path, opened_path};
+ghost use Rattle.acpi_declare.specs.Sites.{step, declares_alone, declares, is_leaf, own_steps, external_step, external_steps, unit_step, unit_name, unit_steps};
 ghost use Rattle.acpi_declare.specs.Notes.{notes_of};
-ghost use Rattle.acpi_declare.specs.steps.Pass.{after, placement, take_step, take_steps, pass_item, pass_items};
+ghost use Rattle.acpi_declare.specs.steps.Pass.{take_step, take_steps};
 ghost use Rattle.acpi_declare.specs.steps.View.{pass_of, pass_with, with_method};
 ghost use Rattle.acpi_declare.specs.steps.Outcomes.{IsStopOf};
 
 use crate::fault::Stop;
 use crate::field_list::{FieldList, behind, one, two};
 use crate::notes::TableNotes;
-use crate::placing::{declared, declared_unit, opened, put};
+use crate::placing::{declared, declared_unit, put};
 use acpi_name::{Name, Path, PlaceFault, Seg, place};
-use acpi_space::{SearchFault, Space, misses};
+use acpi_space::Space;
 use acpi_terms::{External, FieldElem, FieldForm, Item, Object};
 use bytes::Bytes;
 use std::alloc::{AllocError, Global};
@@ -46,7 +45,7 @@ pub(crate) struct Pass<S> {
 
 impl<S: Space<Object>> Pass<S> {
     // Puts an object at a path that is free.
-    fn put(&mut self, path: Path, object: Object) -> Result<(), AllocError>
+    pub(crate) fn put(&mut self, path: Path, object: Object) -> Result<(), AllocError>
         requires { namespace_of (S.contents self.old.objects) path ≡ None }
         ensures objects { OnOk result (namespace_of (S.contents self.new.objects)
             ≡ union (namespace_of (S.contents self.old.objects)) (singleton path (object_view object))) }
@@ -168,41 +167,6 @@ impl<S: Space<Object>> Pass<S> {
         Ok(())
     }
 
-    // Declares an object inside which others stand, and gives its path.
-    #[inline(never)]
-    fn declare_scope(&mut self, scope: &Path, name: &Name, object: Object) -> Result<Path, Stop>
-        ensures path { IfOk result (λ p. declared_path (namespace_of (S.contents self.old.objects)) scope.now name.now ≡ Ok p) }
-        ensures ok { IfOk result (λ p. pass_of (S.contents self.new.objects) self.new
-            ≡ after (pass_of (S.contents self.old.objects) self.old) (placement scope.now (step name.now (declares_alone (object_view object))) p)) }
-        ensures refused { IfErr result (λ f. IsStopOf f (declared_path (namespace_of (S.contents self.old.objects)) scope.now name.now)) }
-        ensures lower { OnOk result (S.lower self.new.objects ≡ S.lower self.old.objects) }
-    {
-        let path = declared(self.alloc, &self.objects, scope, name)?;
-        let inside = path.copy()?;
-        self.put(path, object)?;
-        Ok(inside)
-    }
-
-    // Opens a scope, and gives its path.
-    #[inline(never)]
-    fn open_scope(&mut self, scope: &Path, name: &Name) -> Result<Path, Stop>
-        ensures path { IfOk result (λ p. opened_path (namespace_of (S.contents self.old.objects)) scope.now name.now ≡ Ok p) }
-        ensures ok { IfOk result (λ p. pass_of (S.contents self.new.objects) self.new
-            ≡ after (pass_of (S.contents self.old.objects) self.old) (placement scope.now (step name.now opens) p)) }
-        ensures refused { IfErr result (λ f. IsStopOf f (opened_path (namespace_of (S.contents self.old.objects)) scope.now name.now)) }
-        ensures lower { OnOk result (S.lower self.new.objects ≡ S.lower self.old.objects) }
-    {
-        let target = opened(self.alloc, &self.objects, scope, name)?;
-        match misses(self.alloc, &self.objects, scope, name.view()) {
-            Ok(paths) => {
-                self.notes.add_missed(paths)?;
-                Ok(target)
-            }
-            Err(SearchFault::Memory) => Err(Stop::Memory),
-            Err(SearchFault::AboveRoot) => unreachable!(),
-        }
-    }
-
     // Keeps what an External says.
     fn expect(&mut self, scope: &Path, external: &External) -> Result<(), Stop>
         requires { external_fits (external_view external.now) ≡ true }
@@ -294,8 +258,7 @@ impl<S: Space<Object>> Pass<S> {
     }
 
     // An item in which no others stand.
-    #[inline(never)]
-    fn declare_leaf(&mut self, scope: &Path, item: Item) -> Result<(), Stop>
+    pub(crate) fn declare_leaf(&mut self, scope: &Path, item: Item) -> Result<(), Stop>
         requires leaf { IsTrue (is_leaf (item_view item)) }
         requires room { OffsetFits (item_view item) }
         requires fits { item_fits (item_view item) ≡ true }
@@ -415,72 +378,6 @@ impl<S: Space<Object>> Pass<S> {
             scope: scope.copy()?,
             names,
         })?;
-        Ok(())
-    }
-
-    // One item, with all that stands in it.
-    #[cycle(declare)]
-    fn declare_item(&mut self, scope: &Path, item: Item) -> Result<(), Stop>
-        requires room { OffsetFits (item_view item) }
-        requires fits { item_fits (item_view item) ≡ true }
-        ensures ok { OnOk result (pass_item (pass_of (S.contents self.old.objects) self.old) scope.now (item_view item)
-            ≡ Ok (pass_of (S.contents self.new.objects) self.new)) }
-        ensures refused { IfErr result (λ f. IsStopOf f (pass_item (pass_of (S.contents self.old.objects) self.old) scope.now (item_view item))) }
-        ensures lower { OnOk result (S.lower self.new.objects ≡ S.lower self.old.objects) }
-    {
-        match item {
-            Item::Scope(name, items) => {
-                let target = self.open_scope(scope, &name)?;
-                self.declare_items(&target, items)
-            }
-            Item::Device(name, items) => {
-                let inside = self.declare_scope(scope, &name, Object::Device)?;
-                self.declare_items(&inside, items)
-            }
-            Item::Processor {
-                name,
-                id,
-                block,
-                length,
-                items,
-            } => {
-                let inside = self.declare_scope(
-                    scope,
-                    &name,
-                    Object::Processor { id, block, length },
-                )?;
-                self.declare_items(&inside, items)
-            }
-            Item::Power {
-                name,
-                level,
-                order,
-                items,
-            } => {
-                let inside = self.declare_scope(scope, &name, Object::Power { level, order })?;
-                self.declare_items(&inside, items)
-            }
-            Item::Thermal(name, items) => {
-                let inside = self.declare_scope(scope, &name, Object::Thermal)?;
-                self.declare_items(&inside, items)
-            }
-            item => self.declare_leaf(scope, item),
-        }
-    }
-
-    // The items of a list, in order.
-    #[cycle(declare)]
-    pub(crate) fn declare_items(&mut self, scope: &Path, items: Vec<Item>) -> Result<(), Stop>
-        requires room { OffsetsFit (items_tree items.items) }
-        requires fits { items_fit (items_tree items.items) ≡ true }
-        ensures ok { OnOk result (pass_items (pass_of (S.contents self.old.objects) self.old) scope.now (items_tree items.items)
-            ≡ Ok (pass_of (S.contents self.new.objects) self.new)) }
-        ensures refused { IfErr result (λ f. IsStopOf f (pass_items (pass_of (S.contents self.old.objects) self.old) scope.now (items_tree items.items))) }
-        ensures lower { OnOk result (S.lower self.new.objects ≡ S.lower self.old.objects) }
-    {
-        for item in items {
-            self.declare_item(scope, item)?;
-        }
         Ok(())
     }
 }

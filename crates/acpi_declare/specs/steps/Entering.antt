@@ -1,0 +1,31 @@
+-- What is left of an item once it is declared itself.
+use Rattle.std.specs.Prelude.{◌≡◌, ◌+◌, ◌<◌, ℕ, true, List, Option, None, Some, Ok}
+use Rattle.std.specs.Global.{Vec}
+use Rattle.acpi_name.specs.Names.{Segment}
+use Rattle.acpi_tree.specs.declared.tree.Item.{Item}
+use Rattle.acpi_tree.specs.Fits.{items_fit}
+use Rattle.acpi_tree.specs.Offsets.{OffsetsFit}
+use Rattle.acpi_tree.specs.Tree.{ItemTree, scope, device, processor, power, thermal, ItemTrees, no_items, item}
+use Rattle.acpi_tree.specs.View.{items_tree}
+use Rattle.acpi_declare.specs.steps.Pass.{Pass, Passing, pass_items}
+
+-- how many items of a list are left, and how many inside an item
+abbrev mutual
+  pub weight : ItemTree → ℕ
+  weight (scope n is) = 1 + weights is
+  weight (device n is) = 1 + weights is
+  weight (processor n id block length is) = 1 + weights is
+  weight (power n level order is) = 1 + weights is
+  weight (thermal n is) = 1 + weights is
+  weight _ = 0
+
+  pub weights : ItemTrees → ℕ
+  weights no_items = 0
+  weights (item i is) = 1 + weight i + weights is
+
+-- the whole item's outcome is that of what is left, from there
+abbrev pub Enters : ItemTree → Passing → Pass → Option (List Segment × Vec Item) → Type 0
+Enters i whole now None = whole ≡ Ok now
+Enters i whole now (Some (p, is)) = (whole ≡ pass_items now p (items_tree is.items))
+    × OffsetsFit (items_tree is.items) × (items_fit (items_tree is.items) ≡ true)
+    × (weights (items_tree is.items) < weight i)
