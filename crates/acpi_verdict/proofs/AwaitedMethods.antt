@@ -10,7 +10,7 @@ use Rattle.acpi_name.specs.Names.{Segment}
 use Rattle.acpi_name.specs.Paths.{path_cmp}
 use Rattle.acpi_space.specs.Laws.{Among}
 use Rattle.acpi_space.specs.Spaces.{PathMap}
-use Rattle.acpi_body.proofs.Listed.{rising}
+use Rattle.acpi_space.proofs.Keys.{keys_ascend}
 use Rattle.acpi_order.specs.Misses.{Listing, objects_of_both}
 use Rattle.acpi_order.specs.Singles.{awaited_cmp, IsAwaitedInTable, IsAwaitedBy}
 use Rattle.acpi_order.proofs.Lists.{among_append, appended}
@@ -67,7 +67,7 @@ module _ (depth : ℕ) (first t : Listing) (one two : PathMap ℕ) (items : List
   pub awaited_ascend : IsStrictlySortedBy awaited_cmp items
   awaited_ascend =
       subst (IsStrictlySortedBy awaited_cmp) (sym list)
-      (both_ascend (entries one) (entries two) (tagged_ascend 0 refl (entries one) (rising one)) (tagged_ascend 1 refl (entries two) (rising two)))
+      (both_ascend (entries one) (entries two) (tagged_ascend 0 refl (entries one) (keys_ascend one)) (tagged_ascend 1 refl (entries two) (keys_ascend two)))
 
   abbrev AreCounts : PathMap ℕ → Listing → Type 0
   AreCounts m u = (p : List Segment) (n : ℕ) → (get m p ≡ Some n) ↔ IsAwaitedInTable depth (objects_of_both first t) u p n

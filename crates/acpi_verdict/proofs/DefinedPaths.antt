@@ -1,51 +1,26 @@
 -- The paths that the second of two tables declares: those of both that the first alone has not.
-use Rattle.std.proofs.Common.{◌≡◌, ◌⊎◌, ◌↔◌, inl, inr, ℕ, Bool, true, false, cond, not, List, [], ◌∷◌, is_some, filter, Option, Some, None, true≢false, refl, sym, ap, subst, ◌∙◌}
+use Rattle.std.proofs.Common.{◌≡◌, ◌↔◌, ℕ, Bool, true, false, not, List, is_some, filter, Option, Some, None, true≢false, refl, sym, ap, subst, ◌∙◌}
 use Rattle.std.specs.Prelude.{IsTrue}
 use Rattle.std.specs.Option.{option_map, option_or}
-use Rattle.std.specs.FinMap.{empty, entries, get, get-entries, keys}
+use Rattle.std.specs.FinMap.{empty, get, keys}
 use Rattle.std.specs.List.Sorted.{IsStrictlySortedBy}
 use Rattle.std.proofs.lemmas.List.Kept.{IsStrictlySortedBy-filter}
 use Rattle.acpi_name.specs.Names.{Segment}
 use Rattle.acpi_name.specs.Paths.{path_cmp}
 use Rattle.acpi_space.specs.Laws.{Among}
 use Rattle.acpi_space.specs.Spaces.{PathMap, is_defined}
+use Rattle.acpi_space.proofs.Filters.{among_filter}
+use Rattle.acpi_space.proofs.Keys.{key_is, keys_ascend}
 use Rattle.acpi_tree.specs.Objects.{ObjectTree, object_view}
 use Rattle.acpi_tree.specs.declared.object.Object.{Object}
 use Rattle.acpi_declare.specs.Listing.{objects_of}
 use Rattle.acpi_declare.specs.Namespace.{Namespace, namespace_of}
 use Rattle.acpi_body.specs.steps.Gathering.{Paths, Grows}
 use Rattle.acpi_body.proofs.Grown.{from_none}
-use Rattle.acpi_body.proofs.Listed.{key_found, rising}
 use Rattle.acpi_order.specs.Laws.{taken_away}
 use Rattle.acpi_order.specs.Misses.{Listing, objects_of_first, objects_of_both}
 use Rattle.acpi_order.specs.Independent.{AreSingleListings}
 use Rattle.acpi_order.proofs.Singles.{taken_back}
-
-among_filter : {X : Type 0} (f : X → Bool) (xs : List X) (x : X) → Among (filter f xs) x ↔ (Among xs x × (f x ≡ true))
-among_filter f [] x = (λ i. absurd i, λ r. absurd r.0)
-among_filter {X} f (y ∷ ys) x = by (f y) refl (among_filter f ys x)
-  where
-    by : (b : Bool) → f y ≡ b → Among (filter f ys) x ↔ (Among ys x × (f x ≡ true)) → Among (cond b (y ∷ filter f ys) (filter f ys)) x ↔ (((y ≡ x) ⊎ Among ys x) × (f x ≡ true))
-    by true e more = (to, λ r. from r.0 r.1)
-      where
-        to : (y ≡ x) ⊎ Among (filter f ys) x → ((y ≡ x) ⊎ Among ys x) × (f x ≡ true)
-        to (inl s) = (inl s, ap f (sym s) ∙ e)
-        to (inr i) = let r = more.0 i in (inr r.0, r.1)
-
-        from : (y ≡ x) ⊎ Among ys x → f x ≡ true → (y ≡ x) ⊎ Among (filter f ys) x
-        from (inl s) t = inl s
-        from (inr i) t = inr (more.1 (i, t))
-    by false e more = (λ i. let r = more.0 i in (inr r.0, r.1), λ r. from r.0 r.1)
-      where
-        from : (y ≡ x) ⊎ Among ys x → f x ≡ true → Among (filter f ys) x
-        from (inl s) t = absurd (true≢false (sym t ∙ ap f (sym s) ∙ e))
-        from (inr i) t = more.1 (i, t)
-
--- the keys of a map are the paths that have values
-pub key_is : {V : Type 0} (m : PathMap V) (p : List Segment) → Among (keys m) p ↔ IsTrue (is_defined m p)
-key_is m p =
-    let k = key_found (entries m) p in
-    (λ i. ap is_some (get-entries m p) ∙ k.0 i, λ h. k.1 (ap is_some (sym (get-entries m p)) ∙ h))
 
 -- whether an object is there
 seen : (a : Option Object) → is_some (option_map object_view a) ≡ is_some a
@@ -96,4 +71,4 @@ module _ (depth : ℕ) (dsdt ssdt : List ℕ) (first t : Listing) (alone : AreSi
       declared = new_object (objects_of_first first p) (objects_of t p) (taken_back depth dsdt ssdt first t alone p)
 
   pub defined_ascend : IsStrictlySortedBy path_cmp items
-  defined_ascend = subst (IsStrictlySortedBy path_cmp) (sym kept) (IsStrictlySortedBy-filter path_cmp (λ p. not (is_defined known p)) (keys now) (rising now))
+  defined_ascend = subst (IsStrictlySortedBy path_cmp) (sym kept) (IsStrictlySortedBy-filter path_cmp (λ p. not (is_defined known p)) (keys now) (keys_ascend now))

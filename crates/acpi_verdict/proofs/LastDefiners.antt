@@ -11,6 +11,7 @@ use Rattle.acpi_space.specs.Laws.{Among}
 use Rattle.acpi_space.specs.Lookups.{Lookup, is_same_path}
 use Rattle.acpi_space.specs.Spaces.{PathMap}
 use Rattle.acpi_space.proofs.Comparisons.{path_itself}
+use Rattle.acpi_space.proofs.Keys.{key_is}
 use Rattle.acpi_counts.specs.Counts.{first_of, with_first}
 use Rattle.acpi_tree.specs.Objects.{ObjectTree}
 use Rattle.acpi_declare.proofs.Unions.{path_same}
@@ -22,7 +23,6 @@ use Rattle.acpi_verdict.specs.steps.Defining.{Declared, declared_in, with_paths,
 use Rattle.acpi_verdict.specs.steps.Telling.{ToldTree}
 use Rattle.acpi_verdict.specs.steps.Trying.{TriedTree}
 use Rattle.acpi_verdict.proofs.AscendingPaths.{among_any}
-use Rattle.acpi_verdict.proofs.DefinedPaths.{key_is}
 use Rattle.acpi_verdict.proofs.FirstClash.{one_number, number_within}
 use Rattle.acpi_verdict.proofs.PathSets.{pair_is}
 

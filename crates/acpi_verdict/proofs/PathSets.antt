@@ -4,9 +4,10 @@ use Rattle.std.specs.FinMap.{entries, get, get-entries}
 use Rattle.acpi_name.specs.Names.{Segment}
 use Rattle.acpi_space.specs.Laws.{Among}
 use Rattle.acpi_space.specs.Spaces.{PathMap}
+use Rattle.acpi_space.proofs.Keys.{keys_ascend}
 use Rattle.acpi_body.specs.steps.Gathering.{Paths, Grows, with_misses}
 use Rattle.acpi_body.proofs.Grown.{grows_as, misses_grow}
-use Rattle.acpi_body.proofs.Listed.{pair_found, rising}
+use Rattle.acpi_body.proofs.Listed.{pair_found}
 
 none_some : (p : List Segment) → None ≢ Some p
 none_some p e = cc
@@ -22,4 +23,4 @@ paths_in es = map (λ e. e.0) es
 
 -- the pairs of a map are its values
 pub pair_is : {V : Type 0} (m : PathMap V) (p : List Segment) (v : V) → Among (entries m) (p, v) ↔ (get m p ≡ Some v)
-pair_is m p v = let r = pair_found (entries m) p v (rising m) in (λ i. get-entries m p ∙ r.0 i, λ e. r.1 (sym (get-entries m p) ∙ e))
+pair_is m p v = let r = pair_found (entries m) p v (keys_ascend m) in (λ i. get-entries m p ∙ r.0 i, λ e. r.1 (sym (get-entries m p) ∙ e))

@@ -11,6 +11,7 @@ use Rattle.acpi_name.specs.Names.{Segment}
 use Rattle.acpi_name.specs.Paths.{path_cmp}
 use Rattle.acpi_space.specs.Laws.{Among}
 use Rattle.acpi_space.specs.Spaces.{PathMap}
+use Rattle.acpi_space.proofs.Keys.{key_is}
 use Rattle.acpi_tree.specs.Objects.{ObjectTree}
 use Rattle.acpi_order.proofs.Lists.{all_among, among_all, among_append, appended}
 use Rattle.acpi_order.specs.Independent.{StandsAt, is_method_of}
@@ -20,7 +21,6 @@ use Rattle.acpi_verdict.specs.steps.Clashing.{has, AreSorted}
 use Rattle.acpi_verdict.specs.steps.Meeting.{awaits_such, is_met, satisfied_at, met_at, met_by, met_from, met_users, all_met}
 use Rattle.acpi_verdict.specs.steps.Telling.{ToldTree, IsSortedTree}
 use Rattle.acpi_verdict.proofs.AscendingPaths.{among_any, among_has}
-use Rattle.acpi_verdict.proofs.DefinedPaths.{key_is}
 
 -- ---- what is met
 
