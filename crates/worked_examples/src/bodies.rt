@@ -1,5 +1,6 @@
 //! Worked rows, which no contract states: which fault is told, and its printed text.
 
+use crate::expect::expect_text;
 use acpi_body::*;
 use acpi_name::Path;
 use acpi_space::{MapSpace, Space, TreeSpace};
@@ -158,9 +159,10 @@ fn prints_reasons(rt: HostRuntime) -> Result<(), Fail> {
         reason: BodyReason::NotStatement,
         place: 5,
     };
-    assert_eq!(rt;
+    expect_text(
+        &rt,
         format!(in rt.alloc(); "{fault}")?.as_str(),
-        "B6 NotStatement"
+        "B6 NotStatement",
     );
     Ok(())
 }
@@ -249,9 +251,10 @@ const MISSES: [(&[u8], &str); 18] = [
 fn expect_missed<S: Space<Object>>(rt: &impl Abort, alloc: Global) -> Result<(), Fail> {
     let space: S = with_method(alloc)?;
     for (bytes, text) in &MISSES {
-        assert_eq!(rt;
+        expect_text(
+            rt,
             missed(alloc, &space, "\\_SB_.M001", *bytes)?.as_str(),
-            *text
+            *text,
         );
     }
     Ok(())

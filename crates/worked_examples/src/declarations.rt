@@ -1,5 +1,6 @@
 //! Loads of small tables over both kinds of space, and printed texts, which no clause states.
 
+use crate::expect::{expect_number, expect_text};
 use acpi_declare::*;
 use acpi_name::Path;
 use acpi_space::{MapSpace, Space, TreeSpace};
@@ -110,18 +111,26 @@ const LISTED: &str = "\\ Root; \\EVT0 Event; \\_GL_ Mutex(0); \\_GPE Scope; \\_O
 #[test]
 fn loads_into_a_map(rt: HostRuntime) -> Result<(), Fail> {
     let declared = declared::<MapSpace<Object>>(rt.alloc(), &DSDT, UID, EVENT)??;
-    assert_eq!(rt; listed(rt.alloc(), declared.objects())?.as_str(), LISTED);
+    expect_text(
+        &rt,
+        listed(rt.alloc(), declared.objects())?.as_str(),
+        LISTED,
+    );
     let shared = shared::<MapSpace<Object>>(rt.alloc(), UID, EVENT)?;
-    assert_eq!(rt; listed(rt.alloc(), shared.objects())?.as_str(), LISTED);
+    expect_text(&rt, listed(rt.alloc(), shared.objects())?.as_str(), LISTED);
     Ok(())
 }
 
 #[test]
 fn loads_into_a_tree(rt: HostRuntime) -> Result<(), Fail> {
     let declared = declared::<TreeSpace<Object>>(rt.alloc(), &DSDT, UID, EVENT)??;
-    assert_eq!(rt; listed(rt.alloc(), declared.objects())?.as_str(), LISTED);
+    expect_text(
+        &rt,
+        listed(rt.alloc(), declared.objects())?.as_str(),
+        LISTED,
+    );
     let shared = shared::<TreeSpace<Object>>(rt.alloc(), UID, EVENT)?;
-    assert_eq!(rt; listed(rt.alloc(), shared.objects())?.as_str(), LISTED);
+    expect_text(&rt, listed(rt.alloc(), shared.objects())?.as_str(), LISTED);
     Ok(())
 }
 
@@ -161,7 +170,7 @@ fn expect_over<S: Space<Object>>(rt: &impl Abort, alloc: Global) -> Result<(), F
         (UID, "\\_SB_.PCI0._UID "),
         (TAKEN, "1: E6 Taken \\_SB_.PCI0"),
     ] {
-        assert_eq!(rt; own_paths(alloc, &dsdt, code)?.as_str(), text);
+        expect_text(rt, own_paths(alloc, &dsdt, code)?.as_str(), text);
     }
     Ok(())
 }
@@ -182,7 +191,7 @@ fn count<S>(alloc: Global, declared: &Declared<S>, number: usize) -> Result<Opti
 #[test]
 fn counts_arguments(rt: HostRuntime) -> Result<(), Fail> {
     let declared = declared::<TreeSpace<Object>>(rt.alloc(), &DSDT, UID, EVENT)??;
-    assert_eq!(rt; declared.notes().len(), 3);
+    expect_number(&rt, declared.notes().len(), 3);
     assert_eq!(rt; count(rt.alloc(), &declared, 0)?, None);
     assert_eq!(rt; count(rt.alloc(), &declared, 2)?, Some(2));
     Ok(())
@@ -197,8 +206,8 @@ fn linked(alloc: Global, first: &[u8], second: &[u8]) -> Result<String, Fail> {
 // A field's region may stand in a later table, or nowhere.
 #[test]
 fn links_fields(rt: HostRuntime) -> Result<(), Fail> {
-    assert_eq!(rt; linked(rt.alloc(), FIELD, REGION)?.as_str(), "\\REG0 ");
-    assert_eq!(rt; linked(rt.alloc(), FIELD, UID)?.as_str(), "- ");
+    expect_text(&rt, linked(rt.alloc(), FIELD, REGION)?.as_str(), "\\REG0 ");
+    expect_text(&rt, linked(rt.alloc(), FIELD, UID)?.as_str(), "- ");
     Ok(())
 }
 
@@ -214,13 +223,13 @@ fn fault<S: Space<Object>>(alloc: Global, dsdt: &[u8], second: &[u8]) -> Result<
 #[test]
 fn tells_faults(rt: HostRuntime) -> Result<(), Fail> {
     let doubled = fault::<MapSpace<Object>>(rt.alloc(), &DSDT, UID)?;
-    assert_eq!(rt; doubled.as_str(), "2: E6 Taken \\_SB_.PCI0._UID");
+    expect_text(&rt, doubled.as_str(), "2: E6 Taken \\_SB_.PCI0._UID");
     let doubled = fault::<TreeSpace<Object>>(rt.alloc(), &DSDT, UID)?;
-    assert_eq!(rt; doubled.as_str(), "2: E6 Taken \\_SB_.PCI0._UID");
+    expect_text(&rt, doubled.as_str(), "2: E6 Taken \\_SB_.PCI0._UID");
     let cut = fault::<TreeSpace<Object>>(rt.alloc(), &DSDT[..35], UID)?;
-    assert_eq!(rt; cut.as_str(), "0: T1 Short");
+    expect_text(&rt, cut.as_str(), "0: T1 Short");
     let cut = fault::<TreeSpace<Object>>(rt.alloc(), &DSDT, &UID[..17])?;
-    assert_eq!(rt; cut.as_str(), "2: K5 Overrun");
+    expect_text(&rt, cut.as_str(), "2: K5 Overrun");
     Ok(())
 }
 
@@ -235,7 +244,7 @@ fn prints_refusals(rt: HostRuntime) -> Result<(), Fail> {
         (Refusal::Taken, "E6 Taken"),
     ];
     for (refusal, text) in cases {
-        assert_eq!(rt; format!(in rt.alloc(); "{refusal}")?.as_str(), text);
+        expect_text(&rt, format!(in rt.alloc(); "{refusal}")?.as_str(), text);
     }
     Ok(())
 }
@@ -250,19 +259,29 @@ fn printed(alloc: Global, reason: LoadReason) -> Result<String, Fail> {
 fn prints_faults(rt: HostRuntime) -> Result<(), Fail> {
     let alloc = rt.alloc();
     let table = printed(alloc, LoadReason::Table(TableFault::BadSum))?;
-    assert_eq!(rt; table.as_str(), "T5 BadSum");
-    assert_eq!(rt; printed(alloc, LoadReason::NotDsdt)?.as_str(), "L1 NotDsdt");
-    assert_eq!(rt; printed(alloc, LoadReason::NotSsdt)?.as_str(), "L2 NotSsdt");
-    assert_eq!(rt;
+    expect_text(&rt, table.as_str(), "T5 BadSum");
+    expect_text(
+        &rt,
+        printed(alloc, LoadReason::NotDsdt)?.as_str(),
+        "L1 NotDsdt",
+    );
+    expect_text(
+        &rt,
+        printed(alloc, LoadReason::NotSsdt)?.as_str(),
+        "L2 NotSsdt",
+    );
+    expect_text(
+        &rt,
         printed(alloc, LoadReason::Trailing)?.as_str(),
-        "L3 Trailing"
+        "L3 Trailing",
     );
     let reason = ItemReason::Computed;
     let item = printed(alloc, LoadReason::Item { reason, place: 7 })?;
-    assert_eq!(rt; item.as_str(), "K6 Computed");
-    assert_eq!(rt;
+    expect_text(&rt, item.as_str(), "K6 Computed");
+    expect_text(
+        &rt,
         format!(in alloc; "{}", LoadFault::Memory)?.as_str(),
-        "M Memory"
+        "M Memory",
     );
     Ok(())
 }

@@ -2,6 +2,7 @@
 
 ghost use Rattle.std.specs.Prelude.{◌<◌};
 
+use crate::expect::{expect_bytes, expect_number, expect_text};
 use acpi_terms::*;
 use bytes::Bytes;
 use std::alloc::{AllocError, Global};
@@ -352,7 +353,7 @@ fn reads_parts(rt: HostRuntime) -> Result<(), Fail> {
     assert_eq!(rt; read_int(b"\x60"), None);
     assert_eq!(rt; read_int(b"\x0C\x00\x00\x00"), None);
     let (elem, used) = read_elem(rt.alloc(), b"AA__\x41\x01\xFF")?;
-    assert_eq!(rt; used, 6);
+    expect_number(&rt, used, 6);
     if let FieldElem::Unit(seg, bits) = elem {
         assert_eq!(rt; seg.bytes(), *b"AA__");
         assert_eq!(rt; bits, 17);
@@ -374,9 +375,9 @@ fn shares_method_code(rt: HostRuntime) -> Result<(), Fail> {
     let code = Bytes::from_static(b"\x14\x08\x46\x4F\x4F\x5F\x00\xA4\x01");
     let depth = Depth::new(1).ok_or("a depth")?;
     let items = read_items_shared(rt.alloc(), &code, depth)?;
-    assert_eq!(rt; items.len(), 1);
+    expect_number(&rt, items.len(), 1);
     if let Item::Method { code, .. } = &items[0] {
-        assert_eq!(rt; code.as_slice(), [0xA4, 0x01].as_slice());
+        expect_bytes(&rt, code.as_slice(), [0xA4, 0x01].as_slice());
     } else {
         assert!(rt; false);
     }
@@ -438,16 +439,21 @@ fn prints_reasons(rt: HostRuntime) -> Result<(), Fail> {
         (ItemReason::DataRegion, "K14 DataRegion"),
     ];
     for (reason, text) in rows {
-        assert_eq!(rt; format!(in rt.alloc(); "{reason}")?.as_str(), text);
+        expect_text(&rt, format!(in rt.alloc(); "{reason}")?.as_str(), text);
     }
     let fault = ItemFault::At {
         reason: ItemReason::Computed,
         place: 7,
     };
-    assert_eq!(rt; format!(in rt.alloc(); "{fault}")?.as_str(), "K6 Computed");
-    assert_eq!(rt;
+    expect_text(
+        &rt,
+        format!(in rt.alloc(); "{fault}")?.as_str(),
+        "K6 Computed",
+    );
+    expect_text(
+        &rt,
         format!(in rt.alloc(); "{}", ItemFault::Memory)?.as_str(),
-        "K15 Memory"
+        "K15 Memory",
     );
     Ok(())
 }

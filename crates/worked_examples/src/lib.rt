@@ -9,6 +9,10 @@ mod counts;
 #[cfg(test)]
 mod declarations;
 #[cfg(test)]
+mod every_order;
+#[cfg(test)]
+mod expect;
+#[cfg(test)]
 mod items;
 #[cfg(test)]
 mod machines;

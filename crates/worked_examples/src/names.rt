@@ -1,5 +1,6 @@
 //! Worked rows and printed texts.
 
+use crate::expect::{expect_bytes, expect_number, expect_text};
 use acpi_name::*;
 use std::test::Fail;
 
@@ -16,7 +17,7 @@ fn reads_names(rt: HostRuntime) -> Result<(), Fail> {
     ];
     for (bytes, text) in rows {
         let (name, _) = read_name(bytes)?;
-        assert_eq!(rt; name.to_string(rt.alloc())?.as_str(), text);
+        expect_text(&rt, name.to_string(rt.alloc())?.as_str(), text);
     }
     Ok(())
 }
@@ -32,7 +33,7 @@ fn counts_bytes(rt: HostRuntime) -> Result<(), Fail> {
     ];
     for (bytes, used) in rows {
         let (_, count) = read_name(bytes)?;
-        assert_eq!(rt; count, used);
+        expect_number(&rt, count, used);
     }
     Ok(())
 }
@@ -57,7 +58,7 @@ fn tells_faults(rt: HostRuntime) -> Result<(), Fail> {
     for (bytes, text) in rows {
         match read_name(bytes) {
             Ok(_) => return Err("a name was read".into()),
-            Err(fault) => assert_eq!(rt; fault.to_string(rt.alloc())?.as_str(), text),
+            Err(fault) => expect_text(&rt, fault.to_string(rt.alloc())?.as_str(), text),
         }
     }
     Ok(())
@@ -77,7 +78,11 @@ fn writes_names(rt: HostRuntime) -> Result<(), Fail> {
         let name = lent.own(rt.alloc())?;
         let copy = name.copy()?;
         assert!(rt; name == copy);
-        assert_eq!(rt; write_name(rt.alloc(), copy.view())?.as_slice(), shortest);
+        expect_bytes(
+            &rt,
+            write_name(rt.alloc(), copy.view())?.as_slice(),
+            shortest,
+        );
         assert_eq!(rt; name.to_string(rt.alloc())?, lent.to_string(rt.alloc())?);
     }
     Ok(())
@@ -96,16 +101,17 @@ fn places_names(rt: HostRuntime) -> Result<(), Fail> {
     for (bytes, text) in rows {
         let (name, _) = read_name(bytes)?;
         let path = place(rt.alloc(), &scope, name)?;
-        assert_eq!(rt; path.to_string(rt.alloc())?.as_str(), text);
+        expect_text(&rt, path.to_string(rt.alloc())?.as_str(), text);
     }
     let (name, _) = read_name(b"^^^^FOO_")?;
     match place(rt.alloc(), &scope, name) {
         Ok(_) => return Err("a path above the root".into()),
-        Err(fault) => assert_eq!(rt; fault.to_string(rt.alloc())?.as_str(), "A1 AboveRoot"),
+        Err(fault) => expect_text(&rt, fault.to_string(rt.alloc())?.as_str(), "A1 AboveRoot"),
     }
-    assert_eq!(rt;
+    expect_text(
+        &rt,
         PlaceFault::Memory.to_string(rt.alloc())?.as_str(),
-        "A2 Memory"
+        "A2 Memory",
     );
     Ok(())
 }
@@ -120,7 +126,7 @@ fn reads_texts(rt: HostRuntime) -> Result<(), Fail> {
     ];
     for (typed, printed) in rows {
         let path = Path::from_text(rt.alloc(), typed)?;
-        assert_eq!(rt; path.to_string(rt.alloc())?.as_str(), printed);
+        expect_text(&rt, path.to_string(rt.alloc())?.as_str(), printed);
         assert!(rt; Path::from_text(rt.alloc(), printed)? == path);
     }
     for text in [
@@ -147,9 +153,10 @@ fn reads_texts(rt: HostRuntime) -> Result<(), Fail> {
             ),
         }
     }
-    assert_eq!(rt;
+    expect_text(
+        &rt,
         PathFault::Memory.to_string(rt.alloc())?.as_str(),
-        "X2 Memory"
+        "X2 Memory",
     );
     Ok(())
 }
@@ -168,15 +175,16 @@ fn orders_paths(rt: HostRuntime) -> Result<(), Fail> {
     };
     assert!(rt; Seg::new(*b"pci0").is_none());
     before.push(seg)?;
-    assert_eq!(rt; before.len(), 2);
-    assert_eq!(rt;
+    expect_number(&rt, before.len(), 2);
+    expect_text(
+        &rt,
         before
             .beginning(rt.alloc(), 1)?
             .to_string(rt.alloc())?
             .as_str(),
-        "\\_SB_"
+        "\\_SB_",
     );
     assert_eq!(rt; before.pop(), Some(seg));
-    assert_eq!(rt; before.segs().len(), 1);
+    expect_number(&rt, before.segs().len(), 1);
     Ok(())
 }

@@ -1,5 +1,6 @@
 //! Bodies as they are printed.
 
+use crate::expect::expect_bytes;
 use acpi_name::{Name, Seg, read_name};
 use acpi_text::*;
 use acpi_tree::{Decl, FieldElem, Int, Op, Operand, Term, Width};
@@ -30,7 +31,7 @@ fn unary(alloc: Global, op: Op, operand: Term) -> Result<Term, AllocError> {
 fn expect(rt: &impl Abort, alloc: Global, statements: &[Term], expected: &str) -> Result<(), Fail> {
     let mut text = Vec::new(alloc);
     put_terms(&mut text, statements)?;
-    assert_eq!(rt; text.as_slice(), expected.as_bytes());
+    expect_bytes(rt, text.as_slice(), expected.as_bytes());
     Ok(())
 }
 
@@ -223,6 +224,6 @@ fn prints_bank_fields(rt: HostRuntime) -> Result<(), Fail> {
 fn prints_opaque_bodies(rt: HostRuntime) -> Result<(), Fail> {
     let mut text = Vec::new(rt.alloc());
     put_opaque(&mut text, b"\xA4\x4D\x54\x0A\x01")?;
-    assert_eq!(rt; text.as_slice(), "Opaque A4 4D 54 0A 01\n".as_bytes());
+    expect_bytes(&rt, text.as_slice(), "Opaque A4 4D 54 0A 01\n".as_bytes());
     Ok(())
 }

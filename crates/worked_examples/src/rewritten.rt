@@ -1,5 +1,6 @@
 //! Worked tables and what they are rewritten to.
 
+use crate::expect::{expect_bytes, expect_number};
 use crate::machines::{table, tables};
 use acpi_load::*;
 use acpi_space::{MapSpace, Space, TreeSpace};
@@ -49,11 +50,12 @@ fn expect<S: Space<Object>>(
         slices.push(ssdt.as_slice())?;
     }
     let rewritten = rewrite::<S>(alloc, dsdt.as_slice(), &slices, depth)?;
-    assert_eq!(rt; rewritten.len(), expected.len());
+    expect_number(rt, rewritten.len(), expected.len());
     for (i, bytes) in expected.iter().enumerate() {
-        assert_eq!(rt;
+        expect_bytes(
+            rt,
             rewritten.get(i).ok_or("no table")?.as_slice(),
-            bytes.as_slice()
+            bytes.as_slice(),
         );
     }
     assert!(rt; rewrite_shared::<S>(alloc, dsdt, ssdts, depth)? == rewritten);

@@ -1,5 +1,6 @@
 //! Worked single loads over both kinds of space: what they declare, miss and await, and their joins.
 
+use crate::expect::expect_text;
 use crate::machines::{CALL, EXTERNAL, MTH2, OTHER, table, tables};
 use acpi_load::*;
 use acpi_name::Path;
@@ -83,9 +84,9 @@ fn expect_told<S: Space<Object>>(rt: &impl Abort, alloc: Global) -> Result<(), F
         let dsdt = table(alloc, *b"DSDT", dsdt)?;
         let ssdt = table(alloc, *b"SSDT", &[ssdt])?;
         let shared: Single<S> = single_shared(alloc, &dsdt, &ssdt, depth)?;
-        assert_eq!(rt; told(alloc, &shared)?.as_str(), text);
+        expect_text(rt, told(alloc, &shared)?.as_str(), text);
         let copied: Single<S> = single(alloc, dsdt.as_slice(), ssdt.as_slice(), depth)?;
-        assert_eq!(rt; told(alloc, &copied)?.as_str(), text);
+        expect_text(rt, told(alloc, &copied)?.as_str(), text);
     }
     Ok(())
 }
@@ -97,7 +98,7 @@ fn tells_of_single_loads(rt: HostRuntime) -> Result<(), Fail> {
 }
 
 // The join of the single loads of SSDTs over a DSDT.
-fn joined<S: Space<Object>>(
+pub(crate) fn joined<S: Space<Object>>(
     alloc: Global,
     dsdt: &[&[u8]],
     ssdts: &[&[u8]],
@@ -127,14 +128,29 @@ fn expect_join<S: Space<Object>>(
     dsdt: &[&[u8]],
     ssdts: &[&[u8]],
 ) -> Result<(), Fail> {
-    let depth = Depth::new(1024).ok_or("no limit")?;
     let join: Machine<S> = joined(alloc, dsdt, ssdts)?.ok_or("no join")?;
+    expect_loaded(rt, alloc, dsdt, ssdts, &join)
+}
+
+// All tables load to this machine.
+pub(crate) fn expect_loaded<S: Space<Object>>(
+    rt: &impl Abort,
+    alloc: Global,
+    dsdt: &[&[u8]],
+    ssdts: &[&[u8]],
+    machine: &Machine<S>,
+) -> Result<(), Fail> {
+    let depth = Depth::new(1024).ok_or("no limit")?;
     let dsdt = table(alloc, *b"DSDT", dsdt)?;
     let loaded: Machine<S> = load_shared(alloc, &dsdt, &tables(alloc, ssdts)?, depth)?;
-    let objects = listed(alloc, join.objects())?;
-    assert_eq!(rt; objects.as_str(), listed(alloc, loaded.objects())?.as_str());
-    assert!(rt; join.links() == loaded.links());
-    assert!(rt; join.bodies() == loaded.bodies());
+    let objects = listed(alloc, machine.objects())?;
+    expect_text(
+        rt,
+        objects.as_str(),
+        listed(alloc, loaded.objects())?.as_str(),
+    );
+    assert!(rt; machine.links() == loaded.links());
+    assert!(rt; machine.bodies() == loaded.bodies());
     Ok(())
 }
 

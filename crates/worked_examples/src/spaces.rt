@@ -1,5 +1,6 @@
 //! Worked rows and printed texts, which no clause states.
 
+use crate::expect::{expect_number, expect_text};
 use acpi_name::{Path, Seg, read_name};
 use acpi_space::*;
 use std::alloc::Global;
@@ -85,8 +86,8 @@ fn searches<S: Space<usize>>(rt: &impl Abort, alloc: Global) -> Result<(), Fail>
         (b"\\\x2E_SB_FOO_", "At \\_SB_.FOO_", ""),
     ];
     for (name, answer, misses) in rows {
-        assert_eq!(rt; searched(alloc, &space, &scope, name)?.as_str(), answer);
-        assert_eq!(rt; missed(alloc, &space, &scope, name)?.as_str(), misses);
+        expect_text(rt, searched(alloc, &space, &scope, name)?.as_str(), answer);
+        expect_text(rt, missed(alloc, &space, &scope, name)?.as_str(), misses);
     }
     Ok(())
 }
@@ -108,7 +109,7 @@ fn one_pair<S: Space<usize>>(rt: &impl Abort, alloc: Global) -> Result<(), Fail>
     let pci0 = Seg::new(*b"PCI0").ok_or("no segment")?;
     let foo = Seg::new(*b"FOO_").ok_or("no segment")?;
     assert!(rt; space.get(&scope).is_none());
-    assert_eq!(rt; space.pairs()?.len(), 1);
+    expect_number(rt, space.pairs()?.len(), 1);
     assert_eq!(rt; space.nearest(&scope, pci0)?, Some(1));
     assert_eq!(rt; space.nearest(&scope, foo)?, None);
     Ok(())
@@ -139,9 +140,10 @@ fn ordered<S: Space<usize>>(rt: &impl Abort, alloc: Global) -> Result<(), Fail> 
         ],
     )?;
     match space.insert(Path::from_text(alloc, "\\C___")?, 7) {
-        Err(refused) => assert_eq!(rt;
+        Err(refused) => expect_text(
+            rt,
             format!(in alloc; "{refused} {refused:?}")?.as_str(),
-            "S1 Taken Taken(7)"
+            "S1 Taken Taken(7)",
         ),
         Ok(()) => return Err("inserted twice".into()),
     }
@@ -149,9 +151,10 @@ fn ordered<S: Space<usize>>(rt: &impl Abort, alloc: Global) -> Result<(), Fail> 
     for (path, value) in &space.pairs()? {
         text.push_str(format!(in alloc; "{path}={value} ")?.as_str())?;
     }
-    assert_eq!(rt;
+    expect_text(
+        rt,
         text.as_str(),
-        "\\=3 \\A___.A___.A___=5 \\A___.B___=2 \\B___=4 \\B___.A___=0 \\C___=1 "
+        "\\=3 \\A___.A___.A___=5 \\A___.B___=2 \\B___=4 \\B___.A___=0 \\C___=1 ",
     );
     Ok(())
 }
@@ -186,9 +189,10 @@ fn laid_over<S: Space<usize>>(rt: &impl Abort, alloc: Global) -> Result<(), Fail
     over.insert(Path::from_text(alloc, "\\C___")?, 4)?;
     over.insert(Path::from_text(alloc, "\\A___.B___.A___")?, 5)?;
     assert!(rt; over.insert(Path::from_text(alloc, "\\C___")?, 6).is_err());
-    assert_eq!(rt;
+    expect_text(
+        rt,
         listed(alloc, &over)?.as_str(),
-        "\\A___=0 \\A___.B___=1 \\A___.B___.A___=5 \\A___.B___.C___=2 \\C___=4 "
+        "\\A___=0 \\A___.B___=1 \\A___.B___.A___=5 \\A___.B___.C___=2 \\C___=4 ",
     );
     let scope = Path::from_text(alloc, "\\A___.B___.D___")?;
     for (seg, depth) in [
@@ -206,7 +210,7 @@ fn laid_over<S: Space<usize>>(rt: &impl Abort, alloc: Global) -> Result<(), Fail
     for path in &over.own_paths()? {
         text.push_str(format!(in alloc; "{path} ")?.as_str())?;
     }
-    assert_eq!(rt; text.as_str(), "\\A___.B___.A___ \\C___ ");
+    expect_text(rt, text.as_str(), "\\A___.B___.A___ \\C___ ");
     Ok(())
 }
 
@@ -228,7 +232,7 @@ fn deep_in_a_tree(rt: HostRuntime) -> Result<(), Fail> {
     let mut space = TreeSpace::new(alloc);
     space.insert(path.copy()?, 1)?;
     assert_eq!(rt; space.get(&path).copied(), Some(1));
-    assert_eq!(rt; space.pairs()?.len(), 1);
+    expect_number(&rt, space.pairs()?.len(), 1);
     assert_eq!(rt; space.nearest(&path, seg)?, Some(99_999));
     Ok(())
 }
@@ -236,21 +240,25 @@ fn deep_in_a_tree(rt: HostRuntime) -> Result<(), Fail> {
 #[test]
 fn texts(rt: HostRuntime) -> Result<(), Fail> {
     let alloc = rt.alloc();
-    assert_eq!(rt;
+    expect_text(
+        &rt,
         format!(in alloc; "{}", Refused::Taken(7))?.as_str(),
-        "S1 Taken"
+        "S1 Taken",
     );
-    assert_eq!(rt;
+    expect_text(
+        &rt,
         format!(in alloc; "{}", Refused::Memory(7))?.as_str(),
-        "S2 Memory"
+        "S2 Memory",
     );
-    assert_eq!(rt;
+    expect_text(
+        &rt,
         format!(in alloc; "{}", SearchFault::AboveRoot)?.as_str(),
-        "A1 AboveRoot"
+        "A1 AboveRoot",
     );
-    assert_eq!(rt;
+    expect_text(
+        &rt,
         format!(in alloc; "{}", SearchFault::Memory)?.as_str(),
-        "A2 Memory"
+        "A2 Memory",
     );
     Ok(())
 }

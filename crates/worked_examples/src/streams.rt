@@ -1,5 +1,6 @@
 //! Worked rows of tables read from a source, and devices that give little or fail.
 
+use crate::expect::{expect_bytes, expect_number, expect_text};
 use crate::tables::{DSDT, EMPTY};
 use acpi_table::*;
 use std::io;
@@ -20,11 +21,11 @@ fn reads_one_table_after_another(rt: HostRuntime) -> Result<(), Fail> {
     both.extend_from_slice(&SSDT)?;
     let mut source = SliceSource::new(&both);
     let first = read_table(rt.alloc(), &mut source)?.ok_or("the first")?;
-    assert_eq!(rt; first.as_slice(), DSDT.as_slice());
-    assert_eq!(rt; source.rest().len(), 54);
+    expect_bytes(&rt, first.as_slice(), DSDT.as_slice());
+    expect_number(&rt, source.rest().len(), 54);
     let second = read_table(rt.alloc(), &mut source)?.ok_or("the second")?;
-    assert_eq!(rt; second.as_slice(), SSDT.as_slice());
-    assert_eq!(rt; source.rest().len(), 0);
+    expect_bytes(&rt, second.as_slice(), SSDT.as_slice());
+    expect_number(&rt, source.rest().len(), 0);
     assert!(rt; read_table(rt.alloc(), &mut source)?.is_none());
     Ok(())
 }
@@ -43,7 +44,7 @@ fn fault_of(alloc: std::alloc::Global, bytes: &[u8]) -> (Option<ReadFault>, usiz
 fn refuses_what_is_no_table(rt: HostRuntime) -> Result<(), Fail> {
     let mut bytes = EMPTY.to_vec(rt.alloc())?;
     bytes.extend_from_slice(&DSDT)?;
-    assert_eq!(rt; bytes.len(), 92);
+    expect_number(&rt, bytes.len(), 92);
     let cases = [
         (0x23, 0x00, 0xAB, Some(TableFault::BadLength), 56),
         (0x01, 0x01, 0xAB, Some(TableFault::TooLong), 56),
@@ -105,7 +106,7 @@ fn reads_in_small_steps(rt: HostRuntime) -> Result<(), Fail> {
         });
         for _ in 0..3 {
             let table = read_table(rt.alloc(), &mut source)?.ok_or("a table")?;
-            assert_eq!(rt; table.as_slice(), DSDT.as_slice());
+            expect_bytes(&rt, table.as_slice(), DSDT.as_slice());
         }
         assert_eq!(rt; source.failures(), 0);
     }
@@ -139,11 +140,12 @@ fn prints_faults(rt: HostRuntime) -> Result<(), Fail> {
         (ReadFault::Memory, "D2 Memory"),
     ];
     for (fault, text) in faults {
-        assert_eq!(rt; format!(in rt.alloc(); "{fault}")?.as_str(), text);
+        expect_text(&rt, format!(in rt.alloc(); "{fault}")?.as_str(), text);
     }
-    assert_eq!(rt;
+    expect_text(
+        &rt,
         format!(in rt.alloc(); "{SourceFault}")?.as_str(),
-        "a read failed"
+        "a read failed",
     );
     Ok(())
 }

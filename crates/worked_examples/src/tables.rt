@@ -1,5 +1,6 @@
 //! Worked rows from outside, and the printed texts of faults.
 
+use crate::expect::{expect_number, expect_text};
 use acpi_table::*;
 use std::test::Fail;
 
@@ -29,7 +30,7 @@ fn cuts_tables(rt: HostRuntime) -> Result<(), Fail> {
     assert_eq!(rt; cut(&DSDT), Ok((56, 0)));
     assert_eq!(rt; cut(&EMPTY), Ok((36, 0)));
     let (table, _) = split_table(&DSDT).ok().ok_or("a table")?;
-    assert_eq!(rt; table.code().len(), 20);
+    expect_number(&rt, table.code().len(), 20);
     let header = table.header();
     assert_eq!(rt; header.signature, *b"DSDT");
     assert_eq!(rt; header.length, 56);
@@ -144,15 +145,17 @@ fn prints_faults(rt: HostRuntime) -> Result<(), Fail> {
         (TableFault::BadSum, "T5 BadSum"),
     ];
     for (fault, text) in tables {
-        assert_eq!(rt; format!(in rt.alloc(); "{fault}")?.as_str(), text);
+        expect_text(&rt, format!(in rt.alloc(); "{fault}")?.as_str(), text);
     }
-    assert_eq!(rt;
+    expect_text(
+        &rt,
         format!(in rt.alloc(); "{}", PkgFault::Cut)?.as_str(),
-        "P1 Cut"
+        "P1 Cut",
     );
-    assert_eq!(rt;
+    expect_text(
+        &rt,
         format!(in rt.alloc(); "{}", PkgFault::ReservedBits)?.as_str(),
-        "P2 ReservedBits"
+        "P2 ReservedBits",
     );
     Ok(())
 }

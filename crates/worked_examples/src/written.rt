@@ -1,5 +1,6 @@
 //! Worked rows: codes and what is written of them.
 
+use crate::expect::{expect_bytes, expect_text};
 use acpi_body::{Body, Counts, read_body};
 use acpi_name::Path;
 use acpi_space::{MapSpace, Space};
@@ -44,11 +45,11 @@ fn writes_the_shortest_spelling(rt: HostRuntime) -> Result<(), Fail> {
     let depth = Depth::new(1024).ok_or("a depth")?;
     for code in SHORTEST {
         let items = read_items(rt.alloc(), code, depth)?;
-        assert_eq!(rt; write_items(rt.alloc(), &items)?.as_slice(), code);
+        expect_bytes(&rt, write_items(rt.alloc(), &items)?.as_slice(), code);
     }
     for (code, shortest) in LONGER {
         let items = read_items(rt.alloc(), code, depth)?;
-        assert_eq!(rt; write_items(rt.alloc(), &items)?.as_slice(), shortest);
+        expect_bytes(&rt, write_items(rt.alloc(), &items)?.as_slice(), shortest);
     }
     Ok(())
 }
@@ -107,11 +108,11 @@ fn writes_bodies(rt: HostRuntime) -> Result<(), Fail> {
     space.insert(path, Object::Method(2))?;
     for body in SHORTEST_BODIES {
         let written = rewritten(rt.alloc(), &space, body)?.ok_or("a body that is read")?;
-        assert_eq!(rt; written.as_slice(), body);
+        expect_bytes(&rt, written.as_slice(), body);
     }
     for (body, shortest) in LONGER_BODIES {
         let written = rewritten(rt.alloc(), &space, body)?.ok_or("a body that is read")?;
-        assert_eq!(rt; written.as_slice(), shortest);
+        expect_bytes(&rt, written.as_slice(), shortest);
     }
     Ok(())
 }
@@ -131,7 +132,7 @@ fn writes_tables(rt: HostRuntime) -> Result<(), Fail> {
         let (table, _) = split_table(bytes)?;
         let items = read_items(rt.alloc(), table.code(), depth)?;
         let written = write_table(rt.alloc(), &table.header(), &items)?;
-        assert_eq!(rt; written.as_slice(), REWRITTEN);
+        expect_bytes(&rt, written.as_slice(), REWRITTEN);
     }
     Ok(())
 }
@@ -143,7 +144,7 @@ fn prints_faults(rt: HostRuntime) -> Result<(), Fail> {
         (WriteFault::Memory, "W2 Memory"),
     ];
     for (fault, text) in faults {
-        assert_eq!(rt; format!(in rt.alloc(); "{fault}")?.as_str(), text);
+        expect_text(&rt, format!(in rt.alloc(); "{fault}")?.as_str(), text);
     }
     Ok(())
 }
