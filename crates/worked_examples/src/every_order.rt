@@ -21,9 +21,10 @@ const COMMUTING: [(&[&[u8]], &[&[u8]]); 3] = [
     (&[CALL, BRIDGE], &[OTHER, STA, UID]),
 ];
 
-// What three SSDTs over a bridge load to, and where not, in each of their orders.
+// What three SSDTs over a bridge load to, where they load.
 const LOADED: &str = "\\XYZ_; \\_SB_.DEV1; \\_SB_.DEV1._UID; \\_SB_.PCI0; \\_SB_.PCI0._ADR; ";
 
+// The three in each of their orders, and its answer.
 const THREE: [(&[&[u8]], &str); 6] = [
     (&[DEVICE, IN_DEVICE, OTHER], LOADED),
     (&[DEVICE, OTHER, IN_DEVICE], LOADED),

@@ -1,4 +1,4 @@
-//! What the rows expect. A test that calls these is proved in a third of the time of one that has each comparison in it.
+//! What the rows expect. A comparison in a test is proved there anew, and one by these calls only once.
 
 use std::process::Abort;
 

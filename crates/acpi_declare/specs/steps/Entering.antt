@@ -9,7 +9,7 @@ use Rattle.acpi_tree.specs.Tree.{ItemTree, scope, device, processor, power, ther
 use Rattle.acpi_tree.specs.View.{items_tree}
 use Rattle.acpi_declare.specs.steps.Pass.{Pass, Passing, pass_items}
 
--- how many items of a list are left, and how many inside an item
+-- a measure of what is left: what stands inside an item weighs less than the item, and an item less than its list
 abbrev mutual
   pub weight : ItemTree → ℕ
   weight (scope n is) = 1 + weights is
