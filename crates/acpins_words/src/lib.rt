@@ -13,6 +13,3 @@ mod words;
 
 pub use fault::WordsFault;
 pub use words::{Command, Request, read_words};
-
-#[cfg(test)]
-mod tests;

@@ -1,55 +1,24 @@
-//! Worked rows, which no contract states: which fault is told, and its printed text.
+//! Worked rows, which no contract states: which fault is told; and what bodies miss.
 
-use crate::expect::expect_text;
+use crate::expect::{expect_text, put_printed, put_text};
+use crate::machines::limit;
 use acpi_body::*;
 use acpi_name::Path;
 use acpi_space::{MapSpace, Space, TreeSpace};
 use acpi_tree::Object;
 use std::alloc::Global;
 use std::process::Abort;
-use std::test::Fail;
 
 // A space with a method of two arguments at \MTH2.
-fn with_method<S: Space<Object>>(alloc: Global) -> Result<S, Fail> {
+pub(crate) fn with_method<S: Space<Object>>(rt: &impl Abort, alloc: Global) -> S {
     let mut space = S::new(alloc);
-    let path = Path::from_text(alloc, "\\MTH2")?;
-    space.insert(path, Object::Method(2))?;
-    Ok(space)
+    let path = Path::from_text(alloc, "\\MTH2").expect(rt, "a path");
+    let refused = space.insert(path, Object::Method(2)).is_err();
+    assert!(rt; !refused);
+    space
 }
 
-fn fault_of<S: Space<Object>>(
-    alloc: Global,
-    space: &S,
-    bytes: &[u8],
-    limit: u32,
-) -> Result<Option<BodyFault>, Fail> {
-    let method = Path::from_text(alloc, "\\M001")?;
-    let counts = Counts::new(alloc);
-    match Depth::new(limit) {
-        Some(depth) => Ok(why(alloc, space, &method, bytes, depth, &counts)?),
-        None => Ok(None),
-    }
-}
-
-fn expect<S: Space<Object>>(
-    rt: &impl Abort,
-    alloc: Global,
-    space: &S,
-    rows: &[(&[u8], u32, BodyReason, usize)],
-) -> Result<(), Fail> {
-    for (bytes, limit, reason, place) in rows {
-        let found = fault_of(alloc, space, bytes, *limit)?;
-        assert_eq!(rt;
-            found,
-            Some(BodyFault {
-                reason: *reason,
-                place: *place
-            })
-        );
-    }
-    Ok(())
-}
-
+// Bodies of \M001 that are not read: the limit of levels, and why.
 const ROWS: [(&[u8], u32, BodyReason, usize); 18] = [
     (b"\xA4", 1024, BodyReason::Cut, 1),
     (b"\xA4\x04", 1024, BodyReason::BadOpcode, 1),
@@ -91,14 +60,6 @@ const ROWS: [(&[u8], u32, BodyReason, usize); 18] = [
     ),
 ];
 
-#[test]
-fn tells_each_reason(rt: HostRuntime) -> Result<(), Fail> {
-    let map: MapSpace<Object> = with_method(rt.alloc())?;
-    let tree: TreeSpace<Object> = with_method(rt.alloc())?;
-    expect(&rt, rt.alloc(), &map, &ROWS)?;
-    expect(&rt, rt.alloc(), &tree, &ROWS)
-}
-
 // Bodies that are read.
 const READ: [(&[u8], u32); 9] = [
     (b"", 1),
@@ -118,82 +79,42 @@ const READ: [(&[u8], u32); 9] = [
     ),
 ];
 
-fn expect_read<S: Space<Object>>(rt: &impl Abort, alloc: Global, space: &S) -> Result<(), Fail> {
-    for (bytes, limit) in &READ {
-        assert_eq!(rt; fault_of(alloc, space, bytes, *limit)?, None);
+fn expect_reasons<S: Space<Object>>(rt: &impl Abort, alloc: Global) {
+    let space: S = with_method(rt, alloc);
+    let method = Path::from_text(alloc, "\\M001").expect(rt, "a path");
+    let counts = Counts::new(alloc);
+    for (bytes, levels, reason, place) in ROWS {
+        let told = why(alloc, &space, &method, bytes, limit(rt, levels), &counts);
+        assert!(rt; told.expect(rt, "an answer") == Some(BodyFault { reason, place }));
     }
-    Ok(())
-}
-
-#[test]
-fn reads_bodies(rt: HostRuntime) -> Result<(), Fail> {
-    let map: MapSpace<Object> = with_method(rt.alloc())?;
-    let tree: TreeSpace<Object> = with_method(rt.alloc())?;
-    expect_read(&rt, rt.alloc(), &map)?;
-    expect_read(&rt, rt.alloc(), &tree)
+    for (bytes, levels) in READ {
+        let told = why(alloc, &space, &method, bytes, limit(rt, levels), &counts);
+        assert!(rt; told.expect(rt, "an answer").is_none());
+    }
 }
 
 // The External's count holds where nothing is found.
-#[test]
-fn counts_are_asked_where_nothing_is_found(rt: HostRuntime) -> Result<(), Fail> {
-    let alloc = rt.alloc();
-    let space: MapSpace<Object> = MapSpace::new(alloc);
-    let method = Path::from_text(alloc, "\\_SB_.M001")?;
+fn expect_counted<S: Space<Object>>(rt: &impl Abort, alloc: Global) {
+    let space = S::new(alloc);
+    let method = Path::from_text(alloc, "\\_SB_.M001").expect(rt, "a path");
+    let awaited = Path::from_text(alloc, "\\MTH2").expect(rt, "a path");
     let mut counts = Counts::new(alloc);
-    counts.add(Path::from_text(alloc, "\\MTH2")?, 2)?;
     let bytes: &[u8] = b"\xA4\x4D\x54\x48\x32\x0A\x01\x0A\x02";
-    if let Some(depth) = Depth::new(2) {
-        let opaque = read_body(alloc, &space, &method, bytes, depth, &Counts::new(alloc))?;
-        assert!(rt; matches!(&opaque, Body::Opaque(_)));
-    }
-    if let Some(depth) = Depth::new(3) {
-        let read = read_body(alloc, &space, &method, bytes, depth, &counts)?;
-        assert!(rt; matches!(&read, Body::Terms(_)));
-    }
-    Ok(())
+    let body = read_body(alloc, &space, &method, bytes, limit(rt, 3), &counts);
+    assert!(rt; matches!(&body, Ok(Body::Opaque(_))));
+    counts.add(awaited, 2).expect(rt, "memory");
+    let body = read_body(alloc, &space, &method, bytes, limit(rt, 3), &counts);
+    assert!(rt; matches!(&body, Ok(Body::Terms(_))));
 }
 
-#[test]
-fn prints_reasons(rt: HostRuntime) -> Result<(), Fail> {
-    let fault = BodyFault {
-        reason: BodyReason::NotStatement,
-        place: 5,
-    };
-    expect_text(
-        &rt,
-        format!(in rt.alloc(); "{fault}")?.as_str(),
-        "B6 NotStatement",
-    );
-    Ok(())
-}
-
-// What a body misses, as a text: the firm paths, a bar, and the open misses.
-fn missed<S: Space<Object>>(
-    alloc: Global,
-    space: &S,
-    method: &str,
-    bytes: &[u8],
-) -> Result<String, Fail> {
-    let method = Path::from_text(alloc, method)?;
-    let mut counts = Counts::new(alloc);
-    counts.add(Path::from_text(alloc, "\\MTH0")?, 0)?;
-    counts.add(Path::from_text(alloc, "\\MTH2")?, 2)?;
-    counts.add(Path::from_text(alloc, "\\MTH3")?, 2)?;
-    counts.add(Path::from_text(alloc, "\\BOTH")?, 1)?;
-    counts.add(Path::from_text(alloc, "\\_SB_.BOTH")?, 2)?;
-    let depth = Depth::new(1024).ok_or("no depth")?;
-    let body = read_body(alloc, space, &method, bytes, depth, &counts)?;
-    let misses = body_misses(alloc, space, &method, &body, &counts)?;
-    let mut text = String::new(alloc);
-    for path in &misses.firm {
-        text.push_str(format!(in alloc; "{path} ")?.as_str())?;
-    }
-    text.push_str("|")?;
-    for miss in &misses.open {
-        text.push_str(format!(in alloc; " {}={}", miss.path, miss.count)?.as_str())?;
-    }
-    Ok(text)
-}
+// What the Externals of a table say of these paths.
+const COUNTS: [(&str, u8); 5] = [
+    ("\\MTH0", 0),
+    ("\\MTH2", 2),
+    ("\\MTH3", 2),
+    ("\\BOTH", 1),
+    ("\\_SB_.BOTH", 2),
+];
 
 // Bodies of \_SB_.M001 where \MTH2 is a method of two arguments.
 const MISSES: [(&[u8], &str); 18] = [
@@ -248,24 +169,43 @@ const MISSES: [(&[u8], &str); 18] = [
     ),
 ];
 
-fn expect_missed<S: Space<Object>>(rt: &impl Abort, alloc: Global) -> Result<(), Fail> {
-    let space: S = with_method(alloc)?;
-    for (bytes, text) in &MISSES {
-        expect_text(
-            rt,
-            missed(alloc, &space, "\\_SB_.M001", *bytes)?.as_str(),
-            *text,
-        );
+// What a body misses, as a text: the firm paths, a bar, and the open misses.
+fn expect_missed<S: Space<Object>>(rt: &impl Abort, alloc: Global) {
+    let space: S = with_method(rt, alloc);
+    let method = Path::from_text(alloc, "\\_SB_.M001").expect(rt, "a path");
+    let mut counts = Counts::new(alloc);
+    for (path, count) in COUNTS {
+        let path = Path::from_text(alloc, path).expect(rt, "a path");
+        counts.add(path, count).expect(rt, "memory");
     }
-    Ok(())
+    for (bytes, missed) in MISSES {
+        let body = read_body(alloc, &space, &method, bytes, limit(rt, 1024), &counts);
+        let body = body.expect(rt, "a body");
+        let misses = body_misses(alloc, &space, &method, &body, &counts).expect(rt, "the misses");
+        let mut text = String::new(alloc);
+        for path in &misses.firm {
+            put_printed(rt, alloc, &mut text, path, " ");
+        }
+        put_text(rt, &mut text, "|");
+        for miss in &misses.open {
+            put_text(rt, &mut text, " ");
+            put_printed(rt, alloc, &mut text, &miss.path, "=");
+            put_printed(rt, alloc, &mut text, &miss.count, "");
+        }
+        expect_text(rt, text.as_str(), missed);
+    }
 }
 
 #[test]
-fn misses_in_a_map(rt: HostRuntime) -> Result<(), Fail> {
-    expect_missed::<MapSpace<Object>>(&rt, rt.alloc())
+fn reads_bodies_over_a_map(rt: HostRuntime) {
+    expect_reasons::<MapSpace<Object>>(&rt, rt.alloc());
+    expect_counted::<MapSpace<Object>>(&rt, rt.alloc());
+    expect_missed::<MapSpace<Object>>(&rt, rt.alloc());
 }
 
 #[test]
-fn misses_in_a_tree(rt: HostRuntime) -> Result<(), Fail> {
-    expect_missed::<TreeSpace<Object>>(&rt, rt.alloc())
+fn reads_bodies_over_a_tree(rt: HostRuntime) {
+    expect_reasons::<TreeSpace<Object>>(&rt, rt.alloc());
+    expect_counted::<TreeSpace<Object>>(&rt, rt.alloc());
+    expect_missed::<TreeSpace<Object>>(&rt, rt.alloc());
 }

@@ -13,6 +13,8 @@ mod every_order;
 #[cfg(test)]
 mod expect;
 #[cfg(test)]
+mod faults;
+#[cfg(test)]
 mod items;
 #[cfg(test)]
 mod machines;
@@ -20,8 +22,6 @@ mod machines;
 mod names;
 #[cfg(test)]
 mod orders;
-#[cfg(test)]
-mod printed;
 #[cfg(test)]
 mod rewritten;
 #[cfg(test)]

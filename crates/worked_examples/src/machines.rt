@@ -10,7 +10,6 @@ use acpi_tree::{Decl, Int, Op, Operand, Term};
 use bytes::Bytes;
 use std::alloc::Global;
 use std::process::Abort;
-use std::test::Fail;
 
 // Method (CALL) { Return (MTH2 (1, 2)) }
 pub(crate) const CALL: &[u8] = b"\x14\x0FCALL\x00\xA4MTH2\x0A\x01\x0A\x02";
@@ -59,46 +58,68 @@ const UNREAD: [(&[&[u8]], &[&[u8]], usize); 7] = [
 ];
 
 // A whole table of this signature and code.
-pub(crate) fn table(alloc: Global, signature: [u8; 4], parts: &[&[u8]]) -> Result<Bytes, Fail> {
+pub(crate) fn table(rt: &impl Abort, alloc: Global, signature: [u8; 4], parts: &[&[u8]]) -> Bytes {
     let mut code = Vec::new(alloc);
     for part in parts {
-        code.extend_from_slice(*part)?;
+        code.extend_from_slice(*part).expect(rt, "memory");
     }
-    let length = u32::try_from(HEADER_BYTES + code.len())
-        .ok()
-        .ok_or("too long")?;
-    let mut bytes = Vec::from_slice(alloc, &signature)?;
-    bytes.extend_from_slice(&length.to_le_bytes())?;
-    bytes.extend_from_slice(&[0; 28])?;
-    bytes.extend_from_slice(&code)?;
+    let length = u32::try_from(HEADER_BYTES + code.len()).expect(rt, "a length");
+    let mut bytes = Vec::from_slice(alloc, &signature).expect(rt, "memory");
+    bytes
+        .extend_from_slice(&length.to_le_bytes())
+        .expect(rt, "memory");
+    bytes.extend_from_slice(&[0; 28]).expect(rt, "memory");
+    bytes.extend_from_slice(&code).expect(rt, "memory");
     let checksum = checksum_for(&bytes);
     if let Some(byte) = bytes.get_mut(9) {
         *byte = checksum;
     }
-    Ok(Bytes::copy_from_slice(alloc, &bytes)?)
+    Bytes::copy_from_slice(alloc, &bytes).expect(rt, "memory")
+}
+
+// A DSDT of these parts.
+pub(crate) fn dsdt_of(rt: &impl Abort, alloc: Global, parts: &[&[u8]]) -> Bytes {
+    table(rt, alloc, *b"DSDT", parts)
 }
 
 // SSDTs of these codes.
-pub(crate) fn tables(alloc: Global, codes: &[&[u8]]) -> Result<Vec<Bytes>, Fail> {
+pub(crate) fn ssdts_of(rt: &impl Abort, alloc: Global, codes: &[&[u8]]) -> Vec<Bytes> {
     let mut tables = Vec::new(alloc);
     for code in codes {
-        tables.push(table(alloc, *b"SSDT", &[*code])?)?;
+        tables
+            .push(table(rt, alloc, *b"SSDT", &[*code]))
+            .expect(rt, "memory");
     }
-    Ok(tables)
+    tables
+}
+
+// The bytes of each table.
+pub(crate) fn slices_of<'a>(rt: &impl Abort, alloc: Global, tables: &'a [Bytes]) -> Vec<&'a [u8]> {
+    let mut slices = Vec::new(alloc);
+    for table in tables {
+        slices.push(table.as_slice()).expect(rt, "memory");
+    }
+    slices
+}
+
+// So many levels at most.
+pub(crate) fn limit(rt: &impl Abort, levels: u32) -> Depth {
+    Depth::new(levels).expect(rt, "a limit")
 }
 
 // The name of one segment.
-fn name(alloc: Global, segment: &[u8]) -> Result<Name, Fail> {
-    match read_name(segment) {
-        Ok((name, _)) => Ok(name.own(alloc)?),
-        Err(_) => Err("no name".into()),
-    }
+fn name(rt: &impl Abort, alloc: Global, segment: &[u8]) -> Name {
+    let (name, _) = read_name(segment).expect(rt, "a name");
+    name.own(alloc).expect(rt, "memory")
 }
 
 // Return (MTH2 (..))
-fn returns(alloc: Global, arguments: Vec<Term>) -> Result<Term, Fail> {
-    let call = Term::Call(name(alloc, b"MTH2")?, arguments);
-    Ok(Term::Op(Op::Return, vec![in alloc; Operand::Term(call)]?))
+fn returns(rt: &impl Abort, alloc: Global, arguments: Vec<Term>) -> Term {
+    let call = Term::Call(name(rt, alloc, b"MTH2"), arguments);
+    Term::Op(
+        Op::Return,
+        vec![in alloc; Operand::Term(call)].expect(rt, "memory"),
+    )
 }
 
 // What a load says of the method at a path: its body, and why it isn't read.
@@ -109,82 +130,72 @@ fn expect<S: Space<Object>>(
     path: &str,
     body: &Body,
     fault: Option<BodyFault>,
-) -> Result<(), Fail> {
-    let depth = Depth::new(1024).ok_or("no limit")?;
-    let path = Path::from_text(alloc, path)?;
-    let dsdt = table(alloc, *b"DSDT", tables.0)?;
-    let ssdts = self::tables(alloc, tables.1)?;
-    let mut slices = Vec::new(alloc);
-    for ssdt in &ssdts {
-        slices.push(ssdt.as_slice())?;
-    }
-    let machine: Machine<S> = load(alloc, dsdt.as_slice(), &slices, depth)?;
-    assert!(rt; machine.bodies().get(&path).ok_or("no body")? == body);
-    let machine: Machine<S> = load_shared(alloc, &dsdt, &ssdts, depth)?;
-    assert!(rt; machine.bodies().get(&path).ok_or("no body")? == body);
-    assert_eq!(rt;
-        explain::<S>(alloc, dsdt.as_slice(), &slices, &path, depth)?,
-        fault
-    );
-    assert_eq!(rt;
-        explain_shared::<S>(alloc, &dsdt, &ssdts, &path, depth)?,
-        fault
-    );
-    Ok(())
+) {
+    let depth = limit(rt, 1024);
+    let path = Path::from_text(alloc, path).expect(rt, "a path");
+    let dsdt = dsdt_of(rt, alloc, tables.0);
+    let ssdts = ssdts_of(rt, alloc, tables.1);
+    let slices = slices_of(rt, alloc, &ssdts);
+    let machine: Machine<S> = load(alloc, dsdt.as_slice(), &slices, depth).expect(rt, "a machine");
+    assert!(rt; machine.bodies().get(&path).expect(rt, "a body") == body);
+    let machine: Machine<S> = load_shared(alloc, &dsdt, &ssdts, depth).expect(rt, "a machine");
+    assert!(rt; machine.bodies().get(&path).expect(rt, "a body") == body);
+    let told = explain::<S>(alloc, dsdt.as_slice(), &slices, &path, depth);
+    assert!(rt; told.expect(rt, "an answer") == fault);
+    let told = explain_shared::<S>(alloc, &dsdt, &ssdts, &path, depth);
+    assert!(rt; told.expect(rt, "an answer") == fault);
 }
 
 // A name is followed by as many arguments as the method has that any of the tables declares there, or else by as many
 // as an External of its own table says.
-fn expect_calls<S: Space<Object>>(rt: &impl Abort, alloc: Global) -> Result<(), Fail> {
-    let arguments = vec![in alloc; Term::Int(Int::Byte(1)), Term::Int(Int::Byte(2))]?;
-    let body = Body::Terms(vec![in alloc; returns(alloc, arguments)?]?);
+fn expect_calls<S: Space<Object>>(rt: &impl Abort, alloc: Global) {
+    let arguments = vec![in alloc; Term::Int(Int::Byte(1)), Term::Int(Int::Byte(2))];
+    let call = returns(rt, alloc, arguments.expect(rt, "memory"));
+    let body = Body::Terms(vec![in alloc; call].expect(rt, "memory"));
     for tables in READ {
-        expect::<S>(rt, alloc, tables, "\\CALL", &body, None)?;
+        expect::<S>(rt, alloc, tables, "\\CALL", &body, None);
     }
-    let body = Body::Opaque(Vec::from_slice(alloc, b"\xA4MTH2\x0A\x01\x0A\x02")?);
+    let bytes = Vec::from_slice(alloc, b"\xA4MTH2\x0A\x01\x0A\x02");
+    let body = Body::Opaque(bytes.expect(rt, "memory"));
     for (dsdt, ssdts, place) in UNREAD {
         let fault = BodyFault {
             reason: BodyReason::NotStatement,
             place,
         };
-        expect::<S>(rt, alloc, (dsdt, ssdts), "\\CALL", &body, Some(fault))?;
+        expect::<S>(rt, alloc, (dsdt, ssdts), "\\CALL", &body, Some(fault));
     }
-    Ok(())
-}
-
-#[test]
-fn reads_calls(rt: HostRuntime) -> Result<(), Fail> {
-    expect_calls::<MapSpace<Object>>(&rt, rt.alloc())?;
-    expect_calls::<TreeSpace<Object>>(&rt, rt.alloc())
 }
 
 // What a body has declared hides a method.
-#[test]
-fn reads_locals(rt: HostRuntime) -> Result<(), Fail> {
-    let alloc = rt.alloc();
-    let zero = Box::new(alloc, Term::Int(Int::Zero))?;
-    let name = Decl::Name(name(alloc, b"MTH2")?, zero);
-    let name = Term::Declare(Box::new(alloc, name)?);
-    let body = Body::Terms(vec![in alloc; name, returns(alloc, Vec::new(alloc))?]?);
-    let tables: (&[&[u8]], &[&[u8]]) = (&[MTH2, LOCAL], &[]);
-    expect::<MapSpace<Object>>(&rt, alloc, tables, "\\_SB_.M001", &body, None)?;
-    expect::<TreeSpace<Object>>(&rt, alloc, tables, "\\_SB_.M001", &body, None)
-}
-
-// Why the body at this path isn't read, where the DSDT calls a method that no table declares.
-fn explained<S: Space<Object>>(alloc: Global, path: &str) -> Result<Option<BodyFault>, Fail> {
-    let depth = Depth::new(1024).ok_or("no limit")?;
-    let dsdt = table(alloc, *b"DSDT", &[NAME, CALL])?;
-    let path = Path::from_text(alloc, path)?;
-    Ok(explain_shared::<S>(alloc, &dsdt, &[], &path, depth)?)
+fn expect_locals<S: Space<Object>>(rt: &impl Abort, alloc: Global) {
+    let zero = Box::new(alloc, Term::Int(Int::Zero)).expect(rt, "memory");
+    let local = Decl::Name(name(rt, alloc, b"MTH2"), zero);
+    let local = Term::Declare(Box::new(alloc, local).expect(rt, "memory"));
+    let call = returns(rt, alloc, Vec::new(alloc));
+    let body = Body::Terms(vec![in alloc; local, call].expect(rt, "memory"));
+    expect::<S>(rt, alloc, (&[MTH2, LOCAL], &[]), "\\_SB_.M001", &body, None);
 }
 
 // Nothing is told of a path without a method, and of a method that no table declares.
-#[test]
-fn tells_nothing_without_a_method(rt: HostRuntime) -> Result<(), Fail> {
+fn expect_nothing<S: Space<Object>>(rt: &impl Abort, alloc: Global) {
+    let dsdt = dsdt_of(rt, alloc, &[NAME, CALL]);
     for path in ["\\NONE", "\\MTH2", "\\_SB_", "\\_OSI"] {
-        assert_eq!(rt; explained::<MapSpace<Object>>(rt.alloc(), path)?, None);
-        assert_eq!(rt; explained::<TreeSpace<Object>>(rt.alloc(), path)?, None);
+        let path = Path::from_text(alloc, path).expect(rt, "a path");
+        let told = explain_shared::<S>(alloc, &dsdt, &[], &path, limit(rt, 1024));
+        assert!(rt; told.expect(rt, "an answer").is_none());
     }
-    Ok(())
+}
+
+#[test]
+fn reads_bodies_over_a_map(rt: HostRuntime) {
+    expect_calls::<MapSpace<Object>>(&rt, rt.alloc());
+    expect_locals::<MapSpace<Object>>(&rt, rt.alloc());
+    expect_nothing::<MapSpace<Object>>(&rt, rt.alloc());
+}
+
+#[test]
+fn reads_bodies_over_a_tree(rt: HostRuntime) {
+    expect_calls::<TreeSpace<Object>>(&rt, rt.alloc());
+    expect_locals::<TreeSpace<Object>>(&rt, rt.alloc());
+    expect_nothing::<TreeSpace<Object>>(&rt, rt.alloc());
 }

@@ -1,45 +1,52 @@
 //! Worked rows and printed texts.
 
-use crate::expect::{expect_bytes, expect_number, expect_text};
+use crate::expect::{expect_bytes, expect_number, expect_printed};
 use acpi_name::*;
-use std::test::Fail;
+use std::alloc::Global;
+use std::process::Abort;
+
+// Names, each with its text, the bytes that it takes, and its shortest spelling.
+const NAMES: [(&[u8], &str, usize, &[u8]); 9] = [
+    (b"\x2F\x01FOO_", "FOO_", 6, b"FOO_"),
+    (b"FOO_\x08", "FOO_", 4, b"FOO_"),
+    (b"FOO_BAR_", "FOO_", 4, b"FOO_"),
+    (b"\\\x00", "\\", 2, b"\\\x00"),
+    (b"\x00\x00", ".", 1, b"\x00"),
+    (b"^\x00\x00", "^", 2, b"^\x00"),
+    (b"\\\x2E_SB_PCI0", "\\_SB_.PCI0", 10, b"\\\x2E_SB_PCI0"),
+    (b"\\\x2F\x02_SB_PCI0", "\\_SB_.PCI0", 11, b"\\\x2E_SB_PCI0"),
+    (
+        b"^^\x2F\x03AB12C___DEV0\x08",
+        "^^AB12.C___.DEV0",
+        16,
+        b"^^\x2F\x03AB12C___DEV0",
+    ),
+];
 
 #[test]
-fn reads_names(rt: HostRuntime) -> Result<(), Fail> {
-    let rows: [(&[u8], &str); 7] = [
-        (&[0x2F, 0x01, 0x46, 0x4F, 0x4F, 0x5F], "FOO_"),
-        (&[0x46, 0x4F, 0x4F, 0x5F, 0x08], "FOO_"),
-        (&[0x5C, 0x00], "\\"),
-        (&[0x00], "."),
-        (&[0x5E, 0x00, 0x00], "^"),
-        (b"\x5C\x2E_SB_PCI0", "\\_SB_.PCI0"),
-        (b"^^\x2F\x03AB12C___DEV0\x08", "^^AB12.C___.DEV0"),
-    ];
-    for (bytes, text) in rows {
-        let (name, _) = read_name(bytes)?;
-        expect_text(&rt, name.to_string(rt.alloc())?.as_str(), text);
-    }
-    Ok(())
-}
-
-#[test]
-fn counts_bytes(rt: HostRuntime) -> Result<(), Fail> {
-    let rows: [(&[u8], usize); 5] = [
-        (&[0x2F, 0x01, 0x46, 0x4F, 0x4F, 0x5F], 6),
-        (b"FOO_BAR_", 4),
-        (&[0x5C, 0x00], 2),
-        (&[0x00, 0x00], 1),
-        (b"\x5C\x2E_SB_PCI0", 10),
-    ];
-    for (bytes, used) in rows {
-        let (_, count) = read_name(bytes)?;
+fn reads_and_writes_names(rt: HostRuntime) {
+    for (bytes, text, used, shortest) in NAMES {
+        let (lent, count) = read_name(bytes).expect(&rt, "a name");
         expect_number(&rt, count, used);
+        expect_printed(&rt, rt.alloc(), &lent, text);
+        let name = lent.own(rt.alloc()).expect(&rt, "memory");
+        expect_printed(&rt, rt.alloc(), &name, text);
+        let copy = name.copy().expect(&rt, "memory");
+        assert!(rt; name == copy);
+        let written = write_name(rt.alloc(), copy.view()).expect(&rt, "memory");
+        expect_bytes(&rt, written.as_slice(), shortest);
     }
-    Ok(())
+}
+
+fn expect_fault(rt: &impl Abort, alloc: Global, bytes: &[u8], text: &str) {
+    match read_name(bytes) {
+        Ok(_) => assert!(rt; false, "a name was read"),
+        Err(fault) => expect_printed(rt, alloc, &fault, text),
+    }
 }
 
 #[test]
-fn tells_faults(rt: HostRuntime) -> Result<(), Fail> {
+fn tells_faults(rt: HostRuntime) {
     let ups = [0x5E; 257];
     let rows: [(&[u8], &str); 12] = [
         (&[], "N1 Cut"),
@@ -56,135 +63,82 @@ fn tells_faults(rt: HostRuntime) -> Result<(), Fail> {
         (&ups, "N4 TooManyUps"),
     ];
     for (bytes, text) in rows {
-        match read_name(bytes) {
-            Ok(_) => return Err("a name was read".into()),
-            Err(fault) => expect_text(&rt, fault.to_string(rt.alloc())?.as_str(), text),
+        expect_fault(&rt, rt.alloc(), bytes, text);
+    }
+}
+
+// Names from \_SB_.PCI0.MTH1, and their places.
+const PLACES: [(&[u8], &str); 6] = [
+    (b"FOO_", "\\_SB_.PCI0.MTH1.FOO_"),
+    (b"^FOO_", "\\_SB_.PCI0.FOO_"),
+    (b"^^^\x2EFOO_BAR_", "\\FOO_.BAR_"),
+    (b"^\x00", "\\_SB_.PCI0"),
+    (b"\\\x00", "\\"),
+    (b"^^^^FOO_", "A1 AboveRoot"),
+];
+
+#[test]
+fn places_names(rt: HostRuntime) {
+    let scope = Path::from_text(rt.alloc(), "\\_SB.PCI0.MTH1").expect(&rt, "a path");
+    for (bytes, text) in PLACES {
+        let (name, _) = read_name(bytes).expect(&rt, "a name");
+        match place(rt.alloc(), &scope, name) {
+            Ok(path) => expect_printed(&rt, rt.alloc(), &path, text),
+            Err(fault) => expect_printed(&rt, rt.alloc(), &fault, text),
         }
     }
-    Ok(())
 }
 
-#[test]
-fn writes_names(rt: HostRuntime) -> Result<(), Fail> {
-    let rows: [(&[u8], &[u8]); 5] = [
-        (&[0x2F, 0x01, 0x46, 0x4F, 0x4F, 0x5F], b"FOO_"),
-        (b"\x5C\x2F\x02_SB_PCI0", b"\x5C\x2E_SB_PCI0"),
-        (b"^^\x2F\x03AB12C___DEV0", b"^^\x2F\x03AB12C___DEV0"),
-        (&[0x5C, 0x00], &[0x5C, 0x00]),
-        (&[0x00], &[0x00]),
-    ];
-    for (bytes, shortest) in rows {
-        let (lent, _) = read_name(bytes)?;
-        let name = lent.own(rt.alloc())?;
-        let copy = name.copy()?;
-        assert!(rt; name == copy);
-        expect_bytes(
-            &rt,
-            write_name(rt.alloc(), copy.view())?.as_slice(),
-            shortest,
-        );
-        assert_eq!(rt; name.to_string(rt.alloc())?, lent.to_string(rt.alloc())?);
-    }
-    Ok(())
-}
+// Texts, and the paths that they spell as they are printed.
+const TEXTS: [(&str, &str); 17] = [
+    ("\\", "\\"),
+    ("\\A", "\\A___"),
+    ("\\_SB.PCI0", "\\_SB_.PCI0"),
+    ("\\_.A1.B23", "\\____.A1__.B23_"),
+    ("", "X1 BadText"),
+    ("_SB_", "X1 BadText"),
+    ("\\\\", "X1 BadText"),
+    ("\\.", "X1 BadText"),
+    ("\\_SB_.", "X1 BadText"),
+    ("\\_SB_..A", "X1 BadText"),
+    ("\\1ABC", "X1 BadText"),
+    ("\\ABCDE", "X1 BadText"),
+    ("\\abc", "X1 BadText"),
+    ("\\A B", "X1 BadText"),
+    ("\\A/B", "X1 BadText"),
+    ("^A", "X1 BadText"),
+    ("\\Ä", "X1 BadText"),
+];
 
 #[test]
-fn places_names(rt: HostRuntime) -> Result<(), Fail> {
-    let scope = Path::from_text(rt.alloc(), "\\_SB.PCI0.MTH1")?;
-    let rows: [(&[u8], &str); 5] = [
-        (b"FOO_", "\\_SB_.PCI0.MTH1.FOO_"),
-        (b"^FOO_", "\\_SB_.PCI0.FOO_"),
-        (b"^^^\x2EFOO_BAR_", "\\FOO_.BAR_"),
-        (&[0x5E, 0x00], "\\_SB_.PCI0"),
-        (&[0x5C, 0x00], "\\"),
-    ];
-    for (bytes, text) in rows {
-        let (name, _) = read_name(bytes)?;
-        let path = place(rt.alloc(), &scope, name)?;
-        expect_text(&rt, path.to_string(rt.alloc())?.as_str(), text);
-    }
-    let (name, _) = read_name(b"^^^^FOO_")?;
-    match place(rt.alloc(), &scope, name) {
-        Ok(_) => return Err("a path above the root".into()),
-        Err(fault) => expect_text(&rt, fault.to_string(rt.alloc())?.as_str(), "A1 AboveRoot"),
-    }
-    expect_text(
-        &rt,
-        PlaceFault::Memory.to_string(rt.alloc())?.as_str(),
-        "A2 Memory",
-    );
-    Ok(())
-}
-
-#[test]
-fn reads_texts(rt: HostRuntime) -> Result<(), Fail> {
-    let rows = [
-        ("\\", "\\"),
-        ("\\A", "\\A___"),
-        ("\\_SB.PCI0", "\\_SB_.PCI0"),
-        ("\\_.A1.B23", "\\____.A1__.B23_"),
-    ];
-    for (typed, printed) in rows {
-        let path = Path::from_text(rt.alloc(), typed)?;
-        expect_text(&rt, path.to_string(rt.alloc())?.as_str(), printed);
-        assert!(rt; Path::from_text(rt.alloc(), printed)? == path);
-    }
-    for text in [
-        "",
-        "_SB_",
-        "\\\\",
-        "\\.",
-        "\\_SB_.",
-        "\\_SB_..A",
-        "\\1ABC",
-        "\\ABCDE",
-        "\\abc",
-        "\\A B",
-        "\\A/B",
-        "^A",
-        "\\Ä",
-    ] {
-        match Path::from_text(rt.alloc(), text) {
-            Ok(_) => return Err("a path was read".into()),
-            Err(fault) => assert_eq!(rt;
-                fault.to_string(rt.alloc())?.as_str(),
-                "X1 BadText",
-                "{text}"
-            ),
+fn reads_texts(rt: HostRuntime) {
+    for (typed, printed) in TEXTS {
+        match Path::from_text(rt.alloc(), typed) {
+            Ok(path) => {
+                expect_printed(&rt, rt.alloc(), &path, printed);
+                let again = Path::from_text(rt.alloc(), printed).expect(&rt, "a path");
+                assert!(rt; again == path);
+            }
+            Err(fault) => expect_printed(&rt, rt.alloc(), &fault, printed),
         }
     }
-    expect_text(
-        &rt,
-        PathFault::Memory.to_string(rt.alloc())?.as_str(),
-        "X2 Memory",
-    );
-    Ok(())
 }
 
 #[test]
-fn orders_paths(rt: HostRuntime) -> Result<(), Fail> {
+fn orders_paths(rt: HostRuntime) {
     let texts = ["\\", "\\A0", "\\AA", "\\A", "\\A.B", "\\A.C", "\\_SB_"];
     let mut before = Path::root(rt.alloc());
     for text in texts {
-        let path = Path::from_text(rt.alloc(), text)?;
+        let path = Path::from_text(rt.alloc(), text).expect(&rt, "a path");
         assert!(rt; before <= path, "{text}");
-        before = path.copy()?;
+        before = path.copy().expect(&rt, "memory");
     }
-    let Some(seg) = Seg::new(*b"PCI0") else {
-        return Err("no segment".into());
-    };
+    let seg = Seg::new(*b"PCI0").expect(&rt, "a segment");
     assert!(rt; Seg::new(*b"pci0").is_none());
-    before.push(seg)?;
+    before.push(seg).expect(&rt, "memory");
     expect_number(&rt, before.len(), 2);
-    expect_text(
-        &rt,
-        before
-            .beginning(rt.alloc(), 1)?
-            .to_string(rt.alloc())?
-            .as_str(),
-        "\\_SB_",
-    );
+    let first = before.beginning(rt.alloc(), 1).expect(&rt, "memory");
+    expect_printed(&rt, rt.alloc(), &first, "\\_SB_");
     assert_eq!(rt; before.pop(), Some(seg));
     expect_number(&rt, before.segs().len(), 1);
-    Ok(())
 }

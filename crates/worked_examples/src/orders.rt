@@ -1,14 +1,13 @@
 //! Worked lists of SSDTs over both kinds of space: the verdict on them, and which Externals they satisfy.
 
-use crate::expect::expect_text;
-use crate::machines::{CALL, EXTERNAL, MTH2, OTHER, table, tables};
+use crate::expect::{expect_text, put_printed, put_text};
+use crate::machines::{CALL, EXTERNAL, MTH2, OTHER, dsdt_of, limit, slices_of, ssdts_of, table};
 use acpi_load::*;
 use acpi_space::{MapSpace, Space, TreeSpace};
 use acpi_terms::{Depth, Object};
 use bytes::Bytes;
 use std::alloc::Global;
 use std::process::Abort;
-use std::test::Fail;
 
 // Scope (\_SB) { Device (PCI0) { Name (_ADR, Zero) } }
 pub(crate) const BRIDGE: &[u8] = b"\x10\x13\\_SB_\x5B\x82\x0BPCI0\x08_ADR\x00";
@@ -59,7 +58,7 @@ const FOO_METHOD: &[u8] = b"\x14\x06FOO_\x00";
 pub(crate) struct Pair {
     pub(crate) dsdt: &'static [&'static [u8]],
     pub(crate) ssdts: [&'static [u8]; 2],
-    told: [&'static str; 2],
+    pub(crate) told: [&'static str; 2],
     pub(crate) loads: [&'static str; 2],
 }
 
@@ -195,101 +194,100 @@ pub(crate) const PAIRS: [Pair; 15] = [
     },
 ];
 
+// The verdict in words.
+fn put_verdict(rt: &impl Abort, alloc: Global, text: &mut String, verdict: &Verdict) {
+    let words = match verdict {
+        Verdict::NotAlone {
+            ssdt,
+            fault: LoadFault::At { table, reason },
+        } => format!(in alloc; "not alone {ssdt}, table {table}: {reason}"),
+        Verdict::NotAlone { ssdt, fault } => format!(in alloc; "not alone {ssdt}: {fault}"),
+        Verdict::Same {
+            first,
+            second,
+            path,
+        } => format!(in alloc; "same {first} {second} {path}"),
+        Verdict::Missed {
+            searcher,
+            definer,
+            path,
+        } => format!(in alloc; "missed {searcher} {definer} {path}"),
+        Verdict::Commute => format!(in alloc; "commute"),
+    };
+    put_text(rt, text, words.expect(rt, "memory").as_str());
+}
+
 // The verdict in words, and where they commute the satisfied Externals.
 pub(crate) fn told<S: Space<Object>>(
+    rt: &impl Abort,
     alloc: Global,
     dsdt: &Bytes,
     ssdts: &[Bytes],
-) -> Result<String, Fail> {
-    let depth = Depth::new(1024).ok_or("no limit")?;
-    let mut slices = Vec::new(alloc);
-    for ssdt in ssdts {
-        slices.push(ssdt.as_slice())?;
+) -> String {
+    let depth = limit(rt, 1024);
+    let slices = slices_of(rt, alloc, ssdts);
+    let mut text = String::new(alloc);
+    match verdict::<S>(alloc, dsdt.as_slice(), &slices, depth) {
+        Ok(verdict) => put_verdict(rt, alloc, &mut text, &verdict),
+        Err(fault) => put_printed(rt, alloc, &mut text, &fault, ""),
     }
-    let mut text = match verdict::<S>(alloc, dsdt.as_slice(), &slices, depth) {
-        Ok(
-            Verdict::NotAlone {
-                ssdt,
-                fault: LoadFault::At { table, reason },
-            },
-        ) => format!(in alloc; "not alone {ssdt}, table {table}: {reason}")?,
-        Ok(Verdict::NotAlone { .. }) => format!(in alloc; "not alone for want of memory")?,
-        Ok(
-            Verdict::Same {
-                first,
-                second,
-                path,
-            },
-        ) => return Ok(format!(in alloc; "same {first} {second} {path}")?),
-        Ok(
-            Verdict::Missed {
-                searcher,
-                definer,
-                path,
-            },
-        ) => return Ok(format!(in alloc; "missed {searcher} {definer} {path}")?),
-        Ok(Verdict::Commute) => format!(in alloc; "commute")?,
-        Err(fault) => format!(in alloc; "refused: {fault}")?,
-    };
-    match satisfied::<S>(alloc, dsdt.as_slice(), &slices, depth) {
-        Ok(externals) => {
-            for external in &externals {
-                let Satisfied {
-                    user,
-                    definer,
-                    path,
-                } = external;
-                text.push_str(format!(in alloc; ", satisfied {user} {definer} {path}")?.as_str())?;
-            }
-        }
-        // It is refused where the verdict is.
-        Err(_) => {}
+    if text.as_str() != "commute" {
+        return text;
     }
-    Ok(text)
+    let externals = satisfied::<S>(alloc, dsdt.as_slice(), &slices, depth);
+    for external in &externals.expect(rt, "the externals") {
+        put_text(rt, &mut text, ", satisfied ");
+        put_printed(rt, alloc, &mut text, &external.user, " ");
+        put_printed(rt, alloc, &mut text, &external.definer, " ");
+        put_printed(rt, alloc, &mut text, &external.path, "");
+    }
+    text
 }
 
-fn expect_pairs<S: Space<Object>>(rt: &impl Abort, alloc: Global) -> Result<(), Fail> {
+fn expect_pairs<S: Space<Object>>(rt: &impl Abort, alloc: Global) {
     for Pair {
         dsdt,
         ssdts,
         told,
         ..
     } in &PAIRS {
-        let dsdt = table(alloc, *b"DSDT", dsdt)?;
+        let dsdt = dsdt_of(rt, alloc, dsdt);
         let [first, second] = *ssdts;
-        let text = self::told::<S>(alloc, &dsdt, &tables(alloc, &[first, second])?)?;
+        let text = self::told::<S>(rt, alloc, &dsdt, &ssdts_of(rt, alloc, &[first, second]));
         expect_text(rt, text.as_str(), told[0]);
-        let text = self::told::<S>(alloc, &dsdt, &tables(alloc, &[second, first])?)?;
+        let text = self::told::<S>(rt, alloc, &dsdt, &ssdts_of(rt, alloc, &[second, first]));
         expect_text(rt, text.as_str(), told[1]);
     }
-    Ok(())
-}
-
-#[test]
-fn tells_the_first_clash(rt: HostRuntime) -> Result<(), Fail> {
-    expect_pairs::<MapSpace<Object>>(&rt, rt.alloc())?;
-    expect_pairs::<TreeSpace<Object>>(&rt, rt.alloc())
 }
 
 // Without SSDTs, with an SSDT in place of the DSDT, and with one SSDT that has a Device where the DSDT awaits a method.
-fn expect_few<S: Space<Object>>(rt: &impl Abort, alloc: Global) -> Result<(), Fail> {
-    let empty = table(alloc, *b"DSDT", &[])?;
-    expect_text(rt, told::<S>(alloc, &empty, &[])?.as_str(), "commute");
-    let ssdts = tables(alloc, &[UID, STA])?;
-    let first = table(alloc, *b"SSDT", &[BRIDGE])?;
+fn expect_few<S: Space<Object>>(rt: &impl Abort, alloc: Global) {
+    let empty = dsdt_of(rt, alloc, &[]);
+    expect_text(rt, told::<S>(rt, alloc, &empty, &[]).as_str(), "commute");
+    let ssdts = ssdts_of(rt, alloc, &[UID, STA]);
+    let first = table(rt, alloc, *b"SSDT", &[BRIDGE]);
     expect_text(
         rt,
-        told::<S>(alloc, &first, &ssdts)?.as_str(),
-        "refused: L1 NotDsdt",
+        told::<S>(rt, alloc, &first, &ssdts).as_str(),
+        "L1 NotDsdt",
     );
-    let awaits = table(alloc, *b"DSDT", &[EXTERNAL, CALL])?;
-    let ssdts = tables(alloc, &[MTH2_DEVICE])?;
-    expect_text(rt, told::<S>(alloc, &awaits, &ssdts)?.as_str(), "commute");
-    Ok(())
+    let awaits = dsdt_of(rt, alloc, &[EXTERNAL, CALL]);
+    let ssdts = ssdts_of(rt, alloc, &[MTH2_DEVICE]);
+    expect_text(
+        rt,
+        told::<S>(rt, alloc, &awaits, &ssdts).as_str(),
+        "commute",
+    );
 }
 
 #[test]
-fn tells_of_few_ssdts(rt: HostRuntime) -> Result<(), Fail> {
-    expect_few::<MapSpace<Object>>(&rt, rt.alloc())?;
-    expect_few::<TreeSpace<Object>>(&rt, rt.alloc())
+fn tells_verdicts_over_a_map(rt: HostRuntime) {
+    expect_pairs::<MapSpace<Object>>(&rt, rt.alloc());
+    expect_few::<MapSpace<Object>>(&rt, rt.alloc());
+}
+
+#[test]
+fn tells_verdicts_over_a_tree(rt: HostRuntime) {
+    expect_pairs::<TreeSpace<Object>>(&rt, rt.alloc());
+    expect_few::<TreeSpace<Object>>(&rt, rt.alloc());
 }

@@ -1,14 +1,13 @@
 //! Worked tables and what they are rewritten to.
 
 use crate::expect::{expect_bytes, expect_number};
-use crate::machines::{table, tables};
+use crate::machines::{dsdt_of, limit, slices_of, ssdts_of};
 use acpi_load::*;
 use acpi_space::{MapSpace, Space, TreeSpace};
 use acpi_terms::{Depth, Object};
 use bytes::Bytes;
 use std::alloc::Global;
 use std::process::Abort;
-use std::test::Fail;
 
 // Codes of a DSDT, and what they are rewritten to.
 const REWRITTEN: [(&[u8], &[u8]); 5] = [
@@ -43,71 +42,62 @@ fn expect<S: Space<Object>>(
     dsdt: &Bytes,
     ssdts: &[Bytes],
     expected: &[Bytes],
-) -> Result<(), Fail> {
-    let depth = Depth::new(1024).ok_or("no limit")?;
-    let mut slices = Vec::new(alloc);
-    for ssdt in ssdts {
-        slices.push(ssdt.as_slice())?;
-    }
-    let rewritten = rewrite::<S>(alloc, dsdt.as_slice(), &slices, depth)?;
+) {
+    let depth = limit(rt, 1024);
+    let slices = slices_of(rt, alloc, ssdts);
+    let rewritten = rewrite::<S>(alloc, dsdt.as_slice(), &slices, depth).expect(rt, "tables");
     expect_number(rt, rewritten.len(), expected.len());
     for (i, bytes) in expected.iter().enumerate() {
-        expect_bytes(
-            rt,
-            rewritten.get(i).ok_or("no table")?.as_slice(),
-            bytes.as_slice(),
-        );
+        let table = rewritten.get(i).expect(rt, "a table");
+        expect_bytes(rt, table.as_slice(), bytes.as_slice());
     }
-    assert!(rt; rewrite_shared::<S>(alloc, dsdt, ssdts, depth)? == rewritten);
-    Ok(())
+    let shared = rewrite_shared::<S>(alloc, dsdt, ssdts, depth).expect(rt, "tables");
+    assert!(rt; shared == rewritten);
 }
 
-#[test]
-fn rewrites_one_table(rt: HostRuntime) -> Result<(), Fail> {
-    let alloc = rt.alloc();
+fn rewrites_one<S: Space<Object>>(rt: &impl Abort, alloc: Global) {
     for (code, shortest) in REWRITTEN {
-        let expected = vec![in alloc; table(alloc, *b"DSDT", &[shortest])?]?;
+        let expected = [dsdt_of(rt, alloc, &[shortest])];
         for code in [code, shortest] {
-            let dsdt = table(alloc, *b"DSDT", &[code])?;
-            expect::<MapSpace<Object>>(&rt, alloc, &dsdt, &[], &expected)?;
-            expect::<TreeSpace<Object>>(&rt, alloc, &dsdt, &[], &expected)?;
+            expect::<S>(rt, alloc, &dsdt_of(rt, alloc, &[code]), &[], &expected);
         }
     }
-    Ok(())
 }
 
 // A body is read over the objects of all tables, and the tables keep their order.
-#[test]
-fn rewrites_several_tables(rt: HostRuntime) -> Result<(), Fail> {
-    let alloc = rt.alloc();
-    let dsdt = table(
+fn rewrites_several<S: Space<Object>>(rt: &impl Abort, alloc: Global) {
+    let codes: [&[u8]; 2] = [b"\x14\x48\x00MTH2\x00\xA3", b"\x08\x2F\x01FOO_\x00"];
+    let shortest: [&[u8]; 2] = [b"\x14\x07MTH2\x00\xA3", b"\x08FOO_\x00"];
+    let dsdt = dsdt_of(
+        rt,
         alloc,
-        *b"DSDT",
         &[b"\x14\x10CALL\x00\xA4MTH2\xA0\x44\x00\x60\xA3"],
-    )?;
-    let ssdts = tables(
-        alloc,
-        &[b"\x14\x48\x00MTH2\x00\xA3", b"\x08\x2F\x01FOO_\x00"],
-    )?;
-    let mut expected = Vec::new(alloc);
-    expected.push(table(
-        alloc,
-        *b"DSDT",
-        &[b"\x14\x0FCALL\x00\xA4MTH2\xA0\x03\x60\xA3"],
-    )?)?;
-    expected.push(table(alloc, *b"SSDT", &[b"\x14\x07MTH2\x00\xA3"])?)?;
-    expected.push(table(alloc, *b"SSDT", &[b"\x08FOO_\x00"])?)?;
-    expect::<TreeSpace<Object>>(&rt, alloc, &dsdt, &ssdts, &expected)
+    );
+    let first = dsdt_of(rt, alloc, &[b"\x14\x0FCALL\x00\xA4MTH2\xA0\x03\x60\xA3"]);
+    let mut expected = vec![in alloc; first].expect(rt, "memory");
+    for table in ssdts_of(rt, alloc, &shortest) {
+        expected.push(table).expect(rt, "memory");
+    }
+    expect::<S>(rt, alloc, &dsdt, &ssdts_of(rt, alloc, &codes), &expected);
+}
+
+fn refuses_as_a_load<S: Space<Object>>(rt: &impl Abort, alloc: Global) {
+    let dsdt = dsdt_of(rt, alloc, &[b"\x08FOO_\x00"]);
+    let ssdts = ssdts_of(rt, alloc, &[b"\x08BAR_\x00", b"\x08FOO_\x00"]);
+    let answer = rewrite_shared::<S>(alloc, &dsdt, &ssdts, limit(rt, 1024));
+    assert!(rt; matches!(&answer, Err(LoadFault::At { table: 2, .. })));
 }
 
 #[test]
-fn refuses_as_a_load(rt: HostRuntime) -> Result<(), Fail> {
-    let alloc = rt.alloc();
-    let depth = Depth::new(1024).ok_or("no limit")?;
-    let dsdt = table(alloc, *b"DSDT", &[b"\x08FOO_\x00"])?;
-    let ssdts = tables(alloc, &[b"\x08BAR_\x00", b"\x08FOO_\x00"])?;
-    match rewrite_shared::<TreeSpace<Object>>(alloc, &dsdt, &ssdts, depth) {
-        Err(LoadFault::At { table: 2, .. }) => Ok(()),
-        _ => Err("no such refusal".into()),
-    }
+fn rewrites_over_a_map(rt: HostRuntime) {
+    rewrites_one::<MapSpace<Object>>(&rt, rt.alloc());
+    rewrites_several::<MapSpace<Object>>(&rt, rt.alloc());
+    refuses_as_a_load::<MapSpace<Object>>(&rt, rt.alloc());
+}
+
+#[test]
+fn rewrites_over_a_tree(rt: HostRuntime) {
+    rewrites_one::<TreeSpace<Object>>(&rt, rt.alloc());
+    rewrites_several::<TreeSpace<Object>>(&rt, rt.alloc());
+    refuses_as_a_load::<TreeSpace<Object>>(&rt, rt.alloc());
 }

@@ -1,14 +1,13 @@
 //! Worked single loads over both kinds of space: what they declare, miss and await, and their joins.
 
-use crate::expect::expect_text;
-use crate::machines::{CALL, EXTERNAL, MTH2, OTHER, table, tables};
+use crate::expect::{expect_text, put_printed, put_text};
+use crate::machines::{CALL, EXTERNAL, MTH2, OTHER, dsdt_of, limit, ssdts_of, table};
 use acpi_load::*;
 use acpi_name::Path;
 use acpi_space::{MapSpace, Space, TreeSpace};
 use acpi_terms::{Depth, Object};
 use std::alloc::Global;
 use std::process::Abort;
-use std::test::Fail;
 
 // Name (FOO, Zero), and Scope (\_SB) { Method (M001) { Return (FOO) } }
 const FOO: &[u8] = b"\x08FOO_\x00";
@@ -58,78 +57,68 @@ const TOLD: [(&[&[u8]], &[u8], &str); 10] = [
     (&[NO_UNITS], OTHER, "\\XYZ_ ; ; "),
 ];
 
-fn put_paths(text: &mut String, alloc: Global, paths: &[Path]) -> Result<(), Fail> {
+fn put_paths(rt: &impl Abort, alloc: Global, text: &mut String, paths: &[Path]) {
     for path in paths {
-        text.push_str(format!(in alloc; "{path} ")?.as_str())?;
+        put_printed(rt, alloc, text, path, " ");
     }
-    text.push_str("; ")?;
-    Ok(())
+    put_text(rt, text, "; ");
 }
 
 // What a single load tells.
-fn told<S: Space<Object>>(alloc: Global, single: &Single<S>) -> Result<String, Fail> {
+fn told<S: Space<Object>>(rt: &impl Abort, alloc: Global, single: &Single<S>) -> String {
     let mut text = String::new(alloc);
-    put_paths(&mut text, alloc, single.defined())?;
-    put_paths(&mut text, alloc, single.missed())?;
+    put_paths(rt, alloc, &mut text, single.defined());
+    put_paths(rt, alloc, &mut text, single.missed());
     for awaited in single.awaited() {
-        let (table, path, count) = (awaited.table, &awaited.path, awaited.count);
-        text.push_str(format!(in alloc; "{table} {path} {count} ")?.as_str())?;
+        put_printed(rt, alloc, &mut text, &awaited.table, " ");
+        put_printed(rt, alloc, &mut text, &awaited.path, " ");
+        put_printed(rt, alloc, &mut text, &awaited.count, " ");
     }
-    Ok(text)
+    text
 }
 
-fn expect_told<S: Space<Object>>(rt: &impl Abort, alloc: Global) -> Result<(), Fail> {
-    let depth = Depth::new(1024).ok_or("no limit")?;
+fn expect_told<S: Space<Object>>(rt: &impl Abort, alloc: Global) {
+    let depth = limit(rt, 1024);
     for (dsdt, ssdt, text) in TOLD {
-        let dsdt = table(alloc, *b"DSDT", dsdt)?;
-        let ssdt = table(alloc, *b"SSDT", &[ssdt])?;
-        let shared: Single<S> = single_shared(alloc, &dsdt, &ssdt, depth)?;
-        expect_text(rt, told(alloc, &shared)?.as_str(), text);
-        let copied: Single<S> = single(alloc, dsdt.as_slice(), ssdt.as_slice(), depth)?;
-        expect_text(rt, told(alloc, &copied)?.as_str(), text);
+        let dsdt = dsdt_of(rt, alloc, dsdt);
+        let ssdt = table(rt, alloc, *b"SSDT", &[ssdt]);
+        let shared: Single<S> = single_shared(alloc, &dsdt, &ssdt, depth).expect(rt, "a load");
+        expect_text(rt, told(rt, alloc, &shared).as_str(), text);
+        let copied = single::<S>(alloc, dsdt.as_slice(), ssdt.as_slice(), depth);
+        expect_text(
+            rt,
+            told(rt, alloc, &copied.expect(rt, "a load")).as_str(),
+            text,
+        );
     }
-    Ok(())
-}
-
-#[test]
-fn tells_of_single_loads(rt: HostRuntime) -> Result<(), Fail> {
-    expect_told::<MapSpace<Object>>(&rt, rt.alloc())?;
-    expect_told::<TreeSpace<Object>>(&rt, rt.alloc())
 }
 
 // The join of the single loads of SSDTs over a DSDT.
 pub(crate) fn joined<S: Space<Object>>(
-    alloc: Global,
-    dsdt: &[&[u8]],
-    ssdts: &[&[u8]],
-) -> Result<Option<Machine<S>>, Fail> {
-    let depth = Depth::new(1024).ok_or("no limit")?;
-    let dsdt = table(alloc, *b"DSDT", dsdt)?;
-    let mut singles: Vec<Single<S>> = Vec::new(alloc);
-    for ssdt in &tables(alloc, ssdts)? {
-        singles.push(single_shared(alloc, &dsdt, ssdt, depth)?)?;
-    }
-    Ok(join(alloc, &singles)?)
-}
-
-// What stands at each path.
-fn listed<S: Space<Object>>(alloc: Global, objects: &S) -> Result<String, Fail> {
-    let mut text = String::new(alloc);
-    for (path, object) in &objects.pairs()? {
-        text.push_str(format!(in alloc; "{path} {object:?}; ")?.as_str())?;
-    }
-    Ok(text)
-}
-
-// The join is what all tables load to.
-fn expect_join<S: Space<Object>>(
     rt: &impl Abort,
     alloc: Global,
     dsdt: &[&[u8]],
     ssdts: &[&[u8]],
-) -> Result<(), Fail> {
-    let join: Machine<S> = joined(alloc, dsdt, ssdts)?.ok_or("no join")?;
-    expect_loaded(rt, alloc, dsdt, ssdts, &join)
+) -> Option<Machine<S>> {
+    let dsdt = dsdt_of(rt, alloc, dsdt);
+    let mut singles: Vec<Single<S>> = Vec::new(alloc);
+    for ssdt in &ssdts_of(rt, alloc, ssdts) {
+        let single = single_shared(alloc, &dsdt, ssdt, limit(rt, 1024)).expect(rt, "a load");
+        singles.push(single).expect(rt, "memory");
+    }
+    join(alloc, &singles).expect(rt, "memory")
+}
+
+// What stands at each path.
+pub(crate) fn listed<S: Space<Object>>(rt: &impl Abort, alloc: Global, objects: &S) -> String {
+    let mut text = String::new(alloc);
+    for (path, object) in &objects.pairs().expect(rt, "memory") {
+        put_printed(rt, alloc, &mut text, path, " ");
+        let object = format!(in alloc; "{object:?}").expect(rt, "memory");
+        put_text(rt, &mut text, object.as_str());
+        put_text(rt, &mut text, "; ");
+    }
+    text
 }
 
 // All tables load to this machine.
@@ -139,36 +128,54 @@ pub(crate) fn expect_loaded<S: Space<Object>>(
     dsdt: &[&[u8]],
     ssdts: &[&[u8]],
     machine: &Machine<S>,
-) -> Result<(), Fail> {
-    let depth = Depth::new(1024).ok_or("no limit")?;
-    let dsdt = table(alloc, *b"DSDT", dsdt)?;
-    let loaded: Machine<S> = load_shared(alloc, &dsdt, &tables(alloc, ssdts)?, depth)?;
-    let objects = listed(alloc, machine.objects())?;
+) {
+    let dsdt = dsdt_of(rt, alloc, dsdt);
+    let ssdts = ssdts_of(rt, alloc, ssdts);
+    let loaded = load_shared::<S>(alloc, &dsdt, &ssdts, limit(rt, 1024)).expect(rt, "a machine");
     expect_text(
         rt,
-        objects.as_str(),
-        listed(alloc, loaded.objects())?.as_str(),
+        listed(rt, alloc, machine.objects()).as_str(),
+        listed(rt, alloc, loaded.objects()).as_str(),
     );
     assert!(rt; machine.links() == loaded.links());
     assert!(rt; machine.bodies() == loaded.bodies());
-    Ok(())
 }
 
-fn expect_joins<S: Space<Object>>(rt: &impl Abort, alloc: Global) -> Result<(), Fail> {
-    expect_join::<S>(rt, alloc, &[FIELD, CALL], &[REGION])?;
-    expect_join::<S>(rt, alloc, &[FOO, FIELD], &[MTH2, OTHER])?;
-    expect_join::<S>(rt, alloc, &[], &[AWAITS, MTH2, OTHER])?;
-    assert!(rt; joined::<S>(alloc, &[FOO], &[])?.is_none());
-    assert!(rt; joined::<S>(alloc, &[FOO], &[OTHER, OTHER])?.is_some());
-    assert!(rt; joined::<S>(alloc, &[FOO], &[OTHER, OTHER_ONE])?.is_none());
-    // A body that only the first SSDT lets be read, and a link that only the first one answers.
-    assert!(rt; joined::<S>(alloc, &[CALL], &[MTH2, OTHER])?.is_none());
-    assert!(rt; joined::<S>(alloc, &[FIELD], &[REGION, OTHER])?.is_none());
-    Ok(())
+// SSDTs over a DSDT whose join is what all of them load to.
+const JOINED: [(&[&[u8]], &[&[u8]]); 3] = [
+    (&[FIELD, CALL], &[REGION]),
+    (&[FOO, FIELD], &[MTH2, OTHER]),
+    (&[], &[AWAITS, MTH2, OTHER]),
+];
+
+// Those that have none: none at all, two that differ at one path, a body that only the first SSDT lets be read, and a
+// link that only the first one answers.
+const APART: [(&[&[u8]], &[&[u8]]); 4] = [
+    (&[FOO], &[]),
+    (&[FOO], &[OTHER, OTHER_ONE]),
+    (&[CALL], &[MTH2, OTHER]),
+    (&[FIELD], &[REGION, OTHER]),
+];
+
+fn expect_joins<S: Space<Object>>(rt: &impl Abort, alloc: Global) {
+    for (dsdt, ssdts) in JOINED {
+        let join = joined::<S>(rt, alloc, dsdt, ssdts).expect(rt, "a join");
+        expect_loaded(rt, alloc, dsdt, ssdts, &join);
+    }
+    for (dsdt, ssdts) in APART {
+        assert!(rt; joined::<S>(rt, alloc, dsdt, ssdts).is_none());
+    }
+    assert!(rt; joined::<S>(rt, alloc, &[FOO], &[OTHER, OTHER]).is_some());
 }
 
 #[test]
-fn joins_single_loads(rt: HostRuntime) -> Result<(), Fail> {
-    expect_joins::<MapSpace<Object>>(&rt, rt.alloc())?;
-    expect_joins::<TreeSpace<Object>>(&rt, rt.alloc())
+fn loads_ssdts_alone_over_a_map(rt: HostRuntime) {
+    expect_told::<MapSpace<Object>>(&rt, rt.alloc());
+    expect_joins::<MapSpace<Object>>(&rt, rt.alloc());
+}
+
+#[test]
+fn loads_ssdts_alone_over_a_tree(rt: HostRuntime) {
+    expect_told::<TreeSpace<Object>>(&rt, rt.alloc());
+    expect_joins::<TreeSpace<Object>>(&rt, rt.alloc());
 }

@@ -1,11 +1,12 @@
 //! Worked rows of tables read from a source, and devices that give little or fail.
 
-use crate::expect::{expect_bytes, expect_number, expect_text};
+use crate::expect::{expect_bytes, expect_number};
 use crate::tables::{DSDT, EMPTY};
 use acpi_table::*;
+use std::alloc::Global;
 use std::io;
 use std::io::{ErrorKind, Read};
-use std::test::Fail;
+use std::process::Abort;
 
 // An SSDT: Scope (\_SB.PCI0) { Name (_UID, One) }.
 const SSDT: [u8; 54] = [
@@ -15,49 +16,59 @@ const SSDT: [u8; 54] = [
     0x08, 0x5F, 0x55, 0x49, 0x44, 0x01,
 ];
 
+// The next table of a source.
+fn expect_table<R: Source>(rt: &impl Abort, alloc: Global, source: &mut R, wanted: &[u8]) {
+    let table = read_table(alloc, source).expect(rt, "a table");
+    expect_bytes(rt, table.expect(rt, "a table").as_slice(), wanted);
+}
+
 #[test]
-fn reads_one_table_after_another(rt: HostRuntime) -> Result<(), Fail> {
-    let mut both = DSDT.to_vec(rt.alloc())?;
-    both.extend_from_slice(&SSDT)?;
+fn reads_one_table_after_another(rt: HostRuntime) {
+    let mut both = DSDT.to_vec(rt.alloc()).expect(&rt, "memory");
+    both.extend_from_slice(&SSDT).expect(&rt, "memory");
     let mut source = SliceSource::new(&both);
-    let first = read_table(rt.alloc(), &mut source)?.ok_or("the first")?;
-    expect_bytes(&rt, first.as_slice(), DSDT.as_slice());
+    expect_table(&rt, rt.alloc(), &mut source, &DSDT);
     expect_number(&rt, source.rest().len(), 54);
-    let second = read_table(rt.alloc(), &mut source)?.ok_or("the second")?;
-    expect_bytes(&rt, second.as_slice(), SSDT.as_slice());
+    expect_table(&rt, rt.alloc(), &mut source, &SSDT);
     expect_number(&rt, source.rest().len(), 0);
-    assert!(rt; read_table(rt.alloc(), &mut source)?.is_none());
-    Ok(())
+    let none = read_table(rt.alloc(), &mut source).expect(&rt, "an answer");
+    assert!(rt; none.is_none());
 }
 
 // The fault of reading a table, and the bytes that are left after it.
-fn fault_of(alloc: std::alloc::Global, bytes: &[u8]) -> (Option<ReadFault>, usize) {
+fn expect_fault(
+    rt: &impl Abort,
+    alloc: Global,
+    bytes: &[u8],
+    fault: Option<TableFault>,
+    left: usize,
+) {
     let mut source = SliceSource::new(bytes);
-    let fault = match read_table(alloc, &mut source) {
-        Ok(_) => None,
-        Err(fault) => Some(fault),
-    };
-    (fault, source.rest().len())
+    let found = read_table(alloc, &mut source).err();
+    assert!(rt; found == fault.map(ReadFault::Table), "of {bytes:?}");
+    expect_number(rt, source.rest().len(), left);
 }
 
+// The low and the high byte of a length, a checksum, the fault of an empty table with them, and the bytes that are left
+// behind it, where a DSDT stands there.
+const HEADERS: [(u8, u8, u8, Option<TableFault>, usize); 5] = [
+    (0x23, 0x00, 0xAB, Some(TableFault::BadLength), 56),
+    (0x01, 0x01, 0xAB, Some(TableFault::TooLong), 56),
+    (0x00, 0x01, 0xAB, Some(TableFault::Cut), 0),
+    (0x24, 0x00, 0xAA, Some(TableFault::BadSum), 56),
+    (0x24, 0x00, 0xAB, None, 56),
+];
+
 #[test]
-fn refuses_what_is_no_table(rt: HostRuntime) -> Result<(), Fail> {
-    let mut bytes = EMPTY.to_vec(rt.alloc())?;
-    bytes.extend_from_slice(&DSDT)?;
-    expect_number(&rt, bytes.len(), 92);
-    let cases = [
-        (0x23, 0x00, 0xAB, Some(TableFault::BadLength), 56),
-        (0x01, 0x01, 0xAB, Some(TableFault::TooLong), 56),
-        (0x00, 0x01, 0xAB, Some(TableFault::Cut), 0),
-        (0x24, 0x00, 0xAA, Some(TableFault::BadSum), 56),
-        (0x24, 0x00, 0xAB, None, 56),
-    ];
-    for (low, high, checksum, fault, left) in cases {
-        bytes[4] = low;
-        bytes[7] = high;
-        bytes[9] = checksum;
-        let want = (fault.map(ReadFault::Table), left);
-        assert_eq!(rt; fault_of(rt.alloc(), &bytes), want);
+fn refuses_what_is_no_table(rt: HostRuntime) {
+    for (low, high, checksum, fault, left) in HEADERS {
+        let mut first = EMPTY;
+        first[4] = low;
+        first[7] = high;
+        first[9] = checksum;
+        let mut bytes = first.to_vec(rt.alloc()).expect(&rt, "memory");
+        bytes.extend_from_slice(&DSDT).expect(&rt, "memory");
+        expect_fault(&rt, rt.alloc(), &bytes, fault, left);
     }
     for n in 1..DSDT.len() {
         let fault = if n < 36 {
@@ -65,10 +76,8 @@ fn refuses_what_is_no_table(rt: HostRuntime) -> Result<(), Fail> {
         } else {
             TableFault::Cut
         };
-        let want = (Some(ReadFault::Table(fault)), 0);
-        assert_eq!(rt; fault_of(rt.alloc(), &DSDT[..n]), want, "at {n}");
+        expect_fault(&rt, rt.alloc(), &DSDT[..n], Some(fault), 0);
     }
-    Ok(())
 }
 
 // A device that gives the bytes of one DSDT after another, so many at a time, and fails at one read.
@@ -95,57 +104,33 @@ impl Read for Device {
     }
 }
 
+// A device that gives so many bytes at a time, and fails at one read.
+fn source_of(step: usize, fails_at: usize) -> FromRead<Device> {
+    FromRead::new(Device {
+        place: 0,
+        step,
+        reads: 0,
+        fails_at,
+    })
+}
+
 #[test]
-fn reads_in_small_steps(rt: HostRuntime) -> Result<(), Fail> {
+fn reads_in_small_steps(rt: HostRuntime) {
     for step in [1, 5, 36, 4096] {
-        let mut source = FromRead::new(Device {
-            place: 0,
-            step,
-            reads: 0,
-            fails_at: 0,
-        });
+        let mut source = source_of(step, 0);
         for _ in 0..3 {
-            let table = read_table(rt.alloc(), &mut source)?.ok_or("a table")?;
-            expect_bytes(&rt, table.as_slice(), DSDT.as_slice());
+            expect_table(&rt, rt.alloc(), &mut source, &DSDT);
         }
-        assert_eq!(rt; source.failures(), 0);
+        assert!(rt; source.failures() == 0);
     }
-    Ok(())
 }
 
 #[test]
 fn tells_a_failed_read(rt: HostRuntime) {
     for fails_at in [1, 2, 3, 4, 8] {
-        let mut source = FromRead::new(Device {
-            place: 0,
-            step: 7,
-            reads: 0,
-            fails_at,
-        });
+        let mut source = source_of(7, fails_at);
         let answer = read_table(rt.alloc(), &mut source);
         assert!(rt; matches!(answer, Err(ReadFault::Device)), "at {fails_at}");
-        assert_eq!(rt; source.failures(), 1);
+        assert!(rt; source.failures() == 1);
     }
-}
-
-#[test]
-fn prints_faults(rt: HostRuntime) -> Result<(), Fail> {
-    let faults = [
-        (ReadFault::Table(TableFault::Short), "T1 Short"),
-        (ReadFault::Table(TableFault::BadLength), "T2 BadLength"),
-        (ReadFault::Table(TableFault::TooLong), "T3 TooLong"),
-        (ReadFault::Table(TableFault::Cut), "T4 Cut"),
-        (ReadFault::Table(TableFault::BadSum), "T5 BadSum"),
-        (ReadFault::Device, "D1 Device"),
-        (ReadFault::Memory, "D2 Memory"),
-    ];
-    for (fault, text) in faults {
-        expect_text(&rt, format!(in rt.alloc(); "{fault}")?.as_str(), text);
-    }
-    expect_text(
-        &rt,
-        format!(in rt.alloc(); "{SourceFault}")?.as_str(),
-        "a read failed",
-    );
-    Ok(())
 }

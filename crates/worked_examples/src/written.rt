@@ -1,15 +1,17 @@
 //! Worked rows: codes and what is written of them.
 
-use crate::expect::{expect_bytes, expect_text};
+use crate::bodies::with_method;
+use crate::expect::expect_bytes;
+use crate::machines::limit;
 use acpi_body::{Body, Counts, read_body};
 use acpi_name::Path;
-use acpi_space::{MapSpace, Space};
+use acpi_space::MapSpace;
 use acpi_table::split_table;
-use acpi_terms::{Depth, read_items};
+use acpi_terms::read_items;
 use acpi_tree::Object;
 use acpi_write::*;
 use std::alloc::Global;
-use std::test::Fail;
+use std::process::Abort;
 
 // Codes that are their own shortest spelling: one of each form.
 const SHORTEST: [&[u8]; 13] = [
@@ -40,18 +42,20 @@ const LONGER: [(&[u8], &[u8]); 2] = [
     ),
 ];
 
+fn expect_written(rt: &impl Abort, alloc: Global, code: &[u8], shortest: &[u8]) {
+    let items = read_items(alloc, code, limit(rt, 1024)).expect(rt, "items");
+    let written = write_items(alloc, &items).expect(rt, "a code");
+    expect_bytes(rt, written.as_slice(), shortest);
+}
+
 #[test]
-fn writes_the_shortest_spelling(rt: HostRuntime) -> Result<(), Fail> {
-    let depth = Depth::new(1024).ok_or("a depth")?;
+fn writes_the_shortest_spelling(rt: HostRuntime) {
     for code in SHORTEST {
-        let items = read_items(rt.alloc(), code, depth)?;
-        expect_bytes(&rt, write_items(rt.alloc(), &items)?.as_slice(), code);
+        expect_written(&rt, rt.alloc(), code, code);
     }
     for (code, shortest) in LONGER {
-        let items = read_items(rt.alloc(), code, depth)?;
-        expect_bytes(&rt, write_items(rt.alloc(), &items)?.as_slice(), shortest);
+        expect_written(&rt, rt.alloc(), code, shortest);
     }
-    Ok(())
 }
 
 // Bodies that are their own shortest spelling, where \MTH2 is a method of two arguments: one of each form.
@@ -87,34 +91,27 @@ const LONGER_BODIES: [(&[u8], &[u8]); 2] = [
     ),
 ];
 
-// What is written of the terms of a body; a body that isn't read has none.
-fn rewritten(
-    alloc: Global,
-    space: &MapSpace<Object>,
-    bytes: &[u8],
-) -> Result<Option<Vec<u8>>, Fail> {
-    let method = Path::from_text(alloc, "\\M001")?;
-    let depth = Depth::new(1024).ok_or("a depth")?;
-    match read_body(alloc, space, &method, bytes, depth, &Counts::new(alloc))? {
-        Body::Terms(terms) => Ok(Some(write_terms(alloc, &terms)?)),
-        Body::Opaque(_) => Ok(None),
+fn expect_body(rt: &impl Abort, alloc: Global, bytes: &[u8], shortest: &[u8]) {
+    let space: MapSpace<Object> = with_method(rt, alloc);
+    let method = Path::from_text(alloc, "\\M001").expect(rt, "a path");
+    let counts = Counts::new(alloc);
+    match read_body(alloc, &space, &method, bytes, limit(rt, 1024), &counts) {
+        Ok(Body::Terms(terms)) => {
+            let written = write_terms(alloc, &terms).expect(rt, "bytes");
+            expect_bytes(rt, written.as_slice(), shortest);
+        }
+        _ => assert!(rt; false, "the body is not read"),
     }
 }
 
 #[test]
-fn writes_bodies(rt: HostRuntime) -> Result<(), Fail> {
-    let mut space = MapSpace::new(rt.alloc());
-    let path = Path::from_text(rt.alloc(), "\\MTH2")?;
-    space.insert(path, Object::Method(2))?;
+fn writes_bodies(rt: HostRuntime) {
     for body in SHORTEST_BODIES {
-        let written = rewritten(rt.alloc(), &space, body)?.ok_or("a body that is read")?;
-        expect_bytes(&rt, written.as_slice(), body);
+        expect_body(&rt, rt.alloc(), body, body);
     }
     for (body, shortest) in LONGER_BODIES {
-        let written = rewritten(rt.alloc(), &space, body)?.ok_or("a body that is read")?;
-        expect_bytes(&rt, written.as_slice(), shortest);
+        expect_body(&rt, rt.alloc(), body, shortest);
     }
-    Ok(())
 }
 
 // A DSDT of 62 bytes: Scope (\_SB) { Device (PCI0) { Name (_ADR, Zero) } }, with long package lengths.
@@ -126,25 +123,11 @@ const REWRITTEN: &[u8] =
     b"DSDT\x38\x00\x00\x00\x02\x93\x00\x00\x00\x00\x00\x00\x00\x00\x00\x00\x00\x00\x00\x00\x00\x00\x00\x00\x00\x00\x00\x00\x00\x00\x00\x00\x10\x13\x5C\x5F\x53\x42\x5F\x5B\x82\x0B\x50\x43\x49\x30\x08\x5F\x41\x44\x52\x00";
 
 #[test]
-fn writes_tables(rt: HostRuntime) -> Result<(), Fail> {
-    let depth = Depth::new(1024).ok_or("a depth")?;
+fn writes_tables(rt: HostRuntime) {
     for bytes in [TABLE, REWRITTEN] {
-        let (table, _) = split_table(bytes)?;
-        let items = read_items(rt.alloc(), table.code(), depth)?;
-        let written = write_table(rt.alloc(), &table.header(), &items)?;
+        let (table, _) = split_table(bytes).expect(&rt, "a table");
+        let items = read_items(rt.alloc(), table.code(), limit(&rt, 1024)).expect(&rt, "items");
+        let written = write_table(rt.alloc(), &table.header(), &items).expect(&rt, "a table");
         expect_bytes(&rt, written.as_slice(), REWRITTEN);
     }
-    Ok(())
-}
-
-#[test]
-fn prints_faults(rt: HostRuntime) -> Result<(), Fail> {
-    let faults = [
-        (WriteFault::TooLong, "W1 TooLong"),
-        (WriteFault::Memory, "W2 Memory"),
-    ];
-    for (fault, text) in faults {
-        expect_text(&rt, format!(in rt.alloc(); "{fault}")?.as_str(), text);
-    }
-    Ok(())
 }

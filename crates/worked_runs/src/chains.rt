@@ -2,45 +2,47 @@
 
 use crate::memory::{MemoryFiles, NONE};
 use crate::outcome::{ran_with, table_of};
-use std::alloc::{AllocError, Global};
+use std::alloc::Global;
+use std::process::Abort;
 use std::str::from_utf8;
-use std::test::Fail;
 
 // A DSDT of Method (M001) { Return (LNot (.. LNot (Local0) ..)) }, with so many LNot.
-fn chain(alloc: Global, negations: u16) -> Result<Vec<u8>, AllocError> {
+fn chain(rt: &impl Abort, alloc: Global, negations: u16) -> Vec<u8> {
     let length = negations.saturating_add(9);
     let [low, _] = (length % 16).to_le_bytes();
     let [high, _] = (length / 16).to_le_bytes();
-    let mut code = Vec::from_slice(alloc, &[0x14, 0x40 | low, high])?;
-    code.extend_from_slice(b"M001\x00\xA4")?;
-    put_times(&mut code, b"\x92", negations)?;
-    code.push(0x60)?;
-    table_of(alloc, "DSDT", code.as_slice())
+    let mut code = Vec::new(alloc);
+    put_times(rt, &mut code, &[0x14, 0x40 | low, high], 1);
+    put_times(rt, &mut code, b"M001\x00\xA4", 1);
+    put_times(rt, &mut code, b"\x92", negations);
+    put_times(rt, &mut code, b"\x60", 1);
+    table_of(rt, alloc, "DSDT", code.as_slice())
 }
 
-fn put_times(text: &mut Vec<u8>, part: &[u8], times: u16) -> Result<(), AllocError> {
+fn put_times(rt: &impl Abort, text: &mut Vec<u8>, part: &[u8], times: u16) {
     for _ in 0..times {
-        text.extend_from_slice(part)?;
+        text.extend_from_slice(part).expect(rt, "memory");
     }
-    Ok(())
 }
 
 // What is shown of it where it is read.
-fn read(alloc: Global, negations: u16) -> Result<Vec<u8>, AllocError> {
-    let mut text = Vec::from_slice(alloc, b"\\M001 Method 0\nReturn(")?;
-    put_times(&mut text, b"LNot(", negations)?;
-    text.extend_from_slice(b"Local0")?;
-    put_times(&mut text, b")", negations)?;
-    text.extend_from_slice(b")\n")?;
-    Ok(text)
+fn read(rt: &impl Abort, alloc: Global, negations: u16) -> Vec<u8> {
+    let mut text = Vec::new(alloc);
+    put_times(rt, &mut text, b"\\M001 Method 0\nReturn(", 1);
+    put_times(rt, &mut text, b"LNot(", negations);
+    put_times(rt, &mut text, b"Local0", 1);
+    put_times(rt, &mut text, b")", negations);
+    put_times(rt, &mut text, b")\n", 1);
+    text
 }
 
 // What is shown of it where its levels are more than 512.
-fn unread(alloc: Global, negations: u16) -> Result<Vec<u8>, AllocError> {
-    let mut text = Vec::from_slice(alloc, b"\\M001 Method 0\nOpaque A4")?;
-    put_times(&mut text, b" 92", negations)?;
-    text.extend_from_slice(b" 60\nAt 512: B11 TooDeep\n")?;
-    Ok(text)
+fn unread(rt: &impl Abort, alloc: Global, negations: u16) -> Vec<u8> {
+    let mut text = Vec::new(alloc);
+    put_times(rt, &mut text, b"\\M001 Method 0\nOpaque A4", 1);
+    put_times(rt, &mut text, b" 92", negations);
+    put_times(rt, &mut text, b" 60\nAt 512: B11 TooDeep\n", 1);
+    text
 }
 
 // Words, the number of LNot, and whether the body is read. (Tests before proof have no stack for 1024 levels.)
@@ -52,16 +54,17 @@ static CHAINS: [(&str, u16, bool); 4] = [
 ];
 
 #[test]
-fn shows_512_levels(rt: HostRuntime) -> Result<(), Fail> {
+fn shows_512_levels(rt: HostRuntime) {
     let alloc = rt.alloc();
     for (words, negations, is_read) in CHAINS {
         let mut files = MemoryFiles::new(alloc, NONE);
-        files.add("a", chain(alloc, negations)?.as_slice())?;
-        let got = ran_with(alloc, &mut files, words, 0, 0)?;
+        let table = chain(&rt, alloc, negations);
+        files.add("a", table.as_slice()).expect(&rt, "memory");
+        let got = ran_with(&rt, alloc, &mut files, words, 0, 0);
         let expected = if is_read {
-            read(alloc, negations)?
+            read(&rt, alloc, negations)
         } else {
-            unread(alloc, negations)?
+            unread(&rt, alloc, negations)
         };
         let expected = from_utf8(expected.as_slice()).unwrap_or("");
         assert!(rt;
@@ -69,5 +72,4 @@ fn shows_512_levels(rt: HostRuntime) -> Result<(), Fail> {
             "{words} of {negations} gave {got:?}"
         );
     }
-    Ok(())
 }

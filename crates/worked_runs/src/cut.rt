@@ -11,21 +11,20 @@ use crate::rows::Row;
 use acpi_terms::{Depth, ItemFault, read_items};
 use std::alloc::Global;
 use std::process::Abort;
-use std::test::Fail;
 
 // A run over the one file that holds these bytes.
-fn listed(alloc: Global, bytes: &[u8]) -> Result<Outcome, Fail> {
+fn listed(rt: &impl Abort, alloc: Global, bytes: &[u8]) -> Outcome {
     let mut files = MemoryFiles::new(alloc, NONE);
-    files.add("a", bytes)?;
-    ran_with(alloc, &mut files, "list|a", 0, 0)
+    files.add("a", bytes).expect(rt, "memory");
+    ran_with(rt, alloc, &mut files, "list|a", 0, 0)
 }
 
 // A whole table is cut at each byte.
 #[test]
-fn refuses_cut_tables(rt: HostRuntime) -> Result<(), Fail> {
-    let bytes = kept_bytes(rt.alloc(), Kept::Dsdt(PCI0))?;
+fn refuses_cut_tables(rt: HostRuntime) {
+    let bytes = kept_bytes(&rt, rt.alloc(), Kept::Dsdt(PCI0));
     for (end, _) in bytes.iter().enumerate().skip(1) {
-        let got = listed(rt.alloc(), bytes.get(..end).unwrap_or(&[]))?;
+        let got = listed(&rt, rt.alloc(), bytes.get(..end).unwrap_or(&[]));
         let line = if end < 36 {
             "acpins: table 0: T1 Short"
         } else {
@@ -33,16 +32,16 @@ fn refuses_cut_tables(rt: HostRuntime) -> Result<(), Fail> {
         };
         assert!(rt; got.is_refusal(1, line), "{end} bytes gave {got:?}");
     }
-    Ok(())
 }
 
 // The code of a table is cut at each byte, and the table's length and checksum are right.
 #[test]
-fn refuses_cut_code(rt: HostRuntime) -> Result<(), Fail> {
-    let code = bytes_of(rt.alloc(), PCI0)?;
+fn refuses_cut_code(rt: HostRuntime) {
+    let code = bytes_of(&rt, rt.alloc(), PCI0);
     for end in 0..=code.len() {
         let part = code.get(..end).unwrap_or(&[]);
-        let got = listed(rt.alloc(), table_of(rt.alloc(), "DSDT", part)?.as_slice())?;
+        let table = table_of(&rt, rt.alloc(), "DSDT", part);
+        let got = listed(&rt, rt.alloc(), table.as_slice());
         let right = match end {
             0 => got.is(0, PREDEFINED, ""),
             1 => got.is_refusal(1, "acpins: table 0: K1 Cut at 37"),
@@ -51,15 +50,14 @@ fn refuses_cut_code(rt: HostRuntime) -> Result<(), Fail> {
         };
         assert!(rt; right, "{end} bytes gave {got:?}");
     }
-    Ok(())
 }
 
 // The code of a row's tables, cut at each byte, is read or refused: it never takes more memory than there is.
-fn reads_cut(rt: &impl Abort, alloc: Global, rows: &[Row]) -> Result<(), Fail> {
-    let depth = Depth::new(1024).ok_or("a depth")?;
+fn reads_cut(rt: &impl Abort, alloc: Global, rows: &[Row]) {
+    let depth = Depth::new(1024).expect(rt, "a limit");
     for row in rows {
         for kept in row.files.iter() {
-            let bytes = kept_bytes(alloc, *kept)?;
+            let bytes = kept_bytes(rt, alloc, *kept);
             let code = bytes.get(36..).unwrap_or(&[]);
             for end in 0..=code.len() {
                 let part = code.get(..end).unwrap_or(&[]);
@@ -68,51 +66,38 @@ fn reads_cut(rt: &impl Abort, alloc: Global, rows: &[Row]) -> Result<(), Fail> {
             }
         }
     }
-    Ok(())
 }
 
 #[test]
-fn reads_listings_cut_at_each_byte(rt: HostRuntime) -> Result<(), Fail> {
-    reads_cut(&rt, rt.alloc(), &LISTINGS)
-}
-
-#[test]
-fn reads_loads_cut_at_each_byte(rt: HostRuntime) -> Result<(), Fail> {
-    reads_cut(&rt, rt.alloc(), &LOADS)
-}
-
-#[test]
-fn reads_codes_cut_at_each_byte(rt: HostRuntime) -> Result<(), Fail> {
-    reads_cut(&rt, rt.alloc(), &CODES)
-}
-
-#[test]
-fn reads_more_codes_cut_at_each_byte(rt: HostRuntime) -> Result<(), Fail> {
-    reads_cut(&rt, rt.alloc(), &MORE_CODES)
+fn reads_codes_cut_at_each_byte(rt: HostRuntime) {
+    reads_cut(&rt, rt.alloc(), &LISTINGS);
+    reads_cut(&rt, rt.alloc(), &LOADS);
+    reads_cut(&rt, rt.alloc(), &CODES);
+    reads_cut(&rt, rt.alloc(), &MORE_CODES);
 }
 
 // Scopes of the root in one another, each length in four bytes.
-fn nested(alloc: Global, levels: u32) -> Result<Vec<u8>, Fail> {
+fn nested(rt: &impl Abort, alloc: Global, levels: u32) -> Vec<u8> {
     let mut code = Vec::new(alloc);
     for inner in (0..levels).rev() {
         let length = inner.saturating_mul(7).saturating_add(6);
         let [_, second, third, fourth] = length.wrapping_mul(16).to_le_bytes();
         let lead = 0xC0 | (length.to_le_bytes()[0] & 15);
-        code.extend_from_slice(&[0x10, lead, second, third, fourth, 0x5C, 0])?;
+        code.extend_from_slice(&[0x10, lead, second, third, fourth, 0x5C, 0])
+            .expect(rt, "memory");
     }
-    Ok(table_of(alloc, "DSDT", code.as_slice())?)
+    table_of(rt, alloc, "DSDT", code.as_slice())
 }
 
 #[test]
-fn reads_1024_levels(rt: HostRuntime) -> Result<(), Fail> {
-    let got = listed(rt.alloc(), nested(rt.alloc(), 1024)?.as_slice())?;
+fn reads_1024_levels(rt: HostRuntime) {
+    let table = nested(&rt, rt.alloc(), 1024);
+    let got = listed(&rt, rt.alloc(), table.as_slice());
     assert!(rt; got.is(0, PREDEFINED, ""), "{got:?}");
-    let got = listed(rt.alloc(), nested(rt.alloc(), 1025)?.as_slice())?;
-    assert!(rt;
-        got.is_refusal(1, "acpins: table 0: K12 TooDeep at 7204"),
-        "{got:?}"
-    );
-    Ok(())
+    let table = nested(&rt, rt.alloc(), 1025);
+    let got = listed(&rt, rt.alloc(), table.as_slice());
+    let line = "acpins: table 0: K12 TooDeep at 7204";
+    assert!(rt; got.is_refusal(1, line), "{got:?}");
 }
 
 // Tables that need nothing of one another.
@@ -170,11 +155,10 @@ static ORDERS: [&str; 24] = [
 ];
 
 #[test]
-fn lists_the_same_in_every_order(rt: HostRuntime) -> Result<(), Fail> {
-    let mut files = files_of(rt.alloc(), &APART, NONE)?;
+fn lists_the_same_in_every_order(rt: HostRuntime) {
+    let mut files = files_of(&rt, rt.alloc(), &APART, NONE);
     for words in ORDERS.iter() {
-        let got = ran_with(rt.alloc(), &mut files, words, 0, 0)?;
+        let got = ran_with(&rt, rt.alloc(), &mut files, words, 0, 0);
         assert!(rt; got.is(0, APART_LISTED, ""), "{words} gave {got:?}");
     }
-    Ok(())
 }

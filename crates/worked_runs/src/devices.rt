@@ -3,7 +3,6 @@
 use crate::memory::{Failing, NONE};
 use crate::outcome::{Kept, PCI0, PCI0_LISTED, files_of, ran_with};
 use std::str::from_utf8;
-use std::test::Fail;
 
 // A DSDT, an SSDT of as many bytes, and the DSDT as a text.
 static FILES: [Kept; 3] = [
@@ -17,7 +16,7 @@ static FILES: [Kept; 3] = [
 
 // Each read of a file fails in turn: at seven bytes a read a header takes six, the code three, the end one.
 #[test]
-fn tells_of_reads(rt: HostRuntime) -> Result<(), Fail> {
+fn tells_of_reads(rt: HostRuntime) {
     let alloc = rt.alloc();
     let cases = [
         ("a", "list|a|b", "acpins: a: cannot be read", 10),
@@ -31,8 +30,8 @@ fn tells_of_reads(rt: HostRuntime) -> Result<(), Fail> {
                 read: k,
                 ..NONE
             };
-            let mut files = files_of(alloc, &FILES, failing)?;
-            let got = ran_with(alloc, &mut files, words, 0, 0)?;
+            let mut files = files_of(&rt, alloc, &FILES, failing);
+            let got = ran_with(&rt, alloc, &mut files, words, 0, 0);
             if k <= steps {
                 assert!(rt; got.is_refusal(1, line), "read {k} of {file} gave {got:?}");
             } else {
@@ -40,16 +39,15 @@ fn tells_of_reads(rt: HostRuntime) -> Result<(), Fail> {
             }
         }
     }
-    Ok(())
 }
 
 // Each write to standard output, and the flush behind the last one, fails in turn.
 #[test]
-fn tells_of_writes(rt: HostRuntime) -> Result<(), Fail> {
+fn tells_of_writes(rt: HostRuntime) {
     let alloc = rt.alloc();
-    let mut files = files_of(alloc, &FILES, NONE)?;
+    let mut files = files_of(&rt, alloc, &FILES, NONE);
     for k in 1..50usize {
-        let got = ran_with(alloc, &mut files, "list|a", k, 0)?;
+        let got = ran_with(&rt, alloc, &mut files, "list|a", k, 0);
         if k <= 36 {
             let line = "acpins: standard output cannot be written\n";
             assert!(rt; got.status == 1 && from_utf8(got.err.as_slice()) == Ok(line));
@@ -58,25 +56,23 @@ fn tells_of_writes(rt: HostRuntime) -> Result<(), Fail> {
             assert!(rt; got.is(0, PCI0_LISTED, ""), "no write fails at {k}");
         }
     }
-    Ok(())
 }
 
 // Whatever the writes to standard error do, the status stands.
 #[test]
-fn keeps_its_status(rt: HostRuntime) -> Result<(), Fail> {
+fn keeps_its_status(rt: HostRuntime) {
     let alloc = rt.alloc();
-    let mut files = files_of(alloc, &FILES, NONE)?;
+    let mut files = files_of(&rt, alloc, &FILES, NONE);
     for k in 1..12usize {
-        let wrong = ran_with(alloc, &mut files, "list", 0, k)?;
+        let wrong = ran_with(&rt, alloc, &mut files, "list", 0, k);
         assert!(rt; wrong.status == 2 && wrong.out.is_empty());
         assert!(rt; b"acpins: wrong words\n".starts_with(wrong.err.as_slice()));
-        let absent = ran_with(alloc, &mut files, "list|absent", 0, k)?;
+        let absent = ran_with(&rt, alloc, &mut files, "list|absent", 0, k);
         assert!(rt; absent.status == 1 && absent.out.is_empty());
         assert!(rt; b"acpins: absent: cannot be read\n".starts_with(absent.err.as_slice()));
-        let unwritten = ran_with(alloc, &mut files, "list|a", 1, k)?;
+        let unwritten = ran_with(&rt, alloc, &mut files, "list|a", 1, k);
         assert_eq!(rt; unwritten.status, 1);
-        let done = ran_with(alloc, &mut files, "list|a", 0, k)?;
+        let done = ran_with(&rt, alloc, &mut files, "list|a", 0, k);
         assert!(rt; done.is(0, PCI0_LISTED, ""));
     }
-    Ok(())
 }

@@ -9,7 +9,6 @@ use acpins_run::{Failure, FileFault, Files, add_tables};
 use bytes::Bytes;
 use std::alloc::Global;
 use std::io::Sink;
-use std::test::Fail;
 
 // Every name is that of a file of these bytes, and no file can be made.
 #[derive(Drop)]
@@ -59,17 +58,15 @@ fn tables_in_text(alloc: Global, text: &str) -> Result<Vec<Bytes>, Failure<'stat
 }
 
 #[test]
-fn cuts_what_is_held(rt: HostRuntime) -> Result<(), Fail> {
+fn cuts_what_is_held(rt: HostRuntime) {
     let alloc = rt.alloc();
-    let table = kept_bytes(alloc, Kept::Dsdt(PCI0))?;
-    let mut two = table.clone()?;
-    two.extend_from_slice(table.as_slice())?;
-    let tables = tables_in(alloc, two.as_slice()).ok().ok_or("no tables")?;
+    let table = kept_bytes(&rt, alloc, Kept::Dsdt(PCI0));
+    let mut two = table.clone().expect(&rt, "memory");
+    two.extend_from_slice(table.as_slice())
+        .expect(&rt, "memory");
+    let tables = tables_in(alloc, two.as_slice()).ok().expect(&rt, "tables");
     assert_eq!(rt; tables.len(), 2);
-    let text = hex::encode(alloc, two.as_slice())?;
-    let tables = tables_in_text(alloc, text.as_str())
-        .ok()
-        .ok_or("no tables")?;
-    assert_eq!(rt; tables.len(), 2);
-    Ok(())
+    let text = hex::encode(alloc, two.as_slice()).expect(&rt, "memory");
+    let tables = tables_in_text(alloc, text.as_str());
+    assert_eq!(rt; tables.ok().expect(&rt, "tables").len(), 2);
 }

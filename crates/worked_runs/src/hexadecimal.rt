@@ -1,7 +1,6 @@
 //! Texts of hexadecimal digits, and the texts of their faults.
 
 use acpins_run::{HexFault, from_hex};
-use std::test::Fail;
 
 static READ: [(&str, &[u8]); 5] = [
     ("", b""),
@@ -25,7 +24,7 @@ static REFUSED: [&str; 10] = [
 ];
 
 #[test]
-fn reads_digits(rt: HostRuntime) -> Result<(), Fail> {
+fn reads_digits(rt: HostRuntime) {
     for (text, bytes) in READ.iter() {
         let got = from_hex(rt.alloc(), text.as_bytes());
         assert!(rt; got.ok().as_deref() == Some(*bytes), "{text:?}");
@@ -34,14 +33,11 @@ fn reads_digits(rt: HostRuntime) -> Result<(), Fail> {
         let got = from_hex(rt.alloc(), text.as_bytes());
         assert!(rt; got.err() == Some(HexFault::BadHex), "{text:?}");
     }
-    Ok(())
-}
-
-#[test]
-fn names_its_faults(rt: HostRuntime) -> Result<(), Fail> {
-    let bad = format!(in rt.alloc(); "{}", HexFault::BadHex)?;
-    let memory = format!(in rt.alloc(); "{}", HexFault::Memory)?;
-    assert_eq!(rt; bad.as_str(), "H1 BadHex");
-    assert_eq!(rt; memory.as_str(), "H2 Memory");
-    Ok(())
+    for (fault, text) in [
+        (HexFault::BadHex, "H1 BadHex"),
+        (HexFault::Memory, "H2 Memory"),
+    ] {
+        let printed = format!(in rt.alloc(); "{fault}").expect(&rt, "memory");
+        assert!(rt; printed.as_str() == text, "{printed}");
+    }
 }

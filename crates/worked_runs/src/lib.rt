@@ -29,4 +29,6 @@ mod rows;
 #[cfg(test)]
 mod shown;
 #[cfg(test)]
+mod words;
+#[cfg(test)]
 mod written;

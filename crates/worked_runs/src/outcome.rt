@@ -5,9 +5,9 @@ use acpi_space::MapSpace;
 use acpi_table::checksum_for;
 use acpi_terms::Object;
 use acpins_run::{UntilFailure, from_hex, made_in, run, told};
-use std::alloc::{AllocError, Global};
+use std::alloc::Global;
+use std::process::Abort;
 use std::str::from_utf8;
-use std::test::Fail;
 
 /// The names of the files of a run, in order.
 const NAMES: [&str; 5] = ["a", "b", "c", "d", "e"];
@@ -55,46 +55,45 @@ pub enum Kept {
 }
 
 /// A table of revision 2 with this signature and code, the right length and checksum, and zeros.
-pub fn table_of(alloc: Global, signature: &str, code: &[u8]) -> Result<Vec<u8>, AllocError> {
+pub fn table_of(rt: &impl Abort, alloc: Global, signature: &str, code: &[u8]) -> Vec<u8> {
     let length = u32::try_from(code.len().saturating_add(36)).unwrap_or(u32::MAX);
-    let mut bytes = Vec::from_slice(alloc, signature.as_bytes())?;
-    bytes.extend_from_slice(&length.to_le_bytes())?;
-    bytes.push(2)?;
-    bytes.extend_from_slice(&[0u8; 27])?;
-    bytes.extend_from_slice(code)?;
+    let mut bytes = Vec::from_slice(alloc, signature.as_bytes()).expect(rt, "memory");
+    bytes
+        .extend_from_slice(&length.to_le_bytes())
+        .expect(rt, "memory");
+    bytes.push(2).expect(rt, "memory");
+    bytes.extend_from_slice(&[0u8; 27]).expect(rt, "memory");
+    bytes.extend_from_slice(code).expect(rt, "memory");
     let checksum = checksum_for(bytes.as_slice());
     if let Some(place) = bytes.get_mut(9) {
         *place = checksum;
     }
-    Ok(bytes)
+    bytes
 }
 
 /// The bytes of a hexadecimal text.
-pub fn bytes_of(alloc: Global, text: &str) -> Result<Vec<u8>, Fail> {
-    Ok(
-        from_hex(alloc, text.as_bytes())
-            .ok()
-            .ok_or("a hexadecimal text")?,
-    )
+pub fn bytes_of(rt: &impl Abort, alloc: Global, text: &str) -> Vec<u8> {
+    from_hex(alloc, text.as_bytes()).expect(rt, "a hexadecimal text")
 }
 
 /// The bytes of a file.
-pub fn kept_bytes(alloc: Global, kept: Kept) -> Result<Vec<u8>, Fail> {
+pub fn kept_bytes(rt: &impl Abort, alloc: Global, kept: Kept) -> Vec<u8> {
     match kept {
-        Kept::Dsdt(code) => Ok(table_of(alloc, "DSDT", bytes_of(alloc, code)?.as_slice())?),
-        Kept::Ssdt(code) => Ok(table_of(alloc, "SSDT", bytes_of(alloc, code)?.as_slice())?),
-        Kept::Raw(text) => bytes_of(alloc, text),
-        Kept::Text(text) => Ok(Vec::from_slice(alloc, text.as_bytes())?),
+        Kept::Dsdt(code) => table_of(rt, alloc, "DSDT", bytes_of(rt, alloc, code).as_slice()),
+        Kept::Ssdt(code) => table_of(rt, alloc, "SSDT", bytes_of(rt, alloc, code).as_slice()),
+        Kept::Raw(text) => bytes_of(rt, alloc, text),
+        Kept::Text(text) => Vec::from_slice(alloc, text.as_bytes()).expect(rt, "memory"),
     }
 }
 
 /// Files `a`, `b` and so on.
-pub fn files_of(alloc: Global, kept: &[Kept], failing: Failing) -> Result<MemoryFiles, Fail> {
+pub fn files_of(rt: &impl Abort, alloc: Global, kept: &[Kept], failing: Failing) -> MemoryFiles {
     let mut files = MemoryFiles::new(alloc, failing);
     for (name, kept) in NAMES.iter().zip(kept.iter()) {
-        files.add(name, kept_bytes(alloc, *kept)?.as_slice())?;
+        let bytes = kept_bytes(rt, alloc, *kept);
+        files.add(name, bytes.as_slice()).expect(rt, "memory");
     }
-    Ok(files)
+    files
 }
 
 /// What a run answered and wrote.
@@ -123,40 +122,46 @@ impl Outcome {
 
 /// Runs the words, parted by bars, over files whose steps fail as told, with streams whose step of this number fails.
 pub fn ran_with(
+    rt: &impl Abort,
     alloc: Global,
     files: &mut MemoryFiles,
     words: &str,
     out: usize,
     err: usize,
-) -> Result<Outcome, Fail> {
-    let words: Vec<&str> = words.split('|').collect(alloc)?;
+) -> Outcome {
+    let words: Vec<&str> = words.split('|').collect(alloc).expect(rt, "memory");
     let mut out = MemoryWriter::new(alloc, out);
     let mut err = MemoryWriter::new(alloc, err);
     let status = run(alloc, words.as_slice(), files, &mut out, &mut err);
-    Ok(Outcome {
+    Outcome {
         status,
         out: out.bytes,
         err: err.bytes,
-    })
+    }
 }
 
 /// The same as a run whose streams never fail, with the objects kept in a map of paths.
-pub fn made_over_map(alloc: Global, files: &mut MemoryFiles, words: &str) -> Result<Outcome, Fail> {
-    let words: Vec<&str> = words.split('|').collect(alloc)?;
+pub fn made_over_map(
+    rt: &impl Abort,
+    alloc: Global,
+    files: &mut MemoryFiles,
+    words: &str,
+) -> Outcome {
+    let words: Vec<&str> = words.split('|').collect(alloc).expect(rt, "memory");
     let mut err = MemoryWriter::new(alloc, 0);
     match made_in::<MapSpace<Object>, MemoryFiles>(alloc, words.as_slice(), files) {
-        Ok(made) => Ok(Outcome {
+        Ok(made) => Outcome {
             status: made.status,
             out: made.text,
             err: err.bytes,
-        }),
+        },
         Err(failure) => {
             let status = told(&failure, &mut err, &mut UntilFailure::new());
-            Ok(Outcome {
+            Outcome {
                 status,
                 out: Vec::new(alloc),
                 err: err.bytes,
-            })
+            }
         }
     }
 }

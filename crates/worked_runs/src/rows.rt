@@ -3,12 +3,11 @@
 use crate::checked::CHECKED;
 use crate::listings::LISTINGS;
 use crate::memory::NONE;
-use crate::outcome::{Kept, files_of, made_over_map, ran_with};
+use crate::outcome::{Kept, Outcome, files_of, made_over_map, ran_with};
 use crate::refusals::{CODES, FILES, LOADS, MORE_CODES};
-use crate::shown::{OBJECTS, READ, UNREAD, UNREAD_HERE};
+use crate::shown::{FORMS, OBJECTS, READ, UNREAD, UNREAD_HERE};
 use std::alloc::Global;
 use std::process::Abort;
-use std::test::Fail;
 
 /// A run over files `a`, `b` and so on.
 #[derive(Clone, Copy, Debug)]
@@ -23,72 +22,44 @@ pub struct Row {
     pub err: &'static str,
 }
 
-fn answers(rt: &impl Abort, alloc: Global, rows: &[Row]) -> Result<(), Fail> {
+fn expect_outcome(rt: &impl Abort, row: &Row, got: &Outcome) {
+    assert!(rt;
+        got.is(row.status, row.out, row.err),
+        "{} gave {got:?}",
+        row.shows
+    );
+}
+
+fn expect_rows(rt: &impl Abort, alloc: Global, rows: &[Row]) {
     for row in rows {
-        let mut files = files_of(alloc, row.files, NONE)?;
-        let got = ran_with(alloc, &mut files, row.words, 0, 0)?;
-        assert!(rt;
-            got.is(row.status, row.out, row.err),
-            "{} gave {got:?}",
-            row.shows
-        );
-        let mut files = files_of(alloc, row.files, NONE)?;
-        let got = made_over_map(alloc, &mut files, row.words)?;
-        assert!(rt;
-            got.is(row.status, row.out, row.err),
-            "{} over a map gave {got:?}",
-            row.shows
-        );
+        let mut files = files_of(rt, alloc, row.files, NONE);
+        let got = ran_with(rt, alloc, &mut files, row.words, 0, 0);
+        expect_outcome(rt, row, &got);
+        let mut files = files_of(rt, alloc, row.files, NONE);
+        let got = made_over_map(rt, alloc, &mut files, row.words);
+        expect_outcome(rt, row, &got);
     }
-    Ok(())
 }
 
 #[test]
-fn lists_tables(rt: HostRuntime) -> Result<(), Fail> {
-    answers(&rt, rt.alloc(), &LISTINGS)
+fn lists_tables(rt: HostRuntime) {
+    expect_rows(&rt, rt.alloc(), &LISTINGS);
+    expect_rows(&rt, rt.alloc(), &FILES);
+    expect_rows(&rt, rt.alloc(), &CODES);
+    expect_rows(&rt, rt.alloc(), &MORE_CODES);
+    expect_rows(&rt, rt.alloc(), &LOADS);
 }
 
 #[test]
-fn refuses_files(rt: HostRuntime) -> Result<(), Fail> {
-    answers(&rt, rt.alloc(), &FILES)
+fn shows_objects(rt: HostRuntime) {
+    expect_rows(&rt, rt.alloc(), &READ);
+    expect_rows(&rt, rt.alloc(), &FORMS);
+    expect_rows(&rt, rt.alloc(), &UNREAD);
+    expect_rows(&rt, rt.alloc(), &UNREAD_HERE);
+    expect_rows(&rt, rt.alloc(), &OBJECTS);
 }
 
 #[test]
-fn refuses_codes(rt: HostRuntime) -> Result<(), Fail> {
-    answers(&rt, rt.alloc(), &CODES)
-}
-
-#[test]
-fn refuses_more_codes(rt: HostRuntime) -> Result<(), Fail> {
-    answers(&rt, rt.alloc(), &MORE_CODES)
-}
-
-#[test]
-fn refuses_loads(rt: HostRuntime) -> Result<(), Fail> {
-    answers(&rt, rt.alloc(), &LOADS)
-}
-
-#[test]
-fn shows_bodies(rt: HostRuntime) -> Result<(), Fail> {
-    answers(&rt, rt.alloc(), &READ)
-}
-
-#[test]
-fn shows_why_bodies_are_not_read(rt: HostRuntime) -> Result<(), Fail> {
-    answers(&rt, rt.alloc(), &UNREAD)
-}
-
-#[test]
-fn shows_why_bodies_are_not_read_here(rt: HostRuntime) -> Result<(), Fail> {
-    answers(&rt, rt.alloc(), &UNREAD_HERE)
-}
-
-#[test]
-fn shows_objects(rt: HostRuntime) -> Result<(), Fail> {
-    answers(&rt, rt.alloc(), &OBJECTS)
-}
-
-#[test]
-fn checks_tables(rt: HostRuntime) -> Result<(), Fail> {
-    answers(&rt, rt.alloc(), &CHECKED)
+fn checks_tables(rt: HostRuntime) {
+    expect_rows(&rt, rt.alloc(), &CHECKED);
 }

@@ -124,6 +124,86 @@ Return(MTH2(0x01, 0x02))\n",
     },
 ];
 
+/// Bodies of each form that is printed.
+pub static FORMS: [Row; 6] = [
+    Row {
+        shows: "operators, a target that is left out among them",
+        words: "show|\\M001|a",
+        files: &[Kept::Dsdt("14 0E 4D 30 30 31 00 75 5B 31 72 60 61 00 A3")],
+        status: 0,
+        out: "\\M001 Method 0\n\
+Increment(Debug)\n\
+Add(Local0, Local1, -)\n\
+Noop\n",
+        err: "",
+    },
+    Row {
+        shows: "blocks in blocks",
+        words: "show|\\M001|a",
+        files: &[Kept::Dsdt(
+            "14 16 4D 30 30 31 00 A2 0E 01 A0 04 60 A4 01 A1 03 A4 00 A0 02 6E A3",
+        )],
+        status: 0,
+        out: "\\M001 Method 0\n\
+While (One) {\n  If (Local0) {\n    Return(One)\n  }\n  Else {\n    Return(Zero)\n  }\n  If (Arg6) {\n  }\n\
+}\n\
+Noop\n",
+        err: "",
+    },
+    Row {
+        shows: "operands that are numbers of a fixed size",
+        words: "show|\\M001|a",
+        files: &[Kept::Dsdt(
+            "14 17 4D 30 30 31 00 5B 32 0A EF BE 00 00 00 5B 23 5C 5F 47 4C 5F FF FF",
+        )],
+        status: 0,
+        out: "\\M001 Method 0\n\
+Fatal(0x0A, 0x0000BEEF, Zero)\n\
+Acquire(\\_GL_, 0xFFFF)\n",
+        err: "",
+    },
+    Row {
+        shows: "buffers, strings and packages",
+        words: "show|\\M001|a",
+        files: &[Kept::Dsdt(
+            "14 1D 4D 30 30 31 00 A4 12 11 03 11 04 68 01 FE 0D 61 22 62 00 5E 41 42 43 44 A4 13 02 61",
+        )],
+        status: 0,
+        out: "\\M001 Method 0\n\
+Return(Package(3){Buffer(Arg0){01 FE}, \"a\\x22b\", ^ABCD})\n\
+Return(VarPackage(Local1){})\n",
+        err: "",
+    },
+    Row {
+        shows: "declarations",
+        words: "show|\\M001|a",
+        files: &[Kept::Dsdt(
+            "14 2F 4D 30 30 31 00 5B 80 52 45 47 30 01 68 0B 10 00 5B 01 4D 54 58 30 05 5B 02 45 56 54 30 8A 60 00 41 41 41 41 5B 13 60 01 0A 03 42 42 42 42",
+        )],
+        status: 0,
+        out: "\\M001 Method 0\n\
+OperationRegion(REG0, 0x01, Arg0, 0x0010)\n\
+Mutex(MTX0, 0x05)\n\
+Event(EVT0)\n\
+CreateDWordField(Local0, Zero, AAAA)\n\
+CreateField(Local0, One, 0x03, BBBB)\n",
+        err: "",
+    },
+    Row {
+        shows: "fields",
+        words: "show|\\M001|a",
+        files: &[Kept::Dsdt(
+            "14 44 04 4D 30 30 31 00 5B 81 1F 52 45 47 30 01 41 41 5F 5F 08 00 04 01 01 00 02 47 50 49 4F 02 11 04 0A 01 00 03 02 0B 02 5B 86 0D 49 44 58 30 44 41 54 30 21 00 4C 12 5B 87 0B 52 45 47 30 42 4E 4B 30 62 01",
+        )],
+        status: 0,
+        out: "\\M001 Method 0\n\
+Field(REG0, 0x01) {AA__ 8, Reserved 4, Access 0x01 0x00, Connect GPIO, Connect Buffer(0x01){00}, Extended 0x02 0x0B 0x02}\n\
+IndexField(IDX0, DAT0, 0x21) {Reserved 300}\n\
+BankField(REG0, BNK0, Local2, 0x01) {}\n",
+        err: "",
+    },
+];
+
 /// Bodies whose bytes are no statements: each reason, and its place.
 pub static UNREAD: [Row; 13] = [
     Row {

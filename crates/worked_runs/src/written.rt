@@ -2,7 +2,6 @@
 
 use crate::memory::{Failing, NONE};
 use crate::outcome::{Kept, PCI0, files_of, kept_bytes, ran_with};
-use std::test::Fail;
 
 /// A run of `rewrite` over the file `a`, and what the file `out` holds then.
 struct Row {
@@ -66,39 +65,38 @@ static WRITTEN: [Row; 7] = [
 ];
 
 #[test]
-fn writes_tables(rt: HostRuntime) -> Result<(), Fail> {
+fn writes_tables(rt: HostRuntime) {
     let alloc = rt.alloc();
     for row in WRITTEN.iter() {
-        let mut files = files_of(alloc, &[row.file], NONE)?;
-        let got = ran_with(alloc, &mut files, row.words, 0, 0)?;
+        let mut files = files_of(&rt, alloc, &[row.file], NONE);
+        let got = ran_with(&rt, alloc, &mut files, row.words, 0, 0);
         assert!(rt; got.is(0, "", ""), "{} gave {got:?}", row.shows);
-        let written = kept_bytes(alloc, row.written)?;
+        let written = kept_bytes(&rt, alloc, row.written);
         assert!(rt;
             files.get("out") == Some(written.as_slice()),
             "{}",
             row.shows
         );
     }
-    Ok(())
 }
 
 // The tables of all files stand in the one, in order.
 #[test]
-fn writes_several_tables(rt: HostRuntime) -> Result<(), Fail> {
+fn writes_several_tables(rt: HostRuntime) {
     let alloc = rt.alloc();
     let ssdt = Kept::Ssdt("08 2F 01 46 4F 4F 5F 00");
-    let mut files = files_of(alloc, &[Kept::Dsdt(PCI0), ssdt], NONE)?;
-    let got = ran_with(alloc, &mut files, "rewrite|out|a|b", 0, 0)?;
+    let mut files = files_of(&rt, alloc, &[Kept::Dsdt(PCI0), ssdt], NONE);
+    let got = ran_with(&rt, alloc, &mut files, "rewrite|out|a|b", 0, 0);
     assert!(rt; got.is(0, "", ""), "{got:?}");
-    let mut written = kept_bytes(alloc, Kept::Dsdt(PCI0))?;
-    written.extend_from_slice(&kept_bytes(alloc, Kept::Ssdt("08 46 4F 4F 5F 00"))?)?;
+    let mut written = kept_bytes(&rt, alloc, Kept::Dsdt(PCI0));
+    let second = kept_bytes(&rt, alloc, Kept::Ssdt("08 46 4F 4F 5F 00"));
+    written.extend_from_slice(&second).expect(&rt, "memory");
     assert!(rt; files.get("out") == Some(written.as_slice()));
-    Ok(())
 }
 
 // A file that can't be made, ended, or written at some step is told of, and holds nothing.
 #[test]
-fn tells_of_files_that_are_not_written(rt: HostRuntime) -> Result<(), Fail> {
+fn tells_of_files_that_are_not_written(rt: HostRuntime) {
     let alloc = rt.alloc();
     let line = "acpins: out: cannot be written";
     for k in 0..20usize {
@@ -117,8 +115,8 @@ fn tells_of_files_that_are_not_written(rt: HostRuntime) -> Result<(), Fail> {
                 ..NONE
             },
         };
-        let mut files = files_of(alloc, &[Kept::Dsdt(PCI0)], failing)?;
-        let got = ran_with(alloc, &mut files, "rewrite|out|a", 0, 0)?;
+        let mut files = files_of(&rt, alloc, &[Kept::Dsdt(PCI0)], failing);
+        let got = ran_with(&rt, alloc, &mut files, "rewrite|out|a", 0, 0);
         if k <= 14 {
             assert!(rt; got.is_refusal(1, line), "step {k} gave {got:?}");
             assert!(rt; files.get("out").is_none());
@@ -126,12 +124,11 @@ fn tells_of_files_that_are_not_written(rt: HostRuntime) -> Result<(), Fail> {
             assert!(rt; got.is(0, "", ""), "no write fails at {k}");
         }
     }
-    Ok(())
 }
 
 // A refusal leaves the file as it was.
 #[test]
-fn leaves_files_as_they_were(rt: HostRuntime) -> Result<(), Fail> {
+fn leaves_files_as_they_were(rt: HostRuntime) {
     let alloc = rt.alloc();
     let cases = [
         (Kept::Dsdt("06"), "acpins: table 0: K7 Alias at 36"),
@@ -139,12 +136,11 @@ fn leaves_files_as_they_were(rt: HostRuntime) -> Result<(), Fail> {
         (Kept::Text("DSDT"), "acpins: table 0: T1 Short"),
     ];
     for (file, line) in cases {
-        let mut files = files_of(alloc, &[file], NONE)?;
-        files.add("out", b"before")?;
-        let got = ran_with(alloc, &mut files, "rewrite|out|a", 0, 0)?;
+        let mut files = files_of(&rt, alloc, &[file], NONE);
+        files.add("out", b"before").expect(&rt, "memory");
+        let got = ran_with(&rt, alloc, &mut files, "rewrite|out|a", 0, 0);
         assert!(rt; got.is_refusal(1, line), "{got:?}");
         let before: &[u8] = b"before";
         assert!(rt; files.get("out") == Some(before) && files.kept.len() == 2);
     }
-    Ok(())
 }

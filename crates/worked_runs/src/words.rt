@@ -1,8 +1,8 @@
 //! Which words are read, and as what.
 
-use crate::{Command, WordsFault, read_words};
+use acpins_words::{Command, WordsFault, read_words};
 use std::alloc::Global;
-use std::test::Fail;
+use std::process::Abort;
 
 /// What words ask for: whether files are hexadecimal texts, the depth, and the files, parted by bars.
 type Asked = (bool, u32, &'static str);
@@ -157,60 +157,40 @@ fn named<'a>(command: &Command<'a>) -> (&'static str, &'a str) {
     }
 }
 
-// Whether the words ask for this command, and for the rest; none where they are wrong.
-fn asks(
-    alloc: Global,
-    text: &str,
-    command: (&str, &str),
-    asked: Option<Asked>,
-) -> Result<bool, Fail> {
-    let words: Vec<&str> = if text.is_empty() {
-        Vec::new(alloc)
-    } else {
-        text.split('|').collect(alloc)?
-    };
-    match (read_words(alloc, words.as_slice()), asked) {
-        (Ok(got), Some((hex, depth, files))) => {
-            Ok(
-                named(&got.command) == command
-                    && got.hex == hex
-                    && got.depth.get() == depth
-                    && got.files.iter().copied().eq(files.split('|')),
-            )
-        }
-        (Err(WordsFault::Wrong), None) => Ok(true),
-        _ => Ok(false),
+// The words ask for this command, and for the rest; or are wrong.
+fn expect(rt: &impl Abort, alloc: Global, text: &str, command: (&str, &str), asked: Option<Asked>) {
+    let mut words: Vec<&str> = text.split('|').collect(alloc).expect(rt, "memory");
+    if text.is_empty() {
+        words.clear();
     }
+    let is_right = match (read_words(alloc, words.as_slice()), asked) {
+        (Ok(got), Some((hex, depth, files))) => {
+            named(&got.command) == command
+                && got.hex == hex
+                && got.depth.get() == depth
+                && got.files.iter().copied().eq(files.split('|'))
+        }
+        (Err(fault), None) => fault == WordsFault::Wrong,
+        _ => false,
+    };
+    assert!(rt; is_right, "{text}");
 }
 
 #[test]
-fn reads_words(rt: HostRuntime) -> Result<(), Fail> {
+fn reads_words(rt: HostRuntime) {
     for (words, asked) in READ.iter() {
-        assert!(rt;
-            asks(rt.alloc(), words, ("list", ""), Some(*asked))?,
-            "{words}"
-        );
+        expect(&rt, rt.alloc(), words, ("list", ""), Some(*asked));
     }
     for (words, path, asked) in SHOWN.iter() {
-        assert!(rt;
-            asks(rt.alloc(), words, ("show", *path), Some(*asked))?,
-            "{words}"
-        );
+        expect(&rt, rt.alloc(), words, ("show", *path), Some(*asked));
     }
     for (words, asked) in CHECKED.iter() {
-        assert!(rt;
-            asks(rt.alloc(), words, ("check", ""), Some(*asked))?,
-            "{words}"
-        );
+        expect(&rt, rt.alloc(), words, ("check", ""), Some(*asked));
     }
     for (words, out, asked) in WRITTEN.iter() {
-        assert!(rt;
-            asks(rt.alloc(), words, ("rewrite", *out), Some(*asked))?,
-            "{words}"
-        );
+        expect(&rt, rt.alloc(), words, ("rewrite", *out), Some(*asked));
     }
     for words in WRONG.iter() {
-        assert!(rt; asks(rt.alloc(), words, ("", ""), None)?, "{words}");
+        expect(&rt, rt.alloc(), words, ("", ""), None);
     }
-    Ok(())
 }
