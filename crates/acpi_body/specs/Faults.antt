@@ -52,7 +52,7 @@ is_no_constant (opcodes.Constant form) = false
 is_no_constant _ = true
 
 -- What the reason says is true of the body's bytes at that place; `s` is the method's path, and `depth` the number of
--- levels that are allowed.
+-- levels that are allowed. NotData: no constant begins there. BadPlace: a name stands there that can't be declared.
 abbrev pub Shows : List Segment → ℕ → List ℕ → BodyReason → ℕ → Type 0
 Shows s depth code Cut place = ShowsPart depth code codes.Cut place
 Shows s depth code ReservedBits place = ShowsPart depth code codes.ReservedBits place

@@ -60,9 +60,10 @@ IsReserved lead = (0x40 ≤ lead) × (0x0F < lead % 0x40)
 -- ---- what a fault of a part shows
 
 -- What the reason says is true of the code at that place; `depth` is the number of levels that are allowed.
--- Cut: a list ends there. ReservedBits: a package length with reserved bits. BadName: no name and no segment.
--- Overrun: a package length below its own number of bytes, or past the end of a list that it stands in.
--- BadString: a byte above 7F. TooDeep: a byte, behind at least as many bytes as there are levels.
+-- Cut: a list ends there. ReservedBits: a package length with reserved bits. BadName: no name or no segment begins
+-- there, and the second follows from the first. Overrun: a package length below its own number of bytes, or past the
+-- end of a list that it stands in. BadString: a byte above 7F. TooDeep: a byte, behind at least as many bytes as there
+-- are levels.
 abbrev pub ShowsPart : ℕ → List ℕ → CodeReason → ℕ → Type 0
 ShowsPart depth code Cut place = (start : ℕ) × IsList code start place
 ShowsPart depth code ReservedBits place = ByteAt IsReserved code place

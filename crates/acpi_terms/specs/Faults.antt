@@ -94,11 +94,11 @@ pub record IsOtherIf (bytes : List ℕ) : Type 0 where
 -- What the reason says is true of the code at that place, for some kind of place; `depth` is the number of
 -- levels that are allowed.
 -- Cut: a list ends there. BadOpcode: no term begins there. ReservedBits: a package length with reserved bits, or
--- a count of arguments above 7. BadName: no name and no segment. Overrun: a package length below its own number
--- of bytes, or past the end of a list that it stands in. Computed: a term that is no constant, or one that is no
--- name. ModuleIf: an Else, a While, or an If that is no block of Externals. ModuleCode: a name, data, Local, Arg,
--- Debug or an operator. NotData: no data. TooDeep: a byte, behind at least as many bytes as there are levels.
--- BadString: a byte above 7F.
+-- a count of arguments above 7. BadName: no name or no segment begins there, and the second follows from the first.
+-- Overrun: a package length below its own number of bytes, or past the end of a list that it stands in. Computed: a
+-- term that is no constant, or one that is no name. ModuleIf: an Else, a While, or an If that is no block of
+-- Externals. ModuleCode: a name, data, Local, Arg, Debug or an operator. NotData: no data. TooDeep: a byte, behind at
+-- least as many bytes as there are levels. BadString: a byte above 7F.
 abbrev pub Shows : ℕ → List ℕ → ItemReason → ℕ → Type 0
 Shows depth code Cut place = ShowsPart depth code codes.Cut place
 Shows depth code BadOpcode place = Refused BadOpcode code place

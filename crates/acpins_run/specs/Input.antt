@@ -56,7 +56,7 @@ abbrev pub CountsFailedRead : {A : Type 0} → Result A Failure → ℕ → ℕ 
 CountsFailedRead (Err (Read word)) old new = new ≡ one_more old
 CountsFailedRead _ old new = new ≡ old
 
--- Why a file gives no tables, where so many came before: it can't be read, its text spells no bytes,
+-- Why a file gives no tables, where so many came before: it is said not to be read, its text spells no bytes,
 -- it breaks off after some more, or there is no memory.
 abbrev pub IsFileFault : Bool → List ℕ → Option (List ℕ) → ℕ → Failure → Type 0
 IsFileFault hex name known before (Read word) = word.now ≡ name

@@ -129,7 +129,7 @@ IsMissingPath bytes_of asked (showing word) = IsNoSuchPath bytes_of asked word
 IsMissingPath bytes_of asked checking = ⊥
 IsMissingPath bytes_of asked (rewriting word) = ⊥
 
--- the rewritten tables are made, and the file of that name can't be written
+-- the rewritten tables are made, and the file of that name is said not to be written
 abbrev pub IsUnwrittenFile : FileBytes → Asked → Command → Failure → Type 0
 IsUnwrittenFile bytes_of asked (rewriting word) failure = IsRewriting bytes_of asked × IsUnwritten word failure
 IsUnwrittenFile bytes_of asked _ failure = ⊥
