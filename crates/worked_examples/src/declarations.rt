@@ -1,4 +1,4 @@
-//! Loads of small tables over both kinds of space, and printed texts, which no clause states.
+//! Loads of small tables over both kinds of space.
 
 use crate::expect::{expect_number, expect_text, put_printed, put_text};
 use crate::machines::{dsdt_of, limit, slices_of, ssdts_of, table};
@@ -26,7 +26,8 @@ const REGION: &[u8] = b"\x5B\x80REG0\x00\x00\x0A\x10";
 // Device (\_SB.PCI0) {}
 const TAKEN: &[u8] = b"\x5B\x82\x0B\\\x2E_SB_PCI0";
 
-// What `declare` answers of a bridge and SSDTs of these codes, as a text: what stands at each path, or the fault.
+// What `declare` answers of a DSDT of these bytes and SSDTs of these codes, as a text: what stands at each path, or the
+// fault.
 fn declared<S: Space<Object>>(
     rt: &impl Abort,
     alloc: Global,
@@ -114,9 +115,16 @@ fn expect_over<S: Space<Object>>(rt: &impl Abort, alloc: Global) {
     }
 }
 
+// What `declare` answers of the same.
+fn copied<S: Space<Object>>(rt: &impl Abort, alloc: Global, codes: &[&[u8]]) -> Declared<S> {
+    let dsdt = dsdt_of(rt, alloc, &[BRIDGE]);
+    let ssdts = ssdts_of(rt, alloc, codes);
+    let slices = slices_of(rt, alloc, &ssdts);
+    declare(alloc, dsdt.as_slice(), &slices, limit(rt, 4)).expect(rt, "a load")
+}
+
 // The first External of a table counts, and each table has counts of its own.
-fn expect_counts<S: Space<Object>>(rt: &impl Abort, alloc: Global) {
-    let declared = shared::<S>(rt, alloc, &[UID, EVENT]);
+fn expect_counts<S>(rt: &impl Abort, alloc: Global, declared: &Declared<S>) {
     expect_number(rt, declared.notes().len(), 3);
     let path = Path::from_text(alloc, "\\FOO_").expect(rt, "a path");
     for (notes, count) in declared.notes().iter().zip([None, None, Some(2)]) {
@@ -124,19 +132,36 @@ fn expect_counts<S: Space<Object>>(rt: &impl Abort, alloc: Global) {
     }
 }
 
-// A field's region may stand in a later table, or nowhere.
-fn expect_links<S: Space<Object>>(rt: &impl Abort, alloc: Global) {
+// What the links of \BB__ answer.
+fn expect_answers<S>(rt: &impl Abort, alloc: Global, declared: &Declared<S>, answers: &str) {
     let path = Path::from_text(alloc, "\\BB__").expect(rt, "a path");
-    for (second, region) in [(REGION, "\\REG0 "), (UID, "- ")] {
-        let declared = shared::<S>(rt, alloc, &[FIELD, second]);
-        let mut text = String::new(alloc);
-        for answer in declared.links().get(&path).expect(rt, "links") {
-            match answer {
-                Some(path) => put_printed(rt, alloc, &mut text, path, " "),
-                None => put_text(rt, &mut text, "- "),
-            }
+    let mut text = String::new(alloc);
+    for answer in declared.links().get(&path).expect(rt, "links") {
+        match answer {
+            Some(path) => put_printed(rt, alloc, &mut text, path, " "),
+            None => put_text(rt, &mut text, "- "),
         }
-        expect_text(rt, text.as_str(), region);
+    }
+    expect_text(rt, text.as_str(), answers);
+}
+
+// Notes and links, of `declare` and of `declare_shared`: a field's region may stand in a later table, or nowhere.
+fn expect_notes_and_links<S: Space<Object>>(rt: &impl Abort, alloc: Global) {
+    expect_counts(rt, alloc, &shared::<S>(rt, alloc, &[UID, EVENT]));
+    expect_counts(rt, alloc, &copied::<S>(rt, alloc, &[UID, EVENT]));
+    for (second, answers) in [(REGION, "\\REG0 "), (UID, "- ")] {
+        expect_answers(
+            rt,
+            alloc,
+            &shared::<S>(rt, alloc, &[FIELD, second]),
+            answers,
+        );
+        expect_answers(
+            rt,
+            alloc,
+            &copied::<S>(rt, alloc, &[FIELD, second]),
+            answers,
+        );
     }
 }
 
@@ -144,14 +169,12 @@ fn expect_links<S: Space<Object>>(rt: &impl Abort, alloc: Global) {
 fn declares_into_a_map(rt: HostRuntime) {
     expect_declared::<MapSpace<Object>>(&rt, rt.alloc());
     expect_over::<MapSpace<Object>>(&rt, rt.alloc());
-    expect_counts::<MapSpace<Object>>(&rt, rt.alloc());
-    expect_links::<MapSpace<Object>>(&rt, rt.alloc());
+    expect_notes_and_links::<MapSpace<Object>>(&rt, rt.alloc());
 }
 
 #[test]
 fn declares_into_a_tree(rt: HostRuntime) {
     expect_declared::<TreeSpace<Object>>(&rt, rt.alloc());
     expect_over::<TreeSpace<Object>>(&rt, rt.alloc());
-    expect_counts::<TreeSpace<Object>>(&rt, rt.alloc());
-    expect_links::<TreeSpace<Object>>(&rt, rt.alloc());
+    expect_notes_and_links::<TreeSpace<Object>>(&rt, rt.alloc());
 }

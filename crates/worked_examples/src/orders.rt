@@ -35,7 +35,7 @@ const OPENS: &[u8] = b"\x10\x0C\\_SB_\x10\x05_PR_";
 
 const OPENED: &[u8] = b"\x10\x0D\\_SB_\x5B\x82\x05_PR_";
 
-// Field (REG0, ..) { AA, 8, Offset (12), BB, 20 }, and the region
+// Field (REG0, ..) { AA, 8, , 4, BB, 20 }, and the region
 const FIELD: &[u8] = b"\x5B\x81\x12REG0\x01AA__\x08\x00\x04BB__\x14";
 
 const REGION: &[u8] = b"\x5B\x80REG0\x00\x00\x0A\x10";
@@ -85,8 +85,8 @@ pub(crate) const PAIRS: [Pair; 15] = [
         dsdt: &[BRIDGE],
         ssdts: [DEVICE, IN_DEVICE],
         told: [
-            "not alone 2, table 2: E3 Missing \\_SB_.DEV1",
-            "not alone 1, table 1: E3 Missing \\_SB_.DEV1",
+            "not alone 2, table 2: E3 Missing \\_SB_.DEV1, refused",
+            "not alone 1, table 1: E3 Missing \\_SB_.DEV1, refused",
         ],
         loads: [
             "\\_SB_.DEV1; \\_SB_.DEV1._UID; \\_SB_.PCI0; \\_SB_.PCI0._ADR; ",
@@ -217,7 +217,7 @@ fn put_verdict(rt: &impl Abort, alloc: Global, text: &mut String, verdict: &Verd
     put_text(rt, text, words.expect(rt, "memory").as_str());
 }
 
-// The verdict in words, and where they commute the satisfied Externals.
+// The verdict in words, and the satisfied Externals, or that they are refused.
 pub(crate) fn told<S: Space<Object>>(
     rt: &impl Abort,
     alloc: Global,
@@ -231,11 +231,11 @@ pub(crate) fn told<S: Space<Object>>(
         Ok(verdict) => put_verdict(rt, alloc, &mut text, &verdict),
         Err(fault) => put_printed(rt, alloc, &mut text, &fault, ""),
     }
-    if text.as_str() != "commute" {
+    let Ok(externals) = satisfied::<S>(alloc, dsdt.as_slice(), &slices, depth) else {
+        put_text(rt, &mut text, ", refused");
         return text;
-    }
-    let externals = satisfied::<S>(alloc, dsdt.as_slice(), &slices, depth);
-    for external in &externals.expect(rt, "the externals") {
+    };
+    for external in &externals {
         put_text(rt, &mut text, ", satisfied ");
         put_printed(rt, alloc, &mut text, &external.user, " ");
         put_printed(rt, alloc, &mut text, &external.definer, " ");
@@ -269,7 +269,7 @@ fn expect_few<S: Space<Object>>(rt: &impl Abort, alloc: Global) {
     expect_text(
         rt,
         told::<S>(rt, alloc, &first, &ssdts).as_str(),
-        "L1 NotDsdt",
+        "L1 NotDsdt, refused",
     );
     let awaits = dsdt_of(rt, alloc, &[EXTERNAL, CALL]);
     let ssdts = ssdts_of(rt, alloc, &[MTH2_DEVICE]);

@@ -17,7 +17,7 @@ const RETURNS_FOO: &[u8] = b"\x10\x12\\_SB_\x14\x0BM001\x00\xA4FOO_";
 // Scope (\_SB) { Scope (_PR) {} }
 const OPENS: &[u8] = b"\x10\x0C\\_SB_\x10\x05_PR_";
 
-// Field (REG0, ..) { AA, 8, Offset (12), BB, 20 }, one without units, and the region
+// Field (REG0, ..) { AA, 8, , 4, BB, 20 }, one without units, and the region
 const FIELD: &[u8] = b"\x5B\x81\x12REG0\x01AA__\x08\x00\x04BB__\x14";
 
 const NO_UNITS: &[u8] = b"\x5B\x81\x06REG0\x01";

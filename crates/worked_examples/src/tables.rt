@@ -58,6 +58,15 @@ fn cuts_tables(rt: HostRuntime) {
 }
 
 #[test]
+fn tells_the_header_of_a_table(rt: HostRuntime) {
+    let (table, _) = split_table(&DSDT).expect(&rt, "a table");
+    assert!(rt; table.code().len() == 20);
+    let header = table.header();
+    assert!(rt; header.signature == *b"DSDT" && header.length == 56 && header.revision == 2);
+    assert!(rt; header.checksum == 0x93);
+}
+
+#[test]
 fn tells_header_fields(rt: HostRuntime) {
     let mut bytes = EMPTY;
     bytes[10..16].copy_from_slice(b"OEMID1");

@@ -62,6 +62,7 @@ fn says_what_is_displayed(rt: HostRuntime) {
         Failure::Read("a file"),
         Failure::BadHex("-"),
         Failure::Output,
+        Failure::Out("out"),
         Failure::Memory,
         Failure::Load(0, LoadReason::NotDsdt),
         Failure::Load(10, LoadReason::NotSsdt),
@@ -75,6 +76,8 @@ fn says_what_is_displayed(rt: HostRuntime) {
     }
     for reason in ITEM_REASONS {
         agrees(&rt, alloc, Failure::Item(1, reason, 43));
+        let reason = LoadReason::Item { reason, place: 7 };
+        agrees(&rt, alloc, Failure::Load(1, reason));
     }
     for refusal in REFUSALS {
         for text in ["\\", "\\_SB_", "\\_SB_.PCI0._ADR"] {

@@ -124,8 +124,8 @@ Return(MTH2(0x01, 0x02))\n",
     },
 ];
 
-/// Bodies of each form that is printed.
-pub static FORMS: [Row; 6] = [
+/// Bodies of the other forms that are printed.
+pub static FORMS: [Row; 7] = [
     Row {
         shows: "operators, a target that is left out among them",
         words: "show|\\M001|a",
@@ -172,6 +172,17 @@ Acquire(\\_GL_, 0xFFFF)\n",
         out: "\\M001 Method 0\n\
 Return(Package(3){Buffer(Arg0){01 FE}, \"a\\x22b\", ^ABCD})\n\
 Return(VarPackage(Local1){})\n",
+        err: "",
+    },
+    Row {
+        shows: "buffers and packages that are statements",
+        words: "show|\\M001|a",
+        files: &[Kept::Dsdt("14 11 4D 30 30 31 00 11 03 0A 02 12 03 01 00 13 02 60")],
+        status: 0,
+        out: "\\M001 Method 0\n\
+Buffer(0x02){}\n\
+Package(1){Zero}\n\
+VarPackage(Local0){}\n",
         err: "",
     },
     Row {
