@@ -1,4 +1,4 @@
-//! Faults and refusals as each library prints them.
+//! Faults and refusals as the libraries print them.
 
 use crate::expect::{expect_all_printed, expect_printed};
 use acpi_body::{BodyFault, BodyReason};

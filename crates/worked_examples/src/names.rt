@@ -67,7 +67,7 @@ fn tells_faults(rt: HostRuntime) {
     }
 }
 
-// Names from \_SB_.PCI0.MTH1, and their places.
+// Names from \_SB_.PCI0.MTH1, and what is printed of each: its place, or the fault.
 const PLACES: [(&[u8], &str); 6] = [
     (b"FOO_", "\\_SB_.PCI0.MTH1.FOO_"),
     (b"^FOO_", "\\_SB_.PCI0.FOO_"),
@@ -89,7 +89,7 @@ fn places_names(rt: HostRuntime) {
     }
 }
 
-// Texts, and the paths that they spell as they are printed.
+// Texts, and what is printed of each: the path that it spells, or the fault.
 const TEXTS: [(&str, &str); 17] = [
     ("\\", "\\"),
     ("\\A", "\\A___"),

@@ -148,8 +148,8 @@ const JOINED: [(&[&[u8]], &[&[u8]]); 3] = [
     (&[], &[AWAITS, MTH2, OTHER]),
 ];
 
-// Those that have none: none at all, two that differ at one path, a body that only the first SSDT lets be read, and a
-// link that only the first one answers.
+// SSDTs whose single loads have none: no SSDT, two that differ at one path, two of which only the first lets a body be
+// read, and two of which only the first answers a link.
 const APART: [(&[&[u8]], &[&[u8]]); 4] = [
     (&[FOO], &[]),
     (&[FOO], &[OTHER, OTHER_ONE]),
