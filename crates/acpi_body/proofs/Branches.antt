@@ -12,7 +12,8 @@ use Rattle.acpi_body.specs.steps.Cursor.{Fails}
 use Rattle.acpi_body.specs.steps.Reading.{Reader, Statements, else_at, if_form, while_form}
 use Rattle.acpi_body.proofs.Parts.{fails_on}
 
-pub else_fails : (value : Reader) (inner : Statements) (s : List Segment) (locals next : Locals) (end : ℕ) (bytes : List ℕ) (p : Package) (v : TermTree × List ℕ) (ts : List TermTree) (e : Stop) (inside outside : ℕ)
+pub else_fails : (value : Reader) (inner : Statements) (s : List Segment) (locals next : Locals) (end : ℕ) (bytes : List ℕ) (p : Package)
+    (v : TermTree × List ℕ) (ts : List TermTree) (e : Stop) (inside outside : ℕ)
     → package_at end bytes ≡ Ok p → value Value p.end p.content ≡ Ok v → inside ≡ p.end → inner locals inside v.1 ≡ Ok ts → next ≡ locals_after_all s locals (terms_of ts) → outside ≡ end
     → Fails e (else_at (inner next) outside p.rest) → Fails e (if_form value inner s locals end bytes)
 unfolding if_form
@@ -22,7 +23,8 @@ else_fails value inner s locals next end bytes p v ts e inside outside hp hv sam
     let k : Fails e (else_at (inner (locals_after_all s locals (terms_of ts))) end p.rest) = subst (λ n. Fails e (else_at (inner n) end p.rest)) is h in
     rw (hp, hv, ht) (fails_on e (else_at (inner (locals_after_all s locals (terms_of ts))) end p.rest) (λ o. Ok (if_do v.0 (terms_of ts) o.0, o.1)) k)
 
-pub if_made : (value : Reader) (inner : Statements) (s : List Segment) (locals next : Locals) (end : ℕ) (bytes : List ℕ) (p : Package) (v : TermTree × List ℕ) (ts : List TermTree) (o : ElseTree) (rest : List ℕ) (t : TermTree) (inside outside : ℕ)
+pub if_made : (value : Reader) (inner : Statements) (s : List Segment) (locals next : Locals) (end : ℕ) (bytes : List ℕ) (p : Package)
+    (v : TermTree × List ℕ) (ts : List TermTree) (o : ElseTree) (rest : List ℕ) (t : TermTree) (inside outside : ℕ)
     → package_at end bytes ≡ Ok p → value Value p.end p.content ≡ Ok v → inside ≡ p.end → inner locals inside v.1 ≡ Ok ts → next ≡ locals_after_all s locals (terms_of ts) → outside ≡ end
     → else_at (inner next) outside p.rest ≡ Ok (o, rest) → t ≡ if_do v.0 (terms_of ts) o → if_form value inner s locals end bytes ≡ Ok (t, rest)
 unfolding if_form

@@ -36,7 +36,8 @@ const_complete : (end : ℕ) (i : Int) (a rest : List ℕ) → SpellsInt i a →
 unfolding const_at
 const_complete end i a rest h = let o = int_opens i end a rest h in rw (o.1, o.2) refl
 
-buffer_complete : (end : ℕ) (size : Int) (content a len rest : List ℕ) → SpellsInt size a → SpellsPkgLength (length len + length (a ++ content)) len → connect_buffer_at end (len ++ ((a ++ content) ++ rest)) ≡ Ok (connect_buffer size content, rest)
+buffer_complete : (end : ℕ) (size : Int) (content a len rest : List ℕ) → SpellsInt size a → SpellsPkgLength (length len + length (a ++ content)) len
+    → connect_buffer_at end (len ++ ((a ++ content) ++ rest)) ≡ Ok (connect_buffer size content, rest)
 unfolding connect_buffer_at
 buffer_complete end size content a len rest h l = rw (package_complete end len (a ++ content) rest l, const_complete (end - length rest) size a content h) refl
 
@@ -95,7 +96,8 @@ no_name_11 end a rest x e = never (ap (or_name_fault end (0x11 ∷ rest)) (sym (
     never : or_name_fault end (0x11 ∷ rest) (failed BadChar) ≡ Ok x → ⊥
     never e = cc
 
-name_first : (end : ℕ) (bytes : List ℕ) (n : NameParts) (rest : List ℕ) → name_in end bytes ≡ Ok (n, rest) → connect_name_at end bytes ≡ Ok (connect_name n, rest) → 0 < length bytes → connect_at end bytes ≡ Ok (connect_name n, rest)
+name_first : (end : ℕ) (bytes : List ℕ) (n : NameParts) (rest : List ℕ) → name_in end bytes ≡ Ok (n, rest)
+    → connect_name_at end bytes ≡ Ok (connect_name n, rest) → 0 < length bytes → connect_at end bytes ≡ Ok (connect_name n, rest)
 unfolding connect_at byte_at
 name_first end [] n rest e h some = absurd (omega arith)
 name_first end (b ∷ bytes) n rest e h some = by_test (eqb b 0x11) refl
@@ -135,7 +137,8 @@ field_complete end (unit g bits) a rest (x, y, seg, len, whole) =
 field_complete end (reserved bits) a rest (y, len, whole) = rw whole (zero_first end (y ++ rest) (reserved bits, rest) (reserved_complete end bits y rest len))
 field_complete end (access kind attribute) a rest h = rw h (access_complete end kind attribute rest)
 field_complete end (connect_name n) a rest (x, h, whole) =
-    rw whole (connect_first end (x ++ rest) (connect_name n, rest) (name_first end (x ++ rest) n rest (name_in_complete end n x rest h) (connect_name_complete end n x rest h) (omega (arith, length-append x rest, name_long n x h))))
+    rw whole (connect_first end (x ++ rest) (connect_name n, rest) (name_first end (x ++ rest) n rest (name_in_complete end n x rest h)
+    (connect_name_complete end n x rest h) (omega (arith, length-append x rest, name_long n x h))))
 field_complete end (connect_buffer size content) a rest (x, h, packs) =
     let is = front_is (0x02 ∷ 0x11 ∷ []) a packs.len (x ++ content) rest packs.whole in
     rw is (connect_first end (0x11 ∷ (packs.len ++ ((x ++ content) ++ rest))) (connect_buffer size content, rest)
@@ -167,7 +170,8 @@ module _ (m : List Segment) (s : Source) (level : ℕ) where
   const_sound : (end : ℕ) (bytes : List ℕ) → Position s.depth level s.code end bytes → Judge (Read s level end SpellsInt bytes) (Bad m s) (const_at end bytes)
   unfolding const_at
   const_sound end bytes h =
-      judge_bind (Opened bytes) (Read s level end SpellsInt bytes) (Bad m s) (part (opcode_at end bytes)) _ (part_sound m s (Opened bytes) (opcode_at end bytes) (opcode_sound s level end bytes h)) (λ x o. by_opcode x.0 x.1 o)
+      judge_bind (Opened bytes) (Read s level end SpellsInt bytes) (Bad m s) (part (opcode_at end bytes)) _
+      (part_sound m s (Opened bytes) (opcode_at end bytes) (opcode_sound s level end bytes h)) (λ x o. by_opcode x.0 x.1 o)
     where
       other : (o : Opcode) (rest : List ℕ) → Opened bytes (o, rest) → is_no_constant o ≡ true → Bad m s (fault_at end bytes NotData)
       other o rest k e = inr (begins s level end bytes (o, rest) is_no_constant h k e)
@@ -189,7 +193,8 @@ module _ (m : List Segment) (s : Source) (level : ℕ) where
   unfolding connect_buffer_at
   connect_buffer_sound end bytes rest is h =
       let Good = Read s level end SpellsField bytes in
-      judge_bind (GoodPackage s level end rest) Good (Bad m s) (part (package_at end rest)) _ (part_sound m s (GoodPackage s level end rest) (package_at end rest) (package_sound s level end rest h)) (λ k g.
+      judge_bind (GoodPackage s level end rest) Good (Bad m s) (part (package_at end rest)) _
+      (part_sound m s (GoodPackage s level end rest) (package_at end rest) (package_sound s level end rest h)) (λ k g.
       judge_bind (Read s level k.end SpellsInt k.content) Good (Bad m s) (const_at k.end k.content) _ (const_sound k.end k.content g.1) (λ size v.
       let front = 0x02 ∷ 0x11 ∷ (g.0.len ++ k.content) in (
         record {
@@ -219,7 +224,11 @@ module _ (m : List Segment) (s : Source) (level : ℕ) where
   unit_sound end bytes h =
       judge_then end SpellsSegment (Read s level end SpellsField bytes) bytes (segment_in end bytes) _ (segment_sound s level end bytes h) (λ g t.
       judge_then end SpellsPkgLength (Read s level end SpellsField bytes) g.1 (length_in end g.1) _ (length_sound s level end g.1 t.1) (λ n u. (
-        record { front = t.0.front ++ u.0.front; spells = (t.0.front, u.0.front, t.0.spells, u.0.spells, refl); whole = t.0.whole ∙ ap (λ (l : List ℕ). t.0.front ++ l) u.0.whole ∙ sym (append_assoc t.0.front u.0.front n.1) },
+        record {
+          front = t.0.front ++ u.0.front;
+          spells = (t.0.front, u.0.front, t.0.spells, u.0.spells, refl);
+          whole = t.0.whole ∙ ap (λ (l : List ℕ). t.0.front ++ l) u.0.whole ∙ sym (append_assoc t.0.front u.0.front n.1);
+        },
         u.1,
       )))
 
@@ -254,7 +263,9 @@ module _ (m : List Segment) (s : Source) (level : ℕ) where
         record {
           front = 0x03 ∷ k.0 ∷ a.0 ∷ n.0 ∷ [];
           spells = refl;
-          whole = is ∙ ap (λ (l : List ℕ). 0x03 ∷ l) (one_byte t.0.front k.0 rest k.1 t.0.whole t.0.spells ∙ ap (λ (l : List ℕ). k.0 ∷ l) (one_byte u.0.front a.0 k.1 a.1 u.0.whole u.0.spells ∙ ap (λ (l : List ℕ). a.0 ∷ l) (one_byte v.0.front n.0 a.1 n.1 v.0.whole v.0.spells)));
+          whole = is ∙ ap (λ (l : List ℕ). 0x03 ∷ l) (one_byte t.0.front k.0 rest k.1 t.0.whole t.0.spells
+              ∙ ap (λ (l : List ℕ). k.0 ∷ l) (one_byte u.0.front a.0 k.1 a.1 u.0.whole u.0.spells
+              ∙ ap (λ (l : List ℕ). a.0 ∷ l) (one_byte v.0.front n.0 a.1 n.1 v.0.whole v.0.spells)));
         },
         v.1,
       ))))

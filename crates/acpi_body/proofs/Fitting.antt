@@ -71,7 +71,8 @@ field_fit (extended kind attribute len) bytes h all = refl
 -- ---- statements
 
 mutual
-  statement_fit : (args : Arguments) (s : List Segment) (locals : Locals) (t : TermTree) (bytes : List ℕ) → IsStatement args s locals t bytes → AreBytes bytes → (may_stand Statement t ≡ true) × (term_fits t ≡ true)
+  statement_fit : (args : Arguments) (s : List Segment) (locals : Locals) (t : TermTree) (bytes : List ℕ) → IsStatement args s locals t bytes
+      → AreBytes bytes → (may_stand Statement t ≡ true) × (term_fits t ≡ true)
   statement_fit args s locals (if_do v ts e) bytes (a, b, x, y, st, hv, hs, packs, other, whole) all =
       let split = parts x y bytes whole all in
       let inner = parts a b (a ++ b) refl (packed (0xA0 ∷ []) (a ++ b) x packs split.0) in
@@ -83,8 +84,11 @@ mutual
       (refl, both (operands_are_fit (args locals) (operands_before form) before a hb) (operands_are_fit (args locals) (operands_behind form) behind c ha))
   statement_fit args s locals (declare_units form ns vs es) bytes (a, b, c, count, hn, hv, he, packs) all =
       let content = parts a (b ++ c) (a ++ (b ++ c)) refl (packed (opcode_bytes (units_opcode form)) (a ++ (b ++ c)) bytes packs all) in
-      let units = parts b c (b ++ c) refl content.1 in
-      (refl, both (both (eq-eqb (length ns) (names_of_units form) count) (operands_are_fit (args locals) (operands_of_units form) vs b hv)) (each_fits SpellsField field_fits field_fit es c he units.1))
+      let units = parts b c (b ++ c) refl content.1 in (
+        refl,
+        both (both (eq-eqb (length ns) (names_of_units form) count) (operands_are_fit (args locals) (operands_of_units form) vs b hv))
+            (each_fits SpellsField field_fits field_fit es c he units.1),
+      )
   statement_fit args s locals t bytes h all = (h.0, term_fit (args locals) t bytes h.1)
 
   else_fit : (args : Arguments) (s : List Segment) (locals : Locals) (e : ElseTree) (bytes : List ℕ) → IsElse args s locals e bytes → AreBytes bytes → else_fits e ≡ true

@@ -22,7 +22,8 @@ mutual
   after_value_is w c locals g (buffer size content) = after_value_is w c locals g size
   after_value_is w c locals g (pkg count es) = after_values_are w c locals g es
   after_value_is w c locals g (var_pkg count es) =
-      after_values_are w c locals (after_value w c locals g count) es ∙ in_turn w c g (after_value w c locals g count) (term_searches locals count) (terms_searches locals es) (after_value_is w c locals g count)
+      after_values_are w c locals (after_value w c locals g count) es
+      ∙ in_turn w c g (after_value w c locals g count) (term_searches locals count) (terms_searches locals es) (after_value_is w c locals g count)
   after_value_is w c locals g (call n vs) = after_values_are w c locals (with_search w c g (locals, n)) vs
   after_value_is w c locals g (apply op vs) = after_values_are w c locals g vs
   after_value_is w c locals g _ = refl
@@ -39,12 +40,16 @@ mutual
       let other = else_searches c.method (locals_after_all c.method locals ts) e in
       let tested = after_value w c locals g v in
       let then : after_else w c (locals_after_all c.method locals ts) (after_statements w c locals tested ts) e ≡ with_searches w c tested (inner ++ other) =
-      after_else_is w c (locals_after_all c.method locals ts) (after_statements w c locals tested ts) e ∙ in_turn w c tested (after_statements w c locals tested ts) inner other (after_statements_are w c locals tested ts) in
+      after_else_is w c (locals_after_all c.method locals ts) (after_statements w c locals tested ts) e
+      ∙ in_turn w c tested (after_statements w c locals tested ts) inner other (after_statements_are w c locals tested ts) in
       then ∙ in_turn w c g tested (term_searches locals v) (inner ++ other) (after_value_is w c locals g v)
   after_statement_is w c locals g (while_do v ts) =
-      after_statements_are w c locals (after_value w c locals g v) ts ∙ in_turn w c g (after_value w c locals g v) (term_searches locals v) (all_searches c.method locals ts) (after_value_is w c locals g v)
+      after_statements_are w c locals (after_value w c locals g v) ts
+      ∙ in_turn w c g (after_value w c locals g v) (term_searches locals v) (all_searches c.method locals ts) (after_value_is w c locals g v)
   after_statement_is w c locals g (declare form before n behind) =
-      after_values_are w c locals (after_values w c locals g before) behind ∙ in_turn w c g (after_values w c locals g before) (terms_searches locals before) (terms_searches locals behind) (after_values_are w c locals g before)
+      after_values_are w c locals (after_values w c locals g before) behind
+      ∙ in_turn w c g (after_values w c locals g before) (terms_searches locals before) (terms_searches locals behind)
+      (after_values_are w c locals g before)
   after_statement_is w c locals g (declare_units form ns vs es) = after_values_are w c locals g vs
   after_statement_is w c locals g t = after_value_is w c locals g t
 

@@ -156,12 +156,17 @@ from_none m P g p = (λ h. to ((g p).0 h), λ h. (g p).1 (inr h))
 pub read_firm : (w : Wants) (c : Setting) (g : Gathered) (ts : TermTrees) → g.firm ≡ empty → (p : List Segment)
     → IsTrue (is_defined (with_searches w c g (all_searches c.method empty ts)).firm p) ↔ (IsMissedIn (namespace_of c.objects) (get c.externals) c.method ts p × IsTrue (w p))
 read_firm w c g ts none p =
-    let es = all_searches c.method empty ts in
-    (λ h. to (any_among (IsMissOf w c p) es ((all p).0 h)), λ h. (all p).1 (among_any (IsMissOf w c p) es (h.0.locals, h.0.name) h.0.searched ((among_filter w (missed (defined_with (namespace_of c.objects) h.0.locals) c.method h.0.name) p).1 (h.0.misses, h.1), h.0.firm)))
+    let es = all_searches c.method empty ts in (
+      λ h. to (any_among (IsMissOf w c p) es ((all p).0 h)),
+      λ h. (all p).1
+          (among_any (IsMissOf w c p) es (h.0.locals, h.0.name) h.0.searched
+          ((among_filter w (missed (defined_with (namespace_of c.objects) h.0.locals) c.method h.0.name) p).1 (h.0.misses, h.1), h.0.firm)),
+    )
   where
     all : (p : List Segment) → IsTrue (is_defined (with_searches w c g (all_searches c.method empty ts)).firm p) ↔ AnyOf (IsMissOf w c p) (all_searches c.method empty ts)
     all = from_none (with_searches w c g (all_searches c.method empty ts)).firm (λ p. AnyOf (IsMissOf w c p) (all_searches c.method empty ts))
-        (subst (λ (m : Paths). Grows m (with_searches w c g (all_searches c.method empty ts)).firm (λ p. AnyOf (IsMissOf w c p) (all_searches c.method empty ts))) none (searches_grow w c g (all_searches c.method empty ts)))
+        (subst (λ (m : Paths). Grows m (with_searches w c g (all_searches c.method empty ts)).firm
+        (λ p. AnyOf (IsMissOf w c p) (all_searches c.method empty ts))) none (searches_grow w c g (all_searches c.method empty ts)))
 
     to : ((e : Searched) × Among (all_searches c.method empty ts) e × IsMissOf w c p e) → (IsMissedIn (namespace_of c.objects) (get c.externals) c.method ts p × IsTrue (w p))
     to r =
@@ -210,7 +215,8 @@ found_passes {A} test (y ∷ xs) x e = by (test y) refl e (found_passes test xs 
     by false t f more = more f
 
 -- what is awaited has a count
-awaited_counts : (externals : Lookup ℕ) (s : List Segment) (n : NameParts) (o : Option (List Segment)) (q : List Segment) → unless_found o (expected_place externals s n) ≡ Some q → (k : ℕ) × (externals q ≡ Some k)
+awaited_counts : (externals : Lookup ℕ) (s : List Segment) (n : NameParts) (o : Option (List Segment)) (q : List Segment)
+    → unless_found o (expected_place externals s n) ≡ Some q → (k : ℕ) × (externals q ≡ Some k)
 awaited_counts externals s n (Some p) q e = cc
 awaited_counts externals s n None q e = by (externals q) refl (found_passes (is_defined_in externals) (tries s n) q e)
   where
@@ -274,8 +280,14 @@ searches_hold w c g P (e ∷ es) h =
 pub read_awaited : (w : Wants) (c : Setting) (g : Gathered) (ts : TermTrees) → g.awaited ≡ empty → (p : List Segment) (count : ℕ)
     → (get (with_searches w c g (all_searches c.method empty ts)).awaited p ≡ Some count) ↔ (IsAwaitedIn (namespace_of c.objects) (get c.externals) c.method ts p count × IsTrue (w p))
 read_awaited w c g ts none p count =
-    let es = all_searches c.method empty ts in
-    (λ h. let r = (all p count).0 h in to (part r.0) r.1, λ h. (all p count).1 (inr (among_any (AwaitsAt w c p) es (h.0.locals, h.0.name) h.0.searched ((wanted_is w (place_of_search c (h.0.locals, h.0.name)) p).1 (h.0.awaits, h.1))), h.0.expects))
+    let es = all_searches c.method empty ts in (
+      λ h. let r = (all p count).0 h in to (part r.0) r.1,
+      λ h. (all p count).1 (
+        inr (among_any (AwaitsAt w c p) es (h.0.locals, h.0.name) h.0.searched
+            ((wanted_is w (place_of_search c (h.0.locals, h.0.name)) p).1 (h.0.awaits, h.1))),
+        h.0.expects,
+      ),
+    )
   where
     at_first : Holds (get c.externals) g.awaited (λ p. ⊥)
     at_first p n = (λ e. not (get g.awaited p) (ap (λ (m : PathMap ℕ). get m p) none ∙ get-empty path_cmp p) e, λ r. absurd r.0)
@@ -290,7 +302,8 @@ read_awaited w c g ts none p count =
     part (inl x) = absurd x
     part (inr x) = any_among (AwaitsAt w c p) (all_searches c.method empty ts) x
 
-    to : ((e : Searched) × Among (all_searches c.method empty ts) e × AwaitsAt w c p e) → get c.externals p ≡ Some count → (IsAwaitedIn (namespace_of c.objects) (get c.externals) c.method ts p count × IsTrue (w p))
+    to : ((e : Searched) × Among (all_searches c.method empty ts) e × AwaitsAt w c p e) → get c.externals p ≡ Some count
+        → (IsAwaitedIn (namespace_of c.objects) (get c.externals) c.method ts p count × IsTrue (w p))
     to r e =
         let k = (wanted_is w (place_of_search c r.0) p).0 r.2 in
         (record { locals = r.0.0; name = r.0.1; searched = r.1; awaits = k.0; expects = e }, k.1)
@@ -300,18 +313,21 @@ read_awaited w c g ts none p count =
 abbrev pub nothing_gathered : Gathered
 nothing_gathered = record { firm = empty; awaited = empty }
 
-gathered_is : (w : Wants) (c : Setting) (locals : Locals) (g h : Gathered) (ts : TermTrees) → locals ≡ empty → h ≡ after_statements w c locals g ts → h ≡ with_searches w c g (all_searches c.method empty ts)
+gathered_is : (w : Wants) (c : Setting) (locals : Locals) (g h : Gathered) (ts : TermTrees) → locals ≡ empty → h ≡ after_statements w c locals g ts
+    → h ≡ with_searches w c g (all_searches c.method empty ts)
 gathered_is w c locals g h ts none e = e ∙ after_statements_are w c locals g ts ∙ ap (λ (l : Locals). with_searches w c g (all_searches c.method l ts)) none
 
 pub terms_firm : (w : Wants) (c : Setting) (locals : Locals) (g h : Gathered) (ts : TermTrees) → locals ≡ empty → g ≡ nothing_gathered → h ≡ after_statements w c locals g ts
     → (p : List Segment) → IsTrue (is_defined h.firm p) ↔ (IsMissedIn (namespace_of c.objects) (get c.externals) c.method ts p × IsTrue (w p))
 terms_firm w c locals g h ts none start e p =
-    subst (λ (k : Gathered). IsTrue (is_defined k.firm p) ↔ (IsMissedIn (namespace_of c.objects) (get c.externals) c.method ts p × IsTrue (w p))) (sym (gathered_is w c locals g h ts none e)) (read_firm w c g ts (ap (λ (k : Gathered). k.firm) start) p)
+    subst (λ (k : Gathered). IsTrue (is_defined k.firm p) ↔ (IsMissedIn (namespace_of c.objects) (get c.externals) c.method ts p × IsTrue (w p)))
+    (sym (gathered_is w c locals g h ts none e)) (read_firm w c g ts (ap (λ (k : Gathered). k.firm) start) p)
 
 pub terms_awaited : (w : Wants) (c : Setting) (locals : Locals) (g h : Gathered) (ts : TermTrees) → locals ≡ empty → g ≡ nothing_gathered → h ≡ after_statements w c locals g ts
     → (p : List Segment) (count : ℕ) → (get h.awaited p ≡ Some count) ↔ (IsAwaitedIn (namespace_of c.objects) (get c.externals) c.method ts p count × IsTrue (w p))
 terms_awaited w c locals g h ts none start e p count =
-    subst (λ (k : Gathered). (get k.awaited p ≡ Some count) ↔ (IsAwaitedIn (namespace_of c.objects) (get c.externals) c.method ts p count × IsTrue (w p))) (sym (gathered_is w c locals g h ts none e)) (read_awaited w c g ts (ap (λ (k : Gathered). k.awaited) start) p count)
+    subst (λ (k : Gathered). (get k.awaited p ≡ Some count) ↔ (IsAwaitedIn (namespace_of c.objects) (get c.externals) c.method ts p count
+    × IsTrue (w p))) (sym (gathered_is w c locals g h ts none e)) (read_awaited w c g ts (ap (λ (k : Gathered). k.awaited) start) p count)
 
 pub bytes_firm : (g : Gathered) (m : Paths) (P : List Segment → Type 0) → g ≡ nothing_gathered → Grows g.firm m P → (p : List Segment) → IsTrue (is_defined m p) ↔ P p
 bytes_firm g m P start h = from_none m P (subst (λ (k : Gathered). Grows k.firm m P) start h)

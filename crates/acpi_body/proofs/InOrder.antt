@@ -35,7 +35,8 @@ pub record Operated (inner : Reader) (all kinds : List OperandKind) (first now :
 pub operated_starts : (inner : Reader) (all : List OperandKind) (first : Left) → Operated inner all all first first []
 operated_starts inner all first = record { same_end = refl; within = omega arith; told = none_yet (operands_at inner all first.end first.bytes) }
 
-operand_step : (inner : Reader) (k : OperandKind) (ks : List OperandKind) (end : ℕ) (rest after : List ℕ) (front : List TermTree) (x : TermTree) (all : Reading BodyFault (List TermTree)) → operand_at inner k end rest ≡ Ok (x, after)
+operand_step : (inner : Reader) (k : OperandKind) (ks : List OperandKind) (end : ℕ) (rest after : List ℕ) (front : List TermTree) (x : TermTree)
+    (all : Reading BodyFault (List TermTree)) → operand_at inner k end rest ≡ Ok (x, after)
     → with_front front (operands_at inner (k ∷ ks) end rest) ≡ all → with_front (front ++ x ∷ []) (operands_at inner ks end after) ≡ all
 unfolding operands_at
 operand_step inner k ks end rest after front x all read told =
@@ -52,7 +53,8 @@ operated_goes_on inner all k ks first now after front x read on so =
       told = operand_step inner k ks first.end now.bytes after.bytes front x (operands_at inner all first.end first.bytes) same so.told;
     }
 
-operand_fails : (inner : Reader) (k : OperandKind) (ks : List OperandKind) (end : ℕ) (rest : List ℕ) (front : List TermTree) (all : Reading BodyFault (List TermTree)) (f : BodyFault) → operand_at inner k end rest ≡ Err f
+operand_fails : (inner : Reader) (k : OperandKind) (ks : List OperandKind) (end : ℕ) (rest : List ℕ) (front : List TermTree)
+    (all : Reading BodyFault (List TermTree)) (f : BodyFault) → operand_at inner k end rest ≡ Err f
     → with_front front (operands_at inner (k ∷ ks) end rest) ≡ all → all ≡ Err f
 unfolding operands_at
 operand_fails inner k ks end rest front all f read told =
@@ -69,7 +71,8 @@ operands_none : (inner : Reader) (end : ℕ) (rest : List ℕ) (front : List Ter
 unfolding operands_at
 operands_none inner end rest front = ap (λ l. Ok (l, rest)) (append-nil front)
 
-pub operated_is_done : (inner : Reader) (all : List OperandKind) (first now : Left) (front : List TermTree) → Operated inner all [] first now front → operands_at inner all first.end first.bytes ≡ Ok (front, now.bytes)
+pub operated_is_done : (inner : Reader) (all : List OperandKind) (first now : Left) (front : List TermTree) → Operated inner all [] first now front
+    → operands_at inner all first.end first.bytes ≡ Ok (front, now.bytes)
 operated_is_done inner all first now front so = sym so.told ∙ operands_none inner first.end now.bytes front
 
 pub none_left_of : (kinds : List OperandKind) (n : ℕ) → length kinds ≤ n → drop n kinds ≡ []

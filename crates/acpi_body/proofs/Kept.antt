@@ -38,24 +38,43 @@ module _ (c d : Arguments) where
     kept_term : (locals : Locals) (t : TermTree) (b : List ℕ) → AllByRecursion (AgreeAt c d) (term_searches locals t) → Spells (c locals) t b → Spells (d locals) t b
     kept_term locals (buffer size content) b same (s, here, hs, packs) = (s, here, kept_term locals size s same hs, packs)
     kept_term locals (pkg count es) b same (x, hs, packs) = (x, kept_elements locals es x same hs, packs)
-    kept_term locals (var_pkg count es) b same (s, x, here, hc, hs, packs) =
-        (s, x, here, kept_term locals count s (all_left (AgreeAt c d) (term_searches locals count) (terms_searches locals es) same) hc, kept_elements locals es x (all_right (AgreeAt c d) (term_searches locals count) (terms_searches locals es) same) hs, packs)
+    kept_term locals (var_pkg count es) b same (s, x, here, hc, hs, packs) = (
+      s,
+      x,
+      here,
+      kept_term locals count s (all_left (AgreeAt c d) (term_searches locals count) (terms_searches locals es) same) hc,
+      kept_elements locals es x (all_right (AgreeAt c d) (term_searches locals count) (terms_searches locals es) same) hs,
+      packs,
+    )
     kept_term locals (call n vs) b same (w, x, spells, hs, whole) =
         (w, x, spells, subst (λ k. AreOperands (d locals) (values k) vs x) same.0 (kept_operands locals (values (c locals n)) vs x same.1 hs), whole)
     kept_term locals (apply op vs) b same (x, hs, whole) = (x, kept_operands locals (operands_of op) vs x same hs, whole)
     kept_term locals _ b same h = h
 
-    kept_operands : (locals : Locals) (ks : List OperandKind) (ts : TermTrees) (b : List ℕ) → AllByRecursion (AgreeAt c d) (terms_searches locals ts) → AreOperands (c locals) ks ts b → AreOperands (d locals) ks ts b
+    kept_operands : (locals : Locals) (ks : List OperandKind) (ts : TermTrees) (b : List ℕ) → AllByRecursion (AgreeAt c d) (terms_searches locals ts)
+        → AreOperands (c locals) ks ts b → AreOperands (d locals) ks ts b
     kept_operands locals [] no_terms b same h = h
     kept_operands locals (k ∷ ks) no_terms b same h = h
     kept_operands locals [] (more t ts) b same h = h
-    kept_operands locals (k ∷ ks) (more t ts) b same (x, y, st, ht, hs, whole) =
-        (x, y, st, kept_term locals t x (all_left (AgreeAt c d) (term_searches locals t) (terms_searches locals ts) same) ht, kept_operands locals ks ts y (all_right (AgreeAt c d) (term_searches locals t) (terms_searches locals ts) same) hs, whole)
+    kept_operands locals (k ∷ ks) (more t ts) b same (x, y, st, ht, hs, whole) = (
+      x,
+      y,
+      st,
+      kept_term locals t x (all_left (AgreeAt c d) (term_searches locals t) (terms_searches locals ts) same) ht,
+      kept_operands locals ks ts y (all_right (AgreeAt c d) (term_searches locals t) (terms_searches locals ts) same) hs,
+      whole,
+    )
 
     kept_elements : (locals : Locals) (ts : TermTrees) (b : List ℕ) → AllByRecursion (AgreeAt c d) (terms_searches locals ts) → AreElements (c locals) ts b → AreElements (d locals) ts b
     kept_elements locals no_terms b same h = h
-    kept_elements locals (more t ts) b same (x, y, st, ht, hs, whole) =
-        (x, y, st, kept_term locals t x (all_left (AgreeAt c d) (term_searches locals t) (terms_searches locals ts) same) ht, kept_elements locals ts y (all_right (AgreeAt c d) (term_searches locals t) (terms_searches locals ts) same) hs, whole)
+    kept_elements locals (more t ts) b same (x, y, st, ht, hs, whole) = (
+      x,
+      y,
+      st,
+      kept_term locals t x (all_left (AgreeAt c d) (term_searches locals t) (terms_searches locals ts) same) ht,
+      kept_elements locals ts y (all_right (AgreeAt c d) (term_searches locals t) (terms_searches locals ts) same) hs,
+      whole,
+    )
 
   mutual
     kept_statement : (s : List Segment) (locals : Locals) (t : TermTree) (b : List ℕ) → AllByRecursion (AgreeAt c d) (searches s locals t) → IsStatement c s locals t b → IsStatement d s locals t b
@@ -73,8 +92,14 @@ module _ (c d : Arguments) where
           kept_else s (locals_after_all s locals ts) e g (all_right (AgreeAt c d) (all_searches s locals ts) (else_searches s (locals_after_all s locals ts) e) inner) other,
           whole,
         )
-    kept_statement s locals (while_do v ts) b same (x, y, here, hv, hs, packs) =
-        (x, y, here, kept_term locals v x (all_left (AgreeAt c d) (term_searches locals v) (all_searches s locals ts) same) hv, kept_statements s locals ts y (all_right (AgreeAt c d) (term_searches locals v) (all_searches s locals ts) same) hs, packs)
+    kept_statement s locals (while_do v ts) b same (x, y, here, hv, hs, packs) = (
+      x,
+      y,
+      here,
+      kept_term locals v x (all_left (AgreeAt c d) (term_searches locals v) (all_searches s locals ts) same) hv,
+      kept_statements s locals ts y (all_right (AgreeAt c d) (term_searches locals v) (all_searches s locals ts) same) hs,
+      packs,
+    )
     kept_statement s locals (declare form before n behind) b same (x, y, z, hb, may, hn, ha, whole) = (
       x,
       y,
@@ -92,7 +117,8 @@ module _ (c d : Arguments) where
     kept_else s locals no_else b same h = h
     kept_else s locals (else_do ts) b same (x, hs, packs) = (x, kept_statements s locals ts x same hs, packs)
 
-    pub kept_statements : (s : List Segment) (locals : Locals) (ts : TermTrees) (b : List ℕ) → AllByRecursion (AgreeAt c d) (all_searches s locals ts) → AreStatements c s locals ts b → AreStatements d s locals ts b
+    pub kept_statements : (s : List Segment) (locals : Locals) (ts : TermTrees) (b : List ℕ) → AllByRecursion (AgreeAt c d) (all_searches s locals ts)
+        → AreStatements c s locals ts b → AreStatements d s locals ts b
     kept_statements s locals no_terms b same h = h
     kept_statements s locals (more t ts) b same (x, y, ht, hs, whole) = (
       x,
@@ -156,12 +182,16 @@ mutual
   spelled_operands args locals ks no_terms b h = tt
   spelled_operands args locals [] (more t ts) b h = absurd h
   spelled_operands args locals (k ∷ ks) (more t ts) b (x, y, st, ht, hs, whole) =
-      all_both (Spelled b) (term_searches locals t) (terms_searches locals ts) (part_of [] x y b (term_searches locals t) whole (spelled_term args locals t x ht)) (end_of x y b (terms_searches locals ts) whole (spelled_operands args locals ks ts y hs))
+      all_both (Spelled b) (term_searches locals t) (terms_searches locals ts)
+      (part_of [] x y b (term_searches locals t) whole (spelled_term args locals t x ht))
+      (end_of x y b (terms_searches locals ts) whole (spelled_operands args locals ks ts y hs))
 
   spelled_elements : (args : NameParts → ℕ) (locals : Locals) (ts : TermTrees) (b : List ℕ) → AreElements args ts b → AllByRecursion (Spelled b) (terms_searches locals ts)
   spelled_elements args locals no_terms b h = tt
   spelled_elements args locals (more t ts) b (x, y, st, ht, hs, whole) =
-      all_both (Spelled b) (term_searches locals t) (terms_searches locals ts) (part_of [] x y b (term_searches locals t) whole (spelled_term args locals t x ht)) (end_of x y b (terms_searches locals ts) whole (spelled_elements args locals ts y hs))
+      all_both (Spelled b) (term_searches locals t) (terms_searches locals ts)
+      (part_of [] x y b (term_searches locals t) whole (spelled_term args locals t x ht))
+      (end_of x y b (terms_searches locals ts) whole (spelled_elements args locals ts y hs))
 
 mutual
   spelled_statement : (args : Arguments) (s : List Segment) (locals : Locals) (t : TermTree) (b : List ℕ) → IsStatement args s locals t b → AllByRecursion (Spelled b) (searches s locals t)
@@ -190,12 +220,16 @@ mutual
   spelled_else args s locals no_else b h = tt
   spelled_else args s locals (else_do ts) b (x, hs, packs) = pack_end (0xA1 ∷ []) [] x b (all_searches s locals ts) packs (spelled_statements args s locals ts x hs)
 
-  pub spelled_statements : (args : Arguments) (s : List Segment) (locals : Locals) (ts : TermTrees) (b : List ℕ) → AreStatements args s locals ts b → AllByRecursion (Spelled b) (all_searches s locals ts)
+  pub spelled_statements : (args : Arguments) (s : List Segment) (locals : Locals) (ts : TermTrees) (b : List ℕ) → AreStatements args s locals ts b
+      → AllByRecursion (Spelled b) (all_searches s locals ts)
   spelled_statements args s locals no_terms b h = tt
   spelled_statements args s locals (more t ts) b (x, y, ht, hs, whole) =
       all_both (Spelled b) (searches s locals t) (all_searches s (locals_after s locals t) ts)
       (part_of [] x y b (searches s locals t) whole (spelled_statement args s locals t x ht))
       (end_of x y b (all_searches s (locals_after s locals t) ts) whole (spelled_statements args s (locals_after s locals t) ts y hs))
 
-pub same_readings : (c d : Arguments) (s : List Segment) (locals : Locals) (ts : TermTrees) (b : List ℕ) → ((n : NameParts) → IsSpelledIn b n → (locals : Locals) → c locals n ≡ d locals n) → AreStatements c s locals ts b → AreStatements d s locals ts b
-same_readings c d s locals ts b same h = kept_statements c d s locals ts b (all_weaker (Spelled b) (AgreeAt c d) (λ e spelled. same e.1 spelled e.0) (all_searches s locals ts) (spelled_statements c s locals ts b h)) h
+pub same_readings : (c d : Arguments) (s : List Segment) (locals : Locals) (ts : TermTrees) (b : List ℕ)
+    → ((n : NameParts) → IsSpelledIn b n → (locals : Locals) → c locals n ≡ d locals n) → AreStatements c s locals ts b
+    → AreStatements d s locals ts b
+same_readings c d s locals ts b same h = kept_statements c d s locals ts b
+    (all_weaker (Spelled b) (AgreeAt c d) (λ e spelled. same e.1 spelled e.0) (all_searches s locals ts) (spelled_statements c s locals ts b h)) h

@@ -48,7 +48,8 @@ pub key_found : {V : Type 0} (es : List (List Segment × V)) (p : List Segment) 
 key_found [] p = (λ h. absurd h, λ h. absurd (true≢false (sym h)))
 key_found (e ∷ es) p = by (is_same_path p e.0) refl (key_found es p)
   where
-    by : (b : Bool) → is_same_path p e.0 ≡ b → Among (map (λ e. e.0) es) p ↔ IsTrue (is_some (find path_cmp p es)) → ((e.0 ≡ p) ⊎ Among (map (λ e. e.0) es) p) ↔ IsTrue (is_some (cond b (Some e.1) (find path_cmp p es)))
+    by : (b : Bool) → is_same_path p e.0 ≡ b → Among (map (λ e. e.0) es) p ↔ IsTrue (is_some (find path_cmp p es))
+        → ((e.0 ≡ p) ⊎ Among (map (λ e. e.0) es) p) ↔ IsTrue (is_some (cond b (Some e.1) (find path_cmp p es)))
     by true s more = (λ h. refl, λ h. inl (sym ((path_eq_Decides p e.0).0 s)))
     by false s more = (to, λ h. inr (more.1 h))
       where
@@ -56,7 +57,8 @@ key_found (e ∷ es) p = by (is_same_path p e.0) refl (key_found es p)
         to (inl h) = absurd (true≢false (sym ((path_eq_Decides p e.0).1 (sym h)) ∙ s))
         to (inr h) = more.0 h
 
-above_all : {V : Type 0} (k : List Segment) (es : List (List Segment × V)) (p : List Segment) (v : V) → AllByRecursion (λ q. path_cmp k q ≡ Less) (map (λ e. e.0) es) → Among es (p, v) → path_cmp k p ≡ Less
+above_all : {V : Type 0} (k : List Segment) (es : List (List Segment × V)) (p : List Segment) (v : V)
+    → AllByRecursion (λ q. path_cmp k q ≡ Less) (map (λ e. e.0) es) → Among es (p, v) → path_cmp k p ≡ Less
 above_all k [] p v a h = absurd h
 above_all k (e ∷ es) p v a (inl h) = ap (λ x. path_cmp k x.0) (sym h) ∙ a.0
 above_all k (e ∷ es) p v a (inr h) = above_all k es p v a.1 h
@@ -89,10 +91,13 @@ pair_found {V} (e ∷ es) p v rise = by (is_same_path p e.0) refl (pair_found es
 
 -- ---- the lists that are answered
 
-pub paths_among : (m : PathMap (Unit {0})) (P : List Segment → Type 0) (items : List (List Segment)) → items ≡ map (λ e. e.0) (entries m) → ((p : List Segment) → IsTrue (is_defined m p) ↔ P p) → (p : List Segment) → Among items p ↔ P p
+pub paths_among : (m : PathMap (Unit {0})) (P : List Segment → Type 0) (items : List (List Segment)) → items ≡ map (λ e. e.0) (entries m)
+    → ((p : List Segment) → IsTrue (is_defined m p) ↔ P p) → (p : List Segment) → Among items p ↔ P p
 paths_among m P items e h p =
-    let k = key_found (entries m) p in
-    (λ a. (h p).0 (ap is_some (get-entries m p) ∙ k.0 (subst (λ (l : List (List Segment)). Among l p) e a)), λ x. subst (λ (l : List (List Segment)). Among l p) (sym e) (k.1 (ap is_some (sym (get-entries m p)) ∙ (h p).1 x)))
+    let k = key_found (entries m) p in (
+      λ a. (h p).0 (ap is_some (get-entries m p) ∙ k.0 (subst (λ (l : List (List Segment)). Among l p) e a)),
+      λ x. subst (λ (l : List (List Segment)). Among l p) (sym e) (k.1 (ap is_some (sym (get-entries m p)) ∙ (h p).1 x)),
+    )
 
 pub paths_ascend : {V : Type 0} (m : PathMap V) (items : List (List Segment)) → items ≡ map (λ e. e.0) (entries m) → IsStrictlySortedBy path_cmp items
 paths_ascend m items e = subst (IsStrictlySortedBy path_cmp) (sym e) (rising m)
@@ -104,11 +109,14 @@ pub pair_among : (items : List OpenMiss) (p : List Segment) (n : ℕ) → Among 
 pair_among [] p n = (λ h. h, λ h. h)
 pair_among (o ∷ items) p n = (to (pair_among items p n).0, from (pair_among items p n).1)
   where
-    to : (Among items (record { path = p; count = n }) → Among (map pair_of items) (p, n)) → (o ≡ record { path = p; count = n }) ⊎ Among items (record { path = p; count = n }) → (pair_of o ≡ (p, n)) ⊎ Among (map pair_of items) (p, n)
+    to : (Among items (record { path = p; count = n }) → Among (map pair_of items) (p, n))
+        → (o ≡ record { path = p; count = n }) ⊎ Among items (record { path = p; count = n })
+        → (pair_of o ≡ (p, n)) ⊎ Among (map pair_of items) (p, n)
     to more (inl h) = inl (ap pair_of h)
     to more (inr h) = inr (more h)
 
-    from : (Among (map pair_of items) (p, n) → Among items (record { path = p; count = n })) → (pair_of o ≡ (p, n)) ⊎ Among (map pair_of items) (p, n) → (o ≡ record { path = p; count = n }) ⊎ Among items (record { path = p; count = n })
+    from : (Among (map pair_of items) (p, n) → Among items (record { path = p; count = n })) → (pair_of o ≡ (p, n)) ⊎ Among (map pair_of items) (p, n)
+        → (o ≡ record { path = p; count = n }) ⊎ Among items (record { path = p; count = n })
     from more (inl h) = inl (λ i. record { path = (h i).0; count = (h i).1 })
     from more (inr h) = inr (more h)
 

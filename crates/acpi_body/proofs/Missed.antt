@@ -39,6 +39,7 @@ module _ (p : List Segment → Bool) (g : Segment) (xs : List Segment) (r : Opti
       → items ≡ filter w (below_each (take (length m + 1 - 0) (beginnings m))) → m ≡ xs → items ≡ filter w (skipped p (below_each (beginnings xs)))
   asked_everywhere w m items f = asked w 0 m items (missed_none (λ q. p (q ++ g ∷ [])) xs r e f)
 
-pub awaited_there : {E : Type 0} (r : Result (Option (List Segment)) E) (answered place : Option (List Segment)) → answered ≡ None → IfOk r (λ p. p ≡ place) → IfOk r (λ p. p ≡ unless_found answered place)
+pub awaited_there : {E : Type 0} (r : Result (Option (List Segment)) E) (answered place : Option (List Segment)) → answered ≡ None
+    → IfOk r (λ p. p ≡ place) → IfOk r (λ p. p ≡ unless_found answered place)
 awaited_there (Ok p) answered place e h = h ∙ ap (λ o. unless_found o place) (sym e)
 awaited_there (Err f) answered place e h = tt

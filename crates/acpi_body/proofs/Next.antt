@@ -61,7 +61,9 @@ as_refusal : (o : Opcode) (why : BodyReason) → never_begins o ≡ known why �
 as_refusal opcodes.Else why e = absurd (none_known why e)
 as_refusal _ why e = e
 
-is_placed : (args : NameParts → ℕ) (value : Reader) (inner : Statements) (s : List Segment) (locals : Locals) (end : ℕ) (bytes r : List ℕ) (o : Opcode) (why : BodyReason) → never_begins o ≡ known why → statement_by args value inner s locals end bytes o r ≡ placed_by args value Statement end bytes o r
+is_placed : (args : NameParts → ℕ) (value : Reader) (inner : Statements) (s : List Segment) (locals : Locals) (end : ℕ) (bytes r : List ℕ)
+    (o : Opcode) (why : BodyReason) → never_begins o ≡ known why
+    → statement_by args value inner s locals end bytes o r ≡ placed_by args value Statement end bytes o r
 unfolding statement_by
 is_placed args value inner s locals end bytes r opcodes.If why e = absurd (none_known why e)
 is_placed args value inner s locals end bytes r opcodes.While why e = absurd (none_known why e)
@@ -76,11 +78,13 @@ is_placed args value inner s locals end bytes r opcodes.IndexField why e = absur
 is_placed args value inner s locals end bytes r opcodes.BankField why e = absurd (none_known why e)
 is_placed args value inner s locals end bytes r _ why e = refl
 
-placed_refused : (args : NameParts → ℕ) (value : Reader) (end : ℕ) (w r : List ℕ) (o : Opcode) (why : BodyReason) → statement_refusal o ≡ known why → placed_by args value Statement end w o r ≡ Err (fault_at end w why)
+placed_refused : (args : NameParts → ℕ) (value : Reader) (end : ℕ) (w r : List ℕ) (o : Opcode) (why : BodyReason) → statement_refusal o ≡ known why
+    → placed_by args value Statement end w o r ≡ Err (fault_at end w why)
 unfolding placed_by
 placed_refused args value end w r o why e = rw e refl
 
-stops_there : (args : Arguments) (s : List Segment) (level : ℕ) (locals : Locals) (end : ℕ) (w : List ℕ) (o : Opcode) (why : BodyReason) → first_opcode w ≡ known o → never_begins o ≡ known why → statement_at args s (suc level) locals end w ≡ Err (fault_at end w why)
+stops_there : (args : Arguments) (s : List Segment) (level : ℕ) (locals : Locals) (end : ℕ) (w : List ℕ) (o : Opcode) (why : BodyReason)
+    → first_opcode w ≡ known o → never_begins o ≡ known why → statement_at args s (suc level) locals end w ≡ Err (fault_at end w why)
 unfolding statement_at
 stops_there args s level locals end w o why opens refuses =
     let r = first_opens end w o opens in
@@ -99,13 +103,15 @@ stops_here one s locals [] f some e n le = absurd (omega arith)
 stops_here one s locals (b ∷ w) f some e zero le = absurd (omega arith)
 stops_here one s locals (b ∷ w) f some e (suc n) le = rw e refl
 
-stops_behind : (one : Locals → List ℕ → Reading BodyFault TermTree) (s : List Segment) (locals : Locals) (a b : List ℕ) (x : TermTree) (f : BodyFault) → 0 < length a → one locals (a ++ b) ≡ Ok (x, b) → Stops one s (locals_after s locals x) b f → Stops one s locals (a ++ b) f
+stops_behind : (one : Locals → List ℕ → Reading BodyFault TermTree) (s : List Segment) (locals : Locals) (a b : List ℕ) (x : TermTree) (f : BodyFault)
+    → 0 < length a → one locals (a ++ b) ≡ Ok (x, b) → Stops one s (locals_after s locals x) b f → Stops one s locals (a ++ b) f
 unfolding statements_with
 stops_behind one s locals [] b x f long h then n le = absurd (omega arith)
 stops_behind one s locals (c ∷ a) b x f long h then zero le = absurd (omega arith)
 stops_behind one s locals (c ∷ a) b x f long h then (suc n) le = rw (h, then n (omega (arith, length-append a b))) refl
 
-stops_behind_statements : (args : Arguments) (s : List Segment) (ts : TermTrees) (level : ℕ) (locals : Locals) (end : ℕ) (u w : List ℕ) (f : BodyFault) → AreStatements args s locals ts u → heights ts ≤ level → 0 < length w → begins_else w ≡ false
+stops_behind_statements : (args : Arguments) (s : List Segment) (ts : TermTrees) (level : ℕ) (locals : Locals) (end : ℕ) (u w : List ℕ)
+    (f : BodyFault) → AreStatements args s locals ts u → heights ts ≤ level → 0 < length w → begins_else w ≡ false
     → ((locals : Locals) → statement_at args s level locals end w ≡ Err f) → Stops (λ locals. statement_at args s level locals end) s locals (u ++ w) f
 stops_behind_statements args s no_terms level locals end u w f h le some none stops = rw h (stops_here (λ locals. statement_at args s level locals end) s locals w f some (stops locals))
 stops_behind_statements args s (more t ts) level locals end u w f (x, y, ht, hs, whole) le some none stops =
@@ -115,11 +121,13 @@ stops_behind_statements args s (more t ts) level locals end u w f (x, y, ht, hs,
     (stops_behind_statements args s ts level (locals_after s locals t) end y w f hs (omega arith) some none stops))
 
 -- what is refused by itself is told, at its place
-pub next_told : (args : Arguments) (s : List Segment) (depth : ℕ) (locals : Locals) (u w : List ℕ) (ts : TermTrees) (why : BodyReason) → 0 < depth → AreStatements args s locals ts u → heights ts ≤ depth → IsRefused why w
+pub next_told : (args : Arguments) (s : List Segment) (depth : ℕ) (locals : Locals) (u w : List ℕ) (ts : TermTrees) (why : BodyReason) → 0 < depth
+    → AreStatements args s locals ts u → heights ts ≤ depth → IsRefused why w
     → body_at args s depth locals (u ++ w) ≡ Err (record { reason = why; place = length u })
 next_told args s zero locals u w ts why some h le r = absurd (omega arith)
 next_told args s (suc level) locals u w ts why some h le r =
     let end = length (u ++ w) in
-    let all = stops_behind_statements args s ts (suc level) locals end u w (fault_at end w why) h le (some_byte w r.0 r.1) (no_else_there w r.0 why r.1 r.2) (λ locals. stops_there args s level locals end w r.0 why r.1 r.2) in
+    let all = stops_behind_statements args s ts (suc level) locals end u w (fault_at end w why) h le (some_byte w r.0 r.1)
+    (no_else_there w r.0 why r.1 r.2) (λ locals. stops_there args s level locals end w r.0 why r.1 r.2) in
     let place : end - length w ≡ length u = omega (arith, length-append u w) in
     rw (all end (omega arith), place) refl

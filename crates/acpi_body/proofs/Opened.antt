@@ -17,7 +17,8 @@ unfolding term_at
 term_opened args zero place end bytes o rest some e = absurd (omega arith)
 term_opened args (suc level) place end bytes o rest some e = let less : suc level - 1 ≡ level = omega arith in rw (e, less) refl
 
-pub term_unopened : (args : NameParts → ℕ) (level : ℕ) (place : Place) (end : ℕ) (bytes : List ℕ) (f : CodeFault) → 0 < level → opcode_at end bytes ≡ Err f → Fails (stops.Fault (fault_of f)) (term_at args level place end bytes)
+pub term_unopened : (args : NameParts → ℕ) (level : ℕ) (place : Place) (end : ℕ) (bytes : List ℕ) (f : CodeFault) → 0 < level
+    → opcode_at end bytes ≡ Err f → Fails (stops.Fault (fault_of f)) (term_at args level place end bytes)
 unfolding term_at
 term_unopened args zero place end bytes f some e = absurd (omega arith)
 term_unopened args (suc level) place end bytes f some e = rw e refl
@@ -28,7 +29,8 @@ unfolding statement_at
 statement_opened args s zero locals end bytes o rest some e = absurd (omega arith)
 statement_opened args s (suc level) locals end bytes o rest some e = let less : suc level - 1 ≡ level = omega arith in rw (e, less) refl
 
-pub statement_unopened : (args : Arguments) (s : List Segment) (level : ℕ) (locals : Locals) (end : ℕ) (bytes : List ℕ) (f : CodeFault) → 0 < level → opcode_at end bytes ≡ Err f → Fails (stops.Fault (fault_of f)) (statement_at args s level locals end bytes)
+pub statement_unopened : (args : Arguments) (s : List Segment) (level : ℕ) (locals : Locals) (end : ℕ) (bytes : List ℕ) (f : CodeFault) → 0 < level
+    → opcode_at end bytes ≡ Err f → Fails (stops.Fault (fault_of f)) (statement_at args s level locals end bytes)
 unfolding statement_at
 statement_unopened args s zero locals end bytes f some e = absurd (omega arith)
 statement_unopened args s (suc level) locals end bytes f some e = rw e refl

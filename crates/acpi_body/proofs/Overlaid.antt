@@ -68,7 +68,9 @@ found_deeper : {A : Type 0} (p q : List A → Bool) (bs : List (List A)) → Fal
 found_deeper p q [] h = refl
 found_deeper {A} p q (b ∷ bs) h = by_tests (found_deeper p q bs h.1) (p b) (q b)
   where
-    by_tests : depth_of (find (λ b. p b || q b) bs) ≡ deeper (depth_of (find p bs)) (depth_of (find q bs)) → (s t : Bool) → depth_of (cond (s || t) (Some b) (find (λ b. p b || q b) bs)) ≡ deeper (depth_of (cond s (Some b) (find p bs))) (depth_of (cond t (Some b) (find q bs)))
+    by_tests : depth_of (find (λ b. p b || q b) bs) ≡ deeper (depth_of (find p bs)) (depth_of (find q bs)) → (s t : Bool)
+        → depth_of (cond (s || t) (Some b) (find (λ b. p b || q b) bs)) ≡ deeper (depth_of (cond s (Some b) (find p bs)))
+        (depth_of (cond t (Some b) (find q bs)))
     by_tests more true true = both_deeper (length b)
     by_tests more true false = first_deeper b (find q bs) (found_shorter q (length b) bs h.0)
     by_tests more false true = second_deeper b (find p bs) (found_shorter p (length b) bs h.0)
@@ -76,7 +78,8 @@ found_deeper {A} p q (b ∷ bs) h = by_tests (found_deeper p q bs h.1) (p b) (q 
 
 -- of what is below a scope
 pub overlaid : (p q : List Segment → Bool) (s : List Segment) (g : Segment)
-    → option_map length (find (λ b. p (b ++ g ∷ []) || q (b ++ g ∷ [])) (beginnings s)) ≡ deeper (option_map length (find (λ b. p (b ++ g ∷ [])) (beginnings s))) (option_map length (find (λ b. q (b ++ g ∷ [])) (beginnings s)))
+    → option_map length (find (λ b. p (b ++ g ∷ []) || q (b ++ g ∷ [])) (beginnings s))
+    ≡ deeper (option_map length (find (λ b. p (b ++ g ∷ [])) (beginnings s))) (option_map length (find (λ b. q (b ++ g ∷ [])) (beginnings s)))
 overlaid p q s g = found_deeper (λ b. p (b ++ g ∷ [])) (λ b. q (b ++ g ∷ [])) (beginnings s) (falls s)
 
 -- ---- how many values follow a plain name
@@ -84,13 +87,15 @@ overlaid p q s g = found_deeper (λ b. p (b ++ g ∷ [])) (λ b. q (b ++ g ∷ [
 pub plain_found : (objects : Namespace) (externals : Lookup ℕ) (s : List Segment) (locals : Locals) (n : NameParts) (g : Segment) (q : List Segment) → plain_segment n ≡ Some g
     → find (λ q. defined_with objects locals (q ++ g ∷ [])) (beginnings s) ≡ Some q → args_there objects locals (q ++ g ∷ []) ≡ arguments objects externals s locals n
 plain_found objects externals s locals n g q plain e =
-    let there : answer (defined_with objects locals) s n ≡ Some (q ++ g ∷ []) = ap (λ o. find (defined_with objects locals) (tries_of s n o)) plain ∙ find_map (defined_with objects locals) (λ q. q ++ g ∷ []) (beginnings s) ∙ ap (option_map (λ q. q ++ g ∷ [])) e in
+    let there : answer (defined_with objects locals) s n ≡ Some (q ++ g ∷ []) = ap (λ o. find (defined_with objects locals) (tries_of s n o)) plain
+    ∙ find_map (defined_with objects locals) (λ q. q ++ g ∷ []) (beginnings s) ∙ ap (option_map (λ q. q ++ g ∷ [])) e in
     ap (args_at objects locals (expected_at externals (expected_place externals s n))) (sym there)
 
 pub plain_missed : (objects : Namespace) (externals : Lookup ℕ) (s : List Segment) (locals : Locals) (n : NameParts) (g : Segment) → plain_segment n ≡ Some g
     → find (λ q. defined_with objects locals (q ++ g ∷ [])) (beginnings s) ≡ None → expected_at externals (expected_place externals s n) ≡ arguments objects externals s locals n
 plain_missed objects externals s locals n g plain e =
-    let there : answer (defined_with objects locals) s n ≡ None = ap (λ o. find (defined_with objects locals) (tries_of s n o)) plain ∙ find_map (defined_with objects locals) (λ q. q ++ g ∷ []) (beginnings s) ∙ ap (option_map (λ q. q ++ g ∷ [])) e in
+    let there : answer (defined_with objects locals) s n ≡ None = ap (λ o. find (defined_with objects locals) (tries_of s n o)) plain
+    ∙ find_map (defined_with objects locals) (λ q. q ++ g ∷ []) (beginnings s) ∙ ap (option_map (λ q. q ++ g ∷ [])) e in
     ap (args_at objects locals (expected_at externals (expected_place externals s n))) (sym there)
 
 -- ---- as the code finds them

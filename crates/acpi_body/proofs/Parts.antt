@@ -28,7 +28,8 @@ stopped_there one first now front stops.Memory some fails so = tt
 stopped_there one first now front (stops.Fault f) some fails so = stopped one first now front f some fails so
 
 -- the same of a reading that is equal there
-pub reads_as : {X Y : Type 0} (view : X → Y) (r k : ℕ → List ℕ → Reading BodyFault Y) (old new : Left) (result : Result X Stop) → k old.end old.bytes ≡ r old.end old.bytes → Reads view r old new result → Reads view k old new result
+pub reads_as : {X Y : Type 0} (view : X → Y) (r k : ℕ → List ℕ → Reading BodyFault Y) (old new : Left) (result : Result X Stop)
+    → k old.end old.bytes ≡ r old.end old.bytes → Reads view r old new result → Reads view k old new result
 reads_as view r k old new (Ok x) e h = (e ∙ h.0, h.1)
 reads_as view r k old new (Err stops.Memory) e h = tt
 reads_as view r k old new (Err (stops.Fault f)) e h = e ∙ h

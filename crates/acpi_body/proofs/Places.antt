@@ -82,7 +82,8 @@ shows_misplaced m s NotData place e h = inl h
 shows_misplaced m s _ place e h = absurd cc
 
 -- what begins there is refused at the place, or is judged where it isn't
-pub unless_sound : {A : Type 0} (m : List Segment) (s : Source) (level end : ℕ) (bytes : List ℕ) (p : Place) (x : Opcode × List ℕ) (Good : A → Type 0) (r : Result A BodyFault) → Position s.depth level s.code end bytes → Opened bytes x
+pub unless_sound : {A : Type 0} (m : List Segment) (s : Source) (level end : ℕ) (bytes : List ℕ) (p : Place) (x : Opcode × List ℕ) (Good : A → Type 0)
+    (r : Result A BodyFault) → Position s.depth level s.code end bytes → Opened bytes x
     → (refusal_at p x.0 ≡ None → Judge Good (Bad m s) r) → Judge Good (Bad m s) (unless (refusal_at p x.0) end bytes r)
 unless_sound m s level end bytes p x Good r h o k = by_refusal (refusal_at p x.0) refl
   where

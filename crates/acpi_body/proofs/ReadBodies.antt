@@ -23,10 +23,20 @@ use Rattle.acpi_body.proofs.Next.{next_told}
 abbrev pub reading : Arguments → List Segment → ℕ → List ℕ → Result (List TermTree) BodyFault
 reading args s depth bytes = body_at args s depth finite.empty bytes
 
-judged : (args : Arguments) (s : List Segment) (depth : ℕ) (bytes : List ℕ) → Judge (AreStanding args s depth finite.empty bytes) (Bad s (record { depth = depth; code = bytes })) (reading args s depth bytes)
+judged : (args : Arguments) (s : List Segment) (depth : ℕ) (bytes : List ℕ)
+    → Judge (AreStanding args s depth finite.empty bytes) (Bad s (record { depth = depth; code = bytes })) (reading args s depth bytes)
 judged args s depth bytes =
     let source : Source = record { depth = depth; code = bytes } in
-    let here : Position depth depth bytes (length bytes) bytes = record { before = []; after = []; whole = sym (append-nil bytes); ends = omega arith; start = 0; is_list = inl (refl, refl); begun = omega arith; deep = omega arith } in
+    let here : Position depth depth bytes (length bytes) bytes = record {
+      before = [];
+      after = [];
+      whole = sym (append-nil bytes);
+      ends = omega arith;
+      start = 0;
+      is_list = inl (refl, refl);
+      begun = omega arith;
+      deep = omega arith;
+    } in
     statements_sound s source args depth finite.empty (length bytes) bytes here
 
 good_of : {A F : Type 0} (Good : A → Type 0) (Bad : F → Type 0) (r : Result A F) (x : A) → Judge Good Bad r → r ≡ Ok x → Good x
@@ -100,7 +110,8 @@ read_law view args s depth bytes (Err e) h = tt
 
 -- ---- why it isn't read
 
-why_just : (args : Arguments) (s : List Segment) (depth : ℕ) (bytes : List ℕ) (r : Result (List TermTree) BodyFault) → reading args s depth bytes ≡ r → (told r ≡ None) ↔ ((ts : TermTrees) × Reads args s depth bytes ts)
+why_just : (args : Arguments) (s : List Segment) (depth : ℕ) (bytes : List ℕ) (r : Result (List TermTree) BodyFault) → reading args s depth bytes ≡ r
+    → (told r ≡ None) ↔ ((ts : TermTrees) × Reads args s depth bytes ts)
 why_just args s depth bytes (Ok ts) e = (λ none. (terms_of ts, took args s depth bytes ts e), λ some. refl)
 why_just args s depth bytes (Err f) e = (λ none. absurd cc, λ some. absurd (not_both f (listed some.0) (sym e ∙ again args s depth bytes some.0 some.1)))
 
@@ -116,9 +127,11 @@ next_law args s depth bytes (Ok f) h some u w ts reason whole reads refused =
     h ∙ ap told (ap (reading args s depth) whole ∙ next_told args s depth finite.empty u w ts reason some reads.spelled reads.within refused)
 next_law args s depth bytes (Err e) h some u w ts reason whole reads refused = tt
 
-faults_just : (args : Arguments) (s : List Segment) (depth : ℕ) (bytes : List ℕ) (r : Result (List TermTree) BodyFault) → reading args s depth bytes ≡ r → IfSome (told r) (λ f. Shows s depth bytes f.reason f.place)
+faults_just : (args : Arguments) (s : List Segment) (depth : ℕ) (bytes : List ℕ) (r : Result (List TermTree) BodyFault)
+    → reading args s depth bytes ≡ r → IfSome (told r) (λ f. Shows s depth bytes f.reason f.place)
 faults_just args s depth bytes (Ok ts) e = tt
-faults_just args s depth bytes (Err f) e = bad_of (AreStanding args s depth finite.empty bytes) (Bad s (record { depth = depth; code = bytes })) (reading args s depth bytes) f (judged args s depth bytes) e
+faults_just args s depth bytes (Err f) e = bad_of (AreStanding args s depth finite.empty bytes) (Bad s (record { depth = depth; code = bytes }))
+    (reading args s depth bytes) f (judged args s depth bytes) e
 
 pub faults_law : {E : Type 0} (args : Arguments) (s : List Segment) (depth : ℕ) (bytes : List ℕ) (result : Result (Option BodyFault) E)
     → IfOk result (λ w. w ≡ told (reading args s depth bytes)) → IfOk result (λ w. IfSome w (λ f. Shows s depth bytes f.reason f.place))

@@ -101,7 +101,8 @@ none_above objects s bytes p above h =
 one_name : (m n : NameParts) (j k : ℕ) (bytes : List ℕ) → BeginsWithName m j bytes → BeginsWithName n k bytes → m ≡ n
 one_name m n j k bytes f g = (one_spelling m n (take j bytes) (take k bytes) (drop j bytes) (drop k bytes) f.spells g.spells (split j bytes ∙ sym (split k bytes))).0
 
-pub front_none : (w : Wants) (objects : Namespace) (s : List Segment) (bytes : List ℕ) (old : Paths) → ((p : List Segment) → IsFrontMiss objects s bytes p → ⊥) → Grows old old (Asked w (IsFrontMiss objects s bytes))
+pub front_none : (w : Wants) (objects : Namespace) (s : List Segment) (bytes : List ℕ) (old : Paths)
+    → ((p : List Segment) → IsFrontMiss objects s bytes p → ⊥) → Grows old old (Asked w (IsFrontMiss objects s bytes))
 front_none w objects s bytes old none = grows_as old old (λ p. ⊥) (Asked w (IsFrontMiss objects s bytes)) (λ p. (λ h. absurd h, λ h. none p h.0)) (grows_not old)
 
 front_grows : (w : Wants) (objects : Namespace) (s : List Segment) (bytes : List ℕ) (old new : Paths) (n : NameParts) (count : ℕ) (paths : List (List Segment))
@@ -121,7 +122,8 @@ front_grows w objects s bytes old new n count paths begins is e =
         let i = subst (λ (m : NameParts). Among (missed (is_defined_in objects) s m) p) (one_name h.0.name n h.0.count count bytes h.0.begins begins) h.0.misses in
         ((among_filter w (missed (is_defined_in objects) s n) p).1 (i, h.1), λ e. cc)
 
-pub front_found : {E : Type 0} (r : Result (Unit {0}) E) (w : Wants) (objects : Namespace) (s : List Segment) (bytes : List ℕ) (old new : Paths) (n : NameParts) (count : ℕ) (paths : List (List Segment))
+pub front_found : {E : Type 0} (r : Result (Unit {0}) E) (w : Wants) (objects : Namespace) (s : List Segment) (bytes : List ℕ) (old new : Paths)
+    (n : NameParts) (count : ℕ) (paths : List (List Segment))
     → BeginsWithName n count bytes → paths ≡ filter w (missed (is_defined_in objects) s n) → OnOk r (new ≡ with_misses None old paths) → OnOk r (Grows old new (Asked w (IsFrontMiss objects s bytes)))
 front_found (Ok x) w objects s bytes old new n count paths begins is e = front_grows w objects s bytes old new n count paths begins is e
 front_found (Err x) w objects s bytes old new n count paths begins is e = tt
@@ -134,19 +136,23 @@ pub record IsMissedBefore (objects : Namespace) (s : List Segment) (bytes : List
   pub miss : IsFrontMiss objects s (drop place bytes) p
 
 pub none_before : (w : Wants) (objects : Namespace) (s : List Segment) (bytes : List ℕ) (old : Paths) → Grows old old (Asked w (IsMissedBefore objects s bytes 0))
-none_before w objects s bytes old = grows_as old old (λ p. ⊥) (Asked w (IsMissedBefore objects s bytes 0)) (λ p. (λ h. absurd h, λ h. let b : h.0.place < 0 = h.0.before in omega arith)) (grows_not old)
+none_before w objects s bytes old = grows_as old old (λ p. ⊥) (Asked w (IsMissedBefore objects s bytes 0))
+    (λ p. (λ h. absurd h, λ h. let b : h.0.place < 0 = h.0.before in omega arith)) (grows_not old)
 
 pub one_place_more : (w : Wants) (objects : Namespace) (s : List Segment) (bytes : List ℕ) (end : ℕ) (old mid new : Paths)
-    → Grows old mid (Asked w (IsMissedBefore objects s bytes end)) → Grows mid new (Asked w (IsFrontMiss objects s (drop end bytes))) → Grows old new (Asked w (IsMissedBefore objects s bytes (end + 1)))
+    → Grows old mid (Asked w (IsMissedBefore objects s bytes end)) → Grows mid new (Asked w (IsFrontMiss objects s (drop end bytes)))
+    → Grows old new (Asked w (IsMissedBefore objects s bytes (end + 1)))
 one_place_more w objects s bytes end old mid new f g =
-    grows_as old new (λ p. Asked w (IsMissedBefore objects s bytes end) p ⊎ Asked w (IsFrontMiss objects s (drop end bytes)) p) (Asked w (IsMissedBefore objects s bytes (end + 1))) (λ p. (to p, from p))
+    grows_as old new (λ p. Asked w (IsMissedBefore objects s bytes end) p ⊎ Asked w (IsFrontMiss objects s (drop end bytes)) p)
+    (Asked w (IsMissedBefore objects s bytes (end + 1))) (λ p. (to p, from p))
     (grows_then old mid new (Asked w (IsMissedBefore objects s bytes end)) (Asked w (IsFrontMiss objects s (drop end bytes))) f g)
   where
     to : (p : List Segment) → Asked w (IsMissedBefore objects s bytes end) p ⊎ Asked w (IsFrontMiss objects s (drop end bytes)) p → Asked w (IsMissedBefore objects s bytes (end + 1)) p
     to p (inl h) = (record { place = h.0.place; before = let b : h.0.place < end = h.0.before in omega arith; miss = h.0.miss }, h.1)
     to p (inr h) = (record { place = end; before = omega arith; miss = h.0 }, h.1)
 
-    by : (p : List Segment) (k : ℕ) → IsFrontMiss objects s (drop k bytes) p → IsTrue (w p) → (k < end) ⊎ (k ≡ end) → Asked w (IsMissedBefore objects s bytes end) p ⊎ Asked w (IsFrontMiss objects s (drop end bytes)) p
+    by : (p : List Segment) (k : ℕ) → IsFrontMiss objects s (drop k bytes) p → IsTrue (w p) → (k < end) ⊎ (k ≡ end)
+        → Asked w (IsMissedBefore objects s bytes end) p ⊎ Asked w (IsFrontMiss objects s (drop end bytes)) p
     by p k h t (inl lt) = inl (record { place = k; before = lt; miss = h }, t)
     by p k h t (inr e) = inr (subst (λ (i : ℕ). IsFrontMiss objects s (drop i bytes) p) e h, t)
 
@@ -156,7 +162,8 @@ one_place_more w objects s bytes end old mid new f g =
         below_or_at : (k end : ℕ) → k < end + 1 → (k < end) ⊎ (k ≡ end)
         below_or_at k end h = grind arith
 
-pub every_place : (w : Wants) (objects : Namespace) (s : List Segment) (bytes : List ℕ) (end : ℕ) (old new : Paths) → length bytes ≤ end → Grows old new (Asked w (IsMissedBefore objects s bytes end)) → Grows old new (Asked w (IsMissedBy objects s bytes))
+pub every_place : (w : Wants) (objects : Namespace) (s : List Segment) (bytes : List ℕ) (end : ℕ) (old new : Paths) → length bytes ≤ end
+    → Grows old new (Asked w (IsMissedBefore objects s bytes end)) → Grows old new (Asked w (IsMissedBy objects s bytes))
 every_place w objects s bytes end old new all =
     grows_as old new (Asked w (IsMissedBefore objects s bytes end)) (Asked w (IsMissedBy objects s bytes)) (λ p. (λ h. (to p h.0, h.1), λ h. (from p h.0, h.1)))
   where
@@ -183,7 +190,11 @@ every_place w objects s bytes end old new all =
         let behind : drop (length at.before) bytes ≡ rest = ap (drop (length at.before)) at.whole ∙ drop_front at.before rest in
         let some : 0 < length at.spelled = name_long h.name at.spelled at.spells in
         let sizes : length bytes ≡ length at.before + (length at.spelled + length at.after) = ap length at.whole ∙ simp length-append in
-        let begins : BeginsWithName h.name (length at.spelled) rest = record { within = omega (arith, length-append at.spelled at.after); spells = subst (SpellsName h.name) (sym (take_front at.spelled at.after)) at.spells } in
+        let begins : BeginsWithName h.name (length at.spelled) rest =
+        record {
+          within = omega (arith, length-append at.spelled at.after);
+          spells = subst (SpellsName h.name) (sym (take_front at.spelled at.after)) at.spells;
+        } in
         record {
           place = length at.before;
           before = omega arith;

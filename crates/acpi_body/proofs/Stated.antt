@@ -25,7 +25,8 @@ none_yet : {A : Type 0} (r : Result (List A) BodyFault) → with_front [] r ≡ 
 none_yet (Ok x) = refl
 none_yet (Err f) = refl
 
-after_push : (s : List Segment) (locals : Locals) (front : List TermTree) (t : TermTree) → locals_after_all s locals (terms_of (front ++ t ∷ [])) ≡ locals_after s (locals_after_all s locals (terms_of front)) t
+after_push : (s : List Segment) (locals : Locals) (front : List TermTree) (t : TermTree)
+    → locals_after_all s locals (terms_of (front ++ t ∷ [])) ≡ locals_after s (locals_after_all s locals (terms_of front)) t
 after_push s locals [] t = refl
 after_push s locals (x ∷ front) t = after_push s (locals_after s locals x) front t
 
@@ -43,9 +44,18 @@ pub record Stated (one : One) (s : List Segment) (start : Locals) (first : Left)
   pub told : with_front front (statements_with (λ locals. one locals first.end) s turns locals now.bytes) ≡ statements_by (λ locals. one locals first.end) s start first.bytes
 
 pub stated_starts : (one : One) (s : List Segment) (start : Locals) (first : Left) → Stated one s start first start first []
-stated_starts one s start first = record { turns = length first.bytes; same_end = refl; enough = omega arith; within = omega arith; now_locals = refl; told = none_yet (statements_by (λ locals. one locals first.end) s start first.bytes) }
+stated_starts one s start first = record {
+  turns = length first.bytes;
+  same_end = refl;
+  enough = omega arith;
+  within = omega arith;
+  now_locals = refl;
+  told = none_yet (statements_by (λ locals. one locals first.end) s start first.bytes);
+}
 
-turn : (one : Locals → List ℕ → Reading BodyFault TermTree) (s : List Segment) (n : ℕ) (locals : Locals) (rest : List ℕ) → length rest ≤ n → 0 < length rest → statements_with one s n locals rest ≡ (one locals rest >>= λ x. statements_with one s (n - 1) (locals_after s locals x.0) x.1 >>= λ xs. Ok (x.0 ∷ xs))
+turn : (one : Locals → List ℕ → Reading BodyFault TermTree) (s : List Segment) (n : ℕ) (locals : Locals) (rest : List ℕ) → length rest ≤ n
+    → 0 < length rest
+    → statements_with one s n locals rest ≡ (one locals rest >>= λ x. statements_with one s (n - 1) (locals_after s locals x.0) x.1 >>= λ xs. Ok (x.0 ∷ xs))
 unfolding statements_with
 turn one s zero locals rest le h = absurd (omega arith)
 turn one s (suc n) locals [] le h = absurd (omega arith)
@@ -65,10 +75,13 @@ stated_goes_on one s start first locals now front next after x h read on is so =
       enough = omega (arith, so.enough, on.less);
       within = omega (arith, so.within, on.less);
       now_locals = is ∙ ap (λ l. locals_after s l x) so.now_locals ∙ sym (after_push s start front x);
-      told = ap (λ l. with_front (front ++ x ∷ []) (statements_with one_here s (so.turns - 1) l after.bytes)) is ∙ sym (regroup front x (statements_with one_here s (so.turns - 1) (locals_after s locals x) after.bytes)) ∙ ap (with_front front) (sym then) ∙ so.told;
+      told = ap (λ l. with_front (front ++ x ∷ []) (statements_with one_here s (so.turns - 1) l after.bytes)) is
+          ∙ sym (regroup front x (statements_with one_here s (so.turns - 1) (locals_after s locals x) after.bytes))
+          ∙ ap (with_front front) (sym then) ∙ so.told;
     }
 
-pub stated_ends : (one : One) (s : List Segment) (start : Locals) (first : Left) (locals : Locals) (now : Left) (front : List TermTree) (e : Stop) → 0 < length now.bytes → Fails e (one locals now.end now.bytes)
+pub stated_ends : (one : One) (s : List Segment) (start : Locals) (first : Left) (locals : Locals) (now : Left) (front : List TermTree) (e : Stop)
+    → 0 < length now.bytes → Fails e (one locals now.end now.bytes)
     → Stated one s start first locals now front → Fails e (statements_by (λ locals. one locals first.end) s start first.bytes)
 stated_ends one s start first locals now front stops.Memory h fails so = tt
 stated_ends one s start first locals now front (stops.Fault f) h fails so =
@@ -84,5 +97,6 @@ at_end one s zero locals rest h = refl
 at_end one s (suc n) locals [] h = refl
 at_end one s (suc n) locals (b ∷ rest) h = absurd (omega arith)
 
-pub stated_is_done : (one : One) (s : List Segment) (start : Locals) (first : Left) (locals : Locals) (now : Left) (front : List TermTree) → length now.bytes ≡ 0 → Stated one s start first locals now front → statements_by (λ locals. one locals first.end) s start first.bytes ≡ Ok front
+pub stated_is_done : (one : One) (s : List Segment) (start : Locals) (first : Left) (locals : Locals) (now : Left) (front : List TermTree)
+    → length now.bytes ≡ 0 → Stated one s start first locals now front → statements_by (λ locals. one locals first.end) s start first.bytes ≡ Ok front
 stated_is_done one s start first locals now front h so = sym so.told ∙ rw (at_end (λ locals. one locals first.end) s so.turns locals now.bytes h) (ap Ok (append-nil front))

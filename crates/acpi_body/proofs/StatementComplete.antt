@@ -114,7 +114,8 @@ pub statement_starts : (args : Arguments) (s : List Segment) (locals : Locals) (
 statement_starts args s locals (if_do v ts e) a rest (x, y, f, g, here, hv, hs, packs, other, whole) = (rw (whole, packs.whole) refl, rw (whole, packs.whole) (omega arith))
 statement_starts args s locals (while_do v ts) a rest h = (rw h.5.whole refl, rw h.5.whole (omega arith))
 statement_starts args s locals (declare form before n behind) a rest (x, y, z, hb, may, hn, ha, whole) =
-    let is : a ++ rest ≡ opcode_bytes (named_opcode form) ++ ((x ++ (y ++ z)) ++ rest) = ap (λ (l : List ℕ). l ++ rest) whole ∙ append_assoc (opcode_bytes (named_opcode form)) (x ++ (y ++ z)) rest in (
+    let is : a ++ rest ≡ opcode_bytes (named_opcode form) ++ ((x ++ (y ++ z)) ++ rest) = ap (λ (l : List ℕ). l ++ rest) whole
+    ∙ append_assoc (opcode_bytes (named_opcode form)) (x ++ (y ++ z)) rest in (
       other_opens (a ++ rest) (named_opcode form) ((x ++ (y ++ z)) ++ rest) (named_no_else form) (ap (opcode_at 0) is ∙ named_spelled form ((x ++ (y ++ z)) ++ rest) 0),
       omega (arith, ap length whole, length-append (opcode_bytes (named_opcode form)) (x ++ (y ++ z)), named_long form),
     )
@@ -138,7 +139,9 @@ unfolding statement_at
 stated args s level locals end bytes r o x h m = rw h m
 
 -- a term that is no block and no declaration is read as one
-is_placed : (args : NameParts → ℕ) (value : Reader) (inner : Statements) (s : List Segment) (locals : Locals) (end : ℕ) (bytes r : List ℕ) (t : TermTree) → refusal_at Statement (lead_of t) ≡ None → statement_by args value inner s locals end bytes (lead_of t) r ≡ placed_by args value Statement end bytes (lead_of t) r
+is_placed : (args : NameParts → ℕ) (value : Reader) (inner : Statements) (s : List Segment) (locals : Locals) (end : ℕ) (bytes r : List ℕ)
+    (t : TermTree) → refusal_at Statement (lead_of t) ≡ None → statement_by args value inner s locals end bytes
+    (lead_of t) r ≡ placed_by args value Statement end bytes (lead_of t) r
 unfolding statement_by
 is_placed args value inner s locals end bytes r (if_do v ts e) h = refl
 is_placed args value inner s locals end bytes r (raw k n) h = refl
@@ -151,12 +154,14 @@ unfolding else_at
 no_else_read inner end [] h = refl
 no_else_read inner end (b ∷ rest) h = rw h refl
 
-else_read : (inner : ℕ → List ℕ → Result (List TermTree) BodyFault) (end : ℕ) (us : List TermTree) (c len rest : List ℕ) → SpellsPkgLength (length len + length c) len → inner (end - length rest) c ≡ Ok us
+else_read : (inner : ℕ → List ℕ → Result (List TermTree) BodyFault) (end : ℕ) (us : List TermTree) (c len rest : List ℕ)
+    → SpellsPkgLength (length len + length c) len → inner (end - length rest) c ≡ Ok us
     → else_at inner end (0xA1 ∷ (len ++ (c ++ rest))) ≡ Ok (else_do (terms_of us), rest)
 unfolding else_at
 else_read inner end us c len rest h all = rw (package_complete end len c rest h, all) refl
 
-if_read : (value : Reader) (inner : Statements) (s : List Segment) (locals : Locals) (end : ℕ) (v : TermTree) (ts : List TermTree) (e : ElseTree) (a b len back rest : List ℕ) → SpellsPkgLength (length len + length (a ++ b)) len
+if_read : (value : Reader) (inner : Statements) (s : List Segment) (locals : Locals) (end : ℕ) (v : TermTree) (ts : List TermTree) (e : ElseTree)
+    (a b len back rest : List ℕ) → SpellsPkgLength (length len + length (a ++ b)) len
     → value Value (end - length back) (a ++ b) ≡ Ok (v, b) → inner locals (end - length back) b ≡ Ok ts → else_at (inner (locals_after_all s locals (terms_of ts))) end back ≡ Ok (e, rest)
     → if_form value inner s locals end (len ++ ((a ++ b) ++ back)) ≡ Ok (if_do v (terms_of ts) e, rest)
 unfolding if_form
@@ -170,7 +175,8 @@ while_read value inner locals end v ts a b len rest h i all = rw (package_comple
 
 -- ---- declarations
 
-declared : {A : Type 0} (p : List Segment) (o : Option (List Segment)) (gs : List Segment) (end : ℕ) (bytes : List ℕ) (r : Result A BodyFault) → o ≡ Some p → 0 < length gs → declared_if o gs end bytes r ≡ r
+declared : {A : Type 0} (p : List Segment) (o : Option (List Segment)) (gs : List Segment) (end : ℕ) (bytes : List ℕ) (r : Result A BodyFault)
+    → o ≡ Some p → 0 < length gs → declared_if o gs end bytes r ≡ r
 declared p None gs end bytes r e h = absurd cc
 declared p (Some q) [] end bytes r e h = absurd (omega arith)
 declared p (Some q) (g ∷ gs) end bytes r e h = refl
@@ -190,16 +196,19 @@ unfolding names_at
 names_read [] end a rest h = rw h refl
 names_read (n ∷ ns) end a rest (x, y, hn, hs, whole) = rw (whole, append_assoc x y rest, name_in_complete end n x (y ++ rest) hn, names_read ns end y rest hs) refl
 
-units_read : (inner : Reader) (form : UnitsForm) (end : ℕ) (ns : List NameParts) (vs : List TermTree) (es : List FieldTree) (a b c len rest : List ℕ) → length ns ≡ names_of_units form → SpellsEach SpellsName ns a
+units_read : (inner : Reader) (form : UnitsForm) (end : ℕ) (ns : List NameParts) (vs : List TermTree) (es : List FieldTree) (a b c len rest : List ℕ)
+    → length ns ≡ names_of_units form → SpellsEach SpellsName ns a
     → operands_at inner (operands_of_units form) (end - length rest) (b ++ c) ≡ Ok (vs, c) → SpellsFields es c → SpellsPkgLength (length len + length (a ++ (b ++ c))) len
     → units_form inner form end (len ++ ((a ++ (b ++ c)) ++ rest)) ≡ Ok (declare_units form ns (terms_of vs) es, rest)
 unfolding units_form
 units_read inner form end ns vs es a b c len rest count h i k l =
-    let names : names_at (names_of_units form) (end - length rest) (a ++ (b ++ c)) ≡ Ok (ns, b ++ c) = ap (λ n. names_at n (end - length rest) (a ++ (b ++ c))) (sym count) ∙ names_read ns (end - length rest) a (b ++ c) h in
+    let names : names_at (names_of_units form) (end - length rest) (a ++ (b ++ c)) ≡ Ok (ns, b ++ c) =
+    ap (λ n. names_at n (end - length rest) (a ++ (b ++ c))) (sym count) ∙ names_read ns (end - length rest) a (b ++ c) h in
     rw (package_complete end len (a ++ (b ++ c)) rest l, names, i, fields_complete (end - length rest) es c k) refl
 
 -- the declarations are read by their opcodes
-by_named : (args : NameParts → ℕ) (value : Reader) (inner : Statements) (s : List Segment) (locals : Locals) (end : ℕ) (bytes r : List ℕ) (form : NamedForm) → statement_by args value inner s locals end bytes (named_opcode form) r ≡ named_form value s form end r
+by_named : (args : NameParts → ℕ) (value : Reader) (inner : Statements) (s : List Segment) (locals : Locals) (end : ℕ) (bytes r : List ℕ)
+    (form : NamedForm) → statement_by args value inner s locals end bytes (named_opcode form) r ≡ named_form value s form end r
 unfolding statement_by
 by_named args value inner s locals end bytes r named.Name = refl
 by_named args value inner s locals end bytes r (named.Create w) = refl
@@ -208,7 +217,8 @@ by_named args value inner s locals end bytes r named.Region = refl
 by_named args value inner s locals end bytes r named.Mutex = refl
 by_named args value inner s locals end bytes r named.Event = refl
 
-by_units : (args : NameParts → ℕ) (value : Reader) (inner : Statements) (s : List Segment) (locals : Locals) (end : ℕ) (bytes r : List ℕ) (form : UnitsForm) → statement_by args value inner s locals end bytes (units_opcode form) r ≡ units_form value form end r
+by_units : (args : NameParts → ℕ) (value : Reader) (inner : Statements) (s : List Segment) (locals : Locals) (end : ℕ) (bytes r : List ℕ)
+    (form : UnitsForm) → statement_by args value inner s locals end bytes (units_opcode form) r ≡ units_form value form end r
 unfolding statement_by
 by_units args value inner s locals end bytes r units.Field = refl
 by_units args value inner s locals end bytes r units.IndexField = refl
@@ -225,7 +235,8 @@ unfolding statements_with
 none_stated one s locals bytes e zero le = refl
 none_stated one s locals bytes e (suc n) le = rw e refl
 
-one_stated : (one : Locals → List ℕ → Reading BodyFault TermTree) (s : List Segment) (locals : Locals) (a b : List ℕ) (x : TermTree) (xs : List TermTree) → 0 < length a → one locals (a ++ b) ≡ Ok (x, b)
+one_stated : (one : Locals → List ℕ → Reading BodyFault TermTree) (s : List Segment) (locals : Locals) (a b : List ℕ) (x : TermTree)
+    (xs : List TermTree) → 0 < length a → one locals (a ++ b) ≡ Ok (x, b)
     → AreAllStated one s (locals_after s locals x) b xs → AreAllStated one s locals (a ++ b) (x ∷ xs)
 unfolding statements_with
 one_stated one s locals [] b x xs long h all n le = absurd (omega arith)
@@ -242,7 +253,8 @@ high args s locals t b h = suits_high Statement t (allowed_at (args locals) Stat
 mutual
   unfolding statement_by
 
-  pub statement_complete : (args : Arguments) (s : List Segment) (t : TermTree) (level : ℕ) (locals : Locals) (end : ℕ) (b rest : List ℕ) → IsStatement args s locals t b → height t ≤ level → begins_else rest ≡ false
+  pub statement_complete : (args : Arguments) (s : List Segment) (t : TermTree) (level : ℕ) (locals : Locals) (end : ℕ) (b rest : List ℕ)
+      → IsStatement args s locals t b → height t ≤ level → begins_else rest ≡ false
       → statement_at args s level locals end (b ++ rest) ≡ Ok (t, rest)
   statement_complete args s t zero locals end b rest h le none = absurd (omega (arith, high args s locals t b h))
   statement_complete args s (if_do v ts e) (suc level) locals end b rest (x, y, f, g, here, hv, hs, packs, other, whole) le none =
@@ -254,21 +266,24 @@ mutual
       let then = else_complete args s e level (locals_after_all s locals ts) end g rest other (omega arith) none in
       let then_here : else_at (statements_at args s level (locals_after_all s locals (terms_of (listed ts)))) end back ≡ Ok (e, rest) = rw (terms_of-listed ts) then in
       rw is
-      (stated args s level locals end (0xA0 ∷ (packs.len ++ ((x ++ y) ++ back))) (packs.len ++ ((x ++ y) ++ back)) opcodes.If (if_do v ts e, rest) (opens end opcodes.If (packs.len ++ ((x ++ y) ++ back)) refl)
+      (stated args s level locals end (0xA0 ∷ (packs.len ++ ((x ++ y) ++ back))) (packs.len ++ ((x ++ y) ++ back)) opcodes.If (if_do v ts e, rest)
+      (opens end opcodes.If (packs.len ++ ((x ++ y) ++ back)) refl)
       (if_read (term_at (args locals) level) (statements_at args s level) s locals end v (listed ts) e x y packs.len back rest packs.spells_len i (all (length y) (omega arith)) then_here
       ∙ ap (λ ts. Ok (if_do v ts e, rest)) (terms_of-listed ts)))
   statement_complete args s (while_do v ts) (suc level) locals end b rest (x, y, here, hv, hs, packs) le none =
       let i = term_complete (args locals) v level Value (end - length rest) x y here hv (omega arith) in
       let all = statements_complete args s ts level locals (end - length rest) y hs (omega arith) in
       rw (front_is (0xA2 ∷ []) b packs.len (x ++ y) rest packs.whole)
-      (stated args s level locals end (0xA2 ∷ (packs.len ++ ((x ++ y) ++ rest))) (packs.len ++ ((x ++ y) ++ rest)) opcodes.While (while_do v ts, rest) (opens end opcodes.While (packs.len ++ ((x ++ y) ++ rest)) refl)
+      (stated args s level locals end (0xA2 ∷ (packs.len ++ ((x ++ y) ++ rest))) (packs.len ++ ((x ++ y) ++ rest)) opcodes.While (while_do v ts, rest)
+      (opens end opcodes.While (packs.len ++ ((x ++ y) ++ rest)) refl)
       (while_read (term_at (args locals) level) (statements_at args s level) locals end v (listed ts) x y packs.len rest packs.spells_len i (all (length y) (omega arith))
       ∙ ap (λ ts. Ok (while_do v ts, rest)) (terms_of-listed ts)))
   statement_complete args s (declare form before n behind) (suc level) locals end b rest (x, y, z, hb, may, hn, ha, whole) le none =
       let is : b ++ rest ≡ opcode_bytes (named_opcode form) ++ (x ++ (y ++ (z ++ rest))) = ap (λ (l : List ℕ). l ++ rest) whole ∙ simp append_assoc in
       let i = operands_complete (args locals) (operands_before form) before level end x (y ++ (z ++ rest)) hb (omega arith) in
       let k = operands_complete (args locals) (operands_behind form) behind level end z rest ha (omega arith) in
-      stated args s level locals end (b ++ rest) (x ++ (y ++ (z ++ rest))) (named_opcode form) (declare form before n behind, rest) (ap (opcode_at end) is ∙ named_spelled form (x ++ (y ++ (z ++ rest))) end)
+      stated args s level locals end (b ++ rest) (x ++ (y ++ (z ++ rest))) (named_opcode form) (declare form before n behind, rest)
+      (ap (opcode_at end) is ∙ named_spelled form (x ++ (y ++ (z ++ rest))) end)
       (by_named (args locals) (term_at (args locals) level) (statements_at args s level) s locals end (b ++ rest) (x ++ (y ++ (z ++ rest))) form
       ∙ named_read (term_at (args locals) level) s form end n (listed before) (listed behind) y (x ++ (y ++ (z ++ rest))) (z ++ rest) rest may hn i k
       ∙ ap (λ ts. Ok (declare form ts n (terms_of (listed behind)), rest)) (terms_of-listed before) ∙ ap (λ ts. Ok (declare form before n ts, rest)) (terms_of-listed behind))
@@ -288,12 +303,14 @@ mutual
       (is_placed (args locals) (term_at (args locals) level) (statements_at args s level) s locals end (b ++ rest) f.0 t al.allowed
       ∙ placed_made (args locals) (term_at (args locals) level) Statement end (b ++ rest) f.0 (lead_of t) (t, rest) al.allowed f.2)
 
-  else_complete : (args : Arguments) (s : List Segment) (e : ElseTree) (level : ℕ) (locals : Locals) (end : ℕ) (b rest : List ℕ) → IsElse args s locals e b → else_height e ≤ level → begins_else rest ≡ false
+  else_complete : (args : Arguments) (s : List Segment) (e : ElseTree) (level : ℕ) (locals : Locals) (end : ℕ) (b rest : List ℕ)
+      → IsElse args s locals e b → else_height e ≤ level → begins_else rest ≡ false
       → else_at (statements_at args s level locals) end (b ++ rest) ≡ Ok (e, rest)
   else_complete args s no_else level locals end b rest h le none = rw h (no_else_read (statements_at args s level locals) end rest none)
   else_complete args s (else_do ts) level locals end b rest (c, hs, packs) le none =
       let all = statements_complete args s ts level locals (end - length rest) c hs le in
-      rw (front_is (0xA1 ∷ []) b packs.len c rest packs.whole) (else_read (statements_at args s level locals) end (listed ts) c packs.len rest packs.spells_len (all (length c) (omega arith)) ∙ ap (λ ts. Ok (else_do ts, rest)) (terms_of-listed ts))
+      rw (front_is (0xA1 ∷ []) b packs.len c rest packs.whole) (else_read (statements_at args s level locals) end (listed ts) c packs.len rest
+      packs.spells_len (all (length c) (omega arith)) ∙ ap (λ ts. Ok (else_do ts, rest)) (terms_of-listed ts))
 
   pub statements_complete : (args : Arguments) (s : List Segment) (ts : TermTrees) (level : ℕ) (locals : Locals) (end : ℕ) (b : List ℕ) → AreStatements args s locals ts b → heights ts ≤ level
       → AreAllStated (λ locals. statement_at args s level locals end) s locals b (listed ts)

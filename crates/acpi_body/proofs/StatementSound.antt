@@ -76,20 +76,25 @@ units_inner _ = refl
 module _ (m : List Segment) (s : Source) (args : Arguments) where
   -- statements one level deeper are judged
   abbrev InnerStatements : ℕ → Statements → Type 0
-  InnerStatements level inner = (locals : Locals) (end : ℕ) (bytes : List ℕ) → Position s.depth level s.code end bytes → Judge (AreStanding args m level locals bytes) (Bad m s) (inner locals end bytes)
+  InnerStatements level inner = (locals : Locals) (end : ℕ) (bytes : List ℕ) → Position s.depth level s.code end bytes
+      → Judge (AreStanding args m level locals bytes) (Bad m s) (inner locals end bytes)
 
   then_read : {A B : Type 0} (level end : ℕ) (Spells : A → List ℕ → Type 0) (Good : B → Type 0) (bytes : List ℕ) (r : Reading BodyFault A) (f : A × List ℕ → Result B BodyFault)
       → Judge (Read s level end Spells bytes) (Bad m s) r → ((x : A × List ℕ) → Read s level end Spells bytes x → Judge Good (Bad m s) (f x)) → Judge Good (Bad m s) (r >>= f)
   then_read level end Spells Good bytes r f h k = judge_bind (Read s level end Spells bytes) Good (Bad m s) r f h k
 
-  opened : {B : Type 0} (level end : ℕ) (bytes : List ℕ) (Good : B → Type 0) (f : Package → Result B BodyFault) → Position s.depth level s.code end bytes → ((p : Package) → GoodPackage s level end bytes p → Judge Good (Bad m s) (f p)) → Judge Good (Bad m s) (part (package_at end bytes) >>= f)
-  opened level end bytes Good f h k = judge_bind (GoodPackage s level end bytes) Good (Bad m s) (part (package_at end bytes)) f (part_sound m s (GoodPackage s level end bytes) (package_at end bytes) (package_sound s level end bytes h)) k
+  opened : {B : Type 0} (level end : ℕ) (bytes : List ℕ) (Good : B → Type 0) (f : Package → Result B BodyFault)
+      → Position s.depth level s.code end bytes → ((p : Package) → GoodPackage s level end bytes p → Judge Good (Bad m s) (f p))
+      → Judge Good (Bad m s) (part (package_at end bytes) >>= f)
+  opened level end bytes Good f h k = judge_bind (GoodPackage s level end bytes) Good (Bad m s) (part (package_at end bytes)) f
+      (part_sound m s (GoodPackage s level end bytes) (package_at end bytes) (package_sound s level end bytes h)) k
 
   -- ---- one after another
 
   statements_sound_with : (level end : ℕ) (one : Locals → List ℕ → Reading BodyFault TermTree)
       → ((locals : Locals) (bytes : List ℕ) → Position s.depth level s.code end bytes → Judge (Read s level end (Standing args m level locals) bytes) (Bad m s) (one locals bytes))
-      → (n : ℕ) (locals : Locals) (bytes : List ℕ) → length bytes ≤ n → Position s.depth level s.code end bytes → Judge (AreStanding args m level locals bytes) (Bad m s) (statements_with one m n locals bytes)
+      → (n : ℕ) (locals : Locals) (bytes : List ℕ) → length bytes ≤ n → Position s.depth level s.code end bytes
+      → Judge (AreStanding args m level locals bytes) (Bad m s) (statements_with one m n locals bytes)
   unfolding statements_with
   statements_sound_with level end one judged zero locals [] le h = record { are = refl; within = omega arith }
   statements_sound_with level end one judged zero locals (b ∷ rest) le h = absurd (omega arith)
@@ -100,12 +105,15 @@ module _ (m : List Segment) (s : Source) (args : Arguments) where
       let t = p.0 in
       let some = (statement_starts args m locals x.0 t.front [] t.spells.spells).1 in
       let sizes : suc (length rest) ≡ length t.front + length x.1 = ap length t.whole ∙ length-append t.front x.1 in
-      judge_bind (AreStanding args m level (locals_after m locals x.0) x.1) Good (Bad m s) (statements_with one m n (locals_after m locals x.0) x.1) _ (statements_sound_with level end one judged n (locals_after m locals x.0) x.1 (omega arith) p.1) (λ xs q.
+      judge_bind (AreStanding args m level (locals_after m locals x.0) x.1) Good (Bad m s) (statements_with one m n (locals_after m locals x.0) x.1) _
+      (statements_sound_with level end one judged n (locals_after m locals x.0) x.1 (omega arith) p.1) (λ xs q.
       record { are = (t.front, x.1, t.spells.spells, q.are, t.whole); within = omega (arith, t.spells.within, q.within) }))
 
   -- ---- blocks
 
-  else_sound : (level : ℕ) (inner : Statements) → InnerStatements level inner → (locals : Locals) (end : ℕ) (bytes : List ℕ) → Position s.depth level s.code end bytes → Judge (Read s level end (Other args m level locals) bytes) (Bad m s) (else_at (inner locals) end bytes)
+  else_sound : (level : ℕ) (inner : Statements) → InnerStatements level inner → (locals : Locals) (end : ℕ) (bytes : List ℕ)
+      → Position s.depth level s.code end bytes → Judge (Read s level end (Other args m level locals) bytes) (Bad m s)
+      (else_at (inner locals) end bytes)
   unfolding else_at
   else_sound level inner k locals end [] h = (record { front = []; spells = record { spells = refl; within = omega arith }; whole = refl }, h)
   else_sound level inner k locals end (b ∷ rest) h =
@@ -123,20 +131,34 @@ module _ (m : List Segment) (s : Source) (args : Arguments) where
       (λ no. (record { front = []; spells = record { spells = refl; within = omega arith }; whole = refl }, h))
 
   if_sound : (level : ℕ) (locals : Locals) (value : Reader) (inner : Statements) → Inner m s (args locals) level value → InnerStatements level inner
-      → (end : ℕ) (bytes rest : List ℕ) → bytes ≡ 0xA0 ∷ rest → Position s.depth level s.code end rest → Judge (Read s level end (Standing args m (suc level) locals) bytes) (Bad m s) (if_form value inner m locals end rest)
+      → (end : ℕ) (bytes rest : List ℕ) → bytes ≡ 0xA0 ∷ rest → Position s.depth level s.code end rest
+      → Judge (Read s level end (Standing args m (suc level) locals) bytes) (Bad m s) (if_form value inner m locals end rest)
   unfolding if_form
   if_sound level locals value inner i k end bytes rest is h =
       let Good = Read s level end (Standing args m (suc level) locals) bytes in
       opened level end rest Good _ h (λ p g.
       then_read level p.end (Within (args locals) level Value) Good p.content (value Value p.end p.content) _ (i Value p.end p.content refl g.1) (λ v w.
       judge_bind (AreStanding args m level locals v.1) Good (Bad m s) (inner locals p.end v.1) _ (k locals p.end v.1 w.1) (λ ts t.
-      then_read level end (Other args m level (locals_after_all m locals (terms_of ts))) Good p.rest (else_at (inner (locals_after_all m locals (terms_of ts))) end p.rest) _ (else_sound level inner k (locals_after_all m locals (terms_of ts)) end p.rest g.2) (λ e o.
+      then_read level end (Other args m level (locals_after_all m locals (terms_of ts))) Good p.rest
+      (else_at (inner (locals_after_all m locals (terms_of ts))) end p.rest) _
+      (else_sound level inner k (locals_after_all m locals (terms_of ts)) end p.rest g.2) (λ e o.
       let x : List ℕ = 0xA0 ∷ (g.0.len ++ p.content) in
       let y = o.0.front in (
         record {
           front = x ++ y;
           spells = record {
-            spells = (w.0.front, v.1, x, y, w.0.spells.stands, w.0.spells.spells, t.are, subst (λ content. Packs (0xA0 ∷ []) content x) w.0.whole (record { len = g.0.len; spells_len = g.0.spells_len; whole = refl }), o.0.spells.spells, refl);
+            spells = (
+              w.0.front,
+              v.1,
+              x,
+              y,
+              w.0.spells.stands,
+              w.0.spells.spells,
+              t.are,
+              subst (λ content. Packs (0xA0 ∷ []) content x) w.0.whole (record { len = g.0.len; spells_len = g.0.spells_len; whole = refl }),
+              o.0.spells.spells,
+              refl,
+            );
             within = omega (arith, w.0.spells.within, t.within, o.0.spells.within);
           };
           whole = is ∙ ap (λ (l : List ℕ). 0xA0 ∷ l) (g.0.whole ∙ sym (append_assoc g.0.len p.content p.rest)) ∙ ap (λ (l : List ℕ). x ++ l) o.0.whole ∙ sym (append_assoc x y e.1);
@@ -145,7 +167,8 @@ module _ (m : List Segment) (s : Source) (args : Arguments) where
       )))))
 
   while_sound : (level : ℕ) (locals : Locals) (value : Reader) (inner : Statements) → Inner m s (args locals) level value → InnerStatements level inner
-      → (end : ℕ) (bytes rest : List ℕ) → bytes ≡ 0xA2 ∷ rest → Position s.depth level s.code end rest → Judge (Read s level end (Standing args m (suc level) locals) bytes) (Bad m s) (while_form value inner locals end rest)
+      → (end : ℕ) (bytes rest : List ℕ) → bytes ≡ 0xA2 ∷ rest → Position s.depth level s.code end rest
+      → Judge (Read s level end (Standing args m (suc level) locals) bytes) (Bad m s) (while_form value inner locals end rest)
   unfolding while_form
   while_sound level locals value inner i k end bytes rest is h =
       let Good = Read s level end (Standing args m (suc level) locals) bytes in
@@ -156,7 +179,14 @@ module _ (m : List Segment) (s : Source) (args : Arguments) where
         record {
           front = x;
           spells = record {
-            spells = (w.0.front, v.1, w.0.spells.stands, w.0.spells.spells, t.are, subst (λ content. Packs (0xA2 ∷ []) content x) w.0.whole (record { len = g.0.len; spells_len = g.0.spells_len; whole = refl }));
+            spells = (
+              w.0.front,
+              v.1,
+              w.0.spells.stands,
+              w.0.spells.spells,
+              t.are,
+              subst (λ content. Packs (0xA2 ∷ []) content x) w.0.whole (record { len = g.0.len; spells_len = g.0.spells_len; whole = refl }),
+            );
             within = omega (arith, w.0.spells.within, t.within);
           };
           whole = is ∙ ap (λ (l : List ℕ). 0xA2 ∷ l) (g.0.whole ∙ sym (append_assoc g.0.len p.content p.rest));
@@ -167,7 +197,8 @@ module _ (m : List Segment) (s : Source) (args : Arguments) where
   -- ---- declarations
 
   judge_declared : {A : Type 0} (Good : A → Type 0) (end : ℕ) (bytes : List ℕ) (o : Option (List Segment)) (gs : List Segment) (r : Result A BodyFault)
-      → ((p : List Segment) → o ≡ Some p → 0 < length gs → Judge Good (Bad m s) r) → (o ≡ None → Bad m s (fault_at end bytes BadPlace)) → (length gs ≡ 0 → Bad m s (fault_at end bytes BadPlace)) → Judge Good (Bad m s) (declared_if o gs end bytes r)
+      → ((p : List Segment) → o ≡ Some p → 0 < length gs → Judge Good (Bad m s) r) → (o ≡ None → Bad m s (fault_at end bytes BadPlace))
+      → (length gs ≡ 0 → Bad m s (fault_at end bytes BadPlace)) → Judge Good (Bad m s) (declared_if o gs end bytes r)
   judge_declared Good end bytes None gs r good none nameless = none refl
   judge_declared Good end bytes (Some p) [] r good none nameless = nameless refl
   judge_declared Good end bytes (Some p) (g ∷ gs) r good none nameless = good p refl (omega arith)
@@ -183,19 +214,26 @@ module _ (m : List Segment) (s : Source) (args : Arguments) where
       (λ none. record { name = n.0; spelled = t.0.front; rest = n.1 ++ h.after; here = there; spells = t.0.spells; cannot = inr none })
       (λ nameless. record { name = n.0; spelled = t.0.front; rest = n.1 ++ h.after; here = there; spells = t.0.spells; cannot = inl nameless }))
 
-  named_sound : (level : ℕ) (locals : Locals) (value : Reader) → Inner m s (args locals) level value → (form : NamedForm) (end : ℕ) (bytes rest : List ℕ) → bytes ≡ opcode_bytes (named_opcode form) ++ rest → Position s.depth level s.code end rest
+  named_sound : (level : ℕ) (locals : Locals) (value : Reader) → Inner m s (args locals) level value
+      → (form : NamedForm) (end : ℕ) (bytes rest : List ℕ) → bytes ≡ opcode_bytes (named_opcode form) ++ rest → Position s.depth level s.code end rest
       → Judge (Read s level end (Standing args m (suc level) locals) bytes) (Bad m s) (named_form value m form end rest)
   unfolding named_form
   named_sound level locals value i form end bytes rest is h =
       let Good = Read s level end (Standing args m (suc level) locals) bytes in
       let op = opcode_bytes (named_opcode form) in
-      then_read level end (Operands (args locals) level (operands_before form)) Good rest (operands_at value (operands_before form) end rest) _ (operands_sound m s (args locals) level value i (operands_before form) end rest (before_inner form) h) (λ x b.
+      then_read level end (Operands (args locals) level (operands_before form)) Good rest (operands_at value (operands_before form) end rest) _
+      (operands_sound m s (args locals) level value i (operands_before form) end rest (before_inner form) h) (λ x b.
       then_read level end (Declared m) Good x.1 (declared_at m end x.1) _ (declared_sound level end x.1 b.1) (λ n d.
-      then_read level end (Operands (args locals) level (operands_behind form)) Good n.1 (operands_at value (operands_behind form) end n.1) _ (operands_sound m s (args locals) level value i (operands_behind form) end n.1 (behind_inner form) d.1) (λ y a.
-      let back : rest ≡ (b.0.front ++ (d.0.front ++ a.0.front)) ++ y.1 = b.0.whole ∙ ap (λ (l : List ℕ). b.0.front ++ l) (d.0.whole ∙ ap (λ (l : List ℕ). d.0.front ++ l) a.0.whole) ∙ simp append_assoc in (
+      then_read level end (Operands (args locals) level (operands_behind form)) Good n.1 (operands_at value (operands_behind form) end n.1) _
+      (operands_sound m s (args locals) level value i (operands_behind form) end n.1 (behind_inner form) d.1) (λ y a.
+      let back : rest ≡ (b.0.front ++ (d.0.front ++ a.0.front)) ++ y.1 = b.0.whole
+      ∙ ap (λ (l : List ℕ). b.0.front ++ l) (d.0.whole ∙ ap (λ (l : List ℕ). d.0.front ++ l) a.0.whole) ∙ simp append_assoc in (
         record {
           front = op ++ (b.0.front ++ (d.0.front ++ a.0.front));
-          spells = record { spells = (b.0.front, d.0.front, a.0.front, b.0.spells.are, d.0.spells.may, d.0.spells.spells, a.0.spells.are, refl); within = omega (arith, b.0.spells.within, a.0.spells.within) };
+          spells = record {
+            spells = (b.0.front, d.0.front, a.0.front, b.0.spells.are, d.0.spells.may, d.0.spells.spells, a.0.spells.are, refl);
+            within = omega (arith, b.0.spells.within, a.0.spells.within);
+          };
           whole = is ∙ ap (λ (l : List ℕ). op ++ l) back ∙ sym (append_assoc op (b.0.front ++ (d.0.front ++ a.0.front)) y.1);
         },
         a.1,
@@ -208,11 +246,16 @@ module _ (m : List Segment) (s : Source) (args : Arguments) where
       let Good = Read s level end (AreNames (suc count)) bytes in
       then_read level end SpellsName Good bytes (part (name_in end bytes)) _ (part_sound m s (Read s level end SpellsName bytes) (name_in end bytes) (name_sound s level end bytes h)) (λ n t.
       then_read level end (AreNames count) Good n.1 (names_at count end n.1) _ (names_sound level count end n.1 t.1) (λ ns u. (
-        record { front = t.0.front ++ u.0.front; spells = (ap suc u.0.spells.0, (t.0.front, u.0.front, t.0.spells, u.0.spells.1, refl)); whole = t.0.whole ∙ ap (λ (l : List ℕ). t.0.front ++ l) u.0.whole ∙ sym (append_assoc t.0.front u.0.front ns.1) },
+        record {
+          front = t.0.front ++ u.0.front;
+          spells = (ap suc u.0.spells.0, (t.0.front, u.0.front, t.0.spells, u.0.spells.1, refl));
+          whole = t.0.whole ∙ ap (λ (l : List ℕ). t.0.front ++ l) u.0.whole ∙ sym (append_assoc t.0.front u.0.front ns.1);
+        },
         u.1,
       )))
 
-  units_sound : (level : ℕ) (locals : Locals) (value : Reader) → Inner m s (args locals) level value → (form : UnitsForm) (end : ℕ) (bytes rest : List ℕ) → bytes ≡ opcode_bytes (units_opcode form) ++ rest → Position s.depth level s.code end rest
+  units_sound : (level : ℕ) (locals : Locals) (value : Reader) → Inner m s (args locals) level value
+      → (form : UnitsForm) (end : ℕ) (bytes rest : List ℕ) → bytes ≡ opcode_bytes (units_opcode form) ++ rest → Position s.depth level s.code end rest
       → Judge (Read s level end (Standing args m (suc level) locals) bytes) (Bad m s) (units_form value form end rest)
   unfolding units_form
   units_sound level locals value i form end bytes rest is h =
@@ -220,14 +263,24 @@ module _ (m : List Segment) (s : Source) (args : Arguments) where
       let op = opcode_bytes (units_opcode form) in
       opened level end rest Good _ h (λ p g.
       then_read level p.end (AreNames (names_of_units form)) Good p.content (names_at (names_of_units form) p.end p.content) _ (names_sound level (names_of_units form) p.end p.content g.1) (λ ns n.
-      then_read level p.end (Operands (args locals) level (operands_of_units form)) Good ns.1 (operands_at value (operands_of_units form) p.end ns.1) _ (operands_sound m s (args locals) level value i (operands_of_units form) p.end ns.1 (units_inner form) n.1) (λ vs v.
+      then_read level p.end (Operands (args locals) level (operands_of_units form)) Good ns.1 (operands_at value (operands_of_units form) p.end ns.1)
+      _ (operands_sound m s (args locals) level value i (operands_of_units form) p.end ns.1 (units_inner form) n.1) (λ vs v.
       judge_bind (λ es. SpellsFields es vs.1) Good (Bad m s) (fields_in p.end vs.1) _ (fields_sound m s level p.end vs.1 v.1) (λ es e.
       let content : p.content ≡ n.0.front ++ (v.0.front ++ vs.1) = n.0.whole ∙ ap (λ (l : List ℕ). n.0.front ++ l) v.0.whole in
       let x : List ℕ = op ++ (g.0.len ++ p.content) in (
         record {
           front = x;
           spells = record {
-            spells = (n.0.front, v.0.front, vs.1, n.0.spells.0, n.0.spells.1, v.0.spells.are, e, subst (λ content. Packs op content x) content (record { len = g.0.len; spells_len = g.0.spells_len; whole = refl }));
+            spells = (
+              n.0.front,
+              v.0.front,
+              vs.1,
+              n.0.spells.0,
+              n.0.spells.1,
+              v.0.spells.are,
+              e,
+              subst (λ content. Packs op content x) content (record { len = g.0.len; spells_len = g.0.spells_len; whole = refl }),
+            );
             within = omega (arith, v.0.spells.within);
           };
           whole = is ∙ ap (λ (l : List ℕ). op ++ l) (g.0.whole ∙ sym (append_assoc g.0.len p.content p.rest)) ∙ sym (append_assoc op (g.0.len ++ p.content) p.rest);
@@ -245,8 +298,12 @@ module _ (m : List Segment) (s : Source) (args : Arguments) where
   as_statement locals (declare_units form ns vs es) a st h = absurd h
   as_statement locals _ a st h = (st, h)
 
-  up : (level end : ℕ) (locals : Locals) (bytes : List ℕ) (r : Reading BodyFault TermTree) → Judge (Read s level end (Standing args m (suc level) locals) bytes) (Bad m s) r → Judge (Read s (suc level) end (Standing args m (suc level) locals) bytes) (Bad m s) r
-  up level end locals bytes r h = judge_into (Read s level end (Standing args m (suc level) locals) bytes) (Read s (suc level) end (Standing args m (suc level) locals) bytes) (Bad m s) (Bad m s) r (λ x g. (g.0, position_up s level end x.1 g.1)) (λ f b. b) h
+  up : (level end : ℕ) (locals : Locals) (bytes : List ℕ) (r : Reading BodyFault TermTree)
+      → Judge (Read s level end (Standing args m (suc level) locals) bytes) (Bad m s) r
+      → Judge (Read s (suc level) end (Standing args m (suc level) locals) bytes) (Bad m s) r
+  up level end locals bytes r h = judge_into (Read s level end (Standing args m (suc level) locals) bytes)
+      (Read s (suc level) end (Standing args m (suc level) locals) bytes) (Bad m s) (Bad m s) r
+      (λ x g. (g.0, position_up s level end x.1 g.1)) (λ f b. b) h
 
   below : (level end : ℕ) (bytes rest : List ℕ) (x : Opcode) → Position s.depth (suc level) s.code end bytes → (o : Opened bytes (x, rest)) → Position s.depth level s.code end rest
   below level end bytes rest x h o = position_deeper s level end bytes o.front rest o.whole o.some h
@@ -254,39 +311,81 @@ module _ (m : List Segment) (s : Source) (args : Arguments) where
   opening : (o : Opcode) (bytes front rest : List ℕ) → bytes ≡ front ++ rest → front ≡ opcode_bytes o → bytes ≡ opcode_bytes o ++ rest
   opening o bytes front rest is e = is ∙ ap (λ (l : List ℕ). l ++ rest) e
 
-  plain_sound : (level : ℕ) (locals : Locals) (end : ℕ) (bytes rest : List ℕ) (x : Opcode) → (is_block x && is_none (refusal_at Statement x)) ≡ false → Position s.depth (suc level) s.code end bytes → Opened bytes (x, rest)
+  plain_sound : (level : ℕ) (locals : Locals) (end : ℕ) (bytes rest : List ℕ) (x : Opcode) → (is_block x && is_none (refusal_at Statement x)) ≡ false
+      → Position s.depth (suc level) s.code end bytes → Opened bytes (x, rest)
       → Judge (Read s (suc level) end (Standing args m (suc level) locals) bytes) (Bad m s) (placed_by (args locals) (term_at (args locals) level) Statement end bytes x rest)
   plain_sound level locals end bytes rest x clear h o =
-      judge_into (Read s (suc level) end (Within (args locals) (suc level) Statement) bytes) (Read s (suc level) end (Standing args m (suc level) locals) bytes) (Bad m s) (Bad m s) (placed_by (args locals) (term_at (args locals) level) Statement end bytes x rest)
-      (λ y g. (record { front = g.0.front; spells = record { spells = as_statement locals y.0 g.0.front g.0.spells.stands g.0.spells.spells; within = g.0.spells.within }; whole = g.0.whole }, g.1)) (λ f b. b)
+      judge_into (Read s (suc level) end (Within (args locals) (suc level) Statement) bytes)
+      (Read s (suc level) end (Standing args m (suc level) locals) bytes) (Bad m s) (Bad m s)
+      (placed_by (args locals) (term_at (args locals) level) Statement end bytes x rest)
+      (λ y g. (
+        record {
+          front = g.0.front;
+          spells = record {
+            spells = as_statement locals y.0 g.0.front g.0.spells.stands g.0.spells.spells;
+            within = g.0.spells.within;
+          };
+          whole = g.0.whole;
+        },
+        g.1,
+      )) (λ f b. b)
       (placed_sound m s (args locals) level (term_at (args locals) level) (term_sound m s (args locals) level) Statement end bytes rest x clear h o)
 
   abbrev StatementBy : ℕ → Locals → Statements → ℕ → List ℕ → List ℕ → Opcode → Type 0
-  StatementBy level locals inner end bytes rest x = Judge (Read s (suc level) end (Standing args m (suc level) locals) bytes) (Bad m s) (statement_by (args locals) (term_at (args locals) level) inner m locals end bytes x rest)
+  StatementBy level locals inner end bytes rest x = Judge (Read s (suc level) end (Standing args m (suc level) locals) bytes) (Bad m s)
+      (statement_by (args locals) (term_at (args locals) level) inner m locals end bytes x rest)
 
-  by_sound : (level : ℕ) (locals : Locals) (inner : Statements) → InnerStatements level inner → (end : ℕ) (bytes rest : List ℕ) (x : Opcode) → Position s.depth (suc level) s.code end bytes → Opened bytes (x, rest) → StatementBy level locals inner end bytes rest x
+  by_sound : (level : ℕ) (locals : Locals) (inner : Statements) → InnerStatements level inner → (end : ℕ) (bytes rest : List ℕ) (x : Opcode)
+      → Position s.depth (suc level) s.code end bytes → Opened bytes (x, rest) → StatementBy level locals inner end bytes rest x
   unfolding statement_by
-  by_sound level locals inner k end bytes rest opcodes.If h o = up level end locals bytes _ (if_sound level locals (term_at (args locals) level) inner (term_sound m s (args locals) level) k end bytes rest (opening opcodes.If bytes o.front rest o.whole o.told.1) (below level end bytes rest opcodes.If h o))
-  by_sound level locals inner k end bytes rest opcodes.While h o = up level end locals bytes _ (while_sound level locals (term_at (args locals) level) inner (term_sound m s (args locals) level) k end bytes rest (opening opcodes.While bytes o.front rest o.whole o.told.1) (below level end bytes rest opcodes.While h o))
-  by_sound level locals inner k end bytes rest opcodes.DeclareName h o = up level end locals bytes _ (named_sound level locals (term_at (args locals) level) (term_sound m s (args locals) level) named.Name end bytes rest (opening opcodes.DeclareName bytes o.front rest o.whole o.told.1) (below level end bytes rest opcodes.DeclareName h o))
-  by_sound level locals inner k end bytes rest (opcodes.Create w) h o = up level end locals bytes _ (named_sound level locals (term_at (args locals) level) (term_sound m s (args locals) level) (named.Create w) end bytes rest (opening (opcodes.Create w) bytes o.front rest o.whole o.told.1) (below level end bytes rest (opcodes.Create w) h o))
-  by_sound level locals inner k end bytes rest opcodes.CreateField h o = up level end locals bytes _ (named_sound level locals (term_at (args locals) level) (term_sound m s (args locals) level) named.CreateField end bytes rest (opening opcodes.CreateField bytes o.front rest o.whole o.told.1) (below level end bytes rest opcodes.CreateField h o))
-  by_sound level locals inner k end bytes rest opcodes.Region h o = up level end locals bytes _ (named_sound level locals (term_at (args locals) level) (term_sound m s (args locals) level) named.Region end bytes rest (opening opcodes.Region bytes o.front rest o.whole o.told.1) (below level end bytes rest opcodes.Region h o))
-  by_sound level locals inner k end bytes rest opcodes.Mutex h o = up level end locals bytes _ (named_sound level locals (term_at (args locals) level) (term_sound m s (args locals) level) named.Mutex end bytes rest (opening opcodes.Mutex bytes o.front rest o.whole o.told.1) (below level end bytes rest opcodes.Mutex h o))
-  by_sound level locals inner k end bytes rest opcodes.Event h o = up level end locals bytes _ (named_sound level locals (term_at (args locals) level) (term_sound m s (args locals) level) named.Event end bytes rest (opening opcodes.Event bytes o.front rest o.whole o.told.1) (below level end bytes rest opcodes.Event h o))
-  by_sound level locals inner k end bytes rest opcodes.Field h o = up level end locals bytes _ (units_sound level locals (term_at (args locals) level) (term_sound m s (args locals) level) units.Field end bytes rest (opening opcodes.Field bytes o.front rest o.whole o.told.1) (below level end bytes rest opcodes.Field h o))
-  by_sound level locals inner k end bytes rest opcodes.IndexField h o = up level end locals bytes _ (units_sound level locals (term_at (args locals) level) (term_sound m s (args locals) level) units.IndexField end bytes rest (opening opcodes.IndexField bytes o.front rest o.whole o.told.1) (below level end bytes rest opcodes.IndexField h o))
-  by_sound level locals inner k end bytes rest opcodes.BankField h o = up level end locals bytes _ (units_sound level locals (term_at (args locals) level) (term_sound m s (args locals) level) units.BankField end bytes rest (opening opcodes.BankField bytes o.front rest o.whole o.told.1) (below level end bytes rest opcodes.BankField h o))
+  by_sound level locals inner k end bytes rest opcodes.If h o = up level end locals bytes _
+      (if_sound level locals (term_at (args locals) level) inner (term_sound m s (args locals) level) k end bytes rest
+      (opening opcodes.If bytes o.front rest o.whole o.told.1) (below level end bytes rest opcodes.If h o))
+  by_sound level locals inner k end bytes rest opcodes.While h o = up level end locals bytes _
+      (while_sound level locals (term_at (args locals) level) inner (term_sound m s (args locals) level) k end bytes rest
+      (opening opcodes.While bytes o.front rest o.whole o.told.1) (below level end bytes rest opcodes.While h o))
+  by_sound level locals inner k end bytes rest opcodes.DeclareName h o =
+      up level end locals bytes _ (named_sound level locals (term_at (args locals) level) (term_sound m s (args locals) level) named.Name end bytes
+      rest (opening opcodes.DeclareName bytes o.front rest o.whole o.told.1) (below level end bytes rest opcodes.DeclareName h o))
+  by_sound level locals inner k end bytes rest (opcodes.Create w) h o =
+      up level end locals bytes _ (named_sound level locals (term_at (args locals) level) (term_sound m s (args locals) level) (named.Create w) end
+      bytes rest (opening (opcodes.Create w) bytes o.front rest o.whole o.told.1) (below level end bytes rest (opcodes.Create w) h o))
+  by_sound level locals inner k end bytes rest opcodes.CreateField h o =
+      up level end locals bytes _ (named_sound level locals (term_at (args locals) level) (term_sound m s (args locals) level) named.CreateField end
+      bytes rest (opening opcodes.CreateField bytes o.front rest o.whole o.told.1) (below level end bytes rest opcodes.CreateField h o))
+  by_sound level locals inner k end bytes rest opcodes.Region h o = up level end locals bytes _
+      (named_sound level locals (term_at (args locals) level) (term_sound m s (args locals) level) named.Region end bytes rest
+      (opening opcodes.Region bytes o.front rest o.whole o.told.1) (below level end bytes rest opcodes.Region h o))
+  by_sound level locals inner k end bytes rest opcodes.Mutex h o = up level end locals bytes _
+      (named_sound level locals (term_at (args locals) level) (term_sound m s (args locals) level) named.Mutex end bytes rest
+      (opening opcodes.Mutex bytes o.front rest o.whole o.told.1) (below level end bytes rest opcodes.Mutex h o))
+  by_sound level locals inner k end bytes rest opcodes.Event h o = up level end locals bytes _
+      (named_sound level locals (term_at (args locals) level) (term_sound m s (args locals) level) named.Event end bytes rest
+      (opening opcodes.Event bytes o.front rest o.whole o.told.1) (below level end bytes rest opcodes.Event h o))
+  by_sound level locals inner k end bytes rest opcodes.Field h o = up level end locals bytes _
+      (units_sound level locals (term_at (args locals) level) (term_sound m s (args locals) level) units.Field end bytes rest
+      (opening opcodes.Field bytes o.front rest o.whole o.told.1) (below level end bytes rest opcodes.Field h o))
+  by_sound level locals inner k end bytes rest opcodes.IndexField h o =
+      up level end locals bytes _ (units_sound level locals (term_at (args locals) level) (term_sound m s (args locals) level) units.IndexField end
+      bytes rest (opening opcodes.IndexField bytes o.front rest o.whole o.told.1) (below level end bytes rest opcodes.IndexField h o))
+  by_sound level locals inner k end bytes rest opcodes.BankField h o =
+      up level end locals bytes _ (units_sound level locals (term_at (args locals) level) (term_sound m s (args locals) level) units.BankField end
+      bytes rest (opening opcodes.BankField bytes o.front rest o.whole o.told.1) (below level end bytes rest opcodes.BankField h o))
   by_sound level locals inner k end bytes rest x h o = plain_sound level locals end bytes rest x refl h o
 
-  pub statement_sound : (level : ℕ) (locals : Locals) (end : ℕ) (bytes : List ℕ) → Position s.depth level s.code end bytes → Judge (Read s level end (Standing args m level locals) bytes) (Bad m s) (statement_at args m level locals end bytes)
+  pub statement_sound : (level : ℕ) (locals : Locals) (end : ℕ) (bytes : List ℕ) → Position s.depth level s.code end bytes
+      → Judge (Read s level end (Standing args m level locals) bytes) (Bad m s) (statement_at args m level locals end bytes)
   unfolding statement_at
   statement_sound zero locals end bytes h = part_bad m s _ (no_level_shows s end bytes h)
   statement_sound (suc level) locals end bytes h =
-      judge_bind (Opened bytes) (Read s (suc level) end (Standing args m (suc level) locals) bytes) (Bad m s) (part (opcode_at end bytes)) _ (part_sound m s (Opened bytes) (opcode_at end bytes) (opcode_sound s (suc level) end bytes h)) (λ x o.
+      judge_bind (Opened bytes) (Read s (suc level) end (Standing args m (suc level) locals) bytes) (Bad m s) (part (opcode_at end bytes)) _
+      (part_sound m s (Opened bytes) (opcode_at end bytes) (opcode_sound s (suc level) end bytes h)) (λ x o.
       by_sound level locals (statements_at args m level)
-      (λ locals end bytes k. statements_sound_with level end (λ locals. statement_at args m level locals end) (λ locals bytes j. statement_sound level locals end bytes j) (length bytes) locals bytes (omega arith) k)
+      (λ locals end bytes k. statements_sound_with level end (λ locals. statement_at args m level locals end)
+      (λ locals bytes j. statement_sound level locals end bytes j) (length bytes) locals bytes (omega arith) k)
       end bytes x.1 x.0 h o)
 
-  pub statements_sound : (level : ℕ) (locals : Locals) (end : ℕ) (bytes : List ℕ) → Position s.depth level s.code end bytes → Judge (AreStanding args m level locals bytes) (Bad m s) (statements_at args m level locals end bytes)
-  statements_sound level locals end bytes h = statements_sound_with level end (λ locals. statement_at args m level locals end) (λ locals bytes j. statement_sound level locals end bytes j) (length bytes) locals bytes (omega arith) h
+  pub statements_sound : (level : ℕ) (locals : Locals) (end : ℕ) (bytes : List ℕ) → Position s.depth level s.code end bytes
+      → Judge (AreStanding args m level locals bytes) (Bad m s) (statements_at args m level locals end bytes)
+  statements_sound level locals end bytes h = statements_sound_with level end (λ locals. statement_at args m level locals end)
+      (λ locals bytes j. statement_sound level locals end bytes j) (length bytes) locals bytes (omega arith) h

@@ -88,17 +88,21 @@ string_made : (end : ℕ) (text bytes rest : List ℕ) → string_at end bytes �
 unfolding string_form
 string_made end text bytes rest h = rw h refl
 
-buffer_made : (inner : Reader) (end : ℕ) (size : TermTree) (s content len rest : List ℕ) → inner Value (end - length rest) (s ++ content) ≡ Ok (size, content) → SpellsPkgLength (length len + length (s ++ content)) len
+buffer_made : (inner : Reader) (end : ℕ) (size : TermTree) (s content len rest : List ℕ)
+    → inner Value (end - length rest) (s ++ content) ≡ Ok (size, content) → SpellsPkgLength (length len + length (s ++ content)) len
     → buffer_form inner end (len ++ ((s ++ content) ++ rest)) ≡ Ok (buffer size content, rest)
 unfolding buffer_form
 buffer_made inner end size s content len rest i h = rw (package_complete end len (s ++ content) rest h, i) refl
 
-package_made : (inner : Reader) (end count : ℕ) (es : List TermTree) (b len rest : List ℕ) → each_at (inner Element (end - length rest)) b ≡ Ok es → SpellsPkgLength (length len + length (count ∷ b)) len
+package_made : (inner : Reader) (end count : ℕ) (es : List TermTree) (b len rest : List ℕ) → each_at (inner Element (end - length rest)) b ≡ Ok es
+    → SpellsPkgLength (length len + length (count ∷ b)) len
     → package_form inner end (len ++ ((count ∷ b) ++ rest)) ≡ Ok (pkg count (terms_of es), rest)
 unfolding package_form
 package_made inner end count es b len rest all h = rw (package_complete end len (count ∷ b) rest h, byte_complete (end - length rest) count b, all) refl
 
-var_package_made : (inner : Reader) (end : ℕ) (count : TermTree) (es : List TermTree) (s b len rest : List ℕ) → inner Value (end - length rest) (s ++ b) ≡ Ok (count, b) → each_at (inner Element (end - length rest)) b ≡ Ok es → SpellsPkgLength (length len + length (s ++ b)) len
+var_package_made : (inner : Reader) (end : ℕ) (count : TermTree) (es : List TermTree) (s b len rest : List ℕ)
+    → inner Value (end - length rest) (s ++ b) ≡ Ok (count, b) → each_at (inner Element (end - length rest)) b ≡ Ok es
+    → SpellsPkgLength (length len + length (s ++ b)) len
     → var_package_form inner end (len ++ ((s ++ b) ++ rest)) ≡ Ok (var_pkg count (terms_of es), rest)
 unfolding var_package_form
 var_package_made inner end count es s b len rest i all h = rw (package_complete end len (s ++ b) rest h, i, all) refl
@@ -107,12 +111,14 @@ ref_made : (args : NameParts → ℕ) (inner : Reader) (p : Place) (end : ℕ) (
 unfolding name_form
 ref_made args inner p end n w y c h = rw (name_in_complete end n w y h.0, c) refl
 
-call_made : (args : NameParts → ℕ) (inner : Reader) (p : Place) (end : ℕ) (n : NameParts) (vs : List TermTree) (w y rest : List ℕ) → calls p ≡ true → SpellsTermName n w → operands_at inner (values (args n)) end y ≡ Ok (vs, rest)
+call_made : (args : NameParts → ℕ) (inner : Reader) (p : Place) (end : ℕ) (n : NameParts) (vs : List TermTree) (w y rest : List ℕ) → calls p ≡ true
+    → SpellsTermName n w → operands_at inner (values (args n)) end y ≡ Ok (vs, rest)
     → name_form args inner p end (w ++ y) ≡ Ok (call n (terms_of vs), rest)
 unfolding name_form
 call_made args inner p end n vs w y rest c h o = rw (name_in_complete end n w y h.0, c, o) refl
 
-operator_made : (inner : Reader) (op : Op) (end : ℕ) (vs : List TermTree) (bytes rest : List ℕ) → operands_at inner (operands_of op) end bytes ≡ Ok (vs, rest) → operator_form inner op end bytes ≡ Ok (apply op (terms_of vs), rest)
+operator_made : (inner : Reader) (op : Op) (end : ℕ) (vs : List TermTree) (bytes rest : List ℕ)
+    → operands_at inner (operands_of op) end bytes ≡ Ok (vs, rest) → operator_form inner op end bytes ≡ Ok (apply op (terms_of vs), rest)
 unfolding operator_form
 operator_made inner op end vs bytes rest o = rw o refl
 
@@ -122,11 +128,13 @@ operator_made inner op end vs bytes rest o = rw o refl
 abbrev pub Leads : (NameParts → ℕ) → ℕ → Place → ℕ → List ℕ → TermTree → List ℕ → Type 0
 Leads args level p end bytes t rest = (r : List ℕ) × (opcode_at end bytes ≡ Ok (lead_of t, r)) × (form_by args (term_at args level) p end bytes (lead_of t) r ≡ Ok (t, rest))
 
-pub placed_made : (args : NameParts → ℕ) (inner : Reader) (p : Place) (end : ℕ) (bytes r : List ℕ) (o : Opcode) (x : TermTree × List ℕ) → refusal_at p o ≡ None → form_by args inner p end bytes o r ≡ Ok x → placed_by args inner p end bytes o r ≡ Ok x
+pub placed_made : (args : NameParts → ℕ) (inner : Reader) (p : Place) (end : ℕ) (bytes r : List ℕ) (o : Opcode) (x : TermTree × List ℕ)
+    → refusal_at p o ≡ None → form_by args inner p end bytes o r ≡ Ok x → placed_by args inner p end bytes o r ≡ Ok x
 unfolding placed_by
 placed_made args inner p end bytes r o x ok h = rw ok h
 
-pub term_made : (args : NameParts → ℕ) (level : ℕ) (p : Place) (end : ℕ) (bytes : List ℕ) (t : TermTree) (rest : List ℕ) → Allowed p t → height t ≤ level → ((l : ℕ) → height t ≤ suc l → Leads args l p end bytes t rest) → term_at args level p end bytes ≡ Ok (t, rest)
+pub term_made : (args : NameParts → ℕ) (level : ℕ) (p : Place) (end : ℕ) (bytes : List ℕ) (t : TermTree) (rest : List ℕ) → Allowed p t
+    → height t ≤ level → ((l : ℕ) → height t ≤ suc l → Leads args l p end bytes t rest) → term_at args level p end bytes ≡ Ok (t, rest)
 unfolding term_at
 term_made args zero p end bytes t rest a le leads = absurd (omega (arith, suits_high p t a.suits))
 term_made args (suc level) p end bytes t rest a le leads =
@@ -142,7 +150,8 @@ name_leads end n w rest h = by_bytes w (name_long n w h.0) h.1
 
 -- ---- operands
 
-raw_complete : (args : NameParts → ℕ) (j end : ℕ) (t : TermTree) (a rest : List ℕ) (read : Reading _ ℕ) → is_raw j t ≡ true → Spells args t a → ((n : ℕ) → SpellsNumber j n a → read ≡ Ok (n, rest)) → as_raw j read ≡ Ok (t, rest)
+raw_complete : (args : NameParts → ℕ) (j end : ℕ) (t : TermTree) (a rest : List ℕ) (read : Reading _ ℕ) → is_raw j t ≡ true → Spells args t a
+    → ((n : ℕ) → SpellsNumber j n a → read ≡ Ok (n, rest)) → as_raw j read ≡ Ok (t, rest)
 raw_complete args j end (raw k n) a rest read is h again =
     let same : k ≡ j = eqb-true k j is in
     rw (again n (subst (λ k. SpellsNumber k n a) same h)) (ap (λ k. Ok (raw k n, rest)) (sym same))
@@ -167,7 +176,9 @@ super_is_target args level end (b ∷ rest) x e = by_test (eqb b 0) refl
     by_test true t = absurd (no_zero args level end rest x (ap (λ k. term_at args level SuperName end (k ∷ rest)) (sym (eqb-true b 0 t)) ∙ e))
     by_test false t = e
 
-operand_complete : (args : NameParts → ℕ) (level end : ℕ) (k : OperandKind) (t : TermTree) (a rest : List ℕ) → ((p : Place) → Stands p t → term_at args level p end (a ++ rest) ≡ Ok (t, rest)) → StandsFor k t → Spells args t a → operand_at (term_at args level) k end (a ++ rest) ≡ Ok (t, rest)
+operand_complete : (args : NameParts → ℕ) (level end : ℕ) (k : OperandKind) (t : TermTree) (a rest : List ℕ)
+    → ((p : Place) → Stands p t → term_at args level p end (a ++ rest) ≡ Ok (t, rest)) → StandsFor k t → Spells args t a
+    → operand_at (term_at args level) k end (a ++ rest) ≡ Ok (t, rest)
 unfolding operand_at
 operand_complete args level end (At p) t a rest again st h = again p st
 operand_complete args level end Target no_target a rest again st h = rw h refl
@@ -176,7 +187,9 @@ operand_complete args level end Byte t a rest again st h = raw_complete args 1 e
 operand_complete args level end Word t a rest again st h = raw_complete args 2 end t a rest (number_at 2 end (a ++ rest)) st h (λ n k. number_complete 2 n end a rest k)
 operand_complete args level end DWord t a rest again st h = raw_complete args 4 end t a rest (number_at 4 end (a ++ rest)) st h (λ n k. number_complete 4 n end a rest k)
 
-operands_step : (inner : Reader) (end : ℕ) (k : OperandKind) (ks : List OperandKind) (t : TermTree) (ts : List TermTree) (bytes after rest : List ℕ) → operand_at inner k end bytes ≡ Ok (t, after) → operands_at inner ks end after ≡ Ok (ts, rest) → operands_at inner (k ∷ ks) end bytes ≡ Ok (t ∷ ts, rest)
+operands_step : (inner : Reader) (end : ℕ) (k : OperandKind) (ks : List OperandKind) (t : TermTree) (ts : List TermTree) (bytes after rest : List ℕ)
+    → operand_at inner k end bytes ≡ Ok (t, after) → operands_at inner ks end after ≡ Ok (ts, rest)
+    → operands_at inner (k ∷ ks) end bytes ≡ Ok (t ∷ ts, rest)
 unfolding operands_at
 operands_step inner end k ks t ts bytes after rest h o = rw (h, o) refl
 
@@ -187,25 +200,33 @@ operands_end inner end b rest e = rw e refl
 mutual
   unfolding form_by
 
-  pub form_complete : (args : NameParts → ℕ) (t : TermTree) (level : ℕ) (p : Place) (end : ℕ) (b rest : List ℕ) → Allowed p t → Spells args t b → height t ≤ suc level → Leads args level p end (b ++ rest) t rest
+  pub form_complete : (args : NameParts → ℕ) (t : TermTree) (level : ℕ) (p : Place) (end : ℕ) (b rest : List ℕ) → Allowed p t → Spells args t b
+      → height t ≤ suc level → Leads args level p end (b ++ rest) t rest
   form_complete args (int i) level p end b rest a h le =
       let o = int_opens i end b rest h in
       (o.0, o.1, constant_made (form_of i) end i o.0 rest o.2)
   form_complete args (str text) level p end b rest a (x, spells, whole) le =
-      let is : b ++ rest ≡ 0x0D ∷ (text ++ 0 ∷ rest) = ap (λ (b : List ℕ). b ++ rest) (whole ∙ ap (λ (x : List ℕ). 0x0D ∷ x) spells.1) ∙ ap (λ (l : List ℕ). 0x0D ∷ l) (append_assoc text (0 ∷ []) rest) in
+      let is : b ++ rest ≡ 0x0D ∷ (text ++ 0 ∷ rest) = ap (λ (b : List ℕ). b ++ rest) (whole ∙ ap (λ (x : List ℕ). 0x0D ∷ x) spells.1)
+      ∙ ap (λ (l : List ℕ). 0x0D ∷ l) (append_assoc text (0 ∷ []) rest) in
       rw is (text ++ 0 ∷ rest, opens end opcodes.Str (text ++ 0 ∷ rest) refl, string_made end text (text ++ 0 ∷ rest) rest (string_complete end text rest spells.0))
   form_complete args (buffer size content) level p end b rest a (s, here, hs, packs) le =
       let is = front_is (0x11 ∷ []) b packs.len (s ++ content) rest packs.whole in
       let al = allowed_at args Value size s here hs in
       let i = term_made args level Value (end - length rest) (s ++ content) size content al (omega arith) (λ l k. form_complete args size l Value (end - length rest) s content al hs k) in
-      rw is (packs.len ++ ((s ++ content) ++ rest), opens end opcodes.Buffer (packs.len ++ ((s ++ content) ++ rest)) refl, buffer_made (term_at args level) end size s content packs.len rest i packs.spells_len)
+      rw is (
+        packs.len ++ ((s ++ content) ++ rest),
+        opens end opcodes.Buffer (packs.len ++ ((s ++ content) ++ rest)) refl,
+        buffer_made (term_at args level) end size s content packs.len rest i packs.spells_len,
+      )
   form_complete args (pkg count es) level p end b rest a (x, hs, packs) le =
       let is = front_is (0x12 ∷ []) b packs.len (count ∷ x) rest packs.whole in
       let all = elements_complete args es level (end - length rest) x hs (omega arith) in
       rw is (
         packs.len ++ ((count ∷ x) ++ rest),
         opens end opcodes.Package (packs.len ++ ((count ∷ x) ++ rest)) refl,
-        package_made (term_at args level) end count (listed es) x packs.len rest (all_at (term_at args level Element (end - length rest)) x (listed es) all) packs.spells_len ∙ ap (λ ts. Ok (pkg count ts, rest)) (terms_of-listed es),
+        package_made (term_at args level) end count (listed es) x packs.len rest
+            (all_at (term_at args level Element (end - length rest)) x (listed es) all) packs.spells_len
+            ∙ ap (λ ts. Ok (pkg count ts, rest)) (terms_of-listed es),
       )
   form_complete args (var_pkg count es) level p end b rest a (s, x, here, hc, hs, packs) le =
       let is = front_is (0x13 ∷ []) b packs.len (s ++ x) rest packs.whole in
@@ -215,7 +236,9 @@ mutual
       rw is (
         packs.len ++ ((s ++ x) ++ rest),
         opens end opcodes.VarPackage (packs.len ++ ((s ++ x) ++ rest)) refl,
-        var_package_made (term_at args level) end count (listed es) s x packs.len rest i (all_at (term_at args level Element (end - length rest)) x (listed es) all) packs.spells_len ∙ ap (λ ts. Ok (var_pkg count ts, rest)) (terms_of-listed es),
+        var_package_made (term_at args level) end count (listed es) s x packs.len rest i
+            (all_at (term_at args level Element (end - length rest)) x (listed es) all) packs.spells_len
+            ∙ ap (λ ts. Ok (var_pkg count ts, rest)) (terms_of-listed es),
       )
   form_complete args (local n) level p end b rest a h le = rw h.0 (rest, opens end (opcodes.Local n) rest (lt-ltb n 8 (omega (arith, h.1))), refl)
   form_complete args (arg n) level p end b rest a h le = rw h.0 (rest, opens end (opcodes.Arg n) rest (lt-ltb n 7 (omega (arith, h.1))), refl)
@@ -230,19 +253,24 @@ mutual
       rw is (l.0, l.1, call_made args (term_at args level) p end n (listed vs) w (x ++ rest) rest a.suits spells o ∙ ap (λ ts. Ok (call n ts, rest)) (terms_of-listed vs))
   form_complete args (apply op vs) level p end b rest a (x, hs, whole) le =
       let is : b ++ rest ≡ operator_bytes op ++ (x ++ rest) = ap (λ (b : List ℕ). b ++ rest) whole ∙ append_assoc (operator_bytes op) x rest in
-      let o = operands_complete args (operands_of op) vs level end x rest hs (omega arith) in
-      (x ++ rest, ap (opcode_at end) is ∙ opens end (opcodes.Operator op) (x ++ rest) refl, operator_made (term_at args level) op end (listed vs) (x ++ rest) rest o ∙ ap (λ ts. Ok (apply op ts, rest)) (terms_of-listed vs))
+      let o = operands_complete args (operands_of op) vs level end x rest hs (omega arith) in (
+        x ++ rest,
+        ap (opcode_at end) is ∙ opens end (opcodes.Operator op) (x ++ rest) refl,
+        operator_made (term_at args level) op end (listed vs) (x ++ rest) rest o ∙ ap (λ ts. Ok (apply op ts, rest)) (terms_of-listed vs),
+      )
   form_complete args no_target level p end b rest a h le = absurd a.suits
   form_complete args (raw k n) level p end b rest a h le = absurd a.suits
   form_complete args _ level p end b rest a h le = absurd h
 
-  pub operands_complete : (args : NameParts → ℕ) (ks : List OperandKind) (ts : TermTrees) (level end : ℕ) (b rest : List ℕ) → AreOperands args ks ts b → heights ts ≤ level → operands_at (term_at args level) ks end (b ++ rest) ≡ Ok (listed ts, rest)
+  pub operands_complete : (args : NameParts → ℕ) (ks : List OperandKind) (ts : TermTrees) (level end : ℕ) (b rest : List ℕ) → AreOperands args ks ts b
+      → heights ts ≤ level → operands_at (term_at args level) ks end (b ++ rest) ≡ Ok (listed ts, rest)
   operands_complete args [] no_terms level end b rest h le = operands_end (term_at args level) end b rest h
   operands_complete args (k ∷ ks) no_terms level end b rest h le = absurd h
   operands_complete args [] (more t ts) level end b rest h le = absurd h
   operands_complete args (k ∷ ks) (more t ts) level end b rest (x, y, st, hx, hy, whole) le =
       let is : b ++ rest ≡ x ++ (y ++ rest) = ap (λ (b : List ℕ). b ++ rest) whole ∙ append_assoc x y rest in
-      let one = operand_complete args level end k t x (y ++ rest) (λ p here. let al = allowed_at args p t x here hx in term_made args level p end (x ++ (y ++ rest)) t (y ++ rest) al (omega arith) (λ l j. form_complete args t l p end x (y ++ rest) al hx j)) st hx in
+      let one = operand_complete args level end k t x (y ++ rest) (λ p here. let al = allowed_at args p t x here hx in term_made args level p end
+      (x ++ (y ++ rest)) t (y ++ rest) al (omega arith) (λ l j. form_complete args t l p end x (y ++ rest) al hx j)) st hx in
       rw is (operands_step (term_at args level) end k ks t (listed ts) (x ++ (y ++ rest)) (y ++ rest) rest one (operands_complete args ks ts level end y rest hy (omega arith)))
 
   elements_complete : (args : NameParts → ℕ) (ts : TermTrees) (level end : ℕ) (b : List ℕ) → AreElements args ts b → heights ts ≤ level → AreAll (term_at args level Element end) b (listed ts)
@@ -252,7 +280,8 @@ mutual
       rw whole (one_more (term_at args level Element end) x y t (listed ts) (spelled_long args Element t x al.suits hx)
       (term_made args level Element end (x ++ y) t y al (omega arith) (λ l j. form_complete args t l Element end x y al hx j)) (elements_complete args ts level end y hy (omega arith)))
 
-pub term_complete : (args : NameParts → ℕ) (t : TermTree) (level : ℕ) (p : Place) (end : ℕ) (b rest : List ℕ) → Stands p t → Spells args t b → height t ≤ level → term_at args level p end (b ++ rest) ≡ Ok (t, rest)
+pub term_complete : (args : NameParts → ℕ) (t : TermTree) (level : ℕ) (p : Place) (end : ℕ) (b rest : List ℕ) → Stands p t → Spells args t b
+    → height t ≤ level → term_at args level p end (b ++ rest) ≡ Ok (t, rest)
 term_complete args t level p end b rest st h le =
     let al = allowed_at args p t b st h in
     term_made args level p end (b ++ rest) t rest al le (λ l k. form_complete args t l p end b rest al h k)

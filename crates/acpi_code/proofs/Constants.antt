@@ -59,7 +59,8 @@ SpellsRest form i bytes = SpellsInt i (opcode_bytes (opcodes.Constant form) ++ b
 none_read : (s : Source) (level end : ℕ) (Spells : Int → List ℕ → Type 0) (i : Int) (bytes : List ℕ) → Position s.depth level s.code end bytes → Spells i [] → Read s level end Spells bytes (i, bytes)
 none_read s level end Spells i bytes h k = (record { front = []; spells = k; whole = refl }, h)
 
-pub constant_sound : (s : Source) (level end : ℕ) (form : ConstantForm) (bytes : List ℕ) → Position s.depth level s.code end bytes → Judge (Read s level end (SpellsRest form) bytes) (Shown s) (constant_at form end bytes)
+pub constant_sound : (s : Source) (level end : ℕ) (form : ConstantForm) (bytes : List ℕ) → Position s.depth level s.code end bytes
+    → Judge (Read s level end (SpellsRest form) bytes) (Shown s) (constant_at form end bytes)
 constant_sound s level end forms.Zero bytes h = none_read s level end (SpellsRest forms.Zero) Zero bytes h refl
 constant_sound s level end forms.One bytes h = none_read s level end (SpellsRest forms.One) One bytes h refl
 constant_sound s level end forms.Ones bytes h = none_read s level end (SpellsRest forms.Ones) Ones bytes h refl
@@ -74,8 +75,10 @@ constant_sound s level end forms.QWord bytes h =
     read_as (Shown s) s level end (SpellsNumber 8) (SpellsRest forms.QWord) (λ n. QWord n) bytes (number_at 8 end bytes) (λ n a k. (a, k, refl)) (number_sound s level 8 end bytes h)
 
 -- the constant whose opcode begins the bytes
-pub whole_constant : (s : Source) (level end : ℕ) (form : ConstantForm) (bytes rest : List ℕ) → Position s.depth level s.code end bytes → Opened bytes (opcodes.Constant form, rest) → Judge (Read s level end SpellsInt bytes) (Shown s) (constant_at form end rest)
+pub whole_constant : (s : Source) (level end : ℕ) (form : ConstantForm) (bytes rest : List ℕ) → Position s.depth level s.code end bytes
+    → Opened bytes (opcodes.Constant form, rest) → Judge (Read s level end SpellsInt bytes) (Shown s) (constant_at form end rest)
 whole_constant s level end form bytes rest h o =
     let op = opcode_bytes (opcodes.Constant form) in
     let is : bytes ≡ op ++ rest = o.whole ∙ ap (λ (t : List ℕ). t ++ rest) o.told.1 in
-    read_behind (Shown s) s level end (SpellsRest form) SpellsInt bytes op rest (constant_at form end rest) is (λ i a k. k) (constant_sound s level end form rest (position_after s level end bytes op rest is h))
+    read_behind (Shown s) s level end (SpellsRest form) SpellsInt bytes op rest (constant_at form end rest) is (λ i a k. k)
+    (constant_sound s level end form rest (position_after s level end bytes op rest is h))

@@ -31,7 +31,8 @@ none_yet (Err f) = refl
 pub starts : {A F : Type 0} (one : List ℕ → Reading F A) (bytes : List ℕ) → SoFar one bytes bytes []
 starts one bytes = record { turns = length bytes; enough = omega arith; within = omega arith; told = none_yet (each_at one bytes) }
 
-turn : {A F : Type 0} (one : List ℕ → Reading F A) (n : ℕ) (rest : List ℕ) → length rest ≤ n → 0 < length rest → each_with one n rest ≡ (one rest >>= λ x. each_with one (n - 1) x.1 >>= λ xs. Ok (x.0 ∷ xs))
+turn : {A F : Type 0} (one : List ℕ → Reading F A) (n : ℕ) (rest : List ℕ) → length rest ≤ n → 0 < length rest
+    → each_with one n rest ≡ (one rest >>= λ x. each_with one (n - 1) x.1 >>= λ xs. Ok (x.0 ∷ xs))
 unfolding each_with
 turn one zero [] le h = absurd (omega arith)
 turn one zero (b ∷ rest) le h = absurd (omega arith)
@@ -161,7 +162,8 @@ each_sound {A} s level end Spells Bad one long judged (suc n) (b ∷ rest) le h 
     let t = p.0 in
     let some = long x.0 t.front t.spells in
     let sizes : suc (length rest) ≡ length t.front + length x.1 = ap length t.whole ∙ length-append t.front x.1 in
-    judge_bind (λ xs. SpellsEach Spells xs x.1) G Bad (each_with one n x.1) _ (each_sound s level end Spells Bad one long judged n x.1 (omega arith) p.1) (λ xs q. (t.front, x.1, t.spells, q, t.whole)))
+    judge_bind (λ xs. SpellsEach Spells xs x.1) G Bad (each_with one n x.1) _
+    (each_sound s level end Spells Bad one long judged n x.1 (omega arith) p.1) (λ xs q. (t.front, x.1, t.spells, q, t.whole)))
 
 pub all_sound : {A F : Type 0} (s : Source) (level end : ℕ) (Spells : A → List ℕ → Type 0) (Bad : F → Type 0) (one : List ℕ → Reading F A) → ((x : A) (a : List ℕ) → Spells x a → 0 < length a)
     → ((bytes : List ℕ) → Position s.depth level s.code end bytes → Judge (Read s level end Spells bytes) Bad (one bytes))

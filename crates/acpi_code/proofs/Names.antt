@@ -29,7 +29,8 @@ segment_in_complete end s rest h = rw (segment_again s rest h) refl
 
 -- ---- sound
 
-name_shows : (s : Source) (level end : ℕ) (bytes : List ℕ) (f : NameFault) → Position s.depth level s.code end bytes → name_at bytes ≡ Err f → (f ≡ names.Cut → ⊥) → name_at (drop (end - length bytes) s.code) ≡ Err f
+name_shows : (s : Source) (level end : ℕ) (bytes : List ℕ) (f : NameFault) → Position s.depth level s.code end bytes → name_at bytes ≡ Err f
+    → (f ≡ names.Cut → ⊥) → name_at (drop (end - length bytes) s.code) ≡ Err f
 name_shows s level end bytes f h e other = ap name_at (stands_at s level end bytes h) ∙ name_stays bytes h.after f e other
 
 pub name_sound : (s : Source) (level end : ℕ) (bytes : List ℕ) → Position s.depth level s.code end bytes → Judge (Read s level end SpellsName bytes) (Shown s) (name_in end bytes)
@@ -74,7 +75,8 @@ first_of : (a rest : List ℕ) → 0 < length a → slice_index (a ++ rest) 0 �
 first_of [] rest h = absurd (omega arith)
 first_of (b ∷ a) rest h = refl
 
-pub term_name_sound : (s : Source) (level end : ℕ) (bytes rest : List ℕ) → Position s.depth level s.code end bytes → Opened bytes (opcodes.Name, rest) → Judge (Read s level end SpellsTermName bytes) (Shown s) (name_in end bytes)
+pub term_name_sound : (s : Source) (level end : ℕ) (bytes rest : List ℕ) → Position s.depth level s.code end bytes → Opened bytes (opcodes.Name, rest)
+    → Judge (Read s level end SpellsTermName bytes) (Shown s) (name_in end bytes)
 term_name_sound s level end bytes rest h o =
     judge_into (Read s level end SpellsName bytes) (Read s level end SpellsTermName bytes) (Shown s) (Shown s) (name_in end bytes)
     (λ x r.

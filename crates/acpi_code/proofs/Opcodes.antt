@@ -264,5 +264,6 @@ opcode_sound s level end (b ∷ rest) h =
         record { front = 0x5B ∷ c ∷ []; whole = rw is refl; some = omega arith; is_opcode = λ more. rw is refl; told = extended_told c }
 
 -- what begins there passes a test
-pub begins : (s : Source) (level end : ℕ) (bytes : List ℕ) (x : Opcode × List ℕ) (test : Opcode → Bool) → Position s.depth level s.code end bytes → Opened bytes x → test x.0 ≡ true → Begins test s.code (end - length bytes)
+pub begins : (s : Source) (level end : ℕ) (bytes : List ℕ) (x : Opcode × List ℕ) (test : Opcode → Bool) → Position s.depth level s.code end bytes
+    → Opened bytes x → test x.0 ≡ true → Begins test s.code (end - length bytes)
 begins s level end bytes x test h o passes = (x.0, ap first_opcode (stands_at s level end bytes h) ∙ o.is_opcode h.after, passes)

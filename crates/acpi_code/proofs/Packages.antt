@@ -34,22 +34,30 @@ pub record PackageFront (end : ℕ) (bytes : List ℕ) (p : Package) : Type 0 wh
 abbrev pub GoodPackage : Source → ℕ → ℕ → List ℕ → Package → Type 0
 GoodPackage s level end bytes p = PackageFront end bytes p × Position s.depth level s.code p.end p.content × Position s.depth level s.code end p.rest
 
-inside : (s : Source) (level end : ℕ) (bytes len content rest : List ℕ) → Position s.depth level s.code end bytes → SpellsPkgLength (length len + length content) len → bytes ≡ len ++ (content ++ rest) → 0 < length len
+inside : (s : Source) (level end : ℕ) (bytes len content rest : List ℕ) → Position s.depth level s.code end bytes
+    → SpellsPkgLength (length len + length content) len → bytes ≡ len ++ (content ++ rest) → 0 < length len
     → Position s.depth level s.code (end - length rest) content
 inside s level end bytes len content rest h spells_len whole some =
     let sizes : length bytes ≡ length len + (length content + length rest) = ap length whole ∙ length-append len (content ++ rest) ∙ ap (λ n. length len + n) (length-append content rest) in
     let place : end - length bytes ≡ length h.before = omega (arith, h.ends) in
-    let size : length s.code ≡ length h.before + (length bytes + length h.after) = ap length h.whole ∙ length-append h.before (bytes ++ h.after) ∙ ap (λ n. length h.before + n) (length-append bytes h.after) in
+    let size : length s.code ≡ length h.before + (length bytes + length h.after) = ap length h.whole ∙ length-append h.before (bytes ++ h.after)
+    ∙ ap (λ n. length h.before + n) (length-append bytes h.after) in
     record {
       before = h.before ++ len;
       after = rest ++ h.after;
-      whole = h.whole ∙ ap (λ (y : List ℕ). h.before ++ y) (ap (λ (y : List ℕ). y ++ h.after) whole ∙ append_assoc len (content ++ rest) h.after ∙ ap (λ (y : List ℕ). len ++ y) (append_assoc content rest h.after)) ∙ sym (append_assoc h.before len (content ++ (rest ++ h.after)));
+      whole = h.whole ∙ ap (λ (y : List ℕ). h.before ++ y) (ap (λ (y : List ℕ). y ++ h.after) whole ∙ append_assoc len (content ++ rest) h.after
+          ∙ ap (λ (y : List ℕ). len ++ y) (append_assoc content rest h.after)) ∙ sym (append_assoc h.before len (content ++ (rest ++ h.after)));
       ends = omega (arith, h.ends, length-append h.before len);
       start = length (h.before ++ len);
       is_list = inr (record {
         place = end - length bytes;
         n = length len + length content;
-        stands = record { len = len; rest = (content ++ rest) ++ h.after; here = stands_at s level end bytes h ∙ ap (λ (y : List ℕ). y ++ h.after) whole ∙ append_assoc len (content ++ rest) h.after; spells_len = spells_len };
+        stands = record {
+          len = len;
+          rest = (content ++ rest) ++ h.after;
+          here = stands_at s level end bytes h ∙ ap (λ (y : List ℕ). y ++ h.after) whole ∙ append_assoc len (content ++ rest) h.after;
+          spells_len = spells_len;
+        };
         starts = omega (arith, h.ends, length-append h.before len);
         ends = omega (arith, h.ends);
         ordered = omega (arith, h.ends, length-append h.before len);
@@ -81,12 +89,25 @@ package_sound s level end bytes h =
     let some = length_long n.0 t.front t.spells in
     judge_if (GoodPackage s level end bytes) (Shown s) (ltb n.0 used || ltb (length bytes) n.0) _ _
     (λ bad.
-    let stands : StandsAt s.code (end - length bytes) n.0 = record { len = t.front; rest = n.1 ++ h.after; here = stands_at s level end bytes h ∙ ap (λ (y : List ℕ). y ++ h.after) t.whole ∙ append_assoc t.front n.1 h.after; spells_len = t.spells } in (
+    let stands : StandsAt s.code (end - length bytes) n.0 = record {
+      len = t.front;
+      rest = n.1 ++ h.after;
+      here = stands_at s level end bytes h ∙ ap (λ (y : List ℕ). y ++ h.after) t.whole ∙ append_assoc t.front n.1 h.after;
+      spells_len = t.spells;
+    } in (
       n.0,
       stands,
       elim (or_true (ltb n.0 used) (ltb (length bytes) n.0) bad) [
         | inl low ↦ let lt : n.0 < length bytes - length n.1 = ltb-true _ _ low in inl (omega arith)
-        | inr high ↦ let lt : length bytes < n.0 = ltb-true _ _ high in inr (record { start = h.start; end = end; is_list = h.is_list; begun = omega (arith, h.ends, h.begun); before = omega (arith, h.ends); past = omega (arith, h.ends) })
+        | inr high ↦ let lt : length bytes < n.0 = ltb-true _ _ high in
+            inr (record {
+              start = h.start;
+              end = end;
+              is_list = h.is_list;
+              begun = omega (arith, h.ends, h.begun);
+              before = omega (arith, h.ends);
+              past = omega (arith, h.ends);
+            })
       ],
     ))
     (λ good.

@@ -10,7 +10,8 @@ abbrev pub Judge : {A F : Type 0} → (A → Type 0) → (F → Type 0) → Resu
 Judge Good Bad (Ok x) = Good x
 Judge Good Bad (Err f) = Bad f
 
-pub judge_bind : {A B F : Type 0} (Good : A → Type 0) (Then : B → Type 0) (Bad : F → Type 0) (r : Result A F) (f : A → Result B F) → Judge Good Bad r → ((x : A) → Good x → Judge Then Bad (f x)) → Judge Then Bad (r >>= f)
+pub judge_bind : {A B F : Type 0} (Good : A → Type 0) (Then : B → Type 0) (Bad : F → Type 0) (r : Result A F) (f : A → Result B F) → Judge Good Bad r
+    → ((x : A) → Good x → Judge Then Bad (f x)) → Judge Then Bad (r >>= f)
 judge_bind Good Then Bad (Ok x) f h k = k x h
 judge_bind Good Then Bad (Err d) f h k = h
 
@@ -24,7 +25,8 @@ judge_if Good Bad true x y h k = h refl
 judge_if Good Bad false x y h k = k refl
 
 -- what is judged of a reading is judged of it with its fault told as one of another kind
-pub judge_told : {A F G : Type 0} (Good : A → Type 0) (Bad : F → Type 0) (Bad2 : G → Type 0) (told : F → G) (r : Result A F) → ((f : F) → Bad f → Bad2 (told f)) → Judge Good Bad r → Judge Good Bad2 (with_fault told r)
+pub judge_told : {A F G : Type 0} (Good : A → Type 0) (Bad : F → Type 0) (Bad2 : G → Type 0) (told : F → G) (r : Result A F)
+    → ((f : F) → Bad f → Bad2 (told f)) → Judge Good Bad r → Judge Good Bad2 (with_fault told r)
 judge_told Good Bad Bad2 told (Ok x) b h = h
 judge_told Good Bad Bad2 told (Err f) b h = b f h
 
@@ -83,7 +85,8 @@ position_after s level end bytes front rest is h = record {
 }
 
 -- behind an opcode a level less is left
-pub position_deeper : (s : Source) (level end : ℕ) (bytes front rest : List ℕ) → bytes ≡ front ++ rest → 0 < length front → Position s.depth (suc level) s.code end bytes → Position s.depth level s.code end rest
+pub position_deeper : (s : Source) (level end : ℕ) (bytes front rest : List ℕ) → bytes ≡ front ++ rest → 0 < length front
+    → Position s.depth (suc level) s.code end bytes → Position s.depth level s.code end rest
 unfolding position_after
 position_deeper s level end bytes front rest is some h =
     let k = position_after s (suc level) end bytes front rest is h in
@@ -127,6 +130,7 @@ read_behind Bad s level end Spells Spells2 bytes op rest (Err d) is f h = h
 pub position_up : (s : Source) (level end : ℕ) (bytes : List ℕ) → Position s.depth level s.code end bytes → Position s.depth (suc level) s.code end bytes
 position_up s level end bytes h = record { before = h.before; after = h.after; whole = h.whole; ends = h.ends; start = h.start; is_list = h.is_list; begun = h.begun; deep = omega (arith, h.deep) }
 
-pub judge_up : {A F : Type 0} (Bad : F → Type 0) (s : Source) (level end : ℕ) (Spells : A → List ℕ → Type 0) (bytes : List ℕ) (r : Reading F A) → Judge (Read s level end Spells bytes) Bad r → Judge (Read s (suc level) end Spells bytes) Bad r
+pub judge_up : {A F : Type 0} (Bad : F → Type 0) (s : Source) (level end : ℕ) (Spells : A → List ℕ → Type 0) (bytes : List ℕ) (r : Reading F A)
+    → Judge (Read s level end Spells bytes) Bad r → Judge (Read s (suc level) end Spells bytes) Bad r
 judge_up Bad s level end Spells bytes (Ok x) h = (h.0, position_up s level end x.1 h.1)
 judge_up Bad s level end Spells bytes (Err f) h = h

@@ -44,7 +44,8 @@ no_text : (bytes : List ℕ) (b : ℕ) (rest : List ℕ) → drop (prefix_len is
 no_text [] b rest h = absurd cc
 no_text (c ∷ bytes) b rest h = by_test (no_text bytes b rest) (is_text c) refl h
   where
-    by_test : (drop (prefix_len is_text bytes) bytes ≡ b ∷ rest → is_text b ≡ false) → (t : Bool) → is_text c ≡ t → drop (cond t (1 + prefix_len is_text bytes) 0) (c ∷ bytes) ≡ b ∷ rest → is_text b ≡ false
+    by_test : (drop (prefix_len is_text bytes) bytes ≡ b ∷ rest → is_text b ≡ false) → (t : Bool) → is_text c ≡ t
+        → drop (cond t (1 + prefix_len is_text bytes) 0) (c ∷ bytes) ≡ b ∷ rest → is_text b ≡ false
     by_test more true e h =
         let one : 1 + prefix_len is_text bytes ≡ suc (prefix_len is_text bytes) = omega arith in
         more (ap (λ k. drop k (c ∷ bytes)) (sym one) ∙ h)
@@ -66,7 +67,8 @@ string_sound s level end bytes h =
     let whole : bytes ≡ take n bytes ++ drop n bytes = sym (take-append-drop n bytes) in
     rw k (by_rest (drop n bytes) refl (position_after s level end bytes (take n bytes) (drop n bytes) whole h))
   where
-    by_rest : (rest : List ℕ) → drop (prefix_len is_text bytes) bytes ≡ rest → Position s.depth level s.code end rest → Judge (Read s level end SpellsText bytes) (Shown s) (string_end end (take (prefix_len is_text bytes) bytes) rest)
+    by_rest : (rest : List ℕ) → drop (prefix_len is_text bytes) bytes ≡ rest → Position s.depth level s.code end rest
+        → Judge (Read s level end SpellsText bytes) (Shown s) (string_end end (take (prefix_len is_text bytes) bytes) rest)
     by_rest [] e k = cut_shows s level end [] k
     by_rest (b ∷ rest) e k =
         let n = prefix_len is_text bytes in

@@ -74,13 +74,15 @@ module _ (w : Wants) (objects : Namespace) (s : List Segment) (ns : List NamePar
       let k = (among_filter w (missed (is_defined_in objects) s r.0) p).0 r.2 in
       by ps some r.0 r.1 k.0 k.1
     where
-      by : (ps : List (List Segment)) → ps ≢ [] → (n : NameParts) → Among ns n → Among (missed (is_defined_in objects) s n) p → IsTrue (w p) → IsMissedLink objects (pending_from s ns ps) p × IsTrue (w p)
+      by : (ps : List (List Segment)) → ps ≢ [] → (n : NameParts) → Among ns n → Among (missed (is_defined_in objects) s n) p → IsTrue (w p)
+          → IsMissedLink objects (pending_from s ns ps) p × IsTrue (w p)
       by [] some n j m t = absurd (some refl)
       by (q ∷ ps) some n j m t = ((record { path = q; scope = s; names = ns }, inl refl, n, j, m), t)
 
 -- ---- the links so far, and one more
 
-module _ (asked : Wants) (objects : Namespace) (ws : List PendingLinks) (w : PendingLinks) (before : List (List Segment)) (are : (p : List Segment) → Among before p ↔ (IsMissedLink objects (all_pending_of ws) p × IsTrue (asked p))) where
+module _ (asked : Wants) (objects : Namespace) (ws : List PendingLinks) (w : PendingLinks) (before : List (List Segment))
+    (are : (p : List Segment) → Among before p ↔ (IsMissedLink objects (all_pending_of ws) p × IsTrue (asked p))) where
   earlier : (p : List Segment) → IsMissedLink objects (all_pending_of ws) p → IsMissedLink objects (all_pending_of ws ++ pending_of w) p
   earlier p r = (r.0, among_both (all_pending_of ws) (pending_of w) r.0 (inl r.1), r.2, r.3, r.4)
 
@@ -109,7 +111,8 @@ module _ (asked : Wants) (objects : Namespace) (ws : List PendingLinks) (w : Pen
       to p (inl i) = let r = (are p).0 i in (earlier p r.0, r.1)
       to p (inr i) = let r = from_names asked objects w.scope w.names.items w.paths.items some p i in (this p r.0, r.1)
 
-      from : (p : List Segment) → IsMissedLink objects (all_pending_of ws) p ⊎ IsMissedLink objects (pending_of w) p → IsTrue (asked p) → Among (before ++ misses_from asked objects w.scope w.names.items) p
+      from : (p : List Segment) → IsMissedLink objects (all_pending_of ws) p ⊎ IsMissedLink objects (pending_of w) p → IsTrue (asked p)
+          → Among (before ++ misses_from asked objects w.scope w.names.items) p
       from p (inl r) t = among_both before (misses_from asked objects w.scope w.names.items) p (inl ((are p).1 (r, t)))
       from p (inr r) t = among_both before (misses_from asked objects w.scope w.names.items) p (inr (to_names asked objects w.scope w.names.items w.paths.items p r t))
 

@@ -158,7 +158,8 @@ settles t before inside s p x h e = (refl, sym (inside_now before inside s h), p
 steps_outcome : (t : Pass) (before : List (List Segment)) (inside : Option ℕ) (s : List Segment) (xs : List Step) → Inside before inside s
     → Outcome t before (map (site_in inside) xs) (take_steps t s xs)
 steps_outcome t before inside s [] h = nothing_ran t before
-steps_outcome t before inside s (x ∷ xs) h = by (placed_path x.effect t.objects s x.name) refl (λ p. steps_outcome (after t (placement s x p)) (before ++ p ∷ []) inside s xs (inside_later before (p ∷ []) inside s h))
+steps_outcome t before inside s (x ∷ xs) h = by (placed_path x.effect t.objects s x.name) refl
+    (λ p. steps_outcome (after t (placement s x p)) (before ++ p ∷ []) inside s xs (inside_later before (p ∷ []) inside s h))
   where
     by : (r : Result (List Segment) RefusedAt) → placed_path x.effect t.objects s x.name ≡ r
         → ((p : List Segment) → Outcome (after t (placement s x p)) (before ++ p ∷ []) (map (site_in inside) xs) (take_steps (after t (placement s x p)) s xs))

@@ -27,7 +27,8 @@ pub justified_once : (objects : Namespace) (before : List (List Segment)) (xs : 
 justified_once objects before [] [] [] h k = refl
 justified_once objects before (x ∷ xs) (e ∷ es) (f ∷ fs) h k =
     let same = first_same objects before x e f h.0 h.1 h.2 k.0 k.1 k.2 in
-    ap (λ g. g ∷ es) same ∙ ap (λ gs. f ∷ gs) (justified_once (union objects (object_of f)) (before ++ f.path ∷ []) xs es fs (subst (λ (g : Placement). IsJustified (union objects (object_of g)) (before ++ g.path ∷ []) xs es) same h.3) k.3)
+    ap (λ g. g ∷ es) same ∙ ap (λ gs. f ∷ gs) (justified_once (union objects (object_of f)) (before ++ f.path ∷ []) xs es fs
+    (subst (λ (g : Placement). IsJustified (union objects (object_of g)) (before ++ g.path ∷ []) xs es) same h.3) k.3)
 justified_once objects before [] (e ∷ es) fs h k = absurd h
 justified_once objects before [] [] (f ∷ fs) h k = absurd k
 justified_once objects before (x ∷ xs) [] fs h k = absurd h

@@ -18,7 +18,8 @@ pub record OverOne (depth : ℕ) (dsdt ssdt : List ℕ) (before : List (List Pla
   pub links_are : now.links ≡ pending_links second
   pub notes_are : now.notes ≡ notes_on (union predefined (objects_of first)) second ∷ []
 
-pub over_one : (depth : ℕ) (dsdt ssdt : List ℕ) (one now : State) (so : HasTables depth (dsdt ∷ []) one) → HasTableOver depth (dsdt ∷ []) so.placements ssdt now → OverOne depth dsdt ssdt so.placements now
+pub over_one : (depth : ℕ) (dsdt ssdt : List ℕ) (one now : State) (so : HasTables depth (dsdt ∷ []) one)
+    → HasTableOver depth (dsdt ∷ []) so.placements ssdt now → OverOne depth dsdt ssdt so.placements now
 over_one depth dsdt ssdt one now so = by so.placements so.listings
   where
     by : (ts : List (List Placement)) → AreListings depth 0 predefined (dsdt ∷ []) ts → HasTableOver depth (dsdt ∷ []) ts ssdt now → OverOne depth dsdt ssdt ts now

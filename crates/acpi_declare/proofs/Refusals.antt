@@ -61,7 +61,8 @@ refuses_none depth number objects bytes (Refused refusal path) is t table listin
     refused_alone objects (sites is) (refusal, path) t (subst (λ js. IsFirstRefusal objects (sites js) (refusal, path)) (one _ r.0 is r.1.spelled table.spelled) r.2) listing
 
 never_both : (depth k number : ℕ) (objects : Namespace) (earlier later : List (List ℕ)) (bytes : List ℕ) (reason : LoadReason) (es ts : List (List Placement))
-    → AreListings depth k objects earlier es → number ≡ k + length earlier → IsLoadReason depth number (objects_after objects es) bytes reason → AreListings depth k objects (earlier ++ bytes ∷ later) ts → ⊥
+    → AreListings depth k objects earlier es → number ≡ k + length earlier → IsLoadReason depth number (objects_after objects es) bytes reason
+    → AreListings depth k objects (earlier ++ bytes ∷ later) ts → ⊥
 never_both depth k number objects [] later bytes reason [] [] h e r a = a
 never_both depth k number objects [] later bytes reason [] (t ∷ ts) h e r a =
     refuses_none depth k objects bytes reason a.0.0 t a.0.1 a.0.2 (subst (λ n. IsLoadReason depth n objects bytes reason) (e ∙ omega arith) r)
@@ -77,7 +78,8 @@ never_both depth k number objects (c ∷ earlier) later bytes reason (u ∷ es) 
 pub refused_has_no_load : (depth : ℕ) (tables : List (List ℕ)) (f : LoadFault) → IsLoadFault depth tables f → f ≢ Memory → HasNoLoad depth tables
 refused_has_no_load depth tables Memory h some = absurd (some refl)
 refused_has_no_load depth tables (At number reason) h some = λ ts a.
-    never_both depth 0 number predefined h.earlier h.later h.bytes reason h.placements ts h.listings (sym h.count ∙ omega arith) h.refused (subst (λ bs. AreListings depth 0 predefined bs ts) h.splits a)
+    never_both depth 0 number predefined h.earlier h.later h.bytes reason h.placements ts h.listings (sym h.count ∙ omega arith) h.refused
+    (subst (λ bs. AreListings depth 0 predefined bs ts) h.splits a)
 
 -- ---- at most one load
 
@@ -86,7 +88,8 @@ same_listings depth k objects [] [] [] h a = refl
 same_listings depth k objects (b ∷ bs) (u ∷ es) (t ∷ ts) h a =
     let trees : a.0.0 ≡ h.0.0 = one _ a.0.0 h.0.0 a.0.1.spelled h.0.1.spelled in
     let same : t ≡ u = justified_once objects [] (sites h.0.0) t u (subst (λ is. IsListing objects (sites is) t) trees a.0.2) h.0.2 in
-    ap (λ v. v ∷ es) (sym same) ∙ ap (λ vs. t ∷ vs) (same_listings depth (suc k) (union objects (objects_of u)) bs es ts h.1 (subst (λ (v : List Placement). AreListings depth (suc k) (union objects (objects_of v)) bs ts) same a.1))
+    ap (λ v. v ∷ es) (sym same) ∙ ap (λ vs. t ∷ vs) (same_listings depth (suc k) (union objects (objects_of u)) bs es ts h.1
+    (subst (λ (v : List Placement). AreListings depth (suc k) (union objects (objects_of v)) bs ts) same a.1))
 same_listings depth k objects [] (u ∷ es) ts h a = absurd h
 same_listings depth k objects [] [] (t ∷ ts) h a = absurd a
 same_listings depth k objects (b ∷ bs) [] ts h a = absurd h

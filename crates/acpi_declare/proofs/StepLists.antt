@@ -30,6 +30,7 @@ pub take_steps_refused : (t : Pass) (s : List Segment) (f : RefusedAt) (xs ys : 
 take_steps_refused t s f xs ys e = take_steps_append t s xs ys ∙ ap (λ r. r >>= λ v. take_steps v s ys) e
 
 -- the refusal of the first steps left is that of all the steps
-pub told_on : (f : Stop) (t first : Pass) (s : List Segment) (xs ys all : List Step) → take_steps t s (xs ++ ys) ≡ take_steps first s all → IsStopOf f (take_steps t s xs) → IsStopOf f (take_steps first s all)
+pub told_on : (f : Stop) (t first : Pass) (s : List Segment) (xs ys all : List Step) → take_steps t s (xs ++ ys) ≡ take_steps first s all
+    → IsStopOf f (take_steps t s xs) → IsStopOf f (take_steps first s all)
 told_on Memory t first s xs ys all e h = tt
 told_on (Refused r p) t first s xs ys all e h = sym e ∙ take_steps_refused t s (r, p) xs ys h

@@ -19,9 +19,11 @@ use Rattle.acpi_declare.specs.steps.Outcomes.{IsTableFault}
 
 -- the listings of some tables and of one more behind them
 more_listings : (depth k number : ℕ) (objects : Namespace) (bs : List (List ℕ)) (ts : List (List Placement)) (b : List ℕ) (t : List Placement) (is : _)
-    → AreListings depth k objects bs ts → number ≡ k + length bs → IsTableOf depth number b is → IsListing (objects_after objects ts) (sites is) t → AreListings depth k objects (bs ++ b ∷ []) (ts ++ t ∷ [])
+    → AreListings depth k objects bs ts → number ≡ k + length bs → IsTableOf depth number b is → IsListing (objects_after objects ts) (sites is) t
+    → AreListings depth k objects (bs ++ b ∷ []) (ts ++ t ∷ [])
 more_listings depth k number objects [] [] b t is h e table listing = ((is, subst (λ n. IsTableOf depth n b is) (e ∙ omega arith) table, listing), tt)
-more_listings depth k number objects (c ∷ bs) (u ∷ ts) b t is h e table listing = (h.0, more_listings depth (suc k) number (union objects (objects_of u)) bs ts b t is h.1 (e ∙ omega arith) table listing)
+more_listings depth k number objects (c ∷ bs) (u ∷ ts) b t is h e table listing =
+    (h.0, more_listings depth (suc k) number (union objects (objects_of u)) bs ts b t is h.1 (e ∙ omega arith) table listing)
 more_listings depth k number objects [] (u ∷ ts) b t is h e table listing = absurd h
 more_listings depth k number objects (c ∷ bs) [] b t is h e table listing = absurd h
 
@@ -37,10 +39,12 @@ more_notes : (objects : Namespace) (ts : List (List Placement)) (t : List Placem
 more_notes objects [] t = refl
 more_notes objects (u ∷ ts) t = ap (λ ns. notes_on objects u ∷ ns) (more_notes (union objects (objects_of u)) ts t)
 
-pub one_more : (depth number : ℕ) (bs : List (List ℕ)) (b : List ℕ) (before now : State) → number ≡ length bs → HasTables depth bs before → AddsTable depth number b before now → HasTables depth (bs ++ b ∷ []) now
+pub one_more : (depth number : ℕ) (bs : List (List ℕ)) (b : List ℕ) (before now : State) → number ≡ length bs → HasTables depth bs before
+    → AddsTable depth number b before now → HasTables depth (bs ++ b ∷ []) now
 one_more depth number bs b before now e so adds = record {
   placements = so.placements ++ adds.placements ∷ [];
-  listings = more_listings depth 0 number predefined bs so.placements b adds.placements adds.is so.listings (e ∙ omega arith) adds.table (subst (λ (m : Namespace). IsListing m (sites adds.is) adds.placements) so.objects_are adds.listing);
+  listings = more_listings depth 0 number predefined bs so.placements b adds.placements adds.is so.listings (e ∙ omega arith) adds.table
+      (subst (λ (m : Namespace). IsListing m (sites adds.is) adds.placements) so.objects_are adds.listing);
   objects_are = adds.objects_are ∙ ap (λ (m : Namespace). union m (objects_of adds.placements)) so.objects_are ∙ sym (more_objects predefined so.placements adds.placements);
   links_are = adds.links_are ∙ ap (λ (l : List PendingLink). l ++ pending_links adds.placements) so.links_are ∙ sym (more_pending so.placements adds.placements);
   notes_are = adds.notes_are ∙ ap (λ (l : List Notes). l ++ notes_on before.objects adds.placements ∷ []) so.notes_are
@@ -48,11 +52,13 @@ one_more depth number bs b before now e so adds = record {
 }
 
 -- .. where it alone keeps its links and notes
-pub one_over : (depth number : ℕ) (bs : List (List ℕ)) (b : List ℕ) (all before now : State) → number ≡ length bs → (so : HasTables depth bs all) → before.objects ≡ all.objects → before.links ≡ [] → before.notes ≡ []
+pub one_over : (depth number : ℕ) (bs : List (List ℕ)) (b : List ℕ) (all before now : State) → number ≡ length bs → (so : HasTables depth bs all)
+    → before.objects ≡ all.objects → before.links ≡ [] → before.notes ≡ []
     → AddsTable depth number b before now → HasTableOver depth bs so.placements b now
 one_over depth number bs b all before now e so same no_links no_notes adds = record {
   placements = adds.placements;
-  listings = more_listings depth 0 number predefined bs so.placements b adds.placements adds.is so.listings (e ∙ omega arith) adds.table (subst (λ (m : Namespace). IsListing m (sites adds.is) adds.placements) objects adds.listing);
+  listings = more_listings depth 0 number predefined bs so.placements b adds.placements adds.is so.listings (e ∙ omega arith) adds.table
+      (subst (λ (m : Namespace). IsListing m (sites adds.is) adds.placements) objects adds.listing);
   objects_are = adds.objects_are ∙ ap (λ (m : Namespace). union m (objects_of adds.placements)) objects;
   links_are = adds.links_are ∙ ap (λ (l : List PendingLink). l ++ pending_links adds.placements) no_links;
   notes_are = adds.notes_are ∙ ap (λ (l : List Notes). l ++ notes_on before.objects adds.placements ∷ []) no_notes ∙ ap (λ (m : Namespace). notes_on m adds.placements ∷ []) objects;

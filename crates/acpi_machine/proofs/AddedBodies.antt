@@ -13,7 +13,8 @@ use Rattle.acpi_order.specs.Bodies.{Method, with_counts, AreBodies, bodies_at}
 use Rattle.acpi_machine.specs.steps.Adding.{AddsBodies}
 
 -- one method, and others behind it
-pub adds_one : (depth : ℕ) (objects : Namespace) (counts : Lookup ℕ) (m : notes.Method) (ms : List notes.Method) (bytes : List ℕ) (b : BodyTree) (older newer : FinMap path_cmp BodyTree) (now : Lookup BodyTree)
+pub adds_one : (depth : ℕ) (objects : Namespace) (counts : Lookup ℕ) (m : notes.Method) (ms : List notes.Method) (bytes : List ℕ) (b : BodyTree)
+    (older newer : FinMap path_cmp BodyTree) (now : Lookup BodyTree)
     → bytes ≡ m.code → IsBodyOf (arguments objects counts m.path) m.path depth bytes b → newer ≡ insert older m.path b
     → AddsBodies depth objects (map (with_counts counts) ms) (get newer) now → AddsBodies depth objects (map (with_counts counts) (m ∷ ms)) (get older) now
 adds_one depth objects counts m ms bytes b older newer now same body put h = (

@@ -142,7 +142,14 @@ path_cut (b ∷ bytes) e =
           elim (chosen (eqb b 46) _ _ (failed Cut) f.1) [
             | inl t ↦
                 let s = segments_cut 2 bytes t.1 in
-                record { segments = s.segments; are_segments = s.are_segments; few = omega (arith, s.count); more = s.more; missing = s.missing; spells = inr (inr (inl (s.count, rw (eqb-true b 46 t.0) (ap (λ (r : List ℕ). 46 ∷ r) s.whole)))) }
+                record {
+                  segments = s.segments;
+                  are_segments = s.are_segments;
+                  few = omega (arith, s.count);
+                  more = s.more;
+                  missing = s.missing;
+                  spells = inr (inr (inl (s.count, rw (eqb-true b 46 t.0) (ap (λ (r : List ℕ). 46 ∷ r) s.whole))));
+                }
             | inr g ↦
                 elim (chosen (eqb b 47) _ _ (failed Cut) g.1) [
                   | inl t ↦ subst (λ k. CutPath (k ∷ bytes)) (sym (eqb-true b 47 t.0)) (counted_cut bytes t.1)
@@ -182,7 +189,12 @@ name_cut [] e = record {
   more = 0 ∷ [];
   missing = omega arith;
   name = record { rooted = false; parents = 0; segments = [] };
-  spells = record { is_name = record { are_segments = refl; few_segments = omega arith; few_parents = omega arith; no_parents = λ h. refl }; path = 0 ∷ []; spells_path = inl (refl, refl); whole = refl };
+  spells = record {
+    is_name = record { are_segments = refl; few_segments = omega arith; few_parents = omega arith; no_parents = λ h. refl };
+    path = 0 ∷ [];
+    spells_path = inl (refl, refl);
+    whole = refl;
+  };
 }
 name_cut (b ∷ bytes) e =
     elim (chosen (eqb b 92) _ _ (failed Cut) e) [
@@ -452,7 +464,8 @@ relative_stays bytes more f e other =
           let le = ups_of-more bytes more in
           let many : ltb 255 (ups (bytes ++ more)) ≡ true = lt-ltb _ _ (omega arith) in
           rw many t.1
-      | inr t ↦ by_rest (drop (ups bytes) bytes) refl (ltb-false _ _ t.0) (bind_done (path_at (drop (ups bytes) bytes)) (λ p. (record { rooted = false; parents = ups bytes; segments = p.0 }, p.1)) f t.1)
+      | inr t ↦ by_rest (drop (ups bytes) bytes) refl (ltb-false _ _ t.0)
+          (bind_done (path_at (drop (ups bytes) bytes)) (λ p. (record { rooted = false; parents = ups bytes; segments = p.0 }, p.1)) f t.1)
     ]
   where
     by_rest : (rest : List ℕ) → drop (ups bytes) bytes ≡ rest → ups bytes ≤ 255 → path_at (drop (ups bytes) bytes) ≡ Err f → relative_at (bytes ++ more) ≡ Err f

@@ -99,12 +99,25 @@ unfolding path_at
 path_took [] x e = absurd cc
 path_took (b ∷ bytes) x e =
     elim (chosen (eqb b 0) _ _ (Ok x) e) [
-      | inl t ↦ subst (TookPath (b ∷ bytes)) (ok_is ([], bytes) x t.1) (record { path = 0 ∷ []; spells_path = inl (refl, refl); are_segments = refl; few = omega arith; whole = ap (λ k. k ∷ bytes) (eqb-true b 0 t.0) })
+      | inl t ↦ subst (TookPath (b ∷ bytes)) (ok_is ([], bytes) x t.1)
+          (record {
+            path = 0 ∷ [];
+            spells_path = inl (refl, refl);
+            are_segments = refl;
+            few = omega arith;
+            whole = ap (λ k. k ∷ bytes) (eqb-true b 0 t.0);
+          })
       | inr f ↦
           elim (chosen (eqb b 46) _ _ (Ok x) f.1) [
             | inl t ↦
                 let s = segments_took 2 bytes x t.1 in
-                record { path = 46 ∷ joined x.0; spells_path = inr (inr (inl (s.count, refl))); are_segments = s.are_segments; few = omega (arith, s.count); whole = rw (eqb-true b 46 t.0) (ap (λ (r : List ℕ). 46 ∷ r) s.whole) }
+                record {
+                  path = 46 ∷ joined x.0;
+                  spells_path = inr (inr (inl (s.count, refl)));
+                  are_segments = s.are_segments;
+                  few = omega (arith, s.count);
+                  whole = rw (eqb-true b 46 t.0) (ap (λ (r : List ℕ). 46 ∷ r) s.whole);
+                }
             | inr f ↦
                 elim (chosen (eqb b 47) _ _ (Ok x) f.1) [
                   | inl t ↦ counted_took b bytes x (eqb-true b 47 t.0) t.1
@@ -119,7 +132,9 @@ pub ups_are : (bytes : List ℕ) → bytes ≡ replicate (prefix_len (λ x. eqb 
 ups_are [] = refl
 ups_are (b ∷ bytes) = by_test (ups_are bytes) (eqb b 94) refl
   where
-    by_test : (bytes ≡ replicate (prefix_len (λ x. eqb x 94) bytes) 94 ++ drop (prefix_len (λ x. eqb x 94) bytes) bytes) → (t : Bool) → eqb b 94 ≡ t → b ∷ bytes ≡ replicate (cond t (1 + prefix_len (λ x. eqb x 94) bytes) 0) 94 ++ drop (cond t (1 + prefix_len (λ x. eqb x 94) bytes) 0) (b ∷ bytes)
+    by_test : (bytes ≡ replicate (prefix_len (λ x. eqb x 94) bytes) 94 ++ drop (prefix_len (λ x. eqb x 94) bytes) bytes) → (t : Bool) → eqb b 94 ≡ t
+        → b ∷ bytes ≡ replicate (cond t (1 + prefix_len (λ x. eqb x 94) bytes) 0) 94 ++ drop
+        (cond t (1 + prefix_len (λ x. eqb x 94) bytes) 0) (b ∷ bytes)
     by_test more true e =
         let one : 1 + prefix_len (λ x. eqb x 94) bytes ≡ suc (prefix_len (λ x. eqb x 94) bytes) = omega arith in
         rw (one, eqb-true b 94 e) (ap (λ (r : List ℕ). 94 ∷ r) more)
@@ -143,7 +158,12 @@ relative_took bytes x e =
     let made : NameParts × List ℕ = (record { rooted = false; parents = ups bytes; segments = b.0.0 }, b.0.1) in
     subst (TookName bytes) (ok_is made x b.2) (record {
       front = replicate (ups bytes) 94 ++ t.path;
-      spells = record { is_name = record { are_segments = t.are_segments; few_segments = t.few; few_parents = omega arith; no_parents = never }; path = t.path; spells_path = t.spells_path; whole = refl };
+      spells = record {
+        is_name = record { are_segments = t.are_segments; few_segments = t.few; few_parents = omega arith; no_parents = never };
+        path = t.path;
+        spells_path = t.spells_path;
+        whole = refl;
+      };
       whole = all ∙ ap (λ (r : List ℕ). replicate (ups bytes) 94 ++ r) t.whole ∙ sym (append_assoc (replicate (ups bytes) 94) t.path b.0.1);
     })
 
@@ -158,7 +178,17 @@ name_took (b ∷ bytes) x e =
           let made : NameParts × List ℕ = (record { rooted = true; parents = 0; segments = p.0.0 }, p.0.1) in
           subst (TookName (b ∷ bytes)) (ok_is made x p.2) (record {
             front = 92 ∷ s.path;
-            spells = record { is_name = record { are_segments = s.are_segments; few_segments = s.few; few_parents = omega arith; no_parents = λ h. refl }; path = s.path; spells_path = s.spells_path; whole = refl };
+            spells = record {
+              is_name = record {
+                are_segments = s.are_segments;
+                few_segments = s.few;
+                few_parents = omega arith;
+                no_parents = λ h. refl;
+              };
+              path = s.path;
+              spells_path = s.spells_path;
+              whole = refl;
+            };
             whole = rw (eqb-true b 92 t.0) (ap (λ (r : List ℕ). 92 ∷ r) s.whole);
           })
       | inr f ↦ relative_took (b ∷ bytes) x f.1

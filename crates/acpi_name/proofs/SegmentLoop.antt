@@ -52,7 +52,9 @@ goes_on count i bytes rest after lt h len after-is so =
     let k : count - i ≡ suc (count - (i + 1)) = omega arith in
     let j : 4 * (i + 1) ≡ 4 * i + 4 = omega arith in
     let front : first_chunks 4 (i + 1) bytes ≡ first_chunks 4 i bytes ++ take 4 rest ∷ [] = let n : i + 1 ≡ suc i = omega arith in rw (n, so.is_rest) (first_chunks-more i bytes) in
-    let one : with_front (first_chunks 4 i bytes) (segments_at (count - i) rest) ≡ with_front (first_chunks 4 i bytes ++ take 4 rest ∷ []) (segments_at (count - (i + 1)) after) = rw (k, h) (regroup (first_chunks 4 i bytes) (take 4 rest) (segments_at (count - (i + 1)) after)) in
+    let one : with_front (first_chunks 4 i bytes) (segments_at (count - i) rest)
+    ≡ with_front (first_chunks 4 i bytes ++ take 4 rest ∷ []) (segments_at (count - (i + 1)) after) =
+    rw (k, h) (regroup (first_chunks 4 i bytes) (take 4 rest) (segments_at (count - (i + 1)) after)) in
     record {
       len = omega arith;
       is_rest = after-is ∙ ap (drop 4) so.is_rest ∙ rw (j, drop-drop) refl;

@@ -84,7 +84,8 @@ module _ (a b c d e f g h : ℕ) (p : AreBelow a b c d) (q : AreBelow e f g h) w
   by_second i = before_others one other b f _ (λ l. omega (arith, p.third, p.fourth, q.third, q.fourth)) (by_third i) (λ l. omega (arith, p.third, p.fourth, q.third, q.fourth))
 
   by_first : Ranks one other (slice_cmp nat_cmp (a ∷ b ∷ c ∷ d ∷ []) (e ∷ f ∷ g ∷ h ∷ []))
-  by_first = before_others one other a e _ (λ l. omega (arith, p.second, p.third, p.fourth, q.second, q.third, q.fourth)) by_second (λ l. omega (arith, p.second, p.third, p.fourth, q.second, q.third, q.fourth))
+  by_first = before_others one other a e _ (λ l. omega (arith, p.second, p.third, p.fourth, q.second, q.third, q.fourth)) by_second
+      (λ l. omega (arith, p.second, p.third, p.fourth, q.second, q.third, q.fourth))
 
   in_order : slice_cmp nat_cmp (a ∷ b ∷ c ∷ d ∷ []) (e ∷ f ∷ g ∷ h ∷ []) ≡ nat_cmp one other
   in_order = nat_cmp_is one other _ by_first

@@ -143,8 +143,10 @@ module _ (old a b : List ℕ) (is : ItemTrees) (r : IsShortest old is a) (q : Is
 
   checksum : get_or a 9 0 ≡ get_or b 9 0
   checksum =
-      let sa : sum a ≡ sum (take 4 b) + (sum (take 4 (drop 4 b)) + (get_or b 8 0 + (get_or a 9 0 + sum (drop 10 b)))) = ap sum a_is ∙ summed (take 4 b) (take 4 (drop 4 b)) (drop 10 b) (get_or b 8 0) (get_or a 9 0) in
-      let sb : sum b ≡ sum (take 4 b) + (sum (take 4 (drop 4 b)) + (get_or b 8 0 + (get_or b 9 0 + sum (drop 10 b)))) = ap sum (fronted b lb) ∙ summed (take 4 b) (take 4 (drop 4 b)) (drop 10 b) (get_or b 8 0) (get_or b 9 0) in
+      let sa : sum a ≡ sum (take 4 b) + (sum (take 4 (drop 4 b)) + (get_or b 8 0 + (get_or a 9 0 + sum (drop 10 b)))) = ap sum a_is
+      ∙ summed (take 4 b) (take 4 (drop 4 b)) (drop 10 b) (get_or b 8 0) (get_or a 9 0) in
+      let sb : sum b ≡ sum (take 4 b) + (sum (take 4 (drop 4 b)) + (get_or b 8 0 + (get_or b 9 0 + sum (drop 10 b)))) = ap sum (fronted b lb)
+      ∙ summed (take 4 b) (take 4 (drop 4 b)) (drop 10 b) (get_or b 8 0) (get_or b 9 0) in
       omega (arith, sa, sb, r.table.sums_to_zero, q.table.sums_to_zero, byte_there a 9 small (omega (arith, la)), byte_there b 9 few (omega (arith, lb)))
 
   pub one_table : a ≡ b
@@ -174,7 +176,8 @@ module _ (depth : ℕ) (objects : Namespace) where
       let same : r.rewritten ≡ q.rewritten = same_items q.rewritten r.rewritten (r.alike ∙ ap without_code items ∙ sym q.alike) fresh in
       one_table old a b q.rewritten (subst (λ (is : ItemTrees). IsShortest old is a) same r.written) q.written small few
 
-  one_each : (ts : List (List Placement)) (bs ms ns : List (List ℕ)) → AreEachRewritten depth objects ts bs ms → AreEachRewritten depth objects ts bs ns → AreTablesOfBytes ms → AreTablesOfBytes ns → ms ≡ ns
+  one_each : (ts : List (List Placement)) (bs ms ns : List (List ℕ)) → AreEachRewritten depth objects ts bs ms
+      → AreEachRewritten depth objects ts bs ns → AreTablesOfBytes ms → AreTablesOfBytes ns → ms ≡ ns
   one_each [] [] [] [] h k small few = refl
   one_each [] [] [] (n ∷ ns) h k small few = absurd k
   one_each [] [] (m ∷ ms) ns h k small few = absurd h

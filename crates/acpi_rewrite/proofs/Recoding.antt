@@ -62,7 +62,8 @@ module _ (x y : Item) (same : item_without_code (item_view y) ≡ item_without_c
 
   next_codes : (done : List Item) → codes (items_tree (done ++ y ∷ [])) ≡ codes (items_tree done) ++ item_codes (item_view y)
   next_codes [] = append-nil (item_codes (item_view y))
-  next_codes (z ∷ done) = ap (λ (cs : List (List ℕ)). item_codes (item_view z) ++ cs) (next_codes done) ∙ sym (append_assoc (item_codes (item_view z)) (codes (items_tree done)) (item_codes (item_view y)))
+  next_codes (z ∷ done) = ap (λ (cs : List (List ℕ)). item_codes (item_view z) ++ cs) (next_codes done)
+      ∙ sym (append_assoc (item_codes (item_view z)) (codes (items_tree done)) (item_codes (item_view y)))
 
   -- the invariant of a list of items, at the next one
   pub next_item : (done now before rest all : List Item) (fresh left given : List (List ℕ)) → now ≡ done ++ y ∷ [] → before ≡ x ∷ rest → item_codes (item_view y) ++ left ≡ fresh
@@ -108,7 +109,8 @@ module _ (depth : ℕ) (objects : Namespace) (bytes : List ℕ) (t : List Placem
       by None e within = within
       by (Some code) e within = omega (arith, long code e, within, length-drop 36 bytes, h.table.numbered.table.has_header, h.table.numbered.table.within_limit)
 
-  pub is_rewritten : (js : ItemTrees) (left : List (List ℕ)) (now : List ℕ) → without_code js ≡ without_code h.items → codes js ++ left ≡ cs → IsShortest bytes js now → IsRewritten depth objects t bytes now
+  pub is_rewritten : (js : ItemTrees) (left : List (List ℕ)) (now : List ℕ) → without_code js ≡ without_code h.items → codes js ++ left ≡ cs
+      → IsShortest bytes js now → IsRewritten depth objects t bytes now
   is_rewritten js left now same fresh written = record {
     items = h.items;
     spelled = h.table.spelled;
@@ -145,11 +147,13 @@ as_many_noted : (N : Namespace) (ts : List (List Placement)) → length (all_not
 as_many_noted N [] = refl
 as_many_noted N (t ∷ ts) = ap (λ (k : ℕ). suc k) (as_many_noted (union N (objects_of t)) ts)
 
-pub as_many_notes : (depth : ℕ) (bs : List (List ℕ)) (ts : List (List Placement)) (ns : List TableNotes) → AreListings depth 0 predefined bs ts → map notes_of ns ≡ all_notes predefined ts → length ns ≡ length bs
+pub as_many_notes : (depth : ℕ) (bs : List (List ℕ)) (ts : List (List Placement)) (ns : List TableNotes) → AreListings depth 0 predefined bs ts
+    → map notes_of ns ≡ all_notes predefined ts → length ns ≡ length bs
 as_many_notes depth bs ts ns h e = sym (length-map ns notes_of) ∙ ap length e ∙ as_many_noted predefined ts ∙ as_many_listings depth 0 predefined bs ts h
 
 -- .. as the code reaches them
-pub noted_there : (depth : ℕ) (bs : List (List ℕ)) (ts : List (List Placement)) (ns : List TableNotes) (i : ℕ) (b : List ℕ) (n : TableNotes) → AreListings depth 0 predefined bs ts → map notes_of ns ≡ all_notes predefined ts
+pub noted_there : (depth : ℕ) (bs : List (List ℕ)) (ts : List (List Placement)) (ns : List TableNotes) (i : ℕ) (b : List ℕ) (n : TableNotes)
+    → AreListings depth 0 predefined bs ts → map notes_of ns ≡ all_notes predefined ts
     → i < length bs → b ≡ get_or bs i [] → n ≡ get_or ns i n → IsNoted depth b (get_or ts i []) (notes_of n)
 noted_there depth bs ts ns i b n h e below there at =
     let reach : i < length ns = omega (arith, as_many_notes depth bs ts ns h e, below) in
@@ -180,7 +184,8 @@ module _ (depth : ℕ) (objects : Namespace) where
   push_each (u ∷ ts) (c ∷ bs) (m ∷ ns) t b n h one = (h.0, push_each ts bs ns t b n h.1 one)
 
   -- one more table
-  pub more_rewritten : (ts : List (List Placement)) (bs : List (List ℕ)) (i : ℕ) (done now : List Bytes) (b : List ℕ) (new : Bytes) → AreListings depth 0 predefined bs ts → i < length bs → b ≡ get_or bs i []
+  pub more_rewritten : (ts : List (List Placement)) (bs : List (List ℕ)) (i : ℕ) (done now : List Bytes) (b : List ℕ) (new : Bytes)
+      → AreListings depth 0 predefined bs ts → i < length bs → b ≡ get_or bs i []
       → now ≡ done ++ new ∷ [] → AreEachRewritten depth objects (take i ts) (take i bs) (map items_in done) → IsRewritten depth objects (get_or ts i []) b (items_in new)
       → AreEachRewritten depth objects (take (i + 1) ts) (take (i + 1) bs) (map items_in now)
   more_rewritten ts bs i done now b new h below there pushed before one =
@@ -189,7 +194,8 @@ module _ (depth : ℕ) (objects : Namespace) where
       subst (AreEachRewritten depth objects (take (i + 1) ts) (take (i + 1) bs)) (sym all)
       (subst (λ (us : List (List Placement)). AreEachRewritten depth objects us (take (i + 1) bs) (map items_in done ++ items_in new ∷ [])) (sym (take_more ts i [] reach))
       (subst (λ (cs : List (List ℕ)). AreEachRewritten depth objects (take i ts ++ get_or ts i [] ∷ []) cs (map items_in done ++ items_in new ∷ [])) (sym (take_more bs i [] below))
-      (push_each (take i ts) (take i bs) (map items_in done) (get_or ts i []) (get_or bs i []) (items_in new) before (subst (λ (c : List ℕ). IsRewritten depth objects (get_or ts i []) c (items_in new)) there one))))
+      (push_each (take i ts) (take i bs) (map items_in done) (get_or ts i []) (get_or bs i []) (items_in new) before
+      (subst (λ (c : List ℕ). IsRewritten depth objects (get_or ts i []) c (items_in new)) there one))))
 
   -- all of them
   pub all_rewritten : (ts : List (List Placement)) (bs ns : List (List ℕ)) (i : ℕ) → AreListings depth 0 predefined bs ts → length bs ≤ i → AreEachRewritten depth objects (take i ts) (take i bs) ns

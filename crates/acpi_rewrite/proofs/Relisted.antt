@@ -76,7 +76,8 @@ mutual
   item_sites_bare : (i : ItemTree) (k : ℕ) (inside : Option ℕ) → item_sites k inside (item_without_code i) ≡ map bare_site (item_sites k inside i)
   item_sites_bare (scope n is) k inside = joined (own_sites inside (scope n is)) _ _ _ (own_sites_bare inside (scope n is)) (sites_bare is (suc k) (Some k))
   item_sites_bare (device n is) k inside = joined (own_sites inside (device n is)) _ _ _ (own_sites_bare inside (device n is)) (sites_bare is (suc k) (Some k))
-  item_sites_bare (processor n id block len is) k inside = joined (own_sites inside (processor n id block len is)) _ _ _ (own_sites_bare inside (processor n id block len is)) (sites_bare is (suc k) (Some k))
+  item_sites_bare (processor n id block len is) k inside = joined (own_sites inside (processor n id block len is)) _ _ _
+      (own_sites_bare inside (processor n id block len is)) (sites_bare is (suc k) (Some k))
   item_sites_bare (power n level order is) k inside = joined (own_sites inside (power n level order is)) _ _ _ (own_sites_bare inside (power n level order is)) (sites_bare is (suc k) (Some k))
   item_sites_bare (thermal n is) k inside = joined (own_sites inside (thermal n is)) _ _ _ (own_sites_bare inside (thermal n is)) (sites_bare is (suc k) (Some k))
   item_sites_bare i k inside = own_sites_bare inside i
@@ -160,7 +161,8 @@ mutual
   sites_codes (item i is) k inside =
       let here = item_sites k inside i in
       let later = items_sites (k + length here) inside is in
-      sites_appended here later ∙ ap (λ (cs : List (List ℕ)). cs ++ site_codes later) (item_sites_codes i k inside) ∙ ap (λ (cs : List (List ℕ)). item_codes i ++ cs) (sites_codes is (k + length here) inside)
+      sites_appended here later ∙ ap (λ (cs : List (List ℕ)). cs ++ site_codes later) (item_sites_codes i k inside)
+      ∙ ap (λ (cs : List (List ℕ)). item_codes i ++ cs) (sites_codes is (k + length here) inside)
 
 pub table_codes : (is : ItemTrees) → site_codes (sites is) ≡ codes is
 table_codes is = sites_codes is 0 None
@@ -177,7 +179,15 @@ Alike d d' = ((d' ≡ d) × (effect_codes d ≡ [])) ⊎ IsMethod d d'
 alike : (d d' : Effect) → bare_effect d' ≡ bare_effect d → Alike d d'
 alike (declares o links None) (declares o' links' None) e = inl (e, refl)
 alike (declares o links (Some code)) (declares o' links' (Some code')) e =
-    inr (o, links, code, code', refl, ap (λ (x : ObjectTree). declares x links' (Some code')) (object_same o o' links links' e) ∙ ap (λ (ls : List NameParts). declares o ls (Some code')) (links_same o o' links links' e))
+    inr (
+      o,
+      links,
+      code,
+      code',
+      refl,
+      ap (λ (x : ObjectTree). declares x links' (Some code')) (object_same o o' links links' e)
+          ∙ ap (λ (ls : List NameParts). declares o ls (Some code')) (links_same o o' links links' e),
+    )
   where
     object_same : (o o' : ObjectTree) (links links' : List NameParts) → declares o' links' (Some []) ≡ declares o links (Some []) → o' ≡ o
     object_same o o' links links' e = cc

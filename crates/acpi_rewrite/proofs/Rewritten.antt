@@ -183,7 +183,8 @@ module _ (depth number : ℕ) (N objects : Namespace) (old new : List ℕ) (belo
 
   shorter_table : length new ≤ length old
   shorter_table =
-      let code : length (code_of new) ≤ length (code_of old) = subst (λ (o : Option (List ℕ)). HasWithin o (code_of old)) r.written.spelling (shorter_items depth N objects old below is table.spelled t listing js alike r.bodies) in
+      let code : length (code_of new) ≤ length (code_of old) = subst (λ (o : Option (List ℕ)). HasWithin o (code_of old)) r.written.spelling
+      (shorter_items depth N objects old below is table.spelled t listing js alike r.bodies) in
       omega (arith, code, length-drop 36 new, length-drop 36 old, r.written.table.has_header, table.numbered.table.has_header)
 
 -- ---- all tables

@@ -112,7 +112,8 @@ module _ {A : Type 0} (p : List A → Bool) (outer : ℕ) (xs : List A) where
 pub passing_root : {A : Type 0} (p : List A → Bool) (outer : ℕ) → outer ≤ 0 → IsTrue (p []) → passing p outer [] ≡ [] ∷ []
 passing_root p outer h t = let n : 0 + 1 - outer ≡ 1 = omega arith in ap (λ i. filter p (take i (beginnings []))) n ∙ ap (λ b. cond b ([] ∷ []) []) t
 
-pub passing_first : {A : Type 0} (p : List A → Bool) (outer : ℕ) (xs : List A) (y : A) → outer ≤ length (xs ++ y ∷ []) → IsTrue (p (xs ++ y ∷ [])) → passing p outer (xs ++ y ∷ []) ≡ (xs ++ y ∷ []) ∷ passing p outer xs
+pub passing_first : {A : Type 0} (p : List A → Bool) (outer : ℕ) (xs : List A) (y : A) → outer ≤ length (xs ++ y ∷ []) → IsTrue (p (xs ++ y ∷ []))
+    → passing p outer (xs ++ y ∷ []) ≡ (xs ++ y ∷ []) ∷ passing p outer xs
 passing_first p outer xs y h t =
     let n : length (xs ++ y ∷ []) + 1 - outer ≡ suc (length xs + 1 - outer) = omega (arith, length-append xs (y ∷ [])) in
     let rest = filter p (take (length xs + 1 - outer) (beginnings xs)) in
@@ -122,7 +123,8 @@ passing_first p outer xs y h t =
 -- ---- as the code finds them
 
 -- an element that was taken off the end, if one was
-pub taken_last : {A : Type 0} (o : Option A) (none : Bool) (xs shorter : List A) → is_some o ≡ not none → none ≡ false → o ≡ last_or None xs → shorter ≡ parent_of xs → (y : A) × (xs ≡ shorter ++ y ∷ [])
+pub taken_last : {A : Type 0} (o : Option A) (none : Bool) (xs shorter : List A) → is_some o ≡ not none → none ≡ false → o ≡ last_or None xs
+    → shorter ≡ parent_of xs → (y : A) × (xs ≡ shorter ++ y ∷ [])
 taken_last None none xs shorter n f l e = absurd (true≢false (sym (n ∙ ap not f)))
 taken_last (Some y) none xs shorter n f l e = (y, parent_of_last xs y (sym l) ∙ ap (λ r. r ++ y ∷ []) (sym e))
 
@@ -151,7 +153,9 @@ module _ (defined : List Segment → Bool) (g : Segment) (outer : ℕ) where
   first_is scope o q h e = subst (IsInnermost Here outer scope) e h
 
   -- one path more was put
-  module _ (scope inner path : List Segment) (items more : List (List Segment)) (left : items ++ below_each (passing Here outer inner) ≡ below_each (passing Here outer scope)) (here : IsTrue (Here inner)) (inside : outer ≤ length inner)
+  module _ (scope inner path : List Segment) (items more : List (List Segment))
+      (left : items ++ below_each (passing Here outer inner) ≡ below_each (passing Here outer scope)) (here : IsTrue (Here inner))
+      (inside : outer ≤ length inner)
       (is : path ≡ inner ++ g ∷ []) (put : more ≡ items ++ path ∷ []) where
     pub put_last : inner ≡ [] → more ≡ among_all scope
     put_last e =
@@ -171,7 +175,8 @@ module _ (defined : List Segment → Bool) (g : Segment) (outer : ℕ) where
     put_end shorter y e None h n = sym (append-nil more) ∙ ap (λ l. more ++ below_each l) (sym h) ∙ put_more shorter y e ∙ all_are scope
     put_end shorter y e (Some q) h n = cc
 
-    pub put_on : (shorter : List Segment) (y : Segment) → inner ≡ shorter ++ y ∷ [] → (q : List Segment) → IsInnermost Here outer shorter (Some q) → more ++ below_each (passing Here outer q) ≡ below_each (passing Here outer scope)
+    pub put_on : (shorter : List Segment) (y : Segment) → inner ≡ shorter ++ y ∷ [] → (q : List Segment) → IsInnermost Here outer shorter (Some q)
+        → more ++ below_each (passing Here outer q) ≡ below_each (passing Here outer scope)
     put_on shorter y e q h = ap (λ l. more ++ below_each l) (sym h.3) ∙ put_more shorter y e
 
 -- the paths below, as a search would skip them

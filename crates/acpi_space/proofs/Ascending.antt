@@ -92,7 +92,8 @@ sorted_pairs (e ∷ es) a = (keys es a.0, sorted_pairs es a.1)
     keys (f ∷ es) b = (b.0, keys es b.1)
 
 -- so they are the entries of their map
-pub listed_tree : {V : Type 0} (nodes : List (Node V)) (m : PathMap V) (given : List (List Segment × V)) → IsTree nodes → tree_map nodes ≡ m → given ≡ pairs_below (length nodes) nodes 0 → given ≡ entries m
+pub listed_tree : {V : Type 0} (nodes : List (Node V)) (m : PathMap V) (given : List (List Segment × V)) → IsTree nodes → tree_map nodes ≡ m
+    → given ≡ pairs_below (length nodes) nodes 0 → given ≡ entries m
 listed_tree nodes m given t is e =
     e ∙ sym (entries_ascending (pairs_below (length nodes) nodes 0) (sorted_pairs (pairs_below (length nodes) nodes 0) (ascend_below nodes t (length nodes) 0))) ∙ ap entries is
 

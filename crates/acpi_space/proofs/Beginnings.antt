@@ -52,7 +52,8 @@ FoundAs test xs (Some q) = IsLongest test xs q
 abbrev or_empty : {A : Type 0} → Option (List A) → Bool → Option (List A)
 or_empty o b = option_or o (cond b (Some []) None)
 
-found_at : {A : Type 0} (test : List A → Bool) (x : A) (xs : List A) (o : Option (List A)) → FoundAs (λ q. test (x ∷ q)) xs o → (b : Bool) → test [] ≡ b → FoundAs test (x ∷ xs) (or_empty (option_map (λ q. x ∷ q) o) b)
+found_at : {A : Type 0} (test : List A → Bool) (x : A) (xs : List A) (o : Option (List A)) → FoundAs (λ q. test (x ∷ q)) xs o → (b : Bool)
+    → test [] ≡ b → FoundAs test (x ∷ xs) (or_empty (option_map (λ q. x ∷ q) o) b)
 found_at {A} test x xs (Some q) h b e = record {
   rest = h.rest;
   begins = ap (λ l. x ∷ l) h.begins;
@@ -94,7 +95,8 @@ root_at {A} test false e = none
 -- the first beginning that passes is the longest that does, and there is none only where no beginning does
 pub find_longest : {A : Type 0} (test : List A → Bool) (xs : List A) → FoundAs test xs (find test (beginnings xs))
 find_longest test [] = root_at test (test []) refl
-find_longest test (x ∷ xs) = subst (FoundAs test (x ∷ xs)) (sym (found_cons test x xs)) (found_at test x xs (find (λ q. test (x ∷ q)) (beginnings xs)) (find_longest (λ q. test (x ∷ q)) xs) (test []) refl)
+find_longest test (x ∷ xs) = subst (FoundAs test (x ∷ xs)) (sym (found_cons test x xs))
+    (found_at test x xs (find (λ q. test (x ∷ q)) (beginnings xs)) (find_longest (λ q. test (x ∷ q)) xs) (test []) refl)
 
 pub longest_of_found : {A : Type 0} (p : List A → Bool) (xs q : List A) → find p (beginnings xs) ≡ Some q → IsLongest p xs q
 longest_of_found p xs q e = subst (FoundAs p xs) e (find_longest p xs)
@@ -119,7 +121,8 @@ found_within p xs r depth e f =
     let w : length t.0 ≤ length xs = (longest-take p xs t.0 t.1).0 in
     omega (arith, w, t.2)
 
-pub found_there : {A : Type 0} (p : List A → Bool) (xs : List A) (r : Option ℕ) (depth : ℕ) → r ≡ option_map length (find p (beginnings xs)) → r ≡ Some depth → find p (beginnings xs) ≡ Some (take depth xs)
+pub found_there : {A : Type 0} (p : List A → Bool) (xs : List A) (r : Option ℕ) (depth : ℕ) → r ≡ option_map length (find p (beginnings xs))
+    → r ≡ Some depth → find p (beginnings xs) ≡ Some (take depth xs)
 found_there p xs r depth e f =
     let t : (q : List _) × (find p (beginnings xs) ≡ Some q) × (depth ≡ length q) = found_depth p xs _ r depth refl e f in
     t.1 ∙ ap Some (sym (longest-take p xs t.0 t.1).1 ∙ ap (λ n. take n xs) (sym t.2))

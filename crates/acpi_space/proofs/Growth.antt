@@ -122,7 +122,8 @@ module _ {V : Type 0} (old new : List (Node V)) (number : ℕ) (g : Segment) (m 
   linked_values n (h ∷ q) =
       sym (value_below_step new (child_at new n h) q) ∙ by (λ k. linked_values k q) (child_at new n h) (origin n h) ∙ value_below_step old (child_at old n h) q
     where
-      by : ((k : ℕ) → value_below new k q ≡ value_below old k q) → (o : Option ℕ) → Origin n h o → option_and_then (λ k. value_below new k q) o ≡ option_and_then (λ k. value_below old k q) (child_at old n h)
+      by : ((k : ℕ) → value_below new k q ≡ value_below old k q) → (o : Option ℕ) → Origin n h o
+          → option_and_then (λ k. value_below new k q) o ≡ option_and_then (λ k. value_below old k q) (child_at old n h)
       by ih o (inl e) = (λ i. option_and_then (λ k. ih k i) o) ∙ ap (option_and_then (λ k. value_below old k q)) e
       by ih o (inr e) =
           let none : child_at old n h ≡ None = ap (λ k. child_at old k h) e.0 ∙ ap (child_at old number) (sym e.1) ∙ is.free in
@@ -143,7 +144,8 @@ module _ {V : Type 0} (old new : List (Node V)) (number : ℕ) (g : Segment) (m 
       same_bound : (kids : List (Segment × ℕ)) → AllByRecursion (λ e. (n < e.1) × (e.1 < length old)) kids → AllByRecursion (λ e. (n < e.1) × (e.1 < length new)) kids
       same_bound kids a = subst (λ b. AllByRecursion (λ e. (n < e.1) × (e.1 < b)) kids) (sym is.len) a
 
-      by : (b : Bool) → nat_eq n number ≡ b → IsStrictlySortedBy segment_cmp (map (λ e. e.0) (node_children (slice_get new n))) × AllByRecursion (λ e. (n < e.1) × (e.1 < length new)) (node_children (slice_get new n))
+      by : (b : Bool) → nat_eq n number ≡ b → IsStrictlySortedBy segment_cmp (map (λ e. e.0) (node_children (slice_get new n))) × AllByRecursion
+          (λ e. (n < e.1) × (e.1 < length new)) (node_children (slice_get new n))
       by true e =
           let at : n ≡ number = same_number n number e in
           let kids : node_children (slice_get new n) ≡ insert_entry segment_cmp (node_children (slice_get old n)) g m =
@@ -191,7 +193,8 @@ unlinked_padded {V} old new number others value kids = record {
 module _ {V : Type 0} (old mid new : List (Node V)) (number : ℕ) (g : Segment) (m : ℕ)
     (tree : IsTree old) (within : number < length old) (free : child_at old number g ≡ None) (pad : IsPadded old mid) (more : length mid ≡ length old + 1) (last : m ≡ length old) where
   pub added_link : length new ≡ length mid → ((n : ℕ) → n ≢ number → slice_get new n ≡ slice_get mid n) → node_value (slice_get new number) ≡ node_value (slice_get mid number)
-      → IsStrictlySortedBy segment_cmp (map (λ e. e.0) (node_children (slice_get new number))) → node_children (slice_get new number) ≡ insert_entry segment_cmp (node_children (slice_get mid number)) g m
+      → IsStrictlySortedBy segment_cmp (map (λ e. e.0) (node_children (slice_get new number))) → node_children (slice_get new number)
+      ≡ insert_entry segment_cmp (node_children (slice_get mid number)) g m
       → ((h : Segment) → child_at new number h ≡ cond (is_eq (segment_cmp g h)) (Some m) (child_at mid number h)) → IsLinked mid new number g m
   added_link len others value ordered entries child =
       let gone : slice_get old m ≡ None = past_end old m (omega arith) in

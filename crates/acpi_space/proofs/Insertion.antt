@@ -43,7 +43,8 @@ reached_up nodes acc [] = by (up nodes acc)
     by (Some n) = refl
 reached_up nodes acc (g ∷ q) = by (up nodes acc) ∙ reached_up nodes (g ∷ acc) q
   where
-    by : (o : Option ℕ) → option_and_then (λ n. option_and_then (λ m. reached nodes m q) (child_at nodes n g)) o ≡ option_and_then (λ n. reached nodes n q) (option_and_then (λ a. child_at nodes a g) o)
+    by : (o : Option ℕ) → option_and_then (λ n. option_and_then (λ m. reached nodes m q) (child_at nodes n g)) o ≡ option_and_then
+        (λ n. reached nodes n q) (option_and_then (λ a. child_at nodes a g) o)
     by None = refl
     by (Some n) = refl
 

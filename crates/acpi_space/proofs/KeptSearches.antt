@@ -14,15 +14,18 @@ kept_at {A} {X} small large p hit no_small no_large rest up free ih = by (small 
     by true e free = ap (λ b. cond b hit no_large) (up e)
     by false e free = ap (λ b. cond b hit no_large) free.0 ∙ ih free.1
 
-pub kept_find : {A : Type 0} (small large : A → Bool) → ((p : A) → small p ≡ true → large p ≡ true) → (l : List A) → AllByRecursion (λ p. large p ≡ false) (skipped small l) → find large l ≡ find small l
+pub kept_find : {A : Type 0} (small large : A → Bool) → ((p : A) → small p ≡ true → large p ≡ true) → (l : List A)
+    → AllByRecursion (λ p. large p ≡ false) (skipped small l) → find large l ≡ find small l
 kept_find small large up [] free = refl
 kept_find small large up (p ∷ l) free = kept_at small large p (Some p) (find small l) (find large l) (skipped small l) (up p) free (kept_find small large up l)
 
-pub kept_skipped : {A : Type 0} (small large : A → Bool) → ((p : A) → small p ≡ true → large p ≡ true) → (l : List A) → AllByRecursion (λ p. large p ≡ false) (skipped small l) → skipped large l ≡ skipped small l
+pub kept_skipped : {A : Type 0} (small large : A → Bool) → ((p : A) → small p ≡ true → large p ≡ true) → (l : List A)
+    → AllByRecursion (λ p. large p ≡ false) (skipped small l) → skipped large l ≡ skipped small l
 kept_skipped small large up [] free = refl
 kept_skipped small large up (p ∷ l) free = kept_at small large p [] (p ∷ skipped small l) (p ∷ skipped large l) (skipped small l) (up p) free (λ f. ap (λ r. p ∷ r) (kept_skipped small large up l f))
 
-pub fewer_skipped : (small large : List Segment → Bool) → ((p : List Segment) → small p ≡ true → large p ≡ true) → (l : List (List Segment)) (p : List Segment) → Among (skipped large l) p → Among (skipped small l) p
+pub fewer_skipped : (small large : List Segment → Bool) → ((p : List Segment) → small p ≡ true → large p ≡ true)
+    → (l : List (List Segment)) (p : List Segment) → Among (skipped large l) p → Among (skipped small l) p
 fewer_skipped small large up [] p m = m
 fewer_skipped small large up (x ∷ l) p m = by (small x) (large x) refl refl m (fewer_skipped small large up l p)
   where

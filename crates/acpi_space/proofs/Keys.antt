@@ -44,7 +44,8 @@ key_found : {V : Type 0} (es : List (List Segment × V)) (p : List Segment) → 
 key_found [] p = (λ h. absurd h, λ h. absurd (true≢false (sym h)))
 key_found (e ∷ es) p = by (is_eq (path_cmp p e.0)) refl (key_found es p)
   where
-    by : (b : Bool) → is_eq (path_cmp p e.0) ≡ b → Among (map (λ e. e.0) es) p ↔ IsTrue (is_some (find path_cmp p es)) → ((e.0 ≡ p) ⊎ Among (map (λ e. e.0) es) p) ↔ IsTrue (is_some (cond b (Some e.1) (find path_cmp p es)))
+    by : (b : Bool) → is_eq (path_cmp p e.0) ≡ b → Among (map (λ e. e.0) es) p ↔ IsTrue (is_some (find path_cmp p es))
+        → ((e.0 ≡ p) ⊎ Among (map (λ e. e.0) es) p) ↔ IsTrue (is_some (cond b (Some e.1) (find path_cmp p es)))
     by true s more = (λ h. refl, λ h. inl (sym (same_path p e.0 s)))
     by false s more = (to, λ h. inr (more.1 h))
       where

@@ -51,7 +51,8 @@ or_none (Some x) = refl
 
 -- nothing is laid over it, or it over nothing
 pub both-nothing : {V : Type 0} (lower upper : PathMap V) → upper ≡ empty → both lower upper ≡ lower
-both-nothing lower upper e = same_paths (both lower upper) lower (λ q. get-both lower upper q ∙ ap (λ m. option_or (get lower q) (get m q)) e ∙ ap (option_or (get lower q)) (get-empty path_cmp q) ∙ or_none (get lower q))
+both-nothing lower upper e = same_paths (both lower upper) lower (λ q. get-both lower upper q ∙ ap (λ m. option_or (get lower q) (get m q)) e
+    ∙ ap (option_or (get lower q)) (get-empty path_cmp q) ∙ or_none (get lower q))
 
 pub nothing-both : {V : Type 0} (upper : PathMap V) → both empty upper ≡ upper
 nothing-both upper = same_paths (both empty upper) upper (λ q. get-both empty upper q ∙ ap (λ o. option_or o (get upper q)) (get-empty path_cmp q))
@@ -66,24 +67,30 @@ both-insert {V} lower upper p v free = same_paths _ _ (λ q. get-both lower (ins
     at q false e = refl
 
 -- .. and not anything, where it has the path
-pub both-first : {V : Type 0} (lower : PathMap V) (p : List Segment) (v : V) (more : List (List Segment × V)) → IsSome (get lower p) → both lower (from_entries ((p, v) ∷ more)) ≡ both lower (from_entries more)
-both-first {V} lower p v more some = same_paths _ _ (λ q. get-both lower (from_entries ((p, v) ∷ more)) q ∙ ap (option_or (get lower q)) (get-insert path_cmp_total (from_entries {R = path_cmp} more) p v q)
+pub both-first : {V : Type 0} (lower : PathMap V) (p : List Segment) (v : V) (more : List (List Segment × V)) → IsSome (get lower p)
+    → both lower (from_entries ((p, v) ∷ more)) ≡ both lower (from_entries more)
+both-first {V} lower p v more some = same_paths _ _ (λ q. get-both lower (from_entries ((p, v) ∷ more)) q
+    ∙ ap (option_or (get lower q)) (get-insert path_cmp_total (from_entries {R = path_cmp} more) p v q)
     ∙ at q (eq_by_cmp path_cmp q p) refl ∙ sym (get-both lower (from_entries more) q))
   where
     kept : (o a b : Option V) → IsSome o → option_or o a ≡ option_or o b
     kept None a b s = absurd (true≢false (sym s))
     kept (Some x) a b s = refl
 
-    at : (q : List Segment) (b : Bool) → eq_by_cmp path_cmp q p ≡ b → option_or (get lower q) (cond b (Some v) (get (from_entries {R = path_cmp} more) q)) ≡ option_or (get lower q) (get (from_entries {R = path_cmp} more) q)
+    at : (q : List Segment) (b : Bool) → eq_by_cmp path_cmp q p ≡ b → option_or (get lower q)
+        (cond b (Some v) (get (from_entries {R = path_cmp} more) q)) ≡ option_or (get lower q) (get (from_entries {R = path_cmp} more) q)
     at q true e = kept (get lower q) _ _ (ap (λ r. is_some (get lower r)) (same_path q p e) ∙ some)
     at q false e = refl
 
 -- the first of the pairs to come goes into the lower map
-pub both-next : {V : Type 0} (lower : PathMap V) (p : List Segment) (v : V) (more : List (List Segment × V)) → get lower p ≡ None → both (insert lower p v) (from_entries more) ≡ both lower (from_entries ((p, v) ∷ more))
-both-next {V} lower p v more free = same_paths _ _ (λ q. get-both (insert lower p v) (from_entries more) q ∙ ap (λ o. option_or o (get (from_entries {R = path_cmp} more) q)) (get-insert path_cmp_total lower p v q)
+pub both-next : {V : Type 0} (lower : PathMap V) (p : List Segment) (v : V) (more : List (List Segment × V)) → get lower p ≡ None
+    → both (insert lower p v) (from_entries more) ≡ both lower (from_entries ((p, v) ∷ more))
+both-next {V} lower p v more free = same_paths _ _ (λ q. get-both (insert lower p v) (from_entries more) q
+    ∙ ap (λ o. option_or o (get (from_entries {R = path_cmp} more) q)) (get-insert path_cmp_total lower p v q)
     ∙ at q (eq_by_cmp path_cmp q p) refl ∙ ap (option_or (get lower q)) (sym (get-insert path_cmp_total (from_entries more) p v q)) ∙ sym (get-both lower (from_entries ((p, v) ∷ more)) q))
   where
-    at : (q : List Segment) (b : Bool) → eq_by_cmp path_cmp q p ≡ b → option_or (cond b (Some v) (get lower q)) (get (from_entries {R = path_cmp} more) q) ≡ option_or (get lower q) (cond b (Some v) (get (from_entries {R = path_cmp} more) q))
+    at : (q : List Segment) (b : Bool) → eq_by_cmp path_cmp q p ≡ b → option_or (cond b (Some v) (get lower q))
+        (get (from_entries {R = path_cmp} more) q) ≡ option_or (get lower q) (cond b (Some v) (get (from_entries {R = path_cmp} more) q))
     at q true e = ap (λ o. option_or o (Some v)) (sym (ap (get lower) (same_path q p e) ∙ free))
     at q false e = refl
 
@@ -99,7 +106,8 @@ never : {A : Type 0} (l : List A) → lists.find (λ _. false) l ≡ None
 never [] = refl
 never (x ∷ l) = never l
 
-pub nearest-unlent : {V S : Type 0} (contents : S → PathMap V) (space : Option (Bor S)) (s : List Segment) (g : Segment) → space ≡ None → None ≡ option_map length (nearest_scope (is_defined (lent contents space)) s g)
+pub nearest-unlent : {V S : Type 0} (contents : S → PathMap V) (space : Option (Bor S)) (s : List Segment) (g : Segment) → space ≡ None
+    → None ≡ option_map length (nearest_scope (is_defined (lent contents space)) s g)
 nearest-unlent {V} {S} contents space s g e = sym (ap (λ o. option_map length (nearest_scope (is_defined (lent contents o)) s g)) e ∙ empties ∙ ap (option_map length) (never (beginnings s)))
   where
     empties : option_map length (nearest_scope (is_defined (empty {X = V} {R = path_cmp})) s g) ≡ option_map length (lists.find (λ _. false) (beginnings s))
@@ -110,7 +118,8 @@ nearest-unlent {V} {S} contents space s g e = sym (ap (λ o. option_map length (
 pub found_below : {V : Type 0} (lower upper : PathMap V) (q : List Segment) (o : Option (Bor V)) (x : Bor V) → option_copied o ≡ get lower q → o ≡ Some x → Some x.now ≡ get (both lower upper) q
 found_below lower upper q o x e is = sym (get-both lower upper q ∙ ap (λ r. option_or r (get upper q)) (sym e ∙ ap option_copied is))
 
-pub found_above : {V : Type 0} (lower upper : PathMap V) (q : List Segment) (o r : Option (Bor V)) → option_copied o ≡ get lower q → o ≡ None → option_copied r ≡ get upper q → option_copied r ≡ get (both lower upper) q
+pub found_above : {V : Type 0} (lower upper : PathMap V) (q : List Segment) (o r : Option (Bor V)) → option_copied o ≡ get lower q → o ≡ None
+    → option_copied r ≡ get upper q → option_copied r ≡ get (both lower upper) q
 found_above lower upper q o r e is f = f ∙ sym (get-both lower upper q ∙ ap (λ s. option_or s (get upper q)) (sym e ∙ ap option_copied is))
 
 some_copied : {V : Type 0} (o : Option (Bor V)) (m : Option V) (b : Bool) → option_copied o ≡ m → b ≡ is_some o → is_some m ≡ b
@@ -121,7 +130,8 @@ some_or : {X : Type 0} (o p : Option X) → IsSome o → IsSome (option_or o p)
 some_or None p s = absurd (true≢false (sym s))
 some_or (Some x) p s = refl
 
-pub taken_below : {V : Type 0} (lower upper : PathMap V) (q : List Segment) (o : Option (Bor V)) (b : Bool) → option_copied o ≡ get lower q → b ≡ is_some o → b ≡ true → IsSome (get (both lower upper) q)
+pub taken_below : {V : Type 0} (lower upper : PathMap V) (q : List Segment) (o : Option (Bor V)) (b : Bool) → option_copied o ≡ get lower q
+    → b ≡ is_some o → b ≡ true → IsSome (get (both lower upper) q)
 taken_below lower upper q o b e f t = ap is_some (get-both lower upper q) ∙ some_or (get lower q) (get upper q) (some_copied o (get lower q) b e f ∙ t)
 
 pub free_below : {V : Type 0} (lower : PathMap V) (q : List Segment) (o : Option (Bor V)) (b : Bool) → option_copied o ≡ get lower q → b ≡ is_some o → b ≡ false → get lower q ≡ None
@@ -135,18 +145,21 @@ pub inserted_free : {V R E : Type 0} (lower upper : PathMap V) (q : List Segment
 inserted_free lower upper q (Ok x) free e = above lower upper q free ∙ e
 inserted_free lower upper q (Err x) free e = tt
 
-pub inserted_both : {V R E : Type 0} (lower upper new : PathMap V) (q : List Segment) (v : V) (r : Result R E) → get lower q ≡ None → OnOk r (new ≡ insert upper q v) → OnOk r (both lower new ≡ insert (both lower upper) q v)
+pub inserted_both : {V R E : Type 0} (lower upper new : PathMap V) (q : List Segment) (v : V) (r : Result R E) → get lower q ≡ None
+    → OnOk r (new ≡ insert upper q v) → OnOk r (both lower new ≡ insert (both lower upper) q v)
 inserted_both lower upper new q v (Ok x) free e = ap (both lower) e ∙ both-insert lower upper q v free
 inserted_both lower upper new q v (Err x) free e = tt
 
-pub refused_both : {V R : Type 0} (lower upper : PathMap V) (q : List Segment) (v : V) (r : Result R (Refused V)) → get lower q ≡ None → IfErr r (IsRefusal upper q v) → IfErr r (IsRefusal (both lower upper) q v)
+pub refused_both : {V R : Type 0} (lower upper : PathMap V) (q : List Segment) (v : V) (r : Result R (Refused V)) → get lower q ≡ None
+    → IfErr r (IsRefusal upper q v) → IfErr r (IsRefusal (both lower upper) q v)
 refused_both lower upper q v (Ok x) free e = tt
 refused_both lower upper q v (Err (Taken w)) free e = (ap is_some (above lower upper q free) ∙ e.0, e.1)
 refused_both lower upper q v (Err (Memory w)) free e = (above lower upper q free ∙ e.0, e.1)
 
 -- ---- the nearest scope
 
-taller : {A : Type 0} (x : A) (o : Option (List A)) (b : Bool) → option_map length (option_or (option_map (λ q. x ∷ q) o) (cond b (Some []) None)) ≡ option_or (option_map suc (option_map length o)) (cond b (Some 0) None)
+taller : {A : Type 0} (x : A) (o : Option (List A)) (b : Bool) → option_map length
+    (option_or (option_map (λ q. x ∷ q) o) (cond b (Some []) None)) ≡ option_or (option_map suc (option_map length o)) (cond b (Some 0) None)
 taller x None true = refl
 taller x None false = refl
 taller x (Some q) b = refl
@@ -190,7 +203,8 @@ some-both None p = refl
 some-both (Some x) p = refl
 
 pub nearest-both : {V : Type 0} (lower upper : PathMap V) (s : List Segment) (g : Segment) (a b : Option ℕ)
-    → a ≡ option_map length (nearest_scope (is_defined lower) s g) → b ≡ option_map length (nearest_scope (is_defined upper) s g) → longer a b ≡ option_map length (nearest_scope (is_defined (both lower upper)) s g)
+    → a ≡ option_map length (nearest_scope (is_defined lower) s g) → b ≡ option_map length (nearest_scope (is_defined upper) s g) → longer a b
+    ≡ option_map length (nearest_scope (is_defined (both lower upper)) s g)
 unfolding depth
 nearest-both lower upper s g a b e f =
     (λ i. longer (e i) (f i)) ∙ sym (longer_depth (λ q. is_defined lower (q ++ g ∷ [])) (λ q. is_defined upper (q ++ g ∷ [])) s)
@@ -219,7 +233,8 @@ is_some-map : {X Y : Type 0} (f : X → Y) (o : Option X) → is_some (option_ma
 is_some-map f None = refl
 is_some-map f (Some x) = refl
 
-one_put : {V : Type 0} (es fs : List (List Segment × Bor V)) (k : List Segment) (v : Bor V) → ((q : List Segment) → at fs q ≡ cond (is_eq (path_cmp k q)) (Some v) (at es q)) → pairs_of fs ≡ insert (pairs_of es) k v.now
+one_put : {V : Type 0} (es fs : List (List Segment × Bor V)) (k : List Segment) (v : Bor V)
+    → ((q : List Segment) → at fs q ≡ cond (is_eq (path_cmp k q)) (Some v) (at es q)) → pairs_of fs ≡ insert (pairs_of es) k v.now
 one_put {V} es fs k v h = put_is_insert (map seen es) (map seen fs) k v.now (λ q. lookup-seen (λ x. is_eq (path_cmp q x)) fs ∙ ap (option_map (λ v. v.now)) (h q) ∙ by (is_eq (path_cmp k q)) (at es q)
     ∙ ap (cond (is_eq (path_cmp k q)) (Some v.now)) (sym (lookup-seen (λ x. is_eq (path_cmp q x)) es)))
   where
@@ -260,7 +275,8 @@ firsts-seen : {V : Type 0} (es : List (List Segment × Bor V)) → map (λ e. e.
 firsts-seen [] = refl
 firsts-seen (e ∷ es) = ap (λ l. e.0 ∷ l) (firsts-seen es)
 
-pub listed_seen : {V : Type 0} (items rest all es : List (List Segment × Bor V)) → items ++ rest ≡ all → rest ≡ [] → all ≡ es → IsStrictlySortedBy path_cmp (map (λ e. e.0) es) → map seen items ≡ entries (pairs_of es)
+pub listed_seen : {V : Type 0} (items rest all es : List (List Segment × Bor V)) → items ++ rest ≡ all → rest ≡ [] → all ≡ es
+    → IsStrictlySortedBy path_cmp (map (λ e. e.0) es) → map seen items ≡ entries (pairs_of es)
 listed_seen items rest all es e r a s =
     ap (map seen) (sym (append-nil items) ∙ ap (λ l. items ++ l) (sym r) ∙ e ∙ a)
     ∙ sym (entries_ascending (map seen es) (subst (IsStrictlySortedBy path_cmp) (sym (firsts-seen es)) s))

@@ -8,7 +8,8 @@ use Rattle.acpi_space.specs.Search.{beginnings, skipped, tries_of}
 use Rattle.acpi_space.specs.Laws.{Among, IsBelow, IsLongestAnswer, IsPast, IsPlaceAnswer, MissedArePast, MissedIsPlace, OtherIsAtPlace, PlainIsLongest}
 use Rattle.acpi_space.proofs.Beginnings.{FoundAs, find_longest, find_map}
 
-below : (defined : List Segment → Bool) (s : List Segment) (g : Segment) (o : Option (List Segment)) → FoundAs (λ q. defined (q ++ g ∷ [])) s o → IsLongestAnswer defined s g (option_map (λ q. q ++ g ∷ []) o)
+below : (defined : List Segment → Bool) (s : List Segment) (g : Segment) (o : Option (List Segment)) → FoundAs (λ q. defined (q ++ g ∷ [])) s o
+    → IsLongestAnswer defined s g (option_map (λ q. q ++ g ∷ []) o)
 below defined s g None h = h
 below defined s g (Some q) h = (q, refl, h)
 

@@ -34,10 +34,12 @@ none_of_not_some (Some x) e = absurd (true≢false e)
 pub get_of_view : {V : Type 0} (es : List (List Segment × V)) (m : FinMap path_cmp V) (q : List Segment) → from_entries es ≡ m → get m q ≡ lookup (λ k. is_eq (path_cmp q k)) es
 get_of_view es m q e = ap (λ n. get n q) (sym e) ∙ get_is_lookup es q
 
-pub some_of_view : {V : Type 0} (es : List (List Segment × V)) (m : FinMap path_cmp V) (q : List Segment) (b : Bool) → from_entries es ≡ m → b ≡ is_some (lookup (λ k. is_eq (path_cmp q k)) es) → b ≡ true → IsSome (get m q)
+pub some_of_view : {V : Type 0} (es : List (List Segment × V)) (m : FinMap path_cmp V) (q : List Segment) (b : Bool) → from_entries es ≡ m
+    → b ≡ is_some (lookup (λ k. is_eq (path_cmp q k)) es) → b ≡ true → IsSome (get m q)
 some_of_view es m q b e f t = ap is_some (get_of_view es m q e) ∙ sym f ∙ t
 
-pub none_of_view : {V : Type 0} (es : List (List Segment × V)) (m : FinMap path_cmp V) (q : List Segment) (b : Bool) → from_entries es ≡ m → b ≡ is_some (lookup (λ k. is_eq (path_cmp q k)) es) → b ≡ false → get m q ≡ None
+pub none_of_view : {V : Type 0} (es : List (List Segment × V)) (m : FinMap path_cmp V) (q : List Segment) (b : Bool) → from_entries es ≡ m
+    → b ≡ is_some (lookup (λ k. is_eq (path_cmp q k)) es) → b ≡ false → get m q ≡ None
 none_of_view es m q b e f t = get_of_view es m q e ∙ none_of_not_some _ (sym f ∙ t)
 
 -- ascending entries are the map's own

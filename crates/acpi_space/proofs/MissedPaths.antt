@@ -33,7 +33,9 @@ skipped_past {A} p (y ∷ xs) ys e = by (p y) e (skipped_past p xs ys)
 
 pub length-beginnings : {A : Type 0} (xs : List A) → length (beginnings xs) ≡ length xs + 1
 length-beginnings [] = refl
-length-beginnings (x ∷ xs) = length-append (map (λ q. x ∷ q) (beginnings xs)) ([] ∷ []) ∙ ap (λ n. n + 1) (length-map (beginnings xs) (λ q. x ∷ q) ∙ length-beginnings xs) ∙ (let e : (length xs + 1) + 1 ≡ suc (length xs) + 1 = omega arith in e)
+length-beginnings (x ∷ xs) = length-append (map (λ q. x ∷ q) (beginnings xs)) ([] ∷ [])
+    ∙ ap (λ n. n + 1) (length-map (beginnings xs) (λ q. x ∷ q) ∙ length-beginnings xs)
+    ∙ (let e : (length xs + 1) + 1 ≡ suc (length xs) + 1 = omega arith in e)
   where
     length-append : {B : Type 0} (us vs : List B) → length (us ++ vs) ≡ length us + length vs
     length-append [] vs = omega arith
@@ -42,7 +44,8 @@ length-beginnings (x ∷ xs) = length-append (map (λ q. x ∷ q) (beginnings xs
 -- as many of the longest beginnings of a longer list
 take_under : {A : Type 0} (x : A) (xs : List A) (k : ℕ) → k ≤ length xs + 1 → take k (beginnings (x ∷ xs)) ≡ map (λ q. x ∷ q) (take k (beginnings xs))
 take_under x xs k h =
-    take-append-le k (map (λ q. x ∷ q) (beginnings xs)) ([] ∷ []) (let l : length (map (λ q. x ∷ q) (beginnings xs)) ≡ length xs + 1 = length-map (beginnings xs) (λ q. x ∷ q) ∙ length-beginnings xs in omega (arith, l))
+    take-append-le k (map (λ q. x ∷ q) (beginnings xs)) ([] ∷ []) (let l : length (map (λ q. x ∷ q) (beginnings xs)) ≡ length xs
+    + 1 = length-map (beginnings xs) (λ q. x ∷ q) ∙ length-beginnings xs in omega (arith, l))
     ∙ take-map (λ q. x ∷ q) k (beginnings xs)
 
 take_all : {A : Type 0} (xs : List A) (n : ℕ) → n ≡ length xs → take n xs ≡ xs
@@ -108,7 +111,8 @@ skipped_all {A} p (x ∷ l) e = by (p x) e (skipped_all p l)
     by false e ih = ap (λ r. x ∷ r) (ih e)
 
 -- the least length that is missed, by what `nearest` says
-pub missed_none : {A : Type 0} (p : List A → Bool) (xs : List A) (r : Option ℕ) → r ≡ option_map length (find p (beginnings xs)) → r ≡ None → skipped p (beginnings xs) ≡ take (length xs + 1 - 0) (beginnings xs)
+pub missed_none : {A : Type 0} (p : List A → Bool) (xs : List A) (r : Option ℕ) → r ≡ option_map length (find p (beginnings xs)) → r ≡ None
+    → skipped p (beginnings xs) ≡ take (length xs + 1 - 0) (beginnings xs)
 missed_none p xs r e n =
     skipped_all p (beginnings xs) (not_found (find p (beginnings xs)) length r e n)
     ∙ sym (take_all (beginnings xs) (length xs + 1 - 0) (let l : length (beginnings xs) ≡ length xs + 1 = length-beginnings xs in omega (arith, l)))
@@ -118,7 +122,8 @@ length_take_le xs zero h = refl
 length_take_le [] (suc n) h = absurd (omega arith)
 length_take_le (x ∷ xs) (suc n) h = ap suc (length_take_le xs n (omega arith))
 
-pub missed_some : {A : Type 0} (p : List A → Bool) (xs : List A) (r : Option ℕ) (d : ℕ) → r ≡ option_map length (find p (beginnings xs)) → r ≡ Some d → skipped p (beginnings xs) ≡ take (length xs + 1 - (d + 1)) (beginnings xs)
+pub missed_some : {A : Type 0} (p : List A → Bool) (xs : List A) (r : Option ℕ) (d : ℕ) → r ≡ option_map length (find p (beginnings xs)) → r ≡ Some d
+    → skipped p (beginnings xs) ≡ take (length xs + 1 - (d + 1)) (beginnings xs)
 missed_some p xs r d e n =
     let w : d ≤ length xs = found_within p xs r d e n in
     let l : length (take d xs) ≡ d = length_take_le xs d w in

@@ -27,7 +27,8 @@ nearest_start nodes scope g = by (find (λ q. is_some (value_below nodes 0 (q ++
     by (Some q) = let e : 0 + length q ≡ length q = omega arith in ap Some e
 
 one_deeper : (o : Option (List Segment)) (x : Segment) (hit : Bool) (depth : ℕ) (found : Option ℕ)
-    → option_or (option_map (λ q. depth + length q) (option_or (option_map (λ q. x ∷ q) o) (cond hit (Some []) None))) found ≡ option_or (option_map (λ q. (depth + 1) + length q) o) (cond hit (Some depth) found)
+    → option_or (option_map (λ q. depth + length q) (option_or (option_map (λ q. x ∷ q) o) (cond hit (Some []) None))) found
+    ≡ option_or (option_map (λ q. (depth + 1) + length q) o) (cond hit (Some depth) found)
 one_deeper (Some q) x hit depth found = let e : depth + suc (length q) ≡ (depth + 1) + length q = omega arith in ap Some e
 one_deeper None x true depth found = let e : depth + 0 ≡ depth = omega arith in ap Some e
 one_deeper None x false depth found = refl

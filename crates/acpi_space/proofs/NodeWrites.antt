@@ -39,5 +39,6 @@ module _ {V : Type 0} (nodes : List (Node V)) (number : ℕ) (was : Node V) (wit
   pub children_before : was.children.entries ≡ node_children (slice_get nodes number)
   children_before = ap node_children (sym found_node)
 
-pub written_children : {V : Type 0} (nodes : List (Node V)) (number : ℕ) (node : Node V) → number < length nodes → node_children (slice_get (slice_set nodes number node) number) ≡ node.children.entries
+pub written_children : {V : Type 0} (nodes : List (Node V)) (number : ℕ) (node : Node V) → number < length nodes
+    → node_children (slice_get (slice_set nodes number node) number) ≡ node.children.entries
 written_children nodes number node within = ap node_children (get_set nodes number node within)

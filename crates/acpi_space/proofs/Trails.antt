@@ -25,7 +25,8 @@ trail_cut nodes n zero (m ∷ marks) t = tt
 trail_cut nodes n (suc k) [] t = tt
 trail_cut nodes n (suc k) (m ∷ marks) t = (t.0, trail_cut nodes m.number k marks t.1)
 
-longer : {V : Type 0} (nodes : List (Node V)) (n : ℕ) (marks : List Mark) (mark : Mark) → IsTrail nodes n marks → child_at nodes (trail_end n marks) mark.seg ≡ Some mark.number → IsTrail nodes n (marks ++ mark ∷ [])
+longer : {V : Type 0} (nodes : List (Node V)) (n : ℕ) (marks : List Mark) (mark : Mark) → IsTrail nodes n marks
+    → child_at nodes (trail_end n marks) mark.seg ≡ Some mark.number → IsTrail nodes n (marks ++ mark ∷ [])
 longer nodes n [] mark t e = (e, tt)
 longer nodes n (m ∷ marks) mark t e = (t.0, longer nodes m.number marks mark t.1 e)
 
@@ -149,10 +150,12 @@ module _ {V E : Type 0} (old mid new : List (Node V)) (path : List Segment) (dep
       by (Err e) h = sym (first.values 0 path) ∙ sym (below_fork mid path depth number at) ∙ h
 
 -- a value that is put moves no child
-same_trail : {V : Type 0} (old new : List (Node V)) → ((n : ℕ) → node_children (slice_get new n) ≡ node_children (slice_get old n)) → (n : ℕ) (marks : List Mark) → IsTrail old n marks → IsTrail new n marks
+same_trail : {V : Type 0} (old new : List (Node V)) → ((n : ℕ) → node_children (slice_get new n) ≡ node_children (slice_get old n))
+    → (n : ℕ) (marks : List Mark) → IsTrail old n marks → IsTrail new n marks
 same_trail old new kids n [] t = tt
 same_trail old new kids n (m ∷ marks) t = (same_child old new kids n m.seg ∙ t.0, same_trail old new kids m.number marks t.1)
 
-pub put_trail : {V A E : Type 0} (mid new : List (Node V)) (k : ℕ) (v : V) (marks : List Mark) (r : Result A E) → OnOk r (HasPut mid new k v) → OnErr r (new ≡ mid) → IsTrail mid 0 marks → IsTrail new 0 marks
+pub put_trail : {V A E : Type 0} (mid new : List (Node V)) (k : ℕ) (v : V) (marks : List Mark) (r : Result A E) → OnOk r (HasPut mid new k v)
+    → OnErr r (new ≡ mid) → IsTrail mid 0 marks → IsTrail new 0 marks
 put_trail mid new k v marks (Ok x) h e t = same_trail mid new h.children 0 marks t
 put_trail mid new k v marks (Err x) h e t = subst (λ nodes. IsTrail nodes 0 marks) (sym e) t

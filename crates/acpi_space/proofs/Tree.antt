@@ -46,7 +46,9 @@ at-under {V} g h q [] = by (is_eq (segment_cmp g h))
     by true = refl
     by false = refl
 at-under g h q (e ∷ es) =
-    elim (segment_cmp g h) as (λ o. at (g ∷ q) (under h es) ≡ cond (is_eq o) (at q es) None → cond (is_eq (ordering_then o (path_cmp q e.0))) (Some e.1) (at (g ∷ q) (under h es)) ≡ cond (is_eq o) (cond (is_eq (path_cmp q e.0)) (Some e.1) (at q es)) None) [
+    elim (segment_cmp g h) as (λ o. at (g ∷ q) (under h es) ≡ cond (is_eq o) (at q es) None
+    → cond (is_eq (ordering_then o (path_cmp q e.0))) (Some e.1) (at (g ∷ q) (under h es))
+    ≡ cond (is_eq o) (cond (is_eq (path_cmp q e.0)) (Some e.1) (at q es)) None) [
       | Less ↦ λ ih. ih
       | Equal ↦ λ ih. ap (cond (is_eq (path_cmp q e.0)) (Some e.1)) ih
       | Greater ↦ λ ih. ih

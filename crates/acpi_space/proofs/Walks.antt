@@ -21,7 +21,8 @@ pub reached_grown : {V : Type 0} (old new : List (Node V)) (n : ℕ) (q : List S
 reached_grown old new n [] k grown e = e
 reached_grown old new n (h ∷ q) k grown e = by (λ j. reached_grown old new j q k grown) (child_at old n h) refl e
   where
-    by : ((j : ℕ) → reached old j q ≡ Some k → reached new j q ≡ Some k) → (o : Option ℕ) → child_at old n h ≡ o → option_and_then (λ j. reached old j q) o ≡ Some k → option_and_then (λ j. reached new j q) (child_at new n h) ≡ Some k
+    by : ((j : ℕ) → reached old j q ≡ Some k → reached new j q ≡ Some k) → (o : Option ℕ) → child_at old n h ≡ o
+        → option_and_then (λ j. reached old j q) o ≡ Some k → option_and_then (λ j. reached new j q) (child_at new n h) ≡ Some k
     by ih None f e = cc
     by ih (Some j) f e = ap (option_and_then (λ j. reached new j q)) (grown.children n h j f) ∙ ih j e
 

@@ -179,7 +179,8 @@ unfolding package_number
 number_counts p lt = by_tests (ltb (p + 1) 64) (ltb (p + 2) 4096) (ltb (p + 3) 1048576) refl refl refl
   where
     by_tests : (a b c : Bool) → ltb (p + 1) 64 ≡ a → ltb (p + 2) 4096 ≡ b → ltb (p + 3) 1048576 ≡ c
-        → (length (shortest_pkg_length (cond a (p + 1) (cond b (p + 2) (cond c (p + 3) (p + 4))))) + p ≡ cond a (p + 1) (cond b (p + 2) (cond c (p + 3) (p + 4)))) × (cond a (p + 1) (cond b (p + 2) (cond c (p + 3) (p + 4))) < 268435456)
+        → (length (shortest_pkg_length (cond a (p + 1) (cond b (p + 2) (cond c (p + 3) (p + 4))))) + p
+        ≡ cond a (p + 1) (cond b (p + 2) (cond c (p + 3) (p + 4)))) × (cond a (p + 1) (cond b (p + 2) (cond c (p + 3) (p + 4))) < 268435456)
     by_tests true b c x y z = let h = ltb-true _ _ x in (omega (arith, one_byte (p + 1) h), omega arith)
     by_tests false true c x y z = let h = ltb-true _ _ y in let g = ltb-false _ _ x in (omega (arith, two_bytes (p + 2) (omega arith) h), omega arith)
     by_tests false false true x y z = let h = ltb-true _ _ z in let g = ltb-false _ _ y in (omega (arith, three_bytes (p + 3) (omega arith) h), omega arith)
@@ -271,7 +272,14 @@ shortest_least n other all h = by_tests (ltb n 64) (ltb n 4096) (ltb n 1048576) 
         omega (arith, three_bytes n low (ltb-true _ _ z), fits.some, above (length other) 1 n 64 (omega arith) fits.in_one, above (length other) 2 n 4096 low fits.in_two)
     by_tests false false false x y z =
         let low : 1048576 ≤ n = ltb-false _ _ z in
-        omega (arith, four_bytes n low, fits.some, above (length other) 1 n 64 (omega arith) fits.in_one, above (length other) 2 n 4096 (omega arith) fits.in_two, above (length other) 3 n 1048576 low fits.in_three)
+        omega (
+          arith,
+          four_bytes n low,
+          fits.some,
+          above (length other) 1 n 64 (omega arith) fits.in_one,
+          above (length other) 2 n 4096 (omega arith) fits.in_two,
+          above (length other) 3 n 1048576 low fits.in_three,
+        )
 
 -- a payload that is too great for k bytes of its own isn't counted with k bytes
 excess : (size k payload number bound : ℕ) → number ≡ size + payload → bound ≤ payload + k → (size ≡ k → number < bound) → size ≢ k

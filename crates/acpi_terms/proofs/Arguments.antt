@@ -42,7 +42,8 @@ argument_complete bits_arg level end v a rest le h = rw (length_complete v end a
 argument_complete const_arg level end v a rest le h = const_complete v end a rest h
 argument_complete int_arg level end v a rest le h = int_complete level end v a rest (omega arith) h
 
-pub arguments_complete : (ks : List FixedArgument) (level end : ℕ) (v : Values ks) (a rest : List ℕ) → arguments_height ks ≤ level → SpellsArguments ks v a → arguments_at level ks end (a ++ rest) ≡ Ok (v, rest)
+pub arguments_complete : (ks : List FixedArgument) (level end : ℕ) (v : Values ks) (a rest : List ℕ) → arguments_height ks ≤ level
+    → SpellsArguments ks v a → arguments_at level ks end (a ++ rest) ≡ Ok (v, rest)
 arguments_complete [] level end v a rest le h = rw h refl
 arguments_complete (k ∷ ks) level end v a rest le h =
     rw (h.4, append_assoc h.0 h.1 rest, argument_complete k level end v.0 h.0 (h.1 ++ rest) (omega arith) h.2, arguments_complete ks level end v.1 h.1 rest (omega arith) h.3) refl
@@ -65,7 +66,8 @@ IsArgs n bytes = (n ≤ 7) × (bytes ≡ n ∷ [])
 args_sound : (s : Source) (level end : ℕ) (bytes : List ℕ) → Position s.depth level s.code end bytes → Judge (Read s level end IsArgs bytes) (Bad s) (args_in end bytes)
 unfolding args_in
 args_sound s level end bytes h =
-    judge_bind (Read s level end SpellsByte bytes) (Read s level end IsArgs bytes) (Bad s) (part (byte_at end bytes)) _ (part_sound s (Read s level end SpellsByte bytes) (byte_at end bytes) (byte_sound s level end bytes h)) (λ n r.
+    judge_bind (Read s level end SpellsByte bytes) (Read s level end IsArgs bytes) (Bad s) (part (byte_at end bytes)) _
+    (part_sound s (Read s level end SpellsByte bytes) (byte_at end bytes) (byte_sound s level end bytes h)) (λ n r.
     judge_if (Read s level end IsArgs bytes) (Bad s) (ltb 7 n.0) _ _
     (λ many. inr (n.0, n.1 ++ h.after, stands_at s level end bytes h ∙ rw (r.0.whole, r.0.spells) refl, ltb-true 7 n.0 many))
     (λ few. (record { front = r.0.front; spells = (ltb-false 7 n.0 few, r.0.spells); whole = r.0.whole }, r.1)))
@@ -81,19 +83,27 @@ abbrev pub ArgumentsWithin : ℕ → (ks : List FixedArgument) → Values ks →
 ArgumentsWithin left ks v bytes = SpellsArguments ks v bytes × (arguments_height ks ≤ left)
 
 -- a part that takes no level
-flat : {A : Type 0} (s : Source) (level end left : ℕ) (Spells : A → List ℕ → Type 0) (bytes : List ℕ) (r : Reading Fault A) → Judge (Read s level end Spells bytes) (Bad s) r → Judge (Read s level end (λ v a. Spells v a × (0 ≤ left)) bytes) (Bad s) r
+flat : {A : Type 0} (s : Source) (level end left : ℕ) (Spells : A → List ℕ → Type 0) (bytes : List ℕ) (r : Reading Fault A)
+    → Judge (Read s level end Spells bytes) (Bad s) r → Judge (Read s level end (λ v a. Spells v a × (0 ≤ left)) bytes) (Bad s) r
 flat s level end left Spells bytes (Ok x) h = (record { front = h.0.front; spells = (h.0.spells, omega arith); whole = h.0.whole }, h.1)
 flat s level end left Spells bytes (Err f) h = h
 
-argument_sound : (s : Source) (level end left : ℕ) (k : FixedArgument) (bytes : List ℕ) → Levels (argument_height k) level left → Position s.depth level s.code end bytes → Judge (Read s level end (ArgumentWithin left k) bytes) (Bad s) (argument_at left k end bytes)
-argument_sound s level end left name_arg bytes l h = flat s level end left SpellsName bytes (part (name_in end bytes)) (part_sound s (Read s level end SpellsName bytes) (name_in end bytes) (name_sound s level end bytes h))
+argument_sound : (s : Source) (level end left : ℕ) (k : FixedArgument) (bytes : List ℕ) → Levels (argument_height k) level left
+    → Position s.depth level s.code end bytes → Judge (Read s level end (ArgumentWithin left k) bytes) (Bad s) (argument_at left k end bytes)
+argument_sound s level end left name_arg bytes l h = flat s level end left SpellsName bytes (part (name_in end bytes))
+    (part_sound s (Read s level end SpellsName bytes) (name_in end bytes) (name_sound s level end bytes h))
 argument_sound s level end left source_arg bytes l h = flat s level end left SpellsTermName bytes (source_at end bytes) (source_sound s level end bytes h)
-argument_sound s level end left segment_arg bytes l h = flat s level end left SpellsSegment bytes (part (segment_in end bytes)) (part_sound s (Read s level end SpellsSegment bytes) (segment_in end bytes) (segment_sound s level end bytes h))
-argument_sound s level end left byte_arg bytes l h = flat s level end left SpellsByte bytes (part (byte_at end bytes)) (part_sound s (Read s level end SpellsByte bytes) (byte_at end bytes) (byte_sound s level end bytes h))
-argument_sound s level end left word_arg bytes l h = flat s level end left (SpellsNumber 2) bytes (part (number_at 2 end bytes)) (part_sound s (Read s level end (SpellsNumber 2) bytes) (number_at 2 end bytes) (number_sound s level 2 end bytes h))
-argument_sound s level end left dword_arg bytes l h = flat s level end left (SpellsNumber 4) bytes (part (number_at 4 end bytes)) (part_sound s (Read s level end (SpellsNumber 4) bytes) (number_at 4 end bytes) (number_sound s level 4 end bytes h))
+argument_sound s level end left segment_arg bytes l h = flat s level end left SpellsSegment bytes (part (segment_in end bytes))
+    (part_sound s (Read s level end SpellsSegment bytes) (segment_in end bytes) (segment_sound s level end bytes h))
+argument_sound s level end left byte_arg bytes l h = flat s level end left SpellsByte bytes (part (byte_at end bytes))
+    (part_sound s (Read s level end SpellsByte bytes) (byte_at end bytes) (byte_sound s level end bytes h))
+argument_sound s level end left word_arg bytes l h = flat s level end left (SpellsNumber 2) bytes (part (number_at 2 end bytes))
+    (part_sound s (Read s level end (SpellsNumber 2) bytes) (number_at 2 end bytes) (number_sound s level 2 end bytes h))
+argument_sound s level end left dword_arg bytes l h = flat s level end left (SpellsNumber 4) bytes (part (number_at 4 end bytes))
+    (part_sound s (Read s level end (SpellsNumber 4) bytes) (number_at 4 end bytes) (number_sound s level 4 end bytes h))
 argument_sound s level end left count_arg bytes l h = flat s level end left IsArgs bytes (args_in end bytes) (args_sound s level end bytes h)
-argument_sound s level end left bits_arg bytes l h = flat s level end left SpellsPkgLength bytes (part (length_in end bytes)) (part_sound s (Read s level end SpellsPkgLength bytes) (length_in end bytes) (length_sound s level end bytes h))
+argument_sound s level end left bits_arg bytes l h = flat s level end left SpellsPkgLength bytes (part (length_in end bytes))
+    (part_sound s (Read s level end SpellsPkgLength bytes) (length_in end bytes) (length_sound s level end bytes h))
 argument_sound s level end left const_arg bytes l h = flat s level end left SpellsInt bytes (const_at end bytes) (const_sound s level end bytes h)
 argument_sound s level end left int_arg bytes (inl none) h = absurd (omega (arith, none))
 argument_sound s level end left int_arg bytes (inr same) h =
@@ -128,14 +138,17 @@ arguments_sound s level end left (k ∷ ks) bytes l h =
 -- ---- forms behind an opcode
 
 pub plain_sound : {T : Type 0} (s : Source) (level end left : ℕ) (ks : List FixedArgument) (made : Values ks → T) (Spells : T → List ℕ → Type 0) (bytes op rest : List ℕ) → bytes ≡ op ++ rest
-    → Levels (arguments_height ks) level left → ((v : Values ks) (front : List ℕ) → SpellsPlain op ks v front → arguments_height ks ≤ left → Spells (made v) front) → Position s.depth level s.code end rest
+    → Levels (arguments_height ks) level left → ((v : Values ks) (front : List ℕ) → SpellsPlain op ks v front → arguments_height ks ≤ left
+    → Spells (made v) front) → Position s.depth level s.code end rest
     → Judge (Read s level end Spells bytes) (Bad s) (plain_at ks made left end rest)
 plain_sound {T} s level end left ks made Spells bytes op rest is l spells h =
     let Behind : T → List ℕ → Type 0 = λ x a. Spells x (op ++ a) in
     read_behind (Bad s) s level end Behind Spells bytes op rest (plain_at ks made left end rest) is (λ x a k. k)
-    (read_as (Bad s) s level end (ArgumentsWithin left ks) Behind made rest (arguments_at left ks end rest) (λ v a k. spells v (op ++ a) (a, k.0, refl) k.1) (arguments_sound s level end left ks rest l h))
+    (read_as (Bad s) s level end (ArgumentsWithin left ks) Behind made rest (arguments_at left ks end rest)
+    (λ v a k. spells v (op ++ a) (a, k.0, refl) k.1) (arguments_sound s level end left ks rest l h))
 
-pub packed_sound : {X T : Type 0} (s : Source) (level end left : ℕ) (ks : List FixedArgument) (made : Values ks → X → T) (inner : ℕ → List ℕ → Result X Fault) (Fills : X → List ℕ → Type 0) (Spells : T → List ℕ → Type 0)
+pub packed_sound : {X T : Type 0} (s : Source) (level end left : ℕ) (ks : List FixedArgument) (made : Values ks → X → T)
+    (inner : ℕ → List ℕ → Result X Fault) (Fills : X → List ℕ → Type 0) (Spells : T → List ℕ → Type 0)
     (bytes op rest : List ℕ) → bytes ≡ op ++ rest → Levels (arguments_height ks) level left
     → ((v : Values ks) (x : X) (front a b : List ℕ) → SpellsArguments ks v a → arguments_height ks ≤ left → Fills x b → Packs op (a ++ b) front → Spells (made v x) front)
     → ((end : ℕ) (b : List ℕ) → Position s.depth level s.code end b → Judge (λ x. Fills x b) (Bad s) (inner end b)) → Position s.depth level s.code end rest
@@ -146,6 +159,12 @@ packed_sound {X} {T} s level end left ks made inner Fills Spells bytes op rest i
     judge_bind (Read s level p.end (ArgumentsWithin left ks) p.content) G (Bad s) (arguments_at left ks p.end p.content) _ (arguments_sound s level p.end left ks p.content l g.1) (λ v r.
     judge_bind (λ x. Fills x v.1) G (Bad s) (inner p.end v.1) _ (fills p.end v.1 r.1) (λ x q.
     let t = r.0 in
-    let packs : Packs op (t.front ++ v.1) (op ++ (g.0.len ++ (t.front ++ v.1))) = record { len = g.0.len; spells_len = subst (λ (y : List ℕ). SpellsPkgLength (length g.0.len + length y) g.0.len) t.whole g.0.spells_len; whole = refl } in
+    let packs : Packs op (t.front ++ v.1) (op ++ (g.0.len ++ (t.front ++ v.1))) =
+    record {
+      len = g.0.len;
+      spells_len = subst (λ (y : List ℕ). SpellsPkgLength (length g.0.len + length y) g.0.len) t.whole
+          g.0.spells_len;
+      whole = refl;
+    } in
     let whole : bytes ≡ (op ++ (g.0.len ++ (t.front ++ v.1))) ++ p.rest = rw (is, g.0.whole, t.whole) (simp append_assoc) in
     (record { front = op ++ (g.0.len ++ (t.front ++ v.1)); spells = spells v.0 x (op ++ (g.0.len ++ (t.front ++ v.1))) t.front v.1 t.spells.0 t.spells.1 q packs; whole = whole }, g.2))))

@@ -47,7 +47,8 @@ content_complete level end xs b h le = all_at (external_at level end) b xs (exte
 abbrev SpellsParts : ExternalParts → List ℕ → Type 0
 SpellsParts x bytes = SpellsExternal x (21 ∷ bytes)
 
-pub parts_sound : (s : Source) (level end : ℕ) (bytes rest : List ℕ) → bytes ≡ 21 ∷ rest → Position s.depth level s.code end rest → Judge (Read s level end SpellsExternal bytes) (Bad s) (parts_at end rest)
+pub parts_sound : (s : Source) (level end : ℕ) (bytes rest : List ℕ) → bytes ≡ 21 ∷ rest → Position s.depth level s.code end rest
+    → Judge (Read s level end SpellsExternal bytes) (Bad s) (parts_at end rest)
 unfolding parts_at
 parts_sound s level end bytes rest is h = plain_sound s level end 0 (arguments opcodes.External) external_parts SpellsExternal bytes (21 ∷ []) rest is (inl refl) (λ v front k le. k) h
 
@@ -71,20 +72,23 @@ within_each : (level : ℕ) (xs : List ExternalParts) (bytes : List ℕ) → Spe
 within_each level [] bytes h = (h, omega arith)
 within_each level (x ∷ xs) bytes h = let more = within_each level xs h.1 h.3 in ((h.0, h.1, h.2.0, more.0, h.4), omega (arith, h.2.1))
 
-external_by_sound : (s : Source) (level end : ℕ) (opcode : Opcode) (bytes rest : List ℕ) → Position s.depth level s.code end bytes → Opened bytes (opcode, rest) → Judge (Read s level end SpellsExternal bytes) (BlockBad s) (external_by end bytes opcode rest)
+external_by_sound : (s : Source) (level end : ℕ) (opcode : Opcode) (bytes rest : List ℕ) → Position s.depth level s.code end bytes
+    → Opened bytes (opcode, rest) → Judge (Read s level end SpellsExternal bytes) (BlockBad s) (external_by end bytes opcode rest)
 external_by_sound s level end opcodes.External bytes rest h o =
     let is = opens_with bytes opcodes.External rest (21 ∷ []) o (o.told.1) in
     judge_into (Read s level end SpellsExternal bytes) (Read s level end SpellsExternal bytes) (Bad s) (BlockBad s) (parts_at end rest) (λ x r. r) (λ f b. in_block_too s f.reason f.place b)
     (parts_sound s level end bytes rest is (position_after s level end bytes (21 ∷ []) rest is h))
 external_by_sound s level end term bytes rest h o = tt
 
-external_sound : (s : Source) (level end : ℕ) (bytes : List ℕ) → Position s.depth level s.code end bytes → Judge (Read s level end (ExternalWithin level) bytes) (BlockBad s) (external_at level end bytes)
+external_sound : (s : Source) (level end : ℕ) (bytes : List ℕ) → Position s.depth level s.code end bytes
+    → Judge (Read s level end (ExternalWithin level) bytes) (BlockBad s) (external_at level end bytes)
 unfolding external_at
 external_sound s zero end bytes h = in_block_too s _ _ (deep_bad s end bytes h)
 external_sound s (suc level) end bytes h =
     let G : ExternalParts × List ℕ → Type 0 = Read s (suc level) end (ExternalWithin (suc level)) bytes in
     judge_bind (Opened bytes) G (BlockBad s) (part (opcode_at end bytes)) _
-    (judge_into (Opened bytes) (Opened bytes) (Bad s) (BlockBad s) (part (opcode_at end bytes)) (λ x o. o) (λ f b. in_block_too s f.reason f.place b) (part_sound s (Opened bytes) (opcode_at end bytes) (opcode_sound s (suc level) end bytes h)))
+    (judge_into (Opened bytes) (Opened bytes) (Bad s) (BlockBad s) (part (opcode_at end bytes)) (λ x o. o) (λ f b. in_block_too s f.reason f.place b)
+    (part_sound s (Opened bytes) (opcode_at end bytes) (opcode_sound s (suc level) end bytes h)))
     (λ x o.
     judge_into (Read s (suc level) end SpellsExternal bytes) G (BlockBad s) (BlockBad s) (external_by end bytes x.0 x.1)
     (λ y r. (record { front = r.0.front; spells = (r.0.spells, omega arith); whole = r.0.whole }, r.1)) (λ f b. b)
@@ -129,7 +133,8 @@ fault_is f g e = cc
 never_ok : (xs : List ExternalParts) (f : Fault) → Ok xs ≡ failed f → ⊥
 never_ok xs f e = cc
 
-pub no_block : (level end : ℕ) (content : List ℕ) (f : Fault) → block_content level end content ≡ failed f → (f.reason ≡ TooDeep → ⊥) → (xs : List ExternalParts) (b : List ℕ) → content ≡ 0 ∷ b → SpellsEach SpellsExternal xs b → ⊥
+pub no_block : (level end : ℕ) (content : List ℕ) (f : Fault) → block_content level end content ≡ failed f → (f.reason ≡ TooDeep → ⊥)
+    → (xs : List ExternalParts) (b : List ℕ) → content ≡ 0 ∷ b → SpellsEach SpellsExternal xs b → ⊥
 no_block level end content f e other xs b is h =
     elim (block_reads level end xs b h) [
       | inl reads ↦ never_ok xs f (sym reads ∙ ap (block_content level end) (sym is) ∙ e)

@@ -33,7 +33,8 @@ source_complete end n (b ∷ a) rest h = rw (opens_name end b (a ++ rest) h.1, n
 
 -- ---- sound
 
-const_by_sound : (s : Source) (level end : ℕ) (opcode : Opcode) (bytes rest : List ℕ) → Position s.depth level s.code end bytes → Opened bytes (opcode, rest) → Judge (Read s level end SpellsInt bytes) (Bad s) (const_by end bytes opcode rest)
+const_by_sound : (s : Source) (level end : ℕ) (opcode : Opcode) (bytes rest : List ℕ) → Position s.depth level s.code end bytes
+    → Opened bytes (opcode, rest) → Judge (Read s level end SpellsInt bytes) (Bad s) (const_by end bytes opcode rest)
 const_by_sound s level end (opcodes.Constant form) bytes rest h o = part_sound s (Read s level end SpellsInt bytes) (constant_at form end rest) (whole_constant s level end form bytes rest h o)
 const_by_sound s level end opcodes.Nothing bytes rest h o = refused s level end bytes (opcodes.Nothing, rest) BadOpcode h o refl
 const_by_sound s level end opcode bytes rest h o = inl (begins s level end bytes (opcode, rest) _ h o refl)
@@ -41,7 +42,8 @@ const_by_sound s level end opcode bytes rest h o = inl (begins s level end bytes
 pub const_sound : (s : Source) (level end : ℕ) (bytes : List ℕ) → Position s.depth level s.code end bytes → Judge (Read s level end SpellsInt bytes) (Bad s) (const_at end bytes)
 unfolding const_at
 const_sound s level end bytes h =
-    judge_bind (Opened bytes) (Read s level end SpellsInt bytes) (Bad s) (part (opcode_at end bytes)) _ (part_sound s (Opened bytes) (opcode_at end bytes) (opcode_sound s level end bytes h)) (λ x o. const_by_sound s level end x.0 bytes x.1 h o)
+    judge_bind (Opened bytes) (Read s level end SpellsInt bytes) (Bad s) (part (opcode_at end bytes)) _
+    (part_sound s (Opened bytes) (opcode_at end bytes) (opcode_sound s level end bytes h)) (λ x o. const_by_sound s level end x.0 bytes x.1 h o)
 
 -- a constant, and a level that was left for it
 abbrev pub IntWithin : ℕ → Int → List ℕ → Type 0
@@ -54,7 +56,8 @@ int_sound s (suc level) end bytes h =
     judge_into (Read s (suc level) end SpellsInt bytes) (Read s (suc level) end (IntWithin (suc level)) bytes) (Bad s) (Bad s) (const_at end bytes)
     (λ x r. (record { front = r.0.front; spells = (r.0.spells, omega arith); whole = r.0.whole }, r.1)) (λ f b. b) (const_sound s (suc level) end bytes h)
 
-source_by_sound : (s : Source) (level end : ℕ) (opcode : Opcode) (bytes rest : List ℕ) → Position s.depth level s.code end bytes → Opened bytes (opcode, rest) → Judge (Read s level end SpellsTermName bytes) (Bad s) (source_by end bytes opcode)
+source_by_sound : (s : Source) (level end : ℕ) (opcode : Opcode) (bytes rest : List ℕ) → Position s.depth level s.code end bytes
+    → Opened bytes (opcode, rest) → Judge (Read s level end SpellsTermName bytes) (Bad s) (source_by end bytes opcode)
 source_by_sound s level end opcodes.Name bytes rest h o = part_sound s (Read s level end SpellsTermName bytes) (name_in end bytes) (term_name_sound s level end bytes rest h o)
 source_by_sound s level end opcodes.Nothing bytes rest h o = inr (begins s level end bytes (opcodes.Nothing, rest) _ h o refl)
 source_by_sound s level end opcode bytes rest h o = inr (begins s level end bytes (opcode, rest) _ h o refl)
@@ -62,4 +65,5 @@ source_by_sound s level end opcode bytes rest h o = inr (begins s level end byte
 pub source_sound : (s : Source) (level end : ℕ) (bytes : List ℕ) → Position s.depth level s.code end bytes → Judge (Read s level end SpellsTermName bytes) (Bad s) (source_at end bytes)
 unfolding source_at
 source_sound s level end bytes h =
-    judge_bind (Opened bytes) (Read s level end SpellsTermName bytes) (Bad s) (part (opcode_at end bytes)) _ (part_sound s (Opened bytes) (opcode_at end bytes) (opcode_sound s level end bytes h)) (λ x o. source_by_sound s level end x.0 bytes x.1 h o)
+    judge_bind (Opened bytes) (Read s level end SpellsTermName bytes) (Bad s) (part (opcode_at end bytes)) _
+    (part_sound s (Opened bytes) (opcode_at end bytes) (opcode_sound s level end bytes h)) (λ x o. source_by_sound s level end x.0 bytes x.1 h o)

@@ -136,7 +136,8 @@ mutual
   forms_complete (pkg count es) level end bytes rest h le =
       package_form (inner_elems level) level end count es bytes rest h (are_elems level (end - length rest) es h.1 (elems_complete es level (end - length rest) h.1 h.3 (omega arith)))
   forms_complete (var_pkg count es) level end bytes rest h le =
-      var_package_form (inner_elems level) level end count es bytes rest (omega arith) h (are_elems level (end - length rest) es h.1 (elems_complete es level (end - length rest) h.1 h.3 (omega arith)))
+      var_package_form (inner_elems level) level end count es bytes rest (omega arith) h
+      (are_elems level (end - length rest) es h.1 (elems_complete es level (end - length rest) h.1 h.3 (omega arith)))
 
   elem_complete : (e : ElemTree) (level end : ℕ) (a rest : List ℕ) → SpellsElem e a → elem_height e ≤ level → elem_at level end (a ++ rest) ≡ Ok (e, rest)
   elem_complete (of_data d) zero end a rest h le = let high = data_high d in absurd (omega arith)
@@ -178,7 +179,9 @@ elems_within level (e ∷ es) bytes h =
 abbrev InnerSound : Source → ℕ → Type 0
 InnerSound s level = (end : ℕ) (bytes : List ℕ) → Position s.depth level s.code end bytes → Judge (λ es. ElemsWithin level es bytes) (Bad s) (elems_with (elem_at level) end bytes)
 
-inner_sound : (s : Source) (level : ℕ) → ((end : ℕ) (bytes : List ℕ) → Position s.depth level s.code end bytes → Judge (Read s level end (ElemWithin level) bytes) (Bad s) (elem_at level end bytes)) → InnerSound s level
+inner_sound : (s : Source) (level : ℕ)
+    → ((end : ℕ) (bytes : List ℕ) → Position s.depth level s.code end bytes → Judge (Read s level end (ElemWithin level) bytes) (Bad s) (elem_at level end bytes))
+    → InnerSound s level
 inner_sound s level one end bytes h =
     judge_bind (λ es. SpellsEach (ElemWithin level) es bytes) (λ es. ElemsWithin level es bytes) (Bad s) (each_at (elem_at level end) bytes) _
     (all_sound s level end (ElemWithin level) (Bad s) (elem_at level end) (λ e a k. elem_long e a k.0) (one end) bytes h) (λ es k. elems_within level es bytes k)
@@ -193,7 +196,9 @@ bytes_sound s level end bytes h = refl
 data_by_sound : (s : Source) (level end : ℕ) (opcode : Opcode) (bytes rest : List ℕ) → InnerSound s level → Position s.depth (suc level) s.code end bytes → Opened bytes (opcode, rest)
     → Judge (Read s (suc level) end (DataWithin (suc level)) bytes) (Bad s) (data_by (elems_with (elem_at level)) level end bytes opcode rest)
 data_by_sound s level end (opcodes.Constant form) bytes rest inner h o =
-    read_as (Bad s) s (suc level) end SpellsInt (DataWithin (suc level)) (λ i. int i) bytes (part (constant_at form end rest)) (λ i a k. (k, omega arith)) (part_sound s (Read s (suc level) end SpellsInt bytes) (constant_at form end rest) (whole_constant s (suc level) end form bytes rest h o))
+    read_as (Bad s) s (suc level) end SpellsInt (DataWithin (suc level)) (λ i. int i) bytes (part (constant_at form end rest))
+    (λ i a k. (k, omega arith)) (part_sound s (Read s (suc level) end SpellsInt bytes) (constant_at form end rest)
+    (whole_constant s (suc level) end form bytes rest h o))
 data_by_sound s level end opcodes.Str bytes rest inner h o =
     let is = opens_with bytes opcodes.Str rest (13 ∷ []) o (o.told.1) in
     read_behind (Bad s) s (suc level) end (λ d a. DataWithin (suc level) d (13 ∷ a)) (DataWithin (suc level)) bytes (13 ∷ []) rest (string_data end rest) is (λ d a k. k)
@@ -219,20 +224,25 @@ data_by_sound s level end opcode bytes rest inner h o = begins s (suc level) end
 elem_by_sound : (s : Source) (level end : ℕ) (opcode : Opcode) (bytes rest : List ℕ) → InnerSound s level → Position s.depth (suc level) s.code end bytes → Opened bytes (opcode, rest)
     → Judge (Read s (suc level) end (ElemWithin (suc level)) bytes) (Bad s) (elem_by (elems_with (elem_at level)) level end bytes opcode rest)
 elem_by_sound s level end opcodes.Name bytes rest inner h o =
-    read_as (Bad s) s (suc level) end SpellsTermName (ElemWithin (suc level)) (λ n. of_name n) bytes (part (name_in end bytes)) (λ n a k. (k, omega arith)) (part_sound s (Read s (suc level) end SpellsTermName bytes) (name_in end bytes) (term_name_sound s (suc level) end bytes rest h o))
+    read_as (Bad s) s (suc level) end SpellsTermName (ElemWithin (suc level)) (λ n. of_name n) bytes (part (name_in end bytes))
+    (λ n a k. (k, omega arith)) (part_sound s (Read s (suc level) end SpellsTermName bytes) (name_in end bytes)
+    (term_name_sound s (suc level) end bytes rest h o))
 elem_by_sound s level end opcode bytes rest inner h o =
-    read_as (Bad s) s (suc level) end (DataWithin (suc level)) (ElemWithin (suc level)) (λ d. of_data d) bytes (data_by (elems_with (elem_at level)) level end bytes opcode rest) (λ d a k. k) (data_by_sound s level end opcode bytes rest inner h o)
+    read_as (Bad s) s (suc level) end (DataWithin (suc level)) (ElemWithin (suc level)) (λ d. of_data d) bytes
+    (data_by (elems_with (elem_at level)) level end bytes opcode rest) (λ d a k. k) (data_by_sound s level end opcode bytes rest inner h o)
 
 pub elem_sound : (s : Source) (level end : ℕ) (bytes : List ℕ) → Position s.depth level s.code end bytes → Judge (Read s level end (ElemWithin level) bytes) (Bad s) (elem_at level end bytes)
 unfolding elem_at
 elem_sound s zero end bytes h = deep_bad s end bytes h
 elem_sound s (suc level) end bytes h =
-    judge_bind (Opened bytes) (Read s (suc level) end (ElemWithin (suc level)) bytes) (Bad s) (part (opcode_at end bytes)) _ (part_sound s (Opened bytes) (opcode_at end bytes) (opcode_sound s (suc level) end bytes h))
+    judge_bind (Opened bytes) (Read s (suc level) end (ElemWithin (suc level)) bytes) (Bad s) (part (opcode_at end bytes)) _
+    (part_sound s (Opened bytes) (opcode_at end bytes) (opcode_sound s (suc level) end bytes h))
     (λ x o. elem_by_sound s level end x.0 bytes x.1 (inner_sound s level (λ end bytes k. elem_sound s level end bytes k)) h o)
 
 pub data_sound : (s : Source) (level end : ℕ) (bytes : List ℕ) → Position s.depth level s.code end bytes → Judge (Read s level end (DataWithin level) bytes) (Bad s) (data_at level end bytes)
 unfolding data_at
 data_sound s zero end bytes h = deep_bad s end bytes h
 data_sound s (suc level) end bytes h =
-    judge_bind (Opened bytes) (Read s (suc level) end (DataWithin (suc level)) bytes) (Bad s) (part (opcode_at end bytes)) _ (part_sound s (Opened bytes) (opcode_at end bytes) (opcode_sound s (suc level) end bytes h))
+    judge_bind (Opened bytes) (Read s (suc level) end (DataWithin (suc level)) bytes) (Bad s) (part (opcode_at end bytes)) _
+    (part_sound s (Opened bytes) (opcode_at end bytes) (opcode_sound s (suc level) end bytes h))
     (λ x o. data_by_sound s level end x.0 bytes x.1 (inner_sound s level (λ end bytes k. elem_sound s level end bytes k)) h o)

@@ -55,7 +55,8 @@ external_fit x bytes h all = le-leb x.args 7 h.1.3.3.2.0
 
 -- ---- items
 
-fields_fit : (opcode : List ℕ) (ks : List FixedArgument) (v : Values ks) (es : List FieldTree) (bytes : List ℕ) → SpellsPacked opcode ks v (λ b. SpellsFields es b) bytes → AreBytes bytes → list_all field_fits es ≡ true
+fields_fit : (opcode : List ℕ) (ks : List FixedArgument) (v : Values ks) (es : List FieldTree) (bytes : List ℕ)
+    → SpellsPacked opcode ks v (λ b. SpellsFields es b) bytes → AreBytes bytes → list_all field_fits es ≡ true
 fields_fit opcode ks v es bytes h all =
     each_fits SpellsField field_fits field_fit es h.1 h.3 (parts h.0 h.1 (h.0 ++ h.1) refl (packed opcode (h.0 ++ h.1) bytes h.4 all)).1
 

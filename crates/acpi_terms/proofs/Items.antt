@@ -41,15 +41,18 @@ unfolding item_at
 opened level end opcode more h = rw (opens end opcode more h) refl
 
 -- a form is read as what stands behind its opcode is
-plain_item : (opcode : Opcode) (made : ArgumentsOf opcode → ItemTree) (level end : ℕ) (v : ArgumentsOf opcode) (bytes rest : List ℕ) → is_spelled opcode ≡ true → arguments_height (arguments opcode) ≤ level
+plain_item : (opcode : Opcode) (made : ArgumentsOf opcode → ItemTree) (level end : ℕ) (v : ArgumentsOf opcode) (bytes rest : List ℕ)
+    → is_spelled opcode ≡ true → arguments_height (arguments opcode) ≤ level
     → ((whole more : List ℕ) → item_by (inner_items level) level end whole opcode more ≡ plain_at (arguments opcode) made level end more)
     → SpellsForm opcode v bytes → item_at (suc level) end (bytes ++ rest) ≡ Ok (made v, rest)
 plain_item opcode made level end v bytes rest some le form h =
     rw (h.2, append_assoc (opcode_bytes opcode) h.0 rest)
     (opened level end opcode (h.0 ++ rest) some ∙ form (opcode_bytes opcode ++ (h.0 ++ rest)) (h.0 ++ rest) ∙ plain_complete (arguments opcode) made level end v h.0 rest le h.1)
 
-packed_item : {X : Type 0} (opcode : Opcode) (made : ArgumentsOf opcode → X → ItemTree) (inner : ℕ → List ℕ → Result X Fault) (Fills : List ℕ → Type 0) (level end : ℕ) (v : ArgumentsOf opcode) (x : X) (bytes rest : List ℕ)
-    → is_spelled opcode ≡ true → arguments_height (arguments opcode) ≤ level → ((whole more : List ℕ) → item_by (inner_items level) level end whole opcode more ≡ packed_at (arguments opcode) made level inner end more)
+packed_item : {X : Type 0} (opcode : Opcode) (made : ArgumentsOf opcode → X → ItemTree) (inner : ℕ → List ℕ → Result X Fault)
+    (Fills : List ℕ → Type 0) (level end : ℕ) (v : ArgumentsOf opcode) (x : X) (bytes rest : List ℕ)
+    → is_spelled opcode ≡ true → arguments_height (arguments opcode) ≤ level
+    → ((whole more : List ℕ) → item_by (inner_items level) level end whole opcode more ≡ packed_at (arguments opcode) made level inner end more)
     → ((b : List ℕ) → Fills b → inner (end - length rest) b ≡ Ok x) → SpellsFilled opcode v Fills bytes → item_at (suc level) end (bytes ++ rest) ≡ Ok (made v x, rest)
 packed_item opcode made inner Fills level end v x bytes rest some le form fills h =
     let p = h.4 in
@@ -62,7 +65,8 @@ name_item_complete level end n d a rest h le =
     rw (h.4, append_assoc h.0 h.1 rest)
     (opened level end opcodes.DeclareName (h.0 ++ (h.1 ++ rest)) refl ∙ rw (name_in_complete end n h.0 (h.1 ++ rest) h.2, data_complete d level end h.1 rest h.3 le) refl)
 
-block_complete : (level end : ℕ) (xs : List ExternalParts) (a rest : List ℕ) → SpellsItem (external_block xs) a → block_height xs ≤ suc level → item_at (suc level) end (a ++ rest) ≡ Ok (external_block xs, rest)
+block_complete : (level end : ℕ) (xs : List ExternalParts) (a rest : List ℕ) → SpellsItem (external_block xs) a → block_height xs ≤ suc level
+    → item_at (suc level) end (a ++ rest) ≡ Ok (external_block xs, rest)
 block_complete level end xs a rest h le =
     let p = h.2 in
     rw (p.whole, append_assoc p.len (0 ∷ h.0) rest)
@@ -141,7 +145,8 @@ mutual
       packed_item opcodes.Method (λ v code. method v.0 v.1.0 code) bytes_in (λ b. b ≡ code) level end (n, (flags, tt)) code a rest refl (omega arith) (λ whole more. refl) (λ b s. ap Ok s) h
   one_complete (external x) level end a rest h le = external_item_complete level end x a rest h
   one_complete (external_block xs) level end a rest h le = block_complete level end xs a rest h le
-  one_complete (create w source index n) level end a rest h le = plain_item (opcodes.Create w) (λ v. create w v.0 v.1.0 v.1.1.0) level end (source, (index, (n, tt))) a rest refl (omega arith) (λ whole more. refl) h
+  one_complete (create w source index n) level end a rest h le = plain_item (opcodes.Create w) (λ v. create w v.0 v.1.0 v.1.1.0) level end
+      (source, (index, (n, tt))) a rest refl (omega arith) (λ whole more. refl) h
   one_complete (create_field source index bits n) level end a rest h le =
       plain_item opcodes.CreateField (λ v. create_field v.0 v.1.0 v.1.1.0 v.1.1.1.0) level end (source, (index, (bits, (n, tt)))) a rest refl (omega arith) (λ whole more. refl) h
   one_complete (mutex n flags) level end a rest h le =
@@ -151,16 +156,20 @@ mutual
   one_complete (region n space offset len) level end a rest h le =
       plain_item opcodes.Region (λ v. region v.0 v.1.0 v.1.1.0 v.1.1.1.0) level end (n, (space, (offset, (len, tt)))) a rest refl (omega arith) (λ whole more. refl) h
   one_complete (field r flags es) level end a rest h le =
-      packed_item opcodes.Field (λ v es. field v.0 v.1.0 es) fields_in (λ b. SpellsFields es b) level end (r, (flags, tt)) es a rest refl (omega arith) (λ whole more. refl) (λ b s. fields_complete es (end - length rest) b s) h
+      packed_item opcodes.Field (λ v es. field v.0 v.1.0 es) fields_in (λ b. SpellsFields es b) level end (r, (flags, tt)) es a rest refl
+      (omega arith) (λ whole more. refl) (λ b s. fields_complete es (end - length rest) b s) h
   one_complete (index_field i d flags es) level end a rest h le =
-      packed_item opcodes.IndexField (λ v es. index_field v.0 v.1.0 v.1.1.0 es) fields_in (λ b. SpellsFields es b) level end (i, (d, (flags, tt))) es a rest refl (omega arith) (λ whole more. refl) (λ b s. fields_complete es (end - length rest) b s) h
+      packed_item opcodes.IndexField (λ v es. index_field v.0 v.1.0 v.1.1.0 es) fields_in (λ b. SpellsFields es b) level end (i, (d, (flags, tt))) es
+      a rest refl (omega arith) (λ whole more. refl) (λ b s. fields_complete es (end - length rest) b s) h
   one_complete (bank_field r bank value flags es) level end a rest h le =
-      packed_item opcodes.BankField (λ v es. bank_field v.0 v.1.0 v.1.1.0 v.1.1.1.0 es) fields_in (λ b. SpellsFields es b) level end (r, (bank, (value, (flags, tt)))) es a rest refl (omega arith) (λ whole more. refl) (λ b s. fields_complete es (end - length rest) b s) h
+      packed_item opcodes.BankField (λ v es. bank_field v.0 v.1.0 v.1.1.0 v.1.1.1.0 es) fields_in (λ b. SpellsFields es b) level end
+      (r, (bank, (value, (flags, tt)))) es a rest refl (omega arith) (λ whole more. refl) (λ b s. fields_complete es (end - length rest) b s) h
   one_complete (device n is) level end a rest h le =
       packed_item opcodes.Device (λ v is. device v.0 is) (inner_items level) (λ b. SpellsItems is b) level end (n, tt) is a rest refl (omega arith) (λ whole more. refl)
       (λ b s. are_items level (end - length rest) is b (items_complete is level (end - length rest) b s (omega arith))) h
   one_complete (processor n id block len is) level end a rest h le =
-      packed_item opcodes.Processor (λ v is. processor v.0 v.1.0 v.1.1.0 v.1.1.1.0 is) (inner_items level) (λ b. SpellsItems is b) level end (n, (id, (block, (len, tt)))) is a rest refl (omega arith) (λ whole more. refl)
+      packed_item opcodes.Processor (λ v is. processor v.0 v.1.0 v.1.1.0 v.1.1.1.0 is) (inner_items level) (λ b. SpellsItems is b) level end
+      (n, (id, (block, (len, tt)))) is a rest refl (omega arith) (λ whole more. refl)
       (λ b s. are_items level (end - length rest) is b (items_complete is level (end - length rest) b s (omega arith))) h
   one_complete (power n l order is) level end a rest h le =
       packed_item opcodes.Power (λ v is. power v.0 v.1.0 v.1.1.0 is) (inner_items level) (λ b. SpellsItems is b) level end (n, (l, (order, tt))) is a rest refl (omega arith) (λ whole more. refl)
@@ -173,7 +182,8 @@ mutual
   items_complete no_items level end b h le = none_left (item_at level end) b h
   items_complete (item i is) zero end b h le = let high = item_high i in absurd (omega arith)
   items_complete (item i is) (suc level) end b h le =
-      rw h.4 (one_more (item_at (suc level) end) h.0 h.1 i (listed is) (item_long i h.0 h.2) (one_complete i level end h.0 h.1 h.2 (omega arith)) (items_complete is (suc level) end h.1 h.3 (omega arith)))
+      rw h.4 (one_more (item_at (suc level) end) h.0 h.1 i (listed is) (item_long i h.0 h.2) (one_complete i level end h.0 h.1 h.2 (omega arith))
+      (items_complete is (suc level) end h.1 h.3 (omega arith)))
 
 pub item_complete : (i : ItemTree) (level end : ℕ) (a rest : List ℕ) → SpellsItem i a → item_height i ≤ level → item_at level end (a ++ rest) ≡ Ok (i, rest)
 item_complete i zero end a rest h le = let high = item_high i in absurd (omega arith)
@@ -201,7 +211,9 @@ items_within level (i ∷ is) bytes h =
 abbrev InnerSound : Source → ℕ → Type 0
 InnerSound s level = (end : ℕ) (bytes : List ℕ) → Position s.depth level s.code end bytes → Judge (λ is. ItemsWithin level is bytes) (Bad s) (items_with (item_at level) end bytes)
 
-inner_sound : (s : Source) (level : ℕ) → ((end : ℕ) (bytes : List ℕ) → Position s.depth level s.code end bytes → Judge (Read s level end (ItemWithin level) bytes) (Bad s) (item_at level end bytes)) → InnerSound s level
+inner_sound : (s : Source) (level : ℕ)
+    → ((end : ℕ) (bytes : List ℕ) → Position s.depth level s.code end bytes → Judge (Read s level end (ItemWithin level) bytes) (Bad s) (item_at level end bytes))
+    → InnerSound s level
 inner_sound s level one end bytes h =
     judge_bind (λ is. SpellsEach (ItemWithin level) is bytes) (λ is. ItemsWithin level is bytes) (Bad s) (each_at (item_at level end) bytes) _
     (all_sound s level end (ItemWithin level) (Bad s) (item_at level end) (λ i a k. item_long i a k.0) (one end) bytes h) (λ is k. items_within level is bytes k)
@@ -209,7 +221,8 @@ inner_sound s level one end bytes h =
 block_sound : (s : Source) (level end : ℕ) (bytes rest : List ℕ) → bytes ≡ 160 ∷ rest → Position s.depth (suc level) s.code end bytes → Position s.depth level s.code end rest
     → Judge (Read s level end (ItemWithin (suc level)) bytes) (Bad s) (block_item level end bytes rest)
 block_sound s level end bytes rest is h behind =
-    judge_bind (GoodPackage s level end rest) G (Bad s) (part (package_at end rest)) _ (part_sound s (GoodPackage s level end rest) (package_at end rest) (package_sound s level end rest behind)) (λ p g.
+    judge_bind (GoodPackage s level end rest) G (Bad s) (part (package_at end rest)) _
+    (part_sound s (GoodPackage s level end rest) (package_at end rest) (package_sound s level end rest behind)) (λ p g.
     by_content p g (block_content level p.end p.content) refl (content_sound s level p.end p.content g.1))
   where
     G : ItemTree × List ℕ → Type 0
@@ -218,7 +231,8 @@ block_sound s level end bytes rest is h behind =
     told : Fault
     told = fault_at end bytes ModuleIf
 
-    by_reason : (p : Package) → GoodPackage s level end rest p → (why : ItemReason) (place : ℕ) → block_content level p.end p.content ≡ failed (record { reason = why; place = place }) → BlockShows s why place
+    by_reason : (p : Package) → GoodPackage s level end rest p → (why : ItemReason) (place : ℕ)
+        → block_content level p.end p.content ≡ failed (record { reason = why; place = place }) → BlockShows s why place
         → Bad s (block_fault (fault_at end bytes ModuleIf) why (record { reason = why; place = place }))
     by_reason p g TooDeep place e b = b
     by_reason p g why place e b =
@@ -234,13 +248,20 @@ block_sound s level end bytes rest is h behind =
     by_content : (p : Package) → GoodPackage s level end rest p → (r : Result (List ExternalParts) Fault) → block_content level p.end p.content ≡ r → Judge (InBlock level p.content) (BlockBad s) r
         → Judge (Read s level end (ItemWithin (suc level)) bytes) (Bad s) (in_block (fault_at end bytes ModuleIf) r >>= λ xs. Ok (external_block xs, p.rest))
     by_content p g (Ok xs) e j =
-        let packs : Packs (160 ∷ []) (0 ∷ j.0) (160 ∷ (g.0.len ++ (0 ∷ j.0))) = record { len = g.0.len; spells_len = subst (λ (y : List ℕ). SpellsPkgLength (length g.0.len + length y) g.0.len) j.1 g.0.spells_len; whole = refl } in
+        let packs : Packs (160 ∷ []) (0 ∷ j.0) (160 ∷ (g.0.len ++ (0 ∷ j.0))) =
+        record {
+          len = g.0.len;
+          spells_len = subst (λ (y : List ℕ). SpellsPkgLength (length g.0.len + length y) g.0.len) j.1
+              g.0.spells_len;
+          whole = refl;
+        } in
         (record { front = 160 ∷ (g.0.len ++ (0 ∷ j.0)); spells = ((j.0, j.2, packs), j.3); whole = rw (is, g.0.whole, j.1) (simp append_assoc) }, g.2)
     by_content p g (Err f) e j = by_reason p g f.reason f.place e j
 
 -- ---- one item
 
-name_item_sound : (s : Source) (level end : ℕ) (bytes rest : List ℕ) → bytes ≡ 8 ∷ rest → Position s.depth level s.code end rest → Judge (Read s level end (ItemWithin (suc level)) bytes) (Bad s) (name_item level end rest)
+name_item_sound : (s : Source) (level end : ℕ) (bytes rest : List ℕ) → bytes ≡ 8 ∷ rest → Position s.depth level s.code end rest
+    → Judge (Read s level end (ItemWithin (suc level)) bytes) (Bad s) (name_item level end rest)
 name_item_sound s level end bytes rest is h =
     let G : ItemTree × List ℕ → Type 0 = Read s level end (ItemWithin (suc level)) bytes in
     judge_bind (Read s level end SpellsName rest) G (Bad s) (part (name_in end rest)) _ (part_sound s (Read s level end SpellsName rest) (name_in end rest) (name_sound s level end rest h)) (λ n r.
@@ -249,31 +270,37 @@ name_item_sound s level end bytes rest is h =
     let u = q.0 in
     (record { front = 8 ∷ (t.front ++ u.front); spells = ((t.front, u.front, t.spells, u.spells.0, refl), omega (arith, u.spells.1)); whole = rw (is, t.whole, u.whole) (simp append_assoc) }, q.1)))
 
-plain_form : (s : Source) (level end : ℕ) (opcode : Opcode) (made : ArgumentsOf opcode → ItemTree) (bytes rest : List ℕ) (o : Opened bytes (opcode, rest)) → o.front ≡ opcode_bytes opcode → Position s.depth (suc level) s.code end bytes
+plain_form : (s : Source) (level end : ℕ) (opcode : Opcode) (made : ArgumentsOf opcode → ItemTree) (bytes rest : List ℕ)
+    (o : Opened bytes (opcode, rest)) → o.front ≡ opcode_bytes opcode → Position s.depth (suc level) s.code end bytes
     → ((v : ArgumentsOf opcode) (front : List ℕ) → SpellsForm opcode v front → arguments_height (arguments opcode) ≤ level → ItemWithin (suc level) (made v) front)
     → Judge (Read s (suc level) end (ItemWithin (suc level)) bytes) (Bad s) (plain_at (arguments opcode) made level end rest)
 plain_form s level end opcode made bytes rest o told h spells =
     let is = opens_with bytes opcode rest (opcode_bytes opcode) o told in
     let some : 0 < length (opcode_bytes opcode) = rw (sym told) o.some in
     judge_up (Bad s) s level end (ItemWithin (suc level)) bytes (plain_at (arguments opcode) made level end rest)
-    (plain_sound s level end level (arguments opcode) made (ItemWithin (suc level)) bytes (opcode_bytes opcode) rest is (inr refl) spells (position_deeper s level end bytes (opcode_bytes opcode) rest is some h))
+    (plain_sound s level end level (arguments opcode) made (ItemWithin (suc level)) bytes (opcode_bytes opcode) rest is (inr refl) spells
+    (position_deeper s level end bytes (opcode_bytes opcode) rest is some h))
 
-packed_form : {X : Type 0} (s : Source) (level end : ℕ) (opcode : Opcode) (made : ArgumentsOf opcode → X → ItemTree) (inner : ℕ → List ℕ → Result X Fault) (Fills : X → List ℕ → Type 0) (bytes rest : List ℕ)
+packed_form : {X : Type 0} (s : Source) (level end : ℕ) (opcode : Opcode) (made : ArgumentsOf opcode → X → ItemTree)
+    (inner : ℕ → List ℕ → Result X Fault) (Fills : X → List ℕ → Type 0) (bytes rest : List ℕ)
     (o : Opened bytes (opcode, rest)) → o.front ≡ opcode_bytes opcode → Position s.depth (suc level) s.code end bytes
-    → ((v : ArgumentsOf opcode) (x : X) (front a b : List ℕ) → SpellsArguments (arguments opcode) v a → arguments_height (arguments opcode) ≤ level → Fills x b → Packs (opcode_bytes opcode) (a ++ b) front → ItemWithin (suc level) (made v x) front)
+    → ((v : ArgumentsOf opcode) (x : X) (front a b : List ℕ) → SpellsArguments (arguments opcode) v a → arguments_height (arguments opcode) ≤ level
+    → Fills x b → Packs (opcode_bytes opcode) (a ++ b) front → ItemWithin (suc level) (made v x) front)
     → ((end : ℕ) (b : List ℕ) → Position s.depth level s.code end b → Judge (λ x. Fills x b) (Bad s) (inner end b))
     → Judge (Read s (suc level) end (ItemWithin (suc level)) bytes) (Bad s) (packed_at (arguments opcode) made level inner end rest)
 packed_form s level end opcode made inner Fills bytes rest o told h spells fills =
     let is = opens_with bytes opcode rest (opcode_bytes opcode) o told in
     let some : 0 < length (opcode_bytes opcode) = rw (sym told) o.some in
     judge_up (Bad s) s level end (ItemWithin (suc level)) bytes (packed_at (arguments opcode) made level inner end rest)
-    (packed_sound s level end level (arguments opcode) made inner Fills (ItemWithin (suc level)) bytes (opcode_bytes opcode) rest is (inr refl) spells fills (position_deeper s level end bytes (opcode_bytes opcode) rest is some h))
+    (packed_sound s level end level (arguments opcode) made inner Fills (ItemWithin (suc level)) bytes (opcode_bytes opcode) rest is (inr refl) spells
+    fills (position_deeper s level end bytes (opcode_bytes opcode) rest is some h))
 
 item_by_sound : (s : Source) (level end : ℕ) (opcode : Opcode) (bytes rest : List ℕ) → InnerSound s level → Position s.depth (suc level) s.code end bytes → Opened bytes (opcode, rest)
     → Judge (Read s (suc level) end (ItemWithin (suc level)) bytes) (Bad s) (item_by (items_with (item_at level)) level end bytes opcode rest)
 item_by_sound s level end opcodes.DeclareName bytes rest inner h o =
     let is = opens_with bytes opcodes.DeclareName rest (8 ∷ []) o o.told.1 in
-    judge_up (Bad s) s level end (ItemWithin (suc level)) bytes (name_item level end rest) (name_item_sound s level end bytes rest is (position_deeper s level end bytes (8 ∷ []) rest is (omega arith) h))
+    judge_up (Bad s) s level end (ItemWithin (suc level)) bytes (name_item level end rest)
+    (name_item_sound s level end bytes rest is (position_deeper s level end bytes (8 ∷ []) rest is (omega arith) h))
 item_by_sound s level end opcodes.Scope bytes rest inner h o =
     packed_form s level end opcodes.Scope (λ v is. scope v.0 is) (items_with (item_at level)) (ItemsWithin level) bytes rest o o.told.1 h
     (λ v x front a b k le fills p. ((a, b, k, fills.0, p), omega (arith, fills.1))) inner
@@ -282,10 +309,12 @@ item_by_sound s level end opcodes.Method bytes rest inner h o =
     (λ v x front a b k le fills p. ((a, b, k, fills, p), omega arith)) (λ end b k. refl)
 item_by_sound s level end opcodes.External bytes rest inner h o =
     let is = opens_with bytes opcodes.External rest (21 ∷ []) o o.told.1 in
-    read_as (Bad s) s (suc level) end SpellsExternal (ItemWithin (suc level)) (λ x. external x) bytes (parts_at end rest) (λ x a k. (k, omega arith)) (parts_sound s (suc level) end bytes rest is (position_after s (suc level) end bytes (21 ∷ []) rest is h))
+    read_as (Bad s) s (suc level) end SpellsExternal (ItemWithin (suc level)) (λ x. external x) bytes (parts_at end rest) (λ x a k. (k, omega arith))
+    (parts_sound s (suc level) end bytes rest is (position_after s (suc level) end bytes (21 ∷ []) rest is h))
 item_by_sound s level end opcodes.If bytes rest inner h o =
     let is = opens_with bytes opcodes.If rest (160 ∷ []) o o.told.1 in
-    judge_up (Bad s) s level end (ItemWithin (suc level)) bytes (block_item level end bytes rest) (block_sound s level end bytes rest is h (position_deeper s level end bytes (160 ∷ []) rest is (omega arith) h))
+    judge_up (Bad s) s level end (ItemWithin (suc level)) bytes (block_item level end bytes rest)
+    (block_sound s level end bytes rest is h (position_deeper s level end bytes (160 ∷ []) rest is (omega arith) h))
 item_by_sound s level end (opcodes.Create w) bytes rest inner h o =
     plain_form s level end (opcodes.Create w) (λ v. create w v.0 v.1.0 v.1.1.0) bytes rest o o.told.1 h (λ v front k le. (k, omega (arith, le)))
 item_by_sound s level end opcodes.CreateField bytes rest inner h o =
@@ -331,7 +360,8 @@ pub item_sound : (s : Source) (level end : ℕ) (bytes : List ℕ) → Position 
 unfolding item_at
 item_sound s zero end bytes h = deep_bad s end bytes h
 item_sound s (suc level) end bytes h =
-    judge_bind (Opened bytes) (Read s (suc level) end (ItemWithin (suc level)) bytes) (Bad s) (part (opcode_at end bytes)) _ (part_sound s (Opened bytes) (opcode_at end bytes) (opcode_sound s (suc level) end bytes h))
+    judge_bind (Opened bytes) (Read s (suc level) end (ItemWithin (suc level)) bytes) (Bad s) (part (opcode_at end bytes)) _
+    (part_sound s (Opened bytes) (opcode_at end bytes) (opcode_sound s (suc level) end bytes h))
     (λ x o. item_by_sound s level end x.0 bytes x.1 (inner_sound s level (λ end bytes k. item_sound s level end bytes k)) h o)
 
 -- what is read is spelled so, and a fault shows what it says

@@ -65,5 +65,6 @@ pub part_sound : {A : Type 0} (s : Source) (Good : A → Type 0) (r : Result A C
 part_sound s Good r h = judge_told Good (Shown s) (Bad s) part_fault r (part_bad s) h
 
 -- what begins there is refused by itself
-pub refused : (s : Source) (level end : ℕ) (bytes : List ℕ) (x : Opcode × List ℕ) (why : ItemReason) → Position s.depth level s.code end bytes → Opened bytes x → refusal x.0 ≡ Some why → Refused why s.code (end - length bytes)
+pub refused : (s : Source) (level end : ℕ) (bytes : List ℕ) (x : Opcode × List ℕ) (why : ItemReason) → Position s.depth level s.code end bytes
+    → Opened bytes x → refusal x.0 ≡ Some why → Refused why s.code (end - length bytes)
 refused s level end bytes x why h o passes = (x.0, ap first_opcode (stands_at s level end bytes h) ∙ o.is_opcode h.after, passes)

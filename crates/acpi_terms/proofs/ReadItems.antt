@@ -49,7 +49,8 @@ stop f = Err f
 fault_is : (f g : Fault) → stop f ≡ stop g → f ≡ g
 fault_is f g e = cc
 
-refused_so : {V : Type 0} (view : V → ItemTrees) (result : Result V ItemFault) (why : ItemReason) (place : ℕ) → Gives view result (Err (record { reason = why; place = place })) → IsRefused result why place
+refused_so : {V : Type 0} (view : V → ItemTrees) (result : Result V ItemFault) (why : ItemReason) (place : ℕ)
+    → Gives view result (Err (record { reason = why; place = place })) → IsRefused result why place
 refused_so view (Ok v) why place h = absurd cc
 refused_so view (Err errors.Memory) why place h = tt
 refused_so view (Err (errors.At r p)) why place h =
@@ -73,5 +74,6 @@ offsets_law view depth code (Ok v) bytes h le = offsets_fit (view v) code (judge
 offsets_law view depth code (Err e) bytes h le = tt
 
 -- the same of an equal limit and equal code
-pub gives_as : {V : Type 0} (view : V → ItemTrees) (d e : ℕ) (code bytes : List ℕ) (result : Result V ItemFault) → d ≡ e → code ≡ bytes → Gives view result (items_at d code) → Gives view result (items_at e bytes)
+pub gives_as : {V : Type 0} (view : V → ItemTrees) (d e : ℕ) (code bytes : List ℕ) (result : Result V ItemFault) → d ≡ e → code ≡ bytes
+    → Gives view result (items_at d code) → Gives view result (items_at e bytes)
 gives_as view d e code bytes result limit same h = subst (λ s. Gives view result (items_at e s)) same (subst (λ n. Gives view result (items_at n code)) limit h)

@@ -102,7 +102,8 @@ elem_found_law view bytes (Ok x) h used =
 elem_found_law view bytes (Err e) h used = tt
 
 pub elem_only_law : {V : Type 0} (view : V → FieldTree) (bytes : List ℕ) (result : Result (V × ℕ) ItemFault) → Gives (λ x. (view x.0, drop x.1 bytes)) result (field_at (length bytes) bytes)
-    → IfOk result (λ x. (0 < x.1) × (x.1 ≤ length bytes)) → (e : FieldTree) (front rest : List ℕ) → SpellsField e front → bytes ≡ front ++ rest → OrMemory result (λ x. (view x.0 ≡ e) × (x.1 ≡ length front))
+    → IfOk result (λ x. (0 < x.1) × (x.1 ≤ length bytes)) → (e : FieldTree) (front rest : List ℕ) → SpellsField e front → bytes ≡ front ++ rest
+    → OrMemory result (λ x. (view x.0 ≡ e) × (x.1 ≡ length front))
 elem_only_law view bytes (Ok x) h used e front rest s whole =
     let r : field_at (length bytes) bytes ≡ done (e, rest) = ap (field_at (length bytes)) whole ∙ field_complete e (length bytes) front rest s in
     let same : done (e, rest) ≡ done (view x.0, drop x.1 bytes) = sym r ∙ h in
@@ -118,11 +119,13 @@ no_level_told : (bytes : List ℕ) (why : ItemReason) (place : ℕ) → Shows (l
 no_level_told bytes TooDeep place h = absurd (omega arith)
 no_level_told bytes why place h = h
 
-pub elem_faults_law : {V : Type 0} (view : V → FieldTree) (bytes : List ℕ) (result : Result (V × ℕ) ItemFault) → Gives (λ x. (view x.0, drop x.1 bytes)) result (field_at (length bytes) bytes) → IfErr result (λ e. ToldOfElem bytes e)
+pub elem_faults_law : {V : Type 0} (view : V → FieldTree) (bytes : List ℕ) (result : Result (V × ℕ) ItemFault)
+    → Gives (λ x. (view x.0, drop x.1 bytes)) result (field_at (length bytes) bytes) → IfErr result (λ e. ToldOfElem bytes e)
 elem_faults_law view bytes (Ok x) h = tt
 elem_faults_law view bytes (Err errors.Memory) h = tt
 elem_faults_law view bytes (Err (errors.At why place)) h =
-    no_level_told bytes why place (subst (Judge (Read (Whole bytes) (length bytes) (length bytes) SpellsField bytes) (Bad (Whole bytes))) h (field_sound (Whole bytes) (length bytes) (length bytes) bytes (whole_position bytes)))
+    no_level_told bytes why place (subst (Judge (Read (Whole bytes) (length bytes) (length bytes) SpellsField bytes) (Bad (Whole bytes))) h
+    (field_sound (Whole bytes) (length bytes) (length bytes) bytes (whole_position bytes)))
 
 -- ---- by what is left behind them
 

@@ -42,7 +42,8 @@ stop f = Err f
 told : (end : ℕ) (w : List ℕ) (r why : ItemReason) → known r ≡ known why → stop (fault_at end w r) ≡ stop (fault_at end w why)
 told end w r why e = ap (λ (y : ItemReason). stop (fault_at end w y)) (known_is r why e)
 
-refused_there : (inner : ℕ → List ℕ → Result ItemTrees Fault) (level end : ℕ) (w rest : List ℕ) (term : Opcode) (why : ItemReason) → refusal term ≡ known why → item_by inner level end w term rest ≡ Err (fault_at end w why)
+refused_there : (inner : ℕ → List ℕ → Result ItemTrees Fault) (level end : ℕ) (w rest : List ℕ) (term : Opcode) (why : ItemReason)
+    → refusal term ≡ known why → item_by inner level end w term rest ≡ Err (fault_at end w why)
 refused_there inner level end w rest opcodes.DeclareName why e = absurd (none_known why e)
 refused_there inner level end w rest opcodes.Scope why e = absurd (none_known why e)
 refused_there inner level end w rest opcodes.Method why e = absurd (none_known why e)
@@ -72,14 +73,17 @@ some_byte : (w : List ℕ) (first : Opcode) → first_opcode w ≡ known first �
 some_byte [] first e = absurd (none_known first e)
 some_byte (b ∷ w) first e = omega arith
 
-stops_behind_items : (is : ItemTrees) (level end : ℕ) (u w : List ℕ) (f : Fault) → SpellsItems is u → items_height is ≤ level → 0 < length w → item_at level end w ≡ Err f → StopsAt (item_at level end) (u ++ w) f
+stops_behind_items : (is : ItemTrees) (level end : ℕ) (u w : List ℕ) (f : Fault) → SpellsItems is u → items_height is ≤ level → 0 < length w
+    → item_at level end w ≡ Err f → StopsAt (item_at level end) (u ++ w) f
 stops_behind_items no_items level end u w f h le some e = rw h (stops_here (item_at level end) w f some e)
 stops_behind_items (item i is) level end u w f h le some e =
     rw (h.4, append_assoc h.0 h.1 w)
-    (stops_behind (item_at level end) h.0 (h.1 ++ w) i f (item_long i h.0 h.2) (item_complete i level end h.0 (h.1 ++ w) h.2 (omega arith)) (stops_behind_items is level end h.1 w f h.3 (omega arith) some e))
+    (stops_behind (item_at level end) h.0 (h.1 ++ w) i f (item_long i h.0 h.2) (item_complete i level end h.0 (h.1 ++ w) h.2 (omega arith))
+    (stops_behind_items is level end h.1 w f h.3 (omega arith) some e))
 
 -- the first term that is refused by itself is told, at its place
-pub next_told : (depth : ℕ) (u w : List ℕ) (is : ItemTrees) (why : ItemReason) → 0 < depth → SpellsItems is u → items_height is ≤ depth → Refused why w 0 → items_at depth (u ++ w) ≡ Err (record { reason = why; place = length u })
+pub next_told : (depth : ℕ) (u w : List ℕ) (is : ItemTrees) (why : ItemReason) → 0 < depth → SpellsItems is u → items_height is ≤ depth
+    → Refused why w 0 → items_at depth (u ++ w) ≡ Err (record { reason = why; place = length u })
 next_told zero u w is why some h le r = absurd (omega arith)
 next_told (suc level) u w is why some h le r =
     let end = length (u ++ w) in

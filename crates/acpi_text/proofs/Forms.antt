@@ -15,10 +15,12 @@ use Rattle.acpi_tree.specs.View.{fields_view}
 use Rattle.acpi_text.specs.Terms.{arguments_text}
 use Rattle.acpi_tree.specs.TermView.{decl_step, operand_step, term_step, term_view, decl_view}
 
-pub create_is : (w : Width) (s i : Box Term) (n : NameParts) → decl_view (decl.Create w s i n) ≡ declare (named.Create w) (more (term_view (box_value s)) (more (term_view (box_value i)) no_terms)) n no_terms
+pub create_is : (w : Width) (s i : Box Term) (n : NameParts) → decl_view (decl.Create w s i n) ≡ declare (named.Create w)
+    (more (term_view (box_value s)) (more (term_view (box_value i)) no_terms)) n no_terms
 create_is w s i n = ap decl_view (sym (decl.rolls-Create w s i n)) ∙ fold-roll-Decl TermTree TermTree TermTree decl_step operand_step term_step (Decl-F.Create w s i n)
 
-pub create_field_is : (s i b : Box Term) (n : NameParts) → decl_view (decl.CreateField s i b n) ≡ declare named.CreateField (more (term_view (box_value s)) (more (term_view (box_value i)) (more (term_view (box_value b)) no_terms))) n no_terms
+pub create_field_is : (s i b : Box Term) (n : NameParts) → decl_view (decl.CreateField s i b n) ≡ declare named.CreateField
+    (more (term_view (box_value s)) (more (term_view (box_value i)) (more (term_view (box_value b)) no_terms))) n no_terms
 create_field_is s i b n = ap decl_view (sym (decl.rolls-CreateField s i b n)) ∙ fold-roll-Decl TermTree TermTree TermTree decl_step operand_step term_step (Decl-F.CreateField s i b n)
 
 pub mutex_is : (n : NameParts) (f : ℕ) → decl_view (decl.Mutex n f) ≡ declare named.Mutex no_terms n (more (raw 1 f) no_terms)
@@ -27,7 +29,8 @@ mutex_is n f = ap decl_view (sym (decl.rolls-Mutex n f)) ∙ fold-roll-Decl Term
 pub event_is : (n : NameParts) → decl_view (decl.Event n) ≡ declare named.Event no_terms n no_terms
 event_is n = ap decl_view (sym (decl.rolls-Event n)) ∙ fold-roll-Decl TermTree TermTree TermTree decl_step operand_step term_step (Decl-F.Event n)
 
-pub region_is : (n : NameParts) (s : ℕ) (o l : Box Term) → decl_view (decl.Region n s o l) ≡ declare named.Region no_terms n (more (raw 1 s) (more (term_view (box_value o)) (more (term_view (box_value l)) no_terms)))
+pub region_is : (n : NameParts) (s : ℕ) (o l : Box Term) → decl_view (decl.Region n s o l) ≡ declare named.Region no_terms n
+    (more (raw 1 s) (more (term_view (box_value o)) (more (term_view (box_value l)) no_terms)))
 region_is n s o l = ap decl_view (sym (decl.rolls-Region n s o l)) ∙ fold-roll-Decl TermTree TermTree TermTree decl_step operand_step term_step (Decl-F.Region n s o l)
 
 pub field_is : (r : NameParts) (f : ℕ) (v : Vec FieldElem) → decl_view (decl.Field r f v) ≡ declare_units units.Field (r ∷ []) (more (raw 1 f) no_terms) (fields_view v.items)
@@ -36,7 +39,9 @@ field_is r f v = ap decl_view (sym (decl.rolls-Field r f v)) ∙ fold-roll-Decl 
 pub index_field_is : (i d : NameParts) (f : ℕ) (v : Vec FieldElem) → decl_view (decl.IndexField i d f v) ≡ declare_units units.IndexField (i ∷ d ∷ []) (more (raw 1 f) no_terms) (fields_view v.items)
 index_field_is i d f v = ap decl_view (sym (decl.rolls-IndexField i d f v)) ∙ fold-roll-Decl TermTree TermTree TermTree decl_step operand_step term_step (Decl-F.IndexField i d f v)
 
-pub bank_field_is : (r b : NameParts) (i : Box Term) (f : ℕ) (v : Vec FieldElem) → decl_view (decl.BankField r b i f v) ≡ declare_units units.BankField (r ∷ b ∷ []) (more (term_view (box_value i)) (more (raw 1 f) no_terms)) (fields_view v.items)
+pub bank_field_is : (r b : NameParts) (i : Box Term) (f : ℕ) (v : Vec FieldElem)
+    → decl_view (decl.BankField r b i f v) ≡ declare_units units.BankField (r ∷ b ∷ [])
+    (more (term_view (box_value i)) (more (raw 1 f) no_terms)) (fields_view v.items)
 bank_field_is r b i f v = ap decl_view (sym (decl.rolls-BankField r b i f v)) ∙ fold-roll-Decl TermTree TermTree TermTree decl_step operand_step term_step (Decl-F.BankField r b i f v)
 
 -- ---- their texts, put piece by piece

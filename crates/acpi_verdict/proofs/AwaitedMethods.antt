@@ -43,7 +43,8 @@ all_both : {X : Type 0} (P : X → Type 0) (xs ys : List X) → AllByRecursion P
 all_both P [] ys h k = k
 all_both P (x ∷ xs) ys h k = (h.0, all_both P xs ys h.1 k)
 
-both_ascend : (es fs : List (List Segment × ℕ)) → IsStrictlySortedBy awaited_cmp (tagged 0 es) → IsStrictlySortedBy awaited_cmp (tagged 1 fs) → IsStrictlySortedBy awaited_cmp (tagged 0 es ++ tagged 1 fs)
+both_ascend : (es fs : List (List Segment × ℕ)) → IsStrictlySortedBy awaited_cmp (tagged 0 es) → IsStrictlySortedBy awaited_cmp (tagged 1 fs)
+    → IsStrictlySortedBy awaited_cmp (tagged 0 es ++ tagged 1 fs)
 unfolding IsStrictlySortedBy
 both_ascend [] fs h k = k
 both_ascend (e ∷ es) fs h k = (all_both (λ b. awaited_cmp (0, e.0, e.1) b ≡ Less) (tagged 0 es) (tagged 1 fs) h.0 (behind e.0 e.1 fs), both_ascend es fs h.1 k)

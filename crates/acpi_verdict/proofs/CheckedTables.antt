@@ -42,7 +42,8 @@ use Rattle.acpi_verdict.proofs.ToldTables.{all_told, alone_awaits}
 
 -- ---- results
 
-pub told_commute_so : (depth : ℕ) (dsdt : List ℕ) (ssdts : List (List ℕ)) (r : Result Checked LoadFault) → OneVerdict → CommuteIsIndependent → IfOk r (λ c. IsVerdict depth dsdt ssdts (verdict_view c.verdict))
+pub told_commute_so : (depth : ℕ) (dsdt : List ℕ) (ssdts : List (List ℕ)) (r : Result Checked LoadFault) → OneVerdict → CommuteIsIndependent
+    → IfOk r (λ c. IsVerdict depth dsdt ssdts (verdict_view c.verdict))
     → ssdts ≢ [] → IfOk r (λ c. (c.verdict ≡ verdicts.Commute) ↔ IsIndependent depth dsdt ssdts)
 told_commute_so depth dsdt ssdts (Ok c) one law h some = commutes depth dsdt ssdts one law some c.verdict h
 told_commute_so depth dsdt ssdts (Err e) one law h some = tt
@@ -139,7 +140,8 @@ refused_checked depth dsdt ssdts n k why i reason found of_ssdt of_table of_reas
 }
 
 -- the refusal that a verdict tells
-pub fault_told : (depth : ℕ) (dsdt : List ℕ) (ssdts : List (List ℕ)) (v : Verdict) (i : ℕ) (fault : LoadFault) → v ≡ verdicts.NotAlone i fault → IsVerdict depth dsdt ssdts (verdict_view v) → IsFaultOf depth dsdt ssdts v
+pub fault_told : (depth : ℕ) (dsdt : List ℕ) (ssdts : List (List ℕ)) (v : Verdict) (i : ℕ) (fault : LoadFault) → v ≡ verdicts.NotAlone i fault
+    → IsVerdict depth dsdt ssdts (verdict_view v) → IsFaultOf depth dsdt ssdts v
     → IsSinglesFault depth dsdt ssdts fault
 fault_told depth dsdt ssdts v i fault e h k =
     by fault (let P : Verdict → Type 0 = λ x. IsVerdict depth dsdt ssdts (verdict_view x) in subst P e h) (let Q : Verdict → Type 0 = λ x. IsFaultOf depth dsdt ssdts x in subst Q e k)

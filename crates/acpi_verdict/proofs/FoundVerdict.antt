@@ -73,7 +73,8 @@ module _ (wanted : Test) (depth : ℕ) (dsdt : List ℕ) (ssdts : List (List ℕ
       }
 
   -- what any listing of an SSDT declares, it declares
-  declared_in : (b : List ℕ) (s : ToldTree) (x : IsToldTree wanted depth dsdt b s) (first t : Listing) → AreSingleListings depth dsdt b first t → (p : List Segment) (o : ObjectTree) → objects_of t p ≡ Some o
+  declared_in : (b : List ℕ) (s : ToldTree) (x : IsToldTree wanted depth dsdt b s) (first t : Listing) → AreSingleListings depth dsdt b first t
+      → (p : List Segment) (o : ObjectTree) → objects_of t p ≡ Some o
       → objects_of x.t p ≡ Some o
   declared_in b s x first t h p o e = subst (λ (l : Listing). objects_of l p ≡ Some o) (table_is wanted depth dsdt b s x first t h) e
 
@@ -122,7 +123,8 @@ module _ (wanted : Test) (depth : ℕ) (dsdt : List ℕ) (ssdts : List (List ℕ
         unmet = by b.0 x o.0 at c.clashes.2;
       }
     where
-      by : (b : List ℕ) (x : IsToldTree wanted depth dsdt b c.this) (o : ObjectTree) → c.other.objects p ≡ Some o → IsUnmetIn c.this.own p (c.other.objects p) ⊎ IsUnmetIn c.this.under p (c.other.objects p)
+      by : (b : List ℕ) (x : IsToldTree wanted depth dsdt b c.this) (o : ObjectTree) → c.other.objects p ≡ Some o
+          → IsUnmetIn c.this.own p (c.other.objects p) ⊎ IsUnmetIn c.this.under p (c.other.objects p)
           → IsUnmet depth x.first x.t p o
       by b x o at (inl h) =
           unmet_of x.first x.t p (c.other.objects p) o c.this.own at (λ m. ((x.missed_are p).0 (inl m)).0) (λ n w. ((x.awaited_are p n).0 (inl w)).0) h

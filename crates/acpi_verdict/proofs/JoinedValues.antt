@@ -32,7 +32,8 @@ had {V} old p v here q u = (λ e. inl e, back)
     back (inr r) = ap old (sym r.0) ∙ here ∙ ap (λ (x : V). Some x) r.1
 
 -- the path was free
-pub put : {V : Type 0} (old new : Lookup V) (p : List Segment) (v : V) → old p ≡ None → ((q : List Segment) → new q ≡ cond (is_same_path q p) (Some v) (old q)) → Gains old new (λ q u. (p ≡ q) × (v ≡ u))
+pub put : {V : Type 0} (old new : Lookup V) (p : List Segment) (v : V) → old p ≡ None
+    → ((q : List Segment) → new q ≡ cond (is_same_path q p) (Some v) (old q)) → Gains old new (λ q u. (p ≡ q) × (v ≡ u))
 put {V} old new p v free is q u = by (is_same_path q p) refl
   where
     by : (b : Bool) → is_same_path q p ≡ b → (new q ≡ Some u) ↔ ((old q ≡ Some u) ⊎ ((p ≡ q) × (v ≡ u)))
@@ -218,7 +219,8 @@ module _ {V W : Type 0} (f : V → W) where
 
 -- ---- the pairs of a part, one after another
 
-module _ {V : Type 0} (old now new : Lookup V) (all rest left : List (List Segment × V)) (p : List Segment) (v : V) (j : Joining old now (InList all) (InList rest)) (front : rest ≡ pair p v ∷ left) where
+module _ {V : Type 0} (old now new : Lookup V) (all rest left : List (List Segment × V)) (p : List Segment) (v : V)
+    (j : Joining old now (InList all) (InList rest)) (front : rest ≡ pair p v ∷ left) where
   parts : (q : List Segment) (u : V) → InList rest q u ↔ (((p ≡ q) × (v ≡ u)) ⊎ InList left q u)
   parts q u = subst (λ (l : List (List Segment × V)). InList l q u ↔ (((p ≡ q) × (v ≡ u)) ⊎ InList left q u)) (sym front) (first_or_later p v left q u)
 
@@ -237,7 +239,8 @@ module _ {V : Type 0} (old now new : Lookup V) (all rest left : List (List Segme
       by (inl e) = record { path = p; value = h.0; other = v; here = e; there = there; differ = h.2 }
       by (inr i) = absurd (h.2 (one_some h.0 v (sym ((are p h.0).0 i) ∙ there)))
 
-pub pairs_joined : {V : Type 0} (old now part : Lookup V) (all rest : List (List Segment × V)) → Joining old now (InList all) (InList rest) → rest ≡ [] → ((q : List Segment) (u : V) → InList all q u ↔ (part q ≡ Some u))
+pub pairs_joined : {V : Type 0} (old now part : Lookup V) (all rest : List (List Segment × V)) → Joining old now (InList all) (InList rest)
+    → rest ≡ [] → ((q : List Segment) (u : V) → InList all q u ↔ (part q ≡ Some u))
     → Gains old now (λ q u. part q ≡ Some u)
 pairs_joined {V} old now part all rest j none are q u = (λ e. to (g.0 e), λ r. g.1 (from r))
   where

@@ -74,7 +74,8 @@ put m n (q ∷ qs) p (inl e) = let r = here (get m p) refl in (r.0, kept (with_f
 
 -- ---- one SSDT more, before the others
 
-module _ (ds : Declared) (n : ℕ) (ps : List (List Segment)) (last now : PathMap ℕ) (is : IsNumber ds (n + 1) ps) (before : AreDefinersFrom ds (n + 1) (get last)) (putting : now ≡ with_paths last (n + 1) ps) where
+module _ (ds : Declared) (n : ℕ) (ps : List (List Segment)) (last now : PathMap ℕ) (is : IsNumber ds (n + 1) ps)
+    (before : AreDefinersFrom ds (n + 1) (get last)) (putting : now ≡ with_paths last (n + 1) ps) where
   stays : (p : List Segment) (k : ℕ) → get last p ≡ Some k → get now p ≡ Some k
   stays p k e = ap (λ (m : PathMap ℕ). get m p) putting ∙ kept last (n + 1) ps p k e
 
@@ -121,7 +122,8 @@ definers_all ds last h = record { later = later_so; declares = λ k p e. (h.decl
 
 -- ---- what is awaited
 
-pub none_other_more : (last : Lookup ℕ) (ss : List ToldTree) (n : ℕ) (w : List Segment × ℕ) (ws : List (List Segment × ℕ)) → NoneOther last ss n (w ∷ []) → NoneOther last ss n ws → NoneOther last ss n (w ∷ ws)
+pub none_other_more : (last : Lookup ℕ) (ss : List ToldTree) (n : ℕ) (w : List Segment × ℕ) (ws : List (List Segment × ℕ))
+    → NoneOther last ss n (w ∷ []) → NoneOther last ss n ws → NoneOther last ss n (w ∷ ws)
 none_other_more last ss n w ws one rest p args k r o (inl is) = one p args k r o (inl is)
 none_other_more last ss n w ws one rest p args k r o (inr m) = rest p args k r o m
 
@@ -137,7 +139,8 @@ module _ (ss : List ToldTree) (n : ℕ) (x : ToldTree) (p : List Segment) (args 
   seen_there r t at has = subst (λ (y : ToldTree). y.objects p ≡ Some t) (one_number ss n r x at this) has
 
   -- the object that was tested
-  pub met_there : (o : ObjectTree) (b : Bool) → x.objects p ≡ Some o → b ≡ is_method_of o args → not b ≡ false → (r : ToldTree) (t : ObjectTree) → IsNumber ss n r → r.objects p ≡ Some t → is_method_of t args ≡ true
+  pub met_there : (o : ObjectTree) (b : Bool) → x.objects p ≡ Some o → b ≡ is_method_of o args → not b ≡ false → (r : ToldTree) (t : ObjectTree)
+      → IsNumber ss n r → r.objects p ≡ Some t → is_method_of t args ≡ true
   met_there o b there is e r t at has =
       let one : o ≡ t = one_some o t (sym there ∙ seen_there r t at has) in
       subst (λ (y : ObjectTree). is_method_of y args ≡ true) one (sym is ∙ not_false b e)
@@ -158,7 +161,8 @@ none_at last i ps none p k m e other =
     never
 
 -- what was tested of what was tried
-pub none_tried : (last : Lookup ℕ) (ss : List ToldTree) (i : ℕ) (t : TriedTree) (missed : List (List Segment)) (awaited : List (List Segment × ℕ)) → missed ≡ keys t.missed → awaited ≡ entries t.awaited
+pub none_tried : (last : Lookup ℕ) (ss : List ToldTree) (i : ℕ) (t : TriedTree) (missed : List (List Segment)) (awaited : List (List Segment × ℕ))
+    → missed ≡ keys t.missed → awaited ≡ entries t.awaited
     → list_any (λ p. is_elsewhere i (last p)) missed ≡ false → NoneOther last ss i awaited → NoneTried last ss i t
 none_tried last ss i t missed awaited of_missed of_awaited none met = (
   (λ p k m e other. none_at last i missed none p k (subst (λ (ps : List (List Segment)). Among ps p) (sym of_missed) ((key_is t.missed p).1 m)) e other),

@@ -57,4 +57,5 @@ module _ (depth : ℕ) (first t : Listing) where
       all = from_none twice (IsFound (Among links))
           (grows_then empty once twice (IsOnce (Among links)) (IsMissedByAny depth (objects_of_both first t) (methods_of t))
           (grows_then empty scoped once (IsScoped (Among links)) (IsMissedByAny depth (objects_of_both first t) (methods_of first))
-          (grows_then empty linked scoped (Among links) (Among (scope_misses (objects_of_first first) t)) (subst (λ (m : Paths). Grows m linked (Among links)) is_none with_links) with_scopes) with_first) with_second)
+          (grows_then empty linked scoped (Among links) (Among (scope_misses (objects_of_first first) t))
+          (subst (λ (m : Paths). Grows m linked (Among links)) is_none with_links) with_scopes) with_first) with_second)

@@ -37,7 +37,8 @@ declared_there depth dsdt b first t h p o e =
     let free : objects_of_first first p ≡ None = sym (taken_back depth dsdt b first t h p) ∙ ap (λ a. taken_away a (objects_of_both first t p)) e in
     ap (λ a. option_or a (objects_of t p)) free ∙ e
 
-pub object_there : (wanted : Test) (depth : ℕ) (dsdt b : List ℕ) (r : ToldTree) (s : IsToldTree wanted depth dsdt b r) (p : List Segment) (o : ObjectTree) → objects_of s.t p ≡ Some o → r.objects p ≡ Some o
+pub object_there : (wanted : Test) (depth : ℕ) (dsdt b : List ℕ) (r : ToldTree) (s : IsToldTree wanted depth dsdt b r) (p : List Segment)
+    (o : ObjectTree) → objects_of s.t p ≡ Some o → r.objects p ≡ Some o
 object_there wanted depth dsdt b r s p o e = ap (λ (x : Namespace). x p) s.objects_are ∙ declared_there depth dsdt b s.first s.t s.listings p o e
 
 -- the DSDT has one listing
@@ -100,7 +101,8 @@ module _ (wanted : Test) (depth : ℕ) (dsdt : List ℕ) (ssdts : List (List ℕ
 
   -- ---- what is satisfied is listed
 
-  listed_at : (user : ℕ) (ws : PathMap ℕ) (t : Satisfied) (h : IsSatisfied depth dsdt ssdts user t.definer t.path) → t.user ≡ user → (IsTrue (wanted t.path) → get ws t.path ≡ Some h.args) → (definer : ℕ)
+  listed_at : (user : ℕ) (ws : PathMap ℕ) (t : Satisfied) (h : IsSatisfied depth dsdt ssdts user t.definer t.path) → t.user ≡ user
+      → (IsTrue (wanted t.path) → get ws t.path ≡ Some h.args) → (definer : ℕ)
       → t.definer ≡ definer
       → IsSsdt ssdts definer h.ssdt → IsMetFrom user ws 1 ss t
   listed_at user ws t h of_user awaits zero e is = absurd is
@@ -143,7 +145,8 @@ module _ (wanted : Test) (depth : ℕ) (dsdt : List ℕ) (ssdts : List (List ℕ
         place = k;
         single = u;
         stands = x.1;
-        is_met_from = subst (λ (n : ℕ). IsMetFrom n u.own.awaited 1 ss t) (one_more k) (listed_at (suc k) u.own.awaited t h e (λ w. (s.own_awaited t.path h.args).1 (awaits, w)) t.definer refl h.is_definer);
+        is_met_from = subst (λ (n : ℕ). IsMetFrom n u.own.awaited 1 ss t) (one_more k)
+            (listed_at (suc k) u.own.awaited t h e (λ w. (s.own_awaited t.path h.args).1 (awaits, w)) t.definer refl h.is_definer);
       })
 
   pub all_satisfied : (ws : PathMap ℕ) → AreAwaitsAlone wanted depth dsdt ws → (t : Satisfied) → Among (all_met ws ss) t ↔ IsSatisfied depth dsdt ssdts t.user t.definer t.path

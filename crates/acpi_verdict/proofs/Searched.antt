@@ -77,14 +77,16 @@ misses_grow depth objects [] before now h =
     rw h (grows_as before.missed before.missed (λ p. ⊥) (IsMissedByAny depth objects []) (λ p. (λ x. absurd x, λ x. absurd x.1)) (grows_not before.missed))
 misses_grow depth objects (m ∷ ms) before now h =
     let one : SearchesMethod depth objects m before h.0 = h.1 in
-    grows_as before.missed now.missed (λ p. IsFirmMiss objects m.counts m.path one.body p ⊎ IsMissedByAny depth objects ms p) (IsMissedByAny depth objects (m ∷ ms)) (λ p. (to one.body one.is_body p, from one.body one.is_body p))
+    grows_as before.missed now.missed (λ p. IsFirmMiss objects m.counts m.path one.body p ⊎ IsMissedByAny depth objects ms p)
+    (IsMissedByAny depth objects (m ∷ ms)) (λ p. (to one.body one.is_body p, from one.body one.is_body p))
     (grows_then before.missed h.0.missed now.missed (IsFirmMiss objects m.counts m.path one.body) (IsMissedByAny depth objects ms) one.missed_are (misses_grow depth objects ms h.0 now h.2))
   where
     to : (b : BodyTree) → IsBody depth objects m b → (p : List Segment) → IsFirmMiss objects m.counts m.path b p ⊎ IsMissedByAny depth objects ms p → IsMissedByAny depth objects (m ∷ ms) p
     to b is p (inl x) = (m, inl refl, (b, is, x))
     to b is p (inr x) = (x.0, inr x.1, x.2)
 
-    by : (b : BodyTree) → IsBody depth objects m b → (p : List Segment) (k : Method) → (m ≡ k) ⊎ Among ms k → IsBodyMiss depth objects k p → IsFirmMiss objects m.counts m.path b p ⊎ IsMissedByAny depth objects ms p
+    by : (b : BodyTree) → IsBody depth objects m b → (p : List Segment) (k : Method) → (m ≡ k) ⊎ Among ms k → IsBodyMiss depth objects k p
+        → IsFirmMiss objects m.counts m.path b p ⊎ IsMissedByAny depth objects ms p
     by b is p k (inl e) x = inl ((of_body depth objects m b is p).0 (subst (λ (j : Method). IsBodyMiss depth objects j p) (sym e) x))
     by b is p k (inr i) x = inr (k, i, x)
 

@@ -50,13 +50,15 @@ module _ (wanted : Test) (depth : ℕ) (objects : Namespace) (m : Method) (b : B
       → ((p : List Segment) (n : ℕ) → Among opens (record { path = p; count = n }) ↔ (IsOpenMiss objects m.counts m.path b p n × IsTrue (wanted p)))
       → newer ≡ with_opens older (map open_pair opens) → TriesMethod wanted depth objects m (record { missed = before; awaited = older }) (record { missed = after; awaited = newer })
   tried_so firm opens before after older newer grows missed awaits put = record {
-    missed_are = grows_as before after (Among firm) (λ p. IsBodyMiss depth objects m p × IsTrue (wanted p)) (λ p. ((λ i. (body_miss p).0 ((missed p).0 i)), (λ x. (missed p).1 ((body_miss p).1 x)))) grows;
+    missed_are = grows_as before after (Among firm) (λ p. IsBodyMiss depth objects m p × IsTrue (wanted p))
+        (λ p. ((λ i. (body_miss p).0 ((missed p).0 i)), (λ x. (missed p).1 ((body_miss p).1 x)))) grows;
     opens = opens;
     opens_are = λ p n. ((λ i. (body_awaits p n).0 ((awaits p n).0 i)), (λ x. (awaits p n).1 ((body_awaits p n).1 x)));
     awaited_are = put;
   }
 
-pub tried_method : {T E : Type 0} (r : Result T E) (wanted : Test) (depth : ℕ) (objects : Namespace) (m : Method) (b : BodyTree) → IsBody depth objects m b → (firm : List (List Segment)) (opens : List OpenMiss)
+pub tried_method : {T E : Type 0} (r : Result T E) (wanted : Test) (depth : ℕ) (objects : Namespace) (m : Method) (b : BodyTree)
+    → IsBody depth objects m b → (firm : List (List Segment)) (opens : List OpenMiss)
     (before after : Paths) (older newer : PathMap ℕ) → Grows before after (Among firm)
     → ((p : List Segment) → Among firm p ↔ (IsFirmMiss objects m.counts m.path b p × IsTrue (wanted p)))
     → ((p : List Segment) (n : ℕ) → Among opens (record { path = p; count = n }) ↔ (IsOpenMiss objects m.counts m.path b p n × IsTrue (wanted p)))
@@ -214,7 +216,8 @@ module _ (wanted : Test) where
       from p (inl same) k = inl same
       from p (inr i) k = inr (i, k)
 
-  pub grow_unwanted : (m now : Paths) (q : List Segment) (ps : List (List Segment)) → wanted q ≡ false → Grows m now (λ p. Among ps p × IsTrue (wanted p)) → Grows m now (λ p. Among (q ∷ ps) p × IsTrue (wanted p))
+  pub grow_unwanted : (m now : Paths) (q : List Segment) (ps : List (List Segment)) → wanted q ≡ false
+      → Grows m now (λ p. Among ps p × IsTrue (wanted p)) → Grows m now (λ p. Among (q ∷ ps) p × IsTrue (wanted p))
   grow_unwanted m now q ps f h =
       grows_as m now (λ p. Among ps p × IsTrue (wanted p)) (λ p. Among (q ∷ ps) p × IsTrue (wanted p)) (λ p. ((λ x. (inr x.0, x.1)), (λ x. from p x.0 x.1))) h
     where

@@ -23,7 +23,8 @@ numbered : (bytes before rest : List ℕ) (at n : ℕ) → bytes ≡ before ++ (
 numbered bytes before rest at n whole place few = ap (little_number 4) (ap (drop at) whole ∙ drop_at before (little_bytes 4 n ++ rest) at place) ∙ little_number-reads_back 4 n rest few
 
 byte_there : (bytes before rest : List ℕ) (at b : ℕ) → bytes ≡ before ++ (b ∷ rest) → length before ≡ at → slice_index bytes at ≡ b
-byte_there bytes before rest at b whole place = ap (λ k. slice_index bytes k) (let none : at ≡ at + 0 = omega arith in none) ∙ sym (get_or-drop at bytes 0 0) ∙ ap (λ l. slice_index l 0) (ap (drop at) whole ∙ drop_at before (b ∷ rest) at place)
+byte_there bytes before rest at b whole place = ap (λ k. slice_index bytes k) (let none : at ≡ at + 0 = omega arith in none)
+    ∙ sym (get_or-drop at bytes 0 0) ∙ ap (λ l. slice_index l 0) (ap (drop at) whole ∙ drop_at before (b ∷ rest) at place)
 
 module _ (h : Header) (w : HasWidths h) (len c : ℕ) (few : len < 4294967296) (code : List ℕ) where
   abbrev whole : List ℕ
@@ -164,8 +165,10 @@ module _ (h : Header) (w : HasWidths h) (len c : ℕ) (few : len < 4294967296) (
   sum_told zero =
       let front = p8 h w len 0 few code ++ h.revision ∷ [] in
       let back = t10 h w len 0 few code in
-      let none : sum (header_bytes h len 0 ++ code) ≡ sum front + (0 + sum back) = ap sum (e9 h w len 0 few code) ∙ sum_by-append (λ x. x) front (0 ∷ back) ∙ ap (λ n. sum front + n) (sum_by-cons (λ x. x) 0 back) in
-      let some : sum (header_bytes h len c ++ code) ≡ sum front + (c + sum back) = ap sum (e9 h w len c few code) ∙ sum_by-append (λ x. x) front (c ∷ back) ∙ ap (λ n. sum front + n) (sum_by-cons (λ x. x) c back) in
+      let none : sum (header_bytes h len 0 ++ code) ≡ sum front + (0 + sum back) = ap sum (e9 h w len 0 few code)
+      ∙ sum_by-append (λ x. x) front (0 ∷ back) ∙ ap (λ n. sum front + n) (sum_by-cons (λ x. x) 0 back) in
+      let some : sum (header_bytes h len c ++ code) ≡ sum front + (c + sum back) = ap sum (e9 h w len c few code)
+      ∙ sum_by-append (λ x. x) front (c ∷ back) ∙ ap (λ n. sum front + n) (sum_by-cons (λ x. x) c back) in
       let same : sum (header_bytes h len c ++ code) ≡ sum (header_bytes h len 0 ++ code) + c = omega (arith, none, some) in
       ap (λ n. n % 256) same ∙ zero
 

@@ -69,7 +69,8 @@ within_both None b x y whole h k e = absurd h
 within_both (Some a) None x y whole h k e = absurd k
 within_both (Some a) (Some b) x y whole h k e = rw e (omega (arith, length-append a b, length-append x y, h, k))
 
-pub within_packed : (op front : List ℕ) (content : Option (List ℕ)) (inner bytes : List ℕ) → AreBytes bytes → Packs op inner bytes → HasWithin (option_append (Some front) content) inner → HasWithin (filled_with op front content) bytes
+pub within_packed : (op front : List ℕ) (content : Option (List ℕ)) (inner bytes : List ℕ) → AreBytes bytes → Packs op inner bytes
+    → HasWithin (option_append (Some front) content) inner → HasWithin (filled_with op front content) bytes
 within_packed op front None inner bytes all p h = absurd h
 within_packed op front (Some c) inner bytes all p h =
     let split = parts op (p.len ++ inner) bytes p.whole all in
@@ -129,7 +130,8 @@ filled_short : (op : List ℕ) (ks : List FixedArgument) (v : Values ks) (Fills 
     → ((b : List ℕ) → AreBytes b → Fills b → HasWithin content b) → HasWithin (filled_with op (arguments_bytes ks v) content) bytes
 filled_short op ks v Fills content bytes all (a, b, front, fills, packs) one =
     let split = parts a b (a ++ b) refl (packed op (a ++ b) bytes packs all) in
-    within_packed op (arguments_bytes ks v) content (a ++ b) bytes all packs (within_both (Some (arguments_bytes ks v)) content a b (a ++ b) (arguments_short ks v a split.0 front) (one b split.1 fills) refl)
+    within_packed op (arguments_bytes ks v) content (a ++ b) bytes all packs
+    (within_both (Some (arguments_bytes ks v)) content a b (a ++ b) (arguments_short ks v a split.0 front) (one b split.1 fills) refl)
 
 pub each_short : {A : Type 0} (f : A → Option (List ℕ)) (Spells : A → List ℕ → Type 0) → ((x : A) (b : List ℕ) → AreBytes b → Spells x b → HasWithin (f x) b)
     → (xs : List A) (bytes : List ℕ) → AreBytes bytes → SpellsEach Spells xs bytes → HasWithin (each_bytes f xs) bytes
@@ -199,34 +201,46 @@ mutual
       let split = parts (8 ∷ a) b bytes whole all in
       let le : length (name_bytes n) ≤ length a = name_shortest n a named in
       subst (λ x. HasWithin (item_bytes x) bytes) (sym e) (within_both (Some (8 ∷ name_bytes n)) (data_bytes d) (8 ∷ a) b bytes (omega (arith, le)) (data_short d b split.1 fills) whole)
-  item_short (scope n is) j bytes all h (js, s, e) = subst (λ x. HasWithin (item_bytes x) bytes) (sym e) (filled_short (16 ∷ []) (name_arg ∷ []) (n, tt) (λ b. SpellsItems is b) (items_bytes js) bytes all h (λ b small k. items_short is js b small k s))
+  item_short (scope n is) j bytes all h (js, s, e) = subst (λ x. HasWithin (item_bytes x) bytes) (sym e)
+      (filled_short (16 ∷ []) (name_arg ∷ []) (n, tt) (λ b. SpellsItems is b) (items_bytes js) bytes all h
+      (λ b small k. items_short is js b small k s))
   item_short (method n flags code) j bytes all h (short, le, e) =
-      subst (λ x. HasWithin (item_bytes x) bytes) (sym e) (filled_short (20 ∷ []) (name_arg ∷ byte_arg ∷ []) (n, (flags, tt)) (λ b. b ≡ code) (Some short) bytes all h (λ b small k. omega (arith, ap length k, le)))
+      subst (λ x. HasWithin (item_bytes x) bytes) (sym e) (filled_short (20 ∷ []) (name_arg ∷ byte_arg ∷ []) (n, (flags, tt)) (λ b. b ≡ code)
+      (Some short) bytes all h (λ b small k. omega (arith, ap length k, le)))
   item_short (external x) j bytes all h e = subst (λ x. HasWithin (item_bytes x) bytes) (sym e) (external_short x bytes all h)
   item_short (external_block xs) j bytes all (b, each, packs) e =
       let inner = parts (0 ∷ []) b (0 ∷ b) refl (packed (160 ∷ []) (0 ∷ b) bytes packs all) in
       let content = each_short (λ x. Some (external_bytes x)) SpellsExternal external_short xs b inner.1 each in
-      subst (λ x. HasWithin (item_bytes x) bytes) (sym e) (within_packed (160 ∷ []) (0 ∷ []) (each_bytes (λ x. Some (external_bytes x)) xs) (0 ∷ b) bytes all packs (within_both (Some (0 ∷ [])) _ (0 ∷ []) b (0 ∷ b) (omega arith) content refl))
+      subst (λ x. HasWithin (item_bytes x) bytes) (sym e) (within_packed (160 ∷ []) (0 ∷ []) (each_bytes (λ x. Some (external_bytes x)) xs) (0 ∷ b)
+      bytes all packs (within_both (Some (0 ∷ [])) _ (0 ∷ []) b (0 ∷ b) (omega arith) content refl))
   item_short (create w source index n) j bytes all h e = form_short (opcodes.Create w) (source, (index, (n, tt))) (create w source index n) j bytes all h refl e
   item_short (create_field source index bits n) j bytes all h e = form_short opcodes.CreateField (source, (index, (bits, (n, tt)))) (create_field source index bits n) j bytes all h refl e
   item_short (mutex n flags) j bytes all h e = form_short opcodes.Mutex (n, (flags, tt)) (mutex n flags) j bytes all h refl e
   item_short (event n) j bytes all h e = form_short opcodes.Event (n, tt) (event n) j bytes all h refl e
   item_short (region n space offset len) j bytes all h e = form_short opcodes.Region (n, (space, (offset, (len, tt)))) (region n space offset len) j bytes all h refl e
   item_short (field r flags es) j bytes all h e =
-      subst (λ x. HasWithin (item_bytes x) bytes) (sym e) (filled_short (91 ∷ 129 ∷ []) (name_arg ∷ byte_arg ∷ []) (r, (flags, tt)) (λ b. SpellsFields es b) (fields_bytes es) bytes all h (λ b small k. fields_short es b small k))
+      subst (λ x. HasWithin (item_bytes x) bytes) (sym e) (filled_short (91 ∷ 129 ∷ []) (name_arg ∷ byte_arg ∷ []) (r, (flags, tt))
+      (λ b. SpellsFields es b) (fields_bytes es) bytes all h (λ b small k. fields_short es b small k))
   item_short (index_field i d flags es) j bytes all h e =
-      subst (λ x. HasWithin (item_bytes x) bytes) (sym e) (filled_short (91 ∷ 134 ∷ []) (name_arg ∷ name_arg ∷ byte_arg ∷ []) (i, (d, (flags, tt))) (λ b. SpellsFields es b) (fields_bytes es) bytes all h (λ b small k. fields_short es b small k))
+      subst (λ x. HasWithin (item_bytes x) bytes) (sym e) (filled_short (91 ∷ 134 ∷ []) (name_arg ∷ name_arg ∷ byte_arg ∷ []) (i, (d, (flags, tt)))
+      (λ b. SpellsFields es b) (fields_bytes es) bytes all h (λ b small k. fields_short es b small k))
   item_short (bank_field r bank value flags es) j bytes all h e =
       subst (λ x. HasWithin (item_bytes x) bytes) (sym e)
-      (filled_short (91 ∷ 135 ∷ []) (name_arg ∷ name_arg ∷ int_arg ∷ byte_arg ∷ []) (r, (bank, (value, (flags, tt)))) (λ b. SpellsFields es b) (fields_bytes es) bytes all h (λ b small k. fields_short es b small k))
-  item_short (device n is) j bytes all h (js, s, e) = subst (λ x. HasWithin (item_bytes x) bytes) (sym e) (filled_short (91 ∷ 130 ∷ []) (name_arg ∷ []) (n, tt) (λ b. SpellsItems is b) (items_bytes js) bytes all h (λ b small k. items_short is js b small k s))
+      (filled_short (91 ∷ 135 ∷ []) (name_arg ∷ name_arg ∷ int_arg ∷ byte_arg ∷ []) (r, (bank, (value, (flags, tt)))) (λ b. SpellsFields es b)
+      (fields_bytes es) bytes all h (λ b small k. fields_short es b small k))
+  item_short (device n is) j bytes all h (js, s, e) = subst (λ x. HasWithin (item_bytes x) bytes) (sym e)
+      (filled_short (91 ∷ 130 ∷ []) (name_arg ∷ []) (n, tt) (λ b. SpellsItems is b) (items_bytes js) bytes all h
+      (λ b small k. items_short is js b small k s))
   item_short (processor n id block len is) j bytes all h (js, s, e) =
       subst (λ x. HasWithin (item_bytes x) bytes) (sym e)
-      (filled_short (91 ∷ 131 ∷ []) (name_arg ∷ byte_arg ∷ dword_arg ∷ byte_arg ∷ []) (n, (id, (block, (len, tt)))) (λ b. SpellsItems is b) (items_bytes js) bytes all h (λ b small k. items_short is js b small k s))
+      (filled_short (91 ∷ 131 ∷ []) (name_arg ∷ byte_arg ∷ dword_arg ∷ byte_arg ∷ []) (n, (id, (block, (len, tt)))) (λ b. SpellsItems is b)
+      (items_bytes js) bytes all h (λ b small k. items_short is js b small k s))
   item_short (power n level order is) j bytes all h (js, s, e) =
       subst (λ x. HasWithin (item_bytes x) bytes) (sym e)
       (filled_short (91 ∷ 132 ∷ []) (name_arg ∷ byte_arg ∷ word_arg ∷ []) (n, (level, (order, tt))) (λ b. SpellsItems is b) (items_bytes js) bytes all h (λ b small k. items_short is js b small k s))
-  item_short (thermal n is) j bytes all h (js, s, e) = subst (λ x. HasWithin (item_bytes x) bytes) (sym e) (filled_short (91 ∷ 133 ∷ []) (name_arg ∷ []) (n, tt) (λ b. SpellsItems is b) (items_bytes js) bytes all h (λ b small k. items_short is js b small k s))
+  item_short (thermal n is) j bytes all h (js, s, e) = subst (λ x. HasWithin (item_bytes x) bytes) (sym e)
+      (filled_short (91 ∷ 133 ∷ []) (name_arg ∷ []) (n, tt) (λ b. SpellsItems is b) (items_bytes js) bytes all h
+      (λ b small k. items_short is js b small k s))
 
   items_short : (is js : ItemTrees) (bytes : List ℕ) → AreBytes bytes → SpellsItems is bytes → AreShortened is js → HasWithin (items_bytes js) bytes
   items_short no_items js bytes all h e = rw (e, h) (omega arith)
@@ -275,7 +289,8 @@ plain_typed op ks v bytes all h = arguments_typed ks v h.0 (parts op h.0 bytes h
 front_typed : (op : List ℕ) (ks : List FixedArgument) (v : Values ks) (Fills : List ℕ → Type 0) (bytes : List ℕ) → AreBytes bytes → SpellsPacked op ks v Fills bytes → AreTyped ks v
 front_typed op ks v Fills bytes all (a, b, front, fills, packs) = arguments_typed ks v a (parts a b (a ++ b) refl (packed op (a ++ b) bytes packs all)).0 front
 
-content_of : (op : List ℕ) (ks : List FixedArgument) (v : Values ks) (Fills : List ℕ → Type 0) (bytes : List ℕ) → AreBytes bytes → SpellsPacked op ks v Fills bytes → (b : List ℕ) × AreBytes b × Fills b
+content_of : (op : List ℕ) (ks : List FixedArgument) (v : Values ks) (Fills : List ℕ → Type 0) (bytes : List ℕ) → AreBytes bytes
+    → SpellsPacked op ks v Fills bytes → (b : List ℕ) × AreBytes b × Fills b
 content_of op ks v Fills bytes all (a, b, front, fills, packs) = (b, (parts a b (a ++ b) refl (packed op (a ++ b) bytes packs all)).1, fills)
 
 pub each_typed : {A : Type 0} (Spells : A → List ℕ → Type 0) (Holds : A → Type 0) → ((x : A) (b : List ℕ) → AreBytes b → Spells x b → Holds x)
@@ -312,13 +327,16 @@ field_typed (extended kind attribute len) bytes all h = tt
 external_typed : (x : ExternalParts) (bytes : List ℕ) → AreBytes bytes → SpellsExternal x bytes → IsExternalTyped x
 external_typed x bytes all h = (plain_typed (21 ∷ []) (arguments opcodes.External) (x.name, (x.kind, (x.args, tt))) bytes all h).0
 
-units_typed : (op : List ℕ) (ks : List FixedArgument) (v : Values ks) (es : List FieldTree) (bytes : List ℕ) → AreBytes bytes → SpellsPacked op ks v (λ b. SpellsFields es b) bytes → AreTyped ks v × AllByRecursion IsFieldTyped es
+units_typed : (op : List ℕ) (ks : List FixedArgument) (v : Values ks) (es : List FieldTree) (bytes : List ℕ) → AreBytes bytes
+    → SpellsPacked op ks v (λ b. SpellsFields es b) bytes → AreTyped ks v × AllByRecursion IsFieldTyped es
 units_typed op ks v es bytes all h =
     let c = content_of op ks v (λ b. SpellsFields es b) bytes all h in
     (front_typed op ks v (λ b. SpellsFields es b) bytes all h, each_typed SpellsField IsFieldTyped field_typed es c.0 c.1 c.2)
 
 -- a package of items
-held_typed : (op : List ℕ) (ks : List FixedArgument) (v : Values ks) (is : ItemTrees) (bytes : List ℕ) → AreBytes bytes → SpellsPacked op ks v (λ b. SpellsItems is b) bytes → ((b : List ℕ) → AreBytes b → SpellsItems is b → AreItemsTyped is) → AreTyped ks v × AreItemsTyped is
+held_typed : (op : List ℕ) (ks : List FixedArgument) (v : Values ks) (is : ItemTrees) (bytes : List ℕ) → AreBytes bytes
+    → SpellsPacked op ks v (λ b. SpellsItems is b) bytes → ((b : List ℕ) → AreBytes b → SpellsItems is b → AreItemsTyped is)
+    → AreTyped ks v × AreItemsTyped is
 held_typed op ks v is bytes all h each =
     let c = content_of op ks v (λ b. SpellsItems is b) bytes all h in
     (front_typed op ks v (λ b. SpellsItems is b) bytes all h, each c.0 c.1 c.2)
@@ -329,7 +347,8 @@ mutual
   item_typed (scope n is) bytes all h = held_typed (16 ∷ []) (name_arg ∷ []) (n, tt) is bytes all h (λ b small k. items_typed is b small k)
   item_typed (method n flags code) bytes all h = front_typed (20 ∷ []) (name_arg ∷ byte_arg ∷ []) (n, (flags, tt)) (λ b. b ≡ code) bytes all h
   item_typed (external x) bytes all h = external_typed x bytes all h
-  item_typed (external_block xs) bytes all (b, each, packs) = each_typed SpellsExternal IsExternalTyped external_typed xs b (parts (0 ∷ []) b (0 ∷ b) refl (packed (160 ∷ []) (0 ∷ b) bytes packs all)).1 each
+  item_typed (external_block xs) bytes all (b, each, packs) = each_typed SpellsExternal IsExternalTyped external_typed xs b
+      (parts (0 ∷ []) b (0 ∷ b) refl (packed (160 ∷ []) (0 ∷ b) bytes packs all)).1 each
   item_typed (create w source index n) bytes all h = plain_typed (opcode_bytes (opcodes.Create w)) (arguments (opcodes.Create w)) (source, (index, (n, tt))) bytes all h
   item_typed (create_field source index bits n) bytes all h = plain_typed (91 ∷ 19 ∷ []) (arguments opcodes.CreateField) (source, (index, (bits, (n, tt)))) bytes all h
   item_typed (mutex n flags) bytes all h = plain_typed (91 ∷ 1 ∷ []) (arguments opcodes.Mutex) (n, (flags, tt)) bytes all h
@@ -339,7 +358,8 @@ mutual
   item_typed (index_field i d flags es) bytes all h = units_typed (91 ∷ 134 ∷ []) (name_arg ∷ name_arg ∷ byte_arg ∷ []) (i, (d, (flags, tt))) es bytes all h
   item_typed (bank_field r bank value flags es) bytes all h = units_typed (91 ∷ 135 ∷ []) (name_arg ∷ name_arg ∷ int_arg ∷ byte_arg ∷ []) (r, (bank, (value, (flags, tt)))) es bytes all h
   item_typed (device n is) bytes all h = held_typed (91 ∷ 130 ∷ []) (name_arg ∷ []) (n, tt) is bytes all h (λ b small k. items_typed is b small k)
-  item_typed (processor n id block len is) bytes all h = held_typed (91 ∷ 131 ∷ []) (name_arg ∷ byte_arg ∷ dword_arg ∷ byte_arg ∷ []) (n, (id, (block, (len, tt)))) is bytes all h (λ b small k. items_typed is b small k)
+  item_typed (processor n id block len is) bytes all h = held_typed (91 ∷ 131 ∷ []) (name_arg ∷ byte_arg ∷ dword_arg ∷ byte_arg ∷ [])
+      (n, (id, (block, (len, tt)))) is bytes all h (λ b small k. items_typed is b small k)
   item_typed (power n level order is) bytes all h = held_typed (91 ∷ 132 ∷ []) (name_arg ∷ byte_arg ∷ word_arg ∷ []) (n, (level, (order, tt))) is bytes all h (λ b small k. items_typed is b small k)
   item_typed (thermal n is) bytes all h = held_typed (91 ∷ 133 ∷ []) (name_arg ∷ []) (n, tt) is bytes all h (λ b small k. items_typed is b small k)
 

@@ -42,13 +42,17 @@ mutual
   term_short args (str text) bytes all h = rw (h.2, h.1.1) (omega arith)
   term_short args (buffer size content) bytes all (s, stands, hs, packs) =
       let split = parts s content (s ++ content) refl (packed (17 ∷ []) (s ++ content) bytes packs all) in
-      within_package (17 ∷ []) (option_append (term_bytes size) (Some content)) (s ++ content) bytes all packs (within_both (term_bytes size) (Some content) s content (s ++ content) (term_short args size s split.0 hs) (omega arith) refl)
+      within_package (17 ∷ []) (option_append (term_bytes size) (Some content)) (s ++ content) bytes all packs
+      (within_both (term_bytes size) (Some content) s content (s ++ content) (term_short args size s split.0 hs) (omega arith) refl)
   term_short args (pkg count es) bytes all (b, hs, packs) =
       let split = parts (count ∷ []) b (count ∷ b) refl (packed (18 ∷ []) (count ∷ b) bytes packs all) in
-      within_packed (18 ∷ []) (count ∷ []) (terms_bytes es) (count ∷ b) bytes all packs (within_both (Some (count ∷ [])) (terms_bytes es) (count ∷ []) b (count ∷ b) (omega arith) (elements_short args es b split.1 hs) refl)
+      within_packed (18 ∷ []) (count ∷ []) (terms_bytes es) (count ∷ b) bytes all packs
+      (within_both (Some (count ∷ [])) (terms_bytes es) (count ∷ []) b (count ∷ b) (omega arith) (elements_short args es b split.1 hs) refl)
   term_short args (var_pkg count es) bytes all (s, b, stands, hc, hs, packs) =
       let split = parts s b (s ++ b) refl (packed (19 ∷ []) (s ++ b) bytes packs all) in
-      within_package (19 ∷ []) (option_append (term_bytes count) (terms_bytes es)) (s ++ b) bytes all packs (within_both (term_bytes count) (terms_bytes es) s b (s ++ b) (term_short args count s split.0 hc) (elements_short args es b split.1 hs) refl)
+      within_package (19 ∷ []) (option_append (term_bytes count) (terms_bytes es)) (s ++ b) bytes all packs
+      (within_both (term_bytes count) (terms_bytes es) s b (s ++ b) (term_short args count s split.0 hc)
+      (elements_short args es b split.1 hs) refl)
   term_short args (local n) bytes all h = rw h.0 (omega arith)
   term_short args (arg n) bytes all h = rw h.0 (omega arith)
   term_short args debug bytes all h = rw h (omega arith)
@@ -106,7 +110,8 @@ mutual
   operands_typed args [] no_terms bytes all h = tt
   operands_typed args (k ∷ ks) no_terms bytes all h = absurd h
   operands_typed args [] (more t ts) bytes all h = absurd h
-  operands_typed args (k ∷ ks) (more t ts) bytes all (a, b, stands, first, rest, whole) = let split = parts a b bytes whole all in (term_typed args t a split.0 first, operands_typed args ks ts b split.1 rest)
+  operands_typed args (k ∷ ks) (more t ts) bytes all (a, b, stands, first, rest, whole) = let split = parts a b bytes whole all in
+      (term_typed args t a split.0 first, operands_typed args ks ts b split.1 rest)
 
   elements_typed : (args : NameParts → ℕ) (ts : TermTrees) (bytes : List ℕ) → AreBytes bytes → AreElements args ts bytes → AreTermsTyped ts
   elements_typed args no_terms bytes all h = tt
@@ -157,11 +162,13 @@ names_short (n ∷ ns) bytes (a, b, first, rest, whole) = within_both (Some (nam
 unit_short : (x : FieldTree) (bytes : List ℕ) → AreBytes bytes → SpellsField x bytes → HasWithin (field_bytes x) bytes
 unit_short (unit g bits) bytes all (a, b, segment, number, whole) =
     within_both (Some g) (bits_bytes bits) a b bytes (rw segment.1 (omega arith)) (bits_short bits b (parts a b bytes whole all).1 number) whole
-unit_short (reserved bits) bytes all (b, number, whole) = within_both (Some (0 ∷ [])) (bits_bytes bits) (0 ∷ []) b bytes (omega arith) (bits_short bits b (parts (0 ∷ []) b bytes whole all).1 number) whole
+unit_short (reserved bits) bytes all (b, number, whole) = within_both (Some (0 ∷ [])) (bits_bytes bits) (0 ∷ []) b bytes (omega arith)
+    (bits_short bits b (parts (0 ∷ []) b bytes whole all).1 number) whole
 unit_short (access kind attribute) bytes all h = rw h (omega arith)
 unit_short (connect_name n) bytes all (a, named, whole) = let le : length (name_bytes n) ≤ length a = name_shortest n a named in rw whole (omega (arith, le))
 unit_short (connect_buffer size content) bytes all (a, h, packs) =
-    within_packed (2 ∷ 17 ∷ []) (int_bytes size) (Some content) (a ++ content) bytes all packs (within_both (Some (int_bytes size)) (Some content) a content (a ++ content) (int_short size a h) (omega arith) refl)
+    within_packed (2 ∷ 17 ∷ []) (int_bytes size) (Some content) (a ++ content) bytes all packs
+    (within_both (Some (int_bytes size)) (Some content) a content (a ++ content) (int_short size a h) (omega arith) refl)
 unit_short (extended kind attribute len) bytes all h = rw h (omega arith)
 
 unit_typed : (x : FieldTree) (bytes : List ℕ) → AreBytes bytes → SpellsField x bytes → IsFieldTyped x
@@ -192,21 +199,25 @@ mutual
       let second = parts a (b ++ c) (a ++ (b ++ c)) refl first.1 in
       let third = parts b c (b ++ c) refl second.1 in
       let tail = within_both (Some (name_bytes n)) (terms_bytes behind) b c (b ++ c) (name_shortest n b named) (operands_short (args locals) (operands_behind form) behind c third.1 ha) refl in
-      let rest = within_both (terms_bytes before) (option_append (Some (name_bytes n)) (terms_bytes behind)) a (b ++ c) (a ++ (b ++ c)) (operands_short (args locals) (operands_before form) before a second.0 hb) tail refl in
+      let rest = within_both (terms_bytes before) (option_append (Some (name_bytes n)) (terms_bytes behind)) a (b ++ c) (a ++ (b ++ c))
+      (operands_short (args locals) (operands_before form) before a second.0 hb) tail refl in
       within_both (Some op) (option_append (terms_bytes before) (option_append (Some (name_bytes n)) (terms_bytes behind))) op (a ++ (b ++ c)) bytes (omega arith) rest whole
   statement_short args s locals (declare_units form ns vs es) bytes all (a, b, c, many, named, hs, units, packs) =
       let first = parts a (b ++ c) (a ++ (b ++ c)) refl (packed (opcode_bytes (units_opcode form)) (a ++ (b ++ c)) bytes packs all) in
       let second = parts b c (b ++ c) refl first.1 in
-      let tail = within_both (terms_bytes vs) (fields_bytes es) b c (b ++ c) (operands_short (args locals) (operands_of_units form) vs b second.0 hs) (each_short field_bytes SpellsField unit_short es c second.1 units) refl in
+      let tail = within_both (terms_bytes vs) (fields_bytes es) b c (b ++ c) (operands_short (args locals) (operands_of_units form) vs b second.0 hs)
+      (each_short field_bytes SpellsField unit_short es c second.1 units) refl in
       within_package (opcode_bytes (units_opcode form)) (option_append (names_bytes ns) (option_append (terms_bytes vs) (fields_bytes es))) (a ++ (b ++ c)) bytes all packs
       (within_both (names_bytes ns) (option_append (terms_bytes vs) (fields_bytes es)) a (b ++ c) (a ++ (b ++ c)) (names_short ns a named) tail refl)
   statement_short args s locals t bytes all h = term_short (args locals) t bytes all h.1
 
   else_short : (args : Arguments) (s : List Segment) (locals : Locals) (e : ElseTree) (bytes : List ℕ) → AreBytes bytes → IsElse args s locals e bytes → HasWithin (else_bytes e) bytes
   else_short args s locals no_else bytes all h = omega arith
-  else_short args s locals (else_do ts) bytes all (b, hs, packs) = within_package (161 ∷ []) (terms_bytes ts) b bytes all packs (statements_short args s locals ts b (packed (161 ∷ []) b bytes packs all) hs)
+  else_short args s locals (else_do ts) bytes all (b, hs, packs) = within_package (161 ∷ []) (terms_bytes ts) b bytes all packs
+      (statements_short args s locals ts b (packed (161 ∷ []) b bytes packs all) hs)
 
-  statements_short : (args : Arguments) (s : List Segment) (locals : Locals) (ts : TermTrees) (bytes : List ℕ) → AreBytes bytes → AreStatements args s locals ts bytes → HasWithin (terms_bytes ts) bytes
+  statements_short : (args : Arguments) (s : List Segment) (locals : Locals) (ts : TermTrees) (bytes : List ℕ) → AreBytes bytes
+      → AreStatements args s locals ts bytes → HasWithin (terms_bytes ts) bytes
   statements_short args s locals no_terms bytes all h = omega arith
   statements_short args s locals (more t ts) bytes all (a, b, first, rest, whole) =
       let split = parts a b bytes whole all in
@@ -226,8 +237,11 @@ mutual
       (operands_typed (args locals) (operands_before form) before a second.0 hb, named.is_name, operands_typed (args locals) (operands_behind form) behind c (parts b c (b ++ c) refl second.1).1 ha)
   statement_typed args s locals (declare_units form ns vs es) bytes all (a, b, c, many, named, hs, units, packs) =
       let first = parts a (b ++ c) (a ++ (b ++ c)) refl (packed (opcode_bytes (units_opcode form)) (a ++ (b ++ c)) bytes packs all) in
-      let second = parts b c (b ++ c) refl first.1 in
-      (each_typed SpellsName IsName (λ n b small h. h.is_name) ns a first.0 named, operands_typed (args locals) (operands_of_units form) vs b second.0 hs, each_typed SpellsField IsFieldTyped unit_typed es c second.1 units)
+      let second = parts b c (b ++ c) refl first.1 in (
+        each_typed SpellsName IsName (λ n b small h. h.is_name) ns a first.0 named,
+        operands_typed (args locals) (operands_of_units form) vs b second.0 hs,
+        each_typed SpellsField IsFieldTyped unit_typed es c second.1 units,
+      )
   statement_typed args s locals t bytes all h = term_typed (args locals) t bytes all h.1
 
   else_typed : (args : Arguments) (s : List Segment) (locals : Locals) (e : ElseTree) (bytes : List ℕ) → AreBytes bytes → IsElse args s locals e bytes → IsElseTyped e
@@ -272,6 +286,7 @@ read_terms_are_written args s depth bytes ts bytes_are h =
         record {
           written = b;
           spelling = is;
-          reads = terms_written args s depth ts b (statements_typed args s finite.empty ts bytes all h.spelled) (statements_fit args s finite.empty ts bytes h.spelled all) (statements_may args s finite.empty ts bytes h.spelled) h.within is;
+          reads = terms_written args s depth ts b (statements_typed args s finite.empty ts bytes all h.spelled)
+              (statements_fit args s finite.empty ts bytes h.spelled all) (statements_may args s finite.empty ts bytes h.spelled) h.within is;
           within = within;
         }

@@ -55,8 +55,12 @@ mutual
   term_written args (buffer size content) bytes h fit k e =
       let f = filled_is (17 ∷ []) [] (option_append (term_bytes size) (Some content)) bytes e in
       let b = both_of (term_bytes size) (Some content) f.0 f.1 in
-      let whole : f.0 ≡ b.front ++ content = b.whole ∙ ap (λ x. b.front ++ x) (sym (some_is content b.back b.is_back)) in
-      (b.front, first_of (may_stand Value size) (term_fits size) fit, term_written args size b.front h (second_of (may_stand Value size) (term_fits size) fit) k b.is_front, subst (λ c. Packs (17 ∷ []) c bytes) whole f.2)
+      let whole : f.0 ≡ b.front ++ content = b.whole ∙ ap (λ x. b.front ++ x) (sym (some_is content b.back b.is_back)) in (
+        b.front,
+        first_of (may_stand Value size) (term_fits size) fit,
+        term_written args size b.front h (second_of (may_stand Value size) (term_fits size) fit) k b.is_front,
+        subst (λ c. Packs (17 ∷ []) c bytes) whole f.2,
+      )
   term_written args (pkg count es) bytes h fit k e =
       let f = filled_is (18 ∷ []) (count ∷ []) (terms_bytes es) bytes e in
       (f.0, elements_written args es f.0 h fit k f.1, f.2)
@@ -91,7 +95,8 @@ mutual
   term_written args (declare form before n behind) bytes h fit k e = absurd k
   term_written args (declare_units form ns vs es) bytes h fit k e = absurd k
 
-  elements_written : (args : NameParts → ℕ) (ts : TermTrees) (bytes : List ℕ) → AreTermsTyped ts → all_stand Element ts ≡ true → AreCounted args ts → terms_bytes ts ≡ Some bytes → AreElements args ts bytes
+  elements_written : (args : NameParts → ℕ) (ts : TermTrees) (bytes : List ℕ) → AreTermsTyped ts → all_stand Element ts ≡ true → AreCounted args ts
+      → terms_bytes ts ≡ Some bytes → AreElements args ts bytes
   elements_written args no_terms bytes h fit k e = sym (some_is [] bytes e)
   elements_written args (more t ts) bytes h fit k e =
       let b = both_of (term_bytes t) (terms_bytes ts) bytes e in
@@ -104,7 +109,8 @@ mutual
         b.whole,
       )
 
-  operands_written : (args : NameParts → ℕ) (ks : List OperandKind) (ts : TermTrees) (bytes : List ℕ) → AreTermsTyped ts → operands_fit ks ts ≡ true → AreCounted args ts → terms_bytes ts ≡ Some bytes → AreOperands args ks ts bytes
+  operands_written : (args : NameParts → ℕ) (ks : List OperandKind) (ts : TermTrees) (bytes : List ℕ) → AreTermsTyped ts → operands_fit ks ts ≡ true
+      → AreCounted args ts → terms_bytes ts ≡ Some bytes → AreOperands args ks ts bytes
   operands_written args [] no_terms bytes h fit k e = sym (some_is [] bytes e)
   operands_written args (p ∷ ks) no_terms bytes h fit k e = absurd cc
   operands_written args [] (more t ts) bytes h fit k e = absurd cc
@@ -143,7 +149,8 @@ unit_written (extended kind attribute len) bytes h fit e = sym (some_is (3 ∷ k
 -- ---- statements
 
 mutual
-  statement_written : (args : Arguments) (s : List Segment) (locals : Locals) (t : TermTree) (bytes : List ℕ) → IsTermTyped t → may_stand Statement t ≡ true → term_fits t ≡ true → MayStandIn args s locals t → term_bytes t ≡ Some bytes
+  statement_written : (args : Arguments) (s : List Segment) (locals : Locals) (t : TermTree) (bytes : List ℕ) → IsTermTyped t
+      → may_stand Statement t ≡ true → term_fits t ≡ true → MayStandIn args s locals t → term_bytes t ≡ Some bytes
       → IsStatement args s locals t bytes
   statement_written args s locals (if_do v ts o) bytes h st fit k e =
       let split = both_of (filled_with (160 ∷ []) [] (option_append (term_bytes v) (terms_bytes ts))) (else_bytes o) bytes e in
@@ -199,18 +206,21 @@ mutual
         eqb-true (length ns) (names_of_units form) (first_of (nat_eq (length ns) (names_of_units form)) (operands_fit (operands_of_units form) vs) heads),
         names_written ns p.front h.0 p.is_front,
         operands_written (args locals) (operands_of_units form) vs q.front h.1 (second_of (nat_eq (length ns) (names_of_units form)) (operands_fit (operands_of_units form) vs) heads) k q.is_front,
-        each_written field_bytes SpellsField IsFieldTyped field_fits unit_written es q.back h.2 (second_of (nat_eq (length ns) (names_of_units form) && operands_fit (operands_of_units form) vs) (list_all field_fits es) fit) q.is_back,
+        each_written field_bytes SpellsField IsFieldTyped field_fits unit_written es q.back h.2
+            (second_of (nat_eq (length ns) (names_of_units form) && operands_fit (operands_of_units form) vs) (list_all field_fits es) fit) q.is_back,
         subst (λ c. Packs (opcode_bytes (units_opcode form)) c bytes) (p.whole ∙ ap (λ x. p.front ++ x) q.whole) f.2,
       )
   statement_written args s locals t bytes h st fit k e = (st, term_written (args locals) t bytes h fit k e)
 
-  else_written : (args : Arguments) (s : List Segment) (locals : Locals) (o : ElseTree) (bytes : List ℕ) → IsElseTyped o → else_fits o ≡ true → ElseMayStandIn args s locals o → else_bytes o ≡ Some bytes → IsElse args s locals o bytes
+  else_written : (args : Arguments) (s : List Segment) (locals : Locals) (o : ElseTree) (bytes : List ℕ) → IsElseTyped o → else_fits o ≡ true
+      → ElseMayStandIn args s locals o → else_bytes o ≡ Some bytes → IsElse args s locals o bytes
   else_written args s locals no_else bytes h fit k e = sym (some_is [] bytes e)
   else_written args s locals (else_do ts) bytes h fit k e =
       let f = filled_is (161 ∷ []) [] (terms_bytes ts) bytes e in
       (f.0, statements_written args s locals ts f.0 h fit k f.1, f.2)
 
-  statements_written : (args : Arguments) (s : List Segment) (locals : Locals) (ts : TermTrees) (bytes : List ℕ) → AreTermsTyped ts → all_stand Statement ts ≡ true → AllMayStandIn args s locals ts → terms_bytes ts ≡ Some bytes
+  statements_written : (args : Arguments) (s : List Segment) (locals : Locals) (ts : TermTrees) (bytes : List ℕ) → AreTermsTyped ts
+      → all_stand Statement ts ≡ true → AllMayStandIn args s locals ts → terms_bytes ts ≡ Some bytes
       → AreStatements args s locals ts bytes
   statements_written args s locals no_terms bytes h fit k e = sym (some_is [] bytes e)
   statements_written args s locals (more t ts) bytes h fit k e =

@@ -87,7 +87,9 @@ lead_starts [] e = absurd cc
 lead_starts (a ∷ []) e = absurd cc
 lead_starts (a ∷ b ∷ []) e = absurd cc
 lead_starts (a ∷ b ∷ c ∷ []) e = absurd cc
-lead_starts (a ∷ b ∷ c ∷ d ∷ []) e = or_last (a == 0x5C) (a == 0x5E) (a == 0x2E) (a == 0x2F) (is_lead_char a) (first_of (is_lead_char a) (is_name_char b) (first_of (is_lead_char a && is_name_char b) (is_name_char c) (first_of (is_lead_char a && is_name_char b && is_name_char c) (is_name_char d) e)))
+lead_starts (a ∷ b ∷ c ∷ d ∷ []) e = or_last (a == 0x5C) (a == 0x5E) (a == 0x2E) (a == 0x2F) (is_lead_char a)
+    (first_of (is_lead_char a) (is_name_char b) (first_of (is_lead_char a && is_name_char b) (is_name_char c)
+    (first_of (is_lead_char a && is_name_char b && is_name_char c) (is_name_char d) e)))
 lead_starts (a ∷ b ∷ c ∷ d ∷ x ∷ xs) e = absurd cc
 
 parts_start : (rooted : Bool) (parents : ℕ) (ss : List Segment) → list_all is_segment ss ≡ true → (not rooted && nat_eq parents 0 && nat_eq (length ss) 0) ≡ false
@@ -157,8 +159,13 @@ pub each_written : {A : Type 0} (f : A → Option (List ℕ)) (Spells : A → Li
     → (xs : List A) (bytes : List ℕ) → AllByRecursion Holds xs → list_all fits xs ≡ true → each_bytes f xs ≡ Some bytes → SpellsEach Spells xs bytes
 each_written f Spells Holds fits one [] bytes h all e = sym (some_is [] bytes e)
 each_written f Spells Holds fits one (x ∷ xs) bytes h all e =
-    let b = both_of (f x) (each_bytes f xs) bytes e in
-    (b.front, b.back, one x b.front h.0 (first_of (fits x) (list_all fits xs) all) b.is_front, each_written f Spells Holds fits one xs b.back h.1 (second_of (fits x) (list_all fits xs) all) b.is_back, b.whole)
+    let b = both_of (f x) (each_bytes f xs) bytes e in (
+      b.front,
+      b.back,
+      one x b.front h.0 (first_of (fits x) (list_all fits xs) all) b.is_front,
+      each_written f Spells Holds fits one xs b.back h.1 (second_of (fits x) (list_all fits xs) all) b.is_back,
+      b.whole,
+    )
 
 -- ---- data
 
@@ -173,8 +180,10 @@ mutual
   data_written (int i) bytes h fit e = subst (SpellsInt i) (some_is (int_bytes i) bytes e) (int_written i h)
   data_written (str text) bytes h fit e = (text ++ 0 ∷ [], (text_written text fit, refl), sym (some_is (13 ∷ (text ++ 0 ∷ [])) bytes e))
   data_written (buffer size content) bytes h fit e = filled_written (17 ∷ []) (int_arg ∷ []) (size, tt) (λ b. b ≡ content) (Some content) bytes (h, tt) (tt, tt) (λ b e. sym (some_is content b e)) e
-  data_written (pkg count es) bytes h fit e = filled_written (18 ∷ []) (byte_arg ∷ []) (count, tt) (λ b. SpellsElems es b) (elems_bytes es) bytes (tt, tt) (tt, tt) (λ b e. elems_written es b h fit e) e
-  data_written (var_pkg count es) bytes h fit e = filled_written (19 ∷ []) (int_arg ∷ []) (count, tt) (λ b. SpellsElems es b) (elems_bytes es) bytes (h.0, tt) (tt, tt) (λ b e. elems_written es b h.1 fit e) e
+  data_written (pkg count es) bytes h fit e = filled_written (18 ∷ []) (byte_arg ∷ []) (count, tt) (λ b. SpellsElems es b) (elems_bytes es) bytes
+      (tt, tt) (tt, tt) (λ b e. elems_written es b h fit e) e
+  data_written (var_pkg count es) bytes h fit e = filled_written (19 ∷ []) (int_arg ∷ []) (count, tt) (λ b. SpellsElems es b) (elems_bytes es) bytes
+      (h.0, tt) (tt, tt) (λ b e. elems_written es b h.1 fit e) e
 
   elem_written : (e : ElemTree) (bytes : List ℕ) → IsElemTyped e → elem_fits e ≡ true → elem_bytes e ≡ Some bytes → SpellsElem e bytes
   elem_written (of_data d) bytes h fit e = data_written d bytes h fit e
@@ -211,11 +220,13 @@ field_written (reserved bits) bytes h fit e =
     plain_written (0 ∷ []) (bits_arg ∷ []) (bits, tt) bytes (tt, tt) (bits_few bits fit, tt)
     (b.whole ∙ ap (λ a. a ++ b.back) (sym (some_is (0 ∷ []) b.front b.is_front)) ∙ ap (λ (a : List ℕ). 0 ∷ a) (bits_are bits b.back b.is_back ∙ sym (append-nil (shortest_pkg_length bits))))
 field_written (access kind attribute) bytes h fit e = plain_written (1 ∷ []) (byte_arg ∷ byte_arg ∷ []) (kind, (attribute, tt)) bytes (tt, (tt, tt)) (tt, (tt, tt)) (sym (some_is _ bytes e))
-field_written (connect_name n) bytes h fit e = plain_written (2 ∷ []) (name_arg ∷ []) (n, tt) bytes (h, tt) (tt, tt) (sym (some_is (2 ∷ name_bytes n) bytes e) ∙ ap (λ (a : List ℕ). 2 ∷ a) (sym (append-nil (name_bytes n))))
+field_written (connect_name n) bytes h fit e = plain_written (2 ∷ []) (name_arg ∷ []) (n, tt) bytes (h, tt) (tt, tt)
+    (sym (some_is (2 ∷ name_bytes n) bytes e) ∙ ap (λ (a : List ℕ). 2 ∷ a) (sym (append-nil (name_bytes n))))
 field_written (connect_buffer size content) bytes h fit e =
     filled_written (2 ∷ 17 ∷ []) (const_arg ∷ []) (size, tt) (λ b. b ≡ content) (Some content) bytes (h, tt) (tt, tt) (λ b e. sym (some_is content b e))
     (ap (λ a. filled_with (2 ∷ 17 ∷ []) a (Some content)) (append-nil (int_bytes size)) ∙ e)
-field_written (extended kind attribute len) bytes h fit e = plain_written (3 ∷ []) (byte_arg ∷ byte_arg ∷ byte_arg ∷ []) (kind, (attribute, (len, tt))) bytes (tt, (tt, (tt, tt))) (tt, (tt, (tt, tt))) (sym (some_is _ bytes e))
+field_written (extended kind attribute len) bytes h fit e = plain_written (3 ∷ []) (byte_arg ∷ byte_arg ∷ byte_arg ∷ [])
+    (kind, (attribute, (len, tt))) bytes (tt, (tt, (tt, tt))) (tt, (tt, (tt, tt))) (sym (some_is _ bytes e))
 
 fields_written : (es : List FieldTree) (bytes : List ℕ) → AllByRecursion IsFieldTyped es → list_all field_fits es ≡ true → fields_bytes es ≡ Some bytes → SpellsFields es bytes
 fields_written es bytes h fit e = each_written field_bytes SpellsField IsFieldTyped field_fits field_written es bytes h fit e
@@ -231,25 +242,39 @@ mutual
       let b = both_of (Some (8 ∷ name_bytes n)) (data_bytes d) bytes e in
       (name_bytes n, b.back, name_written n h.0, data_written d b.back h.1 fit b.is_back, b.whole ∙ ap (λ a. a ++ b.back) (sym (some_is (8 ∷ name_bytes n) b.front b.is_front)))
   item_written (scope n is) bytes h fit e = filled_written (16 ∷ []) (name_arg ∷ []) (n, tt) (λ b. SpellsItems is b) (items_bytes is) bytes h.0 (tt, tt) (λ b e. items_written is b h.1 fit e) e
-  item_written (method n flags code) bytes h fit e = filled_written (20 ∷ []) (name_arg ∷ byte_arg ∷ []) (n, (flags, tt)) (λ b. b ≡ code) (Some code) bytes h (tt, (tt, tt)) (λ b e. sym (some_is code b e)) e
+  item_written (method n flags code) bytes h fit e = filled_written (20 ∷ []) (name_arg ∷ byte_arg ∷ []) (n, (flags, tt)) (λ b. b ≡ code) (Some code)
+      bytes h (tt, (tt, tt)) (λ b e. sym (some_is code b e)) e
   item_written (external x) bytes h fit e = external_written x bytes h fit e
   item_written (external_block xs) bytes h fit e = block_written (each_bytes (λ x. Some (external_bytes x)) xs) refl e
     where
       block_written : (content : Option (List ℕ)) → each_bytes (λ x. Some (external_bytes x)) xs ≡ content → filled_with (160 ∷ []) (0 ∷ []) content ≡ Some bytes
           → (b : List ℕ) × SpellsEach SpellsExternal xs b × Packs (160 ∷ []) (0 ∷ b) bytes
       block_written None is e = absurd cc
-      block_written (Some b) is e = (b, each_written (λ x. Some (external_bytes x)) SpellsExternal IsExternalTyped external_fits external_written xs b h fit is, packed_written (160 ∷ []) (0 ∷ b) bytes e)
+      block_written (Some b) is e = (
+        b,
+        each_written (λ x. Some (external_bytes x)) SpellsExternal IsExternalTyped external_fits external_written xs b
+            h fit is,
+        packed_written (160 ∷ []) (0 ∷ b) bytes e,
+      )
   item_written (create w source index n) bytes h fit e = form_written (opcodes.Create w) (source, (index, (n, tt))) bytes h (not_false (is_null_name source) fit, (tt, (tt, tt))) e
-  item_written (create_field source index bits n) bytes h fit e = form_written opcodes.CreateField (source, (index, (bits, (n, tt)))) bytes h (not_false (is_null_name source) fit, (tt, (tt, (tt, tt)))) e
+  item_written (create_field source index bits n) bytes h fit e = form_written opcodes.CreateField (source, (index, (bits, (n, tt)))) bytes h
+      (not_false (is_null_name source) fit, (tt, (tt, (tt, tt)))) e
   item_written (mutex n flags) bytes h fit e = form_written opcodes.Mutex (n, (flags, tt)) bytes h (tt, (tt, tt)) e
   item_written (event n) bytes h fit e = form_written opcodes.Event (n, tt) bytes h (tt, tt) e
   item_written (region n space offset len) bytes h fit e = form_written opcodes.Region (n, (space, (offset, (len, tt)))) bytes h (tt, (tt, (tt, (tt, tt)))) e
-  item_written (field r flags es) bytes h fit e = filled_written (91 ∷ 129 ∷ []) (name_arg ∷ byte_arg ∷ []) (r, (flags, tt)) (λ b. SpellsFields es b) (fields_bytes es) bytes h.0 (tt, (tt, tt)) (λ b e. fields_written es b h.1 fit e) e
-  item_written (index_field i d flags es) bytes h fit e = filled_written (91 ∷ 134 ∷ []) (name_arg ∷ name_arg ∷ byte_arg ∷ []) (i, (d, (flags, tt))) (λ b. SpellsFields es b) (fields_bytes es) bytes h.0 (tt, (tt, (tt, tt))) (λ b e. fields_written es b h.1 fit e) e
-  item_written (bank_field r bank value flags es) bytes h fit e = filled_written (91 ∷ 135 ∷ []) (name_arg ∷ name_arg ∷ int_arg ∷ byte_arg ∷ []) (r, (bank, (value, (flags, tt)))) (λ b. SpellsFields es b) (fields_bytes es) bytes h.0 (tt, (tt, (tt, (tt, tt)))) (λ b e. fields_written es b h.1 fit e) e
+  item_written (field r flags es) bytes h fit e = filled_written (91 ∷ 129 ∷ []) (name_arg ∷ byte_arg ∷ []) (r, (flags, tt)) (λ b. SpellsFields es b)
+      (fields_bytes es) bytes h.0 (tt, (tt, tt)) (λ b e. fields_written es b h.1 fit e) e
+  item_written (index_field i d flags es) bytes h fit e = filled_written (91 ∷ 134 ∷ []) (name_arg ∷ name_arg ∷ byte_arg ∷ []) (i, (d, (flags, tt)))
+      (λ b. SpellsFields es b) (fields_bytes es) bytes h.0 (tt, (tt, (tt, tt))) (λ b e. fields_written es b h.1 fit e) e
+  item_written (bank_field r bank value flags es) bytes h fit e = filled_written (91 ∷ 135 ∷ []) (name_arg ∷ name_arg ∷ int_arg ∷ byte_arg ∷ [])
+      (r, (bank, (value, (flags, tt)))) (λ b. SpellsFields es b) (fields_bytes es) bytes h.0 (tt, (tt, (tt, (tt, tt))))
+      (λ b e. fields_written es b h.1 fit e) e
   item_written (device n is) bytes h fit e = filled_written (91 ∷ 130 ∷ []) (name_arg ∷ []) (n, tt) (λ b. SpellsItems is b) (items_bytes is) bytes h.0 (tt, tt) (λ b e. items_written is b h.1 fit e) e
-  item_written (processor n id block len is) bytes h fit e = filled_written (91 ∷ 131 ∷ []) (name_arg ∷ byte_arg ∷ dword_arg ∷ byte_arg ∷ []) (n, (id, (block, (len, tt)))) (λ b. SpellsItems is b) (items_bytes is) bytes h.0 (tt, (tt, (tt, (tt, tt)))) (λ b e. items_written is b h.1 fit e) e
-  item_written (power n level order is) bytes h fit e = filled_written (91 ∷ 132 ∷ []) (name_arg ∷ byte_arg ∷ word_arg ∷ []) (n, (level, (order, tt))) (λ b. SpellsItems is b) (items_bytes is) bytes h.0 (tt, (tt, (tt, tt))) (λ b e. items_written is b h.1 fit e) e
+  item_written (processor n id block len is) bytes h fit e = filled_written (91 ∷ 131 ∷ []) (name_arg ∷ byte_arg ∷ dword_arg ∷ byte_arg ∷ [])
+      (n, (id, (block, (len, tt)))) (λ b. SpellsItems is b) (items_bytes is) bytes h.0 (tt, (tt, (tt, (tt, tt))))
+      (λ b e. items_written is b h.1 fit e) e
+  item_written (power n level order is) bytes h fit e = filled_written (91 ∷ 132 ∷ []) (name_arg ∷ byte_arg ∷ word_arg ∷ []) (n, (level, (order, tt)))
+      (λ b. SpellsItems is b) (items_bytes is) bytes h.0 (tt, (tt, (tt, tt))) (λ b e. items_written is b h.1 fit e) e
   item_written (thermal n is) bytes h fit e = filled_written (91 ∷ 133 ∷ []) (name_arg ∷ []) (n, tt) (λ b. SpellsItems is b) (items_bytes is) bytes h.0 (tt, tt) (λ b e. items_written is b h.1 fit e) e
 
   pub items_written : (is : ItemTrees) (bytes : List ℕ) → AreItemsTyped is → items_fit is ≡ true → items_bytes is ≡ Some bytes → SpellsItems is bytes

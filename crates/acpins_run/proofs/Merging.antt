@@ -96,7 +96,8 @@ pub rises_from : {V : Type 0} (es : List (List Segment × V)) → T (is_sorted p
 rises_from [] h = tt
 rises_from (e ∷ es) h = (below_from e.0 es (first _ _ h), rises_from es (second _ _ h))
 
-pub agrees_everywhere : (known : List Segment → Option Links) (es : List LinksEntry) → ((p : List Segment) → known p ≡ lookup (λ k. is_eq (path_cmp p k)) es) → (ps : List (List Segment)) → Agrees known es ps
+pub agrees_everywhere : (known : List Segment → Option Links) (es : List LinksEntry)
+    → ((p : List Segment) → known p ≡ lookup (λ k. is_eq (path_cmp p k)) es) → (ps : List (List Segment)) → Agrees known es ps
 agrees_everywhere known es h [] = tt
 agrees_everywhere known es h (p ∷ ps) = (h p, agrees_everywhere known es h ps)
 

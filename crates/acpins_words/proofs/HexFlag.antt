@@ -200,7 +200,8 @@ defaults_left [] are rows = refl
 defaults_left (a ∷ rs) are rows = ap (λ new. fold with_default new rs) (are.0.leaves rows) ∙ defaults_left rs are.1 rows
 
 ended : (rows : List Row) → IsUnderWay rows → IsEnd (with_default rows hex)
-ended rows (inl none) = inr (ap (λ b. hex_rows (cond b rows put)) (any_hex rows ∙ ap has_any none) ∙ put_in (more_values DefaultValue (codes "false" ∷ [])) (hex_row (codes "false") DefaultValue ∷ []) rows none)
+ended rows (inl none) = inr (ap (λ b. hex_rows (cond b rows put)) (any_hex rows ∙ ap has_any none)
+    ∙ put_in (more_values DefaultValue (codes "false" ∷ [])) (hex_row (codes "false") DefaultValue ∷ []) rows none)
   where
     put : List Row
     put = with_values (codes "hex") AsWritten DefaultValue (codes "false" ∷ []) rows

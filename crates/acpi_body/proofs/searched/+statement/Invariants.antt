@@ -20,5 +20,6 @@ decreases-else_statements g l = 3 * weighed-Term-If-2.weight Term (λ t. the_siz
 abbrev pub invariant-statements-each : goal.invariant-statements-each
 invariant-statements-each g l = record {
   locals : locals_after_all l.context.method l.locals (terms_tree (drop l.term-index l.terms)) ≡ locals_after_all l.context.method l.initial.locals (terms_tree l.terms);
-  gathered : after_statements (g.Q.Wanted.wanted l.wanted) l.context l.locals l.gathered (terms_tree (drop l.term-index l.terms)) ≡ after_statements (g.Q.Wanted.wanted l.wanted) l.context l.initial.locals l.initial.gathered (terms_tree l.terms);
+  gathered : after_statements (g.Q.Wanted.wanted l.wanted) l.context l.locals l.gathered (terms_tree (drop l.term-index l.terms)) ≡ after_statements
+      (g.Q.Wanted.wanted l.wanted) l.context l.initial.locals l.initial.gathered (terms_tree l.terms);
 }

@@ -7,4 +7,6 @@ use Rattle.acpi_declare.specs.Namespace.{namespace_of}
 use Rattle.acpi_declare.proofs.links.misses_of_links.Given as goal
 
 abbrev pub invariant-loop-link : goal.invariant-loop-link
-invariant-loop-link g l = (p : List Segment) → Among l.missed.items p ↔ (IsMissedLink (namespace_of (g.S.Space.contents l.objects)) (all_pending_of (take l.link-index l.pending)) p × IsTrue (g.Q.Wanted.wanted l.wanted p))
+invariant-loop-link g l = (p : List Segment) → Among l.missed.items p ↔
+    (IsMissedLink (namespace_of (g.S.Space.contents l.objects)) (all_pending_of (take l.link-index l.pending)) p
+    × IsTrue (g.Q.Wanted.wanted l.wanted p))

@@ -15,4 +15,5 @@ abbrev pub invariant-loop-method : goal.invariant-loop-method
 invariant-loop-method g l =
     (now : Lookup BodyTree)
     → AddsBodies l.depth (namespace_of (g.S.Space.contents l.objects)) (map (with_counts (get l.fn.notes.counts)) (map method_of (into_iter_items l.method-iterator))) (bodies_of l.bodies) now
-    → AddsBodies l.depth (namespace_of (g.S.Space.contents l.objects)) (map (with_counts (get l.fn.notes.counts)) (map method_of (into_iter_items l.initial.method-iterator))) (bodies_of l.initial.bodies) now
+    → AddsBodies l.depth (namespace_of (g.S.Space.contents l.objects))
+    (map (with_counts (get l.fn.notes.counts)) (map method_of (into_iter_items l.initial.method-iterator))) (bodies_of l.initial.bodies) now

@@ -10,6 +10,8 @@ use Rattle.acpi_verdict.proofs.telling.told_of_all.Given as goal
 abbrev pub invariant-loop-one : goal.invariant-loop-one
 invariant-loop-one g l =
     (more : List ToldTree)
-    → AreToldOf (is_defined (g.T.Space.contents l.among)) l.depth (state_of (g.S.Space.contents (objects_so_far l.dsdt)) l.dsdt) (tried_of l.alone) (laid_trees g.O.Space.contents (into_iter_items l.one-iterator)) more
-    → AreToldOf (is_defined (g.T.Space.contents l.among)) l.depth (state_of (g.S.Space.contents (objects_so_far l.dsdt)) l.dsdt) (tried_of l.alone) (laid_trees g.O.Space.contents (into_iter_items l.initial.one-iterator))
+    → AreToldOf (is_defined (g.T.Space.contents l.among)) l.depth (state_of (g.S.Space.contents (objects_so_far l.dsdt)) l.dsdt) (tried_of l.alone)
+    (laid_trees g.O.Space.contents (into_iter_items l.one-iterator)) more
+    → AreToldOf (is_defined (g.T.Space.contents l.among)) l.depth (state_of (g.S.Space.contents (objects_so_far l.dsdt)) l.dsdt) (tried_of l.alone)
+    (laid_trees g.O.Space.contents (into_iter_items l.initial.one-iterator))
     (told_trees g.O.Space.contents l.told.items ++ more)

@@ -11,6 +11,8 @@ use Rattle.acpi_verdict.proofs.trying.try_methods.Given as goal
 abbrev pub invariant-loop-method : goal.invariant-loop-method
 invariant-loop-method g l =
     (now : TriedTree)
-    → TriesAll (is_defined (g.T.Space.contents l.among)) l.depth (namespace_of (g.O.Space.contents l.objects)) (map (with_counts (get l.notes.counts)) (map method_of (drop l.method-index l.notes.methods.items)))
+    → TriesAll (is_defined (g.T.Space.contents l.among)) l.depth (namespace_of (g.O.Space.contents l.objects))
+    (map (with_counts (get l.notes.counts)) (map method_of (drop l.method-index l.notes.methods.items)))
     (tried_of l.tried) now
-    → TriesAll (is_defined (g.T.Space.contents l.among)) l.depth (namespace_of (g.O.Space.contents l.objects)) (map (with_counts (get l.notes.counts)) (map method_of l.notes.methods.items)) (tried_of l.initial.tried) now
+    → TriesAll (is_defined (g.T.Space.contents l.among)) l.depth (namespace_of (g.O.Space.contents l.objects))
+    (map (with_counts (get l.notes.counts)) (map method_of l.notes.methods.items)) (tried_of l.initial.tried) now

@@ -9,6 +9,9 @@ use Rattle.acpi_declare.proofs.pass.Pass.declare_units.Given as goal
 
 abbrev pub invariant-loop-elem : goal.invariant-loop-elem
 invariant-loop-elem g l =
-    (take_steps (pass_with (g.S.Space.contents l.self.objects) l.self (pending_from l.scope l.fields.names.now l.paths.items)) l.scope (unit_steps l.fields.form l.fields.flags l.fields.names.now l.offset (fields_view (drop l.elem-index l.elems)))
-    ≡ take_steps (pass_with (g.S.Space.contents l.initial.self.objects) l.initial.self (pending_from l.scope l.fields.names.now l.initial.paths.items)) l.scope (unit_steps l.fields.form l.fields.flags l.fields.names.now 0 (fields_view l.elems)))
+    (take_steps (pass_with (g.S.Space.contents l.self.objects) l.self (pending_from l.scope l.fields.names.now l.paths.items)) l.scope
+    (unit_steps l.fields.form l.fields.flags l.fields.names.now l.offset (fields_view (drop l.elem-index l.elems)))
+    ≡ take_steps (pass_with (g.S.Space.contents l.initial.self.objects) l.initial.self
+    (pending_from l.scope l.fields.names.now l.initial.paths.items)) l.scope
+    (unit_steps l.fields.form l.fields.flags l.fields.names.now 0 (fields_view l.elems)))
     × (l.offset + list_bits (fields_view (drop l.elem-index l.elems)) ≡ list_bits (fields_view l.elems)) × (g.S.Space.lower l.self.objects ≡ g.S.Space.lower l.initial.self.objects)
