@@ -55,7 +55,8 @@ number_grows p q le = by_tests (ltb (p + 1) 64) (ltb (p + 2) 4096) (ltb (p + 3) 
     by_tests false false false false false false x y z u v w = let g = ltb-false _ _ z in let l = ltb-false _ _ w in omega arith
 
 -- a package whose number has a spelling has a payload that the greatest number counts
-few : (own number payload : ℕ) → number ≡ own + payload → 1 ≤ own → (own ≡ 1 → number < 64) → (own ≡ 2 → number < 4096) → (own ≡ 3 → number < 1048576) → number < 268435456 → payload < 268435452
+few : (own number payload : ℕ) → number ≡ own + payload → 1 ≤ own → (own ≡ 1 → number < 64) → (own ≡ 2 → number < 4096) → (own ≡ 3 → number < 1048576)
+    → number < 268435456 → payload < 268435452
 few zero number payload is some one two three all = absurd (omega (arith, some))
 few (suc zero) number payload is some one two three all = let lt : number < 64 = one refl in omega (arith, is, lt)
 few (suc (suc zero)) number payload is some one two three all = let lt : number < 4096 = two refl in omega (arith, is, lt)
@@ -126,7 +127,8 @@ plain_short op ks v bytes all h =
     let split = parts op h.0 bytes h.2 all in
     within_both (Some op) (Some (arguments_bytes ks v)) op h.0 bytes (omega arith) (arguments_short ks v h.0 split.1 h.1) h.2
 
-filled_short : (op : List ℕ) (ks : List FixedArgument) (v : Values ks) (Fills : List ℕ → Type 0) (content : Option (List ℕ)) (bytes : List ℕ) → AreBytes bytes → SpellsPacked op ks v Fills bytes
+filled_short : (op : List ℕ) (ks : List FixedArgument) (v : Values ks) (Fills : List ℕ → Type 0) (content : Option (List ℕ)) (bytes : List ℕ)
+    → AreBytes bytes → SpellsPacked op ks v Fills bytes
     → ((b : List ℕ) → AreBytes b → Fills b → HasWithin content b) → HasWithin (filled_with op (arguments_bytes ks v) content) bytes
 filled_short op ks v Fills content bytes all (a, b, front, fills, packs) one =
     let split = parts a b (a ++ b) refl (packed op (a ++ b) bytes packs all) in
@@ -192,7 +194,8 @@ fields_short es b all h = each_short field_bytes SpellsField field_short es b al
 external_short : (x : ExternalParts) (bytes : List ℕ) → AreBytes bytes → SpellsExternal x bytes → HasWithin (Some (external_bytes x)) bytes
 external_short x bytes all h = plain_short (21 ∷ []) (arguments opcodes.External) (x.name, (x.kind, (x.args, tt))) bytes all h
 
-form_short : (o : Opcode) (v : ArgumentsOf o) (i j : ItemTree) (bytes : List ℕ) → AreBytes bytes → SpellsForm o v bytes → item_bytes i ≡ Some (form_bytes o v) → j ≡ i → HasWithin (item_bytes j) bytes
+form_short : (o : Opcode) (v : ArgumentsOf o) (i j : ItemTree) (bytes : List ℕ) → AreBytes bytes → SpellsForm o v bytes
+    → item_bytes i ≡ Some (form_bytes o v) → j ≡ i → HasWithin (item_bytes j) bytes
 form_short o v i j bytes all h is e = subst (λ x. HasWithin (item_bytes x) bytes) (sym e) (subst (λ x. HasWithin x bytes) (sym is) (plain_short (opcode_bytes o) (arguments o) v bytes all h))
 
 mutual
@@ -237,7 +240,8 @@ mutual
       (items_bytes js) bytes all h (λ b small k. items_short is js b small k s))
   item_short (power n level order is) j bytes all h (js, s, e) =
       subst (λ x. HasWithin (item_bytes x) bytes) (sym e)
-      (filled_short (91 ∷ 132 ∷ []) (name_arg ∷ byte_arg ∷ word_arg ∷ []) (n, (level, (order, tt))) (λ b. SpellsItems is b) (items_bytes js) bytes all h (λ b small k. items_short is js b small k s))
+      (filled_short (91 ∷ 132 ∷ []) (name_arg ∷ byte_arg ∷ word_arg ∷ []) (n, (level, (order, tt))) (λ b. SpellsItems is b) (items_bytes js) bytes all
+      h (λ b small k. items_short is js b small k s))
   item_short (thermal n is) j bytes all h (js, s, e) = subst (λ x. HasWithin (item_bytes x) bytes) (sym e)
       (filled_short (91 ∷ 133 ∷ []) (name_arg ∷ []) (n, tt) (λ b. SpellsItems is b) (items_bytes js) bytes all h
       (λ b small k. items_short is js b small k s))
@@ -360,7 +364,8 @@ mutual
   item_typed (device n is) bytes all h = held_typed (91 ∷ 130 ∷ []) (name_arg ∷ []) (n, tt) is bytes all h (λ b small k. items_typed is b small k)
   item_typed (processor n id block len is) bytes all h = held_typed (91 ∷ 131 ∷ []) (name_arg ∷ byte_arg ∷ dword_arg ∷ byte_arg ∷ [])
       (n, (id, (block, (len, tt)))) is bytes all h (λ b small k. items_typed is b small k)
-  item_typed (power n level order is) bytes all h = held_typed (91 ∷ 132 ∷ []) (name_arg ∷ byte_arg ∷ word_arg ∷ []) (n, (level, (order, tt))) is bytes all h (λ b small k. items_typed is b small k)
+  item_typed (power n level order is) bytes all h = held_typed (91 ∷ 132 ∷ []) (name_arg ∷ byte_arg ∷ word_arg ∷ []) (n, (level, (order, tt))) is
+      bytes all h (λ b small k. items_typed is b small k)
   item_typed (thermal n is) bytes all h = held_typed (91 ∷ 133 ∷ []) (name_arg ∷ []) (n, tt) is bytes all h (λ b small k. items_typed is b small k)
 
   items_typed : (is : ItemTrees) (bytes : List ℕ) → AreBytes bytes → SpellsItems is bytes → AreItemsTyped is

@@ -179,7 +179,8 @@ mutual
   data_written : (d : DataTree) (bytes : List ℕ) → IsDataTyped d → data_fits d ≡ true → data_bytes d ≡ Some bytes → SpellsData d bytes
   data_written (int i) bytes h fit e = subst (SpellsInt i) (some_is (int_bytes i) bytes e) (int_written i h)
   data_written (str text) bytes h fit e = (text ++ 0 ∷ [], (text_written text fit, refl), sym (some_is (13 ∷ (text ++ 0 ∷ [])) bytes e))
-  data_written (buffer size content) bytes h fit e = filled_written (17 ∷ []) (int_arg ∷ []) (size, tt) (λ b. b ≡ content) (Some content) bytes (h, tt) (tt, tt) (λ b e. sym (some_is content b e)) e
+  data_written (buffer size content) bytes h fit e = filled_written (17 ∷ []) (int_arg ∷ []) (size, tt) (λ b. b ≡ content) (Some content) bytes
+      (h, tt) (tt, tt) (λ b e. sym (some_is content b e)) e
   data_written (pkg count es) bytes h fit e = filled_written (18 ∷ []) (byte_arg ∷ []) (count, tt) (λ b. SpellsElems es b) (elems_bytes es) bytes
       (tt, tt) (tt, tt) (λ b e. elems_written es b h fit e) e
   data_written (var_pkg count es) bytes h fit e = filled_written (19 ∷ []) (int_arg ∷ []) (count, tt) (λ b. SpellsElems es b) (elems_bytes es) bytes
@@ -207,7 +208,8 @@ bits_are n b e = by_test (nat_le n 268435455) e
     by_test true e = sym (some_is (shortest_pkg_length n) b e)
     by_test false e = absurd cc
 
-plain_written : (opcode : List ℕ) (ks : List FixedArgument) (v : Values ks) (bytes : List ℕ) → AreTyped ks v → AllStand ks v → bytes ≡ opcode ++ arguments_bytes ks v → SpellsPlain opcode ks v bytes
+plain_written : (opcode : List ℕ) (ks : List FixedArgument) (v : Values ks) (bytes : List ℕ) → AreTyped ks v → AllStand ks v
+    → bytes ≡ opcode ++ arguments_bytes ks v → SpellsPlain opcode ks v bytes
 plain_written opcode ks v bytes f s e = (arguments_bytes ks v, arguments_written ks v f s, e)
 
 field_written : (x : FieldTree) (bytes : List ℕ) → IsFieldTyped x → field_fits x ≡ true → field_bytes x ≡ Some bytes → SpellsField x bytes
@@ -218,7 +220,8 @@ field_written (unit s bits) bytes h fit e =
 field_written (reserved bits) bytes h fit e =
     let b = both_of (Some (0 ∷ [])) (bits_bytes bits) bytes e in
     plain_written (0 ∷ []) (bits_arg ∷ []) (bits, tt) bytes (tt, tt) (bits_few bits fit, tt)
-    (b.whole ∙ ap (λ a. a ++ b.back) (sym (some_is (0 ∷ []) b.front b.is_front)) ∙ ap (λ (a : List ℕ). 0 ∷ a) (bits_are bits b.back b.is_back ∙ sym (append-nil (shortest_pkg_length bits))))
+    (b.whole ∙ ap (λ a. a ++ b.back) (sym (some_is (0 ∷ []) b.front b.is_front))
+    ∙ ap (λ (a : List ℕ). 0 ∷ a) (bits_are bits b.back b.is_back ∙ sym (append-nil (shortest_pkg_length bits))))
 field_written (access kind attribute) bytes h fit e = plain_written (1 ∷ []) (byte_arg ∷ byte_arg ∷ []) (kind, (attribute, tt)) bytes (tt, (tt, tt)) (tt, (tt, tt)) (sym (some_is _ bytes e))
 field_written (connect_name n) bytes h fit e = plain_written (2 ∷ []) (name_arg ∷ []) (n, tt) bytes (h, tt) (tt, tt)
     (sym (some_is (2 ∷ name_bytes n) bytes e) ∙ ap (λ (a : List ℕ). 2 ∷ a) (sym (append-nil (name_bytes n))))
@@ -269,13 +272,15 @@ mutual
   item_written (bank_field r bank value flags es) bytes h fit e = filled_written (91 ∷ 135 ∷ []) (name_arg ∷ name_arg ∷ int_arg ∷ byte_arg ∷ [])
       (r, (bank, (value, (flags, tt)))) (λ b. SpellsFields es b) (fields_bytes es) bytes h.0 (tt, (tt, (tt, (tt, tt))))
       (λ b e. fields_written es b h.1 fit e) e
-  item_written (device n is) bytes h fit e = filled_written (91 ∷ 130 ∷ []) (name_arg ∷ []) (n, tt) (λ b. SpellsItems is b) (items_bytes is) bytes h.0 (tt, tt) (λ b e. items_written is b h.1 fit e) e
+  item_written (device n is) bytes h fit e = filled_written (91 ∷ 130 ∷ []) (name_arg ∷ []) (n, tt) (λ b. SpellsItems is b) (items_bytes is) bytes h.0
+      (tt, tt) (λ b e. items_written is b h.1 fit e) e
   item_written (processor n id block len is) bytes h fit e = filled_written (91 ∷ 131 ∷ []) (name_arg ∷ byte_arg ∷ dword_arg ∷ byte_arg ∷ [])
       (n, (id, (block, (len, tt)))) (λ b. SpellsItems is b) (items_bytes is) bytes h.0 (tt, (tt, (tt, (tt, tt))))
       (λ b e. items_written is b h.1 fit e) e
   item_written (power n level order is) bytes h fit e = filled_written (91 ∷ 132 ∷ []) (name_arg ∷ byte_arg ∷ word_arg ∷ []) (n, (level, (order, tt)))
       (λ b. SpellsItems is b) (items_bytes is) bytes h.0 (tt, (tt, (tt, tt))) (λ b e. items_written is b h.1 fit e) e
-  item_written (thermal n is) bytes h fit e = filled_written (91 ∷ 133 ∷ []) (name_arg ∷ []) (n, tt) (λ b. SpellsItems is b) (items_bytes is) bytes h.0 (tt, tt) (λ b e. items_written is b h.1 fit e) e
+  item_written (thermal n is) bytes h fit e = filled_written (91 ∷ 133 ∷ []) (name_arg ∷ []) (n, tt) (λ b. SpellsItems is b) (items_bytes is) bytes
+      h.0 (tt, tt) (λ b e. items_written is b h.1 fit e) e
 
   pub items_written : (is : ItemTrees) (bytes : List ℕ) → AreItemsTyped is → items_fit is ≡ true → items_bytes is ≡ Some bytes → SpellsItems is bytes
   items_written no_items bytes h fit e = sym (some_is [] bytes e)

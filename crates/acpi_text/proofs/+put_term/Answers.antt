@@ -25,14 +25,25 @@ terms::put_operands-returns-after-loop-operand t c =
 pub declarations::put_decl-returns-in_ok-put-in-Create-3 : goal.declarations::put_decl-returns-in_ok-put-in-Create-3
 declarations::put_decl-returns-in_ok-put-in-Create-3 t c =
     rw (c.in-Create.is, create_is c.in-Create.width c.in-Create.source c.in-Create.index c.in-Create.name, ← c.deref-in-Create.ensures, ← c.deref-in-Create-2.ensures)
-    (create_said c.args.text.now.items (width_text c.in-Create.width) (term_text (term_view c.deref-in-Create.result.now)) (term_text (term_view c.deref-in-Create-2.result.now)) (name_text c.in-Create.name) _ _ _ _ _ _ _
-    c.in_ok-put-in-Create.ensures c.in_ok-put_width-in-Create.ensures c.in_ok-put-in-Create-2.ensures c.in_ok-put_term-in-Create.ensures c.in_ok-put_next_term-in-Create.ensures c.in_ok-put_next_name-in-Create.ensures c.in_ok-put-in-Create-3.ensures)
+    (create_said c.args.text.now.items (width_text c.in-Create.width) (term_text (term_view c.deref-in-Create.result.now))
+    (term_text (term_view c.deref-in-Create-2.result.now)) (name_text c.in-Create.name) _ _ _ _ _ _ _
+    c.in_ok-put-in-Create.ensures c.in_ok-put_width-in-Create.ensures c.in_ok-put-in-Create-2.ensures c.in_ok-put_term-in-Create.ensures
+    c.in_ok-put_next_term-in-Create.ensures c.in_ok-put_next_name-in-Create.ensures c.in_ok-put-in-Create-3.ensures)
 
 pub declarations::put_decl-returns-in_ok-put-in-CreateField-2 : goal.declarations::put_decl-returns-in_ok-put-in-CreateField-2
 declarations::put_decl-returns-in_ok-put-in-CreateField-2 t c =
-    rw (c.in-CreateField.is, create_field_is c.in-CreateField.source c.in-CreateField.index c.in-CreateField.bits c.in-CreateField.name, ← c.deref-in-CreateField.ensures, ← c.deref-in-CreateField-2.ensures, ← c.deref-in-CreateField-3.ensures)
-    (create_field_said c.args.text.now.items (term_text (term_view c.deref-in-CreateField.result.now)) (term_text (term_view c.deref-in-CreateField-2.result.now)) (term_text (term_view c.deref-in-CreateField-3.result.now)) (name_text c.in-CreateField.name) _ _ _ _ _ _
-    c.in_ok-put-in-CreateField.ensures c.in_ok-put_term-in-CreateField.ensures c.in_ok-put_next_term-in-CreateField.ensures c.in_ok-put_next_term-in-CreateField-2.ensures c.in_ok-put_next_name-in-CreateField.ensures c.in_ok-put-in-CreateField-2.ensures)
+    rw (
+      c.in-CreateField.is,
+      create_field_is c.in-CreateField.source c.in-CreateField.index c.in-CreateField.bits c.in-CreateField.name,
+      ← c.deref-in-CreateField.ensures,
+      ← c.deref-in-CreateField-2.ensures,
+      ← c.deref-in-CreateField-3.ensures,
+    )
+    (create_field_said c.args.text.now.items (term_text (term_view c.deref-in-CreateField.result.now))
+    (term_text (term_view c.deref-in-CreateField-2.result.now)) (term_text (term_view c.deref-in-CreateField-3.result.now))
+    (name_text c.in-CreateField.name) _ _ _ _ _ _
+    c.in_ok-put-in-CreateField.ensures c.in_ok-put_term-in-CreateField.ensures c.in_ok-put_next_term-in-CreateField.ensures
+    c.in_ok-put_next_term-in-CreateField-2.ensures c.in_ok-put_next_name-in-CreateField.ensures c.in_ok-put-in-CreateField-2.ensures)
 
 pub declarations::put_decl-returns-in_ok-put-in-Mutex : goal.declarations::put_decl-returns-in_ok-put-in-Mutex
 declarations::put_decl-returns-in_ok-put-in-Mutex t c =
@@ -45,7 +56,8 @@ declarations::put_decl-returns-in_ok-put-in-Event t c =
 pub declarations::put_decl-returns-in_ok-put-in-Region : goal.declarations::put_decl-returns-in_ok-put-in-Region
 declarations::put_decl-returns-in_ok-put-in-Region t c =
     rw (c.in-Region.is, region_is c.in-Region.name c.in-Region.space c.in-Region.offset c.in-Region.length, ← c.deref-in-Region.ensures, ← c.deref-in-Region-2.ensures)
-    (region_said c.args.text.now.items (name_text c.in-Region.name) (raw_text 1 c.in-Region.space) (term_text (term_view c.deref-in-Region.result.now)) (term_text (term_view c.deref-in-Region-2.result.now)) _ _ _ _ _
+    (region_said c.args.text.now.items (name_text c.in-Region.name) (raw_text 1 c.in-Region.space)
+    (term_text (term_view c.deref-in-Region.result.now)) (term_text (term_view c.deref-in-Region-2.result.now)) _ _ _ _ _
     c.in_ok-put_first_name-in-Region.ensures c.in_ok-put_next_byte-in-Region.ensures c.in_ok-put_next_term-in-Region.ensures c.in_ok-put_next_term-in-Region-2.ensures c.in_ok-put-in-Region.ensures)
 
 pub declarations::put_decl-returns-in_ok-put_fields-in-Field : goal.declarations::put_decl-returns-in_ok-put_fields-in-Field
@@ -57,11 +69,21 @@ declarations::put_decl-returns-in_ok-put_fields-in-Field t c =
 pub declarations::put_decl-returns-in_ok-put_fields-in-IndexField : goal.declarations::put_decl-returns-in_ok-put_fields-in-IndexField
 declarations::put_decl-returns-in_ok-put_fields-in-IndexField t c =
     rw (c.in-IndexField.is, index_field_is c.in-IndexField.index c.in-IndexField.datum c.in-IndexField.flags c.in-IndexField.elems, ← c.deref-in-IndexField.ensures.value)
-    (index_field_said c.args.text.now.items (name_text c.in-IndexField.index) (name_text c.in-IndexField.datum) (raw_text 1 c.in-IndexField.flags) (braces_text (map field_text (fields_view c.deref-in-IndexField.result.now))) _ _ _ _ _
-    c.in_ok-put_first_name-in-IndexField.ensures c.in_ok-put_next_name-in-IndexField.ensures c.in_ok-put_next_byte-in-IndexField.ensures c.in_ok-put-in-IndexField.ensures c.in_ok-put_fields-in-IndexField.ensures)
+    (index_field_said c.args.text.now.items (name_text c.in-IndexField.index) (name_text c.in-IndexField.datum) (raw_text 1 c.in-IndexField.flags)
+    (braces_text (map field_text (fields_view c.deref-in-IndexField.result.now))) _ _ _ _ _
+    c.in_ok-put_first_name-in-IndexField.ensures c.in_ok-put_next_name-in-IndexField.ensures c.in_ok-put_next_byte-in-IndexField.ensures
+    c.in_ok-put-in-IndexField.ensures c.in_ok-put_fields-in-IndexField.ensures)
 
 pub declarations::put_decl-returns-in_ok-put_fields-in-BankField : goal.declarations::put_decl-returns-in_ok-put_fields-in-BankField
 declarations::put_decl-returns-in_ok-put_fields-in-BankField t c =
-    rw (c.in-BankField.is, bank_field_is c.in-BankField.region c.in-BankField.bank c.in-BankField.value c.in-BankField.flags c.in-BankField.elems, ← c.deref-in-BankField.ensures, ← c.deref-in-BankField-2.ensures.value)
-    (bank_field_said c.args.text.now.items (name_text c.in-BankField.region) (name_text c.in-BankField.bank) (term_text (term_view c.deref-in-BankField.result.now)) (raw_text 1 c.in-BankField.flags) (braces_text (map field_text (fields_view c.deref-in-BankField-2.result.now))) _ _ _ _ _ _
-    c.in_ok-put_first_name-in-BankField.ensures c.in_ok-put_next_name-in-BankField.ensures c.in_ok-put_next_term-in-BankField.ensures c.in_ok-put_next_byte-in-BankField.ensures c.in_ok-put-in-BankField.ensures c.in_ok-put_fields-in-BankField.ensures)
+    rw (
+      c.in-BankField.is,
+      bank_field_is c.in-BankField.region c.in-BankField.bank c.in-BankField.value c.in-BankField.flags c.in-BankField.elems,
+      ← c.deref-in-BankField.ensures,
+      ← c.deref-in-BankField-2.ensures.value,
+    )
+    (bank_field_said c.args.text.now.items (name_text c.in-BankField.region) (name_text c.in-BankField.bank)
+    (term_text (term_view c.deref-in-BankField.result.now)) (raw_text 1 c.in-BankField.flags)
+    (braces_text (map field_text (fields_view c.deref-in-BankField-2.result.now))) _ _ _ _ _ _
+    c.in_ok-put_first_name-in-BankField.ensures c.in_ok-put_next_name-in-BankField.ensures c.in_ok-put_next_term-in-BankField.ensures
+    c.in_ok-put_next_byte-in-BankField.ensures c.in_ok-put-in-BankField.ensures c.in_ok-put_fields-in-BankField.ensures)
