@@ -1,15 +1,21 @@
 -- Constants: what is spelled is read, what is read is spelled, or the fault is true.
-use Rattle.std.proofs.Common.{◌≡◌, ℕ, ◌<◌, List, [], ◌∷◌, ◌++◌, length, Ok, refl, ap, ◌∙◌, arith}
+use Rattle.std.proofs.Common.{◌≡◌, ℕ, ◌-◌, ◌<◌, true, List, [], ◌∷◌, ◌++◌, length, Result, Ok, refl, ap, ◌∙◌, arith}
 use Rattle.acpi_tree.specs.declared.tree.Int.{Int}
 use Rattle.acpi_tree.specs.declared.tree.Int.TheVariants.{Zero, One, Ones, Revision, Byte, Word, DWord, QWord}
 use Rattle.acpi_code.specs.declared.opcode.ConstantForm.{ConstantForm}
 use Rattle.acpi_code.specs.declared.opcode.ConstantForm.TheVariants as forms
+use Rattle.acpi_code.specs.declared.opcode.Opcode.{Opcode}
 use Rattle.acpi_code.specs.declared.opcode.Opcode.TheVariants as opcodes
-use Rattle.acpi_code.specs.Opcodes.{opcode_bytes}
+use Rattle.acpi_code.specs.declared.fault.CodeFault.{CodeFault}
+use Rattle.acpi_code.specs.declared.fault.ConstantFault.{ConstantFault}
+use Rattle.acpi_code.specs.declared.fault.ConstantFault.TheVariants.{Part}
+use Rattle.acpi_code.specs.Opcodes.{first_opcode, opcode_bytes}
+use Rattle.acpi_code.specs.Faults.{ShowsConstant}
 use Rattle.acpi_code.specs.Spelling.{SpellsByte, SpellsNumber, SpellsInt}
 use Rattle.acpi_code.specs.steps.Reading.{byte_at, number_at, opcode_at, constant_at}
-use Rattle.acpi_code.proofs.Readings.{Judge, Position, Source, Shown, Read, position_after, read_as, read_behind}
-use Rattle.acpi_code.proofs.Opcodes.{opens, Opened}
+use Rattle.acpi_code.specs.steps.Fields.{part, int_by, int_in}
+use Rattle.acpi_code.proofs.Readings.{Judge, judge_bind, judge_told, Position, Source, Shown, Read, stands_at, position_after, read_as, read_behind}
+use Rattle.acpi_code.proofs.Opcodes.{opens, Opened, opcode_sound}
 use Rattle.acpi_code.proofs.Numbers.{byte_sound, number_complete, number_sound}
 
 -- ---- complete
@@ -82,3 +88,29 @@ whole_constant s level end form bytes rest h o =
     let is : bytes ≡ op ++ rest = o.whole ∙ ap (λ (t : List ℕ). t ++ rest) o.told.1 in
     read_behind (Shown s) s level end (SpellsRest form) SpellsInt bytes op rest (constant_at form end rest) is (λ i a k. k)
     (constant_sound s level end form rest (position_after s level end bytes op rest is h))
+
+-- ---- with their opcodes
+
+pub int_complete : (i : Int) (end : ℕ) (bytes rest : List ℕ) → SpellsInt i bytes → int_in end (bytes ++ rest) ≡ Ok (i, rest)
+unfolding int_in
+int_complete i end bytes rest h = let o = int_opens i end bytes rest h in rw (o.1, o.2) refl
+
+-- what the fault of a constant shows
+abbrev pub NoConstant : Source → ConstantFault → Type 0
+NoConstant s f = ShowsConstant s.depth s.code f
+
+-- what is judged of a part is judged of it in a constant, or in what holds one
+pub part_sound : {A : Type 0} (s : Source) (Good : A → Type 0) (r : Result A CodeFault) → Judge Good (Shown s) r → Judge Good (NoConstant s) (part r)
+part_sound s Good r h = judge_told Good (Shown s) (NoConstant s) (λ f. Part f) r (λ f b. b) h
+
+int_by_sound : (s : Source) (level end : ℕ) (opcode : Opcode) (bytes rest : List ℕ) → Position s.depth level s.code end bytes
+    → Opened bytes (opcode, rest) → Judge (Read s level end SpellsInt bytes) (NoConstant s) (int_by end bytes opcode rest)
+int_by_sound s level end (opcodes.Constant form) bytes rest h o =
+    part_sound s (Read s level end SpellsInt bytes) (constant_at form end rest) (whole_constant s level end form bytes rest h o)
+int_by_sound s level end opcode bytes rest h o = (ap first_opcode (stands_at s level end bytes h) ∙ o.is_opcode h.after, refl)
+
+pub int_sound : (s : Source) (level end : ℕ) (bytes : List ℕ) → Position s.depth level s.code end bytes → Judge (Read s level end SpellsInt bytes) (NoConstant s) (int_in end bytes)
+unfolding int_in
+int_sound s level end bytes h =
+    judge_bind (Opened bytes) (Read s level end SpellsInt bytes) (NoConstant s) (part (opcode_at end bytes)) _
+    (part_sound s (Opened bytes) (opcode_at end bytes) (opcode_sound s level end bytes h)) (λ x o. int_by_sound s level end x.0 bytes x.1 h o)

@@ -9,7 +9,9 @@ use Rattle.acpi_name.specs.Spelling.{SpellsName, SpellsPath}
 use Rattle.acpi_table.specs.PkgLength.{SpellsPkgLength}
 use Rattle.acpi_code.specs.Opcodes.{is_name_start}
 use Rattle.acpi_code.specs.Spelling.{IsText, SpellsTermName, SpellsEach, Packs}
-use Rattle.acpi_tree.specs.Fits.{text_fits, is_null_name, bits_fit}
+use Rattle.acpi_code.specs.Fields.{SpellsField, SpellsFields}
+use Rattle.acpi_tree.specs.Tree.{FieldTree, unit, reserved, access, connect_name, connect_buffer, extended}
+use Rattle.acpi_tree.specs.Fits.{text_fits, is_null_name, bits_fit, field_fits}
 
 abbrev pub AreBytes : List ℕ → Type 0
 AreBytes = AllByRecursion (λ b. b < 256)
@@ -88,3 +90,16 @@ pub each_fits : {A : Type 0} (Spells : A → List ℕ → Type 0) (fits : A → 
 each_fits Spells fits one [] bytes h all = refl
 each_fits Spells fits one (x ∷ xs) bytes h all =
     let split = parts h.0 h.1 bytes h.4 all in both (one x h.0 h.2 split.0) (each_fits Spells fits one xs h.1 h.3 split.1)
+
+-- ---- field elements
+
+pub field_fit : (e : FieldTree) (bytes : List ℕ) → SpellsField e bytes → AreBytes bytes → field_fits e ≡ true
+field_fit (unit g bits) bytes (a, b, hg, hb, whole) all = length_fits bits b hb (parts a b bytes whole all).1
+field_fit (reserved bits) bytes (b, hb, whole) all = length_fits bits b hb (parts (0x00 ∷ []) b bytes whole all).1
+field_fit (access kind attribute) bytes h all = refl
+field_fit (connect_name n) bytes h all = refl
+field_fit (connect_buffer size content) bytes h all = refl
+field_fit (extended kind attribute len) bytes h all = refl
+
+pub fields_fit : (es : List FieldTree) (bytes : List ℕ) → SpellsFields es bytes → AreBytes bytes → list_all field_fits es ≡ true
+fields_fit es bytes h all = each_fits SpellsField field_fits field_fit es bytes h all

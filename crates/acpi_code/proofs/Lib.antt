@@ -8,3 +8,4 @@ pub mod Names
 pub mod Constants
 pub mod Strings
 pub mod Fitting
+pub mod Fields

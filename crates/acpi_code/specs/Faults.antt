@@ -5,7 +5,10 @@ use Rattle.acpi_name.specs.Spelling.{HasBadChar, HasZeroCount, HasTooManyUps}
 use Rattle.acpi_table.specs.PkgLength.{SpellsPkgLength}
 use Rattle.acpi_code.specs.declared.fault.CodeReason.{CodeReason}
 use Rattle.acpi_code.specs.declared.fault.CodeReason.TheVariants.{Cut, ReservedBits, BadName, Overrun, BadString, TooDeep}
+use Rattle.acpi_code.specs.declared.fault.ConstantFault.{ConstantFault}
+use Rattle.acpi_code.specs.declared.fault.ConstantFault.TheVariants.{Part, NotConstant}
 use Rattle.acpi_code.specs.declared.opcode.Opcode.{Opcode}
+use Rattle.acpi_code.specs.declared.opcode.Opcode.TheVariants as opcodes
 use Rattle.acpi_code.specs.Opcodes.{first_opcode}
 
 -- ---- what stands at a place
@@ -71,3 +74,14 @@ ShowsPart depth code BadName place = HasNoName (drop place code) ⊎ (is_segment
 ShowsPart depth code Overrun place = (n : ℕ) × (s : StandsAt code place n) × ((n < length s.len) ⊎ IsPastEnd code place n)
 ShowsPart depth code BadString place = ByteAt (λ b. 0x7F < b) code place
 ShowsPart depth code TooDeep place = (depth ≤ place) × (place < length code)
+
+-- ---- what the fault of a constant shows
+
+abbrev pub is_no_constant : Opcode → Bool
+is_no_constant (opcodes.Constant form) = false
+is_no_constant _ = true
+
+-- The same of a constant, or of what holds one. NotConstant: this opcode begins there, and is no constant's.
+abbrev pub ShowsConstant : ℕ → List ℕ → ConstantFault → Type 0
+ShowsConstant depth code (Part f) = ShowsPart depth code f.reason f.place
+ShowsConstant depth code (NotConstant opcode place) = (first_opcode (drop place code) ≡ Some opcode) × (is_no_constant opcode ≡ true)

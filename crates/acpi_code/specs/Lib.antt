@@ -1,4 +1,5 @@
 pub mod Opcodes
 pub mod Spelling
+pub mod Fields
 pub mod Faults
 pub mod steps

@@ -1,4 +1,5 @@
 pub mod Left
 pub mod Within
 pub mod Reading
+pub mod Fields
 pub mod Cursor

@@ -1,11 +1,12 @@
 //! Reading constants.
 
 ghost use Rattle.acpi_code.specs.steps.Reading.{constant_at};
-ghost use Rattle.acpi_code.specs.steps.Cursor.{FindsOn};
+ghost use Rattle.acpi_code.specs.steps.Fields.{int_in};
+ghost use Rattle.acpi_code.specs.steps.Cursor.{Finds, FindsOn};
 
 use crate::code::Code;
-use crate::fault::CodeFault;
-use crate::opcode::ConstantForm;
+use crate::fault::{CodeFault, ConstantFault};
+use crate::opcode::{ConstantForm, Opcode};
 use acpi_tree::Int;
 
 impl Code<'_> {
@@ -23,5 +24,16 @@ impl Code<'_> {
             ConstantForm::DWord => Int::DWord(self.dword()?),
             ConstantForm::QWord => Int::QWord(self.qword()?),
         })
+    }
+    /// A constant: its opcode, and what stands behind it. `NotConstant` where something else begins.
+    #[tactic(auto, unfolding(crate::specs::steps::Fields::int_in))]
+    pub fn int(&mut self) -> Result<Int, ConstantFault>
+        ensures { Finds (λ i. i) int_in self.old self.new result }
+    {
+        let place = self.place();
+        match self.opcode()? {
+            Opcode::Constant(form) => Ok(self.constant(form)?),
+            opcode => Err(ConstantFault::NotConstant { opcode, place }),
+        }
     }
 }

@@ -23,6 +23,7 @@ mod code;
 mod constant;
 mod depth;
 mod fault;
+mod field;
 mod name;
 mod number;
 mod opcode;
@@ -30,5 +31,6 @@ mod string;
 
 pub use code::Code;
 pub use depth::Depth;
-pub use fault::{CodeFault, CodeReason};
+pub use fault::{CodeFault, CodeReason, ConstantFault, FieldFault};
+pub use field::{field_element, field_elements};
 pub use opcode::{ConstantForm, Opcode, is_name, name_start};
