@@ -3,17 +3,17 @@ use Rattle.std.proofs.Common.{◌≡◌, ℕ, ◌-◌, ◌+◌, ◌≤◌, max, 
 use Rattle.std.proofs.lemmas.Bool.{le-ltb, ltb-true, ltb-false}
 use Rattle.acpi_name.specs.Spelling.{SpellsName}
 use Rattle.acpi_table.specs.PkgLength.{SpellsPkgLength}
-use Rattle.acpi_code.specs.Spelling.{SpellsByte, SpellsNumber, SpellsInt, SpellsTermName, SpellsSegment, Packs}
-use Rattle.acpi_code.specs.steps.Reading.{Reading, byte_at, number_at, length_in, package_at, name_in, segment_in}
+use Rattle.acpi_code.specs.Spelling.{SpellsByte, SpellsNumber, SpellsTermName, Packs}
+use Rattle.acpi_code.specs.steps.Reading.{Reading, byte_at, number_at, package_at, name_in}
 use Rattle.acpi_code.proofs.Readings.{Judge, judge_bind, judge_into, judge_if, Source, Position, Read, stands_at, read_as, read_behind}
-use Rattle.acpi_code.proofs.Numbers.{byte_complete, byte_sound, number_complete, number_sound, length_complete, length_sound}
+use Rattle.acpi_code.proofs.Numbers.{byte_complete, byte_sound, number_complete, number_sound}
 use Rattle.acpi_code.proofs.Packages.{package_complete, GoodPackage, package_sound}
-use Rattle.acpi_code.proofs.Names.{name_in_complete, segment_in_complete, name_sound, segment_sound}
-use Rattle.acpi_terms.specs.Forms.{FixedArgument, name_arg, source_arg, segment_arg, byte_arg, word_arg, dword_arg, count_arg, bits_arg, const_arg, int_arg, Value, Values}
+use Rattle.acpi_code.proofs.Names.{name_in_complete, name_sound}
+use Rattle.acpi_terms.specs.Forms.{FixedArgument, name_arg, source_arg, byte_arg, word_arg, dword_arg, count_arg, int_arg, Value, Values}
 use Rattle.acpi_terms.specs.Spelling.{SpellsArgument, SpellsArguments, SpellsPlain}
-use Rattle.acpi_terms.specs.steps.Reading.{Fault, part, const_at, int_at, source_at, args_in, argument_at, arguments_at, plain_at, packed_at}
+use Rattle.acpi_terms.specs.steps.Reading.{Fault, part, int_at, source_at, args_in, argument_at, arguments_at, plain_at, packed_at}
 use Rattle.acpi_terms.proofs.Parts.{Bad, part_sound}
-use Rattle.acpi_terms.proofs.Constants.{const_complete, int_complete, source_complete, const_sound, IntWithin, int_sound, source_sound}
+use Rattle.acpi_terms.proofs.Constants.{int_complete, source_complete, IntWithin, int_sound, source_sound}
 
 -- ---- complete
 
@@ -33,13 +33,10 @@ arguments_height (k ∷ ks) = max (argument_height k) (arguments_height ks)
 argument_complete : (k : FixedArgument) (level end : ℕ) (v : Value k) (a rest : List ℕ) → argument_height k ≤ level → SpellsArgument k v a → argument_at level k end (a ++ rest) ≡ Ok (v, rest)
 argument_complete name_arg level end v a rest le h = rw (name_in_complete end v a rest h) refl
 argument_complete source_arg level end v a rest le h = source_complete end v a rest h
-argument_complete segment_arg level end v a rest le h = rw (h.1, segment_in_complete end v rest h.0) refl
 argument_complete byte_arg level end v a rest le h = rw (h, byte_complete end v rest) refl
 argument_complete word_arg level end v a rest le h = rw (number_complete 2 v end a rest h) refl
 argument_complete dword_arg level end v a rest le h = rw (number_complete 4 v end a rest h) refl
 argument_complete count_arg level end v a rest le h = rw h.1 (args_complete end v rest h.0)
-argument_complete bits_arg level end v a rest le h = rw (length_complete v end a rest h) refl
-argument_complete const_arg level end v a rest le h = const_complete v end a rest h
 argument_complete int_arg level end v a rest le h = int_complete level end v a rest (omega arith) h
 
 pub arguments_complete : (ks : List FixedArgument) (level end : ℕ) (v : Values ks) (a rest : List ℕ) → arguments_height ks ≤ level
@@ -93,8 +90,6 @@ argument_sound : (s : Source) (level end left : ℕ) (k : FixedArgument) (bytes 
 argument_sound s level end left name_arg bytes l h = flat s level end left SpellsName bytes (part (name_in end bytes))
     (part_sound s (Read s level end SpellsName bytes) (name_in end bytes) (name_sound s level end bytes h))
 argument_sound s level end left source_arg bytes l h = flat s level end left SpellsTermName bytes (source_at end bytes) (source_sound s level end bytes h)
-argument_sound s level end left segment_arg bytes l h = flat s level end left SpellsSegment bytes (part (segment_in end bytes))
-    (part_sound s (Read s level end SpellsSegment bytes) (segment_in end bytes) (segment_sound s level end bytes h))
 argument_sound s level end left byte_arg bytes l h = flat s level end left SpellsByte bytes (part (byte_at end bytes))
     (part_sound s (Read s level end SpellsByte bytes) (byte_at end bytes) (byte_sound s level end bytes h))
 argument_sound s level end left word_arg bytes l h = flat s level end left (SpellsNumber 2) bytes (part (number_at 2 end bytes))
@@ -102,9 +97,6 @@ argument_sound s level end left word_arg bytes l h = flat s level end left (Spel
 argument_sound s level end left dword_arg bytes l h = flat s level end left (SpellsNumber 4) bytes (part (number_at 4 end bytes))
     (part_sound s (Read s level end (SpellsNumber 4) bytes) (number_at 4 end bytes) (number_sound s level 4 end bytes h))
 argument_sound s level end left count_arg bytes l h = flat s level end left IsArgs bytes (args_in end bytes) (args_sound s level end bytes h)
-argument_sound s level end left bits_arg bytes l h = flat s level end left SpellsPkgLength bytes (part (length_in end bytes))
-    (part_sound s (Read s level end SpellsPkgLength bytes) (length_in end bytes) (length_sound s level end bytes h))
-argument_sound s level end left const_arg bytes l h = flat s level end left SpellsInt bytes (const_at end bytes) (const_sound s level end bytes h)
 argument_sound s level end left int_arg bytes (inl none) h = absurd (omega (arith, none))
 argument_sound s level end left int_arg bytes (inr same) h =
     rw same (judge_into (Read s level end (IntWithin level) bytes) (Read s level end (ArgumentWithin level int_arg) bytes) (Bad s) (Bad s) (int_at level end bytes)

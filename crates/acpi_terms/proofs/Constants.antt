@@ -1,25 +1,25 @@
 -- Constants and sources at their places: what is spelled is read, what is read is spelled, or the fault is true.
-use Rattle.std.proofs.Common.{◌≡◌, ℕ, zero, suc, ◌<◌, List, [], ◌∷◌, ◌++◌, Ok, refl, arith, inl, inr}
+use Rattle.std.proofs.Common.{◌≡◌, ℕ, zero, suc, ◌<◌, List, [], ◌∷◌, ◌++◌, Ok, refl, arith, inr}
 use Rattle.acpi_name.specs.Names.{NameParts}
 use Rattle.acpi_name.proofs.NameAgain.{name_long}
 use Rattle.acpi_tree.specs.declared.tree.Int.{Int}
 use Rattle.acpi_code.specs.declared.opcode.Opcode.{Opcode}
 use Rattle.acpi_code.specs.declared.opcode.Opcode.TheVariants as opcodes
 use Rattle.acpi_code.specs.Spelling.{SpellsInt, SpellsTermName}
-use Rattle.acpi_code.specs.steps.Reading.{name_in, opcode_at, constant_at}
+use Rattle.acpi_code.specs.steps.Reading.{name_in, opcode_at}
+use Rattle.acpi_code.specs.steps.Fields.{int_in}
 use Rattle.acpi_code.proofs.Readings.{Judge, judge_bind, judge_into, Source, Position, Read}
 use Rattle.acpi_code.proofs.Opcodes.{opens_name, Opened, opcode_sound, begins}
 use Rattle.acpi_code.proofs.Names.{name_in_complete, term_name_sound}
-use Rattle.acpi_code.proofs.Constants.{int_opens, whole_constant}
-use Rattle.acpi_terms.specs.declared.fault.ItemReason.TheVariants.{BadOpcode}
-use Rattle.acpi_terms.specs.steps.Reading.{part, const_by, const_at, int_at, source_by, source_at}
-use Rattle.acpi_terms.proofs.Parts.{Bad, deep_bad, part_sound, refused}
+use Rattle.acpi_code.proofs.Constants as constants
+use Rattle.acpi_terms.specs.steps.Reading.{part, const_at, int_at, source_by, source_at}
+use Rattle.acpi_terms.proofs.Parts.{Bad, deep_bad, part_sound, constant_sound}
 
 -- ---- complete
 
 pub const_complete : (i : Int) (end : ℕ) (bytes rest : List ℕ) → SpellsInt i bytes → const_at end (bytes ++ rest) ≡ Ok (i, rest)
 unfolding const_at
-const_complete i end bytes rest h = let o = int_opens i end bytes rest h in rw (o.1, o.2) refl
+const_complete i end bytes rest h = rw (constants.int_complete i end bytes rest h) refl
 
 pub int_complete : (level end : ℕ) (i : Int) (bytes rest : List ℕ) → 0 < level → SpellsInt i bytes → int_at level end (bytes ++ rest) ≡ Ok (i, rest)
 unfolding int_at
@@ -33,17 +33,9 @@ source_complete end n (b ∷ a) rest h = rw (opens_name end b (a ++ rest) h.1, n
 
 -- ---- sound
 
-const_by_sound : (s : Source) (level end : ℕ) (opcode : Opcode) (bytes rest : List ℕ) → Position s.depth level s.code end bytes
-    → Opened bytes (opcode, rest) → Judge (Read s level end SpellsInt bytes) (Bad s) (const_by end bytes opcode rest)
-const_by_sound s level end (opcodes.Constant form) bytes rest h o = part_sound s (Read s level end SpellsInt bytes) (constant_at form end rest) (whole_constant s level end form bytes rest h o)
-const_by_sound s level end opcodes.Nothing bytes rest h o = refused s level end bytes (opcodes.Nothing, rest) BadOpcode h o refl
-const_by_sound s level end opcode bytes rest h o = inl (begins s level end bytes (opcode, rest) _ h o refl)
-
 pub const_sound : (s : Source) (level end : ℕ) (bytes : List ℕ) → Position s.depth level s.code end bytes → Judge (Read s level end SpellsInt bytes) (Bad s) (const_at end bytes)
 unfolding const_at
-const_sound s level end bytes h =
-    judge_bind (Opened bytes) (Read s level end SpellsInt bytes) (Bad s) (part (opcode_at end bytes)) _
-    (part_sound s (Opened bytes) (opcode_at end bytes) (opcode_sound s level end bytes h)) (λ x o. const_by_sound s level end x.0 bytes x.1 h o)
+const_sound s level end bytes h = constant_sound s (Read s level end SpellsInt bytes) (int_in end bytes) (constants.int_sound s level end bytes h)
 
 -- a constant, and a level that was left for it
 abbrev pub IntWithin : ℕ → Int → List ℕ → Type 0

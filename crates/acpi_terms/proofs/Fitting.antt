@@ -8,11 +8,10 @@ use Rattle.acpi_name.specs.Names.{NameParts}
 use Rattle.acpi_name.specs.Spelling.{SpellsName, SpellsPath}
 use Rattle.acpi_table.specs.PkgLength.{SpellsPkgLength}
 use Rattle.acpi_code.specs.Spelling.{IsText, SpellsTermName, SpellsEach, Packs}
-use Rattle.acpi_terms.specs.Forms.{FixedArgument, name_arg, byte_arg, int_arg, Values}
-use Rattle.acpi_terms.specs.Spelling.{SpellsPacked, SpellsData, SpellsElem, SpellsElems, SpellsField, SpellsFields, SpellsExternal, SpellsItem, SpellsItems}
-use Rattle.acpi_tree.specs.Tree.{DataTree, int, str, buffer, pkg, var_pkg, ElemTree, of_data, of_name, ElemTrees, no_elems, elem, FieldTree, unit, reserved, access, connect_name, connect_buffer, extended, ExternalParts, ItemTree, name, scope, method, external, external_block, create, create_field, mutex, event, region, field, index_field, bank_field, device, processor, power, thermal, ItemTrees, no_items, item}
-use Rattle.acpi_tree.specs.Fits.{text_fits, is_null_name, data_fits, elem_fits, elems_fit, bits_fit, field_fits, external_fits, item_fits, items_fit}
-use Rattle.acpi_code.proofs.Fitting.{AreBytes, both, front_bytes, back_bytes, parts, packed, length_fits, term_name_fits, text_all, each_fits}
+use Rattle.acpi_terms.specs.Spelling.{SpellsData, SpellsElem, SpellsElems, SpellsExternal, SpellsItem, SpellsItems}
+use Rattle.acpi_tree.specs.Tree.{DataTree, int, str, buffer, pkg, var_pkg, ElemTree, of_data, of_name, ElemTrees, no_elems, elem, ExternalParts, ItemTree, name, scope, method, external, external_block, create, create_field, mutex, event, region, field, index_field, bank_field, device, processor, power, thermal, ItemTrees, no_items, item}
+use Rattle.acpi_tree.specs.Fits.{text_fits, is_null_name, data_fits, elem_fits, elems_fit, external_fits, item_fits, items_fit}
+use Rattle.acpi_code.proofs.Fitting.{AreBytes, both, front_bytes, back_bytes, parts, packed, term_name_fits, text_all, each_fits, fields_fit}
 
 -- ---- data
 
@@ -32,33 +31,12 @@ mutual
   elems_are_fit no_elems bytes h all = refl
   elems_are_fit (elem e es) bytes h all = let split = parts h.0 h.1 bytes h.4 all in both (elem_is_fit e h.0 h.2 split.0) (elems_are_fit es h.1 h.3 split.1)
 
--- ---- field elements and Externals
-
-pub field_fit : (e : FieldTree) (bytes : List ℕ) → SpellsField e bytes → AreBytes bytes → field_fits e ≡ true
-field_fit (unit s bits) bytes h all =
-    let v = h.1 in
-    let inner = (parts [] h.0 bytes h.2 all).1 in
-    let second = (parts v.0 v.1 h.0 v.4 inner).1 in
-    let w = v.3 in
-    length_fits bits w.0 w.2 (parts w.0 w.1 v.1 w.4 second).0
-field_fit (reserved bits) bytes h all =
-    let v = h.1 in
-    let inner = (parts (0 ∷ []) h.0 bytes h.2 all).1 in
-    length_fits bits v.0 v.2 (parts v.0 v.1 h.0 v.4 inner).0
-field_fit (access k a) bytes h all = refl
-field_fit (connect_name n) bytes h all = refl
-field_fit (connect_buffer i s) bytes h all = refl
-field_fit (extended k a l) bytes h all = refl
+-- ---- Externals
 
 external_fit : (x : ExternalParts) (bytes : List ℕ) → SpellsExternal x bytes → AreBytes bytes → external_fits x ≡ true
 external_fit x bytes h all = le-leb x.args 7 h.1.3.3.2.0
 
 -- ---- items
-
-fields_fit : (opcode : List ℕ) (ks : List FixedArgument) (v : Values ks) (es : List FieldTree) (bytes : List ℕ)
-    → SpellsPacked opcode ks v (λ b. SpellsFields es b) bytes → AreBytes bytes → list_all field_fits es ≡ true
-fields_fit opcode ks v es bytes h all =
-    each_fits SpellsField field_fits field_fit es h.1 h.3 (parts h.0 h.1 (h.0 ++ h.1) refl (packed opcode (h.0 ++ h.1) bytes h.4 all)).1
 
 filled : (opcode a b bytes : List ℕ) → Packs opcode (a ++ b) bytes → AreBytes bytes → AreBytes b
 filled opcode a b bytes p all = (parts a b (a ++ b) refl (packed opcode (a ++ b) bytes p all)).1
@@ -77,9 +55,9 @@ mutual
   item_fit (mutex n flags) bytes h all = refl
   item_fit (event n) bytes h all = refl
   item_fit (region n space offset len) bytes h all = refl
-  item_fit (field r flags es) bytes h all = fields_fit (91 ∷ 129 ∷ []) (name_arg ∷ byte_arg ∷ []) (r, (flags, tt)) es bytes h all
-  item_fit (index_field i d flags es) bytes h all = fields_fit (91 ∷ 134 ∷ []) (name_arg ∷ name_arg ∷ byte_arg ∷ []) (i, (d, (flags, tt))) es bytes h all
-  item_fit (bank_field r bank value flags es) bytes h all = fields_fit (91 ∷ 135 ∷ []) (name_arg ∷ name_arg ∷ int_arg ∷ byte_arg ∷ []) (r, (bank, (value, (flags, tt)))) es bytes h all
+  item_fit (field r flags es) bytes h all = fields_fit es h.1 h.3 (filled (91 ∷ 129 ∷ []) h.0 h.1 bytes h.4 all)
+  item_fit (index_field i d flags es) bytes h all = fields_fit es h.1 h.3 (filled (91 ∷ 134 ∷ []) h.0 h.1 bytes h.4 all)
+  item_fit (bank_field r bank value flags es) bytes h all = fields_fit es h.1 h.3 (filled (91 ∷ 135 ∷ []) h.0 h.1 bytes h.4 all)
   item_fit (device n is) bytes h all = items_are_fit is h.1 h.3 (filled (91 ∷ 130 ∷ []) h.0 h.1 bytes h.4 all)
   item_fit (processor n id block len is) bytes h all = items_are_fit is h.1 h.3 (filled (91 ∷ 131 ∷ []) h.0 h.1 bytes h.4 all)
   item_fit (power n level order is) bytes h all = items_are_fit is h.1 h.3 (filled (91 ∷ 132 ∷ []) h.0 h.1 bytes h.4 all)

@@ -14,8 +14,9 @@ use Rattle.acpi_code.specs.steps.Reading.{◌>>=◌, opcode_at, name_in, Package
 use Rattle.acpi_terms.proofs.Arguments.{arguments_height, plain_complete, packed_complete, plain_sound, packed_sound}
 use Rattle.acpi_terms.proofs.DataTrees.{data_complete, DataWithin, data_sound, opens_with}
 use Rattle.acpi_terms.proofs.Fields.{fields_complete, fields_sound}
+use Rattle.acpi_code.specs.Fields.{SpellsFields}
 use Rattle.acpi_terms.specs.Forms.{arguments, ArgumentsOf}
-use Rattle.acpi_terms.specs.Spelling.{SpellsArguments, SpellsFields, SpellsExternal, SpellsItem, SpellsItems, data_height, block_height, item_height, items_height, SpellsFilled, SpellsForm}
+use Rattle.acpi_terms.specs.Spelling.{SpellsArguments, SpellsExternal, SpellsItem, SpellsItems, data_height, block_height, item_height, items_height, SpellsFilled, SpellsForm}
 use Rattle.acpi_terms.specs.steps.Reading.{Fault, fields_in, bytes_in, plain_at, packed_at, parts_at, block_content, item_by, items_with, item_at, items_at, fault_at, data_at, block_fault, in_block, name_item, block_item, part}
 use Rattle.acpi_terms.proofs.Blocks.{parts_complete, content_complete, BlockShows, BlockBad, InBlock, content_sound, no_block, failed, parts_sound}
 use Rattle.acpi_table.specs.PkgLength.{SpellsPkgLength}

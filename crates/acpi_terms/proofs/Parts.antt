@@ -1,22 +1,29 @@
 -- Readings of parts, with their faults as faults of items.
 use Rattle.std.proofs.Common.{◌≡◌, ℕ, ◌-◌, ◌<◌, List, [], length, Some, Result, Err, refl, ap, ◌∙◌, inl}
 use Rattle.acpi_code.specs.declared.fault.CodeFault.{CodeFault}
+use Rattle.acpi_code.specs.declared.fault.ConstantFault.{ConstantFault}
+use Rattle.acpi_code.specs.declared.fault.ConstantFault.TheVariants.{Part, NotConstant}
+use Rattle.acpi_code.specs.declared.fault.FieldFault.{FieldFault}
+use Rattle.acpi_code.specs.declared.fault.FieldFault.TheVariants as fields
 use Rattle.acpi_code.specs.declared.fault.CodeReason.{CodeReason}
 use Rattle.acpi_code.specs.declared.fault.CodeReason.TheVariants as codes
 use Rattle.acpi_code.specs.declared.opcode.Opcode.{Opcode}
+use Rattle.acpi_code.specs.declared.opcode.Opcode.TheVariants as opcodes
 use Rattle.acpi_code.specs.Opcodes.{first_opcode}
 use Rattle.acpi_code.specs.Faults.{ShowsPart}
 use Rattle.acpi_code.specs.steps.Left.{Left}
-use Rattle.acpi_code.specs.steps.Reading.{◌>>=◌, Reading, each_at, fault_at, no_level}
-use Rattle.acpi_code.proofs.Readings.{Judge, judge_told, Source, Position, Shown, stands_at, cut_shows, no_level_shows}
+use Rattle.acpi_code.specs.steps.Reading.{◌>>=◌, Reading, with_fault, each_at, fault_at, no_level}
+use Rattle.acpi_code.specs.steps.Cursor.{Stops}
 use Rattle.acpi_code.proofs.Lists.{Turns, stopped}
+use Rattle.acpi_code.proofs.Constants.{NoConstant}
+use Rattle.acpi_code.proofs.Readings.{Judge, judge_told, Source, Position, Shown, stands_at, cut_shows, no_level_shows}
 use Rattle.acpi_code.proofs.Opcodes.{Opened}
 use Rattle.acpi_terms.specs.declared.fault.ItemReason.{ItemReason}
 use Rattle.acpi_terms.specs.declared.fault.ItemFault.{ItemFault}
 use Rattle.acpi_terms.specs.declared.fault.ItemFault.TheVariants as errors
-use Rattle.acpi_terms.specs.Faults.{reason_of, fault_of, refusal, Refused, Shows}
+use Rattle.acpi_terms.specs.Faults.{reason_of, fault_of, constant_fault_of, field_fault_of, refusal, Refused, Shows}
 use Rattle.acpi_terms.specs.steps.Cursor.{Fails, FailsFree}
-use Rattle.acpi_terms.specs.steps.Reading.{Fault, part, part_fault}
+use Rattle.acpi_terms.specs.steps.Reading.{Fault, part, part_fault, constant_fault}
 
 -- ---- as the code tells them
 
@@ -25,6 +32,15 @@ part_fails f r h = rw h refl
 
 pub part_fails_free : {Y : Type 0} (f : CodeFault) (r : Result Y CodeFault) → r ≡ Err f → FailsFree (fault_of f) (part r)
 part_fails_free f r h = rw h refl
+
+pub constant_fails_free : {Y : Type 0} (f : ConstantFault) (r : Result Y ConstantFault) → r ≡ Err f → FailsFree (constant_fault_of f) (with_fault constant_fault r)
+constant_fails_free (Part f) r h = rw h refl
+constant_fails_free (NotConstant opcode place) r h = rw h refl
+
+pub field_fails : {Y : Type 0} (f : FieldFault) (r : Result Y ConstantFault) → Stops f r → Fails (field_fault_of f) (with_fault constant_fault r)
+field_fails fields.Memory r h = tt
+field_fails (fields.At (Part f)) r h = rw h refl
+field_fails (fields.At (NotConstant opcode place)) r h = rw h refl
 
 -- a fault goes on through what would follow
 pub fails_on : {A B : Type 0} (e : ItemFault) (r : Result A Fault) (f : A → Result B Fault) → Fails e r → Fails e (r >>= f)
@@ -63,6 +79,16 @@ deep_bad s end bytes h = part_bad s (no_level end bytes) (no_level_shows s end b
 -- what is judged of a part is judged of it among items
 pub part_sound : {A : Type 0} (s : Source) (Good : A → Type 0) (r : Result A CodeFault) → Judge Good (Shown s) r → Judge Good (Bad s) (part r)
 part_sound s Good r h = judge_told Good (Shown s) (Bad s) part_fault r (part_bad s) h
+
+constant_bad : (s : Source) (f : ConstantFault) → NoConstant s f → Bad s (constant_fault f)
+constant_bad s (Part f) h = part_bad s f h
+constant_bad s (NotConstant opcodes.Nothing place) h = (opcodes.Nothing, h.0, refl)
+constant_bad s (NotConstant (opcodes.Constant form) place) h = absurd cc
+constant_bad s (NotConstant opcode place) h = inl (opcode, h.0, refl)
+
+-- what is judged of a constant, or of what holds one, is judged of it among items
+pub constant_sound : {A : Type 0} (s : Source) (Good : A → Type 0) (r : Result A ConstantFault) → Judge Good (NoConstant s) r → Judge Good (Bad s) (with_fault constant_fault r)
+constant_sound s Good r h = judge_told Good (NoConstant s) (Bad s) constant_fault r (constant_bad s) h
 
 -- what begins there is refused by itself
 pub refused : (s : Source) (level end : ℕ) (bytes : List ℕ) (x : Opcode × List ℕ) (why : ItemReason) → Position s.depth level s.code end bytes

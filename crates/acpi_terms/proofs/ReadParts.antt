@@ -13,7 +13,10 @@ use Rattle.acpi_terms.proofs.Constants.{const_complete, const_sound}
 use Rattle.acpi_terms.proofs.Fields.{field_complete, field_sound}
 use Rattle.acpi_terms.proofs.Parts.{Bad}
 use Rattle.acpi_terms.specs.Faults.{OrMemory, Shows, ToldOfElem}
-use Rattle.acpi_terms.specs.Spelling.{SpellsField}
+use Rattle.acpi_code.specs.Fields.{SpellsField}
+use Rattle.acpi_code.specs.steps.Fields as codes
+use Rattle.acpi_code.proofs.Constants.{NoConstant}
+use Rattle.acpi_code.proofs.Fields as fields
 use Rattle.acpi_terms.specs.steps.Cursor.{Gives}
 use Rattle.acpi_terms.specs.steps.Reading.{Fault, found, const_at, field_at, int_front}
 use Rattle.acpi_terms.specs.declared.fault.ItemReason.{ItemReason}
@@ -135,8 +138,9 @@ int_exact bytes rest i h =
     subst (Judge (Read (Whole bytes) (length bytes) (length bytes) SpellsInt bytes) (Bad (Whole bytes))) h (const_sound (Whole bytes) (length bytes) (length bytes) bytes (whole_position bytes)) in
     rw (h, behind_is bytes j.0.front rest j.0.whole) refl
 
-pub elem_exact : (bytes rest : List ℕ) (x : FieldTree) → field_at (length bytes) bytes ≡ Ok (x, rest) → field_at (length bytes) bytes ≡ Ok (x, drop (length bytes - length rest) bytes)
+pub elem_exact : (bytes rest : List ℕ) (x : FieldTree) → codes.field_at (length bytes) bytes ≡ Ok (x, rest) → field_at (length bytes) bytes ≡ Ok (x, drop (length bytes - length rest) bytes)
 elem_exact bytes rest x h =
     let j : Read (Whole bytes) (length bytes) (length bytes) SpellsField bytes (x, rest) =
-    subst (Judge (Read (Whole bytes) (length bytes) (length bytes) SpellsField bytes) (Bad (Whole bytes))) h (field_sound (Whole bytes) (length bytes) (length bytes) bytes (whole_position bytes)) in
-    h ∙ rw (behind_is bytes j.0.front rest j.0.whole) refl
+    subst (Judge (Read (Whole bytes) (length bytes) (length bytes) SpellsField bytes) (NoConstant (Whole bytes))) h
+    (fields.field_sound (Whole bytes) (length bytes) (length bytes) bytes (whole_position bytes)) in
+    rw (h, behind_is bytes j.0.front rest j.0.whole) refl

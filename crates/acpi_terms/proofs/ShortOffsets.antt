@@ -4,10 +4,10 @@ use Rattle.std.proofs.lemmas.Bool.{leb-true}
 use Rattle.std.proofs.lemmas.List.{length-append}
 use Rattle.acpi_tree.specs.Tree.{FieldTree, unit, reserved, access, connect_name, connect_buffer, extended, ItemTree, name, scope, method, external, external_block, create, create_field, mutex, event, region, field, index_field, bank_field, device, processor, power, thermal, ItemTrees, no_items, item}
 use Rattle.acpi_code.specs.Spelling.{SpellsEach, Packs}
-use Rattle.acpi_terms.proofs.Fields.{field_long}
-use Rattle.acpi_terms.proofs.Fitting.{field_fit}
-use Rattle.acpi_code.proofs.Fitting.{AreBytes, front_bytes, back_bytes}
-use Rattle.acpi_terms.specs.Spelling.{SpellsField, SpellsItem, SpellsItems}
+use Rattle.acpi_code.proofs.Fields.{field_long}
+use Rattle.acpi_code.proofs.Fitting.{AreBytes, front_bytes, back_bytes, field_fit}
+use Rattle.acpi_code.specs.Fields.{SpellsField}
+use Rattle.acpi_terms.specs.Spelling.{SpellsItem, SpellsItems}
 use Rattle.acpi_tree.specs.Offsets.{element_bits, list_bits, OffsetFits, OffsetsFit}
 
 element_bound : (e : FieldTree) (bytes : List ℕ) → SpellsField e bytes → AreBytes bytes → element_bits e ≤ 268435455

@@ -7,6 +7,10 @@ use Rattle.acpi_code.specs.declared.opcode.Opcode.TheVariants as opcodes
 use Rattle.acpi_code.specs.declared.fault.CodeReason.{CodeReason}
 use Rattle.acpi_code.specs.declared.fault.CodeReason.TheVariants as codes
 use Rattle.acpi_code.specs.declared.fault.CodeFault.{CodeFault}
+use Rattle.acpi_code.specs.declared.fault.ConstantFault.{ConstantFault}
+use Rattle.acpi_code.specs.declared.fault.ConstantFault.TheVariants.{Part, NotConstant}
+use Rattle.acpi_code.specs.declared.fault.FieldFault.{FieldFault}
+use Rattle.acpi_code.specs.declared.fault.FieldFault.TheVariants as fields
 use Rattle.acpi_code.specs.Opcodes.{first_opcode}
 use Rattle.acpi_code.specs.Spelling.{SpellsEach}
 use Rattle.acpi_code.specs.Faults.{ByteAt, Begins, ShowsPart}
@@ -28,6 +32,19 @@ reason_of codes.TooDeep = TooDeep
 
 abbrev pub fault_of : CodeFault → ItemFault
 fault_of f = errors.At (reason_of f.reason) f.place
+
+-- why what begins at the place of a constant is none
+abbrev pub no_constant : Opcode → ItemReason
+no_constant opcodes.Nothing = BadOpcode
+no_constant _ = Computed
+
+abbrev pub constant_fault_of : ConstantFault → ItemFault
+constant_fault_of (Part f) = fault_of f
+constant_fault_of (NotConstant opcode place) = errors.At (no_constant opcode) place
+
+abbrev pub field_fault_of : FieldFault → ItemFault
+field_fault_of (fields.At f) = constant_fault_of f
+field_fault_of fields.Memory = errors.Memory
 
 -- ---- what begins at a place (20.3)
 

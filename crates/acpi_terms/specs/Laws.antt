@@ -1,7 +1,8 @@
 -- Laws on what bytes spell.
 use Rattle.std.specs.Prelude.{◌≡◌, ℕ, List}
 use Rattle.acpi_tree.specs.Tree.{DataTree, FieldTree, ItemTrees}
-use Rattle.acpi_terms.specs.Spelling.{SpellsData, SpellsFields, SpellsItems}
+use Rattle.acpi_code.specs.Fields.{SpellsFields}
+use Rattle.acpi_terms.specs.Spelling.{SpellsData, SpellsItems}
 
 -- at most one item tree stands for a code
 abbrev pub OneItemTree : Type 0

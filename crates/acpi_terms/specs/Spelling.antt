@@ -2,26 +2,23 @@
 -- and a name may be longer than needed.
 use Rattle.std.specs.Prelude.{◌≡◌, ◌≤◌, ℕ, suc, max, List, [], ◌∷◌, ◌++◌}
 use Rattle.acpi_name.specs.Spelling.{SpellsName}
-use Rattle.acpi_table.specs.PkgLength.{SpellsPkgLength}
 use Rattle.acpi_code.specs.declared.opcode.Opcode.{Opcode}
 use Rattle.acpi_code.specs.declared.opcode.Opcode.TheVariants as opcodes
 use Rattle.acpi_code.specs.Opcodes.{opcode_bytes}
-use Rattle.acpi_code.specs.Spelling.{SpellsByte, SpellsNumber, SpellsInt, SpellsTermName, SpellsSegment, SpellsText, SpellsEach, Packs}
-use Rattle.acpi_tree.specs.Tree.{DataTree, int, str, buffer, pkg, var_pkg, ElemTree, of_data, of_name, ElemTrees, no_elems, elem, FieldTree, unit, reserved, access, connect_name, connect_buffer, extended, ExternalParts, ItemTree, name, scope, method, external, external_block, create, create_field, mutex, event, region, field, index_field, bank_field, device, processor, power, thermal, ItemTrees, no_items, item}
-use Rattle.acpi_terms.specs.Forms.{FixedArgument, name_arg, source_arg, segment_arg, byte_arg, word_arg, dword_arg, count_arg, bits_arg, const_arg, int_arg, Value, Values, arguments, ArgumentsOf}
+use Rattle.acpi_code.specs.Fields.{SpellsFields}
+use Rattle.acpi_code.specs.Spelling.{SpellsByte, SpellsNumber, SpellsInt, SpellsTermName, SpellsText, SpellsEach, Packs}
+use Rattle.acpi_tree.specs.Tree.{DataTree, int, str, buffer, pkg, var_pkg, ElemTree, of_data, of_name, ElemTrees, no_elems, elem, ExternalParts, ItemTree, name, scope, method, external, external_block, create, create_field, mutex, event, region, field, index_field, bank_field, device, processor, power, thermal, ItemTrees, no_items, item}
+use Rattle.acpi_terms.specs.Forms.{FixedArgument, name_arg, source_arg, byte_arg, word_arg, dword_arg, count_arg, int_arg, Value, Values, arguments, ArgumentsOf}
 
 -- ---- fixed arguments
 
 abbrev pub SpellsArgument : (k : FixedArgument) → Value k → List ℕ → Type 0
 SpellsArgument name_arg n bytes = SpellsName n bytes
 SpellsArgument source_arg n bytes = SpellsTermName n bytes
-SpellsArgument segment_arg s bytes = SpellsSegment s bytes
 SpellsArgument byte_arg n bytes = SpellsByte n bytes
 SpellsArgument word_arg n bytes = SpellsNumber 2 n bytes
 SpellsArgument dword_arg n bytes = SpellsNumber 4 n bytes
 SpellsArgument count_arg n bytes = (n ≤ 7) × (bytes ≡ n ∷ [])
-SpellsArgument bits_arg n bytes = SpellsPkgLength n bytes
-SpellsArgument const_arg i bytes = SpellsInt i bytes
 SpellsArgument int_arg i bytes = SpellsInt i bytes
 
 -- one after another
@@ -63,20 +60,6 @@ abbrev mutual
   pub SpellsElems : ElemTrees → List ℕ → Type 0
   SpellsElems no_elems bytes = bytes ≡ []
   SpellsElems (elem e es) bytes = (a : List ℕ) × (b : List ℕ) × SpellsElem e a × SpellsElems es b × (bytes ≡ a ++ b)
-
--- ---- field elements (20.2.5.2 FieldElement)
-
--- NamedField, ReservedField, AccessField, ConnectField, ExtendedAccessField
-abbrev pub SpellsField : FieldTree → List ℕ → Type 0
-SpellsField (unit s bits) bytes = SpellsPlain [] (segment_arg ∷ bits_arg ∷ []) (s, (bits, tt)) bytes
-SpellsField (reserved bits) bytes = SpellsPlain (0x00 ∷ []) (bits_arg ∷ []) (bits, tt) bytes
-SpellsField (access kind attribute) bytes = SpellsPlain (0x01 ∷ []) (byte_arg ∷ byte_arg ∷ []) (kind, (attribute, tt)) bytes
-SpellsField (connect_name n) bytes = SpellsPlain (0x02 ∷ []) (name_arg ∷ []) (n, tt) bytes
-SpellsField (connect_buffer size content) bytes = SpellsPacked (0x02 ∷ 0x11 ∷ []) (const_arg ∷ []) (size, tt) (λ b. b ≡ content) bytes
-SpellsField (extended kind attribute len) bytes = SpellsPlain (0x03 ∷ []) (byte_arg ∷ byte_arg ∷ byte_arg ∷ []) (kind, (attribute, (len, tt))) bytes
-
-abbrev pub SpellsFields : List FieldTree → List ℕ → Type 0
-SpellsFields es bytes = SpellsEach SpellsField es bytes
 
 -- ---- items (20.2.5.1 and 20.2.5.2)
 

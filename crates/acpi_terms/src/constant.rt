@@ -10,16 +10,11 @@ use acpi_name::NameRef;
 use acpi_tree::Int;
 
 /// A constant, whatever its level.
-#[tactic(auto, using(crate::proofs::Parts::part_fails_free), unfolding(crate::specs::steps::Reading::const_at))]
+#[tactic(auto, using(crate::proofs::Parts::constant_fails_free), unfolding(crate::specs::steps::Reading::const_at))]
 pub(crate) fn constant(code: &mut Code<'_>) -> Result<Int, ItemFault>
     ensures { Finds (λ i. i) const_at code.old code.new result }
 {
-    let front = code.fork();
-    match code.opcode()? {
-        Opcode::Constant(form) => Ok(code.constant(form)?),
-        Opcode::Nothing => Err(refused(&front, ItemReason::BadOpcode)),
-        _ => Err(refused(&front, ItemReason::Computed)),
-    }
+    Ok(code.int()?)
 }
 
 /// A constant, `level` levels being left for it.

@@ -2,10 +2,10 @@
 
 ghost use Rattle.std.specs.Prelude.{◌≡◌};
 ghost use Rattle.acpi_terms.specs.declared.fault.ItemFault.TheVariants.{Memory};
-ghost use Rattle.acpi_terms.specs.Faults.{reason_of, fault_of};
+ghost use Rattle.acpi_terms.specs.Faults.{reason_of, fault_of, constant_fault_of, field_fault_of};
 ghost use Rattle.acpi_terms.specs.steps.Reading.{fault_at, stopped};
 
-use acpi_code::{Code, CodeFault, CodeReason};
+use acpi_code::{Code, CodeFault, CodeReason, ConstantFault, FieldFault, Opcode};
 use std::alloc::{AllocError, AllocFailed};
 use thiserror::Error;
 
@@ -110,6 +110,34 @@ impl From<CodeFault> for ItemFault {
         ItemFault::At {
             reason: fault.reason.into(),
             place: fault.place,
+        }
+    }
+}
+
+impl From<ConstantFault> for ItemFault {
+    ghost from_gives = { λ fault item. item ≡ constant_fault_of fault };
+
+    fn from(fault: ConstantFault) -> ItemFault {
+        match fault {
+            ConstantFault::Part(fault) => fault.into(),
+            ConstantFault::NotConstant { opcode, place } => {
+                let reason = match opcode {
+                    Opcode::Nothing => ItemReason::BadOpcode,
+                    _ => ItemReason::Computed,
+                };
+                ItemFault::At { reason, place }
+            }
+        }
+    }
+}
+
+impl From<FieldFault> for ItemFault {
+    ghost from_gives = { λ fault item. item ≡ field_fault_of fault };
+
+    fn from(fault: FieldFault) -> ItemFault {
+        match fault {
+            FieldFault::At(fault) => fault.into(),
+            FieldFault::Memory => ItemFault::Memory,
         }
     }
 }

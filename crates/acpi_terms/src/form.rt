@@ -8,8 +8,7 @@ ghost use Rattle.acpi_terms.specs.steps.Cursor.{Reads};
 use crate::constant::{int, source};
 use crate::data::data;
 use crate::fault::{ItemFault, ItemReason, refused};
-use crate::field::field_elems;
-use acpi_code::Code;
+use acpi_code::{Code, field_elements};
 use acpi_tree::{External, Item, Width};
 use std::alloc::Global;
 
@@ -154,14 +153,14 @@ pub(crate) fn region_form(alloc: Global, level: u32, code: &mut Code<'_>) -> Res
 }
 
 #[inline(never)]
-#[tactic(auto, using(crate::proofs::Parts::part_fails))]
+#[tactic(auto, using(crate::proofs::Parts::part_fails, crate::proofs::Parts::field_fails))]
 pub(crate) fn field_form(alloc: Global, code: &mut Code<'_>) -> Result<Item, ItemFault>
     ensures { Reads item_view (field_item 0) code.old code.new result }
 {
     let mut inner = code.package()?;
     let region = inner.name()?;
     let flags = inner.byte()?;
-    let elems = field_elems(alloc, &mut inner)?;
+    let elems = field_elements(alloc, &mut inner)?;
     let region = region.own(alloc)?;
     Ok(Item::Field {
         region,
@@ -171,7 +170,7 @@ pub(crate) fn field_form(alloc: Global, code: &mut Code<'_>) -> Result<Item, Ite
 }
 
 #[inline(never)]
-#[tactic(auto, using(crate::proofs::Parts::part_fails))]
+#[tactic(auto, using(crate::proofs::Parts::part_fails, crate::proofs::Parts::field_fails))]
 pub(crate) fn index_field_form(alloc: Global, code: &mut Code<'_>) -> Result<Item, ItemFault>
     ensures { Reads item_view (index_field_item 0) code.old code.new result }
 {
@@ -179,7 +178,7 @@ pub(crate) fn index_field_form(alloc: Global, code: &mut Code<'_>) -> Result<Ite
     let index = inner.name()?;
     let datum = inner.name()?;
     let flags = inner.byte()?;
-    let elems = field_elems(alloc, &mut inner)?;
+    let elems = field_elements(alloc, &mut inner)?;
     let index = index.own(alloc)?;
     let datum = datum.own(alloc)?;
     Ok(Item::IndexField {
@@ -191,7 +190,7 @@ pub(crate) fn index_field_form(alloc: Global, code: &mut Code<'_>) -> Result<Ite
 }
 
 #[inline(never)]
-#[tactic(auto, using(crate::proofs::Parts::part_fails))]
+#[tactic(auto, using(crate::proofs::Parts::part_fails, crate::proofs::Parts::field_fails))]
 pub(crate) fn bank_field_form(
     alloc: Global,
     level: u32,
@@ -204,7 +203,7 @@ pub(crate) fn bank_field_form(
     let bank = inner.name()?;
     let value = int(level, &mut inner)?;
     let flags = inner.byte()?;
-    let elems = field_elems(alloc, &mut inner)?;
+    let elems = field_elements(alloc, &mut inner)?;
     let region = region.own(alloc)?;
     let bank = bank.own(alloc)?;
     Ok(Item::BankField {

@@ -19,7 +19,6 @@ mod block;
 mod constant;
 mod data;
 mod fault;
-mod field;
 mod form;
 mod item;
 pub mod laws;

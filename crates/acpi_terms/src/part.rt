@@ -3,7 +3,7 @@
 ghost use Rattle.std.specs.Prelude.{◌≡◌, ◌<◌, ◌≤◌, ◌++◌, ℕ, List, Some, Ok, IfErr, length, take, drop, IfSome, IfOk, option_map};
 ghost use Rattle.acpi_tree.specs.Tree.{FieldTree};
 ghost use Rattle.acpi_code.specs.Spelling.{SpellsInt};
-ghost use Rattle.acpi_terms.specs.Spelling.{SpellsField};
+ghost use Rattle.acpi_code.specs.Fields.{SpellsField};
 ghost use Rattle.acpi_terms.specs.Faults.{ToldOfElem, OrMemory};
 ghost use Rattle.acpi_tree.specs.declared.tree.Int.{Int};
 ghost use Rattle.acpi_tree.specs.View.{field_view};
@@ -12,8 +12,7 @@ ghost use Rattle.acpi_terms.specs.steps.Cursor.{Gives};
 
 use crate::constant::constant;
 use crate::fault::ItemFault;
-use crate::field::field_elem;
-use acpi_code::Code;
+use acpi_code::{Code, field_element};
 use acpi_tree::{FieldElem, Int};
 use std::alloc::Global;
 
@@ -40,12 +39,13 @@ pub fn read_int(bytes: &[u8]) -> Option<(Int, usize)>
     front_int(bytes)
 }
 
+#[tactic(auto, using(crate::proofs::Parts::field_fails))]
 fn front_elem(alloc: Global, bytes: &[u8]) -> Result<(FieldElem, usize), ItemFault>
     ensures used { IfOk result (λ x. (0 < x.1) × (x.1 ≤ length bytes.now)) }
     ensures exact { Gives (λ x. (field_view x.0, drop x.1 bytes.now)) result (field_at (length bytes.now) bytes.now) }
 {
     let mut code = Code::new(bytes);
-    let elem = field_elem(alloc, &mut code)?;
+    let elem = field_element(alloc, &mut code)?;
     Ok((elem, bytes.len() - code.left().len()))
 }
 

@@ -3,19 +3,23 @@ use Rattle.std.specs.Prelude.{◌-◌, ℕ, zero, suc, List, [], ◌∷◌, leng
 use Rattle.acpi_name.specs.Names.{NameParts}
 use Rattle.acpi_tree.specs.declared.tree.Int.{Int}
 use Rattle.acpi_tree.specs.declared.tree.Width.{Width}
-use Rattle.acpi_tree.specs.Tree.{DataTree, int, str, buffer, pkg, var_pkg, ElemTree, of_data, of_name, ElemTrees, elems_of, FieldTree, unit, reserved, access, connect_name, connect_buffer, extended, ExternalParts, ItemTree, name, scope, method, external, external_block, create, create_field, mutex, event, region, field, index_field, bank_field, device, processor, power, thermal, ItemTrees, items_of}
+use Rattle.acpi_tree.specs.Tree.{DataTree, int, str, buffer, pkg, var_pkg, ElemTree, of_data, of_name, ElemTrees, elems_of, FieldTree, ExternalParts, ItemTree, name, scope, method, external, external_block, create, create_field, mutex, event, region, field, index_field, bank_field, device, processor, power, thermal, ItemTrees, items_of}
 use Rattle.acpi_code.specs.declared.fault.CodeFault.{CodeFault}
+use Rattle.acpi_code.specs.declared.fault.ConstantFault.{ConstantFault}
+use Rattle.acpi_code.specs.declared.fault.ConstantFault.TheVariants.{Part, NotConstant}
 use Rattle.acpi_code.specs.declared.opcode.ConstantForm.{ConstantForm}
 use Rattle.acpi_code.specs.declared.opcode.Opcode.{Opcode}
 use Rattle.acpi_code.specs.declared.opcode.Opcode.TheVariants as opcodes
 use Rattle.acpi_code.specs.Opcodes.{is_name_opcode}
-use Rattle.acpi_code.specs.steps.Reading.{◌>>=◌, Reading, with_fault, each_at, no_level, byte_at, number_at, length_in, package_at, name_in, segment_in, opcode_at, constant_at, string_at}
+use Rattle.acpi_code.specs.steps.Reading.{◌>>=◌, Reading, with_fault, each_at, no_level, byte_at, number_at, package_at, name_in, opcode_at, constant_at, string_at}
+use Rattle.acpi_code.specs.steps.Fields.{int_in}
+use Rattle.acpi_code.specs.steps.Fields as fields
 use Rattle.acpi_terms.specs.declared.fault.ItemReason.{ItemReason}
 use Rattle.acpi_terms.specs.declared.fault.ItemReason.TheVariants.{BadOpcode, ReservedBits, BadName, Computed, Alias, ModuleIf, ModuleCode, Load, NotData, TooDeep, DataRegion}
 use Rattle.acpi_terms.specs.declared.fault.ItemFault.{ItemFault}
 use Rattle.acpi_terms.specs.declared.fault.ItemFault.TheVariants as errors
-use Rattle.acpi_terms.specs.Faults.{reason_of}
-use Rattle.acpi_terms.specs.Forms.{FixedArgument, name_arg, source_arg, segment_arg, byte_arg, word_arg, dword_arg, count_arg, bits_arg, const_arg, int_arg, Value, Values, arguments, external_parts}
+use Rattle.acpi_terms.specs.Faults.{reason_of, no_constant}
+use Rattle.acpi_terms.specs.Forms.{FixedArgument, name_arg, source_arg, byte_arg, word_arg, dword_arg, count_arg, int_arg, Value, Values, arguments, external_parts}
 
 -- ---- faults
 
@@ -35,19 +39,16 @@ part_fault f = record { reason = reason_of f.reason; place = f.place }
 abbrev pub part : {A : Type 0} → Result A CodeFault → Result A Fault
 part read = with_fault part_fault read
 
--- ---- constants
+-- the fault of a constant, or of what holds one, as one of items
+abbrev pub constant_fault : ConstantFault → Fault
+constant_fault (Part f) = part_fault f
+constant_fault (NotConstant opcode place) = record { reason = no_constant opcode; place = place }
 
--- at a constant's place, by what begins there
-abbrev pub const_by : ℕ → List ℕ → Opcode → List ℕ → Reading Fault Int
-const_by end whole (opcodes.Constant form) rest = part (constant_at form end rest)
-const_by end whole opcodes.Nothing rest = Err (fault_at end whole BadOpcode)
-const_by end whole _ rest = Err (fault_at end whole Computed)
+-- ---- constants
 
 -- a constant integer (20.2.3)
 unfoldable pub const_at : ℕ → List ℕ → Reading Fault Int
-const_at end bytes = do
-  x ← part (opcode_at end bytes)
-  const_by end bytes x.0 x.1
+const_at end bytes = with_fault constant_fault (int_in end bytes)
 
 -- a constant integer that is a term, `level` levels being left
 unfoldable pub int_at : ℕ → ℕ → List ℕ → Reading Fault Int
@@ -78,13 +79,10 @@ args_in end bytes = do
 abbrev pub argument_at : ℕ → (k : FixedArgument) → ℕ → List ℕ → Reading Fault (Value k)
 argument_at level name_arg end bytes = part (name_in end bytes)
 argument_at level source_arg end bytes = source_at end bytes
-argument_at level segment_arg end bytes = part (segment_in end bytes)
 argument_at level byte_arg end bytes = part (byte_at end bytes)
 argument_at level word_arg end bytes = part (number_at 2 end bytes)
 argument_at level dword_arg end bytes = part (number_at 4 end bytes)
 argument_at level count_arg end bytes = args_in end bytes
-argument_at level bits_arg end bytes = part (length_in end bytes)
-argument_at level const_arg end bytes = const_at end bytes
 argument_at level int_arg end bytes = int_at level end bytes
 
 abbrev pub arguments_at : ℕ → (ks : List FixedArgument) → ℕ → List ℕ → Reading Fault (Values ks)
@@ -178,51 +176,11 @@ data_at (suc level) end bytes = do
 
 -- ---- field elements, which have no level (20.2.5.2 FieldElement)
 
--- ConnectField by a buffer, whose size is a constant
-abbrev pub connect_buffer_at : ℕ → List ℕ → Reading Fault FieldTree
-connect_buffer_at = packed_at (const_arg ∷ []) (λ v content. connect_buffer v.0 content) 0 bytes_in
-
-abbrev pub connect_name_at : ℕ → List ℕ → Reading Fault FieldTree
-connect_name_at = plain_at (name_arg ∷ []) (λ v. connect_name v.0) 0
-
--- ConnectField
-unfoldable pub connect_at : ℕ → List ℕ → Reading Fault FieldTree
-connect_at end bytes = do
-  b ← part (byte_at end bytes)
-  if b.0 == 0x11 then connect_buffer_at end b.1 else connect_name_at end bytes
-
--- NamedField
-abbrev pub unit_at : ℕ → List ℕ → Reading Fault FieldTree
-unit_at = plain_at (segment_arg ∷ bits_arg ∷ []) (λ v. unit v.0 v.1.0) 0
-
--- ReservedField
-abbrev pub reserved_at : ℕ → List ℕ → Reading Fault FieldTree
-reserved_at = plain_at (bits_arg ∷ []) (λ v. reserved v.0) 0
-
--- AccessField
-abbrev pub access_at : ℕ → List ℕ → Reading Fault FieldTree
-access_at = plain_at (byte_arg ∷ byte_arg ∷ []) (λ v. access v.0 v.1.0) 0
-
--- ExtendedAccessField
-abbrev pub extended_at : ℕ → List ℕ → Reading Fault FieldTree
-extended_at = plain_at (byte_arg ∷ byte_arg ∷ byte_arg ∷ []) (λ v. extended v.0 v.1.0 v.1.1.0) 0
-
--- a field element, by its first byte
-abbrev pub field_by : ℕ → List ℕ → ℕ → List ℕ → Reading Fault FieldTree
-field_by end whole b rest =
-    if b == 0x00 then reserved_at end rest else
-    if b == 0x01 then access_at end rest else
-    if b == 0x02 then connect_at end rest else
-    if b == 0x03 then extended_at end rest else
-    unit_at end whole
-
-unfoldable pub field_at : ℕ → List ℕ → Reading Fault FieldTree
-field_at end bytes = do
-  b ← part (byte_at end bytes)
-  field_by end bytes b.0 b.1
+abbrev pub field_at : ℕ → List ℕ → Reading Fault FieldTree
+field_at end bytes = with_fault constant_fault (fields.field_at end bytes)
 
 abbrev pub fields_in : ℕ → List ℕ → Result (List FieldTree) Fault
-fields_in end bytes = each_at (field_at end) bytes
+fields_in end bytes = with_fault constant_fault (fields.fields_in end bytes)
 
 -- ---- items (20.2.5.1, 20.2.5.2)
 
