@@ -2,22 +2,18 @@
 use Rattle.std.proofs.Common.{◌≡◌, ℕ, zero, suc, Bool, true, ◌&&◌, eqb, List, [], ◌∷◌, ◌++◌, length, Result, Ok, Err, refl}
 use Rattle.std.specs.Prelude.{IfOk}
 use Rattle.std.specs.FinMap as finite
-use Rattle.std.specs.List.{list_all}
 use Rattle.std.proofs.lemmas.Bool.{eq-eqb, le-leb}
 use Rattle.acpi_name.specs.Names.{Segment, NameParts}
 use Rattle.acpi_tree.specs.declared.place.Place.TheVariants.{Value, Element, Statement}
 use Rattle.acpi_tree.specs.declared.place.OperandKind.{OperandKind}
 use Rattle.acpi_tree.specs.Terms.{TermTree, TermTrees, int, str, buffer, pkg, var_pkg, local, arg, debug, no_target, raw, ref, call, apply, ElseTree, if_do, no_else, else_do, while_do, declare, declare_units, no_terms, more}
-use Rattle.acpi_tree.specs.Tree.{FieldTree, unit, reserved, access, connect_name, connect_buffer, extended}
 use Rattle.acpi_tree.specs.Operators.{operands_of, operands_before, operands_behind, names_of_units, operands_of_units}
 use Rattle.acpi_tree.specs.Places.{may_stand}
-use Rattle.acpi_tree.specs.Fits.{field_fits}
 use Rattle.acpi_tree.specs.TermFits.{term_fits, else_fits, all_stand, operands_fit, terms_fit}
 use Rattle.acpi_code.specs.Opcodes.{opcode_bytes}
-use Rattle.acpi_code.proofs.Fitting.{AreBytes, both, parts, packed, length_fits, term_name_fits, text_all, each_fits}
+use Rattle.acpi_code.proofs.Fitting.{AreBytes, both, parts, packed, term_name_fits, text_all, fields_fit}
 use Rattle.acpi_body.specs.Arguments.{Locals, Arguments}
 use Rattle.acpi_body.specs.Spelling.{Stands, values, Spells, AreOperands, AreElements}
-use Rattle.acpi_body.specs.Fields.{SpellsField}
 use Rattle.acpi_body.specs.Bodies.{BodyTree, read, unread, IsBodyOf, body_fits}
 use Rattle.acpi_body.specs.Statements.{units_opcode, locals_after, locals_after_all, IsStatement, IsElse, AreStatements}
 
@@ -58,16 +54,6 @@ mutual
   elements_fit args no_terms b h = refl
   elements_fit args (more t ts) b (x, y, st, ht, hs, whole) = both (both st (term_fit args t x ht)) (elements_fit args ts y hs)
 
--- ---- field elements
-
-field_fit : (e : FieldTree) (bytes : List ℕ) → SpellsField e bytes → AreBytes bytes → field_fits e ≡ true
-field_fit (unit g bits) bytes (a, b, hg, hb, whole) all = length_fits bits b hb (parts a b bytes whole all).1
-field_fit (reserved bits) bytes (b, hb, whole) all = length_fits bits b hb (parts (0x00 ∷ []) b bytes whole all).1
-field_fit (access kind attribute) bytes h all = refl
-field_fit (connect_name n) bytes h all = refl
-field_fit (connect_buffer size content) bytes h all = refl
-field_fit (extended kind attribute len) bytes h all = refl
-
 -- ---- statements
 
 mutual
@@ -87,7 +73,7 @@ mutual
       let units = parts b c (b ++ c) refl content.1 in (
         refl,
         both (both (eq-eqb (length ns) (names_of_units form) count) (operands_are_fit (args locals) (operands_of_units form) vs b hv))
-            (each_fits SpellsField field_fits field_fit es c he units.1),
+            (fields_fit es c he units.1),
       )
   statement_fit args s locals t bytes h all = (h.0, term_fit (args locals) t bytes h.1)
 

@@ -15,7 +15,6 @@ pub mod Places
 pub mod TermComplete
 pub mod Registers
 pub mod TermSound
-pub mod Fields
 pub mod StatementComplete
 pub mod StatementSound
 pub mod Next

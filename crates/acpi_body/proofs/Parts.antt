@@ -1,20 +1,28 @@
 -- Readings of parts, with their faults as faults of bodies.
 use Rattle.std.proofs.Common.{◌≡◌, ℕ, ◌<◌, List, [], length, Result, Ok, Err, refl, ◌∙◌}
 use Rattle.acpi_code.specs.declared.fault.CodeFault.{CodeFault}
+use Rattle.acpi_code.specs.declared.fault.ConstantFault.{ConstantFault}
+use Rattle.acpi_code.specs.declared.fault.FieldFault.{FieldFault}
+use Rattle.acpi_code.specs.declared.fault.FieldFault.TheVariants as fields
 use Rattle.acpi_code.specs.steps.Left.{Left}
-use Rattle.acpi_code.specs.steps.Reading.{◌>>=◌, Reading, each_at}
+use Rattle.acpi_code.specs.steps.Reading.{◌>>=◌, Reading, with_fault, each_at}
+use Rattle.acpi_code.specs.steps.Cursor.{Stops}
 use Rattle.acpi_code.proofs.Lists.{Turns, stopped}
 use Rattle.acpi_body.specs.declared.fault.BodyFault.{BodyFault}
 use Rattle.acpi_body.specs.declared.fault.Stop.{Stop}
 use Rattle.acpi_body.specs.declared.fault.Stop.TheVariants as stops
-use Rattle.acpi_body.specs.Faults.{fault_of}
-use Rattle.acpi_body.specs.steps.Cursor.{Fails, Reads}
+use Rattle.acpi_body.specs.Faults.{fault_of, constant_fault_of}
+use Rattle.acpi_body.specs.steps.Cursor.{field_fault_of, Fails, Reads}
 use Rattle.acpi_body.specs.steps.Reading.{part}
 
 -- ---- as the code tells them
 
 pub part_fails : {Y : Type 0} (f : CodeFault) (r : Result Y CodeFault) → r ≡ Err f → Fails (stops.Fault (fault_of f)) (part r)
 part_fails f r h = rw h refl
+
+pub field_fails : {Y : Type 0} (f : FieldFault) (r : Result Y ConstantFault) → Stops f r → Fails (field_fault_of f) (with_fault constant_fault_of r)
+field_fails fields.Memory r h = tt
+field_fails (fields.At f) r h = rw h refl
 
 -- a fault goes on through what would follow
 pub fails_on : {A B : Type 0} (e : Stop) (r : Result A BodyFault) (f : A → Result B BodyFault) → Fails e r → Fails e (r >>= f)

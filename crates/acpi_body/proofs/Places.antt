@@ -5,20 +5,26 @@ use Rattle.acpi_tree.specs.Operators.{is_expression, is_reference}
 use Rattle.acpi_tree.specs.declared.place.Place.{Place}
 use Rattle.acpi_tree.specs.declared.place.Place.TheVariants.{Value, SuperName, SimpleName, Element, Data, Statement}
 use Rattle.acpi_code.specs.declared.fault.CodeFault.{CodeFault}
+use Rattle.acpi_code.specs.declared.fault.ConstantFault.{ConstantFault}
+use Rattle.acpi_code.specs.declared.fault.ConstantFault.TheVariants.{Part, NotConstant}
 use Rattle.acpi_code.specs.declared.fault.CodeReason.{CodeReason}
 use Rattle.acpi_code.specs.declared.fault.CodeReason.TheVariants as codes
 use Rattle.acpi_code.specs.declared.opcode.Opcode.{Opcode}
 use Rattle.acpi_code.specs.declared.opcode.Opcode.TheVariants as opcodes
 use Rattle.acpi_code.specs.Opcodes.{first_opcode}
 use Rattle.acpi_code.specs.Faults.{ShowsPart}
-use Rattle.acpi_code.proofs.Readings.{Judge, Source, Position, Shown, stands_at}
+use Rattle.acpi_code.specs.Fields.{SpellsFields}
+use Rattle.acpi_code.specs.steps.Fields as fields
+use Rattle.acpi_code.proofs.Constants.{NoConstant}
+use Rattle.acpi_code.proofs.Fields as elements
+use Rattle.acpi_code.proofs.Readings.{Judge, judge_told, Source, Position, Shown, stands_at}
 use Rattle.acpi_code.proofs.Opcodes.{Opened}
 use Rattle.acpi_body.specs.declared.fault.BodyReason.{BodyReason}
 use Rattle.acpi_body.specs.declared.fault.BodyReason.TheVariants.{BadOpcode, NotStatement, NotValue, NotTarget, LeftOut, NotData}
 use Rattle.acpi_body.specs.declared.fault.BodyFault.{BodyFault}
 use Rattle.acpi_body.specs.Refusals.{simple_name_refusal, super_name_refusal, data_refusal, refusal_at}
-use Rattle.acpi_body.specs.Faults.{reason_of, fault_of, IsMisplaced, Shows}
-use Rattle.acpi_body.specs.steps.Reading.{part, unless}
+use Rattle.acpi_body.specs.Faults.{reason_of, fault_of, constant_fault_of, IsMisplaced, Shows}
+use Rattle.acpi_body.specs.steps.Reading.{part, fields_in, unless}
 
 -- ---- parts
 
@@ -41,6 +47,15 @@ part_bad m s f h = part_shows m s.depth s.code f.reason f.place h
 pub part_sound : {A : Type 0} (m : List Segment) (s : Source) (Good : A → Type 0) (r : Result A CodeFault) → Judge Good (Shown s) r → Judge Good (Bad m s) (part r)
 part_sound m s Good (Ok x) h = h
 part_sound m s Good (Err f) h = part_bad m s f h
+
+constant_bad : (m : List Segment) (s : Source) (f : ConstantFault) → NoConstant s f → Bad m s (constant_fault_of f)
+constant_bad m s (Part f) h = part_bad m s f h
+constant_bad m s (NotConstant opcode place) h = inr (opcode, h.0, h.1)
+
+-- what is judged of field elements is judged of them in a body
+pub fields_sound : (m : List Segment) (s : Source) (level end : ℕ) (bytes : List ℕ) → Position s.depth level s.code end bytes → Judge (λ es. SpellsFields es bytes) (Bad m s) (fields_in end bytes)
+fields_sound m s level end bytes h =
+    judge_told (λ es. SpellsFields es bytes) (NoConstant s) (Bad m s) constant_fault_of (fields.fields_in end bytes) (constant_bad m s) (elements.fields_sound s level end bytes h)
 
 -- ---- the reasons of places
 

@@ -27,13 +27,12 @@ use Rattle.acpi_body.specs.declared.fault.BodyFault.{BodyFault}
 use Rattle.acpi_body.specs.declared.fault.BodyReason.TheVariants.{BadPlace}
 use Rattle.acpi_body.specs.Arguments.{Locals, Arguments}
 use Rattle.acpi_body.specs.Spelling.{Stands, Spells, AreOperands, height, else_height, heights}
-use Rattle.acpi_body.specs.Fields.{SpellsFields}
+use Rattle.acpi_code.specs.Fields.{SpellsFields}
 use Rattle.acpi_body.specs.Faults.{CantDeclare}
 use Rattle.acpi_body.specs.Refusals.{refusal_at}
 use Rattle.acpi_body.specs.Statements.{named_opcode, units_opcode, MayDeclare, locals_after, locals_after_else, locals_after_all, IsStatement, IsElse, AreStatements}
 use Rattle.acpi_body.specs.steps.Reading.{Reader, Statements, part, fault_at, operands_at, placed_by, term_at, declared_if, declared_at, named_form, names_at, fields_in, units_form, statements_with, else_at, if_form, while_form, statement_by, statement_at, statements_at}
-use Rattle.acpi_body.proofs.Fields.{fields_sound}
-use Rattle.acpi_body.proofs.Places.{Bad, part_bad, part_sound}
+use Rattle.acpi_body.proofs.Places.{Bad, part_bad, part_sound, fields_sound}
 use Rattle.acpi_body.proofs.StatementComplete.{statement_starts, named_long, units_long}
 use Rattle.acpi_body.proofs.TermSound.{is_block, are_inner, Within, Operands, Inner, operands_sound, placed_sound, term_sound}
 

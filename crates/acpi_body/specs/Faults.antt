@@ -5,12 +5,13 @@ use Rattle.acpi_name.specs.Paths.{place_of}
 use Rattle.acpi_name.specs.Spelling.{SpellsName}
 use Rattle.acpi_tree.specs.declared.place.Place.{Place}
 use Rattle.acpi_code.specs.declared.opcode.Opcode.{Opcode}
-use Rattle.acpi_code.specs.declared.opcode.Opcode.TheVariants as opcodes
 use Rattle.acpi_code.specs.declared.fault.CodeReason.{CodeReason}
 use Rattle.acpi_code.specs.declared.fault.CodeReason.TheVariants as codes
 use Rattle.acpi_code.specs.declared.fault.CodeFault.{CodeFault}
+use Rattle.acpi_code.specs.declared.fault.ConstantFault.{ConstantFault}
+use Rattle.acpi_code.specs.declared.fault.ConstantFault.TheVariants.{Part, NotConstant}
 use Rattle.acpi_code.specs.Opcodes.{first_opcode}
-use Rattle.acpi_code.specs.Faults.{Begins, ShowsPart}
+use Rattle.acpi_code.specs.Faults.{Begins, is_no_constant, ShowsPart}
 use Rattle.acpi_body.specs.declared.fault.BodyReason.{BodyReason}
 use Rattle.acpi_body.specs.declared.fault.BodyReason.TheVariants.{Cut, BadOpcode, ReservedBits, BadName, Overrun, NotStatement, NotValue, NotTarget, LeftOut, BadString, TooDeep, NotData, BadPlace}
 use Rattle.acpi_body.specs.declared.fault.BodyFault.{BodyFault}
@@ -29,6 +30,10 @@ reason_of codes.TooDeep = TooDeep
 abbrev pub fault_of : CodeFault → BodyFault
 fault_of f = record { reason = reason_of f.reason; place = f.place }
 
+abbrev pub constant_fault_of : ConstantFault → BodyFault
+constant_fault_of (Part f) = fault_of f
+constant_fault_of (NotConstant opcode place) = record { reason = NotData; place = place }
+
 -- ---- what a fault shows
 
 -- what begins there may not stand at some kind of place, for that reason
@@ -46,10 +51,6 @@ pub record CantDeclare (s : List Segment) (bytes : List ℕ) : Type 0 where
   pub here : bytes ≡ spelled ++ rest
   pub spells : SpellsName name spelled
   pub cannot : (length name.segments ≡ 0) ⊎ (place_of s name ≡ None)
-
-abbrev pub is_no_constant : Opcode → Bool
-is_no_constant (opcodes.Constant form) = false
-is_no_constant _ = true
 
 -- What the reason says is true of the body's bytes at that place; `s` is the method's path, and `depth` the number of
 -- levels that are allowed. NotData: no constant begins there. BadPlace: a name stands there that can't be declared.

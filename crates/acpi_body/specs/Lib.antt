@@ -1,6 +1,5 @@
 pub mod Arguments
 pub mod Spelling
-pub mod Fields
 pub mod Statements
 pub mod Refusals
 pub mod Faults

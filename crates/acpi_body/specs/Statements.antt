@@ -18,7 +18,7 @@ use Rattle.acpi_code.specs.Opcodes.{opcode_bytes}
 use Rattle.acpi_code.specs.Spelling.{SpellsEach, Packs}
 use Rattle.acpi_body.specs.Arguments.{Locals, with_local, Arguments}
 use Rattle.acpi_body.specs.Spelling.{Stands, Spells, AreOperands, heights}
-use Rattle.acpi_body.specs.Fields.{SpellsFields}
+use Rattle.acpi_code.specs.Fields.{SpellsFields}
 
 -- ---- declarations (20.2.5.1 and 20.2.5.2)
 

@@ -13,9 +13,9 @@ ghost use Rattle.acpi_body.specs.steps.Cursor.{Reads};
 
 use crate::arguments::{Context, add};
 use crate::fault::{BodyReason, Stop, refused};
-use crate::field::{add_units, elements};
+use crate::field::add_units;
 use crate::term::term;
-use acpi_code::Code;
+use acpi_code::{Code, field_elements};
 use acpi_name::{Name, Path, PlaceFault, place};
 use acpi_space::{Space, TreeSpace};
 use acpi_tree::{Decl, Object, Place, Term, Width};
@@ -198,7 +198,7 @@ pub(crate) fn event_declared<S: Space<Object>>(
 }
 
 #[inline(never)]
-#[tactic(auto, using(crate::proofs::Parts::part_fails), unfolding(crate::specs::steps::Reading::units_form, crate::specs::steps::Reading::names_at, crate::specs::steps::Reading::operands_at, crate::specs::steps::Reading::operand_at))]
+#[tactic(auto, using(crate::proofs::Parts::part_fails, crate::proofs::Parts::field_fails), unfolding(crate::specs::steps::Reading::units_form, crate::specs::steps::Reading::names_at, crate::specs::steps::Reading::operands_at, crate::specs::steps::Reading::operand_at))]
 pub(crate) fn field_declared<S: Space<Object>>(
     context: &Context<'_, S>,
     locals: &mut TreeSpace<()>,
@@ -211,7 +211,7 @@ pub(crate) fn field_declared<S: Space<Object>>(
     let mut inner = code.package()?;
     let region = inner.name()?.own(context.alloc())?;
     let flags = inner.byte()?;
-    let elems = elements(context.alloc(), &mut inner)?;
+    let elems = field_elements(context.alloc(), &mut inner)?;
     add_units(locals, context.method(), &elems)?;
     let decl = Decl::Field {
         region,
@@ -222,7 +222,7 @@ pub(crate) fn field_declared<S: Space<Object>>(
 }
 
 #[inline(never)]
-#[tactic(auto, using(crate::proofs::Parts::part_fails), unfolding(crate::specs::steps::Reading::units_form, crate::specs::steps::Reading::names_at, crate::specs::steps::Reading::operands_at, crate::specs::steps::Reading::operand_at))]
+#[tactic(auto, using(crate::proofs::Parts::part_fails, crate::proofs::Parts::field_fails), unfolding(crate::specs::steps::Reading::units_form, crate::specs::steps::Reading::names_at, crate::specs::steps::Reading::operands_at, crate::specs::steps::Reading::operand_at))]
 pub(crate) fn index_field_declared<S: Space<Object>>(
     context: &Context<'_, S>,
     locals: &mut TreeSpace<()>,
@@ -236,7 +236,7 @@ pub(crate) fn index_field_declared<S: Space<Object>>(
     let index = inner.name()?.own(context.alloc())?;
     let datum = inner.name()?.own(context.alloc())?;
     let flags = inner.byte()?;
-    let elems = elements(context.alloc(), &mut inner)?;
+    let elems = field_elements(context.alloc(), &mut inner)?;
     add_units(locals, context.method(), &elems)?;
     let decl = Decl::IndexField {
         index,
@@ -248,7 +248,7 @@ pub(crate) fn index_field_declared<S: Space<Object>>(
 }
 
 #[inline(never)]
-#[tactic(auto, using(crate::proofs::Parts::part_fails), unfolding(crate::specs::steps::Reading::units_form, crate::specs::steps::Reading::names_at, crate::specs::steps::Reading::operands_at, crate::specs::steps::Reading::operand_at))]
+#[tactic(auto, using(crate::proofs::Parts::part_fails, crate::proofs::Parts::field_fails), unfolding(crate::specs::steps::Reading::units_form, crate::specs::steps::Reading::names_at, crate::specs::steps::Reading::operands_at, crate::specs::steps::Reading::operand_at))]
 pub(crate) fn bank_field_declared<S: Space<Object>>(
     context: &Context<'_, S>,
     locals: &mut TreeSpace<()>,
@@ -263,7 +263,7 @@ pub(crate) fn bank_field_declared<S: Space<Object>>(
     let bank = inner.name()?.own(context.alloc())?;
     let value = term(context, locals, level, Place::Value, &mut inner)?;
     let flags = inner.byte()?;
-    let elems = elements(context.alloc(), &mut inner)?;
+    let elems = field_elements(context.alloc(), &mut inner)?;
     add_units(locals, context.method(), &elems)?;
     let value = Box::new(context.alloc(), value)?;
     let decl = Decl::BankField {

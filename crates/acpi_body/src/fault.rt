@@ -4,8 +4,9 @@ ghost use Rattle.std.specs.Prelude.{◌≡◌};
 ghost use Rattle.acpi_body.specs.declared.fault.Stop.TheVariants as stops;
 ghost use Rattle.acpi_body.specs.Faults.{reason_of, fault_of};
 ghost use Rattle.acpi_body.specs.steps.Reading.{fault_at};
+ghost use Rattle.acpi_body.specs.steps.Cursor.{field_fault_of};
 
-use acpi_code::{Code, CodeFault, CodeReason};
+use acpi_code::{Code, CodeFault, CodeReason, ConstantFault, FieldFault};
 use std::alloc::{AllocError, AllocFailed};
 use thiserror::Error;
 
@@ -114,6 +115,21 @@ impl From<CodeFault> for Stop {
             reason: fault.reason.into(),
             place: fault.place,
         })
+    }
+}
+
+impl From<FieldFault> for Stop {
+    ghost from_gives = { λ fault stop. stop ≡ field_fault_of fault };
+
+    fn from(fault: FieldFault) -> Stop {
+        match fault {
+            FieldFault::At(ConstantFault::Part(fault)) => fault.into(),
+            FieldFault::At(ConstantFault::NotConstant { place, .. }) => Stop::Fault(BodyFault {
+                reason: BodyReason::NotData,
+                place,
+            }),
+            FieldFault::Memory => Stop::Memory,
+        }
     }
 }
 

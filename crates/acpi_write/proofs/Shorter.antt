@@ -14,13 +14,14 @@ use Rattle.acpi_table.proofs.PkgLengths.{number_counts, number_least, shortest_l
 use Rattle.acpi_code.specs.declared.opcode.Opcode.{Opcode}
 use Rattle.acpi_code.specs.declared.opcode.Opcode.TheVariants as opcodes
 use Rattle.acpi_code.specs.Opcodes.{opcode_bytes}
+use Rattle.acpi_code.specs.Fields.{SpellsField, SpellsFields}
 use Rattle.acpi_code.specs.Spelling.{SpellsNumber, SpellsInt, SpellsEach, Packs}
 use Rattle.acpi_code.proofs.Fitting.{AreBytes, parts, packed}
 use Rattle.acpi_tree.specs.declared.tree.Int.{Int}
 use Rattle.acpi_tree.specs.declared.tree.Int.TheVariants.{Zero, One, Ones, Revision, Byte, Word, DWord, QWord}
 use Rattle.acpi_tree.specs.Tree.{DataTree, int, str, buffer, pkg, var_pkg, ElemTree, of_data, of_name, ElemTrees, no_elems, elem, FieldTree, unit, reserved, access, connect_name, connect_buffer, extended, ExternalParts, ItemTree, name, scope, method, external, external_block, create, create_field, mutex, event, region, field, index_field, bank_field, device, processor, power, thermal, ItemTrees, no_items, item}
-use Rattle.acpi_terms.specs.Forms.{FixedArgument, name_arg, source_arg, segment_arg, byte_arg, word_arg, dword_arg, count_arg, bits_arg, const_arg, int_arg, Value, Values, arguments, ArgumentsOf}
-use Rattle.acpi_terms.specs.Spelling.{SpellsArgument, SpellsArguments, SpellsPlain, SpellsPacked, SpellsForm, SpellsData, SpellsElem, SpellsElems, SpellsField, SpellsFields, SpellsExternal, SpellsItem, SpellsItems}
+use Rattle.acpi_terms.specs.Forms.{FixedArgument, name_arg, source_arg, byte_arg, word_arg, dword_arg, count_arg, int_arg, Value, Values, arguments, ArgumentsOf}
+use Rattle.acpi_terms.specs.Spelling.{SpellsArgument, SpellsArguments, SpellsPlain, SpellsPacked, SpellsForm, SpellsData, SpellsElem, SpellsElems, SpellsExternal, SpellsItem, SpellsItems}
 use Rattle.acpi_write.specs.Canonical.{int_bytes, argument_bytes, arguments_bytes, form_bytes, filled_with, each_bytes, data_bytes, elem_bytes, elems_bytes, bits_bytes, field_bytes, fields_bytes, external_bytes, item_bytes, items_bytes}
 use Rattle.acpi_write.specs.Laws.{IsIntTyped, IsTyped, AreTyped, IsDataTyped, IsElemTyped, AreElemsTyped, IsFieldTyped, IsExternalTyped, IsItemTyped, AreItemsTyped}
 use Rattle.acpi_write.specs.Shortest.{HasWithin, IsShortened, AreShortened, NoItemsAreShorter, SpelledItemsAreTyped}
@@ -105,13 +106,10 @@ int_short (QWord n) b h = rw h.2 (omega (arith, number_short 8 n h.0 h.1))
 argument_short : (k : FixedArgument) (v : Value k) (b : List ℕ) → AreBytes b → SpellsArgument k v b → length (argument_bytes k v) ≤ length b
 argument_short name_arg n b all h = name_shortest n b h
 argument_short source_arg n b all h = name_shortest n b h.0
-argument_short segment_arg s b all h = rw h.1 (omega arith)
 argument_short byte_arg n b all h = rw h (omega arith)
 argument_short word_arg n b all h = number_short 2 n b h
 argument_short dword_arg n b all h = number_short 4 n b h
 argument_short count_arg n b all h = rw h.1 (omega arith)
-argument_short bits_arg n b all h = shortest_least n b (all_of b all) h
-argument_short const_arg i b all h = int_short i b h
 argument_short int_arg i b all h = int_short i b h
 
 arguments_short : (ks : List FixedArgument) (v : Values ks) (b : List ℕ) → AreBytes b → SpellsArguments ks v b → length (arguments_bytes ks v) ≤ length b
@@ -170,21 +168,16 @@ bits_short n b all h =
     rw (le-leb n 268435455 (omega (arith, f.in_all))) (shortest_least n b (all_of b all) h)
 
 field_short : (x : FieldTree) (bytes : List ℕ) → AreBytes bytes → SpellsField x bytes → HasWithin (field_bytes x) bytes
-field_short (unit s bits) bytes all (a, (x, y, segment, (z, w, number, none, rest), first), whole) =
-    let split = parts x y a first (parts [] a bytes whole all).1 in
-    let second = parts z w y rest split.1 in
-    let one : HasWithin (bits_bytes bits) y = subst (HasWithin (bits_bytes bits)) (sym (rest ∙ ap (λ l. z ++ l) none ∙ append-nil z)) (bits_short bits z second.0 number) in
-    within_both (Some s) (bits_bytes bits) x y bytes (rw segment.1 (omega arith)) one (whole ∙ first)
-field_short (reserved bits) bytes all (a, (z, w, number, none, rest), whole) =
-    let split = parts z w a rest (parts (0 ∷ []) a bytes whole all).1 in
-    let one : HasWithin (bits_bytes bits) a = subst (HasWithin (bits_bytes bits)) (sym (rest ∙ ap (λ l. z ++ l) none ∙ append-nil z)) (bits_short bits z split.0 number) in
-    within_both (Some (0 ∷ [])) (bits_bytes bits) (0 ∷ []) a bytes (omega arith) one whole
-field_short (access kind attribute) bytes all h = plain_short (1 ∷ []) (byte_arg ∷ byte_arg ∷ []) (kind, (attribute, tt)) bytes all h
-field_short (connect_name n) bytes all h = let s = plain_short (2 ∷ []) (name_arg ∷ []) (n, tt) bytes all h in subst (λ l. length (2 ∷ l) ≤ length bytes) (append-nil (name_bytes n)) s
-field_short (connect_buffer size content) bytes all h =
-    let s = filled_short (2 ∷ 17 ∷ []) (const_arg ∷ []) (size, tt) (λ b. b ≡ content) (Some content) bytes all h (λ b small e. omega (arith, ap length e)) in
-    subst (λ l. HasWithin (filled_with (2 ∷ 17 ∷ []) l (Some content)) bytes) (append-nil (int_bytes size)) s
-field_short (extended kind attribute len) bytes all h = plain_short (3 ∷ []) (byte_arg ∷ byte_arg ∷ byte_arg ∷ []) (kind, (attribute, (len, tt))) bytes all h
+field_short (unit g bits) bytes all (a, b, segment, number, whole) =
+    within_both (Some g) (bits_bytes bits) a b bytes (rw segment.1 (omega arith)) (bits_short bits b (parts a b bytes whole all).1 number) whole
+field_short (reserved bits) bytes all (b, number, whole) = within_both (Some (0 ∷ [])) (bits_bytes bits) (0 ∷ []) b bytes (omega arith)
+    (bits_short bits b (parts (0 ∷ []) b bytes whole all).1 number) whole
+field_short (access kind attribute) bytes all h = rw h (omega arith)
+field_short (connect_name n) bytes all (a, named, whole) = let le : length (name_bytes n) ≤ length a = name_shortest n a named in rw whole (omega (arith, le))
+field_short (connect_buffer size content) bytes all (a, h, packs) =
+    within_packed (2 ∷ 17 ∷ []) (int_bytes size) (Some content) (a ++ content) bytes all packs
+    (within_both (Some (int_bytes size)) (Some content) a content (a ++ content) (int_short size a h) (omega arith) refl)
+field_short (extended kind attribute len) bytes all h = rw h (omega arith)
 
 pub fields_short : (es : List FieldTree) (b : List ℕ) → AreBytes b → SpellsFields es b → HasWithin (fields_bytes es) b
 fields_short es b all h = each_short field_bytes SpellsField field_short es b all h
@@ -274,14 +267,11 @@ int_typed _ b all h = tt
 argument_typed : (k : FixedArgument) (v : Value k) (b : List ℕ) → AreBytes b → SpellsArgument k v b → IsTyped k v
 argument_typed name_arg n b all h = h.is_name
 argument_typed source_arg n b all h = h.0.is_name
-argument_typed segment_arg s b all h = h.0
 argument_typed word_arg n b all h = number_below 2 n b all h
 argument_typed dword_arg n b all h = number_below 4 n b all h
-argument_typed const_arg i b all h = int_typed i b all h
 argument_typed int_arg i b all h = int_typed i b all h
 argument_typed byte_arg n b all h = tt
 argument_typed count_arg n b all h = tt
-argument_typed bits_arg n b all h = tt
 
 arguments_typed : (ks : List FixedArgument) (v : Values ks) (b : List ℕ) → AreBytes b → SpellsArguments ks v b → AreTyped ks v
 arguments_typed [] v b all h = tt
@@ -321,12 +311,15 @@ mutual
   elems_typed (elem e es) bytes all (a, b, first, rest, whole) = let split = parts a b bytes whole all in (elem_typed e a split.0 first, elems_typed es b split.1 rest)
 
 field_typed : (x : FieldTree) (bytes : List ℕ) → AreBytes bytes → SpellsField x bytes → IsFieldTyped x
-field_typed (unit s bits) bytes all h = (plain_typed [] (segment_arg ∷ bits_arg ∷ []) (s, (bits, tt)) bytes all h).0
-field_typed (connect_name n) bytes all h = (plain_typed (2 ∷ []) (name_arg ∷ []) (n, tt) bytes all h).0
-field_typed (connect_buffer size content) bytes all h = (front_typed (2 ∷ 17 ∷ []) (const_arg ∷ []) (size, tt) (λ b. b ≡ content) bytes all h).0
+field_typed (unit g bits) bytes all h = h.2.0
+field_typed (connect_name n) bytes all h = h.1.is_name
+field_typed (connect_buffer size content) bytes all (a, h, packs) = int_typed size a (parts a content (a ++ content) refl (packed (2 ∷ 17 ∷ []) (a ++ content) bytes packs all)).0 h
 field_typed (reserved bits) bytes all h = tt
 field_typed (access kind attribute) bytes all h = tt
 field_typed (extended kind attribute len) bytes all h = tt
+
+pub fields_typed : (es : List FieldTree) (bytes : List ℕ) → AreBytes bytes → SpellsFields es bytes → AllByRecursion IsFieldTyped es
+fields_typed es bytes all h = each_typed SpellsField IsFieldTyped field_typed es bytes all h
 
 external_typed : (x : ExternalParts) (bytes : List ℕ) → AreBytes bytes → SpellsExternal x bytes → IsExternalTyped x
 external_typed x bytes all h = (plain_typed (21 ∷ []) (arguments opcodes.External) (x.name, (x.kind, (x.args, tt))) bytes all h).0
@@ -335,7 +328,7 @@ units_typed : (op : List ℕ) (ks : List FixedArgument) (v : Values ks) (es : Li
     → SpellsPacked op ks v (λ b. SpellsFields es b) bytes → AreTyped ks v × AllByRecursion IsFieldTyped es
 units_typed op ks v es bytes all h =
     let c = content_of op ks v (λ b. SpellsFields es b) bytes all h in
-    (front_typed op ks v (λ b. SpellsFields es b) bytes all h, each_typed SpellsField IsFieldTyped field_typed es c.0 c.1 c.2)
+    (front_typed op ks v (λ b. SpellsFields es b) bytes all h, fields_typed es c.0 c.1 c.2)
 
 -- a package of items
 held_typed : (op : List ℕ) (ks : List FixedArgument) (v : Values ks) (is : ItemTrees) (bytes : List ℕ) → AreBytes bytes

@@ -15,7 +15,6 @@ use Rattle.acpi_tree.specs.Terms.{TermTree, TermTrees, int, str, buffer, pkg, va
 use Rattle.acpi_tree.specs.Operators.{operands_of, operands_before, operands_behind, operands_of_units}
 use Rattle.acpi_body.specs.Arguments.{Locals, Arguments}
 use Rattle.acpi_body.specs.Spelling.{values, Spells, AreOperands, AreElements}
-use Rattle.acpi_body.specs.Fields.{SpellsField}
 use Rattle.acpi_body.specs.Statements.{named_opcode, units_opcode, locals_after, locals_after_all, IsStatement, IsElse, AreStatements}
 use Rattle.acpi_body.proofs.Fitting.{statements_fit}
 use Rattle.acpi_write.specs.Canonical.{int_bytes, filled_with, bits_bytes, field_bytes, fields_bytes}
@@ -24,7 +23,7 @@ use Rattle.acpi_write.specs.Laws.{IsFieldTyped}
 use Rattle.acpi_write.specs.TermLaws.{IsTermTyped, IsElseTyped, AreTermsTyped, count_of, IsCounted, AreCounted, MayStandIn, ElseMayStandIn, AllMayStandIn}
 use Rattle.acpi_write.specs.Shortest.{HasWithin, IsWritten, ReadTermsAreWritten}
 use Rattle.acpi_write.proofs.TermsWritten.{terms_written}
-use Rattle.acpi_write.proofs.Shorter.{within_both, within_packed, number_short, int_short, each_short, bits_short, number_below, int_typed, each_typed}
+use Rattle.acpi_write.proofs.Shorter.{within_both, within_packed, number_short, int_short, fields_short, number_below, int_typed, each_typed, fields_typed}
 
 -- a package of what is put together
 within_package : (op : List ℕ) (content : Option (List ℕ)) (inner bytes : List ℕ) → AreBytes bytes → Packs op inner bytes → HasWithin content inner → HasWithin (filled_with op [] content) bytes
@@ -153,31 +152,11 @@ mutual
   elements_counted args no_terms bytes h = tt
   elements_counted args (more t ts) bytes (a, b, stands, first, rest, whole) = (term_counted args t a first, elements_counted args ts b rest)
 
--- ---- names and field elements
+-- ---- names
 
 names_short : (ns : List NameParts) (bytes : List ℕ) → SpellsEach SpellsName ns bytes → HasWithin (names_bytes ns) bytes
 names_short [] bytes h = omega arith
 names_short (n ∷ ns) bytes (a, b, first, rest, whole) = within_both (Some (name_bytes n)) (names_bytes ns) a b bytes (name_shortest n a first) (names_short ns b rest) whole
-
-unit_short : (x : FieldTree) (bytes : List ℕ) → AreBytes bytes → SpellsField x bytes → HasWithin (field_bytes x) bytes
-unit_short (unit g bits) bytes all (a, b, segment, number, whole) =
-    within_both (Some g) (bits_bytes bits) a b bytes (rw segment.1 (omega arith)) (bits_short bits b (parts a b bytes whole all).1 number) whole
-unit_short (reserved bits) bytes all (b, number, whole) = within_both (Some (0 ∷ [])) (bits_bytes bits) (0 ∷ []) b bytes (omega arith)
-    (bits_short bits b (parts (0 ∷ []) b bytes whole all).1 number) whole
-unit_short (access kind attribute) bytes all h = rw h (omega arith)
-unit_short (connect_name n) bytes all (a, named, whole) = let le : length (name_bytes n) ≤ length a = name_shortest n a named in rw whole (omega (arith, le))
-unit_short (connect_buffer size content) bytes all (a, h, packs) =
-    within_packed (2 ∷ 17 ∷ []) (int_bytes size) (Some content) (a ++ content) bytes all packs
-    (within_both (Some (int_bytes size)) (Some content) a content (a ++ content) (int_short size a h) (omega arith) refl)
-unit_short (extended kind attribute len) bytes all h = rw h (omega arith)
-
-unit_typed : (x : FieldTree) (bytes : List ℕ) → AreBytes bytes → SpellsField x bytes → IsFieldTyped x
-unit_typed (unit g bits) bytes all h = h.2.0
-unit_typed (connect_name n) bytes all h = h.1.is_name
-unit_typed (connect_buffer size content) bytes all (a, h, packs) = int_typed size a (parts a content (a ++ content) refl (packed (2 ∷ 17 ∷ []) (a ++ content) bytes packs all)).0 h
-unit_typed (reserved bits) bytes all h = tt
-unit_typed (access kind attribute) bytes all h = tt
-unit_typed (extended kind attribute len) bytes all h = tt
 
 -- ---- statements
 
@@ -206,7 +185,7 @@ mutual
       let first = parts a (b ++ c) (a ++ (b ++ c)) refl (packed (opcode_bytes (units_opcode form)) (a ++ (b ++ c)) bytes packs all) in
       let second = parts b c (b ++ c) refl first.1 in
       let tail = within_both (terms_bytes vs) (fields_bytes es) b c (b ++ c) (operands_short (args locals) (operands_of_units form) vs b second.0 hs)
-      (each_short field_bytes SpellsField unit_short es c second.1 units) refl in
+      (fields_short es c second.1 units) refl in
       within_package (opcode_bytes (units_opcode form)) (option_append (names_bytes ns) (option_append (terms_bytes vs) (fields_bytes es))) (a ++ (b ++ c)) bytes all packs
       (within_both (names_bytes ns) (option_append (terms_bytes vs) (fields_bytes es)) a (b ++ c) (a ++ (b ++ c)) (names_short ns a named) tail refl)
   statement_short args s locals t bytes all h = term_short (args locals) t bytes all h.1
@@ -240,7 +219,7 @@ mutual
       let second = parts b c (b ++ c) refl first.1 in (
         each_typed SpellsName IsName (λ n b small h. h.is_name) ns a first.0 named,
         operands_typed (args locals) (operands_of_units form) vs b second.0 hs,
-        each_typed SpellsField IsFieldTyped unit_typed es c second.1 units,
+        fields_typed es c second.1 units,
       )
   statement_typed args s locals t bytes all h = term_typed (args locals) t bytes all h.1
 

@@ -23,23 +23,12 @@ use Rattle.acpi_tree.specs.Fits.{is_null_name, field_fits}
 use Rattle.acpi_tree.specs.TermFits.{term_fits, else_fits, all_stand, operands_fit}
 use Rattle.acpi_body.specs.Arguments.{Locals, Arguments}
 use Rattle.acpi_body.specs.Spelling.{values, Spells, AreOperands, AreElements}
-use Rattle.acpi_body.specs.Fields.{SpellsField}
 use Rattle.acpi_body.specs.Statements.{named_opcode, units_opcode, locals_after, locals_after_all, IsStatement, IsElse, AreStatements}
 use Rattle.acpi_write.specs.Canonical.{int_bytes, filled_with, bits_bytes, field_bytes, fields_bytes}
 use Rattle.acpi_write.specs.CanonicalTerms.{names_bytes, term_bytes, else_bytes, terms_bytes}
 use Rattle.acpi_write.specs.Laws.{IsFieldTyped}
 use Rattle.acpi_write.specs.TermLaws.{IsTermTyped, IsElseTyped, AreTermsTyped, count_of, IsCounted, AreCounted, MayStandIn, ElseMayStandIn, AllMayStandIn, TermsAreSpelled}
-use Rattle.acpi_write.proofs.Written.{first_of, second_of, both_of, some_is, number_written, int_written, term_name_written, packed_written, text_written, not_false, bits_few, bits_are, each_written}
-
--- what fills a package, behind what stands first in it
-filled_is : (op front : List ℕ) (content : Option (List ℕ)) (bytes : List ℕ) → filled_with op front content ≡ Some bytes → (c : List ℕ) × (content ≡ Some c) × Packs op (front ++ c) bytes
-filled_is op front None bytes e = absurd cc
-filled_is op front (Some c) bytes e = (c, refl, packed_written op (front ++ c) bytes e)
-
--- the parts of a pair of which the first has a spelling of its own
-front_is : (a : List ℕ) (b : Option (List ℕ)) (bytes : List ℕ) → option_append (Some a) b ≡ Some bytes → (rest : List ℕ) × (b ≡ Some rest) × (bytes ≡ a ++ rest)
-front_is a None bytes e = absurd cc
-front_is a (Some rest) bytes e = (rest, refl, sym (some_is (a ++ rest) bytes e))
+use Rattle.acpi_write.proofs.Written.{first_of, second_of, both_of, some_is, filled_is, front_is, number_written, int_written, term_name_written, text_written, not_false, fields_written}
 
 -- arguments of a call are operands, each of which is a value
 as_operands : (ts : TermTrees) → all_stand Value ts ≡ operands_fit (values (count_of ts)) ts
@@ -125,26 +114,13 @@ mutual
         b.whole,
       )
 
--- ---- names and field elements
+-- ---- names
 
 names_written : (ns : List NameParts) (bytes : List ℕ) → AllByRecursion IsName ns → names_bytes ns ≡ Some bytes → SpellsEach SpellsName ns bytes
 names_written [] bytes h e = sym (some_is [] bytes e)
 names_written (n ∷ ns) bytes h e =
     let b = front_is (name_bytes n) (names_bytes ns) bytes e in
     (name_bytes n, b.0, name_written n h.0, names_written ns b.0 h.1 b.1, b.2)
-
-length_written : (bits : ℕ) (b : List ℕ) → field_fits (reserved bits) ≡ true → bits_bytes bits ≡ Some b → SpellsPkgLength bits b
-length_written bits b fit e = subst (SpellsPkgLength bits) (sym (bits_are bits b e)) (shortest_spells bits (bits_few bits fit))
-
-unit_written : (x : FieldTree) (bytes : List ℕ) → IsFieldTyped x → field_fits x ≡ true → field_bytes x ≡ Some bytes → SpellsField x bytes
-unit_written (unit g bits) bytes h fit e = let b = front_is g (bits_bytes bits) bytes e in (g, b.0, (h, refl), length_written bits b.0 fit b.1, b.2)
-unit_written (reserved bits) bytes h fit e = let b = front_is (0 ∷ []) (bits_bytes bits) bytes e in (b.0, length_written bits b.0 fit b.1, b.2)
-unit_written (access kind attribute) bytes h fit e = sym (some_is (1 ∷ kind ∷ attribute ∷ []) bytes e)
-unit_written (connect_name n) bytes h fit e = (name_bytes n, name_written n h, sym (some_is (2 ∷ name_bytes n) bytes e))
-unit_written (connect_buffer size content) bytes h fit e =
-    let f = filled_is (2 ∷ 17 ∷ []) (int_bytes size) (Some content) bytes e in
-    (int_bytes size, int_written size h, subst (λ c. Packs (2 ∷ 17 ∷ []) (int_bytes size ++ c) bytes) (sym (some_is content f.0 f.1)) f.2)
-unit_written (extended kind attribute len) bytes h fit e = sym (some_is (3 ∷ kind ∷ attribute ∷ len ∷ []) bytes e)
 
 -- ---- statements
 
@@ -206,7 +182,7 @@ mutual
         eqb-true (length ns) (names_of_units form) (first_of (nat_eq (length ns) (names_of_units form)) (operands_fit (operands_of_units form) vs) heads),
         names_written ns p.front h.0 p.is_front,
         operands_written (args locals) (operands_of_units form) vs q.front h.1 (second_of (nat_eq (length ns) (names_of_units form)) (operands_fit (operands_of_units form) vs) heads) k q.is_front,
-        each_written field_bytes SpellsField IsFieldTyped field_fits unit_written es q.back h.2
+        fields_written es q.back h.2
             (second_of (nat_eq (length ns) (names_of_units form) && operands_fit (operands_of_units form) vs) (list_all field_fits es) fit) q.is_back,
         subst (λ c. Packs (opcode_bytes (units_opcode form)) c bytes) (p.whole ∙ ap (λ x. p.front ++ x) q.whole) f.2,
       )

@@ -14,13 +14,14 @@ use Rattle.acpi_table.proofs.PkgLengths.{shortest_spells, number_counts}
 use Rattle.acpi_code.specs.Opcodes.{is_name_start}
 use Rattle.acpi_code.specs.declared.opcode.Opcode.{Opcode}
 use Rattle.acpi_code.specs.declared.opcode.Opcode.TheVariants as opcodes
+use Rattle.acpi_code.specs.Fields.{SpellsField, SpellsFields}
 use Rattle.acpi_code.specs.Spelling.{SpellsNumber, SpellsInt, SpellsTermName, SpellsEach, IsText, Packs}
 use Rattle.acpi_tree.specs.declared.tree.Int.{Int}
 use Rattle.acpi_tree.specs.declared.tree.Int.TheVariants.{Zero, One, Ones, Revision, Byte, Word, DWord, QWord}
 use Rattle.acpi_tree.specs.Tree.{DataTree, int, str, buffer, pkg, var_pkg, ElemTree, of_data, of_name, ElemTrees, no_elems, elem, FieldTree, unit, reserved, access, connect_name, connect_buffer, extended, ExternalParts, ItemTree, name, scope, method, external, external_block, create, create_field, mutex, event, region, field, index_field, bank_field, device, processor, power, thermal, ItemTrees, no_items, item}
 use Rattle.acpi_tree.specs.Fits.{text_fits, is_null_name, data_fits, elem_fits, elems_fit, bits_fit, field_fits, external_fits, item_fits, items_fit}
-use Rattle.acpi_terms.specs.Forms.{FixedArgument, name_arg, source_arg, segment_arg, byte_arg, word_arg, dword_arg, count_arg, bits_arg, const_arg, int_arg, Value, Values, arguments, ArgumentsOf}
-use Rattle.acpi_terms.specs.Spelling.{SpellsArgument, SpellsArguments, SpellsPlain, SpellsPacked, SpellsForm, SpellsData, SpellsElem, SpellsElems, SpellsField, SpellsFields, SpellsExternal, SpellsItem, SpellsItems}
+use Rattle.acpi_terms.specs.Forms.{FixedArgument, name_arg, source_arg, byte_arg, word_arg, dword_arg, count_arg, int_arg, Value, Values, arguments, ArgumentsOf}
+use Rattle.acpi_terms.specs.Spelling.{SpellsArgument, SpellsArguments, SpellsPlain, SpellsPacked, SpellsForm, SpellsData, SpellsElem, SpellsElems, SpellsExternal, SpellsItem, SpellsItems}
 use Rattle.acpi_write.specs.Canonical.{int_bytes, argument_bytes, arguments_bytes, form_bytes, packed_bytes, filled_with, each_bytes, data_bytes, elem_bytes, elems_bytes, bits_bytes, field_bytes, fields_bytes, external_bytes, item_bytes, items_bytes}
 use Rattle.acpi_write.specs.Laws.{IsIntTyped, IsTyped, AreTyped, IsDataTyped, IsElemTyped, AreElemsTyped, IsFieldTyped, IsExternalTyped, IsItemTyped, AreItemsTyped}
 
@@ -68,7 +69,6 @@ int_written (QWord n) f = (little_bytes 8 n, number_written 8 n f, refl)
 abbrev Stands : (k : FixedArgument) → Value k → Type 0
 Stands source_arg n = is_null_name n ≡ false
 Stands count_arg n = n ≤ 7
-Stands bits_arg n = n < 268435456
 Stands _ v = Unit {0}
 
 abbrev AllStand : (ks : List FixedArgument) → Values ks → Type 0
@@ -111,13 +111,10 @@ term_name_written n h some = (name_written n h, parts_start n.rooted n.parents n
 argument_written : (k : FixedArgument) (v : Value k) → IsTyped k v → Stands k v → SpellsArgument k v (argument_bytes k v)
 argument_written name_arg n f s = name_written n f
 argument_written source_arg n f s = term_name_written n f s
-argument_written segment_arg g f s = (f, refl)
 argument_written byte_arg n f s = refl
 argument_written word_arg n f s = number_written 2 n f
 argument_written dword_arg n f s = number_written 4 n f
 argument_written count_arg n f s = (s, refl)
-argument_written bits_arg n f s = shortest_spells n s
-argument_written const_arg i f s = int_written i f
 argument_written int_arg i f s = int_written i f
 
 arguments_written : (ks : List FixedArgument) (v : Values ks) → AreTyped ks v → AllStand ks v → SpellsArguments ks v (arguments_bytes ks v)
@@ -153,6 +150,16 @@ filled_written : (opcode : List ℕ) (ks : List FixedArgument) (v : Values ks) (
     → ((b : List ℕ) → content ≡ Some b → Fills b) → filled_with opcode (arguments_bytes ks v) content ≡ Some bytes → SpellsPacked opcode ks v Fills bytes
 filled_written opcode ks v Fills None bytes f s fills e = absurd cc
 filled_written opcode ks v Fills (Some b) bytes f s fills e = (arguments_bytes ks v, b, arguments_written ks v f s, fills b refl, packed_written opcode (arguments_bytes ks v ++ b) bytes e)
+
+-- what fills a package, behind what stands first in it
+pub filled_is : (op front : List ℕ) (content : Option (List ℕ)) (bytes : List ℕ) → filled_with op front content ≡ Some bytes → (c : List ℕ) × (content ≡ Some c) × Packs op (front ++ c) bytes
+filled_is op front None bytes e = absurd cc
+filled_is op front (Some c) bytes e = (c, refl, packed_written op (front ++ c) bytes e)
+
+-- the parts of a pair of which the first has a spelling of its own
+pub front_is : (a : List ℕ) (b : Option (List ℕ)) (bytes : List ℕ) → option_append (Some a) b ≡ Some bytes → (rest : List ℕ) × (b ≡ Some rest) × (bytes ≡ a ++ rest)
+front_is a None bytes e = absurd cc
+front_is a (Some rest) bytes e = (rest, refl, sym (some_is (a ++ rest) bytes e))
 
 pub each_written : {A : Type 0} (f : A → Option (List ℕ)) (Spells : A → List ℕ → Type 0) (Holds : A → Type 0) (fits : A → Bool)
     → ((x : A) (b : List ℕ) → Holds x → fits x ≡ true → f x ≡ Some b → Spells x b)
@@ -208,30 +215,20 @@ bits_are n b e = by_test (nat_le n 268435455) e
     by_test true e = sym (some_is (shortest_pkg_length n) b e)
     by_test false e = absurd cc
 
-plain_written : (opcode : List ℕ) (ks : List FixedArgument) (v : Values ks) (bytes : List ℕ) → AreTyped ks v → AllStand ks v
-    → bytes ≡ opcode ++ arguments_bytes ks v → SpellsPlain opcode ks v bytes
-plain_written opcode ks v bytes f s e = (arguments_bytes ks v, arguments_written ks v f s, e)
+length_written : (bits : ℕ) (b : List ℕ) → field_fits (reserved bits) ≡ true → bits_bytes bits ≡ Some b → SpellsPkgLength bits b
+length_written bits b fit e = subst (SpellsPkgLength bits) (sym (bits_are bits b e)) (shortest_spells bits (bits_few bits fit))
 
 field_written : (x : FieldTree) (bytes : List ℕ) → IsFieldTyped x → field_fits x ≡ true → field_bytes x ≡ Some bytes → SpellsField x bytes
-field_written (unit s bits) bytes h fit e =
-    let b = both_of (Some s) (bits_bytes bits) bytes e in
-    plain_written [] (segment_arg ∷ bits_arg ∷ []) (s, (bits, tt)) bytes (h, (tt, tt)) (tt, (bits_few bits fit, tt))
-    (b.whole ∙ ap (λ a. a ++ b.back) (sym (some_is s b.front b.is_front)) ∙ ap (λ a. s ++ a) (bits_are bits b.back b.is_back ∙ sym (append-nil (shortest_pkg_length bits))))
-field_written (reserved bits) bytes h fit e =
-    let b = both_of (Some (0 ∷ [])) (bits_bytes bits) bytes e in
-    plain_written (0 ∷ []) (bits_arg ∷ []) (bits, tt) bytes (tt, tt) (bits_few bits fit, tt)
-    (b.whole ∙ ap (λ a. a ++ b.back) (sym (some_is (0 ∷ []) b.front b.is_front))
-    ∙ ap (λ (a : List ℕ). 0 ∷ a) (bits_are bits b.back b.is_back ∙ sym (append-nil (shortest_pkg_length bits))))
-field_written (access kind attribute) bytes h fit e = plain_written (1 ∷ []) (byte_arg ∷ byte_arg ∷ []) (kind, (attribute, tt)) bytes (tt, (tt, tt)) (tt, (tt, tt)) (sym (some_is _ bytes e))
-field_written (connect_name n) bytes h fit e = plain_written (2 ∷ []) (name_arg ∷ []) (n, tt) bytes (h, tt) (tt, tt)
-    (sym (some_is (2 ∷ name_bytes n) bytes e) ∙ ap (λ (a : List ℕ). 2 ∷ a) (sym (append-nil (name_bytes n))))
+field_written (unit g bits) bytes h fit e = let b = front_is g (bits_bytes bits) bytes e in (g, b.0, (h, refl), length_written bits b.0 fit b.1, b.2)
+field_written (reserved bits) bytes h fit e = let b = front_is (0 ∷ []) (bits_bytes bits) bytes e in (b.0, length_written bits b.0 fit b.1, b.2)
+field_written (access kind attribute) bytes h fit e = sym (some_is (1 ∷ kind ∷ attribute ∷ []) bytes e)
+field_written (connect_name n) bytes h fit e = (name_bytes n, name_written n h, sym (some_is (2 ∷ name_bytes n) bytes e))
 field_written (connect_buffer size content) bytes h fit e =
-    filled_written (2 ∷ 17 ∷ []) (const_arg ∷ []) (size, tt) (λ b. b ≡ content) (Some content) bytes (h, tt) (tt, tt) (λ b e. sym (some_is content b e))
-    (ap (λ a. filled_with (2 ∷ 17 ∷ []) a (Some content)) (append-nil (int_bytes size)) ∙ e)
-field_written (extended kind attribute len) bytes h fit e = plain_written (3 ∷ []) (byte_arg ∷ byte_arg ∷ byte_arg ∷ [])
-    (kind, (attribute, (len, tt))) bytes (tt, (tt, (tt, tt))) (tt, (tt, (tt, tt))) (sym (some_is _ bytes e))
+    let f = filled_is (2 ∷ 17 ∷ []) (int_bytes size) (Some content) bytes e in
+    (int_bytes size, int_written size h, subst (λ c. Packs (2 ∷ 17 ∷ []) (int_bytes size ++ c) bytes) (sym (some_is content f.0 f.1)) f.2)
+field_written (extended kind attribute len) bytes h fit e = sym (some_is (3 ∷ kind ∷ attribute ∷ len ∷ []) bytes e)
 
-fields_written : (es : List FieldTree) (bytes : List ℕ) → AllByRecursion IsFieldTyped es → list_all field_fits es ≡ true → fields_bytes es ≡ Some bytes → SpellsFields es bytes
+pub fields_written : (es : List FieldTree) (bytes : List ℕ) → AllByRecursion IsFieldTyped es → list_all field_fits es ≡ true → fields_bytes es ≡ Some bytes → SpellsFields es bytes
 fields_written es bytes h fit e = each_written field_bytes SpellsField IsFieldTyped field_fits field_written es bytes h fit e
 
 -- ---- items

@@ -10,7 +10,7 @@ use Rattle.acpi_code.specs.Opcodes.{opcode_bytes}
 use Rattle.acpi_tree.specs.declared.tree.Int.{Int}
 use Rattle.acpi_tree.specs.declared.tree.Int.TheVariants.{Zero, One, Ones, Revision, Byte, Word, DWord, QWord}
 use Rattle.acpi_tree.specs.Tree.{DataTree, int, str, buffer, pkg, var_pkg, ElemTree, of_data, of_name, ElemTrees, no_elems, elem, FieldTree, unit, reserved, access, connect_name, connect_buffer, extended, ExternalParts, ItemTree, name, scope, method, external, external_block, create, create_field, mutex, event, region, field, index_field, bank_field, device, processor, power, thermal, ItemTrees, no_items, item}
-use Rattle.acpi_terms.specs.Forms.{FixedArgument, name_arg, source_arg, segment_arg, byte_arg, word_arg, dword_arg, count_arg, bits_arg, const_arg, int_arg, Value, Values, arguments, ArgumentsOf}
+use Rattle.acpi_terms.specs.Forms.{FixedArgument, name_arg, source_arg, byte_arg, word_arg, dword_arg, count_arg, int_arg, Value, Values, arguments, ArgumentsOf}
 
 -- ---- fixed arguments
 
@@ -25,17 +25,14 @@ int_bytes (Word n) = 0x0B ∷ little_bytes 2 n
 int_bytes (DWord n) = 0x0C ∷ little_bytes 4 n
 int_bytes (QWord n) = 0x0E ∷ little_bytes 8 n
 
--- names and bit counts as short as they can be
+-- names as short as they can be
 abbrev pub argument_bytes : (k : FixedArgument) → Value k → List ℕ
 argument_bytes name_arg n = name_bytes n
 argument_bytes source_arg n = name_bytes n
-argument_bytes segment_arg s = s
 argument_bytes byte_arg n = n ∷ []
 argument_bytes word_arg n = little_bytes 2 n
 argument_bytes dword_arg n = little_bytes 4 n
 argument_bytes count_arg n = n ∷ []
-argument_bytes bits_arg n = shortest_pkg_length n
-argument_bytes const_arg i = int_bytes i
 argument_bytes int_arg i = int_bytes i
 
 -- one after another

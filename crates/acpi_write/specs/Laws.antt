@@ -6,7 +6,7 @@ use Rattle.acpi_tree.specs.declared.tree.Int.{Int}
 use Rattle.acpi_tree.specs.declared.tree.Int.TheVariants.{Word, DWord, QWord}
 use Rattle.acpi_tree.specs.Tree.{DataTree, int, str, buffer, pkg, var_pkg, ElemTree, of_data, of_name, ElemTrees, no_elems, elem, FieldTree, unit, connect_name, connect_buffer, ExternalParts, ItemTree, name, scope, method, external, external_block, create, create_field, mutex, event, region, field, index_field, bank_field, device, processor, power, thermal, ItemTrees, no_items, item}
 use Rattle.acpi_tree.specs.Fits.{items_fit}
-use Rattle.acpi_terms.specs.Forms.{FixedArgument, name_arg, source_arg, segment_arg, word_arg, dword_arg, const_arg, int_arg, Value, Values, arguments, ArgumentsOf}
+use Rattle.acpi_terms.specs.Forms.{FixedArgument, name_arg, source_arg, word_arg, dword_arg, int_arg, Value, Values, arguments, ArgumentsOf}
 use Rattle.acpi_code.specs.declared.opcode.Opcode.{Opcode}
 use Rattle.acpi_code.specs.declared.opcode.Opcode.TheVariants as opcodes
 use Rattle.acpi_terms.specs.Spelling.{SpellsItems}
@@ -24,10 +24,8 @@ IsIntTyped _ = Unit {0}
 abbrev pub IsTyped : (k : FixedArgument) → Value k → Type 0
 IsTyped name_arg n = IsName n
 IsTyped source_arg n = IsName n
-IsTyped segment_arg s = is_segment s ≡ true
 IsTyped word_arg n = n < 65536
 IsTyped dword_arg n = n < 4294967296
-IsTyped const_arg i = IsIntTyped i
 IsTyped int_arg i = IsIntTyped i
 IsTyped _ v = Unit {0}
 

@@ -1,10 +1,18 @@
 -- What a reader answers of what is left of a list, and what it leaves of it.
 use Rattle.std.specs.Prelude.{◌≡◌, ℕ, List, Result, Ok, Err}
+use Rattle.acpi_code.specs.declared.fault.FieldFault.{FieldFault}
+use Rattle.acpi_code.specs.declared.fault.FieldFault.TheVariants as fields
 use Rattle.acpi_code.specs.steps.Left.{Left, Shorter, NoLonger}
 use Rattle.acpi_code.specs.steps.Reading.{Reading}
 use Rattle.acpi_body.specs.declared.fault.BodyFault.{BodyFault}
 use Rattle.acpi_body.specs.declared.fault.Stop.{Stop}
 use Rattle.acpi_body.specs.declared.fault.Stop.TheVariants as stops
+use Rattle.acpi_body.specs.Faults.{constant_fault_of}
+
+-- the fault of field elements, as one of bodies
+abbrev pub field_fault_of : FieldFault → Stop
+field_fault_of (fields.At f) = stops.Fault (constant_fault_of f)
+field_fault_of fields.Memory = stops.Memory
 
 -- the reading stops so, unless memory ran out
 abbrev pub Fails : {Y : Type 0} → Stop → Result Y BodyFault → Type 0

@@ -2,7 +2,6 @@
 use Rattle.std.specs.Prelude.{◌-◌, ℕ, zero, suc, Bool, true, false, List, [], ◌∷◌, length, Option, Some, None, Result, Ok, Err, ◌==◌, if◌then◌else◌}
 use Rattle.acpi_name.specs.Names.{Segment, NameParts}
 use Rattle.acpi_name.specs.Paths.{place_of}
-use Rattle.acpi_tree.specs.declared.tree.Int.{Int}
 use Rattle.acpi_tree.specs.declared.op.Op.{Op}
 use Rattle.acpi_tree.specs.declared.place.Place.{Place}
 use Rattle.acpi_tree.specs.declared.place.Place.TheVariants.{Value, SuperName, SimpleName, Element, Data, Statement}
@@ -12,22 +11,23 @@ use Rattle.acpi_tree.specs.declared.place.NamedForm.{NamedForm}
 use Rattle.acpi_tree.specs.declared.place.NamedForm.TheVariants as named
 use Rattle.acpi_tree.specs.declared.place.UnitsForm.{UnitsForm}
 use Rattle.acpi_tree.specs.declared.place.UnitsForm.TheVariants as units
-use Rattle.acpi_tree.specs.Tree.{FieldTree, unit, reserved, access, connect_name, connect_buffer, extended}
+use Rattle.acpi_tree.specs.Tree.{FieldTree}
 use Rattle.acpi_tree.specs.Terms.{TermTree, TermTrees, int, str, buffer, pkg, var_pkg, local, arg, debug, no_target, raw, ref, call, apply, ElseTree, if_do, no_else, else_do, while_do, declare, declare_units, no_terms, more, terms_of}
 use Rattle.acpi_tree.specs.Operators.{operands_of, operands_before, operands_behind, names_of_units, operands_of_units}
 use Rattle.acpi_code.specs.declared.fault.CodeFault.{CodeFault}
 use Rattle.acpi_code.specs.declared.opcode.ConstantForm.{ConstantForm}
 use Rattle.acpi_code.specs.declared.opcode.Opcode.{Opcode}
 use Rattle.acpi_code.specs.declared.opcode.Opcode.TheVariants as opcodes
-use Rattle.acpi_code.specs.steps.Reading.{◌>>=◌, Reading, each_at, no_level, byte_at, number_at, length_in, package_at, name_in, segment_in, opcode_at, constant_at, string_at}
+use Rattle.acpi_code.specs.steps.Reading.{◌>>=◌, Reading, with_fault, each_at, no_level, byte_at, number_at, package_at, name_in, opcode_at, constant_at, string_at}
+use Rattle.acpi_code.specs.steps.Fields as fields
 use Rattle.acpi_body.specs.declared.fault.BodyReason.{BodyReason}
-use Rattle.acpi_body.specs.declared.fault.BodyReason.TheVariants.{NotStatement, NotData, BadPlace}
+use Rattle.acpi_body.specs.declared.fault.BodyReason.TheVariants.{NotStatement, BadPlace}
 use Rattle.acpi_body.specs.declared.fault.BodyFault.{BodyFault}
 use Rattle.acpi_body.specs.Arguments.{Locals, Arguments}
 use Rattle.acpi_body.specs.Spelling.{values}
 use Rattle.acpi_body.specs.Statements.{locals_after, locals_after_all}
 use Rattle.acpi_body.specs.Refusals.{refusal_at}
-use Rattle.acpi_body.specs.Faults.{fault_of}
+use Rattle.acpi_body.specs.Faults.{fault_of, constant_fault_of}
 
 -- ---- faults
 
@@ -154,72 +154,8 @@ term_at args (suc level) place end bytes = do
 
 -- ---- field elements, which have no level (20.2.5.2 FieldElement)
 
-abbrev pub const_by : ℕ → List ℕ → Opcode → List ℕ → Reading BodyFault Int
-const_by end whole (opcodes.Constant form) rest = part (constant_at form end rest)
-const_by end whole _ rest = Err (fault_at end whole NotData)
-
--- the size of a Connect buffer
-unfoldable pub const_at : ℕ → List ℕ → Reading BodyFault Int
-const_at end bytes = do
-  x ← part (opcode_at end bytes)
-  const_by end bytes x.0 x.1
-
-unfoldable pub connect_buffer_at : ℕ → List ℕ → Reading BodyFault FieldTree
-connect_buffer_at end bytes = do
-  p ← part (package_at end bytes)
-  size ← const_at p.end p.content
-  Ok (connect_buffer size.0 size.1, p.rest)
-
-unfoldable pub connect_name_at : ℕ → List ℕ → Reading BodyFault FieldTree
-connect_name_at end bytes = do
-  n ← part (name_in end bytes)
-  Ok (connect_name n.0, n.1)
-
-unfoldable pub connect_at : ℕ → List ℕ → Reading BodyFault FieldTree
-connect_at end bytes = do
-  b ← part (byte_at end bytes)
-  if b.0 == 0x11 then connect_buffer_at end b.1 else connect_name_at end bytes
-
-unfoldable pub unit_at : ℕ → List ℕ → Reading BodyFault FieldTree
-unit_at end bytes = do
-  g ← part (segment_in end bytes)
-  bits ← part (length_in end g.1)
-  Ok (unit g.0 bits.0, bits.1)
-
-unfoldable pub reserved_at : ℕ → List ℕ → Reading BodyFault FieldTree
-reserved_at end bytes = do
-  bits ← part (length_in end bytes)
-  Ok (reserved bits.0, bits.1)
-
-unfoldable pub access_at : ℕ → List ℕ → Reading BodyFault FieldTree
-access_at end bytes = do
-  kind ← part (byte_at end bytes)
-  attribute ← part (byte_at end kind.1)
-  Ok (access kind.0 attribute.0, attribute.1)
-
-unfoldable pub extended_at : ℕ → List ℕ → Reading BodyFault FieldTree
-extended_at end bytes = do
-  kind ← part (byte_at end bytes)
-  attribute ← part (byte_at end kind.1)
-  len ← part (byte_at end attribute.1)
-  Ok (extended kind.0 attribute.0 len.0, len.1)
-
--- a field element, by its first byte
-abbrev pub field_by : ℕ → List ℕ → ℕ → List ℕ → Reading BodyFault FieldTree
-field_by end whole b rest =
-    if b == 0x00 then reserved_at end rest else
-    if b == 0x01 then access_at end rest else
-    if b == 0x02 then connect_at end rest else
-    if b == 0x03 then extended_at end rest else
-    unit_at end whole
-
-unfoldable pub field_at : ℕ → List ℕ → Reading BodyFault FieldTree
-field_at end bytes = do
-  b ← part (byte_at end bytes)
-  field_by end bytes b.0 b.1
-
 abbrev pub fields_in : ℕ → List ℕ → Result (List FieldTree) BodyFault
-fields_in end bytes = each_at (field_at end) bytes
+fields_in end bytes = with_fault constant_fault_of (fields.fields_in end bytes)
 
 -- ---- declarations
 
