@@ -24,7 +24,7 @@ use Rattle.acpi_code.specs.Spelling.{SpellsEach, Packs}
 use Rattle.acpi_code.specs.steps.Reading.{◌>>=◌, Reading, byte_at, package_at, package_of, name_in, opcode_at}
 use Rattle.acpi_code.proofs.Names.{name_in_complete}
 use Rattle.acpi_code.proofs.Opcodes.{opens}
-use Rattle.acpi_code.proofs.Packages.{package_complete}
+use Rattle.acpi_code.proofs.Packages.{front_is, package_complete}
 use Rattle.acpi_body.specs.declared.fault.BodyFault.{BodyFault}
 use Rattle.acpi_body.specs.Arguments.{Locals, Arguments}
 use Rattle.acpi_body.specs.Spelling.{Spells, AreOperands, height, else_height, heights}
@@ -34,7 +34,7 @@ use Rattle.acpi_body.specs.Refusals.{refusal_at}
 use Rattle.acpi_body.specs.steps.Reading.{Reader, Statements, part, operands_at, form_by, placed_by, term_at, declared_if, declared_at, named_form, names_at, fields_in, units_form, statements_with, statements_by, else_at, if_form, while_form, statement_by, statement_at, statements_at}
 use Rattle.acpi_body.proofs.Allowed.{lead_of, Allowed, allowed_at}
 use Rattle.acpi_code.proofs.Fields.{fields_complete}
-use Rattle.acpi_body.proofs.TermComplete.{listed, terms_of-listed, front_is, spelled_long, suits_high, placed_made, term_complete, operands_complete, form_complete}
+use Rattle.acpi_body.proofs.TermComplete.{listed, terms_of-listed, spelled_long, suits_high, placed_made, term_complete, operands_complete, form_complete}
 
 -- ---- what begins with an Else
 

@@ -24,7 +24,7 @@ use Rattle.acpi_code.proofs.Lists.{AreAll, none_left, one_more, all_at}
 use Rattle.acpi_code.proofs.Names.{name_in_complete}
 use Rattle.acpi_code.proofs.Numbers.{byte_complete, number_complete}
 use Rattle.acpi_code.proofs.Opcodes.{opens, opens_name}
-use Rattle.acpi_code.proofs.Packages.{package_complete}
+use Rattle.acpi_code.proofs.Packages.{front_is, package_complete}
 use Rattle.acpi_code.proofs.Strings.{string_complete}
 use Rattle.acpi_body.specs.declared.fault.BodyFault.{BodyFault}
 use Rattle.acpi_body.specs.Refusals.{refusal_at}
@@ -73,10 +73,6 @@ pub suits_high : (p : Place) (t : TermTree) → Suits p t → 0 < height t
 suits_high p (raw k n) u = absurd u
 suits_high p no_target u = absurd u
 suits_high p _ u = omega arith
-
--- opcode, package length, content, rest
-pub front_is : (op b len content rest : List ℕ) → b ≡ op ++ (len ++ content) → b ++ rest ≡ op ++ (len ++ (content ++ rest))
-front_is op b len content rest e = ap (λ (l : List ℕ). l ++ rest) e ∙ append_assoc op (len ++ content) rest ∙ ap (λ (l : List ℕ). op ++ l) (append_assoc len content rest)
 
 -- ---- forms, behind their opcodes
 

@@ -1,5 +1,5 @@
 -- Constants: what is spelled is read, what is read is spelled, or the fault is true.
-use Rattle.std.proofs.Common.{◌≡◌, ℕ, ◌-◌, ◌<◌, true, List, [], ◌∷◌, ◌++◌, length, Result, Ok, refl, ap, ◌∙◌, arith}
+use Rattle.std.proofs.Common.{◌≡◌, ℕ, ◌<◌, List, [], ◌∷◌, ◌++◌, length, Result, Ok, refl, ap, ◌∙◌, arith}
 use Rattle.acpi_tree.specs.declared.tree.Int.{Int}
 use Rattle.acpi_tree.specs.declared.tree.Int.TheVariants.{Zero, One, Ones, Revision, Byte, Word, DWord, QWord}
 use Rattle.acpi_code.specs.declared.opcode.ConstantForm.{ConstantForm}

@@ -25,7 +25,7 @@ use Rattle.acpi_code.proofs.Constants.{NoConstant, part_sound, int_complete, int
 use Rattle.acpi_code.proofs.Lists.{each_complete, all_at, all_sound, Turns, stopped}
 use Rattle.acpi_code.proofs.Names.{name_in_complete, segment_in_complete, name_sound, segment_sound}
 use Rattle.acpi_code.proofs.Numbers.{length_complete, byte_sound, length_sound}
-use Rattle.acpi_code.proofs.Packages.{GoodPackage, package_complete, package_sound}
+use Rattle.acpi_code.proofs.Packages.{front_is, GoodPackage, package_complete, package_sound}
 
 -- ---- as the code does
 
@@ -36,9 +36,6 @@ stopped_there one first now front fields.Memory some fails so = tt
 stopped_there one first now front (fields.At f) some fails so = stopped one first now front f some fails so
 
 -- ---- complete
-
-front_is : (op b len content rest : List ℕ) → b ≡ op ++ (len ++ content) → b ++ rest ≡ op ++ (len ++ (content ++ rest))
-front_is op b len content rest e = ap (λ (l : List ℕ). l ++ rest) e ∙ append_assoc op (len ++ content) rest ∙ ap (λ (l : List ℕ). op ++ l) (append_assoc len content rest)
 
 buffer_complete : (end : ℕ) (size : Int) (content a len rest : List ℕ) → SpellsInt size a → SpellsPkgLength (length len + length (a ++ content)) len
     → connect_buffer_at end (len ++ ((a ++ content) ++ rest)) ≡ Ok (connect_buffer size content, rest)

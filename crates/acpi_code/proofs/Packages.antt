@@ -10,6 +10,10 @@ use Rattle.acpi_code.proofs.Numbers.{length_complete, length_sound}
 
 -- ---- complete
 
+-- opcode, package length, content, rest
+pub front_is : (op b len content rest : List ℕ) → b ≡ op ++ (len ++ content) → b ++ rest ≡ op ++ (len ++ (content ++ rest))
+front_is op b len content rest e = ap (λ (l : List ℕ). l ++ rest) e ∙ append_assoc op (len ++ content) rest ∙ ap (λ (l : List ℕ). op ++ l) (append_assoc len content rest)
+
 pub package_complete : (end : ℕ) (len content rest : List ℕ) → SpellsPkgLength (length len + length content) len → package_at end (len ++ (content ++ rest)) ≡ Ok (package_of end content rest)
 unfolding package_at
 package_complete end len content rest h =
