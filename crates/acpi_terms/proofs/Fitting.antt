@@ -1,17 +1,11 @@
 -- What is spelled fits.
-use Rattle.std.proofs.Common.{◌≡◌, ℕ, zero, suc, ◌+◌, ◌*◌, ◌/◌, ◌%◌, ◌≤◌, ◌<◌, Bool, true, false, ◌&&◌, not, eqb, List, [], ◌∷◌, ◌++◌, length, slice_index, get_or, Fits, w8, refl, subst, ◌∙◌, arith, inl, inr}
-use Rattle.std.specs.List.{AllByRecursion, list_all}
-use Rattle.std.proofs.lemmas.Bool.{lt-ltb, eqb-true, le-leb}
-use Rattle.std.proofs.Math.Facts.{Fits-lt-pow}
-use Rattle.byteorder.specs.Endian.{little_number}
-use Rattle.acpi_name.specs.Names.{NameParts}
-use Rattle.acpi_name.specs.Spelling.{SpellsName, SpellsPath}
-use Rattle.acpi_table.specs.PkgLength.{SpellsPkgLength}
-use Rattle.acpi_code.specs.Spelling.{IsText, SpellsTermName, SpellsEach, Packs}
+use Rattle.std.proofs.Common.{◌≡◌, ℕ, true, List, [], ◌∷◌, ◌++◌, refl}
+use Rattle.std.proofs.lemmas.Bool.{le-leb}
+use Rattle.acpi_code.specs.Spelling.{Packs}
 use Rattle.acpi_terms.specs.Spelling.{SpellsData, SpellsElem, SpellsElems, SpellsExternal, SpellsItem, SpellsItems}
 use Rattle.acpi_tree.specs.Tree.{DataTree, int, str, buffer, pkg, var_pkg, ElemTree, of_data, of_name, ElemTrees, no_elems, elem, ExternalParts, ItemTree, name, scope, method, external, external_block, create, create_field, mutex, event, region, field, index_field, bank_field, device, processor, power, thermal, ItemTrees, no_items, item}
-use Rattle.acpi_tree.specs.Fits.{text_fits, is_null_name, data_fits, elem_fits, elems_fit, external_fits, item_fits, items_fit}
-use Rattle.acpi_code.proofs.Fitting.{AreBytes, both, front_bytes, back_bytes, parts, packed, term_name_fits, text_all, each_fits, fields_fit}
+use Rattle.acpi_tree.specs.Fits.{data_fits, elem_fits, elems_fit, external_fits, item_fits, items_fit}
+use Rattle.acpi_code.proofs.Fitting.{AreBytes, both, parts, packed, term_name_fits, text_all, each_fits, fields_fit}
 
 -- ---- data
 
