@@ -1,5 +1,5 @@
 -- What is read fits.
-use Rattle.std.proofs.Common.{◌≡◌, ℕ, zero, suc, Bool, true, ◌&&◌, eqb, List, [], ◌∷◌, ◌++◌, length, Result, Ok, Err, refl}
+use Rattle.std.proofs.Common.{◌≡◌, ℕ, zero, suc, true, List, [], ◌∷◌, ◌++◌, length, Result, Ok, Err, refl}
 use Rattle.std.specs.Prelude.{IfOk}
 use Rattle.std.specs.FinMap as finite
 use Rattle.std.proofs.lemmas.Bool.{eq-eqb, le-leb}
@@ -9,11 +9,11 @@ use Rattle.acpi_tree.specs.declared.place.OperandKind.{OperandKind}
 use Rattle.acpi_tree.specs.Terms.{TermTree, TermTrees, int, str, buffer, pkg, var_pkg, local, arg, debug, no_target, raw, ref, call, apply, ElseTree, if_do, no_else, else_do, while_do, declare, declare_units, no_terms, more}
 use Rattle.acpi_tree.specs.Operators.{operands_of, operands_before, operands_behind, names_of_units, operands_of_units}
 use Rattle.acpi_tree.specs.Places.{may_stand}
-use Rattle.acpi_tree.specs.TermFits.{term_fits, else_fits, all_stand, operands_fit, terms_fit}
+use Rattle.acpi_tree.specs.TermFits.{term_fits, else_fits, all_stand, operands_fit}
 use Rattle.acpi_code.specs.Opcodes.{opcode_bytes}
 use Rattle.acpi_code.proofs.Fitting.{AreBytes, both, parts, packed, term_name_fits, text_all, fields_fit}
 use Rattle.acpi_body.specs.Arguments.{Locals, Arguments}
-use Rattle.acpi_body.specs.Spelling.{Stands, values, Spells, AreOperands, AreElements}
+use Rattle.acpi_body.specs.Spelling.{values, Spells, AreOperands, AreElements}
 use Rattle.acpi_body.specs.Bodies.{BodyTree, read, unread, IsBodyOf, body_fits}
 use Rattle.acpi_body.specs.Statements.{units_opcode, locals_after, locals_after_all, IsStatement, IsElse, AreStatements}
 

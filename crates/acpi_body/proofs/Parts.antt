@@ -1,5 +1,5 @@
 -- Readings of parts, with their faults as faults of bodies.
-use Rattle.std.proofs.Common.{◌≡◌, ℕ, ◌<◌, List, [], length, Result, Ok, Err, refl, ◌∙◌}
+use Rattle.std.proofs.Common.{◌≡◌, ℕ, ◌<◌, List, length, Result, Ok, Err, refl, ◌∙◌}
 use Rattle.acpi_code.specs.declared.fault.CodeFault.{CodeFault}
 use Rattle.acpi_code.specs.declared.fault.ConstantFault.{ConstantFault}
 use Rattle.acpi_code.specs.declared.fault.FieldFault.{FieldFault}

@@ -1,5 +1,5 @@
 -- What the faults of places and of parts show of a body.
-use Rattle.std.proofs.Common.{◌≡◌, ℕ, ◌-◌, Bool, true, false, cond, Option, Some, None, List, ◌++◌, length, drop, Result, Ok, Err, refl, sym, ap, ◌∙◌, inl, inr}
+use Rattle.std.proofs.Common.{◌≡◌, ℕ, ◌-◌, Bool, true, false, cond, Option, Some, None, List, length, drop, Result, Ok, Err, refl, sym, ap, ◌∙◌, inl, inr}
 use Rattle.acpi_name.specs.Names.{Segment}
 use Rattle.acpi_tree.specs.Operators.{is_expression, is_reference}
 use Rattle.acpi_tree.specs.declared.place.Place.{Place}
@@ -22,7 +22,7 @@ use Rattle.acpi_code.proofs.Opcodes.{Opened}
 use Rattle.acpi_body.specs.declared.fault.BodyReason.{BodyReason}
 use Rattle.acpi_body.specs.declared.fault.BodyReason.TheVariants.{BadOpcode, NotStatement, NotValue, NotTarget, LeftOut, NotData}
 use Rattle.acpi_body.specs.declared.fault.BodyFault.{BodyFault}
-use Rattle.acpi_body.specs.Refusals.{simple_name_refusal, super_name_refusal, data_refusal, refusal_at}
+use Rattle.acpi_body.specs.Refusals.{refusal_at}
 use Rattle.acpi_body.specs.Faults.{reason_of, fault_of, constant_fault_of, IsMisplaced, Shows}
 use Rattle.acpi_body.specs.steps.Reading.{part, fields_in, unless}
 

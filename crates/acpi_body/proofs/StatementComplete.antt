@@ -1,5 +1,5 @@
 -- Statements that are spelled are read.
-use Rattle.std.proofs.Common.{◌≡◌, ℕ, zero, suc, ◌-◌, ◌+◌, ◌≤◌, ◌<◌, max, Bool, true, false, cond, eqb, List, [], ◌∷◌, ◌++◌, length, Option, Some, None, Result, Ok, Err, refl, sym, ap, subst, ◌∙◌, append_assoc, arith}
+use Rattle.std.proofs.Common.{◌≡◌, ℕ, zero, suc, ◌-◌, ◌+◌, ◌≤◌, ◌<◌, Bool, true, false, eqb, List, [], ◌∷◌, ◌++◌, length, Option, Some, None, Result, Ok, Err, refl, sym, ap, ◌∙◌, append_assoc, arith}
 use Rattle.std.proofs.lemmas.List.{append-nil, length-append}
 use Rattle.std.proofs.lemmas.Bool.{eqb-true}
 use Rattle.acpi_name.specs.Names.{Segment, NameParts}
@@ -11,27 +11,25 @@ use Rattle.acpi_tree.specs.declared.place.NamedForm.{NamedForm}
 use Rattle.acpi_tree.specs.declared.place.NamedForm.TheVariants as named
 use Rattle.acpi_tree.specs.declared.place.UnitsForm.{UnitsForm}
 use Rattle.acpi_tree.specs.declared.place.UnitsForm.TheVariants as units
-use Rattle.acpi_tree.specs.declared.tree.Width.{Width}
-use Rattle.acpi_tree.specs.declared.tree.Width.TheVariants as widths
 use Rattle.acpi_tree.specs.Tree.{FieldTree}
-use Rattle.acpi_tree.specs.Terms.{TermTree, TermTrees, raw, no_target, ElseTree, if_do, no_else, else_do, while_do, declare, declare_units, no_terms, more, terms_of}
+use Rattle.acpi_tree.specs.Terms.{TermTree, TermTrees, raw, ElseTree, if_do, no_else, else_do, while_do, declare, declare_units, no_terms, more, terms_of}
 use Rattle.acpi_tree.specs.Operators.{operands_before, operands_behind, names_of_units, operands_of_units}
 use Rattle.acpi_code.specs.declared.fault.CodeFault.{CodeFault}
 use Rattle.acpi_code.specs.declared.opcode.Opcode.{Opcode}
 use Rattle.acpi_code.specs.declared.opcode.Opcode.TheVariants as opcodes
-use Rattle.acpi_code.specs.Opcodes.{opcode_bytes, width_bytes}
-use Rattle.acpi_code.specs.Spelling.{SpellsEach, Packs}
-use Rattle.acpi_code.specs.steps.Reading.{◌>>=◌, Reading, byte_at, package_at, package_of, name_in, opcode_at}
+use Rattle.acpi_code.specs.Opcodes.{opcode_bytes}
+use Rattle.acpi_code.specs.Spelling.{SpellsEach}
+use Rattle.acpi_code.specs.steps.Reading.{Reading, byte_at, opcode_at}
 use Rattle.acpi_code.proofs.Names.{name_in_complete}
 use Rattle.acpi_code.proofs.Opcodes.{opens}
 use Rattle.acpi_code.proofs.Packages.{front_is, package_complete}
 use Rattle.acpi_body.specs.declared.fault.BodyFault.{BodyFault}
 use Rattle.acpi_body.specs.Arguments.{Locals, Arguments}
-use Rattle.acpi_body.specs.Spelling.{Spells, AreOperands, height, else_height, heights}
+use Rattle.acpi_body.specs.Spelling.{Spells, height, else_height, heights}
 use Rattle.acpi_code.specs.Fields.{SpellsFields}
-use Rattle.acpi_body.specs.Statements.{named_opcode, units_opcode, MayDeclare, locals_after, locals_after_else, locals_after_all, IsStatement, IsElse, AreStatements}
+use Rattle.acpi_body.specs.Statements.{named_opcode, units_opcode, MayDeclare, locals_after, locals_after_all, IsStatement, IsElse, AreStatements}
 use Rattle.acpi_body.specs.Refusals.{refusal_at}
-use Rattle.acpi_body.specs.steps.Reading.{Reader, Statements, part, operands_at, form_by, placed_by, term_at, declared_if, declared_at, named_form, names_at, fields_in, units_form, statements_with, statements_by, else_at, if_form, while_form, statement_by, statement_at, statements_at}
+use Rattle.acpi_body.specs.steps.Reading.{Reader, Statements, operands_at, placed_by, term_at, declared_if, declared_at, named_form, names_at, units_form, statements_with, else_at, if_form, while_form, statement_by, statement_at, statements_at}
 use Rattle.acpi_body.proofs.Allowed.{lead_of, Allowed, allowed_at}
 use Rattle.acpi_code.proofs.Fields.{fields_complete}
 use Rattle.acpi_body.proofs.TermComplete.{listed, terms_of-listed, spelled_long, suits_high, placed_made, term_complete, operands_complete, form_complete}

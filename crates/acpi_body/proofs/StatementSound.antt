@@ -1,5 +1,5 @@
 -- Statements that are read are spelled so, or the fault shows why they aren't read.
-use Rattle.std.proofs.Common.{◌≡◌, ℕ, zero, suc, ◌-◌, ◌+◌, ◌≤◌, ◌<◌, max, Bool, true, false, eqb, ◌&&◌, List, [], ◌∷◌, ◌++◌, length, Option, Some, None, Result, Ok, Err, refl, sym, ap, subst, ◌∙◌, append_assoc, arith, inl, inr}
+use Rattle.std.proofs.Common.{◌≡◌, ℕ, zero, suc, ◌+◌, ◌≤◌, ◌<◌, true, false, eqb, ◌&&◌, List, [], ◌∷◌, ◌++◌, length, Option, Some, None, Result, Ok, refl, sym, ap, subst, ◌∙◌, append_assoc, arith, inl, inr}
 use Rattle.std.specs.Prelude.{is_none}
 use Rattle.std.proofs.lemmas.List.{length-append}
 use Rattle.std.proofs.lemmas.Bool.{eqb-true}
@@ -11,29 +11,27 @@ use Rattle.acpi_tree.specs.declared.place.NamedForm.{NamedForm}
 use Rattle.acpi_tree.specs.declared.place.NamedForm.TheVariants as named
 use Rattle.acpi_tree.specs.declared.place.UnitsForm.{UnitsForm}
 use Rattle.acpi_tree.specs.declared.place.UnitsForm.TheVariants as units
-use Rattle.acpi_tree.specs.Tree.{FieldTree}
-use Rattle.acpi_tree.specs.Terms.{TermTree, TermTrees, raw, ElseTree, if_do, no_else, else_do, while_do, declare, declare_units, no_terms, more, terms_of}
+use Rattle.acpi_tree.specs.Terms.{TermTree, ElseTree, if_do, while_do, declare, declare_units, terms_of}
 use Rattle.acpi_tree.specs.Operators.{operands_before, operands_behind, names_of_units, operands_of_units}
 use Rattle.acpi_code.specs.declared.opcode.Opcode.{Opcode}
 use Rattle.acpi_code.specs.declared.opcode.Opcode.TheVariants as opcodes
 use Rattle.acpi_code.specs.Opcodes.{opcode_bytes}
 use Rattle.acpi_code.specs.Spelling.{SpellsEach, Packs}
 use Rattle.acpi_code.specs.steps.Reading.{◌>>=◌, Reading, Package, package_at, name_in, opcode_at}
-use Rattle.acpi_code.proofs.Readings.{Judge, judge_bind, judge_into, judge_if, Source, Position, Front, Read, stands_at, position_after, position_deeper, position_up, no_level_shows}
+use Rattle.acpi_code.proofs.Readings.{Judge, judge_bind, judge_into, judge_if, Source, Position, Read, stands_at, position_after, position_deeper, position_up, no_level_shows}
 use Rattle.acpi_code.proofs.Names.{name_sound}
 use Rattle.acpi_code.proofs.Opcodes.{Opened, opcode_sound}
 use Rattle.acpi_code.proofs.Packages.{GoodPackage, package_sound}
 use Rattle.acpi_body.specs.declared.fault.BodyFault.{BodyFault}
 use Rattle.acpi_body.specs.declared.fault.BodyReason.TheVariants.{BadPlace}
 use Rattle.acpi_body.specs.Arguments.{Locals, Arguments}
-use Rattle.acpi_body.specs.Spelling.{Stands, Spells, AreOperands, height, else_height, heights}
+use Rattle.acpi_body.specs.Spelling.{Stands, Spells, height, else_height, heights}
 use Rattle.acpi_code.specs.Fields.{SpellsFields}
-use Rattle.acpi_body.specs.Faults.{CantDeclare}
 use Rattle.acpi_body.specs.Refusals.{refusal_at}
-use Rattle.acpi_body.specs.Statements.{named_opcode, units_opcode, MayDeclare, locals_after, locals_after_else, locals_after_all, IsStatement, IsElse, AreStatements}
+use Rattle.acpi_body.specs.Statements.{named_opcode, units_opcode, MayDeclare, locals_after, locals_after_all, IsStatement, IsElse, AreStatements}
 use Rattle.acpi_body.specs.steps.Reading.{Reader, Statements, part, fault_at, operands_at, placed_by, term_at, declared_if, declared_at, named_form, names_at, fields_in, units_form, statements_with, else_at, if_form, while_form, statement_by, statement_at, statements_at}
 use Rattle.acpi_body.proofs.Places.{Bad, part_bad, part_sound, fields_sound}
-use Rattle.acpi_body.proofs.StatementComplete.{statement_starts, named_long, units_long}
+use Rattle.acpi_body.proofs.StatementComplete.{statement_starts}
 use Rattle.acpi_body.proofs.TermSound.{is_block, are_inner, Within, Operands, Inner, operands_sound, placed_sound, term_sound}
 
 -- ---- what was read

@@ -1,5 +1,5 @@
 -- A term that is spelled is read.
-use Rattle.std.proofs.Common.{◌≡◌, ℕ, zero, suc, ◌-◌, ◌+◌, ◌≤◌, ◌<◌, max, Bool, true, false, cond, eqb, ltb, ◌&&◌, List, [], ◌∷◌, ◌++◌, length, slice_index, Option, Some, None, Result, Ok, Err, refl, sym, ap, subst, ◌∙◌, append_assoc, arith}
+use Rattle.std.proofs.Common.{◌≡◌, ℕ, zero, suc, ◌-◌, ◌+◌, ◌≤◌, ◌<◌, Bool, true, false, cond, eqb, List, [], ◌∷◌, ◌++◌, length, slice_index, None, Ok, refl, sym, ap, subst, ◌∙◌, append_assoc, arith}
 use Rattle.std.proofs.lemmas.List.{length-append}
 use Rattle.std.proofs.lemmas.Bool.{eqb-true, lt-ltb}
 use Rattle.acpi_name.specs.Names.{NameParts}
@@ -7,18 +7,18 @@ use Rattle.acpi_name.proofs.NameAgain.{name_long}
 use Rattle.acpi_table.specs.PkgLength.{SpellsPkgLength}
 use Rattle.acpi_tree.specs.declared.op.Op.{Op}
 use Rattle.acpi_tree.specs.declared.place.Place.{Place}
-use Rattle.acpi_tree.specs.declared.place.Place.TheVariants.{Value, SuperName, SimpleName, Element, Data, Statement}
+use Rattle.acpi_tree.specs.declared.place.Place.TheVariants.{Value, SuperName, Element}
 use Rattle.acpi_tree.specs.declared.place.OperandKind.{OperandKind}
 use Rattle.acpi_tree.specs.declared.place.OperandKind.TheVariants.{At, Target, Byte, Word, DWord}
-use Rattle.acpi_tree.specs.Terms.{TermTree, TermTrees, int, str, buffer, pkg, var_pkg, local, arg, debug, no_target, raw, ref, call, apply, if_do, while_do, declare, declare_units, no_terms, more, terms_of}
+use Rattle.acpi_tree.specs.Terms.{TermTree, TermTrees, int, str, buffer, pkg, var_pkg, local, arg, debug, no_target, raw, ref, call, apply, no_terms, more, terms_of}
 use Rattle.acpi_tree.specs.Operators.{operands_of}
-use Rattle.acpi_tree.specs.Places.{is_raw, is_super_name}
+use Rattle.acpi_tree.specs.Places.{is_raw}
 use Rattle.acpi_code.specs.declared.opcode.Opcode.{Opcode}
 use Rattle.acpi_code.specs.declared.opcode.Opcode.TheVariants as opcodes
 use Rattle.acpi_code.specs.declared.opcode.ConstantForm.{ConstantForm}
 use Rattle.acpi_code.specs.Opcodes.{operator_bytes, is_name_start}
 use Rattle.acpi_code.specs.Spelling.{SpellsNumber, SpellsTermName}
-use Rattle.acpi_code.specs.steps.Reading.{◌>>=◌, Reading, byte_at, number_at, package_at, package_of, name_in, each_at, opcode_at, constant_at, string_at}
+use Rattle.acpi_code.specs.steps.Reading.{Reading, byte_at, number_at, each_at, opcode_at, constant_at, string_at}
 use Rattle.acpi_code.proofs.Constants.{form_of, int_opens, int_long}
 use Rattle.acpi_code.proofs.Lists.{AreAll, none_left, one_more, all_at}
 use Rattle.acpi_code.proofs.Names.{name_in_complete}
@@ -26,10 +26,9 @@ use Rattle.acpi_code.proofs.Numbers.{byte_complete, number_complete}
 use Rattle.acpi_code.proofs.Opcodes.{opens, opens_name}
 use Rattle.acpi_code.proofs.Packages.{front_is, package_complete}
 use Rattle.acpi_code.proofs.Strings.{string_complete}
-use Rattle.acpi_body.specs.declared.fault.BodyFault.{BodyFault}
 use Rattle.acpi_body.specs.Refusals.{refusal_at}
 use Rattle.acpi_body.specs.Spelling.{Stands, StandsFor, values, Spells, AreOperands, AreElements, height, heights}
-use Rattle.acpi_body.specs.steps.Reading.{Reader, part, as_raw, target_at, operand_at, operands_at, constant_form, string_form, buffer_form, package_form, var_package_form, calls, named_by, name_form, operator_form, form_by, placed_by, term_at}
+use Rattle.acpi_body.specs.steps.Reading.{Reader, as_raw, target_at, operand_at, operands_at, constant_form, string_form, buffer_form, package_form, var_package_form, calls, name_form, operator_form, form_by, placed_by, term_at}
 use Rattle.acpi_body.proofs.Allowed.{lead_of, Suits, Allowed, allowed_at}
 
 -- ---- lists

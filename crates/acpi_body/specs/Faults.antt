@@ -1,5 +1,5 @@
 -- What a fault shows of the bytes of a method body (ACPI 6.5, 20.2).
-use Rattle.std.specs.Prelude.{◌≡◌, ◌⊎◌, ℕ, Bool, true, false, Option, Some, None, List, ◌++◌, length, drop}
+use Rattle.std.specs.Prelude.{◌≡◌, ◌⊎◌, ℕ, Some, None, List, ◌++◌, length, drop}
 use Rattle.acpi_name.specs.Names.{Segment, NameParts}
 use Rattle.acpi_name.specs.Paths.{place_of}
 use Rattle.acpi_name.specs.Spelling.{SpellsName}
@@ -13,7 +13,7 @@ use Rattle.acpi_code.specs.declared.fault.ConstantFault.TheVariants.{Part, NotCo
 use Rattle.acpi_code.specs.Opcodes.{first_opcode}
 use Rattle.acpi_code.specs.Faults.{Begins, is_no_constant, ShowsPart}
 use Rattle.acpi_body.specs.declared.fault.BodyReason.{BodyReason}
-use Rattle.acpi_body.specs.declared.fault.BodyReason.TheVariants.{Cut, BadOpcode, ReservedBits, BadName, Overrun, NotStatement, NotValue, NotTarget, LeftOut, BadString, TooDeep, NotData, BadPlace}
+use Rattle.acpi_body.specs.declared.fault.BodyReason.TheVariants.{Cut, ReservedBits, BadName, Overrun, BadString, TooDeep, NotData, BadPlace}
 use Rattle.acpi_body.specs.declared.fault.BodyFault.{BodyFault}
 use Rattle.acpi_body.specs.Refusals.{refusal_at, never_begins}
 
