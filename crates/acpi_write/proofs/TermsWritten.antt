@@ -1,5 +1,5 @@
 -- What is written of terms spells them.
-use Rattle.std.proofs.Common.{◌≡◌, ◌≤◌, ◌+◌, ◌%◌, ℕ, true, not, ◌&&◌, List, [], ◌∷◌, ◌++◌, length, Option, Some, None, refl, sym, ap, subst, ◌∙◌, arith}
+use Rattle.std.proofs.Common.{◌≡◌, ◌≤◌, ◌+◌, ◌%◌, ℕ, true, not, ◌&&◌, List, [], ◌∷◌, ◌++◌, length, Some, refl, sym, ap, subst, ◌∙◌, arith}
 use Rattle.std.specs.FinMap as finite
 use Rattle.std.specs.List.{AllByRecursion, list_all}
 use Rattle.std.specs.Prelude.{nat_eq}
@@ -9,13 +9,10 @@ use Rattle.byteorder.specs.Endian.{little_bytes}
 use Rattle.acpi_name.specs.Names.{Segment, NameParts, IsName}
 use Rattle.acpi_name.specs.Spelling.{SpellsName, name_bytes}
 use Rattle.acpi_name.proofs.NameWritten.{name_written}
-use Rattle.acpi_table.specs.PkgLength.{SpellsPkgLength}
-use Rattle.acpi_table.proofs.PkgLengths.{shortest_spells}
 use Rattle.acpi_code.specs.Opcodes.{opcode_bytes, operator_bytes}
 use Rattle.acpi_code.specs.Spelling.{SpellsNumber, SpellsInt, SpellsTermName, SpellsEach, Packs}
 use Rattle.acpi_tree.specs.declared.place.Place.TheVariants.{Value, Element, Statement}
 use Rattle.acpi_tree.specs.declared.place.OperandKind.{OperandKind}
-use Rattle.acpi_tree.specs.Tree.{FieldTree, unit, reserved, access, connect_name, connect_buffer, extended}
 use Rattle.acpi_tree.specs.Terms.{TermTree, TermTrees, int, str, buffer, pkg, var_pkg, local, arg, debug, no_target, raw, ref, call, apply, ElseTree, if_do, no_else, else_do, while_do, declare, declare_units, no_terms, more}
 use Rattle.acpi_tree.specs.Operators.{operands_of, operands_before, operands_behind, names_of_units, operands_of_units}
 use Rattle.acpi_tree.specs.Places.{may_stand, may_be}
@@ -24,9 +21,8 @@ use Rattle.acpi_tree.specs.TermFits.{term_fits, else_fits, all_stand, operands_f
 use Rattle.acpi_body.specs.Arguments.{Locals, Arguments}
 use Rattle.acpi_body.specs.Spelling.{values, Spells, AreOperands, AreElements}
 use Rattle.acpi_body.specs.Statements.{named_opcode, units_opcode, locals_after, locals_after_all, IsStatement, IsElse, AreStatements}
-use Rattle.acpi_write.specs.Canonical.{int_bytes, filled_with, bits_bytes, field_bytes, fields_bytes}
+use Rattle.acpi_write.specs.Canonical.{int_bytes, filled_with, fields_bytes}
 use Rattle.acpi_write.specs.CanonicalTerms.{names_bytes, term_bytes, else_bytes, terms_bytes}
-use Rattle.acpi_write.specs.Laws.{IsFieldTyped}
 use Rattle.acpi_write.specs.TermLaws.{IsTermTyped, IsElseTyped, AreTermsTyped, count_of, IsCounted, AreCounted, MayStandIn, ElseMayStandIn, AllMayStandIn, TermsAreSpelled}
 use Rattle.acpi_write.proofs.Written.{first_of, second_of, both_of, some_is, filled_is, front_is, number_written, int_written, term_name_written, text_written, not_false, fields_written}
 
