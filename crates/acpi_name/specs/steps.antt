@@ -2,3 +2,4 @@ pub mod Reading
 pub mod PathOrder
 pub mod NameOrder
 pub mod TextReading
+pub mod NameKept

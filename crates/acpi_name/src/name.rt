@@ -9,6 +9,7 @@ ghost use Rattle.std.specs.Cmp.{partial_equiv_from_equiv};
 use crate::seg::Seg;
 use std::alloc::{AllocError, Global};
 use std::marker::Model;
+use std::slice::from_ref;
 
 /// A name, lent from the bytes that spell it (ACPI 6.5, 20.2.2 NameString).
 #[derive(Debug, Clone, Copy)]
@@ -99,30 +100,40 @@ impl<'a> NameRef<'a> {
     pub fn own(self, alloc: Global) -> Result<Name, AllocError>
         ensures { IfOk result (λ n. n ≡ name_parts self.entry) }
     {
+        let (single, segs) = match self.segs {
+            [seg] => (Some(*seg), Vec::new(alloc)),
+            segs => (None, Vec::from_slice(alloc, segs)?),
+        };
         Ok(Name {
             rooted: self.rooted,
             parents: self.parents,
-            segs: Vec::from_slice(alloc, self.segs)?,
+            single,
+            segs,
         })
     }
 }
 
-/// A name that owns its segments. They are kept as the name's shortest spelling has them.
+/// A name that owns its segments. They are kept as the name's shortest spelling has them, and one segment, as
+/// most names have, takes no memory beside the name.
 #[derive(Debug, Drop)]
 pub struct Name {
     rooted: bool,
     parents: u8,
+    // The segment of a name that has one.
+    single: Option<[u8; 4]>,
+    // The segments of any other name.
     segs: Vec<[u8; 4]>,
 }
 
 impl Model for Name {
     ghost use Rattle.acpi_name.specs.Names.{NameParts, IsName};
+    ghost use Rattle.acpi_name.specs.steps.NameKept.{kept};
 
     ghost Value = { NameParts };
 
-    ghost view = { λ n. record { rooted = n.rooted; parents = n.parents; segments = n.segs.items } };
+    ghost view = { λ n. record { rooted = n.rooted; parents = n.parents; segments = kept n.single n.segs.items } };
 
-    ghost invariant = { λ n. IsName record { rooted = n.rooted; parents = n.parents; segments = n.segs.items } };
+    ghost invariant = { λ n. IsName record { rooted = n.rooted; parents = n.parents; segments = kept n.single n.segs.items } };
 }
 
 impl PartialEq for Name {
@@ -134,7 +145,9 @@ impl PartialEq for Name {
         ensures test { result ≡ name_eq self.now other.now }
         ensures same { IsTrue result ↔ (self.now ≡ other.now) }
     {
-        self.rooted == other.rooted && self.parents == other.parents && self.segs == other.segs
+        self.rooted == other.rooted
+            && self.parents == other.parents
+            && self.chunks() == other.chunks()
     }
 }
 
@@ -145,6 +158,16 @@ impl Eq for Name {
 impl Name {
     ghost use Rattle.acpi_name.specs.NameRefs.{name_parts};
 
+    // The segments, four bytes each.
+    fn chunks(&self) -> &[[u8; 4]]
+        ensures { result.now ≡ self.now.segments }
+    {
+        match &self.single {
+            Some(seg) => from_ref(seg),
+            None => &self.segs,
+        }
+    }
+
     /// The name, lent.
     pub fn view(&self) -> NameRef<'_>
         ensures parts { name_parts result ≡ self.now }
@@ -153,7 +176,7 @@ impl Name {
         NameRef {
             rooted: self.rooted,
             parents: self.parents,
-            segs: &self.segs,
+            segs: self.chunks(),
         }
     }
 
@@ -164,6 +187,7 @@ impl Name {
         Ok(Name {
             rooted: self.rooted,
             parents: self.parents,
+            single: self.single,
             segs: self.segs.clone()?,
         })
     }
