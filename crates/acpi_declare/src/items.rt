@@ -20,6 +20,19 @@ use acpi_name::{Name, Path};
 use acpi_space::{SearchFault, Space, misses};
 use acpi_terms::{Item, Object};
 
+/// The most items for which a list keeps memory that it no longer needs.
+const FEW_ITEMS: usize = 1024;
+
+// Gives back the memory of a long list of which more than half has been taken. So the items that wait and the
+// objects that are made of them are never all there at once.
+fn give_back(left: &mut Vec<Item>)
+    ensures { left.new.items ≡ left.old.items }
+{
+    if left.capacity() > FEW_ITEMS && left.len() < left.capacity() / 2 {
+        left.shrink_to_fit();
+    }
+}
+
 impl<S: Space<Object>> Pass<S> {
     // Declares an object inside which others stand, and gives its path.
     fn declare_scope(&mut self, scope: &Path, name: &Name, object: Object) -> Result<Path, Stop>
@@ -60,7 +73,8 @@ impl<S: Space<Object>> Pass<S> {
     fn enter(&mut self, scope: &Path, item: Item) -> Result<Option<(Path, Vec<Item>)>, Stop>
         requires room { OffsetFits (item_view item) }
         requires fits { item_fits (item_view item) ≡ true }
-        ensures ok { IfOk result (λ left. Enters (item_view item) (pass_item (pass_of (S.contents self.old.objects) self.old) scope.now (item_view item)) (pass_of (S.contents self.new.objects) self.new) left) }
+        ensures ok { IfOk result
+            (λ left. Enters (item_view item) (pass_item (pass_of (S.contents self.old.objects) self.old) scope.now (item_view item)) (pass_of (S.contents self.new.objects) self.new) left) }
         ensures refused { IfErr result (λ f. IsStopOf f (pass_item (pass_of (S.contents self.old.objects) self.old) scope.now (item_view item))) }
         ensures lower { OnOk result (S.lower self.new.objects ≡ S.lower self.old.objects) }
     {
@@ -124,7 +138,10 @@ impl<S: Space<Object>> Pass<S> {
         ensures refused { IfErr result (λ f. IsStopOf f (pass_items (pass_of (S.contents self.old.objects) self.old) scope.now (items_tree items.items))) }
         ensures lower { OnOk result (S.lower self.new.objects ≡ S.lower self.old.objects) }
     {
-        for item in items {
+        let mut left = items;
+        left.reverse();
+        while let Some(item) = left.pop() {
+            give_back(&mut left);
             self.declare_item(scope, item)?;
         }
         Ok(())

@@ -49,7 +49,7 @@ fn answers_of<S: Space<Object>>(
     ensures found { IfOk result (λ v. v.items ≡ answers (namespace_of (S.contents objects.now)) scope.now names.now) }
     ensures memory { IfErr result (λ f. f ≡ LoadFault.Memory) }
 {
-    let mut found = Vec::new(alloc);
+    let mut found = Vec::with_capacity(alloc, names.len())?;
     for name in names {
         found.push(answer_of(alloc, objects, scope, name)?)?;
     }
@@ -78,7 +78,7 @@ pub fn copy_answers(
 ) -> Result<Vec<Option<Path>>, AllocError>
     ensures { IfOk result (λ v. v.items ≡ answers.now) }
 {
-    let mut copies = Vec::new(alloc);
+    let mut copies = Vec::with_capacity(alloc, answers.len())?;
     for answer in answers {
         copies.push(match answer {
             Some(path) => Some(path.copy()?),

@@ -1,5 +1,4 @@
-use Rattle.std.proofs.Common.{◌≡◌, ◌+◌, ◌*◌, ◌≤◌, true}
-use Rattle.std.specs.Vec.Iter.{into_iter_items}
+use Rattle.std.proofs.Common.{◌≡◌, ◌+◌, ◌*◌, ◌≤◌, length, reverse, true}
 use Rattle.acpi_tree.specs.Fits.{items_fit}
 use Rattle.acpi_tree.specs.Offsets.{OffsetsFit}
 use Rattle.acpi_tree.specs.View.{item_view, items_tree}
@@ -16,8 +15,11 @@ decreases-declare_items g l = 2 * weights (items_tree l.items.items) + 1
 
 abbrev pub invariant-declare_items-loop-item : goal.invariant-declare_items-loop-item
 invariant-declare_items-loop-item g l =
-    (pass_items (pass_of (g.S.Space.contents l.self.objects) l.self) l.scope (items_tree (into_iter_items l.item-iterator))
-    ≡ pass_items (pass_of (g.S.Space.contents l.initial.self.objects) l.initial.self) l.scope (items_tree (into_iter_items l.initial.item-iterator)))
-    × OffsetsFit (items_tree (into_iter_items l.item-iterator)) × (items_fit (items_tree (into_iter_items l.item-iterator)) ≡ true)
-    × (weights (items_tree (into_iter_items l.item-iterator)) ≤ weights (items_tree (into_iter_items l.initial.item-iterator)))
+    (pass_items (pass_of (g.S.Space.contents l.self.objects) l.self) l.scope (items_tree (reverse l.left.items))
+    ≡ pass_items (pass_of (g.S.Space.contents l.initial.self.objects) l.initial.self) l.scope (items_tree (reverse l.initial.left.items)))
+    × OffsetsFit (items_tree (reverse l.left.items)) × (items_fit (items_tree (reverse l.left.items)) ≡ true)
+    × (weights (items_tree (reverse l.left.items)) ≤ weights (items_tree (reverse l.initial.left.items)))
     × (g.S.Space.lower l.self.objects ≡ g.S.Space.lower l.initial.self.objects)
+
+abbrev pub decreases-declare_items-loop-item : goal.decreases-declare_items-loop-item
+decreases-declare_items-loop-item g l = length l.left.items
