@@ -89,14 +89,16 @@ module _ {A : Type 0} (p : List A → Bool) (outer : ℕ) (xs : List A) where
       ap (filter p) (sym (take-take n m (beginnings xs) fewer) ∙ ap (take n) (sym (skipped_found p xs q e))) ∙ skipped_fail p n (beginnings xs)
 
   -- by what `nearest` says
-  innermost_at : (r : Option ℕ) (depth : ℕ) → r ≡ option_map length (find p (beginnings xs)) → r ≡ Some depth → outer ≤ depth → depth ≤ length xs → IsInnermost p outer xs (Some (take depth xs))
+  innermost_at : (r : Option ℕ) (depth : ℕ) → r ≡ option_map length (find p (beginnings xs)) → r ≡ Some depth → outer ≤ depth → depth ≤ length xs
+      → IsInnermost p outer xs (Some (take depth xs))
   innermost_at r depth e f h w =
       let found : find p (beginnings xs) ≡ Some (take depth xs) = found_there p xs r depth e f in
       let l : length (take depth xs) ≡ depth = length-take-le depth xs w in
       let inside : outer ≤ length (take depth xs) = omega (arith, l) in
       ((longest_of_found p xs (take depth xs) found).passes, inside, omega (arith, l), passing_from (take depth xs) found inside)
 
-  pub innermost_is : (r : Option ℕ) (depth : ℕ) (q : List A) → r ≡ option_map length (find p (beginnings xs)) → r ≡ Some depth → outer ≤ depth → q ≡ take depth xs → IsInnermost p outer xs (Some q)
+  pub innermost_is : (r : Option ℕ) (depth : ℕ) (q : List A) → r ≡ option_map length (find p (beginnings xs)) → r ≡ Some depth → outer ≤ depth → q ≡ take depth xs
+      → IsInnermost p outer xs (Some q)
   innermost_is r depth q e f h is = subst (λ (t : List A). IsInnermost p outer xs (Some t)) (sym is) (innermost_at r depth e f h (found_within p xs r depth e f))
 
   pub none_inside : (r : Option ℕ) (depth : ℕ) → r ≡ option_map length (find p (beginnings xs)) → r ≡ Some depth → depth < outer → IsInnermost p outer xs None
@@ -171,7 +173,8 @@ module _ (defined : List Segment → Bool) (g : Segment) (outer : ℕ) where
         ap (λ l. l ++ below_each (passing Here outer shorter)) put ∙ append_assoc items (path ∷ []) (below_each (passing Here outer shorter))
         ∙ ap (λ p. items ++ p ∷ below_each (passing Here outer shorter)) is ∙ ap (λ l. items ++ below_each l) (sym first) ∙ left
 
-    pub put_end : (shorter : List Segment) (y : Segment) → inner ≡ shorter ++ y ∷ [] → (o : Option (List Segment)) → IsInnermost Here outer shorter o → o ≡ None → more ≡ among_all scope
+    pub put_end : (shorter : List Segment) (y : Segment) → inner ≡ shorter ++ y ∷ [] → (o : Option (List Segment)) → IsInnermost Here outer shorter o → o ≡ None
+        → more ≡ among_all scope
     put_end shorter y e None h n = sym (append-nil more) ∙ ap (λ l. more ++ below_each l) (sym h) ∙ put_more shorter y e ∙ all_are scope
     put_end shorter y e (Some q) h n = cc
 

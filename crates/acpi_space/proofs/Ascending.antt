@@ -46,7 +46,8 @@ before_greater : {V : Type 0} (h k : Segment) (p : List Segment) (es : List (Lis
 before_greater h k p [] l = tt
 before_greater h k p (e ∷ es) l = (ap (λ o. ordering_then o (path_cmp p e.0)) l, before_greater h k p es l)
 
-before_children : {V : Type 0} (below : ℕ → List (List Segment × V)) (h : Segment) (p : List Segment) (kids : List (Segment × ℕ)) → AllByRecursion (λ k. segment_cmp h k ≡ Less) (map (λ e. e.0) kids)
+before_children : {V : Type 0} (below : ℕ → List (List Segment × V)) (h : Segment) (p : List Segment) (kids : List (Segment × ℕ))
+    → AllByRecursion (λ k. segment_cmp h k ≡ Less) (map (λ e. e.0) kids)
     → Before (h ∷ p) (flat_map (λ e. under e.0 (below e.1)) kids)
 before_children below h p [] a = tt
 before_children below h p (k ∷ kids) a = all_append (λ f. path_cmp (h ∷ p) f.0 ≡ Less) (under k.0 (below k.1)) _ (before_greater h k.0 p (below k.1) a.0) (before_children below h p kids a.1)
@@ -96,8 +97,3 @@ pub listed_tree : {V : Type 0} (nodes : List (Node V)) (m : PathMap V) (given : 
     → given ≡ pairs_below (length nodes) nodes 0 → given ≡ entries m
 listed_tree nodes m given t is e =
     e ∙ sym (entries_ascending (pairs_below (length nodes) nodes 0) (sorted_pairs (pairs_below (length nodes) nodes 0) (ascend_below nodes t (length nodes) 0))) ∙ ap entries is
-
-pub listed_pairs : {V R E : Type 0} (nodes lent : List (Node V)) (m : PathMap V) (r : Result R E) (given : R → List (List Segment × V)) → IsTree nodes → tree_map nodes ≡ m → lent ≡ nodes
-    → IfOk r (λ v. given v ≡ pairs_below (length lent) lent 0) → IfOk r (λ v. given v ≡ entries m)
-listed_pairs nodes lent m (Ok v) given t is same e = listed_tree nodes m (given v) t is (e ∙ ap (λ l. pairs_below (length l) l 0) same)
-listed_pairs nodes lent m (Err f) given t is same e = tt

@@ -138,7 +138,8 @@ module _ {V : Type 0} (old new : List (Node V)) (number : ℕ) (g : Segment) (m 
           let none : child_at old n h ≡ None = ap (λ k. child_at old k h) f.0 ∙ ap (child_at old number) (sym f.1) ∙ is.free in
           cc
 
-  linked_nodes : (n : ℕ) → IsStrictlySortedBy segment_cmp (map (λ e. e.0) (node_children (slice_get new n))) × AllByRecursion (λ e. (n < e.1) × (e.1 < length new)) (node_children (slice_get new n))
+  linked_nodes : (n : ℕ) → IsStrictlySortedBy segment_cmp (map (λ e. e.0) (node_children (slice_get new n)))
+      × AllByRecursion (λ e. (n < e.1) × (e.1 < length new)) (node_children (slice_get new n))
   linked_nodes n = by (nat_eq n number) refl
     where
       same_bound : (kids : List (Segment × ℕ)) → AllByRecursion (λ e. (n < e.1) × (e.1 < length old)) kids → AllByRecursion (λ e. (n < e.1) × (e.1 < length new)) kids
@@ -185,7 +186,8 @@ unlinked_padded {V} old new number others value kids = record {
   values = λ n. by n (nat_eq n number) refl (λ o. node_value o) value;
 }
   where
-    by : {B : Type 0} (n : ℕ) (b : Bool) → nat_eq n number ≡ b → (f : Option (Node V) → B) → f (slice_get new number) ≡ f (slice_get old number) → f (slice_get new n) ≡ f (slice_get old n)
+    by : {B : Type 0} (n : ℕ) (b : Bool) → nat_eq n number ≡ b → (f : Option (Node V) → B) → f (slice_get new number) ≡ f (slice_get old number)
+        → f (slice_get new n) ≡ f (slice_get old n)
     by n true e f h = let at : number ≡ n = sym (same_number n number e) in subst (λ k. f (slice_get new k) ≡ f (slice_get old k)) at h
     by n false e f h = ap f (others n (other_number n number e))
 

@@ -85,7 +85,8 @@ module _ {V : Type 0} (mid new : List (Node V)) (p : List Segment) (k : ℕ) (v 
   put_value : (q : List Segment) → value_below new 0 q ≡ cond (is_eq (path_cmp q p)) (Some v) (value_below mid 0 q)
   put_value q = ap (option_and_then (λ m. node_value (slice_get new m))) (same_reached mid new has.children 0 q) ∙ by (reached mid 0 q) refl (is_eq (path_cmp q p)) refl
     where
-      there : (j : ℕ) → reached mid 0 q ≡ Some j → (b : Bool) → is_eq (path_cmp q p) ≡ b → (s : Bool) → nat_eq j k ≡ s → node_value (slice_get new j) ≡ cond b (Some v) (node_value (slice_get mid j))
+      there : (j : ℕ) → reached mid 0 q ≡ Some j → (b : Bool) → is_eq (path_cmp q p) ≡ b → (s : Bool) → nat_eq j k ≡ s
+          → node_value (slice_get new j) ≡ cond b (Some v) (node_value (slice_get mid j))
       there j e b eb true es = let same : j ≡ k = same_number j k es in
           let path : q ≡ p = one_walk mid t q p k (e ∙ ap Some same) at in
           let yes : b ≡ true = sym eb ∙ ap (λ r. is_eq (path_cmp r p)) path ∙ path_itself p in

@@ -22,14 +22,16 @@ kept_find small large up (p ∷ l) free = kept_at small large p (Some p) (find s
 pub kept_skipped : {A : Type 0} (small large : A → Bool) → ((p : A) → small p ≡ true → large p ≡ true) → (l : List A)
     → AllByRecursion (λ p. large p ≡ false) (skipped small l) → skipped large l ≡ skipped small l
 kept_skipped small large up [] free = refl
-kept_skipped small large up (p ∷ l) free = kept_at small large p [] (p ∷ skipped small l) (p ∷ skipped large l) (skipped small l) (up p) free (λ f. ap (λ r. p ∷ r) (kept_skipped small large up l f))
+kept_skipped small large up (p ∷ l) free = kept_at small large p [] (p ∷ skipped small l) (p ∷ skipped large l) (skipped small l) (up p) free
+    (λ f. ap (λ r. p ∷ r) (kept_skipped small large up l f))
 
 pub fewer_skipped : (small large : List Segment → Bool) → ((p : List Segment) → small p ≡ true → large p ≡ true)
     → (l : List (List Segment)) (p : List Segment) → Among (skipped large l) p → Among (skipped small l) p
 fewer_skipped small large up [] p m = m
 fewer_skipped small large up (x ∷ l) p m = by (small x) (large x) refl refl m (fewer_skipped small large up l p)
   where
-    by : (a b : Bool) → small x ≡ a → large x ≡ b → Among (cond b [] (x ∷ skipped large l)) p → (Among (skipped large l) p → Among (skipped small l) p) → Among (cond a [] (x ∷ skipped small l)) p
+    by : (a b : Bool) → small x ≡ a → large x ≡ b → Among (cond b [] (x ∷ skipped large l)) p → (Among (skipped large l) p → Among (skipped small l) p)
+        → Among (cond a [] (x ∷ skipped small l)) p
     by a true e f m ih = absurd m
     by true false e f m ih = let g : large x ≡ true = up x e in absurd cc
     by false false e f (inl is) ih = inl is

@@ -115,7 +115,8 @@ nearest-unlent {V} {S} contents space s g e = sym (ap (λ o. option_map length (
 
 -- ---- what the lookups in the two parts say
 
-pub found_below : {V : Type 0} (lower upper : PathMap V) (q : List Segment) (o : Option (Bor V)) (x : Bor V) → option_copied o ≡ get lower q → o ≡ Some x → Some x.now ≡ get (both lower upper) q
+pub found_below : {V : Type 0} (lower upper : PathMap V) (q : List Segment) (o : Option (Bor V)) (x : Bor V) → option_copied o ≡ get lower q → o ≡ Some x
+    → Some x.now ≡ get (both lower upper) q
 found_below lower upper q o x e is = sym (get-both lower upper q ∙ ap (λ r. option_or r (get upper q)) (sym e ∙ ap option_copied is))
 
 pub found_above : {V : Type 0} (lower upper : PathMap V) (q : List Segment) (o r : Option (Bor V)) → option_copied o ≡ get lower q → o ≡ None
@@ -141,7 +142,8 @@ above : {V : Type 0} (lower upper : PathMap V) (q : List Segment) → get lower 
 above lower upper q free = get-both lower upper q ∙ ap (λ o. option_or o (get upper q)) free
 
 -- an insertion into the upper part, at a path that the lower one doesn't have
-pub inserted_free : {V R E : Type 0} (lower upper : PathMap V) (q : List Segment) (r : Result R E) → get lower q ≡ None → OnOk r (get upper q ≡ None) → OnOk r (get (both lower upper) q ≡ None)
+pub inserted_free : {V R E : Type 0} (lower upper : PathMap V) (q : List Segment) (r : Result R E) → get lower q ≡ None → OnOk r (get upper q ≡ None)
+    → OnOk r (get (both lower upper) q ≡ None)
 inserted_free lower upper q (Ok x) free e = above lower upper q free ∙ e
 inserted_free lower upper q (Err x) free e = tt
 
@@ -195,7 +197,8 @@ longer_depth {A} p r [] = root_length A (p [] || r []) ∙ root_or (p []) (r [])
 longer_depth {A} p r (x ∷ xs) = cons (λ q. p q || r q) ∙ ap (λ o. option_or (option_map suc o) (root (p [] || r []))) (longer_depth (λ q. p (x ∷ q)) (λ q. r (x ∷ q)) xs)
     ∙ longer_step (depth (λ q. p (x ∷ q)) xs) (depth (λ q. r (x ∷ q)) xs) (p []) (r []) ∙ (λ i. longer (sym (cons p) i) (sym (cons r) i))
   where
-    cons : (t : List A → Bool) → option_map length (lists.find t (beginnings (x ∷ xs))) ≡ option_or (option_map suc (option_map length (lists.find (λ q. t (x ∷ q)) (beginnings xs)))) (root (t []))
+    cons : (t : List A → Bool) → option_map length (lists.find t (beginnings (x ∷ xs))) ≡ option_or
+        (option_map suc (option_map length (lists.find (λ q. t (x ∷ q)) (beginnings xs)))) (root (t []))
     cons t = ap (option_map length) (found_cons t x xs) ∙ taller x (lists.find (λ q. t (x ∷ q)) (beginnings xs)) (t [])
 
 some-both : {X : Type 0} (o p : Option X) → is_some (option_or o p) ≡ is_some o || is_some p
@@ -219,7 +222,8 @@ lookup-seen : {V : Type 0} (t : List Segment → Bool) (es : List (List Segment 
 lookup-seen t [] = refl
 lookup-seen {V} t (e ∷ es) = by (t e.0) (lookup-seen t es)
   where
-    by : (b : Bool) → lookup t (map seen es) ≡ option_map (λ v. v.now) (lookup t es) → cond b (Some e.1.now) (lookup t (map seen es)) ≡ option_map (λ v. v.now) (cond b (Some e.1) (lookup t es))
+    by : (b : Bool) → lookup t (map seen es) ≡ option_map (λ v. v.now) (lookup t es)
+        → cond b (Some e.1.now) (lookup t (map seen es)) ≡ option_map (λ v. v.now) (cond b (Some e.1) (lookup t es))
     by true more = refl
     by false more = more
 
@@ -235,7 +239,8 @@ is_some-map f (Some x) = refl
 
 one_put : {V : Type 0} (es fs : List (List Segment × Bor V)) (k : List Segment) (v : Bor V)
     → ((q : List Segment) → at fs q ≡ cond (is_eq (path_cmp k q)) (Some v) (at es q)) → pairs_of fs ≡ insert (pairs_of es) k v.now
-one_put {V} es fs k v h = put_is_insert (map seen es) (map seen fs) k v.now (λ q. lookup-seen (λ x. is_eq (path_cmp q x)) fs ∙ ap (option_map (λ v. v.now)) (h q) ∙ by (is_eq (path_cmp k q)) (at es q)
+one_put {V} es fs k v h = put_is_insert (map seen es) (map seen fs) k v.now
+    (λ q. lookup-seen (λ x. is_eq (path_cmp q x)) fs ∙ ap (option_map (λ v. v.now)) (h q) ∙ by (is_eq (path_cmp k q)) (at es q)
     ∙ ap (cond (is_eq (path_cmp k q)) (Some v.now)) (sym (lookup-seen (λ x. is_eq (path_cmp q x)) es)))
   where
     by : (b : Bool) (o : Option (Bor V)) → option_map (λ v. v.now) (cond b (Some v) o) ≡ cond b (Some v.now) (option_map (λ v. v.now) o)
@@ -243,7 +248,8 @@ one_put {V} es fs k v h = put_is_insert (map seen es) (map seen fs) k v.now (λ 
     by false o = refl
 
 pub pair_added : {V : Type 0} (es fs : List (List Segment × Bor V)) (k : List Segment) (v : Bor V) (more left : List (List Segment × Bor V)) (all : PathMap V) (b : Bool)
-    → both (pairs_of es) (pairs_of more) ≡ all → more ≡ (k, v) ∷ left → b ≡ is_some (at es k) → b ≡ false → ((q : List Segment) → at fs q ≡ cond (is_eq (path_cmp k q)) (Some v) (at es q))
+    → both (pairs_of es) (pairs_of more) ≡ all → more ≡ (k, v) ∷ left → b ≡ is_some (at es k) → b ≡ false
+    → ((q : List Segment) → at fs q ≡ cond (is_eq (path_cmp k q)) (Some v) (at es q))
     → both (pairs_of fs) (pairs_of left) ≡ all
 pair_added es fs k v more left all b inv m e f h =
     ap (λ n. both n (pairs_of left)) (one_put es fs k v h)
@@ -256,14 +262,16 @@ pair_passed es k v more left all b inv m e t =
     sym (both-first (pairs_of es) k v.now (map seen left) (ap is_some (get-seen es k) ∙ is_some-map (λ v. v.now) (at es k) ∙ sym e ∙ t))
     ∙ ap (λ l. both (pairs_of es) (pairs_of l)) (sym m) ∙ inv
 
-pub pairs_added : {V : Type 0} (es : List (List Segment × Bor V)) (more : List (List Segment × Bor V)) (all : PathMap V) → both (pairs_of es) (pairs_of more) ≡ all → more ≡ [] → pairs_of es ≡ all
+pub pairs_added : {V : Type 0} (es : List (List Segment × Bor V)) (more : List (List Segment × Bor V)) (all : PathMap V) → both (pairs_of es) (pairs_of more) ≡ all → more ≡ []
+    → pairs_of es ≡ all
 pairs_added es more all inv m = sym (both-nothing (pairs_of es) (pairs_of more) (ap pairs_of m)) ∙ inv
 
 made_again : {V : Type 0} (xs : List (List Segment × Bor V)) (m : PathMap V) → map seen xs ≡ entries m → pairs_of xs ≡ m
 made_again xs m e = ap from_entries e ∙ same_paths (from_entries (entries m)) m (λ q. get-from_entries path_cmp_total (entries m) q ∙ sym (get-entries m q))
 
 -- the pairs of the lower map, and then those of the upper one
-pub both_gathered : {V : Type 0} (none es fs xs ys : List (List Segment × Bor V)) (lower upper : PathMap V) → none ≡ [] → pairs_of es ≡ both (pairs_of none) (pairs_of xs) → map seen xs ≡ entries lower
+pub both_gathered : {V : Type 0} (none es fs xs ys : List (List Segment × Bor V)) (lower upper : PathMap V) → none ≡ [] → pairs_of es ≡ both (pairs_of none) (pairs_of xs)
+    → map seen xs ≡ entries lower
     → pairs_of fs ≡ both (pairs_of es) (pairs_of ys) → map seen ys ≡ entries upper → pairs_of fs ≡ both lower upper
 both_gathered none es fs xs ys lower upper n e x f y =
     let first : pairs_of es ≡ lower = e ∙ ap (λ l. both (pairs_of l) (pairs_of xs)) n ∙ nothing-both (pairs_of xs) ∙ made_again xs lower x in

@@ -58,7 +58,8 @@ past {A} p (y ∷ l) d x = by (p y) (past p l d.1 x)
     first None e h = tt
     first (Some z) e h = let lt : length z < length y = among_all (λ z. length z < length y) l z d.0 (found_among p l z e) in subst (λ r. length z < length r) h lt
 
-    by : (b : Bool) → Among (skipped p l) x ↔ (Among l x × IsPast (find p l) x) → Among (cond b [] (y ∷ skipped p l)) x ↔ (((y ≡ x) ⊎ Among l x) × IsPast (cond b (Some y) (find p l)) x)
+    by : (b : Bool) → Among (skipped p l) x ↔ (Among l x × IsPast (find p l) x) → Among (cond b [] (y ∷ skipped p l)) x
+        ↔ (((y ≡ x) ⊎ Among l x) × IsPast (cond b (Some y) (find p l)) x)
     by true ih = (λ m. absurd m, λ m. none m.0 m.1)
       where
         none : (y ≡ x) ⊎ Among l x → length y < length x → ⊥
@@ -74,7 +75,8 @@ past {A} p (y ∷ l) d x = by (p y) (past p l d.1 x)
         from (inl e, h) = inl e
         from (inr m, h) = inr (ih.1 (m, h))
 
-shorter_under : {A : Type 0} (x : A) (q : List A) (l : List (List A)) → AllByRecursion (λ z. length z < length q) l → AllByRecursion (λ z. length z < length (x ∷ q)) (map (λ q. x ∷ q) l ++ [] ∷ [])
+shorter_under : {A : Type 0} (x : A) (q : List A) (l : List (List A)) → AllByRecursion (λ z. length z < length q) l
+    → AllByRecursion (λ z. length z < length (x ∷ q)) (map (λ q. x ∷ q) l ++ [] ∷ [])
 shorter_under x q [] a = (omega arith, tt)
 shorter_under x q (z ∷ l) a = let lt : length z < length q = a.0 in (omega arith, shorter_under x q l a.1)
 
@@ -140,7 +142,8 @@ begins_it {A} [] q m = by m
     by (inr m) = absurd m
 begins_it {A} (x ∷ xs) q m = by (begins_it xs) ((among_last (map (λ q. x ∷ q) (beginnings xs)) [] q).0 m)
   where
-    by : ((r : List A) → Among (beginnings xs) r → (rest : List A) × (xs ≡ r ++ rest)) → Among (map (λ q. x ∷ q) (beginnings xs)) q ⊎ ([] ≡ q) → (rest : List A) × (x ∷ xs ≡ q ++ rest)
+    by : ((r : List A) → Among (beginnings xs) r → (rest : List A) × (xs ≡ r ++ rest)) → Among (map (λ q. x ∷ q) (beginnings xs)) q ⊎ ([] ≡ q) → (rest : List A)
+        × (x ∷ xs ≡ q ++ rest)
     by ih (inl k) =
         let r : (r : List A) × Among (beginnings xs) r × (q ≡ x ∷ r) = (among_map (λ q. x ∷ q) (beginnings xs) q).0 k in
         let t : (rest : List A) × (xs ≡ r.0 ++ rest) = ih r.0 r.1 in
@@ -175,7 +178,8 @@ missed_are_past defined s n g e p =
     past defined (tries_of s n (Some g)) (decreasing_below g (beginnings s) (beginnings_decrease s)) p in
     (λ m. ((below_scope s g p).0 (at.0 m).0, (at.0 m).1), λ m. at.1 ((below_scope s g p).1 m.0, m.1)))
 
-missed_place : (defined : List Segment → Bool) (place : Option (List Segment)) (p : List Segment) → Among (skipped defined (option_to_list place)) p ↔ ((place ≡ Some p) × (defined p ≡ false))
+missed_place : (defined : List Segment → Bool) (place : Option (List Segment)) (p : List Segment) → Among (skipped defined (option_to_list place)) p
+    ↔ ((place ≡ Some p) × (defined p ≡ false))
 missed_place defined None p = (λ m. absurd m, λ m. let e : None ≡ Some p = m.0 in cc)
 missed_place defined (Some r) p = by (defined r) refl
   where

@@ -18,7 +18,8 @@ skipped_in : {A : Type 0} (p : A → Bool) (xs ys : List A) (x : A) → find p x
 skipped_in p [] ys x e = cc
 skipped_in {A} p (y ∷ xs) ys x e = by (p y) e (skipped_in p xs ys x)
   where
-    by : (b : Bool) → cond b (Some y) (find p xs) ≡ Some x → (find p xs ≡ Some x → skipped p (xs ++ ys) ≡ skipped p xs) → cond b [] (y ∷ skipped p (xs ++ ys)) ≡ cond b [] (y ∷ skipped p xs)
+    by : (b : Bool) → cond b (Some y) (find p xs) ≡ Some x → (find p xs ≡ Some x → skipped p (xs ++ ys) ≡ skipped p xs)
+        → cond b [] (y ∷ skipped p (xs ++ ys)) ≡ cond b [] (y ∷ skipped p xs)
     by true e ih = refl
     by false e ih = ap (λ r. y ∷ r) (ih e)
 
@@ -27,7 +28,8 @@ skipped_past : {A : Type 0} (p : A → Bool) (xs ys : List A) → find p xs ≡ 
 skipped_past p [] ys e = refl
 skipped_past {A} p (y ∷ xs) ys e = by (p y) e (skipped_past p xs ys)
   where
-    by : (b : Bool) → cond b (Some y) (find p xs) ≡ None → (find p xs ≡ None → skipped p (xs ++ ys) ≡ xs ++ skipped p ys) → cond b [] (y ∷ skipped p (xs ++ ys)) ≡ y ∷ xs ++ skipped p ys
+    by : (b : Bool) → cond b (Some y) (find p xs) ≡ None → (find p xs ≡ None → skipped p (xs ++ ys) ≡ xs ++ skipped p ys)
+        → cond b [] (y ∷ skipped p (xs ++ ys)) ≡ y ∷ xs ++ skipped p ys
     by true e ih = cc
     by false e ih = ap (λ r. y ∷ r) (ih e)
 

@@ -59,7 +59,8 @@ nearest_stop nodes n g x depth xs found e =
 abbrev root_if : Bool → Option (List Segment)
 root_if hit = cond hit (Some []) None
 
-pub nearest_end : {V : Type 0} (nodes : List (Node V)) (n : ℕ) (g : Segment) (depth : ℕ) (found : Option ℕ) → nearest_from nodes n g depth [] found ≡ cond (has_child nodes n g) (Some depth) found
+pub nearest_end : {V : Type 0} (nodes : List (Node V)) (n : ℕ) (g : Segment) (depth : ℕ) (found : Option ℕ)
+    → nearest_from nodes n g depth [] found ≡ cond (has_child nodes n g) (Some depth) found
 nearest_end nodes n g depth found = by (has_child nodes n g)
   where
     by : (hit : Bool) → option_or (option_map (λ q. depth + length q) (root_if hit)) found ≡ cond hit (Some depth) found

@@ -31,7 +31,8 @@ longer nodes n [] mark t e = (e, tt)
 longer nodes n (m ∷ marks) mark t e = (t.0, longer nodes m.number marks mark t.1 e)
 
 -- a child of the node at its end is put, or nothing
-pub trail_extended : {V : Type 0} (nodes : List (Node V)) (n : ℕ) (marks marks' : List Mark) (number : ℕ) (g : Segment) (next : ℕ) → IsTrail nodes n marks → child_at nodes number g ≡ Some next
+pub trail_extended : {V : Type 0} (nodes : List (Node V)) (n : ℕ) (marks marks' : List Mark) (number : ℕ) (g : Segment) (next : ℕ) → IsTrail nodes n marks
+    → child_at nodes number g ≡ Some next
     → (marks' ≡ marks) ⊎ (trail_end n marks ≡ number) × (marks' ≡ marks ++ record { seg = g; number = next } ∷ []) → IsTrail nodes n marks'
 trail_extended nodes n marks marks' number g next t e (inl same) = subst (IsTrail nodes n) (sym same) t
 trail_extended nodes n marks marks' number g next t e (inr put) =
@@ -105,7 +106,8 @@ pub reached_within : {V : Type 0} (nodes : List (Node V)) (n k : ℕ) (q : List 
 reached_within nodes n k [] t w e = let at : n ≡ k = cc in subst (λ j. j < length nodes) at w
 reached_within {V} nodes n k (g ∷ q) t w e = by (λ j v f. reached_within nodes j k q t v f) (child_at nodes n g) refl e
   where
-    by : ((j : ℕ) → j < length nodes → reached nodes j q ≡ Some k → k < length nodes) → (o : Option ℕ) → child_at nodes n g ≡ o → option_and_then (λ j. reached nodes j q) o ≡ Some k → k < length nodes
+    by : ((j : ℕ) → j < length nodes → reached nodes j q ≡ Some k → k < length nodes) → (o : Option ℕ) → child_at nodes n g ≡ o
+        → option_and_then (λ j. reached nodes j q) o ≡ Some k → k < length nodes
     by ih None f e = cc
     by ih (Some j) f e = ih j (child_within nodes n j g t f).1 e
 

@@ -76,7 +76,8 @@ at-kids {V} below g q (k ∷ kids) s = at-append (g ∷ q) (under k.0 (below k.1
     rest = at (g ∷ q) (flat_map (λ e. under e.0 (below e.1)) kids)
 
     by : (b : Bool) → is_eq (segment_cmp g k.0) ≡ b → at (g ∷ q) (flat_map (λ e. under e.0 (below e.1)) kids) ≡ option_and_then (λ n. at q (below n)) (child_of kids g)
-        → option_or (at (g ∷ q) (under k.0 (below k.1))) (at (g ∷ q) (flat_map (λ e. under e.0 (below e.1)) kids)) ≡ option_and_then (λ n. at q (below n)) (cond b (Some k.1) (child_of kids g))
+        → option_or (at (g ∷ q) (under k.0 (below k.1))) (at (g ∷ q) (flat_map (λ e. under e.0 (below e.1)) kids)) ≡ option_and_then (λ n. at q (below n))
+        (cond b (Some k.1) (child_of kids g))
     by true e ih =
         ap (λ o. option_or o (at (g ∷ q) (flat_map (λ e. under e.0 (below e.1)) kids))) (at-under g k.0 q (below k.1) ∙ ap (λ b. cond b (at q (below k.1)) None) e)
         ∙ ap (option_or (at q (below k.1))) (ih ∙ ap (option_and_then (λ n. at q (below n))) (none_after g k.0 kids (eq_of _ e) s.0))

@@ -1,13 +1,18 @@
 -- What a walk through a tree has given and has still to give.
 use Rattle.std.proofs.Common.{◌≡◌, ℕ, zero, suc, ◌+◌, ◌<◌, ◌≤◌, List, [], ◌∷◌, ◌++◌, length, map, reverse, Option, Some, None, slice_get, option_to_list, Bor, refl, sym, ap, ◌∙◌, subst, arith, append_assoc}
+use Rattle.std.specs.FinMap.{entries}
+use Rattle.std.specs.Option.{option_copied}
 use Rattle.std.specs.List.{flat_map, AllByRecursion}
 use Rattle.std.proofs.lemmas.List.{map-append, append-nil}
 use Rattle.std.proofs.lemmas.Grind.{flat_map-append}
 use Rattle.acpi_name.specs.Names.{Segment}
 use Rattle.acpi_space.specs.declared.nodes.Node.{Node}
 use Rattle.acpi_space.specs.declared.walk.Step.{Step}
-use Rattle.acpi_space.specs.steps.Tree.{node_children, node_value, own_pair, node_pairs, pairs_below, IsTree}
-use Rattle.acpi_space.specs.steps.Walk.{ahead, next_ahead, enter, pair_at}
+use Rattle.acpi_space.specs.declared.walk.Walk.{Walk}
+use Rattle.acpi_space.specs.Spaces.{PathMap}
+use Rattle.acpi_space.specs.steps.Tree.{node_children, node_value, own_pair, node_pairs, pairs_below, tree_map, IsTree}
+use Rattle.acpi_space.specs.steps.Walk.{ahead, next_ahead, enter, pair_at, under, pairs_of, places, places_of, left_of, with_given}
+use Rattle.acpi_space.proofs.Ascending.{listed_tree}
 use Rattle.acpi_space.proofs.NodeWrites.{past_end}
 use Rattle.acpi_space.proofs.WalkSteps.{ahead_children}
 
@@ -75,19 +80,9 @@ visits_node nodes t n = far_enough nodes t (length nodes) (suc (length nodes)) n
 
 -- ---- what is left
 
-abbrev under : {V : Type 0} → List Segment → List (List Segment × V) → List (List Segment × V)
-under path es = map (λ p. (path ++ p.0, p.1)) es
-
--- the pairs at and below the nodes that are still to be visited
-abbrev pub pairs_of : {V : Type 0} → List (Node V) → List (List Segment × ℕ) → List (List Segment × V)
-pairs_of nodes places = flat_map (λ e. under e.0 (below nodes e.1)) places
-
 -- .. and how many visits that takes
 abbrev pub visits_of : {V : Type 0} → List (Node V) → List (List Segment × ℕ) → ℕ
 visits_of nodes places = total (λ e. visits nodes e.1) places
-
-abbrev pub shown : {V : Type 0} → List (List Segment × Bor V) → List (List Segment × V)
-shown pairs = map (λ p. (p.0, p.1.now)) pairs
 
 under_deeper : {V : Type 0} (path : List Segment) (g : Segment) (es : List (List Segment × V)) → under (path ++ g ∷ []) es ≡ under path (map (λ p. (g ∷ p.0, p.1)) es)
 under_deeper path g [] = refl
@@ -109,12 +104,10 @@ own_under path None = refl
 own_under path (Some v) = ap (λ q. (q, v) ∷ []) (sym (append-nil path))
 
 -- a node is visited: its own pair, then its children, then the rest
-pub visited : {V : Type 0} (nodes : List (Node V)) → IsTree nodes → (path : List Segment) (n : ℕ) (steps steps' : List Step) (pairs pairs' whole : List (List Segment × V))
-    → pairs ++ pairs_of nodes ((path, n) ∷ ahead path steps) ≡ whole
-    → pairs' ≡ pairs ++ map (pair_at path) (option_to_list (node_value (slice_get nodes n)))
+visited : {V : Type 0} (nodes : List (Node V)) → IsTree nodes → (path : List Segment) (n : ℕ) (steps steps' : List Step)
     → steps' ≡ map enter (node_children (slice_get nodes n)) ++ steps
-    → pairs' ++ pairs_of nodes (ahead path steps') ≡ whole
-visited {V} nodes t path n steps steps' pairs pairs' whole inv p s =
+    → pairs_of nodes ((path, n) ∷ ahead path steps) ≡ map (pair_at path) (option_to_list (node_value (slice_get nodes n))) ++ pairs_of nodes (ahead path steps')
+visited {V} nodes t path n steps steps' s =
     let kids : List (Segment × ℕ) = node_children (slice_get nodes n) in
     let own : List (List Segment × V) = own_pair (node_value (slice_get nodes n)) in
     let inner : List (List Segment × V) = flat_map (λ e. map (λ p. (e.0 ∷ p.0, p.1)) (below nodes e.1)) kids in
@@ -125,13 +118,11 @@ visited {V} nodes t path n steps steps' pairs pairs' whole inv p s =
     ∙ ap (λ l. l ++ rest) (under_children nodes path kids) in
     let here : under path (below nodes n) ≡ under path own ++ under path inner =
     ap (under path) (below_node nodes t n) ∙ map-append (λ p. (path ++ p.0, p.1)) own inner in
-    (λ i. (p ∙ ap (λ l. pairs ++ l) (own_under path (node_value (slice_get nodes n)))) i ++ left i)
-    ∙ append_assoc pairs (under path own) (under path inner ++ rest)
-    ∙ ap (λ l. pairs ++ l) (sym (append_assoc (under path own) (under path inner) rest) ∙ ap (λ l. l ++ rest) (sym here))
-    ∙ inv
+    ap (λ l. l ++ rest) here ∙ append_assoc (under path own) (under path inner) rest
+    ∙ sym (λ i. own_under path (node_value (slice_get nodes n)) i ++ left i)
 
 -- one visit less
-pub visited_fewer : {V : Type 0} (nodes : List (Node V)) → IsTree nodes → (path : List Segment) (n : ℕ) (steps steps' : List Step)
+visited_fewer : {V : Type 0} (nodes : List (Node V)) → IsTree nodes → (path : List Segment) (n : ℕ) (steps steps' : List Step)
     → steps' ≡ map enter (node_children (slice_get nodes n)) ++ steps
     → visits_of nodes (ahead path steps') < visits_of nodes ((path, n) ∷ ahead path steps)
 visited_fewer nodes t path n steps steps' s =
@@ -147,22 +138,97 @@ visited_fewer nodes t path n steps steps' s =
     same_places (e ∷ kids) = ap (λ k. visits nodes e.1 + k) (same_places kids)
 
 -- nothing is given yet
-pub none_yet : {V : Type 0} (nodes : List (Node V)) → pairs_of nodes (([], 0) ∷ []) ≡ below nodes 0
-none_yet nodes = append-nil (under [] (below nodes 0)) ∙ under_root (below nodes 0)
+pub started : {V : Type 0} (nodes : List (Node V)) (path : List Segment) (steps : List Step) → path ≡ [] → steps ≡ []
+    → pairs_of nodes ((path, 0) ∷ ahead path (reverse steps)) ≡ pairs_below (length nodes) nodes 0
+started nodes path steps q s =
+    (λ i. pairs_of nodes ((q i, 0) ∷ ahead (q i) (reverse (s i)))) ∙ append-nil (under [] (below nodes 0)) ∙ under_root (below nodes 0)
 
-pub started : {V : Type 0} (nodes : List (Node V)) (pairs : List (List Segment × Bor V)) (path : List Segment) (steps : List Step) → pairs ≡ [] → path ≡ [] → steps ≡ []
-    → shown pairs ++ pairs_of nodes ((path, 0) ∷ ahead path (reverse steps)) ≡ pairs_below (length nodes) nodes 0
-started nodes pairs path steps p q s = (λ i. shown (p i) ++ pairs_of nodes ((q i, 0) ∷ ahead (q i) (reverse (s i)))) ∙ none_yet nodes
+-- ---- walks
 
--- the next node, and none
-pub went_on : {V : Type 0} (nodes : List (Node V)) (path path' : List Segment) (steps steps' : List Step) (o : Option ℕ) (n : ℕ) (pairs whole : List (List Segment × V))
-    → ahead path steps ≡ next_ahead o path' steps' → o ≡ Some n → pairs ++ pairs_of nodes (ahead path steps) ≡ whole → pairs ++ pairs_of nodes ((path', n) ∷ ahead path' steps') ≡ whole
-went_on nodes path path' steps steps' o n pairs whole e is h = ap (λ l. pairs ++ pairs_of nodes l) (sym (e ∙ ap (λ o. next_ahead o path' steps') is)) ∙ h
+-- the next node is visited
+visited_next : {V : Type 0} (before entered : Walk V) (next : Option ℕ) (n : ℕ) (steps : List Step)
+    → IsTree entered.nodes.now → entered.nodes ≡ before.nodes → entered.entered ≡ None
+    → places_of before ≡ next_ahead next entered.path (reverse entered.steps.items) → next ≡ Some n
+    → reverse steps ≡ map enter (node_children (slice_get entered.nodes.now n)) ++ reverse entered.steps.items
+    → left_of before ≡ map (pair_at entered.path) (option_to_list (node_value (slice_get entered.nodes.now n)))
+    ++ pairs_of entered.nodes.now (places entered.entered entered.path (reverse steps))
+visited_next before entered next n steps t same none e is s =
+    (λ i. pairs_of (sym same i).now ((e ∙ ap (λ o. next_ahead o entered.path (reverse entered.steps.items)) is) i))
+    ∙ visited entered.nodes.now t entered.path n (reverse entered.steps.items) (reverse steps) s
+    ∙ ap (λ o. map (pair_at entered.path) (option_to_list (node_value (slice_get entered.nodes.now n))) ++ pairs_of entered.nodes.now (places o entered.path (reverse steps))) (sym none)
 
-pub went_on_fewer : {V : Type 0} (nodes : List (Node V)) (path path' : List Segment) (steps steps' : List Step) (o : Option ℕ) (n bound : ℕ)
-    → ahead path steps ≡ next_ahead o path' steps' → o ≡ Some n → visits_of nodes (ahead path steps) < bound → visits_of nodes ((path', n) ∷ ahead path' steps') < bound
-went_on_fewer nodes path path' steps steps' o n bound e is h = subst (λ l. visits_of nodes l < bound) (e ∙ ap (λ o. next_ahead o path' steps') is) h
+pub visited_fewer_left : {V : Type 0} (before entered : Walk V) (next : Option ℕ) (n : ℕ) (steps : List Step)
+    → IsTree before.nodes.now → entered.nodes ≡ before.nodes → entered.entered ≡ None
+    → places_of before ≡ next_ahead next entered.path (reverse entered.steps.items) → next ≡ Some n
+    → reverse steps ≡ map enter (node_children (slice_get entered.nodes.now n)) ++ reverse entered.steps.items
+    → visits_of entered.nodes.now (places entered.entered entered.path (reverse steps)) < visits_of before.nodes.now (places_of before)
+visited_fewer_left before entered next n steps t same none e is s =
+    let tree : IsTree entered.nodes.now = subst (λ b. IsTree b.now) (sym same) t in
+    subst (λ k. visits_of entered.nodes.now (places entered.entered entered.path (reverse steps)) < k)
+    (λ i. visits_of (same i).now (sym (e ∙ ap (λ o. next_ahead o entered.path (reverse entered.steps.items)) is) i))
+    (subst (λ o. visits_of entered.nodes.now (places o entered.path (reverse steps)) < visits_of entered.nodes.now ((entered.path, n) ∷ ahead entered.path (reverse entered.steps.items))) (sym none)
+    (visited_fewer entered.nodes.now tree entered.path n (reverse entered.steps.items) (reverse steps) s))
 
-pub all_given : {V : Type 0} (nodes : List (Node V)) (path path' : List Segment) (steps steps' : List Step) (o : Option ℕ) (pairs whole : List (List Segment × V))
-    → ahead path steps ≡ next_ahead o path' steps' → o ≡ None → pairs ++ pairs_of nodes (ahead path steps) ≡ whole → pairs ≡ whole
-all_given nodes path path' steps steps' o pairs whole e is h = sym (append-nil pairs) ∙ ap (λ l. pairs ++ pairs_of nodes l) (sym (e ∙ ap (λ o. next_ahead o path' steps') is)) ∙ h
+-- .. and gives its value
+pub visited_value : {V : Type 0} (before entered : Walk V) (next : Option ℕ) (n : ℕ) (steps : List Step) (given : Option (Bor V)) (value : Bor V)
+    → IsTree before.nodes.now → entered.nodes ≡ before.nodes → entered.entered ≡ None
+    → places_of before ≡ next_ahead next entered.path (reverse entered.steps.items) → next ≡ Some n
+    → reverse steps ≡ map enter (node_children (slice_get entered.nodes.now n)) ++ reverse entered.steps.items
+    → option_copied given ≡ node_value (slice_get entered.nodes.now n) → given ≡ Some value
+    → left_of before ≡ (entered.path, value.now) ∷ pairs_of entered.nodes.now (places entered.entered entered.path (reverse steps))
+visited_value before entered next n steps given value t same none e is s v found =
+    visited_next before entered next n steps (subst (λ b. IsTree b.now) (sym same) t) same none e is s
+    ∙ ap (λ o. map (pair_at entered.path) (option_to_list o) ++ pairs_of entered.nodes.now (places entered.entered entered.path (reverse steps))) (sym v ∙ ap option_copied found)
+
+-- .. or has none, and the walk goes on
+pub visited_none : {V : Type 0} (first before entered : Walk V) (next : Option ℕ) (n : ℕ) (steps : List Step) (given : Option (Bor V))
+    → IsTree before.nodes.now × (left_of first ≡ left_of before) → entered.nodes ≡ before.nodes → entered.entered ≡ None
+    → places_of before ≡ next_ahead next entered.path (reverse entered.steps.items) → next ≡ Some n
+    → reverse steps ≡ map enter (node_children (slice_get entered.nodes.now n)) ++ reverse entered.steps.items
+    → option_copied given ≡ node_value (slice_get entered.nodes.now n) → given ≡ None
+    → IsTree entered.nodes.now × (left_of first ≡ pairs_of entered.nodes.now (places entered.entered entered.path (reverse steps)))
+visited_none first before entered next n steps given so same none e is s v found =
+    let tree : IsTree entered.nodes.now = subst (λ b. IsTree b.now) (sym same) so.0 in (
+      tree,
+      so.1 ∙ visited_next before entered next n steps tree same none e is s
+          ∙ ap (λ o. map (pair_at entered.path) (option_to_list o) ++ pairs_of entered.nodes.now (places entered.entered entered.path (reverse steps))) (sym v ∙ ap option_copied found),
+    )
+
+abbrev pub shown : {V : Type 0} → List (List Segment × Bor V) → List (List Segment × V)
+shown pairs = map (λ p. (p.0, p.1.now)) pairs
+
+-- a visitor was shown what a walk gave
+pub record Showing {V T : Type 0} (Shown : T → List (List Segment × V) → T → Type 0) (first walk : Walk V) (start visitor : T) : Type 0 where
+  pub done : List (List Segment × V)
+  pub tree : IsTree walk.nodes.now
+  pub whole : done ++ left_of walk ≡ left_of first
+  pub shown : (earliest : T) (pairs : List (List Segment × V)) → Shown earliest pairs start → Shown earliest (pairs ++ done) visitor
+
+-- one pair more
+pub shown_more : {V T : Type 0} (Shown : T → List (List Segment × V) → T → Type 0) (first before walk : Walk V)
+    (start visitor after : T) (given : Option (Bor V)) (value : Bor V) (path : List Segment)
+    → Showing Shown first before start visitor → IsTree walk.nodes.now → left_of before ≡ with_given (option_copied given) walk → given ≡ Some value → path ≡ walk.path
+    → ((earliest : T) (pairs : List (List Segment × V)) → Shown earliest pairs visitor → Shown earliest (pairs ++ (path, value.now) ∷ []) after)
+    → Showing Shown first walk start after
+shown_more {V} {T} Shown first before walk start visitor after given value path so tree e is at put = record {
+  done = so.done ++ (path, value.now) ∷ [];
+  tree = tree;
+  whole = append_assoc so.done ((path, value.now) ∷ []) (left_of walk) ∙ ap (λ l. so.done ++ l)
+      (ap (λ q. (q, value.now) ∷ left_of walk) at ∙ sym (e ∙ ap (λ o. with_given (option_copied o) walk) is)) ∙ so.whole;
+  shown = λ earliest pairs s. subst (λ l. Shown earliest l after) (append_assoc pairs so.done ((path, value.now) ∷ [])) (put earliest (pairs ++ so.done) (so.shown earliest pairs s));
+}
+
+-- nothing is left, so all was given
+pub none_left : {V : Type 0} (done : List (List Segment × V)) (before walk : Walk V) (given : Option (Bor V)) (whole : List (List Segment × V))
+    → done ++ left_of before ≡ whole → left_of before ≡ with_given (option_copied given) walk → given ≡ None → done ≡ whole
+none_left done before walk given whole h e is = sym (append-nil done) ∙ ap (λ l. done ++ l) (sym (e ∙ ap (λ o. with_given (option_copied o) walk) is)) ∙ h
+
+-- all pairs were shown
+pub shown_all : {V T : Type 0} (Shown : T → List (List Segment × V) → T → Type 0) (first before walk : Walk V)
+    (start visitor : T) (given : Option (Bor V)) (m : PathMap V) (lent nodes : List (Node V))
+    → Showing Shown first before start visitor → left_of before ≡ with_given (option_copied given) walk → given ≡ None → left_of first ≡ pairs_below (length lent) lent 0
+    → lent ≡ nodes
+    → IsTree nodes → tree_map nodes ≡ m → (earliest : T) (pairs : List (List Segment × V)) → Shown earliest pairs start → Shown earliest (pairs ++ entries m) visitor
+shown_all Shown first before walk start visitor given m lent nodes so e is all same tree view earliest pairs s =
+    subst (λ l. Shown earliest (pairs ++ l) visitor)
+    (listed_tree nodes m so.done tree view (none_left so.done before walk given (left_of first) so.whole e is ∙ all ∙ ap (λ l. pairs_below (length l) l 0) same)) (so.shown earliest pairs s)

@@ -20,7 +20,8 @@ entered path path' items rest items' x g n e is at e' =
     ∙ ap (λ q. (path ++ g ∷ [], n) ∷ ahead q (reverse rest)) (parent_of-push path g))
 
 -- a node is left
-pub left : (path path' : List Segment) (items rest : List Step) (x : Step) → items ≡ rest ++ x ∷ [] → x ≡ Leave → path' ≡ parent_of path → ahead path' (reverse rest) ≡ ahead path (reverse items)
+pub left : (path path' : List Segment) (items rest : List Step) (x : Step) → items ≡ rest ++ x ∷ [] → x ≡ Leave → path' ≡ parent_of path
+    → ahead path' (reverse rest) ≡ ahead path (reverse items)
 left path path' items rest x e is at = ap (λ q. ahead q (reverse rest)) at ∙ sym (ap (ahead path) (last_first items rest x e ∙ ap (λ s. s ∷ reverse rest) is))
 
 pub fewer : {A : Type 0} (items rest : List A) (x : A) → items ≡ rest ++ x ∷ [] → length rest < length items
@@ -35,6 +36,7 @@ pushed kids kids' items items' e whole inv k p =
     ∙ ap (λ l. map enter l ++ reverse items) (sym k) ∙ inv
 
 -- the children of the node on a path
-pub ahead_children : (path : List Segment) (kids : List (Segment × ℕ)) (steps : List Step) → ahead path (map enter kids ++ steps) ≡ map (λ e. (path ++ e.0 ∷ [], e.1)) kids ++ ahead path steps
+pub ahead_children : (path : List Segment) (kids : List (Segment × ℕ)) (steps : List Step)
+    → ahead path (map enter kids ++ steps) ≡ map (λ e. (path ++ e.0 ∷ [], e.1)) kids ++ ahead path steps
 ahead_children path [] steps = refl
 ahead_children path (e ∷ kids) steps = ap (λ l. (path ++ e.0 ∷ [], e.1) ∷ l) (ahead_children path kids steps)

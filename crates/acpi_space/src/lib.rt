@@ -2,10 +2,9 @@
 //!
 //! ```text
 //! Path, value ──insert──► Space ──get──► the value at a path
-//!                           │ ──pairs──► all of them, in the order of the paths
+//!                           │ ──pairs──► all of them, in the order of the paths; visit_pairs shows them to a Visitor
 //! scope, name ──search──────┤ ─────────► the path that the name means
 //!             ──misses──────┘ ─────────► the paths that were tried in vain
-//!       ──misses_among──┘ ─────────► those of them that another space has
 //! ```
 //!
 //! ```text
@@ -39,6 +38,6 @@ mod wanted;
 pub use lookup::{Found, SearchFault, search};
 pub use map_space::MapSpace;
 pub use overlay::Overlay;
-pub use space::{Refused, Space};
+pub use space::{Refused, Space, Visitor};
 pub use tree_space::TreeSpace;
-pub use wanted::{AllPaths, PathsOf, Wanted, misses, misses_among, wanted_misses};
+pub use wanted::{AllPaths, PathsOf, Wanted, misses, wanted_misses};

@@ -1,7 +1,8 @@
 //! The namespace as a finite map.
-ghost use Rattle.std.specs.Prelude.{◌≡◌, OnOk, OnErr, IfOk, IfErr, None, length, map};
+ghost use Rattle.std.specs.Prelude.{◌≡◌, ◌++◌, ◌∷◌, [], List, OnOk, OnErr, IfOk, IfErr, None, length, map};
 ghost use Rattle.std.specs.Option.{option_copied, option_map};
 ghost use Rattle.std.specs.FinMap as finite;
+ghost use Rattle.acpi_name.specs.Names.{Segment};
 ghost use Rattle.acpi_space.specs.Spaces.{PathMap, is_defined};
 ghost use Rattle.acpi_space.specs.Refusal.{IsRefusal};
 ghost use Rattle.acpi_space.specs.Search.{nearest_scope};
@@ -19,6 +20,17 @@ pub enum Refused<V> {
     /// Memory was refused.
     #[error("S2 Memory")]
     Memory(V),
+}
+
+/// Is shown the pairs of a space, one after another.
+pub trait Visitor<V> {
+    // Whether it came from one state to another by being shown these pairs.
+    ghost was_shown: { Self → List (List Segment × V) → Self → Type 0 };
+
+    /// Takes the next pair.
+    fn visit(&mut self, path: &Path, value: &V) -> Result<(), AllocError>
+        ensures { (first : Self) (pairs : List (List Segment × V)) → was_shown first pairs self.old
+            → OnOk result (was_shown first (pairs ++ (path.now, value.now) ∷ []) self.new) };
 }
 
 /// A finite map from paths to values: what is defined in a namespace (ACPI 6.5, 5.3).
@@ -48,6 +60,17 @@ pub trait Space<V>: Drop {
     /// All pairs, in the order of the paths.
     fn pairs(&self) -> Result<Vec<(Path, &V)>, AllocError>
         ensures { IfOk result (λ v. map (λ p. (p.0, p.1.now)) v.items ≡ finite.entries (contents self.now)) };
+
+    /// Shows all pairs to the visitor, in the order of the paths; the first failure of the visitor ends it.
+    fn visit_pairs<T: Visitor<V>>(&self, visitor: &mut T) -> Result<(), AllocError>
+        ensures { (first : T) (pairs : List (List Segment × V)) → T.was_shown first pairs visitor.old
+            → OnOk result (T.was_shown first (pairs ++ finite.entries (contents self.now)) visitor.new) }
+    {
+        for (path, value) in self.pairs()? {
+            visitor.visit(&path, value)?;
+        }
+        Ok(())
+    }
 
     /// The length of the longest beginning of the scope below which the segment is defined.
     fn nearest(&self, scope: &Path, seg: Seg) -> Result<Option<usize>, AllocError>

@@ -7,9 +7,9 @@ ghost use Rattle.acpi_space.specs.Spaces.{is_defined};
 
 use crate::grown::{put, reach};
 use crate::nodes::{Node, nearest_to, value_at};
-use crate::space::{Refused, Space};
+use crate::space::{Refused, Space, Visitor};
 use crate::trail::{Mark, follow};
-use crate::walk::all_pairs;
+use crate::walk::Walk;
 use acpi_name::{Path, Seg};
 use std::alloc::{AllocError, Global};
 use std::marker::Model;
@@ -69,7 +69,21 @@ impl<V: Drop> Space<V> for TreeSpace<V> {
     }
 
     fn pairs(&self) -> Result<Vec<(Path, &V)>, AllocError> {
-        all_pairs(self.alloc, &self.nodes)
+        let mut pairs = Vec::new(self.alloc);
+        let mut walk = Walk::through(self.alloc, &self.nodes);
+        while let Some(value) = walk.next()? {
+            pairs.push((walk.path().copy()?, value))?;
+        }
+        Ok(pairs)
+    }
+
+    // It keeps one path, that of the pair that it shows.
+    fn visit_pairs<T: Visitor<V>>(&self, visitor: &mut T) -> Result<(), AllocError> {
+        let mut walk = Walk::through(self.alloc, &self.nodes);
+        while let Some(value) = walk.next()? {
+            visitor.visit(walk.path(), value)?;
+        }
+        Ok(())
     }
 
     // It takes no memory, so it never fails.

@@ -1,7 +1,8 @@
 //! A walk through the whole tree, in the order of the paths.
-ghost use Rattle.std.specs.Prelude.{◌≡◌, ◌++◌, map, length, reverse, slice_get, IfOk, OnOk, option_to_list};
-ghost use Rattle.acpi_space.specs.steps.Tree.{IsTree, node_children, node_value, pairs_below};
-ghost use Rattle.acpi_space.specs.steps.Walk.{enter, next_ahead, pair_at, ahead};
+ghost use Rattle.std.specs.Prelude.{◌≡◌, ◌++◌, None, map, length, reverse, slice_get, IfOk, OnOk};
+ghost use Rattle.std.specs.Option.{option_copied};
+ghost use Rattle.acpi_space.specs.steps.Tree.{IsTree, node_children, pairs_below};
+ghost use Rattle.acpi_space.specs.steps.Walk.{enter, next_ahead, ahead};
 
 use crate::nodes::{Node, value};
 use acpi_name::{Path, Seg};
@@ -18,39 +19,70 @@ pub enum Step {
     Leave,
 }
 
-/// All pairs of a tree, in the order of the paths. The walk keeps its own steps, so a deep tree needs
-/// no deep stack.
-pub(crate) fn all_pairs<V>(alloc: Global, nodes: &[Node<V>]) -> Result<Vec<(Path, &V)>, AllocError>
-    requires { IsTree nodes.now }
-    ensures { IfOk result (λ v. map (λ p. (p.0, p.1.now)) v.items ≡ pairs_below (length nodes.now) nodes.now 0) }
-{
-    let mut pairs = Vec::new(alloc);
-    let mut steps = Vec::new(alloc);
-    let mut path = Path::root(alloc);
-    let mut number = 0;
-    loop {
-        push_value(nodes, number, &path, &mut pairs)?;
-        push_children(nodes, number, &mut steps)?;
-        match advance(&mut steps, &mut path)? {
-            Some(next) => number = next,
-            None => return Ok(pairs),
-        }
-    }
+/// A walk through a tree that gives its pairs, in the order of the paths. It keeps its own steps, so a deep
+/// tree needs no deep stack.
+#[derive(Drop)]
+pub struct Walk<'a, V> {
+    nodes: &'a [Node<V>],
+    // The node that was entered and has not been visited.
+    entered: Option<usize>,
+    path: Path,
+    steps: Vec<Step>,
 }
 
-// Puts the pair of a node that has a value.
-fn push_value<'a, V>(
-    nodes: &'a [Node<V>],
-    number: usize,
-    path: &Path,
-    pairs: &mut Vec<(Path, &'a V)>,
-) -> Result<(), AllocError>
-    ensures { OnOk result (map (λ p. (p.0, p.1.now)) pairs.new.items ≡ map (λ p. (p.0, p.1.now)) pairs.old.items ++ map (pair_at path.now) (option_to_list (node_value (slice_get nodes.now number)))) }
-{
-    if let Some(value) = value(nodes, number) {
-        pairs.push((path.copy()?, value))?;
+impl<'a, V> Walk<'a, V> {
+    ghost use Rattle.acpi_space.specs.steps.Walk.{left_of, places_of, with_given};
+
+    /// A walk from the root on.
+    pub(crate) fn through(alloc: Global, nodes: &'a [Node<V>]) -> Walk<'a, V>
+        requires { IsTree nodes.now }
+        ensures all { left_of result ≡ pairs_below (length nodes.now) nodes.now 0 }
+        ensures tree { IsTree result.nodes.now }
+    {
+        Walk {
+            nodes,
+            entered: Some(0),
+            path: Path::root(alloc),
+            steps: Vec::new(alloc),
+        }
     }
-    Ok(())
+
+    /// The path of the pair that was given last.
+    pub(crate) fn path(&self) -> &Path
+        ensures { result.now ≡ self.now.path }
+    {
+        &self.path
+    }
+
+    /// The value of the next pair.
+    pub(crate) fn next(&mut self) -> Result<Option<&'a V>, AllocError>
+        requires { IsTree self.old.nodes.now }
+        ensures given { IfOk result (λ next. left_of self.old ≡ with_given (option_copied next) self.new) }
+        ensures tree { IsTree self.new.nodes.now }
+    {
+        while let Some(number) = self.enter()? {
+            push_children(self.nodes, number, &mut self.steps)?;
+            if let Some(value) = value(self.nodes, number) {
+                return Ok(Some(value));
+            }
+        }
+        Ok(None)
+    }
+
+    // The next node, which is entered by that.
+    fn enter(&mut self) -> Result<Option<usize>, AllocError>
+        ensures next { IfOk result (λ next. places_of self.old ≡ next_ahead next self.new.path (reverse self.new.steps.items)) }
+        ensures nodes { self.new.nodes ≡ self.old.nodes }
+        ensures none { OnOk result (self.new.entered ≡ None) }
+    {
+        match self.entered {
+            Some(number) => {
+                self.entered = None;
+                Ok(Some(number))
+            }
+            None => advance(&mut self.steps, &mut self.path),
+        }
+    }
 }
 
 // Puts a step into each child of a node, so that the first child is entered first.

@@ -110,21 +110,6 @@ pub fn misses<V, S: Space<V>>(
     wanted_misses(alloc, space, scope, name, &AllPaths)
 }
 
-/// The paths that the search of a name tries in vain (ACPI 6.5, 5.3) and that the space `among` has, the innermost
-/// first.
-pub fn misses_among<V, W, S: Space<V>, T: Space<W>>(
-    alloc: Global,
-    space: &S,
-    scope: &Path,
-    name: NameRef<'_>,
-    among: &T,
-) -> Result<Vec<Path>, SearchFault>
-    ensures missed { IfOk result (λ v. v.items ≡ filter (is_defined (T.contents among.now)) (missed (is_defined (S.contents space.now)) scope.now (name_parts name.entry))) }
-    ensures above { (result ≡ Err SearchFault.AboveRoot) ↔ (place_of scope.now (name_parts name.entry) ≡ None) }
-{
-    wanted_misses(alloc, space, scope, name, &PathsOf::new(among))
-}
-
 /// The paths that the search of a name tries in vain (ACPI 6.5, 5.3), the innermost first: those that are asked for.
 pub fn wanted_misses<V, S: Space<V>, Q: Wanted>(
     alloc: Global,

@@ -12,7 +12,6 @@ use Rattle.acpi_load.specs.Links.{links_at}
 use Rattle.acpi_body.specs.declared.body.Body.{Body}
 use Rattle.acpi_body.specs.Bodies.{body_view}
 use Rattle.acpi_machine.specs.MachineView.{bodies_of}
-use Rattle.acpins_run.specs.steps.Merging.{entries_in}
 
 lookup_mapped : {V W : Type 0} (f : V → W) (t : List Segment → Bool) (es : List (List Segment × V)) → lookup t (map (λ e. (e.0, f e.1)) es) ≡ option_map f (lookup t es)
 lookup_mapped f t [] = refl
@@ -25,10 +24,6 @@ lookup_mapped f t (e ∷ es) =
 pub links_answered : (m : BTreeMap (List Segment) (Vec (Option (List Segment)))) (p : List Segment) (o : Option (Vec (Option (List Segment))))
     → o ≡ lookup (λ k. is_eq (path_cmp p k)) m.entries → links_at m p ≡ option_map (λ v. v.items) o
 links_answered m p o e = get_is_lookup _ p ∙ lookup_mapped (λ v. v.items) _ m.entries ∙ ap (option_map (λ v. v.items)) (sym e)
-
--- the same over the entries as links
-pub links_searched : (m : BTreeMap (List Segment) (Vec (Option (List Segment)))) (p : List Segment) → links_at m p ≡ lookup (λ k. is_eq (path_cmp p k)) (entries_in m)
-links_searched m p = get_is_lookup _ p
 
 pub body_answered : (m : BTreeMap (List Segment) Body) (p : List Segment) (o : Option Body) → o ≡ lookup (λ k. is_eq (path_cmp p k)) m.entries → bodies_of m p ≡ option_map body_view o
 body_answered m p o e = get_is_lookup _ p ∙ lookup_mapped body_view _ m.entries ∙ ap (option_map body_view) (sym e)

@@ -1,6 +1,7 @@
--- A listing, by any list that holds the objects of a space in order.
-use Rattle.std.proofs.Common.{◌≡◌, ℕ, ◌≤◌, Bool, true, false, cond, ◌&&◌, T, List, [], ◌∷◌, length, map, take, take_all, refl, sym, ap, ◌∙◌, Option, Some, unwrap_or}
-use Rattle.std.proofs.lemmas.List.Folds.{flat_map-map}
+-- A listing: line after line, and the same of a namespace.
+use Rattle.std.proofs.Common.{◌≡◌, ℕ, Bool, true, false, cond, ◌&&◌, T, List, [], ◌∷◌, ◌++◌, map, refl, sym, ap, ◌∙◌, Option, Some, unwrap_or, append_assoc}
+use Rattle.std.proofs.lemmas.Grind.{flat_map-append}
+use Rattle.std.proofs.lemmas.List.{append-nil, map-append}
 use Rattle.std.specs.List.{flat_map}
 use Rattle.std.specs.FinMap.{entries, entries_sorted, get-entries, find, is_sorted}
 use Rattle.std.specs.FinMap.Entries.{below_all}
@@ -12,19 +13,36 @@ use Rattle.acpi_space.specs.Spaces.{PathMap}
 use Rattle.acpi_tree.specs.Objects.{ObjectTree, object_view}
 use Rattle.acpi_tree.specs.declared.object.Object.{Object}
 use Rattle.acpi_load.specs.Namespace.{namespace_of}
-use Rattle.acpi_load.specs.Links.{Links}
+use Rattle.acpi_load.specs.Links.{Links, links_at}
 use Rattle.acpi_text.specs.Lines.{line_text, listing_text}
+use Rattle.acpins_run.specs.declared.listing.Lines.{Lines}
+use Rattle.acpins_run.specs.steps.Lines.{AreLines}
 use Rattle.acpins_run.specs.Listings.{objects_by_path, Prints}
 
-pub listing_said : {A : Type 0} (k : A → List Segment × Object) (items : List A) (n : ℕ) (m : PathMap Object) (links : List Segment → Option Links)
-    → length items ≤ n → map k items ≡ entries m → flat_map (λ x. line_text (k x).0 (object_view (k x).1) (unwrap_or (links (k x).0) [])) (take n items) ≡ listing_text (objects_by_path m) links
-listing_said k items n m links h e =
-    let line = λ (p : List Segment × ObjectTree). line_text p.0 p.1 (unwrap_or (links p.0) []) in
-    let shown = λ (p : List Segment × Object). line_text p.0 (object_view p.1) (unwrap_or (links p.0) []) in
-    ap (flat_map (λ x. shown (k x))) (take_all n items h)
-    ∙ sym (flat_map-map shown k items)
-    ∙ sym (flat_map-map line (λ p. (p.0, object_view p.1)) (map k items))
-    ∙ ap (λ es. listing_text (map (λ p. (p.0, object_view p.1)) es) links) e
+-- ---- line after line
+
+pub listing_more : (es fs : List (List Segment × ObjectTree)) (links : List Segment → Option Links) → listing_text (es ++ fs) links ≡ listing_text es links ++ listing_text fs links
+listing_more es fs links = flat_map-append (λ (e : List Segment × ObjectTree). line_text e.0 e.1 (unwrap_or (links e.0) [])) es fs
+
+-- one line more
+pub line_put : (first now after : Lines) (pairs : List (List Segment × Object)) (path : List Segment) (object : Object) (own : Links)
+    → AreLines first pairs now → after.links ≡ now.links → own ≡ unwrap_or (links_at now.links.now path) []
+    → after.text.items ≡ now.text.items ++ line_text path (object_view object) own
+    → AreLines first (pairs ++ (path, object) ∷ []) after
+line_put first now after pairs path object own so same is put = record {
+  links = same ∙ so.links;
+  text = put
+      ∙ ap (λ o. now.text.items ++ line_text path (object_view object) o) (is ∙ ap (λ l. unwrap_or (links_at l.now path) []) so.links)
+      ∙ ap (λ l. l ++ line_text path (object_view object) (unwrap_or (links_at first.links.now path) [])) so.text
+      ∙ append_assoc first.text.items _ _
+      ∙ ap (λ l. first.text.items ++ l) (ap (λ l. listing_text (map (λ e. (e.0, object_view e.1)) pairs) (links_at first.links.now) ++ l) (sym (append-nil _))
+      ∙ sym (listing_more (map (λ e. (e.0, object_view e.1)) pairs) ((path, object_view object) ∷ []) (links_at first.links.now))
+      ∙ ap (λ l. listing_text l (links_at first.links.now)) (sym (map-append (λ e. (e.0, object_view e.1)) pairs ((path, object) ∷ []))));
+}
+
+-- no line yet
+pub no_line : (first : Lines) → AreLines first [] first
+no_line first = record { links = refl; text = sym (append-nil first.text.items) }
 
 -- ---- the same of a namespace
 

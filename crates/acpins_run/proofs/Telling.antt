@@ -67,12 +67,14 @@ rest_is part n = take_all (length part - n) (drop n part) (le_of_eq (length-drop
 pub piece_fits : (part : List ℕ) (n m : ℕ) → n ≤ length part → m ≤ length (take (length part - n) (drop n part)) → n + m ≤ length part
 piece_fits part n m h k = let e = ap length (rest_is part n) ∙ length-drop n part in omega (arith, e, h, k)
 
-pub piece_more : (a b c : Option (List ℕ)) (part : List ℕ) (n m : ℕ) → Appends a b (take n part) → Appends b c (take m (take (length part - n) (drop n part))) → Appends a c (take (n + m) part)
+pub piece_more : (a b c : Option (List ℕ)) (part : List ℕ) (n m : ℕ) → Appends a b (take n part) → Appends b c (take m (take (length part - n) (drop n part)))
+    → Appends a c (take (n + m) part)
 piece_more a b c part n m h k = rw (take-add n m part) (appends_more a b c (take n part) (take m (drop n part)) h (rw (rest_is part n) at k))
 
 -- ---- segments behind dots
 
-pub behind_more : (f : List ℕ → List ℕ) (segs : List (List ℕ)) (i : ℕ) (x : List ℕ) → i < length segs → x ≡ get_or segs i x → flat_map f (take (i + 1) segs) ≡ flat_map f (take i segs) ++ f x
+pub behind_more : (f : List ℕ → List ℕ) (segs : List (List ℕ)) (i : ℕ) (x : List ℕ) → i < length segs → x ≡ get_or segs i x
+    → flat_map f (take (i + 1) segs) ≡ flat_map f (take i segs) ++ f x
 behind_more f segs i x h e = ap (flat_map f) (take_more segs i x h ∙ ap (λ y. take i segs ++ y ∷ []) (sym e)) ∙ sym (flat_map_more f [] (take i segs) x)
 
 pub path_said : (p : List (List ℕ)) (x : List ℕ) → 1 ≤ length p → x ≡ get_or p 0 x → path_text p ≡ (92 ∷ [] ++ x) ++ flat_map (λ h. 46 ∷ h) (take (length p - 1) (drop 1 p))

@@ -3,7 +3,7 @@
 use crate::expect::{expect_number, expect_text, put_printed, put_text};
 use acpi_name::{Path, Seg, read_name};
 use acpi_space::*;
-use std::alloc::Global;
+use std::alloc::{AllocError, Global};
 use std::process::Abort;
 
 fn path_of(rt: &impl Abort, alloc: Global, text: &str) -> Path {
@@ -20,10 +20,32 @@ fn space_of<S: Space<usize>>(rt: &impl Abort, alloc: Global, paths: &[&str]) -> 
     space
 }
 
-// What stands at each path.
+// The pairs that a visitor was shown.
+#[derive(Drop)]
+struct Shown {
+    pairs: Vec<(Path, usize)>,
+}
+
+impl Visitor<usize> for Shown {
+    ghost was_shown = { λ _ _ _. Unit {0} };
+
+    fn visit(&mut self, path: &Path, value: &usize) -> Result<(), AllocError> {
+        self.pairs.push((path.copy()?, *value))?;
+        Ok(())
+    }
+}
+
+// What stands at each path, as a visitor is shown it; the list of pairs says the same.
 fn listed<S: Space<usize>>(rt: &impl Abort, alloc: Global, space: &S) -> String {
+    let mut shown = Shown {
+        pairs: Vec::new(alloc),
+    };
+    space.visit_pairs(&mut shown).expect(rt, "memory");
+    let pairs = space.pairs().expect(rt, "memory");
+    expect_number(rt, shown.pairs.len(), pairs.len());
     let mut text = String::new(alloc);
-    for (path, value) in &space.pairs().expect(rt, "memory") {
+    for ((path, value), (same_path, same_value)) in shown.pairs.iter().zip(pairs.iter()) {
+        assert!(rt; path == same_path && *value == **same_value);
         put_printed(rt, alloc, &mut text, path, "=");
         put_printed(rt, alloc, &mut text, value, " ");
     }

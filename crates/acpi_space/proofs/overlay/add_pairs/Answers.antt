@@ -10,7 +10,8 @@ pub loop-path-preserved-in_ok-insert : goal.loop-path-preserved-in_ok-insert
 loop-path-preserved-in_ok-insert g c =
     let next : into_iter_items c.loop-path.path-iterator ≡ (c.in-Some.path, c.in-Some.value) ∷ into_iter_items c.next.new.self = search rules in
     let absent : c.contains_key.result ≡ false = search rules in
-    pair_added c.loop-path.pairs.entries c.insert.new.self.entries c.in-Some.path c.in-Some.value _ (into_iter_items c.next.new.self) _ _ c.loop-path.invariant next c.contains_key.ensures absent c.in_ok-insert.ensures.updates.0
+    pair_added c.loop-path.pairs.entries c.insert.new.self.entries c.in-Some.path c.in-Some.value _
+    (into_iter_items c.next.new.self) _ _ c.loop-path.invariant next c.contains_key.ensures absent c.in_ok-insert.ensures.updates.0
 
 pub loop-path-preserved : goal.loop-path-preserved
 loop-path-preserved g c =

@@ -12,8 +12,10 @@ returns-in_default g c = none_at_all (λ q. is_defined (g.T.Space.contents c.arg
 
 pub returns-then-depth-outer : goal.returns-then-depth-outer
 returns-then-depth-outer g c =
-    none_inside (λ q. is_defined (g.T.Space.contents c.args.among.now) (q ++ c.args.seg ∷ [])) c.args.outer c.args.scope.now _ c.in-Some.depth c.in_ok-depth.ensures c.in-Some.is c.if-depth-outer.true
+    none_inside (λ q. is_defined (g.T.Space.contents c.args.among.now) (q ++ c.args.seg ∷ [])) c.args.outer c.args.scope.now _ c.in-Some.depth c.in_ok-depth.ensures c.in-Some.is
+    c.if-depth-outer.true
 
 pub returns : goal.returns
 returns g c =
-    innermost_is (λ q. is_defined (g.T.Space.contents c.args.among.now) (q ++ c.args.seg ∷ [])) c.args.outer c.args.scope.now _ c.in-Some.depth c.in_ok-beginning.field-0 c.in_ok-depth.ensures c.in-Some.is c.if-depth-outer.false c.in_ok-beginning.ensures
+    innermost_is (λ q. is_defined (g.T.Space.contents c.args.among.now) (q ++ c.args.seg ∷ [])) c.args.outer c.args.scope.now _ c.in-Some.depth c.in_ok-beginning.field-0
+    c.in_ok-depth.ensures c.in-Some.is c.if-depth-outer.false c.in_ok-beginning.ensures

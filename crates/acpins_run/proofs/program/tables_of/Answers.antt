@@ -23,7 +23,8 @@ loop-name-preserved g c =
     let below : c.loop-name.name-index < length names = grind arith in
     record {
       stays = c.in_ok-add_tables.ensures.stays ∙ c.loop-name.invariant.stays;
-      before = next_tables (g.F.Files.bytes_of c.args.files.now) (g.F.Files.bytes_of c.loop-name.files) c.args.request.now.hex names c.loop-name.name-index _ c.loop-name.tables.items c.add_tables.new.tables.items
+      before = next_tables (g.F.Files.bytes_of c.args.files.now) (g.F.Files.bytes_of c.loop-name.files) c.args.request.now.hex names c.loop-name.name-index _ c.loop-name.tables.items
+          c.add_tables.new.tables.items
           c.loop-name.invariant.stays below c.loop-name.invariant.before (rw c.deref-name-items.ensures.value at c.in_ok-add_tables.ensures.ok);
       others = c.in_ok-add_tables.ensures.others ∙ c.loop-name.invariant.others;
     }

@@ -9,7 +9,8 @@ returns-in-Err-Table-clause-err g c =
 
 pub loop-preserved : goal.loop-preserved
 loop-preserved g c = record {
-  cut = SoFar-more (g.S.Source.coming c.args.source.now) (g.S.Source.coming c.loop.source) (g.S.Source.coming c.read_table.new.source) c.args.tables.now.items c.loop.tables.items c.add.new.tables.items c.in-Ok-Some.table.items
+  cut = SoFar-more (g.S.Source.coming c.args.source.now) (g.S.Source.coming c.loop.source)
+      (g.S.Source.coming c.read_table.new.source) c.args.tables.now.items c.loop.tables.items c.add.new.tables.items c.in-Ok-Some.table.items
       c.loop.invariant.cut c.in-Ok.ensures (rw c.in-Ok-Some.field-0-is at c.in-Ok-Some.ensures.table) (rw c.in-Ok-Some.field-0-is at c.in-Ok-Some.ensures.taken);
   kept = c.in-Ok-Some.ensures.failures ∙ c.loop.invariant.kept;
 }
