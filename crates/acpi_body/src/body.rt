@@ -39,7 +39,8 @@ fn body_or_bytes<S: Space<Object>>(
     depth: u32,
     counts: &Counts,
 ) -> Result<Body, AllocError>
-    ensures { IfOk result (λ b. body_view b ≡ body_of bytes.now (body_at (arguments (namespace_of (S.contents space.now)) (finite.get counts.now) method.now) method.now depth finite.empty bytes.now)) }
+    ensures { IfOk result (λ b. body_view b
+        ≡ body_of bytes.now (body_at (arguments (namespace_of (S.contents space.now)) (finite.get counts.now) method.now) method.now depth finite.empty bytes.now)) }
 {
     match body(&Context::new(alloc, space, counts, method), depth, bytes) {
         Ok(terms) => Ok(Body::Terms(terms)),
@@ -61,7 +62,8 @@ pub fn read_body<S: Space<Object>>(
     // Terms are the reading of the bytes; opaque bytes are the same, and have no reading.
     ensures body { IfOk result (λ b. IsBodyOf (arguments (namespace_of (S.contents space.now)) (finite.get counts.now) method.now) method.now depth bytes.now (body_view b)) }
     // So it is read exactly where it has a reading, and as that.
-    ensures read { IfOk result (λ b. (ts : TermTrees) → (body_view b ≡ read ts) ↔ Reads (arguments (namespace_of (S.contents space.now)) (finite.get counts.now) method.now) method.now depth bytes.now ts) }
+    ensures read { IfOk result (λ b. (ts : TermTrees) → (body_view b ≡ read ts)
+        ↔ Reads (arguments (namespace_of (S.contents space.now)) (finite.get counts.now) method.now) method.now depth bytes.now ts) }
     // What is read fits.
     ensures fits { IfOk result (λ b. body_fits (body_view b) ≡ true) }
 {
@@ -100,7 +102,8 @@ pub fn why<S: Space<Object>>(
     // What a fault says is true of the bytes.
     ensures faults { IfOk result (λ w. IfSome w (λ f. Shows method.now depth bytes.now f.reason f.place)) }
     // Behind statements, what can't begin one is told at its place.
-    ensures next { (u w : List ℕ) (ts : TermTrees) (reason : BodyReason) → bytes.now ≡ u ++ w → Reads (arguments (namespace_of (S.contents space.now)) (finite.get counts.now) method.now) method.now depth u ts → IsRefused reason w
+    ensures next { (u w : List ℕ) (ts : TermTrees) (reason : BodyReason) → bytes.now ≡ u ++ w
+        → Reads (arguments (namespace_of (S.contents space.now)) (finite.get counts.now) method.now) method.now depth u ts → IsRefused reason w
         → IfOk result (λ f. f ≡ Some (record { reason = reason; place = length u })) }
 {
     fault_in(alloc, space, method, bytes, depth.get(), counts)

@@ -60,7 +60,8 @@ fn plain_search<S: Space<Object>, Q: Wanted>(
     wanted: &Q,
     seg: Seg,
 ) -> Result<Tried, AllocError>
-    ensures missed { IfOk result (λ t. t.missed.items ≡ filter (Q.wanted wanted.now) (skipped (defined_with (namespace_of context.now.objects) locals.now) (map (λ q. q ++ seg ∷ []) (beginnings context.now.method)))) }
+    ensures missed { IfOk result (λ t. t.missed.items
+        ≡ filter (Q.wanted wanted.now) (skipped (defined_with (namespace_of context.now.objects) locals.now) (map (λ q. q ++ seg ∷ []) (beginnings context.now.method)))) }
     ensures found { IfOk result (λ t. t.found ≡ is_some (find (defined_with (namespace_of context.now.objects) locals.now) (map (λ q. q ++ seg ∷ []) (beginnings context.now.method)))) }
 {
     let method = context.method();

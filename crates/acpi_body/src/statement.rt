@@ -46,7 +46,8 @@ fn if_statement<S: Space<Object>>(
     level: u32,
     code: &mut Code<'_>,
 ) -> Result<Term, Stop>
-    ensures exact { Reads term_view (if_form (term_at (args_of context.now locals.old) level) (statements_at (args_of context.now) context.now.method level) context.now.method locals.old) code.old code.new result }
+    ensures exact { Reads term_view
+        (if_form (term_at (args_of context.now locals.old) level) (statements_at (args_of context.now) context.now.method level) context.now.method locals.old) code.old code.new result }
     ensures locals { IfOk result (λ t. locals.new ≡ locals_after context.now.method locals.old (term_view t)) }
 {
     let mut inner = code.package()?;
@@ -130,7 +131,8 @@ fn form<'a, S: Space<Object>>(
 ) -> Result<Term, Stop>
     requires ends { front.now.end ≡ code.old.end }
     requires behind { length code.old.bytes < length front.now.bytes }
-    ensures exact { Reads term_view (λ end whole. statement_by (args_of context.now locals.old) (term_at (args_of context.now locals.old) level) (statements_at (args_of context.now) context.now.method level) context.now.method locals.old end whole opcode code.old.bytes) front.now code.new result }
+    ensures exact { Reads term_view (λ end whole. statement_by (args_of context.now locals.old) (term_at (args_of context.now locals.old) level)
+        (statements_at (args_of context.now) context.now.method level) context.now.method locals.old end whole opcode code.old.bytes) front.now code.new result }
     ensures locals { IfOk result (λ t. locals.new ≡ locals_after context.now.method locals.old (term_view t)) }
 {
     match opcode {

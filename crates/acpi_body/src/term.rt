@@ -257,7 +257,8 @@ fn form<'a, S: Space<Object>>(
 ) -> Result<Term, Stop>
     requires ends { front.now.end ≡ code.old.end }
     requires behind { length code.old.bytes < length front.now.bytes }
-    ensures exact { Reads term_view (λ end whole. form_by (args_of context.now locals.now) (term_at (args_of context.now locals.now) level) place end whole opcode code.old.bytes) front.now code.new result }
+    ensures exact { Reads term_view
+        (λ end whole. form_by (args_of context.now locals.now) (term_at (args_of context.now locals.now) level) place end whole opcode code.old.bytes) front.now code.new result }
     ensures plain { IfOk result (λ t. is_plain (term_view t) ≡ true) }
 {
     match opcode {
@@ -292,7 +293,8 @@ pub(crate) fn placed<'a, S: Space<Object>>(
 ) -> Result<Term, Stop>
     requires ends { front.now.end ≡ code.old.end }
     requires behind { length code.old.bytes < length front.now.bytes }
-    ensures exact { Reads term_view (λ end whole. placed_by (args_of context.now locals.now) (term_at (args_of context.now locals.now) level) place end whole opcode code.old.bytes) front.now code.new result }
+    ensures exact { Reads term_view
+        (λ end whole. placed_by (args_of context.now locals.now) (term_at (args_of context.now locals.now) level) place end whole opcode code.old.bytes) front.now code.new result }
     ensures plain { IfOk result (λ t. is_plain (term_view t) ≡ true) }
 {
     if let Some(reason) = refusal(place, opcode) {

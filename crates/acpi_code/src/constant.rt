@@ -25,6 +25,7 @@ impl Code<'_> {
             ConstantForm::QWord => Int::QWord(self.qword()?),
         })
     }
+
     /// A constant: its opcode, and what stands behind it. `NotConstant` where something else begins.
     #[tactic(auto, unfolding(crate::specs::steps::Fields::int_in))]
     pub fn int(&mut self) -> Result<Int, ConstantFault>

@@ -14,7 +14,8 @@ failed f = Err f
 pub code_fault : {X : Type 0} (Is : ItemTrees → X → Type 0) (depth : ℕ) (code : List ℕ) (reason : ItemReason) (place : ℕ) (f : ItemFault) → f ≡ At reason place
     → ((is : ItemTrees) → SpellsItems is code → items_height is ≤ depth → OrMemory (failed {X = X} f) (Is is))
     → Told depth code f
-    → ((u w : List ℕ) (is : ItemTrees) (why : ItemReason) → code ≡ u ++ w → SpellsItems is u → items_height is ≤ depth → Refused why w 0 → IsRefused (failed {X = X} f) why (length u))
+    → ((u w : List ℕ) (is : ItemTrees) (why : ItemReason) → code ≡ u ++ w → SpellsItems is u → items_height is ≤ depth → Refused why w 0
+    → IsRefused (failed {X = X} f) why (length u))
     → IsCodeFault depth code reason place
 code_fault {X = X} Is depth code reason place f e only told next = record {
   none = λ is h k. subst (λ x. OrMemory (failed {X = X} x) (Is is)) e (only is h k);

@@ -43,7 +43,8 @@ module _ (w : Wants) (objects : Namespace) (s : List Segment) where
   some_name [] p i = absurd i
   some_name (n ∷ ns) p i = by (some_name ns p) (among_either (filter w (missed (is_defined_in objects) s n)) (misses_from w objects s ns) p i)
     where
-      by : (Among (misses_from w objects s ns) p → IsMissedName ns p) → Among (filter w (missed (is_defined_in objects) s n)) p ⊎ Among (misses_from w objects s ns) p → IsMissedName (n ∷ ns) p
+      by : (Among (misses_from w objects s ns) p → IsMissedName ns p) → Among (filter w (missed (is_defined_in objects) s n)) p ⊎ Among (misses_from w objects s ns) p
+          → IsMissedName (n ∷ ns) p
       by more (inl j) = (n, inl refl, j)
       by more (inr j) = let r = more j in (r.0, inr r.1, r.2)
 

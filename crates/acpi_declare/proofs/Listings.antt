@@ -165,7 +165,8 @@ steps_outcome t before inside s (x ∷ xs) h = by (placed_path x.effect t.object
         → ((p : List Segment) → Outcome (after t (placement s x p)) (before ++ p ∷ []) (map (site_in inside) xs) (take_steps (after t (placement s x p)) s xs))
         → Outcome t before (site_in inside x ∷ map (site_in inside) xs) ((r >>= λ p. Ok (after t (placement s x p))) >>= λ u. take_steps u s xs)
     by (Err f) e ih = stops t before inside s x (map (site_in inside) xs) f h e
-    by (Ok p) e ih = behind t before (placement s x p ∷ []) (site_in inside x ∷ []) (map (site_in inside) xs) (take_steps (after t (placement s x p)) s xs) (settles t before inside s p x h e) (ih p)
+    by (Ok p) e ih = behind t before (placement s x p ∷ []) (site_in inside x ∷ []) (map (site_in inside) xs) (take_steps (after t (placement s x p)) s xs)
+        (settles t before inside s p x h e) (ih p)
 
 -- ---- the tree
 
@@ -181,7 +182,8 @@ enter_outcome t before inside s x ys f h ih = by (placed_path x.effect t.objects
 
 -- the list inside a term: its sites count from the term's own
 newest : (t : Pass) (before : List (List Segment)) (p : List Segment) (is : ItemTrees)
-    → ((k : ℕ) (inside : Option ℕ) → k ≡ length (before ++ p ∷ []) → Inside (before ++ p ∷ []) inside p → Outcome t (before ++ p ∷ []) (items_sites k inside is) (pass_items t p is))
+    → ((k : ℕ) (inside : Option ℕ) → k ≡ length (before ++ p ∷ []) → Inside (before ++ p ∷ []) inside p
+    → Outcome t (before ++ p ∷ []) (items_sites k inside is) (pass_items t p is))
     → Outcome t (before ++ p ∷ []) (items_sites (suc (length before)) (Some (length before)) is) (pass_items t p is)
 newest t before p is ih = ih (suc (length before)) (Some (length before)) (omega (arith, length-append before (p ∷ []))) (inside_newest before p)
 

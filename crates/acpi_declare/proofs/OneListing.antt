@@ -23,7 +23,8 @@ first_same objects before x e f a b h c d k =
     subst (λ (y : Step). IsPlaced y.effect objects f.scope y.name e.path) steps (subst (λ s. IsPlaced e.step.effect objects s e.step.name e.path) scopes h) in
     same_entry e f steps scopes (placed_once f.step.effect objects f.scope f.step.name e.path f.path there k)
 
-pub justified_once : (objects : Namespace) (before : List (List Segment)) (xs : List Site) (es fs : List Placement) → IsJustified objects before xs es → IsJustified objects before xs fs → es ≡ fs
+pub justified_once : (objects : Namespace) (before : List (List Segment)) (xs : List Site) (es fs : List Placement) → IsJustified objects before xs es → IsJustified objects before xs fs
+    → es ≡ fs
 justified_once objects before [] [] [] h k = refl
 justified_once objects before (x ∷ xs) (e ∷ es) (f ∷ fs) h k =
     let same = first_same objects before x e f h.0 h.1 h.2 k.0 k.1 k.2 in

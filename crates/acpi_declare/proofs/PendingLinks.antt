@@ -18,7 +18,8 @@ pub path_moves : (found : Links) (p : List Segment) (ps : List (List Segment)) (
     → union (links_with found ps) (get (insert m p found)) ≡ union (links_with found (p ∷ ps)) (get m)
 path_moves found p ps m = ap (union (links_with found ps)) (get_inserted m p found) ∙ sym (union_assoc (links_with found ps) (singleton p found) (get m))
 
-pub no_links : (objects : Namespace) (ws : List PendingLink) (es : List (List Segment × Links)) → es ≡ [] → union (links_of objects ws) (get (from_entries {R = path_cmp} es)) ≡ links_of objects ws
+pub no_links : (objects : Namespace) (ws : List PendingLink) (es : List (List Segment × Links)) → es ≡ []
+    → union (links_of objects ws) (get (from_entries {R = path_cmp} es)) ≡ links_of objects ws
 no_links objects ws es none = ap (union (links_of objects ws)) (get_none es none) ∙ union-nothing (links_of objects ws)
 
 -- ---- several paths with the same names
@@ -48,7 +49,8 @@ pub one_more_pending : (ws : List PendingLinks) (w : PendingLinks) → all_pendi
 one_more_pending [] w = append-nil (pending_of w)
 one_more_pending (v ∷ ws) w = ap (λ l. pending_of v ++ l) (one_more_pending ws w) ∙ sym (append_assoc (pending_of v) (all_pending_of ws) (pending_of w))
 
-pub more_from : (s : List Segment) (names : List NameParts) (ps : List (List Segment)) (p : List Segment) → pending_from s names (ps ++ p ∷ []) ≡ pending_from s names ps ++ pending_for p s names ∷ []
+pub more_from : (s : List Segment) (names : List NameParts) (ps : List (List Segment)) (p : List Segment)
+    → pending_from s names (ps ++ p ∷ []) ≡ pending_from s names ps ++ pending_for p s names ∷ []
 more_from s names ps p = map-append (λ q. pending_for q s names) ps (p ∷ [])
 
 -- one more path behind those of its list

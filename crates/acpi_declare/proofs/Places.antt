@@ -55,7 +55,8 @@ if_free_ok objects p q e = by (is_defined_in objects p) refl e
     by true eb e = cc
     by false eb e = (same_path p q e, none_of (objects p) eb)
 
-below_ok : (objects : Namespace) (p q : List Segment) (o : Option ObjectTree) → below objects p o ≡ Ok q → ((x : ObjectTree) × (o ≡ Some x) × IsTrue (opens_scope x)) × (p ≡ q) × (objects p ≡ None)
+below_ok : (objects : Namespace) (p q : List Segment) (o : Option ObjectTree) → below objects p o ≡ Ok q → ((x : ObjectTree) × (o ≡ Some x) × IsTrue (opens_scope x)) × (p ≡ q)
+    × (objects p ≡ None)
 below_ok objects p q None e = cc
 below_ok objects p q (Some x) e =
     let f = if_open_ok (parent_of p) q (Some x) (if_free objects p) e in

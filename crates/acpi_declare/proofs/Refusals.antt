@@ -83,7 +83,8 @@ refused_has_no_load depth tables (At number reason) h some = λ ts a.
 
 -- ---- at most one load
 
-pub same_listings : (depth k : ℕ) (objects : Namespace) (bs : List (List ℕ)) (es ts : List (List Placement)) → AreListings depth k objects bs es → AreListings depth k objects bs ts → es ≡ ts
+pub same_listings : (depth k : ℕ) (objects : Namespace) (bs : List (List ℕ)) (es ts : List (List Placement)) → AreListings depth k objects bs es → AreListings depth k objects bs ts
+    → es ≡ ts
 same_listings depth k objects [] [] [] h a = refl
 same_listings depth k objects (b ∷ bs) (u ∷ es) (t ∷ ts) h a =
     let trees : a.0.0 ≡ h.0.0 = one _ a.0.0 h.0.0 a.0.1.spelled h.0.1.spelled in

@@ -82,7 +82,8 @@ no_tables depth other now so = by so.placements refl
     by (t ∷ ts) e = absurd (subst (AreListings other 0 predefined []) e so.listings)
 
 -- the next table's fault is the load's
-pub next_fault : (depth number : ℕ) (bs later all : List (List ℕ)) (b : List ℕ) (before : State) (f : LoadFault) → all ≡ bs ++ b ∷ later → number ≡ length bs → HasTables depth bs before
+pub next_fault : (depth number : ℕ) (bs later all : List (List ℕ)) (b : List ℕ) (before : State) (f : LoadFault) → all ≡ bs ++ b ∷ later → number ≡ length bs
+    → HasTables depth bs before
     → IsTableFault depth number before.objects b f → IsLoadFault depth all f
 next_fault depth number bs later all b before Memory splits e so h = tt
 next_fault depth number bs later all b before (At k reason) splits e so h = record {
@@ -116,7 +117,8 @@ count_tables depth bs now so = ap length so.notes_are ∙ count_notes predefined
 
 -- ---- what the addition of a table tells
 
-module _ {T : Type 0} (state : T → State) (depth number : ℕ) (bs : List (List ℕ)) (b : List ℕ) (before : State) (r : Result T LoadFault) (e : number ≡ length bs) (so : HasTables depth bs before) where
+module _ {T : Type 0} (state : T → State) (depth number : ℕ) (bs : List (List ℕ)) (b : List ℕ) (before : State) (r : Result T LoadFault) (e : number ≡ length bs)
+    (so : HasTables depth bs before) where
   pub adds_ok : IfOk r (λ d. AddsTable depth number b before (state d)) → IfOk r (λ d. HasTables depth (bs ++ b ∷ []) (state d))
   adds_ok h = MatchResult-weaker r h (λ d a. one_more depth number bs b before (state d) e so a) (λ f u. u)
 
@@ -124,6 +126,9 @@ module _ {T : Type 0} (state : T → State) (depth number : ℕ) (bs : List (Lis
   adds_err h later = MatchResult-weaker r h (λ d u. u) (λ f t. next_fault depth number bs later (bs ++ b ∷ later) b before f refl e so t)
 
 -- .. over the objects of these tables alone
-pub adds_over : {T : Type 0} (state : T → State) (depth number : ℕ) (bs : List (List ℕ)) (b : List ℕ) (all before : State) (r : Result T LoadFault) → number ≡ length bs → (so : HasTables depth bs all)
-    → before.objects ≡ all.objects → before.links ≡ [] → before.notes ≡ [] → IfOk r (λ d. AddsTable depth number b before (state d)) → IfOk r (λ d. HasTableOver depth bs so.placements b (state d))
-adds_over state depth number bs b all before r e so same no_links no_notes h = MatchResult-weaker r h (λ d a. one_over depth number bs b all before (state d) e so same no_links no_notes a) (λ f u. u)
+pub adds_over : {T : Type 0} (state : T → State) (depth number : ℕ) (bs : List (List ℕ)) (b : List ℕ) (all before : State) (r : Result T LoadFault) → number ≡ length bs
+    → (so : HasTables depth bs all)
+    → before.objects ≡ all.objects → before.links ≡ [] → before.notes ≡ [] → IfOk r (λ d. AddsTable depth number b before (state d))
+    → IfOk r (λ d. HasTableOver depth bs so.placements b (state d))
+adds_over state depth number bs b all before r e so same no_links no_notes h =
+    MatchResult-weaker r h (λ d a. one_over depth number bs b all before (state d) e so same no_links no_notes a) (λ f u. u)

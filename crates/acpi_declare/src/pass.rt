@@ -156,9 +156,11 @@ impl<S: Space<Object>> Pass<S> {
         object: Object,
     ) -> Result<(), Stop>
         requires { fields.now.names.now ≢ [] }
-        ensures ok { OnOk result (take_step (pass_with (S.contents self.old.objects) self.old (pending_from scope.now fields.now.names.now paths.old.items)) scope.now (step (unit_name seg) (declares (object_view object) fields.now.names.now None))
+        ensures ok { OnOk result (take_step (pass_with (S.contents self.old.objects) self.old (pending_from scope.now fields.now.names.now paths.old.items)) scope.now
+            (step (unit_name seg) (declares (object_view object) fields.now.names.now None))
             ≡ Ok (pass_with (S.contents self.new.objects) self.new (pending_from scope.now fields.now.names.now paths.new.items))) }
-        ensures refused { IfErr result (λ f. IsStopOf f (take_step (pass_with (S.contents self.old.objects) self.old (pending_from scope.now fields.now.names.now paths.old.items)) scope.now (step (unit_name seg) (declares (object_view object) fields.now.names.now None)))) }
+        ensures refused { IfErr result (λ f. IsStopOf f (take_step (pass_with (S.contents self.old.objects) self.old (pending_from scope.now fields.now.names.now paths.old.items)) scope.now
+            (step (unit_name seg) (declares (object_view object) fields.now.names.now None)))) }
         ensures lower { OnOk result (S.lower self.new.objects ≡ S.lower self.old.objects) }
     {
         let path = declared_unit(&self.objects, scope, seg)?;
@@ -213,10 +215,12 @@ impl<S: Space<Object>> Pass<S> {
     ) -> Result<u64, Stop>
         requires some { fields.now.names.now ≢ [] }
         requires room { offset + element_bits (field_view elem.now) < 2 ^ 64 }
-        ensures ok { OnOk result (take_steps (pass_with (S.contents self.old.objects) self.old (pending_from scope.now fields.now.names.now paths.old.items)) scope.now (unit_step fields.now.form fields.now.flags fields.now.names.now offset (field_view elem.now))
+        ensures ok { OnOk result (take_steps (pass_with (S.contents self.old.objects) self.old (pending_from scope.now fields.now.names.now paths.old.items)) scope.now
+            (unit_step fields.now.form fields.now.flags fields.now.names.now offset (field_view elem.now))
             ≡ Ok (pass_with (S.contents self.new.objects) self.new (pending_from scope.now fields.now.names.now paths.new.items))) }
         ensures behind { IfOk result (λ n. n ≡ offset + element_bits (field_view elem.now)) }
-        ensures refused { IfErr result (λ f. IsStopOf f (take_steps (pass_with (S.contents self.old.objects) self.old (pending_from scope.now fields.now.names.now paths.old.items)) scope.now (unit_step fields.now.form fields.now.flags fields.now.names.now offset (field_view elem.now)))) }
+        ensures refused { IfErr result (λ f. IsStopOf f (take_steps (pass_with (S.contents self.old.objects) self.old (pending_from scope.now fields.now.names.now paths.old.items)) scope.now
+            (unit_step fields.now.form fields.now.flags fields.now.names.now offset (field_view elem.now)))) }
         ensures lower { OnOk result (S.lower self.new.objects ≡ S.lower self.old.objects) }
     {
         match elem {
@@ -245,9 +249,11 @@ impl<S: Space<Object>> Pass<S> {
     ) -> Result<(), Stop>
         requires some { fields.now.names.now ≢ [] }
         requires room { list_bits (fields_view elems.now) < 2 ^ 64 }
-        ensures ok { OnOk result (take_steps (pass_with (S.contents self.old.objects) self.old (pending_from scope.now fields.now.names.now paths.old.items)) scope.now (unit_steps fields.now.form fields.now.flags fields.now.names.now 0 (fields_view elems.now))
+        ensures ok { OnOk result (take_steps (pass_with (S.contents self.old.objects) self.old (pending_from scope.now fields.now.names.now paths.old.items)) scope.now
+            (unit_steps fields.now.form fields.now.flags fields.now.names.now 0 (fields_view elems.now))
             ≡ Ok (pass_with (S.contents self.new.objects) self.new (pending_from scope.now fields.now.names.now paths.new.items))) }
-        ensures refused { IfErr result (λ f. IsStopOf f (take_steps (pass_with (S.contents self.old.objects) self.old (pending_from scope.now fields.now.names.now paths.old.items)) scope.now (unit_steps fields.now.form fields.now.flags fields.now.names.now 0 (fields_view elems.now)))) }
+        ensures refused { IfErr result (λ f. IsStopOf f (take_steps (pass_with (S.contents self.old.objects) self.old (pending_from scope.now fields.now.names.now paths.old.items)) scope.now
+            (unit_steps fields.now.form fields.now.flags fields.now.names.now 0 (fields_view elems.now)))) }
         ensures lower { OnOk result (S.lower self.new.objects ≡ S.lower self.old.objects) }
     {
         let mut offset = 0;

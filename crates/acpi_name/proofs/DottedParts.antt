@@ -23,7 +23,8 @@ parts_at text dot e = by_test (ltb (position_or_len (λ b. eqb b 46) text) (leng
 pub parts_none : (text : List ℕ) → position (λ b. eqb b 46) text ≡ None → dotted_parts text ≡ text ∷ []
 parts_none text e = by_test (ltb (position_or_len (λ b. eqb b 46) text) (length text)) refl e
   where
-    by_test : (t : Bool) → ltb (position_or_len (λ b. eqb b 46) text) (length text) ≡ t → cond t (Some (position_or_len (λ b. eqb b 46) text)) None ≡ None → dotted_parts text ≡ text ∷ []
+    by_test : (t : Bool) → ltb (position_or_len (λ b. eqb b 46) text) (length text) ≡ t → cond t (Some (position_or_len (λ b. eqb b 46) text)) None ≡ None
+        → dotted_parts text ≡ text ∷ []
     by_test true h f = absurd cc
     by_test false h f =
         let le : length text ≤ position_or_len (λ b. eqb b 46) text = ltb-false _ _ h in

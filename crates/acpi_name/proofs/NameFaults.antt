@@ -341,7 +341,8 @@ relative_many bytes e =
             rest = replicate (ups bytes - 256) 94 ++ drop (ups bytes) bytes;
             whole = all_ups bytes ∙ ap (λ (r : List ℕ). r ++ drop (ups bytes) bytes) split ∙ append_assoc (replicate 256 94) (replicate (ups bytes - 256) 94) (drop (ups bytes) bytes);
           }
-      | inr f ↦ absurd (path_no_ups (drop (ups bytes) bytes) (bind_done (path_at (drop (ups bytes) bytes)) (λ p. (record { rooted = false; parents = ups bytes; segments = p.0 }, p.1)) TooManyUps f.1))
+      | inr f ↦ absurd (path_no_ups (drop (ups bytes) bytes) (bind_done (path_at (drop (ups bytes) bytes))
+          (λ p. (record { rooted = false; parents = ups bytes; segments = p.0 }, p.1)) TooManyUps f.1))
     ]
 
 pub name_many : (bytes : List ℕ) → name_at bytes ≡ Err TooManyUps → HasTooManyUps bytes

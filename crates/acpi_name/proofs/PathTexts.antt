@@ -25,10 +25,12 @@ segment_typed [] g e = absurd cc
 segment_typed (a ∷ []) g e = let c = checked_is g (a ∷ 95 ∷ 95 ∷ 95 ∷ []) e in record { some = omega arith; few = omega arith; filled = c.0; segment = ap is_segment c.0 ∙ c.1 }
 segment_typed (a ∷ b ∷ []) g e = let c = checked_is g (a ∷ b ∷ 95 ∷ 95 ∷ []) e in record { some = omega arith; few = omega arith; filled = c.0; segment = ap is_segment c.0 ∙ c.1 }
 segment_typed (a ∷ b ∷ c ∷ []) g e = let k = checked_is g (a ∷ b ∷ c ∷ 95 ∷ []) e in record { some = omega arith; few = omega arith; filled = k.0; segment = ap is_segment k.0 ∙ k.1 }
-segment_typed (a ∷ b ∷ c ∷ d ∷ []) g e = let k = checked_is g (a ∷ b ∷ c ∷ d ∷ []) e in record { some = omega arith; few = omega arith; filled = k.0; segment = ap is_segment k.0 ∙ k.1 }
+segment_typed (a ∷ b ∷ c ∷ d ∷ []) g e =
+    let k = checked_is g (a ∷ b ∷ c ∷ d ∷ []) e in record { some = omega arith; few = omega arith; filled = k.0; segment = ap is_segment k.0 ∙ k.1 }
 segment_typed (a ∷ b ∷ c ∷ d ∷ x ∷ typed) g e = absurd cc
 
-before_is : (o : Option Segment) (p : Option (List Segment)) (gs : List Segment) → before_segments o p ≡ Some gs → (g : Segment) × (hs : List Segment) × (o ≡ Some g) × (p ≡ Some hs) × (gs ≡ g ∷ hs)
+before_is : (o : Option Segment) (p : Option (List Segment)) (gs : List Segment) → before_segments o p ≡ Some gs → (g : Segment) × (hs : List Segment) × (o ≡ Some g)
+    × (p ≡ Some hs) × (gs ≡ g ∷ hs)
 before_is (Some g) (Some hs) gs e = let is : g ∷ hs ≡ gs = cc in (g, hs, refl, refl, sym is)
 before_is (Some g) None gs e = absurd cc
 before_is None p gs e = absurd cc

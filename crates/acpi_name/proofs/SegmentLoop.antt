@@ -68,7 +68,8 @@ ends count i bytes rest f lt h so =
     let one : with_front (first_chunks 4 i bytes) (segments_at (count - i) rest) ≡ Err f = rw (k, h) refl in
     sym so.told ∙ one
 
-pub is_done : (count i : ℕ) (bytes rest : List ℕ) → count ≡ i → SoFar count i bytes rest → segments_at count bytes ≡ Ok (first_chunks 4 count (take (4 * count) bytes), drop (4 * count) bytes)
+pub is_done : (count i : ℕ) (bytes rest : List ℕ) → count ≡ i → SoFar count i bytes rest
+    → segments_at count bytes ≡ Ok (first_chunks 4 count (take (4 * count) bytes), drop (4 * count) bytes)
 unfolding segments_at
 is_done count i bytes rest e so =
     let k : count - i ≡ 0 = omega arith in

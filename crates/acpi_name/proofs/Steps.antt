@@ -22,7 +22,8 @@ nil_of_length [] n = refl
 nil_of_length (x ∷ xs) n = absurd (n (omega arith))
 
 -- what `pop` leaves
-pub popped : {A : Type 0} (old new : List A) (r : Option A) → old ≡ new ++ option_to_list r → (n : ℕ) → n ≡ length old → (IsSome r ↔ (0 < n)) → (r ≡ last_or None old) × (new ≡ parent_of old)
+pub popped : {A : Type 0} (old new : List A) (r : Option A) → old ≡ new ++ option_to_list r → (n : ℕ) → n ≡ length old → (IsSome r ↔ (0 < n)) → (r ≡ last_or None old)
+    × (new ≡ parent_of old)
 popped old new None e n l v =
     let nil : old ≡ [] = nil_of_length old (λ h. true≢false (sym (v.1 (omega arith)))) in
     let none : length new ≡ 0 = omega (arith, ap length e, ap length nil, length-append new []) in

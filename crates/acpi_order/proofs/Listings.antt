@@ -108,7 +108,8 @@ kept_listing N X M is before (x ∷ xs) (e ∷ es) quiet apart h =
 abbrev IsQuietAt : Namespace → Namespace → Listing → Type 0
 IsQuietAt N X t = (p : List Segment) (o : ObjectTree) → X p ≡ Some o → (objects_of t p ≡ None) × (Among (scope_misses N t) p → ⊥)
 
-both_none : (a b : Option ObjectTree) → (P : Type 0) → ((o : ObjectTree) → a ≡ Some o → P) → ((o : ObjectTree) → b ≡ Some o → P) → (o : ObjectTree) → option_or a b ≡ Some o → P
+both_none : (a b : Option ObjectTree) → (P : Type 0) → ((o : ObjectTree) → a ≡ Some o → P) → ((o : ObjectTree) → b ≡ Some o → P) → (o : ObjectTree)
+    → option_or a b ≡ Some o → P
 both_none None b P f g o e = g o e
 both_none (Some a) b P f g o e = f a refl
 

@@ -45,7 +45,8 @@ pub skipped_fail : {X : Type 0} (test : X → Bool) (ts : List X) → AllByRecur
 skipped_fail test [] = tt
 skipped_fail test (t ∷ ts) = skipped_at test t ts (skipped_fail test ts) (test t) refl
 
-found_at : {X : Type 0} (test : X → Bool) (t a : X) (rest : Option X) → (rest ≡ Some a → test a ≡ true) → (b : Bool) → test t ≡ b → cond b (Some t) rest ≡ Some a → test a ≡ true
+found_at : {X : Type 0} (test : X → Bool) (t a : X) (rest : Option X) → (rest ≡ Some a → test a ≡ true) → (b : Bool) → test t ≡ b → cond b (Some t) rest ≡ Some a
+    → test a ≡ true
 found_at test t a rest more true is e = let same : t ≡ a = cc in subst (λ q. test q ≡ true) same is
 found_at test t a rest more false is e = more e
 

@@ -241,7 +241,8 @@ refused_is_not_alone depth dsdt ssdts i reason loads earlier h = (
   },
 )
 
-pub least_by_pairs : (Holds : ℕ → ℕ → List Segment → Type 0) (i j : ℕ) (p : List Segment) → Holds i j p → ((a b : ℕ) (q : List Segment) → IsPairBefore a b i j → Holds a b q → ⊥)
+pub least_by_pairs : (Holds : ℕ → ℕ → List Segment → Type 0) (i j : ℕ) (p : List Segment) → Holds i j p
+    → ((a b : ℕ) (q : List Segment) → IsPairBefore a b i j → Holds a b q → ⊥)
     → ((q : List Segment) → path_cmp q p ≡ Less → Holds i j q → ⊥) → IsLeast Holds i j p
 least_by_pairs Holds i j p h pairs paths = record { holds = h; none_before = by }
   where

@@ -198,7 +198,8 @@ module _ (depth : ℕ) (objects : Namespace) where
       (subst (λ (c : List ℕ). IsRewritten depth objects (get_or ts i []) c (items_in new)) there one))))
 
   -- all of them
-  pub all_rewritten : (ts : List (List Placement)) (bs ns : List (List ℕ)) (i : ℕ) → AreListings depth 0 predefined bs ts → length bs ≤ i → AreEachRewritten depth objects (take i ts) (take i bs) ns
+  pub all_rewritten : (ts : List (List Placement)) (bs ns : List (List ℕ)) (i : ℕ) → AreListings depth 0 predefined bs ts → length bs ≤ i
+      → AreEachRewritten depth objects (take i ts) (take i bs) ns
       → AreEachRewritten depth objects ts bs ns
   all_rewritten ts bs ns i h past each =
       subst (λ (us : List (List Placement)). AreEachRewritten depth objects us bs ns) (take_all i ts (omega (arith, as_many_listings depth 0 predefined bs ts h, past)))
@@ -209,10 +210,12 @@ bytes_pushed : (bs : List (List ℕ)) (b : List ℕ) → AreTablesOfBytes bs →
 bytes_pushed [] b h one = (one, tt)
 bytes_pushed (c ∷ bs) b h one = (h.0, bytes_pushed bs b h.1 one)
 
-pub more_old : (bs : List (List ℕ)) (i : ℕ) (b : List ℕ) → i < length bs → b ≡ get_or bs i [] → AreTablesOfBytes (take i bs) → All (λ n. n < 256) b → AreTablesOfBytes (take (i + 1) bs)
+pub more_old : (bs : List (List ℕ)) (i : ℕ) (b : List ℕ) → i < length bs → b ≡ get_or bs i [] → AreTablesOfBytes (take i bs) → All (λ n. n < 256) b
+    → AreTablesOfBytes (take (i + 1) bs)
 more_old bs i b below there before one =
     subst AreTablesOfBytes (sym (take_more bs i [] below)) (bytes_pushed (take i bs) (get_or bs i []) before (subst (All (λ n. n < 256)) there one))
 
-pub more_new : (done now : List Bytes) (new : Bytes) → now ≡ done ++ new ∷ [] → AreTablesOfBytes (map items_in done) → All (λ n. n < 256) (items_in new) → AreTablesOfBytes (map items_in now)
+pub more_new : (done now : List Bytes) (new : Bytes) → now ≡ done ++ new ∷ [] → AreTablesOfBytes (map items_in done) → All (λ n. n < 256) (items_in new)
+    → AreTablesOfBytes (map items_in now)
 more_new done now new pushed before one =
     subst AreTablesOfBytes (sym (ap (map items_in) pushed ∙ map-append items_in done (new ∷ []))) (bytes_pushed (map items_in done) (items_in new) before one)

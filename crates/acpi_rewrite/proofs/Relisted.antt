@@ -33,7 +33,8 @@ bare_unit : (form : FieldForm) (flags : ℕ) (links : List NameParts) (offset : 
 bare_unit form flags links offset (unit s bits) = refl
 bare_unit form flags links offset e = refl
 
-bare_units : (form : FieldForm) (flags : ℕ) (links : List NameParts) (offset : ℕ) (es : List FieldTree) → map bare_step (unit_steps form flags links offset es) ≡ unit_steps form flags links offset es
+bare_units : (form : FieldForm) (flags : ℕ) (links : List NameParts) (offset : ℕ) (es : List FieldTree)
+    → map bare_step (unit_steps form flags links offset es) ≡ unit_steps form flags links offset es
 bare_units form flags links offset [] = refl
 bare_units form flags links offset (e ∷ es) =
     let here = unit_step form flags links offset e in
@@ -113,7 +114,8 @@ steps_appended (x ∷ xs) ys = ap (λ (cs : List (List ℕ)). effect_codes x.eff
 
 sites_appended : (xs ys : List Site) → site_codes (xs ++ ys) ≡ site_codes xs ++ site_codes ys
 sites_appended [] ys = refl
-sites_appended (x ∷ xs) ys = ap (λ (cs : List (List ℕ)). effect_codes x.step.effect ++ cs) (sites_appended xs ys) ∙ sym (append_assoc (effect_codes x.step.effect) (site_codes xs) (site_codes ys))
+sites_appended (x ∷ xs) ys = ap (λ (cs : List (List ℕ)). effect_codes x.step.effect ++ cs) (sites_appended xs ys)
+    ∙ sym (append_assoc (effect_codes x.step.effect) (site_codes xs) (site_codes ys))
 
 units_codes : (form : FieldForm) (flags : ℕ) (links : List NameParts) (offset : ℕ) (es : List FieldTree) → step_codes (unit_steps form flags links offset es) ≡ []
 units_codes form flags links offset [] = refl
@@ -153,7 +155,8 @@ mutual
   item_sites_codes (external_block xs) k inside = in_sites inside (external_steps xs) ∙ externals_codes xs
   item_sites_codes (field r flags es) k inside = in_sites inside (unit_steps FieldForm.Field flags (r ∷ []) 0 es) ∙ units_codes FieldForm.Field flags (r ∷ []) 0 es
   item_sites_codes (index_field i d flags es) k inside = in_sites inside (unit_steps FieldForm.Index flags (i ∷ d ∷ []) 0 es) ∙ units_codes FieldForm.Index flags (i ∷ d ∷ []) 0 es
-  item_sites_codes (bank_field r b value flags es) k inside = in_sites inside (unit_steps (FieldForm.Bank value) flags (r ∷ b ∷ []) 0 es) ∙ units_codes (FieldForm.Bank value) flags (r ∷ b ∷ []) 0 es
+  item_sites_codes (bank_field r b value flags es) k inside = in_sites inside (unit_steps (FieldForm.Bank value) flags (r ∷ b ∷ []) 0 es)
+      ∙ units_codes (FieldForm.Bank value) flags (r ∷ b ∷ []) 0 es
   item_sites_codes i k inside = refl
 
   sites_codes : (is : ItemTrees) (k : ℕ) (inside : Option ℕ) → site_codes (items_sites k inside is) ≡ codes is
@@ -356,7 +359,8 @@ code_of_effect (declares o links (Some code)) p = refl
 code_of_effect opens p = refl
 code_of_effect (expects count) p = refl
 
-pub listed_codes : (N : Namespace) (before : List (List Segment)) (xs : List Site) (es : List Placement) → IsJustified N before xs es → map (λ (m : notes.Method). m.code) (methods es) ≡ site_codes xs
+pub listed_codes : (N : Namespace) (before : List (List Segment)) (xs : List Site) (es : List Placement) → IsJustified N before xs es
+    → map (λ (m : notes.Method). m.code) (methods es) ≡ site_codes xs
 listed_codes N before [] [] h = refl
 listed_codes N before [] (e ∷ es) h = absurd h
 listed_codes N before (x ∷ xs) [] h = absurd h

@@ -174,7 +174,8 @@ module _ (depth number : ℕ) (N objects : Namespace) (old new : List ℕ) (belo
     spelled = spelled_now;
     rewritten = js;
     alike = refl;
-    bodies = subst (λ (ms : List Method). AllZip (IsNewCode depth objects) ms (codes js)) (sym methods_now) (new_codes depth objects (external_counts t) (methods t) (codes js) methods_small r.bodies);
+    bodies = subst (λ (ms : List Method). AllZip (IsNewCode depth objects) ms (codes js)) (sym methods_now)
+        (new_codes depth objects (external_counts t) (methods t) (codes js) methods_small r.bodies);
     written = record { table = r.written.table; header = by r.written.table.has_length; spelling = r.written.spelling };
   }
     where

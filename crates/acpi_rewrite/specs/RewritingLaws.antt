@@ -18,7 +18,8 @@ RewrittenStay = (depth : ℕ) (tables new : List (List ℕ)) → AreTablesOfByte
 
 -- tables are rewritten in one way
 abbrev pub OneRewriting : Type 0
-OneRewriting = (depth : ℕ) (tables new other : List (List ℕ)) → AreTablesOfBytes new → AreTablesOfBytes other → AreRewritten depth tables new → AreRewritten depth tables other → new ≡ other
+OneRewriting = (depth : ℕ) (tables new other : List (List ℕ)) → AreTablesOfBytes new → AreTablesOfBytes other → AreRewritten depth tables new → AreRewritten depth tables other
+    → new ≡ other
 
 -- none of them is longer than it was
 abbrev pub NoneGrows : Type 0

@@ -151,7 +151,8 @@ unfolding shortest_pkg_length
 shortest_spells n lt = by_tests (ltb n 64) (ltb n 4096) (ltb n 1048576) refl refl refl
   where
     by_tests : (a b c : Bool) → ltb n 64 ≡ a → ltb n 4096 ≡ b → ltb n 1048576 ≡ c
-        → SpellsPkgLength n (cond a (n ∷ []) (cond b ((64 + n % 16) ∷ little_bytes 1 (n / 16)) (cond c ((128 + n % 16) ∷ little_bytes 2 (n / 16)) ((192 + n % 16) ∷ little_bytes 3 (n / 16)))))
+        → SpellsPkgLength n (cond a (n ∷ []) (cond b ((64 + n % 16) ∷ little_bytes 1 (n / 16))
+        (cond c ((128 + n % 16) ∷ little_bytes 2 (n / 16)) ((192 + n % 16) ∷ little_bytes 3 (n / 16)))))
     by_tests true b c x y z = inl (ltb-true n 64 x, refl, refl)
     by_tests false true c x y z = let h = ltb-true n 4096 y in wide 1 (64 + n % 16) n (omega arith) (omega arith) (omega arith) (omega arith)
     by_tests false false true x y z = let h = ltb-true n 1048576 z in wide 2 (128 + n % 16) n (omega arith) (omega arith) (omega arith) (omega arith)

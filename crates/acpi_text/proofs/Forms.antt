@@ -36,7 +36,8 @@ region_is n s o l = ap decl_view (sym (decl.rolls-Region n s o l)) ∙ fold-roll
 pub field_is : (r : NameParts) (f : ℕ) (v : Vec FieldElem) → decl_view (decl.Field r f v) ≡ declare_units units.Field (r ∷ []) (more (raw 1 f) no_terms) (fields_view v.items)
 field_is r f v = ap decl_view (sym (decl.rolls-Field r f v)) ∙ fold-roll-Decl TermTree TermTree TermTree decl_step operand_step term_step (Decl-F.Field r f v)
 
-pub index_field_is : (i d : NameParts) (f : ℕ) (v : Vec FieldElem) → decl_view (decl.IndexField i d f v) ≡ declare_units units.IndexField (i ∷ d ∷ []) (more (raw 1 f) no_terms) (fields_view v.items)
+pub index_field_is : (i d : NameParts) (f : ℕ) (v : Vec FieldElem)
+    → decl_view (decl.IndexField i d f v) ≡ declare_units units.IndexField (i ∷ d ∷ []) (more (raw 1 f) no_terms) (fields_view v.items)
 index_field_is i d f v = ap decl_view (sym (decl.rolls-IndexField i d f v)) ∙ fold-roll-Decl TermTree TermTree TermTree decl_step operand_step term_step (Decl-F.IndexField i d f v)
 
 pub bank_field_is : (r b : NameParts) (i : Box Term) (f : ℕ) (v : Vec FieldElem)

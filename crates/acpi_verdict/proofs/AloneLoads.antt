@@ -127,7 +127,8 @@ module _ (depth : ℕ) (dsdt : List ℕ) where
   place_of_item (x ∷ bs) zero b within e = sym e
   place_of_item (x ∷ bs) (suc i) b within e = place_of_item bs i b (omega arith) e
 
-  refused_here : (bs : List (List ℕ)) (ls : List LaidTree) (i : ℕ) (b : List ℕ) (number : ℕ) (reason : LoadReason) → DsdtLoads depth dsdt → AreLaid depth dsdt (take i bs) ls → i < length bs
+  refused_here : (bs : List (List ℕ)) (ls : List LaidTree) (i : ℕ) (b : List ℕ) (number : ℕ) (reason : LoadReason) → DsdtLoads depth dsdt → AreLaid depth dsdt (take i bs) ls
+      → i < length bs
       → b ≡ get_or bs i b → IsFirstWithout depth (dsdt ∷ b ∷ []) number reason → IsFirstRefused depth dsdt bs (i + 1) reason
   refused_here bs ls i b number reason loads h within e refused = record {
     loads = loads;

@@ -27,7 +27,8 @@ pub any_among : {X : Type 0} (test : X → Bool) (xs : List X) → list_any test
 any_among test [] e = cc
 any_among {X} test (y ∷ ys) e = by (any_among test ys) (test y) refl e
   where
-    by : (list_any test ys ≡ true → (x : X) × Among ys x × (test x ≡ true)) → (b : Bool) → test y ≡ b → b || list_any test ys ≡ true → (x : X) × Among (y ∷ ys) x × (test x ≡ true)
+    by : (list_any test ys ≡ true → (x : X) × Among ys x × (test x ≡ true)) → (b : Bool) → test y ≡ b → b || list_any test ys ≡ true → (x : X) × Among (y ∷ ys) x
+        × (test x ≡ true)
     by later true is e = (y, inl refl, is)
     by later false is e = let r = later e in (r.0, inr r.1, r.2)
 
@@ -86,7 +87,8 @@ abbrev pub IsLeastPath : (List Segment → Type 0) → Option (List Segment) →
 IsLeastPath Holds None = (p : List Segment) → Holds p → ⊥
 IsLeastPath Holds (Some p) = Holds p × ((q : List Segment) → path_cmp q p ≡ Less → Holds q → ⊥)
 
-pub least_map : (H K : List Segment → Type 0) → ((p : List Segment) → H p → K p) → ((p : List Segment) → K p → H p) → (o : Option (List Segment)) → IsLeastPath H o → IsLeastPath K o
+pub least_map : (H K : List Segment → Type 0) → ((p : List Segment) → H p → K p) → ((p : List Segment) → K p → H p) → (o : Option (List Segment)) → IsLeastPath H o
+    → IsLeastPath K o
 least_map H K to from None h = λ p k. h p (from p k)
 least_map H K to from (Some p) h = (to p h.0, λ q less k. h.1 q less (from q k))
 

@@ -48,7 +48,8 @@ pub told_commute_so : (depth : ℕ) (dsdt : List ℕ) (ssdts : List (List ℕ)) 
 told_commute_so depth dsdt ssdts (Ok c) one law h some = commutes depth dsdt ssdts one law some c.verdict h
 told_commute_so depth dsdt ssdts (Err e) one law h some = tt
 
-pub told_no_load : {T : Type 0} (depth : ℕ) (tables : List (List ℕ)) (r : Result T LoadFault) → IfErr r (λ e. IsLoadFault depth tables e) → IfErr r (λ e. e ≢ Memory → HasNoLoad depth tables)
+pub told_no_load : {T : Type 0} (depth : ℕ) (tables : List (List ℕ)) (r : Result T LoadFault) → IfErr r (λ e. IsLoadFault depth tables e)
+    → IfErr r (λ e. e ≢ Memory → HasNoLoad depth tables)
 told_no_load depth tables (Ok c) h = tt
 told_no_load depth tables (Err e) h = λ other. refused_has_no_load depth tables e h other
 
@@ -127,7 +128,8 @@ ok_both (Err e) P Q R f h k = tt
 -- ---- a refusal
 
 -- .. told of number i under the same number, for the reason
-pub refused_checked : (depth : ℕ) (dsdt : List ℕ) (ssdts : List (List ℕ)) (n k : ℕ) (why : LoadReason) (i : ℕ) (reason : LoadReason) (found : Vec Satisfied) → n ≡ i → k ≡ i → why ≡ reason
+pub refused_checked : (depth : ℕ) (dsdt : List ℕ) (ssdts : List (List ℕ)) (n k : ℕ) (why : LoadReason) (i : ℕ) (reason : LoadReason) (found : Vec Satisfied) → n ≡ i → k ≡ i
+    → why ≡ reason
     → IsFirstRefused depth dsdt ssdts i reason → found.items ≡ [] → IsChecked depth dsdt ssdts (record { verdict = verdicts.NotAlone n (At k why); satisfied = found })
 refused_checked depth dsdt ssdts n k why i reason found of_ssdt of_table of_reason h none = record {
   verdict = subst (λ (x : ℕ). IsVerdict depth dsdt ssdts (not_alone x)) (sym of_ssdt) (not_alone_verdict depth dsdt ssdts i reason h);
@@ -153,7 +155,8 @@ fault_told depth dsdt ssdts v i fault e h k =
     by Memory h k = absurd k
 
 -- where it tells none, all load alone
-pub alone_unless : (depth : ℕ) (dsdt : List ℕ) (ssdts : List (List ℕ)) (v : Verdict) → ((i : ℕ) (fault : LoadFault) → v ≡ verdicts.NotAlone i fault → ⊥) → IsVerdict depth dsdt ssdts (verdict_view v)
+pub alone_unless : (depth : ℕ) (dsdt : List ℕ) (ssdts : List (List ℕ)) (v : Verdict) → ((i : ℕ) (fault : LoadFault) → v ≡ verdicts.NotAlone i fault → ⊥)
+    → IsVerdict depth dsdt ssdts (verdict_view v)
     → AllAlone depth dsdt ssdts
 alone_unless depth dsdt ssdts (verdicts.NotAlone i fault) other h = absurd (other i fault refl)
 alone_unless depth dsdt ssdts (verdicts.Same i j p) other h = h.1.0

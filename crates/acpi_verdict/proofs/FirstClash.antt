@@ -65,7 +65,8 @@ not_true : (a : Bool) → not a ≡ true → a ≡ false
 not_true true e = cc
 not_true false e = refl
 
-other_of : (a : Option ℕ) (there : Option ObjectTree) → awaits_other a there ≡ true → (args : ℕ) × (o : ObjectTree) × (a ≡ Some args) × (there ≡ Some o) × (is_method_of o args ≡ false)
+other_of : (a : Option ℕ) (there : Option ObjectTree) → awaits_other a there ≡ true → (args : ℕ) × (o : ObjectTree) × (a ≡ Some args) × (there ≡ Some o)
+    × (is_method_of o args ≡ false)
 other_of None there e = cc
 other_of (Some n) None e = cc
 other_of (Some n) (Some o) e = (n, o, refl, refl, not_true (is_method_of o n) e)
@@ -177,7 +178,8 @@ module _ {X : Type 0} (seen : X → ToldTree) (xs : List X) (up : AreSorted (map
         none_below = λ q less c. least.1 q less (of_two q c);
       }
 
-pub none_past : {X : Type 0} (seen : X → ToldTree) (xs : List X) (kind : Kind) (i n : ℕ) → length xs ≤ n → ((b : ℕ) (p : List Segment) → b ≤ n → IsClash kind (map seen xs) i b p → ⊥)
+pub none_past : {X : Type 0} (seen : X → ToldTree) (xs : List X) (kind : Kind) (i n : ℕ) → length xs ≤ n
+    → ((b : ℕ) (p : List Segment) → b ≤ n → IsClash kind (map seen xs) i b p → ⊥)
     → IsFirstWith kind (map seen xs) i None
 none_past seen xs kind i n all before j p c = let within = number_within seen xs j c.other c.is_other in before j p (omega arith) c
 
@@ -202,6 +204,7 @@ none_of_next kind ss i before here a b p h c = by (up_to a i h)
     by (inl less) = before a b p less c
     by (inr is) = here b p (subst (λ (n : ℕ). IsClash kind ss n b p) is c)
 
-pub none_of_all : {X : Type 0} (seen : X → ToldTree) (xs : List X) (kind : Kind) (n : ℕ) → length xs ≤ n → ((a b : ℕ) (p : List Segment) → a ≤ n → IsClash kind (map seen xs) a b p → ⊥)
+pub none_of_all : {X : Type 0} (seen : X → ToldTree) (xs : List X) (kind : Kind) (n : ℕ) → length xs ≤ n
+    → ((a b : ℕ) (p : List Segment) → a ≤ n → IsClash kind (map seen xs) a b p → ⊥)
     → IsFirstClash kind (map seen xs) None
 none_of_all seen xs kind n all before a b p c = let within = number_within seen xs a c.this c.is_this in before a b p (omega arith) c

@@ -26,7 +26,8 @@ use Rattle.acpi_verdict.proofs.AloneLoads.{each_of, of_each}
 use Rattle.acpi_verdict.proofs.SatisfiedTables.{object_there}
 use Rattle.acpi_verdict.proofs.ToldTables.{first_is, table_is}
 
-least_of_other : (H K : ℕ → ℕ → List Segment → Type 0) → ((i j : ℕ) (p : List Segment) → H i j p → K i j p) → ((i j : ℕ) (p : List Segment) → K i j p → H i j p) → (i j : ℕ) (p : List Segment)
+least_of_other : (H K : ℕ → ℕ → List Segment → Type 0) → ((i j : ℕ) (p : List Segment) → H i j p → K i j p) → ((i j : ℕ) (p : List Segment) → K i j p → H i j p)
+    → (i j : ℕ) (p : List Segment)
     → IsLeast H i j p → IsLeast K i j p
 least_of_other H K to from i j p h = record { holds = to i j p h.holds; none_before = λ a b q k before. h.none_before a b q (from a b q k) before }
 
@@ -94,7 +95,8 @@ module _ (wanted : Test) (depth : ℕ) (dsdt : List ℕ) (ssdts : List (List ℕ
         );
       }
 
-  unmet_of : (first t : Listing) (p : List Segment) (there : Option ObjectTree) (o : ObjectTree) (tried : TriedTree) → there ≡ Some o → (IsTrue (is_defined tried.missed p) → IsMiss depth first t p)
+  unmet_of : (first t : Listing) (p : List Segment) (there : Option ObjectTree) (o : ObjectTree) (tried : TriedTree) → there ≡ Some o
+      → (IsTrue (is_defined tried.missed p) → IsMiss depth first t p)
       → ((n : ℕ) → get tried.awaited p ≡ Some n → IsAwaited depth first t p n) → IsUnmetIn tried p there → IsUnmet depth first t p o
   unmet_of first t p there o tried at misses awaits (inl m) = inl (misses m)
   unmet_of first t p there o tried at misses awaits (inr (n, x, w, is, fails)) = inr (n, awaits n w, subst (λ (y : ObjectTree). is_method_of y n ≡ false) (one_some x o (sym is ∙ at)) fails)
@@ -188,7 +190,8 @@ found_no_fault depth dsdt ssdts ss (verdicts.Same i j p) h = tt
 found_no_fault depth dsdt ssdts ss (verdicts.Missed i j p) h = tt
 found_no_fault depth dsdt ssdts ss verdicts.Commute h = tt
 
-pub not_alone_verdict : (depth : ℕ) (dsdt : List ℕ) (ssdts : List (List ℕ)) (i : ℕ) (reason : LoadReason) → IsFirstRefused depth dsdt ssdts i reason → IsVerdict depth dsdt ssdts (not_alone i)
+pub not_alone_verdict : (depth : ℕ) (dsdt : List ℕ) (ssdts : List (List ℕ)) (i : ℕ) (reason : LoadReason) → IsFirstRefused depth dsdt ssdts i reason
+    → IsVerdict depth dsdt ssdts (not_alone i)
 not_alone_verdict depth dsdt ssdts i reason h = refused_is_not_alone depth dsdt ssdts i reason h.loads h.earlier h.is_reason
 
 -- ---- commuting SSDTs are independent

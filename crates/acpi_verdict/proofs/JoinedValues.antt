@@ -127,7 +127,8 @@ module _ {V : Type 0} (old : Lookup V) (All : List Segment → V → Type 0) whe
   pub joining_none : Joining old old All All
   joining_none = record { kept = λ p v e. e; only = λ p v e. inl e; each = λ p v h. inr h; within = λ p v h. h }
 
-  pub joining_more : (now new : Lookup V) (Rest Part Left : List Segment → V → Type 0) → Joining old now All Rest → Gains now new Part → ((p : List Segment) (v : V) → Rest p v ↔ (Part p v ⊎ Left p v))
+  pub joining_more : (now new : Lookup V) (Rest Part Left : List Segment → V → Type 0) → Joining old now All Rest → Gains now new Part
+      → ((p : List Segment) (v : V) → Rest p v ↔ (Part p v ⊎ Left p v))
       → Joining old new All Left
   joining_more now new Rest Part Left j gains split = record {
     kept = λ p v e. (gains p v).1 (inl (j.kept p v e));

@@ -154,7 +154,8 @@ module _ (ss : List ToldTree) (n : ℕ) (x : ToldTree) (p : List Segment) (args 
 elsewhere_of : (i k : ℕ) → k ≢ i → is_elsewhere i (Some k) ≡ true
 elsewhere_of i k other = grind (arith, nat_tests)
 
-none_at : (last : Lookup ℕ) (i : ℕ) (ps : List (List Segment)) → list_any (λ p. is_elsewhere i (last p)) ps ≡ false → (p : List Segment) (k : ℕ) → Among ps p → last p ≡ Some k → k ≢ i → ⊥
+none_at : (last : Lookup ℕ) (i : ℕ) (ps : List (List Segment)) → list_any (λ p. is_elsewhere i (last p)) ps ≡ false → (p : List Segment) (k : ℕ) → Among ps p
+    → last p ≡ Some k → k ≢ i → ⊥
 none_at last i ps none p k m e other =
     let t : list_any (λ p. is_elsewhere i (last p)) ps ≡ true = among_any (λ p. is_elsewhere i (last p)) ps p m (ap (is_elsewhere i) e ∙ elsewhere_of i k other) in
     let never : ⊥ = cc in

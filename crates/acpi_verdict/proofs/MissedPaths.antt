@@ -34,7 +34,8 @@ module _ (depth : ℕ) (first t : Listing) where
   to_miss Linked links p (inl (inr h)) = inr (inr (h.0, first_of (methods_of first) (methods_of t) h.0 h.1, h.2))
   to_miss Linked links p (inr h) = inr (inr (h.0, second_of (methods_of first) (methods_of t) h.0 h.1, h.2))
 
-  of_body : (Linked : List Segment → Type 0) (p : List Segment) (m : Method) → Among (methods_of first) m ⊎ Among (methods_of t) m → IsBodyMiss depth (objects_of_both first t) m p → IsFound Linked p
+  of_body : (Linked : List Segment → Type 0) (p : List Segment) (m : Method) → Among (methods_of first) m ⊎ Among (methods_of t) m → IsBodyMiss depth (objects_of_both first t) m p
+      → IsFound Linked p
   of_body Linked p m (inl i) h = inl (inr (m, i, h))
   of_body Linked p m (inr i) h = inr (m, i, h)
 

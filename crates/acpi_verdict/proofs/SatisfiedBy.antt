@@ -164,7 +164,8 @@ pub users_of : (user : ℕ) (us ss : List ToldTree) (t : Satisfied) → Among (m
 users_of user [] ss t m = absurd m
 users_of user (u ∷ us) ss t m = by (λ m. users_of (user + 1) us ss t m) (among_append (met_from user u.own.awaited 1 ss) (met_users (user + 1) us ss) t m)
   where
-    by : (Among (met_users (user + 1) us ss) t → IsMetFor (user + 1) us ss t) → Among (met_from user u.own.awaited 1 ss) t ⊎ Among (met_users (user + 1) us ss) t → IsMetFor user (u ∷ us) ss t
+    by : (Among (met_users (user + 1) us ss) t → IsMetFor (user + 1) us ss t) → Among (met_from user u.own.awaited 1 ss) t ⊎ Among (met_users (user + 1) us ss) t
+        → IsMetFor user (u ∷ us) ss t
     by later (inl m) = record {
       place = 0;
       single = u;
@@ -178,7 +179,8 @@ users_of user (u ∷ us) ss t m = by (λ m. users_of (user + 1) us ss t m) (amon
       is_met_from = subst (λ (n : ℕ). IsMetFrom n h.single.own.awaited 1 ss t) (next_place user h.place) h.is_met_from;
     }
 
-of_user_at : (user : ℕ) (us ss : List ToldTree) (t : Satisfied) (place : ℕ) (u : ToldTree) → StandsAt us place u → IsMetFrom (user + place) u.own.awaited 1 ss t → Among (met_users user us ss) t
+of_user_at : (user : ℕ) (us ss : List ToldTree) (t : Satisfied) (place : ℕ) (u : ToldTree) → StandsAt us place u → IsMetFrom (user + place) u.own.awaited 1 ss t
+    → Among (met_users user us ss) t
 of_user_at user [] ss t place u at h = absurd at
 of_user_at user (x ∷ us) ss t zero u at h =
     appended (met_from user x.own.awaited 1 ss) (met_users (user + 1) us ss) t

@@ -76,7 +76,8 @@ module _ (wanted : Test) (depth : ℕ) (dsdt : List ℕ) (ssdts : List (List ℕ
         method = subst (λ (y : ObjectTree). is_method_of y args ≡ true) same method;
       }
 
-  from_listed : (user : ℕ) (ws : PathMap ℕ) (t : Satisfied) → ((p : List Segment) (args : ℕ) → get ws p ≡ Some args → IsAwaitedOf depth dsdt ssdts user p args) → IsMetFrom user ws 1 ss t
+  from_listed : (user : ℕ) (ws : PathMap ℕ) (t : Satisfied) → ((p : List Segment) (args : ℕ) → get ws p ≡ Some args → IsAwaitedOf depth dsdt ssdts user p args)
+      → IsMetFrom user ws 1 ss t
       → IsSatisfied depth dsdt ssdts t.user t.definer t.path
   from_listed user ws t awaits h =
       let at : IsNumber ss (1 + h.place) h.single = subst (λ (n : ℕ). IsNumber ss n h.single) (one_more h.place) h.stands in
@@ -93,7 +94,8 @@ module _ (wanted : Test) (depth : ℕ) (dsdt : List ℕ) (ssdts : List (List ℕ
       let s = x.2 in
       (x.0, s.first, s.t, x.1, s.listings, ((s.own_awaited p args).0 m).0)
 
-  to_satisfied : (ws : PathMap ℕ) → AreAwaitsAlone wanted depth dsdt ws → (t : Satisfied) → IsMetFrom 0 ws 1 ss t ⊎ IsMetFor 1 ss ss t → IsSatisfied depth dsdt ssdts t.user t.definer t.path
+  to_satisfied : (ws : PathMap ℕ) → AreAwaitsAlone wanted depth dsdt ws → (t : Satisfied) → IsMetFrom 0 ws 1 ss t ⊎ IsMetFor 1 ss ss t
+      → IsSatisfied depth dsdt ssdts t.user t.definer t.path
   to_satisfied ws alone t (inl h) = from_listed 0 ws t (λ p args m. (alone.first, alone.listings, ((alone.awaits_are p args).0 m).0)) h
   to_satisfied ws alone t (inr h) =
       let next : IsMetFrom (suc h.place) h.single.own.awaited 1 ss t = subst (λ (n : ℕ). IsMetFrom n h.single.own.awaited 1 ss t) (sym (one_more h.place)) h.is_met_from in
@@ -110,7 +112,8 @@ module _ (wanted : Test) (depth : ℕ) (dsdt : List ℕ) (ssdts : List (List ℕ
       let x = each_of (IsToldTree wanted depth dsdt) ssdts ss told (suc place) h.ssdt is in
       let r = x.0 in
       let s = x.2 in
-      let declares : objects_of s.t t.path ≡ Some h.object = subst (λ (l : Listing). objects_of l t.path ≡ Some h.object) (table_is wanted depth dsdt h.ssdt r s h.first h.t h.listings) h.declares in
+      let declares : objects_of s.t t.path ≡ Some h.object =
+      subst (λ (l : Listing). objects_of l t.path ≡ Some h.object) (table_is wanted depth dsdt h.ssdt r s h.first h.t h.listings) h.declares in
       let there : r.objects t.path ≡ Some h.object = object_there wanted depth dsdt h.ssdt r s t.path h.object declares in
       let declared : Among r.defined t.path = (s.defined_are t.path).1 (h.object, declares) in
       let of_definer : t.definer ≡ 1 + place = e ∙ one_more place in

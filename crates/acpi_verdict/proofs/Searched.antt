@@ -72,7 +72,8 @@ module _ (depth : ℕ) (objects : Namespace) (m : Method) (b : BodyTree) (is_bod
     (λ h. (b, is_body, h)),
   )
 
-pub misses_grow : (depth : ℕ) (objects : Namespace) (ms : List Method) (before now : Found) → SearchesAll depth objects ms before now → Grows before.missed now.missed (IsMissedByAny depth objects ms)
+pub misses_grow : (depth : ℕ) (objects : Namespace) (ms : List Method) (before now : Found) → SearchesAll depth objects ms before now
+    → Grows before.missed now.missed (IsMissedByAny depth objects ms)
 misses_grow depth objects [] before now h =
     rw h (grows_as before.missed before.missed (λ p. ⊥) (IsMissedByAny depth objects []) (λ p. (λ x. absurd x, λ x. absurd x.1)) (grows_not before.missed))
 misses_grow depth objects (m ∷ ms) before now h =
@@ -90,7 +91,8 @@ misses_grow depth objects (m ∷ ms) before now h =
     by b is p k (inl e) x = inl ((of_body depth objects m b is p).0 (subst (λ (j : Method). IsBodyMiss depth objects j p) (sym e) x))
     by b is p k (inr i) x = inr (k, i, x)
 
-    from : (b : BodyTree) → IsBody depth objects m b → (p : List Segment) → IsMissedByAny depth objects (m ∷ ms) p → IsFirmMiss objects m.counts m.path b p ⊎ IsMissedByAny depth objects ms p
+    from : (b : BodyTree) → IsBody depth objects m b → (p : List Segment) → IsMissedByAny depth objects (m ∷ ms) p
+        → IsFirmMiss objects m.counts m.path b p ⊎ IsMissedByAny depth objects ms p
     from b is p x = by b is p x.0 x.1 x.2
 
 -- ---- what they await
@@ -101,7 +103,8 @@ open_expects objects externals s (read ts) p n h = h.expects
 open_expects objects externals s (unread bytes) p n h = absurd h
 
 -- counts of a list more, all of them the Externals'
-pub opens_hold : (externals : Lookup ℕ) (m : PathMap ℕ) (P : List Segment → Type 0) (es : List (List Segment × ℕ)) → ((p : List Segment) (n : ℕ) → Among es (p, n) → externals p ≡ Some n)
+pub opens_hold : (externals : Lookup ℕ) (m : PathMap ℕ) (P : List Segment → Type 0) (es : List (List Segment × ℕ))
+    → ((p : List Segment) (n : ℕ) → Among es (p, n) → externals p ≡ Some n)
     → Holds externals m P → Holds externals (with_opens m es) (λ p. P p ⊎ ((n : ℕ) × Among es (p, n)))
 opens_hold externals m P [] told h = holds_as externals m P (λ p. P p ⊎ ((n : ℕ) × ⊥)) (λ p. (λ x. inl x, by p)) h
   where
@@ -112,7 +115,8 @@ opens_hold externals m P (e ∷ es) told h =
     let there : externals e.0 ≡ Some e.1 = told e.0 e.1 (inl refl) in
     let one : Holds externals (with_first m e.0 e.1) (λ p. P p ⊎ (e.0 ≡ p)) =
     subst (λ (k : ℕ). Holds externals (with_first m e.0 k) (λ p. P p ⊎ (e.0 ≡ p))) (ap (λ (o : Option ℕ). unwrap_or o 0) there) (one_count externals m P e.0 e.1 there h) in
-    holds_as externals (with_opens (with_first m e.0 e.1) es) (λ p. (P p ⊎ (e.0 ≡ p)) ⊎ ((n : ℕ) × Among es (p, n))) (λ p. P p ⊎ ((n : ℕ) × Among (e ∷ es) (p, n))) (λ p. (to p, from p))
+    holds_as externals (with_opens (with_first m e.0 e.1) es) (λ p. (P p ⊎ (e.0 ≡ p)) ⊎ ((n : ℕ) × Among es (p, n))) (λ p. P p ⊎ ((n : ℕ) × Among (e ∷ es) (p, n)))
+    (λ p. (to p, from p))
     (opens_hold externals (with_first m e.0 e.1) (λ p. P p ⊎ (e.0 ≡ p)) es (λ p n i. told p n (inr i)) one)
   where
     to : (p : List Segment) → (P p ⊎ (e.0 ≡ p)) ⊎ ((n : ℕ) × Among es (p, n)) → P p ⊎ ((n : ℕ) × Among (e ∷ es) (p, n))
@@ -144,7 +148,8 @@ module _ (depth : ℕ) (objects : Namespace) (externals : Lookup ℕ) where
       ap (λ (l : Lookup ℕ). l p) (sym (same m (inl refl))) ∙ open_expects objects m.counts m.path one.body p n ((one.opens_are p n).0 ((pair_among one.opens p n).1 i)) in
       let first : Holds externals h.0.awaited (λ p. P p ⊎ ((n : ℕ) × Among es (p, n))) =
       subst (λ (c : PathMap ℕ). Holds externals c (λ p. P p ⊎ ((n : ℕ) × Among es (p, n)))) (sym one.awaited_are) (opens_hold externals before.awaited P es told start) in
-      holds_as externals now.awaited (λ p. (P p ⊎ ((n : ℕ) × Among es (p, n))) ⊎ ((n : ℕ) × IsAwaitedByAny depth objects ms p n)) (λ p. P p ⊎ ((n : ℕ) × IsAwaitedByAny depth objects (m ∷ ms) p n))
+      holds_as externals now.awaited (λ p. (P p ⊎ ((n : ℕ) × Among es (p, n))) ⊎ ((n : ℕ) × IsAwaitedByAny depth objects ms p n))
+      (λ p. P p ⊎ ((n : ℕ) × IsAwaitedByAny depth objects (m ∷ ms) p n))
       (λ p. (to one.body one.is_body one.opens one.opens_are p, from one.body one.is_body one.opens one.opens_are p))
       (awaits_hold ms (λ p. P p ⊎ ((n : ℕ) × Among es (p, n))) h.0 now (λ k i. same k (inr i)) h.2 first)
     where
@@ -157,7 +162,8 @@ module _ (depth : ℕ) (objects : Namespace) (externals : Lookup ℕ) where
       to b is opens are p (inl (inr x)) = inr (x.0, (m, inl refl, (awaiting_body depth objects m b is p x.0).1 ((are p x.0).0 ((pair_among opens p x.0).1 x.1))))
       to b is opens are p (inr x) = inr (x.0, (x.1.0, inr x.1.1, x.1.2))
 
-      one_of : (b : BodyTree) → IsBody depth objects m b → (opens : List OpenMiss) → AreOpen b opens → (p : List Segment) (n : ℕ) (k : Method) → (m ≡ k) ⊎ Among ms k → IsAwaiting depth objects k p n
+      one_of : (b : BodyTree) → IsBody depth objects m b → (opens : List OpenMiss) → AreOpen b opens → (p : List Segment) (n : ℕ) (k : Method) → (m ≡ k) ⊎ Among ms k
+          → IsAwaiting depth objects k p n
           → (P p ⊎ ((n : ℕ) × Among (map open_pair opens) (p, n))) ⊎ ((n : ℕ) × IsAwaitedByAny depth objects ms p n)
       one_of b is opens are p n k (inl e) x =
           inl (inr (n, (pair_among opens p n).0 ((are p n).1 ((awaiting_body depth objects m b is p n).0 (subst (λ (j : Method). IsAwaiting depth objects j p n) (sym e) x)))))

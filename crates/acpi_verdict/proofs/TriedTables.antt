@@ -62,7 +62,8 @@ pub tried_method : {T E : Type 0} (r : Result T E) (wanted : Test) (depth : ℕ)
     (before after : Paths) (older newer : PathMap ℕ) → Grows before after (Among firm)
     → ((p : List Segment) → Among firm p ↔ (IsFirmMiss objects m.counts m.path b p × IsTrue (wanted p)))
     → ((p : List Segment) (n : ℕ) → Among opens (record { path = p; count = n }) ↔ (IsOpenMiss objects m.counts m.path b p n × IsTrue (wanted p)))
-    → OnOk r (newer ≡ with_opens older (map open_pair opens)) → OnOk r (TriesMethod wanted depth objects m (record { missed = before; awaited = older }) (record { missed = after; awaited = newer }))
+    → OnOk r (newer ≡ with_opens older (map open_pair opens)) → OnOk r
+    (TriesMethod wanted depth objects m (record { missed = before; awaited = older }) (record { missed = after; awaited = newer }))
 tried_method (Ok x) wanted depth objects m b body firm opens before after older newer grows missed awaits put =
     tried_so wanted depth objects m b body firm opens before after older newer grows missed awaits put
 tried_method (Err e) wanted depth objects m b body firm opens before after older newer grows missed awaits put = tt
@@ -235,7 +236,8 @@ module _ (wanted : Test) where
       to p (inl x) = ((n, inl refl, x.0), x.1)
       to p (inr x) = ((x.0.0, inr x.0.1, x.0.2), x.1)
 
-      from : (p : List Segment) (o : Notes) → (n ≡ o) ⊎ Among ns o → Among o.missed p → IsTrue (wanted p) → (Among n.missed p × IsTrue (wanted p)) ⊎ (IsMissedScope ns p × IsTrue (wanted p))
+      from : (p : List Segment) (o : Notes) → (n ≡ o) ⊎ Among ns o → Among o.missed p → IsTrue (wanted p)
+          → (Among n.missed p × IsTrue (wanted p)) ⊎ (IsMissedScope ns p × IsTrue (wanted p))
       from p o (inl e) i w = inl (subst (λ (x : Notes). Among x.missed p) (sym e) i, w)
       from p o (inr j) i w = inr ((o, j, i), w)
 

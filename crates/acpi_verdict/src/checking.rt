@@ -54,7 +54,8 @@ fn checked_laid<S: Space<Object>, O: Space<Object>>(
     depth: Depth,
 ) -> Result<Checked, AllocError>
     requires { AreLaidSorted (laid_trees O.contents laid.items) }
-    ensures { (bytes : List ℕ) (ssdts : List (List ℕ)) → HasTables depth (bytes ∷ []) (state_of (S.contents (objects_so_far dsdt.now)) dsdt.now) → AreLaid depth bytes ssdts (laid_trees O.contents laid.items)
+    ensures { (bytes : List ℕ) (ssdts : List (List ℕ)) → HasTables depth (bytes ∷ []) (state_of (S.contents (objects_so_far dsdt.now)) dsdt.now)
+        → AreLaid depth bytes ssdts (laid_trees O.contents laid.items)
         → IfOk result (λ c. IsChecked depth bytes ssdts c) }
 {
     let last = last_definers(alloc, &laid)?;

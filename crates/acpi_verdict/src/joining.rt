@@ -155,7 +155,8 @@ pub fn join<S: Space<Object>>(
     singles: &[Single<S>],
 ) -> Result<Option<Machine<S>>, AllocError>
     // What is joined has the values of all of the machines, and no others.
-    ensures join { IfOk result (λ r. IfSome r (λ m. IsJoin (Among (map (λ s. machine_of (S.contents (objects_in (machine_in s))) (machine_in s)) singles.now)) (machine_of (S.contents (objects_in m)) m))) }
+    ensures join { IfOk result
+        (λ r. IfSome r (λ m. IsJoin (Among (map (λ s. machine_of (S.contents (objects_in (machine_in s))) (machine_in s)) singles.now)) (machine_of (S.contents (objects_in m)) m))) }
     // It is there exactly where there are machines, and no two of them disagree.
     ensures none { IfOk result (λ r. (r ≡ None) ↔ ((singles.now ≡ []) ⊎ (AllAgree (map (λ s. machine_of (S.contents (objects_in (machine_in s))) (machine_in s)) singles.now) → ⊥))) }
 {

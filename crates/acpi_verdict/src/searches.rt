@@ -79,7 +79,8 @@ fn search_methods<S: Space<Object>>(
     depth: Depth,
     found: &mut Found,
 ) -> Result<(), AllocError>
-    ensures { OnOk result (SearchesAll depth (namespace_of (S.contents objects.now)) (map (with_counts (finite.get counts.now)) (map method_of methods.items)) (found_of found.old) (found_of found.new)) }
+    ensures { OnOk result
+        (SearchesAll depth (namespace_of (S.contents objects.now)) (map (with_counts (finite.get counts.now)) (map method_of methods.items)) (found_of found.old) (found_of found.new)) }
 {
     for method in methods {
         search_method(alloc, objects, method, counts, depth, found)?;

@@ -22,7 +22,8 @@ pub(crate) fn try_alone<S: Space<Object>, W, T: Space<W>>(
     depth: Depth,
     among: &T,
 ) -> Result<Tried, AllocError>
-    ensures { IfOk result (λ t. Tries (is_defined (T.contents among.now)) depth (state_of (S.contents (objects_so_far dsdt.now)) dsdt.now).objects (state_of (S.contents (objects_so_far dsdt.now)) dsdt.now) finite.empty (tried_of t)) }
+    ensures { IfOk result (λ t. Tries (is_defined (T.contents among.now)) depth (state_of (S.contents (objects_so_far dsdt.now)) dsdt.now).objects
+        (state_of (S.contents (objects_so_far dsdt.now)) dsdt.now) finite.empty (tried_of t)) }
 {
     try_tables(
         alloc,
@@ -51,7 +52,8 @@ fn try_under<'a, S: Space<Object>, O: Space<Object>, W, T: Space<W>>(
     alone: &'a Tried,
     among: &T,
 ) -> Result<Under<'a>, AllocError>
-    ensures { IfOk result (λ u. IsUnder (is_defined (T.contents among.now)) depth (state_of (S.contents (objects_so_far dsdt.now)) dsdt.now) (tried_of alone.now) (laid_tree O.contents laid.now) (under_of u)) }
+    ensures { IfOk result
+        (λ u. IsUnder (is_defined (T.contents among.now)) depth (state_of (S.contents (objects_so_far dsdt.now)) dsdt.now) (tried_of alone.now) (laid_tree O.contents laid.now) (under_of u)) }
 {
     if is_touched(alone, &laid.defined) {
         let objects = laid.declared.objects();
@@ -71,7 +73,8 @@ fn told_of<'a, S: Space<Object>, O: Space<Object>, W, T: Space<W>>(
     alone: &'a Tried,
     among: &T,
 ) -> Result<Told<'a, O>, AllocError>
-    ensures { IfOk result (λ t. IsToldOf (is_defined (T.contents among.now)) depth (state_of (S.contents (objects_so_far dsdt.now)) dsdt.now) (tried_of alone.now) (laid_tree O.contents laid) (told_tree O.contents t)) }
+    ensures { IfOk result (λ t. IsToldOf (is_defined (T.contents among.now)) depth (state_of (S.contents (objects_so_far dsdt.now)) dsdt.now)
+        (tried_of alone.now) (laid_tree O.contents laid) (told_tree O.contents t)) }
 {
     let declared = &laid.declared;
     let scopes = missed_scopes(alloc, declared.notes(), among)?;
@@ -89,7 +92,8 @@ pub(crate) fn told_of_all<'a, S: Space<Object>, O: Space<Object>, W, T: Space<W>
     alone: &'a Tried,
     among: &T,
 ) -> Result<Vec<Told<'a, O>>, AllocError>
-    ensures { IfOk result (λ v. AreToldOf (is_defined (T.contents among.now)) depth (state_of (S.contents (objects_so_far dsdt.now)) dsdt.now) (tried_of alone.now) (laid_trees O.contents laid.items) (told_trees O.contents v.items)) }
+    ensures { IfOk result (λ v. AreToldOf (is_defined (T.contents among.now)) depth (state_of (S.contents (objects_so_far dsdt.now)) dsdt.now)
+        (tried_of alone.now) (laid_trees O.contents laid.items) (told_trees O.contents v.items)) }
 {
     let mut told = Vec::new(alloc);
     for one in laid {

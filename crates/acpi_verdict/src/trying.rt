@@ -33,7 +33,8 @@ fn try_method<O: Space<Object>, W, T: Space<W>>(
     among: &T,
     tried: &mut Tried,
 ) -> Result<(), AllocError>
-    ensures { OnOk result (TriesMethod (is_defined (T.contents among.now)) depth (namespace_of (O.contents objects.now)) (with_counts (finite.get counts.now) (method_of method.now)) (tried_of tried.old) (tried_of tried.new)) }
+    ensures { OnOk result (TriesMethod (is_defined (T.contents among.now)) depth (namespace_of (O.contents objects.now))
+        (with_counts (finite.get counts.now) (method_of method.now)) (tried_of tried.old) (tried_of tried.new)) }
 {
     let body = read_body(alloc, objects, &method.path, &method.code, depth, counts)?;
     let BodyMisses { firm, open } = body_misses_among(
@@ -75,7 +76,8 @@ pub(crate) fn try_tables<S: Space<Object>, O: Space<Object>, W, T: Space<W>>(
     among: &T,
     missed: MapSpace<()>,
 ) -> Result<Tried, AllocError>
-    ensures { IfOk result (λ t. Tries (is_defined (T.contents among.now)) depth (namespace_of (O.contents objects.now)) (state_of (S.contents (objects_so_far tables.now)) tables.now) missed (tried_of t)) }
+    ensures { IfOk result
+        (λ t. Tries (is_defined (T.contents among.now)) depth (namespace_of (O.contents objects.now)) (state_of (S.contents (objects_so_far tables.now)) tables.now) missed (tried_of t)) }
 {
     let mut tried = Tried {
         missed,

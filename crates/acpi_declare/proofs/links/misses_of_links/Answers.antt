@@ -39,4 +39,5 @@ returns g c =
     let objects = namespace_of (g.S.Space.contents c.args.objects.now) in
     let l = c.loop-link in
     let whole : take l.link-index c.args.pending.now ≡ c.args.pending.now = take_all l.link-index c.args.pending.now (omega (arith, c.loop-link-test.false)) in
-    subst (λ (ws : List PendingLinks). (p : List Segment) → Among l.missed.items p ↔ (IsMissedLink objects (all_pending_of ws) p × IsTrue (g.Q.Wanted.wanted c.args.wanted.now p))) whole l.invariant
+    subst (λ (ws : List PendingLinks). (p : List Segment) → Among l.missed.items p ↔ (IsMissedLink objects (all_pending_of ws) p × IsTrue (g.Q.Wanted.wanted c.args.wanted.now p)))
+    whole l.invariant

@@ -23,7 +23,8 @@ returns-in-Err-Refused-clause-err g c =
     let objects = namespace_of (g.S.Space.contents c.args.loaded.objects) in
     let t = pass_of (g.S.Space.contents c.args.loaded.objects) (record { alloc = c.args.alloc; objects = c.args.loaded.objects; links = c.args.loaded.links; notes = c.new.result }) in
     let is = items_tree c.in_ok-items.items.items in
-    let told : pass_items t c.root.result is ≡ Err (c.in-Err-Refused.refusal, c.in-Err-Refused.path) = subst (λ f. IsStopOf f (pass_items t c.root.result is)) c.in-Err-Refused.field-0-is c.in-Err-Refused.ensures.refused in
+    let told : pass_items t c.root.result is ≡ Err (c.in-Err-Refused.refusal, c.in-Err-Refused.path) =
+    subst (λ f. IsStopOf f (pass_items t c.root.result is)) c.in-Err-Refused.field-0-is c.in-Err-Refused.ensures.refused in
     let stopped : pass_items t [] is ≡ Err (c.in-Err-Refused.refusal, c.in-Err-Refused.path) = ap (λ (s : List Segment). pass_items t s is) (sym c.root.ensures) ∙ told in
     subst (IsTableFault c.args.depth c.args.number objects c.args.bytes.now) (sym c.refused.ensures)
     (refl, (is, c.in_ok-items.ensures.ok, pass_refused t is (c.in-Err-Refused.refusal, c.in-Err-Refused.path) stopped))
@@ -36,6 +37,7 @@ returns-clause-ok g c =
     let before = state_of (g.S.Space.contents c.args.loaded.objects) c.args.loaded in
     let ran : pass_items t [] is ≡ Ok u = ap (λ (s : List Segment). pass_items t s is) (sym c.root.ensures) ∙ c.in-Ok.ensures.ok in
     let notes = map notes_of c.args.loaded.notes.items in
-    let pushed : map notes_of c.push.new.self.items ≡ notes ++ u.notes ∷ [] = ap (map notes_of) c.in_ok-push.ensures.items ∙ map-append notes_of c.args.loaded.notes.items (c.declare_items-2.new.self.notes ∷ []) in
+    let pushed : map notes_of c.push.new.self.items ≡ notes ++ u.notes ∷ [] =
+    ap (map notes_of) c.in_ok-push.ensures.items ∙ map-append notes_of c.args.loaded.notes.items (c.declare_items-2.new.self.notes ∷ []) in
     subst (λ (l : List Notes). AddsTable c.args.depth c.args.number c.args.bytes.now before (record { objects = u.objects; links = u.links; notes = l })) (sym pushed)
     (pass_adds c.args.depth c.args.number c.args.bytes.now is t u notes c.in_ok-items.ensures.ok ran c.new.ensures)

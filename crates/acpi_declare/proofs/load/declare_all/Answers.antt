@@ -10,7 +10,8 @@ returns-in_err-loaded-clause-err g c =
     let p = err_from_is_err_and c.from_residual-in_err-loaded.result c.from_residual-in_err-loaded.ensures.1 in
     let s = c.in_ok-start.field-0 in
     let begun = no_tables c.args.depth 0 (state_of (g.S.Space.contents s.objects) s) c.in_ok-start.ensures.ok in
-    rw (p.1, p.2) (next_fault c.args.depth 0 [] c.args.ssdts.now (c.args.dsdt.now ∷ c.args.ssdts.now) c.args.dsdt.now (state_of (g.S.Space.contents s.objects) s) c.in_err-loaded.field-0.0 refl refl begun c.in_err-loaded.ensures.err)
+    rw (p.1, p.2) (next_fault c.args.depth 0 [] c.args.ssdts.now (c.args.dsdt.now ∷ c.args.ssdts.now) c.args.dsdt.now
+    (state_of (g.S.Space.contents s.objects) s) c.in_err-loaded.field-0.0 refl refl begun c.in_err-loaded.ensures.err)
 
 pub loop-i-init : goal.loop-i-init
 loop-i-init g c =
@@ -29,7 +30,8 @@ returns-in_err-loaded-2-clause-err g c =
     let here : drop l.i xs ≡ x ∷ drop (l.i + 1) xs = drop_more xs l.i x below ∙ ap (λ y. y ∷ drop (l.i + 1) xs) (sym c.index-ssdts-i.is) in
     let splits : xs ≡ take l.i xs ++ x ∷ drop (l.i + 1) xs = sym (take-append-drop l.i xs) ∙ ap (λ ys. take l.i xs ++ ys) here in
     let count : l.i + 1 ≡ length (c.args.dsdt.now ∷ take l.i xs) = omega (arith, length-take-le l.i xs (omega arith)) in
-    rw (p.1, p.2) (next_fault c.args.depth (l.i + 1) (c.args.dsdt.now ∷ take l.i xs) (drop (l.i + 1) xs) (c.args.dsdt.now ∷ xs) x (state_of (g.S.Space.contents l.loaded.objects) l.loaded) c.in_err-loaded-2.field-0.0
+    rw (p.1, p.2) (next_fault c.args.depth (l.i + 1) (c.args.dsdt.now ∷ take l.i xs) (drop (l.i + 1) xs) (c.args.dsdt.now ∷ xs) x
+    (state_of (g.S.Space.contents l.loaded.objects) l.loaded) c.in_err-loaded-2.field-0.0
     (ap (λ ys. c.args.dsdt.now ∷ ys) splits) count l.invariant c.in_err-loaded-2.ensures.err)
 
 pub loop-i-preserved : goal.loop-i-preserved

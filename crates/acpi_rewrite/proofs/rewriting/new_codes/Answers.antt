@@ -22,7 +22,8 @@ returns g c =
     let methods = c.args.notes.now.methods.items in
     let IsNew = IsNewCode c.args.depth (namespace_of (g.S.Space.contents c.args.objects.now)) in
     let counts = get c.args.notes.now.counts in
-    let all : take c.loop-method.method-index c.deref-method-items.result.now ≡ methods = take_all c.loop-method.method-index c.deref-method-items.result.now c.loop-method-test.false ∙ c.deref-method-items.ensures.value in
+    let all : take c.loop-method.method-index c.deref-method-items.result.now ≡ methods =
+    take_all c.loop-method.method-index c.deref-method-items.result.now c.loop-method-test.false ∙ c.deref-method-items.ensures.value in
     zip_mapped IsNew (with_counts counts) (map method_of methods) c.loop-method.codes.items
     (zip_mapped (λ m code. IsNew (with_counts counts m) code) method_of methods c.loop-method.codes.items
     (subst (λ (ms : List Method). AllZip (λ m code. IsNew (with_counts counts (method_of m)) code) ms c.loop-method.codes.items) all c.loop-method.invariant))

@@ -23,7 +23,8 @@ loop-i-init g c =
     let pushed : c.push.new.self.items ≡ [] ++ one.field-0 ∷ [] = search rules in (
       (λ ts h notes.
           more_rewritten c.args.depth (namespace_of (g.S.Space.contents c.objects-objects.result.now)) ts tables 0 [] c.push.new.self.items c.args.dsdt.now one.field-0 h (omega arith) refl pushed tt
-          (one.ensures.rewritten (get_or ts 0 []) (noted_there c.args.depth tables ts c.notes-notes.result.now 0 c.args.dsdt.now c.index-notes-0.result h notes (omega arith) refl c.index-notes-0.is))),
+          (one.ensures.rewritten (get_or ts 0 []) (noted_there c.args.depth tables ts c.notes-notes.result.now 0 c.args.dsdt.now c.index-notes-0.result h notes
+          (omega arith) refl c.index-notes-0.is))),
       more_old tables 0 c.args.dsdt.now (omega arith) refl tt one.ensures.bytes.0,
       more_new [] c.push.new.self.items one.field-0 pushed tt one.ensures.bytes.1,
     )
@@ -59,7 +60,8 @@ loop-i-preserved g c =
       (λ ts h notes.
           more_rewritten c.args.depth (namespace_of (g.S.Space.contents c.objects-objects.result.now)) ts tables (i + 1) c.loop-i.rewritten.items c.push-in-loop-i.new.self.items b one.field-0
           h below there pushed (c.loop-i.invariant.0 ts h notes)
-          (one.ensures.rewritten (get_or ts (i + 1) []) (noted_there c.args.depth tables ts c.notes-notes.result.now (i + 1) b c.notes_at-noted.result.now h notes below there c.notes_at-noted.ensures))),
+          (one.ensures.rewritten (get_or ts (i + 1) []) (noted_there c.args.depth tables ts c.notes-notes.result.now
+          (i + 1) b c.notes_at-noted.result.now h notes below there c.notes_at-noted.ensures))),
       more_old tables (i + 1) b below there c.loop-i.invariant.1 one.ensures.bytes.0,
       more_new c.loop-i.rewritten.items c.push-in-loop-i.new.self.items one.field-0 pushed c.loop-i.invariant.2 one.ensures.bytes.1,
     )
@@ -77,7 +79,8 @@ returns-clause-ok g c =
     let notes : map notes_of c.notes-notes.result.now ≡ all_notes predefined n.placements = ap (map notes_of) c.notes-notes.ensures ∙ n.notes_are in
     let O = namespace_of (g.S.Space.contents c.objects-objects.result.now) in
     let objects : O ≡ objects_after predefined n.placements =
-    ap (λ s. namespace_of (g.S.Space.contents s)) c.objects-objects.ensures ∙ d.objects_are ∙ ap (objects_after predefined) (same_listings c.args.depth 0 predefined tables d.placements n.placements d.listings n.listings) in
+    ap (λ s. namespace_of (g.S.Space.contents s)) c.objects-objects.ensures ∙ d.objects_are
+    ∙ ap (objects_after predefined) (same_listings c.args.depth 0 predefined tables d.placements n.placements d.listings n.listings) in
     let new = map (λ b. b.items) c.loop-i.rewritten.items in
     record {
       placements = n.placements;

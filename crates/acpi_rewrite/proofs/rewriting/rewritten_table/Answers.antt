@@ -50,7 +50,8 @@ returns-in-Ok-write_table g c =
       rewritten = λ t n.
           let alike : without_code js ≡ without_code n.items = c.in_ok-items-2.ensures.alike ∙ ap without_code (c.in_ok-items.ensures.same n.number n.items n.table) in
           let whole : c.in-Ok.old ≡ c.args.table.now = (c.in-Ok.ensures.only c.args.table.now [] n.table.numbered.table (c.as_slice-bytes.ensures ∙ sym (append-nil c.args.table.now))).0 in
-          is_rewritten c.args.depth objects c.args.table.now t (notes_of c.args.notes.now) n c.in_ok-new_codes.field-0.items c.in_ok-new_codes.ensures js (into_iter_items c.recoded_items.new.fresh) bytes alike
+          is_rewritten c.args.depth objects c.args.table.now t (notes_of c.args.notes.now) n c.in_ok-new_codes.field-0.items c.in_ok-new_codes.ensures js
+          (into_iter_items c.recoded_items.new.fresh) bytes alike
           (c.in_ok-items-2.ensures.codes ∙ c.into_iter-fresh.ensures.rest)
           record {
             table = c.in-Ok-write_table.ensures.table;
@@ -67,5 +68,7 @@ unreachable-requires-in-Err-TooLong g c =
     let alike : without_code js ≡ without_code n.items = c.in_ok-items-2.ensures.alike ∙ ap without_code (c.in_ok-items.ensures.same n.number n.items n.table) in
     let below : All (λ b. b < 256) c.args.table.now = subst (All (λ b. b < 256)) c.as_slice-bytes.ensures c.has_bytes.ensures in
     let told : c.write_table.result ≡ Err TooLong = c.in-Err-TooLong.is ∙ ap (λ (f : WriteFault). Err f) c.in-Err-TooLong.field-0-is in
-    has_room c.args.depth objects c.args.table.now c.requires.0 (notes_of c.args.notes.now) n c.in_ok-new_codes.field-0.items c.in_ok-new_codes.ensures js (into_iter_items c.recoded_items.new.fresh) below alike
-    (c.in_ok-items-2.ensures.codes ∙ c.into_iter-fresh.ensures.rest) (λ code e. c.write_table.ensures.long told code (ap (λ (is : List Item). items_bytes (items_tree is)) c.deref.ensures.value ∙ e))
+    has_room c.args.depth objects c.args.table.now c.requires.0 (notes_of c.args.notes.now) n c.in_ok-new_codes.field-0.items c.in_ok-new_codes.ensures js
+    (into_iter_items c.recoded_items.new.fresh) below alike
+    (c.in_ok-items-2.ensures.codes ∙ c.into_iter-fresh.ensures.rest)
+    (λ code e. c.write_table.ensures.long told code (ap (λ (is : List Item). items_bytes (items_tree is)) c.deref.ensures.value ∙ e))

@@ -8,7 +8,8 @@ use Rattle.acpi_tree.proofs.fits.fields_may_stand.Goals as goal
 pub returns-then-not-field_may_stand : goal.returns-then-not-field_may_stand
 returns-then-not-field_may_stand c =
     let unfit : field_fits (field_view c.elem-item.result) ≡ false = sym c.field_may_stand.ensures ∙ c.if-not-field_may_stand.true in
-    sym (list_all-map field_fits field_view c.args.elems.now ∙ unfit_at (λ x. field_fits (field_view x)) c.args.elems.now c.loop-elem.elem-index _ c.loop-elem-test.true c.elem-item.is unfit c.loop-elem.invariant)
+    sym (list_all-map field_fits field_view c.args.elems.now ∙ unfit_at
+    (λ x. field_fits (field_view x)) c.args.elems.now c.loop-elem.elem-index _ c.loop-elem-test.true c.elem-item.is unfit c.loop-elem.invariant)
 
 pub returns : goal.returns
 returns c =

@@ -22,7 +22,8 @@ pub operands_may_be-returns-then-not-operand_may_be : goal.operands_may_be-retur
 operands_may_be-returns-then-not-operand_may_be t c =
     let same : length c.args.kinds.now ≡ length c.args.operands.now = grind arith in
     sym (operands_alike c.args.kinds.now c.args.operands.now
-    ∙ unpaired_at is_operand c.args.kinds.now c.args.operands.now c.loop-i.i _ _ c.loop-i-test.true same c.index-operands-i.is (sym c.operand_may_be.ensures ∙ c.if-not-operand_may_be.true) c.loop-i.invariant)
+    ∙ unpaired_at is_operand c.args.kinds.now c.args.operands.now c.loop-i.i _ _ c.loop-i-test.true same c.index-operands-i.is
+    (sym c.operand_may_be.ensures ∙ c.if-not-operand_may_be.true) c.loop-i.invariant)
 
 pub operands_may_be-returns : goal.operands_may_be-returns
 operands_may_be-returns t c =

@@ -23,7 +23,8 @@ loop-i-preserved g c =
     let seen = laid_tree (contents_over g.S.Space.contents) in (
       (λ bytes loads.
           subst (λ (xs : List (Laid _)). AreLaid c.args.depth bytes (take (c.loop-i.i + 1) c.args.ssdts.now) (laid_trees (contents_over g.S.Space.contents) xs)) (sym c.in_ok-push-in-Ok.ensures.items)
-          (each_more (IsLaid c.args.depth bytes) seen c.args.ssdts.now c.loop-i.laid.items c.loop-i.i c.index-ssdts-i.result c.in-Ok.one (c.loop-i.invariant.0 bytes loads) c.loop-i-test.true c.index-ssdts-i.is
+          (each_more (IsLaid c.args.depth bytes) seen c.args.ssdts.now c.loop-i.laid.items c.loop-i.i c.index-ssdts-i.result c.in-Ok.one
+          (c.loop-i.invariant.0 bytes loads) c.loop-i-test.true c.index-ssdts-i.is
           (c.in-Ok.ensures.ok bytes loads))),
       subst (λ (xs : List (Laid _)). AreLaidSorted (laid_trees (contents_over g.S.Space.contents) xs)) (sym c.in_ok-push-in-Ok.ensures.items)
           (all_more (λ (l : LaidTree). IsStrictlySortedBy path_cmp l.defined) seen c.loop-i.laid.items c.in-Ok.one c.loop-i.invariant.1 c.in-Ok.ensures.sorted),
@@ -31,4 +32,5 @@ loop-i-preserved g c =
 
 pub returns-clause-ok : goal.returns-clause-ok
 returns-clause-ok g c = λ bytes loads.
-    subst (λ (bs : List (List ℕ)). AreLaid c.args.depth bytes bs (laid_trees (contents_over g.S.Space.contents) c.loop-i.laid.items)) (take_all _ _ c.loop-i-test.false) (c.loop-i.invariant.0 bytes loads)
+    subst (λ (bs : List (List ℕ)). AreLaid c.args.depth bytes bs (laid_trees (contents_over g.S.Space.contents) c.loop-i.laid.items)) (take_all _ _ c.loop-i-test.false)
+    (c.loop-i.invariant.0 bytes loads)

@@ -24,6 +24,7 @@ returns-clause-ok g c = λ bytes loads.
     let both : PathMap Object = contents_over contents (objects_so_far d) in
     let are : (p : List Segment) → Among items p ↔ (IsTrue (is_defined both p) × (is_defined below p ≡ false)) =
     subst (λ (m : PathMap Object). (p : List Segment) → Among items p ↔ (IsTrue (is_defined both p) × (is_defined m p ≡ false))) c.in_ok-declared.ensures.lower
-    (subst (λ (o : _). (p : List Segment) → Among items p ↔ (IsTrue (is_defined (contents_over contents o) p) × (is_defined (lower_of contents o) p ≡ false))) c.objects.ensures c.in_ok-defined.ensures.are) in
+    (subst (λ (o : _). (p : List Segment) → Among items p ↔ (IsTrue (is_defined (contents_over contents o) p) × (is_defined (lower_of contents o) p ≡ false))) c.objects.ensures
+    c.in_ok-defined.ensures.are) in
     is_laid c.args.depth bytes c.args.ssdt.now (state_of below c.args.dsdt.now) (state_of both d) loads (c.in_ok-declared.ensures.ok (bytes ∷ []) loads) below both refl refl items
     c.in_ok-defined.ensures.ascend are

@@ -17,7 +17,8 @@ checked_of-requires-clause-sorted g c =
     let contents = g.O.Space.contents in
     let state = state_of (g.S.Space.contents (objects_so_far c.args.dsdt.now)) c.args.dsdt.now in
     subst (λ (ts : List (Told _)). AreSorted (told_trees contents ts)) (sym c.deref-2.ensures.value)
-    (told_sorted (is_defined c.in_ok-last.last) c.args.depth state (tried_of c.in_ok-alone.alone) (laid_trees contents c.args.laid.items) (told_trees contents c.in_ok-told.told.items) c.in_ok-told.ensures c.requires)
+    (told_sorted (is_defined c.in_ok-last.last) c.args.depth state (tried_of c.in_ok-alone.alone) (laid_trees contents c.args.laid.items)
+    (told_trees contents c.in_ok-told.told.items) c.in_ok-told.ensures c.requires)
 
 pub checked_of-requires-clause-definers : goal.checked_of-requires-clause-definers
 checked_of-requires-clause-definers g c =
@@ -25,7 +26,8 @@ checked_of-requires-clause-definers g c =
     let state = state_of (g.S.Space.contents (objects_so_far c.args.dsdt.now)) c.args.dsdt.now in
     let last = get c.in_ok-last.last in
     let same : declared_in (told_trees contents c.in_ok-told.told.items) ≡ map defined_in c.args.laid.items =
-    told_declared (is_defined c.in_ok-last.last) c.args.depth state (tried_of c.in_ok-alone.alone) (laid_trees contents c.args.laid.items) (told_trees contents c.in_ok-told.told.items) c.in_ok-told.ensures
+    told_declared (is_defined c.in_ok-last.last) c.args.depth state (tried_of c.in_ok-alone.alone) (laid_trees contents c.args.laid.items)
+    (told_trees contents c.in_ok-told.told.items) c.in_ok-told.ensures
     ∙ laid_declared contents c.args.laid.items in
     subst (λ (ts : List (Told _)). AreDefiners (declared_in (told_trees contents ts)) last) (sym c.deref-2.ensures.value)
     (subst (λ (ds : Declared). AreDefiners ds last) (sym same)

@@ -15,8 +15,10 @@ returns-in-Some g c =
     let contents = g.O.Space.contents in
     let this = number_at (told_tree contents) c.args.told.now c.args.definer x c.requires.above c.requires.within c.index-told-definer.is in
     let there : (told_tree contents x).objects p ≡ Some (object_view c.in-Some.object.now) =
-    ap (λ (t : Told _). (told_tree contents t).objects p) c.index-told-definer.is ∙ ap (λ o. option_map object_view (get (contents o) p)) (sym c.objects.ensures) ∙ ap (option_map object_view) (sym c.get.ensures ∙ ap option_copied c.in-Some.is) in
-    met_there (told_trees contents c.args.told.now) c.args.definer (told_tree contents x) p c.args.awaited.now.count this (object_view c.in-Some.object.now) c.is_method.result there c.is_method.ensures
+    ap (λ (t : Told _). (told_tree contents t).objects p) c.index-told-definer.is ∙ ap (λ o. option_map object_view (get (contents o) p)) (sym c.objects.ensures)
+    ∙ ap (option_map object_view) (sym c.get.ensures ∙ ap option_copied c.in-Some.is) in
+    met_there (told_trees contents c.args.told.now) c.args.definer (told_tree contents x) p c.args.awaited.now.count this
+    (object_view c.in-Some.object.now) c.is_method.result there c.is_method.ensures
 
 pub returns-in-None : goal.returns-in-None
 returns-in-None g c = λ e.
@@ -25,5 +27,6 @@ returns-in-None g c = λ e.
     let contents = g.O.Space.contents in
     let this = number_at (told_tree contents) c.args.told.now c.args.definer x c.requires.above c.requires.within c.index-told-definer.is in
     let none : (told_tree contents x).objects p ≡ None =
-    ap (λ (t : Told _). (told_tree contents t).objects p) c.index-told-definer.is ∙ ap (λ o. option_map object_view (get (contents o) p)) (sym c.objects.ensures) ∙ ap (option_map object_view) (sym c.get.ensures ∙ ap option_copied c.in-None.is) in
+    ap (λ (t : Told _). (told_tree contents t).objects p) c.index-told-definer.is ∙ ap (λ o. option_map object_view (get (contents o) p)) (sym c.objects.ensures)
+    ∙ ap (option_map object_view) (sym c.get.ensures ∙ ap option_copied c.in-None.is) in
     none_there (told_trees contents c.args.told.now) c.args.definer (told_tree contents x) p c.args.awaited.now.count this none

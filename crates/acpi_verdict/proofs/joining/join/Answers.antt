@@ -35,14 +35,16 @@ returns-then-not-branch-clause-none g c =
     let here : drop l.single-index xs ≡ x ∷ drop (l.single-index + 1) xs = drop_more xs l.single-index x below ∙ ap (λ y. y ∷ drop (l.single-index + 1) xs) (sym c.single-item.is) in (
       (λ e. inr
           (part_clashes (λ s. machine_of (g.S.Space.contents (objects_in (machine_in s))) (machine_in s)) xs l.single-index x (machine_of (g.S.Space.contents (objects_in l.joined)) l.joined)
-          (machine_of (g.S.Space.contents (objects_in c.add_machine.new.joined)) c.add_machine.new.joined) here l.invariant c.in_ok-add_machine.field-0 c.if-not-branch.true c.in_ok-add_machine.ensures)),
+          (machine_of (g.S.Space.contents (objects_in c.add_machine.new.joined)) c.add_machine.new.joined) here l.invariant c.in_ok-add_machine.field-0 c.if-not-branch.true
+          c.in_ok-add_machine.ensures)),
       (λ e. refl),
     )
 
 pub returns-clause-join : goal.returns-clause-join
 returns-clause-join g c =
     let l = c.loop-single in
-    parts_joined (λ s. machine_of (g.S.Space.contents (objects_in (machine_in s))) (machine_in s)) c.args.singles.now l.single-index (machine_of (g.S.Space.contents (objects_in l.joined)) l.joined) l.invariant
+    parts_joined (λ s. machine_of (g.S.Space.contents (objects_in (machine_in s))) (machine_in s)) c.args.singles.now l.single-index
+    (machine_of (g.S.Space.contents (objects_in l.joined)) l.joined) l.invariant
     (omega (arith, c.loop-single-test.false))
 
 pub returns-clause-none : goal.returns-clause-none
@@ -51,5 +53,6 @@ returns-clause-none g c =
     let some : c.args.singles.now ≢ [] = λ e. let none : length c.args.singles.now ≡ 0 = ap length e in search rules in
     some_join l.joined (map (λ s. machine_of (g.S.Space.contents (objects_in (machine_in s))) (machine_in s)) c.args.singles.now) (machine_of (g.S.Space.contents (objects_in l.joined)) l.joined)
     (c.args.singles.now ≡ []) some
-    (parts_joined (λ s. machine_of (g.S.Space.contents (objects_in (machine_in s))) (machine_in s)) c.args.singles.now l.single-index (machine_of (g.S.Space.contents (objects_in l.joined)) l.joined) l.invariant
+    (parts_joined (λ s. machine_of (g.S.Space.contents (objects_in (machine_in s))) (machine_in s)) c.args.singles.now l.single-index
+    (machine_of (g.S.Space.contents (objects_in l.joined)) l.joined) l.invariant
     (omega (arith, c.loop-single-test.false)))

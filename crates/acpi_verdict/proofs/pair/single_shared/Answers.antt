@@ -33,7 +33,8 @@ pub returns-in_err-both-clause-none : goal.returns-in_err-both-clause-none
 returns-in_err-both-clause-none g c =
     let p = err_from_is_err_and c.from_residual-in_err-both.result c.from_residual-in_err-both.ensures.1 in
     rw (p.1, p.2)
-    (λ some. refused_has_no_load c.args.depth (c.args.dsdt.now ∷ c.args.ssdt.now ∷ []) c.in_err-both.field-0.0 (c.in_err-both.ensures.err (c.args.dsdt.now ∷ []) [] c.in_ok-first.ensures.ok) some)
+    (λ some. refused_has_no_load c.args.depth (c.args.dsdt.now ∷ c.args.ssdt.now ∷ []) c.in_err-both.field-0.0
+    (c.in_err-both.ensures.err (c.args.dsdt.now ∷ []) [] c.in_ok-first.ensures.ok) some)
 
 pub search_tables-requires : goal.search_tables-requires
 search_tables-requires g c =

@@ -13,4 +13,5 @@ returns-else-any_among g c =
     let x = c.args.told.now in
     let found = c.args.found.now.items in
     let none = ap (λ (ps : List (List Segment)). list_any (λ q. has ps q) c.args.paths.now) (sym c.defined.ensures) ∙ sym c.any_among.ensures ∙ c.if-any_among.false in
-    sym (ap (λ (l : List Satisfied). found ++ l) (none_met c.args.user c.args.awaited.now c.args.paths.now c.args.definer (told_tree g.O.Space.contents x) (defined_in x.laid) c.requires.keys none) ∙ append-nil found)
+    sym (ap (λ (l : List Satisfied). found ++ l) (none_met c.args.user c.args.awaited.now c.args.paths.now c.args.definer (told_tree g.O.Space.contents x)
+    (defined_in x.laid) c.requires.keys none) ∙ append-nil found)

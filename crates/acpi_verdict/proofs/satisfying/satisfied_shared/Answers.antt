@@ -4,7 +4,8 @@ use Rattle.acpi_verdict.proofs.satisfying.satisfied_shared.Goals as goal
 
 pub returns-in-NotAlone-clause-err : goal.returns-in-NotAlone-clause-err
 returns-in-NotAlone-clause-err g c =
-    inr (fault_told c.args.depth c.args.dsdt.now c.args.ssdts.now c.in_ok-verdict.field-0.verdict c.in-NotAlone.ssdt c.in-NotAlone.fault c.in-NotAlone.is c.in_ok-verdict.ensures.ok c.in_ok-verdict.ensures.fault)
+    inr (fault_told c.args.depth c.args.dsdt.now c.args.ssdts.now c.in_ok-verdict.field-0.verdict c.in-NotAlone.ssdt c.in-NotAlone.fault c.in-NotAlone.is c.in_ok-verdict.ensures.ok
+    c.in_ok-verdict.ensures.fault)
 
 pub returns : goal.returns
 returns g c =

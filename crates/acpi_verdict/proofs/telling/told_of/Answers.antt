@@ -20,7 +20,8 @@ returns g c =
       objects_are = refl;
       defined_are = refl;
       scopes = c.in_ok-scopes.scopes;
-      scopes_are = subst (λ (ns : List TableNotes). Grows empty c.in_ok-scopes.scopes (λ (p : List Segment). IsMissedScope (map notes_of ns) p × IsTrue (wanted p))) c.notes.ensures c.in_ok-scopes.ensures;
+      scopes_are = subst (λ (ns : List TableNotes). Grows empty c.in_ok-scopes.scopes (λ (p : List Segment). IsMissedScope (map notes_of ns) p × IsTrue (wanted p))) c.notes.ensures
+          c.in_ok-scopes.ensures;
       own = subst (λ (o : _). Tries wanted c.args.depth (namespace_of (contents o)) l.state c.in_ok-scopes.scopes (tried_of c.in_ok-own.own)) c.objects.ensures c.in_ok-own.ensures;
       under = c.in_ok-under.ensures;
     }

@@ -34,4 +34,5 @@ returns g c =
     let wanted = is_defined (g.T.Space.contents c.args.among.now) in
     let none : drop c.loop-table.table-index c.args.notes.now ≡ [] = drop_all _ _ c.loop-table-test.false in
     c.loop-table.invariant c.loop-table.missed
-    (subst (λ (l : List TableNotes). Grows c.loop-table.missed c.loop-table.missed (λ (p : List Segment). IsMissedScope (map notes_of l) p × IsTrue (wanted p))) (sym none) (no_scopes wanted c.loop-table.missed))
+    (subst (λ (l : List TableNotes). Grows c.loop-table.missed c.loop-table.missed (λ (p : List Segment). IsMissedScope (map notes_of l) p × IsTrue (wanted p))) (sym none)
+    (no_scopes wanted c.loop-table.missed))

@@ -27,7 +27,8 @@ loop-notes-preserved g c = λ now h.
     let here : drop i notes ≡ t ∷ drop (i + 1) notes = drop_more notes i t (grind arith) ∙ ap (λ y. y ∷ drop (i + 1) notes) (sym c.notes-item.is) in
     c.loop-notes.invariant now
     (subst (λ (l : List TableNotes). TriesAll wanted c.args.depth objects (all_noted (map notes_of l)) (tried_of c.loop-notes.tried) now) (sym here)
-    (tries_both wanted c.args.depth objects (noted (notes_of t)) (all_noted (map notes_of (drop (i + 1) notes))) (tried_of c.loop-notes.tried) (tried_of c.try_methods.new.tried) now c.in_ok-try_methods.ensures h))
+    (tries_both wanted c.args.depth objects (noted (notes_of t)) (all_noted (map notes_of (drop (i + 1) notes))) (tried_of c.loop-notes.tried)
+    (tried_of c.try_methods.new.tried) now c.in_ok-try_methods.ensures h))
 
 pub returns : goal.returns
 returns g c =
@@ -42,9 +43,12 @@ returns g c =
     (subst (λ (l : List TableNotes). TriesAll wanted c.args.depth objects (all_noted (map notes_of l)) (tried_of c.loop-notes.tried) (tried_of c.loop-notes.tried)) (sym none) refl) in
     record {
       linked = c.add_paths.new.paths;
-      links_are = grows_as c.args.missed c.add_paths.new.paths (Among c.in_ok-link_misses_over.field-0.items) (λ p. IsMissedLink objects state.links p × IsTrue (wanted p)) c.in_ok-link_misses_over.ensures
+      links_are = grows_as c.args.missed c.add_paths.new.paths (Among c.in_ok-link_misses_over.field-0.items)
+          (λ p. IsMissedLink objects state.links p × IsTrue (wanted p)) c.in_ok-link_misses_over.ensures
           c.in_ok-add_paths.ensures;
-      bodies = subst (λ (l : List TableNotes). TriesAll wanted c.args.depth objects (all_noted (map notes_of l)) (record { missed = c.add_paths.new.paths; awaited = empty }) (tried_of c.loop-notes.tried))
+      bodies = subst (λ (l : List TableNotes). TriesAll wanted c.args.depth objects (all_noted (map notes_of l)) (record { missed = c.add_paths.new.paths; awaited = empty })
+          (tried_of c.loop-notes.tried))
           c.notes-notes-items.ensures
-          (subst (λ (w : PathMap _). TriesAll wanted c.args.depth objects (all_noted (map notes_of notes)) (record { missed = c.add_paths.new.paths; awaited = w }) (tried_of c.loop-notes.tried)) c.new.ensures all);
+          (subst (λ (w : PathMap _). TriesAll wanted c.args.depth objects (all_noted (map notes_of notes)) (record { missed = c.add_paths.new.paths; awaited = w })
+          (tried_of c.loop-notes.tried)) c.new.ensures all);
     }

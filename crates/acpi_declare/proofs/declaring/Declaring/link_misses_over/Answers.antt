@@ -11,5 +11,6 @@ use Rattle.acpi_declare.proofs.declaring.Declaring.link_misses_over.Goals as goa
 pub returns : goal.returns
 returns g c =
     let objects = namespace_of (g.O.Space.contents c.args.objects.now) in
-    subst (λ (w : Wants). IfOk c.misses_of_links.result (λ v. (p : List Segment) → Among v.items p ↔ (IsMissedLink objects (all_pending_of c.args.self.now.links.items) p × IsTrue (w p)))) c.new.ensures
+    subst (λ (w : Wants). IfOk c.misses_of_links.result (λ v. (p : List Segment) → Among v.items p
+    ↔ (IsMissedLink objects (all_pending_of c.args.self.now.links.items) p × IsTrue (w p)))) c.new.ensures
     (rw c.deref.ensures.value at c.misses_of_links.ensures)

@@ -22,5 +22,6 @@ returns-clause-err g c = λ tables later so.
     let all = state_of (g.S.Space.contents (objects_so_far c.args.self.now)) c.args.self.now in
     let counted : c.len.result ≡ length c.args.self.now.notes.items = search rules in
     let number : c.len.result ≡ length tables = counted ∙ sym (length-map c.args.self.now.notes.items notes_of) ∙ count_tables c.args.depth tables all so in
-    let fault = subst (λ (objects : Namespace). IfErr c.add_table.result (λ e. IsTableFault c.args.depth c.len.result objects c.args.ssdt.now e)) (ap namespace_of c.over.ensures.contents) c.add_table.ensures.err in
+    let fault = subst (λ (objects : Namespace). IfErr c.add_table.result (λ e. IsTableFault c.args.depth c.len.result objects c.args.ssdt.now e))
+    (ap namespace_of c.over.ensures.contents) c.add_table.ensures.err in
     adds_err (λ d. state_of (contents_over g.S.Space.contents (objects_so_far d)) d) c.args.depth c.len.result tables c.args.ssdt.now all c.add_table.result number so fault later

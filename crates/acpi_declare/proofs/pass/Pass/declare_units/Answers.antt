@@ -16,7 +16,8 @@ use Rattle.acpi_declare.proofs.pass.Pass.declare_units.Goals as goal
 pub returns-in_err-offset-clause-refused : goal.returns-in_err-offset-clause-refused
 returns-in_err-offset-clause-refused g c =
     let p = err_from_is_err_and c.from_residual.result c.from_residual.ensures.1 in
-    let now : drop c.loop-elem.elem-index c.args.elems.now ≡ c.elem-item.result ∷ drop (c.loop-elem.elem-index + 1) c.args.elems.now = drop_more c.args.elems.now c.loop-elem.elem-index c.elem-item.result (grind arith) ∙ ap (λ y. y ∷ drop (c.loop-elem.elem-index + 1) c.args.elems.now) (sym c.elem-item.is) in
+    let now : drop c.loop-elem.elem-index c.args.elems.now ≡ c.elem-item.result ∷ drop (c.loop-elem.elem-index + 1) c.args.elems.now =
+    drop_more c.args.elems.now c.loop-elem.elem-index c.elem-item.result (grind arith) ∙ ap (λ y. y ∷ drop (c.loop-elem.elem-index + 1) c.args.elems.now) (sym c.elem-item.is) in
     let list = c.args.fields.now in
     let l = c.loop-elem in
     let steps : List FieldElem → List Step = λ es. unit_steps list.form list.flags list.names.now l.offset (fields_view es) in
