@@ -1,31 +1,31 @@
 -- Codes and items of one table, one after another; and the rewritten table.
-use Rattle.std.proofs.Common.{◌≡◌, ℕ, zero, suc, ◌+◌, ◌<◌, ◌≤◌, List, [], ◌∷◌, ◌++◌, map, length, get_or, take, refl, sym, ap, subst, ◌∙◌, append_assoc, append-nil, All, Option, Some, None, arith}
+use Rattle.std.proofs.Common.{◌≡◌, ℕ, zero, suc, ◌+◌, ◌<◌, ◌≤◌, List, [], ◌∷◌, ◌++◌, map, length, get_or, take, drop, set, refl, sym, ap, subst, ◌∙◌, append_assoc, append-nil, All, Option, Some, None, arith}
 use Rattle.std.specs.Global.{Vec}
 use Rattle.std.specs.List.{AllZip}
-use Rattle.std.proofs.lemmas.List.{length-append, length-map, nil_from_length, length-drop, map-append, take_more, take_all, get_or-map}
+use Rattle.std.proofs.lemmas.List.{length-append, length-map, nil_from_length, length-drop, map-append, take_more, take_all, at_drop_more, drop-set-lt}
 use Rattle.acpi_tree.specs.Tree.{ItemTree, ItemTrees, item}
 use Rattle.acpi_tree.specs.View.{item_view, items_tree}
 use Rattle.acpi_tree.specs.declared.tree.Item.{Item}
 use Rattle.acpi_space.specs.Lookups.{union}
 use Rattle.acpi_declare.specs.Listing.{Placement, objects_of}
-use Rattle.acpi_declare.specs.Loads.{AreListings}
+use Rattle.acpi_declare.specs.Loads.{AreListings, objects_after}
 use Rattle.acpi_declare.specs.Predefined.{predefined}
 use Rattle.acpi_declare.specs.declared.notes.TableNotes.{TableNotes}
 use Rattle.acpi_declare.specs.Namespace.{Namespace}
-use Rattle.acpi_declare.specs.Notes.{external_counts, methods, Notes, all_notes, notes_of}
+use Rattle.acpi_declare.specs.Notes.{external_counts, methods, notes_on, all_notes, notes_of}
 use Rattle.acpi_declare.specs.Notes as notes
 use Rattle.acpi_declare.specs.Sites.{sites}
 use Rattle.acpi_declare.specs.Tables.{code_of}
 use Rattle.acpi_write.specs.Canonical.{items_bytes}
 use Rattle.acpi_write.specs.Shortest.{HasWithin}
 use Rattle.acpi_order.specs.Bodies.{Method, with_counts, methods_of}
-use Rattle.acpi_rewrite.specs.Rewriting.{item_codes, codes, item_without_code, without_code, IsNewCode, IsShortest, IsRewritten, AreEachRewritten}
+use Rattle.acpi_rewrite.specs.Rewriting.{item_codes, codes, item_without_code, without_code, IsNewCode, IsShortest, IsRewritten, AreEachRewritten, AreRewritten}
 use Rattle.acpi_rewrite.specs.RewritingLaws.{AreTablesOfBytes}
 use Rattle.acpi_machine.specs.steps.Adding.{noted}
-use Rattle.acpi_rewrite.specs.steps.Recoding.{IsNoted}
+use Rattle.acpi_rewrite.specs.steps.Recoding.{AreNewCodes, HasNewCodes, IsRewrittenTo}
 use Rattle.acpi_rewrite.proofs.Recoded.{alike_item_count, alike_count}
 use Rattle.acpi_rewrite.proofs.Rewritten.{shorter_items}
-use Rattle.acpi_rewrite.proofs.Relisted.{table_codes, listed_codes}
+use Rattle.acpi_rewrite.proofs.Relisted.{first_same, others_same, table_codes, listed_codes}
 
 -- ---- pairs
 
@@ -55,30 +55,46 @@ zip_mapped R f (x ∷ xs) (z ∷ zs) h = (h.0, zip_mapped R f xs zs h.1)
 
 -- ---- items one after another
 
-module _ (x y : Item) (same : item_without_code (item_view y) ≡ item_without_code (item_view x)) where
-  next_alike : (done rest : List Item) → without_code (items_tree ((done ++ y ∷ []) ++ rest)) ≡ without_code (items_tree (done ++ x ∷ rest))
-  next_alike [] rest = ap (λ (i : ItemTree). item i (without_code (items_tree rest))) same
-  next_alike (z ∷ done) rest = ap (item (item_without_code (item_view z))) (next_alike done rest)
+-- the list with another item at a place, which is alike but for code
+module _ (y : Item) where
+  set_alike : (xs : List Item) (i : ℕ) (x : Item) → i < length xs → item_without_code (item_view y) ≡ item_without_code (item_view (get_or xs i x))
+      → without_code (items_tree (set xs i y)) ≡ without_code (items_tree xs)
+  set_alike [] i x below same = absurd (omega (arith, below))
+  set_alike (z ∷ xs) zero x below same = ap (λ (k : ItemTree). item k (without_code (items_tree xs))) same
+  set_alike (z ∷ xs) (suc i) x below same = ap (item (item_without_code (item_view z))) (set_alike xs i x (omega (arith, below)) same)
 
-  next_codes : (done : List Item) → codes (items_tree (done ++ y ∷ [])) ≡ codes (items_tree done) ++ item_codes (item_view y)
-  next_codes [] = append-nil (item_codes (item_view y))
-  next_codes (z ∷ done) = ap (λ (cs : List (List ℕ)). item_codes (item_view z) ++ cs) (next_codes done)
-      ∙ sym (append_assoc (item_codes (item_view z)) (codes (items_tree done)) (item_codes (item_view y)))
+  set_codes : (xs : List Item) (i : ℕ) → i < length xs → codes (items_tree (take (suc i) (set xs i y))) ≡ codes (items_tree (take i xs)) ++ item_codes (item_view y)
+  set_codes [] i below = absurd (omega (arith, below))
+  set_codes (z ∷ xs) zero below = append-nil (item_codes (item_view y))
+  set_codes (z ∷ xs) (suc i) below = ap (λ (cs : List (List ℕ)). item_codes (item_view z) ++ cs) (set_codes xs i (omega (arith, below)))
+      ∙ sym (append_assoc (item_codes (item_view z)) (codes (items_tree (take i xs))) (item_codes (item_view y)))
 
-  -- the invariant of a list of items, at the next one
-  pub next_item : (done now before rest all : List Item) (fresh left given : List (List ℕ)) → now ≡ done ++ y ∷ [] → before ≡ x ∷ rest → item_codes (item_view y) ++ left ≡ fresh
-      → (without_code (items_tree (done ++ before)) ≡ without_code (items_tree all)) × (codes (items_tree done) ++ fresh ≡ given) × (length (codes (items_tree before)) ≤ length fresh)
-      → (without_code (items_tree (now ++ rest)) ≡ without_code (items_tree all)) × (codes (items_tree now) ++ left ≡ given) × (length (codes (items_tree rest)) ≤ length left)
-  next_item done now before rest all fresh left given e front taken h =
-      let size : length (item_codes (item_view y)) + length left ≡ length fresh = sym (length-append (item_codes (item_view y)) left) ∙ ap length taken in
-      let counted : length (codes (items_tree before)) ≡ length (item_codes (item_view x)) + length (codes (items_tree rest)) =
-      ap (λ (is : List Item). length (codes (items_tree is))) front ∙ length-append (item_codes (item_view x)) (codes (items_tree rest)) in
-      let as_many = alike_item_count (item_view x) (item_view y) same in (
-        ap (λ (is : List Item). without_code (items_tree (is ++ rest))) e ∙ next_alike done rest ∙ ap (λ (is : List Item). without_code (items_tree (done ++ is))) (sym front) ∙ h.0,
-        ap (λ (is : List Item). codes (items_tree is) ++ left) e ∙ ap (λ (cs : List (List ℕ)). cs ++ left) (next_codes done)
-            ∙ append_assoc (codes (items_tree done)) (item_codes (item_view y)) left ∙ ap (λ (cs : List (List ℕ)). codes (items_tree done) ++ cs) taken ∙ h.1,
-        omega (arith, size, counted, as_many, h.2),
-      )
+-- the invariant of a list of items, at the next one
+pub next_item : (xs all : List Item) (i : ℕ) (x y : Item) (fresh left given : List (List ℕ)) → i < length xs
+    → item_without_code (item_view y) ≡ item_without_code (item_view (get_or xs i x)) → item_codes (item_view y) ++ left ≡ fresh
+    → (without_code (items_tree xs) ≡ without_code (items_tree all)) × (codes (items_tree (take i xs)) ++ fresh ≡ given) × (length (codes (items_tree (drop i xs))) ≤ length fresh)
+    → (without_code (items_tree (set xs i y)) ≡ without_code (items_tree all)) × (codes (items_tree (take (i + 1) (set xs i y))) ++ left ≡ given)
+    × (length (codes (items_tree (drop (i + 1) (set xs i y)))) ≤ length left)
+next_item xs all i x y fresh left given below same taken h =
+    let next : i + 1 ≡ suc i = omega arith in
+    let old = item_view (get_or xs i x) in
+    let size : length (item_codes (item_view y)) + length left ≡ length fresh = sym (length-append (item_codes (item_view y)) left) ∙ ap length taken in
+    let counted : length (codes (items_tree (drop i xs))) ≡ length (item_codes old) + length (codes (items_tree (drop (i + 1) xs))) =
+    at_drop_more (λ is. length (codes (items_tree is))) xs i x below ∙ length-append (item_codes old) (codes (items_tree (drop (i + 1) xs))) in
+    let behind : length (codes (items_tree (drop (i + 1) (set xs i y)))) ≡ length (codes (items_tree (drop (i + 1) xs))) =
+    ap (λ (is : List Item). length (codes (items_tree is))) (drop-set-lt (i + 1) xs i y (omega arith)) in
+    let as_many = alike_item_count old (item_view y) same in (
+      set_alike y xs i x below same ∙ h.0,
+      ap (λ (k : ℕ). codes (items_tree (take k (set xs i y))) ++ left) next ∙ ap (λ (cs : List (List ℕ)). cs ++ left) (set_codes y xs i below)
+          ∙ append_assoc (codes (items_tree (take i xs))) (item_codes (item_view y)) left ∙ ap (λ (cs : List (List ℕ)). codes (items_tree (take i xs)) ++ cs) taken ∙ h.1,
+      omega (arith, size, counted, behind, as_many, h.2),
+    )
+
+-- a list that is written over from its front, as far as it reaches
+pub written_over : {X : Type 0} (n : ℕ) (new old : List X) → length new ≡ length old → length old ≤ n → take n (new ++ drop (length new) old) ≡ new
+written_over n new old same past =
+    ap (λ l. take n (new ++ l)) (nil_from_length (drop (length new) old) (omega (arith, length-drop (length new) old, same))) ∙ ap (take n) (append-nil new)
+    ∙ take_all n new (omega (arith, same, past))
 
 -- ---- a table
 
@@ -87,23 +103,21 @@ behind_all xs left ys e same =
     let none : left ≡ [] = nil_from_length left (omega (arith, ap length e, length-append xs left, same)) in
     sym (append-nil xs) ∙ ap (λ l. xs ++ l) (sym none) ∙ e
 
-module _ (depth : ℕ) (objects : Namespace) (bytes : List ℕ) (t : List Placement) (n : Notes) (h : IsNoted depth bytes t n) (cs : List (List ℕ))
-    (new : AllZip (IsNewCode depth objects) (noted n) cs) where
+module _ (depth : ℕ) (objects : Namespace) (bytes : List ℕ) (t : List Placement) (cs : List (List ℕ)) (h : HasNewCodes depth objects bytes t cs) where
   pub as_many_codes : length (codes h.items) ≡ length cs
   as_many_codes =
-      sym (ap length (listed_codes h.objects [] (sites h.items) t h.listing ∙ table_codes h.items)) ∙ length-map (methods t) (λ (m : notes.Method). m.code)
-      ∙ sym (length-map (methods t) (with_counts (external_counts t))) ∙ ap length (sym h.methods_are) ∙ zip_length (IsNewCode depth objects) (noted n) cs new
+      sym (ap length (listed_codes h.before [] (sites h.items) t h.listing ∙ table_codes h.items)) ∙ length-map (methods t) (λ (m : notes.Method). m.code)
+      ∙ sym (length-map (methods t) (with_counts (external_counts t))) ∙ zip_length (IsNewCode depth objects) (methods_of t) cs h.new
 
   new_code_of : (js : ItemTrees) (left : List (List ℕ)) → without_code js ≡ without_code h.items → codes js ++ left ≡ cs → AllZip (IsNewCode depth objects) (methods_of t) (codes js)
   new_code_of js left same fresh =
-      subst (AllZip (IsNewCode depth objects) (methods_of t)) (sym (behind_all (codes js) left cs fresh (alike_count h.items js same ∙ as_many_codes)))
-      (subst (λ (ms : List Method). AllZip (IsNewCode depth objects) ms cs) h.methods_are new)
+      subst (AllZip (IsNewCode depth objects) (methods_of t)) (sym (behind_all (codes js) left cs fresh (alike_count h.items js same ∙ as_many_codes))) h.new
 
   -- so there is room for what is written
   pub has_room : (js : ItemTrees) (left : List (List ℕ)) → All (λ b. b < 256) bytes → without_code js ≡ without_code h.items → codes js ++ left ≡ cs
       → ((code : List ℕ) → items_bytes js ≡ Some code → 16777216 < 36 + length code) → ⊥
   has_room js left below same fresh long =
-      by (items_bytes js) refl (shorter_items depth h.objects objects bytes below h.items h.table.spelled t h.listing js same (new_code_of js left same fresh))
+      by (items_bytes js) refl (shorter_items depth h.before objects bytes below h.items h.table.spelled t h.listing js same (new_code_of js left same fresh))
     where
       by : (o : Option (List ℕ)) → items_bytes js ≡ o → HasWithin o (code_of bytes) → ⊥
       by None e within = within
@@ -128,37 +142,34 @@ Bytes = Vec ℕ
 abbrev items_in : Bytes → List ℕ
 items_in b = b.items
 
--- the table at a place of a load, whose notes are at the same place
-pub noted_at : (depth number : ℕ) (N : Namespace) (bs : List (List ℕ)) (ts : List (List Placement)) → AreListings depth number N bs ts → (i : ℕ) (n : Notes) → i < length bs
-    → n ≡ get_or (all_notes N ts) i n → IsNoted depth (get_or bs i []) (get_or ts i []) n
-noted_at depth number N [] ts h i n below e = absurd (omega arith)
-noted_at depth number N (b ∷ bs) [] h i n below e = absurd h
-noted_at depth number N (b ∷ bs) (t ∷ ts) h zero n below e =
-    record { number = number; objects = N; items = h.0.0; table = h.0.1; listing = h.0.2; methods_are = ap noted e }
-noted_at depth number N (b ∷ bs) (t ∷ ts) h (suc i) n below e = noted_at depth (suc number) (union N (objects_of t)) bs ts h.1 i n (omega arith) e
-
 pub as_many_listings : (depth number : ℕ) (N : Namespace) (bs : List (List ℕ)) (ts : List (List Placement)) → AreListings depth number N bs ts → length ts ≡ length bs
 as_many_listings depth number N [] [] h = refl
 as_many_listings depth number N [] (t ∷ ts) h = absurd h
 as_many_listings depth number N (b ∷ bs) [] h = absurd h
 as_many_listings depth number N (b ∷ bs) (t ∷ ts) h = ap (λ (k : ℕ). suc k) (as_many_listings depth (suc number) (union N (objects_of t)) bs ts h.1)
 
-as_many_noted : (N : Namespace) (ts : List (List Placement)) → length (all_notes N ts) ≡ length ts
-as_many_noted N [] = refl
-as_many_noted N (t ∷ ts) = ap (λ (k : ℕ). suc k) (as_many_noted (union N (objects_of t)) ts)
+module _ (depth : ℕ) (objects : Namespace) where
+  -- the new codes of what all tables note are those of their listings
+  pub codes_of_notes : {X : Type 0} (N : Namespace) (ts : List (List Placement)) (ns : List TableNotes) (vs : List X) (held : X → List (List ℕ)) → map notes_of ns ≡ all_notes N ts
+      → AllZip (λ n v. AllZip (IsNewCode depth objects) (noted (notes_of n)) (held v)) ns vs → AllZip (AreNewCodes depth objects) ts (map held vs)
+  codes_of_notes N [] [] [] held e h = tt
+  codes_of_notes N [] [] (v ∷ vs) held e h = absurd h
+  codes_of_notes N [] (n ∷ ns) vs held e h = absurd cc
+  codes_of_notes N (t ∷ ts) [] vs held e h = absurd cc
+  codes_of_notes N (t ∷ ts) (n ∷ ns) [] held e h = absurd h
+  codes_of_notes N (t ∷ ts) (n ∷ ns) (v ∷ vs) held e h =
+      let first : notes_of n ≡ notes_on N t = first_same (notes_of n) (notes_on N t) (map notes_of ns) (all_notes (union N (objects_of t)) ts) e in
+      let later = others_same (notes_of n) (notes_on N t) (map notes_of ns) (all_notes (union N (objects_of t)) ts) e in
+      (subst (λ (ms : List Method). AllZip (IsNewCode depth objects) ms (held v)) (ap noted first) h.0, codes_of_notes (union N (objects_of t)) ts ns vs held later h.1)
 
-pub as_many_notes : (depth : ℕ) (bs : List (List ℕ)) (ts : List (List Placement)) (ns : List TableNotes) → AreListings depth 0 predefined bs ts
-    → map notes_of ns ≡ all_notes predefined ts → length ns ≡ length bs
-as_many_notes depth bs ts ns h e = sym (length-map ns notes_of) ∙ ap length e ∙ as_many_noted predefined ts ∙ as_many_listings depth 0 predefined bs ts h
-
--- .. as the code reaches them
-pub noted_there : (depth : ℕ) (bs : List (List ℕ)) (ts : List (List Placement)) (ns : List TableNotes) (i : ℕ) (b : List ℕ) (n : TableNotes)
-    → AreListings depth 0 predefined bs ts → map notes_of ns ≡ all_notes predefined ts
-    → i < length bs → b ≡ get_or bs i [] → n ≡ get_or ns i n → IsNoted depth b (get_or ts i []) (notes_of n)
-noted_there depth bs ts ns i b n h e below there at =
-    let reach : i < length ns = omega (arith, as_many_notes depth bs ts ns h e, below) in
-    subst (λ (c : List ℕ). IsNoted depth c (get_or ts i []) (notes_of n)) (sym there)
-    (noted_at depth 0 predefined bs ts h i (notes_of n) below (ap notes_of at ∙ sym (get_or-map notes_of ns i n (notes_of n) reach) ∙ ap (λ (l : List Notes). get_or l i (notes_of n)) e))
+  -- the table at a place of a load
+  has_codes : (number : ℕ) (N : Namespace) (bs : List (List ℕ)) (ts : List (List Placement)) (cs : List (List ℕ)) → AreListings depth number N bs ts → (i : ℕ) → i < length bs
+      → AreNewCodes depth objects (get_or ts i []) cs → HasNewCodes depth objects (get_or bs i []) (get_or ts i []) cs
+  has_codes number N [] ts cs h i below new = absurd (omega arith)
+  has_codes number N (b ∷ bs) [] cs h i below new = absurd h
+  has_codes number N (b ∷ bs) (t ∷ ts) cs h zero below new =
+      record { number = number; before = N; items = h.0.0; table = h.0.1; listing = h.0.2; new = new }
+  has_codes number N (b ∷ bs) (t ∷ ts) cs h (suc i) below new = has_codes (suc number) (union N (objects_of t)) bs ts cs h.1 i (omega arith) new
 
 -- what stands behind the first
 pub behind_first : (x b : List ℕ) (xs : List (List ℕ)) (i : ℕ) → i < length xs → b ≡ get_or xs i b → b ≡ get_or (x ∷ xs) (i + 1) []
@@ -183,27 +194,50 @@ module _ (depth : ℕ) (objects : Namespace) where
   push_each (u ∷ ts) (c ∷ bs) [] t b n h one = absurd h
   push_each (u ∷ ts) (c ∷ bs) (m ∷ ns) t b n h one = (h.0, push_each ts bs ns t b n h.1 one)
 
-  -- one more table
-  pub more_rewritten : (ts : List (List Placement)) (bs : List (List ℕ)) (i : ℕ) (done now : List Bytes) (b : List ℕ) (new : Bytes)
-      → AreListings depth 0 predefined bs ts → i < length bs → b ≡ get_or bs i []
-      → now ≡ done ++ new ∷ [] → AreEachRewritten depth objects (take i ts) (take i bs) (map items_in done) → IsRewritten depth objects (get_or ts i []) b (items_in new)
-      → AreEachRewritten depth objects (take (i + 1) ts) (take (i + 1) bs) (map items_in now)
-  more_rewritten ts bs i done now b new h below there pushed before one =
-      let reach : i < length ts = omega (arith, as_many_listings depth 0 predefined bs ts h, below) in
-      let all : map items_in now ≡ map items_in done ++ items_in new ∷ [] = ap (map items_in) pushed ∙ map-append items_in done (new ∷ []) in
-      subst (AreEachRewritten depth objects (take (i + 1) ts) (take (i + 1) bs)) (sym all)
-      (subst (λ (us : List (List Placement)). AreEachRewritten depth objects us (take (i + 1) bs) (map items_in done ++ items_in new ∷ [])) (sym (take_more ts i [] reach))
-      (subst (λ (cs : List (List ℕ)). AreEachRewritten depth objects (take i ts ++ get_or ts i [] ∷ []) cs (map items_in done ++ items_in new ∷ [])) (sym (take_more bs i [] below))
-      (push_each (take i ts) (take i bs) (map items_in done) (get_or ts i []) (get_or bs i []) (items_in new) before
-      (subst (λ (c : List ℕ). IsRewritten depth objects (get_or ts i []) c (items_in new)) there one))))
+-- a load, some tables of which are rewritten
+module _ (depth : ℕ) (bs : List (List ℕ)) (i : ℕ) (done : List (List ℕ)) (css : List (List (List ℕ))) (r : IsRewrittenTo depth bs i done css) where
+  abbrev pub objects_of_all : Namespace
+  objects_of_all = objects_after predefined r.placements
+
+  reach : i < length bs → i < length r.placements
+  reach below = omega (arith, as_many_listings depth 0 predefined bs r.placements r.listings, below)
+
+  pub codes_left : i < length bs → 0 < length css
+  codes_left below =
+      omega (arith, zip_length (AreNewCodes depth objects_of_all) (drop i r.placements) css r.left, length-drop i r.placements, reach below)
 
   -- all of them
-  pub all_rewritten : (ts : List (List Placement)) (bs ns : List (List ℕ)) (i : ℕ) → AreListings depth 0 predefined bs ts → length bs ≤ i
-      → AreEachRewritten depth objects (take i ts) (take i bs) ns
-      → AreEachRewritten depth objects ts bs ns
-  all_rewritten ts bs ns i h past each =
-      subst (λ (us : List (List Placement)). AreEachRewritten depth objects us bs ns) (take_all i ts (omega (arith, as_many_listings depth 0 predefined bs ts h, past)))
-      (subst (λ (cs : List (List ℕ)). AreEachRewritten depth objects (take i ts) cs ns) (take_all i bs past) each)
+  pub all_rewritten : length bs ≤ i → AreRewritten depth bs done
+  all_rewritten past = record {
+    placements = r.placements;
+    listings = r.listings;
+    each = subst (λ (us : List (List Placement)). AreEachRewritten depth objects_of_all us bs done)
+        (take_all i r.placements (omega (arith, as_many_listings depth 0 predefined bs r.placements r.listings, past)))
+        (subst (λ (cs : List (List ℕ)). AreEachRewritten depth objects_of_all (take i r.placements) cs done) (take_all i bs past) r.each);
+  }
+
+  -- the next one
+  module _ (b : List ℕ) (cs : List (List ℕ)) (later : List (List (List ℕ))) (below : i < length bs) (there : b ≡ get_or bs i []) (front : css ≡ cs ∷ later) where
+    left : AllZip (AreNewCodes depth objects_of_all) (get_or r.placements i [] ∷ drop (i + 1) r.placements) (cs ∷ later)
+    left = subst (AllZip (AreNewCodes depth objects_of_all) (get_or r.placements i [] ∷ drop (i + 1) r.placements)) front
+        (subst (λ (ts : List (List Placement)). AllZip (AreNewCodes depth objects_of_all) ts css) (at_drop_more (λ ts. ts) r.placements i [] (reach below)) r.left)
+
+    pub next_has_codes : HasNewCodes depth objects_of_all b (get_or r.placements i []) cs
+    next_has_codes = subst (λ (c : List ℕ). HasNewCodes depth objects_of_all c (get_or r.placements i []) cs) (sym there)
+        (has_codes depth objects_of_all 0 predefined bs r.placements cs r.listings i below left.0)
+
+    pub next_rewritten : (now : List (List ℕ)) (new : List ℕ) → now ≡ done ++ new ∷ [] → IsRewritten depth objects_of_all (get_or r.placements i []) b new
+        → IsRewrittenTo depth bs (i + 1) now later
+    next_rewritten now new pushed one = record {
+      placements = r.placements;
+      listings = r.listings;
+      left = left.1;
+      each = subst (AreEachRewritten depth objects_of_all (take (i + 1) r.placements) (take (i + 1) bs)) (sym pushed)
+          (subst (λ (us : List (List Placement)). AreEachRewritten depth objects_of_all us (take (i + 1) bs) (done ++ new ∷ [])) (sym (take_more r.placements i [] (reach below)))
+          (subst (λ (cs : List (List ℕ)). AreEachRewritten depth objects_of_all (take i r.placements ++ get_or r.placements i [] ∷ []) cs (done ++ new ∷ [])) (sym (take_more bs i [] below))
+          (push_each depth objects_of_all (take i r.placements) (take i bs) done (get_or r.placements i []) (get_or bs i []) new r.each
+          (subst (λ (c : List ℕ). IsRewritten depth objects_of_all (get_or r.placements i []) c new) there one))));
+    }
 
 -- .. which is bytes, and is rewritten to bytes
 bytes_pushed : (bs : List (List ℕ)) (b : List ℕ) → AreTablesOfBytes bs → All (λ n. n < 256) b → AreTablesOfBytes (bs ++ b ∷ [])

@@ -258,10 +258,10 @@ AreAlike (x ∷ xs) (e ∷ es) = (x.step.name ≡ e.step.name) × Alike e.step.e
 AreAlike [] (e ∷ es) = ⊥
 AreAlike (x ∷ xs) [] = ⊥
 
-first_same : {X : Type 0} (x y : X) (xs ys : List X) → x ∷ xs ≡ y ∷ ys → x ≡ y
+pub first_same : {X : Type 0} (x y : X) (xs ys : List X) → x ∷ xs ≡ y ∷ ys → x ≡ y
 first_same x y xs ys e = cc
 
-others_same : {X : Type 0} (x y : X) (xs ys : List X) → x ∷ xs ≡ y ∷ ys → xs ≡ ys
+pub others_same : {X : Type 0} (x y : X) (xs ys : List X) → x ∷ xs ≡ y ∷ ys → xs ≡ ys
 others_same x y xs ys e = cc
 
 -- one site that is another but for code, and the placement of that

@@ -1,6 +1,6 @@
 //! Tables in their shortest spelling.
 
-ghost use Rattle.std.specs.Prelude.{◌≡◌, ◌≢◌, ◌↔◌, ◌<◌, ◌≤◌, ◌∷◌, ◌++◌, ℕ, List, length, get_or, map, All, IfOk, IfErr, true};
+ghost use Rattle.std.specs.Prelude.{◌≡◌, ◌≢◌, ◌↔◌, ◌<◌, ◌≤◌, [], ◌∷◌, ◌++◌, ℕ, List, length, map, All, IfOk, IfErr, true};
 ghost use Rattle.std.specs.FinMap.{get};
 ghost use Rattle.std.specs.List.{AllZip};
 ghost use Rattle.std.specs.Vec.Iter.{into_iter_items};
@@ -9,7 +9,7 @@ ghost use Rattle.acpi_tree.specs.Fits.{items_fit};
 ghost use Rattle.acpi_tree.specs.View.{item_view, items_tree};
 ghost use Rattle.acpi_declare.specs.Listing.{Placement};
 ghost use Rattle.acpi_declare.specs.Loads.{HasNoLoad};
-ghost use Rattle.acpi_declare.specs.Namespace.{namespace_of};
+ghost use Rattle.acpi_declare.specs.Namespace.{Namespace, namespace_of};
 ghost use Rattle.acpi_declare.specs.Notes.{method_of, notes_of};
 ghost use Rattle.acpi_declare.specs.Refusals.{IsLoadFault};
 ghost use Rattle.acpi_declare.specs.Tables.{IsTableOf};
@@ -18,7 +18,7 @@ ghost use Rattle.acpi_order.specs.Machines.{Machine, IsMachine};
 ghost use Rattle.acpi_rewrite.specs.Rewriting.{item_codes, codes, item_without_code, without_code, IsNewCode, IsRewritten, AreRewritten};
 ghost use Rattle.acpi_rewrite.specs.RewritingLaws.{AreTablesOfBytes};
 ghost use Rattle.acpi_machine.specs.steps.Adding.{noted};
-ghost use Rattle.acpi_rewrite.specs.steps.Recoding.{IsNoted};
+ghost use Rattle.acpi_rewrite.specs.steps.Recoding.{HasNewCodes, IsRewrittenTo};
 
 use crate::rewriting_laws::{none_grows, one_rewriting, rewritten_load_alike, rewritten_stay};
 use acpi_body::{Body, read_body};
@@ -76,65 +76,58 @@ fn new_codes<S: Space<Object>>(
     Ok(codes)
 }
 
-// The item, with the next of these codes in its methods, in byte order.
+// What is written in the place of the methods' code, by table and in byte order: once it is known, neither the
+// namespace nor what the tables noted is needed any more.
+fn all_new_codes<S: Space<Object>>(
+    alloc: Global,
+    dsdt: &Bytes,
+    ssdts: &[Bytes],
+    depth: Depth,
+) -> Result<Vec<Vec<Bytes>>, LoadFault>
+    ensures ok { IfOk result (λ v. IsRewrittenTo depth (dsdt.now ∷ ssdts.now) 0 [] (map (λ c. c.items) v.items)) }
+    ensures err { IfErr result (λ e. IsLoadFault depth (dsdt.now ∷ ssdts.now) e) }
+    ensures none { IfErr result (λ e. e ≢ LoadFault.Memory → HasNoLoad depth (dsdt.now ∷ ssdts.now)) }
+{
+    let declared: Declared<S> = declare_shared(alloc, dsdt, ssdts, depth)?;
+    let objects = declared.objects();
+    let mut codes = Vec::new(alloc);
+    for notes in declared.notes() {
+        codes.push(new_codes(alloc, objects, notes, depth)?)?;
+    }
+    Ok(codes)
+}
+
+// The next of these codes in the methods of an item, in byte order.
 #[cycle(recode)]
-fn recoded_item(alloc: Global, item: Item, fresh: &mut IntoIter<Bytes>) -> Result<Item, AllocError>
-    requires { length (item_codes (item_view item)) ≤ length (into_iter_items fresh.old) }
-    ensures alike { IfOk result (λ i. item_without_code (item_view i) ≡ item_without_code (item_view item)) }
-    ensures codes { IfOk result (λ i. item_codes (item_view i) ++ into_iter_items fresh.new ≡ into_iter_items fresh.old) }
+fn recode_item(item: &mut Item, fresh: &mut IntoIter<Bytes>)
+    requires { length (item_codes (item_view item.old)) ≤ length (into_iter_items fresh.old) }
+    ensures alike { item_without_code (item_view item.new) ≡ item_without_code (item_view item.old) }
+    ensures codes { item_codes (item_view item.new) ++ into_iter_items fresh.new ≡ into_iter_items fresh.old }
 {
     match item {
-        Item::Method { name, flags, .. } => match fresh.next() {
-            Some(code) => Ok(Item::Method { name, flags, code }),
+        Item::Method { code, .. } => match fresh.next() {
+            Some(next) => *code = next,
             None => unreachable!(),
         },
-        Item::Scope(name, items) => Ok(Item::Scope(name, recoded_items(alloc, items, fresh)?)),
-        Item::Device(name, items) => Ok(Item::Device(name, recoded_items(alloc, items, fresh)?)),
-        Item::Processor {
-            name,
-            id,
-            block,
-            length,
-            items,
-        } => Ok(Item::Processor {
-            name,
-            id,
-            block,
-            length,
-            items: recoded_items(alloc, items, fresh)?,
-        }),
-        Item::Power {
-            name,
-            level,
-            order,
-            items,
-        } => Ok(Item::Power {
-            name,
-            level,
-            order,
-            items: recoded_items(alloc, items, fresh)?,
-        }),
-        Item::Thermal(name, items) => Ok(Item::Thermal(name, recoded_items(alloc, items, fresh)?)),
-        item => Ok(item),
+        Item::Scope(_, items) => recode_items(items, fresh),
+        Item::Device(_, items) => recode_items(items, fresh),
+        Item::Processor { items, .. } => recode_items(items, fresh),
+        Item::Power { items, .. } => recode_items(items, fresh),
+        Item::Thermal(_, items) => recode_items(items, fresh),
+        _ => {}
     }
 }
 
-// The items of a list, in order.
+// .. of the items of a list, in order.
 #[cycle(recode)]
-fn recoded_items(
-    alloc: Global,
-    items: Vec<Item>,
-    fresh: &mut IntoIter<Bytes>,
-) -> Result<Vec<Item>, AllocError>
-    requires { length (codes (items_tree items.items)) ≤ length (into_iter_items fresh.old) }
-    ensures alike { IfOk result (λ v. without_code (items_tree v.items) ≡ without_code (items_tree items.items)) }
-    ensures codes { IfOk result (λ v. codes (items_tree v.items) ++ into_iter_items fresh.new ≡ into_iter_items fresh.old) }
+fn recode_items(items: &mut [Item], fresh: &mut IntoIter<Bytes>)
+    requires { length (codes (items_tree items.old)) ≤ length (into_iter_items fresh.old) }
+    ensures alike { without_code (items_tree items.new) ≡ without_code (items_tree items.old) }
+    ensures codes { codes (items_tree items.new) ++ into_iter_items fresh.new ≡ into_iter_items fresh.old }
 {
-    let mut recoded = Vec::new(alloc);
-    for item in items {
-        recoded.push(recoded_item(alloc, item, fresh)?)?;
+    for item in items.iter_mut() {
+        recode_item(item, fresh);
     }
-    Ok(recoded)
 }
 
 // The items of a table that has some.
@@ -151,21 +144,20 @@ fn table_items(alloc: Global, table: &Bytes, depth: Depth) -> Result<Vec<Item>, 
     }
 }
 
-// One table of a load, rewritten.
-fn rewritten_table<S: Space<Object>>(
+// One table of a load, rewritten with these codes in its methods.
+fn rewritten_table(
     alloc: Global,
-    objects: &S,
-    notes: &TableNotes,
+    codes: Vec<Bytes>,
     table: &Bytes,
     depth: Depth,
 ) -> Result<Vec<u8>, AllocError>
-    requires { (t : List Placement) × IsNoted depth table.now t (notes_of notes.now) }
+    requires { (objects : Namespace) × (t : List Placement) × HasNewCodes depth objects table.now t codes.items }
     ensures bytes { IfOk result (λ b. All (λ n. n < 256) table.now × All (λ n. n < 256) b.items) }
-    ensures rewritten { (t : List Placement) → IsNoted depth table.now t (notes_of notes.now) → IfOk result (λ b. IsRewritten depth (namespace_of (S.contents objects.now)) t table.now b.items) }
+    ensures rewritten { (objects : Namespace) (t : List Placement) → HasNewCodes depth objects table.now t codes.items → IfOk result (λ b. IsRewritten depth objects t table.now b.items) }
 {
-    let items = table_items(alloc, table, depth)?;
-    let mut fresh = new_codes(alloc, objects, notes, depth)?.into_iter();
-    let items = recoded_items(alloc, items, &mut fresh)?;
+    let mut items = table_items(alloc, table, depth)?;
+    let mut fresh = codes.into_iter();
+    recode_items(&mut items, &mut fresh);
     let bytes = table.as_slice();
     has_bytes(bytes);
     let Ok((old, _)) = split_table(bytes) else {
@@ -181,12 +173,15 @@ fn rewritten_table<S: Space<Object>>(
     }
 }
 
-// What the table of this number notes.
-fn notes_at(notes: &[TableNotes], number: usize) -> &TableNotes
-    requires { number < length notes.now }
-    ensures { result.now ≡ get_or notes.now number result.now }
+// The codes of the next table.
+fn next_codes(codes: &mut IntoIter<Vec<Bytes>>) -> Vec<Bytes>
+    requires { 0 < length (into_iter_items codes.old) }
+    ensures { into_iter_items codes.old ≡ result ∷ into_iter_items codes.new }
 {
-    &notes[number]
+    match codes.next() {
+        Some(next) => next,
+        None => unreachable!(),
+    }
 }
 
 // The tables of a load, rewritten one after another.
@@ -201,14 +196,11 @@ fn rewrite_tables<S: Space<Object>>(
     ensures err { IfErr result (λ e. IsLoadFault depth (dsdt.now ∷ ssdts.now) e) }
     ensures none { IfErr result (λ e. e ≢ LoadFault.Memory → HasNoLoad depth (dsdt.now ∷ ssdts.now)) }
 {
-    let declared: Declared<S> = declare_shared(alloc, dsdt, ssdts, depth)?;
-    let objects = declared.objects();
-    let notes = declared.notes();
+    let mut codes = all_new_codes::<S>(alloc, dsdt, ssdts, depth)?.into_iter();
     let mut rewritten = Vec::new(alloc);
-    rewritten.push(rewritten_table(alloc, objects, &notes[0], dsdt, depth)?)?;
-    for (i, ssdt) in ssdts.iter().enumerate() {
-        let noted = notes_at(notes, i + 1);
-        rewritten.push(rewritten_table(alloc, objects, noted, ssdt, depth)?)?;
+    rewritten.push(rewritten_table(alloc, next_codes(&mut codes), dsdt, depth)?)?;
+    for ssdt in ssdts {
+        rewritten.push(rewritten_table(alloc, next_codes(&mut codes), ssdt, depth)?)?;
     }
     Ok(rewritten)
 }

@@ -1,90 +1,100 @@
-use Rattle.std.proofs.Common.{◌≡◌, ◌+◌, ◌<◌, [], ◌∷◌, ◌++◌, length, map, get_or, take_all, refl, ap, subst, ◌∙◌, arith, rules}
-use Rattle.acpi_declare.specs.Loads.{objects_after}
-use Rattle.acpi_declare.specs.Namespace.{Namespace, namespace_of}
-use Rattle.acpi_declare.specs.Notes.{notes_of, all_notes}
-use Rattle.acpi_declare.specs.Predefined.{predefined}
-use Rattle.acpi_declare.proofs.Refusals.{same_listings}
-use Rattle.acpi_rewrite.specs.Rewriting.{AreEachRewritten}
+use Rattle.std.proofs.Common.{◌≡◌, ◌+◌, ◌<◌, [], ◌∷◌, ◌++◌, length, map, get_or, take_all, refl, sym, ap, subst, ◌∙◌, arith, rules}
+use Rattle.std.specs.Vec.Iter.{into_iter_items}
+use Rattle.std.proofs.lemmas.List.{length-map, map-append}
 use Rattle.acpi_rewrite.specs.RewritingLaws.{AreTablesOfBytes}
-use Rattle.acpi_rewrite.proofs.Recoding.{as_many_notes, noted_there, behind_first, more_rewritten, more_old, more_new, all_rewritten}
+use Rattle.acpi_rewrite.proofs.Recoding.{objects_of_all, codes_left, next_has_codes, next_rewritten, all_rewritten, behind_first, more_old, more_new}
 use Rattle.acpi_rewrite.proofs.rewriting.rewrite_tables.Goals as goal
+
+pub next_codes-requires : goal.next_codes-requires
+next_codes-requires g c =
+    let tables = c.args.dsdt.now ∷ c.args.ssdts.now in
+    let all = c.in_ok-all_new_codes.field-0.items in
+    let left = codes_left c.args.depth tables 0 [] (map (λ v. v.items) all) c.in_ok-all_new_codes.ensures.ok (omega arith) in
+    omega (arith, left, length-map all (λ v. v.items), ap length c.into_iter-codes.ensures.rest)
 
 pub rewritten_table-requires : goal.rewritten_table-requires
 rewritten_table-requires g c =
     let tables = c.args.dsdt.now ∷ c.args.ssdts.now in
-    let n = c.in_ok-declared.ensures.notes in
-    let notes : map notes_of c.notes-notes.result.now ≡ all_notes predefined n.placements = ap (map notes_of) c.notes-notes.ensures ∙ n.notes_are in
-    (get_or n.placements 0 [], noted_there c.args.depth tables n.placements c.notes-notes.result.now 0 c.args.dsdt.now c.index-notes-0.result n.listings notes (omega arith) refl c.index-notes-0.is)
+    let all = map (λ v. v.items) c.in_ok-all_new_codes.field-0.items in
+    let r = c.in_ok-all_new_codes.ensures.ok in
+    let later = map (λ v. v.items) (into_iter_items c.next_codes.new.codes) in
+    let front = ap (map (λ v. v.items)) (sym c.into_iter-codes.ensures.rest ∙ c.next_codes.ensures) in (
+      objects_of_all c.args.depth tables 0 [] all r,
+      get_or r.placements 0 [],
+      next_has_codes c.args.depth tables 0 [] all r c.args.dsdt.now c.next_codes.result.items later (omega arith) refl front,
+    )
 
-pub loop-i-init : goal.loop-i-init
-loop-i-init g c =
+pub loop-ssdt-init : goal.loop-ssdt-init
+loop-ssdt-init g c =
     let tables = c.args.dsdt.now ∷ c.args.ssdts.now in
+    let all = map (λ v. v.items) c.in_ok-all_new_codes.field-0.items in
+    let r = c.in_ok-all_new_codes.ensures.ok in
+    let later = map (λ v. v.items) (into_iter_items c.next_codes.new.codes) in
+    let front = ap (map (λ v. v.items)) (sym c.into_iter-codes.ensures.rest ∙ c.next_codes.ensures) in
     let one = c.in_ok-rewritten_table in
+    let has = next_has_codes c.args.depth tables 0 [] all r c.args.dsdt.now c.next_codes.result.items later (omega arith) refl front in
     let pushed : c.push.new.self.items ≡ [] ++ one.field-0 ∷ [] = search rules in (
-      (λ ts h notes.
-          more_rewritten c.args.depth (namespace_of (g.S.Space.contents c.objects-objects.result.now)) ts tables 0 [] c.push.new.self.items c.args.dsdt.now one.field-0 h (omega arith) refl pushed tt
-          (one.ensures.rewritten (get_or ts 0 []) (noted_there c.args.depth tables ts c.notes-notes.result.now 0 c.args.dsdt.now c.index-notes-0.result h notes
-          (omega arith) refl c.index-notes-0.is))),
+      next_rewritten c.args.depth tables 0 [] all r c.args.dsdt.now c.next_codes.result.items later (omega arith) refl front (map (λ b. b.items) c.push.new.self.items) one.field-0.items
+          (ap (map (λ b. b.items)) pushed) (one.ensures.rewritten (objects_of_all c.args.depth tables 0 [] all r) (get_or r.placements 0 []) has),
       more_old tables 0 c.args.dsdt.now (omega arith) refl tt one.ensures.bytes.0,
       more_new [] c.push.new.self.items one.field-0 pushed tt one.ensures.bytes.1,
     )
 
-pub notes_at-noted-requires : goal.notes_at-noted-requires
-notes_at-noted-requires g c =
+pub next_codes-requires-in-loop-ssdt : goal.next_codes-requires-in-loop-ssdt
+next_codes-requires-in-loop-ssdt g c =
     let tables = c.args.dsdt.now ∷ c.args.ssdts.now in
-    let n = c.in_ok-declared.ensures.notes in
-    let notes : map notes_of c.notes-notes.result.now ≡ all_notes predefined n.placements = ap (map notes_of) c.notes-notes.ensures ∙ n.notes_are in
-    omega (arith, as_many_notes c.args.depth tables n.placements c.notes-notes.result.now n.listings notes, c.loop-i-test.true)
+    let rest = into_iter_items c.loop-ssdt.codes in
+    let left = codes_left c.args.depth tables (c.loop-ssdt.ssdt-index + 1) (map (λ b. b.items) c.loop-ssdt.rewritten.items) (map (λ v. v.items) rest)
+    c.loop-ssdt.invariant.0 (omega (arith, c.loop-ssdt-test.true)) in
+    omega (arith, left, length-map rest (λ v. v.items))
 
-pub rewritten_table-requires-in-loop-i : goal.rewritten_table-requires-in-loop-i
-rewritten_table-requires-in-loop-i g c =
+pub rewritten_table-requires-in-loop-ssdt : goal.rewritten_table-requires-in-loop-ssdt
+rewritten_table-requires-in-loop-ssdt g c =
     let tables = c.args.dsdt.now ∷ c.args.ssdts.now in
-    let i = c.loop-i.i in
-    let b = c.index-ssdts-i.result in
-    let n = c.in_ok-declared.ensures.notes in
-    let notes : map notes_of c.notes-notes.result.now ≡ all_notes predefined n.placements = ap (map notes_of) c.notes-notes.ensures ∙ n.notes_are in (
-      get_or n.placements (i + 1) [],
-      noted_there c.args.depth tables n.placements c.notes-notes.result.now (i + 1) b c.notes_at-noted.result.now n.listings notes (omega (arith, c.loop-i-test.true))
-          (behind_first c.args.dsdt.now b c.args.ssdts.now i c.loop-i-test.true c.index-ssdts-i.is) c.notes_at-noted.ensures,
+    let i = c.loop-ssdt.ssdt-index in
+    let b = c.ssdt-item.result in
+    let done = map (λ b. b.items) c.loop-ssdt.rewritten.items in
+    let all = map (λ v. v.items) (into_iter_items c.loop-ssdt.codes) in
+    let r = c.loop-ssdt.invariant.0 in
+    let later = map (λ v. v.items) (into_iter_items c.next_codes-in-loop-ssdt.new.codes) in
+    let front = ap (map (λ v. v.items)) c.next_codes-in-loop-ssdt.ensures in
+    let there = behind_first c.args.dsdt.now b c.args.ssdts.now i c.loop-ssdt-test.true c.ssdt-item.is in (
+      objects_of_all c.args.depth tables (i + 1) done all r,
+      get_or r.placements (i + 1) [],
+      next_has_codes c.args.depth tables (i + 1) done all r b c.next_codes-in-loop-ssdt.result.items later (omega (arith, c.loop-ssdt-test.true)) there front,
     )
 
-pub loop-i-preserved : goal.loop-i-preserved
-loop-i-preserved g c =
+pub loop-ssdt-preserved : goal.loop-ssdt-preserved
+loop-ssdt-preserved g c =
     let tables = c.args.dsdt.now ∷ c.args.ssdts.now in
-    let i = c.loop-i.i in
-    let b = c.index-ssdts-i.result in
+    let i = c.loop-ssdt.ssdt-index in
+    let b = c.ssdt-item.result in
+    let done = map (λ b. b.items) c.loop-ssdt.rewritten.items in
+    let all = map (λ v. v.items) (into_iter_items c.loop-ssdt.codes) in
+    let r = c.loop-ssdt.invariant.0 in
+    let later = map (λ v. v.items) (into_iter_items c.next_codes-in-loop-ssdt.new.codes) in
+    let front = ap (map (λ v. v.items)) c.next_codes-in-loop-ssdt.ensures in
+    let there = behind_first c.args.dsdt.now b c.args.ssdts.now i c.loop-ssdt-test.true c.ssdt-item.is in
+    let below : i + 1 < length tables = omega (arith, c.loop-ssdt-test.true) in
     let one = c.in_ok-rewritten_table-2 in
-    let below : i + 1 < length tables = omega (arith, c.loop-i-test.true) in
-    let there = behind_first c.args.dsdt.now b c.args.ssdts.now i c.loop-i-test.true c.index-ssdts-i.is in
-    let pushed : c.push-in-loop-i.new.self.items ≡ c.loop-i.rewritten.items ++ one.field-0 ∷ [] = search rules in (
-      (λ ts h notes.
-          more_rewritten c.args.depth (namespace_of (g.S.Space.contents c.objects-objects.result.now)) ts tables (i + 1) c.loop-i.rewritten.items c.push-in-loop-i.new.self.items b one.field-0
-          h below there pushed (c.loop-i.invariant.0 ts h notes)
-          (one.ensures.rewritten (get_or ts (i + 1) []) (noted_there c.args.depth tables ts c.notes-notes.result.now
-          (i + 1) b c.notes_at-noted.result.now h notes below there c.notes_at-noted.ensures))),
-      more_old tables (i + 1) b below there c.loop-i.invariant.1 one.ensures.bytes.0,
-      more_new c.loop-i.rewritten.items c.push-in-loop-i.new.self.items one.field-0 pushed c.loop-i.invariant.2 one.ensures.bytes.1,
+    let has = next_has_codes c.args.depth tables (i + 1) done all r b c.next_codes-in-loop-ssdt.result.items later below there front in
+    let pushed : c.push-in-loop-ssdt.new.self.items ≡ c.loop-ssdt.rewritten.items ++ one.field-0 ∷ [] = search rules in (
+      next_rewritten c.args.depth tables (i + 1) done all r b c.next_codes-in-loop-ssdt.result.items later below there front
+          (map (λ b. b.items) c.push-in-loop-ssdt.new.self.items) one.field-0.items
+          (ap (map (λ b. b.items)) pushed ∙ map-append (λ b. b.items) c.loop-ssdt.rewritten.items (one.field-0 ∷ []))
+          (one.ensures.rewritten (objects_of_all c.args.depth tables (i + 1) done all r) (get_or r.placements (i + 1) []) has),
+      more_old tables (i + 1) b below there c.loop-ssdt.invariant.1 one.ensures.bytes.0,
+      more_new c.loop-ssdt.rewritten.items c.push-in-loop-ssdt.new.self.items one.field-0 pushed c.loop-ssdt.invariant.2 one.ensures.bytes.1,
     )
 
 pub returns-clause-bytes : goal.returns-clause-bytes
 returns-clause-bytes g c =
     let tables = c.args.dsdt.now ∷ c.args.ssdts.now in
-    (subst AreTablesOfBytes (take_all (c.loop-i.i + 1) tables (omega (arith, c.loop-i-test.false))) c.loop-i.invariant.1, c.loop-i.invariant.2)
+    (subst AreTablesOfBytes (take_all (c.loop-ssdt.ssdt-index + 1) tables (omega (arith, c.loop-ssdt-test.false))) c.loop-ssdt.invariant.1, c.loop-ssdt.invariant.2)
 
 pub returns-clause-ok : goal.returns-clause-ok
 returns-clause-ok g c =
     let tables = c.args.dsdt.now ∷ c.args.ssdts.now in
-    let n = c.in_ok-declared.ensures.notes in
-    let d = c.in_ok-declared.ensures.ok in
-    let notes : map notes_of c.notes-notes.result.now ≡ all_notes predefined n.placements = ap (map notes_of) c.notes-notes.ensures ∙ n.notes_are in
-    let O = namespace_of (g.S.Space.contents c.objects-objects.result.now) in
-    let objects : O ≡ objects_after predefined n.placements =
-    ap (λ s. namespace_of (g.S.Space.contents s)) c.objects-objects.ensures ∙ d.objects_are
-    ∙ ap (objects_after predefined) (same_listings c.args.depth 0 predefined tables d.placements n.placements d.listings n.listings) in
-    let new = map (λ b. b.items) c.loop-i.rewritten.items in
-    record {
-      placements = n.placements;
-      listings = n.listings;
-      each = subst (λ (M : Namespace). AreEachRewritten c.args.depth M n.placements tables new) objects
-          (all_rewritten c.args.depth O n.placements tables new (c.loop-i.i + 1) n.listings (omega (arith, c.loop-i-test.false)) (c.loop-i.invariant.0 n.placements n.listings notes));
-    }
+    let done = map (λ b. b.items) c.loop-ssdt.rewritten.items in
+    let all = map (λ v. v.items) (into_iter_items c.loop-ssdt.codes) in
+    all_rewritten c.args.depth tables (c.loop-ssdt.ssdt-index + 1) done all c.loop-ssdt.invariant.0 (omega (arith, c.loop-ssdt-test.false))
