@@ -1,1 +1,9 @@
--- Each goal is found by search.
+-- What a wrong body leaves open is named here: its refusal then names it, and needs no second search.
+use Rattle.std.proofs.Common.{rules}
+use Rattle.acpi_write.proofs.writer.Writer.bits.Goals as goal
+
+pub returns : goal.returns
+returns c = search rules
+
+pub returns-in_default : goal.returns-in_default
+returns-in_default c = search rules
