@@ -31,7 +31,7 @@ pub enum CodeReason {
     TooDeep,
 }
 
-/// Why a part can't be read. No reader of parts takes memory.
+/// Why a part that takes no memory can't be read.
 #[derive(Clone, Copy, Debug, PartialEq, Eq, Error)]
 #[error("{reason}")]
 pub struct CodeFault {

@@ -81,9 +81,9 @@ fn load_in_order<S: Space<Object>>(
 /// and reads the bodies of methods, over the final namespace. Nothing is executed. Each table is one whole table in
 /// its bytes; `depth` is the greatest level that a term may have. The first table without a listing refuses the load.
 ///
-/// If each SSDT loads alone over the DSDT, no two of them declare one path, and none declares a path that a search in
-/// another's single load tried and missed, then what they load to, given in any order, is the union of their single
-/// loads: its objects, links and bodies.
+/// If each SSDT loads alone over the DSDT, no two of them declare one path, and none declares a path that another's
+/// single load missed (a body that isn't read misses what any name spelled at any of its bytes would), then what they
+/// load to, given in any order, is the union of their single loads: its objects, links and bodies.
 pub fn load_shared<S: Space<Object>>(
     alloc: Global,
     dsdt: &Bytes,

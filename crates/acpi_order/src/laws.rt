@@ -7,8 +7,9 @@ pub fn one_machine()
 {}
 
 /// If each SSDT of a list of at least one loads alone over the DSDT, no two of them declare one path, and none
-/// declares a path that a search in another's single load tried and missed, then the DSDT with all of them, given in
-/// any order, loads to the machine whose objects, links and bodies are the union of those of the single loads.
+/// declares a path that another's single load missed (a body that isn't read misses what any name spelled at any of its
+/// bytes would), then the DSDT with all of them, given in any order, loads to the machine whose objects, links and
+/// bodies are the union of those of the single loads.
 /// (A path that was missed only by names that took their argument count from an External of that path may be declared,
 /// as a method of that many arguments.)
 pub fn independent_tables_load()

@@ -18,7 +18,7 @@ use bytes::Bytes;
 use std::alloc::Global;
 
 /// Loads a DSDT with one SSDT, as `load_shared` does, and tells which paths the SSDT declares, which ones the load
-/// tried and missed, and which methods its bodies await. It is refused as `load_shared`.
+/// missed, and which methods its bodies await. It is refused as `load_shared`.
 pub fn single_shared<S: Space<Object>>(
     alloc: Global,
     dsdt: &Bytes,

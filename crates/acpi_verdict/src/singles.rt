@@ -43,8 +43,9 @@ impl<S> Single<S> {
         &self.defined
     }
 
-    /// The paths that the load tried and missed, in their order: for Scope terms of the SSDT, for links of fields, and
-    /// for bodies of both tables. Those that a body awaits are not among them, unless another search missed them too.
+    /// The paths that the load missed, in their order: for Scope terms of the SSDT, for links of fields, and for bodies
+    /// of both tables; for one that isn't read, what any name spelled at any of its bytes would miss. Those that a body
+    /// awaits are not among them, unless another search missed them too.
     pub fn missed(&self) -> &[Path]
         ensures { result.now ≡ missed_in self.now }
     {
