@@ -189,3 +189,26 @@ pub missed_among : {R E : Type 0} (r : Result R E) (items : R → List (List Seg
     → IfOk r (λ v. items v ≡ filter wanted (skipped p (map (λ q. q ++ g ∷ []) (beginnings xs))))
 missed_among (Ok v) items p wanted g xs n e m = m ∙ ap (filter wanted) (ap (map (λ q. q ++ g ∷ [])) (sym e) ∙ sym (skipped_map p (λ q. q ++ g ∷ []) (beginnings xs)))
 missed_among (Err f) items p wanted g xs n e m = tt
+
+-- where none of a search's tries is asked for, none of those that it skips is
+pub none_skipped : {A B : Type 0} (wanted test : B → Bool) (f : A → B) (l : List A) → is_some (find (λ x. wanted (f x)) l) ≡ false → filter wanted (skipped test (map f l)) ≡ []
+none_skipped wanted test f [] e = refl
+none_skipped {A} {B} wanted test f (x ∷ l) e = by (test (f x)) (wanted (f x)) refl e (none_skipped wanted test f l)
+  where
+    rest : List B
+    rest = skipped test (map f l)
+
+    by : (b c : Bool) → wanted (f x) ≡ c → is_some (cond c (Some x) (find (λ y. wanted (f y)) l)) ≡ false
+        → (is_some (find (λ y. wanted (f y)) l) ≡ false → filter wanted rest ≡ [])
+        → filter wanted (cond b [] (f x ∷ rest)) ≡ []
+    by true c w e ih = refl
+    by false true w e ih = absurd (true≢false e)
+    by false false w e ih = ap (λ k. cond k (f x ∷ filter wanted rest) (filter wanted rest)) w ∙ ih e
+
+pub some_beginning : {A : Type 0} (xs : List A) → is_some (find (λ q. true) (beginnings xs)) ≡ true
+some_beginning [] = refl
+some_beginning (x ∷ xs) = first (map (λ q. x ∷ q) (beginnings xs))
+  where
+    first : {B : Type 0} (l : List (List B)) → is_some (find (λ q. true) (l ++ [] ∷ [])) ≡ true
+    first [] = refl
+    first (y ∷ l) = refl

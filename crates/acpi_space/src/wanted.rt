@@ -1,11 +1,11 @@
 //! Which paths a search of a name misses: all of them, or those that are asked for.
-ghost use Rattle.std.specs.Prelude.{◌≡◌, ◌↔◌, IfOk, Err, None, true, Bool, List, ◌++◌, [], ◌∷◌, map, length, take, ◌≤◌, ◌+◌, ◌-◌};
+ghost use Rattle.std.specs.Prelude.{◌≡◌, ◌↔◌, IfOk, Err, None, true, Bool, List, ◌++◌, [], ◌∷◌, map, is_some, length, take, ◌≤◌, ◌+◌, ◌-◌};
 ghost use Rattle.std.specs.List.{filter};
 ghost use Rattle.acpi_name.specs.Names.{Segment};
 ghost use Rattle.acpi_name.specs.NameRefs.{name_parts};
 ghost use Rattle.acpi_name.specs.Paths.{place_of};
 ghost use Rattle.acpi_space.specs.Spaces.{is_defined};
-ghost use Rattle.acpi_space.specs.Search.{beginnings, missed, skipped};
+ghost use Rattle.acpi_space.specs.Search.{beginnings, missed, nearest_scope, skipped};
 ghost use Rattle.acpi_space.specs.Wanted.{wants_of};
 ghost use Rattle.acpi_space.specs.declared.lookup.SearchFault.TheVariants.{Memory};
 
@@ -23,6 +23,10 @@ pub trait Wanted {
     /// Whether the path is asked for.
     fn wants(&self, path: &Path) -> bool
         ensures { result ≡ wanted self.now path.now };
+
+    /// Whether the segment below some beginning of the scope is asked for.
+    fn wants_below(&self, scope: &Path, seg: Seg) -> Result<bool, AllocError>
+        ensures { IfOk result (λ b. b ≡ is_some (nearest_scope (wanted self.now) scope.now seg)) };
 
     /// The segment below each beginning of the scope that has at least `outer` segments, the longest first: those of
     /// these paths that are asked for.
@@ -46,6 +50,10 @@ impl Wanted for AllPaths {
 
     fn wants(&self, _path: &Path) -> bool {
         true
+    }
+
+    fn wants_below(&self, _scope: &Path, _seg: Seg) -> Result<bool, AllocError> {
+        Ok(true)
     }
 
     fn below(
@@ -83,6 +91,10 @@ impl<'a, W, T: Space<W>> Wanted for PathsOf<'a, W, T> {
 
     fn wants(&self, path: &Path) -> bool {
         self.space.get(path).is_some()
+    }
+
+    fn wants_below(&self, scope: &Path, seg: Seg) -> Result<bool, AllocError> {
+        Ok(self.space.nearest(scope, seg)?.is_some())
     }
 
     fn below(
@@ -126,13 +138,13 @@ pub fn wanted_misses<V, S: Space<V>, Q: Wanted>(
     }
     let path = place(alloc, scope, name)?;
     let mut paths = Vec::new(alloc);
-    if space.get(&path).is_none() && wanted.wants(&path) {
+    if wanted.wants(&path) && space.get(&path).is_none() {
         paths.push(path)?;
     }
     Ok(paths)
 }
 
-// The paths that the search of a plain name tries in vain.
+// The paths that the search of a plain name tries in vain. Where none of its tries is asked for, the space is not walked.
 fn plain_misses<V, S: Space<V>, Q: Wanted>(
     alloc: Global,
     space: &S,
@@ -142,6 +154,9 @@ fn plain_misses<V, S: Space<V>, Q: Wanted>(
 ) -> Result<Vec<Path>, AllocError>
     ensures { IfOk result (λ v. v.items ≡ filter (Q.wanted wanted.now) (skipped (is_defined (S.contents space.now)) (map (λ q. q ++ seg ∷ []) (beginnings scope.now)))) }
 {
+    if !wanted.wants_below(scope, seg)? {
+        return Ok(Vec::new(alloc));
+    }
     let outer = first_missed(space, scope, seg)?;
     wanted.below(alloc, scope, seg, outer)
 }
