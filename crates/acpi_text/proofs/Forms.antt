@@ -1,17 +1,14 @@
 -- The trees of declarations, form by form.
 use Rattle.std.proofs.Common.{◌≡◌, ◌∙◌, ap, sym, ℕ, List, [], ◌∷◌, ◌++◌, codes, append_assoc, arith, box_value}
 use Rattle.std.proofs.lemmas.List.{append-nil}
-use Rattle.std.specs.Global.{Vec, Box}
+use Rattle.std.specs.Global.{Box}
 use Rattle.acpi_name.specs.Names.{NameParts}
 use Rattle.acpi_tree.specs.declared.place.NamedForm.TheVariants as named
-use Rattle.acpi_tree.specs.declared.place.UnitsForm.TheVariants as units
-use Rattle.acpi_tree.specs.declared.tree.FieldElem.{FieldElem}
 use Rattle.acpi_tree.specs.declared.tree.Width.{Width}
 use Rattle.acpi_tree.specs.declared.term.Term.{Term}
 use Rattle.acpi_tree.specs.declared.term.Decl.{Decl-F, fold-roll-Decl}
 use Rattle.acpi_tree.specs.declared.term.Decl.TheVariants as decl
-use Rattle.acpi_tree.specs.Terms.{TermTree, declare, declare_units, raw, no_terms, more}
-use Rattle.acpi_tree.specs.View.{fields_view}
+use Rattle.acpi_tree.specs.Terms.{TermTree, declare, raw, no_terms, more}
 use Rattle.acpi_text.specs.Terms.{arguments_text}
 use Rattle.acpi_tree.specs.TermView.{decl_step, operand_step, term_step, term_view, decl_view}
 
@@ -23,27 +20,9 @@ pub create_field_is : (s i b : Box Term) (n : NameParts) → decl_view (decl.Cre
     (more (term_view (box_value s)) (more (term_view (box_value i)) (more (term_view (box_value b)) no_terms))) n no_terms
 create_field_is s i b n = ap decl_view (sym (decl.rolls-CreateField s i b n)) ∙ fold-roll-Decl TermTree TermTree TermTree decl_step operand_step term_step (Decl-F.CreateField s i b n)
 
-pub mutex_is : (n : NameParts) (f : ℕ) → decl_view (decl.Mutex n f) ≡ declare named.Mutex no_terms n (more (raw 1 f) no_terms)
-mutex_is n f = ap decl_view (sym (decl.rolls-Mutex n f)) ∙ fold-roll-Decl TermTree TermTree TermTree decl_step operand_step term_step (Decl-F.Mutex n f)
-
-pub event_is : (n : NameParts) → decl_view (decl.Event n) ≡ declare named.Event no_terms n no_terms
-event_is n = ap decl_view (sym (decl.rolls-Event n)) ∙ fold-roll-Decl TermTree TermTree TermTree decl_step operand_step term_step (Decl-F.Event n)
-
 pub region_is : (n : NameParts) (s : ℕ) (o l : Box Term) → decl_view (decl.Region n s o l) ≡ declare named.Region no_terms n
     (more (raw 1 s) (more (term_view (box_value o)) (more (term_view (box_value l)) no_terms)))
 region_is n s o l = ap decl_view (sym (decl.rolls-Region n s o l)) ∙ fold-roll-Decl TermTree TermTree TermTree decl_step operand_step term_step (Decl-F.Region n s o l)
-
-pub field_is : (r : NameParts) (f : ℕ) (v : Vec FieldElem) → decl_view (decl.Field r f v) ≡ declare_units units.Field (r ∷ []) (more (raw 1 f) no_terms) (fields_view v.items)
-field_is r f v = ap decl_view (sym (decl.rolls-Field r f v)) ∙ fold-roll-Decl TermTree TermTree TermTree decl_step operand_step term_step (Decl-F.Field r f v)
-
-pub index_field_is : (i d : NameParts) (f : ℕ) (v : Vec FieldElem)
-    → decl_view (decl.IndexField i d f v) ≡ declare_units units.IndexField (i ∷ d ∷ []) (more (raw 1 f) no_terms) (fields_view v.items)
-index_field_is i d f v = ap decl_view (sym (decl.rolls-IndexField i d f v)) ∙ fold-roll-Decl TermTree TermTree TermTree decl_step operand_step term_step (Decl-F.IndexField i d f v)
-
-pub bank_field_is : (r b : NameParts) (i : Box Term) (f : ℕ) (v : Vec FieldElem)
-    → decl_view (decl.BankField r b i f v) ≡ declare_units units.BankField (r ∷ b ∷ [])
-    (more (term_view (box_value i)) (more (raw 1 f) no_terms)) (fields_view v.items)
-bank_field_is r b i f v = ap decl_view (sym (decl.rolls-BankField r b i f v)) ∙ fold-roll-Decl TermTree TermTree TermTree decl_step operand_step term_step (Decl-F.BankField r b i f v)
 
 -- ---- their texts, put piece by piece
 
@@ -65,11 +44,6 @@ pub region_said : (old n s o l t1 t2 t3 t4 t5 : List ℕ)
     → t5 ≡ old ++ (codes "OperationRegion" ++ arguments_text (n ∷ s ∷ o ∷ l ∷ []))
 region_said old n s o l t1 t2 t3 t4 t5 a b c d e = rw (e, d, c, b, a) (grind (arith, append_assoc, append-nil))
 
-pub field_said : (old r f es t1 t2 t3 t4 : List ℕ)
-    → t1 ≡ old ++ (codes "Field" ++ codes "(" ++ r) → t2 ≡ t1 ++ comma f → t3 ≡ t2 ++ codes ") " → t4 ≡ t3 ++ es
-    → t4 ≡ old ++ (codes "Field" ++ arguments_text (r ∷ f ∷ []) ++ codes " " ++ es)
-field_said old r f es t1 t2 t3 t4 a b c d = rw (d, c, b, a) (grind (arith, append_assoc, append-nil))
-
 pub index_field_said : (old i d f es t1 t2 t3 t4 t5 : List ℕ)
     → t1 ≡ old ++ (codes "IndexField" ++ codes "(" ++ i) → t2 ≡ t1 ++ comma d → t3 ≡ t2 ++ comma f → t4 ≡ t3 ++ codes ") " → t5 ≡ t4 ++ es
     → t5 ≡ old ++ (codes "IndexField" ++ arguments_text (i ∷ d ∷ f ∷ []) ++ codes " " ++ es)
@@ -78,8 +52,3 @@ index_field_said old i d f es t1 t2 t3 t4 t5 p q r u v = rw (v, u, r, q, p) (go 
     go : (word : List ℕ) → ((((old ++ (word ++ i)) ++ comma d) ++ comma f) ++ codes ") ") ++ es
         ≡ old ++ (((word ++ ((i ++ (comma d ++ (comma f ++ []))) ++ codes ")")) ++ codes " ") ++ es)
     go word = grind (arith, append_assoc, append-nil)
-
-pub bank_field_said : (old r b v f es t1 t2 t3 t4 t5 t6 : List ℕ)
-    → t1 ≡ old ++ (codes "BankField" ++ codes "(" ++ r) → t2 ≡ t1 ++ comma b → t3 ≡ t2 ++ comma v → t4 ≡ t3 ++ comma f → t5 ≡ t4 ++ codes ") " → t6 ≡ t5 ++ es
-    → t6 ≡ old ++ (codes "BankField" ++ arguments_text (r ∷ b ∷ v ∷ f ∷ []) ++ codes " " ++ es)
-bank_field_said old r b v f es t1 t2 t3 t4 t5 t6 p q s u w x = rw (x, w, u, s, q, p) (grind (arith, append_assoc, append-nil))

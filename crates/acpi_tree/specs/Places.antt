@@ -1,5 +1,5 @@
 -- What may stand at a place of a method body (ACPI 6.5, 20.2.5).
-use Rattle.std.specs.Prelude.{◌≡◌, ℕ, Bool, true, false, nat_eq}
+use Rattle.std.specs.Prelude.{ℕ, Bool, true, false, nat_eq}
 use Rattle.acpi_tree.specs.declared.place.Place.{Place}
 use Rattle.acpi_tree.specs.declared.place.Place.TheVariants.{Value, SuperName, SimpleName, Element, Data, Statement}
 use Rattle.acpi_tree.specs.declared.place.OperandKind.{OperandKind}

@@ -1,5 +1,5 @@
 -- Which terms have a spelling, but for the lengths of packages (ACPI 6.5, 20.2.5).
-use Rattle.std.specs.Prelude.{ℕ, Bool, true, false, not, ◌&&◌, nat_eq, nat_le, List, [], ◌∷◌, length}
+use Rattle.std.specs.Prelude.{Bool, true, false, not, ◌&&◌, nat_eq, nat_le, List, [], ◌∷◌, length}
 use Rattle.std.specs.List.{list_all}
 use Rattle.acpi_tree.specs.declared.place.Place.{Place}
 use Rattle.acpi_tree.specs.declared.place.Place.TheVariants.{Value, Element, Statement}

@@ -1,10 +1,10 @@
 //! Equal values with memory of their own.
 
-ghost use Rattle.std.specs.Prelude.{◌≡◌, IfOk, false};
+ghost use Rattle.std.specs.Prelude.{◌≡◌, IfOk};
 ghost use Rattle.acpi_tree.specs.View.{data_view, elem_view, elems_view, field_view, fields_view, external_view, externals_view, item_view, items_view};
-ghost use Rattle.acpi_tree.specs.Fits.{holds_items};
 ghost use Rattle.acpi_tree.specs.Objects.{object_view};
 
+use crate::item_copies::{copy_leaf, device_of, power_of, processor_of, scope_of, thermal_of};
 use crate::object::Object;
 use crate::tree::{Data, Elem, External, FieldElem, Item};
 use std::alloc::{AllocError, Global};
@@ -92,7 +92,10 @@ impl External {
     }
 }
 
-fn copy_externals(alloc: Global, externals: &[External]) -> Result<Vec<External>, AllocError>
+pub(crate) fn copy_externals(
+    alloc: Global,
+    externals: &[External],
+) -> Result<Vec<External>, AllocError>
     ensures { IfOk result (λ v. externals_view v.items ≡ externals_view externals.now) }
 {
     let mut copies = Vec::new(alloc);
@@ -109,144 +112,23 @@ impl Item {
         ensures { IfOk result (λ i. item_view i ≡ item_view self.now) }
     {
         match self {
-            Item::Scope(name, items) => {
-                let items = copy_items(alloc, items)?;
-                Ok(Item::Scope(name.copy()?, items))
-            }
-            Item::Device(name, items) => {
-                let items = copy_items(alloc, items)?;
-                Ok(Item::Device(name.copy()?, items))
-            }
+            Item::Scope(name, items) => scope_of(name, copy_items(alloc, items)?),
+            Item::Device(name, items) => device_of(name, copy_items(alloc, items)?),
             Item::Processor {
                 name,
                 id,
                 block,
                 length,
                 items,
-            } => {
-                let items = copy_items(alloc, items)?;
-                let name = name.copy()?;
-                Ok(Item::Processor {
-                    name,
-                    id: *id,
-                    block: *block,
-                    length: *length,
-                    items,
-                })
-            }
+            } => processor_of(name, *id, *block, *length, copy_items(alloc, items)?),
             Item::Power {
                 name,
                 level,
                 order,
                 items,
-            } => {
-                let items = copy_items(alloc, items)?;
-                let name = name.copy()?;
-                Ok(Item::Power {
-                    name,
-                    level: *level,
-                    order: *order,
-                    items,
-                })
-            }
-            Item::Thermal(name, items) => {
-                let items = copy_items(alloc, items)?;
-                Ok(Item::Thermal(name.copy()?, items))
-            }
-            _ => self.copy_leaf(alloc),
-        }
-    }
-
-    // Apart from the copy of items that hold items, so that its frame on the stack stays small.
-    #[inline(never)]
-    fn copy_leaf(&self, alloc: Global) -> Result<Item, AllocError>
-        requires { holds_items (item_view self.now) ≡ false }
-        ensures { IfOk result (λ i. item_view i ≡ item_view self.now) }
-    {
-        match self {
-            Item::Name(name, data) => Ok(Item::Name(name.copy()?, data.copy(alloc)?)),
-            Item::Method { name, flags, code } => Ok(Item::Method {
-                name: name.copy()?,
-                flags: *flags,
-                code: code.clone()?,
-            }),
-            Item::External(external) => Ok(Item::External(external.copy()?)),
-            Item::ExternalBlock(externals) => Ok(Item::ExternalBlock(copy_externals(
-                alloc, externals,
-            )?)),
-            Item::Create {
-                width,
-                source,
-                index,
-                name,
-            } => Ok(Item::Create {
-                width: *width,
-                source: source.copy()?,
-                index: *index,
-                name: name.copy()?,
-            }),
-            Item::CreateField {
-                source,
-                index,
-                bits,
-                name,
-            } => Ok(Item::CreateField {
-                source: source.copy()?,
-                index: *index,
-                bits: *bits,
-                name: name.copy()?,
-            }),
-            Item::Mutex(name, flags) => Ok(Item::Mutex(name.copy()?, *flags)),
-            Item::Event(name) => Ok(Item::Event(name.copy()?)),
-            Item::Region {
-                name,
-                space,
-                offset,
-                length,
-            } => Ok(Item::Region {
-                name: name.copy()?,
-                space: *space,
-                offset: *offset,
-                length: *length,
-            }),
-            Item::Field {
-                region,
-                flags,
-                elems,
-            } => Ok(Item::Field {
-                region: region.copy()?,
-                flags: *flags,
-                elems: copy_fields(alloc, elems)?,
-            }),
-            Item::IndexField {
-                index,
-                datum,
-                flags,
-                elems,
-            } => Ok(Item::IndexField {
-                index: index.copy()?,
-                datum: datum.copy()?,
-                flags: *flags,
-                elems: copy_fields(alloc, elems)?,
-            }),
-            Item::BankField {
-                region,
-                bank,
-                value,
-                flags,
-                elems,
-            } => Ok(Item::BankField {
-                region: region.copy()?,
-                bank: bank.copy()?,
-                value: *value,
-                flags: *flags,
-                elems: copy_fields(alloc, elems)?,
-            }),
-            Item::Scope(..) => unreachable!(),
-            Item::Device(..) => unreachable!(),
-            Item::Processor { .. } => unreachable!(),
-            Item::Power { .. } => unreachable!(),
-            Item::Thermal(..) => unreachable!(),
+            } => power_of(name, *level, *order, copy_items(alloc, items)?),
+            Item::Thermal(name, items) => thermal_of(name, copy_items(alloc, items)?),
+            _ => copy_leaf(alloc, self),
         }
     }
 }

@@ -6,7 +6,10 @@
 #![tactic(auto)]
 
 mod copies;
+mod declaration_copies;
 mod fits;
+mod item_copies;
+mod item_same;
 mod object;
 mod op;
 mod place;

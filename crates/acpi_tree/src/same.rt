@@ -2,12 +2,13 @@
 
 ghost use Rattle.std.specs.Prelude.{◌≡◌, IsTrue, ◌↔◌};
 ghost use Rattle.std.specs.Cmp.{partial_equiv_from_equiv, on_equiv};
-ghost use Rattle.acpi_tree.specs.Tree.{elems_of, items_of};
-ghost use Rattle.acpi_tree.specs.View.{data_view, elem_view, elems_view, field_view, fields_view, external_view, externals_view, item_view, items_view};
+ghost use Rattle.acpi_tree.specs.Tree.{elems_of};
+ghost use Rattle.acpi_tree.specs.View.{data_view, elem_view, elems_view, field_view, fields_view, external_view, externals_view, item_view};
 ghost use Rattle.acpi_tree.specs.Objects.{object_view};
 ghost use Rattle.acpi_tree.specs.steps.Equality.{equivalence, data_tells, elem_tells, field_tells, external_tells, item_tells, object_tells};
-ghost use Rattle.acpi_tree.specs.Equal.{int_eq, width_eq, field_form_eq, data_eq, elem_eq, elems_eq, field_eq, fields_eq, external_eq, externals_eq, item_eq, items_eq, object_eq};
+ghost use Rattle.acpi_tree.specs.Equal.{int_eq, width_eq, field_form_eq, data_eq, elem_eq, elems_eq, field_eq, fields_eq, external_eq, externals_eq, item_eq, object_eq};
 
+use crate::item_same::same_item;
 use crate::object::{FieldForm, Object};
 use crate::tree::{Data, Elem, External, FieldElem, Int, Item, Width};
 
@@ -41,7 +42,7 @@ pub(crate) fn same_width(a: Width, b: Width) -> bool
 }
 
 #[cycle(same)]
-fn same_data(a: &Data, b: &Data) -> bool
+pub(crate) fn same_data(a: &Data, b: &Data) -> bool
     ensures { result ≡ data_eq (data_view a.now) (data_view b.now) }
 {
     match (a, b) {
@@ -110,13 +111,13 @@ pub(crate) fn same_fields(a: &[FieldElem], b: &[FieldElem]) -> bool
     true
 }
 
-fn same_external(a: &External, b: &External) -> bool
+pub(crate) fn same_external(a: &External, b: &External) -> bool
     ensures { result ≡ external_eq (external_view a.now) (external_view b.now) }
 {
     a.name == b.name && a.kind == b.kind && a.args == b.args
 }
 
-fn same_externals(a: &[External], b: &[External]) -> bool
+pub(crate) fn same_externals(a: &[External], b: &[External]) -> bool
     ensures { result ≡ externals_eq (externals_view a.now) (externals_view b.now) }
 {
     if a.len() != b.len() {
@@ -124,164 +125,6 @@ fn same_externals(a: &[External], b: &[External]) -> bool
     }
     for i in 0..a.len() {
         if !same_external(&a[i], &b[i]) {
-            return false;
-        }
-    }
-    true
-}
-
-#[cycle(same_item)]
-fn same_item(a: &Item, b: &Item) -> bool
-    ensures { result ≡ item_eq (item_view a.now) (item_view b.now) }
-{
-    match (a, b) {
-        (Item::Name(m, d), Item::Name(n, e)) => m == n && same_data(d, e),
-        (Item::Scope(m, is), Item::Scope(n, js)) => m == n && same_items(is, js),
-        (Item::Device(m, is), Item::Device(n, js)) => m == n && same_items(is, js),
-        (Item::Thermal(m, is), Item::Thermal(n, js)) => m == n && same_items(is, js),
-        (
-            Item::Method {
-                name: m,
-                flags: f,
-                code: s,
-            },
-            Item::Method {
-                name: n,
-                flags: g,
-                code: t,
-            },
-        ) => m == n && f == g && s == t,
-        (Item::External(x), Item::External(y)) => same_external(x, y),
-        (Item::ExternalBlock(xs), Item::ExternalBlock(ys)) => same_externals(xs, ys),
-        (
-            Item::Create {
-                width: w,
-                source: s,
-                index: i,
-                name: m,
-            },
-            Item::Create {
-                width: v,
-                source: t,
-                index: j,
-                name: n,
-            },
-        ) => same_width(*w, *v) && s == t && same_int(*i, *j) && m == n,
-        (
-            Item::CreateField {
-                source: s,
-                index: i,
-                bits: b,
-                name: m,
-            },
-            Item::CreateField {
-                source: t,
-                index: j,
-                bits: c,
-                name: n,
-            },
-        ) => s == t && same_int(*i, *j) && same_int(*b, *c) && m == n,
-        (Item::Mutex(m, f), Item::Mutex(n, g)) => m == n && f == g,
-        (Item::Event(m), Item::Event(n)) => m == n,
-        (
-            Item::Region {
-                name: m,
-                space: s,
-                offset: o,
-                length: l,
-            },
-            Item::Region {
-                name: n,
-                space: t,
-                offset: p,
-                length: k,
-            },
-        ) => m == n && s == t && same_int(*o, *p) && same_int(*l, *k),
-        (
-            Item::Field {
-                region: r,
-                flags: f,
-                elems: es,
-            },
-            Item::Field {
-                region: q,
-                flags: g,
-                elems: fs,
-            },
-        ) => r == q && f == g && same_fields(es, fs),
-        (
-            Item::IndexField {
-                index: i,
-                datum: d,
-                flags: f,
-                elems: es,
-            },
-            Item::IndexField {
-                index: j,
-                datum: e,
-                flags: g,
-                elems: fs,
-            },
-        ) => i == j && d == e && f == g && same_fields(es, fs),
-        (
-            Item::BankField {
-                region: r,
-                bank: b,
-                value: v,
-                flags: f,
-                elems: es,
-            },
-            Item::BankField {
-                region: q,
-                bank: c,
-                value: w,
-                flags: g,
-                elems: fs,
-            },
-        ) => r == q && b == c && same_int(*v, *w) && f == g && same_fields(es, fs),
-        (
-            Item::Processor {
-                name: m,
-                id: i,
-                block: b,
-                length: l,
-                items: is,
-            },
-            Item::Processor {
-                name: n,
-                id: j,
-                block: c,
-                length: k,
-                items: js,
-            },
-        ) => m == n && i == j && b == c && l == k && same_items(is, js),
-        (
-            Item::Power {
-                name: m,
-                level: l,
-                order: o,
-                items: is,
-            },
-            Item::Power {
-                name: n,
-                level: k,
-                order: p,
-                items: js,
-            },
-        ) => m == n && l == k && o == p && same_items(is, js),
-        _ => false,
-    }
-}
-
-#[cycle(same_item)]
-fn same_items(a: &[Item], b: &[Item]) -> bool
-    ensures { result ≡ items_eq (items_of (items_view a.now)) (items_of (items_view b.now)) }
-{
-    if a.len() != b.len() {
-        return false;
-    }
-    for i in 0..a.len() {
-        if !same_item(&a[i], &b[i]) {
             return false;
         }
     }

@@ -4,7 +4,6 @@ ghost use Rattle.std.specs.Prelude.{◌≡◌, ◌++◌, ◌∷◌, [], IfOk, On
 ghost use Rattle.acpi_tree.specs.TermView.{term_view, decl_view, operand_view, operands_view, terms_view, terms_tree};
 ghost use Rattle.acpi_tree.specs.Terms.{str, buffer, pkg, var_pkg, ref, call, apply, if_do, no_else, else_do, while_do, terms_of};
 
-use crate::copies::copy_fields;
 use crate::op::Op;
 use crate::term::{Decl, Operand, Term};
 use acpi_name::Name;
@@ -154,7 +153,7 @@ fn with_else(test: Box<Term>, then: Vec<Term>, other: Vec<Term>) -> Term
 }
 
 #[cycle(copy_term)]
-fn copy_boxed(alloc: Global, term: &Term) -> Result<Box<Term>, AllocError>
+pub(crate) fn copy_boxed(alloc: Global, term: &Term) -> Result<Box<Term>, AllocError>
     ensures { IfOk result (λ b. term_view (box_value b) ≡ term_view term.now) }
 {
     Ok(Box::new(alloc, term.copy(alloc)?)?)
@@ -211,111 +210,6 @@ impl Operand {
             Operand::Byte(number) => Ok(Operand::Byte(*number)),
             Operand::Word(number) => Ok(Operand::Word(*number)),
             Operand::DWord(number) => Ok(Operand::DWord(*number)),
-        }
-    }
-}
-
-impl Decl {
-    /// An equal declaration with memory of its own.
-    #[cycle(copy_term)]
-    #[inline(never)]
-    pub fn copy(&self, alloc: Global) -> Result<Decl, AllocError>
-        ensures { IfOk result (λ d. decl_view d ≡ decl_view self.now) }
-    {
-        match self {
-            Decl::Name(name, data) => {
-                let data = copy_boxed(alloc, data)?;
-                Ok(Decl::Name(name.copy()?, data))
-            }
-            Decl::Create {
-                width,
-                source,
-                index,
-                name,
-            } => {
-                let source = copy_boxed(alloc, source)?;
-                let index = copy_boxed(alloc, index)?;
-                let name = name.copy()?;
-                Ok(Decl::Create {
-                    width: *width,
-                    source,
-                    index,
-                    name,
-                })
-            }
-            Decl::CreateField {
-                source,
-                index,
-                bits,
-                name,
-            } => {
-                let source = copy_boxed(alloc, source)?;
-                let index = copy_boxed(alloc, index)?;
-                let bits = copy_boxed(alloc, bits)?;
-                let name = name.copy()?;
-                Ok(Decl::CreateField {
-                    source,
-                    index,
-                    bits,
-                    name,
-                })
-            }
-            Decl::Mutex(name, flags) => Ok(Decl::Mutex(name.copy()?, *flags)),
-            Decl::Event(name) => Ok(Decl::Event(name.copy()?)),
-            Decl::Region {
-                name,
-                space,
-                offset,
-                length,
-            } => {
-                let offset = copy_boxed(alloc, offset)?;
-                let length = copy_boxed(alloc, length)?;
-                let name = name.copy()?;
-                Ok(Decl::Region {
-                    name,
-                    space: *space,
-                    offset,
-                    length,
-                })
-            }
-            Decl::Field {
-                region,
-                flags,
-                elems,
-            } => Ok(Decl::Field {
-                region: region.copy()?,
-                flags: *flags,
-                elems: copy_fields(alloc, elems)?,
-            }),
-            Decl::IndexField {
-                index,
-                datum,
-                flags,
-                elems,
-            } => Ok(Decl::IndexField {
-                index: index.copy()?,
-                datum: datum.copy()?,
-                flags: *flags,
-                elems: copy_fields(alloc, elems)?,
-            }),
-            Decl::BankField {
-                region,
-                bank,
-                value,
-                flags,
-                elems,
-            } => {
-                let value = copy_boxed(alloc, value)?;
-                let region = region.copy()?;
-                let bank = bank.copy()?;
-                Ok(Decl::BankField {
-                    region,
-                    bank,
-                    value,
-                    flags: *flags,
-                    elems: copy_fields(alloc, elems)?,
-                })
-            }
         }
     }
 }

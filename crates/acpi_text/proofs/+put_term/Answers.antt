@@ -1,11 +1,10 @@
-use Rattle.std.proofs.Common.{◌≤◌, length, append_assoc, arith, map}
+use Rattle.std.proofs.Common.{◌≤◌, length, arith}
 use Rattle.std.proofs.lemmas.Grind.{common_steps}
-use Rattle.acpi_tree.specs.View.{fields_view}
 use Rattle.acpi_tree.specs.TermView.{term_view}
 use Rattle.acpi_name.specs.Text.{name_text}
 use Rattle.acpi_text.specs.Objects.{width_text}
-use Rattle.acpi_text.specs.Terms.{term_text, raw_text, field_text, braces_text}
-use Rattle.acpi_text.proofs.Forms.{create_is, create_field_is, mutex_is, event_is, region_is, field_is, index_field_is, bank_field_is, create_said, create_field_said, region_said, field_said, index_field_said, bank_field_said}
+use Rattle.acpi_text.specs.Terms.{term_text, raw_text}
+use Rattle.acpi_text.proofs.Forms.{create_is, create_field_is, region_is, create_said, create_field_said, region_said}
 use Rattle.acpi_text.proofs.TermLists.{joined_terms, arguments_of_terms, arguments_of_operands}
 use Rattle.acpi_text.proofs.+put_term.Goals as goal
 
@@ -45,45 +44,9 @@ declarations::put_decl-returns-in_ok-put-in-CreateField-2 t c =
     c.in_ok-put-in-CreateField.ensures c.in_ok-put_term-in-CreateField.ensures c.in_ok-put_next_term-in-CreateField.ensures
     c.in_ok-put_next_term-in-CreateField-2.ensures c.in_ok-put_next_name-in-CreateField.ensures c.in_ok-put-in-CreateField-2.ensures)
 
-pub declarations::put_decl-returns-in_ok-put-in-Mutex : goal.declarations::put_decl-returns-in_ok-put-in-Mutex
-declarations::put_decl-returns-in_ok-put-in-Mutex t c =
-    rw (c.in-Mutex.is, mutex_is c.in-Mutex.name c.in-Mutex.flags, c.in_ok-put-in-Mutex.ensures, c.in_ok-put_next_byte-in-Mutex.ensures, c.in_ok-put_first_name-in-Mutex.ensures) (simp append_assoc)
-
-pub declarations::put_decl-returns-in_ok-put-in-Event : goal.declarations::put_decl-returns-in_ok-put-in-Event
-declarations::put_decl-returns-in_ok-put-in-Event t c =
-    rw (c.in-Event.is, event_is c.in-Event.name, c.in_ok-put-in-Event.ensures, c.in_ok-put_first_name-in-Event.ensures) (simp append_assoc)
-
 pub declarations::put_decl-returns-in_ok-put-in-Region : goal.declarations::put_decl-returns-in_ok-put-in-Region
 declarations::put_decl-returns-in_ok-put-in-Region t c =
     rw (c.in-Region.is, region_is c.in-Region.name c.in-Region.space c.in-Region.offset c.in-Region.length, ← c.deref-in-Region.ensures, ← c.deref-in-Region-2.ensures)
     (region_said c.args.text.now.items (name_text c.in-Region.name) (raw_text 1 c.in-Region.space)
     (term_text (term_view c.deref-in-Region.result.now)) (term_text (term_view c.deref-in-Region-2.result.now)) _ _ _ _ _
     c.in_ok-put_first_name-in-Region.ensures c.in_ok-put_next_byte-in-Region.ensures c.in_ok-put_next_term-in-Region.ensures c.in_ok-put_next_term-in-Region-2.ensures c.in_ok-put-in-Region.ensures)
-
-pub declarations::put_decl-returns-in_ok-put_fields-in-Field : goal.declarations::put_decl-returns-in_ok-put_fields-in-Field
-declarations::put_decl-returns-in_ok-put_fields-in-Field t c =
-    rw (c.in-Field.is, field_is c.in-Field.region c.in-Field.flags c.in-Field.elems, ← c.deref-in-Field.ensures.value)
-    (field_said c.args.text.now.items (name_text c.in-Field.region) (raw_text 1 c.in-Field.flags) (braces_text (map field_text (fields_view c.deref-in-Field.result.now))) _ _ _ _
-    c.in_ok-put_first_name-in-Field.ensures c.in_ok-put_next_byte-in-Field.ensures c.in_ok-put-in-Field.ensures c.in_ok-put_fields-in-Field.ensures)
-
-pub declarations::put_decl-returns-in_ok-put_fields-in-IndexField : goal.declarations::put_decl-returns-in_ok-put_fields-in-IndexField
-declarations::put_decl-returns-in_ok-put_fields-in-IndexField t c =
-    rw (c.in-IndexField.is, index_field_is c.in-IndexField.index c.in-IndexField.datum c.in-IndexField.flags c.in-IndexField.elems, ← c.deref-in-IndexField.ensures.value)
-    (index_field_said c.args.text.now.items (name_text c.in-IndexField.index) (name_text c.in-IndexField.datum) (raw_text 1 c.in-IndexField.flags)
-    (braces_text (map field_text (fields_view c.deref-in-IndexField.result.now))) _ _ _ _ _
-    c.in_ok-put_first_name-in-IndexField.ensures c.in_ok-put_next_name-in-IndexField.ensures c.in_ok-put_next_byte-in-IndexField.ensures
-    c.in_ok-put-in-IndexField.ensures c.in_ok-put_fields-in-IndexField.ensures)
-
-pub declarations::put_decl-returns-in_ok-put_fields-in-BankField : goal.declarations::put_decl-returns-in_ok-put_fields-in-BankField
-declarations::put_decl-returns-in_ok-put_fields-in-BankField t c =
-    rw (
-      c.in-BankField.is,
-      bank_field_is c.in-BankField.region c.in-BankField.bank c.in-BankField.value c.in-BankField.flags c.in-BankField.elems,
-      ← c.deref-in-BankField.ensures,
-      ← c.deref-in-BankField-2.ensures.value,
-    )
-    (bank_field_said c.args.text.now.items (name_text c.in-BankField.region) (name_text c.in-BankField.bank)
-    (term_text (term_view c.deref-in-BankField.result.now)) (raw_text 1 c.in-BankField.flags)
-    (braces_text (map field_text (fields_view c.deref-in-BankField-2.result.now))) _ _ _ _ _ _
-    c.in_ok-put_first_name-in-BankField.ensures c.in_ok-put_next_name-in-BankField.ensures c.in_ok-put_next_term-in-BankField.ensures
-    c.in_ok-put_next_byte-in-BankField.ensures c.in_ok-put-in-BankField.ensures c.in_ok-put_fields-in-BankField.ensures)

@@ -1,5 +1,5 @@
 -- The tests of `TermEqual` decide equality.
-use Rattle.std.proofs.Common.{◌≡◌, Bool, true, false, ◌&&◌, eqb, List, [], ◌∷◌, refl, ap, ap₂}
+use Rattle.std.proofs.Common.{◌≡◌, true, ◌&&◌, eqb, refl, ap, ap₂}
 use Rattle.std.proofs.lemmas.Bool.{eqb-true}
 use denote.Enum.Bare.{same_true, true_same}
 use Rattle.acpi_name.specs.NameEqual.{name_eq}
@@ -9,7 +9,7 @@ use Rattle.acpi_tree.specs.contracts.place.UnitsForm as units_forms
 use Rattle.acpi_tree.specs.declared.place.NamedForm.{NamedForm}
 use Rattle.acpi_tree.specs.declared.place.NamedForm.TheVariants as named
 use Rattle.acpi_tree.specs.Terms.{TermTree, ElseTree, TermTrees, int, str, buffer, pkg, var_pkg, local, arg, debug, no_target, raw, ref, call, apply, if_do, no_else, else_do, while_do, declare, declare_units, no_terms, more}
-use Rattle.acpi_tree.specs.Equal.{int_eq, width_eq, bytes_eq, fields_eq}
+use Rattle.acpi_tree.specs.Equal.{bytes_eq, fields_eq}
 use Rattle.acpi_tree.specs.TermEqual.{op_eq, units_form_eq, named_form_eq, names_eq, term_eq, else_eq, terms_eq}
 use Rattle.acpi_tree.specs.steps.Equality.{Tells, both, never, names_tell, numbers_tell, ints_tell, widths_tell, lists_tell, bytes_tell, fields_tell}
 

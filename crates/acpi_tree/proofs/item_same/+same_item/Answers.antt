@@ -2,7 +2,7 @@ use Rattle.std.proofs.Common.{◌≡◌, ◌≤◌, length, sym, ◌∙◌, arit
 use Rattle.acpi_tree.specs.View.{item_view}
 use Rattle.acpi_tree.specs.Equal.{item_eq}
 use Rattle.acpi_tree.proofs.Alike.{unlike_lengths, unlike_at, alike_all, items_alike}
-use Rattle.acpi_tree.proofs.same.+same_item.Goals as goal
+use Rattle.acpi_tree.proofs.item_same.+same_item.Goals as goal
 
 pub same_items-returns-then-a-b : goal.same_items-returns-then-a-b
 same_items-returns-then-a-b t c =
