@@ -97,12 +97,10 @@ pub(crate) fn create_declared<S: Space<Object>>(
     ensures exact { Reads term_view (named_form (term_at (args_of context.now locals.old) level) context.now.method (named.Create width)) code.old code.new result }
     ensures locals { IfOk result (λ t. locals.new ≡ locals_after context.now.method locals.old (term_view t)) }
 {
-    let source = term(context, locals, level, Place::Value, code)?;
-    let index = term(context, locals, level, Place::Value, code)?;
+    let source = value(context, locals, level, code)?;
+    let index = value(context, locals, level, code)?;
     let (name, path) = declared(context, code)?;
     add(locals, path)?;
-    let source = Box::new(context.alloc(), source)?;
-    let index = Box::new(context.alloc(), index)?;
     let decl = Decl::Create {
         width,
         source,
@@ -150,11 +148,9 @@ pub(crate) fn region_declared<S: Space<Object>>(
 {
     let (name, path) = declared(context, code)?;
     let space = code.byte()?;
-    let offset = term(context, locals, level, Place::Value, code)?;
-    let length = term(context, locals, level, Place::Value, code)?;
+    let offset = value(context, locals, level, code)?;
+    let length = value(context, locals, level, code)?;
     add(locals, path)?;
-    let offset = Box::new(context.alloc(), offset)?;
-    let length = Box::new(context.alloc(), length)?;
     let decl = Decl::Region {
         name,
         space,
@@ -261,11 +257,10 @@ pub(crate) fn bank_field_declared<S: Space<Object>>(
     let mut inner = code.package()?;
     let region = inner.name()?.own(context.alloc())?;
     let bank = inner.name()?.own(context.alloc())?;
-    let value = term(context, locals, level, Place::Value, &mut inner)?;
+    let value = value(context, locals, level, &mut inner)?;
     let flags = inner.byte()?;
     let elems = field_elements(context.alloc(), &mut inner)?;
     add_units(locals, context.method(), &elems)?;
-    let value = Box::new(context.alloc(), value)?;
     let decl = Decl::BankField {
         region,
         bank,

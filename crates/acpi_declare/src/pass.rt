@@ -283,22 +283,17 @@ impl<S: Space<Object>> Pass<S> {
                 source,
                 index,
                 name,
-            } => self.declare_linked(
-                scope,
-                &name,
-                Object::Create { width, index },
-                one(self.alloc, source)?,
-            ),
+            } => self.declare_buffer_field(scope, &name, Object::Create { width, index }, source),
             Item::CreateField {
                 source,
                 index,
                 bits,
                 name,
-            } => self.declare_linked(
+            } => self.declare_buffer_field(
                 scope,
                 &name,
                 Object::CreateField { index, bits },
-                one(self.alloc, source)?,
+                source,
             ),
             Item::Mutex(name, flags) => self.declare(scope, &name, Object::Mutex(flags)),
             Item::Event(name) => self.declare(scope, &name, Object::Event),
@@ -320,40 +315,77 @@ impl<S: Space<Object>> Pass<S> {
                 region,
                 flags,
                 elems,
-            } => self.declare_fields(
-                scope,
-                FieldForm::Field,
-                flags,
-                one(self.alloc, region)?,
-                &elems,
-            ),
+            } => self.declare_field(scope, flags, region, &elems),
             Item::IndexField {
                 index,
                 datum,
                 flags,
                 elems,
-            } => self.declare_fields(
-                scope,
-                FieldForm::Index,
-                flags,
-                two(self.alloc, index, datum)?,
-                &elems,
-            ),
+            } => self.declare_fields_by(scope, FieldForm::Index, flags, index, datum, &elems),
             Item::BankField {
                 region,
                 bank,
                 value,
                 flags,
                 elems,
-            } => self.declare_fields(
-                scope,
-                FieldForm::Bank(value),
-                flags,
-                two(self.alloc, region, bank)?,
-                &elems,
-            ),
+            } => self.declare_fields_by(scope, FieldForm::Bank(value), flags, region, bank, &elems),
             _ => Ok(()),
         }
+    }
+
+    // Declares a buffer field, whose link searches its source.
+    fn declare_buffer_field(
+        &mut self,
+        scope: &Path,
+        name: &Name,
+        object: Object,
+        source: Name,
+    ) -> Result<(), Stop>
+        ensures ok { OnOk result (take_step (pass_of (S.contents self.old.objects) self.old) scope.now (step name.now (declares (object_view object) (source ∷ []) None))
+            ≡ Ok (pass_of (S.contents self.new.objects) self.new)) }
+        ensures refused { IfErr result (λ f. IsStopOf f (take_step (pass_of (S.contents self.old.objects) self.old) scope.now (step name.now (declares (object_view object) (source ∷ []) None)))) }
+        ensures lower { OnOk result (S.lower self.new.objects ≡ S.lower self.old.objects) }
+    {
+        let names = one(self.alloc, source)?;
+        self.declare_linked(scope, name, object, names)
+    }
+
+    // Declares the units of a Field, whose links search its region.
+    fn declare_field(
+        &mut self,
+        scope: &Path,
+        flags: u8,
+        region: Name,
+        elems: &[FieldElem],
+    ) -> Result<(), Stop>
+        requires room { list_bits (fields_view elems.now) < 2 ^ 64 }
+        ensures ok { OnOk result (take_steps (pass_of (S.contents self.old.objects) self.old) scope.now (unit_steps FieldForm.Field flags (region ∷ []) 0 (fields_view elems.now))
+            ≡ Ok (pass_of (S.contents self.new.objects) self.new)) }
+        ensures refused { IfErr result (λ f. IsStopOf f (take_steps (pass_of (S.contents self.old.objects) self.old) scope.now (unit_steps FieldForm.Field flags (region ∷ []) 0 (fields_view elems.now)))) }
+        ensures lower { OnOk result (S.lower self.new.objects ≡ S.lower self.old.objects) }
+    {
+        let names = one(self.alloc, region)?;
+        self.declare_fields(scope, FieldForm::Field, flags, names, elems)
+    }
+
+    // Declares the units of an IndexField or a BankField, whose links search two names.
+    fn declare_fields_by(
+        &mut self,
+        scope: &Path,
+        form: FieldForm,
+        flags: u8,
+        first: Name,
+        second: Name,
+        elems: &[FieldElem],
+    ) -> Result<(), Stop>
+        requires room { list_bits (fields_view elems.now) < 2 ^ 64 }
+        ensures ok { OnOk result (take_steps (pass_of (S.contents self.old.objects) self.old) scope.now (unit_steps form flags (first ∷ second ∷ []) 0 (fields_view elems.now))
+            ≡ Ok (pass_of (S.contents self.new.objects) self.new)) }
+        ensures refused { IfErr result (λ f. IsStopOf f (take_steps (pass_of (S.contents self.old.objects) self.old) scope.now (unit_steps form flags (first ∷ second ∷ []) 0 (fields_view elems.now)))) }
+        ensures lower { OnOk result (S.lower self.new.objects ≡ S.lower self.old.objects) }
+    {
+        let names = two(self.alloc, first, second)?;
+        self.declare_fields(scope, form, flags, names, elems)
     }
 
     // Declares the units of a field list whose links search these names.

@@ -133,20 +133,16 @@ fn rewrite<'a>(alloc: Global) -> Result<clap::Command<'a>, AllocError>
 fn forms<'a>(alloc: Global) -> Result<clap::Command<'a>, AllocError>
     ensures { IfOk result (λ command. app_of command ≡ acpins_app) }
 {
-    let list = list(alloc)?;
-    let show = show(alloc)?;
-    let check = check(alloc)?;
-    let rewrite = rewrite(alloc)?;
     clap::Command::new(alloc, "acpins")
         .no_binary_name(true)
         .disable_help_flag(true)
         .disable_version_flag(true)
         .disable_help_subcommand(true)
         .subcommand_required(true)
-        .subcommand(list)?
-        .subcommand(show)?
-        .subcommand(check)?
-        .subcommand(rewrite)
+        .subcommand(list(alloc)?)?
+        .subcommand(show(alloc)?)?
+        .subcommand(check(alloc)?)?
+        .subcommand(rewrite(alloc)?)
 }
 
 // A number of decimal digits, from 1 to 4,096.
