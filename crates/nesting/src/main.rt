@@ -78,65 +78,103 @@ fn outcome(alloc: Global, code: &[u8], depth: Depth) -> Result<&'static str, All
     }
 }
 
-// What becomes of the body, in a namespace with a method \M of one argument.
-fn body_outcome(alloc: Global, bytes: &[u8], depth: Depth) -> anyhow::Result<&'static str> {
-    let method = Path::from_text(alloc, "\\M")?;
-    let mut space: TreeSpace<Object> = TreeSpace::new(alloc);
-    space.insert(method.copy()?, Object::Method(1))?;
-    let counts = Counts::new(alloc);
-    let body = read_body(alloc, &space, &method, bytes, depth, &counts)?;
-    let Body::Terms(terms) = &body else {
+// Whether the body fits, and what becomes of what is written.
+fn written_outcome(
+    alloc: Global,
+    space: &TreeSpace<Object>,
+    method: &Path,
+    counts: &Counts,
+    depth: Depth,
+    body: &Body,
+) -> anyhow::Result<&'static str> {
+    let Body::Terms(terms) = body else {
         return Ok("not read");
     };
-    if !terms_fit(terms) || body.copy(alloc)? != body {
+    if !terms_fit(terms) {
         return Ok("read wrong");
-    }
-    if !body_misses(alloc, &space, &method, &body, &counts)?
-        .open
-        .is_empty()
-    {
-        return Ok("searched wrong");
     }
     let Ok(written) = write_terms(alloc, terms) else {
         return Ok("not written");
     };
-    if read_body(alloc, &space, &method, &written, depth, &counts)? == body {
+    if read_body(alloc, space, method, &written, depth, counts)? == *body {
         Ok(RIGHT)
     } else {
         Ok("written wrong")
     }
 }
 
-fn main(rt: HostRuntime) -> anyhow::Result<()> {
+// What becomes of the body of a method in this namespace.
+fn outcome_in(
+    alloc: Global,
+    space: &TreeSpace<Object>,
+    method: &Path,
+    bytes: &[u8],
+    depth: Depth,
+) -> anyhow::Result<&'static str> {
+    let counts = Counts::new(alloc);
+    let body = read_body(alloc, space, method, bytes, depth, &counts)?;
+    if body.copy(alloc)? != body {
+        return Ok("copied wrong");
+    }
+    let misses = body_misses(alloc, space, method, &body, &counts)?;
+    if misses.open.is_empty() {
+        written_outcome(alloc, space, method, &counts, depth, &body)
+    } else {
+        Ok("searched wrong")
+    }
+}
+
+// What becomes of the body, in a namespace with a method \M of one argument.
+fn body_outcome(alloc: Global, bytes: &[u8], depth: Depth) -> anyhow::Result<&'static str> {
+    let method = Path::from_text(alloc, "\\M")?;
+    let mut space: TreeSpace<Object> = TreeSpace::new(alloc);
+    space.insert(method.copy()?, Object::Method(1))?;
+    outcome_in(alloc, &space, &method, bytes, depth)
+}
+
+// A line on items of this form.
+fn say_items(rt: &HostRuntime, form: &str, code: &[u8], depth: Depth) -> anyhow::Result<()> {
+    let outcome = outcome(rt.alloc(), code, depth)?;
+    println!(rt; "{LEVELS} levels of {form}: {outcome}")?;
+    Ok(())
+}
+
+// A line on a body of this form.
+fn say_body(rt: &HostRuntime, form: &str, bytes: &[u8], depth: Depth) -> anyhow::Result<()> {
+    let outcome = body_outcome(rt.alloc(), bytes, depth)?;
+    println!(rt; "{LEVELS} levels of {form} in a body: {outcome}")?;
+    Ok(())
+}
+
+fn say_all(rt: &HostRuntime, depth: Depth) -> anyhow::Result<()> {
     let alloc = rt.alloc();
+    let scopes = nested(alloc, &[], 0x10, 0, LEVELS)?;
+    say_items(rt, "Scope", &scopes, depth)?;
+    let packages = nested(alloc, b"\x08ABCD", 0x12, 0, LEVELS - 1)?;
+    say_items(rt, "Package in a Name", &packages, depth)
+}
+
+fn say_all_bodies(rt: &HostRuntime, depth: Depth) -> anyhow::Result<()> {
+    let alloc = rt.alloc();
+    let operators = repeated(alloc, &[0x92], LEVELS - 1, &[0x60])?;
+    say_body(rt, "LNot", &operators, depth)?;
+    let calls = repeated(alloc, b"M___", LEVELS - 1, &[0x60])?;
+    say_body(rt, "a call", &calls, depth)?;
+    for (form, opcode, first, levels) in [
+        ("Package", 0x12, 0, LEVELS),
+        ("If", 0xA0, 0x60, LEVELS - 1),
+        ("While", 0xA2, 0x60, LEVELS - 1),
+    ] {
+        let blocks = nested(alloc, &[], opcode, first, levels)?;
+        say_body(rt, form, &blocks, depth)?;
+    }
+    Ok(())
+}
+
+fn main(rt: HostRuntime) -> anyhow::Result<()> {
     let Some(depth) = Depth::new(LEVELS) else {
         return Ok(());
     };
-    let items = [
-        ("Scope", nested(alloc, &[], 0x10, 0, LEVELS)?),
-        (
-            "Package in a Name",
-            nested(alloc, b"\x08ABCD", 0x12, 0, LEVELS - 1)?,
-        ),
-    ];
-    for (form, code) in items.iter() {
-        println!(rt;
-            "{LEVELS} levels of {form}: {}",
-            outcome(alloc, code, depth)?
-        )?;
-    }
-    let bodies = [
-        ("LNot", repeated(alloc, &[0x92], LEVELS - 1, &[0x60])?),
-        ("a call", repeated(alloc, b"M___", LEVELS - 1, &[0x60])?),
-        ("Package", nested(alloc, &[], 0x12, 0, LEVELS)?),
-        ("If", nested(alloc, &[], 0xA0, 0x60, LEVELS - 1)?),
-        ("While", nested(alloc, &[], 0xA2, 0x60, LEVELS - 1)?),
-    ];
-    for (form, bytes) in bodies.iter() {
-        println!(rt;
-            "{LEVELS} levels of {form} in a body: {}",
-            body_outcome(alloc, bytes, depth)?
-        )?;
-    }
-    Ok(())
+    say_all(&rt, depth)?;
+    say_all_bodies(&rt, depth)
 }
