@@ -40,8 +40,10 @@ def rt_library():
     return library
 
 
-def prove(crate, jobs):
-    """The status of the crate's proof, and what it said."""
+def prove(crate, jobs, niceness):
+    """The status of the crate's proof, and what it said. It leaves the processors to those that are less nice."""
+    # On Linux this is of the calling thread alone, and of what it starts.
+    os.nice(niceness)
     os.makedirs(f"{crate.folder}/out", exist_ok=True)
     with tempfile.TemporaryFile("w+", errors="replace") as crate.out:
         status = crate.build_rlib(["--jobs", str(jobs)], anew=False)
@@ -56,28 +58,29 @@ def chain(crate, crates):
 
 
 def prove_all(crates, steps, processors):
-    """Proves the libraries, at most as many at once as there are processors. The one with the longest chain of
-    others behind it may use all processors, each other one only one."""
-    length = {it: chain(it, crates) for it in crates}
-    left = sorted((it for it in crates if not it.is_built()), key=lambda it: -length[it])
+    """Proves the libraries, at most as many at once as there are processors. Each may use all of them, and leaves them to
+    those with a longer chain of others behind them."""
+    ranked = sorted(crates, key=lambda it: -chain(it, crates))
+    left = [it for it in ranked if not it.is_built()]
     done, running = [it for it in crates if it not in left], {}
-    with ThreadPoolExecutor(processors) as pool:
-        while left or running:
-            ready = [it for it in left if all(dep in done for dep in it.deps)]
-            for crate in ready[: processors - len(running)]:
-                steps["begun"] += 1
-                say(f"proving {crate.name}, {steps['begun']} of {steps['all']}, {so_far()}")
-                is_longest = all(length[it] < length[crate] for it in running.values())
-                left.remove(crate)
-                running[pool.submit(prove, crate, processors if is_longest else 1)] = crate
-            for ended in wait(running, return_when=FIRST_COMPLETED).done:
-                crate, (status, said) = running.pop(ended), ended.result()
-                if status:
-                    sys.stderr.write(said)
-                    say(f"{crate.name} is not proved")
-                    sys.stderr.flush()
-                    os._exit(1)
-                done.append(crate)
+    while left or running:
+        ready = [it for it in left if all(dep in done for dep in it.deps)]
+        for crate in ready[: processors - len(running)]:
+            steps["begun"] += 1
+            say(f"proving {crate.name}, {steps['begun']} of {steps['all']}, {so_far()}")
+            left.remove(crate)
+            # A thread of its own, which has the priority of its crate.
+            with_priority = ThreadPoolExecutor(1)
+            running[with_priority.submit(prove, crate, processors, ranked.index(crate))] = crate
+            with_priority.shutdown(wait=False)
+        for ended in wait(running, return_when=FIRST_COMPLETED).done:
+            crate, (status, said) = running.pop(ended), ended.result()
+            if status:
+                sys.stderr.write(said)
+                say(f"{crate.name} is not proved")
+                sys.stderr.flush()
+                os._exit(1)
+            done.append(crate)
 
 
 def build_program(processors):

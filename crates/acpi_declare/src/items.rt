@@ -20,15 +20,15 @@ use acpi_name::{Name, Path};
 use acpi_space::{SearchFault, Space, misses};
 use acpi_terms::{Item, Object};
 
-/// The most items for which a list keeps memory that it no longer needs.
-const FEW_ITEMS: usize = 1024;
+/// The longest list that keeps memory that it no longer needs.
+const FEW: usize = 16;
 
-// Gives back the memory of a long list of which more than half has been taken. So the items that wait and the
-// objects that are made of them are never all there at once.
-fn give_back(left: &mut Vec<Item>)
+/// Gives back the memory of a long list of which more than an eighth has been taken. So the items, field elements and
+/// paths that wait and what is made of them are never all there at once.
+pub(crate) fn give_back<T: Drop>(left: &mut Vec<T>)
     ensures { left.new.items ≡ left.old.items }
 {
-    if left.capacity() > FEW_ITEMS && left.len() < left.capacity() / 2 {
+    if left.capacity() > FEW && left.len() < left.capacity() / 8 * 7 {
         left.shrink_to_fit();
     }
 }
@@ -67,6 +67,43 @@ impl<S: Space<Object>> Pass<S> {
         }
     }
 
+    // Declares an object inside which these items stand, and gives its path and them.
+    fn enter_object(
+        &mut self,
+        scope: &Path,
+        name: Name,
+        object: Object,
+        items: Vec<Item>,
+    ) -> Result<(Path, Vec<Item>), Stop>
+        ensures path { IfOk result (λ left. declared_path (namespace_of (S.contents self.old.objects)) scope.now name ≡ Ok left.0) }
+        ensures items { IfOk result (λ left. left.1 ≡ items) }
+        ensures ok { IfOk result (λ left. pass_of (S.contents self.new.objects) self.new
+            ≡ after (pass_of (S.contents self.old.objects) self.old) (placement scope.now (step name (declares_alone (object_view object))) left.0)) }
+        ensures refused { IfErr result (λ f. IsStopOf f (declared_path (namespace_of (S.contents self.old.objects)) scope.now name)) }
+        ensures lower { OnOk result (S.lower self.new.objects ≡ S.lower self.old.objects) }
+    {
+        let inside = self.declare_scope(scope, &name, object)?;
+        Ok((inside, items))
+    }
+
+    // Opens a scope in which these items stand, and gives its path and them.
+    fn enter_scope(
+        &mut self,
+        scope: &Path,
+        name: Name,
+        items: Vec<Item>,
+    ) -> Result<(Path, Vec<Item>), Stop>
+        ensures path { IfOk result (λ left. opened_path (namespace_of (S.contents self.old.objects)) scope.now name ≡ Ok left.0) }
+        ensures items { IfOk result (λ left. left.1 ≡ items) }
+        ensures ok { IfOk result (λ left. pass_of (S.contents self.new.objects) self.new
+            ≡ after (pass_of (S.contents self.old.objects) self.old) (placement scope.now (step name opens) left.0)) }
+        ensures refused { IfErr result (λ f. IsStopOf f (opened_path (namespace_of (S.contents self.old.objects)) scope.now name)) }
+        ensures lower { OnOk result (S.lower self.new.objects ≡ S.lower self.old.objects) }
+    {
+        let inside = self.open_scope(scope, &name)?;
+        Ok((inside, items))
+    }
+
     // Declares an item without what stands inside it, and gives that and its scope. None where nothing is left. It is no
     // part of the recursion, which so holds no item on the stack.
     #[inline(never)]
@@ -78,38 +115,29 @@ impl<S: Space<Object>> Pass<S> {
         ensures refused { IfErr result (λ f. IsStopOf f (pass_item (pass_of (S.contents self.old.objects) self.old) scope.now (item_view item))) }
         ensures lower { OnOk result (S.lower self.new.objects ≡ S.lower self.old.objects) }
     {
-        match item {
-            Item::Scope(name, items) => Ok(Some((self.open_scope(scope, &name)?, items))),
-            Item::Device(name, items) => {
-                Ok(Some((self.declare_scope(scope, &name, Object::Device)?, items)))
-            }
+        let left = match item {
+            Item::Scope(name, items) => self.enter_scope(scope, name, items),
+            Item::Device(name, items) => self.enter_object(scope, name, Object::Device, items),
             Item::Processor {
                 name,
                 id,
                 block,
                 length,
                 items,
-            } => {
-                let processor = Object::Processor { id, block, length };
-                Ok(Some((self.declare_scope(scope, &name, processor)?, items)))
-            }
+            } => self.enter_object(scope, name, Object::Processor { id, block, length }, items),
             Item::Power {
                 name,
                 level,
                 order,
                 items,
-            } => {
-                let power = Object::Power { level, order };
-                Ok(Some((self.declare_scope(scope, &name, power)?, items)))
-            }
-            Item::Thermal(name, items) => {
-                Ok(Some((self.declare_scope(scope, &name, Object::Thermal)?, items)))
-            }
+            } => self.enter_object(scope, name, Object::Power { level, order }, items),
+            Item::Thermal(name, items) => self.enter_object(scope, name, Object::Thermal, items),
             item => {
                 self.declare_leaf(scope, item)?;
-                Ok(None)
+                return Ok(None);
             }
-        }
+        };
+        Ok(Some(left?))
     }
 
     // One item, with all that stands in it.

@@ -14,6 +14,7 @@ ghost use Rattle.acpi_declare.specs.steps.View.{links_with};
 ghost use Rattle.acpi_declare.specs.steps.Missing.{misses_from};
 
 use crate::fault::LoadFault;
+use crate::items::give_back;
 use crate::pass::PendingLinks;
 use acpi_name::{Name, Path};
 use acpi_space::{Found, SearchFault, Space, Wanted, search, wanted_misses};
@@ -98,7 +99,10 @@ fn put_links(
     ensures ok { OnOk result (links_at links.new ≡ union (links_with answers.now paths.items) (links_at links.old)) }
     ensures memory { IfErr result (λ f. f ≡ LoadFault.Memory) }
 {
-    for path in paths {
+    let mut left = paths;
+    left.reverse();
+    while let Some(path) = left.pop() {
+        give_back(&mut left);
         put_link(links, path, copy_answers(alloc, answers)?)?;
     }
     Ok(())

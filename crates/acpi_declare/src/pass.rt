@@ -3,7 +3,7 @@
 ghost use Rattle.std.specs.Prelude.{IsTrue, ◌≡◌, ◌≢◌, true, None, Some, ◌∷◌, [], ◌++◌, ◌+◌, ◌<◌, ◌^◌, IfOk, IfErr, OnOk, Ok};
 ghost use Rattle.std.specs.List.{list_all};
 ghost use Rattle.acpi_space.specs.Lookups.{singleton, union};
-ghost use Rattle.acpi_tree.specs.Objects.{object_view, method_object};
+ghost use Rattle.acpi_tree.specs.Objects.{object_view, field_object, method_object};
 ghost use Rattle.acpi_tree.specs.Fits.{external_fits, item_fits};
 ghost use Rattle.acpi_tree.specs.Offsets.{element_bits, list_bits, OffsetFits};
 ghost use Rattle.acpi_tree.specs.View.{item_view, external_view, externals_view, field_view, fields_view};
@@ -15,6 +15,7 @@ ghost use Rattle.acpi_declare.specs.steps.Pass.{take_step, take_steps};
 ghost use Rattle.acpi_declare.specs.steps.View.{pass_of, pass_with, with_method};
 ghost use Rattle.acpi_declare.specs.steps.Outcomes.{IsStopOf};
 
+use crate::items::give_back;
 use crate::fault::Stop;
 use crate::field_list::{FieldList, behind, one, two};
 use crate::notes::TableNotes;
@@ -41,6 +42,39 @@ pub(crate) struct Pass<S> {
     pub(crate) objects: S,
     pub(crate) links: Vec<PendingLinks>,
     pub(crate) notes: TableNotes,
+}
+
+// Adds the links of some paths.
+fn add_links(
+    links: &mut Vec<PendingLinks>,
+    paths: Vec<Path>,
+    scope: &Path,
+    names: Vec<Name>,
+) -> Result<(), AllocError>
+    ensures { OnOk result (all_pending_of links.new.items ≡ all_pending_of links.old.items ++ pending_from scope.now names.items paths.items) }
+{
+    links.push(PendingLinks {
+        paths,
+        scope: scope.copy()?,
+        names,
+    })?;
+    Ok(())
+}
+
+// Adds the links of one path.
+fn add_links_of(
+    alloc: Global,
+    links: &mut Vec<PendingLinks>,
+    path: &Path,
+    scope: &Path,
+    names: Vec<Name>,
+) -> Result<(), AllocError>
+    ensures { OnOk result (all_pending_of links.new.items ≡ all_pending_of links.old.items ++ pending_for path.now scope.now names.items ∷ []) }
+{
+    let mut paths = Vec::new(alloc);
+    paths.push(path.copy()?)?;
+    add_links(links, paths, scope, names)?;
+    Ok(())
 }
 
 impl<S: Space<Object>> Pass<S> {
@@ -116,13 +150,7 @@ impl<S: Space<Object>> Pass<S> {
         ensures notes { self.new.notes ≡ self.old.notes }
         ensures lower { OnOk result (S.lower self.new.objects ≡ S.lower self.old.objects) }
     {
-        let mut paths = Vec::new(self.alloc);
-        paths.push(path.copy()?)?;
-        self.links.push(PendingLinks {
-            paths,
-            scope: scope.copy()?,
-            names,
-        })?;
+        add_links_of(self.alloc, &mut self.links, &path, scope, names)?;
         self.put(path, object)?;
         Ok(())
     }
@@ -153,19 +181,26 @@ impl<S: Space<Object>> Pass<S> {
         fields: &FieldList<'_>,
         paths: &mut Vec<Path>,
         seg: Seg,
-        object: Object,
+        offset: u64,
+        bits: u32,
     ) -> Result<(), Stop>
         requires { fields.now.names.now ≢ [] }
         ensures ok { OnOk result (take_step (pass_with (S.contents self.old.objects) self.old (pending_from scope.now fields.now.names.now paths.old.items)) scope.now
-            (step (unit_name seg) (declares (object_view object) fields.now.names.now None))
+            (step (unit_name seg) (declares (field_object fields.now.form fields.now.flags offset bits) fields.now.names.now None))
             ≡ Ok (pass_with (S.contents self.new.objects) self.new (pending_from scope.now fields.now.names.now paths.new.items))) }
         ensures refused { IfErr result (λ f. IsStopOf f (take_step (pass_with (S.contents self.old.objects) self.old (pending_from scope.now fields.now.names.now paths.old.items)) scope.now
-            (step (unit_name seg) (declares (object_view object) fields.now.names.now None)))) }
+            (step (unit_name seg) (declares (field_object fields.now.form fields.now.flags offset bits) fields.now.names.now None)))) }
         ensures lower { OnOk result (S.lower self.new.objects ≡ S.lower self.old.objects) }
     {
         let path = declared_unit(&self.objects, scope, seg)?;
         paths.push(path.copy()?)?;
-        self.put(path, object)?;
+        let unit = Object::Field {
+            form: fields.form,
+            flags: fields.flags,
+            offset,
+            bits,
+        };
+        self.put(path, unit)?;
         Ok(())
     }
 
@@ -225,13 +260,7 @@ impl<S: Space<Object>> Pass<S> {
     {
         match elem {
             FieldElem::Unit(seg, bits) => {
-                let object = Object::Field {
-                    form: fields.form,
-                    flags: fields.flags,
-                    offset,
-                    bits: *bits,
-                };
-                self.declare_unit(scope, fields, paths, *seg, object)?;
+                self.declare_unit(scope, fields, paths, *seg, offset, *bits)?;
                 Ok(behind(offset, *bits))
             }
             FieldElem::Reserved(bits) => Ok(behind(offset, *bits)),
@@ -245,20 +274,23 @@ impl<S: Space<Object>> Pass<S> {
         scope: &Path,
         fields: &FieldList<'_>,
         paths: &mut Vec<Path>,
-        elems: &[FieldElem],
+        elems: Vec<FieldElem>,
     ) -> Result<(), Stop>
         requires some { fields.now.names.now ≢ [] }
-        requires room { list_bits (fields_view elems.now) < 2 ^ 64 }
+        requires room { list_bits (fields_view elems.items) < 2 ^ 64 }
         ensures ok { OnOk result (take_steps (pass_with (S.contents self.old.objects) self.old (pending_from scope.now fields.now.names.now paths.old.items)) scope.now
-            (unit_steps fields.now.form fields.now.flags fields.now.names.now 0 (fields_view elems.now))
+            (unit_steps fields.now.form fields.now.flags fields.now.names.now 0 (fields_view elems.items))
             ≡ Ok (pass_with (S.contents self.new.objects) self.new (pending_from scope.now fields.now.names.now paths.new.items))) }
         ensures refused { IfErr result (λ f. IsStopOf f (take_steps (pass_with (S.contents self.old.objects) self.old (pending_from scope.now fields.now.names.now paths.old.items)) scope.now
-            (unit_steps fields.now.form fields.now.flags fields.now.names.now 0 (fields_view elems.now)))) }
+            (unit_steps fields.now.form fields.now.flags fields.now.names.now 0 (fields_view elems.items)))) }
         ensures lower { OnOk result (S.lower self.new.objects ≡ S.lower self.old.objects) }
     {
         let mut offset = 0;
-        for elem in elems {
-            offset = self.declare_elem(scope, fields, paths, offset, elem)?;
+        let mut left = elems;
+        left.reverse();
+        while let Some(elem) = left.pop() {
+            give_back(&mut left);
+            offset = self.declare_elem(scope, fields, paths, offset, &elem)?;
         }
         Ok(())
     }
@@ -315,21 +347,25 @@ impl<S: Space<Object>> Pass<S> {
                 region,
                 flags,
                 elems,
-            } => self.declare_field(scope, flags, region, &elems),
+            } => self.declare_field(scope, flags, region, elems),
             Item::IndexField {
                 index,
                 datum,
                 flags,
                 elems,
-            } => self.declare_fields_by(scope, FieldForm::Index, flags, index, datum, &elems),
+            } => self.declare_fields_by(scope, FieldForm::Index, flags, index, datum, elems),
             Item::BankField {
                 region,
                 bank,
                 value,
                 flags,
                 elems,
-            } => self.declare_fields_by(scope, FieldForm::Bank(value), flags, region, bank, &elems),
-            _ => Ok(()),
+            } => self.declare_fields_by(scope, FieldForm::Bank(value), flags, region, bank, elems),
+            Item::Scope(_, _)
+            | Item::Device(_, _)
+            | Item::Processor { .. }
+            | Item::Power { .. }
+            | Item::Thermal(_, _) => unreachable!(),
         }
     }
 
@@ -356,12 +392,12 @@ impl<S: Space<Object>> Pass<S> {
         scope: &Path,
         flags: u8,
         region: Name,
-        elems: &[FieldElem],
+        elems: Vec<FieldElem>,
     ) -> Result<(), Stop>
-        requires room { list_bits (fields_view elems.now) < 2 ^ 64 }
-        ensures ok { OnOk result (take_steps (pass_of (S.contents self.old.objects) self.old) scope.now (unit_steps FieldForm.Field flags (region ∷ []) 0 (fields_view elems.now))
+        requires room { list_bits (fields_view elems.items) < 2 ^ 64 }
+        ensures ok { OnOk result (take_steps (pass_of (S.contents self.old.objects) self.old) scope.now (unit_steps FieldForm.Field flags (region ∷ []) 0 (fields_view elems.items))
             ≡ Ok (pass_of (S.contents self.new.objects) self.new)) }
-        ensures refused { IfErr result (λ f. IsStopOf f (take_steps (pass_of (S.contents self.old.objects) self.old) scope.now (unit_steps FieldForm.Field flags (region ∷ []) 0 (fields_view elems.now)))) }
+        ensures refused { IfErr result (λ f. IsStopOf f (take_steps (pass_of (S.contents self.old.objects) self.old) scope.now (unit_steps FieldForm.Field flags (region ∷ []) 0 (fields_view elems.items)))) }
         ensures lower { OnOk result (S.lower self.new.objects ≡ S.lower self.old.objects) }
     {
         let names = one(self.alloc, region)?;
@@ -376,12 +412,12 @@ impl<S: Space<Object>> Pass<S> {
         flags: u8,
         first: Name,
         second: Name,
-        elems: &[FieldElem],
+        elems: Vec<FieldElem>,
     ) -> Result<(), Stop>
-        requires room { list_bits (fields_view elems.now) < 2 ^ 64 }
-        ensures ok { OnOk result (take_steps (pass_of (S.contents self.old.objects) self.old) scope.now (unit_steps form flags (first ∷ second ∷ []) 0 (fields_view elems.now))
+        requires room { list_bits (fields_view elems.items) < 2 ^ 64 }
+        ensures ok { OnOk result (take_steps (pass_of (S.contents self.old.objects) self.old) scope.now (unit_steps form flags (first ∷ second ∷ []) 0 (fields_view elems.items))
             ≡ Ok (pass_of (S.contents self.new.objects) self.new)) }
-        ensures refused { IfErr result (λ f. IsStopOf f (take_steps (pass_of (S.contents self.old.objects) self.old) scope.now (unit_steps form flags (first ∷ second ∷ []) 0 (fields_view elems.now)))) }
+        ensures refused { IfErr result (λ f. IsStopOf f (take_steps (pass_of (S.contents self.old.objects) self.old) scope.now (unit_steps form flags (first ∷ second ∷ []) 0 (fields_view elems.items)))) }
         ensures lower { OnOk result (S.lower self.new.objects ≡ S.lower self.old.objects) }
     {
         let names = two(self.alloc, first, second)?;
@@ -395,13 +431,13 @@ impl<S: Space<Object>> Pass<S> {
         form: FieldForm,
         flags: u8,
         names: Vec<Name>,
-        elems: &[FieldElem],
+        elems: Vec<FieldElem>,
     ) -> Result<(), Stop>
         requires some { names.items ≢ [] }
-        requires room { list_bits (fields_view elems.now) < 2 ^ 64 }
-        ensures ok { OnOk result (take_steps (pass_of (S.contents self.old.objects) self.old) scope.now (unit_steps form flags names.items 0 (fields_view elems.now))
+        requires room { list_bits (fields_view elems.items) < 2 ^ 64 }
+        ensures ok { OnOk result (take_steps (pass_of (S.contents self.old.objects) self.old) scope.now (unit_steps form flags names.items 0 (fields_view elems.items))
             ≡ Ok (pass_of (S.contents self.new.objects) self.new)) }
-        ensures refused { IfErr result (λ f. IsStopOf f (take_steps (pass_of (S.contents self.old.objects) self.old) scope.now (unit_steps form flags names.items 0 (fields_view elems.now)))) }
+        ensures refused { IfErr result (λ f. IsStopOf f (take_steps (pass_of (S.contents self.old.objects) self.old) scope.now (unit_steps form flags names.items 0 (fields_view elems.items)))) }
         ensures lower { OnOk result (S.lower self.new.objects ≡ S.lower self.old.objects) }
     {
         let mut paths = Vec::new(self.alloc);
@@ -411,11 +447,7 @@ impl<S: Space<Object>> Pass<S> {
             names: &names,
         };
         self.declare_units(scope, &fields, &mut paths, elems)?;
-        self.links.push(PendingLinks {
-            paths,
-            scope: scope.copy()?,
-            names,
-        })?;
+        add_links(&mut self.links, paths, scope, names)?;
         Ok(())
     }
 }

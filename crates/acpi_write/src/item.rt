@@ -2,7 +2,7 @@
 
 ghost use Rattle.std.specs.Prelude.{◌≡◌, ◌∷◌, [], Some, false, OnOk};
 ghost use Rattle.acpi_code.specs.Opcodes.{width_bytes};
-ghost use Rattle.acpi_tree.specs.Tree.{name as named_item};
+ghost use Rattle.acpi_tree.specs.Tree.{name as named_item, method as method_item, external_block as external_block_item, create as create_item, create_field as create_field_item, region as region_item};
 ghost use Rattle.acpi_tree.specs.View.{data_view, external_view, externals_view, fields_view, item_view, items_tree};
 ghost use Rattle.acpi_tree.specs.Fits.{holds_items};
 ghost use Rattle.acpi_write.specs.Canonical.{each_bytes, filled_with, external_bytes, fields_bytes, item_bytes, items_bytes};
@@ -104,76 +104,32 @@ impl Writer {
     {
         match item {
             Item::Name(name, data) => self.named(name, data),
-            Item::Method { name, flags, code } => {
-                let end = self.len();
-                self.bytes(code)?;
-                self.fill(
-                    end,
-                    &[0x14],
-                    &[Argument::Name(name), Argument::Byte(*flags)],
-                )
-            }
+            Item::Method { name, flags, code } => self.method(name, *flags, code),
             Item::External(external) => self.external(external),
-            Item::ExternalBlock(externals) => {
-                let end = self.len();
-                self.externals(externals)?;
-                self.fill(end, &[0xA0], &[Argument::Int(Int::Zero)])
-            }
+            Item::ExternalBlock(externals) => self.external_block(externals),
             Item::Create {
                 width,
                 source,
                 index,
                 name,
-            } => {
-                let parts = [
-                    Argument::Name(source),
-                    Argument::Int(*index),
-                    Argument::Name(name),
-                ];
-                self.form(&[width_opcode(*width)], &parts)?;
-                Ok(())
-            }
+            } => self.create(*width, source, *index, name),
             Item::CreateField {
                 source,
                 index,
                 bits,
                 name,
-            } => {
-                let parts = [
-                    Argument::Name(source),
-                    Argument::Int(*index),
-                    Argument::Int(*bits),
-                    Argument::Name(name),
-                ];
-                self.form(&[0x5B, 0x13], &parts)?;
-                Ok(())
-            }
-            Item::Mutex(name, flags) => {
-                self.form(
-                    &[0x5B, 0x01],
-                    &[Argument::Name(name), Argument::Byte(*flags)],
-                )?;
-                Ok(())
-            }
-            Item::Event(name) => {
-                self.form(&[0x5B, 0x02], &[Argument::Name(name)])?;
-                Ok(())
-            }
+            } => self.create_field(source, *index, *bits, name),
+            Item::Mutex(name, flags) => self.form(
+                &[0x5B, 0x01],
+                &[Argument::Name(name), Argument::Byte(*flags)],
+            ),
+            Item::Event(name) => self.form(&[0x5B, 0x02], &[Argument::Name(name)]),
             Item::Region {
                 name,
                 space,
                 offset,
                 length,
-            } => {
-                let parts = [
-                    Argument::Name(name),
-                    Argument::Byte(*space),
-                    Argument::Int(*offset),
-                    Argument::Int(*length),
-                ];
-                self.form(&[0x5B, 0x80], &parts)?;
-                Ok(())
-            }
+            } => self.region(name, *space, *offset, *length),
             Item::Field {
                 region,
                 flags,
@@ -230,6 +186,79 @@ impl Writer {
         Ok(())
     }
 
+    // DefMethod
+    fn method(&mut self, name: &Name, flags: u8, code: &[u8]) -> Result<(), WriteFault>
+        ensures put { Puts result (item_bytes (method_item name.now flags code.now)) self.old self.new }
+        ensures typed { OnOk result (IsItemTyped (method_item name.now flags code.now)) }
+    {
+        let end = self.len();
+        self.bytes(code)?;
+        self.fill(
+            end,
+            &[0x14],
+            &[Argument::Name(name), Argument::Byte(flags)],
+        )
+    }
+
+    // CreateDWordFieldOp and the like
+    fn create<'a>(
+        &mut self,
+        width: Width,
+        source: &'a Name,
+        index: Int,
+        name: &'a Name,
+    ) -> Result<(), WriteFault>
+        ensures put { Puts result (item_bytes (create_item width source.now index name.now)) self.old self.new }
+        ensures typed { OnOk result (IsItemTyped (create_item width source.now index name.now)) }
+    {
+        let parts = [
+            Argument::Name(source),
+            Argument::Int(index),
+            Argument::Name(name),
+        ];
+        self.form(&[width_opcode(width)], &parts)
+    }
+
+    // DefCreateField
+    fn create_field<'a>(
+        &mut self,
+        source: &'a Name,
+        index: Int,
+        bits: Int,
+        name: &'a Name,
+    ) -> Result<(), WriteFault>
+        ensures put { Puts result (item_bytes (create_field_item source.now index bits name.now)) self.old self.new }
+        ensures typed { OnOk result (IsItemTyped (create_field_item source.now index bits name.now)) }
+    {
+        let parts = [
+            Argument::Name(source),
+            Argument::Int(index),
+            Argument::Int(bits),
+            Argument::Name(name),
+        ];
+        self.form(&[0x5B, 0x13], &parts)
+    }
+
+    // DefOpRegion
+    fn region(
+        &mut self,
+        name: &Name,
+        space: u8,
+        offset: Int,
+        length: Int,
+    ) -> Result<(), WriteFault>
+        ensures put { Puts result (item_bytes (region_item name.now space offset length)) self.old self.new }
+        ensures typed { OnOk result (IsItemTyped (region_item name.now space offset length)) }
+    {
+        let parts = [
+            Argument::Name(name),
+            Argument::Byte(space),
+            Argument::Int(offset),
+            Argument::Int(length),
+        ];
+        self.form(&[0x5B, 0x80], &parts)
+    }
+
     // DefExternal
     fn external(&mut self, external: &External) -> Result<(), WriteFault>
         ensures put { Puts result (Some (external_bytes (external_view external.now))) self.old self.new }
@@ -240,8 +269,7 @@ impl Writer {
             Argument::Byte(external.kind),
             Argument::Byte(external.args),
         ];
-        self.form(&[0x15], &parts)?;
-        Ok(())
+        self.form(&[0x15], &parts)
     }
 
     fn externals(&mut self, externals: &[External]) -> Result<(), WriteFault>
@@ -252,6 +280,16 @@ impl Writer {
             self.external(&externals[i])?;
         }
         Ok(())
+    }
+
+    // An If whose test is Zero, with Externals alone
+    fn external_block(&mut self, externals: &[External]) -> Result<(), WriteFault>
+        ensures put { Puts result (item_bytes (external_block_item (externals_view externals.now))) self.old self.new }
+        ensures typed { OnOk result (IsItemTyped (external_block_item (externals_view externals.now))) }
+    {
+        let end = self.len();
+        self.externals(externals)?;
+        self.fill(end, &[0xA0], &[Argument::Int(Int::Zero)])
     }
 
     // A package of fixed arguments and a field list.

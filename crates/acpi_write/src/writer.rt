@@ -186,11 +186,12 @@ impl Writer {
         &mut self,
         opcode: &[u8],
         arguments: &[Argument<'_>],
-    ) -> Result<(), AllocError>
-        ensures put { OnOk result (self.new ≡ (opcode.now ++ pieces arguments.now) ++ self.old) }
+    ) -> Result<(), WriteFault>
+        ensures put { Puts result (Some (opcode.now ++ pieces arguments.now)) self.old self.new }
         ensures typed { OnOk result (AreArgumentsTyped arguments.now) }
     {
         self.arguments(arguments)?;
-        self.bytes(opcode)
+        self.bytes(opcode)?;
+        Ok(())
     }
 }

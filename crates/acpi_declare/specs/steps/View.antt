@@ -1,6 +1,6 @@
 -- The state of the declaration pass, as the definitions see it.
-use Rattle.std.specs.Prelude.{ℕ, List, [], ◌∷◌, ◌++◌, map}
-use Rattle.acpi_name.specs.Names.{Segment, NameParts}
+use Rattle.std.specs.Prelude.{ℕ, List, [], ◌∷◌, ◌++◌}
+use Rattle.acpi_name.specs.Names.{Segment}
 use Rattle.acpi_space.specs.Spaces.{PathMap}
 use Rattle.acpi_space.specs.Lookups.{Lookup, nothing, singleton, union}
 use Rattle.acpi_tree.specs.declared.object.Object.{Object}

@@ -1,4 +1,4 @@
-use Rattle.std.proofs.Common.{◌≡◌, ◌∙◌, length, map, sym, rules}
+use Rattle.std.proofs.Common.{◌≡◌, ◌∙◌, length, sym, rules}
 use Rattle.std.proofs.lemmas.List.{length-map}
 use Rattle.acpi_declare.specs.Declaring.{objects_so_far, state_of}
 use Rattle.acpi_declare.specs.Notes.{notes_of}

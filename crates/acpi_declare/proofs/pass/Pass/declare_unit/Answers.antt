@@ -1,5 +1,5 @@
 use Rattle.std.proofs.Common.{ap}
-use Rattle.acpi_tree.specs.Objects.{object_view}
+use Rattle.acpi_tree.specs.Objects.{field_object}
 use Rattle.acpi_declare.specs.Declaring.{all_pending_of, pending_from}
 use Rattle.acpi_declare.specs.Notes.{notes_of}
 use Rattle.acpi_declare.specs.Sites.{unit_name}
@@ -14,6 +14,6 @@ returns-clause-ok g c =
     let names = c.args.fields.now.names.now in
     let paths = c.args.paths.now.items in
     let before = pass_with (g.S.Space.contents c.args.self.now.objects) c.args.self.now (pending_from s names paths) in
-    declared_linked before _ _ _ s _ (unit_name c.args.seg) (object_view c.args.object) names c.requires c.in_ok-path.ensures.ok c.in_ok-put.ensures.objects
+    declared_linked before _ _ _ s _ (unit_name c.args.seg) (field_object c.args.fields.now.form c.args.fields.now.flags c.args.offset c.args.bits) names c.requires c.in_ok-path.ensures.ok c.in_ok-put.ensures.objects
     (unit_links (all_pending_of c.args.self.now.links.items) _ s names paths _ _ _ (ap (λ v. all_pending_of v.items) c.in_ok-put.ensures.links) c.in_ok-push.ensures.items c.in_ok-copy.ensures)
     (ap notes_of c.in_ok-put.ensures.notes)
