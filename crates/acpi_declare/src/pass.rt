@@ -15,9 +15,9 @@ ghost use Rattle.acpi_declare.specs.steps.Pass.{take_step, take_steps};
 ghost use Rattle.acpi_declare.specs.steps.View.{pass_of, pass_with, with_method};
 ghost use Rattle.acpi_declare.specs.steps.Outcomes.{IsStopOf};
 
-use crate::items::give_back;
 use crate::fault::Stop;
 use crate::field_list::{FieldList, behind, one, two};
+use crate::items::give_back;
 use crate::notes::TableNotes;
 use crate::placing::{declared, declared_unit, put};
 use acpi_name::{Name, Path, PlaceFault, Seg, place};

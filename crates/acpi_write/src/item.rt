@@ -193,11 +193,7 @@ impl Writer {
     {
         let end = self.len();
         self.bytes(code)?;
-        self.fill(
-            end,
-            &[0x14],
-            &[Argument::Name(name), Argument::Byte(flags)],
-        )
+        self.fill(end, &[0x14], &[Argument::Name(name), Argument::Byte(flags)])
     }
 
     // CreateDWordFieldOp and the like
@@ -240,13 +236,7 @@ impl Writer {
     }
 
     // DefOpRegion
-    fn region(
-        &mut self,
-        name: &Name,
-        space: u8,
-        offset: Int,
-        length: Int,
-    ) -> Result<(), WriteFault>
+    fn region(&mut self, name: &Name, space: u8, offset: Int, length: Int) -> Result<(), WriteFault>
         ensures put { Puts result (item_bytes (region_item name.now space offset length)) self.old self.new }
         ensures typed { OnOk result (IsItemTyped (region_item name.now space offset length)) }
     {
