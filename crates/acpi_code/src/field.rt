@@ -6,7 +6,7 @@ ghost use Rattle.acpi_code.specs.steps.Cursor.{Reads, ReadsAll};
 
 use crate::code::Code;
 use crate::fault::FieldFault;
-use acpi_tree::FieldElem;
+use acpi_tree::{BufferData, FieldElem};
 use std::alloc::Global;
 
 #[tactic(auto, unfolding(crate::specs::steps::Fields::connect_buffer_at))]
@@ -15,8 +15,8 @@ fn connect_buffer(alloc: Global, code: &mut Code<'_>) -> Result<FieldElem, Field
 {
     let mut inner = code.package()?;
     let size = inner.int()?;
-    let content = Vec::from_slice(alloc, inner.left())?;
-    Ok(FieldElem::ConnectBuffer(size, content))
+    let bytes = Vec::from_slice(alloc, inner.left())?;
+    Ok(FieldElem::ConnectBuffer(Box::new(alloc, BufferData { size, bytes })?))
 }
 
 #[tactic(auto, unfolding(crate::specs::steps::Fields::connect_name_at))]
@@ -24,7 +24,7 @@ fn connect_name(alloc: Global, code: &mut Code<'_>) -> Result<FieldElem, FieldFa
     ensures { Reads field_view connect_name_at code.old code.new result }
 {
     let name = code.name()?;
-    Ok(FieldElem::ConnectName(name.own(alloc)?))
+    Ok(FieldElem::ConnectName(Box::new(alloc, name.own(alloc)?)?))
 }
 
 #[tactic(auto, unfolding(crate::specs::steps::Fields::connect_at))]

@@ -5,8 +5,9 @@ pub mod StepLists
 pub mod Places
 pub mod Listings
 pub mod OneListing
-pub mod LinkMap
+pub mod ValuesByPath
 pub mod PendingLinks
+pub mod LinkPairs
 pub mod Ranges
 pub mod CodeFaults
 pub mod TableListings

@@ -9,7 +9,7 @@ use Rattle.acpi_space.specs.Search.{missed}
 use Rattle.acpi_space.specs.Wanted.{Wants}
 use Rattle.acpi_space.proofs.Filters.{among_filter}
 use Rattle.acpi_declare.specs.declared.pass.PendingLinks.{PendingLinks}
-use Rattle.acpi_declare.specs.Declaring.{IsMissedLink, pending_from, pending_of, all_pending_of}
+use Rattle.acpi_declare.specs.Declaring.{IsMissedLink, pending_from, pending_of, all_pending_of, linked_paths}
 use Rattle.acpi_declare.specs.Links.{PendingLink}
 use Rattle.acpi_declare.specs.Namespace.{Namespace}
 use Rattle.acpi_declare.specs.steps.Missing.{misses_from}
@@ -100,7 +100,7 @@ module _ (asked : Wants) (objects : Namespace) (ws : List PendingLinks) (w : Pen
   abbrev AreMissed : List (List Segment) → List PendingLink → Type 0
   AreMissed items links = (p : List Segment) → Among items p ↔ (IsMissedLink objects links p × IsTrue (asked p))
 
-  pub with_paths : (after : List (List Segment)) → w.paths.items ≢ [] → after ≡ before ++ misses_from asked objects w.scope w.names.items → AreMissed after (all_pending_of (ws ++ w ∷ []))
+  pub with_paths : (after : List (List Segment)) → (linked_paths w.scope w.paths) ≢ [] → after ≡ before ++ misses_from asked objects w.scope w.names.items → AreMissed after (all_pending_of (ws ++ w ∷ []))
   with_paths after some e =
       subst (λ (l : List (List Segment)). AreMissed l (all_pending_of (ws ++ w ∷ []))) (sym e)
       (subst (AreMissed (before ++ misses_from asked objects w.scope w.names.items)) (sym (one_more_pending ws w)) (λ p. (
@@ -110,14 +110,14 @@ module _ (asked : Wants) (objects : Namespace) (ws : List PendingLinks) (w : Pen
     where
       to : (p : List Segment) → Among before p ⊎ Among (misses_from asked objects w.scope w.names.items) p → IsMissedLink objects (all_pending_of ws ++ pending_of w) p × IsTrue (asked p)
       to p (inl i) = let r = (are p).0 i in (earlier p r.0, r.1)
-      to p (inr i) = let r = from_names asked objects w.scope w.names.items w.paths.items some p i in (this p r.0, r.1)
+      to p (inr i) = let r = from_names asked objects w.scope w.names.items (linked_paths w.scope w.paths) some p i in (this p r.0, r.1)
 
       from : (p : List Segment) → IsMissedLink objects (all_pending_of ws) p ⊎ IsMissedLink objects (pending_of w) p → IsTrue (asked p)
           → Among (before ++ misses_from asked objects w.scope w.names.items) p
       from p (inl r) t = among_both before (misses_from asked objects w.scope w.names.items) p (inl ((are p).1 (r, t)))
-      from p (inr r) t = among_both before (misses_from asked objects w.scope w.names.items) p (inr (to_names asked objects w.scope w.names.items w.paths.items p r t))
+      from p (inr r) t = among_both before (misses_from asked objects w.scope w.names.items) p (inr (to_names asked objects w.scope w.names.items (linked_paths w.scope w.paths) p r t))
 
-  pub without_paths : w.paths.items ≡ [] → AreMissed before (all_pending_of (ws ++ w ∷ []))
+  pub without_paths : (linked_paths w.scope w.paths) ≡ [] → AreMissed before (all_pending_of (ws ++ w ∷ []))
   without_paths none = subst (AreMissed before) (sym (one_more_pending ws w)) (λ p. ((λ i. let r = (are p).0 i in (earlier p r.0, r.1)), (λ r. back p (either p r.0) r.1)))
     where
       back : (p : List Segment) → IsMissedLink objects (all_pending_of ws) p ⊎ IsMissedLink objects (pending_of w) p → IsTrue (asked p) → Among before p

@@ -1,5 +1,6 @@
 -- A term is placed as the cascade of refusals says exactly where the facts hold.
 use Rattle.std.proofs.Common.{◌≡◌, ◌≢◌, ℕ, ◌-◌, ◌++◌, take, length, nat_le, nat_eq, arith, Bool, true, false, cond, List, [], ◌∷◌, is_some, Option, Some, None, IsTrue, Ok, Err, refl, sym, ap, ◌∙◌, subst}
+use Rattle.std.proofs.lemmas.List.{take_all}
 use Rattle.std.specs.Prelude.{find, option_to_list}
 use Rattle.acpi_name.specs.Names.{Segment, NameParts, plain_segment, only_segment}
 use Rattle.acpi_name.specs.Paths.{place_of, parent_of}
@@ -9,7 +10,7 @@ use Rattle.acpi_declare.specs.declared.fault.Refusal.TheVariants.{NotAScope, Tak
 use Rattle.acpi_space.specs.Lookups.{is_defined_in}
 use Rattle.acpi_declare.specs.Namespace.{Namespace, IsOpen}
 use Rattle.acpi_declare.specs.Placing.{IsDeclared, IsOpened, IsPlaced, Placed, if_open, if_free, below, declared_in, declared_path, opened_in, opened_path, placed_path}
-use Rattle.acpi_declare.specs.Sites.{Effect, declares, opens, expects}
+use Rattle.acpi_declare.specs.Sites.{Effect, declares, opens, expects, unit_name}
 
 abbrev at : List Segment → Placed
 at p = Ok p
@@ -62,6 +63,14 @@ below_ok objects p q (Some x) e =
     let f = if_open_ok (parent_of p) q (Some x) (if_free objects p) e in
     let h = if_free_ok objects p q f.1 in
     (f.0, h.0, h.1)
+
+-- a field unit stands in the scope of its list
+pub unit_is : (objects : Namespace) (s : List Segment) (g : Segment) (p : List Segment) → declared_path objects s (unit_name g) ≡ Ok p → s ++ g ∷ [] ≡ p
+unit_is objects s g p e =
+    let within : nat_le 0 (length s) ≡ true = grind arith in
+    let here : place_of s (unit_name g) ≡ place (s ++ g ∷ []) =
+    ap (λ b. optional b (place (take (length s - 0) s ++ g ∷ [])) None) within ∙ ap (λ (l : List Segment). place (l ++ g ∷ [])) (take_all (length s - 0) s (omega arith)) in
+    (below_ok objects (s ++ g ∷ []) p (objects (parent_of (s ++ g ∷ []))) (sym (ap (declared_in objects s (g ∷ [])) here) ∙ e)).1
 
 pub declared_ok : (objects : Namespace) (s : List Segment) (n : NameParts) (p : List Segment) → declared_path objects s n ≡ Ok p → IsDeclared objects s n p
 declared_ok objects s n p e = by n.segments refl (place_of s n) refl e

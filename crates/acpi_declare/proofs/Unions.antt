@@ -41,14 +41,36 @@ laid f true (Some o) v h = let e : Some o ≡ None = h refl in cc
 laid f false None v h = refl
 laid f false (Some o) v h = refl
 
-pub namespace_insert : (m : PathMap Object) (p : List Segment) (o : Object) → get m p ≡ None → namespace_of (insert m p o) ≡ union (namespace_of m) (singleton p (object_view o))
-namespace_insert m p o free = λ i q. at q i
+-- the values of a map, seen through a function
+abbrev pub seen_at : {V W : Type 0} → (V → W) → PathMap V → Lookup W
+seen_at f m q = option_map f (get m q)
+
+pub seen_insert : {V W : Type 0} (f : V → W) (m : PathMap V) (p : List Segment) (v : V) → get m p ≡ None → seen_at f (insert m p v) ≡ union (seen_at f m) (singleton p (f v))
+seen_insert f m p v free = λ i q. at q i
   where
-    at : (q : List Segment) → namespace_of (insert m p o) q ≡ union (namespace_of m) (singleton p (object_view o)) q
-    at q = ap (option_map object_view) (get-insert path_cmp_total m p o q) ∙ laid object_view (is_same_path q p) (get m q) o (λ e. ap (get m) (path_same q p e) ∙ free)
+    at : (q : List Segment) → seen_at f (insert m p v) q ≡ union (seen_at f m) (singleton p (f v)) q
+    at q = ap (option_map f) (get-insert path_cmp_total m p v q) ∙ laid f (is_same_path q p) (get m q) v (λ e. ap (get m) (path_same q p e) ∙ free)
+
+-- where the path has a value, it stays
+pub seen_kept : {V W : Type 0} (f : V → W) (m : PathMap V) (p : List Segment) (w : W) → IsSome (get m p) → seen_at f m ≡ union (seen_at f m) (singleton p w)
+seen_kept f m p w there = λ i q. at q i
+  where
+    by : (o : Option _) (b : Bool) → (b ≡ true → IsSome o) → option_map f o ≡ option_or (option_map f o) (cond b (Some w) None)
+    by None true h = let e : false ≡ true = h refl in cc
+    by (Some v) b h = refl
+    by None false h = refl
+
+    at : (q : List Segment) → seen_at f m q ≡ union (seen_at f m) (singleton p w) q
+    at q = by (get m q) (is_same_path q p) (λ e. subst (λ r. IsSome (get m r)) (sym (path_same q p e)) there)
+
+pub namespace_insert : (m : PathMap Object) (p : List Segment) (o : Object) → get m p ≡ None → namespace_of (insert m p o) ≡ union (namespace_of m) (singleton p (object_view o))
+namespace_insert = seen_insert object_view
+
+pub seen-empty : {V W : Type 0} (f : V → W) → seen_at f empty ≡ nothing
+seen-empty f = λ i q. ap (option_map f) (get-empty path_cmp q) i
 
 pub namespace-empty : namespace_of empty ≡ nothing
-namespace-empty = λ i q. ap (option_map object_view) (get-empty path_cmp q) i
+namespace-empty = seen-empty object_view
 
 -- ---- the predefined objects, one after another
 

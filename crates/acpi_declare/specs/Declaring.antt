@@ -6,6 +6,7 @@ use Rattle.acpi_space.specs.Lookups.{is_defined_in, union}
 use Rattle.acpi_space.specs.Search.{missed}
 use Rattle.acpi_space.specs.Laws.{Among}
 use Rattle.acpi_tree.specs.declared.object.Object.{Object}
+use Rattle.acpi_declare.specs.declared.pass.LinkedPaths.{LinkedPaths}
 use Rattle.acpi_declare.specs.declared.pass.PendingLinks as code_links
 use Rattle.acpi_declare.specs.declared.declaring.Declaring as code
 use Rattle.acpi_declare.specs.declared.notes.TableNotes.{TableNotes}
@@ -50,8 +51,16 @@ pending_for p s names = record { path = p; scope = s; names = names }
 abbrev pub pending_from : List Segment → List NameParts → List (List Segment) → List PendingLink
 pending_from s names paths = map (λ p. pending_for p s names) paths
 
+-- units of a scope, by their segments
+abbrev pub unit_paths : List Segment → List Segment → List (List Segment)
+unit_paths s segs = map (λ g. s ++ g ∷ []) segs
+
+abbrev pub linked_paths : List Segment → LinkedPaths → List (List Segment)
+linked_paths s (LinkedPaths.One p) = p ∷ []
+linked_paths s (LinkedPaths.Units v) = unit_paths s v.items
+
 abbrev pub pending_of : code_links.PendingLinks → List PendingLink
-pending_of w = pending_from w.scope w.names.items w.paths.items
+pending_of w = pending_from w.scope w.names.items (linked_paths w.scope w.paths)
 
 abbrev pub all_pending_of : List code_links.PendingLinks → List PendingLink
 all_pending_of [] = []

@@ -1,15 +1,14 @@
 -- The links of fields and buffer fields, searched over the final objects (ACPI 6.5, 20.2.5.2).
 use Rattle.std.specs.Prelude.{List, [], ◌∷◌, ◌++◌, map, Option}
-use Rattle.std.specs.FinMap.{FinMap, from_entries, get}
-use Rattle.std.specs.BTreeMap.{BTreeMap}
-use Rattle.std.specs.Global.{Vec}
+use Rattle.std.specs.FinMap.{entries, get}
+use Rattle.std.specs.Option.{option_map}
 use Rattle.acpi_name.specs.Names.{Segment, NameParts}
-use Rattle.acpi_name.specs.Paths.{path_cmp}
 use Rattle.acpi_space.specs.Lookups.{Lookup, is_defined_in, nothing, singleton, union}
 use Rattle.acpi_space.specs.Search.{answer}
 use Rattle.acpi_declare.specs.Namespace.{Namespace}
 use Rattle.acpi_declare.specs.Sites.{Effect, declares, opens, expects}
 use Rattle.acpi_declare.specs.Listing.{Placement}
+use Rattle.acpi_declare.specs.declared.link_map.LinkMap.{LinkMap}
 
 -- the links of a declared path: names that are searched from the scope when all tables are declared
 pub record PendingLink : Type 0 where
@@ -49,8 +48,9 @@ links_of objects (w ∷ ws) = union (links_of objects ws) (one_link objects w)
 
 -- ---- the map that holds them
 
-abbrev pub link_map : BTreeMap (List Segment) (Vec (Option (List Segment))) → FinMap path_cmp Links
-link_map m = from_entries (map (λ e. (e.0, e.1.items)) m.entries)
+abbrev pub links_at : LinkMap → Lookup Links
+links_at m p = option_map (λ a. a.value.items) (get m.answers p)
 
-abbrev pub links_at : BTreeMap (List Segment) (Vec (Option (List Segment))) → Lookup Links
-links_at m = get (link_map m)
+-- its pairs, in the order of the paths
+abbrev pub link_pairs : LinkMap → List (List Segment × Links)
+link_pairs m = map (λ e. (e.0, e.1.value.items)) (entries m.answers)

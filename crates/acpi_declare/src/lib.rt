@@ -23,6 +23,7 @@ mod fault;
 mod field_list;
 mod items;
 pub mod laws;
+mod link_map;
 mod links;
 mod load;
 mod notes;
@@ -32,6 +33,7 @@ mod predefined;
 
 pub use declaring::Declaring;
 pub use fault::{LoadFault, LoadReason, Refusal};
+pub use link_map::LinkMap;
 pub use links::copy_answers;
 pub use load::{Declared, declare, declare_shared, shared_tables};
 pub use notes::{Method, TableNotes};

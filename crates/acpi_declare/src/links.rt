@@ -1,26 +1,27 @@
 //! The links of fields and buffer fields, searched over the final objects.
 
-ghost use Rattle.std.specs.Prelude.{◌≡◌, ◌++◌, ◌↔◌, List, IfOk, IfErr, IsTrue, OnOk};
+ghost use Rattle.std.specs.Prelude.{◌≡◌, ◌++◌, ◌↔◌, [], List, IfOk, IfErr, IsTrue, OnOk};
 ghost use Rattle.std.specs.List.{filter};
-ghost use Rattle.std.specs.FinMap as finite;
 ghost use Rattle.acpi_name.specs.Names.{Segment};
 ghost use Rattle.acpi_space.specs.Laws.{Among};
 ghost use Rattle.acpi_space.specs.Search.{answer, missed};
 ghost use Rattle.acpi_space.specs.Lookups.{is_defined_in, union};
-ghost use Rattle.acpi_declare.specs.Declaring.{IsMissedLink, all_pending_of};
+ghost use Rattle.acpi_declare.specs.Declaring.{IsMissedLink, all_pending_of, linked_paths, pending_of, unit_paths};
 ghost use Rattle.acpi_declare.specs.Namespace.{namespace_of};
-ghost use Rattle.acpi_declare.specs.Links.{answers, links_of, link_map, links_at};
+ghost use Rattle.acpi_declare.specs.Links.{answers, links_of, links_at};
 ghost use Rattle.acpi_declare.specs.steps.View.{links_with};
 ghost use Rattle.acpi_declare.specs.steps.Missing.{misses_from};
 
 use crate::fault::LoadFault;
 use crate::items::give_back;
-use crate::pass::PendingLinks;
-use acpi_name::{Name, Path};
+use crate::link_map::LinkMap;
+use crate::pass::{LinkedPaths, PendingLinks};
+use crate::placing::unit_path;
+use acpi_name::{Name, Path, Seg};
 use acpi_space::{Found, SearchFault, Space, Wanted, search, wanted_misses};
 use acpi_terms::Object;
 use std::alloc::{AllocError, Global};
-use std::collections::BTreeMap;
+use std::sync::Arc;
 
 // What the search of one name answers.
 fn answer_of<S: Space<Object>>(
@@ -57,21 +58,6 @@ fn answers_of<S: Space<Object>>(
     Ok(found)
 }
 
-// The answers of one path.
-fn put_link(
-    links: &mut BTreeMap<Path, Vec<Option<Path>>>,
-    path: Path,
-    answers: Vec<Option<Path>>,
-) -> Result<(), LoadFault>
-    ensures ok { OnOk result (link_map links.new ≡ finite.insert (link_map links.old) path answers.items) }
-    ensures memory { IfErr result (λ f. f ≡ LoadFault.Memory) }
-{
-    match links.insert(path, answers) {
-        Ok(_) => Ok(()),
-        Err(_) => Err(LoadFault::Memory),
-    }
-}
-
 /// The same answers once more, with memory of their own.
 pub fn copy_answers(
     alloc: Global,
@@ -89,38 +75,72 @@ pub fn copy_answers(
     Ok(copies)
 }
 
-// The same answers at each of the paths.
-fn put_links(
-    alloc: Global,
-    links: &mut BTreeMap<Path, Vec<Option<Path>>>,
-    paths: Vec<Path>,
-    answers: &[Option<Path>],
-) -> Result<(), LoadFault>
-    ensures ok { OnOk result (links_at links.new ≡ union (links_with answers.now paths.items) (links_at links.old)) }
-    ensures memory { IfErr result (λ f. f ≡ LoadFault.Memory) }
+// The same answers at each of the units of a scope.
+fn put_unit_links(
+    links: &mut LinkMap,
+    scope: &Path,
+    segs: Vec<Seg>,
+    answers: &Arc<Vec<Option<Path>>>,
+) -> Result<(), AllocError>
+    ensures { OnOk result (links_at links.new ≡ union (links_at links.old) (links_with answers.now.value.items (unit_paths scope.now segs.items))) }
 {
-    let mut left = paths;
-    left.reverse();
-    while let Some(path) = left.pop() {
+    let mut left = segs;
+    while let Some(seg) = left.pop() {
         give_back(&mut left);
-        put_link(links, path, copy_answers(alloc, answers)?)?;
+        links.share(unit_path(scope, seg)?, answers)?;
     }
     Ok(())
 }
 
-/// The answers of all links that are pending.
+// The same answers at each of the paths.
+fn put_links(
+    links: &mut LinkMap,
+    scope: &Path,
+    paths: LinkedPaths,
+    answers: &Arc<Vec<Option<Path>>>,
+) -> Result<(), AllocError>
+    ensures { OnOk result (links_at links.new ≡ union (links_at links.old) (links_with answers.now.value.items (linked_paths scope.now paths))) }
+{
+    match paths {
+        LinkedPaths::One(path) => links.share(path, answers),
+        LinkedPaths::Units(segs) => put_unit_links(links, scope, segs, answers),
+    }
+}
+
+// The links that are pending at the paths of one field list, or of one buffer field, with their answers.
+fn put_pending<S: Space<Object>>(
+    alloc: Global,
+    objects: &S,
+    links: &mut LinkMap,
+    pending: PendingLinks,
+) -> Result<(), LoadFault>
+    ensures ok { OnOk result (links_at links.new ≡ union (links_at links.old) (links_of (namespace_of (S.contents objects.now)) (pending_of pending))) }
+    ensures memory { IfErr result (λ f. f ≡ LoadFault.Memory) }
+{
+    let PendingLinks {
+        paths,
+        scope,
+        names,
+    } = pending;
+    let answers = answers_of(alloc, objects, &scope, &names)?;
+    put_links(links, &scope, paths, &Arc::new(alloc, answers)?)?;
+    Ok(())
+}
+
+/// The answers of all links that are pending. Where a path is there several times, the last counts.
 pub(crate) fn linked<S: Space<Object>>(
     alloc: Global,
     objects: &S,
     pending: Vec<PendingLinks>,
-) -> Result<BTreeMap<Path, Vec<Option<Path>>>, LoadFault>
+) -> Result<LinkMap, LoadFault>
     ensures found { IfOk result (λ m. links_at m ≡ links_of (namespace_of (S.contents objects.now)) (all_pending_of pending.items)) }
     ensures memory { IfErr result (λ f. f ≡ LoadFault.Memory) }
 {
-    let mut links = BTreeMap::new(alloc);
-    for link in pending {
-        let found = answers_of(alloc, objects, &link.scope, &link.names)?;
-        put_links(alloc, &mut links, link.paths, &found)?;
+    let mut links = LinkMap::new(alloc);
+    let mut left = pending;
+    while let Some(link) = left.pop() {
+        give_back(&mut left);
+        put_pending(alloc, objects, &mut links, link)?;
     }
     Ok(links)
 }
@@ -160,6 +180,16 @@ fn add_misses<S: Space<Object>, Q: Wanted>(
     Ok(())
 }
 
+// Whether there are no paths.
+fn is_empty(paths: &LinkedPaths) -> bool
+    ensures { (scope : List Segment) → IsTrue result ↔ (linked_paths scope paths.now ≡ []) }
+{
+    match paths {
+        LinkedPaths::One(_) => false,
+        LinkedPaths::Units(segs) => segs.is_empty(),
+    }
+}
+
 /// The paths that the searches of all links that are pending miss, of those that are asked for.
 pub(crate) fn misses_of_links<S: Space<Object>, Q: Wanted>(
     alloc: Global,
@@ -172,7 +202,7 @@ pub(crate) fn misses_of_links<S: Space<Object>, Q: Wanted>(
     let mut missed = Vec::new(alloc);
     for link in pending {
         // A field list without a named unit has no links.
-        if !link.paths.is_empty() {
+        if !is_empty(&link.paths) {
             add_misses(
                 alloc,
                 objects,

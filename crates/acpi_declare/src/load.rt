@@ -17,6 +17,7 @@ ghost use Rattle.acpi_declare.specs.steps.Outcomes.{IsCodeOf, IsTableFault};
 
 use crate::declaring::Declaring;
 use crate::fault::{LoadFault, LoadReason, Stop};
+use crate::link_map::LinkMap;
 use crate::notes::TableNotes;
 use crate::pass::Pass;
 use crate::predefined::predefined_space;
@@ -26,14 +27,13 @@ use acpi_table::{HEADER_BYTES, split_table};
 use acpi_terms::{Depth, Item, ItemFault, Object, read_items_shared};
 use bytes::Bytes;
 use std::alloc::{AllocError, Global};
-use std::collections::BTreeMap;
 
 /// What the tables of a load declare: the namespace, the links of its fields, and what each table notes for
 /// the bodies of its methods.
 #[derive(Drop)]
 pub struct Declared<S> {
     pub(crate) objects: S,
-    pub(crate) links: BTreeMap<Path, Vec<Option<Path>>>,
+    pub(crate) links: LinkMap,
     pub(crate) notes: Vec<TableNotes>,
 }
 
@@ -49,7 +49,7 @@ impl<S> Declared<S> {
 
     /// What the search of each link answers, by the path of the field: the region of a field; index and data
     /// register of an index field; region and bank register of a bank field; the source of a buffer field.
-    pub fn links(&self) -> &BTreeMap<Path, Vec<Option<Path>>>
+    pub fn links(&self) -> &LinkMap
         ensures { result.now ≡ links_in self.now }
     {
         &self.links
@@ -64,7 +64,7 @@ impl<S> Declared<S> {
     }
 
     /// The namespace, the links and the notes, each for its new owner.
-    pub fn into_parts(self) -> (S, BTreeMap<Path, Vec<Option<Path>>>, Vec<TableNotes>)
+    pub fn into_parts(self) -> (S, LinkMap, Vec<TableNotes>)
         ensures objects { result.0 ≡ objects_in self }
         ensures links { result.1 ≡ links_in self }
         ensures notes { result.2.items ≡ notes_in self }

@@ -7,7 +7,7 @@ ghost use Rattle.acpi_tree.specs.Objects.{object_view, field_object, method_obje
 ghost use Rattle.acpi_tree.specs.Fits.{external_fits, item_fits};
 ghost use Rattle.acpi_tree.specs.Offsets.{element_bits, list_bits, OffsetFits};
 ghost use Rattle.acpi_tree.specs.View.{item_view, external_view, externals_view, field_view, fields_view};
-ghost use Rattle.acpi_declare.specs.Declaring.{all_pending_of, pending_from, pending_for};
+ghost use Rattle.acpi_declare.specs.Declaring.{all_pending_of, linked_paths, pending_from, pending_for, unit_paths};
 ghost use Rattle.acpi_declare.specs.Namespace.{namespace_of};
 ghost use Rattle.acpi_declare.specs.Sites.{step, declares_alone, declares, is_leaf, own_steps, external_step, external_steps, unit_step, unit_name, unit_steps};
 ghost use Rattle.acpi_declare.specs.Notes.{notes_of};
@@ -26,11 +26,19 @@ use acpi_terms::{External, FieldElem, FieldForm, Item, Object};
 use bytes::Bytes;
 use std::alloc::{AllocError, Global};
 
-// Declared paths whose links are searched when all tables are declared: the units of one field list, or one
-// buffer field. They have the same names, searched from the same scope.
+// Declared paths that have the same links.
+#[derive(Debug, Drop)]
+pub(crate) enum LinkedPaths {
+    // A buffer field.
+    One(Path),
+    // The units of a field list, by their segments below its scope.
+    Units(Vec<Seg>),
+}
+
+// Declared paths whose links are searched when all tables are declared: the same names, from the same scope.
 #[derive(Debug, Drop)]
 pub(crate) struct PendingLinks {
-    pub(crate) paths: Vec<Path>,
+    pub(crate) paths: LinkedPaths,
     pub(crate) scope: Path,
     pub(crate) names: Vec<Name>,
 }
@@ -47,11 +55,11 @@ pub(crate) struct Pass<S> {
 // Adds the links of some paths.
 fn add_links(
     links: &mut Vec<PendingLinks>,
-    paths: Vec<Path>,
+    paths: LinkedPaths,
     scope: &Path,
     names: Vec<Name>,
 ) -> Result<(), AllocError>
-    ensures { OnOk result (all_pending_of links.new.items ≡ all_pending_of links.old.items ++ pending_from scope.now names.items paths.items) }
+    ensures { OnOk result (all_pending_of links.new.items ≡ all_pending_of links.old.items ++ pending_from scope.now names.items (linked_paths scope.now paths)) }
 {
     links.push(PendingLinks {
         paths,
@@ -63,7 +71,6 @@ fn add_links(
 
 // Adds the links of one path.
 fn add_links_of(
-    alloc: Global,
     links: &mut Vec<PendingLinks>,
     path: &Path,
     scope: &Path,
@@ -71,9 +78,7 @@ fn add_links_of(
 ) -> Result<(), AllocError>
     ensures { OnOk result (all_pending_of links.new.items ≡ all_pending_of links.old.items ++ pending_for path.now scope.now names.items ∷ []) }
 {
-    let mut paths = Vec::new(alloc);
-    paths.push(path.copy()?)?;
-    add_links(links, paths, scope, names)?;
+    add_links(links, LinkedPaths::One(path.copy()?), scope, names)?;
     Ok(())
 }
 
@@ -150,7 +155,7 @@ impl<S: Space<Object>> Pass<S> {
         ensures notes { self.new.notes ≡ self.old.notes }
         ensures lower { OnOk result (S.lower self.new.objects ≡ S.lower self.old.objects) }
     {
-        add_links_of(self.alloc, &mut self.links, &path, scope, names)?;
+        add_links_of(&mut self.links, &path, scope, names)?;
         self.put(path, object)?;
         Ok(())
     }
@@ -174,26 +179,26 @@ impl<S: Space<Object>> Pass<S> {
         Ok(())
     }
 
-    // Declares a field unit, and adds its path to those of its list.
+    // Declares a field unit, and adds its segment to those of its list.
     fn declare_unit(
         &mut self,
         scope: &Path,
         fields: &FieldList<'_>,
-        paths: &mut Vec<Path>,
+        segs: &mut Vec<Seg>,
         seg: Seg,
         offset: u64,
         bits: u32,
     ) -> Result<(), Stop>
         requires { fields.now.names.now ≢ [] }
-        ensures ok { OnOk result (take_step (pass_with (S.contents self.old.objects) self.old (pending_from scope.now fields.now.names.now paths.old.items)) scope.now
+        ensures ok { OnOk result (take_step (pass_with (S.contents self.old.objects) self.old (pending_from scope.now fields.now.names.now (unit_paths scope.now segs.old.items))) scope.now
             (step (unit_name seg) (declares (field_object fields.now.form fields.now.flags offset bits) fields.now.names.now None))
-            ≡ Ok (pass_with (S.contents self.new.objects) self.new (pending_from scope.now fields.now.names.now paths.new.items))) }
-        ensures refused { IfErr result (λ f. IsStopOf f (take_step (pass_with (S.contents self.old.objects) self.old (pending_from scope.now fields.now.names.now paths.old.items)) scope.now
+            ≡ Ok (pass_with (S.contents self.new.objects) self.new (pending_from scope.now fields.now.names.now (unit_paths scope.now segs.new.items)))) }
+        ensures refused { IfErr result (λ f. IsStopOf f (take_step (pass_with (S.contents self.old.objects) self.old (pending_from scope.now fields.now.names.now (unit_paths scope.now segs.old.items))) scope.now
             (step (unit_name seg) (declares (field_object fields.now.form fields.now.flags offset bits) fields.now.names.now None)))) }
         ensures lower { OnOk result (S.lower self.new.objects ≡ S.lower self.old.objects) }
     {
         let path = declared_unit(&self.objects, scope, seg)?;
-        paths.push(path.copy()?)?;
+        segs.push(seg)?;
         let unit = Object::Field {
             form: fields.form,
             flags: fields.flags,
@@ -244,23 +249,23 @@ impl<S: Space<Object>> Pass<S> {
         &mut self,
         scope: &Path,
         fields: &FieldList<'_>,
-        paths: &mut Vec<Path>,
+        segs: &mut Vec<Seg>,
         offset: u64,
         elem: &FieldElem,
     ) -> Result<u64, Stop>
         requires some { fields.now.names.now ≢ [] }
         requires room { offset + element_bits (field_view elem.now) < 2 ^ 64 }
-        ensures ok { OnOk result (take_steps (pass_with (S.contents self.old.objects) self.old (pending_from scope.now fields.now.names.now paths.old.items)) scope.now
+        ensures ok { OnOk result (take_steps (pass_with (S.contents self.old.objects) self.old (pending_from scope.now fields.now.names.now (unit_paths scope.now segs.old.items))) scope.now
             (unit_step fields.now.form fields.now.flags fields.now.names.now offset (field_view elem.now))
-            ≡ Ok (pass_with (S.contents self.new.objects) self.new (pending_from scope.now fields.now.names.now paths.new.items))) }
+            ≡ Ok (pass_with (S.contents self.new.objects) self.new (pending_from scope.now fields.now.names.now (unit_paths scope.now segs.new.items)))) }
         ensures behind { IfOk result (λ n. n ≡ offset + element_bits (field_view elem.now)) }
-        ensures refused { IfErr result (λ f. IsStopOf f (take_steps (pass_with (S.contents self.old.objects) self.old (pending_from scope.now fields.now.names.now paths.old.items)) scope.now
+        ensures refused { IfErr result (λ f. IsStopOf f (take_steps (pass_with (S.contents self.old.objects) self.old (pending_from scope.now fields.now.names.now (unit_paths scope.now segs.old.items))) scope.now
             (unit_step fields.now.form fields.now.flags fields.now.names.now offset (field_view elem.now)))) }
         ensures lower { OnOk result (S.lower self.new.objects ≡ S.lower self.old.objects) }
     {
         match elem {
             FieldElem::Unit(seg, bits) => {
-                self.declare_unit(scope, fields, paths, *seg, offset, *bits)?;
+                self.declare_unit(scope, fields, segs, *seg, offset, *bits)?;
                 Ok(behind(offset, *bits))
             }
             FieldElem::Reserved(bits) => Ok(behind(offset, *bits)),
@@ -268,20 +273,20 @@ impl<S: Space<Object>> Pass<S> {
         }
     }
 
-    // Declares the units of a field list, and adds their paths.
+    // Declares the units of a field list, and adds their segments.
     fn declare_units(
         &mut self,
         scope: &Path,
         fields: &FieldList<'_>,
-        paths: &mut Vec<Path>,
+        segs: &mut Vec<Seg>,
         elems: Vec<FieldElem>,
     ) -> Result<(), Stop>
         requires some { fields.now.names.now ≢ [] }
         requires room { list_bits (fields_view elems.items) < 2 ^ 64 }
-        ensures ok { OnOk result (take_steps (pass_with (S.contents self.old.objects) self.old (pending_from scope.now fields.now.names.now paths.old.items)) scope.now
+        ensures ok { OnOk result (take_steps (pass_with (S.contents self.old.objects) self.old (pending_from scope.now fields.now.names.now (unit_paths scope.now segs.old.items))) scope.now
             (unit_steps fields.now.form fields.now.flags fields.now.names.now 0 (fields_view elems.items))
-            ≡ Ok (pass_with (S.contents self.new.objects) self.new (pending_from scope.now fields.now.names.now paths.new.items))) }
-        ensures refused { IfErr result (λ f. IsStopOf f (take_steps (pass_with (S.contents self.old.objects) self.old (pending_from scope.now fields.now.names.now paths.old.items)) scope.now
+            ≡ Ok (pass_with (S.contents self.new.objects) self.new (pending_from scope.now fields.now.names.now (unit_paths scope.now segs.new.items)))) }
+        ensures refused { IfErr result (λ f. IsStopOf f (take_steps (pass_with (S.contents self.old.objects) self.old (pending_from scope.now fields.now.names.now (unit_paths scope.now segs.old.items))) scope.now
             (unit_steps fields.now.form fields.now.flags fields.now.names.now 0 (fields_view elems.items)))) }
         ensures lower { OnOk result (S.lower self.new.objects ≡ S.lower self.old.objects) }
     {
@@ -290,7 +295,7 @@ impl<S: Space<Object>> Pass<S> {
         left.reverse();
         while let Some(elem) = left.pop() {
             give_back(&mut left);
-            offset = self.declare_elem(scope, fields, paths, offset, &elem)?;
+            offset = self.declare_elem(scope, fields, segs, offset, &elem)?;
         }
         Ok(())
     }
@@ -440,14 +445,14 @@ impl<S: Space<Object>> Pass<S> {
         ensures refused { IfErr result (λ f. IsStopOf f (take_steps (pass_of (S.contents self.old.objects) self.old) scope.now (unit_steps form flags names.items 0 (fields_view elems.items)))) }
         ensures lower { OnOk result (S.lower self.new.objects ≡ S.lower self.old.objects) }
     {
-        let mut paths = Vec::new(self.alloc);
+        let mut segs = Vec::new(self.alloc);
         let fields = FieldList {
             form,
             flags,
             names: &names,
         };
-        self.declare_units(scope, &fields, &mut paths, elems)?;
-        add_links(&mut self.links, paths, scope, names)?;
+        self.declare_units(scope, &fields, &mut segs, elems)?;
+        add_links(&mut self.links, LinkedPaths::Units(segs), scope, names)?;
         Ok(())
     }
 }

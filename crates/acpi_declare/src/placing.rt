@@ -86,6 +86,15 @@ pub(crate) fn declared<S: Space<Object>>(
     }
 }
 
+/// The path of a field unit: one segment below the scope of its field list.
+pub(crate) fn unit_path(scope: &Path, seg: Seg) -> Result<Path, AllocError>
+    ensures { IfOk result (λ p. p ≡ scope.now ++ seg ∷ []) }
+{
+    let mut path = scope.copy()?;
+    path.push(seg)?;
+    Ok(path)
+}
+
 // Where a field unit is declared.
 pub(crate) fn declared_unit<S: Space<Object>>(
     objects: &S,
@@ -95,9 +104,7 @@ pub(crate) fn declared_unit<S: Space<Object>>(
     ensures ok { IfOk result (λ p. declared_path (namespace_of (S.contents objects.now)) scope.now (unit_name seg) ≡ Ok p) }
     ensures refused { IfErr result (λ f. IsStopOf f (declared_path (namespace_of (S.contents objects.now)) scope.now (unit_name seg))) }
 {
-    let mut path = scope.copy()?;
-    path.push(seg)?;
-    free_below(objects, path)
+    free_below(objects, unit_path(scope, seg)?)
 }
 
 // The scope that a Scope term opens.

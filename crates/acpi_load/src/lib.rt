@@ -38,7 +38,9 @@
 //! ```
 #![tactic(auto)]
 
-pub use acpi_declare::{Declared, LoadFault, LoadReason, Refusal, declare, declare_shared, laws};
+pub use acpi_declare::{
+    Declared, LinkMap, LoadFault, LoadReason, Refusal, declare, declare_shared, laws,
+};
 pub use acpi_machine::{Machine, explain, explain_shared, load, load_shared};
 pub use acpi_rewrite::{rewrite, rewrite_shared, rewriting_laws};
 pub use acpi_verdict::{

@@ -5,7 +5,7 @@ use Rattle.acpi_name.specs.Paths.{path_cmp}
 use Rattle.acpi_space.specs.Lookups.{Lookup, singleton, union}
 use Rattle.acpi_declare.specs.Namespace.{Namespace}
 use Rattle.acpi_declare.specs.Notes as notes
-use Rattle.acpi_declare.proofs.LinkMap.{get_inserted}
+use Rattle.acpi_declare.proofs.ValuesByPath.{get_inserted}
 use Rattle.acpi_declare.proofs.Unions.{union_assoc}
 use Rattle.acpi_body.specs.Arguments.{arguments}
 use Rattle.acpi_body.specs.Bodies.{BodyTree, IsBodyOf}

@@ -1,8 +1,7 @@
 -- What a `Machine` holds.
-use Rattle.std.specs.Prelude.{List, Option, map}
+use Rattle.std.specs.Prelude.{List, map}
 use Rattle.std.specs.FinMap.{FinMap, from_entries, get}
 use Rattle.std.specs.BTreeMap.{BTreeMap}
-use Rattle.std.specs.Global.{Vec}
 use Rattle.acpi_name.specs.Names.{Segment}
 use Rattle.acpi_name.specs.Paths.{path_cmp}
 use Rattle.acpi_space.specs.Spaces.{PathMap}
@@ -10,6 +9,7 @@ use Rattle.acpi_space.specs.Lookups.{Lookup}
 use Rattle.acpi_tree.specs.declared.object.Object.{Object}
 use Rattle.acpi_declare.specs.Namespace.{namespace_of}
 use Rattle.acpi_declare.specs.Links.{links_at}
+use Rattle.acpi_declare.specs.declared.link_map.LinkMap.{LinkMap}
 use Rattle.acpi_body.specs.declared.body.Body.{Body}
 use Rattle.acpi_body.specs.Bodies.{BodyTree, body_view}
 use Rattle.acpi_order.specs.Machines.{Machine}
@@ -18,7 +18,7 @@ use Rattle.acpi_machine.specs.declared.machine.Machine as code
 abbrev pub objects_in : {S : Type 0} → code.Machine S → S
 objects_in m = m.objects
 
-abbrev pub links_in : {S : Type 0} → code.Machine S → BTreeMap (List Segment) (Vec (Option (List Segment)))
+abbrev pub links_in : {S : Type 0} → code.Machine S → LinkMap
 links_in m = m.links
 
 abbrev pub bodies_in : {S : Type 0} → code.Machine S → BTreeMap (List Segment) Body

@@ -10,7 +10,7 @@ ghost use Rattle.acpi_machine.specs.MachineView.{objects_in, links_in, bodies_in
 
 use crate::bodies::read_bodies;
 use acpi_body::Body;
-use acpi_declare::{LoadFault, declare_shared, shared_tables};
+use acpi_declare::{LinkMap, LoadFault, declare_shared, shared_tables};
 use acpi_name::Path;
 use acpi_order::laws::independent_tables_load;
 use acpi_space::Space;
@@ -25,7 +25,7 @@ pub struct Machine<S> {
     /// The namespace.
     pub objects: S,
     /// What the search of each link answers, by the path of the field.
-    pub links: BTreeMap<Path, Vec<Option<Path>>>,
+    pub links: LinkMap,
     /// The body of each method that a table declares, by the method's path.
     pub bodies: BTreeMap<Path, Body>,
 }
@@ -42,7 +42,7 @@ impl<S> Machine<S> {
 
     /// What the search of each link answers, by the path of the field: the region of a field; index and data
     /// register of an index field; region and bank register of a bank field; the source of a buffer field.
-    pub fn links(&self) -> &BTreeMap<Path, Vec<Option<Path>>>
+    pub fn links(&self) -> &LinkMap
         ensures { result.now ≡ links_in self.now }
     {
         &self.links

@@ -1,7 +1,7 @@
 -- A node among the nodes of a tree, and one that is written.
 use Rattle.std.proofs.Common.{◌≡◌, ◌≢◌, ℕ, zero, suc, ◌<◌, ◌≤◌, List, [], ◌∷◌, length, Some, None, slice_get, slice_set, slice_index_or, refl, sym, ap, ◌∙◌, arith, Result, Ok, Err, OnErr}
 use Rattle.acpi_space.specs.declared.nodes.Node.{Node}
-use Rattle.acpi_space.specs.steps.Tree.{node_children, node_value}
+use Rattle.acpi_space.specs.steps.Tree.{entries_of, node_children, node_value}
 
 pub on_err : {A E : Type 0} (P : Type 0) (r : Result A E) → P → OnErr r P
 on_err P (Ok x) h = tt
@@ -36,9 +36,9 @@ module _ {V : Type 0} (nodes : List (Node V)) (number : ℕ) (was : Node V) (wit
   pub written_value : (node : Node V) → node.value ≡ was.value → node_value (slice_get (slice_set nodes number node) number) ≡ node_value (slice_get nodes number)
   written_value node e = ap node_value (get_set nodes number node within) ∙ e ∙ ap node_value (sym found_node)
 
-  pub children_before : was.children.entries ≡ node_children (slice_get nodes number)
+  pub children_before : entries_of was.children ≡ node_children (slice_get nodes number)
   children_before = ap node_children (sym found_node)
 
 pub written_children : {V : Type 0} (nodes : List (Node V)) (number : ℕ) (node : Node V) → number < length nodes
-    → node_children (slice_get (slice_set nodes number node) number) ≡ node.children.entries
+    → node_children (slice_get (slice_set nodes number node) number) ≡ entries_of node.children
 written_children nodes number node within = ap node_children (get_set nodes number node within)

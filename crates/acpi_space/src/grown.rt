@@ -9,12 +9,12 @@ ghost use Rattle.acpi_space.specs.steps.Grown.{HasPut, IsGrown, IsPadded};
 ghost use Rattle.acpi_space.specs.steps.Trail.{IsTrail};
 ghost use Rattle.acpi_space.specs.steps.Tree.{IsTree, child_at, node_children, node_value, reached, value_below};
 
+use crate::children::Children;
 use crate::nodes::{Node, child};
 use crate::space::Refused;
 use crate::trail::{Mark, extend, follow};
 use acpi_name::Seg;
 use std::alloc::{AllocError, Global};
-use std::collections::BTreeMap;
 
 /// The number of the node at a path, by a walk that begins where the path leaves the trail; the trail then
 /// leads to it, or part of the way. Nodes without a value are put where there are none yet; where
@@ -33,7 +33,7 @@ pub(crate) fn reach<V: Drop>(
     ensures absent { OnErr result (value_below nodes.old.items 0 path.now ≡ None) }
     ensures trail { IsTrail nodes.new.items 0 trail.new.items }
 {
-    root(alloc, nodes)?;
+    root(nodes)?;
     let at = follow(trail, path);
     trail.truncate(at.depth);
     reach_from(alloc, nodes, trail, at.number, &path[at.depth..])
@@ -66,14 +66,14 @@ fn reach_from<V: Drop>(
 }
 
 // Puts the root, where there is no node.
-fn root<V: Drop>(alloc: Global, nodes: &mut Vec<Node<V>>) -> Result<(), AllocError>
+fn root<V: Drop>(nodes: &mut Vec<Node<V>>) -> Result<(), AllocError>
     requires { IsTree nodes.old.items }
     ensures grown { IsGrown nodes.old.items nodes.new.items }
     ensures ok { OnOk result (0 < length nodes.new.items) }
     ensures err { OnErr result (length nodes.old.items ≡ 0) }
 {
     if nodes.is_empty() {
-        push_empty(alloc, nodes)?;
+        push_empty(nodes)?;
     }
     Ok(())
 }
@@ -111,26 +111,32 @@ fn add_child<V: Drop>(
     ensures child { IfOk result (λ m. child_at nodes.new.items number seg ≡ Some m) }
 {
     let next = nodes.len();
-    push_empty(alloc, nodes)?;
-    link(nodes, number, seg, next)?;
+    push_empty(nodes)?;
+    link(alloc, nodes, number, seg, next)?;
     Ok(next)
 }
 
 // Puts a node with neither value nor children at the end.
-fn push_empty<V: Drop>(alloc: Global, nodes: &mut Vec<Node<V>>) -> Result<(), AllocError>
+fn push_empty<V: Drop>(nodes: &mut Vec<Node<V>>) -> Result<(), AllocError>
     ensures padded { IsPadded nodes.old.items nodes.new.items }
     ensures ok { OnOk result (length nodes.new.items ≡ length nodes.old.items + 1) }
     ensures err { OnErr result (length nodes.new.items ≡ length nodes.old.items) }
 {
     nodes.push(Node {
         value: None,
-        children: BTreeMap::new(alloc),
+        children: Children::none(),
     })?;
     Ok(())
 }
 
 // Makes a node the child of another at a segment.
-fn link<V>(nodes: &mut Vec<Node<V>>, number: usize, seg: Seg, next: usize) -> Result<(), AllocError>
+fn link<V>(
+    alloc: Global,
+    nodes: &mut Vec<Node<V>>,
+    number: usize,
+    seg: Seg,
+    next: usize,
+) -> Result<(), AllocError>
     requires { number < length nodes.old.items }
     ensures len { length nodes.new.items ≡ length nodes.old.items }
     ensures others { (n : ℕ) → n ≢ number → slice_get nodes.new.items n ≡ slice_get nodes.old.items n }
@@ -140,7 +146,7 @@ fn link<V>(nodes: &mut Vec<Node<V>>, number: usize, seg: Seg, next: usize) -> Re
     ensures child { OnOk result ((g : Segment) → child_at nodes.new.items number g ≡ cond (is_eq (segment_cmp seg g)) (Some next) (child_at nodes.old.items number g)) }
     ensures err { OnErr result (node_children (slice_get nodes.new.items number) ≡ node_children (slice_get nodes.old.items number)) }
 {
-    nodes[number].children.insert(seg, next)?;
+    nodes[number].children.insert(alloc, seg, next)?;
     Ok(())
 }
 

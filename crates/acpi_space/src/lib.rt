@@ -22,6 +22,7 @@
 //! standard says of a search, and when its answer stays, are contracts in `laws`.
 #![tactic(auto)]
 
+mod children;
 mod grown;
 pub mod laws;
 mod lookup;

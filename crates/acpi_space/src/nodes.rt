@@ -2,11 +2,10 @@
 ghost use Rattle.std.specs.Prelude.{◌≡◌, length, slice_get, find, is_some, if◌then◌else◌, ◌++◌, [], ◌∷◌, Some};
 ghost use Rattle.std.specs.Option.{option_copied, option_map};
 ghost use Rattle.acpi_space.specs.Search.{beginnings};
-ghost use Rattle.acpi_space.specs.steps.Tree.{child_at, child_of, node_value, value_below};
+ghost use Rattle.acpi_space.specs.steps.Tree.{child_at, node_value, value_below};
 
+use crate::children::Children;
 use acpi_name::Seg;
-use std::alloc::{AllocError, Global};
-use std::collections::BTreeMap;
 
 /// A node of the tree, at the path whose segments lead to it from the root.
 #[derive(Drop)]
@@ -14,14 +13,7 @@ pub struct Node<V> {
     /// What stands at the path, if anything does.
     pub value: Option<V>,
     /// The numbers of the nodes one segment below, in the order of the segments.
-    pub children: BTreeMap<Seg, usize>,
-}
-
-// The number of the child at a segment.
-fn number_of(children: &BTreeMap<Seg, usize>, seg: Seg) -> Option<usize>
-    ensures { result ≡ child_of children.now.entries seg }
-{
-    children.get(&seg).copied()
+    pub children: Children,
 }
 
 /// The number of a node's child at a segment.
@@ -29,7 +21,7 @@ pub(crate) fn child<V>(nodes: &[Node<V>], number: usize, seg: Seg) -> Option<usi
     ensures { result ≡ child_at nodes.now number seg }
 {
     match nodes.get(number) {
-        Some(node) => number_of(&node.children, seg),
+        Some(node) => node.children.get(seg),
         None => None,
     }
 }

@@ -7,8 +7,6 @@ ghost use Rattle.acpi_space.specs.steps.Walk.{enter, next_ahead, ahead};
 use crate::nodes::{Node, value};
 use acpi_name::{Path, Seg};
 use std::alloc::{AllocError, Global};
-use std::collections::BTreeMap;
-use std::iter::DoubleEndedIterator;
 
 /// A step of the walk.
 #[derive(Drop)]
@@ -94,19 +92,9 @@ fn push_children<V>(
     ensures { OnOk result (reverse steps.new.items ≡ map enter (node_children (slice_get nodes.now number)) ++ reverse steps.old.items) }
 {
     match nodes.get(number) {
-        Some(node) => push_entries(&node.children, steps),
+        Some(node) => node.children.push_steps(steps),
         None => Ok(()),
     }
-}
-
-// .. into each child of a list.
-fn push_entries(children: &BTreeMap<Seg, usize>, steps: &mut Vec<Step>) -> Result<(), AllocError>
-    ensures { OnOk result (reverse steps.new.items ≡ map enter children.now.entries ++ reverse steps.old.items) }
-{
-    for (seg, number) in children.iter().rev() {
-        steps.push(Step::Enter(*seg, *number))?;
-    }
-    Ok(())
 }
 
 // Leaves nodes until there is one to enter, and enters it.

@@ -20,7 +20,26 @@ use crate::form::{
 use acpi_code::{Code, Depth, Opcode};
 use acpi_tree::Item;
 use bytes::Bytes;
-use std::alloc::Global;
+use std::alloc::{AllocError, Global};
+
+/// The longest list that doubles its memory where it is full.
+const FEW: usize = 16;
+
+// Makes room for one more item. A long list grows by an eighth: the lists of scopes inside one another all wait until
+// the innermost has been read, and would be half empty. Room is made before the item is read, so that a list does not
+// move behind those inside it.
+fn make_room(items: &mut Vec<Item>) -> Result<(), AllocError>
+    ensures { items.new.items ≡ items.old.items }
+{
+    if items.len() == items.capacity() {
+        if items.len() < FEW {
+            items.reserve(1)?;
+        } else {
+            items.reserve_exact(items.len() / 8)?;
+        }
+    }
+    Ok(())
+}
 
 #[cycle(items)]
 #[tactic(auto, using(crate::proofs::Parts::part_fails))]
@@ -154,6 +173,7 @@ fn items(alloc: Global, level: u32, code: &mut Code<'_>) -> Result<Vec<Item>, It
 {
     let mut found = Vec::new(alloc);
     'each: while !code.is_empty() {
+        make_room(&mut found)?;
         found.push(item(alloc, level, code)?)?;
     }
     Ok(found)

@@ -26,8 +26,8 @@ mod part;
 
 pub use acpi_code::Depth;
 pub use acpi_tree::{
-    Data, Decl, Elem, External, FieldElem, FieldForm, Int, Item, Object, Op, Operand, Term, Width,
-    items_fit, terms_fit,
+    BufferData, Data, Decl, Elem, External, FieldElem, FieldForm, Int, Item, Object, Op, Operand,
+    Term, Width, items_fit, terms_fit,
 };
 pub use fault::{ItemFault, ItemReason};
 pub use item::{read_items, read_items_shared};

@@ -6,7 +6,7 @@ ghost use Rattle.acpi_tree.specs.Objects.{object_view};
 
 use crate::item_copies::{copy_leaf, device_of, power_of, processor_of, scope_of, thermal_of};
 use crate::object::Object;
-use crate::tree::{Data, Elem, External, FieldElem, Item};
+use crate::tree::{BufferData, Data, Elem, External, FieldElem, Item};
 use std::alloc::{AllocError, Global};
 
 impl Data {
@@ -49,6 +49,19 @@ fn copy_elems(alloc: Global, elems: &[Elem]) -> Result<Vec<Elem>, AllocError>
     Ok(copies)
 }
 
+impl BufferData {
+    /// An equal buffer with memory of its own.
+    pub fn copy(&self, alloc: Global) -> Result<BufferData, AllocError>
+        ensures size { IfOk result (λ d. d.size ≡ self.now.size) }
+        ensures bytes { IfOk result (λ d. d.bytes.items ≡ self.now.bytes.items) }
+    {
+        Ok(BufferData {
+            size: self.size,
+            bytes: Vec::from_slice(alloc, &self.bytes)?,
+        })
+    }
+}
+
 impl FieldElem {
     /// An equal element with memory of its own.
     pub fn copy(&self, alloc: Global) -> Result<FieldElem, AllocError>
@@ -58,9 +71,11 @@ impl FieldElem {
             FieldElem::Unit(seg, bits) => Ok(FieldElem::Unit(*seg, *bits)),
             FieldElem::Reserved(bits) => Ok(FieldElem::Reserved(*bits)),
             FieldElem::Access(kind, attribute) => Ok(FieldElem::Access(*kind, *attribute)),
-            FieldElem::ConnectName(name) => Ok(FieldElem::ConnectName(name.copy()?)),
-            FieldElem::ConnectBuffer(size, s) => {
-                Ok(FieldElem::ConnectBuffer(*size, Vec::from_slice(alloc, s)?))
+            FieldElem::ConnectName(name) => {
+                Ok(FieldElem::ConnectName(Box::new(alloc, name.copy()?)?))
+            }
+            FieldElem::ConnectBuffer(data) => {
+                Ok(FieldElem::ConnectBuffer(Box::new(alloc, data.copy(alloc)?)?))
             }
             FieldElem::Extended(kind, attribute, bytes) => {
                 Ok(FieldElem::Extended(*kind, *attribute, *bytes))

@@ -26,4 +26,4 @@ pub use op::Op;
 pub use place::{NamedForm, OperandKind, Place, UnitsForm};
 pub use standing::terms_fit;
 pub use term::{Decl, Operand, Term};
-pub use tree::{Data, Elem, External, FieldElem, Int, Item, Width};
+pub use tree::{BufferData, Data, Elem, External, FieldElem, Int, Item, Width};

@@ -2,7 +2,7 @@
 
 ghost use Rattle.std.specs.Prelude.{◌≡◌, IsTrue, ◌↔◌};
 ghost use Rattle.std.specs.Cmp.{partial_equiv_from_equiv, on_equiv};
-ghost use Rattle.acpi_tree.specs.Tree.{elems_of};
+ghost use Rattle.acpi_tree.specs.Tree.{connect_buffer, elems_of};
 ghost use Rattle.acpi_tree.specs.View.{data_view, elem_view, elems_view, field_view, fields_view, external_view, externals_view, item_view};
 ghost use Rattle.acpi_tree.specs.Objects.{object_view};
 ghost use Rattle.acpi_tree.specs.steps.Equality.{equivalence, data_tells, elem_tells, field_tells, external_tells, item_tells, object_tells};
@@ -10,7 +10,7 @@ ghost use Rattle.acpi_tree.specs.Equal.{int_eq, width_eq, field_form_eq, data_eq
 
 use crate::item_same::same_item;
 use crate::object::{FieldForm, Object};
-use crate::tree::{Data, Elem, External, FieldElem, Int, Item, Width};
+use crate::tree::{BufferData, Data, Elem, External, FieldElem, Int, Item, Width};
 
 pub(crate) fn same_int(a: Int, b: Int) -> bool
     ensures { result ≡ int_eq a b }
@@ -82,6 +82,12 @@ fn same_elems(a: &[Elem], b: &[Elem]) -> bool
     true
 }
 
+fn same_buffer(a: &BufferData, b: &BufferData) -> bool
+    ensures { result ≡ field_eq (connect_buffer a.now.size a.now.bytes.items) (connect_buffer b.now.size b.now.bytes.items) }
+{
+    same_int(a.size, b.size) && a.bytes == b.bytes
+}
+
 fn same_field(a: &FieldElem, b: &FieldElem) -> bool
     ensures { result ≡ field_eq (field_view a.now) (field_view b.now) }
 {
@@ -89,9 +95,8 @@ fn same_field(a: &FieldElem, b: &FieldElem) -> bool
         (FieldElem::Unit(s, m), FieldElem::Unit(t, n)) => s == t && m == n,
         (FieldElem::Reserved(m), FieldElem::Reserved(n)) => m == n,
         (FieldElem::Access(k, l), FieldElem::Access(m, n)) => k == m && l == n,
-        (FieldElem::ConnectName(m), FieldElem::ConnectName(n)) => m == n,
-        (FieldElem::ConnectBuffer(i, s), FieldElem::ConnectBuffer(j, t)) => same_int(*i, *j)
-            && s == t,
+        (FieldElem::ConnectName(m), FieldElem::ConnectName(n)) => **m == **n,
+        (FieldElem::ConnectBuffer(s), FieldElem::ConnectBuffer(t)) => same_buffer(s, t),
         (FieldElem::Extended(j, k, l), FieldElem::Extended(m, n, o)) => j == m && k == n && l == o,
         _ => false,
     }

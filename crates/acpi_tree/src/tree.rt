@@ -50,7 +50,16 @@ pub enum Elem {
     Name(Name),
 }
 
-/// An element of a field list.
+/// A buffer that describes a connection: its size as written, and the bytes that are given.
+#[derive(Debug, Drop)]
+pub struct BufferData {
+    /// The size.
+    pub size: Int,
+    /// The bytes.
+    pub bytes: Vec<u8>,
+}
+
+/// An element of a field list. Lists of them are long, so what is rare and large stands apart.
 #[derive(Debug, Drop)]
 pub enum FieldElem {
     /// A named field unit, and its width in bits.
@@ -60,9 +69,9 @@ pub enum FieldElem {
     /// AccessField: access type and attribute.
     Access(u8, u8),
     /// ConnectField by the name of a connection.
-    ConnectName(Name),
-    /// ConnectField by a buffer: its size as written, and the bytes that are given.
-    ConnectBuffer(Int, Vec<u8>),
+    ConnectName(Box<Name>),
+    /// ConnectField by a buffer.
+    ConnectBuffer(Box<BufferData>),
     /// ExtendedAccessField: access type, attribute and length.
     Extended(u8, u8, u8),
 }

@@ -16,7 +16,7 @@ use Rattle.acpi_space.specs.Lookups.{Lookup, is_same_path, singleton, union}
 use Rattle.acpi_space.specs.Spaces.{PathMap}
 use Rattle.acpi_space.proofs.Maps.{entries_ascending, get_is_lookup}
 use Rattle.acpi_tree.specs.steps.Equality.{Tells, lists_tell}
-use Rattle.acpi_declare.proofs.LinkMap.{get_inserted, lookup_mapped, put_mapped}
+use Rattle.acpi_declare.proofs.ValuesByPath.{get_inserted, lookup_mapped, put_mapped}
 use Rattle.acpi_order.proofs.Lists.{one_some}
 use Rattle.acpi_verdict.specs.steps.Joining.{Gains, Clash, JoinsValue}
 use Rattle.acpi_verdict.proofs.PathSets.{pair_is}

@@ -9,7 +9,7 @@ use Rattle.acpi_space.specs.Lookups.{Lookup}
 use Rattle.acpi_space.specs.Spaces.{PathMap}
 use Rattle.acpi_counts.specs.Counts.{with_first}
 use Rattle.acpi_declare.specs.Namespace.{Namespace}
-use Rattle.acpi_declare.proofs.LinkMap.{get_inserted}
+use Rattle.acpi_declare.proofs.ValuesByPath.{get_inserted}
 use Rattle.acpi_body.specs.declared.misses.OpenMiss.{OpenMiss}
 use Rattle.acpi_body.specs.Arguments.{arguments}
 use Rattle.acpi_body.specs.Bodies.{BodyTree, read, unread, IsBodyOf}

@@ -13,7 +13,7 @@ ghost use Rattle.acpi_verdict.specs.steps.Joining.{JoinsValue, JoinsPart, JoinsM
 
 use crate::singles::Single;
 use acpi_body::Body;
-use acpi_declare::copy_answers;
+use acpi_declare::{LinkMap, copy_answers};
 use acpi_machine::Machine;
 use acpi_name::Path;
 use acpi_space::{Refused, Space};
@@ -65,30 +65,24 @@ fn same_answers(answers: &[Option<Path>], others: &[Option<Path>]) -> bool
 // Adds copies of the answers of a path, and tells whether it has no others.
 fn add_link(
     alloc: Global,
-    links: &mut BTreeMap<Path, Vec<Option<Path>>>,
-    path: &Path,
+    links: &mut LinkMap,
+    path: Path,
     answers: &[Option<Path>],
 ) -> Result<bool, AllocError>
-    ensures { IfOk result (λ b. JoinsValue (links_at links.old) (links_at links.new) path.now answers.now b) }
+    ensures { IfOk result (λ b. JoinsValue (links_at links.old) (links_at links.new) path answers.now b) }
 {
-    if let Some(others) = links.get(path) {
+    if let Some(others) = links.get(&path) {
         return Ok(same_answers(others, answers));
     }
-    match links.insert(path.copy()?, copy_answers(alloc, answers)?) {
-        Ok(_) => Ok(true),
-        Err(_) => Err(AllocError),
-    }
+    links.insert(alloc, path, copy_answers(alloc, answers)?)?;
+    Ok(true)
 }
 
 // Adds copies of all links of a part.
-fn add_links(
-    alloc: Global,
-    links: &mut BTreeMap<Path, Vec<Option<Path>>>,
-    part: &BTreeMap<Path, Vec<Option<Path>>>,
-) -> Result<bool, AllocError>
+fn add_links(alloc: Global, links: &mut LinkMap, part: &LinkMap) -> Result<bool, AllocError>
     ensures { IfOk result (λ b. JoinsPart (links_at links.old) (links_at links.new) (links_at part.now) b) }
 {
-    for (path, answers) in part.iter() {
+    for (path, answers) in part.pairs(alloc)? {
         if !add_link(alloc, links, path, answers)? {
             return Ok(false);
         }
@@ -165,7 +159,7 @@ pub fn join<S: Space<Object>>(
     }
     let mut joined = Machine {
         objects: S::new(alloc),
-        links: BTreeMap::new(alloc),
+        links: LinkMap::new(alloc),
         bodies: BTreeMap::new(alloc),
     };
     for single in singles {

@@ -119,7 +119,7 @@ impl Writer {
                 self.byte(0x02)?;
                 Ok(())
             }
-            FieldElem::ConnectBuffer(size, content) => self.buffer(&[0x02, 0x11], *size, content),
+            FieldElem::ConnectBuffer(data) => { self.buffer(&[0x02, 0x11], data.size, &data.bytes) }
             FieldElem::Extended(kind, attribute, length) => {
                 self.bytes(&[0x03, *kind, *attribute, *length])?;
                 Ok(())

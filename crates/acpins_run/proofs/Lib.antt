@@ -1,6 +1,6 @@
 pub mod Cutting
 pub mod Printing
-pub mod LinksAt
+pub mod BodyAt
 pub mod Declared
 pub mod Telling
 pub mod Verdicts

@@ -7,15 +7,15 @@ ghost use Rattle.acpi_load.specs.Links.{links_at};
 ghost use Rattle.acpins_run.specs.Listings.{objects_by_path, Prints};
 ghost use Rattle.acpins_run.specs.steps.Lines.{AreLines};
 
+use acpi_load::LinkMap;
 use acpi_name::Path;
 use acpi_space::{Space, Visitor};
 use acpi_terms::Object;
 use acpi_text::put_line;
 use std::alloc::{AllocError, Global};
-use std::collections::BTreeMap;
 
 /// The links of a path; none where it has none.
-pub fn links_of<'a>(path: &Path, links: &'a BTreeMap<Path, Vec<Option<Path>>>) -> &'a [Option<Path>]
+pub fn links_of<'a>(path: &Path, links: &'a LinkMap) -> &'a [Option<Path>]
     ensures { result.now ≡ unwrap_or (links_at links.now path.now) [] }
 {
     match links.get(path) {
@@ -28,7 +28,7 @@ pub fn links_of<'a>(path: &Path, links: &'a BTreeMap<Path, Vec<Option<Path>>>) -
 #[derive(Drop)]
 pub struct Lines<'a> {
     text: Vec<u8>,
-    links: &'a BTreeMap<Path, Vec<Option<Path>>>,
+    links: &'a LinkMap,
 }
 
 impl Visitor<Object> for Lines<'_> {
@@ -43,7 +43,7 @@ impl Visitor<Object> for Lines<'_> {
 pub fn listed<S: Space<Object>>(
     alloc: Global,
     objects: &S,
-    links: &BTreeMap<Path, Vec<Option<Path>>>,
+    links: &LinkMap,
 ) -> Result<Vec<u8>, AllocError>
     ensures exact { IfOk result (λ text. text.items ≡ listing_text (objects_by_path (S.contents objects.now)) (links_at links.now)) }
     ensures namespace { IfOk result (λ text. Prints (namespace_of (S.contents objects.now)) (links_at links.now) text.items) }

@@ -121,6 +121,16 @@ pub(crate) fn listed<S: Space<Object>>(rt: &impl Abort, alloc: Global, objects: 
     text
 }
 
+// The same links in both.
+fn expect_links(rt: &impl Abort, alloc: Global, links: &LinkMap, others: &LinkMap) {
+    let pairs = links.pairs(alloc).expect(rt, "memory");
+    assert!(rt; pairs.len() == others.pairs(alloc).expect(rt, "memory").len());
+    for (path, answers) in pairs {
+        let same = others.get(&path).expect(rt, "links");
+        assert!(rt; answers == same);
+    }
+}
+
 // All tables load to this machine.
 pub(crate) fn expect_loaded<S: Space<Object>>(
     rt: &impl Abort,
@@ -137,7 +147,7 @@ pub(crate) fn expect_loaded<S: Space<Object>>(
         listed(rt, alloc, machine.objects()).as_str(),
         listed(rt, alloc, loaded.objects()).as_str(),
     );
-    assert!(rt; machine.links() == loaded.links());
+    expect_links(rt, alloc, machine.links(), loaded.links());
     assert!(rt; machine.bodies() == loaded.bodies());
 }
 

@@ -1,20 +1,31 @@
 -- A tree of numbered nodes as the finite map from paths to values.
-use Rattle.std.specs.Prelude.{◌≡◌, ℕ, zero, suc, ◌<◌, List, [], ◌∷◌, ◌++◌, map, length, Option, Some, None, slice_get}
+use Rattle.std.specs.Prelude.{◌≡◌, ℕ, box_value, zero, suc, ◌<◌, List, [], ◌∷◌, ◌++◌, map, length, Option, Some, None, slice_get}
 use Rattle.std.specs.Option.{option_and_then}
 use Rattle.std.specs.Ordering.{is_eq}
 use Rattle.std.specs.Map.{lookup}
 use Rattle.std.specs.List.{flat_map, AllByRecursion}
 use Rattle.std.specs.List.Sorted.{IsStrictlySortedBy}
 use Rattle.std.specs.FinMap.{from_entries}
+use Rattle.std.specs.BTreeMap.{BTreeMap}
+use Rattle.std.specs.Global.{Box}
 use Rattle.acpi_name.specs.Names.{Segment}
 use Rattle.acpi_name.specs.Paths.{segment_cmp}
 use Rattle.acpi_space.specs.Spaces.{PathMap}
+use Rattle.acpi_space.specs.declared.children.Children.{Children}
 use Rattle.acpi_space.specs.declared.nodes.Node.{Node}
 
--- the children of a node: their segments and numbers
+-- children: their segments and numbers
+abbrev pub entries_in : Option (Box (BTreeMap Segment ℕ)) → List (Segment × ℕ)
+entries_in None = []
+entries_in (Some numbers) = (box_value numbers).entries
+
+abbrev pub entries_of : Children → List (Segment × ℕ)
+entries_of children = entries_in children.numbers
+
+-- those of a node
 abbrev pub node_children : {V : Type 0} → Option (Node V) → List (Segment × ℕ)
 node_children None = []
-node_children (Some node) = node.children.entries
+node_children (Some node) = entries_of node.children
 
 abbrev pub node_value : {V : Type 0} → Option (Node V) → Option V
 node_value None = None

@@ -1,5 +1,4 @@
-use Rattle.std.proofs.Common.{◌≡◌}
-use Rattle.std.specs.Vec.Iter.{into_iter_items}
+use Rattle.std.proofs.Common.{◌≡◌, length}
 use Rattle.acpi_space.specs.Lookups.{union}
 use Rattle.acpi_declare.specs.Declaring.{all_pending_of}
 use Rattle.acpi_declare.specs.Links.{links_of, links_at}
@@ -8,5 +7,8 @@ use Rattle.acpi_declare.proofs.links.linked.Given as goal
 
 abbrev pub invariant-loop-link : goal.invariant-loop-link
 invariant-loop-link g l =
-    union (links_of (namespace_of (g.S.Space.contents l.objects)) (all_pending_of (into_iter_items l.link-iterator))) (links_at l.links)
-    ≡ links_of (namespace_of (g.S.Space.contents l.objects)) (all_pending_of (into_iter_items l.initial.link-iterator))
+    union (links_at l.links) (links_of (namespace_of (g.S.Space.contents l.objects)) (all_pending_of l.left.items))
+    ≡ links_of (namespace_of (g.S.Space.contents l.objects)) (all_pending_of l.initial.left.items)
+
+abbrev pub decreases-loop-link : goal.decreases-loop-link
+decreases-loop-link g l = length l.left.items

@@ -1,10 +1,10 @@
-use Rattle.std.proofs.Common.{◌≡◌, ◌≢◌, ◌∙◌, ◌∷◌, [], ◌++◌, ◌+◌, ◌<◌, ◌↔◌, List, take, length, ap, sym, subst, arith, rules}
-use Rattle.std.proofs.lemmas.List.{nil_from_length, take_all, take_more}
+use Rattle.std.proofs.Common.{◌≡◌, ◌≢◌, false, true≢false, ◌∙◌, ◌∷◌, [], ◌++◌, ◌+◌, ◌<◌, ◌↔◌, List, take, length, ap, sym, subst, arith, rules}
+use Rattle.std.proofs.lemmas.List.{take_all, take_more}
 use Rattle.std.specs.Prelude.{IsTrue}
 use Rattle.acpi_name.specs.Names.{Segment}
 use Rattle.acpi_space.specs.Laws.{Among}
 use Rattle.acpi_declare.specs.declared.pass.PendingLinks.{PendingLinks}
-use Rattle.acpi_declare.specs.Declaring.{IsMissedLink, all_pending_of}
+use Rattle.acpi_declare.specs.Declaring.{IsMissedLink, all_pending_of, linked_paths}
 use Rattle.acpi_declare.specs.Namespace.{namespace_of}
 use Rattle.acpi_declare.specs.steps.Missing.{misses_from}
 use Rattle.acpi_declare.proofs.LinkMisses.{with_paths, without_paths}
@@ -23,12 +23,12 @@ loop-link-preserved g c =
     let goes : List (List Segment) → List PendingLinks → Type 0 = λ items ws. (p : List Segment) → Among items p ↔ (IsMissedLink objects (all_pending_of ws) p × IsTrue (asked p)) in
     elim c.if-not-is_empty.branch [
       | then-not-is_empty+in_ok-add_misses v ↦
-          let some : w.paths.items ≢ [] = λ e. let none : length w.paths.items ≡ 0 = ap length e in search rules in
+          let full : c.is_empty.result ≡ false = search rules in
+          let some : linked_paths w.scope w.paths ≢ [] = λ e. true≢false (sym ((c.is_empty.ensures w.scope).1 e) ∙ full) in
           let more : c.if-not-is_empty.missed.items ≡ l.missed.items ++ misses_from asked objects w.scope w.names.items = search rules in
           subst (goes c.if-not-is_empty.missed.items) longer (with_paths asked objects (take l.link-index xs) w l.missed.items l.invariant c.if-not-is_empty.missed.items some more)
       | else-not-is_empty v ↦
-          let zero : length w.paths.items ≡ 0 = search rules in
-          let none : w.paths.items ≡ [] = nil_from_length w.paths.items zero in
+          let none : linked_paths w.scope w.paths ≡ [] = (c.is_empty.ensures w.scope).0 (search rules) in
           let same : c.if-not-is_empty.missed.items ≡ l.missed.items = search rules in
           subst (λ items. goes items (take (l.link-index + 1) xs)) (sym same)
           (subst (goes l.missed.items) longer (without_paths asked objects (take l.link-index xs) w l.missed.items l.invariant none))

@@ -4,7 +4,7 @@ use Rattle.acpi_space.specs.Lookups.{Lookup}
 use Rattle.acpi_declare.specs.declared.notes.TableNotes.{TableNotes}
 use Rattle.acpi_declare.specs.Namespace.{namespace_of}
 use Rattle.acpi_declare.specs.Notes.{notes_of}
-use Rattle.acpi_declare.proofs.LinkMap.{get_none}
+use Rattle.acpi_declare.proofs.ValuesByPath.{get_none}
 use Rattle.acpi_body.specs.Bodies.{BodyTree, body_view}
 use Rattle.acpi_machine.specs.MachineView.{bodies_of}
 use Rattle.acpi_machine.specs.steps.Adding.{noted, all_noted, AddsBodies}

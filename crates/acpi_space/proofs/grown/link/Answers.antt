@@ -34,6 +34,6 @@ returns-clause-entries g c =
 
 pub returns-clause-child : goal.returns-clause-child
 returns-clause-child g c h =
-    ap (λ es. child_of es h) (written_children c.args.nodes.now.items c.args.number _ c.requires) ∙ c.in_ok-insert.ensures.updates.0 h
+    ap (λ es. child_of es h) (written_children c.args.nodes.now.items c.args.number _ c.requires) ∙ c.in_ok-insert.ensures.child h
     ∙ ap (λ es. cond (is_eq (segment_cmp c.args.seg h)) (Some c.args.next) (child_of es h))
     (children_before c.args.nodes.now.items c.args.number c.index_mut.result.now c.requires c.index_mut.ensures.value)

@@ -12,7 +12,7 @@ use Rattle.acpi_terms.proofs.item.+items.Goals as goal
 
 pub items-returns-in_err-item : goal.items-returns-in_err-item
 items-returns-in_err-item t c =
-    let p = err_from_is_err_and c.from_residual.result c.from_residual.ensures.1 in
+    let p = err_from_is_err_and c.from_residual-in_err-item.result c.from_residual-in_err-item.ensures.1 in
     let some : 0 < length c.each.code.bytes = grind arith in
     rw (p.1, p.2) (fails_on _ (each_at (item_at c.args.level c.args.code.now.end) c.args.code.now.bytes) (λ xs. Ok (items_of xs)) (stopped_there (item_at c.args.level) c.args.code.now c.each.code _ _ some c.in_err-item.ensures c.each.invariant))
 
@@ -20,7 +20,7 @@ pub items-each-preserved : goal.items-each-preserved
 items-each-preserved t c =
     let n = c.in_ok-item.field-0 in
     let some : 0 < length c.each.code.bytes = grind arith in
-    let e : items_view c.push.new.self.items ≡ items_view c.each.found.items ++ item_view n ∷ [] = rw c.in_ok-push.ensures.items (map_push _ c.each.found.items n) in
+    let e : items_view c.push.new.self.items ≡ items_view c.each.found.items ++ item_view n ∷ [] = rw (c.in_ok-push.ensures.items, c.make_room.ensures) (map_push _ c.each.found.items n) in
     rw e (turned (item_at c.args.level) c.args.code.now c.each.code c.item.new.code _ _ some c.in_ok-item.ensures.0 c.in_ok-item.ensures.1 c.each.invariant)
 
 pub items-returns : goal.items-returns

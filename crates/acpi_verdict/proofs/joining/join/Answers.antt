@@ -1,7 +1,7 @@
 use Rattle.std.proofs.Common.{◌≡◌, ◌≢◌, ◌∙◌, ◌∷◌, [], ◌+◌, ◌<◌, inr, length, map, drop, refl, ap, sym, arith, rules}
 use Rattle.std.proofs.lemmas.List.{drop_more}
 use Rattle.acpi_declare.specs.Namespace.{namespace_of}
-use Rattle.acpi_declare.proofs.LinkMap.{get_none}
+use Rattle.acpi_declare.proofs.ValuesByPath.{get_none}
 use Rattle.acpi_declare.proofs.Unions.{namespace-empty}
 use Rattle.acpi_body.specs.Bodies.{body_view}
 use Rattle.acpi_machine.specs.MachineView.{objects_in, machine_of}
@@ -13,7 +13,7 @@ pub loop-single-init : goal.loop-single-init
 loop-single-init g c =
     no_machine (map (λ s. machine_of (g.S.Space.contents (objects_in (machine_in s))) (machine_in s)) c.args.singles.now)
     (machine_of (g.S.Space.contents c.new.result) (record { objects = c.new.result; links = c.new-2.result; bodies = c.new-3.result })) (ap namespace_of c.new.ensures ∙ namespace-empty)
-    (get_none (map (λ e. (e.0, e.1.items)) c.new-2.result.entries) (ap (map (λ e. (e.0, e.1.items))) c.new-2.ensures.empty))
+    c.new-2.ensures
     (get_none (map (λ e. (e.0, body_view e.1)) c.new-3.result.entries) (ap (map (λ e. (e.0, body_view e.1))) c.new-3.ensures.empty))
 
 pub loop-single-preserved : goal.loop-single-preserved

@@ -1,5 +1,5 @@
 use Rattle.std.proofs.Common.{sym}
-use Rattle.acpins_run.proofs.LinksAt.{body_answered}
+use Rattle.acpins_run.proofs.BodyAt.{body_answered}
 use Rattle.acpins_run.proofs.showing.body_at.Goals as goal
 
 pub returns : goal.returns

@@ -5,7 +5,7 @@ use Rattle.std.specs.Global.{Vec}
 use Rattle.acpi_name.specs.Names.{Segment}
 use Rattle.acpi_tree.specs.View.{field_view, fields_view}
 use Rattle.acpi_tree.specs.declared.tree.FieldElem.{FieldElem}
-use Rattle.acpi_declare.specs.Declaring.{pending_from}
+use Rattle.acpi_declare.specs.Declaring.{pending_from, unit_paths}
 use Rattle.acpi_declare.specs.steps.View.{pass_with}
 use Rattle.acpi_declare.specs.Sites.{Step, unit_step, unit_steps}
 use Rattle.acpi_declare.specs.steps.Pass.{take_steps}
@@ -23,9 +23,9 @@ returns-in_err-offset-clause-refused g c =
     let whole : reverse c.reverse.new.self.items ≡ c.args.elems.items = ap reverse c.reverse.ensures.items ∙ reverse-reverse c.args.elems.items in
     let list = c.args.fields.now in
     let steps : ℕ → List FieldElem → List Step = λ offset es. unit_steps list.form list.flags list.names.now offset (fields_view es) in
-    let links = λ (v : Vec (List Segment)). pending_from c.args.scope.now list.names.now v.items in
-    let pass = pass_with (g.S.Space.contents l.self.objects) l.self (links l.paths) in
-    let first = pass_with (g.S.Space.contents c.args.self.now.objects) c.args.self.now (links c.args.paths.now) in
+    let links = λ (v : Vec Segment). pending_from c.args.scope.now list.names.now (unit_paths c.args.scope.now v.items) in
+    let pass = pass_with (g.S.Space.contents l.self.objects) l.self (links l.segs) in
+    let first = pass_with (g.S.Space.contents c.args.self.now.objects) c.args.self.now (links c.args.segs.now) in
     rw (p.1, p.2)
     (told_on c.in_err-offset.field-0.0 pass first c.args.scope.now
     (unit_step list.form list.flags list.names.now l.offset (field_view elem))
