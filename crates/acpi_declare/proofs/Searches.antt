@@ -1,5 +1,5 @@
 -- Paths, and a namespace and the map that holds it.
-use Rattle.std.proofs.Common.{◌≡◌, Bool, true, false, cond, List, [], ◌∷◌, ◌++◌, find, option_to_list, is_some, Option, Some, None, Ok, refl, sym, ap, ◌∙◌}
+use Rattle.std.proofs.Common.{◌≡◌, Bool, true, false, cond, List, [], ◌∷◌, ◌++◌, find, option_to_list, is_some, Option, Some, None, Ok, refl, sym, ap, ap₂, ◌∙◌}
 use Rattle.std.specs.FinMap.{get}
 use Rattle.std.specs.List.{last_or}
 use Rattle.std.specs.Option.{option_map}
@@ -58,3 +58,7 @@ found_defined defined (p ∷ paths) t e = by (defined p) refl e (found_defined d
 -- the path that a search answers is defined
 pub answer_defined : (m : PathMap Object) (s : List Segment) (n : NameParts) (t : List Segment) → answer (is_defined m) s n ≡ Some t → ¬ (get m t ≡ None)
 answer_defined m s n t e none = let never : is_some no_object ≡ true = ap is_some (sym none) ∙ found_defined (is_defined m) (tries s n) t e in cc
+
+-- a path, by its parent and the segment that is its last
+pub joined_parts : (p q : List Segment) (g : Segment) → parent_of p ≡ q → last_or None p ≡ Some g → q ++ g ∷ [] ≡ p
+joined_parts p q g parent last = ap₂ (λ (r : List Segment) (o : Option Segment). r ++ option_to_list o) (sym parent) (sym last) ∙ rejoined_parts p

@@ -1,6 +1,7 @@
 //! Items in which others stand, and lists of items.
 
-ghost use Rattle.std.specs.Prelude.{◌≡◌, true, IfOk, IfErr, OnOk, Ok};
+ghost use Rattle.std.specs.Prelude.{◌≡◌, true, IfOk, IfErr, IfNone, IfSome, OnOk, Ok};
+ghost use Rattle.acpi_name.specs.Paths.{parent_of};
 ghost use Rattle.acpi_tree.specs.Objects.{object_view};
 ghost use Rattle.acpi_tree.specs.Fits.{item_fits, items_fit};
 ghost use Rattle.acpi_tree.specs.Offsets.{OffsetFits, OffsetsFit};
@@ -15,10 +16,11 @@ ghost use Rattle.acpi_declare.specs.steps.Outcomes.{IsStopOf};
 
 use crate::fault::Stop;
 use crate::pass::Pass;
-use crate::placing::{declared, opened};
+use crate::placing::{declared, opened, rejoined};
 use acpi_name::{Name, Path};
 use acpi_space::{SearchFault, Space, misses};
 use acpi_terms::{Item, Object};
+use std::alloc::AllocError;
 
 /// The longest list that keeps memory that it no longer needs.
 const FEW: usize = 16;
@@ -30,6 +32,23 @@ pub(crate) fn give_back<T: Drop>(left: &mut Vec<T>)
 {
     if left.capacity() > FEW && left.len() < left.capacity() / 8 * 7 {
         left.shrink_to_fit();
+    }
+}
+
+// Goes on from a path to one that is a segment longer; any other is given back. So scopes inside one another, of which
+// each is open while those inside it are read, have one path.
+#[tactic(auto, using(crate::proofs::Searches::rejoined_parts))]
+fn go_below(path: &mut Path, inside: Path) -> Result<Option<Path>, AllocError>
+    ensures below { IfOk result (λ other. IfNone other ((path.new ≡ inside) × (parent_of path.new ≡ path.old))) }
+    ensures other { IfOk result (λ other. IfSome other (λ p. (p ≡ inside) × (path.new ≡ path.old))) }
+{
+    let mut parent = inside;
+    match parent.pop() {
+        Some(seg) if parent == *path => {
+            path.push(seg)?;
+            Ok(None)
+        }
+        last => Ok(Some(rejoined(parent, last)?)),
     }
 }
 
@@ -142,29 +161,42 @@ impl<S: Space<Object>> Pass<S> {
 
     // One item, with all that stands in it.
     #[cycle(declare)]
-    fn declare_item(&mut self, scope: &Path, item: Item) -> Result<(), Stop>
+    fn declare_item(&mut self, scope: &mut Path, item: Item) -> Result<(), Stop>
         requires room { OffsetFits (item_view item) }
         requires fits { item_fits (item_view item) ≡ true }
-        ensures ok { OnOk result (pass_item (pass_of (S.contents self.old.objects) self.old) scope.now (item_view item)
+        ensures ok { OnOk result (pass_item (pass_of (S.contents self.old.objects) self.old) scope.old (item_view item)
             ≡ Ok (pass_of (S.contents self.new.objects) self.new)) }
-        ensures refused { IfErr result (λ f. IsStopOf f (pass_item (pass_of (S.contents self.old.objects) self.old) scope.now (item_view item))) }
+        ensures refused { IfErr result (λ f. IsStopOf f (pass_item (pass_of (S.contents self.old.objects) self.old) scope.old (item_view item))) }
         ensures lower { OnOk result (S.lower self.new.objects ≡ S.lower self.old.objects) }
+        ensures scope { OnOk result (scope.new ≡ scope.old) }
     {
-        match self.enter(scope, item)? {
-            Some((inside, items)) => self.declare_items(&inside, items),
-            None => Ok(()),
+        let (inside, items) = match self.enter(scope, item)? {
+            Some(left) => left,
+            None => return Ok(()),
+        };
+        match go_below(scope, inside)? {
+            None => {
+                self.declare_items(scope, items)?;
+                scope.pop();
+                Ok(())
+            }
+            Some(other) => {
+                let mut other = other;
+                self.declare_items(&mut other, items)
+            }
         }
     }
 
     // The items of a list, in order.
     #[cycle(declare)]
-    pub(crate) fn declare_items(&mut self, scope: &Path, items: Vec<Item>) -> Result<(), Stop>
+    pub(crate) fn declare_items(&mut self, scope: &mut Path, items: Vec<Item>) -> Result<(), Stop>
         requires room { OffsetsFit (items_tree items.items) }
         requires fits { items_fit (items_tree items.items) ≡ true }
-        ensures ok { OnOk result (pass_items (pass_of (S.contents self.old.objects) self.old) scope.now (items_tree items.items)
+        ensures ok { OnOk result (pass_items (pass_of (S.contents self.old.objects) self.old) scope.old (items_tree items.items)
             ≡ Ok (pass_of (S.contents self.new.objects) self.new)) }
-        ensures refused { IfErr result (λ f. IsStopOf f (pass_items (pass_of (S.contents self.old.objects) self.old) scope.now (items_tree items.items))) }
+        ensures refused { IfErr result (λ f. IsStopOf f (pass_items (pass_of (S.contents self.old.objects) self.old) scope.old (items_tree items.items))) }
         ensures lower { OnOk result (S.lower self.new.objects ≡ S.lower self.old.objects) }
+        ensures scope { OnOk result (scope.new ≡ scope.old) }
     {
         let mut left = items;
         left.reverse();

@@ -1,6 +1,6 @@
 //! What the links of each path answer.
 
-ghost use Rattle.std.specs.Prelude.{◌≡◌, List, Option, map, IfOk, IfErr, OnOk};
+ghost use Rattle.std.specs.Prelude.{◌≡◌, List, Option, map, IfOk, OnErr, OnOk};
 ghost use Rattle.std.specs.Option.{option_map};
 ghost use Rattle.acpi_name.specs.Names.{Segment};
 ghost use Rattle.acpi_space.specs.Lookups.{nothing, singleton, union};
@@ -48,26 +48,30 @@ impl LinkMap {
         Ok(pairs)
     }
 
-    /// Adds what the links of a path answer; where it has links already, these stay.
+    /// Adds what the links of a path answer; where it has links already, these stay. Where memory is refused, nothing
+    /// changes.
     pub fn insert(
         &mut self,
         alloc: Global,
         path: Path,
         answers: Vec<Option<Path>>,
     ) -> Result<(), AllocError>
-        ensures { OnOk result (links_at self.new ≡ union (links_at self.old) (singleton path answers.items)) }
+        ensures ok { OnOk result (links_at self.new ≡ union (links_at self.old) (singleton path answers.items)) }
+        ensures err { OnErr result (links_at self.new ≡ links_at self.old) }
     {
         self.share(path, &Arc::new(alloc, answers)?)?;
         Ok(())
     }
 
-    /// Adds what the links of a path answer as others do; where it has links already, these stay.
+    /// Adds what the links of a path answer as others do; where it has links already, these stay. Where memory is
+    /// refused, nothing changes.
     pub(crate) fn share(
         &mut self,
         path: Path,
         answers: &Arc<Vec<Option<Path>>>,
     ) -> Result<(), AllocError>
-        ensures { OnOk result (links_at self.new ≡ union (links_at self.old) (singleton path answers.now.value.items)) }
+        ensures ok { OnOk result (links_at self.new ≡ union (links_at self.old) (singleton path answers.now.value.items)) }
+        ensures err { OnErr result (links_at self.new ≡ links_at self.old) }
     {
         match self.answers.insert(path, answers.clone()?) {
             Ok(()) => Ok(()),

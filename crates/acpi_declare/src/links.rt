@@ -180,16 +180,6 @@ fn add_misses<S: Space<Object>, Q: Wanted>(
     Ok(())
 }
 
-// Whether there are no paths.
-fn is_empty(paths: &LinkedPaths) -> bool
-    ensures { (scope : List Segment) → IsTrue result ↔ (linked_paths scope paths.now ≡ []) }
-{
-    match paths {
-        LinkedPaths::One(_) => false,
-        LinkedPaths::Units(segs) => segs.is_empty(),
-    }
-}
-
 /// The paths that the searches of all links that are pending miss, of those that are asked for.
 pub(crate) fn misses_of_links<S: Space<Object>, Q: Wanted>(
     alloc: Global,
@@ -202,7 +192,7 @@ pub(crate) fn misses_of_links<S: Space<Object>, Q: Wanted>(
     let mut missed = Vec::new(alloc);
     for link in pending {
         // A field list without a named unit has no links.
-        if !is_empty(&link.paths) {
+        if !link.paths.is_empty() {
             add_misses(
                 alloc,
                 objects,

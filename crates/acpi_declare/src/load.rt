@@ -174,7 +174,7 @@ pub(crate) fn add_table<S: Space<Object>>(
         links,
         notes: TableNotes::new(alloc),
     };
-    match pass.declare_items(&Path::root(alloc), items) {
+    match pass.declare_items(&mut Path::root(alloc), items) {
         Ok(()) => {}
         Err(Stop::Refused(refusal, path)) => return Err(refused(
             number,

@@ -1,7 +1,8 @@
 //! The declaration pass over the items of one table.
 
-ghost use Rattle.std.specs.Prelude.{IsTrue, ◌≡◌, ◌≢◌, true, None, Some, ◌∷◌, [], ◌++◌, ◌+◌, ◌<◌, ◌^◌, IfOk, IfErr, OnOk, Ok};
+ghost use Rattle.std.specs.Prelude.{IsTrue, ◌≡◌, ◌≢◌, ◌↔◌, true, None, Some, List, ◌∷◌, [], ◌++◌, ◌+◌, ◌<◌, ◌^◌, IfOk, IfErr, OnOk, Ok};
 ghost use Rattle.std.specs.List.{list_all};
+ghost use Rattle.acpi_name.specs.Names.{Segment};
 ghost use Rattle.acpi_space.specs.Lookups.{singleton, union};
 ghost use Rattle.acpi_tree.specs.Objects.{object_view, field_object, method_object};
 ghost use Rattle.acpi_tree.specs.Fits.{external_fits, item_fits};
@@ -33,6 +34,18 @@ pub(crate) enum LinkedPaths {
     One(Path),
     // The units of a field list, by their segments below its scope.
     Units(Vec<Seg>),
+}
+
+impl LinkedPaths {
+    // Whether there are none.
+    pub(crate) fn is_empty(&self) -> bool
+        ensures { (scope : List Segment) → IsTrue result ↔ (linked_paths scope self.now ≡ []) }
+    {
+        match self {
+            LinkedPaths::One(_) => false,
+            LinkedPaths::Units(segs) => segs.is_empty(),
+        }
+    }
 }
 
 // Declared paths whose links are searched when all tables are declared: the same names, from the same scope.

@@ -33,7 +33,7 @@ pub(crate) fn put<S: Space<Object>>(
 }
 
 // The path that has this parent and last segment.
-fn rejoined(parent: Path, last: Option<Seg>) -> Result<Path, AllocError>
+pub(crate) fn rejoined(parent: Path, last: Option<Seg>) -> Result<Path, AllocError>
     ensures { IfOk result (λ p. p ≡ parent ++ option_to_list last) }
 {
     let mut path = parent;

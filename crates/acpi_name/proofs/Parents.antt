@@ -1,5 +1,5 @@
 -- A path, its parent and its last segment.
-use Rattle.std.proofs.Common.{◌≡◌, List, [], ◌∷◌, ◌++◌, Option, Some, None, refl, ap}
+use Rattle.std.proofs.Common.{◌≡◌, List, [], ◌∷◌, ◌++◌, Some, None, refl, ap}
 use Rattle.std.specs.List.{last_or}
 use Rattle.acpi_name.specs.Paths.{parent_of}
 

@@ -100,40 +100,62 @@ impl<'a> NameRef<'a> {
     pub fn own(self, alloc: Global) -> Result<Name, AllocError>
         ensures { IfOk result (λ n. n ≡ name_parts self.entry) }
     {
-        let (single, segs) = match self.segs {
-            [seg] => (Some(*seg), Vec::new(alloc)),
-            segs => (None, Vec::from_slice(alloc, segs)?),
+        let kept = match self.segs {
+            [seg] => Kept::Single {
+                rooted: self.rooted,
+                parents: self.parents,
+                seg: *seg,
+            },
+            segs => Kept::Apart(Box::new(
+                alloc,
+                Parts {
+                    rooted: self.rooted,
+                    parents: self.parents,
+                    segs: Vec::from_slice(alloc, segs)?,
+                },
+            )?),
         };
-        Ok(Name {
-            rooted: self.rooted,
-            parents: self.parents,
-            single,
-            segs,
-        })
+        Ok(Name { kept })
     }
 }
 
-/// A name that owns its segments. They are kept as the name's shortest spelling has them, and one segment, as
-/// most names have, takes no memory beside the name.
+// The parts of a name, as its shortest spelling has them.
 #[derive(Debug, Drop)]
-pub struct Name {
+struct Parts {
     rooted: bool,
     parents: u8,
-    // The segment of a name that has one.
-    single: Option<[u8; 4]>,
-    // The segments of any other name.
     segs: Vec<[u8; 4]>,
+}
+
+// How a name keeps its parts.
+#[derive(Debug, Drop)]
+enum Kept {
+    // Those of a name with one segment.
+    Single {
+        rooted: bool,
+        parents: u8,
+        seg: [u8; 4],
+    },
+    // Those of any other.
+    Apart(Box<Parts>),
+}
+
+/// A name that owns its segments. One with a single segment, as most names have, takes no memory beside itself; the
+/// parts of any other stand apart, so that whatever has a name is small.
+#[derive(Debug, Drop)]
+pub struct Name {
+    kept: Kept,
 }
 
 impl Model for Name {
     ghost use Rattle.acpi_name.specs.Names.{NameParts, IsName};
-    ghost use Rattle.acpi_name.specs.steps.NameKept.{kept};
+    ghost use Rattle.acpi_name.specs.steps.NameKept.{parts_of};
 
     ghost Value = { NameParts };
 
-    ghost view = { λ n. record { rooted = n.rooted; parents = n.parents; segments = kept n.single n.segs.items } };
+    ghost view = { λ n. parts_of n.kept };
 
-    ghost invariant = { λ n. IsName record { rooted = n.rooted; parents = n.parents; segments = kept n.single n.segs.items } };
+    ghost invariant = { λ n. IsName (parts_of n.kept) };
 }
 
 impl PartialEq for Name {
@@ -145,9 +167,8 @@ impl PartialEq for Name {
         ensures test { result ≡ name_eq self.now other.now }
         ensures same { IsTrue result ↔ (self.now ≡ other.now) }
     {
-        self.rooted == other.rooted
-            && self.parents == other.parents
-            && self.chunks() == other.chunks()
+        let (one, other) = (self.view(), other.view());
+        one.rooted == other.rooted && one.parents == other.parents && one.segs == other.segs
     }
 }
 
@@ -158,25 +179,26 @@ impl Eq for Name {
 impl Name {
     ghost use Rattle.acpi_name.specs.NameRefs.{name_parts};
 
-    // The segments, four bytes each.
-    fn chunks(&self) -> &[[u8; 4]]
-        ensures { result.now ≡ self.now.segments }
-    {
-        match &self.single {
-            Some(seg) => from_ref(seg),
-            None => &self.segs,
-        }
-    }
-
     /// The name, lent.
     pub fn view(&self) -> NameRef<'_>
         ensures parts { name_parts result ≡ self.now }
         ensures is_name { IsName self.now }
     {
-        NameRef {
-            rooted: self.rooted,
-            parents: self.parents,
-            segs: self.chunks(),
+        match &self.kept {
+            Kept::Single {
+                rooted,
+                parents,
+                seg,
+            } => NameRef {
+                rooted: *rooted,
+                parents: *parents,
+                segs: from_ref(seg),
+            },
+            Kept::Apart(parts) => NameRef {
+                rooted: parts.rooted,
+                parents: parts.parents,
+                segs: &parts.segs,
+            },
         }
     }
 
@@ -184,11 +206,25 @@ impl Name {
     pub fn copy(&self) -> Result<Name, AllocError>
         ensures { IfOk result (λ n. n ≡ self.now) }
     {
-        Ok(Name {
-            rooted: self.rooted,
-            parents: self.parents,
-            single: self.single,
-            segs: self.segs.clone()?,
-        })
+        let kept = match &self.kept {
+            Kept::Single {
+                rooted,
+                parents,
+                seg,
+            } => Kept::Single {
+                rooted: *rooted,
+                parents: *parents,
+                seg: *seg,
+            },
+            Kept::Apart(parts) => Kept::Apart(Box::new(
+                *Box::allocator(parts),
+                Parts {
+                    rooted: parts.rooted,
+                    parents: parts.parents,
+                    segs: parts.segs.clone()?,
+                },
+            )?),
+        };
+        Ok(Name { kept })
     }
 }

@@ -1,8 +1,9 @@
--- How a name keeps its segments.
-use Rattle.std.specs.Prelude.{Option, Some, None, List, [], ◌∷◌}
-use Rattle.acpi_name.specs.Names.{Segment}
+-- How a name keeps its parts.
+use Rattle.std.specs.Prelude.{box_value, [], ◌∷◌}
+use Rattle.acpi_name.specs.Names.{NameParts}
+use Rattle.acpi_name.specs.declared.name.Kept.{Kept}
 
--- the segments of a name, whose only one is kept beside the others
-abbrev pub kept : Option Segment → List Segment → List Segment
-kept (Some only) others = only ∷ []
-kept None others = others
+abbrev pub parts_of : Kept → NameParts
+parts_of (Kept.Single rooted parents seg) = record { rooted = rooted; parents = parents; segments = seg ∷ [] }
+parts_of (Kept.Apart parts) =
+    record { rooted = (box_value parts).rooted; parents = (box_value parts).parents; segments = (box_value parts).segs.items }

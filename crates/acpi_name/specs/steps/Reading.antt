@@ -1,5 +1,5 @@
 -- Reading a name from the left, up to the first fault (ACPI 6.5, 20.2.2 NameString).
-use Rattle.std.specs.Prelude.{◌≡◌, ℕ, zero, suc, Bool, true, false, ◌&&◌, List, [], ◌∷◌, length, take, drop, Result, Ok, Err, nat_lt, ◌==◌, if◌then◌else◌}
+use Rattle.std.specs.Prelude.{◌≡◌, ℕ, zero, suc, true, false, List, [], ◌∷◌, length, take, drop, Result, Ok, Err, nat_lt, ◌==◌, if◌then◌else◌}
 use Rattle.std.specs.List.{take_while}
 use Rattle.acpi_name.specs.Names.{Segment, NameParts, is_segment_front}
 use Rattle.acpi_name.specs.declared.reading.NameFault.{NameFault}

@@ -32,12 +32,12 @@ returns-in-Err-Refused-clause-err g c =
 pub returns-clause-ok : goal.returns-clause-ok
 returns-clause-ok g c =
     let t = pass_of (g.S.Space.contents c.args.loaded.objects) (record { alloc = c.args.alloc; objects = c.args.loaded.objects; links = c.args.loaded.links; notes = c.new.result }) in
-    let u = pass_of (g.S.Space.contents c.declare_items-2.new.self.objects) c.declare_items-2.new.self in
+    let u = pass_of (g.S.Space.contents c.declare_items.new.self.objects) c.declare_items.new.self in
     let is = items_tree c.in_ok-items.items.items in
     let before = state_of (g.S.Space.contents c.args.loaded.objects) c.args.loaded in
     let ran : pass_items t [] is ≡ Ok u = ap (λ (s : List Segment). pass_items t s is) (sym c.root.ensures) ∙ c.in-Ok.ensures.ok in
     let notes = map notes_of c.args.loaded.notes.items in
     let pushed : map notes_of c.push.new.self.items ≡ notes ++ u.notes ∷ [] =
-    ap (map notes_of) c.in_ok-push.ensures.items ∙ map-append notes_of c.args.loaded.notes.items (c.declare_items-2.new.self.notes ∷ []) in
+    ap (map notes_of) c.in_ok-push.ensures.items ∙ map-append notes_of c.args.loaded.notes.items (c.declare_items.new.self.notes ∷ []) in
     subst (λ (l : List Notes). AddsTable c.args.depth c.args.number c.args.bytes.now before (record { objects = u.objects; links = u.links; notes = l })) (sym pushed)
     (pass_adds c.args.depth c.args.number c.args.bytes.now is t u notes c.in_ok-items.ensures.ok ran c.new.ensures)

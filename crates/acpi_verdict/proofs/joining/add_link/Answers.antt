@@ -16,6 +16,6 @@ returns c =
     let old = links_at c.args.links.now in
     let free : old c.args.path ≡ None = sym c.get.ensures ∙ ap (option_map (λ s. s.now)) c.in_default.is in
     put_last old (links_at c.insert.new.self) c.args.path c.args.answers.now free
-    (c.in_ok-insert.ensures
+    (c.in_ok-insert.ensures.ok
     ∙ ap (λ (q : List Segment). union old (singleton q c.in_ok-copy_answers.field-0.items)) c.path.view_is
     ∙ ap (λ (l : Links). union old (singleton c.args.path l)) c.in_ok-copy_answers.ensures)

@@ -16,10 +16,10 @@ decreases-declare_items g l = 2 * weights (items_tree l.items.items) + 1
 abbrev pub invariant-declare_items-loop-item : goal.invariant-declare_items-loop-item
 invariant-declare_items-loop-item g l =
     (pass_items (pass_of (g.S.Space.contents l.self.objects) l.self) l.scope (items_tree (reverse l.left.items))
-    ≡ pass_items (pass_of (g.S.Space.contents l.initial.self.objects) l.initial.self) l.scope (items_tree (reverse l.initial.left.items)))
+    ≡ pass_items (pass_of (g.S.Space.contents l.initial.self.objects) l.initial.self) l.initial.scope (items_tree (reverse l.initial.left.items)))
     × OffsetsFit (items_tree (reverse l.left.items)) × (items_fit (items_tree (reverse l.left.items)) ≡ true)
     × (weights (items_tree (reverse l.left.items)) ≤ weights (items_tree (reverse l.initial.left.items)))
-    × (g.S.Space.lower l.self.objects ≡ g.S.Space.lower l.initial.self.objects)
+    × (g.S.Space.lower l.self.objects ≡ g.S.Space.lower l.initial.self.objects) × (l.scope ≡ l.initial.scope)
 
 abbrev pub decreases-declare_items-loop-item : goal.decreases-declare_items-loop-item
 decreases-declare_items-loop-item g l = length l.left.items
