@@ -40,6 +40,7 @@ const HEADERS: [(u8, u8, u8, TableFault); 5] = [
 fn cuts_tables(rt: HostRuntime) {
     expect_cut(&rt, &DSDT, Ok((56, 0)));
     expect_cut(&rt, &EMPTY, Ok((36, 0)));
+    expect_cut(&rt, &EMPTY[..35], Err(TableFault::Short));
     for n in 0..DSDT.len() {
         let fault = if n < 36 {
             TableFault::Short

@@ -76,3 +76,35 @@ fn keeps_its_status(rt: HostRuntime) {
         assert!(rt; done.is(0, PCI0_LISTED, ""));
     }
 }
+
+// A file that can't be made, ended, or written at some step is told of, and holds nothing.
+#[test]
+fn tells_of_files_that_are_not_written(rt: HostRuntime) {
+    let alloc = rt.alloc();
+    let line = "acpins: out: cannot be written";
+    for k in 0..20usize {
+        let failing = match k {
+            0 => Failing {
+                create: true,
+                ..NONE
+            },
+            1 => Failing {
+                close: true,
+                ..NONE
+            },
+            // Twelve writes of five bytes, and the flush.
+            _ => Failing {
+                write: k - 1,
+                ..NONE
+            },
+        };
+        let mut files = files_of(&rt, alloc, &[Kept::Dsdt(PCI0)], failing);
+        let got = ran_with(&rt, alloc, &mut files, "rewrite|out|a", 0, 0);
+        if k <= 14 {
+            assert!(rt; got.is_refusal(1, line), "step {k} gave {got:?}");
+            assert!(rt; files.get("out").is_none());
+        } else {
+            assert!(rt; got.is(0, "", ""), "no write fails at {k}");
+        }
+    }
+}

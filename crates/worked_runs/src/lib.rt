@@ -1,13 +1,7 @@
-//! Runs of the program over files in memory: worked rows, failing devices, the forms of words, and printed texts. They
-//! test what no contract states; nothing here is called from elsewhere.
+//! Runs of the program over files in memory: failing devices, files whose bytes contracts know, the forms of words, and printed
+//! texts. They test what no contract states; nothing here is called from elsewhere.
 #![tactic(auto)]
 
-#[cfg(test)]
-mod chains;
-#[cfg(test)]
-mod checked;
-#[cfg(test)]
-mod cut;
 #[cfg(test)]
 mod devices;
 #[cfg(test)]
@@ -17,18 +11,10 @@ mod hexadecimal;
 #[cfg(test)]
 mod lines;
 #[cfg(test)]
-mod listings;
-#[cfg(test)]
 mod memory;
 #[cfg(test)]
 mod outcome;
 #[cfg(test)]
-mod refusals;
-#[cfg(test)]
-mod rows;
-#[cfg(test)]
-mod shown;
+mod over_map;
 #[cfg(test)]
 mod words;
-#[cfg(test)]
-mod written;

@@ -12,18 +12,6 @@ use std::str::from_utf8;
 /// The names of the files of a run, in order.
 const NAMES: [&str; 5] = ["a", "b", "c", "d", "e"];
 
-/// What lists print where no table declares anything.
-pub const PREDEFINED: &str = "\\ Root\n\
-\\_GL_ Mutex 00\n\
-\\_GPE Scope\n\
-\\_OSI Method 1\n\
-\\_OS_ Predefined\n\
-\\_PR_ Scope\n\
-\\_REV Predefined\n\
-\\_SB_ Scope\n\
-\\_SI_ Scope\n\
-\\_TZ_ Scope\n";
-
 /// Scope (\_SB) { Device (PCI0) { Name (_ADR, Zero) } }
 pub const PCI0: &str = "10 13 5C 5F 53 42 5F 5B 82 0B 50 43 49 30 08 5F 41 44 52 00";
 
@@ -48,8 +36,6 @@ pub enum Kept {
     Dsdt(&'static str),
     /// An SSDT of this code, in hexadecimal.
     Ssdt(&'static str),
-    /// These bytes, in hexadecimal.
-    Raw(&'static str),
     /// This text.
     Text(&'static str),
 }
@@ -81,7 +67,6 @@ pub fn kept_bytes(rt: &impl Abort, alloc: Global, kept: Kept) -> Vec<u8> {
     match kept {
         Kept::Dsdt(code) => table_of(rt, alloc, "DSDT", bytes_of(rt, alloc, code).as_slice()),
         Kept::Ssdt(code) => table_of(rt, alloc, "SSDT", bytes_of(rt, alloc, code).as_slice()),
-        Kept::Raw(text) => bytes_of(rt, alloc, text),
         Kept::Text(text) => Vec::from_slice(alloc, text.as_bytes()).expect(rt, "memory"),
     }
 }
