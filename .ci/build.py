@@ -2,12 +2,16 @@
 """Proves the crates that the program stands on, side by side where none stands on the other, and builds the program.
 
 What it does stands on standard error, line by line; nothing goes to standard output. A crate that was proved as it
-stands is left alone. The crates are proved by the kit's own `rt`, whose parts this script calls, since one `rt`
-keeps every other out of the folders that it reads.
+stands, over what it stands on now, is left alone. The crates are proved by the kit's own `rt`, whose parts this script
+calls, since one `rt` keeps every other out of the folders that it reads, and as its gate does it: whole, with no work kept
+for a later edit, over the statements of the crates below and not their proofs.
 """
+import functools
+import hashlib
 import importlib.machinery
 import importlib.util
 import os
+import shutil
 import signal
 import subprocess
 import sys
@@ -40,15 +44,50 @@ def rt_library():
     return library
 
 
-def prove(crate, jobs, niceness):
+def made_from(library, crate):
+    """What a crate is made from: the kit, its files, and when each crate below it was made."""
+    made = hashlib.sha256(repr(crate.said).encode())
+    for file in [f"{library.KIT}/WHAT", *library.files_of(crate.folder)]:
+        with open(file, "rb") as it:
+            made.update(repr((file, it.read())).encode())
+    times = [os.stat(f"{it.rlib}/format").st_mtime_ns if os.path.isdir(it.rlib) else 0 for it in crate.below()]
+    return f"{made.hexdigest()} {times}"
+
+
+def stamp_of(crate):
+    return f"{os.path.dirname(crate.rlib)}/made-from"
+
+
+@functools.cache
+def is_built_by_rt(crate):
+    return os.path.isfile(f"{os.path.dirname(crate.rlib)}/stamp") and crate.is_built()
+
+
+def is_built(library, crate):
+    """Whether this script has proved the crate as it stands, or `rt` has and all below it."""
+    if not os.path.isfile(stamp_of(crate)):
+        return all(is_built_by_rt(it) for it in [crate, *crate.below()])
+    with open(stamp_of(crate), encoding="utf-8") as it:
+        return it.read() == made_from(library, crate)
+
+
+def prove(library, crate, jobs, niceness):
     """The status of the crate's proof, and what it said. It leaves the processors to those that are less nice."""
     # On Linux this is of the calling thread alone, and of what it starts.
     os.nice(niceness)
-    os.makedirs(f"{crate.folder}/out", exist_ok=True)
+    begun = made_from(library, crate)
+    shutil.rmtree(os.path.dirname(crate.rlib), ignore_errors=True)
+    os.makedirs(os.path.dirname(crate.rlib))
     with tempfile.TemporaryFile("w+", errors="replace") as crate.out:
-        status = crate.build_rlib(["--jobs", str(jobs)], anew=False)
+        words = crate.words(["--jobs", str(jobs)], keeps=False)
+        status = crate.prove(["build", *words, "--statements", "-o", crate.rlib])
         crate.out.seek(0)
-        return status, crate.out.read()
+        said = crate.out.read()
+    # After an edit meanwhile nobody knows which text was proved.
+    if not status and begun == made_from(library, crate):
+        with open(stamp_of(crate), "w", encoding="utf-8") as it:
+            it.write(begun)
+    return status, said
 
 
 def chain(crate, crates):
@@ -57,11 +96,11 @@ def chain(crate, crates):
     return crate.count(rb"\n") + max(above, default=0)
 
 
-def prove_all(crates, steps, processors):
-    """Proves the libraries, at most as many at once as there are processors. Each may use all of them, and leaves them to
-    those with a longer chain of others behind them."""
+def prove_all(library, crates, steps, processors):
+    """Proves the libraries, at most as many at once as there are processors. The one with the longest chain of others behind
+    it may use all of them. Each other uses one, and only what is left: several jobs of a crate do some work twice."""
     ranked = sorted(crates, key=lambda it: -chain(it, crates))
-    left = [it for it in ranked if not it.is_built()]
+    left = [it for it in ranked if not is_built(library, it)]
     done, running = [it for it in crates if it not in left], {}
     while left or running:
         ready = [it for it in left if all(dep in done for dep in it.deps)]
@@ -71,7 +110,9 @@ def prove_all(crates, steps, processors):
             left.remove(crate)
             # A thread of its own, which has the priority of its crate.
             with_priority = ThreadPoolExecutor(1)
-            running[with_priority.submit(prove, crate, processors, ranked.index(crate))] = crate
+            rank = ranked.index(crate)
+            jobs = 1 if any(ranked.index(it) < rank for it in running.values()) else processors
+            running[with_priority.submit(prove, library, crate, jobs, rank)] = crate
             with_priority.shutdown(wait=False)
         for ended in wait(running, return_when=FIRST_COMPLETED).done:
             crate, (status, said) = running.pop(ended), ended.result()
@@ -83,13 +124,8 @@ def prove_all(crates, steps, processors):
             done.append(crate)
 
 
-def build_program(processors):
-    words = ["rt", "run", "--jobs", str(processors), "--", "list", "data/small.dsdt"]
-    ran = subprocess.run(words, cwd=PROGRAM, stdin=subprocess.DEVNULL, stdout=subprocess.PIPE, stderr=subprocess.STDOUT)
-    if ran.returncode:
-        sys.stderr.write(ran.stdout.decode(errors="replace"))
-        say("acpins is not proved, or not built")
-        sys.exit(1)
+def link_program():
+    """Links the program without a loader, where the host has what that takes."""
     made = f"{PROGRAM}/out/acpins"
     linked = subprocess.run(["sh", f"{TOP}/link-static", f"{made}.o", f"{made}-static"], stdin=subprocess.DEVNULL)
     if linked.returncode and os.path.exists(f"{made}-static"):
@@ -100,32 +136,58 @@ def build_program(processors):
             os.utime(file)
 
 
-def prove_libraries(processors):
-    """Proves what the program stands on, and gives the number of the program among the crates that were to be proved."""
+def build_program(library, program, processors):
+    kit = library.KIT
+    words = ["--target", "x86_64-unknown-linux-gnu", "--toolchain", f"{kit}/toolchain", "-o", "out/acpins", "out/acpins.o"]
+    os.makedirs(f"{PROGRAM}/out", exist_ok=True)
+    with tempfile.TemporaryFile("w+", errors="replace") as program.out:
+        status = program.compile(["--jobs", str(processors)], "out/acpins.o")
+        status = status or program.call(f"{kit}/bin/rattle-link", *words, f"{kit}/c/libos_c.a", f"{kit}/c/liblibc_c.a")
+        program.out.seek(0)
+        said = program.out.read()
+    if status:
+        sys.stderr.write(said)
+        say("acpins is not proved, or not built")
+        sys.exit(1)
+
+
+def build_by_rt(processors):
+    """Builds the program by `rt` alone, which proves one crate after another."""
+    words = ["rt", "run", "--jobs", str(processors), "--", "list", "data/small.dsdt"]
+    ran = subprocess.run(words, cwd=PROGRAM, stdin=subprocess.DEVNULL, stdout=subprocess.PIPE, stderr=subprocess.STDOUT)
+    if ran.returncode:
+        sys.stderr.write(ran.stdout.decode(errors="replace"))
+        say("acpins is not proved, or not built")
+        sys.exit(1)
+
+
+def build_all(processors):
+    """Proves what the program stands on, and builds it."""
     library = rt_library()
     os.chdir(PROGRAM)
     program = library.Crate(PROGRAM, TOP, {})
     crates = program.below()
     held = library.lock([*crates, program])
-    todo = [it for it in crates if not it.is_built()]
+    todo = [it for it in crates if not is_built(library, it)]
     steps = {"all": len(todo) + 1, "begun": 0}
     if len(todo) == len(crates):
         say(f"the first run proves {steps['all']} crates: it takes about 30 minutes on 4 processors (here are {processors})")
-    prove_all(crates, steps, processors)
+    prove_all(library, crates, steps, processors)
+    say(f"proving and building acpins, {steps['all']} of {steps['all']}, {so_far()}")
+    build_program(library, program, processors)
     for it in held:
         os.close(it)
-    return steps["all"]
 
 
 def main():
     signal.signal(signal.SIGINT, signal.SIG_DFL)
     processors = len(os.sched_getaffinity(0))
     try:
-        number = prove_libraries(processors)
-        say(f"proving and building acpins, {number} of {number}, {so_far()}")
+        build_all(processors)
     except (AttributeError, TypeError) as error:
         say(f"this kit's rt has other parts ({error}): proving one crate after another, {so_far()}")
-    build_program(processors)
+        build_by_rt(processors)
+    link_program()
     say(f"acpins is built, {so_far()}")
 
 

@@ -1,6 +1,7 @@
 pub mod Parts
 pub mod Overlaid
 pub mod Missed
+pub mod Unasked
 pub mod Gathering
 pub mod Grown
 pub mod SpelledNames

@@ -197,7 +197,27 @@ fn if_wanted<Q: Wanted>(wanted: &Q, path: Option<Path>) -> Option<Path>
     }
 }
 
-/// Gathers what the search of a name in a read body misses of the paths that are asked for, with the locals laid over.
+// Whether a path that the search of a name may try is asked for.
+#[tactic(auto, using(crate::proofs::Unasked::asked_below, crate::proofs::Unasked::asked_there))]
+fn is_asked<S: Space<Object>, Q: Wanted>(
+    context: &Context<'_, S>,
+    wanted: &Q,
+    name: NameRef<'_>,
+) -> Result<bool, AllocError>
+    ensures { IfOk result (λ b. b ≡ is_some (answer (Q.wanted wanted.now) context.now.method (name_parts name.entry))) }
+{
+    if let Some(seg) = name.plain() {
+        return wanted.wants_below(context.method(), seg);
+    }
+    match place(context.alloc(), context.method(), name) {
+        Ok(path) => Ok(wanted.wants(&path)),
+        Err(PlaceFault::AboveRoot) => Ok(false),
+        Err(PlaceFault::Memory) => Err(AllocError),
+    }
+}
+
+/// Gathers what the search of a name in a read body misses of the paths that are asked for, with the locals laid over. Where
+/// none of its tries is asked for, neither the namespace nor the Externals are searched.
 #[inline(never)]
 #[tactic(auto, unfolding(crate::specs::steps::Gathering::with_search))]
 pub(crate) fn gather_search<S: Space<Object>, Q: Wanted>(
@@ -209,6 +229,9 @@ pub(crate) fn gather_search<S: Space<Object>, Q: Wanted>(
 ) -> Result<(), AllocError>
     ensures { OnOk result (gathered.new ≡ with_search (Q.wanted wanted.now) context.now gathered.old (locals.now, name_parts name.entry)) }
 {
+    if !is_asked(context, wanted, name)? {
+        return Ok(());
+    }
     let tried = search_with(context, locals, wanted, name)?;
     let awaited = awaited(context, locals, name, tried.found)?;
     add_missed(&mut gathered.firm, &awaited, tried.missed)?;
