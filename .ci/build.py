@@ -98,7 +98,8 @@ def chain(crate, crates):
 
 def prove_all(library, crates, steps, processors):
     """Proves the libraries, at most as many at once as there are processors. The one with the longest chain of others behind
-    it may use all of them. Each other uses one, and only what is left: several jobs of a crate do some work twice."""
+    it may use all of them, the next one all but one, and so on, and each leaves them to those before it: several jobs of a crate
+    do some work twice, of a small one most of it."""
     ranked = sorted(crates, key=lambda it: -chain(it, crates))
     left = [it for it in ranked if not is_built(library, it)]
     done, running = [it for it in crates if it not in left], {}
@@ -111,7 +112,8 @@ def prove_all(library, crates, steps, processors):
             # A thread of its own, which has the priority of its crate.
             with_priority = ThreadPoolExecutor(1)
             rank = ranked.index(crate)
-            jobs = 1 if any(ranked.index(it) < rank for it in running.values()) else processors
+            ahead = sum(ranked.index(it) < rank for it in running.values())
+            jobs = max(1, processors - ahead) if crate.is_large() else 1
             running[with_priority.submit(prove, library, crate, jobs, rank)] = crate
             with_priority.shutdown(wait=False)
         for ended in wait(running, return_when=FIRST_COMPLETED).done:
