@@ -71,6 +71,16 @@ def is_built(library, crate):
         return it.read() == made_from(library, crate)
 
 
+def unproved(library, crates):
+    """The crates that are to be proved, of a list in which each stands behind those that it uses: those that are not built,
+    and all that stand on one of these."""
+    todo = []
+    for crate in crates:
+        if not is_built(library, crate) or any(it in todo for it in crate.below()):
+            todo.append(crate)
+    return todo
+
+
 def prove(library, crate, jobs, niceness):
     """The status of the crate's proof, and what it said. It leaves the processors to those that are less nice."""
     # On Linux this is of the calling thread alone, and of what it starts.
@@ -96,18 +106,19 @@ def chain(crate, crates):
     return crate.count(rb"\n") + max(above, default=0)
 
 
-def prove_all(library, crates, steps, processors):
+def prove_all(library, crates, todo, processors):
     """Proves the libraries, at most as many at once as there are processors. The one with the longest chain of others behind
     it may use all of them, the next one all but one, and so on, and each leaves them to those before it: several jobs of a crate
     do some work twice, of a small one most of it."""
     ranked = sorted(crates, key=lambda it: -chain(it, crates))
-    left = [it for it in ranked if not is_built(library, it)]
+    left = [it for it in ranked if it in todo]
     done, running = [it for it in crates if it not in left], {}
+    begun = 0
     while left or running:
         ready = [it for it in left if all(dep in done for dep in it.deps)]
         for crate in ready[: processors - len(running)]:
-            steps["begun"] += 1
-            say(f"proving {crate.name}, {steps['begun']} of {steps['all']}, {so_far()}")
+            begun += 1
+            say(f"proving {crate.name}, {begun} of {len(todo) + 1}, {so_far()}")
             left.remove(crate)
             # A thread of its own, which has the priority of its crate.
             with_priority = ThreadPoolExecutor(1)
@@ -170,12 +181,12 @@ def build_all(processors):
     program = library.Crate(PROGRAM, TOP, {})
     crates = program.below()
     held = library.lock([*crates, program])
-    todo = [it for it in crates if not is_built(library, it)]
-    steps = {"all": len(todo) + 1, "begun": 0}
+    todo = unproved(library, crates)
+    count = len(todo) + 1
     if len(todo) == len(crates):
-        say(f"the first run proves {steps['all']} crates: it takes about 30 minutes on 4 processors (here are {processors})")
-    prove_all(library, crates, steps, processors)
-    say(f"proving and building acpins, {steps['all']} of {steps['all']}, {so_far()}")
+        say(f"the first run proves {count} crates: it takes about 30 minutes on 4 processors (here are {processors})")
+    prove_all(library, crates, todo, processors)
+    say(f"proving and building acpins, {count} of {count}, {so_far()}")
     build_program(library, program, processors)
     for it in held:
         os.close(it)
