@@ -77,6 +77,11 @@ class Row:
         held = {name: it.bytes() for name, it in self.files.items()}
         return held if self.before is None else {**held, OUT: self.before}
 
+    def is_in_order(self):
+        """Whether the files stand in the words in the order in which the row has them."""
+        named = [it for it in self.files if it in self.words]
+        return named == sorted(named, key=self.words.index)
+
 
 def in_order(lines):
     """Lines of a listing in the order of their paths."""
