@@ -2,7 +2,6 @@
 
 use crate::expect::{expect_number, expect_text, put_printed, put_text};
 use crate::machines::{dsdt_of, limit, slices_of, ssdts_of, table};
-use crate::orders::BRIDGE;
 use crate::singles::listed;
 use acpi_declare::*;
 use acpi_name::Path;
@@ -10,6 +9,9 @@ use acpi_space::{MapSpace, Space, TreeSpace};
 use acpi_terms::Object;
 use std::alloc::Global;
 use std::process::Abort;
+
+// Scope (\_SB) { Device (PCI0) { Name (_ADR, Zero) } }
+const BRIDGE: &[u8] = b"\x10\x13\\_SB_\x5B\x82\x0BPCI0\x08_ADR\x00";
 
 // Scope (\_SB.PCI0) { Name (_UID, One) }
 const UID: &[u8] = b"\x10\x11\\\x2E_SB_PCI0\x08_UID\x01";

@@ -9,8 +9,6 @@ mod counts;
 #[cfg(test)]
 mod declarations;
 #[cfg(test)]
-mod every_order;
-#[cfg(test)]
 mod expect;
 #[cfg(test)]
 mod faults;

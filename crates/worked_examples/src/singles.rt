@@ -94,7 +94,7 @@ fn expect_told<S: Space<Object>>(rt: &impl Abort, alloc: Global) {
 }
 
 // The join of the single loads of SSDTs over a DSDT.
-pub(crate) fn joined<S: Space<Object>>(
+fn joined<S: Space<Object>>(
     rt: &impl Abort,
     alloc: Global,
     dsdt: &[&[u8]],
@@ -132,7 +132,7 @@ fn expect_links(rt: &impl Abort, alloc: Global, links: &LinkMap, others: &LinkMa
 }
 
 // All tables load to this machine.
-pub(crate) fn expect_loaded<S: Space<Object>>(
+fn expect_loaded<S: Space<Object>>(
     rt: &impl Abort,
     alloc: Global,
     dsdt: &[&[u8]],
