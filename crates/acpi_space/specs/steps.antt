@@ -4,3 +4,5 @@ pub mod Trail
 pub mod Walk
 pub mod Layers
 pub mod Within
+pub mod Blocks
+pub mod Lends

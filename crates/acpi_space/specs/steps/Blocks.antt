@@ -1,0 +1,13 @@
+-- A list in blocks of sixteen.
+use Rattle.std.specs.Prelude.{◌≡◌, ◌<◌, ◌≤◌, List, [], ◌∷◌, ◌++◌, length}
+
+-- the items of all blocks
+abbrev pub in_blocks : {A : Type 0} → List (List A) → List A
+in_blocks [] = []
+in_blocks (block ∷ blocks) = block ++ in_blocks blocks
+
+-- each block is full but the last, which isn't empty
+abbrev pub IsFilled : {A : Type 0} → List (List A) → Type 0
+IsFilled [] = Unit {0}
+IsFilled (block ∷ []) = (0 < length block) × (length block ≤ 16)
+IsFilled (block ∷ next ∷ blocks) = (length block ≡ 16) × IsFilled (next ∷ blocks)
