@@ -22,15 +22,21 @@ use acpi_space::{SearchFault, Space, misses};
 use acpi_terms::{Item, Object};
 use std::alloc::AllocError;
 
-/// The longest list that keeps memory that it no longer needs.
+/// The longest list that keeps its memory until half of it has been taken.
 const FEW: usize = 16;
 
-/// Gives back the memory of a long list of which more than an eighth has been taken. So the items, field elements and
-/// paths that wait and what is made of them are never all there at once.
+/// Gives back the memory of a list of which half has been taken, or more than an eighth of a long one. So the items,
+/// field elements and paths that wait and what is made of them are never all there at once.
 pub(crate) fn give_back<T: Drop>(left: &mut Vec<T>)
     ensures { left.new.items ≡ left.old.items }
 {
-    if left.capacity() > FEW && left.len() < left.capacity() / 8 * 7 {
+    let room = left.capacity();
+    let least = if room > FEW {
+        room / 8 * 7
+    } else {
+        room / 2 + 1
+    };
+    if left.len() < least {
         left.shrink_to_fit();
     }
 }

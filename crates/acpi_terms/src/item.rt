@@ -22,18 +22,18 @@ use acpi_tree::Item;
 use bytes::Bytes;
 use std::alloc::{AllocError, Global};
 
-/// The longest list that doubles its memory where it is full.
+/// The longest list that grows by half where it is full.
 const FEW: usize = 16;
 
-// Makes room for one more item. A long list grows by an eighth: the lists of scopes inside one another all wait until
-// the innermost has been read, and would be half empty. Room is made before the item is read, so that a list does not
-// move behind those inside it.
+// Makes room for one more item. A list grows by half, a long one by an eighth: the lists of scopes inside one another
+// all wait until the innermost has been read, and would be half empty. Room is made before the item is read, so that a
+// list does not move behind those inside it.
 fn make_room(items: &mut Vec<Item>) -> Result<(), AllocError>
     ensures { items.new.items ≡ items.old.items }
 {
     if items.len() == items.capacity() {
         if items.len() < FEW {
-            items.reserve(1)?;
+            items.reserve_exact((items.len() / 2).max(1))?;
         } else {
             items.reserve_exact(items.len() / 8)?;
         }
