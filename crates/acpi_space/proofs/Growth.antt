@@ -12,7 +12,7 @@ use Rattle.acpi_space.specs.declared.nodes.Node.{Node}
 use Rattle.acpi_space.specs.steps.Grown.{IsGrown, IsPadded}
 use Rattle.acpi_space.specs.steps.Tree.{child_of, child_at, node_children, node_value, reached, value_below, IsTree}
 use Rattle.acpi_space.proofs.Tree.{child_within, value_below_step}
-use Rattle.acpi_space.proofs.NodeWrites.{past_end}
+use Rattle.std.proofs.lemmas.Option.{slice_get_past}
 use Rattle.acpi_space.proofs.Comparisons.{same_segment, segment_itself, same_number, other_number}
 
 -- ---- nodes with the same children and values
@@ -199,7 +199,7 @@ module _ {V : Type 0} (old mid new : List (Node V)) (number : ℕ) (g : Segment)
       ≡ insert_entry segment_cmp (node_children (slice_get mid number)) g m
       → ((h : Segment) → child_at new number h ≡ cond (is_eq (segment_cmp g h)) (Some m) (child_at mid number h)) → IsLinked mid new number g m
   added_link len others value ordered entries child =
-      let gone : slice_get old m ≡ None = past_end old m (omega arith) in
+      let gone : slice_get old m ≡ None = slice_get_past old m (omega arith) in
       record {
         tree = same_children_tree old mid pad.children (omega arith) tree;
         above = omega arith;

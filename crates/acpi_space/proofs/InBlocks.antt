@@ -1,11 +1,11 @@
 -- A list in blocks: an item of it, one that is written, and one that is put at the end.
-use Rattle.std.proofs.Common.{slice_index_or, ◌≡◌, ℕ, zero, suc, ◌+◌, ◌*◌, ◌<◌, List, [], ◌∷◌, ◌++◌, length, Option, Some, None, slice_get, slice_set, map, subst, Bor, ◌/◌, ◌%◌, refl, sym, ap, ◌∙◌, arith}
+use Rattle.std.proofs.Common.{slice_index_or, ◌≡◌, ℕ, zero, suc, ◌+◌, ◌-◌, ◌*◌, ◌<◌, ◌≤◌, List, [], ◌∷◌, ◌++◌, length, Option, Some, None, slice_get, slice_set, map, subst, Bor, ◌/◌, ◌%◌, refl, sym, ap, ◌∙◌, arith}
 use Rattle.std.specs.Option.{option_and_then, option_copied, option_map}
 use Rattle.std.specs.Slice.{IsItemAt}
-use Rattle.std.proofs.lemmas.List.{append-nil, append_assoc, length-append, length-map, length-set, map-append, map-set}
-use Rattle.std.proofs.lemmas.Option.{slice_get-map}
-use Rattle.acpi_space.specs.steps.Blocks.{IsFilled, in_blocks}
-use Rattle.acpi_space.proofs.NodeWrites.{found_at, got, past_end, set_same}
+use Rattle.std.proofs.lemmas.List.{append-nil, append_assoc, length-append, length-map, length-set, map-append, map-set, set-append_left, set-append_right}
+use Rattle.std.proofs.lemmas.Option.{slice_get-get_or, slice_get-map, slice_get_past}
+use Rattle.acpi_space.specs.steps.Blocks.{IsBehind, IsFilled, in_blocks}
+use Rattle.acpi_space.proofs.NodeWrites.{found_at, set_same}
 
 in_none : {X : Type 0} (i : ℕ) (x : X) → slice_get [] i ≡ Some x → ⊥
 in_none i x at = let e : None ≡ Some x = at in cc
@@ -24,16 +24,6 @@ module _ {A : Type 0} where
   get_right (x ∷ xs) ys n zero e = absurd (omega arith)
   get_right (x ∷ xs) ys n (suc m) e = get_right xs ys n m (omega arith)
 
-  set_left : (xs ys : List A) (n : ℕ) (y : A) → n < length xs → slice_set (xs ++ ys) n y ≡ slice_set xs n y ++ ys
-  set_left [] ys n y h = absurd (omega arith)
-  set_left (x ∷ xs) ys zero y h = refl
-  set_left (x ∷ xs) ys (suc n) y h = ap (λ l. x ∷ l) (set_left xs ys n y (omega arith))
-
-  set_right : (xs ys : List A) (n m : ℕ) (y : A) → m ≡ length xs + n → slice_set (xs ++ ys) m y ≡ xs ++ slice_set ys n y
-  set_right [] ys n m y e = ap (λ k. slice_set ys k y) (omega arith)
-  set_right (x ∷ xs) ys n zero y e = absurd (omega arith)
-  set_right (x ∷ xs) ys n (suc m) y e = ap (λ l. x ∷ l) (set_right xs ys n m y (omega arith))
-
   -- a full block before others
   full_first : (block : List A) (blocks : List (List A)) → length block ≡ 16 → IsFilled blocks → IsFilled (block ∷ blocks)
   full_first block [] e f = (omega arith, omega arith)
@@ -43,7 +33,7 @@ module _ {A : Type 0} where
   pub item_in : (blocks : List (List A)) (i j : ℕ) → IsFilled blocks → j < 16 → slice_get (in_blocks blocks) (16 * i + j) ≡ option_and_then (λ block. slice_get block j) (slice_get blocks i)
   item_in [] i j f h = refl
   item_in (block ∷ []) zero j f h = ap (λ l. slice_get l (16 * 0 + j)) (append-nil block) ∙ ap (slice_get block) (omega arith)
-  item_in (block ∷ []) (suc i) j f h = past_end (block ++ []) (16 * suc i + j) (omega (arith, ap length (append-nil block)))
+  item_in (block ∷ []) (suc i) j f h = slice_get_past (block ++ []) (16 * suc i + j) (omega (arith, ap length (append-nil block)))
   item_in (block ∷ next ∷ blocks) zero j f h = get_left block (in_blocks (next ∷ blocks)) (16 * 0 + j) (omega arith) ∙ ap (slice_get block) (omega arith)
   item_in (block ∷ next ∷ blocks) (suc i) j f h =
       get_right block (in_blocks (next ∷ blocks)) (16 * i + j) (16 * suc i + j) (omega arith) ∙ item_in (next ∷ blocks) i j f.1 h
@@ -55,12 +45,12 @@ module _ {A : Type 0} where
   set_in (first ∷ blocks) zero j block x at f h =
       let is : first ≡ block = same_some first block at in
       ap (λ b. slice_set b j x ++ in_blocks blocks) (sym is)
-      ∙ sym (set_left first (in_blocks blocks) j x (omega (arith, ap length is)))
+      ∙ sym (set-append_left first (in_blocks blocks) j x (omega (arith, ap length is)))
       ∙ ap (λ n. slice_set (first ++ in_blocks blocks) n x) (omega arith)
   set_in (first ∷ []) (suc i) j block x at f h = absurd (in_none i _ at)
   set_in (first ∷ next ∷ blocks) (suc i) j block x at f h =
       ap (λ l. first ++ l) (set_in (next ∷ blocks) i j block x at f.1 h)
-      ∙ sym (set_right first (in_blocks (next ∷ blocks)) (16 * i + j) (16 * suc i + j) x (omega arith))
+      ∙ sym (set-append_right first (in_blocks (next ∷ blocks)) 16 (16 * suc i + j) x f.0 (omega arith) ∙ ap (λ k. first ++ slice_set (in_blocks (next ∷ blocks)) k x) (omega arith))
 
   -- a block of the same length in the place of another
   pub filled_set : (blocks : List (List A)) (i : ℕ) (block other : List A) → slice_get blocks i ≡ Some block → length other ≡ length block → IsFilled blocks → IsFilled (slice_set blocks i other)
@@ -134,8 +124,47 @@ module _ {A : Type 0} where
 
   -- what `get` gives
   pub copied_at : (xs : List A) (i : ℕ) (r : Option (Bor A)) → IsItemAt xs i r → option_copied r ≡ slice_get xs i
-  copied_at xs i None h = sym (past_end xs i h.3)
-  copied_at xs i (Some x) h = ap Some h.1 ∙ sym (got xs i x.now h.3.0)
+  copied_at xs i None h = sym (slice_get_past xs i h.3)
+  copied_at xs i (Some x) h = ap Some h.1 ∙ sym (slice_get-get_or xs i x.now h.3.0)
+
+-- the items of all blocks, and those behind them
+module _ {A : Type 0} where
+  pub get_first : (first rest : List A) (n : ℕ) → IsBehind first rest → n < 65536 → slice_get (first ++ rest) n ≡ slice_get first n
+  get_first first [] n b h = ap (λ l. slice_get l n) (append-nil first)
+  get_first first (x ∷ rest) n b h = get_left first (x ∷ rest) n (omega (arith, b))
+
+  pub get_behind : (first rest : List A) (n : ℕ) → IsBehind first rest → 65536 ≤ n → slice_get (first ++ rest) n ≡ slice_get rest (n - 65536)
+  get_behind first [] n b h = slice_get_past (first ++ []) n (omega (arith, b, ap length (append-nil first)))
+  get_behind first (x ∷ rest) n b h = get_right first (x ∷ rest) (n - 65536) n (omega (arith, b))
+
+  pub is_first : (first rest : List A) (n : ℕ) → IsBehind first rest → n < 65536 → n < length (first ++ rest) → n < length first
+  is_first first [] n b h within = omega (arith, ap length (append-nil first))
+  is_first first (x ∷ rest) n b h within = omega (arith, b)
+
+  pub is_behind : (first rest : List A) (n : ℕ) → IsBehind first rest → 65536 ≤ n → n < length (first ++ rest) → n - 65536 < length rest
+  is_behind first [] n b h within = absurd (omega (arith, b, ap length (append-nil first)))
+  is_behind first (x ∷ rest) n b h within = omega (arith, b, length-append first (x ∷ rest))
+
+  pub behind_set : (first rest : List A) (k : ℕ) (x : A) → IsBehind first rest → IsBehind first (slice_set rest k x)
+  behind_set first [] k x b = b
+  behind_set first (y ∷ rest) zero x b = b
+  behind_set first (y ∷ rest) (suc k) x b = b
+
+  pub set_behind : (first rest : List A) (n : ℕ) (x : A) → IsBehind first rest → 65536 ≤ n → n < length (first ++ rest)
+      → IsBehind first (slice_set rest (n - 65536) x) × (first ++ slice_set rest (n - 65536) x ≡ slice_set (first ++ rest) n x)
+  set_behind first [] n x b h within = absurd (omega (arith, b, ap length (append-nil first)))
+  set_behind first (y ∷ rest) n x b h within = (behind_set first (y ∷ rest) (n - 65536) x b, sym (set-append_right first (y ∷ rest) 65536 n x b h))
+
+  behind_other : (first other rest : List A) → length other ≡ length first → IsBehind first rest → IsBehind other rest
+  behind_other first other [] e b = omega (arith, e, b)
+  behind_other first other (x ∷ rest) e b = e ∙ b
+
+  pub set_first : (first other rest : List A) (n : ℕ) (x : A) → other ≡ slice_set first n x → IsBehind first rest → n < length first
+      → IsBehind other rest × (other ++ rest ≡ slice_set (first ++ rest) n x)
+  set_first first other rest n x is b within = (
+    behind_other first other rest (ap length is ∙ length-set first n x) b,
+    ap (λ l. l ++ rest) is ∙ sym (set-append_left first rest n x within),
+  )
 
 -- the same of blocks whose items are found by a function, by the number of an item
 module _ {A B : Type 0} (items : B → List A) (blocks : List B) (n : ℕ) (filled : IsFilled (map items blocks)) where
@@ -155,9 +184,12 @@ module _ {A B : Type 0} (items : B → List A) (blocks : List B) (n : ℕ) (fill
       ∙ item_in (map items blocks) (n / 16) (n % 16) filled (omega arith)
       ∙ ap (option_and_then (λ b. slice_get b (n % 16))) (slice_get-map items blocks (n / 16) ∙ ap (option_map items) e)
 
-  -- the last block is there, where it isn't full
+  -- what an index of the blocks gives at the last, where that isn't full
   pub last_of : n ≡ length (in_blocks (map items blocks)) → 0 < n % 16 → n / 16 < length blocks
   last_of e h = let there : n / 16 < length (map items blocks) = last_there (map items blocks) (n / 16) (n % 16) filled (omega arith) h (omega arith) in omega (arith, length-map blocks items)
+
+  lent_last : (block : B) → n ≡ length (in_blocks (map items blocks)) → 0 < n % 16 → block ≡ slice_index_or blocks (n / 16) block → slice_get blocks (n / 16) ≡ Some block
+  lent_last block e h is = found_at blocks (n / 16) block (last_of e h) is
 
   -- a new block of one item, where all are full
   pub put_new : (other : B) (x : A) → n ≡ length (in_blocks (map items blocks)) → n % 16 ≡ 0 → items other ≡ x ∷ []
@@ -196,15 +228,20 @@ module _ {A B : Type 0} (items : B → List A) (blocks : List B) (n : ℕ) (fill
             ∙ ap (λ k. slice_set (in_blocks (map items blocks)) k x) numbered,
       )
 
-      -- one put into it
-      pub put_in_last : (x : A) → n ≡ length (in_blocks (map items blocks)) → 0 < n % 16 → items other ≡ items block ++ x ∷ []
-          → IsFilled (map items (slice_set blocks (n / 16) other)) × (in_blocks (map items (slice_set blocks (n / 16) other)) ≡ in_blocks (map items blocks) ++ x ∷ [])
-      put_in_last x e h o = (
-        subst IsFilled (sym (in_place (items block ++ x ∷ []) o))
-            (filled_more (map items blocks) (n / 16) (n % 16) (items block) (items block ++ x ∷ []) in_map (length-append (items block) (x ∷ [])) filled (omega arith) h (omega arith)),
-        ap in_blocks (in_place (items block ++ x ∷ []) o) ∙ items_more (map items blocks) (n / 16) (n % 16) (items block) x in_map filled (omega arith) h (omega arith),
-      )
+  module _ (block other : B) (last : n ≡ length (in_blocks (map items blocks))) (room : 0 < n % 16) (is : block ≡ slice_index_or blocks (n / 16) block) where
+    in_last : (l : List A) → items other ≡ l → map items (slice_set blocks (n / 16) other) ≡ slice_set (map items blocks) (n / 16) l
+    in_last l o = in_place block (lent_last block last room is) other l o
 
-      -- one refused
-      pub same_blocks : items other ≡ items block → map items (slice_set blocks (n / 16) other) ≡ map items blocks
-      same_blocks o = in_place (items block) o ∙ set_same (map items blocks) (n / 16) (items block) in_map
+    -- an item put into the last block
+    pub put_in_last : (x : A) → items other ≡ items block ++ x ∷ []
+        → IsFilled (map items (slice_set blocks (n / 16) other)) × (in_blocks (map items (slice_set blocks (n / 16) other)) ≡ in_blocks (map items blocks) ++ x ∷ [])
+    put_in_last x o =
+        let at = in_map block (lent_last block last room is) in (
+          subst IsFilled (sym (in_last (items block ++ x ∷ []) o))
+              (filled_more (map items blocks) (n / 16) (n % 16) (items block) (items block ++ x ∷ []) at (length-append (items block) (x ∷ [])) filled (omega arith) room (omega arith)),
+          ap in_blocks (in_last (items block ++ x ∷ []) o) ∙ items_more (map items blocks) (n / 16) (n % 16) (items block) x at filled (omega arith) room (omega arith),
+        )
+
+    -- one refused
+    pub same_blocks : items other ≡ items block → map items (slice_set blocks (n / 16) other) ≡ map items blocks
+    same_blocks o = in_last (items block) o ∙ set_same (map items blocks) (n / 16) (items block) (in_map block (lent_last block last room is))

@@ -2,17 +2,13 @@
 use Rattle.std.proofs.Common.{◌≡◌, ◌≢◌, ℕ, zero, suc, ◌<◌, ◌≤◌, List, [], ◌∷◌, length, Some, None, slice_get, slice_set, slice_index_or, refl, sym, ap, ◌∙◌, arith, Result, Ok, Err, OnErr}
 use Rattle.acpi_space.specs.declared.nodes.Node.{Node}
 use Rattle.std.proofs.lemmas.List.{length-set}
+use Rattle.std.proofs.lemmas.Option.{slice_get-get_or}
 use Rattle.acpi_space.specs.steps.Grown.{HasPut}
 use Rattle.acpi_space.specs.steps.Tree.{entries_of, node_children, node_value}
 
 pub on_err : {A E : Type 0} (P : Type 0) (r : Result A E) → P → OnErr r P
 on_err P (Ok x) h = tt
 on_err P (Err e) h = h
-
-pub past_end : {X : Type 0} (xs : List X) (n : ℕ) → length xs ≤ n → slice_get xs n ≡ None
-past_end [] n h = refl
-past_end (x ∷ xs) zero h = absurd (omega arith)
-past_end (x ∷ xs) (suc n) h = past_end xs n (omega arith)
 
 get_set : {X : Type 0} (xs : List X) (n : ℕ) (y : X) → n < length xs → slice_get (slice_set xs n y) n ≡ Some y
 get_set [] n y h = absurd (omega arith)
@@ -26,14 +22,9 @@ get_set_other (x ∷ xs) zero (suc n) y h = refl
 get_set_other (x ∷ xs) (suc k) zero y h = refl
 get_set_other (x ∷ xs) (suc k) (suc n) y h = get_set_other xs k n y (λ e. h (ap suc e))
 
-pub got : {X : Type 0} (xs : List X) (n : ℕ) (d : X) → n < length xs → slice_get xs n ≡ Some (slice_index_or xs n d)
-got [] n d h = absurd (omega arith)
-got (x ∷ xs) zero d h = refl
-got (x ∷ xs) (suc n) d h = got xs n d (omega arith)
-
 -- what an index gives
 pub found_at : {X : Type 0} (xs : List X) (n : ℕ) (x : X) → n < length xs → x ≡ slice_index_or xs n x → slice_get xs n ≡ Some x
-found_at xs n x h is = got xs n x h ∙ ap Some (sym is)
+found_at xs n x h is = slice_get-get_or xs n x h ∙ ap Some (sym is)
 
 -- an item that is written as it was
 pub set_same : {X : Type 0} (xs : List X) (n : ℕ) (x : X) → slice_get xs n ≡ Some x → slice_set xs n x ≡ xs

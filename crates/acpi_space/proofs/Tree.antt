@@ -15,7 +15,7 @@ use Rattle.acpi_space.specs.declared.nodes.Node.{Node}
 use Rattle.acpi_space.specs.steps.Tree.{own_pair, child_of, child_at, node_children, node_value, pairs_below, reached, value_below, tree_map, IsTree}
 use Rattle.acpi_space.proofs.Maps.{get_is_lookup}
 use Rattle.acpi_space.proofs.Comparisons.{eq_of}
-use Rattle.acpi_space.proofs.NodeWrites.{past_end}
+use Rattle.std.proofs.lemmas.Option.{slice_get_past}
 
 abbrev at : {V : Type 0} → List Segment → List (List Segment × V) → Option V
 at q es = lookup (λ k. is_eq (path_cmp q k)) es
@@ -122,7 +122,7 @@ pub at-pairs : {V : Type 0} (d : ℕ) (nodes : List (Node V)) (n : ℕ) (q : Lis
 at-pairs {V} zero nodes n q t h = none q
   where
     gone : slice_get nodes n ≡ None
-    gone = past_end nodes n (omega arith)
+    gone = slice_get_past nodes n (omega arith)
 
     none : (q : List Segment) → at {V = V} q [] ≡ value_below nodes n q
     none [] = sym (ap node_value gone)

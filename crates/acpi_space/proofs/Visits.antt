@@ -13,7 +13,7 @@ use Rattle.acpi_space.specs.Spaces.{PathMap}
 use Rattle.acpi_space.specs.steps.Tree.{node_children, node_value, own_pair, node_pairs, pairs_below, tree_map, IsTree}
 use Rattle.acpi_space.specs.steps.Walk.{ahead, next_ahead, enter, pair_at, under, pairs_of, places, places_of, left_of, with_given}
 use Rattle.acpi_space.proofs.Ascending.{listed_tree}
-use Rattle.acpi_space.proofs.NodeWrites.{past_end}
+use Rattle.std.proofs.lemmas.Option.{slice_get_past}
 use Rattle.acpi_space.proofs.WalkSteps.{ahead_children}
 
 abbrev pub total : {X : Type 0} → (X → ℕ) → List X → ℕ
@@ -40,8 +40,8 @@ no_pairs below (Some node) e = cc
 
 deep_enough : {V : Type 0} (nodes : List (Node V)) → IsTree nodes → (d e n : ℕ) → length nodes ≤ n + d → length nodes ≤ n + e → pairs_below d nodes n ≡ pairs_below e nodes n
 deep_enough nodes t zero zero n h k = refl
-deep_enough nodes t zero (suc e) n h k = no_pairs (pairs_below e nodes) (slice_get nodes n) (past_end nodes n (omega arith))
-deep_enough nodes t (suc d) zero n h k = sym (no_pairs (pairs_below d nodes) (slice_get nodes n) (past_end nodes n (omega arith)))
+deep_enough nodes t zero (suc e) n h k = no_pairs (pairs_below e nodes) (slice_get nodes n) (slice_get_past nodes n (omega arith))
+deep_enough nodes t (suc d) zero n h k = sym (no_pairs (pairs_below d nodes) (slice_get nodes n) (slice_get_past nodes n (omega arith)))
 deep_enough nodes t (suc d) (suc e) n h k =
     ap (λ l. own_pair (node_value (slice_get nodes n)) ++ l)
     (same_flat (λ c. (n < c.1) × (c.1 < length nodes)) (λ c. map (λ p. (c.0 ∷ p.0, p.1)) (pairs_below d nodes c.1)) (λ c. map (λ p. (c.0 ∷ p.0, p.1)) (pairs_below e nodes c.1))
@@ -61,7 +61,7 @@ visits_to zero nodes n = 1
 visits_to (suc d) nodes n = suc (total (λ c. visits_to d nodes c.1) (node_children (slice_get nodes n)))
 
 alone : {V : Type 0} (nodes : List (Node V)) (n d : ℕ) → length nodes ≤ n + 0 → 1 ≡ suc (total (λ c. visits_to d nodes c.1) (node_children (slice_get nodes n)))
-alone nodes n d h = ap (λ o. suc (total (λ c. visits_to d nodes c.1) (node_children o))) (sym (past_end nodes n (omega arith)))
+alone nodes n d h = ap (λ o. suc (total (λ c. visits_to d nodes c.1) (node_children o))) (sym (slice_get_past nodes n (omega arith)))
 
 far_enough : {V : Type 0} (nodes : List (Node V)) → IsTree nodes → (d e n : ℕ) → length nodes ≤ n + d → length nodes ≤ n + e → visits_to d nodes n ≡ visits_to e nodes n
 far_enough nodes t zero zero n h k = refl

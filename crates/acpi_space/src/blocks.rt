@@ -2,7 +2,7 @@
 ghost use Rattle.std.specs.Prelude.{◌≡◌, ◌<◌, ◌++◌, [], ◌∷◌, length, map, slice_get, vec_items, Some, IfOk, OnOk, OnErr};
 ghost use Rattle.std.specs.Option.{option_copied};
 ghost use Rattle.std.specs.Borrow.{sem};
-ghost use Rattle.acpi_space.specs.steps.Blocks.{IsFilled, in_blocks};
+ghost use Rattle.acpi_space.specs.steps.Blocks.{IsBehind, IsFilled, in_blocks};
 
 use std::alloc::{AllocError, Global};
 use std::marker::Model;
@@ -10,28 +10,37 @@ use std::marker::Model;
 /// The number of items in a block.
 const BLOCK: usize = 16;
 
-/// A list in blocks of sixteen items. Where it grows no item moves, and a block finds room in memory that other values
-/// have given back, where a long list would not.
+/// The number of items in all blocks.
+const IN_BLOCKS: usize = 65_536;
+
+/// A list in blocks of sixteen items, with one vector behind them for the items beyond the first 65,536. Where blocks
+/// grow no item moves, and a block finds room in memory that other values have given back, where a long list would not;
+/// yet each lies between other values, which more blocks than these would drive far apart.
 #[derive(Drop)]
 pub struct Blocks<T> {
     alloc: Global,
     // Each but the last is full, and the last isn't empty.
     blocks: Vec<Vec<T>>,
+    // Empty, unless the blocks have all the items that they may.
+    rest: Vec<T>,
     len: usize,
 }
 
 impl<T> Model for Blocks<T> {
-    ghost use Rattle.std.specs.Prelude.{◌≡◌, List, length, map, vec_items};
+    ghost use Rattle.std.specs.Prelude.{◌≡◌, ◌++◌, List, length, map, vec_items};
     ghost use Rattle.std.specs.Coded.{coded_list};
-    ghost use Rattle.acpi_space.specs.steps.Blocks.{IsFilled, in_blocks};
+    ghost use Rattle.acpi_space.specs.steps.Blocks.{IsBehind, IsFilled, in_blocks};
 
     ghost Value = { List T };
 
     ghost coded = { coded_list T.code };
 
-    ghost view = { λ b. in_blocks (map vec_items b.blocks.items) };
+    ghost view = { λ b. in_blocks (map vec_items b.blocks.items) ++ b.rest.items };
 
-    ghost invariant = { λ b. IsFilled (map vec_items b.blocks.items) × (b.len ≡ length (in_blocks (map vec_items b.blocks.items))) };
+    ghost invariant = { λ b.
+        IsFilled (map vec_items b.blocks.items)
+        × IsBehind (in_blocks (map vec_items b.blocks.items)) b.rest.items
+        × (b.len ≡ length (in_blocks (map vec_items b.blocks.items) ++ b.rest.items)) };
 }
 
 impl<T> Blocks<T> {
@@ -44,6 +53,7 @@ impl<T> Blocks<T> {
         Blocks {
             alloc,
             blocks: Vec::new(alloc),
+            rest: Vec::new(alloc),
             len: 0,
         }
     }
@@ -59,6 +69,9 @@ impl<T> Blocks<T> {
     pub(crate) fn get(&self, number: usize) -> Option<&T>
         ensures { option_copied result ≡ slice_get self.now number }
     {
+        if number >= IN_BLOCKS {
+            return self.rest.get(number - IN_BLOCKS);
+        }
         match self.blocks.get(number / BLOCK) {
             Some(block) => block.get(number % BLOCK),
             None => None,
@@ -71,6 +84,9 @@ impl<T> Blocks<T> {
         ensures* lends { sem 𝓛 (lends_item T.row self.entry number result) }
         ensures value { slice_get self.old number ≡ Some result.now }
     {
+        if number >= IN_BLOCKS {
+            return &mut self.rest[number - IN_BLOCKS];
+        }
         let block = &mut self.blocks[number / BLOCK];
         &mut block[number % BLOCK]
     }
@@ -83,7 +99,11 @@ impl<T: Drop> Blocks<T> {
         ensures err { OnErr result (self.new ≡ self.old) }
     {
         let len = self.len.checked_add(1).ok_or(AllocError)?;
-        put_last(self.alloc, &mut self.blocks, self.len, item)?;
+        if self.len < IN_BLOCKS {
+            put_last(self.alloc, &mut self.blocks, self.len, item)?;
+        } else {
+            self.rest.push(item)?;
+        }
         self.len = len;
         Ok(())
     }

@@ -1,7 +1,7 @@
 use Rattle.std.proofs.Common.{sym, ◌∙◌, ap, subst, map, vec_items, arith}
 use Rattle.acpi_space.specs.steps.Blocks.{IsFilled, in_blocks}
 use Rattle.acpi_space.proofs.InBlocks.{last_of, put_in_last, put_new, same_blocks}
-use Rattle.acpi_space.proofs.NodeWrites.{found_at, on_err}
+use Rattle.acpi_space.proofs.NodeWrites.{on_err}
 use Rattle.acpi_space.proofs.blocks.put_last.Goals as goal
 
 pub returns-then-len-eq0-clause-filled : goal.returns-then-len-eq0-clause-filled
@@ -21,27 +21,23 @@ index_mut-requires g c =
 
 pub returns-in_err-push-2-clause-filled : goal.returns-in_err-push-2-clause-filled
 returns-in_err-push-2-clause-filled g c =
-    let there = last_of vec_items c.args.blocks.now.items c.args.len c.requires.filled c.requires.len (omega (arith, c.if-len-eq0.false)) in
-    let at = found_at c.args.blocks.now.items _ c.index_mut.result.now there c.index_mut.ensures.value in
-    subst IsFilled (sym (same_blocks vec_items c.args.blocks.now.items c.args.len c.requires.filled c.index_mut.result.now at c.push-2.new.self c.in_err-push-2.ensures.items)) c.requires.filled
+    subst IsFilled
+    (sym (same_blocks vec_items c.args.blocks.now.items c.args.len c.requires.filled c.index_mut.result.now c.push-2.new.self c.requires.len
+    (omega (arith, c.if-len-eq0.false)) c.index_mut.ensures.value c.in_err-push-2.ensures.items))
+    c.requires.filled
 
 pub returns-in_err-push-2-clause-err : goal.returns-in_err-push-2-clause-err
 returns-in_err-push-2-clause-err g c =
-    let there = last_of vec_items c.args.blocks.now.items c.args.len c.requires.filled c.requires.len (omega (arith, c.if-len-eq0.false)) in
-    let at = found_at c.args.blocks.now.items _ c.index_mut.result.now there c.index_mut.ensures.value in
     on_err _ c.from_residual-in_err-push-2.result
-    (same_blocks vec_items c.args.blocks.now.items c.args.len c.requires.filled c.index_mut.result.now at c.push-2.new.self c.in_err-push-2.ensures.items)
+    (same_blocks vec_items c.args.blocks.now.items c.args.len c.requires.filled c.index_mut.result.now c.push-2.new.self c.requires.len
+    (omega (arith, c.if-len-eq0.false)) c.index_mut.ensures.value c.in_err-push-2.ensures.items)
 
 pub returns-clause-filled : goal.returns-clause-filled
 returns-clause-filled g c =
-    let there = last_of vec_items c.args.blocks.now.items c.args.len c.requires.filled c.requires.len (omega (arith, c.if-len-eq0.false)) in
-    let at = found_at c.args.blocks.now.items _ c.index_mut.result.now there c.index_mut.ensures.value in
-    (put_in_last vec_items c.args.blocks.now.items c.args.len c.requires.filled c.index_mut.result.now at c.push-2.new.self c.args.item c.requires.len
-    (omega (arith, c.if-len-eq0.false)) c.in_ok-push-2.ensures.items).0
+    (put_in_last vec_items c.args.blocks.now.items c.args.len c.requires.filled c.index_mut.result.now c.push-2.new.self c.requires.len
+    (omega (arith, c.if-len-eq0.false)) c.index_mut.ensures.value c.args.item c.in_ok-push-2.ensures.items).0
 
 pub returns-clause-ok : goal.returns-clause-ok
 returns-clause-ok g c =
-    let there = last_of vec_items c.args.blocks.now.items c.args.len c.requires.filled c.requires.len (omega (arith, c.if-len-eq0.false)) in
-    let at = found_at c.args.blocks.now.items _ c.index_mut.result.now there c.index_mut.ensures.value in
-    (put_in_last vec_items c.args.blocks.now.items c.args.len c.requires.filled c.index_mut.result.now at c.push-2.new.self c.args.item c.requires.len
-    (omega (arith, c.if-len-eq0.false)) c.in_ok-push-2.ensures.items).1
+    (put_in_last vec_items c.args.blocks.now.items c.args.len c.requires.filled c.index_mut.result.now c.push-2.new.self c.requires.len
+    (omega (arith, c.if-len-eq0.false)) c.index_mut.ensures.value c.args.item c.in_ok-push-2.ensures.items).1
