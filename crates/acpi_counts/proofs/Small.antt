@@ -1,12 +1,15 @@
 -- Counts stay at most 7.
-use Rattle.std.proofs.Common.{◌≡◌, ℕ, ◌≤◌, List, Bool, true, false, cond, Option, Some, None, subst, sym, ap, ◌∙◌}
+use Rattle.std.proofs.Common.{◌≡◌, ℕ, ◌≤◌, List, [], ◌∷◌, find, is_some, refl, Bool, true, false, cond, Option, Some, None, subst, sym, ap, ◌∙◌}
 use Rattle.std.specs.FinMap.{empty, get, get-empty, insert, get-insert}
 use Rattle.std.specs.Ordering.{eq_by_cmp}
 use Rattle.acpi_name.specs.Names.{Segment}
 use Rattle.acpi_name.specs.Paths.{path_cmp}
 use Rattle.acpi_name.specs.steps.PathOrder.{path_cmp_total}
-use Rattle.acpi_space.specs.Spaces.{PathMap}
+use Rattle.acpi_space.specs.Spaces.{PathMap, is_defined}
 use Rattle.acpi_counts.specs.Counts.{AreSmall}
+
+abbrev no_counts : PathMap ℕ
+no_counts = empty
 
 abbrev number : ℕ → Option ℕ
 number n = Some n
@@ -26,3 +29,8 @@ either false m n o h k e = k e
 
 pub insert_small : (m : PathMap ℕ) (p : List Segment) (k : ℕ) → k ≤ 7 → AreSmall m → AreSmall (insert m p k)
 insert_small m p k h small q n e = either (eq_by_cmp path_cmp q p) k n (get m q) h (small q n) (sym (get-insert path_cmp_total m p k q) ∙ e)
+
+-- no counts: nothing is found
+pub none_found : (xs : List (List Segment)) → find (is_defined no_counts) xs ≡ None
+none_found [] = refl
+none_found (x ∷ xs) = ap (λ (o : Option ℕ). cond (is_some o) (Some x) (find (is_defined no_counts) xs)) (get-empty path_cmp x) ∙ none_found xs

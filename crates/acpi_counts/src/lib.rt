@@ -23,13 +23,16 @@ use std::marker::Model;
 /// The argument counts of methods, by the paths of the methods: numbers 0 to 7.
 #[derive(Drop)]
 pub struct Counts {
-    map: TreeSpace<u8>,
+    alloc: Global,
+    // None where no path has a count, as in most tables.
+    map: Option<Box<TreeSpace<u8>>>,
 }
 
 impl Model for Counts {
     ghost use Rattle.std.specs.Prelude.{ℕ};
     ghost use Rattle.std.specs.FinMap as finite;
     ghost use Rattle.acpi_counts.specs.Counts.{AreSmall};
+    ghost use Rattle.acpi_counts.specs.steps.Kept.{counts_in};
     ghost use Rattle.std.specs.Coded.{coded_ℕ};
     ghost use Rattle.acpi_space.specs.Spaces.{PathMap, coded_path};
 
@@ -37,9 +40,9 @@ impl Model for Counts {
 
     ghost coded = { finite.code coded_path coded_ℕ };
 
-    ghost view = { λ c. c.map };
+    ghost view = { λ c. counts_in c.map };
 
-    ghost invariant = { λ c. AreSmall c.map };
+    ghost invariant = { λ c. AreSmall (counts_in c.map) };
 }
 
 impl Counts {
@@ -47,9 +50,7 @@ impl Counts {
     pub fn new(alloc: Global) -> Counts
         ensures { result ≡ finite.empty }
     {
-        Counts {
-            map: TreeSpace::new(alloc),
-        }
+        Counts { alloc, map: None }
     }
 
     /// The count at a path. Takes no memory.
@@ -57,7 +58,10 @@ impl Counts {
         ensures found { result ≡ finite.get self.now path.now }
         ensures small { AreSmall self.now }
     {
-        self.map.get(path).copied()
+        match &self.map {
+            Some(map) => map.get(path).copied(),
+            None => None,
+        }
     }
 
     /// Adds a count of at most 7. A path that has a count keeps it. Where memory is refused no count changes.
@@ -66,10 +70,14 @@ impl Counts {
         ensures ok { OnOk result (self.new ≡ with_first self.old path count) }
         ensures err { OnErr result (self.new ≡ self.old) }
     {
-        match self.map.insert(path, count) {
-            Ok(()) => Ok(()),
-            Err(Refused::Taken(_)) => Ok(()),
-            Err(Refused::Memory(_)) => Err(AllocError),
+        match &mut self.map {
+            Some(map) => add_to(map, path, count),
+            None => {
+                let mut map = Box::new(self.alloc, TreeSpace::new(self.alloc))?;
+                add_to(&mut map, path, count)?;
+                self.map = Some(map);
+                Ok(())
+            }
         }
     }
 
@@ -83,11 +91,40 @@ impl Counts {
     ) -> Result<Option<Path>, AllocError>
         ensures { IfOk result (λ p. p ≡ answer (is_defined self.now) scope.now (name_parts name.entry)) }
     {
-        match search(alloc, &self.map, scope, name) {
-            Ok(Found::At(path)) => Ok(Some(path)),
-            Ok(Found::Missing) => Ok(None),
-            Err(SearchFault::AboveRoot) => Ok(None),
-            Err(SearchFault::Memory) => Err(AllocError),
+        match &self.map {
+            Some(map) => find_in(alloc, map, scope, name),
+            None => Ok(None),
         }
+    }
+}
+
+// Adds a count to a map of counts.
+fn add_to(map: &mut TreeSpace<u8>, path: Path, count: u8) -> Result<(), AllocError>
+    requires { count ≤ 7 }
+    ensures ok { OnOk result (map.new ≡ with_first map.old path count) }
+    ensures err { OnErr result (map.new ≡ map.old) }
+    ensures small { AreSmall map.old → AreSmall map.new }
+{
+    match map.insert(path, count) {
+        Ok(()) => Ok(()),
+        Err(Refused::Taken(_)) => Ok(()),
+        Err(Refused::Memory(_)) => Err(AllocError),
+    }
+}
+
+// The path that a name means among those of a map of counts.
+fn find_in(
+    alloc: Global,
+    map: &TreeSpace<u8>,
+    scope: &Path,
+    name: NameRef<'_>,
+) -> Result<Option<Path>, AllocError>
+    ensures { IfOk result (λ p. p ≡ answer (is_defined map.now) scope.now (name_parts name.entry)) }
+{
+    match search(alloc, map, scope, name) {
+        Ok(Found::At(path)) => Ok(Some(path)),
+        Ok(Found::Missing) => Ok(None),
+        Err(SearchFault::AboveRoot) => Ok(None),
+        Err(SearchFault::Memory) => Err(AllocError),
     }
 }

@@ -41,7 +41,7 @@ impl<S: Space<Object>> Declaring<S> {
         ensures ok { IfOk result (λ d. HasTables depth (dsdt.now ∷ []) (state_of (S.contents (objects_so_far d)) d)) }
         ensures err { (later : List (List ℕ)) → IfErr result (λ e. IsLoadFault depth (dsdt.now ∷ later) e) }
     {
-        add_table(alloc, start(alloc)?, 0, dsdt, depth)
+        add_table(alloc, start(alloc, 1)?, 0, dsdt, depth)
     }
 
     /// With what one SSDT declares over it.
@@ -77,7 +77,7 @@ impl<S: Space<Object>> Declaring<S> {
         let layer = Declaring {
             objects: Overlay::over(alloc, &self.objects),
             links: Vec::new(alloc),
-            notes: Vec::new(alloc),
+            notes: Vec::with_capacity(alloc, 1)?,
         };
         add_table(alloc, layer, self.notes.len(), ssdt, depth)
     }

@@ -235,15 +235,18 @@ pub fn declare<S: Space<Object>>(
     declare_shared(alloc, &dsdt, &ssdts, depth)
 }
 
-/// The predefined objects, and nothing else.
-pub(crate) fn start<S: Space<Object>>(alloc: Global) -> Result<Declaring<S>, LoadFault>
+/// The predefined objects, and nothing else; with room for the notes of so many tables.
+pub(crate) fn start<S: Space<Object>>(
+    alloc: Global,
+    tables: usize,
+) -> Result<Declaring<S>, LoadFault>
     ensures ok { IfOk result (λ r. HasTables 0 [] (state_of (S.contents r.objects) r)) }
     ensures memory { IfErr result (λ e. e ≡ LoadFault.Memory) }
 {
     Ok(Declaring {
         objects: predefined_space(alloc)?,
         links: Vec::new(alloc),
-        notes: Vec::new(alloc),
+        notes: Vec::with_capacity(alloc, tables)?,
     })
 }
 
@@ -257,7 +260,8 @@ fn declare_all<S: Space<Object>>(
     ensures ok { IfOk result (λ r. HasTables depth (dsdt.now ∷ ssdts.now) (state_of (S.contents r.objects) r)) }
     ensures err { IfErr result (λ e. IsLoadFault depth (dsdt.now ∷ ssdts.now) e) }
 {
-    let mut loaded = add_table(alloc, start(alloc)?, 0, dsdt, depth)?;
+    let begun = start(alloc, ssdts.len().saturating_add(1))?;
+    let mut loaded = add_table(alloc, begun, 0, dsdt, depth)?;
     for (i, ssdt) in ssdts.iter().enumerate() {
         loaded = add_table(alloc, loaded, i + 1, ssdt, depth)?;
     }

@@ -4,6 +4,7 @@ use Rattle.std.proofs.lemmas.Bool.Decides.{nat_tests}
 use Rattle.std.specs.declared.cmp.Ordering.{Ordering}
 use Rattle.std.specs.declared.cmp.Ordering.TheVariants.{Less, Equal, Greater}
 use Rattle.std.specs.Ordering.{is_eq}
+use Rattle.std.specs.List.Sorted.{IsStrictlySortedBy}
 use Rattle.std.specs.Cmp.{eq_by_cmp_equiv}
 use Rattle.std.specs.Cmp.Lexicographic.{nat_list_cmp_total, pointwise}
 use Rattle.std.specs.FinMap.{slice_cmp-IsAntisymmetric, nat_cmp-IsAntisymmetric}
@@ -43,3 +44,11 @@ path_itself p = (eq_by_cmp_equiv path_cmp_total).refl p
 
 pub other_number : (a b : ℕ) → nat_eq a b ≡ false → a ≢ b
 other_number a b e = grind (arith, nat_tests)
+
+pub segment_turned : (g h : Segment) → is_eq (segment_cmp g h) ≡ is_eq (segment_cmp h g)
+segment_turned g h = (eq_by_cmp_equiv nat_list_cmp_total).symm g h
+
+-- one segment ascends
+pub one_ascends : (g : Segment) → IsStrictlySortedBy segment_cmp (g ∷ [])
+unfolding IsStrictlySortedBy
+one_ascends g = (tt, tt)

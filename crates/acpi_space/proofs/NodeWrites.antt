@@ -1,5 +1,5 @@
 -- A node among the nodes of a tree, and one that is written.
-use Rattle.std.proofs.Common.{◌≡◌, ◌≢◌, ℕ, zero, suc, ◌<◌, ◌≤◌, List, [], ◌∷◌, length, Some, None, slice_get, slice_set, slice_index_or, refl, sym, ap, ◌∙◌, arith, Result, Ok, Err, OnErr}
+use Rattle.std.proofs.Common.{◌≡◌, ◌≢◌, ℕ, zero, suc, ◌<◌, List, [], ◌∷◌, length, Some, slice_get, slice_set, slice_index_or, refl, sym, ap, ◌∙◌, arith, Result, Ok, Err, OnErr}
 use Rattle.acpi_space.specs.declared.nodes.Node.{Node}
 use Rattle.std.proofs.lemmas.List.{length-set}
 use Rattle.std.proofs.lemmas.Option.{slice_get-get_or}

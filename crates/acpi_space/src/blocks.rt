@@ -123,19 +123,32 @@ fn put_last<T: Drop>(
     ensures err { OnErr result (map vec_items blocks.new.items ≡ map vec_items blocks.old.items) }
 {
     if len % BLOCK == 0 {
-        blocks.push(block_of(alloc, item)?)?;
+        push_block(blocks, block_of(alloc, len, item)?)?;
         return Ok(());
     }
     blocks[len / BLOCK].push(item)?;
     Ok(())
 }
 
-// A block of one item, with room for those to come.
-fn block_of<T: Drop>(alloc: Global, item: T) -> Result<Vec<T>, AllocError>
+// Puts a block behind some others. The first makes room for itself alone, since most lists of so few items stay short.
+fn push_block<T: Drop>(blocks: &mut Vec<Vec<T>>, block: Vec<T>) -> Result<(), AllocError>
+    ensures ok { OnOk result (blocks.new.items ≡ blocks.old.items ++ block ∷ []) }
+    ensures err { OnErr result (blocks.new.items ≡ blocks.old.items) }
+{
+    if blocks.is_empty() {
+        blocks.reserve_exact(1)?;
+    }
+    blocks.push(block)?;
+    Ok(())
+}
+
+// A block of one item behind so many others, with room for those to come; the first of all has none, and grows as a
+// vector does.
+fn block_of<T: Drop>(alloc: Global, before: usize, item: T) -> Result<Vec<T>, AllocError>
     ensures { IfOk result (λ block. block.items ≡ item ∷ []) }
 {
     let mut block = Vec::new(alloc);
-    block.reserve_exact(BLOCK)?;
+    block.reserve_exact(if before == 0 { 1 } else { BLOCK })?;
     block.push(item)?;
     Ok(block)
 }

@@ -11,14 +11,20 @@ ghost use Rattle.acpi_space.specs.steps.Walk.{enter};
 use crate::walk::Step;
 use acpi_name::Seg;
 use std::alloc::{AllocError, Global};
+use std::cmp::Ordering;
 use std::collections::BTreeMap;
 use std::iter::DoubleEndedIterator;
 
-/// The numbers of the nodes one segment below another, in the order of the segments. Most nodes have none, and keep no
-/// map for them.
+/// The numbers of the nodes one segment below another, in the order of the segments. Most nodes have none, and a child
+/// alone is kept without a map.
 #[derive(Drop)]
-pub struct Children {
-    numbers: Option<Box<BTreeMap<Seg, usize>>>,
+pub enum Children {
+    /// No children.
+    Empty,
+    /// A child alone.
+    One(Seg, usize),
+    /// Several children.
+    Several(Box<BTreeMap<Seg, usize>>),
 }
 
 // Adds a number to a map at a segment.
@@ -51,16 +57,20 @@ impl Children {
     pub(crate) fn none() -> Children
         ensures { entries_of result ≡ [] }
     {
-        Children { numbers: None }
+        Children::Empty
     }
 
     /// The number of the child at a segment.
     pub(crate) fn get(&self, seg: Seg) -> Option<usize>
         ensures { result ≡ child_of (entries_of self.now) seg }
     {
-        match &self.numbers {
-            Some(numbers) => numbers.get(&seg).copied(),
-            None => None,
+        match self {
+            Children::Empty => None,
+            Children::One(only, number) => match seg.cmp(only) {
+                Ordering::Equal => Some(*number),
+                _ => None,
+            },
+            Children::Several(numbers) => numbers.get(&seg).copied(),
         }
     }
 
@@ -76,14 +86,19 @@ impl Children {
         ensures child { OnOk result ((g : Segment) → child_of (entries_of self.new) g ≡ cond (is_eq (segment_cmp seg g)) (Some number) (child_of (entries_of self.old) g)) }
         ensures err { OnErr result (entries_of self.new ≡ entries_of self.old) }
     {
-        match &mut self.numbers {
-            Some(numbers) => insert_into(numbers, seg, number),
-            None => {
-                let mut numbers = BTreeMap::new(alloc);
-                insert_into(&mut numbers, seg, number)?;
-                self.numbers = Some(Box::new(alloc, numbers)?);
+        match self {
+            Children::Empty => {
+                *self = Children::One(seg, number);
                 Ok(())
             }
+            Children::One(first, at) => {
+                let mut numbers = BTreeMap::new(alloc);
+                insert_into(&mut numbers, *first, *at)?;
+                insert_into(&mut numbers, seg, number)?;
+                *self = Children::Several(Box::new(alloc, numbers)?);
+                Ok(())
+            }
+            Children::Several(numbers) => insert_into(numbers, seg, number),
         }
     }
 
@@ -91,9 +106,13 @@ impl Children {
     pub(crate) fn push_steps(&self, steps: &mut Vec<Step>) -> Result<(), AllocError>
         ensures { OnOk result (reverse steps.new.items ≡ map enter (entries_of self.now) ++ reverse steps.old.items) }
     {
-        match &self.numbers {
-            Some(numbers) => push_entries(numbers, steps),
-            None => Ok(()),
+        match self {
+            Children::Empty => Ok(()),
+            Children::One(seg, number) => {
+                steps.push(Step::Enter(*seg, *number))?;
+                Ok(())
+            }
+            Children::Several(numbers) => push_entries(numbers, steps),
         }
     }
 }

@@ -41,7 +41,8 @@ fn lay<'a, S: Space<Object>>(
         → IfErr result (λ e. IsLoadFault depth (bytes ∷ ssdt.now ∷ []) e) }
 {
     let declared = dsdt.ssdt_over(alloc, ssdt, depth)?;
-    let defined = declared.objects().own_paths()?;
+    let mut defined = declared.objects().own_paths()?;
+    defined.shrink_to_fit();
     Ok(Laid { declared, defined })
 }
 
@@ -59,7 +60,7 @@ pub(crate) fn laid_over<'a, S: Space<Object>>(
     ensures err { (bytes : List ℕ) → HasTables depth (bytes ∷ []) (state_of (S.contents (objects_so_far dsdt.now)) dsdt.now)
         → IfErr result (λ e. IsSinglesFault depth bytes ssdts.now e) }
 {
-    let mut laid = Vec::new(alloc);
+    let mut laid = Vec::with_capacity(alloc, ssdts.len())?;
     for (i, ssdt) in ssdts.iter().enumerate() {
         match lay(alloc, dsdt, ssdt, depth) {
             Ok(one) => laid.push(one)?,

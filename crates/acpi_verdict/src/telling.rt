@@ -95,7 +95,7 @@ pub(crate) fn told_of_all<'a, S: Space<Object>, O: Space<Object>, W, T: Space<W>
     ensures { IfOk result (λ v. AreToldOf (is_defined (T.contents among.now)) depth (state_of (S.contents (objects_so_far dsdt.now)) dsdt.now)
         (tried_of alone.now) (laid_trees O.contents laid.items) (told_trees O.contents v.items)) }
 {
-    let mut told = Vec::new(alloc);
+    let mut told = Vec::with_capacity(alloc, laid.len())?;
     for one in laid {
         told.push(told_of(alloc, dsdt, one, depth, alone, among)?)?;
     }

@@ -6,21 +6,18 @@ use Rattle.std.specs.Map.{lookup}
 use Rattle.std.specs.List.{flat_map, AllByRecursion}
 use Rattle.std.specs.List.Sorted.{IsStrictlySortedBy}
 use Rattle.std.specs.FinMap.{from_entries}
-use Rattle.std.specs.BTreeMap.{BTreeMap}
-use Rattle.std.specs.Global.{Box}
 use Rattle.acpi_name.specs.Names.{Segment}
 use Rattle.acpi_name.specs.Paths.{segment_cmp}
 use Rattle.acpi_space.specs.Spaces.{PathMap}
 use Rattle.acpi_space.specs.declared.children.Children.{Children}
+use Rattle.acpi_space.specs.declared.children.Children.TheVariants.{Empty, One, Several}
 use Rattle.acpi_space.specs.declared.nodes.Node.{Node}
 
 -- children: their segments and numbers
-abbrev pub entries_in : Option (Box (BTreeMap Segment ℕ)) → List (Segment × ℕ)
-entries_in None = []
-entries_in (Some numbers) = (box_value numbers).entries
-
 abbrev pub entries_of : Children → List (Segment × ℕ)
-entries_of children = entries_in children.numbers
+entries_of Empty = []
+entries_of (One g n) = (g, n) ∷ []
+entries_of (Several numbers) = (box_value numbers).entries
 
 -- those of a node
 abbrev pub node_children : {V : Type 0} → Option (Node V) → List (Segment × ℕ)

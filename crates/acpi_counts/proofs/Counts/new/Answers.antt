@@ -1,7 +1,5 @@
-use Rattle.std.proofs.Common.{subst, sym}
-use Rattle.acpi_counts.specs.Counts.{AreSmall}
 use Rattle.acpi_counts.proofs.Small.{empty_small}
 use Rattle.acpi_counts.proofs.Counts.new.Goals as goal
 
 pub invariant_of-result : goal.invariant_of-result
-invariant_of-result c = subst AreSmall (sym c.new.ensures) empty_small
+invariant_of-result c = empty_small

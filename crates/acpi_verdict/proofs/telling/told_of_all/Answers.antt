@@ -15,7 +15,7 @@ loop-one-init g c = λ more h.
     let state = state_of (g.S.Space.contents (objects_so_far c.args.dsdt.now)) c.args.dsdt.now in
     let ls = laid_trees contents (into_iter_items c.into_iter-one-iterator.result) in
     subst (λ (ts : List (Told _)). AreToldOf (is_defined (g.T.Space.contents c.args.among.now)) c.args.depth state (tried_of c.args.alone.now) ls (told_trees contents ts ++ more))
-    (sym c.new-told.ensures.items) h
+    (sym c.in_ok-told.ensures.items) h
 
 pub loop-one-preserved : goal.loop-one-preserved
 loop-one-preserved g c = λ more h.

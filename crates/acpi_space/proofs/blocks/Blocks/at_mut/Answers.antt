@@ -1,4 +1,4 @@
-use Rattle.std.proofs.Common.{◌<◌, ◌-◌, ◌%◌, ◌++◌, length, refl, sym, ◌∙◌, ap, subst, map, slice_get, slice_set, vec_items, arith}
+use Rattle.std.proofs.Common.{◌<◌, ◌-◌, ◌%◌, length, refl, sym, ◌∙◌, ap, subst, map, slice_get, slice_set, vec_items, arith}
 use Rattle.std.specs.Vec.{with_item}
 use Rattle.std.proofs.lemmas.List.{length-set}
 use Rattle.acpi_space.specs.steps.Blocks.{in_blocks}
