@@ -1,4 +1,4 @@
--- The counts for which a map is kept, and that of none.
+-- The counts that are kept: those of the map, and none where there is no map.
 use Rattle.std.specs.Prelude.{ℕ, box_value, Option, Some, None}
 use Rattle.std.specs.FinMap as finite
 use Rattle.std.specs.Global.{Box}
