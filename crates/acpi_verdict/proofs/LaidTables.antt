@@ -1,10 +1,7 @@
 -- What an SSDT declares over a DSDT.
-use Rattle.std.proofs.Common.{◌≡◌, ◌↔◌, ℕ, false, List, [], ◌∷◌, ◌++◌, map, is_some, refl, sym, ap, subst, ◌∙◌}
+use Rattle.std.proofs.Common.{◌≡◌, ◌↔◌, ℕ, false, List, [], ◌∷◌, ◌++◌, is_some, refl, sym, ap, subst, ◌∙◌}
 use Rattle.std.specs.Prelude.{IsTrue}
-use Rattle.std.specs.List.{AllByRecursion}
-use Rattle.std.specs.List.Sorted.{IsStrictlySortedBy}
 use Rattle.acpi_name.specs.Names.{Segment}
-use Rattle.acpi_name.specs.Paths.{path_cmp}
 use Rattle.acpi_space.specs.Laws.{Among}
 use Rattle.acpi_space.specs.Lookups.{union}
 use Rattle.acpi_space.specs.Spaces.{PathMap, is_defined}
@@ -21,12 +18,8 @@ use Rattle.acpi_order.proofs.Singles.{taken_back}
 use Rattle.acpi_verdict.specs.steps.Telling.{IsLaid}
 use Rattle.acpi_verdict.proofs.DefinedPaths.{new_object, there}
 
-pub all_more : {X Y : Type 0} (P : Y → Type 0) (seen : X → Y) (xs : List X) (x : X) → AllByRecursion P (map seen xs) → P (seen x) → AllByRecursion P (map seen (xs ++ x ∷ []))
-all_more P seen [] x h k = (k, tt)
-all_more P seen (y ∷ ys) x h k = (h.0, all_more P seen ys x h.1 k)
-
 module _ (depth : ℕ) (dsdt b : List ℕ) (one now : State) (loads : HasTables depth (dsdt ∷ []) one) (over : HasTableOver depth (dsdt ∷ []) loads.placements b now) (below both : PathMap Object)
-    (below_is : namespace_of below ≡ one.objects) (both_is : namespace_of both ≡ now.objects) (items : List (List Segment)) (up : IsStrictlySortedBy path_cmp items)
+    (below_is : namespace_of below ≡ one.objects) (both_is : namespace_of both ≡ now.objects) (items : List (List Segment))
     (are : (p : List Segment) → Among items p ↔ (IsTrue (is_defined both p) × (is_defined below p ≡ false))) where
   abbrev t : Listing
   t = over.placements
@@ -41,7 +34,6 @@ module _ (depth : ℕ) (dsdt b : List ℕ) (one now : State) (loads : HasTables 
       links_are = over.links_are;
       notes_are = over.notes_are ∙ ap (λ (ts : List Listing). notes_on (objects_after predefined ts) t ∷ []) e;
     };
-    defined_ascend = up;
     defined_are = λ p.
         let r = new_object (objects_of_first first p) (objects_of t p) (taken_back depth dsdt b first t alone p) in (
           (λ i. let x = (are p).0 i in r.0 (sym (now_at p) ∙ x.0, sym (before_at p) ∙ x.1)),

@@ -2,10 +2,9 @@
 use Rattle.std.proofs.Common.{◌≡◌, ◌⊎◌, ◌↔◌, ◌||◌, inl, inr, ℕ, Bool, true, false, List, [], ◌∷◌, is_some, Some, true≢false, refl, sym, ap, subst, ◌∙◌}
 use Rattle.std.specs.Prelude.{IsTrue}
 use Rattle.std.specs.FinMap.{get, empty}
+use Rattle.std.specs.List.{list_any}
 use Rattle.std.proofs.lemmas.List.{append-nil}
-use Rattle.std.specs.List.Sorted.{IsStrictlySortedBy}
 use Rattle.acpi_name.specs.Names.{Segment}
-use Rattle.acpi_name.specs.Paths.{path_cmp}
 use Rattle.acpi_space.specs.Laws.{Among}
 use Rattle.acpi_space.specs.Spaces.{is_defined}
 use Rattle.acpi_tree.specs.Objects.{ObjectTree}
@@ -20,15 +19,11 @@ use Rattle.acpi_declare.proofs.Refusals.{same_listings}
 use Rattle.acpi_body.specs.steps.Gathering.{Grows}
 use Rattle.acpi_body.proofs.Grown.{from_none}
 use Rattle.acpi_order.specs.Bodies.{Method, methods_of}
-use Rattle.acpi_order.specs.Independent.{AreSingleListings}
 use Rattle.acpi_order.specs.Misses.{Listing, objects_of_first, objects_of_both, IsLinkMiss, IsBodyMiss, IsAwaiting, IsMiss, IsAwaited}
-use Rattle.acpi_order.proofs.Once.{same_first, same_second}
 use Rattle.acpi_order.proofs.Sharing.{of_two, first_of, second_of}
 use Rattle.acpi_order.proofs.Stays.{links_stay, body_stays}
-use Rattle.acpi_verdict.specs.steps.Meeting.{AreAwaitsAlone}
-use Rattle.acpi_verdict.specs.steps.Telling.{LaidTree, ToldTree, IsLaid, AreLaid, is_touched, IsToldOf, AreToldOf, IsMissedIn, IsAwaitedIn, IsToldTree, AreTold}
+use Rattle.acpi_verdict.specs.steps.Telling.{LaidTree, ToldTree, IsLaid, is_touched, IsToldOf, IsMissedIn, IsAwaitedIn, IsToldTree, AreAwaitsAlone}
 use Rattle.acpi_verdict.specs.steps.Trying.{Test, TriedTree, Tries, IsMissedScope, IsTableMiss, IsAwaitedByAny}
-use Rattle.acpi_verdict.proofs.AscendingPaths.{among_any}
 use Rattle.acpi_verdict.proofs.TriedTables.{table_missed, table_awaited}
 
 or_left : (a b : Bool) → IsTrue a → a || b ≡ true
@@ -38,6 +33,11 @@ or_left false b e = cc
 or_right : (a b : Bool) → IsTrue b → a || b ≡ true
 or_right true b e = refl
 or_right false b e = e
+
+among_any : {X : Type 0} (test : X → Bool) (xs : List X) (x : X) → Among xs x → test x ≡ true → list_any test xs ≡ true
+among_any test [] x m e = absurd m
+among_any test (y ∷ ys) x (inl is) e = or_left (test y) (list_any test ys) (ap test is ∙ e)
+among_any test (y ∷ ys) x (inr m) e = or_right (test y) (list_any test ys) (among_any test ys x m e)
 
 -- ---- what one more table leaves as it was
 
@@ -242,27 +242,10 @@ module _ (wanted : Test) (depth : ℕ) (dsdt : List ℕ) (one : State) (loads : 
         first = first;
         t = t;
         listings = laid.over.listings;
-        objects_are = told.objects_are ∙ laid.over.objects_are;
-        defined_ascend = subst (IsStrictlySortedBy path_cmp) (sym told.defined_are) laid.defined_ascend;
-        defined_are = subst (λ (ps : List (List Segment)). (p : List Segment) → Among ps p ↔ ((o : ObjectTree) × (objects_of t p ≡ Some o))) (sym told.defined_are) laid.defined_are;
         missed_are = λ p. (missed_to p, λ x. of_wanted p (of_miss depth first t p x.0) x.1);
         awaited_are = λ p n. (awaited_to p n, λ x. awaited_of p n (of_awaited depth first t p n x.0) x.1);
         own_awaited = own_awaited;
       }
-
-  -- ---- all of them
-
-  pub all_told : (bs : List (List ℕ)) (ls : List LaidTree) (ss : List ToldTree) → AreLaid depth dsdt bs ls → AreToldOf wanted depth one alone ls ss
-      → ((s : ToldTree) (p : List Segment) → Among ss s → Among s.defined p → IsTrue (wanted p)) → AreTold wanted depth dsdt bs ss
-  all_told [] [] [] h k w = tt
-  all_told [] [] (s ∷ ss) h k w = absurd k
-  all_told [] (l ∷ ls) ss h k w = absurd h
-  all_told (b ∷ bs) [] ss h k w = absurd h
-  all_told (b ∷ bs) (l ∷ ls) [] h k w = absurd k
-  all_told (b ∷ bs) (l ∷ ls) (s ∷ ss) h k w = (
-    is_told b l h.0 s k.0 (λ p m. w s p (inl refl) (subst (λ (ps : List (List Segment)). Among ps p) (sym k.0.defined_are) m)),
-    all_told bs ls ss h.1 k.1 (λ x p i m. w x p (inr i) m),
-  )
 
   -- ---- what bodies of the DSDT await alone
 
@@ -281,12 +264,3 @@ module _ (wanted : Test) (depth : ℕ) (dsdt : List ℕ) (one : State) (loads : 
       by [] e a = absurd a
       by (u ∷ []) e a = of_one u e a
       by (u ∷ v ∷ vs) e a = absurd a.1
-
--- ---- the listings of an SSDT are those of its single load
-
-module _ (wanted : Test) (depth : ℕ) (dsdt b : List ℕ) (r : ToldTree) (s : IsToldTree wanted depth dsdt b r) (first t : Listing) (h : AreSingleListings depth dsdt b first t) where
-  pub first_is : first ≡ s.first
-  first_is = same_first depth dsdt b b first s.first t s.t h s.listings
-
-  pub table_is : t ≡ s.t
-  table_is = same_second depth dsdt b s.first t s.t (subst (λ (f : Listing). AreSingleListings depth dsdt b f t) first_is h) s.listings

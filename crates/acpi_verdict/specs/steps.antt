@@ -3,6 +3,7 @@ pub mod Trying
 pub mod Telling
 pub mod Clashing
 pub mod Defining
-pub mod Meeting
+pub mod Declaring
+pub mod Finding
 pub mod Joining
 pub mod Checking

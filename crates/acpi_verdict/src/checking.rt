@@ -1,68 +1,26 @@
 //! Whether SSDTs commute over a DSDT, and which Externals of one another they satisfy.
 
 ghost use Rattle.std.specs.Prelude.{◌≡◌, ◌≢◌, ◌↔◌, ◌∷◌, [], ℕ, List, map, IfOk, IfErr};
-ghost use Rattle.std.specs.FinMap as finite;
 ghost use Rattle.acpi_declare.specs.Declaring.{HasTables, objects_so_far, state_of};
 ghost use Rattle.acpi_declare.specs.Loads.{HasNoLoad};
 ghost use Rattle.acpi_declare.specs.Refusals.{IsLoadFault};
 ghost use Rattle.acpi_order.specs.Independent.{IsIndependent};
-ghost use Rattle.acpi_order.specs.Verdicts.{IsVerdict, AllAlone};
+ghost use Rattle.acpi_order.specs.Verdicts.{IsVerdict};
 ghost use Rattle.acpi_verdict.specs.SatisfiedView.{AreSatisfied};
 ghost use Rattle.acpi_verdict.specs.VerdictView.{verdict_view, IsFaultOf, IsSinglesFault};
 ghost use Rattle.acpi_verdict.specs.steps.Checking.{IsChecked};
-ghost use Rattle.acpi_verdict.specs.steps.Clashing.{AreSorted, IsFirstOfAll};
-ghost use Rattle.acpi_verdict.specs.steps.Defining.{declared_in, AreDefiners};
-ghost use Rattle.acpi_verdict.specs.steps.Meeting.{all_met};
-ghost use Rattle.acpi_verdict.specs.steps.Telling.{laid_trees, told_trees, AreLaid, AreLaidSorted};
+ghost use Rattle.acpi_verdict.specs.steps.Declaring.{AreDeclared};
 
-use crate::alone::laid_over;
-use crate::commuting::verdict_of;
-use crate::definers::last_definers;
-use crate::satisfying::all_met;
-use crate::telling::{told_of_all, try_alone};
-use crate::told::{Laid, Told};
+use crate::declared::{Declared, declare_all};
+use crate::finding::{Found, find_all};
+use crate::satisfying::listed;
 use crate::verdicts::{Checked, Verdict};
 use acpi_declare::{Declaring, LoadFault};
 use acpi_order::laws::one_verdict;
-use acpi_space::{MapSpace, Space, TreeSpace};
+use acpi_space::Space;
 use acpi_terms::{Depth, Object};
 use bytes::Bytes;
-use std::alloc::{AllocError, Global};
-
-// The verdict, and what is satisfied, from what each load tells.
-fn checked_of<O: Space<Object>>(
-    alloc: Global,
-    awaited: &MapSpace<u8>,
-    told: &[Told<'_, O>],
-    last: &TreeSpace<usize>,
-) -> Result<Checked, AllocError>
-    requires sorted { AreSorted (told_trees O.contents told.now) }
-    requires definers { AreDefiners (declared_in (told_trees O.contents told.now)) (finite.get last.now) }
-    ensures verdict { IfOk result (λ c. IsFirstOfAll (told_trees O.contents told.now) c.verdict) }
-    ensures satisfied { IfOk result (λ c. c.satisfied.items ≡ all_met awaited.now (told_trees O.contents told.now)) }
-{
-    let verdict = verdict_of(alloc, told, last)?;
-    let satisfied = all_met(alloc, awaited, told)?;
-    Ok(Checked { verdict, satisfied })
-}
-
-// The same of SSDTs that are laid over the DSDT.
-fn checked_laid<S: Space<Object>, O: Space<Object>>(
-    alloc: Global,
-    dsdt: &Declaring<S>,
-    laid: Vec<Laid<O>>,
-    depth: Depth,
-) -> Result<Checked, AllocError>
-    requires { AreLaidSorted (laid_trees O.contents laid.items) }
-    ensures { (bytes : List ℕ) (ssdts : List (List ℕ)) → HasTables depth (bytes ∷ []) (state_of (S.contents (objects_so_far dsdt.now)) dsdt.now)
-        → AreLaid depth bytes ssdts (laid_trees O.contents laid.items)
-        → IfOk result (λ c. IsChecked depth bytes ssdts c) }
-{
-    let last = last_definers(alloc, &laid)?;
-    let alone = try_alone(alloc, dsdt, depth, &last)?;
-    let told = told_of_all(alloc, dsdt, laid, depth, &alone, &last)?;
-    checked_of(alloc, &alone.awaited, &told, &last)
-}
+use std::alloc::Global;
 
 // What is told of the first SSDT that doesn't load alone, by its refusal.
 fn refused(alloc: Global, fault: LoadFault) -> Result<Checked, LoadFault>
@@ -81,6 +39,47 @@ fn refused(alloc: Global, fault: LoadFault) -> Result<Checked, LoadFault>
     }
 }
 
+// The same of SSDTs that all load alone, by what they declare.
+fn checked_declared<S: Space<Object>>(
+    alloc: Global,
+    dsdt: &Declaring<S>,
+    ssdts: &[Bytes],
+    depth: Depth,
+    declared: Declared,
+) -> Result<Checked, LoadFault>
+    ensures ok { (bytes : List ℕ) → HasTables depth (bytes ∷ []) (state_of (S.contents (objects_so_far dsdt.now)) dsdt.now)
+        → AreDeclared depth bytes ssdts.now declared → IfOk result (λ c. IsChecked depth bytes ssdts.now c) }
+    ensures memory { (bytes : List ℕ) → HasTables depth (bytes ∷ []) (state_of (S.contents (objects_so_far dsdt.now)) dsdt.now)
+        → AreDeclared depth bytes ssdts.now declared → IfErr result (λ e. e ≡ LoadFault.Memory) }
+{
+    let Declared { definers, same } = declared;
+    if let Some(clash) = same {
+        return Ok(Checked {
+            verdict: Verdict::Same {
+                first: clash.first,
+                second: clash.second,
+                path: clash.path,
+            },
+            satisfied: Vec::new(alloc),
+        });
+    }
+    let Found { clash, satisfied } = find_all(alloc, dsdt, ssdts, depth, &definers)?;
+    match clash {
+        Some(clash) => Ok(Checked {
+            verdict: Verdict::Missed {
+                searcher: clash.first,
+                definer: clash.second,
+                path: clash.path,
+            },
+            satisfied: Vec::new(alloc),
+        }),
+        None => Ok(Checked {
+            verdict: Verdict::Commute,
+            satisfied: listed(alloc, satisfied)?,
+        }),
+    }
+}
+
 // The same of SSDTs over a DSDT that is declared.
 fn checked_over<S: Space<Object>>(
     alloc: Global,
@@ -89,17 +88,17 @@ fn checked_over<S: Space<Object>>(
     depth: Depth,
 ) -> Result<Checked, LoadFault>
     ensures ok { (bytes : List ℕ) → HasTables depth (bytes ∷ []) (state_of (S.contents (objects_so_far dsdt.now)) dsdt.now) → IfOk result (λ c. IsChecked depth bytes ssdts.now c) }
-    ensures memory { IfErr result (λ e. e ≡ LoadFault.Memory) }
+    ensures memory { (bytes : List ℕ) → HasTables depth (bytes ∷ []) (state_of (S.contents (objects_so_far dsdt.now)) dsdt.now) → IfErr result (λ e. e ≡ LoadFault.Memory) }
 {
-    match laid_over(alloc, dsdt, ssdts, depth) {
-        Ok(laid) => Ok(checked_laid(alloc, dsdt, laid, depth)?),
+    match declare_all(alloc, dsdt, ssdts, depth) {
+        Ok(declared) => checked_declared(alloc, dsdt, ssdts, depth, declared),
         Err(fault) => refused(alloc, fault),
     }
 }
 
-/// What `verdict_shared` and `satisfied_shared` tell of SSDTs over a DSDT, from one load of the DSDT and of each SSDT
-/// over it. Where an SSDT doesn't load over the DSDT alone, no External is told as satisfied. Where the DSDT doesn't
-/// load by itself, its refusal is the error.
+/// The verdict on SSDTs over a DSDT, as of `verdict_shared`, and where they commute the Externals that they satisfy, as of
+/// `satisfied_shared`; where they don't, none is told. Each SSDT is declared over the DSDT twice, and no more than one is
+/// held. Where the DSDT doesn't load by itself, its refusal is the error.
 pub fn check_shared<S: Space<Object>>(
     alloc: Global,
     dsdt: &Bytes,
@@ -109,8 +108,8 @@ pub fn check_shared<S: Space<Object>>(
     ensures ok { IfOk result (λ c. IsVerdict depth dsdt.now ssdts.now (verdict_view c.verdict)) }
     ensures fault { IfOk result (λ c. IsFaultOf depth dsdt.now ssdts.now c.verdict) }
     ensures commute { ssdts.now ≢ [] → IfOk result (λ c. (c.verdict ≡ Verdict.Commute) ↔ IsIndependent depth dsdt.now ssdts.now) }
-    ensures satisfied { IfOk result (λ c. AllAlone depth dsdt.now ssdts.now → AreSatisfied depth dsdt.now ssdts.now c.satisfied.items) }
-    ensures refused { IfOk result (λ c. (AllAlone depth dsdt.now ssdts.now → ⊥) → c.satisfied.items ≡ []) }
+    ensures satisfied { IfOk result (λ c. c.verdict ≡ Verdict.Commute → AreSatisfied depth dsdt.now ssdts.now c.satisfied.items) }
+    ensures others { IfOk result (λ c. c.verdict ≢ Verdict.Commute → c.satisfied.items ≡ []) }
     ensures err { IfErr result (λ e. IsLoadFault depth (dsdt.now ∷ []) e) }
     ensures none { IfErr result (λ e. e ≢ LoadFault.Memory → HasNoLoad depth (dsdt.now ∷ [])) }
 {

@@ -1,52 +1,19 @@
 //! Whether SSDTs commute over a DSDT.
 
 ghost use Rattle.std.specs.Prelude.{◌≡◌, ◌≢◌, ◌↔◌, ◌∷◌, [], map, IfOk, IfErr};
-ghost use Rattle.std.specs.FinMap as finite;
 ghost use Rattle.acpi_declare.specs.Loads.{HasNoLoad};
 ghost use Rattle.acpi_declare.specs.Refusals.{IsLoadFault};
 ghost use Rattle.acpi_order.specs.Independent.{IsIndependent};
 ghost use Rattle.acpi_order.specs.Verdicts.{IsVerdict};
 ghost use Rattle.acpi_verdict.specs.VerdictView.{verdict_view, IsFaultOf};
-ghost use Rattle.acpi_verdict.specs.steps.Clashing.{AreSorted, IsFirstOfAll};
-ghost use Rattle.acpi_verdict.specs.steps.Defining.{declared_in, AreDefiners};
-ghost use Rattle.acpi_verdict.specs.steps.Telling.{told_trees};
 
 use crate::checking::check_shared;
-use crate::clashes::{Kind, first_clash};
-use crate::told::Told;
 use crate::verdicts::Verdict;
 use acpi_declare::{LoadFault, shared_tables};
-use acpi_space::{Space, TreeSpace};
+use acpi_space::Space;
 use acpi_terms::{Depth, Object};
 use bytes::Bytes;
-use std::alloc::{AllocError, Global};
-
-/// The verdict on SSDTs that all load alone, where `last` tells the last of them that declares each path.
-pub(crate) fn verdict_of<O: Space<Object>>(
-    alloc: Global,
-    told: &[Told<'_, O>],
-    last: &TreeSpace<usize>,
-) -> Result<Verdict, AllocError>
-    requires sorted { AreSorted (told_trees O.contents told.now) }
-    requires definers { AreDefiners (declared_in (told_trees O.contents told.now)) (finite.get last.now) }
-    ensures { IfOk result (λ v. IsFirstOfAll (told_trees O.contents told.now) v) }
-{
-    if let Some(clash) = first_clash(alloc, Kind::Same, told, last)? {
-        return Ok(Verdict::Same {
-            first: clash.first,
-            second: clash.second,
-            path: clash.path,
-        });
-    }
-    if let Some(clash) = first_clash(alloc, Kind::Missed, told, last)? {
-        return Ok(Verdict::Missed {
-            searcher: clash.first,
-            definer: clash.second,
-            path: clash.path,
-        });
-    }
-    Ok(Verdict::Commute)
-}
+use std::alloc::Global;
 
 /// Whether SSDTs commute over a DSDT: the first of these that holds. One SSDT is refused over the DSDT alone; two declare
 /// one path; the load of one with the DSDT missed a path that another declares; else they commute. Of several the

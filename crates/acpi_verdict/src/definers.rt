@@ -1,123 +1,103 @@
-//! Which SSDTs declare the paths that others declare, missed or await.
+//! Which SSDTs declare which paths.
 
-ghost use Rattle.std.specs.Prelude.{◌≡◌, ◌≤◌, ◌<◌, ◌∷◌, [], Some, true, false, IfOk, OnOk, length, map};
+ghost use Rattle.std.specs.Prelude.{◌≡◌, ◌↔◌, OnOk, IfOk, map};
 ghost use Rattle.std.specs.FinMap as finite;
-ghost use Rattle.std.specs.List.{list_any};
-ghost use Rattle.acpi_counts.specs.Counts.{with_first};
-ghost use Rattle.acpi_tree.specs.Objects.{ObjectTree};
-ghost use Rattle.acpi_order.specs.Independent.{is_method_of};
-ghost use Rattle.acpi_verdict.specs.steps.Clashing.{IsNumber};
-ghost use Rattle.acpi_verdict.specs.steps.Defining.{with_paths, declared_in, AreDefiners, is_elsewhere, NoneOther};
-ghost use Rattle.acpi_verdict.specs.steps.Searching.{open_pair};
-ghost use Rattle.acpi_verdict.specs.steps.Telling.{ToldTree, defined_in, told_trees};
+ghost use Rattle.std.specs.BTreeMap as tree;
+ghost use Rattle.std.specs.Option.{option_copied, option_map};
+ghost use Rattle.acpi_tree.specs.Objects.{object_view};
+ghost use Rattle.acpi_verdict.specs.steps.Defining.{args_at, takes, AddsOther, AddsDefiner};
 
-use crate::clashes::is_method;
-use crate::told::{Laid, Told};
-use acpi_body::OpenMiss;
 use acpi_name::Path;
-use acpi_space::{Refused, Space, TreeSpace};
+use acpi_space::{Space, TreeSpace};
 use acpi_terms::Object;
 use std::alloc::{AllocError, Global};
+use std::collections::BTreeMap;
 
-// Writes the number for the path, if it has none.
-fn put_definer(last: &mut TreeSpace<usize>, path: Path, number: usize) -> Result<(), AllocError>
-    ensures { OnOk result (last.new ≡ with_first last.old path number) }
+/// An SSDT that declares a path.
+#[derive(Clone, Copy)]
+pub(crate) struct Definer {
+    /// The SSDT, by its number from 1.
+    pub(crate) number: usize,
+    /// How many arguments its object takes, where this is a method.
+    pub(crate) args: Option<u8>,
+}
+
+/// The SSDTs that declare each path.
+#[derive(Drop)]
+pub(crate) struct Definers {
+    /// The first of each path.
+    pub(crate) first: TreeSpace<Definer>,
+    /// The others, of paths that several declare.
+    pub(crate) others: BTreeMap<Path, Vec<Definer>>,
+}
+
+/// How many arguments an object takes, where it is a method.
+pub(crate) fn method_args(object: Option<&Object>) -> Option<u8>
+    ensures { result ≡ args_at (option_map object_view (option_copied object.entry)) }
 {
-    match last.insert(path, number) {
-        Ok(()) => Ok(()),
-        Err(Refused::Taken(_)) => Ok(()),
-        Err(Refused::Memory(_)) => Err(AllocError),
+    match object {
+        Some(Object::Method(flags)) => Some(*flags % 8),
+        _ => None,
     }
 }
 
-// Writes the number for each of the paths that has none.
-fn put_definers(
-    last: &mut TreeSpace<usize>,
-    number: usize,
-    paths: &[Path],
+// Adds one of the others of a path.
+fn add_other(
+    alloc: Global,
+    others: &mut BTreeMap<Path, Vec<Definer>>,
+    path: Path,
+    definer: Definer,
 ) -> Result<(), AllocError>
-    ensures { OnOk result (last.new ≡ with_paths last.old number paths.now) }
+    ensures { OnOk result (AddsOther others.old others.new path definer) }
 {
-    for path in paths {
-        put_definer(last, path.copy()?, number)?;
-    }
+    let mut list = match others.remove(&path) {
+        Some(list) => list,
+        None => Vec::new(alloc),
+    };
+    list.push(definer)?;
+    others.insert(path, list)?;
     Ok(())
 }
 
-/// The last SSDT that declares each path, by its number from 1.
-pub(crate) fn last_definers<O: Drop>(
-    alloc: Global,
-    laid: &[Laid<O>],
-) -> Result<TreeSpace<usize>, AllocError>
-    ensures { IfOk result (λ m. AreDefiners (map defined_in laid.now) (finite.get m)) }
-{
-    let mut last = TreeSpace::new(alloc);
-    for i in (0..laid.len()).rev() {
-        put_definers(&mut last, i + 1, &laid[i].defined)?;
-    }
-    Ok(last)
-}
-
-// Whether the last SSDT that declares the path is another than that one.
-fn is_elsewhere(last: &TreeSpace<usize>, number: usize, path: &Path) -> bool
-    ensures { result ≡ is_elsewhere number (finite.get last.now path.now) }
-{
-    match last.get(path) {
-        Some(definer) => *definer != number,
-        None => false,
-    }
-}
-
-/// Whether of one of the paths the last SSDT that declares it is another than that one.
-pub(crate) fn any_elsewhere(last: &TreeSpace<usize>, number: usize, paths: &[Path]) -> bool
-    ensures { result ≡ list_any (λ p. is_elsewhere number (finite.get last.now p)) paths.now }
-{
-    paths.iter().any(|path| is_elsewhere(last, number, path))
-}
-
-// Whether the definer has at the path something else than the method that is awaited there.
-fn is_other_at<O: Space<Object>>(told: &[Told<'_, O>], definer: usize, awaited: &OpenMiss) -> bool
-    requires above { 0 < definer }
-    requires within { definer ≤ length told.now }
-    ensures { result ≡ false → (r : ToldTree) (o : ObjectTree) → IsNumber (told_trees O.contents told.now) definer r
-        → r.objects awaited.now.path ≡ Some o → is_method_of o awaited.now.count ≡ true }
-{
-    match told[definer - 1].laid.declared.objects().get(&awaited.path) {
-        Some(object) => !is_method(object, awaited.count),
-        None => false,
-    }
-}
-
-// Whether another SSDT is the last to declare the path, and has something else there than the method that is awaited.
-fn is_other<O: Space<Object>>(
-    last: &TreeSpace<usize>,
-    told: &[Told<'_, O>],
-    number: usize,
-    awaited: &OpenMiss,
-) -> bool
-    requires { AreDefiners (declared_in (told_trees O.contents told.now)) (finite.get last.now) }
-    ensures { result ≡ false → NoneOther (finite.get last.now) (told_trees O.contents told.now) number (open_pair awaited.now ∷ []) }
-{
-    match last.get(&awaited.path) {
-        Some(definer) if *definer != number => is_other_at(told, *definer, awaited),
-        _ => false,
-    }
-}
-
-/// The same of one of several that are awaited.
-pub(crate) fn any_other<O: Space<Object>>(
-    last: &TreeSpace<usize>,
-    told: &[Told<'_, O>],
-    number: usize,
-    awaited: &[OpenMiss],
-) -> bool
-    requires { AreDefiners (declared_in (told_trees O.contents told.now)) (finite.get last.now) }
-    ensures { result ≡ false → NoneOther (finite.get last.now) (told_trees O.contents told.now) number (map open_pair awaited.now) }
-{
-    for one in awaited {
-        if is_other(last, told, number, one) {
-            return true;
+impl Definer {
+    /// Whether its object is a method of so many arguments.
+    pub(crate) fn takes(&self, count: u8) -> bool
+        ensures { result ≡ takes self.now count }
+    {
+        match self.args {
+            Some(args) => args == count,
+            None => false,
         }
     }
-    false
+}
+
+impl Definers {
+    /// None.
+    pub(crate) fn new(alloc: Global) -> Definers
+        ensures first { result.first ≡ finite.empty }
+        ensures others { tree.IsEmpty result.others }
+    {
+        Definers {
+            first: TreeSpace::new(alloc),
+            others: BTreeMap::new(alloc),
+        }
+    }
+
+    /// Adds an SSDT that declares the path.
+    pub(crate) fn add(
+        &mut self,
+        alloc: Global,
+        path: Path,
+        definer: Definer,
+    ) -> Result<(), AllocError>
+        ensures { OnOk result (AddsDefiner self.old self.new path definer) }
+    {
+        if self.first.get(&path).is_some() {
+            return add_other(alloc, &mut self.others, path, definer);
+        }
+        match self.first.insert(path, definer) {
+            Ok(()) => Ok(()),
+            Err(_) => Err(AllocError),
+        }
+    }
 }

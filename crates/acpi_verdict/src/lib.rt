@@ -4,17 +4,19 @@
 //! DSDT and one SSDT ──► single ──► machine, paths that are declared, missed and awaited
 //! those of all SSDTs ──► join
 //!
-//! DSDT ──► each SSDT laid over it ──► the last SSDT that declares each path
-//!                │                               │
-//!                └── what Scope terms, links and bodies miss and await of these paths ──► verdict, satisfied
+//! DSDT ──► each SSDT laid over it ──► the SSDTs that declare each path, the first two that declare one
+//!                                                        │
+//! DSDT ──► each laid over it again ──► what Scope terms, links and bodies miss and await of these paths
+//!                                                        └──► verdict, satisfied
 //! ```
 //!
 //! `single` tells of the load with one SSDT what it declares, misses and awaits, and `join` puts such loads together.
 //! `verdict` finds whether SSDTs may be loaded in any order, or the first reason that they may not (`IsVerdict` of
 //! `acpi_order`), and `satisfied` which methods that bodies await another SSDT declares (`IsSatisfied`). `check_shared`
-//! tells both. It declares the DSDT once, and each SSDT over it, and gathers what is missed and awaited only of paths
-//! that some SSDT declares, since no other decides. What the DSDT's links and bodies missed alone stands for each SSDT
-//! that declares none of it; for another they are searched once more:
+//! tells both, the Externals where the SSDTs commute. It declares the DSDT once, and each SSDT over it twice, one after
+//! another: first to note who declares each path, then to gather what is missed and awaited of these paths, since no
+//! other decides. What the DSDT's links and bodies missed alone stands for each SSDT that declares none of it; for another
+//! they are searched once more:
 //!
 //! ```text
 //! let checked = check_shared::<TreeSpace<Object>>(alloc, &dsdt, &ssdts, depth)?;
@@ -29,8 +31,11 @@ mod alone;
 mod checking;
 mod clashes;
 mod commuting;
+mod declared;
 mod definers;
+mod finding;
 mod joining;
+mod meeting;
 mod pair;
 mod paths;
 mod satisfying;
@@ -39,6 +44,7 @@ mod singles;
 mod telling;
 mod told;
 mod trying;
+mod unmet;
 mod verdicts;
 
 pub use checking::check_shared;

@@ -1,10 +1,10 @@
-//! What the load of a DSDT with each SSDT missed and awaits, of the paths that SSDTs declare.
+//! What the load of a DSDT with an SSDT missed and awaits, of the paths that SSDTs declare.
 
 ghost use Rattle.std.specs.Prelude.{◌≡◌, ◌||◌, IfOk};
 ghost use Rattle.std.specs.FinMap as finite;
 ghost use Rattle.acpi_declare.specs.Declaring.{objects_so_far, state_of};
 ghost use Rattle.acpi_space.specs.Spaces.{is_defined};
-ghost use Rattle.acpi_verdict.specs.steps.Telling.{laid_tree, laid_trees, told_tree, told_trees, is_touched, under_of, IsUnder, IsToldOf, AreToldOf};
+ghost use Rattle.acpi_verdict.specs.steps.Telling.{laid_tree, told_tree, is_touched, under_of, IsUnder, IsToldOf};
 ghost use Rattle.acpi_verdict.specs.steps.Trying.{tried_of, Tries};
 
 use crate::told::{Laid, Told, Tried, Under};
@@ -64,40 +64,21 @@ fn try_under<'a, S: Space<Object>, O: Space<Object>, W, T: Space<W>>(
     }
 }
 
-// What the load with one SSDT tells.
-fn told_of<'a, S: Space<Object>, O: Space<Object>, W, T: Space<W>>(
+/// What the load with one SSDT tells.
+pub(crate) fn told_of<'a, S: Space<Object>, O: Space<Object>, W, T: Space<W>>(
     alloc: Global,
     dsdt: &Declaring<S>,
-    laid: Laid<O>,
+    laid: &Laid<O>,
     depth: Depth,
     alone: &'a Tried,
     among: &T,
-) -> Result<Told<'a, O>, AllocError>
+) -> Result<Told<'a>, AllocError>
     ensures { IfOk result (λ t. IsToldOf (is_defined (T.contents among.now)) depth (state_of (S.contents (objects_so_far dsdt.now)) dsdt.now)
-        (tried_of alone.now) (laid_tree O.contents laid) (told_tree O.contents t)) }
+        (tried_of alone.now) (laid_tree O.contents laid.now) (told_tree t)) }
 {
     let declared = &laid.declared;
     let scopes = missed_scopes(alloc, declared.notes(), among)?;
     let own = try_tables(alloc, declared, declared.objects(), depth, among, scopes)?;
-    let under = try_under(alloc, dsdt, &laid, depth, alone, among)?;
-    Ok(Told { laid, own, under })
-}
-
-/// What the load with each SSDT tells.
-pub(crate) fn told_of_all<'a, S: Space<Object>, O: Space<Object>, W, T: Space<W>>(
-    alloc: Global,
-    dsdt: &Declaring<S>,
-    laid: Vec<Laid<O>>,
-    depth: Depth,
-    alone: &'a Tried,
-    among: &T,
-) -> Result<Vec<Told<'a, O>>, AllocError>
-    ensures { IfOk result (λ v. AreToldOf (is_defined (T.contents among.now)) depth (state_of (S.contents (objects_so_far dsdt.now)) dsdt.now)
-        (tried_of alone.now) (laid_trees O.contents laid.items) (told_trees O.contents v.items)) }
-{
-    let mut told = Vec::with_capacity(alloc, laid.len())?;
-    for one in laid {
-        told.push(told_of(alloc, dsdt, one, depth, alone, among)?)?;
-    }
-    Ok(told)
+    let under = try_under(alloc, dsdt, laid, depth, alone, among)?;
+    Ok(Told { own, under })
 }

@@ -1,7 +1,7 @@
-//! What is told of SSDTs, each laid over a DSDT.
+//! What is told of an SSDT that is laid over a DSDT.
 
 ghost use Rattle.std.specs.Prelude.{◌≡◌};
-ghost use Rattle.acpi_verdict.specs.steps.Telling.{defined_in, under_of};
+ghost use Rattle.acpi_verdict.specs.steps.Telling.{under_of};
 ghost use Rattle.acpi_verdict.specs.steps.Trying.{tried_of};
 
 use acpi_declare::Declaring;
@@ -37,8 +37,7 @@ pub(crate) enum Under<'a> {
 
 /// What the load of the DSDT with an SSDT tells.
 #[derive(Drop)]
-pub(crate) struct Told<'a, O> {
-    pub(crate) laid: Laid<O>,
+pub(crate) struct Told<'a> {
     /// What the SSDT tried.
     pub(crate) own: Tried,
     /// What the DSDT tried.
@@ -53,14 +52,5 @@ impl Under<'_> {
             Under::Alone(tried) => *tried,
             Under::Again(tried) => tried,
         }
-    }
-}
-
-impl<O> Told<'_, O> {
-    /// The paths that the SSDT declares.
-    pub(crate) fn defined(&self) -> &[Path]
-        ensures { result.now ≡ defined_in self.now.laid }
-    {
-        &self.laid.defined
     }
 }

@@ -29,8 +29,8 @@ pub enum Verdict {
 }
 
 /// An External of a table that an SSDT satisfies (ACPI 6.5, 20.2.5.2 DefExternal): a body of the user awaits a method,
-/// and the definer declares one of as many arguments at its path.
-#[derive(Debug, Drop)]
+/// and the definer declares one of as many arguments at its path. They are ordered by user, definer and path.
+#[derive(Debug, Drop, PartialEq, Eq, PartialOrd, Ord)]
 pub struct Satisfied {
     /// The table of the body: 0 is the DSDT, and SSDTs are numbered from 1.
     pub user: usize,
@@ -45,6 +45,6 @@ pub struct Satisfied {
 pub struct Checked {
     /// Whether they commute.
     pub verdict: Verdict,
-    /// The Externals that they satisfy, by user, definer and path; none where one of them doesn't load alone.
+    /// The Externals that they satisfy, by user, definer and path, where they commute; else none.
     pub satisfied: Vec<Satisfied>,
 }

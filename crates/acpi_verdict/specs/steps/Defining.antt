@@ -1,48 +1,47 @@
--- The last of several SSDTs that declares each path.
-use Rattle.std.specs.Prelude.{◌≡◌, ◌≢◌, ℕ, ◌≤◌, ◌<◌, nat_eq, not, Bool, true, false, List, [], ◌∷◌, map, Option, Some, None, IsTrue}
-use Rattle.std.specs.FinMap.{entries}
+-- Which SSDTs declare a path.
+use Rattle.std.specs.Prelude.{◌≡◌, ◌⊎◌, ◌↔◌, ℕ, ◌%◌, nat_eq, Bool, false, List, Option, Some, None}
+use Rattle.std.specs.BTreeMap.{BTreeMap}
+use Rattle.std.specs.BTreeMap as tree
+use Rattle.std.specs.FinMap.{get}
+use Rattle.std.specs.Global.{Vec}
 use Rattle.acpi_name.specs.Names.{Segment}
+use Rattle.acpi_name.specs.Paths.{path_cmp}
 use Rattle.acpi_space.specs.Laws.{Among}
-use Rattle.acpi_space.specs.Lookups.{Lookup}
-use Rattle.acpi_space.specs.Spaces.{PathMap, is_defined}
-use Rattle.acpi_counts.specs.Counts.{with_first}
-use Rattle.acpi_tree.specs.Objects.{ObjectTree}
-use Rattle.acpi_order.specs.Independent.{is_method_of}
-use Rattle.acpi_verdict.specs.steps.Clashing.{IsNumber}
-use Rattle.acpi_verdict.specs.steps.Telling.{ToldTree}
-use Rattle.acpi_verdict.specs.steps.Trying.{TriedTree}
+use Rattle.acpi_tree.specs.Objects.{ObjectTree, method_object}
+use Rattle.acpi_verdict.specs.declared.definers.Definer.{Definer}
+use Rattle.acpi_verdict.specs.declared.definers.Definers.{Definers}
 
--- the paths that each SSDT declares
-abbrev pub Declared : Type 0
-Declared = List (List (List Segment))
+-- how many arguments an object takes, where it is a method
+abbrev pub method_args : ObjectTree → Option ℕ
+method_args (method_object flags) = Some (flags % 8)
+method_args _ = None
 
-abbrev pub declared_in : List ToldTree → Declared
-declared_in ss = map (λ s. s.defined) ss
+abbrev pub args_at : Option ObjectTree → Option ℕ
+args_at None = None
+args_at (Some o) = method_args o
 
--- the number stands at each of the paths where none stood
-abbrev pub with_paths : PathMap ℕ → ℕ → List (List Segment) → PathMap ℕ
-with_paths last number [] = last
-with_paths last number (p ∷ ps) = with_paths (with_first last p number) number ps
+abbrev pub are_args : Option ℕ → ℕ → Bool
+are_args None n = false
+are_args (Some k) n = nat_eq k n
 
--- who declares a path, above that number, is that SSDT or one before it; and that one declares the path, and is above that number too
-pub record AreDefinersFrom (ds : Declared) (number : ℕ) (last : Lookup ℕ) : Type 0 where
-  pub later : (j : ℕ) (ps : List (List Segment)) (p : List Segment) → number < j → IsNumber ds j ps → Among ps p → (k : ℕ) × (j ≤ k) × (last p ≡ Some k)
-  pub declares : (k : ℕ) (p : List Segment) → last p ≡ Some k → (number < k) × ((ps : List (List Segment)) × IsNumber ds k ps × Among ps p)
+-- the object of the SSDT is a method of so many arguments
+abbrev pub takes : Definer → ℕ → Bool
+takes x n = are_args x.args n
 
-pub record AreDefiners (ds : Declared) (last : Lookup ℕ) : Type 0 where
-  pub later : (j : ℕ) (ps : List (List Segment)) (p : List Segment) → IsNumber ds j ps → Among ps p → (k : ℕ) × (j ≤ k) × (last p ≡ Some k)
-  pub declares : (k : ℕ) (p : List Segment) → last p ≡ Some k → (ps : List (List Segment)) × IsNumber ds k ps × Among ps p
+-- ---- those that are noted
 
--- another number
-abbrev pub is_elsewhere : ℕ → Option ℕ → Bool
-is_elsewhere number None = false
-is_elsewhere number (Some k) = not (nat_eq k number)
+abbrev pub IsOther : BTreeMap (List Segment) (Vec Definer) → List Segment → Definer → Type 0
+IsOther others p x = (xs : Vec Definer) × (tree.get path_cmp others p ≡ Some xs) × Among xs.items x
 
--- what is awaited where another SSDT declares an object, is met there
-abbrev pub NoneOther : Lookup ℕ → List ToldTree → ℕ → List (List Segment × ℕ) → Type 0
-NoneOther last ss number ws = (p : List Segment) (args k : ℕ) (r : ToldTree) (o : ObjectTree) → Among ws (p, args)
-    → last p ≡ Some k → k ≢ number → IsNumber ss k r → r.objects p ≡ Some o → is_method_of o args ≡ true
+-- the SSDT is noted at the path
+abbrev pub IsNoted : Definers → List Segment → Definer → Type 0
+IsNoted d p x = (get d.first p ≡ Some x) ⊎ IsOther d.others p x
 
--- what was missed or is awaited, no other SSDT declares, or it is met there
-abbrev pub NoneTried : Lookup ℕ → List ToldTree → ℕ → TriedTree → Type 0
-NoneTried last ss number t = ((p : List Segment) (k : ℕ) → IsTrue (is_defined t.missed p) → last p ≡ Some k → k ≢ number → ⊥) × NoneOther last ss number (entries t.awaited)
+-- one more at the path
+abbrev pub AddsOther : BTreeMap (List Segment) (Vec Definer) → BTreeMap (List Segment) (Vec Definer) → List Segment → Definer → Type 0
+AddsOther old new p x = (q : List Segment) (y : Definer) → IsOther new q y ↔ (IsOther old q y ⊎ ((p ≡ q) × (x ≡ y)))
+
+-- .. which is the first there where there was none
+pub record AddsDefiner (old new : Definers) (p : List Segment) (x : Definer) : Type 0 where
+  pub noted : (q : List Segment) (y : Definer) → IsNoted new q y ↔ (IsNoted old q y ⊎ ((p ≡ q) × (x ≡ y)))
+  pub firsts : (q : List Segment) (y : Definer) → (get new.first q ≡ Some y) ↔ ((get old.first q ≡ Some y) ⊎ ((get old.first q ≡ None) × (p ≡ q) × (x ≡ y)))

@@ -1,19 +1,20 @@
--- What is told of SSDTs, each laid over the DSDT.
-use Rattle.std.specs.Prelude.{◌≡◌, ◌⊎◌, ◌↔◌, ◌||◌, ℕ, Bool, false, List, [], ◌∷◌, map, IsTrue, Some, ⊤}
+-- What is told of an SSDT that is laid over the DSDT.
+use Rattle.std.specs.Prelude.{◌≡◌, ◌⊎◌, ◌↔◌, ◌||◌, ℕ, Bool, false, List, [], ◌∷◌, IsTrue, Some}
 use Rattle.std.specs.FinMap.{empty, get}
-use Rattle.std.specs.List.{AllByRecursion, list_any}
-use Rattle.std.specs.List.Sorted.{IsStrictlySortedBy}
+use Rattle.std.specs.List.{list_any}
 use Rattle.acpi_name.specs.Names.{Segment}
-use Rattle.acpi_name.specs.Paths.{path_cmp}
 use Rattle.acpi_space.specs.Laws.{Among}
 use Rattle.acpi_space.specs.Spaces.{PathMap, is_defined}
 use Rattle.acpi_tree.specs.Objects.{ObjectTree}
 use Rattle.acpi_tree.specs.declared.object.Object.{Object}
+use Rattle.acpi_declare.specs.declared.fault.LoadFault.{LoadFault}
+use Rattle.acpi_declare.specs.declared.fault.LoadFault.TheVariants.{At, Memory}
 use Rattle.acpi_declare.specs.Declaring.{State, objects_so_far, state_of}
 use Rattle.acpi_declare.specs.Links.{pending_links}
 use Rattle.acpi_declare.specs.Listing.{objects_of}
-use Rattle.acpi_declare.specs.Namespace.{Namespace}
+use Rattle.acpi_declare.specs.Loads.{AreListings}
 use Rattle.acpi_declare.specs.Notes.{notes_on}
+use Rattle.acpi_declare.specs.Predefined.{predefined}
 use Rattle.acpi_body.specs.steps.Gathering.{Paths, Grows}
 use Rattle.acpi_order.specs.Independent.{AreSingleListings}
 use Rattle.acpi_order.specs.Misses.{Listing, objects_of_first, objects_of_both, IsMiss, IsAwaited}
@@ -23,12 +24,10 @@ use Rattle.acpi_verdict.specs.declared.told.Told.{Told}
 use Rattle.acpi_verdict.specs.declared.told.Under as code
 use Rattle.acpi_verdict.specs.steps.Trying.{Test, TriedTree, tried_of, Tries, IsMissedScope}
 
--- P holds of what stands at each place of two lists, as long as each other
-abbrev pub AreEach : {X Y : Type 0} → (X → Y → Type 0) → List X → List Y → Type 0
-AreEach P [] [] = ⊤
-AreEach P (x ∷ xs) (y ∷ ys) = P x y × AreEach P xs ys
-AreEach P [] (y ∷ ys) = ⊥
-AreEach P (x ∷ xs) [] = ⊥
+-- a refusal, told of the table of that number
+abbrev pub told_of : ℕ → LoadFault → LoadFault
+told_of number (At table reason) = At number reason
+told_of number Memory = Memory
 
 -- ---- an SSDT over the DSDT
 
@@ -39,12 +38,6 @@ pub record LaidTree : Type 0 where
 
 abbrev pub laid_tree : {O : Type 0} → (O → PathMap Object) → Laid O → LaidTree
 laid_tree contents l = record { state = state_of (contents (objects_so_far l.declared)) l.declared; defined = l.defined.items }
-
-abbrev pub laid_trees : {O : Type 0} → (O → PathMap Object) → List (Laid O) → List LaidTree
-laid_trees contents ls = map (laid_tree contents) ls
-
-abbrev pub defined_in : {O : Type 0} → Laid O → List (List Segment)
-defined_in l = l.defined.items
 
 -- the objects of both tables, and the links and notes of the SSDT
 pub record IsOver (depth : ℕ) (dsdt ssdt : List ℕ) (s : State) : Type 0 where
@@ -57,22 +50,12 @@ pub record IsOver (depth : ℕ) (dsdt ssdt : List ℕ) (s : State) : Type 0 wher
 
 pub record IsLaid (depth : ℕ) (dsdt ssdt : List ℕ) (l : LaidTree) : Type 0 where
   pub over : IsOver depth dsdt ssdt l.state
-  pub defined_ascend : IsStrictlySortedBy path_cmp l.defined
   pub defined_are : (p : List Segment) → Among l.defined p ↔ ((o : ObjectTree) × (objects_of over.t p ≡ Some o))
-
--- each SSDT
-abbrev pub AreLaid : ℕ → List ℕ → List (List ℕ) → List LaidTree → Type 0
-AreLaid depth dsdt bs ls = AreEach (IsLaid depth dsdt) bs ls
-
-abbrev pub AreLaidSorted : List LaidTree → Type 0
-AreLaidSorted ls = AllByRecursion (λ l. IsStrictlySortedBy path_cmp l.defined) ls
 
 -- ---- what is told of it
 
--- .. with what its Scope terms, links and bodies tried, and what those of the DSDT did
+-- what its Scope terms, links and bodies tried, and what those of the DSDT did
 pub record ToldTree : Type 0 where
-  pub objects : Namespace
-  pub defined : List (List Segment)
   pub own : TriedTree
   pub under : TriedTree
 
@@ -80,16 +63,8 @@ abbrev pub under_of : code.Under → TriedTree
 under_of (code.TheVariants.Alone t) = tried_of t.now
 under_of (code.TheVariants.Again t) = tried_of t
 
-abbrev pub told_tree : {O : Type 0} → (O → PathMap Object) → Told O → ToldTree
-told_tree contents t = record {
-  objects = (laid_tree contents t.laid).state.objects;
-  defined = t.laid.defined.items;
-  own = tried_of t.own;
-  under = under_of t.under;
-}
-
-abbrev pub told_trees : {O : Type 0} → (O → PathMap Object) → List (Told O) → List ToldTree
-told_trees contents ts = map (told_tree contents) ts
+abbrev pub told_tree : Told → ToldTree
+told_tree t = record { own = tried_of t.own; under = under_of t.under }
 
 -- one of the paths was missed or is awaited
 abbrev pub is_touched : TriedTree → List (List Segment) → Bool
@@ -101,15 +76,10 @@ IsUnder wanted depth dsdt alone l now =
     ((is_touched alone l.defined ≡ false) × (now ≡ alone)) ⊎ Tries wanted depth l.state.objects dsdt empty now
 
 pub record IsToldOf (wanted : Test) (depth : ℕ) (dsdt : State) (alone : TriedTree) (l : LaidTree) (s : ToldTree) : Type 0 where
-  pub objects_are : s.objects ≡ l.state.objects
-  pub defined_are : s.defined ≡ l.defined
   pub scopes : Paths
   pub scopes_are : Grows empty scopes (λ p. IsMissedScope l.state.notes p × IsTrue (wanted p))
   pub own : Tries wanted depth l.state.objects l.state scopes s.own
   pub under : IsUnder wanted depth dsdt alone l s.under
-
-abbrev pub AreToldOf : Test → ℕ → State → TriedTree → List LaidTree → List ToldTree → Type 0
-AreToldOf wanted depth dsdt alone ls ss = AreEach (IsToldOf wanted depth dsdt alone) ls ss
 
 -- ---- what that says of the tables
 
@@ -124,17 +94,12 @@ pub record IsToldTree (wanted : Test) (depth : ℕ) (dsdt ssdt : List ℕ) (s : 
   pub first : Listing
   pub t : Listing
   pub listings : AreSingleListings depth dsdt ssdt first t
-  pub objects_are : s.objects ≡ objects_of_both first t
-  pub defined_ascend : IsStrictlySortedBy path_cmp s.defined
-  pub defined_are : (p : List Segment) → Among s.defined p ↔ ((o : ObjectTree) × (objects_of t p ≡ Some o))
   pub missed_are : (p : List Segment) → IsMissedIn s p ↔ (IsMiss depth first t p × IsTrue (wanted p))
   pub awaited_are : (p : List Segment) (args : ℕ) → IsAwaitedIn s p args ↔ (IsAwaited depth first t p args × IsTrue (wanted p))
   pub own_awaited : (p : List Segment) (args : ℕ) → (get s.own.awaited p ≡ Some args) ↔ (IsAwaitedInTable depth (objects_of_both first t) t p args × IsTrue (wanted p))
 
--- of each SSDT
-abbrev pub AreTold : Test → ℕ → List ℕ → List (List ℕ) → List ToldTree → Type 0
-AreTold wanted depth dsdt bs ss = AreEach (IsToldTree wanted depth dsdt) bs ss
-
--- their paths ascend
-abbrev pub IsSortedTree : ToldTree → Type 0
-IsSortedTree s = IsStrictlySortedBy path_cmp s.defined
+-- what bodies of the DSDT await alone, of the wanted paths
+pub record AreAwaitsAlone (wanted : Test) (depth : ℕ) (dsdt : List ℕ) (ws : PathMap ℕ) : Type 0 where
+  pub first : Listing
+  pub listings : AreListings depth 0 predefined (dsdt ∷ []) (first ∷ [])
+  pub awaits_are : (p : List Segment) (args : ℕ) → (get ws p ≡ Some args) ↔ (IsAwaitedInTable depth (objects_of_first first) first p args × IsTrue (wanted p))

@@ -1,9 +1,7 @@
-use Rattle.std.proofs.Common.{◌≡◌, ◌↔◌, [], ◌∷◌, List, false, subst, sym, refl}
+use Rattle.std.proofs.Common.{◌≡◌, ◌↔◌, [], ◌∷◌, List, false, subst, refl}
 use Rattle.std.specs.Prelude.{IsTrue}
-use Rattle.std.specs.List.Sorted.{IsStrictlySortedBy}
 use Rattle.std.proofs.lemmas.Result.{err_from_is_err_and}
 use Rattle.acpi_name.specs.Names.{Segment}
-use Rattle.acpi_name.specs.Paths.{path_cmp}
 use Rattle.acpi_space.specs.Laws.{Among}
 use Rattle.acpi_space.specs.Overlays.{contents_over, lower_of}
 use Rattle.acpi_space.specs.Spaces.{PathMap, is_defined}
@@ -21,15 +19,11 @@ pub returns-clause-ok : goal.returns-clause-ok
 returns-clause-ok g c = λ bytes loads.
     let contents = g.S.Space.contents in
     let d = c.in_ok-declared.declared in
-    let found = c.in_ok-defined.defined.items in
-    let items = c.shrink_to_fit.new.self.items in
-    let same : items ≡ found = c.shrink_to_fit.ensures.items in
+    let items = c.in_ok-defined.defined.items in
     let below : PathMap Object = contents (objects_so_far c.args.dsdt.now) in
     let both : PathMap Object = contents_over contents (objects_so_far d) in
-    let are : (p : List Segment) → Among found p ↔ (IsTrue (is_defined both p) × (is_defined below p ≡ false)) =
-    subst (λ (m : PathMap Object). (p : List Segment) → Among found p ↔ (IsTrue (is_defined both p) × (is_defined m p ≡ false))) c.in_ok-declared.ensures.lower
-    (subst (λ (o : _). (p : List Segment) → Among found p ↔ (IsTrue (is_defined (contents_over contents o) p) × (is_defined (lower_of contents o) p ≡ false))) c.objects.ensures
+    let are : (p : List Segment) → Among items p ↔ (IsTrue (is_defined both p) × (is_defined below p ≡ false)) =
+    subst (λ (m : PathMap Object). (p : List Segment) → Among items p ↔ (IsTrue (is_defined both p) × (is_defined m p ≡ false))) c.in_ok-declared.ensures.lower
+    (subst (λ (o : _). (p : List Segment) → Among items p ↔ (IsTrue (is_defined (contents_over contents o) p) × (is_defined (lower_of contents o) p ≡ false))) c.objects.ensures
     c.in_ok-defined.ensures.are) in
-    is_laid c.args.depth bytes c.args.ssdt.now (state_of below c.args.dsdt.now) (state_of both d) loads (c.in_ok-declared.ensures.ok (bytes ∷ []) loads) below both refl refl items
-    (subst (IsStrictlySortedBy path_cmp) (sym same) c.in_ok-defined.ensures.ascend)
-    (subst (λ (ps : List (List Segment)). (p : List Segment) → Among ps p ↔ (IsTrue (is_defined both p) × (is_defined below p ≡ false))) (sym same) are)
+    is_laid c.args.depth bytes c.args.ssdt.now (state_of below c.args.dsdt.now) (state_of both d) loads (c.in_ok-declared.ensures.ok (bytes ∷ []) loads) below both refl refl items are

@@ -1,4 +1,4 @@
-use Rattle.std.proofs.Common.{List, map, refl, subst}
+use Rattle.std.proofs.Common.{List, map, subst}
 use Rattle.std.specs.Prelude.{IsTrue}
 use Rattle.std.specs.FinMap.{empty}
 use Rattle.acpi_name.specs.Names.{Segment}
@@ -15,10 +15,8 @@ pub returns : goal.returns
 returns g c =
     let wanted = is_defined (g.T.Space.contents c.args.among.now) in
     let contents = g.O.Space.contents in
-    let l = laid_tree contents c.args.laid in
+    let l = laid_tree contents c.args.laid.now in
     record {
-      objects_are = refl;
-      defined_are = refl;
       scopes = c.in_ok-scopes.scopes;
       scopes_are = subst (λ (ns : List TableNotes). Grows empty c.in_ok-scopes.scopes (λ (p : List Segment). IsMissedScope (map notes_of ns) p × IsTrue (wanted p))) c.notes.ensures
           c.in_ok-scopes.ensures;

@@ -1,0 +1,16 @@
+use Rattle.std.proofs.Common.{List, sym, subst}
+use Rattle.std.proofs.lemmas.Result.{on_ok_weaker}
+use Rattle.acpi_verdict.specs.declared.definers.Definer.{Definer}
+use Rattle.acpi_verdict.specs.steps.Finding.{AddsMet, IsMetByAny}
+use Rattle.acpi_verdict.proofs.MetExternals.{others_met, no_others_met}
+use Rattle.acpi_verdict.proofs.meeting.add_others.Goals as goal
+
+pub returns-in-Some : goal.returns-in-Some
+returns-in-Some c =
+    let xs = c.in-Some.definers.now in
+    on_ok_weaker c.add_all_met.result
+    (λ h. others_met c.args.user c.args.path.now c.args.count c.args.others.now xs (sym c.in-Some.ensures.value) c.args.found.now c.add_all_met.new.found
+    (subst (λ (ys : List Definer). AddsMet c.args.found.now c.add_all_met.new.found (IsMetByAny c.args.user c.args.path.now c.args.count ys)) c.deref.ensures.value h)) c.add_all_met.ensures
+
+pub returns-in-None : goal.returns-in-None
+returns-in-None c = no_others_met c.args.user c.args.path.now c.args.count c.args.others.now (sym c.in-None.ensures.value) c.args.found.now

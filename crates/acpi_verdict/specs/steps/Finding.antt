@@ -1,0 +1,96 @@
+-- What the loads of SSDTs over a DSDT tell of one another.
+use Rattle.std.specs.Prelude.{◌≡◌, ◌≢◌, ◌⊎◌, ◌↔◌, ℕ, ◌≤◌, true, false, List, Some, IsTrue}
+use Rattle.std.specs.BTreeSet.{BTreeSet}
+use Rattle.std.specs.FinMap.{get, entries}
+use Rattle.acpi_name.specs.Names.{Segment}
+use Rattle.acpi_space.specs.Laws.{Among}
+use Rattle.acpi_space.specs.Spaces.{PathMap, is_defined}
+use Rattle.acpi_order.specs.Independent.{AreSingleListings}
+use Rattle.acpi_order.specs.Misses.{Listing, objects_of_both, IsMiss, IsAwaited}
+use Rattle.acpi_order.specs.Singles.{IsAwaitedInTable, IsSatisfied}
+use Rattle.acpi_order.specs.Verdicts.{IsSsdt}
+use Rattle.acpi_verdict.specs.declared.definers.Definer.{Definer}
+use Rattle.acpi_verdict.specs.declared.definers.Definers.{Definers}
+use Rattle.acpi_verdict.specs.declared.finding.Found.{Found}
+use Rattle.acpi_verdict.specs.declared.verdicts.Satisfied.{Satisfied}
+use Rattle.acpi_verdict.specs.steps.Clashing.{Clashes, IsLeastOf, Offers}
+use Rattle.acpi_verdict.specs.steps.Defining.{takes, IsNoted}
+use Rattle.acpi_verdict.specs.steps.Telling.{ToldTree}
+use Rattle.acpi_verdict.specs.steps.Trying.{TriedTree}
+
+-- ---- clashes of a searcher
+
+-- the first SSDT that declares the path is of number j, and not the searcher, number i; and P holds of it
+abbrev pub IsFirstOther : PathMap Definer → ℕ → (List Segment → Definer → Type 0) → Clashes
+IsFirstOther firsts number P i j p = (number ≡ i) × (x : Definer) × (get firsts p ≡ Some x) × (x.number ≡ j) × (j ≢ i) × P p x
+
+-- the path was missed
+abbrev pub IsMissedOf : PathMap Definer → ℕ → List (List Segment) → Clashes
+IsMissedOf firsts number ps = IsFirstOther firsts number (λ p x. Among ps p)
+
+-- a method is awaited there, and the SSDT's object is none of so many arguments
+abbrev pub IsAwaitedOf : PathMap Definer → ℕ → List (List Segment × ℕ) → Clashes
+IsAwaitedOf firsts number es = IsFirstOther firsts number (λ p x. (n : ℕ) × Among es (p, n) × (takes x n ≡ false))
+
+abbrev pub IsUnmetOf : PathMap Definer → ℕ → TriedTree → Clashes
+IsUnmetOf firsts number t =
+    IsFirstOther firsts number (λ p x. IsTrue (is_defined t.missed p) ⊎ ((n : ℕ) × (get t.awaited p ≡ Some n) × (takes x n ≡ false)))
+
+-- .. in a single load
+abbrev pub IsUnmetBy : ℕ → PathMap Definer → ℕ → Listing → Listing → Clashes
+IsUnmetBy depth firsts number first t =
+    IsFirstOther firsts number (λ p x. IsMiss depth first t p ⊎ ((n : ℕ) × IsAwaited depth first t p n × (takes x n ≡ false)))
+
+-- .. of SSDT i
+abbrev pub IsUnmetAt : ℕ → List ℕ → List (List ℕ) → PathMap Definer → Clashes
+IsUnmetAt depth dsdt ssdts firsts i j p =
+    (b : List ℕ) × (first : Listing) × (t : Listing) × IsSsdt ssdts i b × AreSingleListings depth dsdt b first t × IsUnmetBy depth firsts i first t i j p
+
+-- ---- satisfied Externals
+
+-- those of which P holds are added
+abbrev pub AddsMet : BTreeSet Satisfied → BTreeSet Satisfied → (Satisfied → Type 0) → Type 0
+AddsMet old new P = (s : Satisfied) → Among new.keys s ↔ (Among old.keys s ⊎ P s)
+
+-- the user awaits it, and another SSDT of which P holds declares such a method there
+abbrev pub IsMetFor : ℕ → (List Segment → ℕ → Type 0) → (List Segment → Definer → Type 0) → Satisfied → Type 0
+IsMetFor user Awaits P s =
+    (user ≡ s.user) × (x : Definer) × P s.path x × (x.number ≡ s.definer) × (x.number ≢ user) × (n : ℕ) × Awaits s.path n × (takes x n ≡ true)
+
+-- .. at that path
+abbrev pub IsMetAt : ℕ → List Segment → ℕ → (List Segment → Definer → Type 0) → Satisfied → Type 0
+IsMetAt user p n = IsMetFor user (λ q k. (p ≡ q) × (n ≡ k))
+
+-- .. by one of these
+abbrev pub IsMetByAny : ℕ → List Segment → ℕ → List Definer → Satisfied → Type 0
+IsMetByAny user p n xs = IsMetAt user p n (λ q x. Among xs x)
+
+-- .. of those that are noted
+abbrev pub AreMet : Definers → ℕ → List (List Segment × ℕ) → Satisfied → Type 0
+AreMet d user es = IsMetFor user (λ p n. Among es (p, n)) (IsNoted d)
+
+-- ---- one SSDT
+
+-- what is told of it, over what was found before
+pub record FindsTold (d : Definers) (number : ℕ) (told : ToldTree) (old new : Found) : Type 0 where
+  pub clash : Offers old.clash new.clash (λ i j p. IsUnmetOf d.first number told.own i j p ⊎ IsUnmetOf d.first number told.under i j p)
+  pub satisfied : AddsMet old.satisfied new.satisfied (AreMet d number (entries told.own.awaited))
+
+-- .. of its single load
+pub record FindsSsdt (depth : ℕ) (dsdt ssdt : List ℕ) (d : Definers) (number : ℕ) (old new : Found) : Type 0 where
+  pub first : Listing
+  pub t : Listing
+  pub listings : AreSingleListings depth dsdt ssdt first t
+  pub clash : Offers old.clash new.clash (IsUnmetBy depth d.first number first t)
+  pub satisfied : AddsMet old.satisfied new.satisfied (IsMetFor number (IsAwaitedInTable depth (objects_of_both first t) t) (IsNoted d))
+
+-- ---- all of them
+
+-- what is found of the SSDTs up to that number
+pub record AreFoundTo (depth : ℕ) (dsdt : List ℕ) (ssdts : List (List ℕ)) (d : Definers) (n : ℕ) (f : Found) : Type 0 where
+  pub clash : IsLeastOf (λ i j p. IsUnmetAt depth dsdt ssdts d.first i j p × (i ≤ n)) f.clash
+  pub satisfied : (s : Satisfied) → Among f.satisfied.keys s ↔ (IsSatisfied depth dsdt ssdts s.user s.definer s.path × (s.user ≤ n))
+
+pub record AreFound (depth : ℕ) (dsdt : List ℕ) (ssdts : List (List ℕ)) (d : Definers) (f : Found) : Type 0 where
+  pub clash : IsLeastOf (IsUnmetAt depth dsdt ssdts d.first) f.clash
+  pub satisfied : (s : Satisfied) → Among f.satisfied.keys s ↔ IsSatisfied depth dsdt ssdts s.user s.definer s.path

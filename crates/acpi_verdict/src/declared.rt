@@ -1,0 +1,107 @@
+//! What SSDTs declare over a DSDT, one after another.
+
+ghost use Rattle.std.specs.Prelude.{◌≡◌, ◌∷◌, [], ℕ, List, IfOk, IfErr, OnOk};
+ghost use Rattle.acpi_declare.specs.Declaring.{HasTables, objects_so_far, state_of};
+ghost use Rattle.acpi_verdict.specs.VerdictView.{IsSinglesFault};
+ghost use Rattle.acpi_verdict.specs.steps.Clashing.{Offers};
+ghost use Rattle.acpi_verdict.specs.steps.Declaring.{args_in, IsSameAt, AddsSsdt, AreDeclared};
+ghost use Rattle.acpi_verdict.specs.steps.Telling.{laid_tree};
+
+use crate::alone::{lay, renumbered};
+use crate::clashes::{Clash, offer};
+use crate::definers::{Definer, Definers, method_args};
+use crate::told::Laid;
+use acpi_declare::{Declaring, LoadFault};
+use acpi_name::Path;
+use acpi_space::Space;
+use acpi_terms::{Depth, Object};
+use bytes::Bytes;
+use std::alloc::{AllocError, Global};
+
+/// What SSDTs declare.
+#[derive(Drop)]
+pub(crate) struct Declared {
+    /// Which of them declare each path.
+    pub(crate) definers: Definers,
+    /// The first two that declare one path.
+    pub(crate) same: Option<Clash>,
+}
+
+// Offers the clash of the SSDT of that number with an earlier one that declares the path.
+fn offer_same(
+    same: &mut Option<Clash>,
+    definers: &Definers,
+    number: usize,
+    path: &Path,
+) -> Result<(), AllocError>
+    ensures { OnOk result (Offers same.old same.new (IsSameAt number (path.now ∷ []) definers.now)) }
+{
+    match definers.first.get(path) {
+        Some(first) if first.number < number => offer(same, first.number, number, path),
+        _ => Ok(()),
+    }
+}
+
+// Adds a path that an SSDT declares.
+fn add_path(
+    alloc: Global,
+    declared: &mut Declared,
+    path: Path,
+    definer: Definer,
+) -> Result<(), AllocError>
+    ensures { OnOk result (AddsSsdt definer.number (path ∷ []) (λ _. definer.args) declared.old declared.new) }
+{
+    offer_same(
+        &mut declared.same,
+        &declared.definers,
+        definer.number,
+        &path,
+    )?;
+    declared.definers.add(alloc, path, definer)
+}
+
+// Adds what the SSDT of that number declares.
+fn add_ssdt<O: Space<Object>>(
+    alloc: Global,
+    declared: &mut Declared,
+    number: usize,
+    laid: Laid<O>,
+) -> Result<(), AllocError>
+    ensures { OnOk result (AddsSsdt number laid.defined.items (args_in (laid_tree O.contents laid)) declared.old declared.new) }
+{
+    let Laid {
+        declared: tables,
+        defined,
+    } = laid;
+    for path in defined {
+        let args = method_args(tables.objects().get(&path));
+        add_path(alloc, declared, path, Definer { number, args })?;
+    }
+    Ok(())
+}
+
+/// What SSDTs declare, each over the DSDT alone; or why the first one that doesn't load alone is refused, under its
+/// number from 1.
+pub(crate) fn declare_all<S: Space<Object>>(
+    alloc: Global,
+    dsdt: &Declaring<S>,
+    ssdts: &[Bytes],
+    depth: Depth,
+) -> Result<Declared, LoadFault>
+    ensures ok { (bytes : List ℕ) → HasTables depth (bytes ∷ []) (state_of (S.contents (objects_so_far dsdt.now)) dsdt.now)
+        → IfOk result (λ d. AreDeclared depth bytes ssdts.now d) }
+    ensures err { (bytes : List ℕ) → HasTables depth (bytes ∷ []) (state_of (S.contents (objects_so_far dsdt.now)) dsdt.now)
+        → IfErr result (λ e. IsSinglesFault depth bytes ssdts.now e) }
+{
+    let mut declared = Declared {
+        definers: Definers::new(alloc),
+        same: None,
+    };
+    for (i, ssdt) in ssdts.iter().enumerate() {
+        match lay(alloc, dsdt, ssdt, depth) {
+            Ok(laid) => add_ssdt(alloc, &mut declared, i + 1, laid)?,
+            Err(fault) => return Err(renumbered(fault, i + 1)),
+        }
+    }
+    Ok(declared)
+}
