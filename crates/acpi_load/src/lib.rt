@@ -27,7 +27,7 @@
 //!
 //! `single` tells of the load with one SSDT what it declares, misses and awaits. `verdict` finds whether all SSDTs may be
 //! loaded in any order, or the first reason that they may not (`IsVerdict` of `acpi_order`), and `satisfied` which methods
-//! that bodies await another SSDT declares (`IsSatisfied`). `check_shared` tells both, the latter where the SSDTs commute:
+//! that bodies await another SSDT declares (`IsSatisfied`). `check_shared` tells both, by fewer loads:
 //!
 //! ```text
 //! let checked = check_shared::<TreeSpace<Object>>(alloc, &dsdt, &ssdts, depth)?;

@@ -13,20 +13,22 @@ use Rattle.acpi_declare.proofs.Refusals.{refused_has_no_load}
 use Rattle.acpi_order.specs.Independent.{IsIndependent}
 use Rattle.acpi_order.specs.Laws.{CommuteIsIndependent, OneVerdict}
 use Rattle.acpi_order.specs.Singles.{IsSatisfied}
-use Rattle.acpi_order.specs.Verdicts.{not_alone, DsdtLoads, IsReasonAt, IsSame, NoneSame, IsMissed, IsVerdict}
+use Rattle.acpi_order.specs.Verdicts.{not_alone, DsdtLoads, AllAlone, IsReasonAt, IsSame, NoneSame, IsMissed, IsVerdict}
 use Rattle.acpi_verdict.specs.declared.clashes.Clash.{Clash}
 use Rattle.acpi_verdict.specs.declared.declared.Declared.{Declared}
 use Rattle.acpi_verdict.specs.declared.definers.Definers.{Definers}
 use Rattle.acpi_verdict.specs.declared.finding.Found.{Found}
 use Rattle.acpi_verdict.specs.declared.verdicts.Checked.{Checked}
 use Rattle.acpi_verdict.specs.declared.verdicts.Satisfied.{Satisfied}
+use Rattle.acpi_verdict.specs.declared.verdicts.Verdict.{Verdict}
 use Rattle.acpi_verdict.specs.declared.verdicts.Verdict.TheVariants as verdicts
 use Rattle.acpi_verdict.specs.SatisfiedView.{satisfied_cmp, AreSatisfied}
-use Rattle.acpi_verdict.specs.VerdictView.{verdict_view, IsFirstRefused}
-use Rattle.acpi_verdict.specs.steps.Checking.{IsChecked}
+use Rattle.acpi_verdict.specs.VerdictView.{verdict_view, IsFaultOf, IsFirstRefused}
+use Rattle.acpi_verdict.specs.steps.Checking.{IsChecked, verdict_from}
 use Rattle.acpi_verdict.specs.steps.Clashing.{IsLeastOf}
 use Rattle.acpi_verdict.specs.steps.Declaring.{AreDeclared}
 use Rattle.acpi_verdict.specs.steps.Finding.{AreFound}
+use Rattle.acpi_verdict.proofs.AloneLoads.{alone_at}
 use Rattle.acpi_verdict.proofs.FoundTables.{first_missed}
 use Rattle.acpi_verdict.proofs.FoundVerdict.{commutes, not_alone_verdict}
 
@@ -43,6 +45,11 @@ pub told_no_load : {T : Type 0} (depth : ℕ) (tables : List (List ℕ)) (r : Re
 told_no_load depth tables (Ok c) h = tt
 told_no_load depth tables (Err e) h = λ other. refused_has_no_load depth tables e h other
 
+not_all_alone : (depth : ℕ) (dsdt : List ℕ) (ssdts : List (List ℕ)) (i : ℕ) (reason : LoadReason) → IsFirstRefused depth dsdt ssdts i reason → AllAlone depth dsdt ssdts → ⊥
+not_all_alone depth dsdt ssdts i reason h all =
+    let first = (not_alone_verdict depth dsdt ssdts i reason h).1 in
+    first.refused (alone_at depth dsdt ssdts all i first.ssdt first.is_ssdt)
+
 pub are_satisfied : (depth : ℕ) (dsdt : List ℕ) (ssdts : List (List ℕ)) (d : Definers) (f : Found) → AreFound depth dsdt ssdts d f → (list : List Satisfied)
     → IsStrictlySortedBy satisfied_cmp list → list ≡ f.satisfied.keys → AreSatisfied depth dsdt ssdts list
 are_satisfied depth dsdt ssdts d f found list ascend same = record {
@@ -52,40 +59,32 @@ are_satisfied depth dsdt ssdts d f found list ascend same = record {
 
 -- ---- what is found
 
-module _ (depth : ℕ) (dsdt : List ℕ) (ssdts : List (List ℕ)) (loads : DsdtLoads depth dsdt) (d : Declared) (declared : AreDeclared depth dsdt ssdts d) where
-  pub same_checked : (c : Clash) → d.same ≡ Some c → (found : Vec Satisfied) → found.items ≡ []
-      → IsChecked depth dsdt ssdts (record { verdict = verdicts.Same c.first c.second c.path; satisfied = found })
-  same_checked c is found none = record {
-    verdict = (loads, (declared.alone, subst (λ (o : Option Clash). IsLeastOf (IsSame depth dsdt ssdts) o) is declared.same));
-    fault = tt;
-    satisfied = λ commutes. let never : ⊥ = cc in absurd never;
-    others = λ x. none;
+module _ (depth : ℕ) (dsdt : List ℕ) (ssdts : List (List ℕ)) (loads : DsdtLoads depth dsdt) (d : Declared) (declared : AreDeclared depth dsdt ssdts d) (f : Found)
+    (found : AreFound depth dsdt ssdts d.definers f) where
+  same_at : (o : Option Clash) → d.same ≡ o → IsLeastOf (IsSame depth dsdt ssdts) o
+  same_at o is = subst (λ (x : Option Clash). IsLeastOf (IsSame depth dsdt ssdts) x) is declared.same
+
+  missed_at : NoneSame depth dsdt ssdts → (o : Option Clash) → f.clash ≡ o → IsLeastOf (IsMissed depth dsdt ssdts) o
+  missed_at unique o is = subst (λ (x : Option Clash). IsLeastOf (IsMissed depth dsdt ssdts) x) is (first_missed depth dsdt ssdts d.definers declared.definers unique f.clash found.clash)
+
+  right : (same missed : Option Clash) → d.same ≡ same → f.clash ≡ missed → IsVerdict depth dsdt ssdts (verdict_view (verdict_from same missed))
+  right (Some c) missed e g = (loads, (declared.alone, same_at (Some c) e))
+  right None (Some c) e g = let unique = same_at None e in (loads, (declared.alone, unique, missed_at unique (Some c) g))
+  right None None e g = let unique = same_at None e in (loads, (declared.alone, unique, missed_at unique None g))
+
+  no_fault : (same missed : Option Clash) → IsFaultOf depth dsdt ssdts (verdict_from same missed)
+  no_fault (Some c) missed = tt
+  no_fault None (Some c) = tt
+  no_fault None None = tt
+
+  pub all_checked : (v : Verdict) → v ≡ verdict_from d.same f.clash → (list : Vec Satisfied) → IsStrictlySortedBy satisfied_cmp list.items → list.items ≡ f.satisfied.keys
+      → IsChecked depth dsdt ssdts (record { verdict = v; satisfied = list })
+  all_checked v is list ascend same = record {
+    verdict = subst (λ (x : Verdict). IsVerdict depth dsdt ssdts (verdict_view x)) (sym is) (right d.same f.clash refl refl);
+    fault = subst (IsFaultOf depth dsdt ssdts) (sym is) (no_fault d.same f.clash);
+    satisfied = λ all. are_satisfied depth dsdt ssdts d.definers f found list.items ascend same;
+    refused = λ none. absurd (none declared.alone);
   }
-
-  module _ (no_same : d.same ≡ None) (f : Found) (found : AreFound depth dsdt ssdts d.definers f) where
-    unique : NoneSame depth dsdt ssdts
-    unique = subst (λ (o : Option Clash). IsLeastOf (IsSame depth dsdt ssdts) o) no_same declared.same
-
-    least : (o : Option Clash) → f.clash ≡ o → IsLeastOf (IsMissed depth dsdt ssdts) o
-    least o is = subst (λ (x : Option Clash). IsLeastOf (IsMissed depth dsdt ssdts) x) is (first_missed depth dsdt ssdts d.definers declared.definers unique f.clash found.clash)
-
-    pub missed_checked : (c : Clash) → f.clash ≡ Some c → (list : Vec Satisfied) → list.items ≡ []
-        → IsChecked depth dsdt ssdts (record { verdict = verdicts.Missed c.first c.second c.path; satisfied = list })
-    missed_checked c is list none = record {
-      verdict = (loads, (declared.alone, unique, least (Some c) is));
-      fault = tt;
-      satisfied = λ commutes. let never : ⊥ = cc in absurd never;
-      others = λ x. none;
-    }
-
-    pub commute_checked : f.clash ≡ None → (list : Vec Satisfied) → IsStrictlySortedBy satisfied_cmp list.items → list.items ≡ f.satisfied.keys
-        → IsChecked depth dsdt ssdts (record { verdict = verdicts.Commute; satisfied = list })
-    commute_checked is list ascend same = record {
-      verdict = (loads, (declared.alone, unique, least None is));
-      fault = tt;
-      satisfied = λ commutes. are_satisfied depth dsdt ssdts d.definers f found list.items ascend same;
-      others = λ not. absurd (not refl);
-    }
 
 -- ---- as results
 
@@ -109,6 +108,6 @@ refused_checked depth dsdt ssdts n k why i reason found of_ssdt of_table of_reas
     of_table ∙ sym of_ssdt,
     subst (λ (x : ℕ). IsReasonAt depth dsdt ssdts x why) (sym of_ssdt) (subst (λ (x : LoadReason). IsReasonAt depth dsdt ssdts i x) (sym of_reason) h.is_reason),
   );
-  satisfied = λ commutes. let never : ⊥ = cc in absurd never;
-  others = λ x. none;
+  satisfied = λ all. absurd (not_all_alone depth dsdt ssdts i reason h all);
+  refused = λ x. none;
 }

@@ -5,12 +5,13 @@ ghost use Rattle.acpi_declare.specs.Declaring.{HasTables, objects_so_far, state_
 ghost use Rattle.acpi_declare.specs.Loads.{HasNoLoad};
 ghost use Rattle.acpi_declare.specs.Refusals.{IsLoadFault};
 ghost use Rattle.acpi_order.specs.Independent.{IsIndependent};
-ghost use Rattle.acpi_order.specs.Verdicts.{IsVerdict};
+ghost use Rattle.acpi_order.specs.Verdicts.{IsVerdict, AllAlone};
 ghost use Rattle.acpi_verdict.specs.SatisfiedView.{AreSatisfied};
 ghost use Rattle.acpi_verdict.specs.VerdictView.{verdict_view, IsFaultOf, IsSinglesFault};
-ghost use Rattle.acpi_verdict.specs.steps.Checking.{IsChecked};
+ghost use Rattle.acpi_verdict.specs.steps.Checking.{IsChecked, verdict_from};
 ghost use Rattle.acpi_verdict.specs.steps.Declaring.{AreDeclared};
 
+use crate::clashes::Clash;
 use crate::declared::{Declared, declare_all};
 use crate::finding::{Found, find_all};
 use crate::satisfying::listed;
@@ -39,6 +40,25 @@ fn refused(alloc: Global, fault: LoadFault) -> Result<Checked, LoadFault>
     }
 }
 
+// The verdict on SSDTs that all load alone, by the first clash of each kind.
+fn verdict_of(same: Option<Clash>, missed: Option<Clash>) -> Verdict
+    ensures { result ≡ verdict_from same missed }
+{
+    match (same, missed) {
+        (Some(clash), _) => Verdict::Same {
+            first: clash.first,
+            second: clash.second,
+            path: clash.path,
+        },
+        (None, Some(clash)) => Verdict::Missed {
+            searcher: clash.first,
+            definer: clash.second,
+            path: clash.path,
+        },
+        (None, None) => Verdict::Commute,
+    }
+}
+
 // The same of SSDTs that all load alone, by what they declare.
 fn checked_declared<S: Space<Object>>(
     alloc: Global,
@@ -53,31 +73,10 @@ fn checked_declared<S: Space<Object>>(
         → AreDeclared depth bytes ssdts.now declared → IfErr result (λ e. e ≡ LoadFault.Memory) }
 {
     let Declared { definers, same } = declared;
-    if let Some(clash) = same {
-        return Ok(Checked {
-            verdict: Verdict::Same {
-                first: clash.first,
-                second: clash.second,
-                path: clash.path,
-            },
-            satisfied: Vec::new(alloc),
-        });
-    }
     let Found { clash, satisfied } = find_all(alloc, dsdt, ssdts, depth, &definers)?;
-    match clash {
-        Some(clash) => Ok(Checked {
-            verdict: Verdict::Missed {
-                searcher: clash.first,
-                definer: clash.second,
-                path: clash.path,
-            },
-            satisfied: Vec::new(alloc),
-        }),
-        None => Ok(Checked {
-            verdict: Verdict::Commute,
-            satisfied: listed(alloc, satisfied)?,
-        }),
-    }
+    let satisfied = listed(alloc, satisfied)?;
+    let verdict = verdict_of(same, clash);
+    Ok(Checked { verdict, satisfied })
 }
 
 // The same of SSDTs over a DSDT that is declared.
@@ -96,9 +95,9 @@ fn checked_over<S: Space<Object>>(
     }
 }
 
-/// The verdict on SSDTs over a DSDT, as of `verdict_shared`, and where they commute the Externals that they satisfy, as of
-/// `satisfied_shared`; where they don't, none is told. Each SSDT is declared over the DSDT twice, and no more than one is
-/// held. Where the DSDT doesn't load by itself, its refusal is the error.
+/// What `verdict_shared` and `satisfied_shared` tell of SSDTs over a DSDT, from one load of the DSDT. Each SSDT is declared
+/// over it twice, and no more than one is held. Where an SSDT doesn't load over the DSDT alone, no External is told as
+/// satisfied. Where the DSDT doesn't load by itself, its refusal is the error.
 pub fn check_shared<S: Space<Object>>(
     alloc: Global,
     dsdt: &Bytes,
@@ -108,8 +107,8 @@ pub fn check_shared<S: Space<Object>>(
     ensures ok { IfOk result (λ c. IsVerdict depth dsdt.now ssdts.now (verdict_view c.verdict)) }
     ensures fault { IfOk result (λ c. IsFaultOf depth dsdt.now ssdts.now c.verdict) }
     ensures commute { ssdts.now ≢ [] → IfOk result (λ c. (c.verdict ≡ Verdict.Commute) ↔ IsIndependent depth dsdt.now ssdts.now) }
-    ensures satisfied { IfOk result (λ c. c.verdict ≡ Verdict.Commute → AreSatisfied depth dsdt.now ssdts.now c.satisfied.items) }
-    ensures others { IfOk result (λ c. c.verdict ≢ Verdict.Commute → c.satisfied.items ≡ []) }
+    ensures satisfied { IfOk result (λ c. AllAlone depth dsdt.now ssdts.now → AreSatisfied depth dsdt.now ssdts.now c.satisfied.items) }
+    ensures refused { IfOk result (λ c. (AllAlone depth dsdt.now ssdts.now → ⊥) → c.satisfied.items ≡ []) }
     ensures err { IfErr result (λ e. IsLoadFault depth (dsdt.now ∷ []) e) }
     ensures none { IfErr result (λ e. e ≢ LoadFault.Memory → HasNoLoad depth (dsdt.now ∷ [])) }
 {

@@ -45,6 +45,6 @@ pub struct Satisfied {
 pub struct Checked {
     /// Whether they commute.
     pub verdict: Verdict,
-    /// The Externals that they satisfy, by user, definer and path, where they commute; else none.
+    /// The Externals that they satisfy, by user, definer and path; none where one of them doesn't load alone.
     pub satisfied: Vec<Satisfied>,
 }

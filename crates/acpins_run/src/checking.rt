@@ -3,7 +3,7 @@
 ghost use Rattle.std.specs.Prelude.{◌≡◌, ◌≢◌, ◌∷◌, ℕ, ◌++◌, [], codes, decimal, IfErr, IfOk, OnOk};
 ghost use Rattle.std.specs.List.{flat_map};
 ghost use Rattle.acpi_declare.specs.Refusals.{IsLoadFault};
-ghost use Rattle.acpi_order.specs.Verdicts.{IsVerdict};
+ghost use Rattle.acpi_order.specs.Verdicts.{AllAlone, IsVerdict};
 ghost use Rattle.acpi_verdict.specs.SatisfiedView.{AreSatisfied};
 ghost use Rattle.acpi_verdict.specs.VerdictView.{verdict_view, IsFaultOf};
 ghost use Rattle.acpins_run.specs.Checked.{triple_line, satisfied_line, Checks};
@@ -93,7 +93,7 @@ fn check_tables<S: Space<Object>>(
 ) -> Result<Checked, LoadFault>
     ensures ok { IfOk result (λ c. IsVerdict depth dsdt.now ssdts.now (verdict_view c.verdict)) }
     ensures fault { IfOk result (λ c. IsFaultOf depth dsdt.now ssdts.now c.verdict) }
-    ensures satisfied { IfOk result (λ c. c.verdict ≡ Verdict.Commute → AreSatisfied depth dsdt.now ssdts.now c.satisfied.items) }
+    ensures satisfied { IfOk result (λ c. AllAlone depth dsdt.now ssdts.now → AreSatisfied depth dsdt.now ssdts.now c.satisfied.items) }
     ensures err { IfErr result (λ e. IsLoadFault depth (dsdt.now ∷ ssdts.now) e) }
 {
     check_shared::<S>(alloc, dsdt, ssdts, depth)

@@ -18,8 +18,8 @@ returns-clause-commute g c =
 pub returns-clause-satisfied : goal.returns-clause-satisfied
 returns-clause-satisfied g c = ok_so c.checked_over.result _ _ (λ x h. h.satisfied) (c.checked_over.ensures.ok c.args.dsdt.now c.in_ok-declared.ensures.ok)
 
-pub returns-clause-others : goal.returns-clause-others
-returns-clause-others g c = ok_so c.checked_over.result _ _ (λ x h. h.others) (c.checked_over.ensures.ok c.args.dsdt.now c.in_ok-declared.ensures.ok)
+pub returns-clause-refused : goal.returns-clause-refused
+returns-clause-refused g c = ok_so c.checked_over.result _ _ (λ x h. h.refused) (c.checked_over.ensures.ok c.args.dsdt.now c.in_ok-declared.ensures.ok)
 
 pub returns-clause-err : goal.returns-clause-err
 returns-clause-err g c = memory_so c.checked_over.result c.args.depth (c.args.dsdt.now ∷ []) (c.checked_over.ensures.memory c.args.dsdt.now c.in_ok-declared.ensures.ok)
