@@ -1,10 +1,10 @@
 //! What SSDTs declare over a DSDT, one after another.
 
-ghost use Rattle.std.specs.Prelude.{◌≡◌, ◌∷◌, [], ℕ, List, IfOk, IfErr, OnOk};
+ghost use Rattle.std.specs.Prelude.{◌≡◌, ◌∷◌, [], ℕ, List, map, IfOk, IfErr, OnOk};
 ghost use Rattle.acpi_declare.specs.Declaring.{HasTables, objects_so_far, state_of};
 ghost use Rattle.acpi_verdict.specs.VerdictView.{IsSinglesFault};
 ghost use Rattle.acpi_verdict.specs.steps.Clashing.{Offers};
-ghost use Rattle.acpi_verdict.specs.steps.Declaring.{args_in, IsSameAt, AddsSsdt, AreDeclared};
+ghost use Rattle.acpi_verdict.specs.steps.Declaring.{args_in, with_args, IsSameAt, AddsSsdt, AreDeclared};
 ghost use Rattle.acpi_verdict.specs.steps.Telling.{laid_tree};
 
 use crate::alone::{lay, renumbered};
@@ -60,6 +60,25 @@ fn add_path(
     declared.definers.add(alloc, path, definer)
 }
 
+// The paths that an SSDT declares, and how many arguments the objects there take. All else of it is let go.
+fn signatures<O: Space<Object>>(
+    alloc: Global,
+    laid: Laid<O>,
+) -> Result<Vec<(Path, Option<u8>)>, AllocError>
+    ensures { IfOk result (λ v. v.items ≡ map (with_args (laid_tree O.contents laid)) laid.defined.items) }
+{
+    let Laid {
+        declared: tables,
+        defined,
+    } = laid;
+    let mut found = Vec::with_capacity(alloc, defined.len())?;
+    for path in defined {
+        let args = method_args(tables.objects().get(&path));
+        found.push((path, args))?;
+    }
+    Ok(found)
+}
+
 // Adds what the SSDT of that number declares.
 fn add_ssdt<O: Space<Object>>(
     alloc: Global,
@@ -69,12 +88,7 @@ fn add_ssdt<O: Space<Object>>(
 ) -> Result<(), AllocError>
     ensures { OnOk result (AddsSsdt number laid.defined.items (args_in (laid_tree O.contents laid)) declared.old declared.new) }
 {
-    let Laid {
-        declared: tables,
-        defined,
-    } = laid;
-    for path in defined {
-        let args = method_args(tables.objects().get(&path));
+    for (path, args) in signatures(alloc, laid)? {
         add_path(alloc, declared, path, Definer { number, args })?;
     }
     Ok(())

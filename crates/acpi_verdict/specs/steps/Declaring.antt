@@ -21,6 +21,10 @@ use Rattle.acpi_verdict.specs.steps.Telling.{LaidTree}
 abbrev pub args_in : LaidTree → List Segment → Option ℕ
 args_in l p = args_at (l.state.objects p)
 
+-- a path, and how many arguments the object there takes
+abbrev pub with_args : LaidTree → List Segment → List Segment × Option ℕ
+with_args l p = (p, args_in l p)
+
 -- the SSDT of that number is one that declares the path, which is one of those
 abbrev pub IsNewAt : ℕ → List (List Segment) → (List Segment → Option ℕ) → List Segment → Definer → Type 0
 IsNewAt number ps args p x = Among ps p × (number ≡ x.number) × (args p ≡ x.args)
