@@ -1,5 +1,5 @@
 -- What the loads of SSDTs tell of one another, one SSDT after another.
-use Rattle.std.proofs.Common.{◌≡◌, ◌↔◌, ◌⊎◌, inl, inr, ℕ, zero, suc, ◌+◌, ◌<◌, ◌≤◌, false, List, [], ◌∷◌, length, is_some, Option, Some, None, refl, sym, ap, subst, ◌∙◌, arith, add-one}
+use Rattle.std.proofs.Common.{◌≡◌, ◌↔◌, ◌⊎◌, inl, inr, ℕ, zero, suc, ◌+◌, ◌<◌, ◌≤◌, Bool, true, false, true≢false, List, [], ◌∷◌, length, get_or, is_some, Option, Some, None, refl, sym, ap, subst, ◌∙◌, arith, add-one}
 use Rattle.std.specs.Prelude.{IsTrue}
 use Rattle.std.specs.BTreeSet.{BTreeSet}
 use Rattle.std.specs.FinMap.{get, entries}
@@ -7,6 +7,7 @@ use Rattle.acpi_name.specs.Names.{Segment}
 use Rattle.acpi_space.specs.Laws.{Among}
 use Rattle.acpi_space.specs.Spaces.{PathMap, is_defined}
 use Rattle.acpi_tree.specs.Objects.{ObjectTree, method_object}
+use Rattle.acpi_declare.specs.Declaring.{State}
 use Rattle.acpi_declare.specs.Listing.{objects_of}
 use Rattle.acpi_declare.specs.Loads.{AreListings}
 use Rattle.acpi_declare.specs.Predefined.{predefined}
@@ -26,7 +27,9 @@ use Rattle.acpi_verdict.specs.steps.Clashing.{Clashes, IsLeastOf}
 use Rattle.acpi_verdict.specs.steps.Defining.{method_args, are_args, takes, IsNoted}
 use Rattle.acpi_verdict.specs.steps.Declaring.{IsDefiner, AreFirst, AreDefiners}
 use Rattle.acpi_verdict.specs.steps.Finding.{IsUnmetOf, IsUnmetBy, IsUnmetAt, AddsMet, IsMetFor, AreMet, FindsTold, FindsSsdt, AreFoundTo, AreFound}
-use Rattle.acpi_verdict.specs.steps.Telling.{LaidTree, IsLaid, ToldTree, IsMissedIn, IsAwaitedIn, IsToldTree, AreAwaitsAlone}
+use Rattle.acpi_verdict.specs.steps.Telling.{IsOver, ToldTree, IsMissedIn, IsAwaitedIn, IsToldTree, AreAwaitsAlone}
+use Rattle.acpi_verdict.specs.steps.Touching.{is_tried, AreTouching}
+use Rattle.acpi_verdict.specs.steps.Trying.{TriedTree}
 use Rattle.acpi_verdict.proofs.AloneLoads.{one_ssdt, ssdt_within}
 use Rattle.acpi_verdict.proofs.MetExternals.{adds_same}
 use Rattle.acpi_verdict.proofs.Offers.{least_same, least_offered, offers_same}
@@ -135,14 +138,15 @@ module _ (depth : ℕ) (dsdt : List ℕ) (ssdts : List (List ℕ)) (d : Definers
         takes_as h.object h.args ∙ h.method,
       )
 
-  -- what an SSDT of them declares is wanted
-  pub laid_wanted : (number : ℕ) (b : List ℕ) → IsSsdt ssdts number b → (l : LaidTree) → IsLaid depth dsdt b l → (p : List Segment) → Among l.defined p → IsTrue (is_defined d.first p)
-  laid_wanted number b at l laid p m =
-      let o = (laid.defined_are p).0 m in
-      let x : Definer = record { number = number; args = method_args o.0 } in
+  -- what an SSDT of them declares is wanted, and where it isn't marked the DSDT tried none of it
+  pub quiet_there : (number : ℕ) (b : List ℕ) → IsSsdt ssdts number b → (l : State) (over : IsOver depth dsdt b l) (alone : TriedTree) (flags : List Bool) → AreTouching d alone flags
+      → get_or flags number true ≡ false → (p : List Segment) (o : ObjectTree) → objects_of over.t p ≡ Some o → IsTrue (is_defined d.first p) × (is_tried alone p ≡ true → ⊥)
+  quiet_there number b at l over alone flags touching unmarked p o declares =
+      let x : Definer = record { number = number; args = method_args o } in
       let h : IsDefiner depth dsdt ssdts p x =
-      record { ssdt = b; is_ssdt = at; first = laid.over.first; t = laid.over.t; listings = laid.over.listings; object = o.0; declares = o.1; args_are = refl } in
-      noted_wanted d definers.firsts p x ((definers.noted p x).1 h)
+      record { ssdt = b; is_ssdt = at; first = over.first; t = over.t; listings = over.listings; object = o; declares = declares; args_are = refl } in
+      let noted = (definers.noted p x).1 h in
+      (noted_wanted d definers.firsts p x noted, λ tried. true≢false (sym (touching p x tried noted) ∙ unmarked))
 
   -- ---- none yet, but for the DSDT
 

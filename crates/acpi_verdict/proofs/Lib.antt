@@ -10,6 +10,7 @@ pub mod TriedTables
 pub mod ToldTables
 pub mod Offers
 pub mod Noted
+pub mod Marked
 pub mod AddedPaths
 pub mod DeclaredTables
 pub mod UnmetPaths

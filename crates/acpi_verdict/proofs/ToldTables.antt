@@ -1,8 +1,7 @@
 -- What is told of an SSDT is what its single load missed and awaits, of the wanted paths.
-use Rattle.std.proofs.Common.{◌≡◌, ◌⊎◌, ◌↔◌, ◌||◌, inl, inr, ℕ, Bool, true, false, List, [], ◌∷◌, is_some, Some, true≢false, refl, sym, ap, subst, ◌∙◌}
+use Rattle.std.proofs.Common.{◌≡◌, ◌⊎◌, ◌↔◌, ◌||◌, inl, inr, ℕ, Bool, true, false, List, [], ◌∷◌, is_some, Some, refl, sym, ap, subst, ◌∙◌}
 use Rattle.std.specs.Prelude.{IsTrue}
 use Rattle.std.specs.FinMap.{get, empty}
-use Rattle.std.specs.List.{list_any}
 use Rattle.std.proofs.lemmas.List.{append-nil}
 use Rattle.acpi_name.specs.Names.{Segment}
 use Rattle.acpi_space.specs.Laws.{Among}
@@ -22,7 +21,8 @@ use Rattle.acpi_order.specs.Bodies.{Method, methods_of}
 use Rattle.acpi_order.specs.Misses.{Listing, objects_of_first, objects_of_both, IsLinkMiss, IsBodyMiss, IsAwaiting, IsMiss, IsAwaited}
 use Rattle.acpi_order.proofs.Sharing.{of_two, first_of, second_of}
 use Rattle.acpi_order.proofs.Stays.{links_stay, body_stays}
-use Rattle.acpi_verdict.specs.steps.Telling.{LaidTree, ToldTree, IsLaid, is_touched, IsToldOf, IsMissedIn, IsAwaitedIn, IsToldTree, AreAwaitsAlone}
+use Rattle.acpi_verdict.specs.steps.Telling.{ToldTree, IsOver, IsToldOf, IsMissedIn, IsAwaitedIn, IsToldTree, AreAwaitsAlone}
+use Rattle.acpi_verdict.specs.steps.Touching.{is_tried}
 use Rattle.acpi_verdict.specs.steps.Trying.{Test, TriedTree, Tries, IsMissedScope, IsTableMiss, IsAwaitedByAny}
 use Rattle.acpi_verdict.proofs.TriedTables.{table_missed, table_awaited}
 
@@ -33,11 +33,6 @@ or_left false b e = cc
 or_right : (a b : Bool) → IsTrue b → a || b ≡ true
 or_right true b e = refl
 or_right false b e = e
-
-among_any : {X : Type 0} (test : X → Bool) (xs : List X) (x : X) → Among xs x → test x ≡ true → list_any test xs ≡ true
-among_any test [] x m e = absurd m
-among_any test (y ∷ ys) x (inl is) e = or_left (test y) (list_any test ys) (ap test is ∙ e)
-among_any test (y ∷ ys) x (inr m) e = or_right (test y) (list_any test ys) (among_any test ys x m e)
 
 -- ---- what one more table leaves as it was
 
@@ -115,12 +110,12 @@ module _ (depth : ℕ) (first t : Listing) where
 -- ---- an SSDT
 
 module _ (wanted : Test) (depth : ℕ) (dsdt : List ℕ) (one : State) (loads : HasTables depth (dsdt ∷ []) one) (alone : TriedTree) (alone_is : Tries wanted depth one.objects one empty alone) where
-  module _ (b : List ℕ) (l : LaidTree) (laid : IsLaid depth dsdt b l) where
+  module _ (b : List ℕ) (l : State) (over : IsOver depth dsdt b l) where
     abbrev first : Listing
-    first = laid.over.first
+    first = over.first
 
     abbrev t : Listing
-    t = laid.over.t
+    t = over.t
 
     abbrev Before : Namespace
     Before = objects_of_first first
@@ -129,7 +124,7 @@ module _ (wanted : Test) (depth : ℕ) (dsdt : List ℕ) (one : State) (loads : 
     Both = objects_of_both first t
 
     placements_are : loads.placements ≡ first ∷ []
-    placements_are = same_listings depth 0 predefined (dsdt ∷ []) loads.placements (first ∷ []) loads.listings (laid.over.listings.0, tt)
+    placements_are = same_listings depth 0 predefined (dsdt ∷ []) loads.placements (first ∷ []) loads.listings (over.listings.0, tt)
 
     one_objects : one.objects ≡ Before
     one_objects = loads.objects_are ∙ ap (objects_after predefined) placements_are
@@ -151,26 +146,22 @@ module _ (wanted : Test) (depth : ℕ) (dsdt : List ℕ) (one : State) (loads : 
     alone_there : Tries wanted depth Before one empty alone
     alone_there = subst (λ (objects : Namespace). Tries wanted depth objects one empty alone) one_objects alone_is
 
-    module _ (s : ToldTree) (told : IsToldOf wanted depth one alone l s) (declared : (p : List Segment) → Among l.defined p → IsTrue (wanted p)) where
-      -- no declared path is one of those that the DSDT tried
-      not_touched : is_touched alone l.defined ≡ false → (p : List Segment) → Among l.defined p → (is_defined alone.missed p || is_defined alone.awaited p ≡ true) → ⊥
-      not_touched none p m e = true≢false (sym (among_any (λ q. is_defined alone.missed q || is_defined alone.awaited q) l.defined p m e) ∙ none)
-
-      quiet : is_touched alone l.defined ≡ false → IsQuiet depth first t
+    module _ (touched : Bool) (s : ToldTree) (told : IsToldOf wanted depth one alone touched l s)
+        (untried : touched ≡ false → (p : List Segment) (o : ObjectTree) → objects_of over.t p ≡ Some o → IsTrue (wanted p) × (is_tried alone p ≡ true → ⊥)) where
+      quiet : touched ≡ false → IsQuiet depth first t
       quiet none p o e =
-          let m : Among l.defined p = (laid.defined_are p).1 (o, e) in
-          let w = declared p m in (
-            (λ x. not_touched none p m (or_left (is_defined alone.missed p) (is_defined alone.awaited p) ((dsdt_missed Before alone alone_there p).1 (x, w)))),
-            (λ n x. not_touched none p m (or_right (is_defined alone.missed p) (is_defined alone.awaited p) (ap is_some ((dsdt_awaited Before alone alone_there p n).1 (x, w))))),
+          let r = untried none p o e in (
+            (λ x. r.1 (or_left (is_defined alone.missed p) (is_defined alone.awaited p) ((dsdt_missed Before alone alone_there p).1 (x, r.0)))),
+            (λ n x. r.1 (or_right (is_defined alone.missed p) (is_defined alone.awaited p) (ap is_some ((dsdt_awaited Before alone alone_there p n).1 (x, r.0))))),
           )
 
-      over_both : Tries wanted depth l.state.objects one empty s.under → Tries wanted depth Both one empty s.under
-      over_both h = subst (λ (objects : Namespace). Tries wanted depth objects one empty s.under) laid.over.objects_are h
+      over_both : Tries wanted depth l.objects one empty s.under → Tries wanted depth Both one empty s.under
+      over_both h = subst (λ (objects : Namespace). Tries wanted depth objects one empty s.under) over.objects_are h
 
       under_missed : (p : List Segment) → IsTrue (is_defined s.under.missed p) ↔ (IsTableMiss depth Both first p × IsTrue (wanted p))
       under_missed p = by told.under
         where
-          by : ((is_touched alone l.defined ≡ false) × (s.under ≡ alone)) ⊎ Tries wanted depth l.state.objects one empty s.under
+          by : ((touched ≡ false) × (s.under ≡ alone)) ⊎ Tries wanted depth l.objects one empty s.under
               → IsTrue (is_defined s.under.missed p) ↔ (IsTableMiss depth Both first p × IsTrue (wanted p))
           by (inl (none, same)) =
               let r = dsdt_missed Before alone alone_there p in
@@ -183,7 +174,7 @@ module _ (wanted : Test) (depth : ℕ) (dsdt : List ℕ) (one : State) (loads : 
       under_awaited : (p : List Segment) (n : ℕ) → (get s.under.awaited p ≡ Some n) ↔ (IsAwaitedByAny depth Both (methods_of first) p n × IsTrue (wanted p))
       under_awaited p n = by told.under
         where
-          by : ((is_touched alone l.defined ≡ false) × (s.under ≡ alone)) ⊎ Tries wanted depth l.state.objects one empty s.under
+          by : ((touched ≡ false) × (s.under ≡ alone)) ⊎ Tries wanted depth l.objects one empty s.under
               → (get s.under.awaited p ≡ Some n) ↔ (IsAwaitedByAny depth Both (methods_of first) p n × IsTrue (wanted p))
           by (inl (none, same)) =
               let r = dsdt_awaited Before alone alone_there p n in
@@ -194,24 +185,24 @@ module _ (wanted : Test) (depth : ℕ) (dsdt : List ℕ) (one : State) (loads : 
           by (inr h) = dsdt_awaited Both s.under (over_both h) p n
 
       -- its own
-      own : Tries wanted depth Both l.state told.scopes s.own
-      own = subst (λ (objects : Namespace). Tries wanted depth objects l.state told.scopes s.own) laid.over.objects_are told.own
+      own : Tries wanted depth Both l told.scopes s.own
+      own = subst (λ (objects : Namespace). Tries wanted depth objects l told.scopes s.own) over.objects_are told.own
 
       own_awaited : (p : List Segment) (n : ℕ) → (get s.own.awaited p ≡ Some n) ↔ (IsAwaitedByAny depth Both (methods_of t) p n × IsTrue (wanted p))
-      own_awaited = table_awaited wanted depth Both l.state Before t laid.over.links_are laid.over.notes_are told.scopes s.own own
+      own_awaited = table_awaited wanted depth Both l Before t over.links_are over.notes_are told.scopes s.own own
 
-      scope_of : (p : List Segment) → IsMissedScope l.state.notes p ↔ Among (scope_misses Before t) p
-      scope_of p = subst (λ (ns : List Notes). IsMissedScope ns p ↔ Among (scope_misses Before t) p) (sym laid.over.notes_are) ((λ x. to x.0 x.1 x.2), (λ i. (notes_on Before t, inl refl, i)))
+      scope_of : (p : List Segment) → IsMissedScope l.notes p ↔ Among (scope_misses Before t) p
+      scope_of p = subst (λ (ns : List Notes). IsMissedScope ns p ↔ Among (scope_misses Before t) p) (sym over.notes_are) ((λ x. to x.0 x.1 x.2), (λ i. (notes_on Before t, inl refl, i)))
         where
           to : (n : Notes) → Among (notes_on Before t ∷ []) n → Among n.missed p → Among (scope_misses Before t) p
           to n (inl e) i = subst (λ (k : Notes). Among k.missed p) (sym e) i
           to n (inr x) i = absurd x
 
-      scopes_are : (p : List Segment) → IsTrue (is_defined told.scopes p) ↔ (IsMissedScope l.state.notes p × IsTrue (wanted p))
-      scopes_are = from_none told.scopes (λ p. IsMissedScope l.state.notes p × IsTrue (wanted p)) told.scopes_are
+      scopes_are : (p : List Segment) → IsTrue (is_defined told.scopes p) ↔ (IsMissedScope l.notes p × IsTrue (wanted p))
+      scopes_are = from_none told.scopes (λ p. IsMissedScope l.notes p × IsTrue (wanted p)) told.scopes_are
 
       own_missed : Grows told.scopes s.own.missed (λ p. IsTableMiss depth Both t p × IsTrue (wanted p))
-      own_missed = table_missed wanted depth Both l.state Before t laid.over.links_are laid.over.notes_are told.scopes s.own own
+      own_missed = table_missed wanted depth Both l Before t over.links_are over.notes_are told.scopes s.own own
 
       abbrev IsWantedMiss : List Segment → Type 0
       IsWantedMiss p = IsMiss depth first t p × IsTrue (wanted p)
@@ -241,7 +232,7 @@ module _ (wanted : Test) (depth : ℕ) (dsdt : List ℕ) (one : State) (loads : 
       is_told = record {
         first = first;
         t = t;
-        listings = laid.over.listings;
+        listings = over.listings;
         missed_are = λ p. (missed_to p, λ x. of_wanted p (of_miss depth first t p x.0) x.1);
         awaited_are = λ p n. (awaited_to p n, λ x. awaited_of p n (of_awaited depth first t p n x.0) x.1);
         own_awaited = own_awaited;

@@ -3,6 +3,7 @@ pub mod Trying
 pub mod Telling
 pub mod Clashing
 pub mod Defining
+pub mod Touching
 pub mod Declaring
 pub mod Finding
 pub mod Joining

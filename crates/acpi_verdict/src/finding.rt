@@ -9,14 +9,15 @@ ghost use Rattle.acpi_space.specs.Spaces.{is_defined};
 ghost use Rattle.acpi_verdict.specs.steps.Declaring.{AreDefiners};
 ghost use Rattle.acpi_verdict.specs.steps.Finding.{FindsTold, FindsSsdt, AreFound};
 ghost use Rattle.acpi_verdict.specs.steps.Telling.{told_tree};
+ghost use Rattle.acpi_verdict.specs.steps.Touching.{AreTouching};
 ghost use Rattle.acpi_verdict.specs.steps.Trying.{tried_of, Tries};
 
-use crate::alone::lay;
 use crate::clashes::Clash;
 use crate::definers::Definers;
 use crate::meeting::add_user;
 use crate::telling::{told_of, try_alone};
-use crate::told::{Told, Tried};
+use crate::told::{Alone, Told};
+use crate::touching::touching_of;
 use crate::unmet::offer_unmet;
 use crate::verdicts::Satisfied;
 use acpi_declare::{Declaring, LoadFault};
@@ -62,19 +63,27 @@ fn add_ssdt<S: Space<Object>>(
     number: usize,
     ssdt: &Bytes,
     depth: Depth,
-    alone: &Tried,
+    alone: &Alone,
     definers: &Definers,
 ) -> Result<(), LoadFault>
     ensures ok { (bytes : List ℕ) (ssdts : List (List ℕ)) → HasTables depth (bytes ∷ []) (state_of (S.contents (objects_so_far dsdt.now)) dsdt.now)
         → Tries (is_defined definers.now.first) depth (state_of (S.contents (objects_so_far dsdt.now)) dsdt.now).objects
-        (state_of (S.contents (objects_so_far dsdt.now)) dsdt.now) finite.empty (tried_of alone.now)
-        → AreDefiners depth bytes ssdts definers.now → IsSsdt ssdts number ssdt.now
+        (state_of (S.contents (objects_so_far dsdt.now)) dsdt.now) finite.empty (tried_of alone.now.tried)
+        → AreTouching definers.now (tried_of alone.now.tried) alone.now.touching.items → AreDefiners depth bytes ssdts definers.now → IsSsdt ssdts number ssdt.now
         → OnOk result (FindsSsdt depth bytes ssdt.now definers.now number found.old found.new) }
     ensures err { (bytes : List ℕ) → HasTables depth (bytes ∷ []) (state_of (S.contents (objects_so_far dsdt.now)) dsdt.now)
         → LoadsAlone depth bytes ssdt.now → IfErr result (λ e. e ≡ LoadFault.Memory) }
 {
-    let laid = lay(alloc, dsdt, ssdt, depth)?;
-    let told = told_of(alloc, dsdt, &laid, depth, alone, &definers.first)?;
+    let declared = dsdt.ssdt_over(alloc, ssdt, depth)?;
+    let told = told_of(
+        alloc,
+        dsdt,
+        &declared,
+        depth,
+        alone.touches(number),
+        &alone.tried,
+        &definers.first,
+    )?;
     add_told(found, definers, number, &told)?;
     Ok(())
 }
@@ -93,12 +102,14 @@ pub(crate) fn find_all<S: Space<Object>>(
     ensures err { (bytes : List ℕ) → HasTables depth (bytes ∷ []) (state_of (S.contents (objects_so_far dsdt.now)) dsdt.now)
         → AllAlone depth bytes ssdts.now → IfErr result (λ e. e ≡ LoadFault.Memory) }
 {
-    let alone = try_alone(alloc, dsdt, depth, &definers.first)?;
+    let tried = try_alone(alloc, dsdt, depth, &definers.first)?;
+    let touching = touching_of(alloc, definers, &tried, ssdts.len())?;
+    let alone = Alone { tried, touching };
     let mut found = Found {
         clash: None,
         satisfied: BTreeSet::new(alloc),
     };
-    add_user(&mut found.satisfied, definers, 0, &alone.awaited)?;
+    add_user(&mut found.satisfied, definers, 0, &alone.tried.awaited)?;
     for (i, ssdt) in ssdts.iter().enumerate() {
         add_ssdt(
             alloc,

@@ -1,6 +1,6 @@
 //! What is told of an SSDT that is laid over a DSDT.
 
-ghost use Rattle.std.specs.Prelude.{◌≡◌};
+ghost use Rattle.std.specs.Prelude.{◌≡◌, true, get_or};
 ghost use Rattle.acpi_verdict.specs.steps.Telling.{under_of};
 ghost use Rattle.acpi_verdict.specs.steps.Trying.{tried_of};
 
@@ -26,6 +26,15 @@ pub(crate) struct Tried {
     pub(crate) awaited: MapSpace<u8>,
 }
 
+/// What the DSDT tried in its load alone, and which SSDTs declare some of it.
+#[derive(Drop)]
+pub(crate) struct Alone {
+    /// What its links and bodies tried.
+    pub(crate) tried: Tried,
+    /// Whether an SSDT declares a path of these, by its number.
+    pub(crate) touching: Vec<bool>,
+}
+
 /// What links and bodies of the DSDT tried, in its load with an SSDT.
 #[derive(Drop)]
 pub(crate) enum Under<'a> {
@@ -42,6 +51,18 @@ pub(crate) struct Told<'a> {
     pub(crate) own: Tried,
     /// What the DSDT tried.
     pub(crate) under: Under<'a>,
+}
+
+impl Alone {
+    /// Whether the SSDT of that number declares a path that the DSDT tried.
+    pub(crate) fn touches(&self, number: usize) -> bool
+        ensures { result ≡ get_or self.now.touching.items number true }
+    {
+        match self.touching.get(number) {
+            Some(touches) => *touches,
+            None => true,
+        }
+    }
 }
 
 impl Under<'_> {

@@ -1,7 +1,6 @@
 -- What is told of an SSDT that is laid over the DSDT.
-use Rattle.std.specs.Prelude.{◌≡◌, ◌⊎◌, ◌↔◌, ◌||◌, ℕ, Bool, false, List, [], ◌∷◌, IsTrue, Some}
+use Rattle.std.specs.Prelude.{◌≡◌, ◌⊎◌, ◌↔◌, ℕ, Bool, false, List, [], ◌∷◌, IsTrue, Some}
 use Rattle.std.specs.FinMap.{empty, get}
-use Rattle.std.specs.List.{list_any}
 use Rattle.acpi_name.specs.Names.{Segment}
 use Rattle.acpi_space.specs.Laws.{Among}
 use Rattle.acpi_space.specs.Spaces.{PathMap, is_defined}
@@ -66,20 +65,16 @@ under_of (code.TheVariants.Again t) = tried_of t
 abbrev pub told_tree : Told → ToldTree
 told_tree t = record { own = tried_of t.own; under = under_of t.under }
 
--- one of the paths was missed or is awaited
-abbrev pub is_touched : TriedTree → List (List Segment) → Bool
-is_touched t ps = list_any (λ p. is_defined t.missed p || is_defined t.awaited p) ps
+-- what the DSDT tried alone, where the SSDT is said to declare none of it; else what it tries with the SSDT
+abbrev pub IsUnder : Test → ℕ → State → TriedTree → Bool → State → TriedTree → Type 0
+IsUnder wanted depth dsdt alone touched s now =
+    ((touched ≡ false) × (now ≡ alone)) ⊎ Tries wanted depth s.objects dsdt empty now
 
--- what the DSDT tried alone, where the SSDT declares none of it; else what it tries with the SSDT
-abbrev pub IsUnder : Test → ℕ → State → TriedTree → LaidTree → TriedTree → Type 0
-IsUnder wanted depth dsdt alone l now =
-    ((is_touched alone l.defined ≡ false) × (now ≡ alone)) ⊎ Tries wanted depth l.state.objects dsdt empty now
-
-pub record IsToldOf (wanted : Test) (depth : ℕ) (dsdt : State) (alone : TriedTree) (l : LaidTree) (s : ToldTree) : Type 0 where
+pub record IsToldOf (wanted : Test) (depth : ℕ) (dsdt : State) (alone : TriedTree) (touched : Bool) (l : State) (s : ToldTree) : Type 0 where
   pub scopes : Paths
-  pub scopes_are : Grows empty scopes (λ p. IsMissedScope l.state.notes p × IsTrue (wanted p))
-  pub own : Tries wanted depth l.state.objects l.state scopes s.own
-  pub under : IsUnder wanted depth dsdt alone l s.under
+  pub scopes_are : Grows empty scopes (λ p. IsMissedScope l.notes p × IsTrue (wanted p))
+  pub own : Tries wanted depth l.objects l scopes s.own
+  pub under : IsUnder wanted depth dsdt alone touched l s.under
 
 -- ---- what that says of the tables
 

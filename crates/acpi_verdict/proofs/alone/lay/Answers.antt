@@ -7,7 +7,7 @@ use Rattle.acpi_space.specs.Overlays.{contents_over, lower_of}
 use Rattle.acpi_space.specs.Spaces.{PathMap, is_defined}
 use Rattle.acpi_tree.specs.declared.object.Object.{Object}
 use Rattle.acpi_declare.specs.Declaring.{objects_so_far, state_of}
-use Rattle.acpi_verdict.proofs.LaidTables.{is_laid}
+use Rattle.acpi_verdict.proofs.LaidTables.{is_over, is_laid}
 use Rattle.acpi_verdict.proofs.alone.lay.Goals as goal
 
 pub returns-in_err-declared-clause-err : goal.returns-in_err-declared-clause-err
@@ -26,4 +26,7 @@ returns-clause-ok g c = λ bytes loads.
     subst (λ (m : PathMap Object). (p : List Segment) → Among items p ↔ (IsTrue (is_defined both p) × (is_defined m p ≡ false))) c.in_ok-declared.ensures.lower
     (subst (λ (o : _). (p : List Segment) → Among items p ↔ (IsTrue (is_defined (contents_over contents o) p) × (is_defined (lower_of contents o) p ≡ false))) c.objects.ensures
     c.in_ok-defined.ensures.are) in
-    is_laid c.args.depth bytes c.args.ssdt.now (state_of below c.args.dsdt.now) (state_of both d) loads (c.in_ok-declared.ensures.ok (bytes ∷ []) loads) below both refl refl items are
+    let one = state_of below c.args.dsdt.now in
+    let now = state_of both d in
+    let over = is_over c.args.depth bytes c.args.ssdt.now one now loads (c.in_ok-declared.ensures.ok (bytes ∷ []) loads) in
+    is_laid c.args.depth bytes c.args.ssdt.now one now loads over below both refl refl items are

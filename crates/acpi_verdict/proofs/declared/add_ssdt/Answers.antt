@@ -11,9 +11,10 @@ use Rattle.acpi_verdict.proofs.declared.add_ssdt.Goals as goal
 pub loop-path-init : goal.loop-path-init
 loop-path-init g c =
     let tree = laid_tree g.O.Space.contents c.args.laid in
-    let all : into_iter_items c.into_iter-path-iterator.result ≡ map (with_args tree) tree.defined = search rules in
-    (subst (AllByRecursion (IsWithArgs tree)) (sym all) (all_with_args tree tree.defined),
-    λ now h. subst (λ (ps : List (List Segment)). AddsSsdt c.args.number ps (args_in tree) c.args.declared.now now) (ap (map (λ e. e.0)) all ∙ paths_with_args tree tree.defined) h)
+    let all : into_iter_items c.into_iter-path-iterator.result ≡ map (with_args tree) tree.defined = search rules in (
+      subst (AllByRecursion (IsWithArgs tree)) (sym all) (all_with_args tree tree.defined),
+      λ now h. subst (λ (ps : List (List Segment)). AddsSsdt c.args.number ps (args_in tree) c.args.declared.now now) (ap (map (λ e. e.0)) all ∙ paths_with_args tree tree.defined) h,
+    )
 
 pub loop-path-preserved : goal.loop-path-preserved
 loop-path-preserved g c =
@@ -25,11 +26,12 @@ loop-path-preserved g c =
     let front : into_iter_items c.loop-path.path-iterator ≡ (path, c.in-Some.args) ∷ later = search rules in
     let each : AllByRecursion (IsWithArgs tree) ((path, c.in-Some.args) ∷ later) = subst (AllByRecursion (IsWithArgs tree)) front c.loop-path.invariant.0 in
     let one : AddsSsdt number (path ∷ []) (λ p. args path) c.loop-path.declared c.add_path.new.declared =
-    subst (λ (a : Option ℕ). AddsSsdt number (path ∷ []) (λ p. a) c.loop-path.declared c.add_path.new.declared) (sym each.0) c.in_ok-add_path.ensures in
-    (each.1,
-    λ now h. c.loop-path.invariant.1 now
-    (subst (λ (ps : List (List Segment)). AddsSsdt number ps args c.loop-path.declared now) (ap (map (λ e. e.0)) (sym front))
-    (more_added number args path (map (λ e. e.0) later) c.loop-path.declared c.add_path.new.declared now one h)))
+    subst (λ (a : Option ℕ). AddsSsdt number (path ∷ []) (λ p. a) c.loop-path.declared c.add_path.new.declared) (sym each.0) c.in_ok-add_path.ensures in (
+      each.1,
+      λ now h. c.loop-path.invariant.1 now
+          (subst (λ (ps : List (List Segment)). AddsSsdt number ps args c.loop-path.declared now) (ap (map (λ e. e.0)) (sym front))
+          (more_added number args path (map (λ e. e.0) later) c.loop-path.declared c.add_path.new.declared now one h)),
+    )
 
 pub returns : goal.returns
 returns g c =

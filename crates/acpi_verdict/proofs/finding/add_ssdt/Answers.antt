@@ -1,28 +1,32 @@
+use Rattle.std.proofs.Common.{◌≡◌, [], ◌∷◌, false, sym, ◌∙◌}
 use Rattle.std.proofs.lemmas.Result.{err_from_is_err_and}
 use Rattle.acpi_declare.specs.Declaring.{objects_so_far, state_of}
 use Rattle.acpi_space.specs.Overlays.{contents_over}
 use Rattle.acpi_space.specs.Spaces.{is_defined}
-use Rattle.acpi_verdict.specs.steps.Telling.{laid_tree, told_tree}
+use Rattle.acpi_verdict.specs.steps.Telling.{told_tree}
 use Rattle.acpi_verdict.specs.steps.Trying.{tried_of}
 use Rattle.acpi_verdict.proofs.AloneLoads.{memory_alone}
-use Rattle.acpi_verdict.proofs.FoundTables.{laid_wanted, finds_ssdt}
+use Rattle.acpi_verdict.proofs.FoundTables.{quiet_there, finds_ssdt}
+use Rattle.acpi_verdict.proofs.LaidTables.{is_over}
 use Rattle.acpi_verdict.proofs.ToldTables.{is_told}
 use Rattle.acpi_verdict.proofs.finding.add_ssdt.Goals as goal
 
-pub returns-in_err-laid-clause-err : goal.returns-in_err-laid-clause-err
-returns-in_err-laid-clause-err g c = λ bytes loads alone.
+pub returns-in_err-declared-clause-err : goal.returns-in_err-declared-clause-err
+returns-in_err-declared-clause-err g c = λ bytes loads alone.
     let p = err_from_is_err_and c.from_residual.result c.from_residual.ensures.1 in
-    rw (p.1, p.2) (memory_alone c.args.depth bytes c.args.ssdt.now c.in_err-laid.field-0.0 alone (c.in_err-laid.ensures.err bytes loads))
+    rw (p.1, p.2) (memory_alone c.args.depth bytes c.args.ssdt.now c.in_err-declared.field-0.0 alone (c.in_err-declared.ensures.err (bytes ∷ []) [] loads))
 
 pub returns-clause-ok : goal.returns-clause-ok
-returns-clause-ok g c = λ bytes ssdts loads alone_is definers at.
+returns-clause-ok g c = λ bytes ssdts loads alone_is touching definers at.
+    let contents = contents_over g.S.Space.contents in
     let one = state_of (g.S.Space.contents (objects_so_far c.args.dsdt.now)) c.args.dsdt.now in
     let b = c.args.ssdt.now in
     let d = c.args.definers.now in
-    let wanted = is_defined d.first in
-    let l = laid_tree (contents_over g.S.Space.contents) c.in_ok-laid.laid in
-    let laid = c.in_ok-laid.ensures.ok bytes loads in
+    let alone = tried_of c.args.alone.now.tried in
+    let declared = c.in_ok-declared.declared in
+    let now = state_of (contents (objects_so_far declared)) declared in
+    let over = is_over c.args.depth bytes b one now loads (c.in_ok-declared.ensures.ok (bytes ∷ []) loads) in
     let told = told_tree c.in_ok-told.told in
-    let tells = is_told wanted c.args.depth bytes one loads (tried_of c.args.alone.now) alone_is b l laid told c.in_ok-told.ensures
-    (laid_wanted c.args.depth bytes ssdts d definers c.args.number b at l laid) in
+    let tells = is_told (is_defined d.first) c.args.depth bytes one loads alone alone_is b now over c.touches.result told c.in_ok-told.ensures
+    (λ (none : c.touches.result ≡ false). quiet_there c.args.depth bytes ssdts d definers c.args.number b at now over alone c.args.alone.now.touching.items touching (sym c.touches.ensures ∙ none)) in
     finds_ssdt c.args.depth bytes b d definers.firsts c.args.number told tells c.args.found.now c.add_told.new.found c.in_ok-add_told.ensures

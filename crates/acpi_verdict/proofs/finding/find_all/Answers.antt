@@ -12,8 +12,8 @@ pub loop-i-init : goal.loop-i-init
 loop-i-init g c = λ bytes loads definers.
     let one = state_of (g.S.Space.contents (objects_so_far c.args.dsdt.now)) c.args.dsdt.now in
     let d = c.args.definers.now in
-    let alone = tried_of c.in_ok-alone.alone in
-    none_found c.args.depth bytes c.args.ssdts.now d definers alone.awaited (alone_awaits (is_defined d.first) c.args.depth bytes one loads alone c.in_ok-alone.ensures) c.new.result
+    let alone = tried_of c.in_ok-tried.tried in
+    none_found c.args.depth bytes c.args.ssdts.now d definers alone.awaited (alone_awaits (is_defined d.first) c.args.depth bytes one loads alone c.in_ok-tried.ensures) c.new.result
     c.add_user.new.found c.new.ensures.empty c.in_ok-add_user.ensures (record { clash = None; satisfied = c.add_user.new.found }) refl refl
 
 pub returns-in_err-add_ssdt-clause-err : goal.returns-in_err-add_ssdt-clause-err
@@ -31,7 +31,7 @@ loop-i-preserved g c = λ bytes loads definers.
     let b = c.index-ssdts-i.result in
     let at = ssdt_at ssdts i b c.loop-i-test.true c.index-ssdts-i.is in
     one_found c.args.depth bytes ssdts c.args.definers.now definers i b at c.loop-i.found c.add_ssdt.new.found (c.loop-i.invariant bytes loads definers)
-    (c.in_ok-add_ssdt.ensures.ok bytes ssdts loads c.in_ok-alone.ensures definers at)
+    (c.in_ok-add_ssdt.ensures.ok bytes ssdts loads c.in_ok-tried.ensures c.in_ok-touching.ensures definers at)
 
 pub returns-clause-ok : goal.returns-clause-ok
 returns-clause-ok g c = λ bytes loads definers.

@@ -2,5 +2,5 @@
 use Rattle.std.proofs.Common.{rules}
 use Rattle.acpi_verdict.proofs.telling.try_under.Goals as goal
 
-pub returns-else-is_touched : goal.returns-else-is_touched
-returns-else-is_touched g c = search rules
+pub returns-else-touched : goal.returns-else-touched
+returns-else-touched g c = search rules

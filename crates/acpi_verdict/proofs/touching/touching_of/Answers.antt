@@ -1,0 +1,8 @@
+use Rattle.acpi_verdict.specs.steps.Trying.{tried_of}
+use Rattle.acpi_verdict.proofs.Marked.{all_touching}
+use Rattle.acpi_verdict.proofs.touching.touching_of.Goals as goal
+
+pub returns : goal.returns
+returns c =
+    all_touching c.args.definers.now (tried_of c.args.alone.now) c.resize.new.self.items c.mark_paths.new.touching.items c.mark_paths-2.new.touching.items c.in_ok-mark_paths.ensures
+    c.in_ok-mark_paths-2.ensures
