@@ -1,4 +1,4 @@
-use Rattle.std.proofs.Common.{◌∙◌, cond, Some, None, ap, sym}
+use Rattle.std.proofs.Common.{◌∙◌, cond, Some, None, ap, sym, rules}
 use Rattle.std.specs.Ordering.{is_eq}
 use Rattle.acpi_name.specs.Paths.{segment_cmp}
 use Rattle.acpi_space.specs.declared.children.Children.{Children}
@@ -16,3 +16,13 @@ returns-in-Empty-clause-child c = λ g.
 
 pub returns-in_err-insert_into-in-One-clause-ordered : goal.returns-in_err-insert_into-in-One-clause-ordered
 returns-in_err-insert_into-in-One-clause-ordered c = one_ascends c.in-One.first
+
+-- What a wrong body leaves open is named too: its refusal then names it, and needs no second search.
+pub returns-in-Several-clause-entries : goal.returns-in-Several-clause-entries
+returns-in-Several-clause-entries c = search rules
+
+pub returns-in-Several-clause-child : goal.returns-in-Several-clause-child
+returns-in-Several-clause-child c = search rules
+
+pub returns-in-Several-clause-err : goal.returns-in-Several-clause-err
+returns-in-Several-clause-err c = search rules
