@@ -1,1 +1,8 @@
--- Each goal is found by search.
+-- What a wrong body leaves open is named here: its refusal then names it, and needs no second search.
+use Rattle.std.proofs.Common.{rules}
+use Rattle.acpi_code.specs.steps.Fields.{unit_at}
+use Rattle.acpi_code.proofs.field.unit.Goals as goal
+
+pub returns : goal.returns
+unfolding unit_at
+returns c = search rules
