@@ -1,6 +1,7 @@
 //! What the rows expect. A comparison in a test is proved there anew, and one by these calls only once; and what fails
 //! ends the test at once, since each way back from a test with an error would be proved too.
 
+use acpi_name::Path;
 use std::alloc::Global;
 use std::fmt::Display;
 use std::process::Abort;
@@ -29,18 +30,15 @@ pub(crate) fn expect_all_printed<T: Display>(rt: &impl Abort, alloc: Global, row
     }
 }
 
-pub(crate) fn put_text(rt: &impl Abort, text: &mut String, part: &str) {
-    text.push_str(part).expect(rt, "memory");
+// One path, which is printed so.
+pub(crate) fn expect_path(rt: &impl Abort, alloc: Global, found: &[Path], wanted: &str) {
+    expect_number(rt, found.len(), 1);
+    for path in found {
+        expect_printed(rt, alloc, path, wanted);
+    }
 }
 
-// The value as it is printed, and what follows.
-pub(crate) fn put_printed<T: Display>(
-    rt: &impl Abort,
-    alloc: Global,
-    text: &mut String,
-    found: &T,
-    behind: &str,
-) {
-    let part = format!(in alloc; "{found}{behind}").expect(rt, "memory");
-    put_text(rt, text, part.as_str());
+// The path of this text.
+pub(crate) fn path_of(rt: &impl Abort, alloc: Global, text: &str) -> Path {
+    Path::from_text(alloc, text).expect(rt, "a path")
 }

@@ -1,34 +1,11 @@
 //! Worked rows, which no contract states: which fault is told.
 
-ghost use Rattle.std.specs.Prelude.{◌<◌};
-
 use crate::expect::{expect_bytes, expect_number};
 use crate::machines::limit;
 use acpi_terms::*;
 use bytes::Bytes;
-use std::alloc::{AllocError, Global};
+use std::alloc::Global;
 use std::process::Abort;
-
-// A code of each form, and of several spellings.
-const FORMS: [&[u8]; 17] = [
-    b"",
-    b"\x10\x13\x5C\x5F\x53\x42\x5F\x5B\x82\x0B\x50\x43\x49\x30\x08\x5F\x41\x44\x52\x00",
-    b"\xA0\x12\x00\x15\x5C\x46\x4F\x4F\x5F\x08\x02\x15\x5C\x42\x41\x52\x5F\x06\x00",
-    b"\x15\x5C\x46\x4F\x4F\x5F\x08\x02",
-    b"\x5B\x80\x52\x45\x47\x30\x00\x00\x0E\xFF\xFF\xFF\xFF\xFF\xFF\xFF\xFF",
-    b"\x8A\x42\x55\x46\x30\x0A\x04\x46\x4F\x4F\x5F",
-    b"\x5B\x86\x0F\x49\x44\x58\x30\x44\x41\x54\x30\x01\x41\x41\x5F\x5F\x08",
-    b"\x5B\x83\x0B\x43\x50\x55\x30\x01\x10\x08\x00\x00\x06",
-    b"\x5B\x84\x08\x50\x57\x52\x30\x00\x00\x00",
-    b"\x14\x0F\x43\x41\x4C\x4C\x00\xA4\x4D\x54\x48\x32\x0A\x01\x0A\x02",
-    b"\x5B\x87\x10\x52\x45\x47\x30\x42\x4E\x4B\x30\x01\x00\x41\x41\x5F\x5F\x08",
-    b"\x5B\x01\x4D\x54\x58\x30\x00\x5B\x02\x45\x56\x54\x30",
-    b"\x5B\x85\x05\x54\x5A\x5F\x5F\x5B\x13\x42\x55\x46\x30\x00\x01\x46\x4F\x4F\x5F",
-    b"\x08\x46\x4F\x4F\x5F\x12\x12\x04\x0D\x41\x42\x00\x5C\x42\x41\x52\x5F\x11\x03\x01\xFF\x13\x02\xFF",
-    b"\x10\xC9\x01\x00\x00\x5C\x5F\x53\x42\x5F\x5B\x82\xCE\x00\x00\x00\x50\x43\x49\x30\x08\x5F\x41\x44\x52\x00",
-    b"\x5B\x81\x19\x52\x45\x47\x30\x01\x00\x04\x01\x05\x00\x03\x01\x02\x03\x02\x11\x03\x01\xFF\x02\x46\x4F\x4F\x5F",
-    b"\xA0\x02\x00",
-];
 
 // Codes that are refused: the limit of levels, and the fault.
 const FAULTS: [(&[u8], u32, ItemReason, usize); 65] = [
@@ -219,107 +196,69 @@ const FAULTS: [(&[u8], u32, ItemReason, usize); 65] = [
     (b"\x08FOO_\x0DA\x80\x00", 1024, ItemReason::BadString, 7),
 ];
 
-// What `read_items` tells of a code.
-fn expect_fault(
-    rt: &impl Abort,
-    alloc: Global,
-    code: &[u8],
-    levels: u32,
-    fault: Option<ItemFault>,
-) {
-    assert_eq!(rt; read_items(alloc, code, limit(rt, levels)).err(), fault);
+fn expect_faults(rt: &impl Abort, alloc: Global, rows: &[(&[u8], u32, ItemReason, usize)]) {
+    for (code, levels, reason, place) in rows {
+        let (reason, place) = (*reason, *place);
+        let told = read_items(alloc, *code, limit(rt, *levels)).err();
+        assert!(rt; told == Some(ItemFault::At { reason, place }));
+    }
 }
 
 #[test]
 fn tells_faults(rt: HostRuntime) {
-    for (code, levels, reason, place) in FAULTS {
-        let fault = ItemFault::At { reason, place };
-        expect_fault(&rt, rt.alloc(), code, levels, Some(fault));
-    }
+    expect_faults(&rt, rt.alloc(), &FAULTS);
 }
 
-// The items fit, are equal to their copies, and an answer comes of the code cut at each byte.
-fn expect_form(rt: &impl Abort, alloc: Global, code: &[u8]) {
-    let items = read_items(alloc, code, limit(rt, 9)).expect(rt, "items");
-    let mut copies = Vec::new(alloc);
-    for item in &items {
-        let copy = item.copy(alloc).expect(rt, "memory");
-        copies.push(copy).expect(rt, "memory");
-    }
-    assert!(rt; items_fit(&items));
-    assert!(rt; items == copies);
-    for count in 0..code.len() {
-        let _ = read_items(alloc, &code[..count], limit(rt, 9));
-    }
-}
-
-#[test]
-fn reads_each_form(rt: HostRuntime) {
-    for code in FORMS {
-        expect_form(&rt, rt.alloc(), code);
-    }
-}
-
-// So many scopes, one in the other, each with a package length of four bytes.
-fn nested(alloc: Global, count: u32) -> Result<Vec<u8>, AllocError>
-    requires { count < 5000 }
-{
-    let mut code = Vec::new(alloc);
-    for k in 0..count {
-        let number = 6 + 7 * (count - 1 - k);
-        code.push(0x10)?;
-        code.push((0xC0 + number % 16) as u8)?;
-        code.push((number / 16 % 256) as u8)?;
-        code.push((number / 4096 % 256) as u8)?;
-        code.push(0)?;
-        code.push(0x5C)?;
-        code.push(0x00)?;
-    }
-    Ok(code)
-}
-
-#[test]
-fn reads_nested_scopes(rt: HostRuntime) {
-    let reason = ItemReason::TooDeep;
-    let place = 7168;
-    for (count, fault) in [(1024, None), (1025, Some(ItemFault::At { reason, place }))] {
-        let code = nested(rt.alloc(), count).expect(&rt, "memory");
-        expect_fault(&rt, rt.alloc(), &code, 1024, fault);
-    }
-}
-
-const INTS: [(&[u8], Option<(Int, usize)>); 4] = [
-    (b"\x0B\x34\x12\xFF", Some((Int::Word(0x1234), 3))),
-    (b"\x5B\x30", Some((Int::Revision, 2))),
-    (b"\x60", None),
-    (b"\x0C\x00\x00\x00", None),
+// External (\FOO, MethodObj, 2 arguments), Name (FOO, Package (4) { "AB", \BAR, Buffer (1) { FF }, VarPackage of FF }) and a
+// Field (REG0, ..) of each kind of element.
+const COPIED: [&[u8]; 3] = [
+    b"\x15\\FOO_\x08\x02",
+    b"\x08FOO_\x12\x12\x04\x0DAB\x00\\BAR_\x11\x03\x01\xFF\x13\x02\xFF",
+    b"\x5B\x81\x19REG0\x01\x00\x04\x01\x05\x00\x03\x01\x02\x03\x02\x11\x03\x01\xFF\x02FOO_",
 ];
+
+fn expect_copied(rt: &impl Abort, alloc: Global, item: &Item) {
+    let copy = item.copy(alloc).expect(rt, "memory");
+    assert!(rt; copy == *item);
+}
+
+fn expect_copies(rt: &impl Abort, alloc: Global, codes: &[&[u8]]) {
+    for code in codes {
+        let items = read_items(alloc, *code, limit(rt, 4)).expect(rt, "items");
+        assert!(rt; items_fit(&items));
+        for item in &items {
+            expect_copied(rt, alloc, item);
+        }
+    }
+}
+
+#[test]
+fn copies_items(rt: HostRuntime) {
+    expect_copies(&rt, rt.alloc(), &COPIED);
+}
 
 #[test]
 fn reads_parts(rt: HostRuntime) {
-    for (bytes, int) in INTS {
-        assert_eq!(rt; read_int(bytes), int);
-    }
-    for (levels, is_limit) in [(0, false), (1, true), (4096, true), (4097, false)] {
-        assert!(rt; Depth::new(levels).is_some() == is_limit);
-    }
+    assert!(rt; read_int(b"\x0B\x34\x12\xFF") == Some((Int::Word(0x1234), 3)));
     let (elem, used) = read_elem(rt.alloc(), b"AA__\x41\x01\xFF").expect(&rt, "an element");
     expect_number(&rt, used, 6);
     assert!(rt; matches!(&elem, FieldElem::Unit(seg, 17) if seg.bytes() == *b"AA__"));
+}
+
+// The fault of an element counts from its first byte.
+#[test]
+fn tells_the_fault_of_an_element(rt: HostRuntime) {
     let reason = ItemReason::Computed;
     let fault = read_elem(rt.alloc(), b"\x02\x11\x05FOO_").err();
-    assert_eq!(rt; fault, Some(ItemFault::At { reason, place: 3 }));
+    assert!(rt; fault == Some(ItemFault::At { reason, place: 3 }));
 }
 
 #[test]
 fn shares_method_code(rt: HostRuntime) {
     let code = Bytes::from_static(b"\x14\x08FOO_\x00\xA4\x01");
     let items = read_items_shared(rt.alloc(), &code, limit(&rt, 1)).expect(&rt, "items");
-    expect_number(&rt, items.len(), 1);
-    match items.get(0) {
-        Some(Item::Method { code, .. }) => {
-            expect_bytes(&rt, code.as_slice(), [0xA4, 0x01].as_slice());
-        }
+    match items.as_slice() {
+        [Item::Method { code, .. }] => expect_bytes(&rt, code.as_slice(), b"\xA4\x01"),
         _ => assert!(rt; false, "no method"),
     }
 }
@@ -329,7 +268,5 @@ fn copies_objects(rt: HostRuntime) {
     let method = Object::Method(0x0A);
     assert!(rt; method.args() == 2);
     assert!(rt; method.copy(rt.alloc()).expect(&rt, "memory") == method);
-    assert!(rt; method != Object::Mutex(0x0A));
     assert!(rt; Object::Root.opens_scope());
-    assert!(rt; !Object::Event.opens_scope());
 }

@@ -1,5 +1,6 @@
-//! Worked examples of the libraries, each by the public calls of one: rows whose answer is known from outside, and
-//! texts that are printed. They test what no contract states; nothing here is called from elsewhere.
+//! Worked examples of the libraries: each public call is made here, or by a call that is made here, over both kinds of
+//! space, and has an answer where memory is there. Rows stand here for what no contract states: which of several true
+//! faults of items is told, and texts that are printed. Nothing here is called from elsewhere.
 #![tactic(auto)]
 
 #[cfg(test)]

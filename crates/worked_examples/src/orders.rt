@@ -1,16 +1,14 @@
 //! A worked list of SSDTs over both kinds of space: the verdict on them, and which External they satisfy. What is told of
 //! other lists, and what they load to in every order, are rows of the program.
 
-use crate::expect::{expect_number, expect_text, put_printed};
+use crate::expect::expect_printed;
 use crate::machines::{MTH2, OTHER, dsdt_of, limit, slices_of, ssdts_of};
+use crate::singles::AWAITS;
 use acpi_load::*;
 use acpi_space::{MapSpace, Space, TreeSpace};
-use acpi_terms::{Depth, Object};
+use acpi_terms::Object;
 use std::alloc::Global;
 use std::process::Abort;
-
-// External (\MTH2, MethodObj, 2 arguments) and Method (CALL) { Return (MTH2 (1, 2)) }
-const AWAITS: &[u8] = b"\x15\\MTH2\x08\x02\x14\x0FCALL\x00\xA4MTH2\x0A\x01\x0A\x02";
 
 // They commute, and the third SSDT declares what the second awaits.
 const SSDTS: [&[u8]; 3] = [OTHER, AWAITS, MTH2];
@@ -28,15 +26,13 @@ fn expect_satisfied<S: Space<Object>>(rt: &impl Abort, alloc: Global) {
     let ssdts = ssdts_of(rt, alloc, &SSDTS);
     let slices = slices_of(rt, alloc, &ssdts);
     let found = satisfied::<S>(alloc, dsdt.as_slice(), &slices, limit(rt, 1024));
-    let found = found.expect(rt, "the Externals");
-    expect_number(rt, found.len(), 1);
-    let mut text = String::new(alloc);
-    for external in &found {
-        put_printed(rt, alloc, &mut text, &external.user, " ");
-        put_printed(rt, alloc, &mut text, &external.definer, " ");
-        put_printed(rt, alloc, &mut text, &external.path, "");
+    match found.expect(rt, "the Externals").as_slice() {
+        [external] => {
+            assert!(rt; external.user == 2 && external.definer == 3);
+            expect_printed(rt, alloc, &external.path, "\\MTH2");
+        }
+        _ => assert!(rt; false, "not one External"),
     }
-    expect_text(rt, text.as_str(), "2 3 \\MTH2");
 }
 
 #[test]
