@@ -7,6 +7,7 @@
 
 mod copies;
 mod declaration_copies;
+mod declaration_same;
 mod fits;
 mod item_copies;
 mod item_same;

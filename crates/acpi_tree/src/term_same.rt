@@ -12,6 +12,7 @@ ghost use Rattle.acpi_tree.specs.TermEqual.{term_eq, terms_eq};
 ghost use Rattle.acpi_tree.specs.steps.Equality.{equivalence};
 ghost use Rattle.acpi_tree.specs.steps.TermEquality.{term_tells};
 
+use crate::declaration_same::{is_event, is_field, is_index_field, is_mutex};
 use crate::op::Op;
 use crate::same::{same_fields, same_int, same_width};
 use crate::term::{Decl, Operand, Term};
@@ -27,10 +28,7 @@ fn same_term(a: &Term, b: &Term) -> bool
         Term::Str(text) => is_string(text, b),
         Term::Buffer(size, bytes) => is_buffer(size, bytes, b),
         Term::Package(count, elems) => is_package(*count, elems, b),
-        Term::VarPackage(count, elems) => match b {
-            Term::VarPackage(v, ts) => same_term(count, v) && same_terms(elems, ts),
-            _ => false,
-        },
+        Term::VarPackage(count, elems) => is_var_package(count, elems, b),
         Term::Local(number) => is_local(*number, b),
         Term::Arg(number) => is_arg(*number, b),
         Term::Debug => is_debug(b),
@@ -38,20 +36,9 @@ fn same_term(a: &Term, b: &Term) -> bool
         Term::Ref(name) => is_reference(name, b),
         Term::Call(name, args) => is_call(name, args, b),
         Term::Op(op, operands) => is_operator(*op, operands, b),
-        Term::If(test, then, None) => match b {
-            Term::If(v, ts, None) => same_term(test, v) && same_terms(then, ts),
-            _ => false,
-        },
-        Term::If(test, then, Some(other)) => match b {
-            Term::If(v, ts, Some(us)) => {
-                same_terms(other, us) && same_term(test, v) && same_terms(then, ts)
-            }
-            _ => false,
-        },
-        Term::While(test, then) => match b {
-            Term::While(v, ts) => same_term(test, v) && same_terms(then, ts),
-            _ => false,
-        },
+        Term::If(test, then, None) => is_if(test, then, b),
+        Term::If(test, then, Some(other)) => is_if_else(test, then, other, b),
+        Term::While(test, then) => is_while(test, then, b),
         Term::Declare(decl) => is_declaration(decl, b),
     }
 }
@@ -137,6 +124,16 @@ fn is_package(count: u8, elems: &[Term], term: &Term) -> bool
     }
 }
 
+#[cycle(same_term)]
+fn is_var_package(count: &Term, elems: &[Term], term: &Term) -> bool
+    ensures { result ≡ term_eq (terms.var_pkg (term_view count.now) (terms_tree elems.now)) (term_view term.now) }
+{
+    match term {
+        Term::VarPackage(v, ts) => same_term(count, v) && same_terms(elems, ts),
+        _ => false,
+    }
+}
+
 fn is_local(number: u8, term: &Term) -> bool
     ensures { result ≡ term_eq (terms.local number) (term_view term.now) }
 {
@@ -180,6 +177,38 @@ fn is_operator(op: Op, operands: &[Operand], term: &Term) -> bool
 {
     match term {
         Term::Op(o, ts) => op == *o && same_operands(operands, ts),
+        _ => false,
+    }
+}
+
+#[cycle(same_term)]
+fn is_if(test: &Term, then: &[Term], term: &Term) -> bool
+    ensures { result ≡ term_eq (terms.if_do (term_view test.now) (terms_tree «then».now) terms.no_else) (term_view term.now) }
+{
+    match term {
+        Term::If(v, ts, None) => same_term(test, v) && same_terms(then, ts),
+        _ => false,
+    }
+}
+
+#[cycle(same_term)]
+fn is_if_else(test: &Term, then: &[Term], other: &[Term], term: &Term) -> bool
+    ensures { result ≡ term_eq (terms.if_do (term_view test.now) (terms_tree «then».now) (terms.else_do (terms_tree other.now))) (term_view term.now) }
+{
+    match term {
+        Term::If(v, ts, Some(us)) => {
+            same_terms(other, us) && same_term(test, v) && same_terms(then, ts)
+        }
+        _ => false,
+    }
+}
+
+#[cycle(same_term)]
+fn is_while(test: &Term, then: &[Term], term: &Term) -> bool
+    ensures { result ≡ term_eq (terms.while_do (term_view test.now) (terms_tree «then».now)) (term_view term.now) }
+{
+    match term {
+        Term::While(v, ts) => same_term(test, v) && same_terms(then, ts),
         _ => false,
     }
 }
@@ -236,43 +265,13 @@ fn same_decl(a: &Decl, b: &Decl) -> bool
             source,
             index,
             name,
-        } => match b {
-            Decl::Create {
-                width: w,
-                source: s,
-                index: i,
-                name: n,
-            } => same_width(*width, *w) && same_term(source, s) && same_term(index, i) && name == n,
-            Decl::Name(..) => false,
-            Decl::CreateField { .. } => false,
-            Decl::Mutex(..) => false,
-            Decl::Event(_) => false,
-            Decl::Region { .. } => false,
-            Decl::Field { .. } => false,
-            Decl::IndexField { .. } => false,
-            Decl::BankField { .. } => false,
-        },
+        } => is_create(*width, source, index, name, b),
         Decl::CreateField {
             source,
             index,
             bits,
             name,
-        } => match b {
-            Decl::CreateField {
-                source: s,
-                index: i,
-                bits: c,
-                name: n,
-            } => same_term(source, s) && same_term(index, i) && same_term(bits, c) && name == n,
-            Decl::Name(..) => false,
-            Decl::Create { .. } => false,
-            Decl::Mutex(..) => false,
-            Decl::Event(_) => false,
-            Decl::Region { .. } => false,
-            Decl::Field { .. } => false,
-            Decl::IndexField { .. } => false,
-            Decl::BankField { .. } => false,
-        },
+        } => is_create_field(source, index, bits, name, b),
         Decl::Mutex(name, flags) => is_mutex(name, *flags, b),
         Decl::Event(name) => is_event(name, b),
         Decl::Region {
@@ -280,22 +279,7 @@ fn same_decl(a: &Decl, b: &Decl) -> bool
             space,
             offset,
             length,
-        } => match b {
-            Decl::Region {
-                name: n,
-                space: s,
-                offset: o,
-                length: l,
-            } => name == n && *space == *s && same_term(offset, o) && same_term(length, l),
-            Decl::Name(..) => false,
-            Decl::Create { .. } => false,
-            Decl::CreateField { .. } => false,
-            Decl::Mutex(..) => false,
-            Decl::Event(_) => false,
-            Decl::Field { .. } => false,
-            Decl::IndexField { .. } => false,
-            Decl::BankField { .. } => false,
-        },
+        } => is_region(name, *space, offset, length, b),
         Decl::Field {
             region,
             flags,
@@ -334,75 +318,76 @@ fn is_name(name: &Name, data: &Term, decl: &Decl) -> bool
     }
 }
 
-fn is_mutex(name: &Name, flags: u8, decl: &Decl) -> bool
-    ensures { result ≡ term_eq (terms.declare named.Mutex terms.no_terms name.now (terms.more (terms.raw 1 flags) terms.no_terms)) (decl_view decl.now) }
+#[cycle(same_term)]
+fn is_create(width: Width, source: &Term, index: &Term, name: &Name, decl: &Decl) -> bool
+    ensures { result ≡ term_eq
+        (terms.declare (named.Create width) (terms.more (term_view source.now) (terms.more (term_view index.now) terms.no_terms)) name.now terms.no_terms)
+        (decl_view decl.now) }
 {
     match decl {
-        Decl::Mutex(n, f) => name == n && flags == *f,
-        Decl::Name(..) => false,
-        Decl::Create { .. } => false,
-        Decl::CreateField { .. } => false,
-        Decl::Event(_) => false,
-        Decl::Region { .. } => false,
-        Decl::Field { .. } => false,
-        Decl::IndexField { .. } => false,
-        Decl::BankField { .. } => false,
-    }
-}
-
-fn is_event(name: &Name, decl: &Decl) -> bool
-    ensures { result ≡ term_eq (terms.declare named.Event terms.no_terms name.now terms.no_terms) (decl_view decl.now) }
-{
-    match decl {
-        Decl::Event(n) => name == n,
-        Decl::Name(..) => false,
-        Decl::Create { .. } => false,
-        Decl::CreateField { .. } => false,
-        Decl::Mutex(..) => false,
-        Decl::Region { .. } => false,
-        Decl::Field { .. } => false,
-        Decl::IndexField { .. } => false,
-        Decl::BankField { .. } => false,
-    }
-}
-
-fn is_field(region: &Name, flags: u8, elems: &[FieldElem], decl: &Decl) -> bool
-    ensures { result ≡ term_eq (terms.declare_units units.Field (region.now ∷ []) (terms.more (terms.raw 1 flags) terms.no_terms) (fields_view elems.now)) (decl_view decl.now) }
-{
-    match decl {
-        Decl::Field {
-            region: r,
-            flags: f,
-            elems: es,
-        } => region == r && flags == *f && same_fields(elems, es),
-        Decl::Name(..) => false,
-        Decl::Create { .. } => false,
-        Decl::CreateField { .. } => false,
-        Decl::Mutex(..) => false,
-        Decl::Event(_) => false,
-        Decl::Region { .. } => false,
-        Decl::IndexField { .. } => false,
-        Decl::BankField { .. } => false,
-    }
-}
-
-fn is_index_field(index: &Name, datum: &Name, flags: u8, elems: &[FieldElem], decl: &Decl) -> bool
-    ensures { result ≡ term_eq (terms.declare_units units.IndexField (index.now ∷ datum.now ∷ []) (terms.more (terms.raw 1 flags) terms.no_terms) (fields_view elems.now)) (decl_view decl.now) }
-{
-    match decl {
-        Decl::IndexField {
+        Decl::Create {
+            width: w,
+            source: s,
             index: i,
-            datum: d,
-            flags: f,
-            elems: es,
-        } => index == i && datum == d && flags == *f && same_fields(elems, es),
+            name: n,
+        } => same_width(width, *w) && same_term(source, s) && same_term(index, i) && name == n,
         Decl::Name(..) => false,
-        Decl::Create { .. } => false,
         Decl::CreateField { .. } => false,
         Decl::Mutex(..) => false,
         Decl::Event(_) => false,
         Decl::Region { .. } => false,
         Decl::Field { .. } => false,
+        Decl::IndexField { .. } => false,
+        Decl::BankField { .. } => false,
+    }
+}
+
+#[cycle(same_term)]
+fn is_create_field(source: &Term, index: &Term, bits: &Term, name: &Name, decl: &Decl) -> bool
+    ensures { result ≡ term_eq
+        (terms.declare named.CreateField
+            (terms.more (term_view source.now) (terms.more (term_view index.now) (terms.more (term_view bits.now) terms.no_terms))) name.now terms.no_terms)
+        (decl_view decl.now) }
+{
+    match decl {
+        Decl::CreateField {
+            source: s,
+            index: i,
+            bits: c,
+            name: n,
+        } => same_term(source, s) && same_term(index, i) && same_term(bits, c) && name == n,
+        Decl::Name(..) => false,
+        Decl::Create { .. } => false,
+        Decl::Mutex(..) => false,
+        Decl::Event(_) => false,
+        Decl::Region { .. } => false,
+        Decl::Field { .. } => false,
+        Decl::IndexField { .. } => false,
+        Decl::BankField { .. } => false,
+    }
+}
+
+#[cycle(same_term)]
+fn is_region(name: &Name, space: u8, offset: &Term, length: &Term, decl: &Decl) -> bool
+    ensures { result ≡ term_eq
+        (terms.declare named.Region terms.no_terms name.now
+            (terms.more (terms.raw 1 space) (terms.more (term_view offset.now) (terms.more (term_view length.now) terms.no_terms))))
+        (decl_view decl.now) }
+{
+    match decl {
+        Decl::Region {
+            name: n,
+            space: s,
+            offset: o,
+            length: l,
+        } => name == n && space == *s && same_term(offset, o) && same_term(length, l),
+        Decl::Name(..) => false,
+        Decl::Create { .. } => false,
+        Decl::CreateField { .. } => false,
+        Decl::Mutex(..) => false,
+        Decl::Event(_) => false,
+        Decl::Field { .. } => false,
+        Decl::IndexField { .. } => false,
         Decl::BankField { .. } => false,
     }
 }

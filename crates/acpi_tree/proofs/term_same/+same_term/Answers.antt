@@ -42,3 +42,74 @@ same_operands-returns t c =
     let all : length c.args.a.now ≤ c.loop-i.i = grind arith in
     sym (same_operands_alike c.args.a.now c.args.b.now
     ∙ alike_all (λ x y. term_eq (operand_view x) (operand_view y)) c.args.a.now c.args.b.now c.loop-i.i all same c.loop-i.invariant)
+
+-- A form is above each of its parts.
+
+pub is_buffer-same_term-requires : goal.is_buffer-same_term-requires
+is_buffer-same_term-requires t c = (omega arith, tt)
+
+pub is_package-same_terms-requires : goal.is_package-same_terms-requires
+is_package-same_terms-requires t c = (omega arith, tt)
+
+pub is_var_package-same_term-requires : goal.is_var_package-same_term-requires
+is_var_package-same_term-requires t c = (omega arith, tt)
+
+pub is_var_package-same_terms-requires : goal.is_var_package-same_terms-requires
+is_var_package-same_terms-requires t c = (omega arith, tt)
+
+pub is_call-same_terms-requires : goal.is_call-same_terms-requires
+is_call-same_terms-requires t c = (omega arith, tt)
+
+pub is_operator-same_operands-requires : goal.is_operator-same_operands-requires
+is_operator-same_operands-requires t c = (omega arith, tt)
+
+pub is_if-same_term-requires : goal.is_if-same_term-requires
+is_if-same_term-requires t c = (omega arith, tt)
+
+pub is_if-same_terms-requires : goal.is_if-same_terms-requires
+is_if-same_terms-requires t c = (omega arith, tt)
+
+pub is_if_else-same_terms-requires : goal.is_if_else-same_terms-requires
+is_if_else-same_terms-requires t c = (omega arith, tt)
+
+pub is_if_else-same_term-requires : goal.is_if_else-same_term-requires
+is_if_else-same_term-requires t c = (omega arith, tt)
+
+pub is_if_else-same_terms-requires-then-same_term : goal.is_if_else-same_terms-requires-then-same_term
+is_if_else-same_terms-requires-then-same_term t c = (omega arith, tt)
+
+pub is_while-same_term-requires : goal.is_while-same_term-requires
+is_while-same_term-requires t c = (omega arith, tt)
+
+pub is_while-same_terms-requires : goal.is_while-same_terms-requires
+is_while-same_terms-requires t c = (omega arith, tt)
+
+pub is_declaration-same_decl-requires : goal.is_declaration-same_decl-requires
+is_declaration-same_decl-requires t c = (omega arith, tt)
+
+pub is_name-same_term-requires : goal.is_name-same_term-requires
+is_name-same_term-requires t c = (omega arith, tt)
+
+pub is_create-same_term-requires : goal.is_create-same_term-requires
+is_create-same_term-requires t c = (omega arith, tt)
+
+pub is_create-same_term-requires-then-same_term : goal.is_create-same_term-requires-then-same_term
+is_create-same_term-requires-then-same_term t c = (omega arith, tt)
+
+pub is_create_field-same_term-requires : goal.is_create_field-same_term-requires
+is_create_field-same_term-requires t c = (omega arith, tt)
+
+pub is_create_field-same_term-requires-then-same_term : goal.is_create_field-same_term-requires-then-same_term
+is_create_field-same_term-requires-then-same_term t c = (omega arith, tt)
+
+pub is_create_field-same_term-requires-then-same_term-2 : goal.is_create_field-same_term-requires-then-same_term-2
+is_create_field-same_term-requires-then-same_term-2 t c = (omega arith, tt)
+
+pub is_region-same_term-requires : goal.is_region-same_term-requires
+is_region-same_term-requires t c = (omega arith, tt)
+
+pub is_region-same_term-requires-then-same_term : goal.is_region-same_term-requires-then-same_term
+is_region-same_term-requires-then-same_term t c = (omega arith, tt)
+
+pub is_bank_field-same_term-requires : goal.is_bank_field-same_term-requires
+is_bank_field-same_term-requires t c = (omega arith, tt)
