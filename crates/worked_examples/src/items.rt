@@ -243,6 +243,7 @@ fn reads_parts(rt: HostRuntime) {
     let (elem, used) = read_elem(rt.alloc(), b"AA__\x41\x01\xFF").expect(&rt, "an element");
     expect_number(&rt, used, 6);
     assert!(rt; matches!(&elem, FieldElem::Unit(seg, 17) if seg.bytes() == *b"AA__"));
+    assert!(rt; Depth::new(0).is_none() && Depth::new(4097).is_none());
 }
 
 // The fault of an element counts from its first byte.

@@ -38,6 +38,25 @@ fn copies_and_writes_a_name(rt: HostRuntime) {
     expect_bytes(&rt, written.as_slice(), b"FOO_");
 }
 
+// What begins no name.
+const REFUSED: [(&[u8], NameFault); 3] = [
+    (b"\x2F\x00", NameFault::ZeroCount),
+    (b"^", NameFault::Cut),
+    (b"\\^", NameFault::BadChar),
+];
+
+fn expect_refused(rt: &impl Abort, rows: &[(&[u8], NameFault)]) {
+    for (bytes, fault) in rows {
+        assert!(rt; read_name(*bytes).err() == Some(*fault));
+    }
+}
+
+#[test]
+fn refuses_names(rt: HostRuntime) {
+    expect_refused(&rt, &REFUSED);
+    assert!(rt; read_name(&[0x5E; 257]).err() == Some(NameFault::TooManyUps));
+}
+
 const FAULTS: [(NameFault, &str); 4] = [
     (NameFault::Cut, "N1 Cut"),
     (NameFault::BadChar, "N2 BadChar"),

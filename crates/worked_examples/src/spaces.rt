@@ -30,17 +30,69 @@ fn expect_pairs<S: Space<usize>>(rt: &impl Abort, alloc: Global) {
     }
 }
 
-// A name that is found past one place.
-fn expect_search<S: Space<usize>>(rt: &impl Abort, alloc: Global) {
-    let space: S = space_of(rt, alloc, &["\\FOO_"]);
-    let scope = path_of(rt, alloc, "\\_SB_");
-    let (name, _) = read_name(b"FOO_").expect(rt, "a name");
-    match search(alloc, &space, &scope, name) {
-        Ok(Found::At(path)) => expect_printed(rt, alloc, &path, "\\FOO_"),
-        _ => assert!(rt; false, "not found"),
+// Names from \_SB_.PCI0.MTH1: what a search answers, and how many paths it misses, and one of them.
+const SEARCHES: [(&[u8], Result<Option<&str>, SearchFault>, usize, &str); 3] = [
+    (b"FOO_", Ok(Some("\\_SB_.FOO_")), 2, "\\_SB_.PCI0.MTH1.FOO_"),
+    (b"^FOO_", Ok(None), 1, "\\_SB_.PCI0.FOO_"),
+    (b"^^^^FOO_", Err(SearchFault::AboveRoot), 0, ""),
+];
+
+fn expect_answer(
+    rt: &impl Abort,
+    alloc: Global,
+    found: Result<Found, SearchFault>,
+    wanted: &Result<Option<&str>, SearchFault>,
+) {
+    match (found, wanted) {
+        (Ok(Found::At(path)), Ok(Some(text))) => expect_printed(rt, alloc, &path, *text),
+        (Ok(Found::Missing), Ok(None)) => {}
+        (Err(SearchFault::AboveRoot), Err(SearchFault::AboveRoot)) => {}
+        _ => assert!(rt; false, "another answer"),
     }
-    let missed = misses(alloc, &space, &scope, name).expect(rt, "the misses");
-    expect_path(rt, alloc, &missed, "\\_SB_.FOO_");
+}
+
+fn expect_misses(
+    rt: &impl Abort,
+    alloc: Global,
+    missed: Result<Vec<Path>, SearchFault>,
+    count: usize,
+    first: &str,
+) {
+    match missed {
+        Ok(paths) => {
+            expect_number(rt, paths.len(), count);
+            expect_printed(rt, alloc, paths.get(0).expect(rt, "a path"), first);
+        }
+        Err(fault) => assert!(rt; count == 0 && fault == SearchFault::AboveRoot),
+    }
+}
+
+fn expect_search<S: Space<usize>>(rt: &impl Abort, alloc: Global) {
+    let paths = [
+        "\\",
+        "\\_SB_",
+        "\\_SB_.PCI0",
+        "\\_SB_.PCI0.MTH1",
+        "\\_SB_.FOO_",
+    ];
+    let space: S = space_of(rt, alloc, &paths);
+    let scope = path_of(rt, alloc, "\\_SB_.PCI0.MTH1");
+    for (bytes, wanted, count, first) in &SEARCHES {
+        let (name, _) = read_name(*bytes).expect(rt, "a name");
+        expect_answer(rt, alloc, search(alloc, &space, &scope, name), wanted);
+        let missed = misses(alloc, &space, &scope, name);
+        expect_misses(rt, alloc, missed, *count, *first);
+    }
+}
+
+// A space with one pair: a path above it is none.
+fn expect_one_pair<S: Space<usize>>(rt: &impl Abort, alloc: Global) {
+    let space: S = space_of(rt, alloc, &["\\_SB_.PCI0"]);
+    let scope = path_of(rt, alloc, "\\_SB_");
+    assert!(rt; space.get(&scope).is_none());
+    expect_number(rt, space.pairs().expect(rt, "memory").len(), 1);
+    expect_nearest(rt, &space, &scope, *b"PCI0", Some(1));
+    expect_nearest(rt, &space, &scope, *b"FOO_", None);
 }
 
 // The depth of the nearest scope with such a segment.
@@ -76,6 +128,7 @@ fn expect_laid_over<S: Space<usize>>(rt: &impl Abort, alloc: Global) {
 fn holds_in_a_map(rt: HostRuntime) {
     expect_pairs::<MapSpace<usize>>(&rt, rt.alloc());
     expect_search::<MapSpace<usize>>(&rt, rt.alloc());
+    expect_one_pair::<MapSpace<usize>>(&rt, rt.alloc());
     expect_laid_over::<MapSpace<usize>>(&rt, rt.alloc());
 }
 
@@ -83,6 +136,7 @@ fn holds_in_a_map(rt: HostRuntime) {
 fn holds_in_a_tree(rt: HostRuntime) {
     expect_pairs::<TreeSpace<usize>>(&rt, rt.alloc());
     expect_search::<TreeSpace<usize>>(&rt, rt.alloc());
+    expect_one_pair::<TreeSpace<usize>>(&rt, rt.alloc());
     expect_laid_over::<TreeSpace<usize>>(&rt, rt.alloc());
 }
 

@@ -35,11 +35,28 @@ fn reads_one_table_after_another(rt: HostRuntime) {
     assert!(rt; none.is_none());
 }
 
+// The fault of reading a table, and the bytes that are left behind what was read.
+fn expect_refused(rt: &impl Abort, alloc: Global, bytes: &[u8], fault: TableFault, left: usize) {
+    let mut source = SliceSource::new(bytes);
+    let found = read_table(alloc, &mut source).err();
+    assert!(rt; found == Some(ReadFault::Table(fault)));
+    expect_number(rt, source.rest().len(), left);
+}
+
+// A header without code, with a length of 35 and of 16 MB, before a DSDT and before nothing.
 #[test]
 fn refuses_what_is_no_table(rt: HostRuntime) {
-    let mut source = SliceSource::new(&DSDT[..35]);
-    let fault = read_table(rt.alloc(), &mut source).err();
-    assert!(rt; fault == Some(ReadFault::Table(TableFault::Short)));
+    let mut bytes = [0; 92];
+    bytes[..4].copy_from_slice(b"DSDT");
+    bytes[4] = 0x23;
+    bytes[8] = 2;
+    bytes[9] = 0xAB;
+    bytes[36..].copy_from_slice(&DSDT);
+    expect_refused(&rt, rt.alloc(), &bytes, TableFault::BadLength, 56);
+    bytes[4] = 0;
+    bytes[7] = 1;
+    expect_refused(&rt, rt.alloc(), &bytes[..36], TableFault::Cut, 0);
+    expect_refused(&rt, rt.alloc(), &DSDT[..35], TableFault::Short, 0);
 }
 
 // A device that gives the bytes of one DSDT after another, so many at a time, and fails at one read.
