@@ -1,1 +1,7 @@
--- Each goal is found by search.
+-- What a wrong body leaves open is named here: its refusal then names it, and needs no second search.
+use Rattle.std.proofs.Common.{arith}
+use Rattle.std.proofs.lemmas.Grind.{common_steps}
+use Rattle.acpi_name.proofs.name.NameRef.own.Goals as goal
+
+pub returns : goal.returns
+returns c = grind (arith, common_steps)
