@@ -65,7 +65,13 @@ pub(crate) fn is_field(region: &Name, flags: u8, elems: &[FieldElem], decl: &Dec
     }
 }
 
-pub(crate) fn is_index_field(index: &Name, datum: &Name, flags: u8, elems: &[FieldElem], decl: &Decl) -> bool
+pub(crate) fn is_index_field(
+    index: &Name,
+    datum: &Name,
+    flags: u8,
+    elems: &[FieldElem],
+    decl: &Decl,
+) -> bool
     ensures { result ≡ term_eq (terms.declare_units units.IndexField (index.now ∷ datum.now ∷ []) (terms.more (terms.raw 1 flags) terms.no_terms) (fields_view elems.now)) (decl_view decl.now) }
 {
     match decl {

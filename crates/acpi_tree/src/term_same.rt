@@ -346,7 +346,7 @@ fn is_create(width: Width, source: &Term, index: &Term, name: &Name, decl: &Decl
 fn is_create_field(source: &Term, index: &Term, bits: &Term, name: &Name, decl: &Decl) -> bool
     ensures { result ≡ term_eq
         (terms.declare named.CreateField
-            (terms.more (term_view source.now) (terms.more (term_view index.now) (terms.more (term_view bits.now) terms.no_terms))) name.now terms.no_terms)
+        (terms.more (term_view source.now) (terms.more (term_view index.now) (terms.more (term_view bits.now) terms.no_terms))) name.now terms.no_terms)
         (decl_view decl.now) }
 {
     match decl {
@@ -371,7 +371,7 @@ fn is_create_field(source: &Term, index: &Term, bits: &Term, name: &Name, decl: 
 fn is_region(name: &Name, space: u8, offset: &Term, length: &Term, decl: &Decl) -> bool
     ensures { result ≡ term_eq
         (terms.declare named.Region terms.no_terms name.now
-            (terms.more (terms.raw 1 space) (terms.more (term_view offset.now) (terms.more (term_view length.now) terms.no_terms))))
+        (terms.more (terms.raw 1 space) (terms.more (term_view offset.now) (terms.more (term_view length.now) terms.no_terms))))
         (decl_view decl.now) }
 {
     match decl {

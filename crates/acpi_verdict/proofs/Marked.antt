@@ -79,8 +79,8 @@ module _ (others : BTreeMap (List Segment) (Vec Definer)) (p : List Segment) whe
 pub no_paths_marked : {V : Type 0} (d : Definers) (flags : List Bool) → Marks flags flags (IsNotedAtAny {V = V} d [])
 no_paths_marked {V = V} d flags = marks_none flags (IsNotedAtAny {V = V} d []) (λ x h. h.2)
 
-pub more_paths_marked : {V : Type 0} (d : Definers) (p : List Segment) (v : V) (es : List (List Segment × V)) (old one two new : List Bool) → Marks old one (IsFirst d p) → Marks one two (IsOther d.others p)
-    → Marks two new (IsNotedAtAny d es) → Marks old new (IsNotedAtAny d ((p, v) ∷ es))
+pub more_paths_marked : {V : Type 0} (d : Definers) (p : List Segment) (v : V) (es : List (List Segment × V)) (old one two new : List Bool)
+    → Marks old one (IsFirst d p) → Marks one two (IsOther d.others p) → Marks two new (IsNotedAtAny d es) → Marks old new (IsNotedAtAny d ((p, v) ∷ es))
 more_paths_marked {V} d p v es old one two new first others rest =
     marks_both (IsFirst d p) (λ x. IsOther d.others p x ⊎ IsNotedAtAny d es x) (IsNotedAtAny d ((p, v) ∷ es)) old one new parts first
     (marks_both (IsOther d.others p) (IsNotedAtAny d es) (λ x. IsOther d.others p x ⊎ IsNotedAtAny d es x) one two new (λ x h. h) others rest)
@@ -106,7 +106,8 @@ either false b e = inr e
 noted_at_any : {V : Type 0} (d : Definers) (m : PathMap V) (p : List Segment) (x : Definer) → is_defined m p ≡ true → IsNoted d p x → IsNotedAtAny d (entries m) x
 noted_at_any d m p x e noted = let r = value_there (get m p) e in (p, r.0, (pair_is m p r.0).1 r.1, noted)
 
-pub all_touching : (d : Definers) (t : TriedTree) (old mid new : List Bool) → Marks old mid (IsNotedAtAny d (entries t.missed)) → Marks mid new (IsNotedAtAny d (entries t.awaited)) → AreTouching d t new
+pub all_touching : (d : Definers) (t : TriedTree) (old mid new : List Bool) → Marks old mid (IsNotedAtAny d (entries t.missed)) → Marks mid new (IsNotedAtAny d (entries t.awaited))
+    → AreTouching d t new
 all_touching d t old mid new missed awaited p x tried noted = by (either (is_defined t.missed p) (is_defined t.awaited p) tried)
   where
     by : (is_defined t.missed p ≡ true) ⊎ (is_defined t.awaited p ≡ true) → IsMarked new x.number

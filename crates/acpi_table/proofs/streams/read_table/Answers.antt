@@ -58,7 +58,8 @@ returns-then-len-length-clause-refused g c fault is =
     let few : vec_len c.fill-2.new.table < n = omega (arith, c.len-2.ensures) in
     let P : TableFault → Type 0 = λ f. IfSome (g.S.Source.coming c.args.source.now) (λ bytes. IsRefusedAs f bytes × (bytes ≢ [])) in
     subst P (table_fault_is _ Cut fault is)
-    (cut_refused _ _ _ _ first all n c.new-table.ensures.items c.in_ok-fill.ensures.taken c.in_ok-fill-2.ensures.taken (c.in_ok-fill-2.ensures.ended few) field long (omega arith) (omega arith) (omega arith))
+    (cut_refused _ _ _ _ first all n c.new-table.ensures.items c.in_ok-fill.ensures.taken c.in_ok-fill-2.ensures.taken
+    (c.in_ok-fill-2.ensures.ended few) field long (omega arith) (omega arith) (omega arith))
 
 pub returns-then-len-length-clause-failures : goal.returns-then-len-length-clause-failures
 returns-then-len-length-clause-failures g c = c.in_ok-fill-2.ensures.failures ∙ c.in_ok-fill.ensures.failures
