@@ -1,1 +1,6 @@
--- Each goal is found by search.
+-- What a wrong body leaves open is named here: its refusal then names it, and needs no second search.
+use Rattle.std.proofs.Common.{rules}
+use Rattle.acpi_tree.proofs.fits.bits_may_stand.Goals as goal
+
+pub returns : goal.returns
+returns c = search rules
