@@ -1,6 +1,1 @@
--- What a wrong body leaves open is named here: its refusal then names it, and needs no second search.
-use Rattle.std.proofs.Common.{rules}
-use Rattle.acpi_name.proofs.show.NameDisplay.fmt.Goals as goal
-
-pub returns : goal.returns
-returns g c = search rules
+-- Each goal is found by search.
