@@ -16,4 +16,4 @@ pub returns-clause-ended : goal.returns-clause-ended
 returns-clause-ended g c none = c.in_ok-count.ensures.ended (ap Ok none) (grind (arith, common_steps))
 
 pub returns-clause-failures : goal.returns-clause-failures
-returns-clause-failures g c = c.in_ok-count.ensures.kept
+returns-clause-failures g c = search rules
