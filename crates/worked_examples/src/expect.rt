@@ -32,9 +32,14 @@ pub(crate) fn expect_all_printed<T: Display>(rt: &impl Abort, alloc: Global, row
 
 // One path, which is printed so.
 pub(crate) fn expect_path(rt: &impl Abort, alloc: Global, found: &[Path], wanted: &str) {
-    expect_number(rt, found.len(), 1);
-    for path in found {
-        expect_printed(rt, alloc, path, wanted);
+    expect_paths(rt, alloc, found, &[wanted]);
+}
+
+// Paths, which are printed so.
+pub(crate) fn expect_paths(rt: &impl Abort, alloc: Global, found: &[Path], wanted: &[&str]) {
+    expect_number(rt, found.len(), wanted.len());
+    for (path, text) in found.iter().zip(wanted) {
+        expect_printed(rt, alloc, path, *text);
     }
 }
 

@@ -5,18 +5,19 @@ use acpi_name::*;
 use std::alloc::Global;
 use std::process::Abort;
 
-// Names, each with its text.
-const NAMES: [(&[u8], &str); 5] = [
-    (b"FOO_", "FOO_"),
-    (b"\\\x00", "\\"),
-    (b"\x00", "."),
-    (b"\\\x2E_SB_PCI0", "\\_SB_.PCI0"),
-    (b"^^\x2F\x03AB12C___DEV0", "^^AB12.C___.DEV0"),
+// Names, each with its text and the bytes that it takes.
+const NAMES: [(&[u8], &str, usize); 5] = [
+    (b"FOO_\x08", "FOO_", 4),
+    (b"\\\x00", "\\", 2),
+    (b"\x00\x00", ".", 1),
+    (b"\\\x2E_SB_PCI0", "\\_SB_.PCI0", 10),
+    (b"^^\x2F\x03AB12C___DEV0\x08", "^^AB12.C___.DEV0", 16),
 ];
 
-fn expect_names(rt: &impl Abort, alloc: Global, rows: &[(&[u8], &str)]) {
-    for (bytes, text) in rows {
-        let (name, _) = read_name(*bytes).expect(rt, "a name");
+fn expect_names(rt: &impl Abort, alloc: Global, rows: &[(&[u8], &str, usize)]) {
+    for (bytes, text, count) in rows {
+        let (name, used) = read_name(*bytes).expect(rt, "a name");
+        expect_number(rt, used, *count);
         expect_printed(rt, alloc, &name, *text);
     }
 }

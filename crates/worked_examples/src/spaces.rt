@@ -1,6 +1,6 @@
 //! Worked spaces of both kinds.
 
-use crate::expect::{expect_number, expect_path, expect_printed, path_of};
+use crate::expect::{expect_number, expect_path, expect_paths, expect_printed, path_of};
 use acpi_name::{Path, Seg, read_name};
 use acpi_space::*;
 use std::alloc::Global;
@@ -30,11 +30,15 @@ fn expect_pairs<S: Space<usize>>(rt: &impl Abort, alloc: Global) {
     }
 }
 
-// Names from \_SB_.PCI0.MTH1: what a search answers, and how many paths it misses, and one of them.
-const SEARCHES: [(&[u8], Result<Option<&str>, SearchFault>, usize, &str); 3] = [
-    (b"FOO_", Ok(Some("\\_SB_.FOO_")), 2, "\\_SB_.PCI0.MTH1.FOO_"),
-    (b"^FOO_", Ok(None), 1, "\\_SB_.PCI0.FOO_"),
-    (b"^^^^FOO_", Err(SearchFault::AboveRoot), 0, ""),
+// Names from \_SB_.PCI0.MTH1: what a search answers, and the paths that it misses.
+const SEARCHES: [(&[u8], Result<Option<&str>, SearchFault>, &[&str]); 3] = [
+    (
+        b"FOO_",
+        Ok(Some("\\_SB_.FOO_")),
+        &["\\_SB_.PCI0.MTH1.FOO_", "\\_SB_.PCI0.FOO_"],
+    ),
+    (b"^FOO_", Ok(None), &["\\_SB_.PCI0.FOO_"]),
+    (b"^^^^FOO_", Err(SearchFault::AboveRoot), &[]),
 ];
 
 fn expect_answer(
@@ -55,15 +59,11 @@ fn expect_misses(
     rt: &impl Abort,
     alloc: Global,
     missed: Result<Vec<Path>, SearchFault>,
-    count: usize,
-    first: &str,
+    wanted: &[&str],
 ) {
     match missed {
-        Ok(paths) => {
-            expect_number(rt, paths.len(), count);
-            expect_printed(rt, alloc, paths.get(0).expect(rt, "a path"), first);
-        }
-        Err(fault) => assert!(rt; count == 0 && fault == SearchFault::AboveRoot),
+        Ok(paths) => expect_paths(rt, alloc, &paths, wanted),
+        Err(fault) => assert!(rt; wanted.is_empty() && fault == SearchFault::AboveRoot),
     }
 }
 
@@ -77,11 +77,10 @@ fn expect_search<S: Space<usize>>(rt: &impl Abort, alloc: Global) {
     ];
     let space: S = space_of(rt, alloc, &paths);
     let scope = path_of(rt, alloc, "\\_SB_.PCI0.MTH1");
-    for (bytes, wanted, count, first) in &SEARCHES {
+    for (bytes, wanted, missed) in &SEARCHES {
         let (name, _) = read_name(*bytes).expect(rt, "a name");
         expect_answer(rt, alloc, search(alloc, &space, &scope, name), wanted);
-        let missed = misses(alloc, &space, &scope, name);
-        expect_misses(rt, alloc, missed, *count, *first);
+        expect_misses(rt, alloc, misses(alloc, &space, &scope, name), *missed);
     }
 }
 
