@@ -15,8 +15,11 @@ ghost use Rattle.acpi_space.specs.Spaces.{is_defined};
 ghost use Rattle.acpi_space.specs.Search.{answer};
 ghost use Rattle.acpi_counts.specs.Counts.{AreSmall, with_first};
 
+mod kept;
+mod only;
+
 use acpi_name::{NameRef, Path};
-use acpi_space::{Found, Refused, SearchFault, Space, TreeSpace, search};
+use kept::Kept;
 use std::alloc::{AllocError, Global};
 use std::marker::Model;
 
@@ -25,7 +28,7 @@ use std::marker::Model;
 pub struct Counts {
     alloc: Global,
     // None where no path has a count, as in most tables.
-    map: Option<Box<TreeSpace<u8>>>,
+    kept: Option<Box<Kept>>,
 }
 
 impl Model for Counts {
@@ -40,9 +43,9 @@ impl Model for Counts {
 
     ghost coded = { finite.code coded_path coded_ℕ };
 
-    ghost view = { λ c. counts_in c.map };
+    ghost view = { λ c. counts_in c.kept };
 
-    ghost invariant = { λ c. AreSmall (counts_in c.map) };
+    ghost invariant = { λ c. AreSmall (counts_in c.kept) };
 }
 
 impl Counts {
@@ -50,7 +53,7 @@ impl Counts {
     pub fn new(alloc: Global) -> Counts
         ensures { result ≡ finite.empty }
     {
-        Counts { alloc, map: None }
+        Counts { alloc, kept: None }
     }
 
     /// The count at a path. Takes no memory.
@@ -58,8 +61,8 @@ impl Counts {
         ensures found { result ≡ finite.get self.now path.now }
         ensures small { AreSmall self.now }
     {
-        match &self.map {
-            Some(map) => map.get(path).copied(),
+        match &self.kept {
+            Some(kept) => kept.get(path),
             None => None,
         }
     }
@@ -70,12 +73,10 @@ impl Counts {
         ensures ok { OnOk result (self.new ≡ with_first self.old path count) }
         ensures err { OnErr result (self.new ≡ self.old) }
     {
-        match &mut self.map {
-            Some(map) => add_to(map, path, count),
+        match &mut self.kept {
+            Some(kept) => kept.add(self.alloc, path, count),
             None => {
-                let mut map = Box::new(self.alloc, TreeSpace::new(self.alloc))?;
-                add_to(&mut map, path, count)?;
-                self.map = Some(map);
+                self.kept = Some(Box::new(self.alloc, Kept::One(path, count))?);
                 Ok(())
             }
         }
@@ -91,40 +92,9 @@ impl Counts {
     ) -> Result<Option<Path>, AllocError>
         ensures { IfOk result (λ p. p ≡ answer (is_defined self.now) scope.now (name_parts name.entry)) }
     {
-        match &self.map {
-            Some(map) => find_in(alloc, map, scope, name),
+        match &self.kept {
+            Some(kept) => kept.find(alloc, scope, name),
             None => Ok(None),
         }
-    }
-}
-
-// Adds a count to a map of counts.
-fn add_to(map: &mut TreeSpace<u8>, path: Path, count: u8) -> Result<(), AllocError>
-    requires { count ≤ 7 }
-    ensures ok { OnOk result (map.new ≡ with_first map.old path count) }
-    ensures err { OnErr result (map.new ≡ map.old) }
-    ensures small { AreSmall map.old → AreSmall map.new }
-{
-    match map.insert(path, count) {
-        Ok(()) => Ok(()),
-        Err(Refused::Taken(_)) => Ok(()),
-        Err(Refused::Memory(_)) => Err(AllocError),
-    }
-}
-
-// The path that a name means among those of a map of counts.
-fn find_in(
-    alloc: Global,
-    map: &TreeSpace<u8>,
-    scope: &Path,
-    name: NameRef<'_>,
-) -> Result<Option<Path>, AllocError>
-    ensures { IfOk result (λ p. p ≡ answer (is_defined map.now) scope.now (name_parts name.entry)) }
-{
-    match search(alloc, map, scope, name) {
-        Ok(Found::At(path)) => Ok(Some(path)),
-        Ok(Found::Missing) => Ok(None),
-        Err(SearchFault::AboveRoot) => Ok(None),
-        Err(SearchFault::Memory) => Err(AllocError),
     }
 }

@@ -182,7 +182,9 @@ pub(crate) fn add_table<S: Space<Object>>(
         )),
         Err(Stop::Memory) => return Err(LoadFault::Memory),
     }
-    notes.push(pass.notes)?;
+    let mut noted = pass.notes;
+    noted.shrink();
+    notes.push(noted)?;
     Ok(Declaring {
         objects: pass.objects,
         links: pass.links,

@@ -68,4 +68,11 @@ impl TableNotes {
         self.missed.append(&mut paths)?;
         Ok(())
     }
+
+    // The same, in no more room than the methods take: most tables are small, and a load keeps the notes of all.
+    pub(crate) fn shrink(&mut self)
+        ensures { notes_of self.new ≡ notes_of self.old }
+    {
+        self.methods.shrink_to_fit();
+    }
 }

@@ -20,7 +20,8 @@ use Rattle.acpi_space.specs.Search.{beginnings, nearest_scope}
 use Rattle.acpi_space.specs.Spaces.{PathMap, is_defined}
 use Rattle.acpi_space.specs.declared.space.Refused.{Refused}
 use Rattle.acpi_space.specs.declared.space.Refused.TheVariants.{Taken, Memory}
-use Rattle.acpi_space.specs.steps.Layers.{longer, pairs_of}
+use Rattle.acpi_space.specs.declared.overlay.OwnPaths.{OwnPaths}
+use Rattle.acpi_space.specs.steps.Layers.{AddsOwn, longer, pairs_of}
 use Rattle.acpi_space.proofs.Beginnings.{found_cons}
 use Rattle.acpi_space.proofs.Comparisons.{same_path}
 use Rattle.acpi_space.proofs.Filters.{among_filter}
@@ -289,12 +290,6 @@ listed_seen items rest all es e r a s =
     ap (map seen) (sym (append-nil items) ∙ ap (λ l. items ++ l) (sym r) ∙ e ∙ a)
     ∙ sym (entries_ascending (map seen es) (subst (IsStrictlySortedBy path_cmp) (sym (firsts-seen es)) s))
 
-pub kept_all : {V : Type 0} (test : List Segment → Bool) (items : List (List Segment)) (rest all given : List (List Segment × Bor V)) (m : PathMap V)
-    → items ++ filter test (map (λ e. e.0) rest) ≡ filter test (map (λ e. e.0) all) → rest ≡ [] → all ≡ given → map seen given ≡ entries m → items ≡ filter test (keys m)
-kept_all test items rest all given m e r a g =
-    sym (append-nil items) ∙ ap (λ l. items ++ filter test (map (λ e. e.0) l)) (sym r) ∙ e ∙ ap (λ l. filter test (map (λ e. e.0) l)) a
-    ∙ ap (filter test) (sym (firsts-seen given) ∙ ap (map (λ e. e.0)) g)
-
 -- ---- the paths that the upper map alone has
 
 pub own_ascend : {V : Type 0} (lower upper : PathMap V) (items : List (List Segment)) → items ≡ filter (λ p. not (is_defined lower p)) (keys upper) → IsStrictlySortedBy path_cmp items
@@ -319,3 +314,11 @@ own_are lower upper items e p = (λ i. to (kept.0 (subst (λ (l : List (List Seg
 
     from : IsTrue (is_defined (both lower upper) p) × (is_defined lower p ≡ false) → Among (keys upper) p × (not (is_defined lower p) ≡ true)
     from r = ((key_is upper p).1 (sym (ap (λ b. b || is_defined upper p) r.1) ∙ sym there ∙ r.0), ap not r.1)
+
+-- .. gathered pair by pair
+pub own_begins : {V S : Type 0} (contents : S → PathMap V) (first : OwnPaths S) → AddsOwn {V = V} contents first [] first
+own_begins contents first = record { lower = refl; paths = sym (append-nil first.paths.items) }
+
+pub own_gathered : {V S : Type 0} (contents : S → PathMap V) (first now : OwnPaths S) (upper : PathMap V) → first.paths.items ≡ [] → AddsOwn contents first (entries upper) now
+    → now.paths.items ≡ filter (λ p. not (is_defined (lent contents first.lower) p)) (keys upper)
+own_gathered contents first now upper none adds = adds.paths ∙ ap (λ l. l ++ filter (λ p. not (is_defined (lent contents first.lower) p)) (keys upper)) none

@@ -10,9 +10,9 @@ ghost use Rattle.acpi_space.specs.Laws.{Among};
 ghost use Rattle.acpi_space.specs.Overlays.{both, contents_over, lent, lower_of};
 ghost use Rattle.acpi_space.specs.Search.{nearest_scope};
 ghost use Rattle.acpi_space.specs.Spaces.{is_defined};
-ghost use Rattle.acpi_space.specs.steps.Layers.{longer, pairs_of};
+ghost use Rattle.acpi_space.specs.steps.Layers.{AddsOwn, longer, pairs_of};
 
-use crate::space::{Refused, Space};
+use crate::space::{Refused, Space, Visitor};
 use acpi_name::{Path, Seg};
 use std::alloc::{AllocError, Global};
 use std::collections::BTreeMap;
@@ -89,13 +89,30 @@ impl<'a, S> Overlay<'a, S> {
         ensures are { IfOk result (λ v. (p : List Segment) → Among v.items p
             ↔ (IsTrue (is_defined (contents_over S.contents self.now) p) × (is_defined (lower_of S.contents self.now) p ≡ false))) }
     {
-        let mut paths = Vec::new(self.alloc);
-        for (path, _) in self.own.pairs()? {
-            if lent_value(self.lower, &path).is_none() {
-                paths.push(path)?;
-            }
+        let mut own = OwnPaths {
+            lower: self.lower,
+            paths: Vec::new(self.alloc),
+        };
+        self.own.visit_pairs(&mut own)?;
+        Ok(own.paths)
+    }
+}
+
+// Gathers the paths that it is shown, but for those that a space has which is lent.
+#[derive(Drop)]
+pub struct OwnPaths<'a, S> {
+    lower: Option<&'a S>,
+    paths: Vec<Path>,
+}
+
+impl<V, S: Space<V>> Visitor<V> for OwnPaths<'_, S> {
+    ghost was_shown = { AddsOwn S.contents };
+
+    fn visit(&mut self, path: &Path, _: &V) -> Result<(), AllocError> {
+        if lent_value(self.lower, path).is_none() {
+            self.paths.push(path.copy()?)?;
         }
-        Ok(paths)
+        Ok(())
     }
 }
 

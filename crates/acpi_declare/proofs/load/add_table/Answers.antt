@@ -38,6 +38,6 @@ returns-clause-ok g c =
     let ran : pass_items t [] is ≡ Ok u = ap (λ (s : List Segment). pass_items t s is) (sym c.root.ensures) ∙ c.in-Ok.ensures.ok in
     let notes = map notes_of c.args.loaded.notes.items in
     let pushed : map notes_of c.push.new.self.items ≡ notes ++ u.notes ∷ [] =
-    ap (map notes_of) c.in_ok-push.ensures.items ∙ map-append notes_of c.args.loaded.notes.items (c.declare_items.new.self.notes ∷ []) in
+    ap (map notes_of) c.in_ok-push.ensures.items ∙ map-append notes_of c.args.loaded.notes.items (c.shrink.new.self ∷ []) ∙ ap (λ (n : Notes). notes ++ n ∷ []) c.shrink.ensures in
     subst (λ (l : List Notes). AddsTable c.args.depth c.args.number c.args.bytes.now before (record { objects = u.objects; links = u.links; notes = l })) (sym pushed)
     (pass_adds c.args.depth c.args.number c.args.bytes.now is t u notes c.in_ok-items.ensures.ok ran c.new.ensures)
