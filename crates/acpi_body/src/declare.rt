@@ -1,15 +1,18 @@
 //! Reading declarations.
 
-ghost use Rattle.std.specs.Prelude.{◌≡◌, IfOk, Some, box_value};
+ghost use Rattle.std.specs.Prelude.{◌≡◌, ◌∷◌, [], IfOk, Ok, Some, box_value};
 ghost use Rattle.acpi_name.specs.Paths.{place_of};
+ghost use Rattle.acpi_tree.specs.View.{fields_view};
 ghost use Rattle.acpi_tree.specs.TermView.{term_view, decl_view};
 ghost use Rattle.acpi_tree.specs.declared.place.Place.TheVariants.{Value};
 ghost use Rattle.acpi_tree.specs.declared.place.NamedForm.TheVariants as named;
 ghost use Rattle.acpi_tree.specs.declared.place.UnitsForm.TheVariants as units;
-ghost use Rattle.acpi_body.specs.Statements.{locals_after};
+ghost use Rattle.acpi_code.specs.steps.Reading.{name_in};
+ghost use Rattle.acpi_body.specs.Arguments.{with_local};
+ghost use Rattle.acpi_body.specs.Statements.{locals_after, locals_after_units};
 ghost use Rattle.acpi_body.specs.steps.Setting.{args_of};
-ghost use Rattle.acpi_body.specs.steps.Reading.{term_at, declared_at, named_form, units_form};
-ghost use Rattle.acpi_body.specs.steps.Cursor.{Reads};
+ghost use Rattle.acpi_body.specs.steps.Reading.{part, term_at, fields_in, names_at, declared_at, named_form, units_form};
+ghost use Rattle.acpi_body.specs.steps.Cursor.{Gives, Reads, ReadsAll};
 
 use crate::arguments::{Context, add};
 use crate::fault::{BodyReason, Stop, refused};
@@ -18,8 +21,8 @@ use crate::term::term;
 use acpi_code::{Code, field_elements};
 use acpi_name::{Name, Path, PlaceFault, place};
 use acpi_space::{Space, TreeSpace};
-use acpi_tree::{Decl, Object, Place, Term, Width};
-use std::alloc::{AllocError, Global};
+use acpi_tree::{Decl, FieldElem, Object, Place, Term, Width};
+use std::alloc::Global;
 
 /// A value, which lies apart from the frame that asks for it.
 #[inline(never)]
@@ -59,12 +62,65 @@ fn declared<S: Space<Object>>(
     }
 }
 
+// A name, with memory of its own.
+#[inline(never)]
+#[tactic(auto, using(crate::proofs::Parts::part_fails))]
+fn owned_name<S: Space<Object>>(context: &Context<'_, S>, code: &mut Code<'_>) -> Result<Name, Stop>
+    ensures { Reads (λ n. n) (λ end bytes. part (name_in end bytes)) code.old code.new result }
+{
+    Ok(code.name()?.own(context.alloc())?)
+}
+
+#[inline(never)]
+#[tactic(auto, unfolding(crate::specs::steps::Reading::names_at))]
+fn two_names<S: Space<Object>>(
+    context: &Context<'_, S>,
+    code: &mut Code<'_>,
+) -> Result<(Name, Name), Stop>
+    ensures { Reads (λ x. x.0 ∷ x.1 ∷ []) (names_at 2) code.old code.new result }
+{
+    let first = owned_name(context, code)?;
+    let second = owned_name(context, code)?;
+    Ok((first, second))
+}
+
+// The elements that are left. Their units are locals from then on.
+#[inline(never)]
+#[tactic(auto, using(crate::proofs::Parts::field_fails))]
+fn units<S: Space<Object>>(
+    context: &Context<'_, S>,
+    locals: &mut TreeSpace<()>,
+    code: &mut Code<'_>,
+) -> Result<Vec<FieldElem>, Stop>
+    ensures exact { ReadsAll (λ v. fields_view v.items) fields_in code.old result }
+    ensures locals { IfOk result (λ v. locals.new ≡ locals_after_units context.now.method locals.old (fields_view v.items)) }
+{
+    let elems = field_elements(context.alloc(), code)?;
+    add_units(locals, context.method(), &elems)?;
+    Ok(elems)
+}
+
 // A declaration as a term.
 #[inline(never)]
-fn declaration(alloc: Global, decl: Decl) -> Result<Term, AllocError>
-    ensures { IfOk result (λ t. term_view t ≡ decl_view decl) }
+fn declaration(alloc: Global, decl: Decl) -> Result<Term, Stop>
+    ensures { Gives term_view result (Ok (decl_view decl)) }
 {
     Ok(Term::Declare(Box::new(alloc, decl)?))
+}
+
+// The same, of one name, whose place is a local from then on.
+#[inline(never)]
+fn declared_there<S: Space<Object>>(
+    context: &Context<'_, S>,
+    locals: &mut TreeSpace<()>,
+    path: Path,
+    decl: Decl,
+) -> Result<Term, Stop>
+    ensures made { Gives term_view result (Ok (decl_view decl)) }
+    ensures locals { IfOk result (λ _. locals.new ≡ with_local locals.old path) }
+{
+    add(locals, path)?;
+    declaration(context.alloc(), decl)
 }
 
 #[inline(never)]
@@ -80,9 +136,8 @@ pub(crate) fn name_declared<S: Space<Object>>(
 {
     let (name, path) = declared(context, code)?;
     let data = term(context, locals, level, Place::Data, code)?;
-    add(locals, path)?;
     let data = Box::new(context.alloc(), data)?;
-    Ok(declaration(context.alloc(), Decl::Name(name, data))?)
+    declared_there(context, locals, path, Decl::Name(name, data))
 }
 
 #[inline(never)]
@@ -100,14 +155,13 @@ pub(crate) fn create_declared<S: Space<Object>>(
     let source = value(context, locals, level, code)?;
     let index = value(context, locals, level, code)?;
     let (name, path) = declared(context, code)?;
-    add(locals, path)?;
     let decl = Decl::Create {
         width,
         source,
         index,
         name,
     };
-    Ok(declaration(context.alloc(), decl)?)
+    declared_there(context, locals, path, decl)
 }
 
 #[inline(never)]
@@ -125,14 +179,13 @@ pub(crate) fn create_field_declared<S: Space<Object>>(
     let index = value(context, locals, level, code)?;
     let bits = value(context, locals, level, code)?;
     let (name, path) = declared(context, code)?;
-    add(locals, path)?;
     let decl = Decl::CreateField {
         source,
         index,
         bits,
         name,
     };
-    Ok(declaration(context.alloc(), decl)?)
+    declared_there(context, locals, path, decl)
 }
 
 #[inline(never)]
@@ -150,14 +203,13 @@ pub(crate) fn region_declared<S: Space<Object>>(
     let space = code.byte()?;
     let offset = value(context, locals, level, code)?;
     let length = value(context, locals, level, code)?;
-    add(locals, path)?;
     let decl = Decl::Region {
         name,
         space,
         offset,
         length,
     };
-    Ok(declaration(context.alloc(), decl)?)
+    declared_there(context, locals, path, decl)
 }
 
 #[inline(never)]
@@ -173,8 +225,7 @@ pub(crate) fn mutex_declared<S: Space<Object>>(
 {
     let (name, path) = declared(context, code)?;
     let flags = code.byte()?;
-    add(locals, path)?;
-    Ok(declaration(context.alloc(), Decl::Mutex(name, flags))?)
+    declared_there(context, locals, path, Decl::Mutex(name, flags))
 }
 
 #[inline(never)]
@@ -189,12 +240,11 @@ pub(crate) fn event_declared<S: Space<Object>>(
     ensures locals { IfOk result (λ t. locals.new ≡ locals_after context.now.method locals.old (term_view t)) }
 {
     let (name, path) = declared(context, code)?;
-    add(locals, path)?;
-    Ok(declaration(context.alloc(), Decl::Event(name))?)
+    declared_there(context, locals, path, Decl::Event(name))
 }
 
 #[inline(never)]
-#[tactic(auto, using(crate::proofs::Parts::part_fails, crate::proofs::Parts::field_fails), unfolding(crate::specs::steps::Reading::units_form, crate::specs::steps::Reading::names_at, crate::specs::steps::Reading::operands_at, crate::specs::steps::Reading::operand_at))]
+#[tactic(auto, using(crate::proofs::Parts::part_fails), unfolding(crate::specs::steps::Reading::units_form, crate::specs::steps::Reading::names_at, crate::specs::steps::Reading::operands_at, crate::specs::steps::Reading::operand_at))]
 pub(crate) fn field_declared<S: Space<Object>>(
     context: &Context<'_, S>,
     locals: &mut TreeSpace<()>,
@@ -205,20 +255,19 @@ pub(crate) fn field_declared<S: Space<Object>>(
     ensures locals { IfOk result (λ t. locals.new ≡ locals_after context.now.method locals.old (term_view t)) }
 {
     let mut inner = code.package()?;
-    let region = inner.name()?.own(context.alloc())?;
+    let region = owned_name(context, &mut inner)?;
     let flags = inner.byte()?;
-    let elems = field_elements(context.alloc(), &mut inner)?;
-    add_units(locals, context.method(), &elems)?;
+    let elems = units(context, locals, &mut inner)?;
     let decl = Decl::Field {
         region,
         flags,
         elems,
     };
-    Ok(declaration(context.alloc(), decl)?)
+    declaration(context.alloc(), decl)
 }
 
 #[inline(never)]
-#[tactic(auto, using(crate::proofs::Parts::part_fails, crate::proofs::Parts::field_fails), unfolding(crate::specs::steps::Reading::units_form, crate::specs::steps::Reading::names_at, crate::specs::steps::Reading::operands_at, crate::specs::steps::Reading::operand_at))]
+#[tactic(auto, using(crate::proofs::Parts::part_fails), unfolding(crate::specs::steps::Reading::units_form, crate::specs::steps::Reading::names_at, crate::specs::steps::Reading::operands_at, crate::specs::steps::Reading::operand_at))]
 pub(crate) fn index_field_declared<S: Space<Object>>(
     context: &Context<'_, S>,
     locals: &mut TreeSpace<()>,
@@ -229,22 +278,20 @@ pub(crate) fn index_field_declared<S: Space<Object>>(
     ensures locals { IfOk result (λ t. locals.new ≡ locals_after context.now.method locals.old (term_view t)) }
 {
     let mut inner = code.package()?;
-    let index = inner.name()?.own(context.alloc())?;
-    let datum = inner.name()?.own(context.alloc())?;
+    let (index, datum) = two_names(context, &mut inner)?;
     let flags = inner.byte()?;
-    let elems = field_elements(context.alloc(), &mut inner)?;
-    add_units(locals, context.method(), &elems)?;
+    let elems = units(context, locals, &mut inner)?;
     let decl = Decl::IndexField {
         index,
         datum,
         flags,
         elems,
     };
-    Ok(declaration(context.alloc(), decl)?)
+    declaration(context.alloc(), decl)
 }
 
 #[inline(never)]
-#[tactic(auto, using(crate::proofs::Parts::part_fails, crate::proofs::Parts::field_fails), unfolding(crate::specs::steps::Reading::units_form, crate::specs::steps::Reading::names_at, crate::specs::steps::Reading::operands_at, crate::specs::steps::Reading::operand_at))]
+#[tactic(auto, using(crate::proofs::Parts::part_fails), unfolding(crate::specs::steps::Reading::units_form, crate::specs::steps::Reading::names_at, crate::specs::steps::Reading::operands_at, crate::specs::steps::Reading::operand_at))]
 pub(crate) fn bank_field_declared<S: Space<Object>>(
     context: &Context<'_, S>,
     locals: &mut TreeSpace<()>,
@@ -255,12 +302,10 @@ pub(crate) fn bank_field_declared<S: Space<Object>>(
     ensures locals { IfOk result (λ t. locals.new ≡ locals_after context.now.method locals.old (term_view t)) }
 {
     let mut inner = code.package()?;
-    let region = inner.name()?.own(context.alloc())?;
-    let bank = inner.name()?.own(context.alloc())?;
+    let (region, bank) = two_names(context, &mut inner)?;
     let value = value(context, locals, level, &mut inner)?;
     let flags = inner.byte()?;
-    let elems = field_elements(context.alloc(), &mut inner)?;
-    add_units(locals, context.method(), &elems)?;
+    let elems = units(context, locals, &mut inner)?;
     let decl = Decl::BankField {
         region,
         bank,
@@ -268,5 +313,5 @@ pub(crate) fn bank_field_declared<S: Space<Object>>(
         flags,
         elems,
     };
-    Ok(declaration(context.alloc(), decl)?)
+    declaration(context.alloc(), decl)
 }

@@ -68,7 +68,7 @@ pub struct BodyFault {
 }
 
 /// Why reading a body stopped.
-#[derive(Clone, Copy, Debug, PartialEq, Eq)]
+#[derive(Clone, Copy)]
 pub(crate) enum Stop {
     /// The body can't be read.
     Fault(BodyFault),

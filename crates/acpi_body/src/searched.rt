@@ -76,6 +76,22 @@ fn operand_values<S: Space<Object>, Q: Wanted>(
     Ok(())
 }
 
+// The same of two values, one after the other.
+fn two_values<S: Space<Object>, Q: Wanted>(
+    context: &Context<'_, S>,
+    locals: &TreeSpace<()>,
+    wanted: &Q,
+    gathered: &mut Gathered,
+    first: &Term,
+    second: &Term,
+) -> Result<(), AllocError>
+    ensures { OnOk result (gathered.new
+        ≡ after_value (Q.wanted wanted.now) context.now locals.now (after_value (Q.wanted wanted.now) context.now locals.now gathered.old (term_view first.now)) (term_view second.now)) }
+{
+    value(context, locals, wanted, gathered, first)?;
+    value(context, locals, wanted, gathered, second)
+}
+
 // Adds the place of a declared name, if it has one.
 fn declare<S: Space<Object>>(
     context: &Context<'_, S>,
@@ -114,8 +130,7 @@ fn declaration<S: Space<Object>, Q: Wanted>(
             name,
             ..
         } => {
-            value(context, locals, wanted, gathered, source)?;
-            value(context, locals, wanted, gathered, index)?;
+            two_values(context, locals, wanted, gathered, source, index)?;
             declare(context, locals, name)
         }
         Decl::CreateField {
@@ -124,8 +139,7 @@ fn declaration<S: Space<Object>, Q: Wanted>(
             bits,
             name,
         } => {
-            value(context, locals, wanted, gathered, source)?;
-            value(context, locals, wanted, gathered, index)?;
+            two_values(context, locals, wanted, gathered, source, index)?;
             value(context, locals, wanted, gathered, bits)?;
             declare(context, locals, name)
         }
@@ -137,8 +151,7 @@ fn declaration<S: Space<Object>, Q: Wanted>(
             length,
             ..
         } => {
-            value(context, locals, wanted, gathered, offset)?;
-            value(context, locals, wanted, gathered, length)?;
+            two_values(context, locals, wanted, gathered, offset, length)?;
             declare(context, locals, name)
         }
         Decl::Field { elems, .. } => add_units(locals, context.method(), elems),

@@ -120,7 +120,7 @@ fn statements<S: Space<Object>>(
 
 // The statement whose first opcode, behind `front`, was read; `level` levels are left inside it.
 #[cycle(statement)]
-#[tactic(auto, using(crate::proofs::Plain::plain_keeps), unfolding(crate::specs::steps::Reading::statement_by, crate::specs::steps::Reading::placed_by, crate::specs::steps::Reading::form_by))]
+#[tactic(auto, unfolding(crate::specs::steps::Reading::statement_by, crate::specs::steps::Reading::placed_by, crate::specs::steps::Reading::form_by))]
 fn form<'a, S: Space<Object>>(
     context: &Context<'_, S>,
     locals: &mut TreeSpace<()>,

@@ -1,15 +1,15 @@
 //! Reading terms that are no blocks and no declarations.
 
-ghost use Rattle.std.specs.Prelude.{◌≡◌, ◌<◌, true, length, IfOk};
+ghost use Rattle.std.specs.Prelude.{◌≡◌, ◌<◌, length, Ok};
 ghost use Rattle.acpi_name.specs.NameRefs.{name_parts};
-ghost use Rattle.acpi_tree.specs.Terms.{terms_of, ref, call};
+ghost use Rattle.acpi_tree.specs.Terms.{terms_of, buffer, ref, call};
 ghost use Rattle.acpi_tree.specs.TermView.{term_view, terms_view, operand_view, operands_view};
 ghost use Rattle.acpi_tree.specs.declared.place.Place.TheVariants.{Element};
-ghost use Rattle.acpi_code.specs.steps.Reading.{each_at};
+ghost use Rattle.acpi_code.specs.steps.Reading.{each_at, byte_at, number_at};
 ghost use Rattle.acpi_body.specs.Spelling.{values};
 ghost use Rattle.acpi_body.specs.steps.Setting.{args_of};
-ghost use Rattle.acpi_body.specs.steps.Reading.{constant_form, string_form, buffer_form, package_form, var_package_form, name_form, operator_form, operand_at, operands_at, calls, is_plain, form_by, placed_by, term_at};
-ghost use Rattle.acpi_body.specs.steps.Cursor.{Reads, ReadsOn, ReadsAll};
+ghost use Rattle.acpi_body.specs.steps.Reading.{as_raw, constant_form, string_form, buffer_form, package_form, var_package_form, name_form, operator_form, operand_at, operands_at, calls, form_by, placed_by, term_at};
+ghost use Rattle.acpi_body.specs.steps.Cursor.{Gives, Reads, ReadsOn, ReadsAll};
 
 use crate::arguments::{Context, count};
 use crate::fault::{BodyReason, Stop, refused};
@@ -19,13 +19,12 @@ use acpi_code::{Code, ConstantForm, Opcode};
 use acpi_name::NameRef;
 use acpi_space::{Space, TreeSpace};
 use acpi_tree::{Object, Op, Operand, OperandKind, Place, Term};
-use std::alloc::{AllocError, Global};
+use std::alloc::Global;
 
 #[inline(never)]
 #[tactic(auto, using(crate::proofs::Parts::part_fails), unfolding(crate::specs::steps::Reading::constant_form))]
 fn constant(form: ConstantForm, code: &mut Code<'_>) -> Result<Term, Stop>
-    ensures exact { ReadsOn term_view (constant_form form) code.old code.new result }
-    ensures plain { IfOk result (λ t. is_plain (term_view t) ≡ true) }
+    ensures { ReadsOn term_view (constant_form form) code.old code.new result }
 {
     Ok(Term::Int(code.constant(form)?))
 }
@@ -33,11 +32,19 @@ fn constant(form: ConstantForm, code: &mut Code<'_>) -> Result<Term, Stop>
 #[inline(never)]
 #[tactic(auto, using(crate::proofs::Parts::part_fails), unfolding(crate::specs::steps::Reading::string_form))]
 fn string(alloc: Global, code: &mut Code<'_>) -> Result<Term, Stop>
-    ensures exact { Reads term_view string_form code.old code.new result }
-    ensures plain { IfOk result (λ t. is_plain (term_view t) ≡ true) }
+    ensures { Reads term_view string_form code.old code.new result }
 {
     let text = code.string()?;
     Ok(Term::Str(Vec::from_slice(alloc, text)?))
+}
+
+// A buffer of that size. What allocates has a frame of its own, so that a level of buffers costs less stack.
+#[inline(never)]
+fn buffer_of(alloc: Global, size: Term, content: &[u8]) -> Result<Term, Stop>
+    ensures { Gives term_view result (Ok (buffer (term_view size) content.now)) }
+{
+    let content = Vec::from_slice(alloc, content)?;
+    Ok(Term::Buffer(Box::new(alloc, size)?, content))
 }
 
 #[cycle(read)]
@@ -49,13 +56,11 @@ pub(crate) fn buffer<S: Space<Object>>(
     level: u32,
     code: &mut Code<'_>,
 ) -> Result<Term, Stop>
-    ensures exact { Reads term_view (buffer_form (term_at (args_of context.now locals.now) level)) code.old code.new result }
-    ensures plain { IfOk result (λ t. is_plain (term_view t) ≡ true) }
+    ensures { Reads term_view (buffer_form (term_at (args_of context.now locals.now) level)) code.old code.new result }
 {
     let mut inner = code.package()?;
     let size = term(context, locals, level, Place::Value, &mut inner)?;
-    let content = Vec::from_slice(context.alloc(), inner.left())?;
-    Ok(Term::Buffer(Box::new(context.alloc(), size)?, content))
+    buffer_of(context.alloc(), size, inner.left())
 }
 
 #[cycle(read)]
@@ -83,8 +88,7 @@ pub(crate) fn package<S: Space<Object>>(
     level: u32,
     code: &mut Code<'_>,
 ) -> Result<Term, Stop>
-    ensures exact { Reads term_view (package_form (term_at (args_of context.now locals.now) level)) code.old code.new result }
-    ensures plain { IfOk result (λ t. is_plain (term_view t) ≡ true) }
+    ensures { Reads term_view (package_form (term_at (args_of context.now locals.now) level)) code.old code.new result }
 {
     let mut inner = code.package()?;
     let count = inner.byte()?;
@@ -101,8 +105,7 @@ pub(crate) fn var_package<S: Space<Object>>(
     level: u32,
     code: &mut Code<'_>,
 ) -> Result<Term, Stop>
-    ensures exact { Reads term_view (var_package_form (term_at (args_of context.now locals.now) level)) code.old code.new result }
-    ensures plain { IfOk result (λ t. is_plain (term_view t) ≡ true) }
+    ensures { Reads term_view (var_package_form (term_at (args_of context.now locals.now) level)) code.old code.new result }
 {
     let mut inner = code.package()?;
     let count = term(context, locals, level, Place::Value, &mut inner)?;
@@ -141,16 +144,16 @@ fn is_call(place: Place) -> bool
 
 // A call. With a frame of its own, a level of calls costs less stack.
 #[inline(never)]
-fn call_of(alloc: Global, name: NameRef<'_>, values: Vec<Term>) -> Result<Term, AllocError>
-    ensures { IfOk result (λ t. term_view t ≡ call (name_parts name.entry) (terms_of (terms_view values.items))) }
+fn call_of(alloc: Global, name: NameRef<'_>, values: Vec<Term>) -> Result<Term, Stop>
+    ensures { Gives term_view result (Ok (call (name_parts name.entry) (terms_of (terms_view values.items)))) }
 {
     Ok(Term::Call(name.own(alloc)?, values))
 }
 
 // A name where it is never a call.
 #[inline(never)]
-fn reference_to(alloc: Global, name: NameRef<'_>) -> Result<Term, AllocError>
-    ensures { IfOk result (λ t. term_view t ≡ ref (name_parts name.entry)) }
+fn reference_to(alloc: Global, name: NameRef<'_>) -> Result<Term, Stop>
+    ensures { Gives term_view result (Ok (ref (name_parts name.entry))) }
 {
     Ok(Term::Ref(name.own(alloc)?))
 }
@@ -166,17 +169,34 @@ fn named<S: Space<Object>>(
     place: Place,
     code: &mut Code<'_>,
 ) -> Result<Term, Stop>
-    ensures exact { Reads term_view (name_form (args_of context.now locals.now) (term_at (args_of context.now locals.now) level) place) code.old code.new result }
-    ensures plain { IfOk result (λ t. is_plain (term_view t) ≡ true) }
+    ensures { Reads term_view (name_form (args_of context.now locals.now) (term_at (args_of context.now locals.now) level) place) code.old code.new result }
 {
     let name = code.name()?;
     if is_call(place) {
         let count = count(context, locals, name)?;
         let values = arguments(context, locals, level, count, code)?;
-        Ok(call_of(context.alloc(), name, values)?)
+        call_of(context.alloc(), name, values)
     } else {
-        Ok(reference_to(context.alloc(), name)?)
+        reference_to(context.alloc(), name)
     }
+}
+
+fn byte_operand(code: &mut Code<'_>) -> Result<Operand, Stop>
+    ensures { Reads operand_view (λ end bytes. as_raw 1 (byte_at end bytes)) code.old code.new result }
+{
+    Ok(Operand::Byte(code.byte()?))
+}
+
+fn word_operand(code: &mut Code<'_>) -> Result<Operand, Stop>
+    ensures { Reads operand_view (λ end bytes. as_raw 2 (number_at 2 end bytes)) code.old code.new result }
+{
+    Ok(Operand::Word(code.word()?))
+}
+
+fn dword_operand(code: &mut Code<'_>) -> Result<Operand, Stop>
+    ensures { Reads operand_view (λ end bytes. as_raw 4 (number_at 4 end bytes)) code.old code.new result }
+{
+    Ok(Operand::DWord(code.dword()?))
 }
 
 // A super name, or the byte 00 for none.
@@ -200,9 +220,9 @@ fn operand<S: Space<Object>>(
             }
             Ok(Operand::Term(term(context, locals, level, Place::SuperName, code)?))
         }
-        OperandKind::Byte => Ok(Operand::Byte(code.byte()?)),
-        OperandKind::Word => Ok(Operand::Word(code.word()?)),
-        OperandKind::DWord => Ok(Operand::DWord(code.dword()?)),
+        OperandKind::Byte => byte_operand(code),
+        OperandKind::Word => word_operand(code),
+        OperandKind::DWord => dword_operand(code),
     }
 }
 
@@ -236,8 +256,7 @@ fn operator<S: Space<Object>>(
     op: Op,
     code: &mut Code<'_>,
 ) -> Result<Term, Stop>
-    ensures exact { ReadsOn term_view (operator_form (term_at (args_of context.now locals.now) level) op) code.old code.new result }
-    ensures plain { IfOk result (λ t. is_plain (term_view t) ≡ true) }
+    ensures { ReadsOn term_view (operator_form (term_at (args_of context.now locals.now) level) op) code.old code.new result }
 {
     let operands = operands(context, locals, level, op.operands(), code)?;
     Ok(Term::Op(op, operands))
@@ -257,9 +276,8 @@ fn form<'a, S: Space<Object>>(
 ) -> Result<Term, Stop>
     requires ends { front.now.end ≡ code.old.end }
     requires behind { length code.old.bytes < length front.now.bytes }
-    ensures exact { Reads term_view
+    ensures { Reads term_view
         (λ end whole. form_by (args_of context.now locals.now) (term_at (args_of context.now locals.now) level) place end whole opcode code.old.bytes) front.now code.new result }
-    ensures plain { IfOk result (λ t. is_plain (term_view t) ≡ true) }
 {
     match opcode {
         Opcode::Constant(form) => constant(form, code),
@@ -293,9 +311,8 @@ pub(crate) fn placed<'a, S: Space<Object>>(
 ) -> Result<Term, Stop>
     requires ends { front.now.end ≡ code.old.end }
     requires behind { length code.old.bytes < length front.now.bytes }
-    ensures exact { Reads term_view
+    ensures { Reads term_view
         (λ end whole. placed_by (args_of context.now locals.now) (term_at (args_of context.now locals.now) level) place end whole opcode code.old.bytes) front.now code.new result }
-    ensures plain { IfOk result (λ t. is_plain (term_view t) ≡ true) }
 {
     if let Some(reason) = refusal(place, opcode) {
         return Err(refused(front, reason));
@@ -313,8 +330,7 @@ pub(crate) fn term<S: Space<Object>>(
     place: Place,
     code: &mut Code<'_>,
 ) -> Result<Term, Stop>
-    ensures exact { Reads term_view (term_at (args_of context.now locals.now) level place) code.old code.new result }
-    ensures plain { IfOk result (λ t. is_plain (term_view t) ≡ true) }
+    ensures { Reads term_view (term_at (args_of context.now locals.now) level place) code.old code.new result }
 {
     if level == 0 {
         return Err(code.too_deep().into());

@@ -197,14 +197,6 @@ units_form inner form end bytes = do
 
 -- ---- statements
 
--- neither block nor declaration
-abbrev pub is_plain : TermTree → Bool
-is_plain (if_do v ts e) = false
-is_plain (while_do v ts) = false
-is_plain (declare form before n behind) = false
-is_plain (declare_units form ns vs es) = false
-is_plain _ = true
-
 -- a reader of statements to the end of the bytes
 abbrev pub Statements : Type 0
 Statements = Locals → ℕ → List ℕ → Result (List TermTree) BodyFault

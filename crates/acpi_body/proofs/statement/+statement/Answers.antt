@@ -2,11 +2,13 @@ use Rattle.std.proofs.Common.{rules, ◌≡◌, ℕ, ◌+◌, ◌-◌, ◌<◌, 
 use Rattle.std.proofs.lemmas.Result.{err_from_is_err_and}
 use Rattle.std.proofs.lemmas.List.{map_push}
 use Rattle.acpi_tree.specs.TermView.{term_view, terms_view}
+use Rattle.acpi_tree.specs.declared.place.Place.TheVariants.{Statement}
 use Rattle.acpi_body.specs.steps.Cursor.{Reads}
 use Rattle.acpi_body.specs.steps.Setting.{args_of}
-use Rattle.acpi_body.specs.steps.Reading.{Reader, Statements, term_at, statement_by, statement_at, statements_at}
+use Rattle.acpi_body.specs.steps.Reading.{Reader, Statements, buffer_form, package_form, var_package_form, placed_by, term_at, statement_by, statement_at, statements_at}
 use Rattle.acpi_body.proofs.Branches.{else_fails, if_made, then_fails, while_fails}
 use Rattle.acpi_body.proofs.Parts.{reads_as}
+use Rattle.acpi_body.proofs.Plain.{buffer_keeps, package_keeps, var_package_keeps, placed_keeps, locals_kept}
 use Rattle.acpi_body.proofs.Opened.{statement_opened, statement_unopened}
 use Rattle.acpi_body.proofs.Stated.{One, stated_goes_on, stated_ends, stated_is_done}
 use Rattle.acpi_body.proofs.statement.+statement.Goals as goal
@@ -77,3 +79,26 @@ while_statement-returns-in_err-then-clause-exact g t c =
     let i : Statements = statements_at (args_of c.args.context.now) c.args.context.now.method c.args.level in
     let p = err_from_is_err_and c.from_residual-in_err-then.result c.from_residual-in_err-then.ensures.1 in
     rw (p.1, p.2) (while_fails r i c.args.locals.now c.args.code.now.end c.args.code.now.bytes _ _ _ _ c.in_ok-inner.ensures.0 c.in_ok-predicate.ensures.0 c.in_ok-predicate.ensures.1.same_end c.in_err-then.ensures.exact)
+
+pub form-returns-in-Buffer-clause-locals : goal.form-returns-in-Buffer-clause-locals
+form-returns-in-Buffer-clause-locals g t c =
+    let r : Reader = term_at (args_of c.args.context.now c.args.locals.now) c.args.level in
+    locals_kept term_view (buffer_form r) c.args.code.now c.buffer.new.code c.buffer.result c.args.context.now.method c.args.locals.now (buffer_keeps r c.args.code.now.end c.args.code.now.bytes) c.buffer.ensures
+
+pub form-returns-in-Package-clause-locals : goal.form-returns-in-Package-clause-locals
+form-returns-in-Package-clause-locals g t c =
+    let r : Reader = term_at (args_of c.args.context.now c.args.locals.now) c.args.level in
+    locals_kept term_view (package_form r) c.args.code.now c.package.new.code c.package.result c.args.context.now.method c.args.locals.now (package_keeps r c.args.code.now.end c.args.code.now.bytes) c.package.ensures
+
+pub form-returns-in-VarPackage-clause-locals : goal.form-returns-in-VarPackage-clause-locals
+form-returns-in-VarPackage-clause-locals g t c =
+    let r : Reader = term_at (args_of c.args.context.now c.args.locals.now) c.args.level in
+    locals_kept term_view (var_package_form r) c.args.code.now c.var_package.new.code c.var_package.result c.args.context.now.method c.args.locals.now (var_package_keeps r c.args.code.now.end c.args.code.now.bytes) c.var_package.ensures
+
+pub form-returns-in_default-clause-locals : goal.form-returns-in_default-clause-locals
+form-returns-in_default-clause-locals g t c =
+    let args = args_of c.args.context.now c.args.locals.now in
+    let r : Reader = term_at args c.args.level in
+    let front = c.args.front.now in
+    locals_kept term_view (λ end whole. placed_by args r Statement end whole c.args.opcode c.args.code.now.bytes) front c.placed.new.code c.placed.result c.args.context.now.method c.args.locals.now
+    (placed_keeps args r Statement front.end front.bytes c.args.opcode c.args.code.now.bytes) c.placed.ensures

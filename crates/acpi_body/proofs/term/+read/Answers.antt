@@ -22,7 +22,7 @@ elements-returns-in_err-term g t c =
     let r : Reader = term_at (args_of c.args.context.now c.args.locals.now) c.args.level in
     let p = err_from_is_err_and c.from_residual.result c.from_residual.ensures.1 in
     let some : 0 < length c.each.code.bytes = grind arith in
-    rw (p.1, p.2) (stopped_there (r Element) c.args.code.now c.each.code _ _ some c.in_err-term.ensures.exact c.each.invariant)
+    rw (p.1, p.2) (stopped_there (r Element) c.args.code.now c.each.code _ _ some c.in_err-term.ensures c.each.invariant)
 
 pub elements-each-preserved : goal.elements-each-preserved
 elements-each-preserved g t c =
@@ -30,7 +30,7 @@ elements-each-preserved g t c =
     let n = c.in_ok-term.field-0 in
     let some : 0 < length c.each.code.bytes = grind arith in
     let e : terms_view c.push.new.self.items ≡ terms_view c.each.found.items ++ term_view n ∷ [] = rw c.in_ok-push.ensures.items (map_push _ c.each.found.items n) in
-    rw e (turned (r Element) c.args.code.now c.each.code c.term.new.code _ _ some c.in_ok-term.ensures.exact.0 c.in_ok-term.ensures.exact.1 c.each.invariant)
+    rw e (turned (r Element) c.args.code.now c.each.code c.term.new.code _ _ some c.in_ok-term.ensures.0 c.in_ok-term.ensures.1 c.each.invariant)
 
 pub elements-returns : goal.elements-returns
 elements-returns g t c =
@@ -44,7 +44,7 @@ arguments-returns-in_err-term g t c =
     let p = err_from_is_err_and c.from_residual-in_err-term.result c.from_residual-in_err-term.ensures.1 in
     let left = values_left c.args.count c.each.counter (grind arith) in
     let so : Operated r (values c.args.count) (At Value ∷ values (c.args.count - (c.each.counter + 1))) c.args.code.now c.each.code (terms_view c.each.found.items) = subst (λ ks. Operated r (values c.args.count) ks c.args.code.now c.each.code (terms_view c.each.found.items)) left c.each.invariant in
-    rw (p.1, p.2) (operated_ends r (values c.args.count) (At Value) _ c.args.code.now c.each.code _ _ (rw (value_operand r c.each.code.end c.each.code.bytes) c.in_err-term.ensures.exact) so)
+    rw (p.1, p.2) (operated_ends r (values c.args.count) (At Value) _ c.args.code.now c.each.code _ _ (rw (value_operand r c.each.code.end c.each.code.bytes) c.in_err-term.ensures) so)
 
 pub arguments-each-preserved : goal.arguments-each-preserved
 arguments-each-preserved g t c =
@@ -53,7 +53,7 @@ arguments-each-preserved g t c =
     let left = values_left c.args.count c.each.counter (grind arith) in
     let so : Operated r (values c.args.count) (At Value ∷ values (c.args.count - (c.each.counter + 1))) c.args.code.now c.each.code (terms_view c.each.found.items) = subst (λ ks. Operated r (values c.args.count) ks c.args.code.now c.each.code (terms_view c.each.found.items)) left c.each.invariant in
     let e : terms_view c.push.new.self.items ≡ terms_view c.each.found.items ++ term_view n ∷ [] = rw c.in_ok-push.ensures.items (map_push _ c.each.found.items n) in
-    rw e (operated_goes_on r (values c.args.count) (At Value) (values (c.args.count - (c.each.counter + 1))) c.args.code.now c.each.code c.term.new.code _ _ (value_operand r c.each.code.end c.each.code.bytes ∙ c.in_ok-term.ensures.exact.0) c.in_ok-term.ensures.exact.1 so)
+    rw e (operated_goes_on r (values c.args.count) (At Value) (values (c.args.count - (c.each.counter + 1))) c.args.code.now c.each.code c.term.new.code _ _ (value_operand r c.each.code.end c.each.code.bytes ∙ c.in_ok-term.ensures.0) c.in_ok-term.ensures.1 so)
 
 pub arguments-returns : goal.arguments-returns
 arguments-returns g t c =
@@ -102,17 +102,17 @@ operands-returns g t c =
     let so = subst (λ ks. Operated r c.args.kinds.now ks c.args.code.now c.each.code (operands_view c.each.found.items)) none c.each.invariant in
     (operated_is_done r c.args.kinds.now c.args.code.now c.each.code _ so, record { same_end = so.same_end; at_most = so.within })
 
-pub term-returns-in_err-opcode-clause-exact : goal.term-returns-in_err-opcode-clause-exact
-term-returns-in_err-opcode-clause-exact g t c =
+pub term-returns-in_err-opcode : goal.term-returns-in_err-opcode
+term-returns-in_err-opcode g t c =
     let p = err_from_is_err_and c.from_residual.result c.from_residual.ensures.1 in
     let some : 0 < c.args.level = grind arith in
     rw (p.1, p.2) (term_unopened (args_of c.args.context.now c.args.locals.now) c.args.level c.args.place c.args.code.now.end c.args.code.now.bytes _ some c.in_err-opcode.ensures)
 
-pub term-returns-clause-exact : goal.term-returns-clause-exact
-term-returns-clause-exact g t c =
+pub term-returns : goal.term-returns
+term-returns g t c =
     let args = args_of c.args.context.now c.args.locals.now in
     let some : 0 < c.args.level = grind arith in
     let opens = term_opened args c.args.level c.args.place c.args.code.now.end c.args.code.now.bytes c.in_ok-opcode.opcode c.opcode.new.self.bytes some c.in_ok-opcode.ensures.0 in
     let by : ℕ → List ℕ → _ = λ end whole. placed_by args (term_at args (c.args.level - 1)) c.args.place end whole c.in_ok-opcode.opcode c.opcode.new.self.bytes in
-    let h : Reads term_view by c.args.code.now c.placed.new.code c.placed.result = rw c.fork-front.ensures at c.placed.ensures.exact in
+    let h : Reads term_view by c.args.code.now c.placed.new.code c.placed.result = rw c.fork-front.ensures at c.placed.ensures in
     reads_as term_view by (term_at args c.args.level c.args.place) c.args.code.now c.placed.new.code c.placed.result opens h
