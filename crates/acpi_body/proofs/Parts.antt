@@ -1,10 +1,10 @@
 -- Readings of parts, with their faults as faults of bodies.
-use Rattle.std.proofs.Common.{◌≡◌, ℕ, ◌<◌, List, length, Result, Ok, Err, IfOk, refl, subst, ◌∙◌}
+use Rattle.std.proofs.Common.{◌≡◌, ℕ, ◌<◌, List, length, Result, Ok, Err, refl, ◌∙◌}
 use Rattle.acpi_code.specs.declared.fault.CodeFault.{CodeFault}
 use Rattle.acpi_code.specs.declared.fault.ConstantFault.{ConstantFault}
 use Rattle.acpi_code.specs.declared.fault.FieldFault.{FieldFault}
 use Rattle.acpi_code.specs.declared.fault.FieldFault.TheVariants as fields
-use Rattle.acpi_code.specs.steps.Left.{Left, Shorter}
+use Rattle.acpi_code.specs.steps.Left.{Left}
 use Rattle.acpi_code.specs.steps.Reading.{◌>>=◌, Reading, with_fault, each_at}
 use Rattle.acpi_code.specs.steps.Cursor.{Stops}
 use Rattle.acpi_code.proofs.Lists.{Turns, stopped}
@@ -12,7 +12,7 @@ use Rattle.acpi_body.specs.declared.fault.BodyFault.{BodyFault}
 use Rattle.acpi_body.specs.declared.fault.Stop.{Stop}
 use Rattle.acpi_body.specs.declared.fault.Stop.TheVariants as stops
 use Rattle.acpi_body.specs.Faults.{fault_of, constant_fault_of}
-use Rattle.acpi_body.specs.steps.Cursor.{field_fault_of, Fails, Gives, Reads}
+use Rattle.acpi_body.specs.steps.Cursor.{field_fault_of, Fails, Reads}
 use Rattle.acpi_body.specs.steps.Reading.{part}
 
 -- ---- as the code tells them
@@ -41,15 +41,3 @@ pub reads_as : {X Y : Type 0} (view : X → Y) (r k : ℕ → List ℕ → Readi
 reads_as view r k old new (Ok x) e h = (e ∙ h.0, h.1)
 reads_as view r k old new (Err stops.Memory) e h = tt
 reads_as view r k old new (Err (stops.Fault f)) e h = e ∙ h
-
--- the same where the reading was made already, and what it is of is only made of it
-pub made_there : {X Y : Type 0} (view : X → Y) (read : ℕ → List ℕ → Reading BodyFault Y) (old new : Left) (y : Y) (result : Result X Stop)
-    → read old.end old.bytes ≡ Ok (y, new.bytes) → Shorter old new → Gives view result (Ok y) → Reads view read old new result
-made_there view read old new y (Ok x) is on made = (cc, on)
-made_there view read old new y (Err stops.Memory) is on made = tt
-made_there view read old new y (Err (stops.Fault f)) is on made = cc
-
--- what holds of it holds of what was made
-pub made_is : {X Y : Type 0} (view : X → Y) (P : Y → Type 0) (y : Y) (result : Result X Stop) → Gives view result (Ok y) → P y → IfOk result (λ x. P (view x))
-made_is view P y (Ok x) made h = let e : y ≡ view x = cc in subst P e h
-made_is view P y (Err e) made h = tt

@@ -162,6 +162,15 @@ pub fn body_misses_among<S: Space<Object>, W, T: Space<W>>(
     misses_of(&context, &PathsOf::new(among), body)
 }
 
+fn listed(alloc: Global, gathered: &Gathered) -> Result<BodyMisses, AllocError>
+    ensures firm { IfOk result (λ m. m.firm.items ≡ finite.keys gathered.now.firm) }
+    ensures open { IfOk result (λ m. map (λ o. (o.path, o.count)) m.open.items ≡ finite.entries gathered.now.awaited) }
+{
+    let firm = paths_of(alloc, &gathered.firm)?;
+    let open = open_misses_of(alloc, &gathered.awaited)?;
+    Ok(BodyMisses { firm, open })
+}
+
 // What a body misses of the paths that are asked for.
 fn misses_of<S: Space<Object>, Q: Wanted>(
     context: &Context<'_, S>,
@@ -176,8 +185,5 @@ fn misses_of<S: Space<Object>, Q: Wanted>(
     ensures open_ascend { IfOk result (λ m. IsStrictlySortedBy path_cmp (map (λ o. o.path) m.open.items)) }
 {
     let gathered = gather(context, wanted, body)?;
-    Ok(BodyMisses {
-        firm: paths_of(context.alloc(), &gathered.firm)?,
-        open: open_misses_of(context.alloc(), &gathered.awaited)?,
-    })
+    listed(context.alloc(), &gathered)
 }

@@ -76,22 +76,6 @@ fn operand_values<S: Space<Object>, Q: Wanted>(
     Ok(())
 }
 
-// The same of two values, one after the other.
-fn two_values<S: Space<Object>, Q: Wanted>(
-    context: &Context<'_, S>,
-    locals: &TreeSpace<()>,
-    wanted: &Q,
-    gathered: &mut Gathered,
-    first: &Term,
-    second: &Term,
-) -> Result<(), AllocError>
-    ensures { OnOk result (gathered.new
-        ≡ after_value (Q.wanted wanted.now) context.now locals.now (after_value (Q.wanted wanted.now) context.now locals.now gathered.old (term_view first.now)) (term_view second.now)) }
-{
-    value(context, locals, wanted, gathered, first)?;
-    value(context, locals, wanted, gathered, second)
-}
-
 // Adds the place of a declared name, if it has one.
 fn declare<S: Space<Object>>(
     context: &Context<'_, S>,
@@ -105,6 +89,25 @@ fn declare<S: Space<Object>>(
         Err(PlaceFault::AboveRoot) => Ok(()),
         Err(PlaceFault::Memory) => Err(AllocError),
     }
+}
+
+// Two values, and the place of the name that is declared behind them.
+fn declare_behind<S: Space<Object>, Q: Wanted>(
+    context: &Context<'_, S>,
+    locals: &mut TreeSpace<()>,
+    wanted: &Q,
+    gathered: &mut Gathered,
+    first: &Term,
+    second: &Term,
+    name: &Name,
+) -> Result<(), AllocError>
+    ensures gathered { OnOk result (gathered.new
+        ≡ after_value (Q.wanted wanted.now) context.now locals.old (after_value (Q.wanted wanted.now) context.now locals.old gathered.old (term_view first.now)) (term_view second.now)) }
+    ensures locals { OnOk result (locals.new ≡ with_place locals.old (place_of context.now.method name.now)) }
+{
+    value(context, locals, wanted, gathered, first)?;
+    value(context, locals, wanted, gathered, second)?;
+    declare(context, locals, name)
 }
 
 // The operands of a declaration see the locals before it.
@@ -129,19 +132,15 @@ fn declaration<S: Space<Object>, Q: Wanted>(
             index,
             name,
             ..
-        } => {
-            two_values(context, locals, wanted, gathered, source, index)?;
-            declare(context, locals, name)
-        }
+        } => declare_behind(context, locals, wanted, gathered, source, index, name),
         Decl::CreateField {
             source,
             index,
             bits,
             name,
         } => {
-            two_values(context, locals, wanted, gathered, source, index)?;
-            value(context, locals, wanted, gathered, bits)?;
-            declare(context, locals, name)
+            value(context, locals, wanted, gathered, source)?;
+            declare_behind(context, locals, wanted, gathered, index, bits, name)
         }
         Decl::Mutex(name, _) => declare(context, locals, name),
         Decl::Event(name) => declare(context, locals, name),
@@ -150,10 +149,7 @@ fn declaration<S: Space<Object>, Q: Wanted>(
             offset,
             length,
             ..
-        } => {
-            two_values(context, locals, wanted, gathered, offset, length)?;
-            declare(context, locals, name)
-        }
+        } => declare_behind(context, locals, wanted, gathered, offset, length, name),
         Decl::Field { elems, .. } => add_units(locals, context.method(), elems),
         Decl::IndexField { elems, .. } => add_units(locals, context.method(), elems),
         Decl::BankField {

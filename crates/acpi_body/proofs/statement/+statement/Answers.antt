@@ -102,3 +102,6 @@ form-returns-in_default-clause-locals g t c =
     let front = c.args.front.now in
     locals_kept term_view (λ end whole. placed_by args r Statement end whole c.args.opcode c.args.code.now.bytes) front c.placed.new.code c.placed.result c.args.context.now.method c.args.locals.now
     (placed_keeps args r Statement front.end front.bytes c.args.opcode c.args.code.now.bytes) c.placed.ensures
+
+pub if_statement-returns-clause-locals : goal.if_statement-returns-clause-locals
+if_statement-returns-clause-locals g t c = search rules
