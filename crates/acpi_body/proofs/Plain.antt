@@ -3,7 +3,7 @@ use Rattle.std.proofs.Common.{◌≡◌, ℕ, Bool, true, false, Option, Some, N
 use Rattle.acpi_name.specs.Names.{Segment, NameParts}
 use Rattle.acpi_tree.specs.declared.place.Place.{Place}
 use Rattle.acpi_tree.specs.declared.place.Place.TheVariants.{Value, Element}
-use Rattle.acpi_tree.specs.Terms.{TermTree, int, str, buffer, pkg, var_pkg, call, ref, apply, terms_of}
+use Rattle.acpi_tree.specs.Terms.{TermTree, int, str, buffer, pkg, var_pkg, call, apply, terms_of}
 use Rattle.acpi_code.specs.declared.opcode.Opcode.{Opcode}
 use Rattle.acpi_code.specs.declared.opcode.Opcode.TheVariants as opcodes
 use Rattle.acpi_code.specs.steps.Left.{Left}
@@ -17,7 +17,8 @@ use Rattle.acpi_body.specs.Statements.{locals_after}
 use Rattle.acpi_body.specs.Refusals.{refusal_at}
 use Rattle.acpi_body.specs.steps.Cursor.{Reads}
 use Rattle.acpi_body.specs.Spelling.{values}
-use Rattle.acpi_body.specs.steps.Reading.{Reader, part, operands_at, constant_form, string_form, buffer_form, package_form, var_package_form, name_form, named_by, calls, operator_form, form_by, unless, placed_by}
+use Rattle.acpi_body.specs.steps.Reading.{Reader, part, operands_at, unless, placed_by, form_by}
+use Rattle.acpi_body.specs.steps.Reading.{constant_form, string_form, buffer_form, package_form, var_package_form, name_form, named_by, calls, operator_form}
 
 -- what was read leaves the locals as they are
 abbrev pub Keeps : Reading BodyFault TermTree → Type 0

@@ -8,7 +8,8 @@ ghost use Rattle.acpi_tree.specs.declared.place.Place.TheVariants.{Element};
 ghost use Rattle.acpi_code.specs.steps.Reading.{each_at, byte_at, number_at};
 ghost use Rattle.acpi_body.specs.Spelling.{values};
 ghost use Rattle.acpi_body.specs.steps.Setting.{args_of};
-ghost use Rattle.acpi_body.specs.steps.Reading.{as_raw, constant_form, string_form, buffer_form, package_form, var_package_form, name_form, operator_form, operand_at, operands_at, calls, form_by, placed_by, term_at};
+ghost use Rattle.acpi_body.specs.steps.Reading.{as_raw, operand_at, operands_at, calls, form_by, placed_by, term_at};
+ghost use Rattle.acpi_body.specs.steps.Reading.{constant_form, string_form, buffer_form, package_form, var_package_form, name_form, operator_form};
 ghost use Rattle.acpi_body.specs.steps.Cursor.{Gives, Reads, ReadsOn, ReadsAll};
 
 use crate::arguments::{Context, count};

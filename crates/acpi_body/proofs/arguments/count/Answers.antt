@@ -10,7 +10,8 @@ use Rattle.acpi_body.specs.steps.Setting.{args_of}
 use Rattle.acpi_body.proofs.arguments.count.Goals as goal
 
 -- a name that has no place is followed by nothing
-count_above : (objects : Namespace) (externals : Lookup ℕ) (s : List Segment) (locals : Locals) (n : NameParts) → plain_segment n ≡ None → place_of s n ≡ None → arguments objects externals s locals n ≡ 0
+count_above : (objects : Namespace) (externals : Lookup ℕ) (s : List Segment) (locals : Locals) (n : NameParts) → plain_segment n ≡ None → place_of s n ≡ None
+    → arguments objects externals s locals n ≡ 0
 count_above objects externals s locals n plain none = rw (plain, none) refl
 
 pub returns-in-Err-AboveRoot : goal.returns-in-Err-AboveRoot

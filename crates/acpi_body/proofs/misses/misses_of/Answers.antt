@@ -10,7 +10,8 @@ use Rattle.acpi_body.proofs.misses.misses_of.Goals as goal
 pub returns-clause-firm : goal.returns-clause-firm
 returns-clause-firm g c =
     let s = c.args.context.now in
-    IfOk-weaker c.listed.result _ _ (λ m e. paths_among c.in_ok-gathered.gathered.firm (λ p. IsFirmMiss (namespace_of s.objects) (get s.externals) s.method (body_view c.args.body.now) p × IsTrue (g.Q.Wanted.wanted c.args.wanted.now p))
+    IfOk-weaker c.listed.result _ _ (λ m e. paths_among c.in_ok-gathered.gathered.firm
+    (λ p. IsFirmMiss (namespace_of s.objects) (get s.externals) s.method (body_view c.args.body.now) p × IsTrue (g.Q.Wanted.wanted c.args.wanted.now p))
     m.firm.items e c.in_ok-gathered.ensures.firm) c.listed.ensures.firm
 
 pub returns-clause-firm_ascend : goal.returns-clause-firm_ascend
@@ -19,7 +20,8 @@ returns-clause-firm_ascend g c = IfOk-weaker c.listed.result _ _ (λ m e. paths_
 pub returns-clause-open : goal.returns-clause-open
 returns-clause-open g c =
     let s = c.args.context.now in
-    IfOk-weaker c.listed.result _ _ (λ m e. counts_among c.in_ok-gathered.gathered.awaited (λ p count. IsOpenMiss (namespace_of s.objects) (get s.externals) s.method (body_view c.args.body.now) p count × IsTrue (g.Q.Wanted.wanted c.args.wanted.now p))
+    IfOk-weaker c.listed.result _ _ (λ m e. counts_among c.in_ok-gathered.gathered.awaited
+    (λ p count. IsOpenMiss (namespace_of s.objects) (get s.externals) s.method (body_view c.args.body.now) p count × IsTrue (g.Q.Wanted.wanted c.args.wanted.now p))
     m.open.items e c.in_ok-gathered.ensures.awaited) c.listed.ensures.open
 
 pub returns-clause-open_ascend : goal.returns-clause-open_ascend

@@ -1,4 +1,4 @@
-use Rattle.std.proofs.Common.{rules, ◌≡◌, ℕ, ◌+◌, ◌-◌, ◌<◌, ◌≤◌, ◌++◌, ◌∷◌, [], List, length, arith, ◌∙◌}
+use Rattle.std.proofs.Common.{rules, ◌≡◌, ℕ, ◌-◌, ◌<◌, ◌++◌, ◌∷◌, [], List, length, arith}
 use Rattle.std.proofs.lemmas.Result.{err_from_is_err_and}
 use Rattle.std.proofs.lemmas.List.{map_push}
 use Rattle.acpi_tree.specs.TermView.{term_view, terms_view}
@@ -83,17 +83,20 @@ while_statement-returns-in_err-then-clause-exact g t c =
 pub form-returns-in-Buffer-clause-locals : goal.form-returns-in-Buffer-clause-locals
 form-returns-in-Buffer-clause-locals g t c =
     let r : Reader = term_at (args_of c.args.context.now c.args.locals.now) c.args.level in
-    locals_kept term_view (buffer_form r) c.args.code.now c.buffer.new.code c.buffer.result c.args.context.now.method c.args.locals.now (buffer_keeps r c.args.code.now.end c.args.code.now.bytes) c.buffer.ensures
+    locals_kept term_view (buffer_form r) c.args.code.now c.buffer.new.code c.buffer.result c.args.context.now.method c.args.locals.now
+    (buffer_keeps r c.args.code.now.end c.args.code.now.bytes) c.buffer.ensures
 
 pub form-returns-in-Package-clause-locals : goal.form-returns-in-Package-clause-locals
 form-returns-in-Package-clause-locals g t c =
     let r : Reader = term_at (args_of c.args.context.now c.args.locals.now) c.args.level in
-    locals_kept term_view (package_form r) c.args.code.now c.package.new.code c.package.result c.args.context.now.method c.args.locals.now (package_keeps r c.args.code.now.end c.args.code.now.bytes) c.package.ensures
+    locals_kept term_view (package_form r) c.args.code.now c.package.new.code c.package.result c.args.context.now.method c.args.locals.now
+    (package_keeps r c.args.code.now.end c.args.code.now.bytes) c.package.ensures
 
 pub form-returns-in-VarPackage-clause-locals : goal.form-returns-in-VarPackage-clause-locals
 form-returns-in-VarPackage-clause-locals g t c =
     let r : Reader = term_at (args_of c.args.context.now c.args.locals.now) c.args.level in
-    locals_kept term_view (var_package_form r) c.args.code.now c.var_package.new.code c.var_package.result c.args.context.now.method c.args.locals.now (var_package_keeps r c.args.code.now.end c.args.code.now.bytes) c.var_package.ensures
+    locals_kept term_view (var_package_form r) c.args.code.now c.var_package.new.code c.var_package.result c.args.context.now.method c.args.locals.now
+    (var_package_keeps r c.args.code.now.end c.args.code.now.bytes) c.var_package.ensures
 
 pub form-returns-in_default-clause-locals : goal.form-returns-in_default-clause-locals
 form-returns-in_default-clause-locals g t c =

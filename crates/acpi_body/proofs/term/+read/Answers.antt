@@ -1,19 +1,18 @@
-use Rattle.std.proofs.Common.{rules, true, false, ◌≡◌, ℕ, ◌+◌, ◌-◌, ◌<◌, ◌≤◌, ◌++◌, ◌∷◌, [], List, length, drop, arith, refl, sym, subst, ◌∙◌}
+use Rattle.std.proofs.Common.{rules, true, false, ◌≡◌, ℕ, ◌+◌, ◌-◌, ◌<◌, ◌++◌, ◌∷◌, [], List, length, arith, sym, subst, ◌∙◌}
 use Rattle.std.proofs.lemmas.Result.{err_from_is_err_and}
 use Rattle.std.proofs.lemmas.List.{map_push, drop_more, length-drop}
 use Rattle.acpi_tree.specs.TermView.{term_view, terms_view, operand_view, operands_view}
 use Rattle.acpi_tree.specs.declared.place.Place.TheVariants.{Element, Value}
-use Rattle.acpi_tree.specs.declared.place.OperandKind.{OperandKind}
 use Rattle.acpi_tree.specs.declared.place.OperandKind.TheVariants.{At}
 use Rattle.acpi_code.proofs.Lists.{turned, all_turned}
 use Rattle.acpi_body.specs.Spelling.{values}
 use Rattle.acpi_body.specs.steps.Cursor.{Reads}
 use Rattle.acpi_body.specs.steps.Setting.{args_of}
-use Rattle.acpi_body.specs.steps.Reading.{Reader, operand_at, placed_by, term_at}
+use Rattle.acpi_body.specs.steps.Reading.{Reader, placed_by, term_at}
 use Rattle.acpi_body.specs.steps.Registers.{front_register}
 use Rattle.acpi_body.proofs.Parts.{stopped_there, reads_as}
 use Rattle.acpi_body.proofs.Opened.{term_opened, term_unopened}
-use Rattle.acpi_body.proofs.InOrder.{Operated, operated_starts, operated_goes_on, operated_ends, operated_is_done, none_left_of, values_left, no_values_left, value_operand}
+use Rattle.acpi_body.proofs.InOrder.{Operated, operated_goes_on, operated_ends, operated_is_done, none_left_of, values_left, no_values_left, value_operand}
 use Rattle.acpi_body.proofs.Registers.{register_front, some_register}
 use Rattle.acpi_body.proofs.term.+read.Goals as goal
 
