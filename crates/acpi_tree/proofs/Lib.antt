@@ -1,2 +1,4 @@
 pub mod Alike
+pub mod DeclarationForms
+pub mod TermForms
 pub mod TermLists

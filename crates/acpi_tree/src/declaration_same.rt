@@ -18,14 +18,7 @@ pub(crate) fn is_mutex(name: &Name, flags: u8, decl: &Decl) -> bool
 {
     match decl {
         Decl::Mutex(n, f) => name == n && flags == *f,
-        Decl::Name(..) => false,
-        Decl::Create { .. } => false,
-        Decl::CreateField { .. } => false,
-        Decl::Event(_) => false,
-        Decl::Region { .. } => false,
-        Decl::Field { .. } => false,
-        Decl::IndexField { .. } => false,
-        Decl::BankField { .. } => false,
+        _ => false,
     }
 }
 
@@ -34,14 +27,7 @@ pub(crate) fn is_event(name: &Name, decl: &Decl) -> bool
 {
     match decl {
         Decl::Event(n) => name == n,
-        Decl::Name(..) => false,
-        Decl::Create { .. } => false,
-        Decl::CreateField { .. } => false,
-        Decl::Mutex(..) => false,
-        Decl::Region { .. } => false,
-        Decl::Field { .. } => false,
-        Decl::IndexField { .. } => false,
-        Decl::BankField { .. } => false,
+        _ => false,
     }
 }
 
@@ -54,14 +40,7 @@ pub(crate) fn is_field(region: &Name, flags: u8, elems: &[FieldElem], decl: &Dec
             flags: f,
             elems: es,
         } => region == r && flags == *f && same_fields(elems, es),
-        Decl::Name(..) => false,
-        Decl::Create { .. } => false,
-        Decl::CreateField { .. } => false,
-        Decl::Mutex(..) => false,
-        Decl::Event(_) => false,
-        Decl::Region { .. } => false,
-        Decl::IndexField { .. } => false,
-        Decl::BankField { .. } => false,
+        _ => false,
     }
 }
 
@@ -81,13 +60,6 @@ pub(crate) fn is_index_field(
             flags: f,
             elems: es,
         } => index == i && datum == d && flags == *f && same_fields(elems, es),
-        Decl::Name(..) => false,
-        Decl::Create { .. } => false,
-        Decl::CreateField { .. } => false,
-        Decl::Mutex(..) => false,
-        Decl::Event(_) => false,
-        Decl::Region { .. } => false,
-        Decl::Field { .. } => false,
-        Decl::BankField { .. } => false,
+        _ => false,
     }
 }

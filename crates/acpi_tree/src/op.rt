@@ -77,25 +77,29 @@ impl Op {
                 OperandKind::At(Place::Value),
                 OperandKind::At(Place::SuperName),
             ],
-            Op::RefOf => &[OperandKind::At(Place::SuperName)],
-            Op::Add => &[
-                OperandKind::At(Place::Value),
-                OperandKind::At(Place::Value),
-                OperandKind::Target,
-            ],
-            Op::Concat => &[
-                OperandKind::At(Place::Value),
-                OperandKind::At(Place::Value),
-                OperandKind::Target,
-            ],
-            Op::Subtract => &[
-                OperandKind::At(Place::Value),
-                OperandKind::At(Place::Value),
-                OperandKind::Target,
-            ],
-            Op::Increment => &[OperandKind::At(Place::SuperName)],
-            Op::Decrement => &[OperandKind::At(Place::SuperName)],
-            Op::Multiply => &[
+            Op::RefOf
+            | Op::Increment
+            | Op::Decrement
+            | Op::SizeOf
+            | Op::ObjectType
+            | Op::Signal
+            | Op::Reset
+            | Op::Release => &[OperandKind::At(Place::SuperName)],
+            Op::Add
+            | Op::Concat
+            | Op::Subtract
+            | Op::Multiply
+            | Op::ShiftLeft
+            | Op::ShiftRight
+            | Op::And
+            | Op::NAnd
+            | Op::Or
+            | Op::NOr
+            | Op::XOr
+            | Op::ConcatRes
+            | Op::Mod
+            | Op::Index
+            | Op::ToString => &[
                 OperandKind::At(Place::Value),
                 OperandKind::At(Place::Value),
                 OperandKind::Target,
@@ -106,64 +110,21 @@ impl Op {
                 OperandKind::Target,
                 OperandKind::Target,
             ],
-            Op::ShiftLeft => &[
-                OperandKind::At(Place::Value),
-                OperandKind::At(Place::Value),
-                OperandKind::Target,
-            ],
-            Op::ShiftRight => &[
-                OperandKind::At(Place::Value),
-                OperandKind::At(Place::Value),
-                OperandKind::Target,
-            ],
-            Op::And => &[
-                OperandKind::At(Place::Value),
-                OperandKind::At(Place::Value),
-                OperandKind::Target,
-            ],
-            Op::NAnd => &[
-                OperandKind::At(Place::Value),
-                OperandKind::At(Place::Value),
-                OperandKind::Target,
-            ],
-            Op::Or => &[
-                OperandKind::At(Place::Value),
-                OperandKind::At(Place::Value),
-                OperandKind::Target,
-            ],
-            Op::NOr => &[
-                OperandKind::At(Place::Value),
-                OperandKind::At(Place::Value),
-                OperandKind::Target,
-            ],
-            Op::XOr => &[
-                OperandKind::At(Place::Value),
-                OperandKind::At(Place::Value),
-                OperandKind::Target,
-            ],
-            Op::Not => &[OperandKind::At(Place::Value), OperandKind::Target],
-            Op::FindSetLeftBit => &[OperandKind::At(Place::Value), OperandKind::Target],
-            Op::FindSetRightBit => &[OperandKind::At(Place::Value), OperandKind::Target],
-            Op::DerefOf => &[OperandKind::At(Place::Value)],
-            Op::ConcatRes => &[
-                OperandKind::At(Place::Value),
-                OperandKind::At(Place::Value),
-                OperandKind::Target,
-            ],
-            Op::Mod => &[
-                OperandKind::At(Place::Value),
-                OperandKind::At(Place::Value),
-                OperandKind::Target,
-            ],
-            Op::Notify => &[
+            Op::Not
+            | Op::FindSetLeftBit
+            | Op::FindSetRightBit
+            | Op::ToBuffer
+            | Op::ToDecimalString
+            | Op::ToHexString
+            | Op::ToInteger
+            | Op::FromBCD
+            | Op::ToBCD => &[OperandKind::At(Place::Value), OperandKind::Target],
+            Op::DerefOf | Op::LNot | Op::Return | Op::Stall | Op::Sleep => &[OperandKind::At(
+                Place::Value,
+            )],
+            Op::Notify | Op::Wait => &[
                 OperandKind::At(Place::SuperName),
                 OperandKind::At(Place::Value),
-            ],
-            Op::SizeOf => &[OperandKind::At(Place::SuperName)],
-            Op::Index => &[
-                OperandKind::At(Place::Value),
-                OperandKind::At(Place::Value),
-                OperandKind::Target,
             ],
             Op::Match => &[
                 OperandKind::At(Place::Value),
@@ -173,21 +134,9 @@ impl Op {
                 OperandKind::At(Place::Value),
                 OperandKind::At(Place::Value),
             ],
-            Op::ObjectType => &[OperandKind::At(Place::SuperName)],
-            Op::LAnd => &[OperandKind::At(Place::Value), OperandKind::At(Place::Value)],
-            Op::LOr => &[OperandKind::At(Place::Value), OperandKind::At(Place::Value)],
-            Op::LNot => &[OperandKind::At(Place::Value)],
-            Op::LEqual => &[OperandKind::At(Place::Value), OperandKind::At(Place::Value)],
-            Op::LGreater => &[OperandKind::At(Place::Value), OperandKind::At(Place::Value)],
-            Op::LLess => &[OperandKind::At(Place::Value), OperandKind::At(Place::Value)],
-            Op::ToBuffer => &[OperandKind::At(Place::Value), OperandKind::Target],
-            Op::ToDecimalString => &[OperandKind::At(Place::Value), OperandKind::Target],
-            Op::ToHexString => &[OperandKind::At(Place::Value), OperandKind::Target],
-            Op::ToInteger => &[OperandKind::At(Place::Value), OperandKind::Target],
-            Op::ToString => &[
+            Op::LAnd | Op::LOr | Op::LEqual | Op::LGreater | Op::LLess => &[
                 OperandKind::At(Place::Value),
                 OperandKind::At(Place::Value),
-                OperandKind::Target,
             ],
             Op::CopyObject => &[
                 OperandKind::At(Place::Value),
@@ -199,30 +148,14 @@ impl Op {
                 OperandKind::At(Place::Value),
                 OperandKind::Target,
             ],
-            Op::Continue => &[],
-            Op::Noop => &[],
-            Op::Return => &[OperandKind::At(Place::Value)],
-            Op::Break => &[],
-            Op::BreakPoint => &[],
+            Op::Continue | Op::Noop | Op::Break | Op::BreakPoint | Op::Timer => &[],
             Op::CondRefOf => &[OperandKind::At(Place::SuperName), OperandKind::Target],
-            Op::Stall => &[OperandKind::At(Place::Value)],
-            Op::Sleep => &[OperandKind::At(Place::Value)],
             Op::Acquire => &[OperandKind::At(Place::SuperName), OperandKind::Word],
-            Op::Signal => &[OperandKind::At(Place::SuperName)],
-            Op::Wait => &[
-                OperandKind::At(Place::SuperName),
-                OperandKind::At(Place::Value),
-            ],
-            Op::Reset => &[OperandKind::At(Place::SuperName)],
-            Op::Release => &[OperandKind::At(Place::SuperName)],
-            Op::FromBCD => &[OperandKind::At(Place::Value), OperandKind::Target],
-            Op::ToBCD => &[OperandKind::At(Place::Value), OperandKind::Target],
             Op::Fatal => &[
                 OperandKind::Byte,
                 OperandKind::DWord,
                 OperandKind::At(Place::Value),
             ],
-            Op::Timer => &[],
         }
     }
 

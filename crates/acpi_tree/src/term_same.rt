@@ -219,20 +219,7 @@ fn is_declaration(decl: &Decl, term: &Term) -> bool
 {
     match term {
         Term::Declare(d) => same_decl(decl, d),
-        Term::Int(_) => false,
-        Term::Str(_) => false,
-        Term::Buffer(..) => false,
-        Term::Package(..) => false,
-        Term::VarPackage(..) => false,
-        Term::Local(_) => false,
-        Term::Arg(_) => false,
-        Term::Debug => false,
-        Term::NoTarget => false,
-        Term::Ref(_) => false,
-        Term::Call(..) => false,
-        Term::Op(..) => false,
-        Term::If(..) => false,
-        Term::While(..) => false,
+        _ => false,
     }
 }
 
@@ -307,14 +294,7 @@ fn is_name(name: &Name, data: &Term, decl: &Decl) -> bool
 {
     match decl {
         Decl::Name(n, t) => name == n && same_term(data, t),
-        Decl::Create { .. } => false,
-        Decl::CreateField { .. } => false,
-        Decl::Mutex(..) => false,
-        Decl::Event(_) => false,
-        Decl::Region { .. } => false,
-        Decl::Field { .. } => false,
-        Decl::IndexField { .. } => false,
-        Decl::BankField { .. } => false,
+        _ => false,
     }
 }
 
@@ -331,14 +311,7 @@ fn is_create(width: Width, source: &Term, index: &Term, name: &Name, decl: &Decl
             index: i,
             name: n,
         } => same_width(width, *w) && same_term(source, s) && same_term(index, i) && name == n,
-        Decl::Name(..) => false,
-        Decl::CreateField { .. } => false,
-        Decl::Mutex(..) => false,
-        Decl::Event(_) => false,
-        Decl::Region { .. } => false,
-        Decl::Field { .. } => false,
-        Decl::IndexField { .. } => false,
-        Decl::BankField { .. } => false,
+        _ => false,
     }
 }
 
@@ -356,14 +329,7 @@ fn is_create_field(source: &Term, index: &Term, bits: &Term, name: &Name, decl: 
             bits: c,
             name: n,
         } => same_term(source, s) && same_term(index, i) && same_term(bits, c) && name == n,
-        Decl::Name(..) => false,
-        Decl::Create { .. } => false,
-        Decl::Mutex(..) => false,
-        Decl::Event(_) => false,
-        Decl::Region { .. } => false,
-        Decl::Field { .. } => false,
-        Decl::IndexField { .. } => false,
-        Decl::BankField { .. } => false,
+        _ => false,
     }
 }
 
@@ -381,14 +347,7 @@ fn is_region(name: &Name, space: u8, offset: &Term, length: &Term, decl: &Decl) 
             offset: o,
             length: l,
         } => name == n && space == *s && same_term(offset, o) && same_term(length, l),
-        Decl::Name(..) => false,
-        Decl::Create { .. } => false,
-        Decl::CreateField { .. } => false,
-        Decl::Mutex(..) => false,
-        Decl::Event(_) => false,
-        Decl::Field { .. } => false,
-        Decl::IndexField { .. } => false,
-        Decl::BankField { .. } => false,
+        _ => false,
     }
 }
 
@@ -415,14 +374,7 @@ fn is_bank_field(
             && same_term(value, v)
             && flags == *f
             && same_fields(elems, es),
-        Decl::Name(..) => false,
-        Decl::Create { .. } => false,
-        Decl::CreateField { .. } => false,
-        Decl::Mutex(..) => false,
-        Decl::Event(_) => false,
-        Decl::Region { .. } => false,
-        Decl::Field { .. } => false,
-        Decl::IndexField { .. } => false,
+        _ => false,
     }
 }
 

@@ -2,5 +2,5 @@
 use Rattle.std.proofs.Common.{rules}
 use Rattle.acpi_tree.proofs.op.Op.operands.Goals as goal
 
-pub returns-in-Return : goal.returns-in-Return
-returns-in-Return c = search rules
+pub returns-in-Continue : goal.returns-in-Continue
+returns-in-Continue c = search rules
