@@ -1,5 +1,9 @@
+pub mod DataForms
 pub mod Forms
 pub mod Dotted
 pub mod Elements
 pub mod HexDigits
+pub mod Pieces
+pub mod Blocks
+pub mod TermForms
 pub mod TermLists

@@ -1,6 +1,6 @@
 //! Constant data.
 
-ghost use Rattle.std.specs.Prelude.{◌≡◌, ◌++◌, OnOk, codes};
+ghost use Rattle.std.specs.Prelude.{◌≡◌, ◌++◌, OnOk, codes, decimal};
 ghost use Rattle.acpi_tree.specs.Tree.{elems_of};
 ghost use Rattle.acpi_tree.specs.View.{data_view, elem_view, elems_view};
 ghost use Rattle.acpi_text.specs.Constants.{int_text};
@@ -8,7 +8,7 @@ ghost use Rattle.acpi_text.specs.Objects.{data_text, elem_text, elems_text};
 
 use crate::bytes::{put_bytes, put_string};
 use crate::names::put_name;
-use crate::numbers::{put, put_decimal, put_int};
+use crate::numbers::{put, put_int, put_number};
 use acpi_tree::{Data, Elem, Int};
 use std::alloc::AllocError;
 
@@ -19,6 +19,14 @@ pub(crate) fn put_sized(text: &mut Vec<u8>, word: &str, size: Int) -> Result<(),
     put(text, word)?;
     put(text, "(")?;
     put_int(text, size)?;
+    put(text, ")")
+}
+
+// The count of a package's elements.
+pub(crate) fn put_count(text: &mut Vec<u8>, count: u64) -> Result<(), AllocError>
+    ensures { OnOk result (text.new.items ≡ text.old.items ++ (codes "Package(" ++ decimal count ++ codes ")")) }
+{
+    put_number(text, "Package(", count)?;
     put(text, ")")
 }
 
@@ -65,9 +73,7 @@ pub fn put_data(text: &mut Vec<u8>, data: &Data) -> Result<(), AllocError>
             put_bytes(text, bytes)
         }
         Data::Package(count, elems) => {
-            put(text, "Package(")?;
-            put_decimal(text, u64::from(*count))?;
-            put(text, ")")?;
+            put_count(text, u64::from(*count))?;
             put_elems(text, elems)
         }
         Data::VarPackage(count, elems) => {

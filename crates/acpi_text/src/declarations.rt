@@ -1,13 +1,13 @@
 //! Declarations of method bodies.
 
-ghost use Rattle.std.specs.Prelude.{◌≡◌, ◌++◌, ◌∷◌, [], OnOk, codes};
+ghost use Rattle.std.specs.Prelude.{◌≡◌, ◌++◌, ◌∷◌, [], OnOk, codes, map};
 ghost use Rattle.acpi_name.specs.Text.{name_text};
 ghost use Rattle.acpi_tree.specs.Terms.{declare, declare_units, more, no_terms, raw};
 ghost use Rattle.acpi_tree.specs.View.{fields_view};
 ghost use Rattle.acpi_tree.specs.TermView.{term_view, decl_view};
 ghost use Rattle.acpi_tree.specs.declared.place.NamedForm.TheVariants as named;
 ghost use Rattle.acpi_tree.specs.declared.place.UnitsForm.TheVariants as units;
-ghost use Rattle.acpi_text.specs.Terms.{term_text, raw_text};
+ghost use Rattle.acpi_text.specs.Terms.{braces_text, field_text, term_text, raw_text};
 ghost use Rattle.acpi_text.specs.Objects.{width_text};
 
 use crate::fields::put_fields;
@@ -16,7 +16,7 @@ use crate::numbers::{put, put_raw};
 use crate::objects::put_width;
 use crate::terms::put_term;
 use acpi_name::Name;
-use acpi_tree::{Decl, FieldElem, Term};
+use acpi_tree::{Decl, FieldElem, Term, Width};
 use std::alloc::AllocError;
 
 // The word of a declaration, a parenthesis, and the name that comes first.
@@ -28,6 +28,14 @@ fn put_first_name(text: &mut Vec<u8>, word: &str, name: &Name) -> Result<(), All
     put_name(text, name.view())
 }
 
+// .. and one more, behind which other arguments stand
+fn put_two_names(text: &mut Vec<u8>, word: &str, name: &Name, next: &Name) -> Result<(), AllocError>
+    ensures { OnOk result (text.new.items ≡ text.old.items ++ (word.now ++ codes "(" ++ name_text name.now ++ codes ", " ++ name_text next.now)) }
+{
+    put_first_name(text, word, name)?;
+    put_next_name(text, next)
+}
+
 // One more argument: a name.
 fn put_next_name(text: &mut Vec<u8>, name: &Name) -> Result<(), AllocError>
     ensures { OnOk result (text.new.items ≡ text.old.items ++ (codes ", " ++ name_text name.now)) }
@@ -36,12 +44,29 @@ fn put_next_name(text: &mut Vec<u8>, name: &Name) -> Result<(), AllocError>
     put_name(text, name.view())
 }
 
-// One more argument: a byte.
-fn put_next_byte(text: &mut Vec<u8>, n: u8) -> Result<(), AllocError>
-    ensures { OnOk result (text.new.items ≡ text.old.items ++ (codes ", " ++ raw_text 1 n)) }
+// The last argument: a name.
+fn put_last_name(text: &mut Vec<u8>, name: &Name) -> Result<(), AllocError>
+    ensures { OnOk result (text.new.items ≡ text.old.items ++ (codes ", " ++ name_text name.now ++ codes ")")) }
 {
-    put(text, ", ")?;
-    put_raw(text, n)
+    put_next_name(text, name)?;
+    put(text, ")")
+}
+
+// The word of a Create declaration, and a parenthesis.
+fn put_create(text: &mut Vec<u8>, width: Width) -> Result<(), AllocError>
+    ensures { OnOk result (text.new.items ≡ text.old.items ++ (codes "Create" ++ width_text width ++ codes "Field(")) }
+{
+    put(text, "Create")?;
+    put_width(text, width)?;
+    put(text, "Field(")
+}
+
+// The name of a region, and its space.
+fn put_space(text: &mut Vec<u8>, name: &Name, space: u8) -> Result<(), AllocError>
+    ensures { OnOk result (text.new.items ≡ text.old.items ++ (codes "OperationRegion(" ++ name_text name.now ++ codes ", " ++ raw_text 1 space)) }
+{
+    put_first_name(text, "OperationRegion", name)?;
+    put_raw(text, ", ", space)
 }
 
 // One more argument: a term.
@@ -63,8 +88,7 @@ pub(crate) fn put_decl(text: &mut Vec<u8>, decl: &Decl) -> Result<(), AllocError
         Decl::Name(name, data) => {
             put_first_name(text, "Name", name)?;
             put_next_term(text, data)?;
-            put(text, ")")?;
-            Ok(())
+            put(text, ")")
         }
         Decl::Create {
             width,
@@ -72,14 +96,10 @@ pub(crate) fn put_decl(text: &mut Vec<u8>, decl: &Decl) -> Result<(), AllocError
             index,
             name,
         } => {
-            put(text, "Create")?;
-            put_width(text, *width)?;
-            put(text, "Field(")?;
+            put_create(text, *width)?;
             put_term(text, source)?;
             put_next_term(text, index)?;
-            put_next_name(text, name)?;
-            put(text, ")")?;
-            Ok(())
+            put_last_name(text, name)
         }
         Decl::CreateField {
             source,
@@ -91,9 +111,7 @@ pub(crate) fn put_decl(text: &mut Vec<u8>, decl: &Decl) -> Result<(), AllocError
             put_term(text, source)?;
             put_next_term(text, index)?;
             put_next_term(text, bits)?;
-            put_next_name(text, name)?;
-            put(text, ")")?;
-            Ok(())
+            put_last_name(text, name)
         }
         Decl::Mutex(name, flags) => put_mutex(text, name, *flags),
         Decl::Event(name) => put_event(text, name),
@@ -103,12 +121,10 @@ pub(crate) fn put_decl(text: &mut Vec<u8>, decl: &Decl) -> Result<(), AllocError
             offset,
             length,
         } => {
-            put_first_name(text, "OperationRegion", name)?;
-            put_next_byte(text, *space)?;
+            put_space(text, name, *space)?;
             put_next_term(text, offset)?;
             put_next_term(text, length)?;
-            put(text, ")")?;
-            Ok(())
+            put(text, ")")
         }
         Decl::Field {
             region,
@@ -137,17 +153,24 @@ fn put_mutex(text: &mut Vec<u8>, name: &Name, flags: u8) -> Result<(), AllocErro
     ensures { OnOk result (text.new.items ≡ text.old.items ++ term_text (declare named.Mutex no_terms name.now (more (raw 1 flags) no_terms))) }
 {
     put_first_name(text, "Mutex", name)?;
-    put_next_byte(text, flags)?;
-    put(text, ")")?;
-    Ok(())
+    put_raw(text, ", ", flags)?;
+    put(text, ")")
 }
 
 fn put_event(text: &mut Vec<u8>, name: &Name) -> Result<(), AllocError>
     ensures { OnOk result (text.new.items ≡ text.old.items ++ term_text (declare named.Event no_terms name.now no_terms)) }
 {
     put_first_name(text, "Event", name)?;
-    put(text, ")")?;
-    Ok(())
+    put(text, ")")
+}
+
+// The flags of field units, which are the last argument, and the units.
+fn put_units(text: &mut Vec<u8>, flags: u8, elems: &[FieldElem]) -> Result<(), AllocError>
+    ensures { OnOk result (text.new.items ≡ text.old.items ++ (codes ", " ++ raw_text 1 flags ++ codes ") " ++ braces_text (map field_text (fields_view elems.now)))) }
+{
+    put_raw(text, ", ", flags)?;
+    put(text, ") ")?;
+    put_fields(text, elems)
 }
 
 fn put_field(
@@ -159,10 +182,7 @@ fn put_field(
     ensures { OnOk result (text.new.items ≡ text.old.items ++ term_text (declare_units units.Field (region.now ∷ []) (more (raw 1 flags) no_terms) (fields_view elems.now))) }
 {
     put_first_name(text, "Field", region)?;
-    put_next_byte(text, flags)?;
-    put(text, ") ")?;
-    put_fields(text, elems)?;
-    Ok(())
+    put_units(text, flags, elems)
 }
 
 fn put_index_field(
@@ -174,12 +194,8 @@ fn put_index_field(
 ) -> Result<(), AllocError>
     ensures { OnOk result (text.new.items ≡ text.old.items ++ term_text (declare_units units.IndexField (index.now ∷ datum.now ∷ []) (more (raw 1 flags) no_terms) (fields_view elems.now))) }
 {
-    put_first_name(text, "IndexField", index)?;
-    put_next_name(text, datum)?;
-    put_next_byte(text, flags)?;
-    put(text, ") ")?;
-    put_fields(text, elems)?;
-    Ok(())
+    put_two_names(text, "IndexField", index, datum)?;
+    put_units(text, flags, elems)
 }
 
 #[cycle(put_term)]
@@ -193,11 +209,7 @@ fn put_bank_field(
 ) -> Result<(), AllocError>
     ensures { OnOk result (text.new.items ≡ text.old.items ++ term_text (declare_units units.BankField (region.now ∷ bank.now ∷ []) (more (term_view value.now) (more (raw 1 flags) no_terms)) (fields_view elems.now))) }
 {
-    put_first_name(text, "BankField", region)?;
-    put_next_name(text, bank)?;
+    put_two_names(text, "BankField", region, bank)?;
     put_next_term(text, value)?;
-    put_next_byte(text, flags)?;
-    put(text, ") ")?;
-    put_fields(text, elems)?;
-    Ok(())
+    put_units(text, flags, elems)
 }

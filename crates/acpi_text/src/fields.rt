@@ -7,17 +7,16 @@ ghost use Rattle.acpi_text.specs.Terms.{braces_text, field_text, raw_text};
 use crate::bytes::put_bytes;
 use crate::data::put_sized;
 use crate::names::{put_name, put_segment};
-use crate::numbers::{put, put_decimal, put_raw};
+use crate::numbers::{put, put_number, put_raw};
 use acpi_tree::FieldElem;
 use std::alloc::AllocError;
 
-// Access type and attribute of an element.
-fn put_access(text: &mut Vec<u8>, kind: u8, attribute: u8) -> Result<(), AllocError>
-    ensures { OnOk result (text.new.items ≡ text.old.items ++ (raw_text 1 kind ++ codes " " ++ raw_text 1 attribute)) }
+// A word, access type and attribute of an element.
+fn put_access(text: &mut Vec<u8>, word: &str, kind: u8, attribute: u8) -> Result<(), AllocError>
+    ensures { OnOk result (text.new.items ≡ text.old.items ++ (word.now ++ raw_text 1 kind ++ codes " " ++ raw_text 1 attribute)) }
 {
-    put_raw(text, kind)?;
-    put(text, " ")?;
-    put_raw(text, attribute)
+    put_raw(text, word, kind)?;
+    put_raw(text, " ", attribute)
 }
 
 fn put_field_elem(text: &mut Vec<u8>, elem: &FieldElem) -> Result<(), AllocError>
@@ -26,17 +25,10 @@ fn put_field_elem(text: &mut Vec<u8>, elem: &FieldElem) -> Result<(), AllocError
     match elem {
         FieldElem::Unit(seg, bits) => {
             put_segment(text, *seg)?;
-            put(text, " ")?;
-            put_decimal(text, u64::from(*bits))
+            put_number(text, " ", u64::from(*bits))
         }
-        FieldElem::Reserved(bits) => {
-            put(text, "Reserved ")?;
-            put_decimal(text, u64::from(*bits))
-        }
-        FieldElem::Access(kind, attribute) => {
-            put(text, "Access ")?;
-            put_access(text, *kind, *attribute)
-        }
+        FieldElem::Reserved(bits) => put_number(text, "Reserved ", u64::from(*bits)),
+        FieldElem::Access(kind, attribute) => put_access(text, "Access ", *kind, *attribute),
         FieldElem::ConnectName(name) => {
             put(text, "Connect ")?;
             put_name(text, name.view())
@@ -46,10 +38,8 @@ fn put_field_elem(text: &mut Vec<u8>, elem: &FieldElem) -> Result<(), AllocError
             put_bytes(text, &data.bytes)
         }
         FieldElem::Extended(kind, attribute, count) => {
-            put(text, "Extended ")?;
-            put_access(text, *kind, *attribute)?;
-            put(text, " ")?;
-            put_raw(text, *count)
+            put_access(text, "Extended ", *kind, *attribute)?;
+            put_raw(text, " ", *count)
         }
     }
 }

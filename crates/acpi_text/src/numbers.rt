@@ -51,10 +51,11 @@ fn put_qword(text: &mut Vec<u8>, n: u64) -> Result<(), AllocError>
     put_dword(text, (n % 0x1_0000_0000) as u32)
 }
 
-// A byte that is no constant: `0x` and its two digits.
-pub(crate) fn put_raw(text: &mut Vec<u8>, n: u8) -> Result<(), AllocError>
-    ensures { OnOk result (text.new.items ≡ text.old.items ++ raw_text 1 n) }
+// What stands before a byte that is no constant, and the byte: `0x` and its two digits.
+pub(crate) fn put_raw(text: &mut Vec<u8>, before: &str, n: u8) -> Result<(), AllocError>
+    ensures { OnOk result (text.new.items ≡ text.old.items ++ (before.now ++ raw_text 1 n)) }
 {
+    put(text, before)?;
     put(text, "0x")?;
     put_byte(text, n)
 }
@@ -68,6 +69,14 @@ pub fn put_decimal(text: &mut Vec<u8>, n: u64) -> Result<(), AllocError>
     }
     text.push(b'0' + (n % 10) as u8)?;
     Ok(())
+}
+
+// What stands before a decimal number, and the number.
+pub(crate) fn put_number(text: &mut Vec<u8>, before: &str, n: u64) -> Result<(), AllocError>
+    ensures { OnOk result (text.new.items ≡ text.old.items ++ (before.now ++ decimal n)) }
+{
+    put(text, before)?;
+    put_decimal(text, n)
 }
 
 /// Puts a constant in the form in which it was written (ACPI 6.5, 20.2.3): a word, or `0x` and 2, 4, 8 or

@@ -3,10 +3,11 @@
 ghost use Rattle.std.specs.Prelude.{◌≡◌, ◌++◌, OnOk};
 ghost use Rattle.acpi_tree.specs.View.{data_view};
 ghost use Rattle.acpi_tree.specs.Objects.{object_view, processor_object, power_object, region_object, mutex_object, field_object, create_object, create_field_object, name_object};
+ghost use Rattle.acpi_text.specs.Constants.{hex_digits, int_text};
 ghost use Rattle.acpi_text.specs.Objects.{method_text, form_text, bank_text, width_text, object_text};
 
 use crate::data::put_data;
-use crate::numbers::{put, put_byte, put_decimal, put_dword, put_int, put_word};
+use crate::numbers::{put, put_byte, put_dword, put_int, put_number, put_word};
 use acpi_tree::{Data, FieldForm, Int, Object, Width};
 use std::alloc::AllocError;
 
@@ -15,50 +16,55 @@ fn put_method(text: &mut Vec<u8>, flags: u8) -> Result<(), AllocError>
     ensures { OnOk result (text.new.items ≡ text.old.items ++ method_text flags) }
 {
     let (args, serialized, level) = (flags % 8, flags / 8 % 2 == 1, flags / 16);
-    put(text, "Method ")?;
-    put_decimal(text, u64::from(args))?;
+    put_number(text, "Method ", u64::from(args))?;
     if serialized {
         put(text, " Serialized")?;
     }
     if level > 0 {
-        put(text, " Sync ")?;
-        put_decimal(text, u64::from(level))?;
+        put_number(text, " Sync ", u64::from(level))?;
     }
     Ok(())
+}
+
+// What stands before a byte, and its two digits.
+fn put_digits(text: &mut Vec<u8>, before: &str, n: u8) -> Result<(), AllocError>
+    ensures { OnOk result (text.new.items ≡ text.old.items ++ (before.now ++ hex_digits 2 n)) }
+{
+    put(text, before)?;
+    put_byte(text, n)
+}
+
+// What stands before a constant, and the constant.
+fn put_constant(text: &mut Vec<u8>, before: &str, int: Int) -> Result<(), AllocError>
+    ensures { OnOk result (text.new.items ≡ text.old.items ++ (before.now ++ int_text int)) }
+{
+    put(text, before)?;
+    put_int(text, int)
 }
 
 fn put_processor(text: &mut Vec<u8>, id: u8, block: u32, length: u8) -> Result<(), AllocError>
     ensures { OnOk result (text.new.items ≡ text.old.items ++ object_text (processor_object id block length)) }
 {
-    put(text, "Processor id=")?;
-    put_byte(text, id)?;
+    put_digits(text, "Processor id=", id)?;
     put(text, " block=")?;
     put_dword(text, block)?;
-    put(text, " length=")?;
-    put_byte(text, length)?;
-    Ok(())
+    put_digits(text, " length=", length)
 }
 
 fn put_power(text: &mut Vec<u8>, level: u8, order: u16) -> Result<(), AllocError>
     ensures { OnOk result (text.new.items ≡ text.old.items ++ object_text (power_object level order)) }
 {
-    put(text, "PowerResource level=")?;
-    put_byte(text, level)?;
+    put_digits(text, "PowerResource level=", level)?;
     put(text, " order=")?;
-    put_word(text, order)?;
-    Ok(())
+    put_word(text, order)
 }
 
 fn put_region(text: &mut Vec<u8>, space: u8, offset: Int, length: Int) -> Result<(), AllocError>
     ensures { OnOk result (text.new.items ≡ text.old.items ++ object_text (region_object space offset length)) }
 {
-    put(text, "OperationRegion space=")?;
-    put_byte(text, space)?;
-    put(text, " offset=")?;
-    put_int(text, offset)?;
-    put(text, " length=")?;
-    put_int(text, length)?;
-    Ok(())
+    put_digits(text, "OperationRegion space=", space)?;
+    put_constant(text, " offset=", offset)?;
+    put_constant(text, " length=", length)
 }
 
 // The kind of a field unit.
@@ -81,10 +87,7 @@ fn put_bank(text: &mut Vec<u8>, form: FieldForm) -> Result<(), AllocError>
 {
     match form {
         FieldForm::Field | FieldForm::Index => Ok(()),
-        FieldForm::Bank(value) => {
-            put(text, " value=")?;
-            put_int(text, value)
-        }
+        FieldForm::Bank(value) => put_constant(text, " value=", value),
     }
 }
 
@@ -98,14 +101,10 @@ fn put_field(
     ensures { OnOk result (text.new.items ≡ text.old.items ++ object_text (field_object form flags offset bits)) }
 {
     put_form(text, form)?;
-    put(text, " offset=")?;
-    put_decimal(text, offset)?;
-    put(text, " bits=")?;
-    put_decimal(text, u64::from(bits))?;
-    put(text, " flags=")?;
-    put_byte(text, flags)?;
-    put_bank(text, form)?;
-    Ok(())
+    put_number(text, " offset=", offset)?;
+    put_number(text, " bits=", u64::from(bits))?;
+    put_digits(text, " flags=", flags)?;
+    put_bank(text, form)
 }
 
 // The width of a Create field, as it stands in the field's kind.
@@ -129,19 +128,14 @@ fn put_create(text: &mut Vec<u8>, width: Width, index: Int) -> Result<(), AllocE
 {
     put(text, "Create")?;
     put_width(text, width)?;
-    put(text, "Field index=")?;
-    put_int(text, index)?;
-    Ok(())
+    put_constant(text, "Field index=", index)
 }
 
 fn put_create_field(text: &mut Vec<u8>, index: Int, bits: Int) -> Result<(), AllocError>
     ensures { OnOk result (text.new.items ≡ text.old.items ++ object_text (create_field_object index bits)) }
 {
-    put(text, "CreateField index=")?;
-    put_int(text, index)?;
-    put(text, " bits=")?;
-    put_int(text, bits)?;
-    Ok(())
+    put_constant(text, "CreateField index=", index)?;
+    put_constant(text, " bits=", bits)
 }
 
 // A name's data.
@@ -155,8 +149,7 @@ fn put_named(text: &mut Vec<u8>, data: &Data) -> Result<(), AllocError>
 fn put_mutex(text: &mut Vec<u8>, flags: u8) -> Result<(), AllocError>
     ensures { OnOk result (text.new.items ≡ text.old.items ++ object_text (mutex_object flags)) }
 {
-    put(text, "Mutex ")?;
-    put_byte(text, flags)
+    put_digits(text, "Mutex ", flags)
 }
 
 /// Puts an object without its links (docs/COMMAND.md): its kind, and what is known of it. Offsets and widths

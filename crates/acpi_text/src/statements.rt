@@ -39,13 +39,17 @@ fn put_statement(
 {
     put_term(text, statement)?;
     match statement {
-        Term::If(_, then, None) => put_block(text, margin, then),
-        Term::If(_, then, Some(other)) => {
+        Term::If(_, then, other) => {
             put_block(text, margin, then)?;
-            put(text, "\n")?;
-            text.extend_from_slice(margin)?;
-            put(text, "Else")?;
-            put_block(text, margin, other)
+            match other {
+                None => Ok(()),
+                Some(other) => {
+                    put(text, "\n")?;
+                    text.extend_from_slice(margin)?;
+                    put(text, "Else")?;
+                    put_block(text, margin, other)
+                }
+            }
         }
         Term::While(_, then) => put_block(text, margin, then),
         _ => Ok(()),

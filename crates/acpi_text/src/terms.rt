@@ -6,9 +6,10 @@ ghost use Rattle.acpi_tree.specs.TermView.{term_view, operand_view, decl_view, t
 ghost use Rattle.acpi_text.specs.Terms.{joined, arguments_text, term_text, term_texts};
 
 use crate::bytes::{put_bytes, put_string};
+use crate::data::put_count;
 use crate::declarations::put_decl;
 use crate::names::put_name;
-use crate::numbers::{put, put_decimal, put_int};
+use crate::numbers::{put, put_int, put_number};
 use crate::operators::op_name;
 use acpi_tree::{Int, Operand, Term};
 use std::alloc::AllocError;
@@ -26,26 +27,15 @@ pub(crate) fn put_term(text: &mut Vec<u8>, term: &Term) -> Result<(), AllocError
             put_bytes(text, bytes)
         }
         Term::Package(count, elems) => {
-            put(text, "Package(")?;
-            put_decimal(text, u64::from(*count))?;
-            put(text, "){")?;
-            put_joined(text, elems)?;
-            put(text, "}")
+            put_count(text, u64::from(*count))?;
+            put_joined(text, "{", elems, "}")
         }
         Term::VarPackage(count, elems) => {
             put_of(text, "VarPackage", count)?;
-            put(text, "{")?;
-            put_joined(text, elems)?;
-            put(text, "}")
+            put_joined(text, "{", elems, "}")
         }
-        Term::Local(number) => {
-            put(text, "Local")?;
-            put_decimal(text, u64::from(*number))
-        }
-        Term::Arg(number) => {
-            put(text, "Arg")?;
-            put_decimal(text, u64::from(*number))
-        }
+        Term::Local(number) => put_number(text, "Local", u64::from(*number)),
+        Term::Arg(number) => put_number(text, "Arg", u64::from(*number)),
         Term::Debug => put(text, "Debug"),
         Term::NoTarget => put(text, "-"),
         Term::Ref(name) => put_name(text, name.view()),
@@ -74,20 +64,26 @@ fn put_of(text: &mut Vec<u8>, word: &str, term: &Term) -> Result<(), AllocError>
     put(text, ")")
 }
 
-// Terms with a comma between each two.
+// Terms with a comma between each two, and what stands before and behind them.
 #[cycle(put_term)]
-fn put_joined(text: &mut Vec<u8>, terms: &[Term]) -> Result<(), AllocError>
-    ensures { OnOk result (text.new.items ≡ text.old.items ++ joined (term_texts (terms_tree terms.now))) }
+fn put_joined(
+    text: &mut Vec<u8>,
+    before: &str,
+    terms: &[Term],
+    behind: &str,
+) -> Result<(), AllocError>
+    ensures { OnOk result (text.new.items ≡ text.old.items ++ (before.now ++ joined (term_texts (terms_tree terms.now)) ++ behind.now)) }
 {
+    put(text, before)?;
     match terms {
-        [] => Ok(()),
+        [] => put(text, behind),
         [first, rest @ ..] => {
             put_term(text, first)?;
             for term in rest {
                 put(text, ", ")?;
                 put_term(text, term)?;
             }
-            Ok(())
+            put(text, behind)
         }
     }
 }
@@ -98,11 +94,10 @@ fn put_args(text: &mut Vec<u8>, args: &[Term]) -> Result<(), AllocError>
     ensures { OnOk result (text.new.items ≡ text.old.items ++ arguments_text (term_texts (terms_tree args.now))) }
 {
     if args.is_empty() {
-        return Ok(());
+        Ok(())
+    } else {
+        put_joined(text, "(", args, ")")
     }
-    put(text, "(")?;
-    put_joined(text, args)?;
-    put(text, ")")
 }
 
 // The operands of an operator.

@@ -1,0 +1,11 @@
+use Rattle.std.proofs.Common.{map}
+use Rattle.acpi_name.specs.Text.{name_text}
+use Rattle.acpi_tree.specs.View.{fields_view}
+use Rattle.acpi_text.specs.Terms.{raw_text, field_text, braces_text}
+use Rattle.acpi_text.proofs.Forms.{field_put}
+use Rattle.acpi_text.proofs.declarations.put_field.Goals as goal
+
+pub returns : goal.returns
+returns c =
+    field_put c.put_units.result c.args.text.now.items (name_text c.args.region.now) (raw_text 1 c.args.flags)
+    (braces_text (map field_text (fields_view c.args.elems.now))) _ _ c.in_ok-put_first_name.ensures c.put_units.ensures
