@@ -1,3 +1,4 @@
+mod Adding
 mod DepthText
 mod HexFlag
 mod WordsAsked

@@ -1,15 +1,16 @@
 //! The words of the command.
 
-ghost use Rattle.std.specs.Prelude.{◌≡◌, false, IfOk, codes, option_map};
+ghost use Rattle.std.specs.Prelude.{◌≡◌, false, IfOk, IsOkAnd, codes, option_map};
+ghost use Rattle.clap.specs.Built.{AddsSubcommand};
 ghost use Rattle.clap.specs.Matches.{found_of};
-ghost use Rattle.clap.specs.Simple.{app_of};
+ghost use Rattle.clap.specs.Simple.{app_of, new_app, with_rule};
 ghost use Rattle.clap.specs.Values.{kind_of};
 ghost use Rattle.clap.specs.Walk.{first_of, rows_of, rule_of, texts};
 ghost use Rattle.clap.specs.declared.builder.command.Command.TheViews.{out-Command as fields_of};
 ghost use Rattle.acpins_words.specs.declared.fault.WordsFault.{WordsFault};
 ghost use Rattle.acpins_words.specs.Words.{acpins_app, alone, asked_by, asked_in, asked_of, command_by};
 ghost use Rattle.acpins_words.specs.Words.{command_in, depth_or_usual, depth_rule, depth_said, file_rule};
-ghost use Rattle.acpins_words.specs.Words.{check_shape, hex_rule, list_shape, out_rule, path_rule, ReadsHex, rewrite_shape, show_shape};
+ghost use Rattle.acpins_words.specs.Words.{acpins_shape, check_shape, hex_rule, list_shape, out_rule, path_rule, ReadsHex, rewrite_shape, show_shape};
 
 use crate::fault::WordsFault;
 use acpi_code::Depth;
@@ -88,23 +89,28 @@ fn files<'a>(alloc: Global) -> Arg<'a>
         .action(ArgAction::Append)
 }
 
+// A command over tables, with the options that each has.
+fn over_tables<'a>(alloc: Global, name: &'a str) -> Result<clap::Command<'a>, AllocError>
+    ensures app { IfOk result (λ command. app_of command ≡ with_rule (with_rule (new_app name.now) hex_rule) depth_rule) }
+    ensures local { IfOk result (λ command. (fields_of command).has_globals ≡ false) }
+{
+    clap::Command::new(alloc, name)
+        .arg(hex(alloc))?
+        .arg(depth(alloc))
+}
+
 fn list<'a>(alloc: Global) -> Result<clap::Command<'a>, AllocError>
     ensures app { IfOk result (λ list. app_of list ≡ alone list_shape) }
     ensures local { IfOk result (λ list. (fields_of list).has_globals ≡ false) }
 {
-    clap::Command::new(alloc, "list")
-        .arg(hex(alloc))?
-        .arg(depth(alloc))?
-        .arg(files(alloc))
+    over_tables(alloc, "list")?.arg(files(alloc))
 }
 
 fn show<'a>(alloc: Global) -> Result<clap::Command<'a>, AllocError>
     ensures app { IfOk result (λ show. app_of show ≡ alone show_shape) }
     ensures local { IfOk result (λ show. (fields_of show).has_globals ≡ false) }
 {
-    clap::Command::new(alloc, "show")
-        .arg(hex(alloc))?
-        .arg(depth(alloc))?
+    over_tables(alloc, "show")?
         .arg(path(alloc))?
         .arg(files(alloc))
 }
@@ -113,25 +119,21 @@ fn check<'a>(alloc: Global) -> Result<clap::Command<'a>, AllocError>
     ensures app { IfOk result (λ check. app_of check ≡ alone check_shape) }
     ensures local { IfOk result (λ check. (fields_of check).has_globals ≡ false) }
 {
-    clap::Command::new(alloc, "check")
-        .arg(hex(alloc))?
-        .arg(depth(alloc))?
-        .arg(files(alloc))
+    over_tables(alloc, "check")?.arg(files(alloc))
 }
 
 fn rewrite<'a>(alloc: Global) -> Result<clap::Command<'a>, AllocError>
     ensures app { IfOk result (λ rewrite. app_of rewrite ≡ alone rewrite_shape) }
     ensures local { IfOk result (λ rewrite. (fields_of rewrite).has_globals ≡ false) }
 {
-    clap::Command::new(alloc, "rewrite")
-        .arg(hex(alloc))?
-        .arg(depth(alloc))?
+    over_tables(alloc, "rewrite")?
         .arg(out(alloc))?
         .arg(files(alloc))
 }
 
-fn forms<'a>(alloc: Global) -> Result<clap::Command<'a>, AllocError>
-    ensures { IfOk result (λ command. app_of command ≡ acpins_app) }
+// The command, with no subcommand yet.
+fn bare<'a>(alloc: Global) -> clap::Command<'a>
+    ensures { app_of result ≡ alone acpins_shape }
 {
     clap::Command::new(alloc, "acpins")
         .no_binary_name(true)
@@ -139,10 +141,25 @@ fn forms<'a>(alloc: Global) -> Result<clap::Command<'a>, AllocError>
         .disable_version_flag(true)
         .disable_help_subcommand(true)
         .subcommand_required(true)
-        .subcommand(list(alloc)?)?
-        .subcommand(show(alloc)?)?
-        .subcommand(check(alloc)?)?
-        .subcommand(rewrite(alloc)?)
+}
+
+// A command with one more subcommand, where that could be made.
+fn with<'a>(
+    command: clap::Command<'a>,
+    subcommand: Result<clap::Command<'a>, AllocError>,
+) -> Result<clap::Command<'a>, AllocError>
+    ensures { IfOk result (λ new. IsOkAnd subcommand.entry (λ added. AddsSubcommand command.entry added new)) }
+{
+    command.subcommand(subcommand?)
+}
+
+fn forms<'a>(alloc: Global) -> Result<clap::Command<'a>, AllocError>
+    ensures { IfOk result (λ command. app_of command ≡ acpins_app) }
+{
+    let command = with(bare(alloc), list(alloc))?;
+    let command = with(command, show(alloc))?;
+    let command = with(command, check(alloc))?;
+    with(command, rewrite(alloc))
 }
 
 // A number of decimal digits, from 1 to 4,096.
