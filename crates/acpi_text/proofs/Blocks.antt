@@ -1,14 +1,16 @@
 -- The texts of Ifs with their blocks, put piece by piece.
-use Rattle.std.proofs.Common.{◌≡◌, ◌∙◌, ap, sym, ℕ, List, ◌++◌, codes, box_value, append_assoc, Option, Some, None, Result, OnOk}
+use Rattle.std.proofs.Common.{◌≡◌, ◌∙◌, ap, sym, ℕ, ◌+◌, ◌<◌, List, ◌++◌, length, take, get_or, codes, box_value, append_assoc, Option, Some, None, Result, OnOk}
 use Rattle.std.proofs.lemmas.List.{append-nil}
 use Rattle.std.proofs.lemmas.Result.{on_ok_weaker}
 use Rattle.std.specs.Global.{Box, Vec}
+use Rattle.std.specs.List.{flat_map}
 use Rattle.acpi_tree.specs.declared.term.Term.{Term, Term-F, fold-roll-Term}
 use Rattle.acpi_tree.specs.declared.term.Term.TheVariants as term
 use Rattle.acpi_tree.specs.Terms.{TermTree, if_do, no_else, else_do}
 use Rattle.acpi_tree.specs.TermView.{decl_step, operand_step, term_step, term_view, terms_tree}
 use Rattle.acpi_text.specs.Terms.{deeper, block_text, statement_text, statements_text, term_text}
-use Rattle.acpi_text.proofs.Pieces.{as_said, next_said, last_said}
+use Rattle.acpi_text.proofs.Pieces.{as_said, next_said, last_said, one_more}
+use Rattle.acpi_text.proofs.TermLists.{line_of}
 
 abbrev block : (margin : List ℕ) → List Term → List ℕ
 block margin ts = block_text margin (statements_text (deeper margin) (terms_tree ts))
@@ -64,3 +66,37 @@ if_else_put r old margin kept t b v w o ts us m t1 t2 t3 t4 t5 new is some first
     (next_said old (head ++ body ++ line) margin t3 t4 (next_said old (head ++ body) line t2 t3 (next_said old head body t1 t2 p1 p2) p3) margin_put)
     p5)
     (on_ok_weaker r (λ put. put ∙ ap (λ x. t5 ++ block x us) same) last))
+
+-- ---- a While
+
+while_is : (margin : List ℕ) (t : Term) (b : Box Term) (v : Vec Term) (ts : List Term) → t ≡ term.While b v → ts ≡ v.items
+    → statement_text margin (term_view t) ≡ term_text (term_view t) ++ block margin ts
+while_is margin t b v ts is same =
+    let tree = ap term_view (is ∙ sym (term.rolls-While b v)) ∙ fold-roll-Term TermTree TermTree TermTree decl_step operand_step term_step (Term-F.While b v) in
+    rw same (ap (statement_text margin) tree ∙ ap (λ (x : TermTree). term_text x ++ block margin v.items) (sym tree))
+
+pub while_put : {T E : Type 0} (r : Result T E) (old margin : List ℕ) (t : Term) (b : Box Term) (v : Vec Term) (ts : List Term) (mid new : List ℕ)
+    → t ≡ term.While b v → ts ≡ v.items → mid ≡ old ++ term_text (term_view t) → OnOk r (new ≡ mid ++ block margin ts) → OnOk r (new ≡ old ++ statement_text margin (term_view t))
+while_put r old margin t b v ts mid new is same before last =
+    let head = term_text (term_view t) in
+    as_said r old (statement_text margin (term_view t)) (head ++ block margin ts) new (while_is margin t b v ts is same) (last_said r old head (block margin ts) mid new before last)
+
+-- ---- a block, and a line in it
+
+pub block_put : {T E : Type 0} (r : Result T E) (old margin inner kept m : List ℕ) (ts : List Term) (t1 t2 t3 new : List ℕ) → inner ≡ deeper margin → kept ≡ margin → m ≡ kept
+    → t1 ≡ old ++ codes " {\n" → t2 ≡ t1 ++ statements_text inner (terms_tree ts) → t3 ≡ t2 ++ m → OnOk r (new ≡ t3 ++ codes "}") → OnOk r (new ≡ old ++ block margin ts)
+block_put r old margin inner kept m ts t1 t2 t3 new deep same is p1 p2 p3 last =
+    let head = codes " {\n" in
+    let lines = statements_text (deeper margin) (terms_tree ts) in
+    let lines_put = p2 ∙ ap (λ x. t1 ++ statements_text x (terms_tree ts)) deep in
+    let margin_put = p3 ∙ ap (λ x. t2 ++ x) (is ∙ same) in
+    last_said r old (head ++ lines ++ margin) (codes "}") t3 new (next_said old (head ++ lines) margin t2 t3 (next_said old head lines t1 t2 p1 lines_put) margin_put) last
+
+pub line_put : (old margin kept m : List ℕ) (ts : List Term) (i : ℕ) (x : Term) (mid t1 t2 new : List ℕ) → i < length ts → x ≡ get_or ts i x → kept ≡ margin → m ≡ kept
+    → mid ≡ old ++ flat_map (line_of margin) (take i ts) → t1 ≡ mid ++ m → t2 ≡ t1 ++ statement_text kept (term_view x) → new ≡ t2 ++ codes "\n"
+    → new ≡ old ++ flat_map (line_of margin) (take (i + 1) ts)
+line_put old margin kept m ts i x mid t1 t2 new within at same is before p1 p2 p3 =
+    let said = statement_text margin (term_view x) in
+    let margin_put = p1 ∙ ap (λ y. mid ++ y) (is ∙ same) in
+    let said_put = p2 ∙ ap (λ y. t1 ++ statement_text y (term_view x)) same in
+    one_more (line_of margin) ts i x x old mid new within at before (next_said mid (margin ++ said) (codes "\n") t2 new (next_said mid margin said t1 t2 margin_put said_put) p3)

@@ -6,13 +6,14 @@ use Rattle.acpi_name.specs.Text.{name_text}
 use Rattle.acpi_tree.specs.declared.op.Op.{Op}
 use Rattle.acpi_tree.specs.declared.tree.Int.{Int}
 use Rattle.acpi_tree.specs.declared.term.Decl.{Decl}
-use Rattle.acpi_tree.specs.declared.term.Operand.{Operand}
+use Rattle.acpi_tree.specs.declared.term.Operand.{Operand, Operand-F, fold-roll-Operand}
+use Rattle.acpi_tree.specs.declared.term.Operand.TheVariants as operand
 use Rattle.acpi_tree.specs.declared.term.Term.{Term, Term-F, fold-roll-Term}
 use Rattle.acpi_tree.specs.declared.term.Term.TheVariants as term
 use Rattle.acpi_tree.specs.Terms.{TermTree, terms_of}
-use Rattle.acpi_tree.specs.TermView.{decl_step, operand_step, term_step, term_view, decl_view, terms_tree, operands_view}
+use Rattle.acpi_tree.specs.TermView.{decl_step, operand_step, term_step, term_view, decl_view, terms_tree, operand_view, operands_view}
 use Rattle.acpi_text.specs.Constants.{int_text, string_text, bytes_text}
-use Rattle.acpi_text.specs.Terms.{op_text, joined, arguments_text, term_text, term_texts}
+use Rattle.acpi_text.specs.Terms.{op_text, joined, arguments_text, raw_text, term_text, term_texts}
 use Rattle.acpi_text.proofs.Pieces.{as_said, last_said}
 
 pub int_is : (t : Term) (i : Int) → t ≡ term.Int i → term_text (term_view t) ≡ int_text i
@@ -48,6 +49,12 @@ pub arg_is : (t : Term) (n m : ℕ) → t ≡ term.Arg n → m ≡ n → term_te
 arg_is t n m is same =
     rw same (ap (λ e. term_text (term_view e)) (is ∙ sym (term.rolls-Arg n)) ∙ ap term_text (fold-roll-Term TermTree TermTree TermTree decl_step operand_step term_step (Term-F.Arg n)))
 
+pub debug_is : (t : Term) → t ≡ term.Debug → term_text (term_view t) ≡ codes "Debug"
+debug_is t is = ap (λ e. term_text (term_view e)) (is ∙ sym term.rolls-Debug) ∙ ap term_text (fold-roll-Term TermTree TermTree TermTree decl_step operand_step term_step Term-F.Debug)
+
+pub no_target_is : (t : Term) → t ≡ term.NoTarget → term_text (term_view t) ≡ codes "-"
+no_target_is t is = ap (λ e. term_text (term_view e)) (is ∙ sym term.rolls-NoTarget) ∙ ap term_text (fold-roll-Term TermTree TermTree TermTree decl_step operand_step term_step Term-F.NoTarget)
+
 pub ref_is : (t : Term) (n name : NameParts) → t ≡ term.Ref n → name ≡ n → term_text (term_view t) ≡ name_text name
 ref_is t n name is same =
     rw same (ap (λ e. term_text (term_view e)) (is ∙ sym (term.rolls-Ref n)) ∙ ap term_text (fold-roll-Term TermTree TermTree TermTree decl_step operand_step term_step (Term-F.Ref n)))
@@ -80,6 +87,24 @@ pub declare_is : (t : Term) (b : Box Decl) (d : Decl) → t ≡ term.Declare b �
 declare_is t b d is first =
     rw first (ap (λ e. term_text (term_view e)) (is ∙ sym (term.rolls-Declare b))
     ∙ ap term_text (fold-roll-Term TermTree TermTree TermTree decl_step operand_step term_step (Term-F.Declare b)))
+
+-- ---- operands
+
+pub term_is : (o : Operand) (t : Term) → o ≡ operand.Term t → term_text (operand_view o) ≡ term_text (term_view t)
+term_is o t is =
+    ap (λ e. term_text (operand_view e)) (is ∙ sym (operand.rolls-Term t)) ∙ ap term_text (fold-roll-Operand TermTree TermTree TermTree decl_step operand_step term_step (Operand-F.Term t))
+
+pub byte_is : (o : Operand) (n : ℕ) → o ≡ operand.Byte n → term_text (operand_view o) ≡ raw_text 1 n
+byte_is o n is =
+    ap (λ e. term_text (operand_view e)) (is ∙ sym (operand.rolls-Byte n)) ∙ ap term_text (fold-roll-Operand TermTree TermTree TermTree decl_step operand_step term_step (Operand-F.Byte n))
+
+pub word_is : (o : Operand) (n : ℕ) → o ≡ operand.Word n → term_text (operand_view o) ≡ raw_text 2 n
+word_is o n is =
+    ap (λ e. term_text (operand_view e)) (is ∙ sym (operand.rolls-Word n)) ∙ ap term_text (fold-roll-Operand TermTree TermTree TermTree decl_step operand_step term_step (Operand-F.Word n))
+
+pub dword_is : (o : Operand) (n : ℕ) → o ≡ operand.DWord n → term_text (operand_view o) ≡ raw_text 4 n
+dword_is o n is =
+    ap (λ e. term_text (operand_view e)) (is ∙ sym (operand.rolls-DWord n)) ∙ ap term_text (fold-roll-Operand TermTree TermTree TermTree decl_step operand_step term_step (Operand-F.DWord n))
 
 -- ---- those of two pieces, put one behind the other
 

@@ -6,8 +6,9 @@ use Rattle.acpi_tree.specs.View.{fields_view}
 use Rattle.acpi_tree.specs.TermView.{term_view, terms_tree}
 use Rattle.acpi_text.specs.Terms.{term_text, raw_text, field_text, braces_text, joined, term_texts}
 use Rattle.acpi_text.proofs.Forms.{name_put, create_put, create_field_put, region_put, bank_field_put, mutex_is, event_is, field_is, index_field_is, bank_field_is}
-use Rattle.acpi_text.proofs.Pieces.{as_said, all_said, last_said, one_more_behind}
-use Rattle.acpi_text.proofs.TermForms.{int_is, str_is, local_is, arg_is, ref_is, if_is, while_is, declare_is, buffer_put, pkg_put, var_pkg_put, call_put, op_put}
+use Rattle.acpi_text.proofs.Pieces.{as_said, all_said, last_said, next_said, one_more_behind}
+use Rattle.acpi_text.proofs.TermForms.{int_is, str_is, local_is, arg_is, debug_is, no_target_is, ref_is, if_is, while_is, declare_is, term_is, byte_is, word_is, dword_is}
+use Rattle.acpi_text.proofs.TermForms.{buffer_put, pkg_put, var_pkg_put, call_put, op_put}
 use Rattle.acpi_text.proofs.TermLists.{joined_terms, text_of, operand_text, next_operand, arguments_of_terms, arguments_of_operands}
 use Rattle.acpi_text.proofs.+put_term.Goals as goal
 
@@ -19,7 +20,8 @@ terms::put_term-returns-in-Int t c =
 
 pub terms::put_term-returns-in-Str : goal.terms::put_term-returns-in-Str
 terms::put_term-returns-in-Str t c =
-    as_said c.put_string.result c.args.text.now.items _ _ c.put_string.new.text.items (str_is c.args.term.now c.in-Str.bytes c.deref.result.now c.in-Str.is c.deref.ensures.value) c.put_string.ensures
+    let is = str_is c.args.term.now c.in-Str.bytes c.deref.result.now c.in-Str.is c.deref.ensures.value in
+    as_said c.put_string.result c.args.text.now.items _ _ c.put_string.new.text.items is c.put_string.ensures
 
 pub terms::put_term-returns-in_ok-put_of-in-Buffer : goal.terms::put_term-returns-in_ok-put_of-in-Buffer
 terms::put_term-returns-in_ok-put_of-in-Buffer t c =
@@ -39,15 +41,18 @@ terms::put_term-returns-in_ok-put_of-in-VarPackage t c =
 
 pub terms::put_term-returns-in-Local : goal.terms::put_term-returns-in-Local
 terms::put_term-returns-in-Local t c =
-    as_said c.put_number.result c.args.text.now.items _ _ c.put_number.new.text.items (local_is c.args.term.now c.in-Local.number c.from-in-Local.result c.in-Local.is c.from-in-Local.ensures) c.put_number.ensures
+    let is = local_is c.args.term.now c.in-Local.number c.from-in-Local.result c.in-Local.is c.from-in-Local.ensures in
+    as_said c.put_number.result c.args.text.now.items _ _ c.put_number.new.text.items is c.put_number.ensures
 
 pub terms::put_term-returns-in-Arg : goal.terms::put_term-returns-in-Arg
 terms::put_term-returns-in-Arg t c =
-    as_said c.put_number-in-Arg.result c.args.text.now.items _ _ c.put_number-in-Arg.new.text.items (arg_is c.args.term.now c.in-Arg.number c.from-in-Arg.result c.in-Arg.is c.from-in-Arg.ensures) c.put_number-in-Arg.ensures
+    let is = arg_is c.args.term.now c.in-Arg.number c.from-in-Arg.result c.in-Arg.is c.from-in-Arg.ensures in
+    as_said c.put_number-in-Arg.result c.args.text.now.items _ _ c.put_number-in-Arg.new.text.items is c.put_number-in-Arg.ensures
 
 pub terms::put_term-returns-in-Ref : goal.terms::put_term-returns-in-Ref
 terms::put_term-returns-in-Ref t c =
-    as_said c.put_name.result c.args.text.now.items _ _ c.put_name.new.text.items (ref_is c.args.term.now c.in-Ref.name (name_parts c.view.result) c.in-Ref.is c.view.ensures.parts) c.put_name.ensures
+    let is = ref_is c.args.term.now c.in-Ref.name (name_parts c.view.result) c.in-Ref.is c.view.ensures.parts in
+    as_said c.put_name.result c.args.text.now.items _ _ c.put_name.new.text.items is c.put_name.ensures
 
 pub terms::put_term-returns-in_ok-put_name-in-Call : goal.terms::put_term-returns-in_ok-put_name-in-Call
 terms::put_term-returns-in_ok-put_name-in-Call t c =
@@ -61,15 +66,64 @@ terms::put_term-returns-in_ok-put-in-Op t c =
 
 pub terms::put_term-returns-in-If : goal.terms::put_term-returns-in-If
 terms::put_term-returns-in-If t c =
-    as_said c.put_of-in-If.result c.args.text.now.items _ _ c.put_of-in-If.new.text.items (if_is c.args.term.now c.in-If.test c.in-If.field-1 c.in-If.field-2 c.deref-in-If.result.now c.in-If.is c.deref-in-If.ensures) c.put_of-in-If.ensures
+    let is = if_is c.args.term.now c.in-If.test c.in-If.field-1 c.in-If.field-2 c.deref-in-If.result.now c.in-If.is c.deref-in-If.ensures in
+    as_said c.put_of-in-If.result c.args.text.now.items _ _ c.put_of-in-If.new.text.items is c.put_of-in-If.ensures
 
 pub terms::put_term-returns-in-While : goal.terms::put_term-returns-in-While
 terms::put_term-returns-in-While t c =
-    as_said c.put_of-in-While.result c.args.text.now.items _ _ c.put_of-in-While.new.text.items (while_is c.args.term.now c.in-While.test c.in-While.field-1 c.deref-in-While.result.now c.in-While.is c.deref-in-While.ensures) c.put_of-in-While.ensures
+    let is = while_is c.args.term.now c.in-While.test c.in-While.field-1 c.deref-in-While.result.now c.in-While.is c.deref-in-While.ensures in
+    as_said c.put_of-in-While.result c.args.text.now.items _ _ c.put_of-in-While.new.text.items is c.put_of-in-While.ensures
 
 pub terms::put_term-returns-in-Declare : goal.terms::put_term-returns-in-Declare
 terms::put_term-returns-in-Declare t c =
-    as_said c.put_decl.result c.args.text.now.items _ _ c.put_decl.new.text.items (declare_is c.args.term.now c.in-Declare.decl c.deref-in-Declare.result.now c.in-Declare.is c.deref-in-Declare.ensures) c.put_decl.ensures
+    let is = declare_is c.args.term.now c.in-Declare.decl c.deref-in-Declare.result.now c.in-Declare.is c.deref-in-Declare.ensures in
+    as_said c.put_decl.result c.args.text.now.items _ _ c.put_decl.new.text.items is c.put_decl.ensures
+
+pub terms::put_term-returns-in-Debug : goal.terms::put_term-returns-in-Debug
+terms::put_term-returns-in-Debug t c =
+    as_said c.put.result c.args.text.now.items _ _ c.put.new.text.items (debug_is c.args.term.now c.in-Debug.is) c.put.ensures
+
+pub terms::put_term-returns-in-NoTarget : goal.terms::put_term-returns-in-NoTarget
+terms::put_term-returns-in-NoTarget t c =
+    let is = no_target_is c.args.term.now c.in-NoTarget.is in
+    as_said c.put-in-NoTarget.result c.args.text.now.items _ _ c.put-in-NoTarget.new.text.items is c.put-in-NoTarget.ensures
+
+-- ---- operands
+
+pub terms::put_operand-returns-in-Term : goal.terms::put_operand-returns-in-Term
+terms::put_operand-returns-in-Term t c =
+    let is = term_is c.args.operand.now c.in-Term.term c.in-Term.is in
+    as_said c.put_term.result c.args.text.now.items _ _ c.put_term.new.text.items is c.put_term.ensures
+
+pub terms::put_operand-returns-in-Byte : goal.terms::put_operand-returns-in-Byte
+terms::put_operand-returns-in-Byte t c =
+    let is = byte_is c.args.operand.now c.in-Byte.number c.in-Byte.is in
+    as_said c.put_int.result c.args.text.now.items _ _ c.put_int.new.text.items is c.put_int.ensures
+
+pub terms::put_operand-returns-in-Word : goal.terms::put_operand-returns-in-Word
+terms::put_operand-returns-in-Word t c =
+    let is = word_is c.args.operand.now c.in-Word.number c.in-Word.is in
+    as_said c.put_int-in-Word.result c.args.text.now.items _ _ c.put_int-in-Word.new.text.items is c.put_int-in-Word.ensures
+
+pub terms::put_operand-returns-in-DWord : goal.terms::put_operand-returns-in-DWord
+terms::put_operand-returns-in-DWord t c =
+    let is = dword_is c.args.operand.now c.in-DWord.number c.in-DWord.is in
+    as_said c.put_int-in-DWord.result c.args.text.now.items _ _ c.put_int-in-DWord.new.text.items is c.put_int-in-DWord.ensures
+
+-- ---- one term
+
+pub terms::put_of-returns : goal.terms::put_of-returns
+terms::put_of-returns t c =
+    let old = c.args.text.now.items in
+    let word = c.args.word.now in
+    let said = term_text (term_view c.args.term.now) in
+    last_said c.put-3.result old (word ++ codes "(" ++ said) (codes ")") _ _
+    (next_said old (word ++ codes "(") said _ _ (next_said old word (codes "(") _ _ c.in_ok-put.ensures c.in_ok-put-2.ensures) c.in_ok-put_term.ensures)
+    c.put-3.ensures
+
+pub declarations::put_next_term-returns : goal.declarations::put_next_term-returns
+declarations::put_next_term-returns t c =
+    last_said c.put_term.result c.args.text.now.items (codes ", ") (term_text (term_view c.args.term.now)) _ _ c.in_ok-put.ensures c.put_term.ensures
 
 -- ---- lists
 
@@ -80,10 +134,13 @@ terms::put_joined-loop-term-preserved t c =
 
 pub terms::put_joined-returns-after-loop-term : goal.terms::put_joined-returns-after-loop-term
 terms::put_joined-returns-after-loop-term t c =
-    let said = all_said (codes ", ") text_of c.args.terms.now c.first-item.result c.loop-term.term-index (joined (term_texts (terms_tree c.args.terms.now))) c.args.text.now.items c.args.before.now _ _
-    c.loop-term.text.items (joined_terms c.args.terms.now c.first-item.result c.in-len1-up.len_at_least c.first-item.is) c.loop-term-test.false c.in_ok-put.ensures
+    let terms = c.args.terms.now in
+    let first = c.first-item.result in
+    let whole = joined (term_texts (terms_tree terms)) in
+    let said = all_said (codes ", ") text_of terms first c.loop-term.term-index whole c.args.text.now.items c.args.before.now _ _
+    c.loop-term.text.items (joined_terms terms first c.in-len1-up.len_at_least c.first-item.is) c.loop-term-test.false c.in_ok-put.ensures
     c.in_ok-put_term-in-len1-up.ensures c.loop-term.invariant in
-    last_said c.put-in-len1-up.result c.args.text.now.items (c.args.before.now ++ joined (term_texts (terms_tree c.args.terms.now))) c.args.behind.now _ _ said c.put-in-len1-up.ensures
+    last_said c.put-in-len1-up.result c.args.text.now.items (c.args.before.now ++ whole) c.args.behind.now _ _ said c.put-in-len1-up.ensures
 
 pub terms::put_args-returns-else-is_empty : goal.terms::put_args-returns-else-is_empty
 terms::put_args-returns-else-is_empty t c =
@@ -138,30 +195,30 @@ declarations::put_decl-returns-in_ok-put_next_term-in-Region-2 t c =
 
 pub declarations::put_decl-returns-in-Mutex : goal.declarations::put_decl-returns-in-Mutex
 declarations::put_decl-returns-in-Mutex t c =
-    as_said c.put_mutex.result c.args.text.now.items _ _ c.put_mutex.new.text.items
-    (mutex_is c.args.decl.now c.in-Mutex.name c.in-Mutex.flags c.in-Mutex.is) c.put_mutex.ensures
+    let is = mutex_is c.args.decl.now c.in-Mutex.name c.in-Mutex.flags c.in-Mutex.is in
+    as_said c.put_mutex.result c.args.text.now.items _ _ c.put_mutex.new.text.items is c.put_mutex.ensures
 
 pub declarations::put_decl-returns-in-Event : goal.declarations::put_decl-returns-in-Event
 declarations::put_decl-returns-in-Event t c =
-    as_said c.put_event.result c.args.text.now.items _ _ c.put_event.new.text.items
-    (event_is c.args.decl.now c.in-Event.name c.in-Event.is) c.put_event.ensures
+    let is = event_is c.args.decl.now c.in-Event.name c.in-Event.is in
+    as_said c.put_event.result c.args.text.now.items _ _ c.put_event.new.text.items is c.put_event.ensures
 
 pub declarations::put_decl-returns-in-Field : goal.declarations::put_decl-returns-in-Field
 declarations::put_decl-returns-in-Field t c =
-    as_said c.put_field.result c.args.text.now.items _ _ c.put_field.new.text.items
-    (field_is c.args.decl.now c.in-Field.region c.in-Field.flags c.in-Field.elems c.deref-in-Field.result.now c.in-Field.is c.deref-in-Field.ensures.value) c.put_field.ensures
+    let is = field_is c.args.decl.now c.in-Field.region c.in-Field.flags c.in-Field.elems c.deref-in-Field.result.now c.in-Field.is c.deref-in-Field.ensures.value in
+    as_said c.put_field.result c.args.text.now.items _ _ c.put_field.new.text.items is c.put_field.ensures
 
 pub declarations::put_decl-returns-in-IndexField : goal.declarations::put_decl-returns-in-IndexField
 declarations::put_decl-returns-in-IndexField t c =
-    as_said c.put_index_field.result c.args.text.now.items _ _ c.put_index_field.new.text.items
-    (index_field_is c.args.decl.now c.in-IndexField.index c.in-IndexField.datum c.in-IndexField.flags c.in-IndexField.elems c.deref-in-IndexField.result.now
-    c.in-IndexField.is c.deref-in-IndexField.ensures.value) c.put_index_field.ensures
+    let is = index_field_is c.args.decl.now c.in-IndexField.index c.in-IndexField.datum c.in-IndexField.flags c.in-IndexField.elems c.deref-in-IndexField.result.now
+    c.in-IndexField.is c.deref-in-IndexField.ensures.value in
+    as_said c.put_index_field.result c.args.text.now.items _ _ c.put_index_field.new.text.items is c.put_index_field.ensures
 
 pub declarations::put_decl-returns-in-BankField : goal.declarations::put_decl-returns-in-BankField
 declarations::put_decl-returns-in-BankField t c =
-    as_said c.put_bank_field.result c.args.text.now.items _ _ c.put_bank_field.new.text.items
-    (bank_field_is c.args.decl.now c.in-BankField.region c.in-BankField.bank c.in-BankField.value c.in-BankField.flags c.in-BankField.elems
-    c.deref-in-BankField.result.now c.deref-in-BankField-2.result.now c.in-BankField.is c.deref-in-BankField.ensures c.deref-in-BankField-2.ensures.value) c.put_bank_field.ensures
+    let is = bank_field_is c.args.decl.now c.in-BankField.region c.in-BankField.bank c.in-BankField.value c.in-BankField.flags c.in-BankField.elems
+    c.deref-in-BankField.result.now c.deref-in-BankField-2.result.now c.in-BankField.is c.deref-in-BankField.ensures c.deref-in-BankField-2.ensures.value in
+    as_said c.put_bank_field.result c.args.text.now.items _ _ c.put_bank_field.new.text.items is c.put_bank_field.ensures
 
 pub declarations::put_bank_field-returns : goal.declarations::put_bank_field-returns
 declarations::put_bank_field-returns t c =

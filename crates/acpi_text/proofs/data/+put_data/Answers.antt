@@ -26,11 +26,13 @@ put_elems-returns-after-loop-elem t c =
 
 pub put_elem-returns-in-Data : goal.put_elem-returns-in-Data
 put_elem-returns-in-Data t c =
-    as_said c.put_data.result c.args.text.now.items _ _ c.put_data.new.text.items (elem_is c.args.elem.now c.in-Data.data c.in-Data.is) c.put_data.ensures
+    let is = elem_is c.args.elem.now c.in-Data.data c.in-Data.is in
+    as_said c.put_data.result c.args.text.now.items _ _ c.put_data.new.text.items is c.put_data.ensures
 
 pub put_elem-returns-in-Name : goal.put_elem-returns-in-Name
 put_elem-returns-in-Name t c =
-    as_said c.put_name.result c.args.text.now.items _ _ c.put_name.new.text.items (name_is c.args.elem.now c.in-Name.name (name_parts c.view.result) c.in-Name.is c.view.ensures.parts) c.put_name.ensures
+    let is = name_is c.args.elem.now c.in-Name.name (name_parts c.view.result) c.in-Name.is c.view.ensures.parts in
+    as_said c.put_name.result c.args.text.now.items _ _ c.put_name.new.text.items is c.put_name.ensures
 
 pub put_data-returns-in-Int : goal.put_data-returns-in-Int
 put_data-returns-in-Int t c =
@@ -38,7 +40,8 @@ put_data-returns-in-Int t c =
 
 pub put_data-returns-in-Str : goal.put_data-returns-in-Str
 put_data-returns-in-Str t c =
-    as_said c.put_string.result c.args.text.now.items _ _ c.put_string.new.text.items (str_is c.args.data.now c.in-Str.bytes c.deref.result.now c.in-Str.is c.deref.ensures.value) c.put_string.ensures
+    let is = str_is c.args.data.now c.in-Str.bytes c.deref.result.now c.in-Str.is c.deref.ensures.value in
+    as_said c.put_string.result c.args.text.now.items _ _ c.put_string.new.text.items is c.put_string.ensures
 
 pub put_data-returns-in_ok-put_sized-in-Buffer : goal.put_data-returns-in_ok-put_sized-in-Buffer
 put_data-returns-in_ok-put_sized-in-Buffer t c =
