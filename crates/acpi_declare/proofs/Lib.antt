@@ -1,5 +1,6 @@
 pub mod Unions
 pub mod Searches
+mod Entered
 pub mod PassSteps
 pub mod StepLists
 pub mod Places

@@ -1,6 +1,6 @@
 //! Items in which others stand, and lists of items.
 
-ghost use Rattle.std.specs.Prelude.{◌≡◌, true, IfOk, IfErr, IfNone, IfSome, OnOk, Ok};
+ghost use Rattle.std.specs.Prelude.{◌≡◌, ◌≢◌, [], reverse, true, IfOk, IfErr, IfNone, IfSome, OnOk, Ok};
 ghost use Rattle.acpi_name.specs.Paths.{parent_of};
 ghost use Rattle.acpi_tree.specs.Objects.{object_view};
 ghost use Rattle.acpi_tree.specs.Fits.{item_fits, items_fit};
@@ -9,7 +9,7 @@ ghost use Rattle.acpi_tree.specs.View.{item_view, items_tree};
 ghost use Rattle.acpi_declare.specs.Namespace.{namespace_of};
 ghost use Rattle.acpi_declare.specs.Sites.{step, declares_alone, opens};
 ghost use Rattle.acpi_declare.specs.Placing.{declared_path, opened_path};
-ghost use Rattle.acpi_declare.specs.steps.Entering.{Enters};
+ghost use Rattle.acpi_declare.specs.steps.Entering.{Enters, EntersNext, IsLeftBehind, IsScopeOf};
 ghost use Rattle.acpi_declare.specs.steps.Pass.{after, placement, pass_item, pass_items};
 ghost use Rattle.acpi_declare.specs.steps.View.{pass_of};
 ghost use Rattle.acpi_declare.specs.steps.Outcomes.{IsStopOf};
@@ -56,6 +56,17 @@ fn go_below(path: &mut Path, inside: Path) -> Result<Option<Path>, AllocError>
         }
         last => Ok(Some(rejoined(parent, last)?)),
     }
+}
+
+// What is left of an item that is declared itself.
+#[derive(Drop)]
+pub enum Entered {
+    // Nothing.
+    Nothing,
+    // Items in its scope, to which the path of its list's scope leads now: it has one segment more.
+    Below(Vec<Item>),
+    // Items in another scope.
+    Elsewhere(Path, Vec<Item>),
 }
 
 impl<S: Space<Object>> Pass<S> {
@@ -165,32 +176,46 @@ impl<S: Space<Object>> Pass<S> {
         Ok(Some(left?))
     }
 
-    // One item, with all that stands in it.
-    #[cycle(declare)]
-    fn declare_item(&mut self, scope: &mut Path, item: Item) -> Result<(), Stop>
-        requires room { OffsetFits (item_view item) }
-        requires fits { item_fits (item_view item) ≡ true }
-        ensures ok { OnOk result (pass_item (pass_of (S.contents self.old.objects) self.old) scope.old (item_view item)
-            ≡ Ok (pass_of (S.contents self.new.objects) self.new)) }
-        ensures refused { IfErr result (λ f. IsStopOf f (pass_item (pass_of (S.contents self.old.objects) self.old) scope.old (item_view item))) }
+    // Declares the next item of a list, the last of those that are left, without what stands inside it, and gives that. It
+    // is no part of the recursion, which so holds no item on the stack.
+    #[inline(never)]
+    fn enter_next(&mut self, scope: &mut Path, left: &mut Vec<Item>) -> Result<Entered, Stop>
+        requires some { left.old.items ≢ [] }
+        requires room { OffsetsFit (items_tree (reverse left.old.items)) }
+        requires fits { items_fit (items_tree (reverse left.old.items)) ≡ true }
+        ensures ok { IfOk result (λ e. EntersNext (pass_items (pass_of (S.contents self.old.objects) self.old) scope.old (items_tree (reverse left.old.items)))
+            (λ t. pass_items t scope.old (items_tree (reverse left.new.items))) (pass_of (S.contents self.new.objects) self.new) scope.new e) }
+        ensures left { IfOk result (λ e. IsLeftBehind (items_tree (reverse left.old.items)) (items_tree (reverse left.new.items)) e) }
+        ensures scope { IfOk result (λ e. IsScopeOf scope.old scope.new e) }
+        ensures refused { IfErr result (λ f. IsStopOf f (pass_items (pass_of (S.contents self.old.objects) self.old) scope.old (items_tree (reverse left.old.items)))) }
         ensures lower { OnOk result (S.lower self.new.objects ≡ S.lower self.old.objects) }
-        ensures scope { OnOk result (scope.new ≡ scope.old) }
     {
-        let (inside, items) = match self.enter(scope, item)? {
-            Some(left) => left,
-            None => return Ok(()),
+        let Some(item) = left.pop() else {
+            unreachable!()
         };
-        match go_below(scope, inside)? {
-            None => {
-                self.declare_items(scope, items)?;
-                scope.pop();
-                Ok(())
-            }
-            Some(other) => {
-                let mut other = other;
-                self.declare_items(&mut other, items)
-            }
+        give_back(left);
+        match self.enter(scope, item)? {
+            None => Ok(Entered::Nothing),
+            Some((inside, items)) => match go_below(scope, inside)? {
+                None => Ok(Entered::Below(items)),
+                Some(other) => Ok(Entered::Elsewhere(other, items)),
+            },
         }
+    }
+
+    // What stands inside an item whose scope is not that of its list, with one segment more.
+    #[inline(never)]
+    #[cycle(declare)]
+    fn declare_elsewhere(&mut self, scope: Path, items: Vec<Item>) -> Result<(), Stop>
+        requires room { OffsetsFit (items_tree items.items) }
+        requires fits { items_fit (items_tree items.items) ≡ true }
+        ensures ok { OnOk result (pass_items (pass_of (S.contents self.old.objects) self.old) scope (items_tree items.items)
+            ≡ Ok (pass_of (S.contents self.new.objects) self.new)) }
+        ensures refused { IfErr result (λ f. IsStopOf f (pass_items (pass_of (S.contents self.old.objects) self.old) scope (items_tree items.items))) }
+        ensures lower { OnOk result (S.lower self.new.objects ≡ S.lower self.old.objects) }
+    {
+        let mut scope = scope;
+        self.declare_items(&mut scope, items)
     }
 
     // The items of a list, in order.
@@ -206,9 +231,15 @@ impl<S: Space<Object>> Pass<S> {
     {
         let mut left = items;
         left.reverse();
-        while let Some(item) = left.pop() {
-            give_back(&mut left);
-            self.declare_item(scope, item)?;
+        while !left.is_empty() {
+            match self.enter_next(scope, &mut left)? {
+                Entered::Nothing => {}
+                Entered::Below(items) => {
+                    self.declare_items(scope, items)?;
+                    scope.pop();
+                }
+                Entered::Elsewhere(other, items) => self.declare_elsewhere(other, items)?,
+            }
         }
         Ok(())
     }

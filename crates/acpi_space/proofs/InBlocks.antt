@@ -25,22 +25,22 @@ module _ {A : Type 0} where
   get_right (x ∷ xs) ys n (suc m) e = get_right xs ys n m (omega arith)
 
   -- a full block before others
-  full_first : (block : List A) (blocks : List (List A)) → length block ≡ 16 → IsFilled blocks → IsFilled (block ∷ blocks)
+  full_first : (block : List A) (blocks : List (List A)) → length block ≡ 8 → IsFilled blocks → IsFilled (block ∷ blocks)
   full_first block [] e f = (omega arith, omega arith)
   full_first block (next ∷ blocks) e f = (e, f)
 
   -- an item stands in its block
-  pub item_in : (blocks : List (List A)) (i j : ℕ) → IsFilled blocks → j < 16 → slice_get (in_blocks blocks) (16 * i + j) ≡ option_and_then (λ block. slice_get block j) (slice_get blocks i)
+  pub item_in : (blocks : List (List A)) (i j : ℕ) → IsFilled blocks → j < 8 → slice_get (in_blocks blocks) (8 * i + j) ≡ option_and_then (λ block. slice_get block j) (slice_get blocks i)
   item_in [] i j f h = refl
-  item_in (block ∷ []) zero j f h = ap (λ l. slice_get l (16 * 0 + j)) (append-nil block) ∙ ap (slice_get block) (omega arith)
-  item_in (block ∷ []) (suc i) j f h = slice_get_past (block ++ []) (16 * suc i + j) (omega (arith, ap length (append-nil block)))
-  item_in (block ∷ next ∷ blocks) zero j f h = get_left block (in_blocks (next ∷ blocks)) (16 * 0 + j) (omega arith) ∙ ap (slice_get block) (omega arith)
+  item_in (block ∷ []) zero j f h = ap (λ l. slice_get l (8 * 0 + j)) (append-nil block) ∙ ap (slice_get block) (omega arith)
+  item_in (block ∷ []) (suc i) j f h = slice_get_past (block ++ []) (8 * suc i + j) (omega (arith, ap length (append-nil block)))
+  item_in (block ∷ next ∷ blocks) zero j f h = get_left block (in_blocks (next ∷ blocks)) (8 * 0 + j) (omega arith) ∙ ap (slice_get block) (omega arith)
   item_in (block ∷ next ∷ blocks) (suc i) j f h =
-      get_right block (in_blocks (next ∷ blocks)) (16 * i + j) (16 * suc i + j) (omega arith) ∙ item_in (next ∷ blocks) i j f.1 h
+      get_right block (in_blocks (next ∷ blocks)) (8 * i + j) (8 * suc i + j) (omega arith) ∙ item_in (next ∷ blocks) i j f.1 h
 
   -- a list with an item in some block
   pub set_in : (blocks : List (List A)) (i j : ℕ) (block : List A) (x : A) → slice_get blocks i ≡ Some block → IsFilled blocks → j < length block
-      → in_blocks (slice_set blocks i (slice_set block j x)) ≡ slice_set (in_blocks blocks) (16 * i + j) x
+      → in_blocks (slice_set blocks i (slice_set block j x)) ≡ slice_set (in_blocks blocks) (8 * i + j) x
   set_in [] i j block x at f h = absurd (in_none i _ at)
   set_in (first ∷ blocks) zero j block x at f h =
       let is : first ≡ block = same_some first block at in
@@ -50,7 +50,7 @@ module _ {A : Type 0} where
   set_in (first ∷ []) (suc i) j block x at f h = absurd (in_none i _ at)
   set_in (first ∷ next ∷ blocks) (suc i) j block x at f h =
       ap (λ l. first ++ l) (set_in (next ∷ blocks) i j block x at f.1 h)
-      ∙ sym (set-append_right first (in_blocks (next ∷ blocks)) 16 (16 * suc i + j) x f.0 (omega arith) ∙ ap (λ k. first ++ slice_set (in_blocks (next ∷ blocks)) k x) (omega arith))
+      ∙ sym (set-append_right first (in_blocks (next ∷ blocks)) 8 (8 * suc i + j) x f.0 (omega arith) ∙ ap (λ k. first ++ slice_set (in_blocks (next ∷ blocks)) k x) (omega arith))
 
   -- a block of the same length in the place of another
   pub filled_set : (blocks : List (List A)) (i : ℕ) (block other : List A) → slice_get blocks i ≡ Some block → length other ≡ length block → IsFilled blocks → IsFilled (slice_set blocks i other)
@@ -61,7 +61,7 @@ module _ {A : Type 0} where
   filled_set (first ∷ next ∷ blocks) (suc i) block other at e f = full_first first (slice_set (next ∷ blocks) i other) f.0 (filled_set (next ∷ blocks) i block other at e f.1)
 
   -- the last block, where it isn't full
-  pub last_there : (blocks : List (List A)) (i j : ℕ) → IsFilled blocks → length (in_blocks blocks) ≡ 16 * i + j → 0 < j → j < 16 → i < length blocks
+  pub last_there : (blocks : List (List A)) (i j : ℕ) → IsFilled blocks → length (in_blocks blocks) ≡ 8 * i + j → 0 < j → j < 8 → i < length blocks
   last_there [] i j f e a b = absurd (omega arith)
   last_there (block ∷ []) zero j f e a b = omega arith
   last_there (block ∷ []) (suc i) j f e a b = absurd (omega (arith, ap length (append-nil block)))
@@ -71,7 +71,7 @@ module _ {A : Type 0} where
 
   -- one item more in it
   pub filled_more : (blocks : List (List A)) (i j : ℕ) (block other : List A) → slice_get blocks i ≡ Some block → length other ≡ length block + 1 → IsFilled blocks
-      → length (in_blocks blocks) ≡ 16 * i + j → 0 < j → j < 16 → IsFilled (slice_set blocks i other)
+      → length (in_blocks blocks) ≡ 8 * i + j → 0 < j → j < 8 → IsFilled (slice_set blocks i other)
   filled_more [] i j block other at o f e a b = absurd (in_none i _ at)
   filled_more (first ∷ []) zero j block other at o f e a b =
       let is : length first ≡ length block = ap length (same_some first block at) in
@@ -83,7 +83,7 @@ module _ {A : Type 0} where
       (filled_more (next ∷ blocks) i j block other at o f.1 (omega (arith, length-append first (in_blocks (next ∷ blocks)))) a b)
 
   pub items_more : (blocks : List (List A)) (i j : ℕ) (block : List A) (x : A) → slice_get blocks i ≡ Some block → IsFilled blocks
-      → length (in_blocks blocks) ≡ 16 * i + j → 0 < j → j < 16 → in_blocks (slice_set blocks i (block ++ x ∷ [])) ≡ in_blocks blocks ++ x ∷ []
+      → length (in_blocks blocks) ≡ 8 * i + j → 0 < j → j < 8 → in_blocks (slice_set blocks i (block ++ x ∷ [])) ≡ in_blocks blocks ++ x ∷ []
   items_more [] i j block x at f e a b = absurd (in_none i _ at)
   items_more (first ∷ []) zero j block x at f e a b =
       append-nil (block ++ x ∷ []) ∙ ap (λ l. l ++ x ∷ []) (sym (same_some first block at)) ∙ ap (λ l. l ++ x ∷ []) (sym (append-nil first))
@@ -94,7 +94,7 @@ module _ {A : Type 0} where
       ∙ sym (append_assoc first (in_blocks (next ∷ blocks)) (x ∷ []))
 
   -- a block of one item behind full ones
-  pub filled_new : (blocks : List (List A)) (i : ℕ) (other : List A) → length other ≡ 1 → IsFilled blocks → length (in_blocks blocks) ≡ 16 * i → IsFilled (blocks ++ other ∷ [])
+  pub filled_new : (blocks : List (List A)) (i : ℕ) (other : List A) → length other ≡ 1 → IsFilled blocks → length (in_blocks blocks) ≡ 8 * i → IsFilled (blocks ++ other ∷ [])
   filled_new [] i other o f e = (omega arith, omega arith)
   filled_new (block ∷ []) i other o f e =
       let all : length (block ++ []) ≡ length block = ap length (append-nil block) in (omega arith, (omega arith, omega arith))
@@ -107,7 +107,7 @@ module _ {A : Type 0} where
   items_new (block ∷ blocks) other = ap (λ l. block ++ l) (items_new blocks other) ∙ sym (append_assoc block (in_blocks blocks) other)
 
   -- a block stands where an item of it does, and has it
-  pub block_there : (blocks : List (List A)) (i j : ℕ) → IsFilled blocks → 16 * i + j < length (in_blocks blocks) → i < length blocks
+  pub block_there : (blocks : List (List A)) (i j : ℕ) → IsFilled blocks → 8 * i + j < length (in_blocks blocks) → i < length blocks
   block_there [] i j f h = absurd (omega arith)
   block_there (block ∷ []) zero j f h = omega arith
   block_there (block ∷ []) (suc i) j f h = absurd (omega (arith, ap length (append-nil block)))
@@ -115,7 +115,7 @@ module _ {A : Type 0} where
   block_there (block ∷ next ∷ blocks) (suc i) j f h =
       let more : i < length (next ∷ blocks) = block_there (next ∷ blocks) i j f.1 (omega (arith, length-append block (in_blocks (next ∷ blocks)))) in omega arith
 
-  place_there : (blocks : List (List A)) (i j : ℕ) (block : List A) → slice_get blocks i ≡ Some block → IsFilled blocks → j < 16 → 16 * i + j < length (in_blocks blocks) → j < length block
+  place_there : (blocks : List (List A)) (i j : ℕ) (block : List A) → slice_get blocks i ≡ Some block → IsFilled blocks → j < 8 → 8 * i + j < length (in_blocks blocks) → j < length block
   place_there [] i j block at f b h = absurd (in_none i _ at)
   place_there (first ∷ []) zero j block at f b h = let is : length first ≡ length block = ap length (same_some first block at) in omega (arith, ap length (append-nil first))
   place_there (first ∷ []) (suc i) j block at f b h = absurd (in_none i _ at)
@@ -168,80 +168,80 @@ module _ {A : Type 0} where
 
 -- the same of blocks whose items are found by a function, by the number of an item
 module _ {A B : Type 0} (items : B → List A) (blocks : List B) (n : ℕ) (filled : IsFilled (map items blocks)) where
-  numbered : 16 * (n / 16) + n % 16 ≡ n
+  numbered : 8 * (n / 8) + n % 8 ≡ n
   numbered = omega arith
 
-  pub block_of : n < length (in_blocks (map items blocks)) → n / 16 < length blocks
-  block_of h = let there : n / 16 < length (map items blocks) = block_there (map items blocks) (n / 16) (n % 16) filled (omega arith) in omega (arith, length-map blocks items)
+  pub block_of : n < length (in_blocks (map items blocks)) → n / 8 < length blocks
+  block_of h = let there : n / 8 < length (map items blocks) = block_there (map items blocks) (n / 8) (n % 8) filled (omega arith) in omega (arith, length-map blocks items)
 
   -- what an index of the blocks gives
-  pub lent_of : (block : B) → n < length (in_blocks (map items blocks)) → block ≡ slice_index_or blocks (n / 16) block → slice_get blocks (n / 16) ≡ Some block
-  lent_of block h is = found_at blocks (n / 16) block (block_of h) is
+  pub lent_of : (block : B) → n < length (in_blocks (map items blocks)) → block ≡ slice_index_or blocks (n / 8) block → slice_get blocks (n / 8) ≡ Some block
+  lent_of block h is = found_at blocks (n / 8) block (block_of h) is
 
-  pub no_item : slice_get blocks (n / 16) ≡ None → slice_get (in_blocks (map items blocks)) n ≡ None
+  pub no_item : slice_get blocks (n / 8) ≡ None → slice_get (in_blocks (map items blocks)) n ≡ None
   no_item e =
       ap (slice_get (in_blocks (map items blocks))) (sym numbered)
-      ∙ item_in (map items blocks) (n / 16) (n % 16) filled (omega arith)
-      ∙ ap (option_and_then (λ b. slice_get b (n % 16))) (slice_get-map items blocks (n / 16) ∙ ap (option_map items) e)
+      ∙ item_in (map items blocks) (n / 8) (n % 8) filled (omega arith)
+      ∙ ap (option_and_then (λ b. slice_get b (n % 8))) (slice_get-map items blocks (n / 8) ∙ ap (option_map items) e)
 
   -- what an index of the blocks gives at the last, where that isn't full
-  pub last_of : n ≡ length (in_blocks (map items blocks)) → 0 < n % 16 → n / 16 < length blocks
-  last_of e h = let there : n / 16 < length (map items blocks) = last_there (map items blocks) (n / 16) (n % 16) filled (omega arith) h (omega arith) in omega (arith, length-map blocks items)
+  pub last_of : n ≡ length (in_blocks (map items blocks)) → 0 < n % 8 → n / 8 < length blocks
+  last_of e h = let there : n / 8 < length (map items blocks) = last_there (map items blocks) (n / 8) (n % 8) filled (omega arith) h (omega arith) in omega (arith, length-map blocks items)
 
-  lent_last : (block : B) → n ≡ length (in_blocks (map items blocks)) → 0 < n % 16 → block ≡ slice_index_or blocks (n / 16) block → slice_get blocks (n / 16) ≡ Some block
-  lent_last block e h is = found_at blocks (n / 16) block (last_of e h) is
+  lent_last : (block : B) → n ≡ length (in_blocks (map items blocks)) → 0 < n % 8 → block ≡ slice_index_or blocks (n / 8) block → slice_get blocks (n / 8) ≡ Some block
+  lent_last block e h is = found_at blocks (n / 8) block (last_of e h) is
 
   -- a new block of one item, where all are full
-  pub put_new : (other : B) (x : A) → n ≡ length (in_blocks (map items blocks)) → n % 16 ≡ 0 → items other ≡ x ∷ []
+  pub put_new : (other : B) (x : A) → n ≡ length (in_blocks (map items blocks)) → n % 8 ≡ 0 → items other ≡ x ∷ []
       → IsFilled (map items (blocks ++ other ∷ [])) × (in_blocks (map items (blocks ++ other ∷ [])) ≡ in_blocks (map items blocks) ++ x ∷ [])
   put_new other x e h o =
       let is : map items (blocks ++ other ∷ []) ≡ map items blocks ++ (x ∷ []) ∷ [] = map-append items blocks (other ∷ []) ∙ ap (λ b. map items blocks ++ b ∷ []) o in (
-        subst IsFilled (sym is) (filled_new (map items blocks) (n / 16) (x ∷ []) refl filled (omega arith)),
+        subst IsFilled (sym is) (filled_new (map items blocks) (n / 8) (x ∷ []) refl filled (omega arith)),
         ap in_blocks is ∙ items_new (map items blocks) (x ∷ []),
       )
 
-  module _ (block : B) (at : slice_get blocks (n / 16) ≡ Some block) where
-    in_map : slice_get (map items blocks) (n / 16) ≡ Some (items block)
-    in_map = slice_get-map items blocks (n / 16) ∙ ap (option_map items) at
+  module _ (block : B) (at : slice_get blocks (n / 8) ≡ Some block) where
+    in_map : slice_get (map items blocks) (n / 8) ≡ Some (items block)
+    in_map = slice_get-map items blocks (n / 8) ∙ ap (option_map items) at
 
-    pub item_of : slice_get (in_blocks (map items blocks)) n ≡ slice_get (items block) (n % 16)
+    pub item_of : slice_get (in_blocks (map items blocks)) n ≡ slice_get (items block) (n % 8)
     item_of =
         ap (slice_get (in_blocks (map items blocks))) (sym numbered)
-        ∙ item_in (map items blocks) (n / 16) (n % 16) filled (omega arith)
-        ∙ ap (option_and_then (λ b. slice_get b (n % 16))) in_map
+        ∙ item_in (map items blocks) (n / 8) (n % 8) filled (omega arith)
+        ∙ ap (option_and_then (λ b. slice_get b (n % 8))) in_map
 
-    pub place_of : n < length (in_blocks (map items blocks)) → n % 16 < length (items block)
-    place_of h = place_there (map items blocks) (n / 16) (n % 16) (items block) in_map filled (omega arith) (omega arith)
+    pub place_of : n < length (in_blocks (map items blocks)) → n % 8 < length (items block)
+    place_of h = place_there (map items blocks) (n / 8) (n % 8) (items block) in_map filled (omega arith) (omega arith)
 
     module _ (other : B) where
-      in_place : (l : List A) → items other ≡ l → map items (slice_set blocks (n / 16) other) ≡ slice_set (map items blocks) (n / 16) l
-      in_place l o = map-set items blocks (n / 16) other ∙ ap (slice_set (map items blocks) (n / 16)) o
+      in_place : (l : List A) → items other ≡ l → map items (slice_set blocks (n / 8) other) ≡ slice_set (map items blocks) (n / 8) l
+      in_place l o = map-set items blocks (n / 8) other ∙ ap (slice_set (map items blocks) (n / 8)) o
 
       -- an item of it written
-      pub written : (x : A) → n < length (in_blocks (map items blocks)) → items other ≡ slice_set (items block) (n % 16) x
-          → IsFilled (map items (slice_set blocks (n / 16) other)) × (in_blocks (map items (slice_set blocks (n / 16) other)) ≡ slice_set (in_blocks (map items blocks)) n x)
+      pub written : (x : A) → n < length (in_blocks (map items blocks)) → items other ≡ slice_set (items block) (n % 8) x
+          → IsFilled (map items (slice_set blocks (n / 8) other)) × (in_blocks (map items (slice_set blocks (n / 8) other)) ≡ slice_set (in_blocks (map items blocks)) n x)
       written x h o = (
-        subst IsFilled (sym (in_place (slice_set (items block) (n % 16) x) o))
-            (filled_set (map items blocks) (n / 16) (items block) (slice_set (items block) (n % 16) x) in_map (length-set (items block) (n % 16) x) filled),
-        ap in_blocks (in_place (slice_set (items block) (n % 16) x) o)
-            ∙ set_in (map items blocks) (n / 16) (n % 16) (items block) x in_map filled (place_of h)
+        subst IsFilled (sym (in_place (slice_set (items block) (n % 8) x) o))
+            (filled_set (map items blocks) (n / 8) (items block) (slice_set (items block) (n % 8) x) in_map (length-set (items block) (n % 8) x) filled),
+        ap in_blocks (in_place (slice_set (items block) (n % 8) x) o)
+            ∙ set_in (map items blocks) (n / 8) (n % 8) (items block) x in_map filled (place_of h)
             ∙ ap (λ k. slice_set (in_blocks (map items blocks)) k x) numbered,
       )
 
-  module _ (block other : B) (last : n ≡ length (in_blocks (map items blocks))) (room : 0 < n % 16) (is : block ≡ slice_index_or blocks (n / 16) block) where
-    in_last : (l : List A) → items other ≡ l → map items (slice_set blocks (n / 16) other) ≡ slice_set (map items blocks) (n / 16) l
+  module _ (block other : B) (last : n ≡ length (in_blocks (map items blocks))) (room : 0 < n % 8) (is : block ≡ slice_index_or blocks (n / 8) block) where
+    in_last : (l : List A) → items other ≡ l → map items (slice_set blocks (n / 8) other) ≡ slice_set (map items blocks) (n / 8) l
     in_last l o = in_place block (lent_last block last room is) other l o
 
     -- an item put into the last block
     pub put_in_last : (x : A) → items other ≡ items block ++ x ∷ []
-        → IsFilled (map items (slice_set blocks (n / 16) other)) × (in_blocks (map items (slice_set blocks (n / 16) other)) ≡ in_blocks (map items blocks) ++ x ∷ [])
+        → IsFilled (map items (slice_set blocks (n / 8) other)) × (in_blocks (map items (slice_set blocks (n / 8) other)) ≡ in_blocks (map items blocks) ++ x ∷ [])
     put_in_last x o =
         let at = in_map block (lent_last block last room is) in (
           subst IsFilled (sym (in_last (items block ++ x ∷ []) o))
-              (filled_more (map items blocks) (n / 16) (n % 16) (items block) (items block ++ x ∷ []) at (length-append (items block) (x ∷ [])) filled (omega arith) room (omega arith)),
-          ap in_blocks (in_last (items block ++ x ∷ []) o) ∙ items_more (map items blocks) (n / 16) (n % 16) (items block) x at filled (omega arith) room (omega arith),
+              (filled_more (map items blocks) (n / 8) (n % 8) (items block) (items block ++ x ∷ []) at (length-append (items block) (x ∷ [])) filled (omega arith) room (omega arith)),
+          ap in_blocks (in_last (items block ++ x ∷ []) o) ∙ items_more (map items blocks) (n / 8) (n % 8) (items block) x at filled (omega arith) room (omega arith),
         )
 
     -- one refused
-    pub same_blocks : items other ≡ items block → map items (slice_set blocks (n / 16) other) ≡ map items blocks
-    same_blocks o = in_last (items block) o ∙ set_same (map items blocks) (n / 16) (items block) (in_map block (lent_last block last room is))
+    pub same_blocks : items other ≡ items block → map items (slice_set blocks (n / 8) other) ≡ map items blocks
+    same_blocks o = in_last (items block) o ∙ set_same (map items blocks) (n / 8) (items block) (in_map block (lent_last block last room is))

@@ -8,12 +8,12 @@ use std::alloc::{AllocError, Global};
 use std::marker::Model;
 
 /// The number of items in a block.
-const BLOCK: usize = 16;
+const BLOCK: usize = 8;
 
 /// The number of items in all blocks.
 const IN_BLOCKS: usize = 65_536;
 
-/// A list in blocks of sixteen items, with one vector behind them for the items beyond the first 65,536. Where blocks
+/// A list in blocks of eight items, with one vector behind them for the items beyond the first 65,536. Where blocks
 /// grow no item moves, and a block finds room in memory that other values have given back, where a long list would not;
 /// yet each lies between other values, which more blocks than these would drive far apart.
 #[derive(Drop)]

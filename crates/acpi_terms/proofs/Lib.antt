@@ -7,6 +7,7 @@ pub mod Blocks
 pub mod Items
 pub mod Refusals
 pub mod Opened
+pub mod Holders
 pub mod Fitting
 pub mod ShortOffsets
 pub mod ReadItems

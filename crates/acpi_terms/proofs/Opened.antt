@@ -4,7 +4,7 @@ use Rattle.acpi_code.specs.declared.opcode.Opcode.{Opcode}
 use Rattle.acpi_terms.specs.declared.fault.ItemFault.{ItemFault}
 use Rattle.acpi_code.specs.steps.Left.{Left, Shorter}
 use Rattle.acpi_code.specs.steps.Reading.{Reading, opcode_at}
-use Rattle.acpi_terms.specs.steps.Cursor.{Reads, ReadsOn}
+use Rattle.acpi_terms.specs.steps.Cursor.{Fails, Reads, ReadsOn}
 use Rattle.acpi_terms.specs.steps.Reading.{Fault, elem_by, elems_with, elem_at, item_by, items_with, item_at}
 
 pub elem_opened : (level end : ℕ) (bytes : List ℕ) (front : Opcode) (rest : List ℕ) → 0 < level → opcode_at end bytes ≡ Ok (front, rest)
@@ -35,3 +35,9 @@ pub reads_behind : {X Y : Type 0} (view : X → Y) (read by : ℕ → List ℕ �
 reads_behind view read by old mid new (Ok x) e on h =
     (e ∙ h.0, record { same_end = h.1.same_end ∙ on.same_end; less = omega (arith, on.less, h.1.at_most) })
 reads_behind view read by old mid new (Err f) e on h = rw e h
+
+pub shorter_on : {old mid new : Left} → Shorter old mid → Shorter mid new → Shorter old new
+shorter_on on h = record { same_end = h.same_end ∙ on.same_end; less = omega (arith, on.less, h.less) }
+
+pub fails_behind : {Y : Type 0} (e : ItemFault) (read by : Result Y Fault) → read ≡ by → Fails e by → Fails e read
+fails_behind e read by same fails = rw same fails

@@ -1,6 +1,6 @@
 //! Reading items.
 
-ghost use Rattle.std.specs.Prelude.{◌≡◌, ◌≤◌, ◌++◌, ℕ, true, List, length, IfOk, IfErr};
+ghost use Rattle.std.specs.Prelude.{◌≡◌, ◌≤◌, ◌++◌, [], ℕ, true, false, List, length, IfOk, IfErr};
 ghost use Rattle.acpi_tree.specs.Tree.{ItemTrees, items_of};
 ghost use Rattle.acpi_terms.specs.Spelling.{SpellsItems, items_height};
 ghost use Rattle.acpi_terms.specs.Faults.{Told, Refused, OrMemory, IsRefused};
@@ -8,7 +8,8 @@ ghost use Rattle.acpi_tree.specs.Fits.{items_fit};
 ghost use Rattle.acpi_tree.specs.Offsets.{OffsetsFit};
 ghost use Rattle.acpi_terms.specs.declared.fault.ItemReason.{ItemReason};
 ghost use Rattle.acpi_tree.specs.View.{item_view, items_view, items_tree};
-ghost use Rattle.acpi_terms.specs.steps.Reading.{scope_item, device_item, processor_item, power_item, thermal_item, item_by, item_at, items_with, items_at};
+ghost use Rattle.acpi_terms.specs.steps.Reading.{item_by, item_at, items_with, items_at};
+ghost use Rattle.acpi_terms.specs.steps.Holding.{opens_items, ReadsNext};
 ghost use Rattle.acpi_terms.specs.steps.Cursor.{Gives, Reads, ReadsAll};
 
 use crate::block::block_form;
@@ -17,6 +18,7 @@ use crate::form::{
     bank_field_form, create_field_form, create_form, event_form, external_form, field_form,
     index_field_form, method_form, mutex_form, name_form, region_form,
 };
+use crate::holder::{Holder, begin, holds_items};
 use acpi_code::{Code, Depth, Opcode};
 use acpi_tree::Item;
 use bytes::Bytes;
@@ -25,110 +27,43 @@ use std::alloc::{AllocError, Global};
 /// The longest list that grows by half where it is full.
 const FEW: usize = 16;
 
+/// The shortest list that grows to twice its length.
+const MANY: usize = 1024;
+
 // Makes room for one more item. A list grows by half, a long one by an eighth: the lists of scopes inside one another
-// all wait until the innermost has been read, and would be half empty. Room is made before the item is read, so that a
-// list does not move behind those inside it.
+// all wait until the innermost has been read, and would be half empty. Of a very long one the system gives no memory
+// before it is used. Room is made before the item is read, so that a list does not move behind those inside it.
 fn make_room(items: &mut Vec<Item>) -> Result<(), AllocError>
     ensures { items.new.items ≡ items.old.items }
 {
-    if items.len() == items.capacity() {
-        if items.len() < FEW {
-            items.reserve_exact((items.len() / 2).max(1))?;
+    let len = items.len();
+    if len == items.capacity() {
+        let more = if len < FEW {
+            (len / 2).max(1)
+        } else if len < MANY {
+            len / 8
         } else {
-            items.reserve_exact(items.len() / 8)?;
-        }
+            len
+        };
+        items.reserve_exact(more)?;
     }
     Ok(())
 }
 
-#[cycle(items)]
-#[tactic(auto, using(crate::proofs::Parts::part_fails))]
-fn scope_form(alloc: Global, level: u32, code: &mut Code<'_>) -> Result<Item, ItemFault>
-    ensures { Reads item_view (scope_item (items_with (item_at level)) level) code.old code.new result }
-{
-    let mut inner = code.package()?;
-    let name = inner.name()?;
-    let items = items(alloc, level, &mut inner)?;
-    Ok(Item::Scope(name.own(alloc)?, items))
-}
-
-#[cycle(items)]
-#[tactic(auto, using(crate::proofs::Parts::part_fails))]
-fn device_form(alloc: Global, level: u32, code: &mut Code<'_>) -> Result<Item, ItemFault>
-    ensures { Reads item_view (device_item (items_with (item_at level)) level) code.old code.new result }
-{
-    let mut inner = code.package()?;
-    let name = inner.name()?;
-    let items = items(alloc, level, &mut inner)?;
-    Ok(Item::Device(name.own(alloc)?, items))
-}
-
-#[cycle(items)]
-#[tactic(auto, using(crate::proofs::Parts::part_fails))]
-fn processor_form(alloc: Global, level: u32, code: &mut Code<'_>) -> Result<Item, ItemFault>
-    ensures { Reads item_view (processor_item (items_with (item_at level)) level) code.old code.new result }
-{
-    let mut inner = code.package()?;
-    let name = inner.name()?;
-    let id = inner.byte()?;
-    let block = inner.dword()?;
-    let length = inner.byte()?;
-    let items = items(alloc, level, &mut inner)?;
-    let name = name.own(alloc)?;
-    Ok(Item::Processor {
-        name,
-        id,
-        block,
-        length,
-        items,
-    })
-}
-
-#[cycle(items)]
-#[tactic(auto, using(crate::proofs::Parts::part_fails))]
-fn power_form(alloc: Global, level: u32, code: &mut Code<'_>) -> Result<Item, ItemFault>
-    ensures { Reads item_view (power_item (items_with (item_at level)) level) code.old code.new result }
-{
-    let mut inner = code.package()?;
-    let name = inner.name()?;
-    let system = inner.byte()?;
-    let order = inner.word()?;
-    let items = items(alloc, level, &mut inner)?;
-    let name = name.own(alloc)?;
-    Ok(Item::Power {
-        name,
-        level: system,
-        order,
-        items,
-    })
-}
-
-#[cycle(items)]
-#[tactic(auto, using(crate::proofs::Parts::part_fails))]
-fn thermal_form(alloc: Global, level: u32, code: &mut Code<'_>) -> Result<Item, ItemFault>
-    ensures { Reads item_view (thermal_item (items_with (item_at level)) level) code.old code.new result }
-{
-    let mut inner = code.package()?;
-    let name = inner.name()?;
-    let items = items(alloc, level, &mut inner)?;
-    Ok(Item::Thermal(name.own(alloc)?, items))
-}
-
-// The item whose first opcode, behind `front`, was read; `level` levels are left inside it.
-#[cycle(items)]
-fn item_form(
+// An item that holds none, whose first opcode, behind `front`, was read; `level` levels are left inside it.
+fn leaf(
     alloc: Global,
     level: u32,
     front: &Code<'_>,
     opcode: Opcode,
     code: &mut Code<'_>,
 ) -> Result<Item, ItemFault>
-    requires { front.now.end ≡ code.old.end }
+    requires ends { front.now.end ≡ code.old.end }
+    requires none { opens_items opcode ≡ false }
     ensures { Reads item_view (λ end rest. item_by (items_with (item_at level)) level end front.now.bytes opcode rest) code.old code.new result }
 {
     match opcode {
         Opcode::DeclareName => name_form(alloc, level, code),
-        Opcode::Scope => scope_form(alloc, level, code),
         Opcode::Method => method_form(alloc, code),
         Opcode::External => external_form(alloc, code),
         Opcode::If => block_form(alloc, level, front, code),
@@ -140,10 +75,11 @@ fn item_form(
         Opcode::Field => field_form(alloc, code),
         Opcode::IndexField => index_field_form(alloc, code),
         Opcode::BankField => bank_field_form(alloc, level, code),
-        Opcode::Device => device_form(alloc, level, code),
-        Opcode::Processor => processor_form(alloc, level, code),
-        Opcode::Power => power_form(alloc, level, code),
-        Opcode::Thermal => thermal_form(alloc, level, code),
+        Opcode::Scope => unreachable!(),
+        Opcode::Device => unreachable!(),
+        Opcode::Processor => unreachable!(),
+        Opcode::Power => unreachable!(),
+        Opcode::Thermal => unreachable!(),
         Opcode::Nothing => Err(refused(front, ItemReason::BadOpcode)),
         Opcode::Alias => Err(refused(front, ItemReason::Alias)),
         Opcode::Else => Err(refused(front, ItemReason::ModuleIf)),
@@ -154,29 +90,73 @@ fn item_form(
     }
 }
 
-#[cycle(items)]
+// The next item, `level` levels being left for it: adds it to those found; or, where it holds items, answers what stands
+// before these. It is no part of the recursion, so that a level of this costs little stack.
+#[inline(never)]
 #[tactic(auto, using(crate::proofs::Parts::part_fails), unfolding(crate::specs::steps::Reading::item_at))]
-fn item(alloc: Global, level: u32, code: &mut Code<'_>) -> Result<Item, ItemFault>
-    ensures { Reads item_view (item_at level) code.old code.new result }
+fn next<'a>(
+    alloc: Global,
+    level: u32,
+    code: &mut Code<'a>,
+    found: &mut Vec<Item>,
+) -> Result<Option<Holder<'a>>, ItemFault>
+    ensures { ReadsNext level code.old code.new (items_view found.old.items) (items_view found.new.items) result }
 {
     if level == 0 {
         return Err(code.too_deep().into());
     }
+    make_room(found)?;
     let front = code.fork();
     let opcode = code.opcode()?;
-    item_form(alloc, level - 1, &front, opcode, code)
+    if holds_items(opcode) {
+        Ok(Some(begin(alloc, opcode, code)?))
+    } else {
+        found.push(leaf(alloc, level - 1, &front, opcode, code)?)?;
+        Ok(None)
+    }
 }
+
+// The items of a list, `level` levels being left for each.
+#[cycle(items)]
+fn find_items(
+    alloc: Global,
+    level: u32,
+    code: &mut Code<'_>,
+    found: &mut Vec<Item>,
+) -> Result<(), ItemFault>
+    requires { found.old.items ≡ [] }
+    ensures { ReadsAll (λ _. items_tree found.new.items) (items_with (item_at level)) code.old result }
+{
+    'each: while !code.is_empty() {
+        match next(alloc, level, code, found)? {
+            Some(holder) => {
+                let Holder { front, inner } = holder;
+                let mut inner = inner;
+                let items = items(alloc, level - 1, &mut inner)?;
+                front.put(items, found)?;
+            }
+            None => {}
+        }
+    }
+    Ok(())
+}
+
+// Lets go of items, apart from the recursion, for the same reason.
+#[inline(never)]
+fn let_go(_items: Vec<Item>) {}
 
 #[cycle(items)]
 fn items(alloc: Global, level: u32, code: &mut Code<'_>) -> Result<Vec<Item>, ItemFault>
     ensures { ReadsAll (λ v. items_tree v.items) (items_with (item_at level)) code.old result }
 {
     let mut found = Vec::new(alloc);
-    'each: while !code.is_empty() {
-        make_room(&mut found)?;
-        found.push(item(alloc, level, code)?)?;
+    match find_items(alloc, level, code, &mut found) {
+        Ok(()) => Ok(found),
+        Err(fault) => {
+            let_go(found);
+            Err(fault)
+        }
     }
-    Ok(found)
 }
 
 fn all_items(alloc: Global, depth: u32, shared: &Bytes, code: &[u8]) -> Result<Vec<Item>, ItemFault>

@@ -20,14 +20,15 @@ mod constant;
 mod data;
 mod fault;
 mod form;
+mod holder;
 mod item;
 pub mod laws;
 mod part;
 
 pub use acpi_code::Depth;
 pub use acpi_tree::{
-    BufferData, Data, Decl, Elem, External, FieldElem, FieldForm, Int, Item, Object, Op, Operand,
-    Term, Width, items_fit, terms_fit,
+    BankField, BufferData, CreateField, Data, Decl, Elem, External, FieldElem, FieldForm, Int,
+    Item, Object, Op, Operand, Term, VarPackageData, Width, items_fit, terms_fit,
 };
 pub use fault::{ItemFault, ItemReason};
 pub use item::{read_items, read_items_shared};

@@ -37,7 +37,7 @@ object_view (Object.Method f) = method_object f
 object_view (Object.Region s o l) = region_object s o l
 object_view (Object.Mutex f) = mutex_object f
 object_view Object.Event = event_object
-object_view (Object.Field w f o b) = field_object w f o b
+object_view (Object.Field w f b o) = field_object w f o b
 object_view (Object.Create w i) = create_object w i
 object_view (Object.CreateField i b) = create_field_object i b
 

@@ -6,7 +6,7 @@ ghost use Rattle.acpi_tree.specs.Objects.{object_view};
 
 use crate::item_copies::{copy_leaf, device_of, power_of, processor_of, scope_of, thermal_of};
 use crate::object::Object;
-use crate::tree::{BufferData, Data, Elem, External, FieldElem, Item};
+use crate::tree::{BufferData, Data, Elem, External, FieldElem, Item, VarPackageData};
 use std::alloc::{AllocError, Global};
 
 impl Data {
@@ -18,9 +18,15 @@ impl Data {
         match self {
             Data::Int(i) => Ok(Data::Int(*i)),
             Data::Str(s) => Ok(Data::Str(Vec::from_slice(alloc, s)?)),
-            Data::Buffer(i, s) => Ok(Data::Buffer(*i, Vec::from_slice(alloc, s)?)),
+            Data::Buffer(b) => Ok(Data::Buffer(Box::new(alloc, b.copy(alloc)?)?)),
             Data::Package(n, elems) => Ok(Data::Package(*n, copy_elems(alloc, elems)?)),
-            Data::VarPackage(n, elems) => Ok(Data::VarPackage(*n, copy_elems(alloc, elems)?)),
+            Data::VarPackage(p) => Ok(Data::VarPackage(Box::new(
+                alloc,
+                VarPackageData {
+                    count: p.count,
+                    elems: copy_elems(alloc, &p.elems)?,
+                },
+            )?)),
         }
     }
 }

@@ -27,4 +27,7 @@ pub use op::Op;
 pub use place::{NamedForm, OperandKind, Place, UnitsForm};
 pub use standing::terms_fit;
 pub use term::{Decl, Operand, Term};
-pub use tree::{BufferData, Data, Elem, External, FieldElem, Int, Item, Width};
+pub use tree::{
+    BankField, BufferData, CreateField, Data, Elem, External, FieldElem, Int, Item, VarPackageData,
+    Width,
+};

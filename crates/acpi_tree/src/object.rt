@@ -50,12 +50,12 @@ pub enum Object {
     /// A mutex, by its sync flags.
     Mutex(u8),
     Event,
-    /// A field unit: flags of its field list, offset and width in bits.
+    /// A field unit: flags of its field list, width and offset in bits.
     Field {
         form: FieldForm,
         flags: u8,
-        offset: u64,
         bits: u32,
+        offset: u64,
     },
     /// A Create field of a fixed width: index in bytes, of a bit field in bits.
     Create {

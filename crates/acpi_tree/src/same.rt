@@ -48,10 +48,10 @@ pub(crate) fn same_data(a: &Data, b: &Data) -> bool
     match (a, b) {
         (Data::Int(i), Data::Int(j)) => same_int(*i, *j),
         (Data::Str(s), Data::Str(t)) => s == t,
-        (Data::Buffer(i, s), Data::Buffer(j, t)) => same_int(*i, *j) && s == t,
+        (Data::Buffer(s), Data::Buffer(t)) => same_buffer(s, t),
         (Data::Package(m, es), Data::Package(n, fs)) => m == n && same_elems(es, fs),
-        (Data::VarPackage(i, es), Data::VarPackage(j, fs)) => same_int(*i, *j)
-            && same_elems(es, fs),
+        (Data::VarPackage(p), Data::VarPackage(q)) => same_int(p.count, q.count)
+            && same_elems(&p.elems, &q.elems),
         _ => false,
     }
 }

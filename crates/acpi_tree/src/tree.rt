@@ -24,7 +24,16 @@ pub enum Int {
     QWord(u64),
 }
 
-/// A constant data object.
+/// The bytes of a buffer: its size as written, and the bytes that are given.
+#[derive(Debug, Drop)]
+pub struct BufferData {
+    /// The size.
+    pub size: Int,
+    /// The bytes.
+    pub bytes: Vec<u8>,
+}
+
+/// A constant data object. Namespaces hold many, so what is rare and large lies apart.
 #[cycle(data)]
 #[derive(Debug, Drop)]
 pub enum Data {
@@ -32,12 +41,22 @@ pub enum Data {
     Int(Int),
     /// A string, without the 00 that ends it.
     Str(Vec<u8>),
-    /// A buffer: its size as written, and the bytes that are given.
-    Buffer(Int, Vec<u8>),
+    /// A buffer.
+    Buffer(Box<BufferData>),
     /// A package: its count as written, and the elements that are given.
     Package(u8, Vec<Elem>),
-    /// A package whose count is a term: the count as written, and the elements.
-    VarPackage(Int, Vec<Elem>),
+    /// A package whose count is a term.
+    VarPackage(Box<VarPackageData>),
+}
+
+/// What a package holds whose count is a term.
+#[cycle(data)]
+#[derive(Debug, Drop)]
+pub struct VarPackageData {
+    /// The count as written.
+    pub count: Int,
+    /// The elements that are given.
+    pub elems: Vec<Elem>,
 }
 
 /// An element of a package.
@@ -48,15 +67,6 @@ pub enum Elem {
     Data(Data),
     /// A name, which is not searched.
     Name(Name),
-}
-
-/// A buffer that describes a connection: its size as written, and the bytes that are given.
-#[derive(Debug, Drop)]
-pub struct BufferData {
-    /// The size.
-    pub size: Int,
-    /// The bytes.
-    pub bytes: Vec<u8>,
 }
 
 /// An element of a field list. Lists of them are long, so what is rare and large stands apart.
@@ -102,7 +112,26 @@ pub enum Width {
     QWord,
 }
 
-/// A module-level term.
+/// A buffer field of any width: source, index and number in bits, declared name.
+#[derive(Debug, Drop)]
+pub struct CreateField {
+    pub source: Name,
+    pub index: Int,
+    pub bits: Int,
+    pub name: Name,
+}
+
+/// A field list of a bank: its region, the bank register and the value that selects the bank, flags, elements.
+#[derive(Debug, Drop)]
+pub struct BankField {
+    pub region: Name,
+    pub bank: Name,
+    pub value: Int,
+    pub flags: u8,
+    pub elems: Vec<FieldElem>,
+}
+
+/// A module-level term. Lists of them are long, so what is rare and large lies apart.
 #[derive(Debug, Drop)]
 pub enum Item {
     /// DefName: a name and its data.
@@ -127,13 +156,8 @@ pub enum Item {
         index: Int,
         name: Name,
     },
-    /// DefCreateField: source, index and number in bits, declared name.
-    CreateField {
-        source: Name,
-        index: Int,
-        bits: Int,
-        name: Name,
-    },
+    /// DefCreateField
+    CreateField(Box<CreateField>),
     /// DefMutex: name and sync flags.
     Mutex(Name, u8),
     /// DefEvent
@@ -159,13 +183,7 @@ pub enum Item {
         elems: Vec<FieldElem>,
     },
     /// DefBankField
-    BankField {
-        region: Name,
-        bank: Name,
-        value: Int,
-        flags: u8,
-        elems: Vec<FieldElem>,
-    },
+    BankField(Box<BankField>),
     /// DefDevice
     Device(Name, Vec<Item>),
     /// DefProcessor, as ACPI 6.3 and earlier have it.

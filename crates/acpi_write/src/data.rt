@@ -45,16 +45,16 @@ impl Writer {
                 Ok(())
             }
             Data::Str(text) => self.string(text),
-            Data::Buffer(size, content) => self.buffer(&[0x11], *size, content),
+            Data::Buffer(buffer) => self.buffer(&[0x11], buffer.size, &buffer.bytes),
             Data::Package(count, elems) => {
                 let end = self.len();
                 self.elems(elems)?;
                 self.fill(end, &[0x12], &[Argument::Byte(*count)])
             }
-            Data::VarPackage(count, elems) => {
+            Data::VarPackage(package) => {
                 let end = self.len();
-                self.elems(elems)?;
-                self.fill(end, &[0x13], &[Argument::Int(*count)])
+                self.elems(&package.elems)?;
+                self.fill(end, &[0x13], &[Argument::Int(package.count)])
             }
         }
     }

@@ -7,7 +7,10 @@ use Rattle.acpi_tree.specs.Fits.{items_fit}
 use Rattle.acpi_tree.specs.Offsets.{OffsetsFit}
 use Rattle.acpi_tree.specs.Tree.{ItemTree, scope, device, processor, power, thermal, ItemTrees, no_items, item}
 use Rattle.acpi_tree.specs.View.{items_tree}
-use Rattle.acpi_declare.specs.steps.Pass.{Pass, Passing, pass_items}
+use Rattle.acpi_name.specs.Paths.{parent_of}
+use Rattle.acpi_declare.specs.declared.items.Entered.{Entered}
+use Rattle.acpi_declare.specs.declared.items.Entered.TheVariants.{Nothing, Below, Elsewhere}
+use Rattle.acpi_declare.specs.steps.Pass.{◌>>=◌, Pass, Passing, pass_items}
 
 -- a measure of what is left: what stands inside an item weighs less than the item, and an item less than its list
 abbrev mutual
@@ -29,3 +32,25 @@ Enters i whole now None = whole ≡ Ok now
 Enters i whole now (Some (p, is)) = (whole ≡ pass_items now p (items_tree is.items))
     × OffsetsFit (items_tree is.items) × (items_fit (items_tree is.items) ≡ true)
     × (weights (items_tree is.items) < weight i)
+
+-- The outcome of a list's items is that of what is left inside the first, from there, and then that of the others.
+abbrev pub EntersNext : Passing → (Pass → Passing) → Pass → List Segment → Entered → Type 0
+EntersNext whole others now here Nothing = whole ≡ others now
+EntersNext whole others now here (Below is) = whole ≡ (pass_items now here (items_tree is.items) >>= others)
+EntersNext whole others now here (Elsewhere p is) = whole ≡ (pass_items now p (items_tree is.items) >>= others)
+
+-- items that may be declared
+abbrev pub AreLeft : ItemTrees → Type 0
+AreLeft is = OffsetsFit is × (items_fit is ≡ true)
+
+-- what is left of a list's items, and what is left inside the first
+abbrev pub IsLeftBehind : ItemTrees → ItemTrees → Entered → Type 0
+IsLeftBehind whole others Nothing = AreLeft others × (weights others < weights whole)
+IsLeftBehind whole others (Below is) = AreLeft others × AreLeft (items_tree is.items) × (weights others + weights (items_tree is.items) < weights whole)
+IsLeftBehind whole others (Elsewhere p is) = AreLeft others × AreLeft (items_tree is.items) × (weights others + weights (items_tree is.items) < weights whole)
+
+-- the path of the list's scope leads to that of what is left inside the first, where this is one segment longer
+abbrev pub IsScopeOf : List Segment → List Segment → Entered → Type 0
+IsScopeOf old new Nothing = new ≡ old
+IsScopeOf old new (Below is) = parent_of new ≡ old
+IsScopeOf old new (Elsewhere p is) = new ≡ old

@@ -1,4 +1,4 @@
--- A list in blocks of sixteen, with a list behind them.
+-- A list in blocks of eight, with a list behind them.
 use Rattle.std.specs.Prelude.{◌≡◌, ◌<◌, ◌≤◌, List, [], ◌∷◌, ◌++◌, length}
 
 -- the items of all blocks
@@ -9,8 +9,8 @@ in_blocks (block ∷ blocks) = block ++ in_blocks blocks
 -- each block is full but the last, which isn't empty
 abbrev pub IsFilled : {A : Type 0} → List (List A) → Type 0
 IsFilled [] = Unit {0}
-IsFilled (block ∷ []) = (0 < length block) × (length block ≤ 16)
-IsFilled (block ∷ next ∷ blocks) = (length block ≡ 16) × IsFilled (next ∷ blocks)
+IsFilled (block ∷ []) = (0 < length block) × (length block ≤ 8)
+IsFilled (block ∷ next ∷ blocks) = (length block ≡ 8) × IsFilled (next ∷ blocks)
 
 -- what stands behind the items of all blocks: nothing, unless these are 65,536
 abbrev pub IsBehind : {A : Type 0} → List A → List A → Type 0

@@ -1,25 +1,25 @@
-use Rattle.std.proofs.Common.{◌≡◌, ◌+◌, ◌*◌, ◌≤◌, length, reverse, true}
+use Rattle.std.proofs.Common.{◌≡◌, ◌+◌, ◌*◌, ◌≤◌, reverse, true}
 use Rattle.acpi_tree.specs.Fits.{items_fit}
 use Rattle.acpi_tree.specs.Offsets.{OffsetsFit}
-use Rattle.acpi_tree.specs.View.{item_view, items_tree}
-use Rattle.acpi_declare.specs.steps.Entering.{weight, weights}
+use Rattle.acpi_tree.specs.View.{items_tree}
+use Rattle.acpi_declare.specs.steps.Entering.{weights}
 use Rattle.acpi_declare.specs.steps.View.{pass_of}
 use Rattle.acpi_declare.specs.steps.Pass.{pass_items}
 use Rattle.acpi_declare.proofs.pass.Pass.+declare.Given as goal
 
-abbrev pub decreases-declare_item : goal.decreases-declare_item
-decreases-declare_item g l = 2 * weight (item_view l.item)
-
 abbrev pub decreases-declare_items : goal.decreases-declare_items
-decreases-declare_items g l = 2 * weights (items_tree l.items.items) + 1
+decreases-declare_items g l = 2 * weights (items_tree l.items.items)
 
-abbrev pub invariant-declare_items-loop-item : goal.invariant-declare_items-loop-item
-invariant-declare_items-loop-item g l =
+abbrev pub decreases-declare_elsewhere : goal.decreases-declare_elsewhere
+decreases-declare_elsewhere g l = 2 * weights (items_tree l.items.items) + 1
+
+abbrev pub invariant-declare_items-loop-self : goal.invariant-declare_items-loop-self
+invariant-declare_items-loop-self g l =
     (pass_items (pass_of (g.S.Space.contents l.self.objects) l.self) l.scope (items_tree (reverse l.left.items))
     ≡ pass_items (pass_of (g.S.Space.contents l.initial.self.objects) l.initial.self) l.initial.scope (items_tree (reverse l.initial.left.items)))
     × OffsetsFit (items_tree (reverse l.left.items)) × (items_fit (items_tree (reverse l.left.items)) ≡ true)
     × (weights (items_tree (reverse l.left.items)) ≤ weights (items_tree (reverse l.initial.left.items)))
     × (g.S.Space.lower l.self.objects ≡ g.S.Space.lower l.initial.self.objects) × (l.scope ≡ l.initial.scope)
 
-abbrev pub decreases-declare_items-loop-item : goal.decreases-declare_items-loop-item
-decreases-declare_items-loop-item g l = length l.left.items
+abbrev pub decreases-declare_items-loop-self : goal.decreases-declare_items-loop-self
+decreases-declare_items-loop-self g l = weights (items_tree (reverse l.left.items))

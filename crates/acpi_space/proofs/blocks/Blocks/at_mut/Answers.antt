@@ -58,7 +58,7 @@ invariant_of-self-lent-2 g c w =
     let first = is_first (in_blocks (map vec_items c.self.inside.blocks.items)) c.self.inside.rest.items c.args.number c.self.invariant.1 (omega (arith, c.if-number-ge-IN_BLOCKS.false)) inside in
     let at = lent_of vec_items c.self.inside.blocks.items c.args.number c.self.invariant.0 c.index_mut-block.result.now first c.index_mut-block.ensures.value in
     let made = written vec_items c.self.inside.blocks.items c.args.number c.self.invariant.0 c.index_mut-block.result.now at
-    (with_item c.index_mut-block.result.now (c.args.number % 16) w) w first refl in
+    (with_item c.index_mut-block.result.now (c.args.number % 8) w) w first refl in
     let set = set_first _ _ c.self.inside.rest.items c.args.number w made.1 c.self.invariant.1 first in
     (made.0, set.0, c.self.invariant.2 ∙ sym (ap length set.1 ∙ length-set _ c.args.number w))
 
@@ -73,7 +73,7 @@ returns g c =
         λ w.
             (set_first _ _ c.self.inside.rest.items c.args.number w
             (written vec_items c.self.inside.blocks.items c.args.number c.self.invariant.0 c.index_mut-block.result.now at
-            (with_item c.index_mut-block.result.now (c.args.number % 16) w) w first refl).1 c.self.invariant.1 first).1
+            (with_item c.index_mut-block.result.now (c.args.number % 8) w) w first refl).1 c.self.invariant.1 first).1
             ∙ ap (λ l. slice_set l c.args.number w) c.self.view_is,
       ),
       record {
@@ -82,6 +82,6 @@ returns g c =
             ap (λ l. slice_get l c.args.number) (sym c.self.view_is)
             ∙ get_first (in_blocks (map vec_items c.self.inside.blocks.items)) c.self.inside.rest.items c.args.number c.self.invariant.1 (omega (arith, c.if-number-ge-IN_BLOCKS.false))
             ∙ item_of vec_items c.self.inside.blocks.items c.args.number c.self.invariant.0 c.index_mut-block.result.now at
-            ∙ found_at c.index_mut-block.result.now.items (c.args.number % 16) c.index_mut-2.result.now there c.index_mut-2.ensures.value;
+            ∙ found_at c.index_mut-block.result.now.items (c.args.number % 8) c.index_mut-2.result.now there c.index_mut-2.ensures.value;
       },
     )

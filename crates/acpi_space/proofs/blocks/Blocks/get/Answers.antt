@@ -13,16 +13,16 @@ returns-then-number-ge-IN_BLOCKS g c =
 
 pub returns-in-Some : goal.returns-in-Some
 returns-in-Some g c =
-    copied_at c.deref-in-Some.result.now (c.args.number % 16) c.get-in-Some.result c.get-in-Some.ensures.lookup
-    ∙ ap (λ l. slice_get l (c.args.number % 16)) c.deref-in-Some.ensures.value
+    copied_at c.deref-in-Some.result.now (c.args.number % 8) c.get-in-Some.result c.get-in-Some.ensures.lookup
+    ∙ ap (λ l. slice_get l (c.args.number % 8)) c.deref-in-Some.ensures.value
     ∙ sym (item_of vec_items c.self.inside.blocks.items c.args.number c.self.invariant.0 c.in-Some.block.now
-    (ap (λ l. slice_get l (c.args.number / 16)) (sym c.deref-2.ensures.value) ∙ sym (copied_at c.deref-2.result.now (c.args.number / 16) (Some c.in-Some.block) c.in-Some.ensures.lookup)))
+    (ap (λ l. slice_get l (c.args.number / 8)) (sym c.deref-2.ensures.value) ∙ sym (copied_at c.deref-2.result.now (c.args.number / 8) (Some c.in-Some.block) c.in-Some.ensures.lookup)))
     ∙ sym (get_first (in_blocks (map vec_items c.self.inside.blocks.items)) c.self.inside.rest.items c.args.number c.self.invariant.1 (omega (arith, c.if-number-ge-IN_BLOCKS.false)))
     ∙ ap (λ l. slice_get l c.args.number) c.self.view_is
 
 pub returns-in-None : goal.returns-in-None
 returns-in-None g c =
     sym (no_item vec_items c.self.inside.blocks.items c.args.number c.self.invariant.0
-    (ap (λ l. slice_get l (c.args.number / 16)) (sym c.deref-2.ensures.value) ∙ slice_get_past c.deref-2.result.now (c.args.number / 16) c.in-None.ensures.lookup.3))
+    (ap (λ l. slice_get l (c.args.number / 8)) (sym c.deref-2.ensures.value) ∙ slice_get_past c.deref-2.result.now (c.args.number / 8) c.in-None.ensures.lookup.3))
     ∙ sym (get_first (in_blocks (map vec_items c.self.inside.blocks.items)) c.self.inside.rest.items c.args.number c.self.invariant.1 (omega (arith, c.if-number-ge-IN_BLOCKS.false)))
     ∙ ap (λ l. slice_get l c.args.number) c.self.view_is
