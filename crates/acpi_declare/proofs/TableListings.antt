@@ -2,6 +2,8 @@
 use Rattle.std.proofs.Common.{◌≡◌, ℕ, List, [], ◌∷◌, ◌++◌, None, Ok, Err, refl, sym, ap, subst, ◌∙◌, append_assoc, append-nil}
 use Rattle.acpi_tree.specs.Tree.{ItemTrees}
 use Rattle.acpi_space.specs.Lookups.{union}
+use Rattle.acpi_declare.specs.declared.keep.Keep.{Keep}
+use Rattle.acpi_declare.specs.Keeping.{kept_of}
 use Rattle.acpi_declare.specs.Links.{pending_links, pending_by}
 use Rattle.acpi_declare.specs.Listing.{Placement, object_of, scope_within, paths_of, IsFirstRefusal}
 use Rattle.acpi_declare.specs.Namespace.{Namespace}
@@ -39,10 +41,10 @@ after_notes t [] = sym (nothing_joined t.notes)
 after_notes t (e ∷ es) = after_notes (after t e) es ∙ joined_assoc t.notes (note_of t.objects e) (notes_on (union t.objects (object_of e)) es)
 
 -- a pass that begins without notes adds the table
-pub pass_adds : (depth number : ℕ) (bytes : List ℕ) (is : ItemTrees) (t u : Pass) (notes : List Notes)
+pub pass_adds : (keep : Keep) (depth number : ℕ) (bytes : List ℕ) (is : ItemTrees) (t u : Pass) (notes : List Notes)
     → IsTableOf depth number bytes is → pass_items t [] is ≡ Ok u → t.notes ≡ no_notes
-    → AddsTable depth number bytes (record { objects = t.objects; links = t.links; notes = notes }) (record { objects = u.objects; links = u.links; notes = notes ++ u.notes ∷ [] })
-pass_adds depth number bytes is t u notes table e none =
+    → AddsTable keep depth number bytes (record { objects = t.objects; links = t.links; notes = notes }) (record { objects = u.objects; links = u.links; notes = notes ++ kept_of keep u.notes })
+pass_adds keep depth number bytes is t u notes table e none =
     let o : Ran t [] (sites is) u = subst (Outcome t [] (sites is)) e (outcome t is) in
     let fresh : u.notes ≡ notes_on t.objects o.placements = ap (λ (v : Pass). v.notes) o.after_them ∙ after_notes t o.placements ∙ ap (λ n. joined n (notes_on t.objects o.placements)) none in
     record {
@@ -52,5 +54,5 @@ pass_adds depth number bytes is t u notes table e none =
       listing = o.listing;
       objects_are = ap (λ (v : Pass). v.objects) o.after_them ∙ objects_after t o.placements;
       links_are = ap (λ (v : Pass). v.links) o.after_them ∙ after_links t o.placements;
-      notes_are = ap (λ n. notes ++ n ∷ []) fresh;
+      notes_are = ap (λ n. notes ++ kept_of keep n) fresh;
     }

@@ -3,6 +3,8 @@ use Rattle.std.proofs.Common.{◌≡◌, ℕ, suc, ◌+◌, List, [], ◌∷◌,
 use Rattle.acpi_declare.specs.Declaring.{State, HasTables, HasTableOver}
 use Rattle.std.proofs.lemmas.Result.{MatchResult-weaker}
 use Rattle.acpi_declare.specs.declared.fault.LoadFault.{LoadFault}
+use Rattle.acpi_declare.specs.declared.keep.Keep.{Keep}
+use Rattle.acpi_declare.specs.declared.keep.Keep.TheVariants.{All}
 use Rattle.acpi_declare.specs.declared.fault.LoadFault.TheVariants.{At, Memory}
 use Rattle.acpi_space.specs.Lookups.{union}
 use Rattle.acpi_declare.specs.Links.{PendingLink, pending_links, all_pending}
@@ -14,7 +16,8 @@ use Rattle.acpi_declare.specs.Predefined.{predefined}
 use Rattle.acpi_declare.specs.Refusals.{IsLoadReason, IsLoadFault}
 use Rattle.acpi_declare.specs.Sites.{sites}
 use Rattle.acpi_declare.specs.Tables.{IsTableOf}
-use Rattle.acpi_declare.specs.steps.Adding.{AddsTable}
+use Rattle.acpi_declare.specs.Keeping.{kept_of, all_kept}
+use Rattle.acpi_declare.specs.steps.Adding.{AddsTable, HasKept, with_notes}
 use Rattle.acpi_declare.specs.steps.Outcomes.{IsTableFault}
 
 -- the listings of some tables and of one more behind them
@@ -40,7 +43,7 @@ more_notes objects [] t = refl
 more_notes objects (u ∷ ts) t = ap (λ ns. notes_on objects u ∷ ns) (more_notes (union objects (objects_of u)) ts t)
 
 pub one_more : (depth number : ℕ) (bs : List (List ℕ)) (b : List ℕ) (before now : State) → number ≡ length bs → HasTables depth bs before
-    → AddsTable depth number b before now → HasTables depth (bs ++ b ∷ []) now
+    → AddsTable All depth number b before now → HasTables depth (bs ++ b ∷ []) now
 one_more depth number bs b before now e so adds = record {
   placements = so.placements ++ adds.placements ∷ [];
   listings = more_listings depth 0 number predefined bs so.placements b adds.placements adds.is so.listings (e ∙ omega arith) adds.table
@@ -51,10 +54,33 @@ one_more depth number bs b before now e so adds = record {
       ∙ ap (λ (m : Namespace). all_notes predefined so.placements ++ notes_on m adds.placements ∷ []) so.objects_are ∙ sym (more_notes predefined so.placements adds.placements);
 }
 
+-- .. where not all notes are kept
+kept_more : (keep : Keep) (ns : List Notes) (n : Notes) → all_kept keep (ns ++ n ∷ []) ≡ all_kept keep ns ++ kept_of keep n
+kept_more keep [] n = append-nil (kept_of keep n)
+kept_more keep (m ∷ ns) n = ap (λ l. kept_of keep m ++ l) (kept_more keep ns n) ∙ sym (append_assoc (kept_of keep m) (all_kept keep ns) (kept_of keep n))
+
+pub one_more_kept : (keep : Keep) (depth number : ℕ) (bs : List (List ℕ)) (b : List ℕ) (before now : State) → number ≡ length bs → HasKept keep depth bs before
+    → AddsTable keep depth number b before now → HasKept keep depth (bs ++ b ∷ []) now
+one_more_kept keep depth number bs b before now e so adds =
+    let added = notes_on before.objects adds.placements in
+    record {
+      notes = so.notes ++ added ∷ [];
+      all = one_more depth number bs b (with_notes before so.notes) (with_notes now (so.notes ++ added ∷ [])) e so.all
+          (record { is = adds.is; table = adds.table; placements = adds.placements; listing = adds.listing; objects_are = adds.objects_are; links_are = adds.links_are; notes_are = refl });
+      kept = adds.notes_are ∙ ap (λ (l : List Notes). l ++ kept_of keep added) so.kept ∙ sym (kept_more keep so.notes added);
+    }
+
+pub no_tables_kept : (keep : Keep) (depth : ℕ) (now : State) → HasTables depth [] now → now.notes ≡ [] → HasKept keep depth [] now
+no_tables_kept keep depth now so none = record { notes = []; all = subst (λ (l : List Notes). HasTables depth [] (with_notes now l)) none so; kept = none }
+
+pub all_are_kept : (ns : List Notes) → all_kept All ns ≡ ns
+all_are_kept [] = refl
+all_are_kept (n ∷ ns) = ap (λ l. n ∷ l) (all_are_kept ns)
+
 -- .. where it alone keeps its links and notes
 pub one_over : (depth number : ℕ) (bs : List (List ℕ)) (b : List ℕ) (all before now : State) → number ≡ length bs → (so : HasTables depth bs all)
     → before.objects ≡ all.objects → before.links ≡ [] → before.notes ≡ []
-    → AddsTable depth number b before now → HasTableOver depth bs so.placements b now
+    → AddsTable All depth number b before now → HasTableOver depth bs so.placements b now
 one_over depth number bs b all before now e so same no_links no_notes adds = record {
   placements = adds.placements;
   listings = more_listings depth 0 number predefined bs so.placements b adds.placements adds.is so.listings (e ∙ omega arith) adds.table
@@ -80,6 +106,14 @@ no_tables depth other now so = by so.placements refl
       notes_are = so.notes_are ∙ ap (all_notes predefined) e;
     }
     by (t ∷ ts) e = absurd (subst (AreListings other 0 predefined []) e so.listings)
+
+-- .. and nothing was noted
+pub no_notes_yet : (depth : ℕ) (now : State) → HasTables depth [] now → now.notes ≡ []
+no_notes_yet depth now so = by so.placements refl
+  where
+    by : (ts : List (List Placement)) → so.placements ≡ ts → now.notes ≡ []
+    by [] e = so.notes_are ∙ ap (all_notes predefined) e
+    by (t ∷ ts) e = absurd (subst (AreListings depth 0 predefined []) e so.listings)
 
 -- the next table's fault is the load's
 pub next_fault : (depth number : ℕ) (bs later all : List (List ℕ)) (b : List ℕ) (before : State) (f : LoadFault) → all ≡ bs ++ b ∷ later → number ≡ length bs
@@ -119,7 +153,7 @@ count_tables depth bs now so = ap length so.notes_are ∙ count_notes predefined
 
 module _ {T : Type 0} (state : T → State) (depth number : ℕ) (bs : List (List ℕ)) (b : List ℕ) (before : State) (r : Result T LoadFault) (e : number ≡ length bs)
     (so : HasTables depth bs before) where
-  pub adds_ok : IfOk r (λ d. AddsTable depth number b before (state d)) → IfOk r (λ d. HasTables depth (bs ++ b ∷ []) (state d))
+  pub adds_ok : IfOk r (λ d. AddsTable All depth number b before (state d)) → IfOk r (λ d. HasTables depth (bs ++ b ∷ []) (state d))
   adds_ok h = MatchResult-weaker r h (λ d a. one_more depth number bs b before (state d) e so a) (λ f u. u)
 
   pub adds_err : IfErr r (λ f. IsTableFault depth number before.objects b f) → (later : List (List ℕ)) → IfErr r (λ f. IsLoadFault depth (bs ++ b ∷ later) f)
@@ -128,7 +162,7 @@ module _ {T : Type 0} (state : T → State) (depth number : ℕ) (bs : List (Lis
 -- .. over the objects of these tables alone
 pub adds_over : {T : Type 0} (state : T → State) (depth number : ℕ) (bs : List (List ℕ)) (b : List ℕ) (all before : State) (r : Result T LoadFault) → number ≡ length bs
     → (so : HasTables depth bs all)
-    → before.objects ≡ all.objects → before.links ≡ [] → before.notes ≡ [] → IfOk r (λ d. AddsTable depth number b before (state d))
+    → before.objects ≡ all.objects → before.links ≡ [] → before.notes ≡ [] → IfOk r (λ d. AddsTable All depth number b before (state d))
     → IfOk r (λ d. HasTableOver depth bs so.placements b (state d))
 adds_over state depth number bs b all before r e so same no_links no_notes h =
     MatchResult-weaker r h (λ d a. one_over depth number bs b all before (state d) e so same no_links no_notes a) (λ f u. u)

@@ -5,6 +5,7 @@ pub mod Placing
 pub mod Listing
 pub mod Links
 pub mod Notes
+pub mod Keeping
 pub mod Tables
 pub mod Loads
 pub mod Refusals

@@ -7,13 +7,14 @@ ghost use Rattle.acpi_space.specs.Overlays.{contents_over, lower_of};
 ghost use Rattle.acpi_space.specs.Spaces.{is_defined};
 ghost use Rattle.acpi_declare.specs.Declaring.{HasTableOver, HasTables, IsMissedLink, all_pending_of, objects_so_far, notes_so_far, state_of};
 ghost use Rattle.acpi_declare.specs.DeclaredView.{objects_in, links_in, notes_in};
-ghost use Rattle.acpi_declare.specs.Links.{links_at};
+ghost use Rattle.acpi_declare.specs.Links.{links_at, links_of};
 ghost use Rattle.acpi_declare.specs.Loads.{IsLoad, AreNotes};
 ghost use Rattle.acpi_declare.specs.Namespace.{namespace_of};
 ghost use Rattle.acpi_declare.specs.Notes.{notes_of};
 ghost use Rattle.acpi_declare.specs.Refusals.{IsLoadFault};
 
 use crate::fault::LoadFault;
+use crate::keep::Keep;
 use crate::links::{linked, misses_of_links};
 use crate::load::{Declared, add_table, start};
 use crate::notes::TableNotes;
@@ -41,7 +42,7 @@ impl<S: Space<Object>> Declaring<S> {
         ensures ok { IfOk result (λ d. HasTables depth (dsdt.now ∷ []) (state_of (S.contents (objects_so_far d)) d)) }
         ensures err { (later : List (List ℕ)) → IfErr result (λ e. IsLoadFault depth (dsdt.now ∷ later) e) }
     {
-        add_table(alloc, start(alloc, 1)?, 0, dsdt, depth)
+        add_table(alloc, start(alloc, 1)?, 0, dsdt, Keep::All, depth)
     }
 
     /// With what one SSDT declares over it.
@@ -57,7 +58,7 @@ impl<S: Space<Object>> Declaring<S> {
             → IfErr result (λ e. IsLoadFault depth (tables ++ ssdt.now ∷ later) e) }
     {
         let number = self.notes.len();
-        add_table(alloc, self, number, ssdt, depth)
+        add_table(alloc, self, number, ssdt, Keep::All, depth)
     }
 
     /// What one SSDT declares over these tables, which are borrowed and stay as they are: the namespace of all of them
@@ -79,7 +80,7 @@ impl<S: Space<Object>> Declaring<S> {
             links: Vec::new(alloc),
             notes: Vec::with_capacity(alloc, 1)?,
         };
-        add_table(alloc, layer, self.notes.len(), ssdt, depth)
+        add_table(alloc, layer, self.notes.len(), ssdt, Keep::All, depth)
     }
 
     /// The namespace.
@@ -121,6 +122,7 @@ impl<S: Space<Object>> Declaring<S> {
 
     /// The namespace, the links, searched over it, and the notes.
     pub fn finish(self, alloc: Global) -> Result<Declared<S>, LoadFault>
+        ensures found { IfOk result (λ d. links_at (links_in d) ≡ links_of (state_of (S.contents (objects_so_far self)) self).objects (state_of (S.contents (objects_so_far self)) self).links) }
         ensures load { IfOk result (λ d. (depth : ℕ) (tables : List (List ℕ)) → HasTables depth tables (state_of (S.contents (objects_so_far self)) self)
             → IsLoad depth tables (namespace_of (S.contents (objects_in d))) (links_at (links_in d))) }
         ensures notes { IfOk result (λ d. (depth : ℕ) (tables : List (List ℕ)) → HasTables depth tables (state_of (S.contents (objects_so_far self)) self)

@@ -14,6 +14,8 @@
 //! for (path, object) in &declared.objects().pairs()? { .. }
 //! ```
 //!
+//! A caller that reads no bodies, or one alone, keeps less of what tables note (`declare_keeping`).
+//!
 //! Tables can be declared one after another (`Declaring`), and an SSDT over tables that are only borrowed
 //! (`Declaring::ssdt_over`): so many SSDTs are each declared over one DSDT, which is read once.
 #![tactic(auto)]
@@ -22,6 +24,7 @@ mod declaring;
 mod fault;
 mod field_list;
 mod items;
+mod keep;
 pub mod laws;
 mod link_map;
 mod links;
@@ -33,7 +36,8 @@ mod predefined;
 
 pub use declaring::Declaring;
 pub use fault::{LoadFault, LoadReason, Refusal};
+pub use keep::Keep;
 pub use link_map::LinkMap;
 pub use links::copy_answers;
-pub use load::{Declared, declare, declare_shared, shared_tables};
+pub use load::{Declared, declare, declare_keeping, declare_shared, shared_tables};
 pub use notes::{Method, TableNotes};

@@ -5,6 +5,7 @@ ghost use Rattle.acpi_tree.specs.Fits.{items_fit};
 ghost use Rattle.acpi_tree.specs.Offsets.{OffsetsFit};
 ghost use Rattle.acpi_tree.specs.View.{items_tree};
 ghost use Rattle.acpi_declare.specs.Declaring.{HasTables, state_of};
+ghost use Rattle.acpi_declare.specs.Keeping.{AreKeptNotes};
 ghost use Rattle.acpi_declare.specs.Namespace.{Namespace, namespace_of};
 ghost use Rattle.acpi_declare.specs.Links.{links_at};
 ghost use Rattle.acpi_declare.specs.Notes.{notes_of};
@@ -12,11 +13,12 @@ ghost use Rattle.acpi_declare.specs.Tables.{signature_of, IsTableOf};
 ghost use Rattle.acpi_declare.specs.Loads.{IsLoad, AreNotes, HasNoLoad};
 ghost use Rattle.acpi_declare.specs.Refusals.{HasOtherSignature, IsLoadReason, IsLoadFault};
 ghost use Rattle.acpi_declare.specs.DeclaredView.{objects_in, links_in, notes_in};
-ghost use Rattle.acpi_declare.specs.steps.Adding.{AddsTable};
+ghost use Rattle.acpi_declare.specs.steps.Adding.{AddsTable, HasKept};
 ghost use Rattle.acpi_declare.specs.steps.Outcomes.{IsCodeOf, IsTableFault};
 
 use crate::declaring::Declaring;
 use crate::fault::{LoadFault, LoadReason, Stop};
+use crate::keep::{Keep, most_kept, put_kept};
 use crate::link_map::LinkMap;
 use crate::notes::TableNotes;
 use crate::pass::Pass;
@@ -149,15 +151,16 @@ fn table_items(
     }
 }
 
-/// Declares the items of table `number` over what is there.
+/// Declares the items of table `number` over what is there, and keeps so much of its notes.
 pub(crate) fn add_table<S: Space<Object>>(
     alloc: Global,
     loaded: Declaring<S>,
     number: usize,
     bytes: &Bytes,
+    keep: Keep<'_>,
     depth: Depth,
 ) -> Result<Declaring<S>, LoadFault>
-    ensures ok { IfOk result (λ r. AddsTable depth number bytes.now (state_of (S.contents loaded.objects) loaded) (state_of (S.contents r.objects) r)) }
+    ensures ok { IfOk result (λ r. AddsTable keep.entry depth number bytes.now (state_of (S.contents loaded.objects) loaded) (state_of (S.contents r.objects) r)) }
     ensures lower { IfOk result (λ r. S.lower r.objects ≡ S.lower loaded.objects) }
     ensures err { IfErr result (λ e. IsTableFault depth number (namespace_of (S.contents loaded.objects)) bytes.now e) }
 {
@@ -184,7 +187,7 @@ pub(crate) fn add_table<S: Space<Object>>(
     }
     let mut noted = pass.notes;
     noted.shrink();
-    notes.push(noted)?;
+    put_kept(&mut notes, noted, keep)?;
     Ok(Declaring {
         objects: pass.objects,
         links: pass.links,
@@ -206,7 +209,23 @@ pub fn declare_shared<S: Space<Object>>(
     ensures err { IfErr result (λ e. IsLoadFault depth (dsdt.now ∷ ssdts.now) e) }
     ensures none { IfErr result (λ e. e ≢ LoadFault.Memory → HasNoLoad depth (dsdt.now ∷ ssdts.now)) }
 {
-    declare_all(alloc, dsdt, ssdts, depth)?.finish(alloc)
+    declare_keeping(alloc, dsdt, ssdts, Keep::All, depth)
+}
+
+/// The same as `declare_shared`, but it keeps only so much of what the tables note.
+pub fn declare_keeping<S: Space<Object>>(
+    alloc: Global,
+    dsdt: &Bytes,
+    ssdts: &[Bytes],
+    keep: Keep<'_>,
+    depth: Depth,
+) -> Result<Declared<S>, LoadFault>
+    ensures ok { IfOk result (λ d. IsLoad depth (dsdt.now ∷ ssdts.now) (namespace_of (S.contents (objects_in d))) (links_at (links_in d))) }
+    ensures notes { IfOk result (λ d. AreKeptNotes depth (dsdt.now ∷ ssdts.now) keep.entry (map notes_of (notes_in d))) }
+    ensures err { IfErr result (λ e. IsLoadFault depth (dsdt.now ∷ ssdts.now) e) }
+    ensures none { IfErr result (λ e. e ≢ LoadFault.Memory → HasNoLoad depth (dsdt.now ∷ ssdts.now)) }
+{
+    declare_all(alloc, dsdt, ssdts, keep, depth)?.finish(alloc)
 }
 
 /// Each table's bytes, once more: copies that can be shared.
@@ -252,20 +271,21 @@ pub(crate) fn start<S: Space<Object>>(
     })
 }
 
-// Declares all tables.
+// Declares all tables, and keeps so much of their notes.
 fn declare_all<S: Space<Object>>(
     alloc: Global,
     dsdt: &Bytes,
     ssdts: &[Bytes],
+    keep: Keep<'_>,
     depth: Depth,
 ) -> Result<Declaring<S>, LoadFault>
-    ensures ok { IfOk result (λ r. HasTables depth (dsdt.now ∷ ssdts.now) (state_of (S.contents r.objects) r)) }
+    ensures ok { IfOk result (λ r. HasKept keep.entry depth (dsdt.now ∷ ssdts.now) (state_of (S.contents r.objects) r)) }
     ensures err { IfErr result (λ e. IsLoadFault depth (dsdt.now ∷ ssdts.now) e) }
 {
-    let begun = start(alloc, ssdts.len().saturating_add(1))?;
-    let mut loaded = add_table(alloc, begun, 0, dsdt, depth)?;
+    let begun = start(alloc, most_kept(ssdts.len(), keep))?;
+    let mut loaded = add_table(alloc, begun, 0, dsdt, keep, depth)?;
     for (i, ssdt) in ssdts.iter().enumerate() {
-        loaded = add_table(alloc, loaded, i + 1, ssdt, depth)?;
+        loaded = add_table(alloc, loaded, i + 1, ssdt, keep, depth)?;
     }
     Ok(loaded)
 }

@@ -39,9 +39,10 @@
 #![tactic(auto)]
 
 pub use acpi_declare::{
-    Declared, LinkMap, LoadFault, LoadReason, Refusal, declare, declare_shared, laws,
+    Declared, Keep, LinkMap, LoadFault, LoadReason, Refusal, declare, declare_keeping,
+    declare_shared, laws,
 };
-pub use acpi_machine::{Machine, explain, explain_shared, load, load_shared};
+pub use acpi_machine::{Machine, explain, explain_shared, load, load_shared, load_with_body_at};
 pub use acpi_rewrite::{rewrite, rewrite_shared, rewriting_laws};
 pub use acpi_verdict::{
     Awaited, Checked, Satisfied, Single, Verdict, check_shared, join, satisfied, satisfied_shared,

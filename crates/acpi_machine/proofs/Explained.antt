@@ -7,9 +7,12 @@ use Rattle.acpi_space.specs.Lookups.{Lookup, is_same_path}
 use Rattle.acpi_space.proofs.Comparisons.{path_itself}
 use Rattle.acpi_tree.specs.Terms.{TermTrees}
 use Rattle.acpi_declare.specs.Links.{Links}
-use Rattle.acpi_declare.specs.Loads.{IsLoad, AreNotes}
+use Rattle.acpi_declare.specs.declared.keep.Keep.{Keep}
+use Rattle.acpi_declare.specs.Keeping.{methods_at, with_methods, kept_of, AreKeptNotes}
+use Rattle.acpi_declare.specs.Loads.{IsLoad}
 use Rattle.acpi_declare.specs.Namespace.{Namespace}
-use Rattle.acpi_declare.specs.Notes.{Notes, method_of, notes_of}
+use Rattle.acpi_declare.specs.Notes.{Notes, method_of, notes_of, all_notes}
+use Rattle.acpi_declare.specs.Predefined.{predefined}
 use Rattle.acpi_declare.specs.declared.notes.Method as code
 use Rattle.acpi_declare.specs.declared.notes.TableNotes.{TableNotes}
 use Rattle.acpi_declare.proofs.Unions.{path_same}
@@ -23,6 +26,7 @@ use Rattle.acpi_order.specs.Bodies.{Method, with_counts, count, all_methods}
 use Rattle.acpi_machine.specs.Explaining.{IsReasonAt, IsExplained}
 use Rattle.acpi_machine.specs.steps.Adding.{noted, all_noted}
 use Rattle.acpi_machine.proofs.Machines.{noted_of_load}
+use Rattle.acpi_machine.proofs.OneBody.{noted_at, told_of_all}
 
 -- ---- the method of a path
 
@@ -123,12 +127,16 @@ told_later depth objects t later p methods w same none h =
 
 -- ---- of the tables
 
-pub explained : (depth : ℕ) (tables : List (List ℕ)) (objects : Namespace) (links : Lookup Links) (notes : List Notes) (p : List Segment) (w : Option BodyFault)
-    → IsLoad depth tables objects links → AreNotes depth tables notes → IsReasonAt depth objects (all_noted notes) p w → IsExplained depth tables p w
-explained depth tables objects links notes p w h a r =
-    let methods = noted_of_load depth tables objects links notes h a in
+pub explained : (keep : Keep) (depth : ℕ) (tables : List (List ℕ)) (objects : Namespace) (links : Lookup Links) (kept : List Notes) (p : List Segment) (w : Option BodyFault)
+    → ((n : Notes) → kept_of keep n ≡ with_methods n (methods_at p n.methods))
+    → IsLoad depth tables objects links → AreKeptNotes depth tables keep kept → IsReasonAt depth objects (all_noted kept) p w → IsExplained depth tables p w
+explained keep depth tables objects links kept p w is_at h k r =
+    let all = all_notes predefined k.placements in
+    let methods : all_noted all ≡ all_methods h.placements =
+    noted_of_load depth tables objects links all h (record { placements = k.placements; listings = k.listings; notes_are = refl }) in
+    let told = told_of_all depth objects p (all_noted all) w (subst (λ (ms : List Method). IsReasonAt depth objects ms p w) (ap all_noted k.notes_are ∙ noted_at keep p is_at all) r) in
     record {
       placements = h.placements;
       listings = h.listings;
-      reason = subst (λ (N : Namespace). IsReasonAt depth N (all_methods h.placements) p w) h.objects_are (subst (λ (ms : List Method). IsReasonAt depth objects ms p w) methods r);
+      reason = subst (λ (N : Namespace). IsReasonAt depth N (all_methods h.placements) p w) h.objects_are (subst (λ (ms : List Method). IsReasonAt depth objects ms p w) methods told);
     }

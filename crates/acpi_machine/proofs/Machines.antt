@@ -1,6 +1,7 @@
 -- Tables load to what was declared and read.
 use Rattle.std.proofs.Common.{◌≡◌, ℕ, List, [], ◌∷◌, ◌++◌, refl, ap, subst, ◌∙◌}
 use Rattle.acpi_space.specs.Lookups.{Lookup, nothing, union}
+use Rattle.acpi_declare.specs.declared.keep.Keep.TheVariants.{All}
 use Rattle.acpi_declare.specs.Links.{Links}
 use Rattle.acpi_declare.specs.Listing.{Placement, objects_of}
 use Rattle.acpi_declare.specs.Loads.{IsLoad, AreNotes}
@@ -8,11 +9,12 @@ use Rattle.acpi_declare.specs.Namespace.{Namespace}
 use Rattle.acpi_declare.specs.Notes.{Notes, all_notes}
 use Rattle.acpi_declare.specs.Predefined.{predefined}
 use Rattle.acpi_declare.proofs.Refusals.{same_listings}
+use Rattle.acpi_declare.proofs.TableLists.{all_are_kept}
 use Rattle.acpi_declare.proofs.Unions.{union-nothing}
 use Rattle.acpi_body.specs.Bodies.{BodyTree}
 use Rattle.acpi_order.specs.Bodies.{Method, methods_of, all_methods, bodies_at}
-use Rattle.acpi_order.specs.Machines.{IsMachine}
-use Rattle.acpi_machine.specs.steps.Adding.{all_noted, AddsBodies}
+use Rattle.acpi_order.specs.Machines.{Machine, IsMachine}
+use Rattle.acpi_machine.specs.steps.Adding.{all_noted, AddsBodies, HasBodies}
 use Rattle.acpi_machine.proofs.AddedBodies.{Added, added}
 
 -- the methods of the notes are those of the tables
@@ -42,3 +44,9 @@ has_machine depth tables objects links notes bodies h a b =
       read = all.read;
       bodies_are = all.now_is ∙ union-nothing (bodies_at (all_methods h.placements) all.trees);
     }
+
+-- .. where all notes are kept
+pub kept_has_machine : (depth : ℕ) (tables : List (List ℕ)) (m : Machine) → HasBodies All depth tables m → IsMachine depth tables m
+kept_has_machine depth tables m h =
+    has_machine depth tables m.objects m.links h.notes m.bodies h.loads
+    (record { placements = h.kept.placements; listings = h.kept.listings; notes_are = h.kept.notes_are ∙ all_are_kept (all_notes predefined h.kept.placements) }) h.bodies

@@ -1,3 +1,4 @@
 pub mod MachineView
 pub mod Explaining
+pub mod OneBody
 pub mod steps

@@ -7,10 +7,12 @@ ghost use Rattle.acpi_order.specs.Machines.{IsMachine};
 ghost use Rattle.acpi_order.specs.Joins.{IsJoin, IsSingleLoad};
 ghost use Rattle.acpi_order.specs.Independent.{IsIndependent};
 ghost use Rattle.acpi_machine.specs.MachineView.{objects_in, links_in, bodies_in, machine_of};
+ghost use Rattle.acpi_machine.specs.OneBody.{IsMachineAt};
+ghost use Rattle.acpi_machine.specs.steps.Adding.{HasBodies};
 
 use crate::bodies::read_bodies;
 use acpi_body::Body;
-use acpi_declare::{LinkMap, LoadFault, declare_shared, shared_tables};
+use acpi_declare::{Keep, LinkMap, LoadFault, declare_keeping, shared_tables};
 use acpi_name::Path;
 use acpi_order::laws::independent_tables_load;
 use acpi_space::Space;
@@ -57,6 +59,27 @@ impl<S> Machine<S> {
     }
 }
 
+// Loads the tables in the order in which they are given, with the bodies of those methods whose notes are kept.
+fn load_keeping<S: Space<Object>>(
+    alloc: Global,
+    dsdt: &Bytes,
+    ssdts: &[Bytes],
+    keep: Keep<'_>,
+    depth: Depth,
+) -> Result<Machine<S>, LoadFault>
+    ensures ok { IfOk result (λ m. HasBodies keep.entry depth (dsdt.now ∷ ssdts.now) (machine_of (S.contents (objects_in m)) m)) }
+    ensures err { IfErr result (λ e. IsLoadFault depth (dsdt.now ∷ ssdts.now) e) }
+    ensures none { IfErr result (λ e. e ≢ LoadFault.Memory → HasNoLoad depth (dsdt.now ∷ ssdts.now)) }
+{
+    let (objects, links, notes) = declare_keeping(alloc, dsdt, ssdts, keep, depth)?.into_parts();
+    let bodies = read_bodies(alloc, &objects, notes, depth)?;
+    Ok(Machine {
+        objects,
+        links,
+        bodies,
+    })
+}
+
 // Loads the tables in the order in which they are given.
 fn load_in_order<S: Space<Object>>(
     alloc: Global,
@@ -68,13 +91,23 @@ fn load_in_order<S: Space<Object>>(
     ensures err { IfErr result (λ e. IsLoadFault depth (dsdt.now ∷ ssdts.now) e) }
     ensures none { IfErr result (λ e. e ≢ LoadFault.Memory → HasNoLoad depth (dsdt.now ∷ ssdts.now)) }
 {
-    let (objects, links, notes) = declare_shared(alloc, dsdt, ssdts, depth)?.into_parts();
-    let bodies = read_bodies(alloc, &objects, notes, depth)?;
-    Ok(Machine {
-        objects,
-        links,
-        bodies,
-    })
+    load_keeping(alloc, dsdt, ssdts, Keep::All, depth)
+}
+
+/// The same as `load_shared`, but of the bodies only that of the method at a path is read, where a table declares one
+/// there: the others are neither read nor kept.
+pub fn load_with_body_at<S: Space<Object>>(
+    alloc: Global,
+    dsdt: &Bytes,
+    ssdts: &[Bytes],
+    path: &Path,
+    depth: Depth,
+) -> Result<Machine<S>, LoadFault>
+    ensures ok { IfOk result (λ m. IsMachineAt depth (dsdt.now ∷ ssdts.now) path.now (machine_of (S.contents (objects_in m)) m)) }
+    ensures err { IfErr result (λ e. IsLoadFault depth (dsdt.now ∷ ssdts.now) e) }
+    ensures none { IfErr result (λ e. e ≢ LoadFault.Memory → HasNoLoad depth (dsdt.now ∷ ssdts.now)) }
+{
+    load_keeping(alloc, dsdt, ssdts, Keep::MethodAt(path), depth)
 }
 
 /// Loads a DSDT and SSDTs: declares their items, one table after another, and then searches the links of fields

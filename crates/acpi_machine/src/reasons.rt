@@ -11,7 +11,7 @@ ghost use Rattle.acpi_machine.specs.Explaining.{IsReasonAt, IsExplained};
 ghost use Rattle.acpi_machine.specs.steps.Adding.{all_noted};
 
 use acpi_body::{BodyFault, why};
-use acpi_declare::{Declared, LoadFault, Method, TableNotes, declare_shared, shared_tables};
+use acpi_declare::{Declared, Keep, LoadFault, Method, TableNotes, declare_keeping, shared_tables};
 use acpi_name::Path;
 use acpi_space::Space;
 use acpi_terms::{Depth, Object};
@@ -64,7 +64,7 @@ pub fn explain_shared<S: Space<Object>>(
     ensures err { IfErr result (λ e. IsLoadFault depth (dsdt.now ∷ ssdts.now) e) }
     ensures none { IfErr result (λ e. e ≢ LoadFault.Memory → HasNoLoad depth (dsdt.now ∷ ssdts.now)) }
 {
-    let declared: Declared<S> = declare_shared(alloc, dsdt, ssdts, depth)?;
+    let declared: Declared<S> = declare_keeping(alloc, dsdt, ssdts, Keep::MethodAt(path), depth)?;
     Ok(reason_at(alloc, declared.objects(), declared.notes(), path, depth)?)
 }
 

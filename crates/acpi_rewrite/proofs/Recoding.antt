@@ -29,17 +29,17 @@ use Rattle.acpi_rewrite.proofs.Relisted.{first_same, others_same, table_codes, l
 
 -- ---- pairs
 
-zip_push : {X Y : Type 0} (R : X → Y → Type 0) (xs : List X) (ys : List Y) (x : X) (y : Y) → AllZip R xs ys → R x y → AllZip R (xs ++ x ∷ []) (ys ++ y ∷ [])
-zip_push R [] [] x y h one = (one, tt)
-zip_push R [] (z ∷ ys) x y h one = absurd h
-zip_push R (z ∷ xs) [] x y h one = absurd h
-zip_push R (z ∷ xs) (w ∷ ys) x y h one = (h.0, zip_push R xs ys x y h.1 one)
+-- the next pair of a list, which is taken from its front
+pub zip_front : {X Y : Type 0} (R : X → Y → Type 0) (all xs left : List X) (done now : List Y) (x : X) (y : Y) → xs ≡ x ∷ left → now ≡ done ++ y ∷ []
+    → ((later : List Y) → AllZip R xs later → AllZip R all (done ++ later)) → R x y → (later : List Y) → AllZip R left later → AllZip R all (now ++ later)
+zip_front R all xs left done now x y front pushed before one later h =
+    let longer : now ++ later ≡ done ++ y ∷ later = ap (λ l. l ++ later) pushed ∙ append_assoc done (y ∷ []) later in
+    subst (AllZip R all) (sym longer) (before (y ∷ later) (subst (λ zs. AllZip R zs (y ∷ later)) (sym front) (one, h)))
 
-pub zip_more : {X Y : Type 0} (R : X → Y → Type 0) (xs : List X) (ys now : List Y) (i : ℕ) (x : X) (y : Y) → i < length xs → x ≡ get_or xs i x → AllZip R (take i xs) ys → R x y
-    → now ≡ ys ++ y ∷ [] → AllZip R (take (i + 1) xs) now
-zip_more R xs ys now i x y below there before one e =
-    let longer : take (i + 1) xs ≡ take i xs ++ x ∷ [] = take_more xs i x below ∙ ap (λ z. take i xs ++ z ∷ []) (sym there) in
-    subst (λ zs. AllZip R zs now) (sym longer) (subst (AllZip R (take i xs ++ x ∷ [])) (sym e) (zip_push R (take i xs) ys x y before one))
+-- .. where none is left
+pub zip_end : {X Y : Type 0} (R : X → Y → Type 0) (all left : List X) (done : List Y) → length left ≡ 0 → ((later : List Y) → AllZip R left later → AllZip R all (done ++ later))
+    → AllZip R all done
+zip_end R all left done none before = subst (AllZip R all) (append-nil done) (before [] (subst (λ zs. AllZip R zs []) (sym (nil_from_length left none)) tt))
 
 zip_length : {X Y : Type 0} (R : X → Y → Type 0) (xs : List X) (ys : List Y) → AllZip R xs ys → length xs ≡ length ys
 zip_length R [] [] h = refl

@@ -23,7 +23,7 @@ ghost use Rattle.acpi_rewrite.specs.steps.Recoding.{HasNewCodes, IsRewrittenTo};
 use crate::rewriting_laws::{none_grows, one_rewriting, rewritten_load_alike, rewritten_stay};
 use acpi_body::{Body, read_body};
 use acpi_counts::Counts;
-use acpi_declare::{Declared, LoadFault, Method, TableNotes, declare_shared, shared_tables};
+use acpi_declare::{LoadFault, Method, TableNotes, declare_shared, shared_tables};
 use acpi_space::Space;
 use acpi_table::{HEADER_BYTES, split_table};
 use acpi_terms::{Depth, Item, ItemFault, Object, read_items_shared};
@@ -36,6 +36,18 @@ use std::vec::IntoIter;
 fn has_bytes(bytes: &[u8])
     ensures { All (λ b. b < 256) bytes.now }
 {}
+
+// These bytes, as the method's own code where they are the same: most code is in its shortest spelling already, and
+// stays shared with its table.
+fn shared_or_new(code: &Bytes, bytes: Vec<u8>) -> Result<Bytes, AllocError>
+    ensures { IfOk result (λ b. b ≡ bytes.items) }
+{
+    if code.as_slice() == bytes.as_slice() {
+        code.clone()
+    } else {
+        Ok(Bytes::from_vec(bytes)?)
+    }
+}
 
 // What is written in the place of a method's code: the terms of its body in their shortest spelling, or the same
 // bytes where it isn't read.
@@ -52,7 +64,7 @@ fn new_code<S: Space<Object>>(
     has_bytes(code);
     match read_body(alloc, objects, &method.path, code, depth, counts)? {
         Body::Terms(terms) => match write_terms(alloc, &terms) {
-            Ok(bytes) => Ok(Bytes::from_vec(bytes)?),
+            Ok(bytes) => shared_or_new(&method.code, bytes),
             Err(WriteFault::TooLong) => unreachable!(),
             Err(WriteFault::Memory) => Err(AllocError),
         },
@@ -64,14 +76,19 @@ fn new_code<S: Space<Object>>(
 fn new_codes<S: Space<Object>>(
     alloc: Global,
     objects: &S,
-    notes: &TableNotes,
+    notes: TableNotes,
     depth: Depth,
 ) -> Result<Vec<Bytes>, AllocError>
-    ensures { IfOk result (λ v. AllZip (IsNewCode depth (namespace_of (S.contents objects.now))) (noted (notes_of notes.now)) v.items) }
+    ensures { IfOk result (λ v. AllZip (IsNewCode depth (namespace_of (S.contents objects.now))) (noted (notes_of notes)) v.items) }
 {
-    let mut codes = Vec::new(alloc);
-    for method in &notes.methods {
-        codes.push(new_code(alloc, objects, &notes.counts, method, depth)?)?;
+    let TableNotes {
+        counts,
+        methods,
+        ..
+    } = notes;
+    let mut codes = Vec::with_capacity(alloc, methods.len())?;
+    for method in methods {
+        codes.push(new_code(alloc, objects, &counts, &method, depth)?)?;
     }
     Ok(codes)
 }
@@ -88,11 +105,14 @@ fn all_new_codes<S: Space<Object>>(
     ensures err { IfErr result (λ e. IsLoadFault depth (dsdt.now ∷ ssdts.now) e) }
     ensures none { IfErr result (λ e. e ≢ LoadFault.Memory → HasNoLoad depth (dsdt.now ∷ ssdts.now)) }
 {
-    let declared: Declared<S> = declare_shared(alloc, dsdt, ssdts, depth)?;
-    let objects = declared.objects();
-    let mut codes = Vec::new(alloc);
-    for notes in declared.notes() {
-        codes.push(new_codes(alloc, objects, notes, depth)?)?;
+    // Room for it is made first: what is allocated behind the namespace and outlives it would keep the C library from
+    // giving the namespace's memory back.
+    let mut codes = Vec::with_capacity(alloc, ssdts.len().saturating_add(1))?;
+    let (objects, links, notes) = declare_shared::<S>(alloc, dsdt, ssdts, depth)?.into_parts();
+    drop(links);
+    // Each table's notes are given back before those of the next one are taken up.
+    for notes in notes {
+        codes.push(new_codes(alloc, &objects, notes, depth)?)?;
     }
     Ok(codes)
 }

@@ -4,3 +4,4 @@ pub mod BodyAt
 pub mod Declared
 pub mod Telling
 pub mod Verdicts
+pub mod Wholes

@@ -6,15 +6,13 @@ ghost use Rattle.acpi_declare.specs.DeclaredView as declared;
 ghost use Rattle.acpi_declare.specs.Links.{links_at};
 ghost use Rattle.acpi_declare.specs.Namespace.{namespace_of};
 ghost use Rattle.acpi_declare.specs.Refusals.{IsLoadFault};
-ghost use Rattle.acpi_order.specs.Machines.{IsMachine};
-ghost use Rattle.acpi_machine.specs.MachineView.{objects_in, machine_of};
 ghost use Rattle.std.specs.Io.KnownBytes.{Appends};
 ghost use Rattle.acpins_run.specs.declared.failure.Failure.{Failure};
 ghost use Rattle.acpins_run.specs.Failures.{status_of};
 ghost use Rattle.acpins_run.specs.FailureLines.{failure_line};
 ghost use Rattle.acpins_run.specs.Told.{AppendsBeginning, Tells};
 ghost use Rattle.acpins_words.specs.Words.{texts, showing, rewriting, asked_in, asked_of};
-ghost use Rattle.acpins_run.specs.Input.{files_of, AreTablesOf, IsFilesFault, IsLoadOfFiles};
+ghost use Rattle.acpins_run.specs.Input.{files_of, AreTablesOf, IsFilesFault};
 ghost use Rattle.acpins_run.specs.steps.Loading.{HasMachine};
 ghost use Rattle.acpins_run.specs.Runs.{IsListing, IsShowing, IsChecking, IsRewriting, IsWrong, IsOutput, GetsOutput, IsFailureOf, IsRunFailure, IsStored, StoresOutput, KeepsOthers, LeavesFiles, FailsWith};
 
@@ -28,7 +26,7 @@ use crate::parts::{PartWriter, UntilFailure};
 use crate::rewriting::{file_text, put_file};
 use crate::showing::shown;
 use crate::tables::add_tables;
-use acpi_load::{Declared, LoadFault, Machine, declare_shared, load_shared, rewrite_shared};
+use acpi_load::{Declared, Keep, LoadFault, declare_keeping, rewrite_shared};
 use acpi_name::{Path, PathFault};
 use acpi_space::{Space, TreeSpace};
 use acpi_terms::{Depth, Object};
@@ -73,39 +71,8 @@ fn some_tables_of<'a, F: Files>(
     Ok(tables)
 }
 
-// The machine that a DSDT and SSDTs load to. Of what `load_shared` promises, a run needs this much.
-fn load_tables<S: Space<Object>>(
-    alloc: Global,
-    dsdt: &Bytes,
-    ssdts: &[Bytes],
-    depth: Depth,
-) -> Result<Machine<S>, LoadFault>
-    ensures ok { IfOk result (λ m. IsMachine depth (dsdt.now ∷ ssdts.now) (machine_of (S.contents (objects_in m)) m)) }
-    ensures err { IfErr result (λ e. IsLoadFault depth (dsdt.now ∷ ssdts.now) e) }
-{
-    load_shared(alloc, dsdt, ssdts, depth)
-}
-
-// The tables that the files hold, and the machine that they load to.
-fn loaded<'a, S: Space<Object>, F: Files>(
-    alloc: Global,
-    request: &Request<'a>,
-    files: &mut F,
-) -> Result<(Vec<Bytes>, Machine<S>), Failure<'a>>
-    ensures ok { IfOk result (λ r. IsLoadOfFiles (F.bytes_of files.old) request.now.hex request.now.depth (files_of request.now) r.0.items (machine_of (S.contents (objects_in r.1)) r.1)) }
-    ensures err { IfErr result (IsFailureOf (F.bytes_of files.old) (asked_in request.now)) }
-    ensures others { F.written_to files.new ≡ F.written_to files.old }
-{
-    let tables = some_tables_of(alloc, request, files)?;
-    let Some((dsdt, ssdts)) = tables.split_first() else {
-        unreachable!()
-    };
-    let machine = load_tables(alloc, dsdt, ssdts, request.depth)?;
-    Ok((tables, machine))
-}
-
 // What a DSDT and SSDTs declare: the objects and links of the machine to which they load. Bodies are not listed and
-// refuse nothing, so they are not read.
+// refuse nothing, so they are not read, and nothing is kept of what the tables note for them.
 fn declare_tables<S: Space<Object>>(
     alloc: Global,
     dsdt: &Bytes,
@@ -115,7 +82,7 @@ fn declare_tables<S: Space<Object>>(
     ensures ok { IfOk result (λ d. HasMachine depth (dsdt.now ∷ ssdts.now) (namespace_of (S.contents (declared.objects_in d))) (links_at (declared.links_in d))) }
     ensures err { IfErr result (λ e. IsLoadFault depth (dsdt.now ∷ ssdts.now) e) }
 {
-    declare_shared(alloc, dsdt, ssdts, depth)
+    declare_keeping(alloc, dsdt, ssdts, Keep::Nothing, depth)
 }
 
 // The listing of what the files hold.
@@ -164,11 +131,11 @@ fn showing_of<'a, S: Space<Object>, F: Files>(
     ensures others { F.written_to files.new ≡ F.written_to files.old }
 {
     let path = path_of(alloc, word)?;
-    let (tables, machine) = loaded::<S, F>(alloc, request, files)?;
+    let tables = some_tables_of(alloc, request, files)?;
     let Some((dsdt, ssdts)) = tables.split_first() else {
         unreachable!()
     };
-    match shown(alloc, dsdt, ssdts, request.depth, &machine, &path)? {
+    match shown::<S>(alloc, dsdt, ssdts, request.depth, &path)? {
         Some(text) => Ok(text),
         None => Err(Failure::NoSuchPath),
     }

@@ -5,12 +5,13 @@ ghost use Rattle.std.specs.Option.{option_map, option_copied};
 ghost use Rattle.acpi_body.specs.Bodies.{body_view};
 ghost use Rattle.acpi_declare.specs.Refusals.{IsLoadFault};
 ghost use Rattle.acpi_machine.specs.MachineView.{objects_in, bodies_of, machine_of};
+ghost use Rattle.acpi_order.specs.Machines as machines;
 ghost use Rattle.acpins_run.specs.Shown.{body_reason_text, reason_text, IsBodyText, ShowsOrNone};
 
 use crate::listing::links_of;
 use crate::made::put;
 use acpi_body::{Body, BodyFault, BodyReason};
-use acpi_load::{LoadFault, Machine, explain_shared};
+use acpi_load::{LoadFault, Machine, explain_shared, load_with_body_at};
 use acpi_name::Path;
 use acpi_space::Space;
 use acpi_terms::{Depth, Object};
@@ -85,9 +86,8 @@ fn put_body<S: Space<Object>>(
     }
 }
 
-/// The line of the object at the path, and the body of the method there; None where no object is there. `machine` is
-/// what the tables load to.
-pub fn shown<S: Space<Object>>(
+// The line of the object at the path, and the body of the method there; None where no object is there.
+fn shown_of<S: Space<Object>>(
     alloc: Global,
     dsdt: &Bytes,
     ssdts: &[Bytes],
@@ -105,4 +105,20 @@ pub fn shown<S: Space<Object>>(
     put_line(&mut text, path, object, links_of(path, machine.links()))?;
     put_body::<S>(alloc, dsdt, ssdts, depth, machine.bodies(), path, &mut text)?;
     Ok(Some(text))
+}
+
+/// The line of the object at the path, and the body of the method there, of what the tables load to; None where no
+/// object is there. No other body is read.
+pub fn shown<S: Space<Object>>(
+    alloc: Global,
+    dsdt: &Bytes,
+    ssdts: &[Bytes],
+    depth: Depth,
+    path: &Path,
+) -> Result<Option<Vec<u8>>, LoadFault>
+    ensures ok { IfOk result (λ text. (m : machines.Machine) × machines.IsMachine depth (dsdt.now ∷ ssdts.now) m × ShowsOrNone depth (dsdt.now ∷ ssdts.now) m path.now (option_map (λ v. v.items) text)) }
+    ensures err { IfErr result (λ e. IsLoadFault depth (dsdt.now ∷ ssdts.now) e) }
+{
+    let machine: Machine<S> = load_with_body_at(alloc, dsdt, ssdts, path, depth)?;
+    shown_of(alloc, dsdt, ssdts, depth, &machine, path)
 }

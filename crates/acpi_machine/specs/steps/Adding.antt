@@ -1,10 +1,14 @@
 -- Bodies, one method after another.
 use Rattle.std.specs.Prelude.{◌≡◌, ℕ, List, [], ◌∷◌, ◌++◌, map}
-use Rattle.acpi_space.specs.Lookups.{Lookup, singleton, union}
+use Rattle.acpi_space.specs.Lookups.{Lookup, nothing, singleton, union}
+use Rattle.acpi_declare.specs.declared.keep.Keep.{Keep}
+use Rattle.acpi_declare.specs.Keeping.{AreKeptNotes}
+use Rattle.acpi_declare.specs.Loads.{IsLoad}
 use Rattle.acpi_declare.specs.Namespace.{Namespace}
 use Rattle.acpi_declare.specs.Notes.{Notes}
 use Rattle.acpi_body.specs.Bodies.{BodyTree}
 use Rattle.acpi_order.specs.Bodies.{Method, with_counts, IsBody}
+use Rattle.acpi_order.specs.Machines.{Machine}
 
 -- the methods that are noted of a table, and of all tables
 abbrev pub noted : Notes → List Method
@@ -18,3 +22,10 @@ all_noted (n ∷ ns) = noted n ++ all_noted ns
 abbrev pub AddsBodies : ℕ → Namespace → List Method → Lookup BodyTree → Lookup BodyTree → Type 0
 AddsBodies depth objects [] before now = now ≡ before
 AddsBodies depth objects (m ∷ ms) before now = (b : BodyTree) × IsBody depth objects m b × AddsBodies depth objects ms (union (singleton m.path b) before) now
+
+-- the objects and links to which the tables load, and the bodies of the methods whose notes are kept
+pub record HasBodies (keep : Keep) (depth : ℕ) (tables : List (List ℕ)) (m : Machine) : Type 0 where
+  pub loads : IsLoad depth tables m.objects m.links
+  pub notes : List Notes
+  pub kept : AreKeptNotes depth tables keep notes
+  pub bodies : AddsBodies depth m.objects (all_noted notes) nothing m.bodies

@@ -1,9 +1,9 @@
-use Rattle.std.proofs.Common.{◌≡◌, ◌∙◌, ◌++◌, ◌∷◌, [], List, map, ap, sym, subst, refl, Ok, Err}
+use Rattle.std.proofs.Common.{◌≡◌, ◌∙◌, ◌++◌, [], List, map, ap, sym, subst, refl, Ok, Err}
 use Rattle.std.proofs.lemmas.Result.{err_from_is_err_and}
-use Rattle.std.proofs.lemmas.List.{map-append}
 use Rattle.acpi_name.specs.Names.{Segment}
 use Rattle.acpi_tree.specs.View.{items_tree}
 use Rattle.acpi_declare.specs.Declaring.{state_of}
+use Rattle.acpi_declare.specs.Keeping.{kept_of}
 use Rattle.acpi_declare.specs.Namespace.{namespace_of}
 use Rattle.acpi_declare.specs.Notes.{Notes, notes_of}
 use Rattle.acpi_declare.specs.steps.Adding.{AddsTable}
@@ -37,7 +37,7 @@ returns-clause-ok g c =
     let before = state_of (g.S.Space.contents c.args.loaded.objects) c.args.loaded in
     let ran : pass_items t [] is ≡ Ok u = ap (λ (s : List Segment). pass_items t s is) (sym c.root.ensures) ∙ c.in-Ok.ensures.ok in
     let notes = map notes_of c.args.loaded.notes.items in
-    let pushed : map notes_of c.push.new.self.items ≡ notes ++ u.notes ∷ [] =
-    ap (map notes_of) c.in_ok-push.ensures.items ∙ map-append notes_of c.args.loaded.notes.items (c.shrink.new.self ∷ []) ∙ ap (λ (n : Notes). notes ++ n ∷ []) c.shrink.ensures in
-    subst (λ (l : List Notes). AddsTable c.args.depth c.args.number c.args.bytes.now before (record { objects = u.objects; links = u.links; notes = l })) (sym pushed)
-    (pass_adds c.args.depth c.args.number c.args.bytes.now is t u notes c.in_ok-items.ensures.ok ran c.new.ensures)
+    let kept : map notes_of c.put_kept.new.kept.items ≡ notes ++ kept_of c.args.keep u.notes =
+    c.in_ok-put_kept.ensures ∙ ap (λ (n : Notes). notes ++ kept_of c.args.keep n) c.shrink.ensures in
+    subst (λ (l : List Notes). AddsTable c.args.keep c.args.depth c.args.number c.args.bytes.now before (record { objects = u.objects; links = u.links; notes = l })) (sym kept)
+    (pass_adds c.args.keep c.args.depth c.args.number c.args.bytes.now is t u notes c.in_ok-items.ensures.ok ran c.new.ensures)

@@ -3,7 +3,6 @@ use Rattle.acpi_text.specs.Lines.{listing_text}
 use Rattle.acpi_load.specs.Links.{links_at}
 use Rattle.acpins_run.specs.Listings.{objects_by_path}
 use Rattle.acpins_run.specs.declared.listing.Lines.{Lines}
-use Rattle.acpins_run.specs.steps.Lines.{AreLines}
 use Rattle.acpins_run.proofs.Printing.{no_line, prints}
 use Rattle.acpins_run.proofs.listing.listed.Goals as goal
 

@@ -8,6 +8,6 @@ use Rattle.acpins_run.proofs.program.declare_tables.Goals as goal
 
 pub returns-clause-ok : goal.returns-clause-ok
 returns-clause-ok g c =
-    IfOk-weaker c.declare_shared.result _ _
+    IfOk-weaker c.declare_keeping.result _ _
     (λ d h. declared_have_machine c.args.depth (c.args.dsdt.now ∷ c.args.ssdts.now) (namespace_of (g.S.Space.contents (declared.objects_in d))) (links_at (declared.links_in d)) h)
-    c.declare_shared.ensures.ok
+    c.declare_keeping.ensures.ok

@@ -1,0 +1,33 @@
+-- What is kept of the notes of a table, as the code keeps them.
+use Rattle.std.proofs.Common.{◌≡◌, ◌≢◌, List, [], ◌∷◌, map, Bool, true, false, cond, refl, sym, ap, ◌∙◌}
+use Rattle.std.specs.FinMap.{get}
+use Rattle.std.specs.List.{filter}
+use Rattle.acpi_name.specs.Names.{Segment}
+use Rattle.acpi_space.specs.Lookups.{is_same_path}
+use Rattle.acpi_declare.specs.Keeping.{methods_at, with_methods}
+use Rattle.acpi_declare.specs.Notes.{method_of, notes_of}
+use Rattle.acpi_declare.specs.declared.notes.Method as code
+use Rattle.acpi_declare.specs.declared.notes.TableNotes.{TableNotes}
+
+abbrev at_path : List Segment → code.Method → Bool
+at_path p m = is_same_path m.path p
+
+at_mapped : (p : List Segment) (ms : List code.Method) → methods_at p (map method_of ms) ≡ map method_of (filter (at_path p) ms)
+at_mapped p [] = refl
+at_mapped p (m ∷ ms) = by (at_path p m) (at_mapped p ms)
+  where
+    by : (b : Bool) → methods_at p (map method_of ms) ≡ map method_of (filter (at_path p) ms)
+        → cond b (method_of m ∷ methods_at p (map method_of ms)) (methods_at p (map method_of ms)) ≡ map method_of (cond b (m ∷ filter (at_path p) ms) (filter (at_path p) ms))
+    by true later = ap (λ l. method_of m ∷ l) later
+    by false later = later
+
+-- some methods stand at the path
+pub some_kept : (p : List Segment) (t : TableNotes) (ms : List code.Method) → ms ≡ filter (at_path p) t.methods.items → ms ≢ []
+    → with_methods (notes_of t) (methods_at p (map method_of t.methods.items)) ≡ record { counts = get t.counts; methods = map method_of ms; missed = t.missed.items } ∷ []
+some_kept p t [] e some = absurd (some refl)
+some_kept p t (m ∷ ms) e some = ap (with_methods (notes_of t)) (at_mapped p t.methods.items ∙ ap (map method_of) (sym e))
+
+-- none does
+pub none_kept : (p : List Segment) (t : TableNotes) (ms : List code.Method) → ms ≡ filter (at_path p) t.methods.items → ms ≡ []
+    → with_methods (notes_of t) (methods_at p (map method_of t.methods.items)) ≡ []
+none_kept p t ms e none = ap (with_methods (notes_of t)) (at_mapped p t.methods.items ∙ ap (map method_of) (sym e ∙ none))
