@@ -10,20 +10,20 @@ use crate::notes::{Method, TableNotes};
 use acpi_name::Path;
 use std::alloc::AllocError;
 
-/// What a load keeps of what its tables note. Where tables are many and small, their notes take as much room as their
+/// What a load keeps of what its tables note. Where tables are many and small, their notes take as much memory as their
 /// objects.
 #[derive(Clone, Copy)]
 pub enum Keep<'a> {
     /// All of it.
     All,
-    /// What is noted for the body of the method at a path: of each table that declares one there, this method, and all
-    /// but the other methods.
+    /// What the body of the method at a path needs: of each table that declares one there, its notes without its other
+    /// methods.
     MethodAt(&'a Path),
     /// Nothing.
     Nothing,
 }
 
-// How many tables' notes are kept at the most, of a DSDT and so many SSDTs: as far as room is made for them before.
+// For how many tables' notes room is made before a DSDT and so many SSDTs are declared.
 pub(crate) fn most_kept(ssdts: usize, keep: Keep<'_>) -> usize {
     match keep {
         Keep::All => ssdts.saturating_add(1),

@@ -86,6 +86,25 @@ fn expect_read<S: Space<Object>>(rt: &impl Abort, alloc: Global) {
     expect_body(rt, alloc, &machine, &shared);
 }
 
+// Of the methods of two tables that body alone is read, and none at a path without a method; of what the tables note, that
+// method alone is kept, or nothing.
+fn expect_one_body<S: Space<Object>>(rt: &impl Abort, alloc: Global) {
+    let dsdt = dsdt_of(rt, alloc, &[CALL]);
+    let ssdts = ssdts_of(rt, alloc, &[MTH2]);
+    let path = path_of(rt, alloc, "\\CALL");
+    let one = load_with_body_at::<S>(alloc, &dsdt, &ssdts, &path, limit(rt, 4));
+    let one = one.expect(rt, "a machine");
+    assert!(rt; matches!(one.bodies().get(&path), Some(Body::Terms(_))));
+    assert!(rt; one.bodies().len() == 1);
+    let other = path_of(rt, alloc, "\\_SB_");
+    let none = load_with_body_at::<S>(alloc, &dsdt, &ssdts, &other, limit(rt, 4));
+    assert!(rt; none.expect(rt, "a machine").bodies().is_empty());
+    let kept = declare_keeping::<S>(alloc, &dsdt, &ssdts, Keep::MethodAt(&path), limit(rt, 4));
+    assert!(rt; kept.expect(rt, "a load").notes().len() == 1);
+    let nothing = declare_keeping::<S>(alloc, &dsdt, &ssdts, Keep::Nothing, limit(rt, 4));
+    assert!(rt; nothing.expect(rt, "a load").notes().is_empty());
+}
+
 // Without that method the call is no statement at its first argument.
 fn expect_explained<S: Space<Object>>(rt: &impl Abort, alloc: Global) {
     let dsdt = dsdt_of(rt, alloc, &[CALL]);
@@ -101,11 +120,13 @@ fn expect_explained<S: Space<Object>>(rt: &impl Abort, alloc: Global) {
 #[test]
 fn reads_bodies_over_a_map(rt: HostRuntime) {
     expect_read::<MapSpace<Object>>(&rt, rt.alloc());
+    expect_one_body::<MapSpace<Object>>(&rt, rt.alloc());
     expect_explained::<MapSpace<Object>>(&rt, rt.alloc());
 }
 
 #[test]
 fn reads_bodies_over_a_tree(rt: HostRuntime) {
     expect_read::<TreeSpace<Object>>(&rt, rt.alloc());
+    expect_one_body::<TreeSpace<Object>>(&rt, rt.alloc());
     expect_explained::<TreeSpace<Object>>(&rt, rt.alloc());
 }
