@@ -12,14 +12,17 @@ use Rattle.acpi_declare.specs.declared.notes.TableNotes.{TableNotes}
 abbrev at_path : List Segment → code.Method → Bool
 at_path p m = is_same_path m.path p
 
-at_mapped : (p : List Segment) (ms : List code.Method) → methods_at p (map method_of ms) ≡ map method_of (filter (at_path p) ms)
-at_mapped p [] = refl
-at_mapped p (m ∷ ms) = by (at_path p m) (at_mapped p ms)
+pub filter_mapped : {X Y : Type 0} (p : Y → Bool) (f : X → Y) (xs : List X) → filter p (map f xs) ≡ map f (filter (λ x. p (f x)) xs)
+filter_mapped p f [] = refl
+filter_mapped p f (x ∷ xs) = by (p (f x)) (filter_mapped p f xs)
   where
-    by : (b : Bool) → methods_at p (map method_of ms) ≡ map method_of (filter (at_path p) ms)
-        → cond b (method_of m ∷ methods_at p (map method_of ms)) (methods_at p (map method_of ms)) ≡ map method_of (cond b (m ∷ filter (at_path p) ms) (filter (at_path p) ms))
-    by true later = ap (λ l. method_of m ∷ l) later
+    by : (b : Bool) → filter p (map f xs) ≡ map f (filter (λ x. p (f x)) xs)
+        → cond b (f x ∷ filter p (map f xs)) (filter p (map f xs)) ≡ map f (cond b (x ∷ filter (λ x. p (f x)) xs) (filter (λ x. p (f x)) xs))
+    by true later = ap (λ l. f x ∷ l) later
     by false later = later
+
+at_mapped : (p : List Segment) (ms : List code.Method) → methods_at p (map method_of ms) ≡ map method_of (filter (at_path p) ms)
+at_mapped p ms = filter_mapped (λ m. is_same_path m.path p) method_of ms
 
 -- some methods stand at the path
 pub some_kept : (p : List Segment) (t : TableNotes) (ms : List code.Method) → ms ≡ filter (at_path p) t.methods.items → ms ≢ []

@@ -13,7 +13,7 @@ pub mod Ranges
 pub mod CodeFaults
 pub mod TableListings
 pub mod TableLists
-mod KeptNotes
+pub mod KeptNotes
 pub mod OverOne
 pub mod Refusals
 pub mod LinkMisses

@@ -14,6 +14,7 @@ use Rattle.acpi_declare.specs.Namespace.{Namespace}
 use Rattle.acpi_declare.specs.Notes.{Notes, all_notes}
 use Rattle.acpi_declare.specs.Notes as notes
 use Rattle.acpi_declare.specs.Predefined.{predefined}
+use Rattle.acpi_declare.proofs.KeptNotes.{filter_mapped}
 use Rattle.acpi_declare.proofs.Unions.{path_same, union-nothing}
 use Rattle.acpi_body.specs.declared.fault.BodyFault.{BodyFault}
 use Rattle.acpi_body.specs.Bodies.{BodyTree}
@@ -31,16 +32,6 @@ use Rattle.acpi_machine.proofs.Machines.{noted_of_load}
 abbrev at_path : List Segment → Method → Bool
 at_path p m = is_same_path m.path p
 
-counted_at : (p : List Segment) (counts : Lookup ℕ) (ms : List notes.Method) → map (with_counts counts) (methods_at p ms) ≡ filter (at_path p) (map (with_counts counts) ms)
-counted_at p counts [] = refl
-counted_at p counts (m ∷ ms) = by (is_same_path m.path p) (counted_at p counts ms)
-  where
-    by : (b : Bool) → map (with_counts counts) (methods_at p ms) ≡ filter (at_path p) (map (with_counts counts) ms)
-        → map (with_counts counts) (cond b (m ∷ methods_at p ms) (methods_at p ms))
-        ≡ cond b (with_counts counts m ∷ filter (at_path p) (map (with_counts counts) ms)) (filter (at_path p) (map (with_counts counts) ms))
-    by true later = ap (λ l. with_counts counts m ∷ l) later
-    by false later = later
-
 noted_with : (n : Notes) (ms : List notes.Method) → all_noted (with_methods n ms) ≡ map (with_counts n.counts) ms
 noted_with n [] = refl
 noted_with n (m ∷ ms) = append-nil (map (with_counts n.counts) (m ∷ ms))
@@ -54,7 +45,7 @@ module _ (keep : Keep) (p : List Segment) (is_at : (n : Notes) → kept_of keep 
   noted_at [] = refl
   noted_at (n ∷ ns) =
       noted_both (kept_of keep n) (all_kept keep ns)
-      ∙ ap (λ l. l ++ all_noted (all_kept keep ns)) (ap all_noted (is_at n) ∙ noted_with n (methods_at p n.methods) ∙ counted_at p n.counts n.methods)
+      ∙ ap (λ l. l ++ all_noted (all_kept keep ns)) (ap all_noted (is_at n) ∙ noted_with n (methods_at p n.methods) ∙ sym (filter_mapped (at_path p) (with_counts n.counts) n.methods))
       ∙ ap (λ l. filter (at_path p) (noted n) ++ l) (noted_at ns)
       ∙ sym (filter-append (at_path p) (noted n) (all_noted ns))
 
