@@ -1,5 +1,5 @@
 -- The methods at one path, among those that tables note.
-use Rattle.std.proofs.Common.{◌≡◌, inl, inr, ℕ, Bool, true, false, cond, List, [], ◌∷◌, ◌++◌, map, Option, Some, None, refl, sym, ap, subst, ◌∙◌, append-nil, append_assoc}
+use Rattle.std.proofs.Common.{◌≡◌, ◌≢◌, inl, inr, ℕ, Bool, true, false, cond, List, [], ◌∷◌, ◌++◌, map, Option, Some, None, refl, sym, ap, subst, ◌∙◌, append-nil, append_assoc}
 use Rattle.std.proofs.lemmas.List.Elements.{filter-append}
 use Rattle.std.specs.List.{filter}
 use Rattle.std.specs.Option.{option_or}
@@ -76,6 +76,19 @@ module _ (depth : ℕ) (objects : Namespace) (p : List Segment) where
       by true e later = ap (λ l. last l (is_same_path p m.path)) later
       by false e later = later ∙ none (bodies_of depth objects ms p) ∙ ap (last (bodies_of depth objects ms p)) (sym e)
 
+  none_elsewhere : (q : List Segment) → q ≢ p → (ms : List Method) → bodies_of depth objects (filter (at_path p) ms) q ≡ None
+  none_elsewhere q other [] = refl
+  none_elsewhere q other (m ∷ ms) = by (is_same_path m.path p) refl (is_same_path q m.path) refl (none_elsewhere q other ms)
+    where
+      there : (b c : Bool) → Option BodyTree → Option BodyTree
+      there b c later = cond b (option_or later (cond c (Some (body_of depth objects m)) None)) later
+
+      by : (b : Bool) → is_same_path m.path p ≡ b → (c : Bool) → is_same_path q m.path ≡ c → bodies_of depth objects (filter (at_path p) ms) q ≡ None
+          → bodies_of depth objects (cond b (m ∷ filter (at_path p) ms) (filter (at_path p) ms)) q ≡ None
+      by true e true f later = absurd (other (path_same q m.path f ∙ path_same m.path p e))
+      by true e false f later = ap (λ c. there true c (bodies_of depth objects (filter (at_path p) ms) q)) f ∙ ap (there true false) later
+      by false e c f later = later
+
 -- ---- the machine
 
 pub has_machine_at : (keep : Keep) (depth : ℕ) (tables : List (List ℕ)) (p : List Segment) (kept : List Notes) (m : Machine)
@@ -96,6 +109,7 @@ has_machine_at keep depth tables p kept m is_at h k bodies =
       loads = record { placements = h.placements; listings = h.listings; objects_are = h.objects_are; links_are = h.links_are; trees = trees; read = read; bodies_are = refl };
       objects_are = refl;
       links_are = refl;
+      others = λ q other. ap (λ (l : Lookup BodyTree). l q) now ∙ none_elsewhere depth m.objects p q other methods;
       body_is = ap (λ (l : Lookup BodyTree). l p) now ∙ same_at depth m.objects p methods ∙ ap (λ (l : Lookup BodyTree). l p) (sym (bodies_are depth m.objects methods trees read));
     }
 
