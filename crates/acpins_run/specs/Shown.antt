@@ -8,7 +8,7 @@ use Rattle.acpi_body.specs.declared.fault.BodyReason.{BodyReason}
 use Rattle.acpi_body.specs.declared.fault.BodyReason.TheVariants.{Cut, BadOpcode, ReservedBits, BadName, Overrun, NotStatement, NotValue, NotTarget, LeftOut, BadString, TooDeep, NotData, BadPlace}
 use Rattle.acpi_body.specs.declared.fault.BodyFault.{BodyFault}
 use Rattle.acpi_body.specs.Bodies.{BodyTree, read, unread}
-use Rattle.acpi_order.specs.Machines.{Machine}
+use Rattle.acpi_order.specs.Machines.{Machine, IsMachine}
 use Rattle.acpi_machine.specs.Explaining.{IsExplained}
 
 -- why a body isn't read
@@ -50,3 +50,7 @@ pub record Shows (depth : ℕ) (tables : List (List ℕ)) (m : Machine) (path : 
 abbrev pub ShowsOrNone : ℕ → List (List ℕ) → Machine → List Segment → Option (List ℕ) → Type 0
 ShowsOrNone depth tables m path (Some text) = Shows depth tables m path text
 ShowsOrNone depth tables m path None = m.objects path ≡ None
+
+-- .. of the machine to which the tables load
+abbrev pub ShowsLoaded : ℕ → List (List ℕ) → List Segment → Option (List ℕ) → Type 0
+ShowsLoaded depth tables path text = (m : Machine) × IsMachine depth tables m × ShowsOrNone depth tables m path text

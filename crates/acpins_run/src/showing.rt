@@ -5,8 +5,7 @@ ghost use Rattle.std.specs.Option.{option_map, option_copied};
 ghost use Rattle.acpi_body.specs.Bodies.{body_view};
 ghost use Rattle.acpi_declare.specs.Refusals.{IsLoadFault};
 ghost use Rattle.acpi_machine.specs.MachineView.{objects_in, bodies_of, machine_of};
-ghost use Rattle.acpi_order.specs.Machines as machines;
-ghost use Rattle.acpins_run.specs.Shown.{body_reason_text, reason_text, IsBodyText, ShowsOrNone};
+ghost use Rattle.acpins_run.specs.Shown.{body_reason_text, reason_text, IsBodyText, ShowsOrNone, ShowsLoaded};
 
 use crate::listing::links_of;
 use crate::made::put;
@@ -116,7 +115,7 @@ pub fn shown<S: Space<Object>>(
     depth: Depth,
     path: &Path,
 ) -> Result<Option<Vec<u8>>, LoadFault>
-    ensures ok { IfOk result (λ text. (m : machines.Machine) × machines.IsMachine depth (dsdt.now ∷ ssdts.now) m × ShowsOrNone depth (dsdt.now ∷ ssdts.now) m path.now (option_map (λ v. v.items) text)) }
+    ensures ok { IfOk result (λ text. ShowsLoaded depth (dsdt.now ∷ ssdts.now) path.now (option_map (λ v. v.items) text)) }
     ensures err { IfErr result (λ e. IsLoadFault depth (dsdt.now ∷ ssdts.now) e) }
 {
     let machine: Machine<S> = load_with_body_at(alloc, dsdt, ssdts, path, depth)?;
