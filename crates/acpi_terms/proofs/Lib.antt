@@ -5,6 +5,8 @@ pub mod DataTrees
 pub mod Fields
 pub mod Blocks
 pub mod Items
+pub mod Leaves
+pub mod Yielded
 pub mod Refusals
 pub mod Opened
 pub mod Holders

@@ -1,3 +1,4 @@
 pub mod Reading
 pub mod Cursor
 pub mod Holding
+pub mod Yielding

@@ -13,7 +13,7 @@ use std::alloc::{AllocError, Global};
 
 /// The form of an item that holds items, with what stands between its name and them (ACPI 6.5, 20.2.5.1, 20.2.5.2).
 #[derive(Clone, Copy)]
-pub(crate) enum HolderForm {
+pub enum HolderForm {
     Scope,
     Device,
     Processor { id: u8, block: u32, length: u8 },
@@ -21,11 +21,13 @@ pub(crate) enum HolderForm {
     Thermal,
 }
 
-/// What stands before the items of an item that holds some.
+/// What stands before the items of an item that holds some (ACPI 6.5, 20.2.5.1 and 20.2.5.2).
 #[derive(Drop)]
-pub(crate) struct HolderFront {
-    pub(crate) name: Name,
-    pub(crate) form: HolderForm,
+pub struct HolderFront {
+    /// Its name.
+    pub name: Name,
+    /// Its form, with what stands behind the name.
+    pub form: HolderForm,
 }
 
 impl HolderFront {
@@ -64,11 +66,13 @@ impl HolderFront {
     }
 }
 
-/// What stands before the items of an item that holds some, and the bytes in which these are spelled.
+/// What stands before the items of an item that holds some, and the code in which these are spelled.
 #[derive(Drop)]
-pub(crate) struct Holder<'a> {
-    pub(crate) front: HolderFront,
-    pub(crate) inner: Code<'a>,
+pub struct Holder<'a> {
+    /// What stands before the items.
+    pub front: HolderFront,
+    /// The code in which they are spelled, to its end.
+    pub inner: Code<'a>,
 }
 
 /// Whether the opcode is that of an item that holds items.

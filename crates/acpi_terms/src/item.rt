@@ -9,7 +9,7 @@ ghost use Rattle.acpi_tree.specs.Offsets.{OffsetsFit};
 ghost use Rattle.acpi_terms.specs.declared.fault.ItemReason.{ItemReason};
 ghost use Rattle.acpi_tree.specs.View.{item_view, items_view, items_tree};
 ghost use Rattle.acpi_terms.specs.steps.Reading.{item_by, item_at, items_with, items_at};
-ghost use Rattle.acpi_terms.specs.steps.Holding.{opens_items, ReadsNext};
+ghost use Rattle.acpi_terms.specs.steps.Holding.{opens_items, GivesNext, ReadsNext};
 ghost use Rattle.acpi_terms.specs.steps.Cursor.{Gives, Reads, ReadsAll};
 
 use crate::block::block_form;
@@ -90,10 +90,41 @@ fn leaf(
     }
 }
 
+/// The next item of some code.
+#[derive(Drop)]
+pub enum NextItem<'a> {
+    /// An item that holds no items.
+    Leaf(Item),
+    /// What stands before the items of an item that holds some, and their code.
+    Holder(Holder<'a>),
+}
+
+/// The next item that the code spells, `level` levels being left for it; or, where it holds items, what stands before these.
+/// They have one level less. So the items of a table can be gone through without a list of them. A fault is that of
+/// `read_items`; `code` is not to be read on behind one.
+#[tactic(auto, using(crate::proofs::Parts::part_fails), unfolding(crate::specs::steps::Reading::item_at))]
+pub fn next_item<'a>(
+    alloc: Global,
+    level: u32,
+    code: &mut Code<'a>,
+) -> Result<NextItem<'a>, ItemFault>
+    ensures { GivesNext level code.old code.new result }
+{
+    if level == 0 {
+        return Err(code.too_deep().into());
+    }
+    let front = code.fork();
+    let opcode = code.opcode()?;
+    if holds_items(opcode) {
+        Ok(NextItem::Holder(begin(alloc, opcode, code)?))
+    } else {
+        Ok(NextItem::Leaf(leaf(alloc, level - 1, &front, opcode, code)?))
+    }
+}
+
 // The next item, `level` levels being left for it: adds it to those found; or, where it holds items, answers what stands
 // before these. It is no part of the recursion, so that a level of this costs little stack.
 #[inline(never)]
-#[tactic(auto, using(crate::proofs::Parts::part_fails), unfolding(crate::specs::steps::Reading::item_at))]
 fn next<'a>(
     alloc: Global,
     level: u32,
@@ -102,17 +133,13 @@ fn next<'a>(
 ) -> Result<Option<Holder<'a>>, ItemFault>
     ensures { ReadsNext level code.old code.new (items_view found.old.items) (items_view found.new.items) result }
 {
-    if level == 0 {
-        return Err(code.too_deep().into());
-    }
     make_room(found)?;
-    let front = code.fork();
-    let opcode = code.opcode()?;
-    if holds_items(opcode) {
-        Ok(Some(begin(alloc, opcode, code)?))
-    } else {
-        found.push(leaf(alloc, level - 1, &front, opcode, code)?)?;
-        Ok(None)
+    match next_item(alloc, level, code)? {
+        NextItem::Holder(holder) => Ok(Some(holder)),
+        NextItem::Leaf(item) => {
+            found.push(item)?;
+            Ok(None)
+        }
     }
 }
 

@@ -31,5 +31,6 @@ pub use acpi_tree::{
     Item, Object, Op, Operand, Term, VarPackageData, Width, items_fit, terms_fit,
 };
 pub use fault::{ItemFault, ItemReason};
-pub use item::{read_items, read_items_shared};
+pub use holder::{Holder, HolderForm, HolderFront};
+pub use item::{NextItem, next_item, read_items, read_items_shared};
 pub use part::{read_elem, read_int};

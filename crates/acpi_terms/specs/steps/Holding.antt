@@ -8,7 +8,11 @@ use Rattle.acpi_code.specs.steps.Reading.{◌>>=◌, Reading, name_in, package_a
 use Rattle.acpi_terms.specs.declared.holder.HolderForm.{HolderForm}
 use Rattle.acpi_terms.specs.declared.holder.HolderForm.TheVariants as forms
 use Rattle.acpi_terms.specs.declared.holder.HolderFront.{HolderFront}
-use Rattle.acpi_terms.specs.declared.holder.Holder.{Holder}
+use Rattle.acpi_terms.specs.declared.holder.Holder as code
+use Rattle.acpi_terms.specs.declared.item.NextItem.{NextItem}
+use Rattle.acpi_terms.specs.declared.item.NextItem.TheVariants.{Leaf, Holder}
+use Rattle.acpi_tree.specs.Fits.{holds_items}
+use Rattle.acpi_tree.specs.View.{item_view}
 use Rattle.acpi_terms.specs.declared.fault.ItemFault.{ItemFault}
 use Rattle.acpi_code.specs.steps.Left.{Left, Shorter}
 use Rattle.acpi_terms.specs.steps.Cursor.{Fails}
@@ -62,16 +66,24 @@ holder_item inner opcode end bytes = do
 
 -- What stands before the items of an item was read, and these are spelled by the bytes inside: then the reading of the item,
 -- by that of the items inside, is that of these, and puts them there.
-abbrev pub BeginsWith : Result ItemTrees Fault → Reading Fault ItemTree → Holder → List ℕ → Type 0
+abbrev pub BeginsWith : Result ItemTrees Fault → Reading Fault ItemTree → code.Holder → List ℕ → Type 0
 BeginsWith inside whole h rest = whole ≡ (inside >>= λ is. Ok (held_by h.front is, rest))
 
-abbrev pub Begins : ((ℕ → List ℕ → Result ItemTrees Fault) → ℕ → List ℕ → Reading Fault ItemTree) → Left → Left → Result Holder ItemFault → Type 0
+abbrev pub Begins : ((ℕ → List ℕ → Result ItemTrees Fault) → ℕ → List ℕ → Reading Fault ItemTree) → Left → Left → Result code.Holder ItemFault → Type 0
 Begins read old new (Ok h) =
     ((inner : ℕ → List ℕ → Result ItemTrees Fault) → BeginsWith (inner h.inner.end h.inner.bytes) (read inner old.end old.bytes) h new.bytes) × Shorter old new
 Begins read old new (Err e) = (inner : ℕ → List ℕ → Result ItemTrees Fault) → Fails e (read inner old.end old.bytes)
 
+-- the next item was read, or what stands before its items
+abbrev pub GivesNext : ℕ → Left → Left → Result NextItem ItemFault → Type 0
+GivesNext level old new (Ok (Leaf i)) =
+    (item_at level old.end old.bytes ≡ Ok (item_view i, new.bytes)) × (holds_items (item_view i) ≡ false) × (0 < level) × Shorter old new
+GivesNext level old new (Ok (Holder h)) =
+    BeginsWith (items_with (item_at (level - 1)) h.inner.end h.inner.bytes) (item_at level old.end old.bytes) h new.bytes × (0 < level) × Shorter old new
+GivesNext level old new (Err e) = Fails e (item_at level old.end old.bytes)
+
 -- the next item is the last of those that are there afterwards, or what stands before its items was read
-abbrev pub ReadsNext : ℕ → Left → Left → List ItemTree → List ItemTree → Result (Option Holder) ItemFault → Type 0
+abbrev pub ReadsNext : ℕ → Left → Left → List ItemTree → List ItemTree → Result (Option code.Holder) ItemFault → Type 0
 ReadsNext level old new before now (Ok None) =
     ((i : ItemTree) × (item_at level old.end old.bytes ≡ Ok (i, new.bytes)) × (now ≡ before ++ i ∷ [])) × Shorter old new
 ReadsNext level old new before now (Ok (Some h)) =

@@ -1,12 +1,12 @@
-use Rattle.std.proofs.Common.{◌≡◌, ◌<◌, ◌-◌, ◌++◌, ◌∷◌, [], arith, ◌∙◌, refl, sym}
+use Rattle.std.proofs.Common.{◌≡◌, ◌<◌, ◌-◌, false, arith, ◌∙◌, sym}
 use Rattle.std.proofs.lemmas.Result.{err_from_is_err_and}
-use Rattle.std.proofs.lemmas.List.{map_push}
-use Rattle.acpi_tree.specs.View.{item_view, items_view}
+use Rattle.acpi_tree.specs.View.{item_view}
 use Rattle.acpi_terms.specs.steps.Reading.{item_by, items_with, item_at}
 use Rattle.acpi_terms.specs.steps.Holding.{holder_item}
 use Rattle.acpi_terms.proofs.Holders.{holder_opened}
+use Rattle.acpi_terms.proofs.Leaves.{leaf_read}
 use Rattle.acpi_terms.proofs.Opened.{item_opened, fails_behind, shorter_on}
-use Rattle.acpi_terms.proofs.item.next.Goals as goal
+use Rattle.acpi_terms.proofs.item.next_item.Goals as goal
 
 pub returns-in_err-begin : goal.returns-in_err-begin
 returns-in_err-begin c =
@@ -36,15 +36,14 @@ returns-in_ok-begin c =
     = rw c.in_ok-opcode.ensures.1.same_end
     (holder_opened c.args.level c.args.code.now.end c.args.code.now.bytes c.in_ok-opcode.opcode c.opcode.new.self.bytes some c.in_ok-opcode.ensures.0 (sym c.holds_items.ensures ∙ c.if-holds_items.true)) in
     let begun = c.in_ok-begin.ensures in
-    ((opens ∙ begun.0 (items_with (item_at (c.args.level - 1))), rw c.make_room.ensures refl, some), shorter_on c.in_ok-opcode.ensures.1 begun.1)
+    (opens ∙ begun.0 (items_with (item_at (c.args.level - 1))), some, shorter_on c.in_ok-opcode.ensures.1 begun.1)
 
-pub returns-in_ok-push : goal.returns-in_ok-push
-returns-in_ok-push c =
-    let n = c.in_ok-leaf.field-0 in
+pub returns-in_ok-leaf : goal.returns-in_ok-leaf
+returns-in_ok-leaf c =
     let some : 0 < c.args.level = grind arith in
     let opens : item_at c.args.level c.args.code.now.end c.args.code.now.bytes
     ≡ item_by (items_with (item_at (c.args.level - 1))) (c.args.level - 1) c.opcode.new.self.end c.fork-front.result.bytes c.in_ok-opcode.opcode c.opcode.new.self.bytes
     = rw (c.in_ok-opcode.ensures.1.same_end, c.fork-front.ensures)
     (item_opened c.args.level c.args.code.now.end c.args.code.now.bytes c.in_ok-opcode.opcode c.opcode.new.self.bytes some c.in_ok-opcode.ensures.0) in
-    let e : items_view c.push.new.self.items ≡ items_view c.args.found.now.items ++ item_view n ∷ [] = rw (c.in_ok-push.ensures.items, c.make_room.ensures) (map_push _ c.args.found.now.items n) in
-    ((item_view n, opens ∙ c.in_ok-leaf.ensures.0, e), shorter_on c.in_ok-opcode.ensures.1 c.in_ok-leaf.ensures.1)
+    let bare = leaf_read _ (c.args.level - 1) _ c.fork-front.result.bytes c.in_ok-opcode.opcode c.opcode.new.self.bytes (sym c.holds_items.ensures ∙ c.if-holds_items.false) _ c.in_ok-leaf.ensures.0 in
+    (opens ∙ c.in_ok-leaf.ensures.0, bare, some, shorter_on c.in_ok-opcode.ensures.1 c.in_ok-leaf.ensures.1)
