@@ -1,5 +1,5 @@
 -- Tables by the parts of their headers.
-use Rattle.std.proofs.Common.{◌≡◌, ℕ, ◌+◌, ◌<◌, ◌≤◌, ◌%◌, ◌∷◌, ◌++◌, [], List, length, take, drop, sum, refl, sym, ap, ◌∙◌, append_assoc, arith}
+use Rattle.std.proofs.Common.{◌≡◌, ℕ, ◌+◌, ◌<◌, ◌≤◌, ◌%◌, ◌∷◌, ◌++◌, [], List, length, take, drop, sum, refl, sym, ap, subst, ◌∙◌, append_assoc, arith}
 use Rattle.std.specs.Prelude.{slice_index, slice_set}
 use Rattle.std.proofs.lemmas.List.{length-append, drop_at, get_or-drop}
 use Rattle.std.proofs.Math.Seq.{set-append_seam, take-append_seam}
@@ -117,16 +117,16 @@ module _ (h : Header) (w : HasWidths h) (len c : ℕ) (few : len < 4294967296) (
   e4 : whole ≡ h.signature ++ (little_bytes 4 len ++ (h.revision ∷ c ∷ t10))
   e4 = e8 ∙ append_assoc h.signature (little_bytes 4 len) (h.revision ∷ c ∷ t10)
 
-  pub length_told : length_field whole ≡ len
+  length_told : length_field whole ≡ len
   length_told = numbered whole h.signature (h.revision ∷ c ∷ t10) 4 len e4 w.signature few
 
-  pub code_behind : drop 36 whole ≡ code
+  code_behind : drop 36 whole ≡ code
   code_behind = ap (drop 36) e36 ∙ drop_at p36 code 36 n36
 
-  pub length_whole : length whole ≡ 36 + length code
+  length_whole : length whole ≡ 36 + length code
   length_whole = omega (arith, ap length e36, length-append p36 code, n36)
 
-  pub header_told : header_of whole ≡ record {
+  header_told : header_of whole ≡ record {
     signature = h.signature;
     length = len;
     revision = h.revision;
@@ -149,19 +149,19 @@ module _ (h : Header) (w : HasWidths h) (len c : ℕ) (few : len < 4294967296) (
     creator_revision = numbered whole p32 code 32 h.creator_revision e32 n32 w.creator_revision i;
   }
 
-  pub checksum_told : slice_index whole 9 ≡ c
+  checksum_told : slice_index whole 9 ≡ c
   checksum_told = byte_there whole (p8 ++ h.revision ∷ []) t10 9 c e9 n9
 
 -- the checksum put into its place
 module _ (h : Header) (w : HasWidths h) (len c : ℕ) (few : len < 4294967296) (code : List ℕ) where
-  pub checksum_put : slice_set (header_bytes h len 0 ++ code) 9 c ≡ header_bytes h len c ++ code
+  checksum_put : slice_set (header_bytes h len 0 ++ code) 9 c ≡ header_bytes h len c ++ code
   checksum_put =
       let front = p8 h w len 0 few code ++ h.revision ∷ [] in
       let back = t10 h w len 0 few code in
       ap (λ l. slice_set l 9 c) (e9 h w len 0 few code) ∙ ap (λ k. slice_set (front ++ (0 ∷ back)) k c) (sym (n9 h w len 0 few code))
       ∙ set-append_seam front 0 back c ∙ sym (e9 h w len c few code)
 
-  pub sum_told : (sum (header_bytes h len 0 ++ code) + c) % 256 ≡ 0 → sum (header_bytes h len c ++ code) % 256 ≡ 0
+  sum_told : (sum (header_bytes h len 0 ++ code) + c) % 256 ≡ 0 → sum (header_bytes h len c ++ code) % 256 ≡ 0
   sum_told zero =
       let front = p8 h w len 0 few code ++ h.revision ∷ [] in
       let back = t10 h w len 0 few code in
@@ -172,7 +172,7 @@ module _ (h : Header) (w : HasWidths h) (len c : ℕ) (few : len < 4294967296) (
       let same : sum (header_bytes h len c ++ code) ≡ sum (header_bytes h len 0 ++ code) + c = omega (arith, none, some) in
       ap (λ n. n % 256) same ∙ zero
 
-  pub is_table : len ≡ 36 + length code → len ≤ 16777216 → (sum (header_bytes h len 0 ++ code) + c) % 256 ≡ 0 → IsTable (header_bytes h len c ++ code)
+  is_table : len ≡ 36 + length code → len ≤ 16777216 → (sum (header_bytes h len 0 ++ code) + c) % 256 ≡ 0 → IsTable (header_bytes h len c ++ code)
   is_table is within zero =
       let size : length (header_bytes h len c ++ code) ≡ 36 + length code = length_whole h w len c few code in
       record {
@@ -182,7 +182,7 @@ module _ (h : Header) (w : HasWidths h) (len c : ℕ) (few : len < 4294967296) (
         sums_to_zero = sum_told zero;
       }
 
-  pub header_kept : len ≡ 36 + length code → header_of (header_bytes h len c ++ code) ≡ header_for h (header_bytes h len c ++ code)
+  header_kept : len ≡ 36 + length code → header_of (header_bytes h len c ++ code) ≡ header_for h (header_bytes h len c ++ code)
   header_kept is =
       let size = is ∙ sym (length_whole h w len c few code) in
       let sum = sym (checksum_told h w len c few code) in
@@ -198,5 +198,19 @@ module _ (h : Header) (w : HasWidths h) (len c : ℕ) (few : len < 4294967296) (
         creator_revision = h.creator_revision;
       })
 
-  pub put_is : (bytes : List ℕ) → bytes ≡ header_bytes h len 0 ++ code → slice_set bytes 9 c ≡ header_bytes h len c ++ code
-  put_is bytes whole = ap (λ l. slice_set l 9 c) whole ∙ checksum_put
+-- bytes are a table of this code, with all else of the header as it was
+pub record IsTableOf (h : Header) (code bytes : List ℕ) : Type 0 where
+  pub table : IsTable bytes
+  pub header : header_of bytes ≡ header_for h bytes
+  pub behind : drop 36 bytes ≡ code
+
+-- the checksum of what is seen put into a header that stands before code
+pub tabled : (h : Header) (w : HasWidths h) (len c : ℕ) (code bytes seen : List ℕ) → len ≡ 36 + length code → len ≤ 16777216
+    → bytes ≡ header_bytes h len 0 ++ code → seen ≡ bytes → (sum seen + c) % 256 ≡ 0 → IsTableOf h code (slice_set bytes 9 c)
+tabled h w len c code bytes seen is within whole same zero =
+    let few : len < 4294967296 = omega arith in
+    subst (IsTableOf h code) (sym (ap (λ l. slice_set l 9 c) whole ∙ checksum_put h w len c few code)) (record {
+      table = is_table h w len c few code is within (subst (λ (l : List ℕ). (sum l + c) % 256 ≡ 0) (same ∙ whole) zero);
+      header = header_kept h w len c few code is;
+      behind = code_behind h w len c few code;
+    })

@@ -6,3 +6,4 @@ pub mod TermsWritten
 pub mod Shorter
 pub mod TermsShorter
 pub mod Seen
+pub mod Holders
