@@ -1,18 +1,19 @@
 -- One step of the pass, from what its parts give.
-use Rattle.std.proofs.Common.{◌≡◌, ◌≢◌, ℕ, List, [], ◌∷◌, ◌++◌, append_assoc, append-nil, Bool, true, false, cond, Option, Some, None, Ok, ◌⊎◌, inl, inr, refl, sym, ap, ◌∙◌}
+use Rattle.std.proofs.Common.{◌≡◌, ◌≢◌, ◌==◌, ℕ, List, [], ◌∷◌, ◌++◌, append_assoc, append-nil, Bool, true, false, cond, Option, Some, None, Ok, refl, sym, ap, ◌∙◌}
 use Rattle.acpi_name.specs.Names.{Segment, NameParts}
 use Rattle.acpi_name.specs.Paths.{place_of}
 use Rattle.acpi_space.specs.Lookups.{is_defined_in, nothing, singleton, union}
 use Rattle.acpi_space.specs.Search.{missed}
 use Rattle.acpi_tree.specs.Objects.{ObjectTree}
+use Rattle.acpi_tree.specs.Tree.{ExternalParts}
 use Rattle.acpi_declare.specs.Declaring.{pending_for}
 use Rattle.acpi_declare.specs.Links.{PendingLink}
 use Rattle.acpi_declare.specs.Namespace.{Namespace}
 use Rattle.acpi_declare.specs.Notes.{Method, Notes, count_at}
 use Rattle.acpi_declare.specs.Placing.{declared_path}
-use Rattle.acpi_declare.specs.Sites.{step, declares_alone, declares, opens, expects}
+use Rattle.acpi_declare.specs.Sites.{step, declares_alone, declares, opens, expects, external_step}
 use Rattle.acpi_declare.specs.steps.Pass.{Pass, Passing, no_notes, note_of, joined, after, placement, ◌>>=◌, take_step, take_steps}
-use Rattle.acpi_declare.specs.steps.View.{with_count, with_method, with_missed}
+use Rattle.acpi_declare.specs.steps.View.{count_said, with_counts, with_method, with_missed}
 use Rattle.acpi_declare.proofs.Unions.{union-nothing, union_assoc}
 
 -- ---- notes
@@ -109,34 +110,15 @@ counted t notes s n k counts methods missed = λ i. passed (record {
   notes = record { counts = counts i; methods = (append-nil t.notes.methods ∙ methods) i; missed = (append-nil t.notes.missed ∙ missed) i };
 })
 
--- an External of a method whose name has a place gives its count
-pub expected_count : (t : Pass) (notes : Notes) (s p : List Segment) (n : NameParts) (k : ℕ)
-    → n.segments ≢ [] → place_of s n ≡ Some p → notes ≡ with_count t.notes p k
-    → take_steps t s (step n (expects k) ∷ []) ≡ passed (pass t.objects t.links notes)
-expected_count t notes s p n k some placed noted =
-    counted t (with_count t.notes p k) s n k (by n.segments some) refl refl ∙ ap (λ m. passed (pass t.objects t.links m)) (sym noted)
+-- an External notes the count that it says
+pub expected : (t : Pass) (notes : Notes) (s : List Segment) (x : ExternalParts) → notes ≡ with_counts t.notes (count_said s x)
+    → take_steps t s (external_step x) ≡ passed (pass t.objects t.links notes)
+expected t notes s x noted = by (x.kind == 8) ∙ ap (λ m. passed (pass t.objects t.links m)) (sym noted)
   where
-    by : (gs : List Segment) → gs ≢ [] → union t.notes.counts (count_at k gs (place_of s n)) ≡ union t.notes.counts (singleton p k)
-    by [] h = absurd (h refl)
-    by (x ∷ gs) h = ap (λ o. union t.notes.counts (count_at k (x ∷ gs) o)) placed
-
--- one whose name has none, or no segments, gives nothing
-pub expected_nothing : (t : Pass) (s : List Segment) (n : NameParts) (k : ℕ)
-    → (n.segments ≡ []) ⊎ (place_of s n ≡ None)
-    → take_steps t s (step n (expects k) ∷ []) ≡ passed t
-expected_nothing t s n k h = counted t t.notes s n k (ap (union t.notes.counts) (none n.segments (place_of s n) h) ∙ union-nothing t.notes.counts) refl refl
-  where
-    none : (gs : List Segment) (o : Option (List Segment)) → (gs ≡ []) ⊎ (o ≡ None) → count_at k gs o ≡ nothing
-    none [] o h = refl
-    none (x ∷ gs) None h = refl
-    none (x ∷ gs) (Some p) (inl e) = cc
-    none (x ∷ gs) (Some p) (inr e) = cc
-
-pub external_nothing : (b : Bool) (t : Pass) (s : List Segment) (n : NameParts) (k : ℕ)
-    → (n.segments ≡ []) ⊎ (place_of s n ≡ None)
-    → take_steps t s (cond b (step n (expects k) ∷ []) []) ≡ passed t
-external_nothing true t s n k h = expected_nothing t s n k h
-external_nothing false t s n k h = refl
+    by : (b : Bool) → take_steps t s (cond b (step x.name (expects x.args) ∷ []) [])
+        ≡ passed (pass t.objects t.links (with_counts t.notes (cond b (count_at x.args x.name.segments (place_of s x.name)) nothing)))
+    by true = counted t (with_counts t.notes (count_at x.args x.name.segments (place_of s x.name))) s x.name x.args refl refl refl
+    by false = λ i. passed (pass t.objects t.links (record { counts = sym (union-nothing t.notes.counts) i; methods = t.notes.methods; missed = t.notes.missed }))
 
 -- ---- links of a field list
 

@@ -30,7 +30,7 @@ place p = Some p
 abbrev either : Bool → Placed → Placed → Placed
 either b x y = cond b x y
 
-none_of : (o : Option ObjectTree) → is_some o ≡ false → o ≡ None
+pub none_of : (o : Option ObjectTree) → is_some o ≡ false → o ≡ None
 none_of None e = refl
 none_of (Some x) e = cc
 

@@ -16,7 +16,7 @@ use Rattle.acpi_declare.specs.steps.Pass.{Pass, no_notes, note_of, joined, after
 use Rattle.acpi_declare.proofs.PassSteps.{nothing_joined, joined_assoc}
 use Rattle.acpi_declare.proofs.Listings.{Ran, Stopped, Outcome, objects_after, items_outcome}
 
-outcome : (t : Pass) (is : ItemTrees) → Outcome t [] (sites is) (pass_items t [] is)
+pub outcome : (t : Pass) (is : ItemTrees) → Outcome t [] (sites is) (pass_items t [] is)
 outcome t is = items_outcome is t [] 0 None [] refl (λ more. refl)
 
 pub pass_refused : (t : Pass) (is : ItemTrees) (f : RefusedAt) → pass_items t [] is ≡ Err f → IsFirstRefusal t.objects (sites is) f
@@ -36,7 +36,7 @@ after_links : (t : Pass) (es : List Placement) → (after_all t es).links ≡ t.
 after_links t [] = sym (append-nil t.links)
 after_links t (e ∷ es) = after_links (after t e) es ∙ append_assoc t.links (pending_by e.step.effect e.scope e.path) (pending_links es)
 
-after_notes : (t : Pass) (es : List Placement) → (after_all t es).notes ≡ joined t.notes (notes_on t.objects es)
+pub after_notes : (t : Pass) (es : List Placement) → (after_all t es).notes ≡ joined t.notes (notes_on t.objects es)
 after_notes t [] = sym (nothing_joined t.notes)
 after_notes t (e ∷ es) = after_notes (after t e) es ∙ joined_assoc t.notes (note_of t.objects e) (notes_on (union t.objects (object_of e)) es)
 

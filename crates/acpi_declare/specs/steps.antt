@@ -4,3 +4,5 @@ pub mod Entering
 pub mod Outcomes
 pub mod Adding
 pub mod Missing
+pub mod Again
+pub mod Walking

@@ -27,7 +27,7 @@ const FEW: usize = 16;
 
 /// Gives back the memory of a list of which half has been taken, or more than an eighth of a long one. So the items,
 /// field elements and paths that wait and what is made of them are never all there at once.
-pub(crate) fn give_back<T: Drop>(left: &mut Vec<T>)
+pub fn give_back<T: Drop>(left: &mut Vec<T>)
     ensures { left.new.items ≡ left.old.items }
 {
     let room = left.capacity();
@@ -44,7 +44,7 @@ pub(crate) fn give_back<T: Drop>(left: &mut Vec<T>)
 // Goes on from a path to one that is a segment longer; any other is given back. So scopes inside one another, of which
 // each is open while those inside it are read, have one path.
 #[tactic(auto, using(crate::proofs::Searches::rejoined_parts))]
-fn go_below(path: &mut Path, inside: Path) -> Result<Option<Path>, AllocError>
+pub(crate) fn go_below(path: &mut Path, inside: Path) -> Result<Option<Path>, AllocError>
     ensures below { IfOk result (λ other. IfNone other ((path.new ≡ inside) × (parent_of path.new ≡ path.old))) }
     ensures other { IfOk result (λ other. IfSome other (λ p. (p ≡ inside) × (path.new ≡ path.old))) }
 {

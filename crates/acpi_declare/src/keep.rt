@@ -8,7 +8,7 @@ ghost use Rattle.acpi_declare.specs.Notes.{notes_of};
 
 use crate::notes::{Method, TableNotes};
 use acpi_name::Path;
-use std::alloc::AllocError;
+use std::alloc::{AllocError, Global};
 
 /// What a load keeps of what its tables note. Where tables are many and small, their notes take as much memory as their
 /// objects.
@@ -19,6 +19,8 @@ pub enum Keep<'a> {
     /// What the body of the method at a path needs: of each table that declares one there, its notes without its other
     /// methods.
     MethodAt(&'a Path),
+    /// The paths that Scope terms missed: of each table with some, these alone.
+    Missed,
     /// Nothing.
     Nothing,
 }
@@ -40,6 +42,7 @@ fn retain_at(methods: &mut Vec<Method>, path: &Path)
 
 /// Puts what is kept of a table's notes behind those of the tables before it.
 pub(crate) fn put_kept(
+    alloc: Global,
     kept: &mut Vec<TableNotes>,
     notes: TableNotes,
     keep: Keep<'_>,
@@ -55,6 +58,11 @@ pub(crate) fn put_kept(
             retain_at(&mut notes.methods, path);
             if !notes.methods.is_empty() {
                 kept.push(notes)?;
+            }
+        }
+        Keep::Missed => {
+            if !notes.missed.is_empty() {
+                kept.push(notes.missed_alone(alloc))?;
             }
         }
         Keep::Nothing => {}

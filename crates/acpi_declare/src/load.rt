@@ -187,7 +187,7 @@ pub(crate) fn add_table<S: Space<Object>>(
     }
     let mut noted = pass.notes;
     noted.shrink();
-    put_kept(&mut notes, noted, keep)?;
+    put_kept(alloc, &mut notes, noted, keep)?;
     Ok(Declaring {
         objects: pass.objects,
         links: pass.links,
@@ -271,8 +271,8 @@ pub(crate) fn start<S: Space<Object>>(
     })
 }
 
-// Declares all tables, and keeps so much of their notes.
-fn declare_all<S: Space<Object>>(
+/// Declares all tables, and keeps so much of their notes.
+pub(crate) fn declare_all<S: Space<Object>>(
     alloc: Global,
     dsdt: &Bytes,
     ssdts: &[Bytes],

@@ -1,12 +1,16 @@
 //! What a table says that matters when all tables are declared.
 
-ghost use Rattle.std.specs.Prelude.{◌≡◌, ◌≤◌, OnOk};
+ghost use Rattle.std.specs.Prelude.{◌≡◌, ◌≤◌, true, OnOk};
+ghost use Rattle.std.specs.List.{list_all};
+ghost use Rattle.acpi_tree.specs.Fits.{external_fits};
+ghost use Rattle.acpi_tree.specs.View.{external_view, externals_view};
 ghost use Rattle.acpi_declare.specs.Notes.{notes_of};
 ghost use Rattle.acpi_declare.specs.steps.Pass.{no_notes};
-ghost use Rattle.acpi_declare.specs.steps.View.{with_count, with_method, with_missed};
+ghost use Rattle.acpi_declare.specs.steps.View.{count_said, counts_said, with_count, with_counts, with_method, with_missed};
 
 use acpi_counts::Counts;
-use acpi_name::Path;
+use acpi_name::{Path, PlaceFault, place};
+use acpi_terms::External;
 use bytes::Bytes;
 use std::alloc::{AllocError, Global};
 
@@ -52,6 +56,45 @@ impl TableNotes {
         Ok(())
     }
 
+    // Notes what an External says.
+    pub(crate) fn expect(
+        &mut self,
+        alloc: Global,
+        scope: &Path,
+        external: &External,
+    ) -> Result<(), AllocError>
+        requires { external_fits (external_view external.now) ≡ true }
+        ensures { OnOk result (notes_of self.new ≡ with_counts (notes_of self.old) (count_said scope.now (external_view external.now))) }
+    {
+        if external.kind != 8 || external.name.view().len() == 0 {
+            return Ok(());
+        }
+        match place(alloc, scope, external.name.view()) {
+            Ok(path) => {
+                self.add_count(path, external.args)?;
+                Ok(())
+            }
+            Err(PlaceFault::AboveRoot) => Ok(()),
+            Err(PlaceFault::Memory) => Err(AllocError),
+        }
+    }
+
+    // Notes what the Externals of a block say.
+    pub(crate) fn expect_all(
+        &mut self,
+        alloc: Global,
+        scope: &Path,
+        externals: &[External],
+    ) -> Result<(), AllocError>
+        requires { list_all external_fits (externals_view externals.now) ≡ true }
+        ensures { OnOk result (notes_of self.new ≡ with_counts (notes_of self.old) (counts_said scope.now (externals_view externals.now))) }
+    {
+        for external in externals {
+            self.expect(alloc, scope, external)?;
+        }
+        Ok(())
+    }
+
     // Notes a method.
     pub(crate) fn add_method(&mut self, path: Path, code: Bytes) -> Result<(), AllocError>
         ensures { OnOk result (notes_of self.new ≡ with_method (notes_of self.old) (record { path = path; code = code })) }
@@ -67,6 +110,18 @@ impl TableNotes {
         let mut paths = paths;
         self.missed.append(&mut paths)?;
         Ok(())
+    }
+
+    // The missed paths alone.
+    pub(crate) fn missed_alone(self, alloc: Global) -> TableNotes
+        ensures { notes_of result ≡ with_missed no_notes self.missed.items }
+    {
+        let TableNotes { missed, .. } = self;
+        TableNotes {
+            counts: Counts::new(alloc),
+            methods: Vec::new(alloc),
+            missed,
+        }
     }
 
     // The same, in no more room than the methods take: most tables are small, and a load keeps the notes of all.

@@ -21,7 +21,7 @@ use crate::field_list::{FieldList, behind, one, two};
 use crate::items::give_back;
 use crate::notes::TableNotes;
 use crate::placing::{declared, declared_unit, put};
-use acpi_name::{Name, Path, PlaceFault, Seg, place};
+use acpi_name::{Name, Path, Seg};
 use acpi_space::Space;
 use acpi_terms::{BankField, CreateField, External, FieldElem, FieldForm, Item, Object};
 use bytes::Bytes;
@@ -230,17 +230,8 @@ impl<S: Space<Object>> Pass<S> {
         ensures memory { IfErr result (λ f. f ≡ Stop.Memory) }
         ensures lower { OnOk result (S.lower self.new.objects ≡ S.lower self.old.objects) }
     {
-        if external.kind != 8 || external.name.view().len() == 0 {
-            return Ok(());
-        }
-        match place(self.alloc, scope, external.name.view()) {
-            Ok(path) => {
-                self.notes.add_count(path, external.args)?;
-                Ok(())
-            }
-            Err(PlaceFault::AboveRoot) => Ok(()),
-            Err(PlaceFault::Memory) => Err(Stop::Memory),
-        }
+        self.notes.expect(self.alloc, scope, external)?;
+        Ok(())
     }
 
     // Keeps what the Externals of a block say.
@@ -251,9 +242,7 @@ impl<S: Space<Object>> Pass<S> {
         ensures memory { IfErr result (λ f. f ≡ Stop.Memory) }
         ensures lower { OnOk result (S.lower self.new.objects ≡ S.lower self.old.objects) }
     {
-        for external in externals {
-            self.expect(scope, external)?;
-        }
+        self.notes.expect_all(self.alloc, scope, externals)?;
         Ok(())
     }
 

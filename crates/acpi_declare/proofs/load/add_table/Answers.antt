@@ -27,7 +27,7 @@ returns-in-Err-Refused-clause-err g c =
     subst (λ f. IsStopOf f (pass_items t c.root.result is)) c.in-Err-Refused.field-0-is c.in-Err-Refused.ensures.refused in
     let stopped : pass_items t [] is ≡ Err (c.in-Err-Refused.refusal, c.in-Err-Refused.path) = ap (λ (s : List Segment). pass_items t s is) (sym c.root.ensures) ∙ told in
     subst (IsTableFault c.args.depth c.args.number objects c.args.bytes.now) (sym c.refused.ensures)
-    (refl, (is, c.in_ok-items.ensures.ok, pass_refused t is (c.in-Err-Refused.refusal, c.in-Err-Refused.path) stopped))
+    (refl, (is, c.in_ok-items.ensures.ok, rw c.in-Err-Refused.field-0-is (pass_refused t is (c.in-Err-Refused.refusal, c.in-Err-Refused.path) stopped)))
 
 pub returns-clause-ok : goal.returns-clause-ok
 returns-clause-ok g c =
