@@ -2,8 +2,6 @@
 use Rattle.std.proofs.Common.{◌≡◌, ◌≢◌, ◌↔◌, ℕ, List, [], Option, Some, None, Result, Ok, Err, refl, sym, subst, ◌∙◌}
 use Rattle.std.specs.Prelude.{IfOk, IfErr}
 use Rattle.std.specs.Global.{Vec}
-use Rattle.std.specs.List.Sorted.{IsStrictlySortedBy}
-use Rattle.acpi_space.specs.Laws.{Among}
 use Rattle.acpi_declare.specs.declared.fault.LoadReason.{LoadReason}
 use Rattle.acpi_declare.specs.declared.fault.LoadFault.{LoadFault}
 use Rattle.acpi_declare.specs.declared.fault.LoadFault.TheVariants.{At, Memory}
@@ -12,17 +10,14 @@ use Rattle.acpi_declare.specs.Refusals.{IsLoadFault}
 use Rattle.acpi_declare.proofs.Refusals.{refused_has_no_load}
 use Rattle.acpi_order.specs.Independent.{IsIndependent}
 use Rattle.acpi_order.specs.Laws.{CommuteIsIndependent, OneVerdict}
-use Rattle.acpi_order.specs.Singles.{IsSatisfied}
 use Rattle.acpi_order.specs.Verdicts.{not_alone, DsdtLoads, AllAlone, IsReasonAt, IsSame, NoneSame, IsMissed, IsVerdict}
 use Rattle.acpi_verdict.specs.declared.clashes.Clash.{Clash}
 use Rattle.acpi_verdict.specs.declared.declared.Declared.{Declared}
-use Rattle.acpi_verdict.specs.declared.definers.Definers.{Definers}
 use Rattle.acpi_verdict.specs.declared.finding.Found.{Found}
 use Rattle.acpi_verdict.specs.declared.verdicts.Checked.{Checked}
 use Rattle.acpi_verdict.specs.declared.verdicts.Satisfied.{Satisfied}
 use Rattle.acpi_verdict.specs.declared.verdicts.Verdict.{Verdict}
 use Rattle.acpi_verdict.specs.declared.verdicts.Verdict.TheVariants as verdicts
-use Rattle.acpi_verdict.specs.SatisfiedView.{satisfied_cmp, AreSatisfied}
 use Rattle.acpi_verdict.specs.VerdictView.{verdict_view, IsFaultOf, IsFirstRefused}
 use Rattle.acpi_verdict.specs.steps.Checking.{IsChecked, verdict_from}
 use Rattle.acpi_verdict.specs.steps.Clashing.{IsLeastOf}
@@ -50,13 +45,6 @@ not_all_alone depth dsdt ssdts i reason h all =
     let first = (not_alone_verdict depth dsdt ssdts i reason h).1 in
     first.refused (alone_at depth dsdt ssdts all i first.ssdt first.is_ssdt)
 
-pub are_satisfied : (depth : ℕ) (dsdt : List ℕ) (ssdts : List (List ℕ)) (d : Definers) (f : Found) → AreFound depth dsdt ssdts d f → (list : List Satisfied)
-    → IsStrictlySortedBy satisfied_cmp list → list ≡ f.satisfied.keys → AreSatisfied depth dsdt ssdts list
-are_satisfied depth dsdt ssdts d f found list ascend same = record {
-  ascend = ascend;
-  are = subst (λ (ts : List Satisfied). (t : Satisfied) → Among ts t ↔ IsSatisfied depth dsdt ssdts t.user t.definer t.path) (sym same) found.satisfied;
-}
-
 -- ---- what is found
 
 module _ (depth : ℕ) (dsdt : List ℕ) (ssdts : List (List ℕ)) (loads : DsdtLoads depth dsdt) (d : Declared) (declared : AreDeclared depth dsdt ssdts d) (f : Found)
@@ -77,12 +65,11 @@ module _ (depth : ℕ) (dsdt : List ℕ) (ssdts : List (List ℕ)) (loads : Dsdt
   no_fault None (Some c) = tt
   no_fault None None = tt
 
-  pub all_checked : (v : Verdict) → v ≡ verdict_from d.same f.clash → (list : Vec Satisfied) → IsStrictlySortedBy satisfied_cmp list.items → list.items ≡ f.satisfied.keys
-      → IsChecked depth dsdt ssdts (record { verdict = v; satisfied = list })
-  all_checked v is list ascend same = record {
+  pub all_checked : (v : Verdict) → v ≡ verdict_from d.same f.clash → IsChecked depth dsdt ssdts (record { verdict = v; satisfied = f.satisfied })
+  all_checked v is = record {
     verdict = subst (λ (x : Verdict). IsVerdict depth dsdt ssdts (verdict_view x)) (sym is) (right d.same f.clash refl refl);
     fault = subst (IsFaultOf depth dsdt ssdts) (sym is) (no_fault d.same f.clash);
-    satisfied = λ all. are_satisfied depth dsdt ssdts d.definers f found list.items ascend same;
+    satisfied = λ all. found.satisfied;
     refused = λ none. absurd (none declared.alone);
   }
 

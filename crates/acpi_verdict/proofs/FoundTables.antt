@@ -2,8 +2,8 @@
 use Rattle.std.proofs.Common.{◌≡◌, ◌↔◌, ◌⊎◌, inl, inr, ℕ, zero, suc, ◌+◌, ◌<◌, ◌≤◌, Bool, true, false, true≢false, List, [], ◌∷◌, length, get_or}
 use Rattle.std.proofs.Common.{is_some, Option, Some, None, refl, sym, ap, subst, ◌∙◌, arith, add-one}
 use Rattle.std.specs.Prelude.{IsTrue}
-use Rattle.std.specs.BTreeSet.{BTreeSet}
 use Rattle.std.specs.FinMap.{get, entries}
+use Rattle.std.specs.List.Sorted.{IsStrictlySortedBy}
 use Rattle.acpi_name.specs.Names.{Segment}
 use Rattle.acpi_space.specs.Laws.{Among}
 use Rattle.acpi_space.specs.Spaces.{PathMap, is_defined}
@@ -24,17 +24,18 @@ use Rattle.acpi_verdict.specs.declared.definers.Definer.{Definer}
 use Rattle.acpi_verdict.specs.declared.definers.Definers.{Definers}
 use Rattle.acpi_verdict.specs.declared.finding.Found.{Found}
 use Rattle.acpi_verdict.specs.declared.verdicts.Satisfied.{Satisfied}
+use Rattle.acpi_verdict.specs.SatisfiedView.{satisfied_cmp}
 use Rattle.acpi_verdict.specs.steps.Clashing.{Clashes, IsLeastOf}
 use Rattle.acpi_verdict.specs.steps.Defining.{method_args, are_args, takes, IsNoted}
 use Rattle.acpi_verdict.specs.steps.Declaring.{IsDefiner, AreFirst, AreDefiners}
-use Rattle.acpi_verdict.specs.steps.Finding.{IsUnmetOf, IsUnmetBy, IsUnmetAt, AddsMet, IsMetFor, AreMet, FindsTold, FindsSsdt, AreFoundTo, AreFound}
+use Rattle.acpi_verdict.specs.steps.Finding.{IsUnmetOf, IsUnmetBy, IsUnmetAt, PutsMet, IsMetFor, AreMet, FindsTold, FindsSsdt, AreFoundTo, AreFound}
 use Rattle.acpi_verdict.specs.steps.Telling.{IsOver, ToldTree, IsMissedIn, IsAwaitedIn, IsToldTree, AreAwaitsAlone}
 use Rattle.acpi_verdict.specs.steps.Touching.{is_tried, AreTouching}
 use Rattle.acpi_verdict.specs.steps.Trying.{TriedTree}
 use Rattle.acpi_verdict.proofs.AloneLoads.{one_ssdt, ssdt_within}
-use Rattle.acpi_verdict.proofs.MetExternals.{adds_same}
 use Rattle.acpi_verdict.proofs.Offers.{least_same, least_offered, offers_same}
 use Rattle.acpi_verdict.proofs.PathSets.{pair_is}
+use Rattle.acpi_verdict.proofs.PutExternals.{puts_among, puts_ascend, puts_same}
 
 -- ---- argument counts
 
@@ -97,7 +98,7 @@ module _ (depth : ℕ) (dsdt b : List ℕ) (d : Definers) (firsts : AreFirst d) 
     listings = tells.listings;
     clash = offers_same (λ i j p. IsUnmetOf d.first number told.own i j p ⊎ IsUnmetOf d.first number told.under i j p) (IsUnmetBy depth d.first number first t) old.clash new.clash
         clash_to clash_from finds.clash;
-    satisfied = adds_same (AreMet d number (entries told.own.awaited)) IsMetHere met_to met_from old.satisfied new.satisfied finds.satisfied;
+    satisfied = puts_same old.satisfied.items new.satisfied.items (AreMet d number (entries told.own.awaited)) finds.satisfied IsMetHere met_to met_from;
   }
 
 -- ---- what is satisfied
@@ -166,25 +167,35 @@ module _ (depth : ℕ) (dsdt : List ℕ) (ssdts : List (List ℕ)) (d : Definers
         let same : first ≡ awaits.first = one_dsdt first awaits.first listings awaits.listings in
         (pair_is alone p n).1 ((awaits.awaits_are p n).1 (subst (λ (f : Listing). IsAwaitedInTable depth (objects_of_first f) f p n) same h, wanted))
 
-    module _ (start now : BTreeSet Satisfied) (none : start.keys ≡ []) (added : AddsMet start now (AreMet d 0 (entries alone))) where
-      first_to : (s : Satisfied) → Among now.keys s → IsSatisfied depth dsdt ssdts s.user s.definer s.path × (s.user ≤ 0)
-      first_to s m = by ((added s).0 m)
+    module _ (start now : List Satisfied) (none : start ≡ []) (puts : PutsMet start now (AreMet d 0 (entries alone))) where
+      first_among : (s : Satisfied) → Among now s ↔ (Among start s ⊎ AreMet d 0 (entries alone) s)
+      first_among = puts_among start now (AreMet d 0 (entries alone)) puts
+
+      first_to : (s : Satisfied) → Among now s → IsSatisfied depth dsdt ssdts s.user s.definer s.path × (s.user ≤ 0)
+      first_to s m = by ((first_among s).0 m)
         where
-          by : Among start.keys s ⊎ AreMet d 0 (entries alone) s → IsSatisfied depth dsdt ssdts s.user s.definer s.path × (s.user ≤ 0)
+          by : Among start s ⊎ AreMet d 0 (entries alone) s → IsSatisfied depth dsdt ssdts s.user s.definer s.path × (s.user ≤ 0)
           by (inl k) = absurd (subst (λ (ks : List Satisfied). Among ks s) none k)
           by (inr h) = let e = h.0 in (satisfied_of 0 (λ p n. Among (entries alone) (p, n)) s dsdt_awaits h, omega arith)
 
-      first_from : (s : Satisfied) → IsSatisfied depth dsdt ssdts s.user s.definer s.path × (s.user ≤ 0) → Among now.keys s
+      first_from : (s : Satisfied) → IsSatisfied depth dsdt ssdts s.user s.definer s.path × (s.user ≤ 0) → Among now s
       first_from s (h, within) =
           let is_dsdt : s.user ≡ 0 = omega arith in
           let met : IsMetFor 0 (IsAwaitedOf depth dsdt ssdts 0) (IsNoted d) s = of_satisfied 0 (IsAwaitedOf depth dsdt ssdts 0) s is_dsdt (λ p n k. k) h in
           let wanted = noted_wanted d definers.firsts s.path met.1 met.2 in
-          (added s).1 (inr (met.0, met.1, met.2, met.3, met.4, met.5, awaits_dsdt s.path met.5 wanted met.6, met.7))
+          (first_among s).1 (inr (met.0, met.1, met.2, met.3, met.4, met.5, awaits_dsdt s.path met.5 wanted met.6, met.7))
 
-      pub none_found : (f : Found) → f.clash ≡ None → f.satisfied ≡ now → AreFoundTo depth dsdt ssdts d 0 f
+      first_ascend : IsStrictlySortedBy satisfied_cmp now
+      unfolding IsStrictlySortedBy
+      first_ascend =
+          puts_ascend start now (AreMet d 0 (entries alone)) puts (subst (IsStrictlySortedBy satisfied_cmp) (sym none) tt)
+          (λ a b m h. absurd (subst (λ (l : List Satisfied). Among l a) none m))
+
+      pub none_found : (f : Found) → f.clash ≡ None → f.satisfied.items ≡ now → AreFoundTo depth dsdt ssdts d 0 f
       none_found f no_clash is_now = record {
         clash = subst (λ (o : Option Clash). IsLeastOf (λ i j p. IsUnmetAt depth dsdt ssdts d.first i j p × (i ≤ 0)) o) (sym no_clash) (λ i j p h. none_yet i j p h.0 h.1);
-        satisfied = λ s. subst (λ (x : BTreeSet Satisfied). Among x.keys s ↔ (IsSatisfied depth dsdt ssdts s.user s.definer s.path × (s.user ≤ 0))) (sym is_now) (first_to s, first_from s);
+        ascend = subst (IsStrictlySortedBy satisfied_cmp) (sym is_now) first_ascend;
+        satisfied = λ s. subst (λ (l : List Satisfied). Among l s ↔ (IsSatisfied depth dsdt ssdts s.user s.definer s.path × (s.user ≤ 0))) (sym is_now) (first_to s, first_from s);
       }
         where
           none_yet : (i j : ℕ) (p : List Segment) → IsUnmetAt depth dsdt ssdts d.first i j p → i ≤ 0 → ⊥
@@ -262,23 +273,33 @@ module _ (depth : ℕ) (dsdt : List ℕ) (ssdts : List (List ℕ)) (d : Definers
             subst (λ (l : Listing). IsAwaitedInTable depth (objects_of_both this l) l p k) (t_is c one two at listings)
             (subst (λ (l : Listing). IsAwaitedInTable depth (objects_of_both l two) two p k) (first_is c one two at listings) awaits)
 
-    satisfied_to : (s : Satisfied) → Among now.satisfied.keys s → IsHere s × (s.user ≤ n + 1)
-    satisfied_to s m = by ((finds.satisfied s).0 m)
+    abbrev IsOwn : Satisfied → Type 0
+    IsOwn = IsMetFor (n + 1) (IsAwaitedInTable depth (objects_of_both this u) u) (IsNoted d)
+
+    among : (s : Satisfied) → Among now.satisfied.items s ↔ (Among f.satisfied.items s ⊎ IsOwn s)
+    among = puts_among f.satisfied.items now.satisfied.items IsOwn finds.satisfied
+
+    satisfied_to : (s : Satisfied) → Among now.satisfied.items s → IsHere s × (s.user ≤ n + 1)
+    satisfied_to s m = by ((among s).0 m)
       where
-        by : Among f.satisfied.keys s ⊎ IsMetFor (n + 1) (IsAwaitedInTable depth (objects_of_both this u) u) (IsNoted d) s → IsHere s × (s.user ≤ n + 1)
+        by : Among f.satisfied.items s ⊎ IsOwn s → IsHere s × (s.user ≤ n + 1)
         by (inl k) = let r = (before.satisfied s).0 k in let within = r.1 in (r.0, omega arith)
         by (inr h) = let e = h.0 in (satisfied_of (n + 1) (IsAwaitedInTable depth (objects_of_both this u) u) s awaits_to h, omega arith)
 
-    satisfied_from : (s : Satisfied) → IsHere s × (s.user ≤ n + 1) → Among now.satisfied.keys s
+    satisfied_from : (s : Satisfied) → IsHere s × (s.user ≤ n + 1) → Among now.satisfied.items s
     satisfied_from s (h, within) = by (up_to s.user n within)
       where
-        by : (s.user ≤ n) ⊎ (s.user ≡ n + 1) → Among now.satisfied.keys s
-        by (inl less) = (finds.satisfied s).1 (inl ((before.satisfied s).1 (h, less)))
-        by (inr is) = (finds.satisfied s).1 (inr (of_satisfied (n + 1) (IsAwaitedInTable depth (objects_of_both this u) u) s is awaits_from h))
+        by : (s.user ≤ n) ⊎ (s.user ≡ n + 1) → Among now.satisfied.items s
+        by (inl less) = (among s).1 (inl ((before.satisfied s).1 (h, less)))
+        by (inr is) = (among s).1 (inr (of_satisfied (n + 1) (IsAwaitedInTable depth (objects_of_both this u) u) s is awaits_from h))
+
+    earlier : (a b : Satisfied) → Among f.satisfied.items a → IsOwn b → a.user < b.user
+    earlier a b m h = let within = ((before.satisfied a).0 m).1 in let e = h.0 in omega arith
 
     pub one_found : AreFoundTo depth dsdt ssdts d (n + 1) now
     one_found = record {
       clash = least_same (λ i j p. Before i j p ⊎ Here i j p) Now clashes_to clashes_from now.clash (least_offered Before Here f.clash now.clash before.clash finds.clash);
+      ascend = puts_ascend f.satisfied.items now.satisfied.items IsOwn finds.satisfied before.ascend earlier;
       satisfied = λ s. (satisfied_to s, satisfied_from s);
     }
 
@@ -295,7 +316,10 @@ module _ (depth : ℕ) (dsdt : List ℕ) (ssdts : List (List ℕ)) (d : Definers
   all_found n f all h = record {
     clash = least_same (λ i j p. IsUnmetAt depth dsdt ssdts d.first i j p × (i ≤ n)) (IsUnmetAt depth dsdt ssdts d.first) (λ i j p k. k.0)
         (λ i j p k. (k, let within = ssdt_within ssdts i k.0 k.3 in omega arith)) f.clash h.clash;
-    satisfied = λ s. ((λ m. ((h.satisfied s).0 m).0), (λ k. (h.satisfied s).1 (k, let within = user_within s k in omega arith)));
+    satisfied = record {
+      ascend = h.ascend;
+      are = λ s. ((λ m. ((h.satisfied s).0 m).0), (λ k. (h.satisfied s).1 (k, let within = user_within s k in omega arith)));
+    };
   }
 
   -- ---- where no two declare one path

@@ -15,6 +15,7 @@ pub mod AddedPaths
 pub mod DeclaredTables
 pub mod UnmetPaths
 pub mod MetExternals
+pub mod PutExternals
 pub mod FoundTables
 pub mod FoundVerdict
 pub mod CheckedTables

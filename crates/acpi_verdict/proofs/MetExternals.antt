@@ -1,135 +1,74 @@
--- Satisfied Externals that are added to a set.
-use Rattle.std.proofs.Common.{◌≡◌, ◌≢◌, ◌↔◌, ◌⊎◌, inl, inr, ℕ, true, false, true≢false, List, [], ◌∷◌, Some, None, refl, sym, ap, subst, ◌∙◌, arith}
+-- Satisfied Externals that are added to a list.
+use Rattle.std.proofs.Common.{◌≡◌, ◌≢◌, ◌⊎◌, inl, inr, ℕ, true, false, true≢false, List, [], ◌∷◌, ◌++◌, Some, None, refl, sym, ap, subst, ◌∙◌}
 use Rattle.std.specs.BTreeMap.{BTreeMap}
 use Rattle.std.specs.BTreeMap as tree
-use Rattle.std.specs.BTreeSet.{BTreeSet, insert_key}
-use Rattle.std.specs.declared.cmp.Ordering.{Ordering}
-use Rattle.std.specs.declared.cmp.Ordering.TheVariants.{Less, Equal, Greater}
-use Rattle.std.specs.Ordering.{match_ordering, nat_cmp, ordering_then}
-use Rattle.std.proofs.lemmas.Bool.Decides.{nat_tests}
 use Rattle.std.specs.FinMap.{get}
 use Rattle.std.specs.Global.{Vec}
 use Rattle.acpi_name.specs.Names.{Segment}
 use Rattle.acpi_name.specs.Paths.{path_cmp}
-use Rattle.acpi_name.specs.steps.PathOrder.{path_cmp-IsAntisymmetric}
 use Rattle.acpi_space.specs.Laws.{Among}
 use Rattle.acpi_space.specs.Spaces.{PathMap}
-use Rattle.acpi_order.proofs.Lists.{one_some, not_both}
+use Rattle.acpi_order.proofs.Lists.{one_some, not_both, among_append, appended}
 use Rattle.acpi_verdict.specs.declared.definers.Definer.{Definer}
 use Rattle.acpi_verdict.specs.declared.definers.Definers.{Definers}
 use Rattle.acpi_verdict.specs.declared.verdicts.Satisfied.{Satisfied}
-use Rattle.acpi_verdict.specs.SatisfiedView.{satisfied_cmp}
 use Rattle.acpi_verdict.specs.steps.Defining.{takes, IsOther}
 use Rattle.acpi_verdict.specs.steps.Finding.{AddsMet, IsMetFor, IsMetAt, IsMetByAny, AreMet}
 
--- ---- sets
+-- ---- lists
 
-pub adds_none : (found : BTreeSet Satisfied) (P : Satisfied → Type 0) → ((s : Satisfied) → P s → ⊥) → AddsMet found found P
+pub adds_none : (found : List Satisfied) (P : Satisfied → Type 0) → ((s : Satisfied) → P s → ⊥) → AddsMet found found P
 adds_none found P none s = ((λ m. inl m), by)
   where
-    by : Among found.keys s ⊎ P s → Among found.keys s
+    by : Among found s ⊎ P s → Among found s
     by (inl m) = m
     by (inr h) = absurd (none s h)
 
-pub adds_both : (P Q R : Satisfied → Type 0) → ((s : Satisfied) → P s ⊎ Q s → R s) → ((s : Satisfied) → R s → P s ⊎ Q s) → (old mid new : BTreeSet Satisfied)
+pub adds_both : (P Q R : Satisfied → Type 0) → ((s : Satisfied) → P s ⊎ Q s → R s) → ((s : Satisfied) → R s → P s ⊎ Q s) → (old mid new : List Satisfied)
     → AddsMet old mid P → AddsMet mid new Q → AddsMet old new R
 adds_both P Q R to from old mid new h k s = ((λ m. first ((k s).0 m)), (λ m. last m))
   where
-    before : Among old.keys s ⊎ P s → Among old.keys s ⊎ R s
+    before : Among old s ⊎ P s → Among old s ⊎ R s
     before (inl m) = inl m
     before (inr x) = inr (to s (inl x))
 
-    first : Among mid.keys s ⊎ Q s → Among old.keys s ⊎ R s
+    first : Among mid s ⊎ Q s → Among old s ⊎ R s
     first (inl m) = before ((h s).0 m)
     first (inr x) = inr (to s (inr x))
 
-    of_part : P s ⊎ Q s → Among new.keys s
+    of_part : P s ⊎ Q s → Among new s
     of_part (inl x) = (k s).1 (inl ((h s).1 (inr x)))
     of_part (inr x) = (k s).1 (inr x)
 
-    last : Among old.keys s ⊎ R s → Among new.keys s
+    last : Among old s ⊎ R s → Among new s
     last (inl m) = (k s).1 (inl ((h s).1 (inl m)))
     last (inr x) = of_part (from s x)
 
-pub adds_same : (P Q : Satisfied → Type 0) → ((s : Satisfied) → P s → Q s) → ((s : Satisfied) → Q s → P s) → (old new : BTreeSet Satisfied) → AddsMet old new P → AddsMet old new Q
+pub adds_same : (P Q : Satisfied → Type 0) → ((s : Satisfied) → P s → Q s) → ((s : Satisfied) → Q s → P s) → (old new : List Satisfied) → AddsMet old new P → AddsMet old new Q
 adds_same P Q to from old new h s = ((λ m. there ((h s).0 m)), (λ m. (h s).1 (back m)))
   where
-    there : Among old.keys s ⊎ P s → Among old.keys s ⊎ Q s
+    there : Among old s ⊎ P s → Among old s ⊎ Q s
     there (inl m) = inl m
     there (inr x) = inr (to s x)
 
-    back : Among old.keys s ⊎ Q s → Among old.keys s ⊎ P s
+    back : Among old s ⊎ Q s → Among old s ⊎ P s
     back (inl m) = inl m
     back (inr x) = inr (from s x)
 
--- a key that is put among others
-module _ {K : Type 0} (cmp : K → K → Ordering) (same : (a b : K) → cmp a b ≡ Equal → a ≡ b) (k s : K) where
-  among_insert : (ks : List K) → Among (insert_key cmp ks k) s ↔ (Among ks s ⊎ (k ≡ s))
-  among_insert [] = (to, from)
-    where
-      to : Among (k ∷ []) s → Among {X = K} [] s ⊎ (k ≡ s)
-      to (inl e) = inr e
-      to (inr m) = absurd m
-
-      from : Among {X = K} [] s ⊎ (k ≡ s) → Among (k ∷ []) s
-      from (inl m) = absurd m
-      from (inr e) = inl e
-  among_insert (x ∷ xs) = by (cmp k x) refl (among_insert xs)
-    where
-      by : (o : Ordering) → cmp k x ≡ o → Among (insert_key cmp xs k) s ↔ (Among xs s ⊎ (k ≡ s))
-          → Among (match_ordering o (k ∷ x ∷ xs) (x ∷ xs) (x ∷ insert_key cmp xs k)) s ↔ (Among (x ∷ xs) s ⊎ (k ≡ s))
-      by Less e later = (to, from)
-        where
-          to : Among (k ∷ x ∷ xs) s → Among (x ∷ xs) s ⊎ (k ≡ s)
-          to (inl f) = inr f
-          to (inr m) = inl m
-
-          from : Among (x ∷ xs) s ⊎ (k ≡ s) → Among (k ∷ x ∷ xs) s
-          from (inl m) = inr m
-          from (inr f) = inl f
-      by Equal e later = ((λ m. inl m), from)
-        where
-          from : Among (x ∷ xs) s ⊎ (k ≡ s) → Among (x ∷ xs) s
-          from (inl m) = m
-          from (inr f) = inl (sym (same k x e) ∙ f)
-      by Greater e later = (to, from)
-        where
-          rest : Among xs s ⊎ (k ≡ s) → Among (x ∷ xs) s ⊎ (k ≡ s)
-          rest (inl m) = inl (inr m)
-          rest (inr f) = inr f
-
-          to : Among (x ∷ insert_key cmp xs k) s → Among (x ∷ xs) s ⊎ (k ≡ s)
-          to (inl f) = inl (inl f)
-          to (inr m) = rest (later.0 m)
-
-          from : Among (x ∷ xs) s ⊎ (k ≡ s) → Among (x ∷ insert_key cmp xs k) s
-          from (inl (inl f)) = inl f
-          from (inl (inr m)) = inr (later.1 (inl m))
-          from (inr f) = inr (later.1 (inr f))
-
--- those that the order does not tell apart are equal
-pub same_satisfied : (a b : Satisfied) → satisfied_cmp a b ≡ Equal → a ≡ b
-same_satisfied a b = by (nat_cmp a.user b.user) (nat_cmp a.definer b.definer) (path_cmp a.path b.path) refl refl refl
+pub adds_one : (old : List Satisfied) (k : Satisfied) → AddsMet old (old ++ k ∷ []) (λ s. k ≡ s)
+adds_one old k s = (to, from)
   where
-    same_number : (m n : ℕ) → nat_cmp m n ≡ Equal → m ≡ n
-    same_number m n e = grind (arith, nat_tests)
+    to : Among (old ++ k ∷ []) s → Among old s ⊎ (k ≡ s)
+    to m = by (among_append old (k ∷ []) s m)
+      where
+        by : Among old s ⊎ Among (k ∷ []) s → Among old s ⊎ (k ≡ s)
+        by (inl h) = inl h
+        by (inr (inl e)) = inr e
+        by (inr (inr h)) = absurd h
 
-    by : (x y z : Ordering) → nat_cmp a.user b.user ≡ x → nat_cmp a.definer b.definer ≡ y → path_cmp a.path b.path ≡ z → ordering_then x (ordering_then y z) ≡ Equal → a ≡ b
-    by Less y z e f g h = cc
-    by Greater y z e f g h = cc
-    by Equal Less z e f g h = cc
-    by Equal Greater z e f g h = cc
-    by Equal Equal Less e f g h = cc
-    by Equal Equal Greater e f g h = cc
-    by Equal Equal Equal e f g h =
-        let user = same_number a.user b.user e in
-        let definer = same_number a.definer b.definer f in
-        let path = path_cmp-IsAntisymmetric a.path b.path g in
-        λ i. record { user = user i; definer = definer i; path = path i }
-
-pub adds_one : (cmp : Satisfied → Satisfied → Ordering) → ((a b : Satisfied) → cmp a b ≡ Equal → a ≡ b) → (old new : BTreeSet Satisfied) (k : Satisfied)
-    → new.keys ≡ insert_key cmp old.keys k → AddsMet old new (λ s. k ≡ s)
-adds_one cmp same old new k put s = subst (λ (ks : List Satisfied). Among ks s ↔ (Among old.keys s ⊎ (k ≡ s))) (sym put) (among_insert cmp same k s old.keys)
+    from : Among old s ⊎ (k ≡ s) → Among (old ++ k ∷ []) s
+    from (inl h) = appended old (k ∷ []) s (inl h)
+    from (inr e) = appended old (k ∷ []) s (inr (inl e))
 
 -- ---- one SSDT
 
@@ -140,14 +79,14 @@ module _ (user : ℕ) (p : List Segment) (n : ℕ) (x : Definer) where
   abbrev this : Satisfied
   this = record { user = user; definer = x.number; path = p }
 
-  pub met_own : (found : BTreeSet Satisfied) → x.number ≡ user → AddsMet found found Met
+  pub met_own : (found : List Satisfied) → x.number ≡ user → AddsMet found found Met
   met_own found own = adds_none found Met by
     where
       by : (s : Satisfied) → Met s → ⊥
       by s (e, y, inl f, at, ne, k, same, met) = ne (ap (λ (z : Definer). z.number) (sym f) ∙ own)
       by s (e, y, inr m, at, ne, k, same, met) = absurd m
 
-  pub met_other : (found : BTreeSet Satisfied) → takes x n ≡ false → AddsMet found found Met
+  pub met_other : (found : List Satisfied) → takes x n ≡ false → AddsMet found found Met
   met_other found fails = adds_none found Met by
     where
       by : (s : Satisfied) → Met s → ⊥
@@ -155,7 +94,7 @@ module _ (user : ℕ) (p : List Segment) (n : ℕ) (x : Definer) where
           true≢false (sym met ∙ ap (λ (z : Definer). takes z k) (sym f) ∙ ap (takes x) (sym same.1) ∙ fails)
       by s (e, y, inr m, at, ne, k, same, met) = absurd m
 
-  pub met_here : (old new : BTreeSet Satisfied) → x.number ≢ user → takes x n ≡ true → AddsMet old new (λ s. this ≡ s) → AddsMet old new Met
+  pub met_here : (old new : List Satisfied) → x.number ≢ user → takes x n ≡ true → AddsMet old new (λ s. this ≡ s) → AddsMet old new Met
   met_here old new other met = adds_same (λ s. this ≡ s) Met to from old new
     where
       to : (s : Satisfied) → this ≡ s → Met s
@@ -180,7 +119,7 @@ module _ (user : ℕ) (p : List Segment) (n : ℕ) (x : Definer) where
 
 module _ (user : ℕ) (Awaits : List Segment → ℕ → Type 0) where
   pub met_parts : (P Q R : List Segment → Definer → Type 0) → ((q : List Segment) (x : Definer) → P q x ⊎ Q q x → R q x) → ((q : List Segment) (x : Definer) → R q x → P q x ⊎ Q q x)
-      → (old mid new : BTreeSet Satisfied)
+      → (old mid new : List Satisfied)
       → AddsMet old mid (IsMetFor user Awaits P) → AddsMet mid new (IsMetFor user Awaits Q) → AddsMet old new (IsMetFor user Awaits R)
   met_parts P Q R to from = adds_both (IsMetFor user Awaits P) (IsMetFor user Awaits Q) (IsMetFor user Awaits R) there back
     where
@@ -196,10 +135,10 @@ module _ (user : ℕ) (Awaits : List Segment → ℕ → Type 0) where
           by (inr k) = inr (e, x, k, at, ne, n, awaits, met)
 
 module _ (user : ℕ) (p : List Segment) (n : ℕ) where
-  pub any_none : (found : BTreeSet Satisfied) → AddsMet found found (IsMetByAny user p n [])
+  pub any_none : (found : List Satisfied) → AddsMet found found (IsMetByAny user p n [])
   any_none found = adds_none found (IsMetByAny user p n []) (λ s h. h.2)
 
-  pub any_more : (x : Definer) (xs : List Definer) (old mid new : BTreeSet Satisfied) → AddsMet old mid (IsMetByAny user p n (x ∷ [])) → AddsMet mid new (IsMetByAny user p n xs)
+  pub any_more : (x : Definer) (xs : List Definer) (old mid new : List Satisfied) → AddsMet old mid (IsMetByAny user p n (x ∷ [])) → AddsMet mid new (IsMetByAny user p n xs)
       → AddsMet old new (IsMetByAny user p n (x ∷ xs))
   any_more x xs = met_parts user (λ q k. (p ≡ q) × (n ≡ k)) (λ q y. Among (x ∷ []) y) (λ q y. Among xs y) (λ q y. Among (x ∷ xs) y) to from
     where
@@ -216,7 +155,7 @@ module _ (user : ℕ) (p : List Segment) (n : ℕ) where
 
 module _ (user : ℕ) (p : List Segment) (n : ℕ) where
   -- these are all of whom P holds there
-  pub met_listed : (P : List Segment → Definer → Type 0) (xs : List Definer) → ((x : Definer) → Among xs x → P p x) → ((x : Definer) → P p x → Among xs x) → (old new : BTreeSet Satisfied)
+  pub met_listed : (P : List Segment → Definer → Type 0) (xs : List Definer) → ((x : Definer) → Among xs x → P p x) → ((x : Definer) → P p x → Among xs x) → (old new : List Satisfied)
       → AddsMet old new (IsMetByAny user p n xs) → AddsMet old new (IsMetAt user p n P)
   met_listed P xs listed all = adds_same (IsMetByAny user p n xs) (IsMetAt user p n P) to from
     where
@@ -226,7 +165,7 @@ module _ (user : ℕ) (p : List Segment) (n : ℕ) where
       from : (s : Satisfied) → IsMetAt user p n P s → IsMetByAny user p n xs s
       from s (e, x, holds, at, ne, k, here, met) = (e, x, all x (subst (λ (q : List Segment). P q x) (sym here.0) holds), at, ne, k, here, met)
 
-  pub first_met : (firsts : PathMap Definer) (x : Definer) → get firsts p ≡ Some x → (old new : BTreeSet Satisfied)
+  pub first_met : (firsts : PathMap Definer) (x : Definer) → get firsts p ≡ Some x → (old new : List Satisfied)
       → AddsMet old new (IsMetByAny user p n (x ∷ [])) → AddsMet old new (IsMetAt user p n (λ q y. get firsts q ≡ Some y))
   first_met firsts x there = met_listed (λ q y. get firsts q ≡ Some y) (x ∷ []) listed (λ y e. inl (one_some x y (sym there ∙ e)))
     where
@@ -234,24 +173,24 @@ module _ (user : ℕ) (p : List Segment) (n : ℕ) where
       listed y (inl e) = there ∙ ap (λ (z : Definer). Some z) e
       listed y (inr m) = absurd m
 
-  pub no_first_met : (firsts : PathMap Definer) → get firsts p ≡ None → (found : BTreeSet Satisfied) → AddsMet found found (IsMetAt user p n (λ q y. get firsts q ≡ Some y))
+  pub no_first_met : (firsts : PathMap Definer) → get firsts p ≡ None → (found : List Satisfied) → AddsMet found found (IsMetAt user p n (λ q y. get firsts q ≡ Some y))
   no_first_met firsts none found =
       met_listed (λ q y. get firsts q ≡ Some y) [] (λ y m. absurd m) (λ y e. absurd (not_both (get firsts p) y e none)) found found (any_none user p n found)
 
-  pub others_met : (others : BTreeMap (List Segment) (Vec Definer)) (xs : Vec Definer) → tree.get path_cmp others p ≡ Some xs → (old new : BTreeSet Satisfied)
+  pub others_met : (others : BTreeMap (List Segment) (Vec Definer)) (xs : Vec Definer) → tree.get path_cmp others p ≡ Some xs → (old new : List Satisfied)
       → AddsMet old new (IsMetByAny user p n xs.items) → AddsMet old new (IsMetAt user p n (IsOther others))
   others_met others xs there = met_listed (IsOther others) xs.items (λ y m. (xs, there, m)) all
     where
       all : (y : Definer) → IsOther others p y → Among xs.items y
       all y (ys, is, m) = subst (λ (v : Vec Definer). Among v.items y) (one_some ys xs (sym is ∙ there)) m
 
-  pub no_others_met : (others : BTreeMap (List Segment) (Vec Definer)) → tree.get path_cmp others p ≡ None → (found : BTreeSet Satisfied)
+  pub no_others_met : (others : BTreeMap (List Segment) (Vec Definer)) → tree.get path_cmp others p ≡ None → (found : List Satisfied)
       → AddsMet found found (IsMetAt user p n (IsOther others))
   no_others_met others none found =
       met_listed (IsOther others) [] (λ y m. absurd m) (λ y o. absurd (not_both (tree.get path_cmp others p) o.0 o.1 none)) found found (any_none user p n found)
 
 module _ (d : Definers) (user : ℕ) (p : List Segment) (n : ℕ) where
-  pub met_noted : (old mid new : BTreeSet Satisfied) → AddsMet old mid (IsMetAt user p n (λ q x. get d.first q ≡ Some x)) → AddsMet mid new (IsMetAt user p n (IsOther d.others))
+  pub met_noted : (old mid new : List Satisfied) → AddsMet old mid (IsMetAt user p n (λ q x. get d.first q ≡ Some x)) → AddsMet mid new (IsMetAt user p n (IsOther d.others))
       → AddsMet old new (AreMet d user ((p, n) ∷ []))
   met_noted = adds_both (IsMetAt user p n (λ q x. get d.first q ≡ Some x)) (IsMetAt user p n (IsOther d.others)) (AreMet d user ((p, n) ∷ [])) to from
     where
@@ -273,10 +212,10 @@ module _ (d : Definers) (user : ℕ) (p : List Segment) (n : ℕ) where
 -- ---- what is awaited
 
 module _ (d : Definers) (user : ℕ) where
-  pub are_none : (found : BTreeSet Satisfied) → AddsMet found found (AreMet d user [])
+  pub are_none : (found : List Satisfied) → AddsMet found found (AreMet d user [])
   are_none found = adds_none found (AreMet d user []) (λ s h. h.6)
 
-  pub are_more : (e : List Segment × ℕ) (es : List (List Segment × ℕ)) (old mid new : BTreeSet Satisfied) → AddsMet old mid (AreMet d user (e ∷ [])) → AddsMet mid new (AreMet d user es)
+  pub are_more : (e : List Segment × ℕ) (es : List (List Segment × ℕ)) (old mid new : List Satisfied) → AddsMet old mid (AreMet d user (e ∷ [])) → AddsMet mid new (AreMet d user es)
       → AddsMet old new (AreMet d user (e ∷ es))
   are_more e es = adds_both (AreMet d user (e ∷ [])) (AreMet d user es) (AreMet d user (e ∷ es)) to from
     where

@@ -14,7 +14,6 @@ ghost use Rattle.acpi_verdict.specs.steps.Declaring.{AreDeclared};
 use crate::clashes::Clash;
 use crate::declared::{Declared, declare_all};
 use crate::finding::{Found, find_all};
-use crate::satisfying::listed;
 use crate::verdicts::{Checked, Verdict};
 use acpi_declare::{Declaring, LoadFault};
 use acpi_order::laws::one_verdict;
@@ -74,7 +73,6 @@ fn checked_declared<S: Space<Object>>(
 {
     let Declared { definers, same } = declared;
     let Found { clash, satisfied } = find_all(alloc, dsdt, ssdts, depth, &definers)?;
-    let satisfied = listed(alloc, satisfied)?;
     let verdict = verdict_of(same, clash);
     Ok(Checked { verdict, satisfied })
 }

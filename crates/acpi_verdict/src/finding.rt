@@ -14,7 +14,7 @@ ghost use Rattle.acpi_verdict.specs.steps.Trying.{tried_of, Tries};
 
 use crate::clashes::Clash;
 use crate::definers::Definers;
-use crate::meeting::add_user;
+use crate::meeting::put_user;
 use crate::telling::{told_of, try_alone};
 use crate::told::{Alone, Told};
 use crate::touching::touching_of;
@@ -25,19 +25,19 @@ use acpi_space::Space;
 use acpi_terms::{Depth, Object};
 use bytes::Bytes;
 use std::alloc::{AllocError, Global};
-use std::collections::BTreeSet;
 
 /// What the loads of SSDTs over a DSDT tell of one another.
 #[derive(Drop)]
 pub(crate) struct Found {
     /// The first two of which the load of the one missed what the other declares, where no two declare one path.
     pub(crate) clash: Option<Clash>,
-    /// The Externals that SSDTs satisfy.
-    pub(crate) satisfied: BTreeSet<Satisfied>,
+    /// The Externals that SSDTs satisfy, by user, definer and path.
+    pub(crate) satisfied: Vec<Satisfied>,
 }
 
 // Adds what is told of the load of the SSDT of that number.
 fn add_told(
+    alloc: Global,
     found: &mut Found,
     definers: &Definers,
     number: usize,
@@ -52,7 +52,13 @@ fn add_told(
         number,
         told.under.tried(),
     )?;
-    add_user(&mut found.satisfied, definers, number, &told.own.awaited)
+    put_user(
+        alloc,
+        &mut found.satisfied,
+        definers,
+        number,
+        &told.own.awaited,
+    )
 }
 
 // Adds what the load of the SSDT of that number tells.
@@ -84,7 +90,7 @@ fn add_ssdt<S: Space<Object>>(
         &alone.tried,
         &definers.first,
     )?;
-    add_told(found, definers, number, &told)?;
+    add_told(alloc, found, definers, number, &told)?;
     Ok(())
 }
 
@@ -105,11 +111,12 @@ pub(crate) fn find_all<S: Space<Object>>(
     let tried = try_alone(alloc, dsdt, depth, &definers.first)?;
     let touching = touching_of(alloc, definers, &tried, ssdts.len())?;
     let alone = Alone { tried, touching };
+    let mut satisfied = Vec::new(alloc);
+    put_user(alloc, &mut satisfied, definers, 0, &alone.tried.awaited)?;
     let mut found = Found {
         clash: None,
-        satisfied: BTreeSet::new(alloc),
+        satisfied,
     };
-    add_user(&mut found.satisfied, definers, 0, &alone.tried.awaited)?;
     for (i, ssdt) in ssdts.iter().enumerate() {
         add_ssdt(
             alloc,

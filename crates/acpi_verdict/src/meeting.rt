@@ -1,29 +1,32 @@
 //! Which methods that bodies await SSDTs declare.
 
-ghost use Rattle.std.specs.Prelude.{◌≡◌, ◌∷◌, [], OnOk, Some};
+ghost use Rattle.std.specs.Prelude.{◌≡◌, ◌↔◌, ◌∷◌, [], ◌++◌, OnOk, Some};
 ghost use Rattle.std.specs.FinMap as finite;
+ghost use Rattle.std.specs.List.Sorted.{IsStrictlySortedBy};
+ghost use Rattle.acpi_space.specs.Laws.{Among};
+ghost use Rattle.acpi_verdict.specs.SatisfiedView.{satisfied_cmp};
 ghost use Rattle.acpi_verdict.specs.steps.Defining.{IsOther};
-ghost use Rattle.acpi_verdict.specs.steps.Finding.{AddsMet, IsMetAt, IsMetByAny, AreMet};
+ghost use Rattle.acpi_verdict.specs.steps.Finding.{AddsMet, IsMetAt, IsMetByAny, AreMet, PutsMet};
 
 use crate::definers::{Definer, Definers};
 use crate::verdicts::Satisfied;
 use acpi_name::Path;
 use acpi_space::{MapSpace, Space, TreeSpace};
-use std::alloc::AllocError;
-use std::collections::{BTreeMap, BTreeSet};
+use std::alloc::{AllocError, Global};
+use std::collections::BTreeMap;
 
 // Adds that the SSDT declares what a body of the user awaits, where it does.
 fn add_if_met(
-    found: &mut BTreeSet<Satisfied>,
+    found: &mut Vec<Satisfied>,
     user: usize,
     path: &Path,
     count: u8,
     definer: &Definer,
 ) -> Result<(), AllocError>
-    ensures { OnOk result (AddsMet found.old found.new (IsMetByAny user path.now count (definer.now ∷ []))) }
+    ensures { OnOk result (AddsMet found.old.items found.new.items (IsMetByAny user path.now count (definer.now ∷ []))) }
 {
     if definer.number != user && definer.takes(count) {
-        found.insert(Satisfied {
+        found.push(Satisfied {
             user,
             definer: definer.number,
             path: path.copy()?,
@@ -34,13 +37,13 @@ fn add_if_met(
 
 // The same of several SSDTs.
 fn add_all_met(
-    found: &mut BTreeSet<Satisfied>,
+    found: &mut Vec<Satisfied>,
     user: usize,
     path: &Path,
     count: u8,
     definers: &[Definer],
 ) -> Result<(), AllocError>
-    ensures { OnOk result (AddsMet found.old found.new (IsMetByAny user path.now count definers.now)) }
+    ensures { OnOk result (AddsMet found.old.items found.new.items (IsMetByAny user path.now count definers.now)) }
 {
     for definer in definers {
         add_if_met(found, user, path, count, definer)?;
@@ -50,13 +53,13 @@ fn add_all_met(
 
 // The same of the first SSDT that declares the path.
 fn add_first(
-    found: &mut BTreeSet<Satisfied>,
+    found: &mut Vec<Satisfied>,
     first: &TreeSpace<Definer>,
     user: usize,
     path: &Path,
     count: u8,
 ) -> Result<(), AllocError>
-    ensures { OnOk result (AddsMet found.old found.new (IsMetAt user path.now count (λ p x. finite.get first.now p ≡ Some x))) }
+    ensures { OnOk result (AddsMet found.old.items found.new.items (IsMetAt user path.now count (λ p x. finite.get first.now p ≡ Some x))) }
 {
     match first.get(path) {
         Some(definer) => add_if_met(found, user, path, count, definer),
@@ -66,13 +69,13 @@ fn add_first(
 
 // The same of the others that do.
 fn add_others(
-    found: &mut BTreeSet<Satisfied>,
+    found: &mut Vec<Satisfied>,
     others: &BTreeMap<Path, Vec<Definer>>,
     user: usize,
     path: &Path,
     count: u8,
 ) -> Result<(), AllocError>
-    ensures { OnOk result (AddsMet found.old found.new (IsMetAt user path.now count (IsOther others.now))) }
+    ensures { OnOk result (AddsMet found.old.items found.new.items (IsMetAt user path.now count (IsOther others.now))) }
 {
     match others.get(path) {
         Some(definers) => add_all_met(found, user, path, count, definers),
@@ -82,29 +85,68 @@ fn add_others(
 
 // Adds which SSDTs declare the method that a body of the user awaits at the path.
 fn add_met(
-    found: &mut BTreeSet<Satisfied>,
+    found: &mut Vec<Satisfied>,
     definers: &Definers,
     user: usize,
     path: &Path,
     count: u8,
 ) -> Result<(), AllocError>
-    ensures { OnOk result (AddsMet found.old found.new (AreMet definers.now user ((path.now, count) ∷ []))) }
+    ensures { OnOk result (AddsMet found.old.items found.new.items (AreMet definers.now user ((path.now, count) ∷ []))) }
 {
     add_first(found, &definers.first, user, path, count)?;
     add_others(found, &definers.others, user, path, count)
 }
 
-/// Adds which SSDTs declare what bodies of the user await.
-pub(crate) fn add_user(
-    found: &mut BTreeSet<Satisfied>,
+// The same of all that bodies of the user await.
+fn add_awaited(
+    found: &mut Vec<Satisfied>,
     definers: &Definers,
     user: usize,
     awaited: &MapSpace<u8>,
 ) -> Result<(), AllocError>
-    ensures { OnOk result (AddsMet found.old found.new (AreMet definers.now user (finite.entries awaited.now))) }
+    ensures { OnOk result (AddsMet found.old.items found.new.items (AreMet definers.now user (finite.entries awaited.now))) }
 {
     for (path, count) in awaited.pairs()? {
         add_met(found, definers, user, &path, *count)?;
     }
     Ok(())
+}
+
+// Puts them in order, without repeats.
+fn put_in_order(own: &mut Vec<Satisfied>)
+    ensures ascend { IsStrictlySortedBy satisfied_cmp own.new.items }
+    ensures same { (s : Satisfied) → Among own.new.items s ↔ Among own.old.items s }
+{
+    own.sort_unstable();
+    own.dedup();
+}
+
+// Puts a list behind another. An empty one becomes that list, so that there is only one.
+fn put_behind(list: &mut Vec<Satisfied>, own: Vec<Satisfied>) -> Result<(), AllocError>
+    ensures { OnOk result (list.new.items ≡ list.old.items ++ own.items) }
+{
+    if list.is_empty() {
+        *list = own;
+        return Ok(());
+    }
+    for one in own {
+        list.push(one)?;
+    }
+    Ok(())
+}
+
+/// Puts the Externals of the user that SSDTs satisfy behind those of earlier users, in their order.
+pub(crate) fn put_user(
+    alloc: Global,
+    list: &mut Vec<Satisfied>,
+    definers: &Definers,
+    user: usize,
+    awaited: &MapSpace<u8>,
+) -> Result<(), AllocError>
+    ensures { OnOk result (PutsMet list.old.items list.new.items (AreMet definers.now user (finite.entries awaited.now))) }
+{
+    let mut own = Vec::new(alloc);
+    add_awaited(&mut own, definers, user, awaited)?;
+    put_in_order(&mut own);
+    put_behind(list, own)
 }

@@ -17,25 +17,9 @@ use acpi_declare::{Declaring, LoadFault, shared_tables};
 use acpi_space::Space;
 use acpi_terms::{Depth, Object};
 use bytes::Bytes;
-use std::alloc::{AllocError, Global};
-use std::collections::BTreeSet;
+use std::alloc::Global;
 
-/// The Externals of a set, in its order.
-pub(crate) fn listed(
-    alloc: Global,
-    satisfied: BTreeSet<Satisfied>,
-) -> Result<Vec<Satisfied>, AllocError>
-    ensures ascend { IfOk result (λ v. IsStrictlySortedBy satisfied_cmp v.items) }
-    ensures same { IfOk result (λ v. v.items ≡ satisfied.keys) }
-{
-    let mut list = Vec::new(alloc);
-    for one in satisfied {
-        list.push(one)?;
-    }
-    Ok(list)
-}
-
-// The same of SSDTs over a DSDT that is declared.
+// The Externals that SSDTs satisfy, over a DSDT that is declared.
 fn satisfied_over<S: Space<Object>>(
     alloc: Global,
     dsdt: &Declaring<S>,
@@ -49,7 +33,7 @@ fn satisfied_over<S: Space<Object>>(
 {
     let declared = declare_all(alloc, dsdt, ssdts, depth)?;
     let found = find_all(alloc, dsdt, ssdts, depth, &declared.definers)?;
-    Ok(listed(alloc, found.satisfied)?)
+    Ok(found.satisfied)
 }
 
 /// Which Externals SSDTs satisfy: a body of a table, the DSDT or an SSDT over it, awaits a method, and another SSDT

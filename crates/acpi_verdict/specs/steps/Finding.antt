@@ -1,7 +1,7 @@
 -- What the loads of SSDTs over a DSDT tell of one another.
-use Rattle.std.specs.Prelude.{◌≡◌, ◌≢◌, ◌⊎◌, ◌↔◌, ℕ, ◌≤◌, true, false, List, Some, IsTrue}
-use Rattle.std.specs.BTreeSet.{BTreeSet}
+use Rattle.std.specs.Prelude.{◌≡◌, ◌≢◌, ◌⊎◌, ◌↔◌, ℕ, ◌≤◌, true, false, List, ◌++◌, Some, IsTrue}
 use Rattle.std.specs.FinMap.{get, entries}
+use Rattle.std.specs.List.Sorted.{IsStrictlySortedBy}
 use Rattle.acpi_name.specs.Names.{Segment}
 use Rattle.acpi_space.specs.Laws.{Among}
 use Rattle.acpi_space.specs.Spaces.{PathMap, is_defined}
@@ -13,6 +13,7 @@ use Rattle.acpi_verdict.specs.declared.definers.Definer.{Definer}
 use Rattle.acpi_verdict.specs.declared.definers.Definers.{Definers}
 use Rattle.acpi_verdict.specs.declared.finding.Found.{Found}
 use Rattle.acpi_verdict.specs.declared.verdicts.Satisfied.{Satisfied}
+use Rattle.acpi_verdict.specs.SatisfiedView.{satisfied_cmp, AreSatisfied}
 use Rattle.acpi_verdict.specs.steps.Clashing.{Clashes, IsLeastOf, Offers}
 use Rattle.acpi_verdict.specs.steps.Defining.{takes, IsNoted}
 use Rattle.acpi_verdict.specs.steps.Telling.{ToldTree}
@@ -49,8 +50,15 @@ IsUnmetAt depth dsdt ssdts firsts i j p =
 -- ---- satisfied Externals
 
 -- those of which P holds are added
-abbrev pub AddsMet : BTreeSet Satisfied → BTreeSet Satisfied → (Satisfied → Type 0) → Type 0
-AddsMet old new P = (s : Satisfied) → Among new.keys s ↔ (Among old.keys s ⊎ P s)
+abbrev pub AddsMet : List Satisfied → List Satisfied → (Satisfied → Type 0) → Type 0
+AddsMet old new P = (s : Satisfied) → Among new s ↔ (Among old s ⊎ P s)
+
+-- those of which P holds are put behind the list, in their order
+pub record PutsMet (old new : List Satisfied) (P : Satisfied → Type 0) : Type 0 where
+  pub own : List Satisfied
+  pub behind : new ≡ old ++ own
+  pub ascend : IsStrictlySortedBy satisfied_cmp own
+  pub are : (s : Satisfied) → Among own s ↔ P s
 
 -- the user awaits it, and another SSDT of which P holds declares such a method there
 abbrev pub IsMetFor : ℕ → (List Segment → ℕ → Type 0) → (List Segment → Definer → Type 0) → Satisfied → Type 0
@@ -74,7 +82,7 @@ AreMet d user es = IsMetFor user (λ p n. Among es (p, n)) (IsNoted d)
 -- what is told of it, over what was found before
 pub record FindsTold (d : Definers) (number : ℕ) (told : ToldTree) (old new : Found) : Type 0 where
   pub clash : Offers old.clash new.clash (λ i j p. IsUnmetOf d.first number told.own i j p ⊎ IsUnmetOf d.first number told.under i j p)
-  pub satisfied : AddsMet old.satisfied new.satisfied (AreMet d number (entries told.own.awaited))
+  pub satisfied : PutsMet old.satisfied.items new.satisfied.items (AreMet d number (entries told.own.awaited))
 
 -- .. of its single load
 pub record FindsSsdt (depth : ℕ) (dsdt ssdt : List ℕ) (d : Definers) (number : ℕ) (old new : Found) : Type 0 where
@@ -82,15 +90,16 @@ pub record FindsSsdt (depth : ℕ) (dsdt ssdt : List ℕ) (d : Definers) (number
   pub t : Listing
   pub listings : AreSingleListings depth dsdt ssdt first t
   pub clash : Offers old.clash new.clash (IsUnmetBy depth d.first number first t)
-  pub satisfied : AddsMet old.satisfied new.satisfied (IsMetFor number (IsAwaitedInTable depth (objects_of_both first t) t) (IsNoted d))
+  pub satisfied : PutsMet old.satisfied.items new.satisfied.items (IsMetFor number (IsAwaitedInTable depth (objects_of_both first t) t) (IsNoted d))
 
 -- ---- all of them
 
 -- what is found of the SSDTs up to that number
 pub record AreFoundTo (depth : ℕ) (dsdt : List ℕ) (ssdts : List (List ℕ)) (d : Definers) (n : ℕ) (f : Found) : Type 0 where
   pub clash : IsLeastOf (λ i j p. IsUnmetAt depth dsdt ssdts d.first i j p × (i ≤ n)) f.clash
-  pub satisfied : (s : Satisfied) → Among f.satisfied.keys s ↔ (IsSatisfied depth dsdt ssdts s.user s.definer s.path × (s.user ≤ n))
+  pub ascend : IsStrictlySortedBy satisfied_cmp f.satisfied.items
+  pub satisfied : (s : Satisfied) → Among f.satisfied.items s ↔ (IsSatisfied depth dsdt ssdts s.user s.definer s.path × (s.user ≤ n))
 
 pub record AreFound (depth : ℕ) (dsdt : List ℕ) (ssdts : List (List ℕ)) (d : Definers) (f : Found) : Type 0 where
   pub clash : IsLeastOf (IsUnmetAt depth dsdt ssdts d.first) f.clash
-  pub satisfied : (s : Satisfied) → Among f.satisfied.keys s ↔ IsSatisfied depth dsdt ssdts s.user s.definer s.path
+  pub satisfied : AreSatisfied depth dsdt ssdts f.satisfied.items

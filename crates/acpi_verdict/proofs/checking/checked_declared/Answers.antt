@@ -13,5 +13,4 @@ pub returns-clause-ok : goal.returns-clause-ok
 returns-clause-ok g c = λ bytes loads declared.
     let one = state_of (g.S.Space.contents (objects_so_far c.args.dsdt.now)) c.args.dsdt.now in
     all_checked c.args.depth bytes c.args.ssdts.now (dsdt_loads c.args.depth bytes one loads) c.args.declared declared c.in_ok-clash.field-0
-    (c.in_ok-clash.ensures.ok bytes loads declared.definers) c.verdict_of-verdict.result c.verdict_of-verdict.ensures c.in_ok-satisfied.satisfied c.in_ok-satisfied.ensures.ascend
-    c.in_ok-satisfied.ensures.same
+    (c.in_ok-clash.ensures.ok bytes loads declared.definers) c.verdict_of-verdict.result c.verdict_of-verdict.ensures

@@ -11,11 +11,11 @@ pub returns : goal.returns
 returns c =
     let firsts = c.args.definers.now.first in
     let told = told_tree c.args.told.now in
-    on_ok_weaker c.add_user.result
+    on_ok_weaker c.put_user.result
     (λ h. record {
       clash = offers_both (IsUnmetOf firsts c.args.number told.own) (IsUnmetOf firsts c.args.number told.under) c.args.found.now.clash c.offer_unmet.new.clash c.offer_unmet-2.new.clash
           c.in_ok-offer_unmet.ensures
           (subst (λ (t : TriedTree). Offers c.offer_unmet.new.clash c.offer_unmet-2.new.clash (IsUnmetOf firsts c.args.number t)) c.tried.ensures c.in_ok-offer_unmet-2.ensures);
       satisfied = h;
     })
-    c.add_user.ensures
+    c.put_user.ensures

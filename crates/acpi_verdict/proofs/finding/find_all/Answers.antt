@@ -13,8 +13,8 @@ loop-i-init g c = λ bytes loads definers.
     let one = state_of (g.S.Space.contents (objects_so_far c.args.dsdt.now)) c.args.dsdt.now in
     let d = c.args.definers.now in
     let alone = tried_of c.in_ok-tried.tried in
-    none_found c.args.depth bytes c.args.ssdts.now d definers alone.awaited (alone_awaits (is_defined d.first) c.args.depth bytes one loads alone c.in_ok-tried.ensures) c.new.result
-    c.add_user.new.found c.new.ensures.empty c.in_ok-add_user.ensures (record { clash = None; satisfied = c.add_user.new.found }) refl refl
+    none_found c.args.depth bytes c.args.ssdts.now d definers alone.awaited (alone_awaits (is_defined d.first) c.args.depth bytes one loads alone c.in_ok-tried.ensures) c.new-satisfied.result.items
+    c.put_user.new.list.items c.new-satisfied.ensures.items c.in_ok-put_user.ensures (record { clash = None; satisfied = c.put_user.new.list }) refl refl
 
 pub returns-in_err-add_ssdt-clause-err : goal.returns-in_err-add_ssdt-clause-err
 returns-in_err-add_ssdt-clause-err g c = λ bytes loads alone.

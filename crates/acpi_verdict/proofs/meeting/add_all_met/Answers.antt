@@ -12,12 +12,12 @@ loop-definer-preserved c = λ now h.
     let x : Definer = get_or definers i (record { number = 0; args = None }) in
     let here : drop i definers ≡ x ∷ drop (i + 1) definers = drop_more definers i _ c.loop-definer-test.true in
     c.loop-definer.invariant now
-    (subst (λ (xs : List Definer). AddsMet c.loop-definer.found now (IsMetByAny c.args.user c.args.path.now c.args.count xs)) (sym here)
-    (any_more c.args.user c.args.path.now c.args.count x (drop (i + 1) definers) c.loop-definer.found c.add_if_met.new.found now c.in_ok-add_if_met.ensures h))
+    (subst (λ (xs : List Definer). AddsMet c.loop-definer.found.items now (IsMetByAny c.args.user c.args.path.now c.args.count xs)) (sym here)
+    (any_more c.args.user c.args.path.now c.args.count x (drop (i + 1) definers) c.loop-definer.found.items c.add_if_met.new.found.items now c.in_ok-add_if_met.ensures h))
 
 pub returns : goal.returns
 returns c =
     let none : drop c.loop-definer.definer-index c.args.definers.now ≡ [] = drop_all _ _ c.loop-definer-test.false in
-    let found = c.loop-definer.found in
+    let found = c.loop-definer.found.items in
     c.loop-definer.invariant found
     (subst (λ (xs : List Definer). AddsMet found found (IsMetByAny c.args.user c.args.path.now c.args.count xs)) (sym none) (any_none c.args.user c.args.path.now c.args.count found))

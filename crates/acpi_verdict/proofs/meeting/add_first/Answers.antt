@@ -8,9 +8,9 @@ pub returns-in-Some : goal.returns-in-Some
 returns-in-Some c =
     let there : get c.args.first.now c.args.path.now ≡ Some c.in-Some.definer.now = search rules in
     on_ok_weaker c.add_if_met.result
-    (first_met c.args.user c.args.path.now c.args.count c.args.first.now c.in-Some.definer.now there c.args.found.now c.add_if_met.new.found) c.add_if_met.ensures
+    (first_met c.args.user c.args.path.now c.args.count c.args.first.now c.in-Some.definer.now there c.args.found.now.items c.add_if_met.new.found.items) c.add_if_met.ensures
 
 pub returns-in-None : goal.returns-in-None
 returns-in-None c =
     let none : get c.args.first.now c.args.path.now ≡ None = search rules in
-    no_first_met c.args.user c.args.path.now c.args.count c.args.first.now none c.args.found.now
+    no_first_met c.args.user c.args.path.now c.args.count c.args.first.now none c.args.found.now.items

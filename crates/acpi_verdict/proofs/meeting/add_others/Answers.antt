@@ -8,9 +8,11 @@ use Rattle.acpi_verdict.proofs.meeting.add_others.Goals as goal
 pub returns-in-Some : goal.returns-in-Some
 returns-in-Some c =
     let xs = c.in-Some.definers.now in
+    let old = c.args.found.now.items in
+    let new = c.add_all_met.new.found.items in
     on_ok_weaker c.add_all_met.result
-    (λ h. others_met c.args.user c.args.path.now c.args.count c.args.others.now xs (sym c.in-Some.ensures.value) c.args.found.now c.add_all_met.new.found
-    (subst (λ (ys : List Definer). AddsMet c.args.found.now c.add_all_met.new.found (IsMetByAny c.args.user c.args.path.now c.args.count ys)) c.deref.ensures.value h)) c.add_all_met.ensures
+    (λ h. others_met c.args.user c.args.path.now c.args.count c.args.others.now xs (sym c.in-Some.ensures.value) old new
+    (subst (λ (ys : List Definer). AddsMet old new (IsMetByAny c.args.user c.args.path.now c.args.count ys)) c.deref.ensures.value h)) c.add_all_met.ensures
 
 pub returns-in-None : goal.returns-in-None
-returns-in-None c = no_others_met c.args.user c.args.path.now c.args.count c.args.others.now (sym c.in-None.ensures.value) c.args.found.now
+returns-in-None c = no_others_met c.args.user c.args.path.now c.args.count c.args.others.now (sym c.in-None.ensures.value) c.args.found.now.items

@@ -1,7 +1,6 @@
 use Rattle.std.proofs.Common.{sym, subst}
 use Rattle.std.proofs.lemmas.Result.{err_from_is_err_and}
 use Rattle.acpi_verdict.specs.VerdictView.{IsSinglesFault}
-use Rattle.acpi_verdict.proofs.CheckedTables.{are_satisfied}
 use Rattle.acpi_verdict.proofs.satisfying.satisfied_over.Goals as goal
 
 pub returns-in_err-declared-clause-err : goal.returns-in_err-declared-clause-err
@@ -18,8 +17,7 @@ returns-in_err-found-clause-err g c = λ bytes loads.
 pub returns-clause-ok : goal.returns-clause-ok
 returns-clause-ok g c = λ bytes loads.
     let declared = c.in_ok-declared.ensures.ok bytes loads in
-    are_satisfied c.args.depth bytes c.args.ssdts.now c.in_ok-declared.declared.definers c.in_ok-found.found (c.in_ok-found.ensures.ok bytes loads declared.definers)
-    c.in_ok-listed.field-0.items c.in_ok-listed.ensures.ascend c.in_ok-listed.ensures.same
+    (c.in_ok-found.ensures.ok bytes loads declared.definers).satisfied
 
 pub returns-clause-loads : goal.returns-clause-loads
 returns-clause-loads g c = λ bytes loads. (c.in_ok-declared.ensures.ok bytes loads).alone

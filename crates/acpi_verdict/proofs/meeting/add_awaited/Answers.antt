@@ -5,7 +5,7 @@ use Rattle.std.specs.Vec.Iter.{into_iter_items}
 use Rattle.acpi_name.specs.Names.{Segment}
 use Rattle.acpi_verdict.specs.steps.Finding.{AddsMet, AreMet}
 use Rattle.acpi_verdict.proofs.MetExternals.{are_none, are_more}
-use Rattle.acpi_verdict.proofs.meeting.add_user.Goals as goal
+use Rattle.acpi_verdict.proofs.meeting.add_awaited.Goals as goal
 
 pub loop-path-preserved : goal.loop-path-preserved
 loop-path-preserved c = λ now h.
@@ -13,16 +13,16 @@ loop-path-preserved c = λ now h.
     let later = into_iter_items c.next.new.self in
     let front : into_iter_items c.loop-path.path-iterator ≡ (c.in-Some.path, c.in-Some.count) ∷ later = search rules in
     c.loop-path.invariant now
-    (subst (λ (l : List _). AddsMet c.loop-path.found now (AreMet d c.args.user (map (λ e. (e.0, e.1.now)) l))) (sym front)
-    (are_more d c.args.user (c.in-Some.path, c.in-Some.count.now) (map (λ e. (e.0, e.1.now)) later) c.loop-path.found c.add_met.new.found now c.in_ok-add_met.ensures h))
+    (subst (λ (l : List _). AddsMet c.loop-path.found.items now (AreMet d c.args.user (map (λ e. (e.0, e.1.now)) l))) (sym front)
+    (are_more d c.args.user (c.in-Some.path, c.in-Some.count.now) (map (λ e. (e.0, e.1.now)) later) c.loop-path.found.items c.add_met.new.found.items now c.in_ok-add_met.ensures h))
 
 pub returns : goal.returns
 returns c =
     let d = c.args.definers.now in
-    let found = c.loop-path.found in
+    let found = c.loop-path.found.items in
     let none : length (into_iter_items c.loop-path.path-iterator) ≡ 0 = sym c.loop-path.path-iterator.rest.ok.0 ∙ c.in-None.ensures.steps.0 in
     let all : into_iter_items c.into_iter-path-iterator.result ≡ c.in_ok-items.items.items = search rules in
     let listed : map (λ e. (e.0, e.1.now)) (into_iter_items c.into_iter-path-iterator.result) ≡ entries c.args.awaited.now = ap (map (λ e. (e.0, e.1.now))) all ∙ c.in_ok-items.ensures in
-    subst (λ (es : List (List Segment × ℕ)). AddsMet c.args.found.now found (AreMet d c.args.user es)) listed
+    subst (λ (es : List (List Segment × ℕ)). AddsMet c.args.found.now.items found (AreMet d c.args.user es)) listed
     (c.loop-path.invariant found
     (subst (λ (l : List _). AddsMet found found (AreMet d c.args.user (map (λ e. (e.0, e.1.now)) l))) (sym (nil_from_length _ none)) (are_none d c.args.user found)))
