@@ -43,7 +43,7 @@ pub use acpi_declare::{
     declare_shared, laws,
 };
 pub use acpi_machine::{Machine, explain, explain_shared, load, load_shared, load_with_body_at};
-pub use acpi_rewrite::{rewrite, rewrite_shared, rewriting_laws};
+pub use acpi_rewrite::{rewrite, rewrite_joined, rewrite_shared, rewriting_laws};
 pub use acpi_verdict::{
     Awaited, Checked, Satisfied, Single, Verdict, check_shared, join, satisfied, satisfied_shared,
     single, single_shared, verdict, verdict_shared,

@@ -1,7 +1,9 @@
 pub mod Recoded
+pub mod Recodes
+pub mod NextWritten
 pub mod Relisted
 pub mod Rewritten
-pub mod Recoding
+pub mod NewCodes
 pub mod SpelledCodes
 pub mod Shortened
 pub mod OneRewriting

@@ -1,6 +1,6 @@
 -- Rewritten tables: what tables say in its shortest spelling (ACPI 6.5, 5.2.6 and 20.2).
 use Rattle.std.specs.Prelude.{◌≡◌, ℕ, List, [], ◌∷◌, ◌++◌, Option, Some, ⊤}
-use Rattle.std.specs.List.{AllZip}
+use Rattle.std.specs.List.{AllZip, flat_map}
 use Rattle.acpi_table.specs.Tables.{IsTable, header_of}
 use Rattle.acpi_tree.specs.Tree.{ItemTree, scope, method, device, processor, power, thermal, ItemTrees, no_items, item}
 use Rattle.acpi_terms.specs.Spelling.{SpellsItems}
@@ -86,3 +86,9 @@ pub record AreRewritten (depth : ℕ) (tables new : List (List ℕ)) : Type 0 wh
   pub placements : List (List Placement)
   pub listings : AreListings depth 0 predefined tables placements
   pub each : AreEachRewritten depth (objects_after predefined placements) placements tables new
+
+-- .. and these bytes hold them, one after another
+pub record AreRewrittenIn (depth : ℕ) (tables : List (List ℕ)) (bytes : List ℕ) : Type 0 where
+  pub new : List (List ℕ)
+  pub rewritten : AreRewritten depth tables new
+  pub joined : bytes ≡ flat_map (λ b. b) new

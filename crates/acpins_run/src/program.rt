@@ -23,10 +23,10 @@ use crate::lines::put_line;
 use crate::listing::listed;
 use crate::made::Made;
 use crate::parts::{PartWriter, UntilFailure};
-use crate::rewriting::{file_text, put_file};
+use crate::rewriting::{put_file, rewritten_text};
 use crate::showing::shown;
 use crate::tables::add_tables;
-use acpi_load::{Declared, Keep, LoadFault, declare_keeping, rewrite_shared};
+use acpi_load::{Declared, Keep, LoadFault, declare_keeping};
 use acpi_name::{Path, PathFault};
 use acpi_space::{Space, TreeSpace};
 use acpi_terms::{Depth, Object};
@@ -176,8 +176,7 @@ fn rewriting_of<'a, S: Space<Object>, F: Files>(
     let Some((dsdt, ssdts)) = tables.split_first() else {
         unreachable!()
     };
-    let rewritten = rewrite_shared::<S>(alloc, dsdt, ssdts, request.depth)?;
-    let text = file_text(alloc, request.hex, &rewritten)?;
+    let text = rewritten_text::<S>(alloc, dsdt, ssdts, request.hex, request.depth)?;
     put_file(files, out, &text)
 }
 

@@ -1,34 +1,58 @@
 //! Tables that are written to a file.
 
-ghost use Rattle.std.specs.Prelude.{◌≡◌, ◌≢◌, ◌++◌, ℕ, List, IfErr, IfOk, OnOk, map};
+ghost use Rattle.std.specs.Prelude.{◌≡◌, ◌≢◌, ◌∷◌, ◌++◌, ℕ, List, true, IfErr, IfOk, OnOk, map};
+ghost use Rattle.acpi_declare.specs.Loads.{HasNoLoad};
+ghost use Rattle.acpi_declare.specs.Refusals.{IsLoadFault};
+ghost use Rattle.acpi_rewrite.specs.Rewriting.{AreRewritten};
 ghost use Rattle.acpins_run.specs.Rewritten.{file_text, table_text, IsUnwritten, Holds};
 
 use crate::failure::Failure;
 use crate::files::Files;
+use acpi_load::{LoadFault, rewrite_joined, rewrite_shared};
+use acpi_space::Space;
+use acpi_terms::{Depth, Object};
+use bytes::Bytes;
 use std::alloc::{AllocError, Global};
 use std::io::Write;
 
-// Puts a table behind the text: its bytes, or a line of their lower-case hexadecimal digits.
-fn put_table(alloc: Global, text: &mut Vec<u8>, hex: bool, table: &[u8]) -> Result<(), AllocError>
-    ensures { OnOk result (text.new.items ≡ text.old.items ++ table_text hex table.now) }
+// Puts a line of the table's lower-case hexadecimal digits behind the text.
+fn put_digits(alloc: Global, text: &mut Vec<u8>, table: &[u8]) -> Result<(), AllocError>
+    ensures { OnOk result (text.new.items ≡ text.old.items ++ table_text true table.now) }
 {
-    if !hex {
-        return text.extend_from_slice(table);
-    }
     let digits = hex::encode(alloc, table)?;
     text.extend_from_slice(digits.as_bytes())?;
     text.extend_from_slice(b"\n")
 }
 
-/// What the file holds: the tables one after another, or a line of lower-case hexadecimal digits for each.
-pub fn file_text(alloc: Global, hex: bool, tables: &[Vec<u8>]) -> Result<Vec<u8>, AllocError>
-    ensures { IfOk result (λ text. text.items ≡ file_text hex (map (λ t. t.items) tables.now)) }
+// .. for each table.
+fn digits_of(alloc: Global, tables: &[Vec<u8>]) -> Result<Vec<u8>, AllocError>
+    ensures { IfOk result (λ text. text.items ≡ file_text true (map (λ t. t.items) tables.now)) }
 {
     let mut text = Vec::new(alloc);
     for table in tables {
-        put_table(alloc, &mut text, hex, table)?;
+        put_digits(alloc, &mut text, table)?;
     }
     Ok(text)
+}
+
+/// What the file of a DSDT's and SSDTs' rewritten tables holds: the tables one after another, or a line of lower-case
+/// hexadecimal digits for each.
+pub fn rewritten_text<S: Space<Object>>(
+    alloc: Global,
+    dsdt: &Bytes,
+    ssdts: &[Bytes],
+    hex: bool,
+    depth: Depth,
+) -> Result<Vec<u8>, LoadFault>
+    ensures ok { IfOk result (λ text. (new : List (List ℕ)) × AreRewritten depth (dsdt.now ∷ ssdts.now) new × (text.items ≡ file_text hex new)) }
+    ensures err { IfErr result (λ e. IsLoadFault depth (dsdt.now ∷ ssdts.now) e) }
+    ensures none { IfErr result (λ e. e ≢ LoadFault.Memory → HasNoLoad depth (dsdt.now ∷ ssdts.now)) }
+{
+    if !hex {
+        return rewrite_joined::<S>(alloc, dsdt, ssdts, depth);
+    }
+    let rewritten = rewrite_shared::<S>(alloc, dsdt, ssdts, depth)?;
+    Ok(digits_of(alloc, &rewritten)?)
 }
 
 /// Makes the file of that name, and writes the bytes to it.
