@@ -154,16 +154,20 @@ module _ (depth : ℕ) (objects : Namespace) where
   push_each (u ∷ ts) (c ∷ bs) [] t b n h one = absurd h
   push_each (u ∷ ts) (c ∷ bs) (m ∷ ns) t b n h one = (h.0, push_each ts bs ns t b n h.1 one)
 
--- a load, no table of which is rewritten yet
-pub none_rewritten : (depth : ℕ) (bs : List (List ℕ)) (objects : Namespace) (missed : List (List Segment)) → HasMisses depth bs objects missed → IsRewrittenTo depth bs 0 [] objects missed
-none_rewritten depth bs objects missed h = record { placements = h.placements; listings = h.listings; objects_are = h.objects_are; each = tt; left = h.misses_are }
+-- the next table of a load, the first of which are rewritten: it is noted again, and then rewritten
+pub record NextTable (depth : ℕ) (bs : List (List ℕ)) (i : ℕ) (done : List (List ℕ)) (objects : Namespace) (missed : List (List Segment)) (b : List ℕ) : Type 0 where
+  pub number : ℕ
+  pub objects_before : Namespace
+  pub listed : List Placement
+  pub missed_later : List (List Segment)
+  pub noted : IsNotedAgain depth number objects_before b listed missed missed_later
+  pub then : (new : List ℕ) (left : List (List Segment)) → left ≡ missed_later → IsRewritten depth objects listed b new → IsRewrittenTo depth bs (i + 1) (done ++ new ∷ []) objects left
 
--- .. and one, some tables of which are
 module _ (depth : ℕ) (bs : List (List ℕ)) (i : ℕ) (done : List (List ℕ)) (objects : Namespace) (missed : List (List Segment)) (r : IsRewrittenTo depth bs i done objects missed) where
   as_many : length r.placements ≡ length bs
   as_many = as_many_listings depth 0 predefined bs r.placements r.listings
 
-  -- all of them
+  -- all of them are
   pub all_rewritten : length bs ≤ i → AreRewritten depth bs done
   all_rewritten past = record {
     placements = r.placements;
@@ -173,7 +177,6 @@ module _ (depth : ℕ) (bs : List (List ℕ)) (i : ℕ) (done : List (List ℕ))
         (subst (λ (N : Namespace). AreEachRewritten depth N (take i r.placements) (take i bs) done) r.objects_are r.each));
   }
 
-  -- the next one
   module _ (b : List ℕ) (below : i < length bs) (there : b ≡ get_or bs i []) where
     reach : i < length r.placements
     reach = omega (arith, as_many, below)
@@ -186,15 +189,6 @@ module _ (depth : ℕ) (bs : List (List ℕ)) (i : ℕ) (done : List (List ℕ))
 
     abbrev later : List (List Segment)
     later = all_misses (union before (objects_of placements)) (drop (i + 1) r.placements)
-
-    -- .. is noted again, and then rewritten
-    pub record NextTable : Type 0 where
-      pub number : ℕ
-      pub objects_before : Namespace
-      pub listed : List Placement
-      pub missed_later : List (List Segment)
-      pub noted : IsNotedAgain depth number objects_before b listed missed missed_later
-      pub then : (new : List ℕ) (left : List (List Segment)) → left ≡ missed_later → IsRewritten depth objects listed b new → IsRewrittenTo depth bs (i + 1) (done ++ new ∷ []) objects left
 
     next_rewritten : (new : List ℕ) (left : List (List Segment)) → left ≡ later → IsRewritten depth objects placements b new → IsRewrittenTo depth bs (i + 1) (done ++ new ∷ []) objects left
     next_rewritten new left same one = record {
@@ -209,7 +203,7 @@ module _ (depth : ℕ) (bs : List (List ℕ)) (i : ℕ) (done : List (List ℕ))
           (sym (after_one_more predefined (take i r.placements) placements) ∙ ap (objects_after predefined) (sym (take_more r.placements i [] reach)));
     }
 
-    pub next_table : NextTable
+    next_table : NextTable depth bs i done objects missed b
     next_table =
         let at = subst (λ (c : List ℕ). ListedAt depth before c placements) (sym there) (listed_at depth 0 predefined bs r.placements r.listings i below) in
         record {
@@ -226,6 +220,20 @@ module _ (depth : ℕ) (bs : List (List ℕ)) (i : ℕ) (done : List (List ℕ))
           };
           then = next_rewritten;
         }
+
+-- the first table of a load, where none is rewritten yet
+pub first_table : (depth : ℕ) (dsdt : List ℕ) (ssdts : List (List ℕ)) (objects : Namespace) (missed given : List (List Segment)) → HasMisses depth (dsdt ∷ ssdts) objects missed → given ≡ missed
+    → NextTable depth (dsdt ∷ ssdts) 0 [] objects given dsdt
+first_table depth dsdt ssdts objects missed given h same =
+    let none : IsRewrittenTo depth (dsdt ∷ ssdts) 0 [] objects given =
+    record { placements = h.placements; listings = h.listings; objects_are = h.objects_are; each = tt; left = same ∙ h.misses_are } in
+    next_table depth (dsdt ∷ ssdts) 0 [] objects given none dsdt (omega arith) refl
+
+-- .. and a later one
+pub later_table : (depth : ℕ) (dsdt : List ℕ) (ssdts : List (List ℕ)) (i : ℕ) (done : List (List ℕ)) (objects : Namespace) (missed : List (List Segment)) (b : List ℕ)
+    → IsRewrittenTo depth (dsdt ∷ ssdts) (i + 1) done objects missed → i < length ssdts → b ≡ get_or ssdts i b → NextTable depth (dsdt ∷ ssdts) (i + 1) done objects missed b
+later_table depth dsdt ssdts i done objects missed b r below there =
+    next_table depth (dsdt ∷ ssdts) (i + 1) done objects missed r b (omega (arith, below)) (behind_first dsdt b ssdts i below there)
 
 -- .. which is bytes, and is rewritten to bytes
 bytes_pushed : (bs : List (List ℕ)) (b : List ℕ) → AreTablesOfBytes bs → All (λ n. n < 256) b → AreTablesOfBytes (bs ++ b ∷ [])

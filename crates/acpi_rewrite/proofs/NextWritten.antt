@@ -96,6 +96,20 @@ module _ (level : ℕ) (code : Left) (is : ItemTrees) (w mid : Written) (h : Hol
       too_long (enclosed_too_long h.front o.inside w v start now.0 (at ∙ ap (λ (x : Written). length x.bytes) o.unwritten) none)
   enclosing_failed Memory v u start b inner at h = tt
 
+-- .. behind other items
+pub record Entered (level : ℕ) (code : Left) (is : ItemTrees) (first w v : Written) (h : Holder) : Type 0 where
+  pub left : ItemTrees
+  pub before : Continues is first left w
+  pub opens : Opens level code left w v h
+  pub codes_inside : HasCodes v opens.inside
+
+pub entered : (level : ℕ) (now code : Left) (is : ItemTrees) (first w v : Written) (h : Holder) (found : Option Holder) → found ≡ Some h
+    → (left : ItemTrees) × Yields level now.end now.bytes left × Continues is first left w
+    → ((js : ItemTrees) → Yields level now.end now.bytes js → HasCodes w js → IsNextWritten level code js w v (Ok found)) → Entered level code is first w v h
+entered level now code is first w v h found same k next =
+    let o : Opens level code k.0 w v h = subst (λ (o : Option Holder). IsNextWritten level code k.0 w v (Ok o)) same (next k.0 k.1 k.2.enough) in
+    record { left = k.0; before = k.2; opens = o; codes_inside = inside_codes level code k.0 w v h o k.2.enough }
+
 -- ---- behind other items
 
 pub failed_behind : (e : WriteFault) (is rest : ItemTrees) (first w v u : Written) → Continues is first rest w → AreWritten {A = Unit {0}} rest w v (Err e) → AreWritten {A = Unit {0}} is first u (Err e)

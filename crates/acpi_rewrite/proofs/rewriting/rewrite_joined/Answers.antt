@@ -1,57 +1,43 @@
-use Rattle.std.proofs.Common.{◌+◌, ◌<◌, [], ◌∷◌, ◌++◌, ℕ, List, length, append-nil, refl, sym, ap, subst, ◌∙◌, arith}
+use Rattle.std.proofs.Common.{◌+◌, [], ◌∷◌, ◌++◌, ℕ, List, append-nil, sym, ap, ◌∙◌, arith}
 use Rattle.std.proofs.lemmas.Grind.{flat_map-append}
 use Rattle.std.specs.List.{flat_map}
 use Rattle.acpi_declare.specs.Namespace.{namespace_of}
-use Rattle.acpi_rewrite.specs.steps.Recoding.{IsRewrittenTo}
-use Rattle.acpi_rewrite.proofs.NewCodes.{none_rewritten, all_rewritten, next_table, behind_first}
+use Rattle.acpi_rewrite.proofs.NewCodes.{all_rewritten, first_table, later_table}
 use Rattle.acpi_rewrite.proofs.rewriting.rewrite_joined.Goals as goal
 
 pub rewrite_next-requires : goal.rewrite_next-requires
 rewrite_next-requires g c =
-    let tables = c.args.dsdt.now ∷ c.args.ssdts.now in
     let N = namespace_of (g.S.Space.contents c.in_ok-objects.objects) in
-    let r = subst (IsRewrittenTo c.args.depth tables 0 [] N) (sym c.deref.ensures.value) (none_rewritten c.args.depth tables N c.in_ok-objects.missed.items c.in_ok-objects.ensures.ok) in
-    let n = next_table c.args.depth tables 0 [] N c.deref.result.now r c.args.dsdt.now (omega arith) refl in
+    let n = first_table c.args.depth c.args.dsdt.now c.args.ssdts.now N c.in_ok-objects.missed.items c.deref.result.now c.in_ok-objects.ensures.ok c.deref.ensures.value in
     (n.number, n.objects_before, n.listed, n.missed_later, n.noted)
 
 pub loop-ssdt-init : goal.loop-ssdt-init
 loop-ssdt-init g c =
-    let tables = c.args.dsdt.now ∷ c.args.ssdts.now in
     let N = namespace_of (g.S.Space.contents c.in_ok-objects.objects) in
-    let r = subst (IsRewrittenTo c.args.depth tables 0 [] N) (sym c.deref.ensures.value) (none_rewritten c.args.depth tables N c.in_ok-objects.missed.items c.in_ok-objects.ensures.ok) in
-    let n = next_table c.args.depth tables 0 [] N c.deref.result.now r c.args.dsdt.now (omega arith) refl in
+    let n = first_table c.args.depth c.args.dsdt.now c.args.ssdts.now N c.in_ok-objects.missed.items c.deref.result.now c.in_ok-objects.ensures.ok c.deref.ensures.value in
     let one = c.in_ok-first in
-    let rewritten = one.ensures.rewritten n.number n.objects_before n.listed n.missed_later n.noted in (
-      one.first.items ∷ [],
-      n.then one.first.items one.later.now (one.ensures.later n.number n.objects_before n.listed n.missed_later n.noted) rewritten,
-      sym (append-nil one.first.items),
-    )
+    let rewritten = one.ensures.rewritten n.number n.objects_before n.listed n.missed_later n.noted in
+    let left = one.ensures.later n.number n.objects_before n.listed n.missed_later n.noted in
+    (one.first.items ∷ [], n.then one.first.items one.later.now left rewritten, sym (append-nil one.first.items))
 
 pub rewrite_next-requires-in-loop-ssdt : goal.rewrite_next-requires-in-loop-ssdt
 rewrite_next-requires-in-loop-ssdt g c =
     let so_far = c.loop-ssdt.invariant in
-    let tables = c.args.dsdt.now ∷ c.args.ssdts.now in
-    let i = c.loop-ssdt.ssdt-index in
     let N = namespace_of (g.S.Space.contents c.in_ok-objects.objects) in
-    let below : i + 1 < length tables = omega (arith, c.loop-ssdt-test.true) in
-    let there = behind_first c.args.dsdt.now c.ssdt-item.result c.args.ssdts.now i c.loop-ssdt-test.true c.ssdt-item.is in
-    let n = next_table c.args.depth tables (i + 1) so_far.0 N c.loop-ssdt.missed_later.now so_far.1 c.ssdt-item.result below there in
+    let n = later_table c.args.depth c.args.dsdt.now c.args.ssdts.now c.loop-ssdt.ssdt-index so_far.0 N c.loop-ssdt.missed_later.now c.ssdt-item.result so_far.1 c.loop-ssdt-test.true c.ssdt-item.is in
     (n.number, n.objects_before, n.listed, n.missed_later, n.noted)
 
 pub loop-ssdt-preserved : goal.loop-ssdt-preserved
 loop-ssdt-preserved g c =
     let so_far = c.loop-ssdt.invariant in
-    let tables = c.args.dsdt.now ∷ c.args.ssdts.now in
-    let i = c.loop-ssdt.ssdt-index in
     let N = namespace_of (g.S.Space.contents c.in_ok-objects.objects) in
-    let below : i + 1 < length tables = omega (arith, c.loop-ssdt-test.true) in
-    let there = behind_first c.args.dsdt.now c.ssdt-item.result c.args.ssdts.now i c.loop-ssdt-test.true c.ssdt-item.is in
-    let n = next_table c.args.depth tables (i + 1) so_far.0 N c.loop-ssdt.missed_later.now so_far.1 c.ssdt-item.result below there in
+    let n = later_table c.args.depth c.args.dsdt.now c.args.ssdts.now c.loop-ssdt.ssdt-index so_far.0 N c.loop-ssdt.missed_later.now c.ssdt-item.result so_far.1 c.loop-ssdt-test.true c.ssdt-item.is in
     let one = c.in_ok-next in
     let rewritten = one.ensures.rewritten n.number n.objects_before n.listed n.missed_later n.noted in
+    let left = one.ensures.later n.number n.objects_before n.listed n.missed_later n.noted in
     let new = one.next.items in (
       so_far.0 ++ new ∷ [],
-      n.then new one.later.now (one.ensures.later n.number n.objects_before n.listed n.missed_later n.noted) rewritten,
+      n.then new one.later.now left rewritten,
       c.in_ok-extend_from_slice.ensures.items ∙ ap (λ (b : List ℕ). c.loop-ssdt.joined.items ++ b) c.deref-in-loop-ssdt.ensures.value ∙ ap (λ (b : List ℕ). b ++ new) so_far.2
           ∙ ap (λ (b : List ℕ). flat_map (λ b. b) so_far.0 ++ b) (sym (append-nil new)) ∙ sym (flat_map-append (λ b. b) so_far.0 (new ∷ [])),
     )

@@ -1,9 +1,8 @@
-use Rattle.std.proofs.Common.{◌≡◌, length, Option, Ok, ap, subst, arith}
-use Rattle.std.specs.Vec.Iter.{into_iter_items}
+use Rattle.std.proofs.Common.{◌≡◌, length, ap, arith}
 use Rattle.std.proofs.lemmas.Result.{err_from_is_err_and}
-use Rattle.acpi_terms.specs.declared.holder.Holder.{Holder}
-use Rattle.acpi_rewrite.specs.steps.Recoding.{Opens, IsNextWritten, written_of}
-use Rattle.acpi_rewrite.proofs.NextWritten.{inside_codes, holder_written, inside_failed, enclosing_failed, failed_behind, next_failed, grown, all_done}
+use Rattle.std.specs.Vec.Iter.{into_iter_items}
+use Rattle.acpi_rewrite.specs.steps.Recoding.{written_of}
+use Rattle.acpi_rewrite.proofs.NextWritten.{entered, holder_written, inside_failed, enclosing_failed, failed_behind, next_failed, grown, all_done}
 use Rattle.acpi_rewrite.proofs.Recodes.{then_written}
 use Rattle.acpi_rewrite.proofs.recoding.Recoding.+items.Goals as goal
 
@@ -17,69 +16,61 @@ returns-in_err-holder t c = λ is y has.
 pub items-requires : goal.items-requires
 items-requires t c =
     let r = c.requires in
-    let k = c.each.invariant r.0 r.1 r.2 in
     let w = written_of c.each.self in
     let v = written_of c.next.new.self in
-    let o : Opens c.args.level c.next.new.code k.0 w v c.in-Some.holder =
-    subst (λ (h : Option Holder). IsNextWritten c.args.level c.next.new.code k.0 w v (Ok h)) c.in-Some.is (c.in_ok-holder.ensures.next k.0 k.1 k.2.enough) in
+    let e = entered c.args.level c.each.code c.next.new.code r.0 (written_of c.args.self.now) w v c.in-Some.holder c.in_ok-holder.field-0 c.in-Some.is (c.each.invariant r.0 r.1 r.2) c.in_ok-holder.ensures.next in
+    let o = e.opens in
     let some = o.some in
-    (grind arith, (o.inside, o.inner, inside_codes c.args.level c.next.new.code k.0 w v c.in-Some.holder o k.2.enough))
+    (grind arith, (o.inside, o.inner, e.codes_inside))
 
 pub returns-in_err-items-in-Some : goal.returns-in_err-items-in-Some
 returns-in_err-items-in-Some t c = λ is y has.
     let p = err_from_is_err_and c.from_residual-in_err-items-in-Some.result c.from_residual-in_err-items-in-Some.ensures.1 in
-    let k = c.each.invariant is y has in
     let w = written_of c.each.self in
     let v = written_of c.next.new.self in
-    let o : Opens c.args.level c.next.new.code k.0 w v c.in-Some.holder =
-    subst (λ (h : Option Holder). IsNextWritten c.args.level c.next.new.code k.0 w v (Ok h)) c.in-Some.is (c.in_ok-holder.ensures.next k.0 k.1 k.2.enough) in
-    let codes = inside_codes c.args.level c.next.new.code k.0 w v c.in-Some.holder o k.2.enough in
+    let e = entered c.args.level c.each.code c.next.new.code is (written_of c.args.self.now) w v c.in-Some.holder c.in_ok-holder.field-0 c.in-Some.is (c.each.invariant is y has) c.in_ok-holder.ensures.next in
+    let o = e.opens in
     let u = written_of c.items.new.self in
-    let failed = inside_failed c.args.level c.next.new.code k.0 w v c.in-Some.holder o k.2.enough _ u u (c.in_err-items-in-Some.ensures o.inside o.inner codes) in
-    rw (p.1, p.2) (failed_behind _ is k.0 (written_of c.args.self.now) w u u k.2 failed)
+    let failed = inside_failed c.args.level c.next.new.code e.left w v c.in-Some.holder o e.before.enough _ u u (c.in_err-items-in-Some.ensures o.inside o.inner e.codes_inside) in
+    rw (p.1, p.2) (failed_behind _ is e.left (written_of c.args.self.now) w u u e.before failed)
 
 pub enclose-requires : goal.enclose-requires
 enclose-requires t c =
     let r = c.requires in
-    let k = c.each.invariant r.0 r.1 r.2 in
     let w = written_of c.each.self in
     let v = written_of c.next.new.self in
-    let o : Opens c.args.level c.next.new.code k.0 w v c.in-Some.holder =
-    subst (λ (h : Option Holder). IsNextWritten c.args.level c.next.new.code k.0 w v (Ok h)) c.in-Some.is (c.in_ok-holder.ensures.next k.0 k.1 k.2.enough) in
-    let codes = inside_codes c.args.level c.next.new.code k.0 w v c.in-Some.holder o k.2.enough in
-    let more = grown o.inside v (written_of c.items.new.self) (c.in_ok-items-in-Some.ensures o.inside o.inner codes) in
+    let e = entered c.args.level c.each.code c.next.new.code r.0 (written_of c.args.self.now) w v c.in-Some.holder c.in_ok-holder.field-0 c.in-Some.is (c.each.invariant r.0 r.1 r.2) c.in_ok-holder.ensures.next in
+    let o = e.opens in
+    let more = grown o.inside v (written_of c.items.new.self) (c.in_ok-items-in-Some.ensures o.inside o.inner e.codes_inside) in
     grind arith
 
 pub each-preserved-in-Continue-branch-4 : goal.each-preserved-in-Continue-branch-4
 each-preserved-in-Continue-branch-4 t c = λ is y has.
-    let k = c.each.invariant is y has in
     let w = written_of c.each.self in
     let v = written_of c.next.new.self in
-    let o : Opens c.args.level c.next.new.code k.0 w v c.in-Some.holder =
-    subst (λ (h : Option Holder). IsNextWritten c.args.level c.next.new.code k.0 w v (Ok h)) c.in-Some.is (c.in_ok-holder.ensures.next k.0 k.1 k.2.enough) in
-    let codes = inside_codes c.args.level c.next.new.code k.0 w v c.in-Some.holder o k.2.enough in
-    let inner = c.in_ok-items-in-Some.ensures o.inside o.inner codes in
+    let e = entered c.args.level c.each.code c.next.new.code is (written_of c.args.self.now) w v c.in-Some.holder c.in_ok-holder.field-0 c.in-Some.is (c.each.invariant is y has) c.in_ok-holder.ensures.next in
+    let o = e.opens in
+    let inner = c.in_ok-items-in-Some.ensures o.inside o.inner e.codes_inside in
     let put = c.in_ok-enclose-in-Some.ensures in
     let u = written_of c.enclose.new.self in
     let start : c.len-start.result ≡ length c.next.new.self.bytes.items = grind arith in
-    let goes = holder_written c.args.level c.next.new.code k.0 w v c.in-Some.holder o k.2.enough (written_of c.items.new.self) u c.len-start.result inner start put.put (ap into_iter_items put.codes) in
-    (goes.others, goes.later, then_written is k.0 goes.others (written_of c.args.self.now) w u k.2 goes.continues)
+    let goes = holder_written c.args.level c.next.new.code e.left w v c.in-Some.holder o e.before.enough (written_of c.items.new.self) u c.len-start.result inner start put.put
+    (ap into_iter_items put.codes) in
+    (goes.others, goes.later, then_written is e.left goes.others (written_of c.args.self.now) w u e.before goes.continues)
 
 pub returns-in_err-enclose-in-Some : goal.returns-in_err-enclose-in-Some
 returns-in_err-enclose-in-Some t c = λ is y has.
     let p = err_from_is_err_and c.from_residual-in_err-enclose-in-Some.result c.from_residual-in_err-enclose-in-Some.ensures.1 in
-    let k = c.each.invariant is y has in
     let w = written_of c.each.self in
     let v = written_of c.next.new.self in
-    let o : Opens c.args.level c.next.new.code k.0 w v c.in-Some.holder =
-    subst (λ (h : Option Holder). IsNextWritten c.args.level c.next.new.code k.0 w v (Ok h)) c.in-Some.is (c.in_ok-holder.ensures.next k.0 k.1 k.2.enough) in
-    let codes = inside_codes c.args.level c.next.new.code k.0 w v c.in-Some.holder o k.2.enough in
-    let inner = c.in_ok-items-in-Some.ensures o.inside o.inner codes in
+    let e = entered c.args.level c.each.code c.next.new.code is (written_of c.args.self.now) w v c.in-Some.holder c.in_ok-holder.field-0 c.in-Some.is (c.each.invariant is y has) c.in_ok-holder.ensures.next in
+    let o = e.opens in
+    let inner = c.in_ok-items-in-Some.ensures o.inside o.inner e.codes_inside in
     let u = written_of c.enclose.new.self in
     let start : c.len-start.result ≡ length c.next.new.self.bytes.items = grind arith in
-    let failed = enclosing_failed c.args.level c.next.new.code k.0 w v c.in-Some.holder o k.2.enough _ (written_of c.items.new.self) u c.len-start.result _ inner start
+    let failed = enclosing_failed c.args.level c.next.new.code e.left w v c.in-Some.holder o e.before.enough _ (written_of c.items.new.self) u c.len-start.result _ inner start
     c.in_err-enclose-in-Some.ensures.put in
-    rw (p.1, p.2) (failed_behind _ is k.0 (written_of c.args.self.now) w u u k.2 failed)
+    rw (p.1, p.2) (failed_behind _ is e.left (written_of c.args.self.now) w u u e.before failed)
 
 pub returns : goal.returns
 returns t c = λ is y has.
