@@ -38,7 +38,7 @@ pub fn enclose_items(
     ensures { Appends result (holder_bytes front.now (Some (drop start bytes.old.items))) (take start bytes.old.items) bytes.new.items }
 {
     let head = holder_head(alloc, front, &bytes[start..])?;
-    put_before(bytes, start, &head)?;
+    put_before(alloc, bytes, start, &head)?;
     Ok(())
 }
 
@@ -68,20 +68,25 @@ fn put_header(alloc: Global, header: &Header, bytes: &mut Vec<u8>) -> Result<(),
     let length = HEADER_BYTES + bytes.len();
     let mut writer = Writer::new(alloc);
     writer.header(header, length as u32)?;
-    put_before(bytes, 0, &writer.into_bytes())
+    put_before(alloc, bytes, 0, &writer.into_bytes())
 }
 
-// Puts a head before all that stands behind the first `start` bytes.
-fn put_before(bytes: &mut Vec<u8>, start: usize, head: &[u8]) -> Result<(), AllocError>
+// Puts a head before all that stands behind the first `start` bytes. That is copied and put back: two copies of a row cost
+// less than to shift each byte.
+fn put_before(
+    alloc: Global,
+    bytes: &mut Vec<u8>,
+    start: usize,
+    head: &[u8],
+) -> Result<(), AllocError>
     requires { start ≤ length bytes.old.items }
     ensures { OnOk result (bytes.new.items ≡ take start bytes.old.items ++ (head.now ++ drop start bytes.old.items)) }
 {
-    let end = bytes.len();
+    let mut behind = Vec::with_capacity(alloc, bytes.len() - start)?;
+    behind.extend_from_slice(&bytes[start..])?;
+    bytes.truncate(start);
     bytes.extend_from_slice(head)?;
-    let behind = start + head.len();
-    bytes.copy_within(start..end, behind);
-    bytes[start..behind].copy_from_slice(head);
-    Ok(())
+    bytes.extend_from_slice(&behind)
 }
 
 // What stands before the items of an item, which are spelled so.
