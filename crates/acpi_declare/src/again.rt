@@ -4,7 +4,7 @@
 //! that its search tried and that is not the next of the missed ones: the search of a later Scope term can't have
 //! missed it, since what was found once stays defined.
 
-ghost use Rattle.std.specs.Prelude.{◌≡◌, ◌≢◌, ◌<◌, ◌∷◌, ℕ, List, Some, None, cond, false, length, IfOk, OnOk};
+ghost use Rattle.std.specs.Prelude.{◌≡◌, ◌≢◌, ◌<◌, ◌∷◌, [], ℕ, List, Some, None, cond, false, length, IfOk, OnOk};
 ghost use Rattle.std.specs.List.{AllByRecursion};
 ghost use Rattle.std.specs.Option.{IsSome};
 ghost use Rattle.acpi_name.specs.Names.{Segment};
@@ -208,8 +208,9 @@ impl<'a> Again<'a> {
     }
 }
 
-/// The notes of one table of a load, made once more, but for the paths that its Scope terms missed: `missed` begins with
-/// these, and then come those that the Scope terms of later tables missed, which are given back.
+/// The notes of one table of a load (`declare_with_misses`), made once more from its bytes: its argument counts and its
+/// methods (ACPI 6.5, 20.2.5.2), and no missed paths. `missed` begins with the paths that the table's Scope terms missed,
+/// and then come those of later tables, which are given back. `depth` is that of the load. The error is want of memory.
 pub fn notes_again<'a>(
     alloc: Global,
     table: &Bytes,
@@ -221,6 +222,7 @@ pub fn notes_again<'a>(
         → IfOk result (λ r. HasMethodsOf (notes_of r.0) placements) }
     ensures later { (number : ℕ) (before : Namespace) (placements : List Placement) (later : List (List Segment)) → IsNotedAgain depth number before table.now placements missed.now later
         → IfOk result (λ r. r.1.now ≡ later) }
+    ensures missed { IfOk result (λ r. (notes_of r.0).missed ≡ []) }
 {
     let code = table.slice(HEADER_BYTES..)?;
     has_bytes(code.as_slice());
@@ -231,5 +233,5 @@ pub fn notes_again<'a>(
     };
     again.note_items(&mut Path::root(alloc), depth.get(), Code::shared(&code))?;
     let Again { notes, left, .. } = again;
-    Ok((notes, left))
+    Ok((notes.without_missed(alloc), left))
 }

@@ -26,7 +26,7 @@ use std::alloc::AllocError;
 const FEW: usize = 16;
 
 /// Gives back the memory of a list of which half has been taken, or more than an eighth of a long one. So the items,
-/// field elements and paths that wait and what is made of them are never all there at once.
+/// field elements, paths or methods that wait and what is made of them are never all there at once.
 pub fn give_back<T: Drop>(left: &mut Vec<T>)
     ensures { left.new.items ≡ left.old.items }
 {

@@ -57,8 +57,8 @@ impl<S> Declared<S> {
         &self.links
     }
 
-    /// What each table notes, by the table's number: the argument counts that its Externals give, its methods,
-    /// and the paths that its Scope terms missed.
+    /// What is kept of what the tables note (`Keep`), in their order; where all is kept, by the table's number: the
+    /// argument counts that its Externals give, its methods, and the paths that its Scope terms missed.
     pub fn notes(&self) -> &[TableNotes]
         ensures { result.now ≡ notes_in self.now }
     {

@@ -3,7 +3,8 @@
 //!
 //! What goes in is bytes that nobody vouches for. `split_table` gives a table only where the bytes hold
 //! one, and otherwise the first fault there is; `read_pkg_length` gives the number that the bytes spell,
-//! `write_pkg_length` the shortest spelling of a number. No call here takes memory.
+//! `write_pkg_length` the shortest spelling of a number. No call here takes memory but `read_table`, which cuts one
+//! table from a source.
 #![tactic(auto)]
 
 mod lengths;

@@ -115,7 +115,7 @@ module _ (level : ℕ) (old new : Left) (is : ItemTrees) (some : 0 < length old.
     pub later : Yields level new.end new.bytes others
 
   pub next_holder : (h : Holder) → GivesNext level old new (Ok (next.Holder h)) → NextHolder h
-  next_holder h g = by (items_with (item_at (level - 1)) h.inner.end h.inner.bytes) refl g.0
+  next_holder h g = by (items_with (item_at (level - 1)) h.inner.end h.inner.bytes) refl g.0.0
     where
       by : (r : Result ItemTrees Fault) → items_with (item_at (level - 1)) h.inner.end h.inner.bytes ≡ r
           → item_at level old.end old.bytes ≡ (r >>= λ js. Ok (held_by h.front js, new.bytes)) → NextHolder h

@@ -27,7 +27,8 @@ pub enum ItemReason {
     /// A package length below its own number of bytes, or past the list's end.
     #[error("K5 Overrun")]
     Overrun,
-    /// A term that must be run stands where a constant or a name must stand.
+    /// A term that is no constant stands where a constant must stand, or one that is no name where the source of a
+    /// Create field must.
     #[error("K6 Computed")]
     Computed,
     /// An Alias.

@@ -14,10 +14,15 @@ use std::alloc::{AllocError, Global};
 /// The form of an item that holds items, with what stands between its name and them (ACPI 6.5, 20.2.5.1, 20.2.5.2).
 #[derive(Clone, Copy)]
 pub enum HolderForm {
+    /// A DefScope.
     Scope,
+    /// A DefDevice.
     Device,
+    /// A DefProcessor, as ACPI 6.3 and earlier have it: its number, and the address and length of its register block.
     Processor { id: u8, block: u32, length: u8 },
+    /// A DefPowerRes: the deepest sleep state in which it is on, and its place in the order of power resources.
     Power { level: u8, order: u16 },
+    /// A DefThermalZone.
     Thermal,
 }
 

@@ -99,9 +99,10 @@ pub enum NextItem<'a> {
     Holder(Holder<'a>),
 }
 
-/// The next item that the code spells, `level` levels being left for it; or, where it holds items, what stands before these.
-/// They have one level less. So the items of a table can be gone through without a list of them. A fault is that of
-/// `read_items`; `code` is not to be read on behind one.
+/// The next item that the code spells (ACPI 6.5, 20.2.5), `level` levels being left for it (for those of the outermost
+/// list as many as the depth has); or, where it holds items, what stands before these, which have one level less. So
+/// the items of a table can be gone through without a list of them. A fault is that of `read_items`; `code` is not to be
+/// read on behind one.
 #[tactic(auto, using(crate::proofs::Parts::part_fails), unfolding(crate::specs::steps::Reading::item_at))]
 pub fn next_item<'a>(
     alloc: Global,

@@ -15,8 +15,9 @@ use acpi_terms::{HolderForm, HolderFront};
 use acpi_tree::Item;
 use std::alloc::{AllocError, Global};
 
-/// Puts the shortest spelling of an item (ACPI 6.5, 20.2.5) behind these bytes. `TooLong` exactly where a package
-/// would have more than 268,435,455 bytes.
+/// Puts the shortest spelling of an item (ACPI 6.5, 20.2.5) behind these bytes; an item that fits (`items_fit`) is read
+/// from it again. `TooLong` exactly where a package would have more than 268,435,455 bytes, or a bit count is above that
+/// number.
 pub fn append_item(alloc: Global, item: &Item, bytes: &mut Vec<u8>) -> Result<(), WriteFault>
     ensures { Appends result (item_bytes (item_view item.now)) bytes.old.items bytes.new.items }
 {
@@ -42,8 +43,8 @@ pub fn enclose_items(
     Ok(())
 }
 
-/// A table of this code (ACPI 6.5, 5.2.6), in its memory: Length and Checksum are computed, and the other fields are
-/// the header's. `TooLong` exactly where the table would have more than 16,777,216 bytes.
+/// A table of this code (ACPI 6.5, 5.2.6), in the code's own list of bytes: Length and Checksum are computed, and the
+/// other fields are the header's. `TooLong` exactly where the table would have more than 16,777,216 bytes.
 pub fn table_of_code(alloc: Global, header: &Header, code: Vec<u8>) -> Result<Vec<u8>, WriteFault>
     ensures table { IfOk result (λ bytes. IsTable bytes.items) }
     ensures header { IfOk result (λ bytes. header_of bytes.items ≡ header_for header.now bytes.items) }

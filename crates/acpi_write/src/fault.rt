@@ -9,7 +9,8 @@ use thiserror::Error;
 /// Why trees can't be written.
 #[derive(Clone, Copy, Debug, PartialEq, Eq, Error)]
 pub enum WriteFault {
-    /// A package of more than 268,435,455 bytes, or a table of more than 16,777,216.
+    /// A package of more than 268,435,455 bytes, a bit count above that number, or a table of more than 16,777,216
+    /// bytes.
     #[error("W1 TooLong")]
     TooLong,
     /// A growth of memory was refused.

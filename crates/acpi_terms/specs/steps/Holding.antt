@@ -4,7 +4,7 @@ use Rattle.acpi_name.specs.Names.{NameParts}
 use Rattle.acpi_tree.specs.Tree.{ItemTree, ItemTrees, scope, device, processor, power, thermal}
 use Rattle.acpi_code.specs.declared.opcode.Opcode.{Opcode}
 use Rattle.acpi_code.specs.declared.opcode.Opcode.TheVariants as opcodes
-use Rattle.acpi_code.specs.steps.Reading.{◌>>=◌, Reading, name_in, package_at}
+use Rattle.acpi_code.specs.steps.Reading.{◌>>=◌, Reading, name_in, opcode_at, package_at}
 use Rattle.acpi_terms.specs.declared.holder.HolderForm.{HolderForm}
 use Rattle.acpi_terms.specs.declared.holder.HolderForm.TheVariants as forms
 use Rattle.acpi_terms.specs.declared.holder.HolderFront.{HolderFront}
@@ -74,12 +74,17 @@ Begins read old new (Ok h) =
     ((inner : ℕ → List ℕ → Result ItemTrees Fault) → BeginsWith (inner h.inner.end h.inner.bytes) (read inner old.end old.bytes) h new.bytes) × Shorter old new
 Begins read old new (Err e) = (inner : ℕ → List ℕ → Result ItemTrees Fault) → Fails e (read inner old.end old.bytes)
 
+-- what stands before the items of the next item was read, whatever reads these
+abbrev pub HasFront : Left → Left → code.Holder → Type 0
+HasFront old new h = (opcode : Opcode) × (behind : List ℕ) × (opcode_at old.end old.bytes ≡ Ok (opcode, behind)) × (opens_items opcode ≡ true)
+    × ((inner : ℕ → List ℕ → Result ItemTrees Fault) → BeginsWith (inner h.inner.end h.inner.bytes) (holder_item inner opcode old.end behind) h new.bytes)
+
 -- the next item was read, or what stands before its items
 abbrev pub GivesNext : ℕ → Left → Left → Result NextItem ItemFault → Type 0
 GivesNext level old new (Ok (Leaf i)) =
     (item_at level old.end old.bytes ≡ Ok (item_view i, new.bytes)) × (holds_items (item_view i) ≡ false) × (0 < level) × Shorter old new
 GivesNext level old new (Ok (Holder h)) =
-    BeginsWith (items_with (item_at (level - 1)) h.inner.end h.inner.bytes) (item_at level old.end old.bytes) h new.bytes × (0 < level) × Shorter old new
+    (BeginsWith (items_with (item_at (level - 1)) h.inner.end h.inner.bytes) (item_at level old.end old.bytes) h new.bytes × HasFront old new h) × (0 < level) × Shorter old new
 GivesNext level old new (Err e) = Fails e (item_at level old.end old.bytes)
 
 -- the next item is the last of those that are there afterwards, or what stands before its items was read

@@ -35,7 +35,8 @@ returns-clause-notes c = λ number before placements later h.
     let now : noted_in c.note_items.new.self ≡ noted_last placements later =
     same_noted (items_again begun c.root.result h.items) _ _ (c.in_ok-note_items.ensures.noted h.items yields)
     (noted_again c.args.depth number before c.args.table.now placements missed later begun c.root.result first c.root.ensures are h) in
-    record { counts_are = ap (λ (t : Noted). t.counts) now; methods_are = ap (λ (t : Noted). t.methods) now }
+    let bare = c.without_missed.ensures in
+    record { counts_are = ap (λ (n : Notes). n.counts) bare ∙ ap (λ (t : Noted). t.counts) now; methods_are = ap (λ (n : Notes). n.methods) bare ∙ ap (λ (t : Noted). t.methods) now }
 
 pub returns-clause-later : goal.returns-clause-later
 returns-clause-later c = λ number before placements later h.

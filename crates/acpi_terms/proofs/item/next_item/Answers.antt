@@ -2,7 +2,7 @@ use Rattle.std.proofs.Common.{◌≡◌, ◌<◌, ◌-◌, false, arith, ◌∙�
 use Rattle.std.proofs.lemmas.Result.{err_from_is_err_and}
 use Rattle.acpi_tree.specs.View.{item_view}
 use Rattle.acpi_terms.specs.steps.Reading.{item_by, items_with, item_at}
-use Rattle.acpi_terms.specs.steps.Holding.{holder_item}
+use Rattle.acpi_terms.specs.steps.Holding.{holder_item, HasFront}
 use Rattle.acpi_terms.proofs.Holders.{holder_opened}
 use Rattle.acpi_terms.proofs.Leaves.{leaf_read}
 use Rattle.acpi_terms.proofs.Opened.{item_opened, fails_behind, shorter_on}
@@ -36,7 +36,9 @@ returns-in_ok-begin c =
     = rw c.in_ok-opcode.ensures.1.same_end
     (holder_opened c.args.level c.args.code.now.end c.args.code.now.bytes c.in_ok-opcode.opcode c.opcode.new.self.bytes some c.in_ok-opcode.ensures.0 (sym c.holds_items.ensures ∙ c.if-holds_items.true)) in
     let begun = c.in_ok-begin.ensures in
-    (opens ∙ begun.0 (items_with (item_at (c.args.level - 1))), some, shorter_on c.in_ok-opcode.ensures.1 begun.1)
+    let holds = sym c.holds_items.ensures ∙ c.if-holds_items.true in
+    let front : HasFront c.args.code.now c.begin.new.code c.in_ok-begin.field-0 = (c.in_ok-opcode.opcode, c.opcode.new.self.bytes, c.in_ok-opcode.ensures.0, holds, λ inner. rw (← c.in_ok-opcode.ensures.1.same_end) (begun.0 inner)) in
+    ((opens ∙ begun.0 (items_with (item_at (c.args.level - 1))), front), some, shorter_on c.in_ok-opcode.ensures.1 begun.1)
 
 pub returns-in_ok-leaf : goal.returns-in_ok-leaf
 returns-in_ok-leaf c =
