@@ -1,16 +1,13 @@
 -- The status of a failure, and what a run tells where its tables have no load (docs/COMMAND.md).
-use Rattle.std.specs.Prelude.{ℕ, ◌+◌, ◌-◌, ◌^◌, min}
+use Rattle.std.specs.Prelude.{ℕ}
 use Rattle.acpi_declare.specs.declared.fault.LoadFault.{LoadFault}
 use Rattle.acpi_declare.specs.declared.fault.LoadFault.TheVariants.{At, Memory}
 use Rattle.acpi_declare.specs.declared.fault.LoadReason.TheVariants as reasons
+use Rattle.acpins_output.specs.FaultTexts.{place_in_table}
 use Rattle.acpins_words.specs.declared.fault.WordsFault.{WordsFault}
 use Rattle.acpins_words.specs.declared.fault.WordsFault.TheVariants as words
 use Rattle.acpins_run.specs.declared.failure.Failure.{Failure}
 use Rattle.acpins_run.specs.declared.failure.Failure.TheVariants as failures
-
--- a place in a code, as one in its table, which has 36 bytes before it (5.2.6)
-abbrev pub place_in_table : ℕ → ℕ
-place_in_table place = min (place + 36) (2 ^ 64 - 1)
 
 -- what a run tells of a load's refusal
 abbrev pub failure_of : LoadFault → Failure

@@ -1,11 +1,7 @@
 pub mod Hexadecimal
 pub mod Input
-pub mod Listings
-pub mod Shown
 pub mod Failures
 pub mod FailureLines
-pub mod Checked
 pub mod Rewritten
-pub mod Told
 pub mod Runs
 pub mod steps

@@ -11,9 +11,9 @@ use Rattle.acpins_run.specs.declared.failure.Failure.{Failure}
 use Rattle.acpins_run.specs.declared.failure.Failure.TheVariants.{WrongWords, BadPath, NoSuchPath, NoTable, Read, BadHex, Out, Output, Table, Item, Load, Memory}
 use Rattle.acpins_words.specs.Words.{Text, Command, listing, showing, checking, rewriting, Asked, asked_of}
 use Rattle.acpins_run.specs.Input.{FileBytes, AreTablesOf, IsFilesFault, IsLoadOfFiles}
-use Rattle.acpins_run.specs.Listings.{Prints}
-use Rattle.acpins_run.specs.Shown.{Shows}
-use Rattle.acpins_run.specs.Checked.{Checks}
+use Rattle.acpins_output.specs.Listings.{Prints}
+use Rattle.acpins_output.specs.Shown.{Shows}
+use Rattle.acpins_output.specs.Checked.{Checks}
 use Rattle.acpins_run.specs.Rewritten.{file_text, IsUnwritten, Holds}
 use Rattle.acpins_run.specs.Failures.{failure_of, status_of}
 use Rattle.acpins_run.specs.FailureLines.{failure_line}

@@ -18,23 +18,17 @@
 //! `made_in`, `add_tables` and `from_hex` are parts of a run, public so that `worked_runs` can try them by themselves.
 #![tactic(auto)]
 
-mod checking;
 mod failure;
 mod files;
 mod hexadecimal;
 mod lines;
-mod listing;
-mod made;
-mod parts;
 mod program;
 mod rewriting;
-mod showing;
 mod tables;
 
+pub use acpins_output::{Output, PartWriter, UntilFailure};
 pub use failure::Failure;
 pub use files::{FileFault, Files, HostFiles};
 pub use hexadecimal::{HexFault, from_hex};
-pub use made::Made;
-pub use parts::{PartWriter, UntilFailure};
 pub use program::{made_in, run, run_telling, told};
 pub use tables::add_tables;

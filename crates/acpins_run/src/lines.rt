@@ -1,186 +1,48 @@
 //! The line that says why a run failed.
 
-ghost use Rattle.std.specs.Prelude.{◌≡◌, ◌++◌, ◌∷◌, codes, decimal};
-ghost use Rattle.std.specs.List.{flat_map};
-ghost use Rattle.acpi_name.specs.Text.{path_text};
-ghost use Rattle.acpins_run.specs.Told.{Tells};
-ghost use Rattle.acpins_run.specs.FailureLines.{table_fault_text, item_reason_text, refusal_text, load_reason_text, fault_text, failure_text, failure_line};
+ghost use Rattle.std.specs.Prelude.{◌≡◌, ◌++◌, codes, decimal};
+ghost use Rattle.acpins_output.specs.Told.{Tells};
+ghost use Rattle.acpins_output.specs.FaultTexts.{table_fault_text, item_reason_text, load_reason_text};
+ghost use Rattle.acpins_run.specs.FailureLines.{failure_text, failure_line};
 
 use crate::failure::Failure;
-use crate::parts::PartWriter;
-use acpi_load::{LoadReason, Refusal};
-use acpi_name::{Path, Seg};
-use acpi_table::{HEADER_BYTES, TableFault};
-use acpi_terms::ItemReason;
-
-fn table_fault_word(fault: TableFault) -> &'static str
-    ensures { result.now ≡ table_fault_text fault }
-{
-    match fault {
-        TableFault::Short => "T1 Short",
-        TableFault::BadLength => "T2 BadLength",
-        TableFault::TooLong => "T3 TooLong",
-        TableFault::Cut => "T4 Cut",
-        TableFault::BadSum => "T5 BadSum",
-    }
-}
-
-fn item_reason_word(reason: ItemReason) -> &'static str
-    ensures { result.now ≡ item_reason_text reason }
-{
-    match reason {
-        ItemReason::Cut => "K1 Cut",
-        ItemReason::BadOpcode => "K2 BadOpcode",
-        ItemReason::ReservedBits => "K3 ReservedBits",
-        ItemReason::BadName => "K4 BadName",
-        ItemReason::Overrun => "K5 Overrun",
-        ItemReason::Computed => "K6 Computed",
-        ItemReason::Alias => "K7 Alias",
-        ItemReason::ModuleIf => "K8 ModuleIf",
-        ItemReason::ModuleCode => "K9 ModuleCode",
-        ItemReason::Load => "K10 Load",
-        ItemReason::NotData => "K11 NotData",
-        ItemReason::TooDeep => "K12 TooDeep",
-        ItemReason::BadString => "K13 BadString",
-        ItemReason::DataRegion => "K14 DataRegion",
-    }
-}
-
-fn refusal_word(refusal: Refusal) -> &'static str
-    ensures { result.now ≡ refusal_text refusal }
-{
-    match refusal {
-        Refusal::EmptyName => "E1 EmptyName",
-        Refusal::AboveRoot => "E2 AboveRoot",
-        Refusal::Missing => "E3 Missing",
-        Refusal::NoParent => "E4 NoParent",
-        Refusal::NotAScope => "E5 NotAScope",
-        Refusal::Taken => "E6 Taken",
-    }
-}
-
-fn put<E, P: PartWriter<E>>(parts: &mut P, err: &mut E, text: &str)
-    ensures { Tells text.now (P.failed parts.old) (P.contents err.old) (P.failed parts.new) (P.contents err.new) }
-{
-    parts.write_part(err, text.as_bytes())
-}
-
-// A number's decimal digits: those of its tenth part, and the last one.
-fn put_decimal<E, P: PartWriter<E>>(parts: &mut P, err: &mut E, n: usize)
-    ensures { Tells (decimal n) (P.failed parts.old) (P.contents err.old) (P.failed parts.new) (P.contents err.new) }
-{
-    if n >= 10 {
-        put_decimal(parts, err, n / 10);
-        parts.write_part(err, &[b'0' + (n % 10) as u8])
-    } else {
-        parts.write_part(err, &[b'0' + n as u8])
-    }
-}
-
-// A dot, and a segment's four characters.
-fn put_dot_segment<E, P: PartWriter<E>>(parts: &mut P, err: &mut E, seg: Seg)
-    ensures { Tells (46 ∷ seg) (P.failed parts.old) (P.contents err.old) (P.failed parts.new) (P.contents err.new) }
-{
-    let [a, b, c, d] = seg.bytes();
-    parts.write_part(err, &[b'.', a, b, c, d])
-}
-
-// Segments, each behind a dot.
-fn put_behind<E, P: PartWriter<E>>(parts: &mut P, err: &mut E, segs: &[Seg])
-    ensures { Tells (flat_map (λ h. 46 ∷ h) segs.now) (P.failed parts.old) (P.contents err.old) (P.failed parts.new) (P.contents err.new) }
-{
-    for seg in segs {
-        put_dot_segment(parts, err, *seg);
-    }
-}
-
-// A path: a backslash, and the segments with a dot between each two.
-fn put_path<E, P: PartWriter<E>>(parts: &mut P, err: &mut E, path: &Path)
-    ensures { Tells (path_text path.now) (P.failed parts.old) (P.contents err.old) (P.failed parts.new) (P.contents err.new) }
-{
-    put(parts, err, "\\");
-    if let [first, rest @ ..] = path.segs() {
-        parts.write_part(err, &first.bytes());
-        put_behind(parts, err, rest)
-    }
-}
-
-// Why a declaration or a Scope term is refused, and the path that the refusal names.
-fn put_refusal<E, P: PartWriter<E>>(parts: &mut P, err: &mut E, refusal: Refusal, path: &Path)
-    ensures { Tells (refusal_text refusal ++ codes " " ++ path_text path.now) (P.failed parts.old) (P.contents err.old) (P.failed parts.new) (P.contents err.new) }
-{
-    put(parts, err, refusal_word(refusal));
-    put(parts, err, " ");
-    put_path(parts, err, path)
-}
-
-fn put_load_reason<E, P: PartWriter<E>>(parts: &mut P, err: &mut E, reason: &LoadReason)
-    ensures { Tells (load_reason_text reason.now) (P.failed parts.old) (P.contents err.old) (P.failed parts.new) (P.contents err.new) }
-{
-    match reason {
-        LoadReason::Table(fault) => put(parts, err, table_fault_word(*fault)),
-        LoadReason::NotDsdt => put(parts, err, "L1 NotDsdt"),
-        LoadReason::NotSsdt => put(parts, err, "L2 NotSsdt"),
-        LoadReason::Trailing => put(parts, err, "L3 Trailing"),
-        LoadReason::Item { reason, .. } => put(parts, err, item_reason_word(*reason)),
-        LoadReason::Refused { refusal, path } => put_refusal(parts, err, *refusal, path),
-    }
-}
+use acpins_output::{
+    PartWriter, put_item, put_load_reason, put_number, put_text, table_fault_word,
+};
 
 // A table's number, before what fails in it.
 fn put_table<E, P: PartWriter<E>>(parts: &mut P, err: &mut E, number: usize)
     ensures { Tells (codes "table " ++ decimal number ++ codes ": ") (P.failed parts.old) (P.contents err.old) (P.failed parts.new) (P.contents err.new) }
 {
-    put(parts, err, "table ");
-    put_decimal(parts, err, number);
-    put(parts, err, ": ")
-}
-
-// A reason why a code can't be read, and its place.
-fn put_item<E, P: PartWriter<E>>(parts: &mut P, err: &mut E, reason: ItemReason, place: usize)
-    ensures { Tells (item_reason_text reason ++ codes " at " ++ decimal place) (P.failed parts.old) (P.contents err.old) (P.failed parts.new) (P.contents err.new) }
-{
-    put(parts, err, item_reason_word(reason));
-    put(parts, err, " at ");
-    put_decimal(parts, err, place)
-}
-
-/// Writes why a table can't be loaded; a reason of its code with its place, in bytes from the table's first byte.
-pub fn put_fault<E, P: PartWriter<E>>(parts: &mut P, err: &mut E, reason: &LoadReason)
-    ensures { Tells (fault_text reason.now) (P.failed parts.old) (P.contents err.old) (P.failed parts.new) (P.contents err.new) }
-{
-    match reason {
-        LoadReason::Item { reason, place } => {
-            put_item(parts, err, *reason, place.saturating_add(HEADER_BYTES))
-        }
-        reason => put_load_reason(parts, err, reason),
-    }
+    put_text(parts, err, "table ");
+    put_number(parts, err, number);
+    put_text(parts, err, ": ")
 }
 
 fn put_failure<E, P: PartWriter<E>>(parts: &mut P, err: &mut E, failure: &Failure<'_>)
     ensures { Tells (failure_text failure.now) (P.failed parts.old) (P.contents err.old) (P.failed parts.new) (P.contents err.new) }
 {
     match failure {
-        Failure::WrongWords => put(parts, err, "wrong words"),
-        Failure::BadPath => put(parts, err, "bad path"),
-        Failure::NoSuchPath => put(parts, err, "no such path"),
-        Failure::NoTable => put(parts, err, "no table"),
+        Failure::WrongWords => put_text(parts, err, "wrong words"),
+        Failure::BadPath => put_text(parts, err, "bad path"),
+        Failure::NoSuchPath => put_text(parts, err, "no such path"),
+        Failure::NoTable => put_text(parts, err, "no table"),
         Failure::Read(file) => {
-            put(parts, err, file);
-            put(parts, err, ": cannot be read")
+            put_text(parts, err, file);
+            put_text(parts, err, ": cannot be read")
         }
         Failure::BadHex(file) => {
-            put(parts, err, file);
-            put(parts, err, ": bad hexadecimal text")
+            put_text(parts, err, file);
+            put_text(parts, err, ": bad hexadecimal text")
         }
         Failure::Out(file) => {
-            put(parts, err, file);
-            put(parts, err, ": cannot be written")
+            put_text(parts, err, file);
+            put_text(parts, err, ": cannot be written")
         }
-        Failure::Output => put(parts, err, "standard output cannot be written"),
+        Failure::Output => put_text(parts, err, "standard output cannot be written"),
         Failure::Table(number, fault) => {
             put_table(parts, err, *number);
-            put(parts, err, table_fault_word(*fault))
+            put_text(parts, err, table_fault_word(*fault))
         }
         Failure::Item(number, reason, place) => {
             put_table(parts, err, *number);
@@ -190,7 +52,7 @@ fn put_failure<E, P: PartWriter<E>>(parts: &mut P, err: &mut E, failure: &Failur
             put_table(parts, err, *number);
             put_load_reason(parts, err, reason)
         }
-        Failure::Memory => put(parts, err, "M Memory"),
+        Failure::Memory => put_text(parts, err, "M Memory"),
     }
 }
 
@@ -198,7 +60,7 @@ fn put_failure<E, P: PartWriter<E>>(parts: &mut P, err: &mut E, failure: &Failur
 pub fn put_line<E, P: PartWriter<E>>(parts: &mut P, err: &mut E, failure: &Failure<'_>)
     ensures { Tells (failure_line failure.now) (P.failed parts.old) (P.contents err.old) (P.failed parts.new) (P.contents err.new) }
 {
-    put(parts, err, "acpins: ");
+    put_text(parts, err, "acpins: ");
     put_failure(parts, err, failure);
-    put(parts, err, "\n")
+    put_text(parts, err, "\n")
 }

@@ -10,26 +10,22 @@ ghost use Rattle.std.specs.Io.KnownBytes.{Appends};
 ghost use Rattle.acpins_run.specs.declared.failure.Failure.{Failure};
 ghost use Rattle.acpins_run.specs.Failures.{status_of};
 ghost use Rattle.acpins_run.specs.FailureLines.{failure_line};
-ghost use Rattle.acpins_run.specs.Told.{AppendsBeginning, Tells};
+ghost use Rattle.acpins_output.specs.Told.{AppendsBeginning, Tells};
 ghost use Rattle.acpins_words.specs.Words.{texts, showing, rewriting, asked_in, asked_of};
 ghost use Rattle.acpins_run.specs.Input.{files_of, AreTablesOf, IsFilesFault};
 ghost use Rattle.acpins_run.specs.steps.Loading.{HasMachine};
 ghost use Rattle.acpins_run.specs.Runs.{IsListing, IsShowing, IsChecking, IsRewriting, IsWrong, IsOutput, GetsOutput, IsFailureOf, IsRunFailure, IsStored, StoresOutput, KeepsOthers, LeavesFiles, FailsWith};
 
-use crate::checking::checked;
 use crate::failure::Failure;
 use crate::files::Files;
 use crate::lines::put_line;
-use crate::listing::listed;
-use crate::made::Made;
-use crate::parts::{PartWriter, UntilFailure};
 use crate::rewriting::{put_file, rewritten_text};
-use crate::showing::shown;
 use crate::tables::add_tables;
 use acpi_load::{Declared, Keep, LoadFault, declare_keeping};
 use acpi_name::{Path, PathFault};
 use acpi_space::{Space, TreeSpace};
 use acpi_terms::{Depth, Object};
+use acpins_output::{Output, PartWriter, UntilFailure, check, list, show};
 use acpins_words::{Command, Request, read_words};
 use bytes::Bytes;
 use std::alloc::Global;
@@ -100,7 +96,7 @@ fn listing_of<'a, S: Space<Object>, F: Files>(
         unreachable!()
     };
     let declared = declare_tables::<S>(alloc, dsdt, ssdts, request.depth)?;
-    let text = listed(alloc, declared.objects(), declared.links())?;
+    let text = list(alloc, declared.objects(), declared.links())?;
     // The process ends soon and gives all memory back at once; to take the namespace apart first costs time.
     mem::forget(declared);
     Ok(text)
@@ -135,7 +131,7 @@ fn showing_of<'a, S: Space<Object>, F: Files>(
     let Some((dsdt, ssdts)) = tables.split_first() else {
         unreachable!()
     };
-    match shown::<S>(alloc, dsdt, ssdts, request.depth, &path)? {
+    match show::<S>(alloc, dsdt, ssdts, request.depth, &path)? {
         Some(text) => Ok(text),
         None => Err(Failure::NoSuchPath),
     }
@@ -146,7 +142,7 @@ fn checking_of<'a, S: Space<Object>, F: Files>(
     alloc: Global,
     request: &Request<'a>,
     files: &mut F,
-) -> Result<Made, Failure<'a>>
+) -> Result<Output, Failure<'a>>
     ensures ok { IfOk result (λ m. IsChecking (F.bytes_of files.old) (asked_in request.now) m.status m.text.items) }
     ensures err { IfErr result (IsFailureOf (F.bytes_of files.old) (asked_in request.now)) }
     ensures others { F.written_to files.new ≡ F.written_to files.old }
@@ -155,7 +151,7 @@ fn checking_of<'a, S: Space<Object>, F: Files>(
     let Some((dsdt, ssdts)) = tables.split_first() else {
         unreachable!()
     };
-    Ok(checked::<S>(alloc, dsdt, ssdts, request.depth)?)
+    Ok(check::<S>(alloc, dsdt, ssdts, request.depth)?)
 }
 
 // Writes the tables that the files hold to the file of that name, each in its shortest spelling. All are made before
@@ -186,7 +182,7 @@ pub fn made_in<'a, S: Space<Object>, F: Files>(
     alloc: Global,
     words: &'a [&'a str],
     files: &mut F,
-) -> Result<Made, Failure<'a>>
+) -> Result<Output, Failure<'a>>
     ensures ok { IfOk result (λ m. IsOutput (F.bytes_of files.old) (texts words.now) m.status m.text.items) }
     ensures err { IfErr result (IsRunFailure (F.bytes_of files.old) (texts words.now)) }
     ensures stored { OnOk result (StoresOutput (F.bytes_of files.old) (texts words.now) (F.written_to files.old) (F.written_to files.new)) }
@@ -202,14 +198,14 @@ pub fn made_in<'a, S: Space<Object>, F: Files>(
             Vec::new(alloc)
         }
     };
-    Ok(Made { text, status: 0 })
+    Ok(Output { text, status: 0 })
 }
 
 fn made<'a, F: Files>(
     alloc: Global,
     words: &'a [&'a str],
     files: &mut F,
-) -> Result<Made, Failure<'a>>
+) -> Result<Output, Failure<'a>>
     ensures ok { IfOk result (λ m. IsOutput (F.bytes_of files.old) (texts words.now) m.status m.text.items) }
     ensures err { IfErr result (IsRunFailure (F.bytes_of files.old) (texts words.now)) }
     ensures stored { OnOk result (StoresOutput (F.bytes_of files.old) (texts words.now) (F.written_to files.old) (F.written_to files.new)) }
@@ -233,7 +229,7 @@ fn ended<'a, F: Files, O: Write>(
     ensures stored { OnOk result (StoresOutput (F.bytes_of files.old) (texts words.now) (F.written_to files.old) (F.written_to files.new)) }
     ensures left { IfErr result (λ f. LeavesFiles (F.bytes_of files.old) (texts words.now) f (F.written_to files.old) (F.written_to files.new)) }
 {
-    let Made { text, status } = made(alloc, words, files)?;
+    let Output { text, status } = made(alloc, words, files)?;
     let written = out.write_all(text.as_slice()).is_ok() && out.flush().is_ok();
     if !written {
         return Err(Failure::Output);

@@ -1,5 +1,5 @@
-use Rattle.acpins_run.proofs.Telling.{tells_more}
+use Rattle.acpins_output.proofs.Telling.{tells_more}
 use Rattle.acpins_run.proofs.lines.put_table.Goals as goal
 
 pub returns : goal.returns
-returns g c = tells_more _ _ _ _ _ _ _ _ (tells_more _ _ _ _ _ _ _ _ c.put.ensures c.put_decimal.ensures) c.put-2.ensures
+returns g c = tells_more _ _ _ _ _ _ _ _ (tells_more _ _ _ _ _ _ _ _ c.put_text.ensures c.put_number.ensures) c.put_text-2.ensures

@@ -1,0 +1,5 @@
+pub mod Printing
+pub mod BodyAt
+pub mod Telling
+pub mod Verdicts
+pub mod Wholes

@@ -1,0 +1,6 @@
+pub mod FaultTexts
+pub mod Told
+pub mod Listings
+pub mod Shown
+pub mod Checked
+pub mod steps

@@ -1,0 +1,142 @@
+//! What is printed of SSDTs: that they may be loaded in any order, or why perhaps not.
+
+ghost use Rattle.std.specs.Prelude.{◌≡◌, ◌≢◌, ◌∷◌, ℕ, ◌++◌, [], codes, decimal, IfErr, IfOk, OnOk};
+ghost use Rattle.std.specs.List.{flat_map};
+ghost use Rattle.acpi_declare.specs.Refusals.{IsLoadFault};
+ghost use Rattle.acpi_order.specs.Verdicts.{AllAlone, IsVerdict};
+ghost use Rattle.acpi_verdict.specs.SatisfiedView.{AreSatisfied};
+ghost use Rattle.acpi_verdict.specs.VerdictView.{verdict_view, IsFaultOf};
+ghost use Rattle.acpins_output.specs.Checked.{triple_line, satisfied_line, Checks};
+ghost use Rattle.acpins_output.specs.FaultTexts.{fault_text};
+
+use crate::faults::put_fault;
+use crate::output::{Output, put};
+use crate::parts::IntoText;
+use acpi_load::{Checked, LoadFault, LoadReason, Satisfied, Verdict, check_shared};
+use acpi_name::Path;
+use acpi_space::Space;
+use acpi_terms::{Depth, Object};
+use acpi_text::{put_decimal, put_path};
+use bytes::Bytes;
+use std::alloc::{AllocError, Global};
+
+// A line of a word, two numbers of tables and a path.
+fn put_triple(
+    text: &mut Vec<u8>,
+    word: &str,
+    first: usize,
+    second: usize,
+    path: &Path,
+) -> Result<(), AllocError>
+    ensures { OnOk result (text.new.items ≡ text.old.items ++ triple_line word.now first second path.now) }
+{
+    put(text, word)?;
+    put(text, " ")?;
+    put_decimal(text, first as u64)?;
+    put(text, " ")?;
+    put_decimal(text, second as u64)?;
+    put(text, " ")?;
+    put_path(text, path)?;
+    put(text, "\n")
+}
+
+// Why a table can't be loaded.
+fn put_reason(text: &mut Vec<u8>, reason: &LoadReason) -> Result<(), AllocError>
+    ensures { OnOk result (text.new.items ≡ text.old.items ++ fault_text reason.now) }
+{
+    let mut parts = IntoText::new();
+    put_fault(&mut parts, text, reason);
+    if parts.failed() {
+        return Err(AllocError);
+    }
+    Ok(())
+}
+
+// The reason of a fault that is not want of memory.
+fn reason_of(fault: LoadFault) -> LoadReason
+    requires { fault ≢ LoadFault.Memory }
+    ensures { (table : ℕ) × (fault ≡ LoadFault.At table result) }
+{
+    match fault {
+        LoadFault::At { reason, .. } => reason,
+        LoadFault::Memory => unreachable!(),
+    }
+}
+
+// The line of an SSDT that is refused over the DSDT alone.
+fn put_not_alone(text: &mut Vec<u8>, ssdt: usize, reason: &LoadReason) -> Result<(), AllocError>
+    ensures { OnOk result (text.new.items ≡ text.old.items ++ (codes "not alone " ++ decimal ssdt ++ codes ": " ++ fault_text reason.now ++ 10 ∷ [])) }
+{
+    put(text, "not alone ")?;
+    put_decimal(text, ssdt as u64)?;
+    put(text, ": ")?;
+    put_reason(text, reason)?;
+    put(text, "\n")
+}
+
+// A line for each External that another table satisfies.
+fn put_satisfied(text: &mut Vec<u8>, satisfied: &[Satisfied]) -> Result<(), AllocError>
+    ensures { OnOk result (text.new.items ≡ text.old.items ++ flat_map satisfied_line satisfied.now) }
+{
+    for triple in satisfied {
+        put_triple(text, "satisfied", triple.user, triple.definer, &triple.path)?;
+    }
+    Ok(())
+}
+
+// The verdict on the SSDTs, and what they satisfy. A refusal of the DSDT is one of all tables.
+fn check_tables<S: Space<Object>>(
+    alloc: Global,
+    dsdt: &Bytes,
+    ssdts: &[Bytes],
+    depth: Depth,
+) -> Result<Checked, LoadFault>
+    ensures ok { IfOk result (λ c. IsVerdict depth dsdt.now ssdts.now (verdict_view c.verdict)) }
+    ensures fault { IfOk result (λ c. IsFaultOf depth dsdt.now ssdts.now c.verdict) }
+    ensures satisfied { IfOk result (λ c. AllAlone depth dsdt.now ssdts.now → AreSatisfied depth dsdt.now ssdts.now c.satisfied.items) }
+    ensures err { IfErr result (λ e. IsLoadFault depth (dsdt.now ∷ ssdts.now) e) }
+{
+    check_shared::<S>(alloc, dsdt, ssdts, depth)
+}
+
+/// Whether the SSDTs may be loaded in any order over the DSDT: `commute`, with status 0, and a line for each External
+/// that another table satisfies; or the line of the first reason why perhaps not, with status 3.
+pub fn check<S: Space<Object>>(
+    alloc: Global,
+    dsdt: &Bytes,
+    ssdts: &[Bytes],
+    depth: Depth,
+) -> Result<Output, LoadFault>
+    ensures ok { IfOk result (λ m. Checks depth dsdt.now ssdts.now m.status m.text.items) }
+    ensures err { IfErr result (λ e. IsLoadFault depth (dsdt.now ∷ ssdts.now) e) }
+{
+    let mut text = Vec::new(alloc);
+    let Checked { verdict, satisfied } = check_tables::<S>(alloc, dsdt, ssdts, depth)?;
+    match verdict {
+        Verdict::Commute => {
+            put(&mut text, "commute\n")?;
+            put_satisfied(&mut text, &satisfied)?;
+            Ok(Output { text, status: 0 })
+        }
+        Verdict::NotAlone { ssdt, fault } => {
+            put_not_alone(&mut text, ssdt, &reason_of(fault))?;
+            Ok(Output { text, status: 3 })
+        }
+        Verdict::Same {
+            first,
+            second,
+            path,
+        } => {
+            put_triple(&mut text, "same", first, second, &path)?;
+            Ok(Output { text, status: 3 })
+        }
+        Verdict::Missed {
+            searcher,
+            definer,
+            path,
+        } => {
+            put_triple(&mut text, "missed", searcher, definer, &path)?;
+            Ok(Output { text, status: 3 })
+        }
+    }
+}

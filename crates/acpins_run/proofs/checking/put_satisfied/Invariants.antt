@@ -1,7 +1,0 @@
-use Rattle.std.proofs.Common.{◌≡◌, ◌++◌, take}
-use Rattle.std.specs.List.{flat_map}
-use Rattle.acpins_run.specs.Checked.{satisfied_line}
-use Rattle.acpins_run.proofs.checking.put_satisfied.Given as goal
-
-abbrev pub invariant-loop-triple : goal.invariant-loop-triple
-invariant-loop-triple l = l.text.items ≡ l.fn.text.items ++ flat_map satisfied_line (take l.triple-index l.satisfied)

@@ -1,6 +1,0 @@
--- What a wrong body leaves open is named here: its refusal then names it, and needs no second search.
-use Rattle.std.proofs.Common.{rules}
-use Rattle.acpins_run.proofs.showing.shown_of.Goals as goal
-
-pub returns-clause-ok : goal.returns-clause-ok
-returns-clause-ok g c = search rules
