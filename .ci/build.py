@@ -44,14 +44,22 @@ def rt_library():
     return library
 
 
-def made_from(library, crate):
-    """What a crate is made from: the kit, its files, and when each crate below it was made."""
-    made = hashlib.sha256(repr(crate.said).encode())
-    for file in [f"{library.KIT}/WHAT", *library.files_of(crate.folder)]:
+def bytes_of(file):
+    """The bytes of a file, none where it isn't there."""
+    try:
         with open(file, "rb") as it:
-            made.update(repr((file, it.read())).encode())
-    times = [os.stat(f"{it.rlib}/format").st_mtime_ns if os.path.isdir(it.rlib) else 0 for it in crate.below()]
-    return f"{made.hexdigest()} {times}"
+            return it.read()
+    except FileNotFoundError:
+        return b""
+
+
+def made_from(library, crate):
+    """The checksum of what a crate is made from: the kit, its files, and the libraries of the crates below it. Where they
+    stand and when they were written tells it nothing."""
+    made = hashlib.sha256(repr((crate.said, bytes_of(f"{library.KIT}/WHAT"))).encode())
+    for file in [*(f"{it.rlib}/format" for it in crate.below()), *library.files_of(crate.folder)]:
+        made.update(repr((file.removeprefix(TOP), bytes_of(file))).encode())
+    return made.hexdigest()
 
 
 def stamp_of(crate):
@@ -67,8 +75,7 @@ def is_built(library, crate):
     """Whether this script has proved the crate as it stands, or `rt` has and all below it."""
     if not os.path.isfile(stamp_of(crate)):
         return all(is_built_by_rt(it) for it in [crate, *crate.below()])
-    with open(stamp_of(crate), encoding="utf-8") as it:
-        return it.read() == made_from(library, crate)
+    return bytes_of(stamp_of(crate)).decode() == made_from(library, crate)
 
 
 def unproved(library, crates):
@@ -143,10 +150,22 @@ def link_program():
     linked = subprocess.run(["sh", f"{TOP}/link-static", f"{made}.o", f"{made}-static"], stdin=subprocess.DEVNULL)
     if linked.returncode and os.path.exists(f"{made}-static"):
         os.remove(f"{made}-static")
-    # What is proved as it stands is not built again: its time says so.
-    for file in (made, f"{made}-static"):
-        if os.path.exists(file):
-            os.utime(file)
+
+
+def sources_sum():
+    """The checksum of all that the program is made from."""
+    return subprocess.run(["sh", f"{TOP}/.ci/made-from"], capture_output=True, text=True, check=True).stdout
+
+
+def keep_sum(sources):
+    """Writes beside the program what it was made from, so that it is built again only where that changes; without one,
+    removes what was written."""
+    for program in (f"{PROGRAM}/out/acpins", f"{PROGRAM}/out/acpins-static"):
+        if os.path.exists(f"{program}.made-from"):
+            os.remove(f"{program}.made-from")
+        if sources and os.path.exists(program):
+            with open(f"{program}.made-from", "w", encoding="utf-8") as it:
+                it.write(sources)
 
 
 def build_program(library, program, processors):
@@ -195,12 +214,17 @@ def build_all(processors):
 def main():
     signal.signal(signal.SIGINT, signal.SIG_DFL)
     processors = len(os.sched_getaffinity(0))
+    begun = sources_sum()
+    keep_sum(None)
     try:
         build_all(processors)
     except (AttributeError, TypeError) as error:
         say(f"this kit's rt has other parts ({error}): proving one crate after another, {so_far()}")
         build_by_rt(processors)
     link_program()
+    # After an edit meanwhile nobody knows of which text it was built.
+    if begun == sources_sum():
+        keep_sum(begun)
     say(f"acpins is built, {so_far()}")
 
 
