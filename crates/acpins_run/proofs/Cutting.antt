@@ -9,7 +9,8 @@ use Rattle.std.proofs.lemmas.List.Folds.{concat-append}
 use Rattle.acpi_table.specs.Tables.{IsTable, IsRefusedAs}
 use Rattle.acpi_table.specs.declared.tables.TableFault.{TableFault}
 use Rattle.acpins_run.specs.Hexadecimal.{SpellsInHex}
-use Rattle.acpins_run.specs.Input.{FileBytes, Stores, AreTablesIn, AreTablesOf, AddsTablesOf, BreaksOff, IsReadFault, IsFileFault, IsFilesFault}
+use Rattle.acpins_run.specs.Input.{FileBytes, Stores, AreTablesIn, AreTablesOf, AddsTablesOf, BreaksOff, IsFileFault, IsFilesFault}
+use Rattle.acpins_run.specs.steps.HexFiles.{IsHexFault}
 use Rattle.acpins_run.specs.declared.failure.Failure.{Failure}
 use Rattle.acpins_run.specs.declared.failure.Failure.TheVariants.{WrongWords, BadPath, NoSuchPath, NoTable, Read, BadHex, Out, Output, Table, Item, Load, Memory}
 
@@ -106,20 +107,20 @@ fault_from_hex name known bytes before (Item number reason place) spells fault =
 fault_from_hex name known bytes before (Load number reason) spells fault = absurd fault
 fault_from_hex name known bytes before Memory spells fault = tt
 
--- a file that can't be read gives no tables
-pub read_is_file_fault : (hex : Bool) (name : List ℕ) (known : Option (List ℕ)) (before : ℕ) (failure : Failure) → IsReadFault name failure → IsFileFault hex name known before failure
-read_is_file_fault hex name known before WrongWords fault = absurd fault
-read_is_file_fault hex name known before BadPath fault = absurd fault
-read_is_file_fault hex name known before NoSuchPath fault = absurd fault
-read_is_file_fault hex name known before NoTable fault = absurd fault
-read_is_file_fault hex name known before (Read word) fault = fault
-read_is_file_fault hex name known before (BadHex word) fault = absurd fault
-read_is_file_fault hex name known before (Out word) fault = absurd fault
-read_is_file_fault hex name known before Output fault = absurd fault
-read_is_file_fault hex name known before (Table number reason) fault = absurd fault
-read_is_file_fault hex name known before (Item number reason place) fault = absurd fault
-read_is_file_fault hex name known before (Load number reason) fault = absurd fault
-read_is_file_fault hex name known before Memory fault = tt
+-- a file that spells no bytes gives no tables
+pub hex_is_file_fault : (name : List ℕ) (known : Option (List ℕ)) (before : ℕ) (failure : Failure) → IsHexFault name known failure → IsFileFault true name known before failure
+hex_is_file_fault name known before WrongWords fault = absurd fault
+hex_is_file_fault name known before BadPath fault = absurd fault
+hex_is_file_fault name known before NoSuchPath fault = absurd fault
+hex_is_file_fault name known before NoTable fault = absurd fault
+hex_is_file_fault name known before (Read word) fault = fault
+hex_is_file_fault name known before (BadHex word) fault = (fault.0, refl, fault.1)
+hex_is_file_fault name known before (Out word) fault = absurd fault
+hex_is_file_fault name known before Output fault = absurd fault
+hex_is_file_fault name known before (Table number reason) fault = absurd fault
+hex_is_file_fault name known before (Item number reason place) fault = absurd fault
+hex_is_file_fault name known before (Load number reason) fault = absurd fault
+hex_is_file_fault name known before Memory fault = tt
 
 -- ---- one file after another
 

@@ -1,2 +1,4 @@
 pub mod Cutting
+pub mod Decoding
+pub mod HexFiles
 pub mod Declared

@@ -45,12 +45,6 @@ pub record BreaksOff (hex : Bool) (known : Option (List ℕ)) (tables : List (Li
   pub whole : All IsTable tables
   pub refused : IfSome known (λ content. (rest : List ℕ) × Stores hex content (concat tables ++ rest) × (rest ≢ []) × IsRefusedAs fault rest)
 
--- why the bytes of a file can't be had: it can't be read, or there is no memory
-abbrev pub IsReadFault : List ℕ → Failure → Type 0
-IsReadFault name (Read word) = word.now ≡ name
-IsReadFault name Memory = Unit {0}
-IsReadFault name _ = ⊥
-
 -- one failed read more where the file can't be read, and none else
 abbrev pub CountsFailedRead : {A : Type 0} → Result A Failure → ℕ → ℕ → Type 0
 CountsFailedRead (Err (Read word)) old new = new ≡ one_more old

@@ -1,1 +1,3 @@
+pub mod HexDecoding
+pub mod HexFiles
 pub mod Loading

@@ -1,40 +1,44 @@
 //! Files into tables.
 
 ghost use Rattle.std.specs.Prelude.{◌≡◌, ◌++◌, ◌∷◌, [], false, IfOk, IfErr, OnOk, IfSome, vec_len};
-ghost use Rattle.acpins_run.specs.Input.{AddsTablesOf, IsReadFault, IsFileFault, CountsFailedRead};
+ghost use Rattle.acpins_run.specs.Hexadecimal.{SpellsInHex};
+ghost use Rattle.acpins_run.specs.Input.{AddsTablesOf, IsFileFault, CountsFailedRead};
+ghost use Rattle.acpins_run.specs.steps.HexFiles.{IsHexFault};
 
 use crate::failure::Failure;
 use crate::files::Files;
-use crate::hexadecimal::{HexFault, from_hex};
+use crate::hexadecimal::{HexDecoder, HexFault};
 use acpi_table::{FromRead, ReadFault, SliceSource, Source, read_table};
 use bytes::Bytes;
 use std::alloc::{AllocError, Global};
 use std::io::Read;
 
-// The rest of a file.
-fn read_whole<'a, R: Read>(
-    alloc: Global,
-    name: &'a str,
-    file: &mut R,
-) -> Result<Vec<u8>, Failure<'a>>
-    ensures whole { IfOk result (λ v. IfSome (R.remaining file.old) (λ bytes. bytes ≡ v.items)) }
-    ensures fault { IfErr result (IsReadFault name.now) }
+// The bytes that the rest of a file spells as hexadecimal text. Nothing is read behind a part in which a character can
+// stand in no such text.
+fn read_hex<'a, R: Read>(alloc: Global, name: &'a str, file: &mut R) -> Result<Vec<u8>, Failure<'a>>
+    ensures ok { IfOk result (λ v. IfSome (R.remaining file.old) (SpellsInHex v.items)) }
+    ensures err { IfErr result (IsHexFault name.now (R.remaining file.old)) }
 {
-    let mut bytes = Vec::new(alloc);
+    let mut decoder = HexDecoder::new(alloc);
     let mut part = [0u8; 4096];
     for _ in 0..u64::MAX {
         let Ok(n) = file.read(&mut part) else {
             return Err(Failure::Read(name));
         };
         if n == 0 {
-            return Ok(bytes);
+            return match decoder.finish() {
+                Some(bytes) => Ok(bytes),
+                None => Err(Failure::BadHex(name)),
+            };
         }
-        let Ok(()) = bytes.extend_from_slice(&part[..n]) else {
-            return Err(Failure::Memory);
-        };
+        match decoder.take_part(&part[..n]) {
+            Ok(()) => {}
+            Err(HexFault::BadHex) => return Err(Failure::BadHex(name)),
+            Err(HexFault::Memory) => return Err(Failure::Memory),
+        }
     }
-    // No memory holds so many bytes.
-    Err(Failure::Memory)
+    // No file has so many parts.
+    Err(Failure::Read(name))
 }
 
 // Adds a table to those that came before.
@@ -93,10 +97,6 @@ pub fn add_tables<'a, F: Files>(
     if !hex {
         return cut(alloc, name, &mut FromRead::new(file), tables);
     }
-    let text = read_whole(alloc, name, &mut file)?;
-    match from_hex(alloc, text.as_slice()) {
-        Ok(bytes) => cut(alloc, name, &mut SliceSource::new(bytes.as_slice()), tables),
-        Err(HexFault::BadHex) => Err(Failure::BadHex(name)),
-        Err(HexFault::Memory) => Err(Failure::Memory),
-    }
+    let bytes = read_hex(alloc, name, &mut file)?;
+    cut(alloc, name, &mut SliceSource::new(bytes.as_slice()), tables)
 }
