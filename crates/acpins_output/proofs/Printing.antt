@@ -45,11 +45,11 @@ no_line first = record { links = refl; text = sym (append-nil first.text.items) 
 
 -- ---- the same of a namespace
 
-true_of : (b : Bool) → T b → b ≡ true
+pub true_of : (b : Bool) → T b → b ≡ true
 true_of true h = refl
 true_of false h = absurd h
 
-find_mapped : {V W : Type 0} (f : V → W) (q : List Segment) (es : List (List Segment × V)) → find path_cmp q (map (λ e. (e.0, f e.1)) es) ≡ option_map f (find path_cmp q es)
+pub find_mapped : {V W : Type 0} (f : V → W) (q : List Segment) (es : List (List Segment × V)) → find path_cmp q (map (λ e. (e.0, f e.1)) es) ≡ option_map f (find path_cmp q es)
 find_mapped f q [] = refl
 find_mapped f q (e ∷ es) =
     elim (eq_by_cmp path_cmp q e.0) as (λ b. cond b (Some (f e.1)) (find path_cmp q (map (λ e. (e.0, f e.1)) es)) ≡ option_map f (cond b (Some e.1) (find path_cmp q es))) [
@@ -61,7 +61,7 @@ below_mapped : {V W : Type 0} (f : V → W) (q : List Segment) (es : List (List 
 below_mapped f q [] = refl
 below_mapped f q (e ∷ es) = ap (λ b. is_lt (path_cmp q e.0) && b) (below_mapped f q es)
 
-sorted_mapped : {V W : Type 0} (f : V → W) (es : List (List Segment × V)) → is_sorted path_cmp (map (λ e. (e.0, f e.1)) es) ≡ is_sorted path_cmp es
+pub sorted_mapped : {V W : Type 0} (f : V → W) (es : List (List Segment × V)) → is_sorted path_cmp (map (λ e. (e.0, f e.1)) es) ≡ is_sorted path_cmp es
 sorted_mapped f [] = refl
 sorted_mapped f (e ∷ es) = ap (λ b. b && is_sorted path_cmp (map (λ e. (e.0, f e.1)) es)) (below_mapped f e.0 es) ∙ ap (λ b. below_all path_cmp e.0 es && b) (sorted_mapped f es)
 

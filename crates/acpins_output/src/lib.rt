@@ -23,4 +23,4 @@ pub use faults::{put_fault, put_item, put_load_reason, put_number, put_text, tab
 pub use listing::{links_of, list};
 pub use output::Output;
 pub use parts::{IntoText, PartWriter, UntilFailure};
-pub use showing::show;
+pub use showing::{body_at, show};

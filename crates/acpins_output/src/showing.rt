@@ -53,8 +53,8 @@ fn put_reason(text: &mut Vec<u8>, fault: Option<BodyFault>) -> Result<(), AllocE
     Ok(())
 }
 
-// The body of the method at the path, where a table declares one.
-fn body_at<'a>(path: &Path, bodies: &'a BTreeMap<Path, Body>) -> Option<&'a Body>
+/// The body of the method at the path, where a table declares one.
+pub fn body_at<'a>(path: &Path, bodies: &'a BTreeMap<Path, Body>) -> Option<&'a Body>
     ensures { option_map body_view (option_copied result) ≡ bodies_of bodies.now path.now }
 {
     bodies.get(path)

@@ -1,0 +1,11 @@
+pub mod Constants
+pub mod Parts
+pub mod Tree
+pub mod Records
+pub mod Contents
+pub mod Outcomes
+pub mod Written
+pub mod Bodies
+pub mod Checks
+pub mod Rewrites
+pub mod steps

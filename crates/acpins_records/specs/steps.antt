@@ -1,0 +1,4 @@
+pub mod Adding
+pub mod AddingParts
+pub mod Giving
+pub mod Runs

@@ -1,0 +1,81 @@
+//! Refusals, and what all calls share.
+
+ghost use Rattle.std.specs.Prelude.{◌≡◌, ◌≢◌, ◌++◌, ◌⊎◌, ◌≤◌, ◌<◌, length, drop, IfOk, OnErr};
+ghost use Rattle.acpi_name.specs.Text.{path_text};
+ghost use Rattle.acpins_records.specs.Outcomes.{refused_as};
+ghost use Rattle.acpins_records.specs.Written.{IsFront, TellsPath, bytes_of};
+
+use crate::outcome::{MEMORY, Outcome, REFUSED};
+use crate::records::LentTable;
+use acpi_declare::LoadReason;
+use acpi_name::Path;
+use acpi_text::put_path;
+use bytes::Bytes;
+use std::alloc::{AllocError, Global};
+
+/// Copies of the tables.
+pub(crate) fn copy_tables(alloc: Global, tables: &[LentTable<'_>]) -> Result<Vec<Bytes>, AllocError>
+    ensures { IfOk result (λ v. v.items ≡ bytes_of tables.now) }
+{
+    let mut copies = Vec::new(alloc);
+    for table in tables {
+        copies.push(Bytes::copy_from_slice(alloc, table.bytes)?)?;
+    }
+    Ok(copies)
+}
+
+/// Puts items at the front of an array.
+pub(crate) fn put_front<T: Copy>(out: &mut [T], items: &[T])
+    requires { length items.now ≤ length out.old }
+    ensures { IsFront items.now out.old out.new }
+{
+    let (front, _) = out.split_at_mut(items.len());
+    front.copy_from_slice(items);
+}
+
+// The text of a path.
+fn path_bytes(alloc: Global, path: &Path) -> Result<Vec<u8>, AllocError>
+    ensures { IfOk result (λ v. v.items ≡ path_text path.now) }
+{
+    let mut text = Vec::new(alloc);
+    put_path(&mut text, path)?;
+    Ok(text)
+}
+
+/// Writes the text of a path, where there is room for it, and gives its length.
+pub(crate) fn write_path(alloc: Global, path: &Path, text: &mut [u8]) -> Result<usize, AllocError>
+    ensures count { IfOk result (λ n. n ≡ length (path_text path.now)) }
+    ensures put { IfOk result (λ n. n ≤ length text.old → text.new ≡ path_text path.now ++ drop n text.old) }
+    ensures short { IfOk result (λ n. length text.old < n → text.new ≡ text.old) }
+    ensures err { OnErr result (text.new ≡ text.old) }
+{
+    let bytes = path_bytes(alloc, path)?;
+    if bytes.len() <= text.len() {
+        put_front(text, &bytes);
+    }
+    Ok(bytes.len())
+}
+
+/// Writes why a table is refused.
+pub(crate) fn write_refusal(
+    alloc: Global,
+    table: usize,
+    reason: &LoadReason,
+    text: &mut [u8],
+    outcome: &mut Outcome,
+) -> u32
+    ensures refused { result ≡ REFUSED → outcome.new ≡ refused_as table reason.now outcome.new.text }
+    ensures path { result ≡ REFUSED → TellsPath reason.now outcome.new.text text.old text.new }
+    ensures status { (result ≡ REFUSED) ⊎ (result ≡ MEMORY) }
+    ensures stay { result ≢ REFUSED → text.new ≡ text.old }
+{
+    let length = match reason {
+        LoadReason::Refused { path, .. } => match write_path(alloc, path, text) {
+            Ok(length) => length,
+            Err(_) => return MEMORY,
+        },
+        _ => 0,
+    };
+    *outcome = Outcome::refused(table, reason, length);
+    REFUSED
+}
