@@ -193,22 +193,27 @@ def build_by_rt(processors):
         sys.exit(1)
 
 
-def build_all(processors):
-    """Proves what the program stands on, and builds it."""
-    library = rt_library()
-    os.chdir(PROGRAM)
-    program = library.Crate(PROGRAM, TOP, {})
-    crates = program.below()
-    held = library.lock([*crates, program])
+def prove_below(library, crate, processors, then):
+    """Proves what the crate stands on, where it is not proved as it stands, and makes the call then. Meanwhile no other run of `rt`
+    or of this script works in these crates' folders."""
+    crates = crate.below()
+    held = library.lock([*crates, crate])
     todo = unproved(library, crates)
     count = len(todo) + 1
     if len(todo) == len(crates):
         say(f"the first run proves {count} crates: it takes about 30 minutes on 4 processors (here are {processors})")
     prove_all(library, crates, todo, processors)
-    say(f"proving and building acpins, {count} of {count}, {so_far()}")
-    build_program(library, program, processors)
+    say(f"proving and building {crate.name}, {count} of {count}, {so_far()}")
+    then(library, crate, processors)
     for it in held:
         os.close(it)
+
+
+def build_all(processors):
+    """Proves what the program stands on, and builds it."""
+    library = rt_library()
+    os.chdir(PROGRAM)
+    prove_below(library, library.Crate(PROGRAM, TOP, {}), processors, build_program)
 
 
 def main():
@@ -228,4 +233,5 @@ def main():
     say(f"acpins is built, {so_far()}")
 
 
-main()
+if __name__ == "__main__":
+    main()
