@@ -75,6 +75,16 @@ static int is_filled(const uint8_t *bytes, size_t count) {
     return 1;
 }
 
+/* Fills the records of acpins_body and acpins_check, and whether they are as they were then. */
+static void fill_records(void) {
+    memset(&body, FILLED, sizeof body);
+    memset(&verdict, FILLED, sizeof verdict);
+}
+
+static int are_filled_records(void) {
+    return is_filled((const uint8_t *)&body, sizeof body) && is_filled((const uint8_t *)&verdict, sizeof verdict);
+}
+
 /* ---- Calls. Each makes the call over the arrays, and tells how many elements of each the answer has. */
 
 static struct acpins_arrays of_load(void) {
@@ -102,7 +112,8 @@ static void call_body(void) {
 static void call_check(void) {
     status = acpins_check(tables.list, tables.count, 1024, (void *)arrays[0].bytes, arrays[0].room, arrays[1].bytes,
                           arrays[1].room, &verdict, &outcome);
-    arrays[0].used = verdict.satisfied, arrays[0].size = sizeof(struct acpins_satisfied), arrays[1].used = outcome.text;
+    arrays[0].used = status == ACPINS_OK || status == ACPINS_NO_ROOM ? verdict.satisfied : 0;
+    arrays[0].size = sizeof(struct acpins_satisfied), arrays[1].used = outcome.text;
 }
 
 static void call_rewrite(void) {
@@ -137,11 +148,18 @@ static void learn_sizes(void (*call)(void), struct array *like) {
     size_t n = 0, all = 0;
     memset(arrays, 0, sizeof arrays);
     for (int i = 0; i < ARRAYS; i++) arrays[i].size = 1;
+    fill_records();
     call();
     memcpy(like, arrays, sizeof arrays);
     for (int i = 0; i < ARRAYS; i++) all += like[i].used;
     right = status == ACPINS_REFUSED ? ACPINS_REFUSED : ACPINS_OK;
+    CHECK(status != ACPINS_REFUSED || are_filled_records());
+    CHECK(status != ACPINS_REFUSED || call != call_check || outcome.table == 0);
     CHECK(taken == 0 && (status == ACPINS_REFUSED || status == (all > 0 ? ACPINS_NO_ROOM : ACPINS_OK)));
+}
+
+static int is_told(const struct acpins_body *told_body, const struct acpins_verdict *told_verdict) {
+    return memcmp(&body, told_body, sizeof body) == 0 && memcmp(&verdict, told_verdict, sizeof verdict) == 0;
 }
 
 /* Each allocation refused in turn: how many there are. */
@@ -153,12 +171,12 @@ static size_t refuse_each(void (*call)(void), size_t *in_vain) {
     for (size_t n = 1;; n++) {
         for (int i = 0; i < ARRAYS; i++) memset(arrays[i].bytes, FILLED, bytes_of(&arrays[i]));
         left = n;
+        fill_records();
         call();
         int is_whole = status == right;
         CHECK(taken == 0 && (is_whole || status == ACPINS_MEMORY));
         CHECK(memcmp(&outcome, is_whole ? &told : &nothing, sizeof outcome) == 0);
-        CHECK(!is_whole || memcmp(&body, &told_body, sizeof body) == 0);
-        CHECK(!is_whole || memcmp(&verdict, &told_verdict, sizeof verdict) == 0);
+        CHECK(is_whole ? is_told(&told_body, &told_verdict) : are_filled_records());
         for (int i = 0; i < ARRAYS; i++) {
             size_t size = bytes_of(&arrays[i]);
             CHECK(is_whole ? size == 0 || memcmp(arrays[i].bytes, arrays[i].whole, size) == 0 : is_filled(arrays[i].bytes, size));
@@ -173,14 +191,19 @@ static size_t refuse_each(void (*call)(void), size_t *in_vain) {
     }
 }
 
-/* Each array one place too short: the sizes are told, and nothing is written. A refusal stays one. */
+/* Each array one place too short: the sizes are told, and no array is written, but the records of acpins_body and
+ * acpins_check are. A refusal stays one. */
 static void shorten_each(void (*call)(void), const struct array *like) {
+    struct acpins_body told_body = body;
+    struct acpins_verdict told_verdict = verdict;
     for (int which = 0; which < ARRAYS; which++) {
         size_t n = 0, rooms[ARRAYS];
         if (like[which].used == 0) continue;
         for (int i = 0; i < ARRAYS; i++) rooms[i] = like[i].used - (i == which);
         make_arrays(rooms, like);
+        fill_records();
         call();
+        CHECK(is_told(&told_body, &told_verdict));
         CHECK(taken == 0 && status == (right == ACPINS_OK ? ACPINS_NO_ROOM : right));
         for (int i = 0; i < ARRAYS; i++)
             CHECK(arrays[i].used == like[i].used && is_filled(arrays[i].bytes, bytes_of(&arrays[i]) + GUARD));
@@ -195,6 +218,7 @@ static void test(const char *of, void (*call)(void)) {
     learn_sizes(call, like);
     for (int i = 0; i < ARRAYS; i++) rooms[i] = like[i].used;
     make_arrays(rooms, like);
+    fill_records();
     call();
     CHECK(taken == 0 && status == right);
     for (int i = 0; i < ARRAYS; i++) {

@@ -116,7 +116,8 @@ pub enum Verdict {
 /// Whether the SSDTs may be loaded in any order over the DSDT.
 ///
 /// # Errors
-/// Those of [`Machine::load`](crate::Machine::load); only a DSDT is refused so.
+/// Those of [`Machine::load`](crate::Machine::load). A refusal is about the DSDT, table 0: an SSDT that
+/// can't be loaded is a verdict.
 pub fn check(tables: &[&[u8]], depth: u32) -> Result<Verdict, Fault> {
     let lent = raw::lend(tables)?;
     let mut satisfied: Vec<raw::Satisfied> = Vec::new();

@@ -255,6 +255,19 @@ fn ssdts_commute_or_not() {
 }
 
 #[test]
+fn only_a_dsdt_is_refused_by_a_check() {
+    let (dsdt, ssdt) = (table(b"DSDT", b""), table(b"SSDT", b"\x06"));
+    assert!(matches!(
+        check(&[&dsdt, &ssdt], 16),
+        Ok(Verdict::NotAlone { ssdt: 1, .. })
+    ));
+    assert!(matches!(
+        check(&[&table(b"DSDT", b"\x06"), &ssdt], 16),
+        Err(Fault::Refused { table: 0, .. })
+    ));
+}
+
+#[test]
 fn tables_are_rewritten() {
     let (long, short) = (
         table(b"DSDT", b"\x10\x44\x00\\\x00"),
