@@ -41,7 +41,8 @@ class Host:
         if os.path.exists(f"{room}/{OUT}"):
             with open(f"{room}/{OUT}", "rb") as handle:
                 written = handle.read()
-        return Answer(ran.returncode, ran.stdout, ran.stderr, written), os.fstat(FAILED).st_size > 0
+        more = sorted({*os.listdir(room)} - {*files, OUT})
+        return Answer(ran.returncode, ran.stdout, ran.stderr, written, more), os.fstat(FAILED).st_size > 0
 
 
 def make_steps(room, static):

@@ -1,6 +1,6 @@
 /* A preloaded or linked object for tests: one step of the host fails, that which STEP names, as `memory:3` (the third
-   growth of memory) or `read:1`. The kinds are memory; open and read; create, write and sync of files that are made; close;
-   out and err, the writes to the two streams. Steps are counted from the start of `main`. A step that failed is told on
+   growth of memory) or `read:1`. The kinds are memory; open and read; stat, create, chmod, write, sync and rename of files
+   that are made; close; out and err, the writes to the two streams. Steps are counted from the start of `main`. A step that failed is told on
    descriptor 9. With SHORT in the environment no read takes more than seven bytes, and no write more than five. It is no
    part of any crate. */
 typedef unsigned long size_t;
@@ -12,7 +12,7 @@ extern int *__errno_location(void);
 extern char *getenv(const char *);
 
 enum { O_CREAT = 0100, AT_FDCWD = -100, EIO = 5 };
-enum { READ = 0, WRITE = 1, CLOSE = 3, FSYNC = 74, OPENAT = 257 };
+enum { READ = 0, WRITE = 1, CLOSE = 3, FSYNC = 74, RENAME = 82, FCHMOD = 91, OPENAT = 257, STATX = 332 };
 
 static long left = -1;
 static const char *kind = "";
@@ -22,16 +22,19 @@ static int is_short;
 /* The C library's own start needs memory too, and falls without it. */
 __attribute__((constructor)) static void begin(void) { has_begun = 1; }
 
-static long call(long number, long a, long b, long c, long d) {
+static long call_with(long number, long a, long b, long c, long d, long e) {
   long result;
   register long fourth __asm__("r10") = d;
-  __asm__ volatile("syscall" : "=a"(result) : "a"(number), "D"(a), "S"(b), "d"(c), "r"(fourth) : "rcx", "r11", "memory");
+  register long fifth __asm__("r8") = e;
+  __asm__ volatile("syscall" : "=a"(result) : "a"(number), "D"(a), "S"(b), "d"(c), "r"(fourth), "r"(fifth) : "rcx", "r11", "memory");
   if (result < 0) {
     *__errno_location() = (int)-result;
     return -1;
   }
   return result;
 }
+
+static long call(long number, long a, long b, long c, long d) { return call_with(number, a, b, c, d, 0); }
 
 static int is_kind(const char *name) {
   const char *it = kind;
@@ -81,6 +84,14 @@ ssize_t write(int file, const void *from, size_t bytes) {
 }
 
 ssize_t __write(int file, const void *from, size_t bytes) { return write(file, from, bytes); }
+
+int statx(int folder, const char *name, int flags, unsigned mask, void *to) {
+  return fails("stat") ? -1 : (int)call_with(STATX, folder, (long)name, flags, mask, (long)to);
+}
+
+int fchmod(int file, unsigned mode) { return fails("chmod") ? -1 : (int)call(FCHMOD, file, mode, 0, 0); }
+
+int rename(const char *from, const char *to) { return fails("rename") ? -1 : (int)call(RENAME, (long)from, (long)to, 0, 0); }
 
 int fsync(int file) { return fails("sync") ? -1 : (int)call(FSYNC, file, 0, 0, 0); }
 

@@ -56,12 +56,14 @@ def kept(text):
 
 @dataclass
 class Answer:
-    """What a run answers: its status, what stands on the two streams, and what `out` holds then, if it is there."""
+    """What a run answers: its status, what stands on the two streams, what `out` holds then, if it is there, and the names of
+    other files that it left."""
 
     status: int
     out: bytes
     err: bytes
     written: bytes = None
+    more: list = field(default_factory=list)
 
 
 @dataclass

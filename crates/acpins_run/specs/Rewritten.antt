@@ -2,7 +2,7 @@
 use Rattle.std.specs.Prelude.{◌≡◌, ℕ, Bool, true, false, List, [], ◌∷◌, ◌++◌, Option, IfSome, Some}
 use Rattle.std.specs.List.{flat_map}
 use Rattle.acpins_run.specs.declared.failure.Failure.{Failure}
-use Rattle.acpins_run.specs.declared.failure.Failure.TheVariants.{Out}
+use Rattle.acpins_run.specs.declared.failure.Failure.TheVariants.{Out, Memory}
 use Rattle.hex.specs.Hex.{encode_lower}
 
 -- a table: its bytes, or a line of their lower-case digits
@@ -14,9 +14,10 @@ table_text false table = table
 abbrev pub file_text : Bool → List (List ℕ) → List ℕ
 file_text hex tables = flat_map (table_text hex) tables
 
--- the failure says that the file of this name can't be written
+-- the failure says that the file of this name can't be written, or that there is no memory for it
 abbrev pub IsUnwritten : List ℕ → Failure → Type 0
 IsUnwritten name (Out word) = word.now ≡ name
+IsUnwritten name Memory = Unit {0}
 IsUnwritten name _ = ⊥
 
 -- where it is known what was written to a file before, it holds these bytes now

@@ -87,15 +87,10 @@ IsStoredFor bytes_of asked (rewriting word) old new = IsStored bytes_of asked wo
 abbrev pub StoresOutput : FileBytes → List Text → FileBytes → FileBytes → Type 0
 StoresOutput bytes_of words old new = (asked : Asked) × (asked_of words ≡ Some asked) × IsStoredFor bytes_of asked asked.command old new
 
--- all files are as they were, but for one that the failure says can't be written
-abbrev pub KeepsOthers : Failure → FileBytes → FileBytes → Type 0
-KeepsOthers (Out word) old new = (other : List ℕ) → other ≢ word.now → new other ≡ old other
-KeepsOthers _ old new = new ≡ old
-
--- .. and so a failure leaves them; where standard output can't be written, all else is done
+-- a failure leaves all files as they were; where standard output can't be written, all else is done
 abbrev pub LeavesFiles : FileBytes → List Text → Failure → FileBytes → FileBytes → Type 0
 LeavesFiles bytes_of words Output old new = StoresOutput bytes_of words old new
-LeavesFiles bytes_of words failure old new = KeepsOthers failure old new
+LeavesFiles bytes_of words failure old new = new ≡ old
 
 -- ---- why nothing is
 

@@ -21,6 +21,7 @@
 mod failure;
 mod files;
 mod hexadecimal;
+mod host;
 mod lines;
 mod program;
 mod rewriting;
@@ -28,7 +29,8 @@ mod tables;
 
 pub use acpins_output::{Output, PartWriter, UntilFailure};
 pub use failure::Failure;
-pub use files::{FileFault, Files, HostFiles};
+pub use files::{FileFault, Files};
 pub use hexadecimal::{HexFault, from_hex};
+pub use host::{HostFile, HostFiles};
 pub use program::{made_in, run, run_telling, told};
 pub use tables::add_tables;

@@ -1,6 +1,6 @@
 //! One run of the program.
 
-ghost use Rattle.std.specs.Prelude.{◌≡◌, ◌≢◌, ◌≤◌, ◌⊎◌, ◌∷◌, [], IfOk, IfErr, OnOk, IsTrue, None};
+ghost use Rattle.std.specs.Prelude.{◌≡◌, ◌≢◌, ◌≤◌, ◌⊎◌, ◌∷◌, [], IfOk, IfErr, OnOk, OnErr, IsTrue, None};
 ghost use Rattle.acpi_name.specs.Text.{SpellsPathText, IsPathText};
 ghost use Rattle.acpi_declare.specs.DeclaredView as declared;
 ghost use Rattle.acpi_declare.specs.Links.{links_at};
@@ -14,7 +14,7 @@ ghost use Rattle.acpins_output.specs.Told.{AppendsBeginning, Tells};
 ghost use Rattle.acpins_words.specs.Words.{texts, showing, rewriting, asked_in, asked_of};
 ghost use Rattle.acpins_run.specs.Input.{files_of, AreTablesOf, IsFilesFault};
 ghost use Rattle.acpins_run.specs.steps.Loading.{HasMachine};
-ghost use Rattle.acpins_run.specs.Runs.{IsListing, IsShowing, IsChecking, IsRewriting, IsWrong, IsOutput, GetsOutput, IsFailureOf, IsRunFailure, IsStored, StoresOutput, KeepsOthers, LeavesFiles, FailsWith};
+ghost use Rattle.acpins_run.specs.Runs.{IsListing, IsShowing, IsChecking, IsRewriting, IsWrong, IsOutput, GetsOutput, IsFailureOf, IsRunFailure, IsStored, StoresOutput, LeavesFiles, FailsWith};
 
 use crate::failure::Failure;
 use crate::files::Files;
@@ -166,7 +166,7 @@ fn rewriting_of<'a, S: Space<Object>, F: Files>(
     ensures ok { OnOk result (IsRewriting (F.bytes_of files.old) (asked_in request.now)) }
     ensures err { IfErr result (IsFailureOf (F.bytes_of files.old) (asked_in request.now)) }
     ensures stored { OnOk result (IsStored (F.bytes_of files.old) (asked_in request.now) out.now (F.written_to files.old) (F.written_to files.new)) }
-    ensures left { IfErr result (λ f. KeepsOthers f (F.written_to files.old) (F.written_to files.new)) }
+    ensures left { OnErr result (F.written_to files.new ≡ F.written_to files.old) }
 {
     let tables = some_tables_of(alloc, request, files)?;
     let Some((dsdt, ssdts)) = tables.split_first() else {

@@ -1,13 +1,13 @@
 //! Tables that are written to a file.
 
-ghost use Rattle.std.specs.Prelude.{◌≡◌, ◌≢◌, ◌∷◌, ◌++◌, ℕ, List, true, IfErr, IfOk, OnOk, map};
+ghost use Rattle.std.specs.Prelude.{◌≡◌, ◌≢◌, ◌∷◌, ◌++◌, ℕ, List, true, IfErr, IfOk, OnOk, OnErr, map};
 ghost use Rattle.acpi_declare.specs.Loads.{HasNoLoad};
 ghost use Rattle.acpi_declare.specs.Refusals.{IsLoadFault};
 ghost use Rattle.acpi_rewrite.specs.Rewriting.{AreRewritten};
 ghost use Rattle.acpins_run.specs.Rewritten.{file_text, table_text, IsUnwritten, Holds};
 
 use crate::failure::Failure;
-use crate::files::Files;
+use crate::files::{FileFault, Files};
 use acpi_load::{LoadFault, rewrite_joined, rewrite_shared};
 use acpi_space::Space;
 use acpi_terms::{Depth, Object};
@@ -55,18 +55,34 @@ pub fn rewritten_text<S: Space<Object>>(
     Ok(digits_of(alloc, &rewritten)?)
 }
 
-/// Makes the file of that name, and writes the bytes to it.
+// Why a file of that name isn't written.
+fn unwritten(name: &str, fault: FileFault) -> Failure<'_>
+    ensures { IsUnwritten name.now result }
+{
+    match fault {
+        FileFault::Device => Failure::Out(name),
+        FileFault::Memory => Failure::Memory,
+    }
+}
+
+/// Makes the file of that name, and writes the bytes to it. Where that fails, what stands under the name stays.
 pub fn put_file<'a, F: Files>(files: &mut F, name: &'a str, bytes: &[u8]) -> Result<(), Failure<'a>>
     ensures held { OnOk result (Holds (F.written_to files.old name.now) (F.written_to files.new name.now) bytes.now) }
     ensures others { (other : List ℕ) → other ≢ name.now → F.written_to files.new other ≡ F.written_to files.old other }
     ensures err { IfErr result (IsUnwritten name.now) }
+    ensures left { OnErr result (F.written_to files.new ≡ F.written_to files.old) }
 {
-    let Ok(mut file) = files.create(name) else {
-        return Err(Failure::Out(name));
+    let mut file = match files.create(name) {
+        Ok(file) => file,
+        Err(fault) => return Err(unwritten(name, fault)),
     };
     let written = file.write_all(bytes).is_ok() && file.flush().is_ok();
-    if !written || files.close(name, file).is_err() {
+    if !written {
+        files.abandon(name, file);
         return Err(Failure::Out(name));
     }
-    Ok(())
+    match files.close(name, file) {
+        Ok(()) => Ok(()),
+        Err(fault) => Err(unwritten(name, fault)),
+    }
 }

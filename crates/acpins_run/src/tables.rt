@@ -6,7 +6,7 @@ ghost use Rattle.acpins_run.specs.Input.{AddsTablesOf, IsFileFault, CountsFailed
 ghost use Rattle.acpins_run.specs.steps.HexFiles.{IsHexFault};
 
 use crate::failure::Failure;
-use crate::files::Files;
+use crate::files::{FileFault, Files};
 use crate::hexadecimal::{HexDecoder, HexFault};
 use acpi_table::{FromRead, ReadFault, SliceSource, Source, read_table};
 use bytes::Bytes;
@@ -91,8 +91,10 @@ pub fn add_tables<'a, F: Files>(
     ensures stays { F.bytes_of files.new ≡ F.bytes_of files.old }
     ensures others { F.written_to files.new ≡ F.written_to files.old }
 {
-    let Ok(mut file) = files.open(name) else {
-        return Err(Failure::Read(name));
+    let mut file = match files.open(name) {
+        Ok(file) => file,
+        Err(FileFault::Device) => return Err(Failure::Read(name)),
+        Err(FileFault::Memory) => return Err(Failure::Memory),
     };
     if !hex {
         return cut(alloc, name, &mut FromRead::new(file), tables);

@@ -100,6 +100,7 @@ fn tells_of_files_that_are_not_written(rt: HostRuntime) {
         };
         let mut files = files_of(&rt, alloc, &[Kept::Dsdt(PCI0)], failing);
         let got = ran_with(&rt, alloc, &mut files, "rewrite|out|a", 0, 0);
+        assert_eq!(rt; files.unended, 0, "step {k} leaves a file open");
         if k <= 14 {
             assert!(rt; got.is_refusal(1, line), "step {k} gave {got:?}");
             assert!(rt; files.get("out").is_none());

@@ -28,12 +28,14 @@ impl<'a> Files for Held<'a> {
     }
 
     fn create(&mut self, _name: &str) -> Result<Sink, FileFault> {
-        Err(FileFault)
+        Err(FileFault::Device)
     }
 
     fn close(&mut self, _name: &str, _file: Sink) -> Result<(), FileFault> {
-        Err(FileFault)
+        Err(FileFault::Device)
     }
+
+    fn abandon(&mut self, _name: &str, _file: Sink) {}
 }
 
 // The tables in a file are all of its bytes.

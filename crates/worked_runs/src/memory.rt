@@ -102,6 +102,8 @@ impl Write for MemoryWriter {
 pub struct MemoryFiles {
     alloc: Global,
     pub kept: Vec<(String, Vec<u8>)>,
+    /// How many files were made and neither closed nor given up.
+    pub unended: usize,
     failing: Failing,
 }
 
@@ -110,6 +112,7 @@ impl MemoryFiles {
         MemoryFiles {
             alloc,
             kept: Vec::new(alloc),
+            unended: 0,
             failing,
         }
     }
@@ -137,10 +140,10 @@ impl Files for MemoryFiles {
 
     fn open(&mut self, name: &str) -> Result<MemoryReader, FileFault> {
         let Some(bytes) = self.get(name) else {
-            return Err(FileFault);
+            return Err(FileFault::Device);
         };
         let Ok(bytes) = Vec::from_slice(self.alloc, bytes) else {
-            return Err(FileFault);
+            return Err(FileFault::Memory);
         };
         let step = if self.failing.file == name {
             self.failing.read
@@ -156,21 +159,24 @@ impl Files for MemoryFiles {
 
     fn create(&mut self, _name: &str) -> Result<MemoryWriter, FileFault> {
         if self.failing.create {
-            return Err(FileFault);
+            return Err(FileFault::Device);
         }
+        self.unended = self.unended.saturating_add(1);
         Ok(MemoryWriter::new(self.alloc, self.failing.write))
     }
 
     fn close(&mut self, name: &str, file: MemoryWriter) -> Result<(), FileFault> {
+        self.unended = self.unended.saturating_sub(1);
         if self.failing.close {
-            return Err(FileFault);
+            return Err(FileFault::Device);
         }
-        let Ok(name) = String::from_str(self.alloc, name) else {
-            return Err(FileFault);
-        };
-        match self.kept.push((name, file.bytes)) {
-            Ok(_) => Ok(()),
-            Err(_) => Err(FileFault),
+        match self.add(name, file.bytes.as_slice()) {
+            Ok(()) => Ok(()),
+            Err(_) => Err(FileFault::Memory),
         }
+    }
+
+    fn abandon(&mut self, _name: &str, _file: MemoryWriter) {
+        self.unended = self.unended.saturating_sub(1);
     }
 }
