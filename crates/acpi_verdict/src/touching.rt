@@ -74,7 +74,9 @@ pub(crate) fn touching_of(
     ensures { IfOk result (λ v. AreTouching definers.now (tried_of alone.now) v.items) }
 {
     let mut touching = Vec::new(alloc);
-    touching.resize(count.saturating_add(1), false)?;
+    for _ in 0..=count {
+        touching.push(false)?;
+    }
     mark_paths(&mut touching, definers, &alone.missed)?;
     mark_paths(&mut touching, definers, &alone.awaited)?;
     Ok(touching)

@@ -4,5 +4,5 @@ use Rattle.acpi_verdict.proofs.touching.touching_of.Goals as goal
 
 pub returns : goal.returns
 returns c =
-    all_touching c.args.definers.now (tried_of c.args.alone.now) c.resize.new.self.items c.mark_paths.new.touching.items c.mark_paths-2.new.touching.items c.in_ok-mark_paths.ensures
+    all_touching c.args.definers.now (tried_of c.args.alone.now) _ _ _ c.in_ok-mark_paths.ensures
     c.in_ok-mark_paths-2.ensures
