@@ -42,7 +42,9 @@ pub use acpi_declare::{
     Declared, Keep, LinkMap, LoadFault, LoadReason, Refusal, declare, declare_keeping,
     declare_shared, laws,
 };
-pub use acpi_machine::{Machine, explain, explain_shared, load, load_shared, load_with_body_at};
+pub use acpi_machine::{
+    Machine, explain, explain_shared, load, load_objects, load_shared, load_with_body_at,
+};
 pub use acpi_rewrite::{rewrite, rewrite_joined, rewrite_shared, rewriting_laws};
 pub use acpi_verdict::{
     Awaited, Checked, Satisfied, Single, Verdict, check_shared, join, satisfied, satisfied_shared,

@@ -28,5 +28,5 @@ mod machine;
 mod reasons;
 
 pub use bodies::put_body;
-pub use machine::{Machine, load, load_shared, load_with_body_at};
+pub use machine::{Machine, load, load_objects, load_shared, load_with_body_at};
 pub use reasons::{explain, explain_shared};

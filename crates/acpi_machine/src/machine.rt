@@ -1,20 +1,24 @@
 //! What a DSDT and SSDTs load to.
 
-ghost use Rattle.std.specs.Prelude.{◌≡◌, ◌≢◌, ◌∷◌, [], map, IfOk, IfErr, MatchResult};
-ghost use Rattle.acpi_declare.specs.Loads.{HasNoLoad};
+ghost use Rattle.std.specs.Prelude.{◌≡◌, ◌≢◌, ◌∷◌, map, IfOk, IfErr};
+ghost use Rattle.acpi_declare.specs.DeclaredView as declared;
+ghost use Rattle.acpi_declare.specs.Keeping.{AreKeptNotes};
+ghost use Rattle.acpi_declare.specs.Links.{links_at};
+ghost use Rattle.acpi_declare.specs.Loads.{IsLoad, HasNoLoad};
+ghost use Rattle.acpi_declare.specs.Namespace.{namespace_of};
+ghost use Rattle.acpi_declare.specs.Notes.{notes_of};
 ghost use Rattle.acpi_declare.specs.Refusals.{IsLoadFault};
 ghost use Rattle.acpi_order.specs.Machines.{IsMachine};
-ghost use Rattle.acpi_order.specs.Joins.{IsJoin, IsSingleLoad};
-ghost use Rattle.acpi_order.specs.Independent.{IsIndependent};
-ghost use Rattle.acpi_machine.specs.MachineView.{objects_in, links_in, bodies_in, machine_of};
+ghost use Rattle.acpi_order.specs.Joins.{IsJoin};
+ghost use Rattle.acpi_order.specs.Orders.{AreJoined, IsJoinAt, TellsOfJoin};
+ghost use Rattle.acpi_machine.specs.MachineView.{objects_in, links_in, bodies_in, machine_of, HasMachine};
 ghost use Rattle.acpi_machine.specs.OneBody.{IsMachineAt};
 ghost use Rattle.acpi_machine.specs.steps.Adding.{HasBodies};
 
 use crate::bodies::read_bodies;
 use acpi_body::Body;
-use acpi_declare::{Keep, LinkMap, LoadFault, declare_keeping, shared_tables};
+use acpi_declare::{Declared, Keep, LinkMap, LoadFault, declare_keeping, shared_tables};
 use acpi_name::Path;
-use acpi_order::laws::independent_tables_load;
 use acpi_space::Space;
 use acpi_terms::{Depth, Object};
 use bytes::Bytes;
@@ -94,6 +98,24 @@ fn load_in_order<S: Space<Object>>(
     load_keeping(alloc, dsdt, ssdts, Keep::All, depth)
 }
 
+/// The objects and links of a load. No body is read; `keep` says how much is kept of what the tables note for bodies.
+pub fn load_objects<S: Space<Object>>(
+    alloc: Global,
+    dsdt: &Bytes,
+    ssdts: &[Bytes],
+    keep: Keep<'_>,
+    depth: Depth,
+) -> Result<Declared<S>, LoadFault>
+    ensures ok { IfOk result (λ d. IsLoad depth (dsdt.now ∷ ssdts.now) (namespace_of (S.contents (declared.objects_in d))) (links_at (declared.links_in d))) }
+    ensures machine { IfOk result (λ d. HasMachine depth (dsdt.now ∷ ssdts.now) (namespace_of (S.contents (declared.objects_in d))) (links_at (declared.links_in d))) }
+    ensures notes { IfOk result (λ d. AreKeptNotes depth (dsdt.now ∷ ssdts.now) keep.entry (map notes_of (declared.notes_in d))) }
+    ensures err { IfErr result (λ e. IsLoadFault depth (dsdt.now ∷ ssdts.now) e) }
+    ensures none { IfErr result (λ e. e ≢ LoadFault.Memory → HasNoLoad depth (dsdt.now ∷ ssdts.now)) }
+    ensures any_order { TellsOfJoin (λ Part d. AreJoined Part (namespace_of (S.contents (declared.objects_in d))) (links_at (declared.links_in d))) depth dsdt.now ssdts.now result }
+{
+    declare_keeping(alloc, dsdt, ssdts, keep, depth)
+}
+
 /// The same as `load_shared`, but of the bodies only that of the method at a path is read, where a table declares one
 /// there: the others are neither read nor kept.
 pub fn load_with_body_at<S: Space<Object>>(
@@ -106,6 +128,7 @@ pub fn load_with_body_at<S: Space<Object>>(
     ensures ok { IfOk result (λ m. IsMachineAt depth (dsdt.now ∷ ssdts.now) path.now (machine_of (S.contents (objects_in m)) m)) }
     ensures err { IfErr result (λ e. IsLoadFault depth (dsdt.now ∷ ssdts.now) e) }
     ensures none { IfErr result (λ e. e ≢ LoadFault.Memory → HasNoLoad depth (dsdt.now ∷ ssdts.now)) }
+    ensures any_order { TellsOfJoin (λ Part m. IsJoinAt Part path.now (machine_of (S.contents (objects_in m)) m)) depth dsdt.now ssdts.now result }
 {
     load_keeping(alloc, dsdt, ssdts, Keep::MethodAt(path), depth)
 }
@@ -126,11 +149,9 @@ pub fn load_shared<S: Space<Object>>(
     ensures ok { IfOk result (λ m. IsMachine depth (dsdt.now ∷ ssdts.now) (machine_of (S.contents (objects_in m)) m)) }
     ensures err { IfErr result (λ e. IsLoadFault depth (dsdt.now ∷ ssdts.now) e) }
     ensures none { IfErr result (λ e. e ≢ LoadFault.Memory → HasNoLoad depth (dsdt.now ∷ ssdts.now)) }
-    // Independent SSDTs load to the join of their single loads, or memory is refused.
-    ensures independent { ssdts.now ≢ [] → IsIndependent depth dsdt.now ssdts.now
-        → MatchResult result (λ m. IsJoin (IsSingleLoad depth dsdt.now ssdts.now) (machine_of (S.contents (objects_in m)) m)) (λ e. e ≡ LoadFault.Memory) }
+    // Independent SSDTs load in any order to the join of their single loads, or memory is refused.
+    ensures any_order { TellsOfJoin (λ Part m. IsJoin Part (machine_of (S.contents (objects_in m)) m)) depth dsdt.now ssdts.now result }
 {
-    independent_tables_load();
     load_in_order(alloc, dsdt, ssdts, depth)
 }
 
@@ -144,8 +165,7 @@ pub fn load<S: Space<Object>>(
     ensures ok { IfOk result (λ m. IsMachine depth (dsdt.now ∷ map (λ b. b.now) ssdts.now) (machine_of (S.contents (objects_in m)) m)) }
     ensures err { IfErr result (λ e. IsLoadFault depth (dsdt.now ∷ map (λ b. b.now) ssdts.now) e) }
     ensures none { IfErr result (λ e. e ≢ LoadFault.Memory → HasNoLoad depth (dsdt.now ∷ map (λ b. b.now) ssdts.now)) }
-    ensures independent { map (λ b. b.now) ssdts.now ≢ [] → IsIndependent depth dsdt.now (map (λ b. b.now) ssdts.now)
-        → MatchResult result (λ m. IsJoin (IsSingleLoad depth dsdt.now (map (λ b. b.now) ssdts.now)) (machine_of (S.contents (objects_in m)) m)) (λ e. e ≡ LoadFault.Memory) }
+    ensures any_order { TellsOfJoin (λ Part m. IsJoin Part (machine_of (S.contents (objects_in m)) m)) depth dsdt.now (map (λ b. b.now) ssdts.now) result }
 {
     let dsdt = Bytes::copy_from_slice(alloc, dsdt)?;
     let ssdts = shared_tables(alloc, ssdts)?;

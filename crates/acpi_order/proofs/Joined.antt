@@ -187,6 +187,18 @@ module _ (depth : ℕ) (dsdt b₀ : List ℕ) (bs : List (List ℕ)) (first t₀
 
 -- ---- independent SSDTs
 
+-- all of them are listed as each is alone
+pub listed_alone : (depth : ℕ) (dsdt : List ℕ) (ssdts : List (List ℕ)) → ssdts ≢ [] → IsIndependent depth dsdt ssdts
+    → (first : Listing) × (ts : List Listing) × AreAlone depth dsdt first ssdts ts × AreListings depth 0 predefined (dsdt ∷ ssdts) (first ∷ ts)
+listed_alone depth dsdt [] some h = absurd (some refl)
+listed_alone depth dsdt (b ∷ bs) some h =
+    let first = h.alone.0.0 in
+    let t = h.alone.0.1 in
+    let r = alone_tables depth dsdt b first t h.alone.0.2 bs h.alone.1 in
+    let alone : AreAlone depth dsdt first (b ∷ bs) (t ∷ r.0) = (h.alone.0.2, r.1) in
+    let apart = all_apart depth dsdt first (b ∷ bs) (t ∷ r.0) alone h.apart in
+    (first, t ∷ r.0, alone, in_list_order depth dsdt b bs first t r.0 alone apart)
+
 pub load_exists : (depth : ℕ) (dsdt : List ℕ) (ssdts : List (List ℕ)) → ssdts ≢ [] → IsIndependent depth dsdt ssdts
     → (m : Machine) × IsMachine depth (dsdt ∷ ssdts) m × IsJoin (IsSingleLoad depth dsdt ssdts) m
 load_exists depth dsdt [] some h = absurd (some refl)

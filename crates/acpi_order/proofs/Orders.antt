@@ -77,7 +77,7 @@ all_among_itself : {X : Type 0} (xs : List X) → AllByRecursion (Among xs) xs
 all_among_itself [] = tt
 all_among_itself (x ∷ xs) = (inl refl, all_among_more x xs xs (all_among_itself xs))
 
-among_in_any_order : {X : Type 0} (xs ys : List X) → IsPermutation xs ys → (x : X) → Among xs x → Among ys x
+pub among_in_any_order : {X : Type 0} (xs ys : List X) → IsPermutation xs ys → (x : X) → Among xs x → Among ys x
 among_in_any_order xs ys order x m = among_all (Among ys) xs (all_shuffled (Among ys) ys xs (IsPermutation-sym xs ys order) (all_among_itself ys)) x m
 
 union_of_equals : {X V : Type 0} (Part Piece : X → Type 0) (values : X → Lookup V) (whole : Lookup V)
@@ -105,7 +105,7 @@ module _ (depth : ℕ) (dsdt : List ℕ) where
     apart = different_in_any_order (AreApart depth dsdt) xs ys order h.apart;
   }
 
-  some_in_any_order : (xs ys : List (List ℕ)) → IsPermutation xs ys → xs ≢ [] → ys ≢ []
+  pub some_in_any_order : (xs ys : List (List ℕ)) → IsPermutation xs ys → xs ≢ [] → ys ≢ []
   some_in_any_order [] ys order some = absurd (some refl)
   some_in_any_order (x ∷ xs) ys order some = λ none. absurd (subst (λ l. Among l x) none (among_in_any_order (x ∷ xs) ys order x (inl refl)))
 

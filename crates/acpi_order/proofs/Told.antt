@@ -1,5 +1,5 @@
 -- What a load tells of independent SSDTs, and joins of lists of machines.
-use Rattle.std.proofs.Common.{◌≡◌, ◌≢◌, ℕ, List, [], ◌∷◌, Option, Some, None, Result, Ok, Err, IfOk, IfErr, MatchResult, inl, inr, refl, sym, ap, subst, ◌∙◌}
+use Rattle.std.proofs.Common.{◌≡◌, ◌≢◌, ℕ, List, [], ◌∷◌, Option, Some, None, Result, Ok, Err, IfOk, IfErr, inl, inr, refl, sym, ap, subst, ◌∙◌}
 use Rattle.std.specs.Option.{option_or}
 use Rattle.acpi_name.specs.Names.{Segment}
 use Rattle.acpi_space.specs.Lookups.{Lookup}
@@ -9,22 +9,40 @@ use Rattle.acpi_declare.specs.declared.fault.LoadFault.{LoadFault}
 use Rattle.acpi_declare.specs.declared.fault.LoadFault.TheVariants.{At, Memory}
 use Rattle.acpi_order.specs.Machines.{Machine, IsMachine}
 use Rattle.acpi_order.specs.Joins.{IsUnion, IsJoin, IsSingleLoad, Agree, AllAgree}
-use Rattle.acpi_order.specs.Independent.{IsIndependent}
+use Rattle.acpi_order.specs.Orders.{AreReordered, LoadsToJoin, TellsOfJoin}
 use Rattle.acpi_order.proofs.Lists.{one_some}
-use Rattle.acpi_order.proofs.Joined.{load_exists, load_joins}
-use Rattle.acpi_order.proofs.Orders.{one_join}
+use Rattle.acpi_order.proofs.Joined.{load_exists, one_machine}
+use Rattle.acpi_order.proofs.Orders.{one_join, joins_in_any_order, some_in_any_order, independent_in_any_order}
 
 memory_only : (e : LoadFault) → (e ≢ Memory → ⊥) → e ≡ Memory
 memory_only Memory f = refl
 memory_only (At k reason) f = absurd (f (λ e. cc))
 
-pub load_tells_join : (depth : ℕ) (dsdt : List ℕ) (ssdts : List (List ℕ)) (told : Result (Machine) LoadFault)
-    → IfOk told (λ m. IsMachine depth (dsdt ∷ ssdts) m) → IfErr told (λ e. e ≢ Memory → HasNoLoad depth (dsdt ∷ ssdts))
-    → ssdts ≢ [] → IsIndependent depth dsdt ssdts → MatchResult told (λ m. IsJoin (IsSingleLoad depth dsdt ssdts) m) (λ e. e ≡ Memory)
-load_tells_join depth dsdt ssdts (Ok m) ok err some h = load_joins depth dsdt ssdts m some h ok
-load_tells_join depth dsdt ssdts (Err e) ok err some h =
-    let r = load_exists depth dsdt ssdts some h in
-    memory_only e (λ other. err other r.1.placements r.1.listings)
+pub each_order_loads : (depth : ℕ) (dsdt : List ℕ) (ssdts given : List (List ℕ)) → AreReordered depth dsdt ssdts given → LoadsToJoin depth dsdt ssdts given
+each_order_loads depth dsdt ssdts given h =
+    let r = load_exists depth dsdt given (some_in_any_order depth dsdt ssdts given h.order h.some) (independent_in_any_order depth dsdt ssdts given h.order h.independent) in
+    record {
+      machine = r.0;
+      loads = r.1;
+      joins = joins_in_any_order depth dsdt ssdts given r.0 h.some h.order h.independent r.1;
+      only = λ m loads. one_machine depth (dsdt ∷ given) m r.0 loads r.1;
+    }
+
+-- what is true of any machine to which the tables load, and of the join, is told
+pub told_of_join : {V : Type 0} (Says : (Machine → Type 0) → V → Type 0) (Loads : V → Type 0) (depth : ℕ) (dsdt : List ℕ) (given : List (List ℕ)) (result : Result V LoadFault)
+    → ((Part : Machine → Type 0) (m : Machine) (v : V) → IsMachine depth (dsdt ∷ given) m → IsJoin Part m → Loads v → Says Part v)
+    → IfOk result Loads → IfErr result (λ e. e ≢ Memory → HasNoLoad depth (dsdt ∷ given)) → TellsOfJoin Says depth dsdt given result
+told_of_join Says Loads depth dsdt given (Ok v) says ok err ssdts h =
+    let r = each_order_loads depth dsdt ssdts given h in says (IsSingleLoad depth dsdt ssdts) r.machine v r.loads r.joins ok
+told_of_join Says Loads depth dsdt given (Err e) says ok err ssdts h =
+    let r = each_order_loads depth dsdt ssdts given h in memory_only e (λ other. err other r.loads.placements r.loads.listings)
+
+pub load_tells_join : (depth : ℕ) (dsdt : List ℕ) (given : List (List ℕ)) (told : Result Machine LoadFault)
+    → IfOk told (λ m. IsMachine depth (dsdt ∷ given) m) → IfErr told (λ e. e ≢ Memory → HasNoLoad depth (dsdt ∷ given))
+    → TellsOfJoin IsJoin depth dsdt given told
+load_tells_join depth dsdt given told =
+    told_of_join IsJoin (IsMachine depth (dsdt ∷ given)) depth dsdt given told
+    (λ Part m v loads joins is. subst (IsJoin Part) (one_machine depth (dsdt ∷ given) m v loads is) joins)
 
 -- ---- the first value of several maps
 

@@ -1,5 +1,5 @@
 -- The laws of independent SSDTs, each as one statement (ACPI 6.5, 5.2.11 and 5.3).
-use Rattle.std.specs.Prelude.{◌≡◌, ◌≢◌, ◌↔◌, ℕ, ◌<◌, List, [], ◌∷◌, Option, None, Some, IsTrue, Result, IfOk, IfErr, MatchResult, IsPermutation}
+use Rattle.std.specs.Prelude.{◌≡◌, ◌≢◌, ◌↔◌, ℕ, ◌<◌, List, [], ◌∷◌, Option, None, Some, IsTrue, Result, IfOk, IfErr, IsPermutation}
 use Rattle.std.specs.declared.cmp.Ordering.TheVariants.{Less}
 use Rattle.std.specs.FinMap as finite
 use Rattle.acpi_name.specs.Names.{Segment, NameParts}
@@ -25,6 +25,7 @@ use Rattle.acpi_order.specs.Machines.{Machine, IsMachine}
 use Rattle.acpi_order.specs.Joins.{AllAgree, IsJoin, IsSingleLoad}
 use Rattle.acpi_order.specs.Misses.{Listing, objects_of_first, objects_of_both, IsLinkMiss, IsBodyMiss, IsAwaiting, IsMiss, IsAwaited}
 use Rattle.acpi_order.specs.Independent.{AreSingleListings, LoadsAlone, is_method_of, IsIndependent}
+use Rattle.acpi_order.specs.Orders.{AreReordered, LoadsToJoin, TellsOfJoin}
 use Rattle.acpi_order.specs.Verdicts.{VerdictTree, commute, not_alone, IsVerdict, DsdtLoads, IsSsdt, IsReasonAt, IsPairBefore, IsLeast, IsSame, IsMissed}
 use Rattle.acpi_order.specs.Singles.{IsSingle, IsUnmetBy}
 use Rattle.acpi_order.specs.Sharing.{objects_for, Keeping, IsMissKeeping, IsAwaitedKeeping}
@@ -51,11 +52,15 @@ AnyOrderLoadsAlike = (depth : ℕ) (dsdt : List ℕ) (ssdts given : List (List �
     → IsMachine depth (dsdt ∷ ssdts) m → IsMachine depth (dsdt ∷ given) n → m ≡ n
 
 -- What tells of a list of tables a machine to which they load or a fault, and a fault other than want of memory only where
--- they have no load, tells of independent SSDTs the join, or want of memory.
+-- they have no load, tells of independent SSDTs in any order the join of their single loads, or want of memory.
 abbrev pub LoadTellsJoin : Type 0
-LoadTellsJoin = (depth : ℕ) (dsdt : List ℕ) (ssdts : List (List ℕ)) (told : Result Machine LoadFault)
-    → IfOk told (λ m. IsMachine depth (dsdt ∷ ssdts) m) → IfErr told (λ e. e ≢ Memory → HasNoLoad depth (dsdt ∷ ssdts))
-    → ssdts ≢ [] → IsIndependent depth dsdt ssdts → MatchResult told (λ m. IsJoin (IsSingleLoad depth dsdt ssdts) m) (λ e. e ≡ Memory)
+LoadTellsJoin = (depth : ℕ) (dsdt : List ℕ) (given : List (List ℕ)) (told : Result Machine LoadFault)
+    → IfOk told (λ m. IsMachine depth (dsdt ∷ given) m) → IfErr told (λ e. e ≢ Memory → HasNoLoad depth (dsdt ∷ given))
+    → TellsOfJoin IsJoin depth dsdt given told
+
+-- each order of independent SSDTs loads to the join of their single loads
+abbrev pub EachOrderLoads : Type 0
+EachOrderLoads = (depth : ℕ) (dsdt : List ℕ) (ssdts given : List (List ℕ)) → AreReordered depth dsdt ssdts given → LoadsToJoin depth dsdt ssdts given
 
 -- independence and the join are the same for every order
 abbrev pub IndependentInAnyOrder : Type 0

@@ -3,6 +3,7 @@ pub mod Machines
 pub mod Joins
 pub mod Misses
 pub mod Independent
+pub mod Orders
 pub mod Verdicts
 pub mod Singles
 pub mod Sharing

@@ -1,5 +1,5 @@
 //! Laws of independent SSDTs, on the definitions alone: the functions do nothing, and their contracts state the laws.
-ghost use Rattle.acpi_order.specs.Laws.{OneMachine, IndependentTablesLoad, IndependentTablesJoin, AnyOrderLoadsAlike, LoadTellsJoin, IndependentInAnyOrder, JoinInAnyOrder, OneJoin, AgreeingHaveJoin, JoinedAgree, CommuteIsIndependent, NoSsdtsCommute, OneVerdict, RefusedIsNotAlone, LeastSame, LeastMissed, SameByLists, MissedByLists, LinksStay, BodyStays, MissesKeep, ValuesKeep, TakenBack, AwaitedIsFound};
+ghost use Rattle.acpi_order.specs.Laws.{OneMachine, IndependentTablesLoad, IndependentTablesJoin, AnyOrderLoadsAlike, LoadTellsJoin, EachOrderLoads, IndependentInAnyOrder, JoinInAnyOrder, OneJoin, AgreeingHaveJoin, JoinedAgree, CommuteIsIndependent, NoSsdtsCommute, OneVerdict, RefusedIsNotAlone, LeastSame, LeastMissed, SameByLists, MissedByLists, LinksStay, BodyStays, MissesKeep, ValuesKeep, TakenBack, AwaitedIsFound};
 
 /// Tables load to one machine at most.
 pub fn one_machine()
@@ -17,6 +17,7 @@ pub fn independent_tables_load()
     ensures join { IndependentTablesJoin }
     ensures alike { AnyOrderLoadsAlike }
     ensures told { LoadTellsJoin }
+    ensures orders { EachOrderLoads }
 {}
 
 /// Whether SSDTs are independent, and the join of their single loads, are the same for every order of them.

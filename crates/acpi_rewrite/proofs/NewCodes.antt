@@ -20,7 +20,7 @@ use Rattle.acpi_write.specs.Canonical.{items_bytes}
 use Rattle.acpi_write.specs.Shortest.{HasWithin}
 use Rattle.acpi_order.specs.Bodies.{Method, with_counts, methods_of}
 use Rattle.acpi_rewrite.specs.Rewriting.{codes, IsNewCode, IsShortest, IsRewritten, AreEachRewritten, AreRewritten}
-use Rattle.acpi_rewrite.specs.RewritingLaws.{AreTablesOfBytes}
+use Rattle.acpi_rewrite.specs.Rewriting.{AreTablesOfBytes}
 use Rattle.acpi_machine.specs.steps.Adding.{noted}
 use Rattle.acpi_rewrite.specs.steps.Recoding.{items_with, HasNewCodes, IsRewrittenTo}
 use Rattle.acpi_rewrite.proofs.Recodes.{alike_with, all_codes_with}
@@ -236,7 +236,7 @@ later_table depth dsdt ssdts i done objects missed b r below there =
     next_table depth (dsdt ∷ ssdts) (i + 1) done objects missed r b (omega (arith, below)) (behind_first dsdt b ssdts i below there)
 
 -- .. which is bytes, and is rewritten to bytes
-bytes_pushed : (bs : List (List ℕ)) (b : List ℕ) → AreTablesOfBytes bs → All (λ n. n < 256) b → AreTablesOfBytes (bs ++ b ∷ [])
+pub bytes_pushed : (bs : List (List ℕ)) (b : List ℕ) → AreTablesOfBytes bs → All (λ n. n < 256) b → AreTablesOfBytes (bs ++ b ∷ [])
 bytes_pushed [] b h one = (one, tt)
 bytes_pushed (c ∷ bs) b h one = (h.0, bytes_pushed bs b h.1 one)
 

@@ -18,7 +18,7 @@ use Rattle.acpi_declare.proofs.Refusals.{same_listings}
 use Rattle.acpi_order.specs.Bodies.{Method, methods_of}
 use Rattle.acpi_order.proofs.ReadBodies.{one_body_there}
 use Rattle.acpi_rewrite.specs.Rewriting.{codes, without_code, body_bytes, IsNewCode, IsShortest, IsRewritten, AreEachRewritten, AreRewritten}
-use Rattle.acpi_rewrite.specs.RewritingLaws.{AreTablesOfBytes}
+use Rattle.acpi_rewrite.specs.Rewriting.{AreTablesOfBytes}
 use Rattle.acpi_rewrite.proofs.Shortened.{same_items}
 
 some_same : (a b : List ℕ) → Some a ≡ Some b → a ≡ b

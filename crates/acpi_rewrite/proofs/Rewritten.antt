@@ -1,5 +1,5 @@
 -- Rewritten tables load as they did before.
-use Rattle.std.proofs.Common.{◌≡◌, ◌↔◌, ℕ, suc, ◌<◌, ◌≤◌, List, [], ◌∷◌, ◌++◌, map, length, Option, Some, Result, Ok, Err, IfOk, refl, sym, ap, subst, ◌∙◌, All, arith}
+use Rattle.std.proofs.Common.{◌≡◌, ◌≢◌, ◌↔◌, ℕ, suc, ◌<◌, ◌≤◌, List, [], ◌∷◌, ◌++◌, map, length, Option, Some, Result, Ok, Err, IfOk, IfErr, refl, sym, ap, subst, ◌∙◌, All, arith}
 use Rattle.std.specs.List.{AllByRecursion, AllZip}
 use Rattle.std.proofs.lemmas.List.{length-drop}
 use Rattle.std.proofs.lemmas.List.Elements.{All-drop, recursion_from_All}
@@ -13,7 +13,9 @@ use Rattle.acpi_terms.proofs.Fitting.{items_are_fit}
 use Rattle.acpi_terms.proofs.OneTree.{one_item_tree}
 use Rattle.acpi_declare.specs.Links.{PendingLink, links_of, pending_links, all_pending}
 use Rattle.acpi_declare.specs.Listing.{Placement, objects_of, IsListing}
-use Rattle.acpi_declare.specs.Loads.{AreListings, objects_after}
+use Rattle.acpi_declare.specs.Loads.{AreListings, objects_after, HasNoLoad}
+use Rattle.acpi_declare.specs.declared.fault.LoadFault.{LoadFault}
+use Rattle.acpi_declare.specs.declared.fault.LoadFault.TheVariants.{Memory}
 use Rattle.acpi_declare.specs.Namespace.{Namespace}
 use Rattle.acpi_declare.specs.Notes.{external_counts, methods}
 use Rattle.acpi_declare.specs.Notes as notes
@@ -25,6 +27,8 @@ use Rattle.acpi_body.specs.Bodies.{BodyTree, read, unread}
 use Rattle.acpi_body.specs.Statements.{Reads}
 use Rattle.acpi_order.specs.Bodies.{Method, with_counts, methods_of, all_methods, count, IsBody}
 use Rattle.acpi_order.specs.Machines.{Machine, IsMachine}
+use Rattle.acpi_order.specs.Orders.{TellsOfJoin}
+use Rattle.acpi_order.proofs.Told.{told_of_join}
 use Rattle.acpi_order.proofs.Joined.{machine_of, machine_is, load_is}
 use Rattle.acpi_order.proofs.ReadBodies.{body_of, body_is, one_body_there, bodies_of}
 use Rattle.acpi_write.specs.Canonical.{items_bytes}
@@ -33,8 +37,7 @@ use Rattle.acpi_write.specs.Shortest.{HasWithin}
 use Rattle.acpi_write.proofs.Shorter.{items_are_shortest, items_are_typed}
 use Rattle.acpi_write.proofs.TermsShorter.{read_terms_are_written}
 use Rattle.acpi_write.proofs.Written.{items_written}
-use Rattle.acpi_rewrite.specs.Rewriting.{codes, without_code, body_bytes, IsNewCode, IsRewritten, AreEachRewritten, AreRewritten}
-use Rattle.acpi_rewrite.specs.RewritingLaws.{AreTablesOfBytes}
+use Rattle.acpi_rewrite.specs.Rewriting.{codes, without_code, body_bytes, IsNewCode, IsRewritten, AreEachRewritten, AreRewritten, AreRewrittenIn, AreTablesOfBytes, LoadToJoin, HoldsJoin}
 use Rattle.acpi_rewrite.proofs.Recoded.{alike_height, alike_fit, alike_typed}
 use Rattle.acpi_rewrite.proofs.Shortened.{AreNoLonger, alike_shortened}
 use Rattle.acpi_rewrite.proofs.SpelledCodes.{codes_in_bytes}
@@ -280,3 +283,16 @@ pub told_alike : {T E : Type 0} (r : Result T E) (new : T → List (List ℕ)) (
     → IfOk r (λ v. AreTablesOfBytes tables × AreTablesOfBytes (new v)) → IfOk r (λ v. (m : Machine) → IsMachine depth tables m ↔ IsMachine depth (new v) m)
 told_alike (Ok v) new depth tables h below = load_alike depth tables (new v) below.0 h
 told_alike (Err e) new depth tables h below = tt
+
+-- .. and of independent SSDTs in any order the join
+module _ {T : Type 0} (depth : ℕ) (dsdt : List ℕ) (given : List (List ℕ)) (r : Result T LoadFault) (none : IfErr r (λ e. e ≢ Memory → HasNoLoad depth (dsdt ∷ given))) where
+  pub tells_join : (new : T → List (List ℕ)) → IfOk r (λ v. AreRewritten depth (dsdt ∷ given) (new v)) → IfOk r (λ v. AreTablesOfBytes (dsdt ∷ given) × AreTablesOfBytes (new v))
+      → TellsOfJoin (λ Part v. LoadToJoin Part depth (new v)) depth dsdt given r
+  tells_join new ok below =
+      told_of_join (λ Part v. LoadToJoin Part depth (new v)) (λ v. (m : Machine) → IsMachine depth (dsdt ∷ given) m ↔ IsMachine depth (new v) m) depth dsdt given r
+      (λ Part m v loads joins alike. (m, (alike m).0 loads, joins)) (told_alike r new depth (dsdt ∷ given) ok below) none
+
+  pub tells_join_in : (bytes : T → List ℕ) → IfOk r (λ v. AreRewrittenIn depth (dsdt ∷ given) (bytes v)) → TellsOfJoin (λ Part v. HoldsJoin Part depth (bytes v)) depth dsdt given r
+  tells_join_in bytes ok =
+      told_of_join (λ Part v. HoldsJoin Part depth (bytes v)) (λ v. AreRewrittenIn depth (dsdt ∷ given) (bytes v)) depth dsdt given r
+      (λ Part m v loads joins is. (is.new, is.joined, (m, (load_alike depth (dsdt ∷ given) is.new is.old_bytes is.rewritten m).0 loads, joins))) ok none

@@ -1,6 +1,6 @@
 -- Rewritten tables: what tables say in its shortest spelling (ACPI 6.5, 5.2.6 and 20.2).
-use Rattle.std.specs.Prelude.{◌≡◌, ℕ, List, [], ◌∷◌, ◌++◌, Option, Some, ⊤}
-use Rattle.std.specs.List.{AllZip, flat_map}
+use Rattle.std.specs.Prelude.{◌≡◌, ◌<◌, ℕ, List, [], ◌∷◌, ◌++◌, Option, Some, All, ⊤}
+use Rattle.std.specs.List.{AllByRecursion, AllZip, flat_map}
 use Rattle.acpi_table.specs.Tables.{IsTable, header_of}
 use Rattle.acpi_tree.specs.Tree.{ItemTree, scope, method, device, processor, power, thermal, ItemTrees, no_items, item}
 use Rattle.acpi_terms.specs.Spelling.{SpellsItems}
@@ -11,9 +11,17 @@ use Rattle.acpi_declare.specs.Loads.{AreListings, objects_after}
 use Rattle.acpi_declare.specs.Tables.{code_of}
 use Rattle.acpi_body.specs.Bodies.{BodyTree, read, unread}
 use Rattle.acpi_order.specs.Bodies.{Method, methods_of, IsBody}
+use Rattle.acpi_order.specs.Joins.{IsJoin}
+use Rattle.acpi_order.specs.Machines.{Machine, IsMachine}
 use Rattle.acpi_write.specs.Canonical.{items_bytes}
 use Rattle.acpi_write.specs.CanonicalTerms.{terms_bytes}
 use Rattle.acpi_write.specs.Tables.{header_for}
+
+-- ---- tables in memory
+
+-- each byte is a number below 256
+abbrev pub AreTablesOfBytes : List (List ℕ) → Type 0
+AreTablesOfBytes tables = AllByRecursion (All (λ b. b < 256)) tables
 
 -- ---- method code in items
 
@@ -92,3 +100,15 @@ pub record AreRewrittenIn (depth : ℕ) (tables : List (List ℕ)) (bytes : List
   pub new : List (List ℕ)
   pub rewritten : AreRewritten depth tables new
   pub joined : bytes ≡ flat_map (λ b. b) new
+  pub old_bytes : AreTablesOfBytes tables
+  pub new_bytes : AreTablesOfBytes new
+
+-- ---- independent SSDTs
+
+-- these tables load to the join of the parts
+abbrev pub LoadToJoin : (Machine → Type 0) → ℕ → List (List ℕ) → Type 0
+LoadToJoin Part depth tables = (m : Machine) × IsMachine depth tables m × IsJoin Part m
+
+-- .. which the bytes hold, one after another
+abbrev pub HoldsJoin : (Machine → Type 0) → ℕ → List ℕ → Type 0
+HoldsJoin Part depth bytes = (tables : List (List ℕ)) × (bytes ≡ flat_map (λ b. b) tables) × LoadToJoin Part depth tables

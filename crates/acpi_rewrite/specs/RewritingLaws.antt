@@ -1,12 +1,8 @@
 -- What rewriting keeps (ACPI 6.5, 5.2.6, 5.3 and 20.2).
-use Rattle.std.specs.Prelude.{◌≡◌, ◌↔◌, ◌<◌, ◌≤◌, ℕ, List, length, All}
-use Rattle.std.specs.List.{AllByRecursion, AllZip}
+use Rattle.std.specs.Prelude.{◌≡◌, ◌↔◌, ◌≤◌, ℕ, List, length}
+use Rattle.std.specs.List.{AllZip}
 use Rattle.acpi_order.specs.Machines.{Machine, IsMachine}
-use Rattle.acpi_rewrite.specs.Rewriting.{AreRewritten}
-
--- tables in memory: numbers below 256
-abbrev pub AreTablesOfBytes : List (List ℕ) → Type 0
-AreTablesOfBytes tables = AllByRecursion (All (λ b. b < 256)) tables
+use Rattle.acpi_rewrite.specs.Rewriting.{AreTablesOfBytes, AreRewritten}
 
 -- the rewritten tables load to the machine of the tables: its objects, links and bodies
 abbrev pub RewrittenLoadAlike : Type 0

@@ -12,8 +12,8 @@ ghost use Rattle.acpi_declare.specs.Notes.{method_of, notes_of};
 ghost use Rattle.acpi_declare.specs.Refusals.{IsLoadFault};
 ghost use Rattle.acpi_order.specs.Bodies.{with_counts};
 ghost use Rattle.acpi_order.specs.Machines.{Machine, IsMachine};
-ghost use Rattle.acpi_rewrite.specs.Rewriting.{IsNewCode, IsRewritten, AreRewritten, AreRewrittenIn};
-ghost use Rattle.acpi_rewrite.specs.RewritingLaws.{AreTablesOfBytes};
+ghost use Rattle.acpi_order.specs.Orders.{TellsOfJoin};
+ghost use Rattle.acpi_rewrite.specs.Rewriting.{AreTablesOfBytes, IsNewCode, IsRewritten, AreRewritten, AreRewrittenIn, LoadToJoin, HoldsJoin};
 ghost use Rattle.acpi_machine.specs.steps.Adding.{noted};
 ghost use Rattle.acpi_rewrite.specs.steps.Recoding.{HasNewCodes};
 
@@ -187,6 +187,9 @@ pub fn rewrite_shared<S: Space<Object>>(
     // Rewritten again, they stay as they are, and nothing else is their rewriting.
     ensures stay { IfOk result (λ v. AreRewritten depth (map (λ b. b.items) v.items) (map (λ b. b.items) v.items)) }
     ensures only { IfOk result (λ v. (again : List (List ℕ)) → AreTablesOfBytes again → AreRewritten depth (map (λ b. b.items) v.items) again → again ≡ map (λ b. b.items) v.items) }
+    ensures bytes { IfOk result (λ v. AreTablesOfBytes (dsdt.now ∷ ssdts.now) × AreTablesOfBytes (map (λ b. b.items) v.items)) }
+    // Of independent SSDTs in any order they load to the join of the single loads.
+    ensures any_order { TellsOfJoin (λ Part v. LoadToJoin Part depth (map (λ b. b.items) v.items)) depth dsdt.now ssdts.now result }
     ensures err { IfErr result (λ e. IsLoadFault depth (dsdt.now ∷ ssdts.now) e) }
     ensures none { IfErr result (λ e. e ≢ LoadFault.Memory → HasNoLoad depth (dsdt.now ∷ ssdts.now)) }
 {
@@ -197,9 +200,8 @@ pub fn rewrite_shared<S: Space<Object>>(
     rewrite_tables::<S>(alloc, dsdt, ssdts, depth)
 }
 
-/// The same as `rewrite_shared`, but one list of bytes holds the tables, one after another: where they are many and small,
-/// lists of their own take as much memory as they do.
-pub fn rewrite_joined<S: Space<Object>>(
+// The same, one after another in one list of bytes.
+fn joined_tables<S: Space<Object>>(
     alloc: Global,
     dsdt: &Bytes,
     ssdts: &[Bytes],
@@ -221,6 +223,22 @@ pub fn rewrite_joined<S: Space<Object>>(
     Ok(joined)
 }
 
+/// The same as `rewrite_shared`, but one list of bytes holds the tables, one after another: where they are many and small,
+/// lists of their own take as much memory as they do.
+pub fn rewrite_joined<S: Space<Object>>(
+    alloc: Global,
+    dsdt: &Bytes,
+    ssdts: &[Bytes],
+    depth: Depth,
+) -> Result<Vec<u8>, LoadFault>
+    ensures ok { IfOk result (λ v. AreRewrittenIn depth (dsdt.now ∷ ssdts.now) v.items) }
+    ensures any_order { TellsOfJoin (λ Part v. HoldsJoin Part depth v.items) depth dsdt.now ssdts.now result }
+    ensures err { IfErr result (λ e. IsLoadFault depth (dsdt.now ∷ ssdts.now) e) }
+    ensures none { IfErr result (λ e. e ≢ LoadFault.Memory → HasNoLoad depth (dsdt.now ∷ ssdts.now)) }
+{
+    joined_tables::<S>(alloc, dsdt, ssdts, depth)
+}
+
 /// The same as `rewrite_shared`, over one copy of each table.
 pub fn rewrite<S: Space<Object>>(
     alloc: Global,
@@ -233,6 +251,7 @@ pub fn rewrite<S: Space<Object>>(
     ensures no_longer { IfOk result (λ v. AllZip (λ old now. length now ≤ length old) (dsdt.now ∷ map (λ b. b.now) ssdts.now) (map (λ b. b.items) v.items)) }
     ensures stay { IfOk result (λ v. AreRewritten depth (map (λ b. b.items) v.items) (map (λ b. b.items) v.items)) }
     ensures only { IfOk result (λ v. (again : List (List ℕ)) → AreTablesOfBytes again → AreRewritten depth (map (λ b. b.items) v.items) again → again ≡ map (λ b. b.items) v.items) }
+    ensures any_order { TellsOfJoin (λ Part v. LoadToJoin Part depth (map (λ b. b.items) v.items)) depth dsdt.now (map (λ b. b.now) ssdts.now) result }
     ensures err { IfErr result (λ e. IsLoadFault depth (dsdt.now ∷ map (λ b. b.now) ssdts.now) e) }
     ensures none { IfErr result (λ e. e ≢ LoadFault.Memory → HasNoLoad depth (dsdt.now ∷ map (λ b. b.now) ssdts.now)) }
 {

@@ -10,7 +10,9 @@ use Rattle.acpi_declare.specs.Refusals.{IsLoadFault}
 use Rattle.acpi_declare.proofs.Refusals.{refused_has_no_load}
 use Rattle.acpi_order.specs.Independent.{IsIndependent}
 use Rattle.acpi_order.specs.Laws.{CommuteIsIndependent, OneVerdict}
+use Rattle.acpi_order.specs.Orders.{EachOrderLoadsToJoin}
 use Rattle.acpi_order.specs.Verdicts.{not_alone, DsdtLoads, AllAlone, IsReasonAt, IsSame, NoneSame, IsMissed, IsVerdict}
+use Rattle.acpi_order.proofs.Told.{each_order_loads}
 use Rattle.acpi_verdict.specs.declared.clashes.Clash.{Clash}
 use Rattle.acpi_verdict.specs.declared.declared.Declared.{Declared}
 use Rattle.acpi_verdict.specs.declared.finding.Found.{Found}
@@ -34,6 +36,13 @@ pub told_commute_so : (depth : ℕ) (dsdt : List ℕ) (ssdts : List (List ℕ)) 
     → ssdts ≢ [] → IfOk r (λ c. (c.verdict ≡ verdicts.Commute) ↔ IsIndependent depth dsdt ssdts)
 told_commute_so depth dsdt ssdts (Ok c) one law h some = commutes depth dsdt ssdts one law some c.verdict h
 told_commute_so depth dsdt ssdts (Err e) one law h some = tt
+
+pub told_orders_so : {T : Type 0} (depth : ℕ) (dsdt : List ℕ) (ssdts : List (List ℕ)) (r : Result T LoadFault) (verdict : T → Verdict)
+    → (ssdts ≢ [] → IfOk r (λ c. (verdict c ≡ verdicts.Commute) ↔ IsIndependent depth dsdt ssdts))
+    → ssdts ≢ [] → IfOk r (λ c. verdict c ≡ verdicts.Commute → EachOrderLoadsToJoin depth dsdt ssdts)
+told_orders_so depth dsdt ssdts (Ok c) verdict h some =
+    λ is given order. each_order_loads depth dsdt ssdts given (record { some = some; order = order; independent = (h some).0 is })
+told_orders_so depth dsdt ssdts (Err e) verdict h some = tt
 
 pub told_no_load : {T : Type 0} (depth : ℕ) (tables : List (List ℕ)) (r : Result T LoadFault) → IfErr r (λ e. IsLoadFault depth tables e)
     → IfErr r (λ e. e ≢ Memory → HasNoLoad depth tables)

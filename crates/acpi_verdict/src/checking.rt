@@ -5,6 +5,7 @@ ghost use Rattle.acpi_declare.specs.Declaring.{HasTables, objects_so_far, state_
 ghost use Rattle.acpi_declare.specs.Loads.{HasNoLoad};
 ghost use Rattle.acpi_declare.specs.Refusals.{IsLoadFault};
 ghost use Rattle.acpi_order.specs.Independent.{IsIndependent};
+ghost use Rattle.acpi_order.specs.Orders.{EachOrderLoadsToJoin};
 ghost use Rattle.acpi_order.specs.Verdicts.{IsVerdict, AllAlone};
 ghost use Rattle.acpi_verdict.specs.SatisfiedView.{AreSatisfied};
 ghost use Rattle.acpi_verdict.specs.VerdictView.{verdict_view, IsFaultOf, IsSinglesFault};
@@ -105,6 +106,8 @@ pub fn check_shared<S: Space<Object>>(
     ensures ok { IfOk result (λ c. IsVerdict depth dsdt.now ssdts.now (verdict_view c.verdict)) }
     ensures fault { IfOk result (λ c. IsFaultOf depth dsdt.now ssdts.now c.verdict) }
     ensures commute { ssdts.now ≢ [] → IfOk result (λ c. (c.verdict ≡ Verdict.Commute) ↔ IsIndependent depth dsdt.now ssdts.now) }
+    // SSDTs that commute load in each order, to the join of their single loads.
+    ensures orders { ssdts.now ≢ [] → IfOk result (λ c. c.verdict ≡ Verdict.Commute → EachOrderLoadsToJoin depth dsdt.now ssdts.now) }
     ensures satisfied { IfOk result (λ c. AllAlone depth dsdt.now ssdts.now → AreSatisfied depth dsdt.now ssdts.now c.satisfied.items) }
     ensures refused { IfOk result (λ c. (AllAlone depth dsdt.now ssdts.now → ⊥) → c.satisfied.items ≡ []) }
     ensures err { IfErr result (λ e. IsLoadFault depth (dsdt.now ∷ []) e) }

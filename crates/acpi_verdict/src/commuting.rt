@@ -4,6 +4,7 @@ ghost use Rattle.std.specs.Prelude.{◌≡◌, ◌≢◌, ◌↔◌, ◌∷◌, 
 ghost use Rattle.acpi_declare.specs.Loads.{HasNoLoad};
 ghost use Rattle.acpi_declare.specs.Refusals.{IsLoadFault};
 ghost use Rattle.acpi_order.specs.Independent.{IsIndependent};
+ghost use Rattle.acpi_order.specs.Orders.{EachOrderLoadsToJoin};
 ghost use Rattle.acpi_order.specs.Verdicts.{IsVerdict};
 ghost use Rattle.acpi_verdict.specs.VerdictView.{verdict_view, IsFaultOf};
 
@@ -32,6 +33,7 @@ pub fn verdict_shared<S: Space<Object>>(
     ensures ok { IfOk result (λ v. IsVerdict depth dsdt.now ssdts.now (verdict_view v)) }
     ensures fault { IfOk result (λ v. IsFaultOf depth dsdt.now ssdts.now v) }
     ensures commute { ssdts.now ≢ [] → IfOk result (λ v. (v ≡ Verdict.Commute) ↔ IsIndependent depth dsdt.now ssdts.now) }
+    ensures orders { ssdts.now ≢ [] → IfOk result (λ v. v ≡ Verdict.Commute → EachOrderLoadsToJoin depth dsdt.now ssdts.now) }
     ensures err { IfErr result (λ e. IsLoadFault depth (dsdt.now ∷ []) e) }
     ensures none { IfErr result (λ e. e ≢ LoadFault.Memory → HasNoLoad depth (dsdt.now ∷ [])) }
 {
@@ -48,6 +50,7 @@ pub fn verdict<S: Space<Object>>(
     ensures ok { IfOk result (λ v. IsVerdict depth dsdt.now (map (λ b. b.now) ssdts.now) (verdict_view v)) }
     ensures fault { IfOk result (λ v. IsFaultOf depth dsdt.now (map (λ b. b.now) ssdts.now) v) }
     ensures commute { map (λ b. b.now) ssdts.now ≢ [] → IfOk result (λ v. (v ≡ Verdict.Commute) ↔ IsIndependent depth dsdt.now (map (λ b. b.now) ssdts.now)) }
+    ensures orders { map (λ b. b.now) ssdts.now ≢ [] → IfOk result (λ v. v ≡ Verdict.Commute → EachOrderLoadsToJoin depth dsdt.now (map (λ b. b.now) ssdts.now)) }
     ensures err { IfErr result (λ e. IsLoadFault depth (dsdt.now ∷ []) e) }
     ensures none { IfErr result (λ e. e ≢ LoadFault.Memory → HasNoLoad depth (dsdt.now ∷ [])) }
 {

@@ -1,6 +1,6 @@
 use Rattle.acpi_order.proofs.Joined.{load_exists}
 use Rattle.acpi_order.proofs.Orders.{joins_in_any_order, one_in_any_order}
-use Rattle.acpi_order.proofs.Told.{load_tells_join}
+use Rattle.acpi_order.proofs.Told.{load_tells_join, each_order_loads}
 use Rattle.acpi_order.proofs.laws.independent_tables_load.Goals as goal
 
 pub returns-clause-exists : goal.returns-clause-exists
@@ -14,3 +14,6 @@ returns-clause-alike c = one_in_any_order
 
 pub returns-clause-told : goal.returns-clause-told
 returns-clause-told c = load_tells_join
+
+pub returns-clause-orders : goal.returns-clause-orders
+returns-clause-orders c = each_order_loads

@@ -1,7 +1,7 @@
 use Rattle.std.proofs.Common.{◌≡◌, ◌+◌, [], ◌∷◌, ◌++◌, ℕ, List, map, take_all, refl, sym, ap, subst, ◌∙◌, arith, rules}
 use Rattle.std.proofs.lemmas.List.{map-append}
 use Rattle.acpi_declare.specs.Namespace.{namespace_of}
-use Rattle.acpi_rewrite.specs.RewritingLaws.{AreTablesOfBytes}
+use Rattle.acpi_rewrite.specs.Rewriting.{AreTablesOfBytes}
 use Rattle.acpi_rewrite.specs.steps.Recoding.{IsRewrittenTo}
 use Rattle.acpi_rewrite.proofs.NewCodes.{all_rewritten, first_table, later_table, behind_first, more_old, more_new}
 use Rattle.acpi_rewrite.proofs.rewriting.rewrite_tables.Goals as goal

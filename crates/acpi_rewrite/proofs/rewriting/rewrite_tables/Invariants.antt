@@ -1,6 +1,6 @@
 use Rattle.std.proofs.Common.{◌+◌, ◌∷◌, map, take}
 use Rattle.acpi_declare.specs.Namespace.{namespace_of}
-use Rattle.acpi_rewrite.specs.RewritingLaws.{AreTablesOfBytes}
+use Rattle.acpi_rewrite.specs.Rewriting.{AreTablesOfBytes}
 use Rattle.acpi_rewrite.specs.steps.Recoding.{IsRewrittenTo}
 use Rattle.acpi_rewrite.proofs.rewriting.rewrite_tables.Given as goal
 
