@@ -3,9 +3,6 @@
 ghost use Rattle.std.specs.Prelude.{◌≡◌, ◌≢◌, ◌∷◌, ℕ, ◌++◌, [], codes, decimal, IfErr, IfOk, OnOk};
 ghost use Rattle.std.specs.List.{flat_map};
 ghost use Rattle.acpi_declare.specs.Refusals.{IsLoadFault};
-ghost use Rattle.acpi_order.specs.Verdicts.{AllAlone, IsVerdict};
-ghost use Rattle.acpi_verdict.specs.SatisfiedView.{AreSatisfied};
-ghost use Rattle.acpi_verdict.specs.VerdictView.{verdict_view, IsFaultOf};
 ghost use Rattle.acpins_output.specs.Checked.{triple_line, satisfied_line, Checks};
 ghost use Rattle.acpins_output.specs.FaultTexts.{fault_text};
 
@@ -84,23 +81,9 @@ fn put_satisfied(text: &mut Vec<u8>, satisfied: &[Satisfied]) -> Result<(), Allo
     Ok(())
 }
 
-// The verdict on the SSDTs, and what they satisfy. A refusal of the DSDT is one of all tables.
-fn check_tables<S: Space<Object>>(
-    alloc: Global,
-    dsdt: &Bytes,
-    ssdts: &[Bytes],
-    depth: Depth,
-) -> Result<Checked, LoadFault>
-    ensures ok { IfOk result (λ c. IsVerdict depth dsdt.now ssdts.now (verdict_view c.verdict)) }
-    ensures fault { IfOk result (λ c. IsFaultOf depth dsdt.now ssdts.now c.verdict) }
-    ensures satisfied { IfOk result (λ c. AllAlone depth dsdt.now ssdts.now → AreSatisfied depth dsdt.now ssdts.now c.satisfied.items) }
-    ensures err { IfErr result (λ e. IsLoadFault depth (dsdt.now ∷ ssdts.now) e) }
-{
-    check_shared::<S>(alloc, dsdt, ssdts, depth)
-}
-
 /// Whether the SSDTs may be loaded in any order over the DSDT: `commute`, with status 0, and a line for each External
-/// that another table satisfies; or the line of the first reason why perhaps not, with status 3.
+/// that another table satisfies; or the line of the first reason why perhaps not, with status 3. Only the DSDT is refused:
+/// an SSDT that doesn't load is a verdict.
 pub fn check<S: Space<Object>>(
     alloc: Global,
     dsdt: &Bytes,
@@ -108,10 +91,10 @@ pub fn check<S: Space<Object>>(
     depth: Depth,
 ) -> Result<Output, LoadFault>
     ensures ok { IfOk result (λ m. Checks depth dsdt.now ssdts.now m.status m.text.items) }
-    ensures err { IfErr result (λ e. IsLoadFault depth (dsdt.now ∷ ssdts.now) e) }
+    ensures err { IfErr result (λ e. IsLoadFault depth (dsdt.now ∷ []) e) }
 {
     let mut text = Vec::new(alloc);
-    let Checked { verdict, satisfied } = check_tables::<S>(alloc, dsdt, ssdts, depth)?;
+    let Checked { verdict, satisfied } = check_shared::<S>(alloc, dsdt, ssdts, depth)?;
     match verdict {
         Verdict::Commute => {
             put(&mut text, "commute\n")?;

@@ -33,17 +33,18 @@ impl UntilFailure {
     }
 }
 
-// Whether the part was written whole. A write that was interrupted is tried again.
-fn is_written<E: Write>(stream: &mut E, part: &[u8]) -> bool
-    ensures whole { IsTrue result → Appends (E.contents stream.old) (E.contents stream.new) part.now }
-    ensures begins { AppendsBeginning part.now (E.contents stream.old) (E.contents stream.new) }
+/// Writes the bytes until a write fails, and answers whether they were written whole. A write that was interrupted is tried
+/// again.
+pub fn write_whole<E: Write>(stream: &mut E, bytes: &[u8]) -> bool
+    ensures whole { IsTrue result → Appends (E.contents stream.old) (E.contents stream.new) bytes.now }
+    ensures begins { AppendsBeginning bytes.now (E.contents stream.old) (E.contents stream.new) }
 {
     let mut written = 0;
     for _ in 0..u64::MAX {
-        if written == part.len() {
+        if written == bytes.len() {
             return true;
         }
-        match stream.write(&part[written..]) {
+        match stream.write(&bytes[written..]) {
             Ok(0) => return false,
             Ok(count) => written = written + count,
             Err(error) if error.kind() == ErrorKind::Interrupted => {}
@@ -60,7 +61,7 @@ impl<E: Write> PartWriter<E> for UntilFailure {
 
     fn write_part(&mut self, stream: &mut E, part: &[u8]) {
         if !self.failed {
-            self.failed = !is_written(stream, part);
+            self.failed = !write_whole(stream, part);
         }
     }
 }

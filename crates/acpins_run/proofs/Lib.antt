@@ -1,4 +1,5 @@
 pub mod Cutting
 pub mod Decoding
 pub mod HexFiles
-pub mod Declared
+pub mod Runs
+pub mod Refused

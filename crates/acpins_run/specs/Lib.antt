@@ -4,4 +4,5 @@ pub mod Failures
 pub mod FailureLines
 pub mod Rewritten
 pub mod Runs
+pub mod RunLaws
 pub mod steps

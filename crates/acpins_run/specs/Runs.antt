@@ -4,7 +4,7 @@ use Rattle.std.specs.Io.KnownBytes.{Appends}
 use Rattle.acpi_name.specs.Names.{Segment}
 use Rattle.acpi_name.specs.Text.{SpellsPathText, IsPathText}
 use Rattle.acpi_order.specs.Machines.{Machine}
-use Rattle.acpi_rewrite.specs.Rewriting.{AreRewritten}
+use Rattle.acpi_rewrite.specs.Rewriting.{AreTablesOfBytes, AreRewritten}
 use Rattle.acpi_declare.specs.Refusals.{IsLoadFault}
 use Rattle.acpi_declare.specs.declared.fault.LoadFault.{LoadFault}
 use Rattle.acpins_run.specs.declared.failure.Failure.{Failure}
@@ -14,6 +14,7 @@ use Rattle.acpins_run.specs.Input.{FileBytes, AreTablesOf, IsFilesFault, IsLoadO
 use Rattle.acpins_output.specs.Listings.{Prints}
 use Rattle.acpins_output.specs.Shown.{Shows}
 use Rattle.acpins_output.specs.Checked.{Checks}
+use Rattle.acpins_output.specs.Told.{AppendsBeginning}
 use Rattle.acpins_run.specs.Rewritten.{file_text, IsUnwritten, Holds}
 use Rattle.acpins_run.specs.Failures.{failure_of, status_of}
 use Rattle.acpins_run.specs.FailureLines.{failure_line}
@@ -49,6 +50,7 @@ pub record IsRewriting (bytes_of : FileBytes) (asked : Asked) : Type 0 where
   pub of_files : AreTablesOf bytes_of asked.hex asked.files tables
   pub rewritten : List (List ℕ)
   pub are : AreRewritten asked.depth tables rewritten
+  pub bytes : AreTablesOfBytes tables
 
 -- What is printed, and the status with which the run ends then. Rewritten tables are written to a file, and nothing is printed.
 abbrev pub IsPrinted : FileBytes → Asked → Command → ℕ → List ℕ → Type 0
@@ -65,6 +67,10 @@ IsOutput bytes_of words status text = (asked : Asked) × (asked_of words ≡ Som
 abbrev pub GetsOutput : FileBytes → List Text → ℕ → Option (List ℕ) → Option (List ℕ) → Type 0
 GetsOutput bytes_of words status old new = (text : List ℕ) × IsOutput bytes_of words status text × Appends old new text
 
+-- .. or a beginning of it
+abbrev pub GetsBeginning : FileBytes → List Text → Option (List ℕ) → Option (List ℕ) → Type 0
+GetsBeginning bytes_of words old new = (status : ℕ) × (text : List ℕ) × IsOutput bytes_of words status text × AppendsBeginning text old new
+
 -- ---- what is written to files
 
 -- What was written to each file, where it is known.
@@ -74,6 +80,8 @@ pub record IsStored (bytes_of : FileBytes) (asked : Asked) (name : Text) (old ne
   pub of_files : AreTablesOf bytes_of asked.hex asked.files tables
   pub rewritten : List (List ℕ)
   pub are : AreRewritten asked.depth tables rewritten
+  pub old_bytes : AreTablesOfBytes tables
+  pub new_bytes : AreTablesOfBytes rewritten
   pub held : Holds (old name) (new name) (file_text asked.hex rewritten)
   pub others : (other : List ℕ) → other ≢ name → new other ≡ old other
 
@@ -94,12 +102,17 @@ LeavesFiles bytes_of words failure old new = new ≡ old
 
 -- ---- why nothing is
 
--- the tables in the files have no load, and the failure tells a reason
+-- the tables that a command loads: `check` the DSDT alone, since an SSDT that doesn't load over it is a verdict
+abbrev pub loaded_by : Command → List (List ℕ) → List (List ℕ)
+loaded_by checking (dsdt ∷ ssdts) = dsdt ∷ []
+loaded_by command tables = tables
+
+-- what the command loads of the tables in the files has no load, and the failure tells a reason
 pub record IsRefusal (bytes_of : FileBytes) (asked : Asked) (failure : Failure) : Type 0 where
   pub tables : List (List ℕ)
   pub of_files : AreTablesOf bytes_of asked.hex asked.files tables
   pub fault : LoadFault
-  pub refused : IsLoadFault asked.depth tables fault
+  pub refused : IsLoadFault asked.depth (loaded_by asked.command tables) fault
   pub told : failure ≡ failure_of fault
 
 -- the words ask for the object of a path, and the namespace has none there
@@ -155,12 +168,13 @@ IsRunFailure bytes_of words failure = (asked : Asked) × (asked_of words ≡ Som
 abbrev pub IsWrong : List Text → Type 0
 IsWrong words = (asked_of words ≡ None) ⊎ ((asked : Asked) × (asked_of words ≡ Some asked) × IsBadPath asked.command)
 
--- A run ends with the status of such a failure, and its line is said; standard output is as it was, unless it
--- could not be written, and so is what was written to files.
+-- A run ends with the status of such a failure, and its line is said. Standard output is as it was; if it was that which
+-- could not be written, it got a beginning of what the words ask for. What was written to files is as `LeavesFiles` has it.
 pub record FailsWith (bytes_of : FileBytes) (words : List Text) (status : ℕ) (old new : Option (List ℕ)) (before after : FileBytes) (is_said : List ℕ → Type 0) : Type 0 where
   pub failure : Failure
   pub true_of : IsRunFailure bytes_of words failure
   pub status_is : status ≡ status_of failure
   pub kept : failure ≢ Output → new ≡ old
+  pub begun : failure ≡ Output → GetsBeginning bytes_of words old new
   pub left : LeavesFiles bytes_of words failure before after
   pub said : is_said (failure_line failure)

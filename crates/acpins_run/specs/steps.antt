@@ -1,3 +1,2 @@
 pub mod HexDecoding
 pub mod HexFiles
-pub mod Loading

@@ -14,6 +14,8 @@
 //! let status = run(alloc, &["list", "a.dsdt"], &mut files, &mut rt.stdout(), &mut rt.stderr());
 //! ```
 //!
+//! `laws` states what follows: the runs over SSDTs that commute print the same for each order of them.
+//!
 //! `told` says a failure alone, for a caller that never came to a run.
 //! `made_in`, `add_tables` and `from_hex` are parts of a run, public so that `worked_runs` can try them by themselves.
 #![tactic(auto)]
@@ -22,6 +24,7 @@ mod failure;
 mod files;
 mod hexadecimal;
 mod host;
+pub mod laws;
 mod lines;
 mod program;
 mod rewriting;

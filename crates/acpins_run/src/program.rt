@@ -2,30 +2,25 @@
 
 ghost use Rattle.std.specs.Prelude.{◌≡◌, ◌≢◌, ◌≤◌, ◌⊎◌, ◌∷◌, [], IfOk, IfErr, OnOk, OnErr, IsTrue, None};
 ghost use Rattle.acpi_name.specs.Text.{SpellsPathText, IsPathText};
-ghost use Rattle.acpi_declare.specs.DeclaredView as declared;
-ghost use Rattle.acpi_declare.specs.Links.{links_at};
-ghost use Rattle.acpi_declare.specs.Namespace.{namespace_of};
-ghost use Rattle.acpi_declare.specs.Refusals.{IsLoadFault};
 ghost use Rattle.std.specs.Io.KnownBytes.{Appends};
 ghost use Rattle.acpins_run.specs.declared.failure.Failure.{Failure};
 ghost use Rattle.acpins_run.specs.Failures.{status_of};
 ghost use Rattle.acpins_run.specs.FailureLines.{failure_line};
 ghost use Rattle.acpins_output.specs.Told.{AppendsBeginning, Tells};
-ghost use Rattle.acpins_words.specs.Words.{texts, showing, rewriting, asked_in, asked_of};
+ghost use Rattle.acpins_words.specs.Words.{texts, listing, showing, checking, rewriting, asked_in, asked_of};
 ghost use Rattle.acpins_run.specs.Input.{files_of, AreTablesOf, IsFilesFault};
-ghost use Rattle.acpins_run.specs.steps.Loading.{HasMachine};
-ghost use Rattle.acpins_run.specs.Runs.{IsListing, IsShowing, IsChecking, IsRewriting, IsWrong, IsOutput, GetsOutput, IsFailureOf, IsRunFailure, IsStored, StoresOutput, LeavesFiles, FailsWith};
+ghost use Rattle.acpins_run.specs.Runs.{IsListing, IsShowing, IsChecking, IsRewriting, IsWrong, IsOutput, GetsOutput, GetsBeginning, IsFailureOf, IsRunFailure, IsStored, StoresOutput, LeavesFiles, FailsWith};
 
 use crate::failure::Failure;
 use crate::files::Files;
 use crate::lines::put_line;
 use crate::rewriting::{put_file, rewritten_text};
 use crate::tables::add_tables;
-use acpi_load::{Declared, Keep, LoadFault, declare_keeping};
+use acpi_load::{Declared, Keep, load_objects};
 use acpi_name::{Path, PathFault};
 use acpi_space::{Space, TreeSpace};
 use acpi_terms::{Depth, Object};
-use acpins_output::{Output, PartWriter, UntilFailure, check, list, show};
+use acpins_output::{Output, PartWriter, UntilFailure, check, list, show, write_whole};
 use acpins_words::{Command, Request, read_words};
 use bytes::Bytes;
 use std::alloc::Global;
@@ -67,26 +62,14 @@ fn some_tables_of<'a, F: Files>(
     Ok(tables)
 }
 
-// What a DSDT and SSDTs declare: the objects and links of the machine to which they load. Bodies are not listed and
-// refuse nothing, so they are not read, and nothing is kept of what the tables note for them.
-fn declare_tables<S: Space<Object>>(
-    alloc: Global,
-    dsdt: &Bytes,
-    ssdts: &[Bytes],
-    depth: Depth,
-) -> Result<Declared<S>, LoadFault>
-    ensures ok { IfOk result (λ d. HasMachine depth (dsdt.now ∷ ssdts.now) (namespace_of (S.contents (declared.objects_in d))) (links_at (declared.links_in d))) }
-    ensures err { IfErr result (λ e. IsLoadFault depth (dsdt.now ∷ ssdts.now) e) }
-{
-    declare_keeping(alloc, dsdt, ssdts, Keep::Nothing, depth)
-}
-
-// The listing of what the files hold.
+// The listing of what the files hold. Bodies are not listed and refuse nothing, so they are not read, and nothing is kept of
+// what the tables note for them.
 fn listing_of<'a, S: Space<Object>, F: Files>(
     alloc: Global,
     request: &Request<'a>,
     files: &mut F,
 ) -> Result<Vec<u8>, Failure<'a>>
+    requires { (asked_in request.now).command ≡ listing }
     ensures ok { IfOk result (λ text. IsListing (F.bytes_of files.old) (asked_in request.now) text.items) }
     ensures err { IfErr result (IsFailureOf (F.bytes_of files.old) (asked_in request.now)) }
     ensures others { F.written_to files.new ≡ F.written_to files.old }
@@ -95,7 +78,7 @@ fn listing_of<'a, S: Space<Object>, F: Files>(
     let Some((dsdt, ssdts)) = tables.split_first() else {
         unreachable!()
     };
-    let declared = declare_tables::<S>(alloc, dsdt, ssdts, request.depth)?;
+    let declared: Declared<S> = load_objects(alloc, dsdt, ssdts, Keep::Nothing, request.depth)?;
     let text = list(alloc, declared.objects(), declared.links())?;
     // The process ends soon and gives all memory back at once; to take the namespace apart first costs time.
     mem::forget(declared);
@@ -143,6 +126,7 @@ fn checking_of<'a, S: Space<Object>, F: Files>(
     request: &Request<'a>,
     files: &mut F,
 ) -> Result<Output, Failure<'a>>
+    requires { (asked_in request.now).command ≡ checking }
     ensures ok { IfOk result (λ m. IsChecking (F.bytes_of files.old) (asked_in request.now) m.status m.text.items) }
     ensures err { IfErr result (IsFailureOf (F.bytes_of files.old) (asked_in request.now)) }
     ensures others { F.written_to files.new ≡ F.written_to files.old }
@@ -226,12 +210,12 @@ fn ended<'a, F: Files, O: Write>(
     ensures statuses { IfOk result (λ status. (status ≡ 0) ⊎ (status ≡ 3)) }
     ensures err { IfErr result (IsRunFailure (F.bytes_of files.old) (texts words.now)) }
     ensures kept { IfErr result (λ f. f ≢ Failure.Output → O.contents out.new ≡ O.contents out.old) }
+    ensures begun { IfErr result (λ f. f ≡ Failure.Output → GetsBeginning (F.bytes_of files.old) (texts words.now) (O.contents out.old) (O.contents out.new)) }
     ensures stored { OnOk result (StoresOutput (F.bytes_of files.old) (texts words.now) (F.written_to files.old) (F.written_to files.new)) }
     ensures left { IfErr result (λ f. LeavesFiles (F.bytes_of files.old) (texts words.now) f (F.written_to files.old) (F.written_to files.new)) }
 {
     let Output { text, status } = made(alloc, words, files)?;
-    let written = out.write_all(text.as_slice()).is_ok() && out.flush().is_ok();
-    if !written {
+    if !write_whole(out, &text) || out.flush().is_err() {
         return Err(Failure::Output);
     }
     Ok(status)

@@ -3,8 +3,7 @@
 ghost use Rattle.std.specs.Prelude.{◌≡◌, ◌≢◌, ◌∷◌, ◌++◌, ℕ, List, true, IfErr, IfOk, OnOk, OnErr, map};
 ghost use Rattle.acpi_declare.specs.Loads.{HasNoLoad};
 ghost use Rattle.acpi_declare.specs.Refusals.{IsLoadFault};
-ghost use Rattle.acpi_rewrite.specs.Rewriting.{AreRewritten};
-ghost use Rattle.acpins_run.specs.Rewritten.{file_text, table_text, IsUnwritten, Holds};
+ghost use Rattle.acpins_run.specs.Rewritten.{file_text, table_text, IsFileOf, IsUnwritten, Holds};
 
 use crate::failure::Failure;
 use crate::files::{FileFault, Files};
@@ -44,7 +43,7 @@ pub fn rewritten_text<S: Space<Object>>(
     hex: bool,
     depth: Depth,
 ) -> Result<Vec<u8>, LoadFault>
-    ensures ok { IfOk result (λ text. (new : List (List ℕ)) × AreRewritten depth (dsdt.now ∷ ssdts.now) new × (text.items ≡ file_text hex new)) }
+    ensures ok { IfOk result (λ text. IsFileOf hex depth (dsdt.now ∷ ssdts.now) text.items) }
     ensures err { IfErr result (λ e. IsLoadFault depth (dsdt.now ∷ ssdts.now) e) }
     ensures none { IfErr result (λ e. e ≢ LoadFault.Memory → HasNoLoad depth (dsdt.now ∷ ssdts.now)) }
 {
