@@ -5,3 +5,4 @@ pub mod Stood
 pub mod Added
 pub mod Once
 pub mod Apart
+pub mod Numbered

@@ -118,7 +118,7 @@ mutual
 
 -- ---- tables
 
-one_table : (number : ℕ) (bytes : List ℕ) (t : List Placement) (cs ds : List CodePlace) → AreTablePlaces number bytes (methods t) cs → AreTablePlaces number bytes (methods t) ds → cs ≡ ds
+pub one_table : (number : ℕ) (bytes : List ℕ) (t : List Placement) (cs ds : List CodePlace) → AreTablePlaces number bytes (methods t) cs → AreTablePlaces number bytes (methods t) ds → cs ≡ ds
 one_table number bytes t cs ds h k =
     let same = one_item_tree (code_of bytes) k.items h.items (items_spelled number 36 k.items (code_of bytes) ds k.spelled) (items_spelled number 36 h.items (code_of bytes) cs h.spelled) in
     one_items number 36 h.items (code_of bytes) cs ds h.spelled (subst (λ (is : ItemTrees). SpellsItemsAt number 36 is (code_of bytes) ds) same k.spelled)

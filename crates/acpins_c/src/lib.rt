@@ -4,10 +4,11 @@
 //! returns. A slice is a pointer and a length in C; where the length is 0 the pointer may be NULL.
 #![tactic(auto)]
 
-ghost use Rattle.std.specs.Prelude.{◌≡◌, ◌≢◌, ◌↔◌, ◌⊎◌, ◌<◌, ◌≤◌, []};
+ghost use Rattle.std.specs.Prelude.{◌≡◌, ◌≢◌, ◌↔◌, ◌⊎◌, ◌<◌, ◌≤◌, [], take};
 ghost use Rattle.acpi_name.specs.Text.{IsPathText};
 ghost use Rattle.acpins_records.specs.Bodies.{HasNoMethod, IsBodyWritten, NeedsText};
 ghost use Rattle.acpins_records.specs.Checks.{IsVerdictWritten, NeedsAnswerRoom};
+ghost use Rattle.acpins_records.specs.Orders.{IsWrittenInAnyOrder};
 ghost use Rattle.acpins_records.specs.Rewrites.{AreTablesWritten, NeedTablesRoom};
 ghost use Rattle.acpins_records.specs.Written.{IsRefusal, IsWritten, NeedsRoom, SamePlaces, StayButText, bytes_of, contents_of};
 
@@ -36,6 +37,8 @@ pub extern "C" fn acpins_load(
 ) -> u32
     // The arrays begin with the records, targets, text, parts and bytes of what the tables load to.
     ensures ok { result ≡ OK → IsWritten depth (bytes_of tables.now) (contents_of arrays.old) (contents_of arrays.new) outcome.new }
+    // Of independent SSDTs they begin with the same for each order, but for the numbers of tables.
+    ensures any_order { result ≡ OK → IsWrittenInAnyOrder depth (bytes_of tables.now) (contents_of arrays.old) (contents_of arrays.new) }
     // The tables have no load, for the reason that the outcome has.
     ensures refused { result ≡ REFUSED → IsRefusal depth (bytes_of tables.now) arrays.old.text.now arrays.new.text.now outcome.new }
     // They load, to more than there is room for: the outcome has how much it is.
@@ -86,7 +89,8 @@ pub extern "C" fn acpins_check(
     outcome: &mut Outcome,
 ) -> u32
     ensures ok { result ≡ OK → IsVerdictWritten depth (bytes_of tables.now) satisfied.old satisfied.new text.old text.new verdict.new outcome.new }
-    ensures refused { result ≡ REFUSED → IsRefusal depth (bytes_of tables.now) text.old text.new outcome.new }
+    // Only the DSDT is refused: an SSDT that can't be loaded over it is a verdict.
+    ensures refused { result ≡ REFUSED → IsRefusal depth (take 1 (bytes_of tables.now)) text.old text.new outcome.new }
     ensures room { result ≡ NO_ROOM → NeedsAnswerRoom depth (bytes_of tables.now) satisfied.old text.old verdict.new outcome.new }
     ensures call { (result ≡ CALL) ↔ ((tables.now ≡ []) ⊎ ((depth < 1) ⊎ (4096 < depth))) }
     ensures stay { result ≢ OK → satisfied.new ≡ satisfied.old }

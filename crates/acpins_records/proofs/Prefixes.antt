@@ -12,7 +12,7 @@ use Rattle.acpi_name.specs.Names.{Segment}
 use Rattle.acpi_name.specs.Paths.{path_cmp, segment_cmp}
 use Rattle.acpi_name.specs.steps.PathOrder.{path_cmp_total}
 use Rattle.acpins_records.specs.Tree.{IsBelow, EndsBelow}
-use Rattle.acpins_records.specs.steps.Runs.{RunsTo}
+use Rattle.acpins_records.specs.steps.Runs.{Ascend, RunsTo}
 
 -- ---- the order of what extends a path
 
@@ -60,15 +60,15 @@ between (x ∷ p) (y ∷ a) rest h k =
 
 -- ---- sorted pairs
 
-both_first : (a b : Bool) → a && b ≡ true → a ≡ true
+pub both_first : (a b : Bool) → a && b ≡ true → a ≡ true
 both_first true b h = refl
 both_first false b h = absurd (subst T (sym h) tt)
 
-both_second : (a b : Bool) → a && b ≡ true → b ≡ true
+pub both_second : (a b : Bool) → a && b ≡ true → b ≡ true
 both_second true b h = h
 both_second false b h = absurd (subst T (sym h) tt)
 
-less : (o : Ordering) → is_lt o ≡ true → o ≡ Less
+pub less : (o : Ordering) → is_lt o ≡ true → o ≡ Less
 less Less h = refl
 less Equal h = absurd (subst T (sym h) tt)
 less Greater h = absurd (subst T (sym h) tt)
@@ -77,13 +77,12 @@ abbrev pub paths_of : {V : Type 0} → List (List Segment × V) → List (List S
 paths_of pairs = map (λ e. e.0) pairs
 
 -- the path is before all others
-before_all : {V : Type 0} (p q : List Segment) (pairs : List (List Segment × V)) (j : ℕ) → below_all path_cmp p pairs ≡ true → slice_get (paths_of pairs) j ≡ Some q → path_cmp p q ≡ Less
+pub before_all : {V : Type 0} (p q : List Segment) (pairs : List (List Segment × V)) (j : ℕ) → below_all path_cmp p pairs ≡ true → slice_get (paths_of pairs) j ≡ Some q → path_cmp p q ≡ Less
 before_all p q [] j h there = absurd (cc)
 before_all p q (e ∷ pairs) zero h there = let same : e.0 ≡ q = cc in ap (λ r. path_cmp p r) (sym same) ∙ less (path_cmp p e.0) (both_first _ _ h)
 before_all p q (e ∷ pairs) (suc j) h there = before_all p q pairs j (both_second _ _ h) there
 
-pub ascends : {V : Type 0} (pairs : List (List Segment × V)) → is_sorted path_cmp pairs ≡ true → (i j : ℕ) (p q : List Segment) → i < j
-    → slice_get (paths_of pairs) i ≡ Some p → slice_get (paths_of pairs) j ≡ Some q → path_cmp p q ≡ Less
+pub ascends : {V : Type 0} (pairs : List (List Segment × V)) → is_sorted path_cmp pairs ≡ true → Ascend (paths_of pairs)
 ascends [] h i j p q below this that = absurd (cc)
 ascends (e ∷ pairs) h i zero p q below this that = absurd (omega arith)
 ascends (e ∷ pairs) h zero (suc j) p q below this that =
@@ -121,17 +120,17 @@ pub below_below : (p q r : List Segment) → IsBelow p q → IsBelow q r → IsB
 below_below p q r (s, is, some) (t, also, more) = (s ++ t, also ∙ ap (λ l. l ++ t) is ∙ append_assoc p s t, λ none. some (nothing_before s t none))
 
 -- what stands below a path is behind it
-behind : {V : Type 0} (pairs : List (List Segment × V)) → is_sorted path_cmp pairs ≡ true → (k i : ℕ) (p q : List Segment)
-    → slice_get (paths_of pairs) k ≡ Some p → slice_get (paths_of pairs) i ≡ Some q → IsBelow p q → k < i
-behind pairs h k i p q this that (rest, is, some) =
+behind : (paths : List (List Segment)) → Ascend paths → (k i : ℕ) (p q : List Segment)
+    → slice_get paths k ≡ Some p → slice_get paths i ≡ Some q → IsBelow p q → k < i
+behind paths h k i p q this that (rest, is, some) =
     let less_is : path_cmp p q ≡ Less = ap (path_cmp p) is ∙ longer_behind p rest some in
     elim (cases_lt k i) [
       | inl lt ↦ lt
       | inr le ↦ elim (cases_lt i k) [
-        | inl lt ↦ absurd (not_back p q less_is (ascends pairs h i k q p lt that this))
+        | inl lt ↦ absurd (not_back p q less_is (h i k q p lt that this))
         | inr ge ↦
             let same : k ≡ i = omega arith in
-            let alike : p ≡ q = one_there p q (slice_get (paths_of pairs) i) (subst (λ n. slice_get (paths_of pairs) n ≡ Some p) same this) that in
+            let alike : p ≡ q = one_there p q (slice_get paths i) (subst (λ n. slice_get paths n ≡ Some p) same this) that in
             absurd (not_itself p (rest, alike ∙ is, some))
       ]
     ]
@@ -141,31 +140,31 @@ less_at p a s is none h =
     let same : a ≡ p = is ∙ ap (λ l. p ++ l) none ∙ append-nil p in ap (path_cmp p) (sym same) ∙ h
 
 -- .. and before the end of its run
-within_run : {V : Type 0} (pairs : List (List Segment × V)) → is_sorted path_cmp pairs ≡ true → (k n i : ℕ) (p q : List Segment) → RunsTo (paths_of pairs) k n
-    → slice_get (paths_of pairs) k ≡ Some p → slice_get (paths_of pairs) i ≡ Some q → IsBelow p q → i < n
-within_run pairs h k n i p q run this that (rest, is, some) =
+within_run : (paths : List (List Segment)) → Ascend paths → (k n i : ℕ) (p q : List Segment) → RunsTo paths k n
+    → slice_get paths k ≡ Some p → slice_get paths i ≡ Some q → IsBelow p q → i < n
+within_run paths h k n i p q run this that (rest, is, some) =
     elim (cases_lt i n) [
       | inl lt ↦ lt
       | inr le ↦
-          let at = there (paths_of pairs) n (omega (arith, within_list (paths_of pairs) i q that, le)) in
+          let at = there paths n (omega (arith, within_list paths i q that, le)) in
           elim (cases_lt n i) [
             | inl lt ↦
-                let first = ascends pairs h k n p at.0 run.run.within.0 this at.1 in
-                let second = ascends pairs h n i at.0 q lt at.1 that in
+                let first = h k n p at.0 run.run.within.0 this at.1 in
+                let second = h n i at.0 q lt at.1 that in
                 let some_between = between p at.0 rest first (ap (path_cmp at.0) (sym is) ∙ second) in
                 absurd (run.next p at.0 this at.1 (some_between.0, some_between.1, λ none. not_back p p (less_at p at.0 some_between.0 some_between.1 none first) (less_at p at.0 some_between.0 some_between.1 none first)))
             | inr ge ↦
                 let same : n ≡ i = omega arith in
-                let alike : at.0 ≡ q = one_there at.0 q (slice_get (paths_of pairs) i) (subst (λ m. slice_get (paths_of pairs) m ≡ Some at.0) same at.1) that in
+                let alike : at.0 ≡ q = one_there at.0 q (slice_get paths i) (subst (λ m. slice_get paths m ≡ Some at.0) same at.1) that in
                 absurd (run.next p at.0 this at.1 (rest, alike ∙ is, some))
           ]
     ]
 
-pub ends_below : {V : Type 0} (pairs : List (List Segment × V)) → is_sorted path_cmp pairs ≡ true → (k n : ℕ) → RunsTo (paths_of pairs) k n → EndsBelow (paths_of pairs) k n
-ends_below pairs h k n run = record {
+pub ends_below : (paths : List (List Segment)) → Ascend paths → (k n : ℕ) → RunsTo paths k n → EndsBelow paths k n
+ends_below paths h k n run = record {
   within = run.run.within;
   below = λ i p q this that. (
-    λ is. (behind pairs h k i p q this that is, within_run pairs h k n i p q run this that is),
+    λ is. (behind paths h k i p q this that is, within_run paths h k n i p q run this that is),
     λ between. run.run.below i p q this that between.0 between.1,
   );
 }

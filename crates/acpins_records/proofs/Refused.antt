@@ -1,5 +1,5 @@
 -- Refusals of a load.
-use Rattle.std.proofs.Common.{◌≡◌, ◌≢◌, ℕ, Bool, true, false, List, [], ◌∷◌, Some, None, subst, sym, ◌∙◌}
+use Rattle.std.proofs.Common.{◌≡◌, ◌≢◌, ℕ, Bool, true, false, List, Some, None, subst, sym, ◌∙◌}
 use Rattle.std.specs.Prelude.{if◌then◌else◌}
 use Rattle.acpi_declare.specs.Loads.{HasNoLoad}
 use Rattle.acpi_declare.specs.Refusals.{IsLoadFault}
@@ -9,11 +9,6 @@ use Rattle.acpi_declare.specs.declared.fault.LoadReason.{LoadReason}
 use Rattle.acpins_records.specs.declared.outcome.Outcome.{Outcome}
 use Rattle.acpins_records.specs.Outcomes.{refused_as}
 use Rattle.acpins_records.specs.Written.{IsRefusal, TellsPath}
-
--- where the DSDT has no load, it has none with SSDTs
-pub none_with_more : (depth : ℕ) (dsdt : List ℕ) (ssdts : List (List ℕ)) → HasNoLoad depth (dsdt ∷ []) → HasNoLoad depth (dsdt ∷ ssdts)
-none_with_more depth dsdt ssdts none [] listings = listings
-none_with_more depth dsdt ssdts none (t ∷ ts) listings = none (t ∷ []) (listings.0, tt)
 
 pub refusal : (depth : ℕ) (tables copied : List (List ℕ)) (table : ℕ) (reason : LoadReason) (old new : List ℕ) (outcome : Outcome) → copied ≡ tables
     → IsLoadFault depth copied (At table reason) → HasNoLoad depth copied → outcome ≡ refused_as table reason outcome.text → TellsPath reason outcome.text old new

@@ -1,26 +1,15 @@
 -- Runs of objects below one, step by step.
 use Rattle.std.proofs.Common.{◌≡◌, ◌≢◌, ℕ, ◌+◌, ◌<◌, ◌≤◌, ◌-◌, List, [], ◌∷◌, ◌++◌, length, take, drop, get_or, slice_get, Some, ◌∙◌, ap, sym, subst, refl, arith, inl, inr, take-append-drop, length-drop, set, get_or-set_other, get_or-set_same}
-use Rattle.std.specs.Option.{option_map}
 use Rattle.std.proofs.lemmas.Bool.{cases_lt}
-use Rattle.std.proofs.lemmas.List.{length-map}
-use Rattle.std.proofs.lemmas.Option.{slice_get-map, slice_get-get_or}
 use Rattle.acpi_name.specs.Names.{Segment}
 use Rattle.acpi_name.specs.Paths.{parent_of}
 use Rattle.acpins_records.specs.Tree.{IsBelow, IsParent, IsPlaceOf, none, path_round}
 use Rattle.acpins_records.specs.steps.Runs.{RunTo, RunsTo}
-use Rattle.acpins_records.proofs.Prefixes.{below_below, one_there, paths_of, within_list}
+use Rattle.acpins_records.proofs.Prefixes.{below_below, one_there, within_list}
 
--- the path of the pair at a place, as it is read there
-pub path_read : {V : Type 0} (pairs : List (List Segment × V)) (k : ℕ) (x : List Segment × V) (p : List Segment) → k < length pairs → p ≡ (get_or pairs k x).0 → slice_get (paths_of pairs) k ≡ Some p
-path_read pairs k x p within is =
-    slice_get-map (λ e. e.0) pairs k ∙ ap (option_map (λ e. e.0)) (slice_get-get_or pairs k x within) ∙ ap Some (sym is)
-
--- .. and no place is behind all of them
+-- no place is behind all of them
 pub none_read : (paths : List (List Segment)) (k : ℕ) (p : List Segment) → length paths ≤ k → slice_get paths k ≡ Some p → ⊥
 none_read paths k p past there = let less = within_list paths k p there in absurd (omega arith)
-
-pub count_paths : {V : Type 0} (pairs : List (List Segment × V)) → length (paths_of pairs) ≡ length pairs
-count_paths pairs = length-map pairs (λ e. e.0)
 
 -- the objects directly behind a place, of which there is none yet
 pub run_begins : (paths : List (List Segment)) (k : ℕ) → k < length paths → RunTo paths k (k + 1)
@@ -89,6 +78,27 @@ pub root_is : (paths : List (List Segment)) (k n : ℕ) (p : List Segment) → s
 root_is paths k n [] there no_segment is q at =
     let same : [] ≡ q = one_there [] q (slice_get paths k) there at in subst (λ r. IsPlaceOf paths (path_round r) n) same is
 root_is paths k n (x ∷ p) there no_segment is q at = absurd (omega (arith, no_segment))
+
+-- a path with segments is the one round it and its last segment
+last_segment : (x : Segment) (p : List Segment) → (y : Segment) × (x ∷ p ≡ parent_of (x ∷ p) ++ y ∷ [])
+last_segment x [] = (x, refl)
+last_segment x (y ∷ p) = let more = last_segment y p in (more.0, ap (λ l. x ∷ l) more.1)
+
+-- what stands in an object is below it
+pub child_below : (paths : List (List Segment)) (next n k : ℕ) (p q : List Segment) → IsParent paths next n → n ≡ k → k < none → slice_get paths k ≡ Some p → slice_get paths next ≡ Some q
+    → IsBelow p q
+child_below paths next n k p q parent is small this that = by q (subst (λ m. IsPlaceOf paths (path_round q) m) is (parent q that))
+  where
+    by : (q : List Segment) → IsPlaceOf paths (path_round q) k → IsBelow p q
+    by [] place = absurd (omega (arith, place, small))
+    by (x ∷ q) place =
+        let last = last_segment x q in
+        elim place [
+          | inl at ↦
+              let same : parent_of (x ∷ q) ≡ p = one_there (parent_of (x ∷ q)) p (slice_get paths k) at this in
+              (last.0 ∷ [], last.1 ∙ ap (λ l. l ++ last.0 ∷ []) same, λ bad. cc)
+          | inr missing ↦ absurd (omega (arith, missing.0, small))
+        ]
 
 -- ---- numbers of all places, one by one
 

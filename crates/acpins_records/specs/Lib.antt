@@ -9,3 +9,4 @@ pub mod Bodies
 pub mod Checks
 pub mod Rewrites
 pub mod steps
+pub mod Orders

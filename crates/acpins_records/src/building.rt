@@ -1,22 +1,25 @@
 //! Records of a namespace.
 
-ghost use Rattle.std.specs.Prelude.{◌≡◌, ◌<◌, ℕ, [], map, length, IfOk, OnOk, IsTrue, unwrap_or, slice_index};
-ghost use Rattle.std.specs.FinMap.{get, is_sorted};
+ghost use Rattle.std.specs.Prelude.{◌≡◌, ◌++◌, [], map, length, IfOk, OnOk, unwrap_or, slice_index};
+ghost use Rattle.std.specs.FinMap.{get};
 ghost use Rattle.acpi_tree.specs.Objects.{object_view};
 ghost use Rattle.acpi_declare.specs.Links.{links_at};
-ghost use Rattle.acpi_name.specs.Paths.{path_cmp};
-ghost use Rattle.acpins_records.specs.Records.{part_of, code_table_of, code_place_of, code_length_of};
-ghost use Rattle.acpins_records.specs.steps.Adding.{PutsLine, PutsData, AddsEntry, AreFirst, AreRecords};
+ghost use Rattle.acpins_output.specs.Listings.{objects_by_path};
+ghost use Rattle.acpins_records.specs.Records.{part_of, code_table_of, code_place_of, code_length_of, own_links};
+ghost use Rattle.acpins_records.specs.steps.Adding.{PutsLine, PutsData, AddsEntry, AreRecords, placed, placed_from};
+ghost use Rattle.acpins_records.specs.steps.Kinds.{AllSuit, code_by, links_by};
+ghost use Rattle.acpins_records.specs.steps.Seeing.{AreSeen};
 
 use crate::numbers::{kind_of, numbers_of};
 use crate::parts::Parts;
+use crate::paths::Paths;
 use crate::records::{NONE, ObjectRecord};
 use crate::targets::put_targets;
 use crate::tree::{Tree, tree_of};
 use acpi_declare::LinkMap;
 use acpi_name::Path;
 use acpi_places::CodePlace;
-use acpi_space::{Space, TreeSpace};
+use acpi_space::{Space, TreeSpace, Visitor};
 use acpi_terms::Object;
 use acpi_text::{put_links, put_object, put_path};
 use std::alloc::{AllocError, Global};
@@ -34,36 +37,42 @@ pub(crate) struct Records {
     pub data: Parts,
 }
 
-// An object with all that its record says of it.
+// An object with what its record says of it, whatever stands round it.
 #[derive(Clone, Copy)]
 struct Entry<'a> {
     path: &'a Path,
     object: &'a Object,
     // What its links find.
     links: &'a [Option<Path>],
+    // The place of the first of its targets.
+    target: usize,
     // Where its code stands.
     code: Option<CodePlace>,
-    // The place of the object in which it stands.
-    parent: u64,
-    // The place behind the objects below it.
-    below: usize,
 }
 
-// The links of a path; none where it has none.
-fn links_of<'a>(path: &Path, links: &'a LinkMap) -> &'a [Option<Path>]
-    ensures { result.now ≡ unwrap_or (links_at links.now path.now) [] }
+// The links of an object; only fields and buffer fields have some.
+fn links_of<'a>(path: &Path, object: &Object, links: &'a LinkMap) -> &'a [Option<Path>]
+    ensures { result.now ≡ links_by (object_view object.now) (own_links (links_at links.now) path.now) }
 {
-    match links.get(path) {
-        Some(links) => links,
-        None => &[],
+    match object {
+        Object::Field { .. } | Object::Create { .. } | Object::CreateField { .. } => {
+            match links.get(path) {
+                Some(links) => links,
+                None => &[],
+            }
+        }
+        _ => &[],
     }
 }
 
-// Where the code of the method at a path stands, where a table declares one there.
-fn code_of(path: &Path, codes: &TreeSpace<CodePlace>) -> Option<CodePlace>
-    ensures { result ≡ get codes.now path.now }
+// Where the code of a method stands, where a table declares one there.
+fn code_of(path: &Path, object: &Object, codes: &TreeSpace<CodePlace>) -> Option<CodePlace>
+    ensures { result ≡ code_by (object_view object.now) (get codes.now path.now) }
 {
-    codes.get(path).copied()
+    match object {
+        Object::Method(_) => codes.get(path).copied(),
+        _ => None,
+    }
 }
 
 fn code_table_of(code: Option<CodePlace>) -> u64
@@ -135,7 +144,11 @@ fn put_data(data: &mut Parts, object: &Object) -> Result<(), AllocError>
 impl Records {
     // Nothing yet.
     fn new(alloc: Global) -> Records
-        ensures { AreFirst [] (λ _. 0) (λ _. 0) [] (λ _. None) (λ _. None) result }
+        ensures objects { result.objects.items ≡ [] }
+        ensures targets { result.targets.items ≡ [] }
+        ensures text { result.text.items ≡ [] }
+        ensures parts { result.«data».parts.items ≡ [] }
+        ensures bytes { result.«data».bytes.items ≡ [] }
     {
         Records {
             objects: Vec::new(alloc),
@@ -145,27 +158,24 @@ impl Records {
         }
     }
 
-    // Puts an object behind the others.
-    fn put(&mut self, pairs: &[(Path, &Object)], entry: &Entry<'_>) -> Result<(), AllocError>
-        requires { IsTrue (is_sorted path_cmp pairs.now) }
-        ensures { OnOk result (AddsEntry (map (λ p. p.0) pairs.now) entry.now self.old self.new) }
+    // Puts an object behind the others. Its places among them are not known yet.
+    fn put(&mut self, entry: &Entry<'_>) -> Result<(), AllocError>
+        ensures { OnOk result (AddsEntry entry.now self.old self.new) }
     {
         let line = self.text.len();
-        let target = self.targets.len();
         let part = part_of(entry.object, self.data.parts.len());
         let path_length = put_line(&mut self.text, entry.path, entry.object, entry.links)?;
-        put_targets(&mut self.targets, pairs, entry.links)?;
         put_data(&mut self.data, entry.object)?;
         self.objects.push(ObjectRecord {
             kind: kind_of(entry.object),
             line: line as u64,
             line_length: (self.text.len() - line) as u64,
             path_length: path_length as u64,
-            target: target as u64,
+            target: entry.target as u64,
             targets: entry.links.len() as u64,
             numbers: numbers_of(entry.object),
-            parent: entry.parent,
-            below: entry.below as u64,
+            parent: 0,
+            below: 0,
             part,
             code_table: code_table_of(entry.code),
             code_place: code_place_of(entry.code),
@@ -175,44 +185,94 @@ impl Records {
     }
 }
 
-// The records of all objects, where it is known how they stand among one another.
-fn records_with(
-    alloc: Global,
-    pairs: &[(Path, &Object)],
-    links: &LinkMap,
-    codes: &TreeSpace<CodePlace>,
-    tree: &Tree,
-) -> Result<Records, AllocError>
-    requires sorted { IsTrue (is_sorted path_cmp pairs.now) }
-    requires parents { length tree.now.parents.items ≡ length pairs.now }
-    requires ends { length tree.now.ends.items ≡ length pairs.now }
-    ensures { IfOk result (λ r. AreFirst (map (λ p. p.0) pairs.now) (slice_index tree.now.parents.items) (slice_index tree.now.ends.items) (map (λ p. (p.0, object_view p.1.now)) pairs.now) (links_at links.now) (get codes.now) r) }
+/// The objects so far: their records, their paths, and what their links find.
+#[derive(Drop)]
+pub(crate) struct Seen<'a> {
+    // Each without its parent and the end of what is below it; there are no targets yet.
+    records: Records,
+    paths: Paths,
+    // A link for each target.
+    wanted: Vec<&'a Option<Path>>,
+    links: &'a LinkMap,
+    codes: &'a TreeSpace<CodePlace>,
+}
+
+// Puts what some links find behind the others.
+fn put_wanted<'a>(
+    wanted: &mut Vec<&'a Option<Path>>,
+    links: &'a [Option<Path>],
+) -> Result<(), AllocError>
+    ensures { OnOk result (map (λ a. a.now) wanted.new.items ≡ map (λ a. a.now) wanted.old.items ++ links.now) }
 {
-    let mut records = Records::new(alloc);
-    for (k, pair) in pairs.iter().enumerate() {
-        let entry = Entry {
-            path: &pair.0,
-            object: pair.1,
-            links: links_of(&pair.0, links),
-            code: code_of(&pair.0, codes),
-            parent: tree.parents[k],
-            below: tree.ends[k],
-        };
-        records.put(pairs, &entry)?;
+    for answer in links {
+        wanted.push(answer)?;
     }
-    Ok(records)
+    Ok(())
+}
+
+impl Visitor<Object> for Seen<'_> {
+    ghost was_shown = { AreSeen };
+
+    fn visit(&mut self, path: &Path, object: &Object) -> Result<(), AllocError> {
+        let links = links_of(path, object, self.links);
+        let entry = Entry {
+            path,
+            object,
+            links,
+            target: self.wanted.len(),
+            code: code_of(path, object, self.codes),
+        };
+        self.records.put(&entry)?;
+        put_wanted(&mut self.wanted, links)?;
+        self.paths.put(path.segs())
+    }
+}
+
+// Sets the places of an object among the others.
+fn set_place(object: &mut ObjectRecord, parent: u64, below: u64)
+    ensures { object.new ≡ placed parent below object.old }
+{
+    object.parent = parent;
+    object.below = below;
+}
+
+// .. of each of them.
+fn set_places(objects: &mut [ObjectRecord], tree: &Tree)
+    requires parents { length tree.now.parents.items ≡ length objects.old }
+    requires ends { length tree.now.ends.items ≡ length objects.old }
+    ensures { objects.new ≡ placed_from 0 (slice_index tree.now.parents.items) (slice_index tree.now.ends.items) objects.old }
+{
+    for k in 0..objects.len() {
+        set_place(&mut objects[k], tree.parents[k], tree.ends[k] as u64);
+    }
 }
 
 /// The records of all objects, in the order of the paths.
-pub(crate) fn build_records(
+pub(crate) fn build_records<'a>(
     alloc: Global,
-    pairs: &[(Path, &Object)],
-    links: &LinkMap,
-    codes: &TreeSpace<CodePlace>,
+    objects: &TreeSpace<Object>,
+    links: &'a LinkMap,
+    codes: &'a TreeSpace<CodePlace>,
 ) -> Result<Records, AllocError>
-    requires { IsTrue (is_sorted path_cmp pairs.now) }
-    ensures { IfOk result (λ r. AreRecords (map (λ p. (p.0, object_view p.1.now)) pairs.now) (links_at links.now) (get codes.now) r) }
+    ensures { AllSuit (links_at links.now) (get codes.now) (objects_by_path objects.now)
+        → IfOk result (λ r. AreRecords (objects_by_path objects.now) (links_at links.now) (get codes.now) r) }
 {
-    let tree = tree_of(alloc, pairs)?;
-    records_with(alloc, pairs, links, codes, &tree)
+    let mut seen = Seen {
+        records: Records::new(alloc),
+        paths: Paths::new(alloc),
+        wanted: Vec::new(alloc),
+        links,
+        codes,
+    };
+    objects.visit_pairs(&mut seen)?;
+    let Seen {
+        mut records,
+        paths,
+        wanted,
+        ..
+    } = seen;
+    put_targets(&mut records.targets, &paths, &wanted)?;
+    let tree = tree_of(alloc, &paths)?;
+    set_places(&mut records.objects, &tree);
+    Ok(records)
 }

@@ -1,12 +1,9 @@
 //! The verdict on SSDTs into the arrays of a caller.
 
-ghost use Rattle.std.specs.Prelude.{◌≡◌, ◌≢◌, ◌↔◌, ◌∷◌, ◌++◌, ◌⊎◌, ◌≤◌, ◌<◌, ℕ, List, [], length, IfOk, IfErr, OnOk};
+ghost use Rattle.std.specs.Prelude.{◌≡◌, ◌≢◌, ◌↔◌, ◌∷◌, ◌++◌, ◌⊎◌, ◌≤◌, ◌<◌, ℕ, List, [], length, take, IfOk, IfErr, OnOk};
 ghost use Rattle.acpi_declare.specs.Loads.{HasNoLoad};
 ghost use Rattle.acpi_declare.specs.Refusals.{IsLoadFault};
 ghost use Rattle.acpi_name.specs.Text.{path_text};
-ghost use Rattle.acpi_order.specs.Verdicts.{AllAlone, IsVerdict};
-ghost use Rattle.acpi_verdict.specs.SatisfiedView.{AreSatisfied};
-ghost use Rattle.acpi_verdict.specs.VerdictView.{verdict_view, IsFaultOf};
 ghost use Rattle.acpins_records.specs.Checks.{IsAnswer, IsAnswerOf, IsVerdictWritten, NeedsAnswerRoom, reason_path, satisfied_from, satisfied_text, verdict_record};
 ghost use Rattle.acpins_records.specs.Outcomes.{text_outcome, reason_code, place_of};
 ghost use Rattle.acpins_records.specs.Written.{IsFront, IsRefusal, bytes_of};
@@ -190,22 +187,6 @@ fn reason_of(fault: LoadFault) -> LoadReason
     }
 }
 
-// The verdict on SSDTs. A refusal of the DSDT is one of all tables.
-fn check_tables(
-    alloc: Global,
-    dsdt: &Bytes,
-    ssdts: &[Bytes],
-    depth: Depth,
-) -> Result<Checked, LoadFault>
-    ensures ok { IfOk result (λ c. IsVerdict depth dsdt.now ssdts.now (verdict_view c.verdict)) }
-    ensures fault { IfOk result (λ c. IsFaultOf depth dsdt.now ssdts.now c.verdict) }
-    ensures satisfied { IfOk result (λ c. AllAlone depth dsdt.now ssdts.now → AreSatisfied depth dsdt.now ssdts.now c.satisfied.items) }
-    ensures err { IfErr result (λ e. IsLoadFault depth (dsdt.now ∷ ssdts.now) e) }
-    ensures none { IfErr result (λ e. e ≢ LoadFault.Memory → HasNoLoad depth (dsdt.now ∷ ssdts.now)) }
-{
-    check_shared::<TreeSpace<Object>>(alloc, dsdt, ssdts, depth)
-}
-
 // What is written of the verdict on SSDTs.
 fn check_ssdts(
     alloc: Global,
@@ -214,10 +195,12 @@ fn check_ssdts(
     depth: Depth,
 ) -> Result<Answer, LoadFault>
     ensures ok { IfOk result (λ a. IsAnswerOf depth dsdt.now ssdts.now a.record a.satisfied.items a.text.items) }
-    ensures err { IfErr result (λ e. IsLoadFault depth (dsdt.now ∷ ssdts.now) e) }
-    ensures none { IfErr result (λ e. e ≢ LoadFault.Memory → HasNoLoad depth (dsdt.now ∷ ssdts.now)) }
+    ensures err { IfErr result (λ e. IsLoadFault depth (dsdt.now ∷ []) e) }
+    ensures none { IfErr result (λ e. e ≢ LoadFault.Memory → HasNoLoad depth (dsdt.now ∷ [])) }
 {
-    let Checked { verdict, satisfied } = check_tables(alloc, dsdt, ssdts, depth)?;
+    let Checked { verdict, satisfied } = check_shared::<TreeSpace<Object>>(
+        alloc, dsdt, ssdts, depth,
+    )?;
     match verdict {
         Verdict::Commute => Ok(commuting(alloc, &satisfied)?),
         Verdict::NotAlone { ssdt, fault } => Ok(not_alone(alloc, ssdt, &reason_of(fault))?),
@@ -238,8 +221,8 @@ fn check_ssdts(
 fn check(alloc: Global, tables: &[Bytes], depth: Depth) -> Result<Answer, LoadFault>
     requires { tables.now ≢ [] }
     ensures ok { IfOk result (λ a. IsAnswer depth tables.now a.record a.satisfied.items a.text.items) }
-    ensures err { IfErr result (λ e. IsLoadFault depth tables.now e) }
-    ensures none { IfErr result (λ e. e ≢ LoadFault.Memory → HasNoLoad depth tables.now) }
+    ensures err { IfErr result (λ e. IsLoadFault depth (take 1 tables.now) e) }
+    ensures none { IfErr result (λ e. e ≢ LoadFault.Memory → HasNoLoad depth (take 1 tables.now)) }
 {
     let Some((dsdt, ssdts)) = tables.split_first() else {
         unreachable!()
@@ -285,7 +268,8 @@ pub fn write_verdict(
     outcome: &mut Outcome,
 ) -> u32
     ensures ok { result ≡ OK → IsVerdictWritten depth (bytes_of tables.now) satisfied.old satisfied.new text.old text.new verdict.new outcome.new }
-    ensures refused { result ≡ REFUSED → IsRefusal depth (bytes_of tables.now) text.old text.new outcome.new }
+    // Only the DSDT is refused: an SSDT that can't be loaded over it is a verdict.
+    ensures refused { result ≡ REFUSED → IsRefusal depth (take 1 (bytes_of tables.now)) text.old text.new outcome.new }
     ensures room { result ≡ NO_ROOM → NeedsAnswerRoom depth (bytes_of tables.now) satisfied.old text.old verdict.new outcome.new }
     ensures call { (result ≡ CALL) ↔ ((tables.now ≡ []) ⊎ ((depth < 1) ⊎ (4096 < depth))) }
     ensures stay { result ≢ OK → satisfied.new ≡ satisfied.old }

@@ -18,6 +18,7 @@ mod loading;
 mod numbers;
 mod outcome;
 mod parts;
+mod paths;
 mod records;
 mod refusing;
 mod rewrite;

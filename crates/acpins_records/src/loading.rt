@@ -7,6 +7,7 @@ ghost use Rattle.acpi_declare.specs.Loads.{IsLoad, HasNoLoad};
 ghost use Rattle.acpi_declare.specs.Namespace.{namespace_of};
 ghost use Rattle.acpi_declare.specs.Refusals.{IsLoadFault};
 ghost use Rattle.acpi_places.specs.Places.{AreCodePlaces};
+ghost use Rattle.acpins_records.specs.Orders.{IsWrittenInAnyOrder};
 ghost use Rattle.acpins_records.specs.Outcomes.{counted};
 ghost use Rattle.acpins_records.specs.steps.Adding.{contents_in};
 ghost use Rattle.acpins_records.specs.Written.{AreFronts, Fits, IsContentsOf, IsRefusal, IsShort, IsWritten, NeedsRoom, SamePlaces, StayButText, bytes_of, contents_of};
@@ -32,8 +33,7 @@ fn records_of(
     ensures { (depth : ℕ) (tables : List (List ℕ)) → IsLoad depth tables (namespace_of objects.now) (links_at links.now)
         → AreCodePlaces depth tables (get codes.now) → IfOk result (λ r. IsContentsOf depth tables (contents_in r)) }
 {
-    let pairs = objects.pairs()?;
-    build_records(alloc, &pairs, links, codes)
+    build_records(alloc, objects, links, codes)
 }
 
 // The records of what tables load to.
@@ -93,24 +93,20 @@ fn write_records(records: &Records, arrays: &mut Arrays<'_>, outcome: &mut Outco
     OK
 }
 
-/// Loads a DSDT and SSDTs, in the order of their load, and writes what they load to into the caller's arrays.
-pub fn write_load(
+// Loads the tables, and writes what they load to.
+fn load_into(
     alloc: Global,
     tables: &[LentTable<'_>],
     depth: u32,
     arrays: &mut Arrays<'_>,
     outcome: &mut Outcome,
 ) -> u32
-    // The arrays begin with the records, targets, text, parts and bytes of what the tables load to.
     ensures ok { result ≡ OK → IsWritten depth (bytes_of tables.now) (contents_of arrays.old) (contents_of arrays.new) outcome.new }
-    // The tables have no load, for the reason that the outcome has.
     ensures refused { result ≡ REFUSED → IsRefusal depth (bytes_of tables.now) arrays.old.text.now arrays.new.text.now outcome.new }
-    // They load, to more than there is room for: the outcome has how much it is.
     ensures room { result ≡ NO_ROOM → NeedsRoom depth (bytes_of tables.now) (contents_of arrays.old) outcome.new }
     ensures call { (result ≡ CALL) ↔ ((tables.now ≡ []) ⊎ ((depth < 1) ⊎ (4096 < depth))) }
     ensures stay { result ≢ OK → StayButText (contents_of arrays.old) (contents_of arrays.new) }
     ensures text_stays { result ≢ OK → result ≢ REFUSED → arrays.new.text.now ≡ arrays.old.text.now }
-    // The arrays stay where they are.
     ensures places { SamePlaces arrays.old arrays.new }
     ensures statuses { result ≤ 4 }
 {
@@ -135,4 +131,30 @@ pub fn write_load(
             outcome,
         ),
     }
+}
+
+/// Loads a DSDT and SSDTs, in the order of their load, and writes what they load to into the caller's arrays.
+pub fn write_load(
+    alloc: Global,
+    tables: &[LentTable<'_>],
+    depth: u32,
+    arrays: &mut Arrays<'_>,
+    outcome: &mut Outcome,
+) -> u32
+    // The arrays begin with the records, targets, text, parts and bytes of what the tables load to.
+    ensures ok { result ≡ OK → IsWritten depth (bytes_of tables.now) (contents_of arrays.old) (contents_of arrays.new) outcome.new }
+    // Of independent SSDTs they begin with the same for each order, but for the numbers of tables.
+    ensures any_order { result ≡ OK → IsWrittenInAnyOrder depth (bytes_of tables.now) (contents_of arrays.old) (contents_of arrays.new) }
+    // The tables have no load, for the reason that the outcome has.
+    ensures refused { result ≡ REFUSED → IsRefusal depth (bytes_of tables.now) arrays.old.text.now arrays.new.text.now outcome.new }
+    // They load, to more than there is room for: the outcome has how much it is.
+    ensures room { result ≡ NO_ROOM → NeedsRoom depth (bytes_of tables.now) (contents_of arrays.old) outcome.new }
+    ensures call { (result ≡ CALL) ↔ ((tables.now ≡ []) ⊎ ((depth < 1) ⊎ (4096 < depth))) }
+    ensures stay { result ≢ OK → StayButText (contents_of arrays.old) (contents_of arrays.new) }
+    ensures text_stays { result ≢ OK → result ≢ REFUSED → arrays.new.text.now ≡ arrays.old.text.now }
+    // The arrays stay where they are.
+    ensures places { SamePlaces arrays.old arrays.new }
+    ensures statuses { result ≤ 4 }
+{
+    load_into(alloc, tables, depth, arrays, outcome)
 }

@@ -1,34 +1,41 @@
 //! The places of what links find.
 
-ghost use Rattle.std.specs.Prelude.{◌≡◌, map, IsTrue, OnOk, Some};
-ghost use Rattle.std.specs.FinMap.{is_sorted};
-ghost use Rattle.acpi_name.specs.Paths.{path_cmp};
+ghost use Rattle.std.specs.Prelude.{◌≡◌, map, OnOk, Some};
 ghost use Rattle.acpins_records.specs.Tree.{IsPlaceOf};
 ghost use Rattle.acpins_records.specs.steps.Adding.{AddsTargets};
+ghost use Rattle.acpins_records.specs.steps.Runs.{Ascend};
 
+use crate::paths::Paths;
 use crate::records::NONE;
 use acpi_name::{Path, Seg};
-use acpi_terms::Object;
 use std::alloc::AllocError;
+use std::cmp::Ordering;
 
-/// The place of the object at a path.
-pub(crate) fn place_of(pairs: &[(Path, &Object)], segs: &[Seg]) -> u64
-    requires { IsTrue (is_sorted path_cmp pairs.now) }
-    ensures { IsPlaceOf (map (λ p. p.0) pairs.now) (Some segs.now) result }
+/// The place of a path among those of all objects.
+pub(crate) fn place_of(paths: &Paths, segs: &[Seg]) -> u64
+    requires { Ascend paths.now }
+    ensures { IsPlaceOf paths.now (Some segs.now) result }
 {
-    match pairs.binary_search_by(|pair| pair.0.segs().cmp(segs)) {
-        Ok(place) => place as u64,
-        Err(_) => NONE,
+    let mut low = 0;
+    let mut high = paths.len();
+    while low < high {
+        let middle = low + (high - low) / 2;
+        match paths.at(middle).cmp(segs) {
+            Ordering::Less => low = middle + 1,
+            Ordering::Equal => return middle as u64,
+            Ordering::Greater => high = middle,
+        }
     }
+    NONE
 }
 
 // The place of what a link finds.
-fn target_of(pairs: &[(Path, &Object)], answer: &Option<Path>) -> u64
-    requires { IsTrue (is_sorted path_cmp pairs.now) }
-    ensures { IsPlaceOf (map (λ p. p.0) pairs.now) answer.now result }
+fn target_of(paths: &Paths, answer: &Option<Path>) -> u64
+    requires { Ascend paths.now }
+    ensures { IsPlaceOf paths.now answer.now result }
 {
     match answer {
-        Some(path) => place_of(pairs, path.segs()),
+        Some(path) => place_of(paths, path.segs()),
         None => NONE,
     }
 }
@@ -36,14 +43,14 @@ fn target_of(pairs: &[(Path, &Object)], answer: &Option<Path>) -> u64
 /// Puts the places of what some links find behind the others.
 pub(crate) fn put_targets(
     targets: &mut Vec<u64>,
-    pairs: &[(Path, &Object)],
-    answers: &[Option<Path>],
+    paths: &Paths,
+    answers: &[&Option<Path>],
 ) -> Result<(), AllocError>
-    requires { IsTrue (is_sorted path_cmp pairs.now) }
-    ensures { OnOk result (AddsTargets (map (λ p. p.0) pairs.now) answers.now targets.old.items targets.new.items) }
+    requires { Ascend paths.now }
+    ensures { OnOk result (AddsTargets paths.now (map (λ a. a.now) answers.now) targets.old.items targets.new.items) }
 {
     for answer in answers {
-        targets.push(target_of(pairs, answer))?;
+        targets.push(target_of(paths, answer))?;
     }
     Ok(())
 }

@@ -1,15 +1,23 @@
-use Rattle.std.proofs.Common.{◌≡◌, rules, inl, inr, refl}
-use Rattle.std.proofs.lemmas.Fn.{always_returns_same}
-use Rattle.acpi_name.specs.Paths.{path_cmp}
-use Rattle.acpins_records.proofs.AtPlace.{at_place, no_place}
+use Rattle.std.proofs.Common.{arith, sym, refl, ◌∙◌}
+use Rattle.acpins_records.proofs.Places.{at_place, before_more, behind_more, no_place}
 use Rattle.acpins_records.proofs.targets.place_of.Goals as goal
 
-pub returns-in-Ok : goal.returns-in-Ok
-returns-in-Ok c =
-    let tie = c.in-Ok.ensures.position (λ pair. path_cmp pair.0 c.args.segs.now) (always_returns_same _ (λ a r. r ≡ path_cmp a.0.now.0 c.args.segs.now) _ (λ a r q k. search rules)) in
-    inl (at_place _ _ _ c.in-Ok.ensures.bound tie)
+pub loop-low-preserved-in-Less : goal.loop-low-preserved-in-Less
+loop-low-preserved-in-Less c = record {
+  within = c.loop-low.invariant.within;
+  before = before_more c.args.paths.now c.args.segs.now c.at.result.now _ c.requires c.at.ensures (sym c.cmp.ensures ∙ c.in-Less.is);
+  behind = c.loop-low.invariant.behind;
+}
 
-pub returns-in-Err : goal.returns-in-Err
-returns-in-Err c =
-    let parted = c.in-Err.ensures.position (λ pair. path_cmp pair.0 c.args.segs.now) (always_returns_same _ (λ a r. r ≡ path_cmp a.0.now.0 c.args.segs.now) _ (λ a r q k. search rules)) in
-    inr (refl, no_place _ _ _ c.requires parted)
+pub returns-in-Equal : goal.returns-in-Equal
+returns-in-Equal c = at_place c.args.paths.now c.args.segs.now c.at.result.now _ c.at.ensures (sym c.cmp.ensures ∙ c.in-Equal.is)
+
+pub loop-low-preserved : goal.loop-low-preserved
+loop-low-preserved c = record {
+  within = omega (arith, c.loop-low.invariant.within, c.loop-low-test.true);
+  before = c.loop-low.invariant.before;
+  behind = behind_more c.args.paths.now c.args.segs.now c.at.result.now _ c.requires c.at.ensures (sym c.cmp.ensures ∙ c.in-Greater.is);
+}
+
+pub returns : goal.returns
+returns c = no_place c.args.paths.now c.args.segs.now c.loop-low.low c.loop-low.high _ c.loop-low-test.false refl c.loop-low.invariant.before c.loop-low.invariant.behind

@@ -1,34 +1,28 @@
-use Rattle.std.proofs.Common.{sym, arith, subst, slice_get, false}
+use Rattle.std.proofs.Common.{◌<◌, length, arith, subst, false}
 use Rattle.std.specs.Prelude.{IsTrue}
-use Rattle.acpins_records.specs.Tree.{IsBelow}
-use Rattle.acpins_records.proofs.Prefixes.{one_there, paths_of}
-use Rattle.acpins_records.proofs.Runs.{path_read, none_read, run_begins, run_goes_on, run_ends_at, count_paths}
+use Rattle.acpins_records.proofs.Prefixes.{there}
+use Rattle.acpins_records.proofs.Runs.{none_read, run_goes_on, run_ends_at}
 use Rattle.acpins_records.proofs.tree.run_end.Goals as goal
-
-pub loop-next-init : goal.loop-next-init
-loop-next-init c = run_begins (paths_of c.args.pairs.now) c.args.k (omega (arith, count_paths c.args.pairs.now))
 
 pub loop-next-preserved : goal.loop-next-preserved
 loop-next-preserved c =
-    run_goes_on (paths_of c.args.pairs.now) c.args.k c.loop-next.next _ c.segs-above.result.now c.segs.result.now c.loop-next.invariant
-    (path_read c.args.pairs.now c.args.k c.index-pairs-k.result c.segs-above.result.now c.requires.within c.segs-above.ensures.all)
-    (path_read c.args.pairs.now c.loop-next.next c.index-pairs-next.result c.segs.result.now c.loop-next-test.true c.segs.ensures.all)
-    (c.is_below.ensures.0 c.if-is_below.true)
-    (c.requires.later c.loop-next.next c.loop-next.invariant.within.0 c.loop-next-test.true)
+    let this = there c.args.paths.now c.args.k c.requires.within in
+    let within : c.loop-next.next < length c.args.paths.now = omega (arith, c.loop-next-test.true, c.len.ensures) in
+    let next = there c.args.paths.now c.loop-next.next within in
+    run_goes_on c.args.paths.now c.args.k c.loop-next.next _ this.0 next.0 c.loop-next.invariant this.1 next.1
+    ((c.stands_below.ensures this.0 next.0 this.1 next.1).0 c.if-stands_below.true)
+    (c.requires.later c.loop-next.next c.loop-next.invariant.within.0 within)
 
-pub returns-else-is_below : goal.returns-else-is_below
-returns-else-is_below c =
-    run_ends_at (paths_of c.args.pairs.now) c.args.k c.loop-next.next c.segs-above.result.now c.loop-next.invariant
-    (path_read c.args.pairs.now c.args.k c.index-pairs-k.result c.segs-above.result.now c.requires.within c.segs-above.ensures.all)
-    (λ x there is.
-    let here = path_read c.args.pairs.now c.loop-next.next c.index-pairs-next.result c.segs.result.now c.loop-next-test.true c.segs.ensures.all in
-    let same = one_there c.segs.result.now x (slice_get (paths_of c.args.pairs.now) c.loop-next.next) here there in
-    let yes : IsTrue c.is_below.result = c.is_below.ensures.1 (subst (IsBelow c.segs-above.result.now) (sym same) is) in
-    let bad : IsTrue false = subst IsTrue c.if-is_below.false yes in
+pub returns-else-stands_below : goal.returns-else-stands_below
+returns-else-stands_below c =
+    let this = there c.args.paths.now c.args.k c.requires.within in
+    run_ends_at c.args.paths.now c.args.k c.loop-next.next this.0 c.loop-next.invariant this.1
+    (λ x at is.
+    let yes : IsTrue c.stands_below.result = (c.stands_below.ensures this.0 x this.1 at).1 is in
+    let bad : IsTrue false = subst IsTrue c.if-stands_below.false yes in
     absurd (cc))
 
 pub returns-after-loop-next : goal.returns-after-loop-next
 returns-after-loop-next c =
-    run_ends_at (paths_of c.args.pairs.now) c.args.k c.loop-next.next c.segs-above.result.now c.loop-next.invariant
-    (path_read c.args.pairs.now c.args.k c.index-pairs-k.result c.segs-above.result.now c.requires.within c.segs-above.ensures.all)
-    (λ x there is. none_read (paths_of c.args.pairs.now) c.loop-next.next x (omega (arith, count_paths c.args.pairs.now)) there)
+    let this = there c.args.paths.now c.args.k c.requires.within in
+    run_ends_at c.args.paths.now c.args.k c.loop-next.next this.0 c.loop-next.invariant this.1 (λ x at is. none_read c.args.paths.now c.loop-next.next x (omega (arith, c.loop-next-test.false, c.len.ensures)) at)
