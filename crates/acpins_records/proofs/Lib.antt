@@ -13,5 +13,6 @@ pub mod Whole
 pub mod Ascii
 pub mod Joins
 pub mod Refused
+pub mod NextPairs
 pub mod OrderedCodes
 pub mod OrderedRecords

@@ -129,7 +129,7 @@ module _ (links : Lookup Links) (codes : Lookup CodePlace) where
 
 pub seen_more : (first old new : Seen) (pairs : List (List Segment × Object)) (e : Entry)
     → AreSeen first pairs old → new.links ≡ old.links → new.codes ≡ old.codes
-    → e.links.now ≡ links_by (object_view e.object.now) (own_links (links_at old.links.now) e.path.now) → e.code ≡ code_by (object_view e.object.now) (get old.codes.now e.path.now)
+    → e.links.now ≡ links_by (object_view e.object.now) (own_links (links_at old.links.now) e.path.now) → e.code ≡ code_by (object_view e.object.now) (get old.codes e.path.now)
     → e.target ≡ length old.wanted.items → AddsEntry e old.records new.records → map (λ a. a.now) new.wanted.items ≡ map (λ a. a.now) old.wanted.items ++ e.links.now
     → new.paths ≡ old.paths ++ e.path.now ∷ []
     → AreSeen first (pairs ++ (e.path.now, e.object.now) ∷ []) new
@@ -137,7 +137,7 @@ seen_more first old new pairs e so same_links same_codes own_is code_is target_i
     let x : List Segment × Object = (e.path.now, e.object.now) in
     let lines_are : lines_of (pairs ++ x ∷ []) ≡ lines_of pairs ++ (e.path.now, object_view e.object.now) ∷ [] = map-append (λ (f : List Segment × Object). (f.0, object_view f.1)) pairs (x ∷ []) in
     let links : Lookup Links = links_at first.links.now in
-    let codes : Lookup CodePlace = get first.codes.now in
+    let codes : Lookup CodePlace = get first.codes in
     record {
       links_stay = same_links ∙ so.links_stay;
       codes_stay = same_codes ∙ so.codes_stay;
@@ -148,6 +148,6 @@ seen_more first old new pairs e so same_links same_codes own_is code_is target_i
           subst (λ l. AreFirst l links codes new) (sym lines_are)
           (first_more links codes (lines_of pairs) e old new
           (own_is ∙ ap (λ l. links_by (object_view e.object.now) (own_links (links_at l.now) e.path.now)) so.links_stay ∙ sym both.1.links_are)
-          (code_is ∙ ap (λ c. code_by (object_view e.object.now) (get c.now e.path.now)) so.codes_stay ∙ sym both.1.code_is)
+          (code_is ∙ ap (λ c. code_by (object_view e.object.now) (get c e.path.now)) so.codes_stay ∙ sym both.1.code_is)
           target_is (so.are both.0) adds wants);
     }

@@ -10,6 +10,7 @@ ghost use Rattle.acpins_records.specs.steps.Adding.{PutsLine, PutsData, AddsEntr
 ghost use Rattle.acpins_records.specs.steps.Kinds.{AllSuit, code_by, links_by};
 ghost use Rattle.acpins_records.specs.steps.Seeing.{AreSeen};
 
+use crate::in_order::InOrder;
 use crate::numbers::{kind_of, numbers_of};
 use crate::parts::Parts;
 use crate::paths::Paths;
@@ -66,8 +67,9 @@ fn links_of<'a>(path: &Path, object: &Object, links: &'a LinkMap) -> &'a [Option
 }
 
 // Where the code of a method stands, where a table declares one there.
-fn code_of(path: &Path, object: &Object, codes: &TreeSpace<CodePlace>) -> Option<CodePlace>
-    ensures { result ≡ code_by (object_view object.now) (get codes.now path.now) }
+fn code_of(path: &Path, object: &Object, codes: &mut InOrder<'_, CodePlace>) -> Option<CodePlace>
+    ensures code { result ≡ code_by (object_view object.now) (get codes.old path.now) }
+    ensures stays { codes.new ≡ codes.old }
 {
     match object {
         Object::Method(_) => codes.get(path).copied(),
@@ -194,7 +196,7 @@ pub(crate) struct Seen<'a> {
     // A link for each target.
     wanted: Vec<&'a Option<Path>>,
     links: &'a LinkMap,
-    codes: &'a TreeSpace<CodePlace>,
+    codes: InOrder<'a, CodePlace>,
 }
 
 // Puts what some links find behind the others.
@@ -220,7 +222,7 @@ impl Visitor<Object> for Seen<'_> {
             object,
             links,
             target: self.wanted.len(),
-            code: code_of(path, object, self.codes),
+            code: code_of(path, object, &mut self.codes),
         };
         self.records.put(&entry)?;
         put_wanted(&mut self.wanted, links)?;
@@ -257,12 +259,13 @@ pub(crate) fn build_records<'a>(
     ensures { AllSuit (links_at links.now) (get codes.now) (objects_by_path objects.now)
         → IfOk result (λ r. AreRecords (objects_by_path objects.now) (links_at links.now) (get codes.now) r) }
 {
+    let in_order = InOrder::of(codes)?;
     let mut seen = Seen {
         records: Records::new(alloc),
         paths: Paths::new(alloc),
         wanted: Vec::new(alloc),
         links,
-        codes,
+        codes: in_order,
     };
     objects.visit_pairs(&mut seen)?;
     let Seen {

@@ -14,6 +14,7 @@
 mod body;
 mod building;
 mod check;
+mod in_order;
 mod loading;
 mod numbers;
 mod outcome;

@@ -36,4 +36,4 @@ pub record AreSeen (first : Seen) (pairs : List (List Segment × Object)) (now :
   pub codes_stay : now.codes ≡ first.codes
   pub paths_are : now.paths ≡ map (λ e. e.0) pairs
   pub count_is : length now.records.objects.items ≡ length pairs
-  pub are : AllSuit (links_at first.links.now) (get first.codes.now) (lines_of pairs) → AreFirst (lines_of pairs) (links_at first.links.now) (get first.codes.now) now
+  pub are : AllSuit (links_at first.links.now) (get first.codes) (lines_of pairs) → AreFirst (lines_of pairs) (links_at first.links.now) (get first.codes) now
