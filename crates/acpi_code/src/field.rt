@@ -6,7 +6,7 @@ ghost use Rattle.acpi_code.specs.steps.Cursor.{Reads, ReadsAll};
 
 use crate::code::Code;
 use crate::fault::FieldFault;
-use acpi_tree::{BufferData, FieldElem};
+use acpi_tree::FieldElem;
 use std::alloc::Global;
 
 #[tactic(auto, unfolding(crate::specs::steps::Fields::connect_buffer_at))]
@@ -16,7 +16,7 @@ fn connect_buffer(alloc: Global, code: &mut Code<'_>) -> Result<FieldElem, Field
     let mut inner = code.package()?;
     let size = inner.int()?;
     let bytes = Vec::from_slice(alloc, inner.left())?;
-    Ok(FieldElem::ConnectBuffer(Box::new(alloc, BufferData { size, bytes })?))
+    Ok(FieldElem::ConnectBuffer(size, bytes))
 }
 
 #[tactic(auto, unfolding(crate::specs::steps::Fields::connect_name_at))]

@@ -23,7 +23,7 @@ use crate::notes::TableNotes;
 use crate::placing::{declared, declared_unit, put};
 use acpi_name::{Name, Path, Seg};
 use acpi_space::Space;
-use acpi_terms::{BankField, CreateField, External, FieldElem, FieldForm, Item, Object};
+use acpi_terms::{External, FieldElem, FieldForm, Item, Object};
 use bytes::Bytes;
 use std::alloc::{AllocError, Global};
 
@@ -323,15 +323,17 @@ impl<S: Space<Object>> Pass<S> {
                 index,
                 name,
             } => self.declare_buffer_field(scope, &name, Object::Create { width, index }, source),
-            Item::CreateField(field) => {
-                let CreateField {
-                    source,
-                    index,
-                    bits,
-                    name,
-                } = Box::into_inner(field);
-                self.declare_buffer_field(scope, &name, Object::CreateField { index, bits }, source)
-            }
+            Item::CreateField {
+                source,
+                index,
+                bits,
+                name,
+            } => self.declare_buffer_field(
+                scope,
+                &name,
+                Object::CreateField { index, bits },
+                source,
+            ),
             Item::Mutex(name, flags) => self.declare(scope, &name, Object::Mutex(flags)),
             Item::Event(name) => self.declare(scope, &name, Object::Event),
             Item::Region {
@@ -359,16 +361,13 @@ impl<S: Space<Object>> Pass<S> {
                 flags,
                 elems,
             } => self.declare_fields_by(scope, FieldForm::Index, flags, index, datum, elems),
-            Item::BankField(list) => {
-                let BankField {
-                    region,
-                    bank,
-                    value,
-                    flags,
-                    elems,
-                } = Box::into_inner(list);
-                self.declare_fields_by(scope, FieldForm::Bank(value), flags, region, bank, elems)
-            }
+            Item::BankField {
+                region,
+                bank,
+                value,
+                flags,
+                elems,
+            } => self.declare_fields_by(scope, FieldForm::Bank(value), flags, region, bank, elems),
             Item::Scope(_, _)
             | Item::Device(_, _)
             | Item::Processor { .. }

@@ -9,7 +9,7 @@ ghost use Rattle.acpi_terms.specs.steps.Cursor.{Reads, ReadsOn, ReadsAll};
 use crate::constant::int;
 use crate::fault::{ItemFault, ItemReason, refused};
 use acpi_code::{Code, ConstantForm, Opcode, is_name};
-use acpi_tree::{BufferData, Data, Elem, VarPackageData};
+use acpi_tree::{Data, Elem};
 use std::alloc::Global;
 
 #[inline(never)]
@@ -37,7 +37,7 @@ fn buffer_form(alloc: Global, level: u32, code: &mut Code<'_>) -> Result<Data, I
     let mut inner = code.package()?;
     let size = int(level, &mut inner)?;
     let bytes = Vec::from_slice(alloc, inner.left())?;
-    Ok(Data::Buffer(Box::new(alloc, BufferData { size, bytes })?))
+    Ok(Data::Buffer(size, bytes))
 }
 
 #[cycle(read)]
@@ -59,7 +59,7 @@ fn var_package_form(alloc: Global, level: u32, code: &mut Code<'_>) -> Result<Da
     let mut inner = code.package()?;
     let count = int(level, &mut inner)?;
     let elems = elems(alloc, level, &mut inner)?;
-    Ok(Data::VarPackage(Box::new(alloc, VarPackageData { count, elems })?))
+    Ok(Data::VarPackage(count, elems))
 }
 
 // The data whose first opcode, behind `front`, was read; `level` levels are left inside it.

@@ -9,7 +9,7 @@ use crate::constant::{int, source};
 use crate::data::data;
 use crate::fault::{ItemFault, ItemReason, refused};
 use acpi_code::{Code, field_elements};
-use acpi_tree::{BankField, CreateField, External, Item, Width};
+use acpi_tree::{External, Item, Width};
 use std::alloc::Global;
 
 #[inline(never)]
@@ -107,13 +107,12 @@ pub(crate) fn create_field_form(
     let name = code.name()?;
     let source = source.own(alloc)?;
     let name = name.own(alloc)?;
-    let field = CreateField {
+    Ok(Item::CreateField {
         source,
         index,
         bits,
         name,
-    };
-    Ok(Item::CreateField(Box::new(alloc, field)?))
+    })
 }
 
 #[inline(never)]
@@ -207,12 +206,11 @@ pub(crate) fn bank_field_form(
     let elems = field_elements(alloc, &mut inner)?;
     let region = region.own(alloc)?;
     let bank = bank.own(alloc)?;
-    let list = BankField {
+    Ok(Item::BankField {
         region,
         bank,
         value,
         flags,
         elems,
-    };
-    Ok(Item::BankField(Box::new(alloc, list)?))
+    })
 }

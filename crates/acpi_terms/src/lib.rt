@@ -27,8 +27,8 @@ mod part;
 
 pub use acpi_code::Depth;
 pub use acpi_tree::{
-    BankField, BufferData, CreateField, Data, Decl, Elem, External, FieldElem, FieldForm, Int,
-    Item, Object, Op, Operand, Term, VarPackageData, Width, items_fit, terms_fit,
+    Data, Decl, Elem, External, FieldElem, FieldForm, Int, Item, Object, Op, Operand, Term, Width,
+    items_fit, terms_fit,
 };
 pub use fault::{ItemFault, ItemReason};
 pub use holder::{Holder, HolderForm, HolderFront};

@@ -68,17 +68,17 @@ pub fn put_data(text: &mut Vec<u8>, data: &Data) -> Result<(), AllocError>
     match data {
         Data::Int(int) => put_int(text, *int),
         Data::Str(bytes) => put_string(text, bytes),
-        Data::Buffer(buffer) => {
-            put_sized(text, "Buffer", buffer.size)?;
-            put_bytes(text, &buffer.bytes)
+        Data::Buffer(size, bytes) => {
+            put_sized(text, "Buffer", *size)?;
+            put_bytes(text, bytes)
         }
         Data::Package(count, elems) => {
             put_count(text, u64::from(*count))?;
             put_elems(text, elems)
         }
-        Data::VarPackage(package) => {
-            put_sized(text, "VarPackage", package.count)?;
-            put_elems(text, &package.elems)
+        Data::VarPackage(count, elems) => {
+            put_sized(text, "VarPackage", *count)?;
+            put_elems(text, elems)
         }
     }
 }

@@ -33,9 +33,9 @@ fn put_field_elem(text: &mut Vec<u8>, elem: &FieldElem) -> Result<(), AllocError
             put(text, "Connect ")?;
             put_name(text, name.view())
         }
-        FieldElem::ConnectBuffer(data) => {
-            put_sized(text, "Connect Buffer", data.size)?;
-            put_bytes(text, &data.bytes)
+        FieldElem::ConnectBuffer(size, bytes) => {
+            put_sized(text, "Connect Buffer", *size)?;
+            put_bytes(text, bytes)
         }
         FieldElem::Extended(kind, attribute, count) => {
             put_access(text, "Extended ", *kind, *attribute)?;

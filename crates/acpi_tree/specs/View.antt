@@ -3,32 +3,26 @@ use Rattle.std.specs.Prelude.{List, box_value, map}
 use Rattle.acpi_tree.specs.Tree.{DataTree, int, str, buffer, pkg, var_pkg, ElemTree, of_data, of_name, FieldTree, unit, reserved, access, connect_name, connect_buffer, extended, ExternalParts, ItemTree, name, scope, method, external, external_block, create, create_field, mutex, event, region, field, index_field, bank_field, device, processor, power, thermal, ItemTrees, elems_of, items_of}
 use Rattle.acpi_tree.specs.declared.tree.Data.{Data, Data-F, fold-Data}
 use Rattle.acpi_tree.specs.declared.tree.Elem.{Elem, Elem-F, fold-Elem}
-use Rattle.acpi_tree.specs.declared.tree.VarPackageData.{VarPackageData-F}
 use Rattle.acpi_tree.specs.declared.tree.FieldElem.{FieldElem}
 use Rattle.acpi_tree.specs.declared.tree.External.{External}
-use Rattle.acpi_tree.specs.declared.tree.CreateField.{CreateField}
-use Rattle.acpi_tree.specs.declared.tree.BankField.{BankField}
 use Rattle.acpi_tree.specs.declared.tree.Item.{Item, Item-F, fold-Item}
 
-abbrev pub data_step : Data-F DataTree ElemTree DataTree → DataTree
+abbrev pub data_step : Data-F DataTree ElemTree → DataTree
 data_step (Data-F.Int i) = int i
 data_step (Data-F.Str v) = str v.items
-data_step (Data-F.Buffer b) = buffer (box_value b).size (box_value b).bytes.items
+data_step (Data-F.Buffer i v) = buffer i v.items
 data_step (Data-F.Package n v) = pkg n (elems_of v.items)
-data_step (Data-F.VarPackage b) = box_value b
+data_step (Data-F.VarPackage i v) = var_pkg i (elems_of v.items)
 
-abbrev pub var_package_step : VarPackageData-F DataTree ElemTree DataTree → DataTree
-var_package_step p = var_pkg p.count (elems_of p.elems.items)
-
-abbrev pub elem_step : Elem-F DataTree ElemTree DataTree → ElemTree
+abbrev pub elem_step : Elem-F DataTree ElemTree → ElemTree
 elem_step (Elem-F.Data d) = of_data d
 elem_step (Elem-F.Name n) = of_name n
 
 abbrev pub data_view : Data → DataTree
-data_view = fold-Data DataTree ElemTree DataTree data_step elem_step var_package_step
+data_view = fold-Data DataTree ElemTree data_step elem_step
 
 abbrev pub elem_view : Elem → ElemTree
-elem_view = fold-Elem DataTree ElemTree DataTree data_step elem_step var_package_step
+elem_view = fold-Elem DataTree ElemTree data_step elem_step
 
 abbrev pub elems_view : List Elem → List ElemTree
 elems_view es = map elem_view es
@@ -38,7 +32,7 @@ field_view (FieldElem.Unit s n) = unit s n
 field_view (FieldElem.Reserved n) = reserved n
 field_view (FieldElem.Access t a) = access t a
 field_view (FieldElem.ConnectName b) = connect_name (box_value b)
-field_view (FieldElem.ConnectBuffer b) = connect_buffer (box_value b).size (box_value b).bytes.items
+field_view (FieldElem.ConnectBuffer i v) = connect_buffer i v.items
 field_view (FieldElem.Extended t a n) = extended t a n
 
 abbrev pub fields_view : List FieldElem → List FieldTree
@@ -50,12 +44,6 @@ external_view x = record { name = x.name; kind = x.kind; args = x.args }
 abbrev pub externals_view : List External → List ExternalParts
 externals_view xs = map external_view xs
 
-abbrev pub create_field_view : CreateField → ItemTree
-create_field_view f = create_field f.source f.index f.bits f.name
-
-abbrev pub bank_field_view : BankField → ItemTree
-bank_field_view l = bank_field l.region l.bank l.value l.flags (fields_view l.elems.items)
-
 abbrev pub item_step : Item-F ItemTree → ItemTree
 item_step (Item-F.Name n d) = name n (data_view d)
 item_step (Item-F.Scope n v) = scope n (items_of v.items)
@@ -63,13 +51,13 @@ item_step (Item-F.Method n f c) = method n f c
 item_step (Item-F.External x) = external (external_view x)
 item_step (Item-F.ExternalBlock v) = external_block (externals_view v.items)
 item_step (Item-F.Create w s i n) = create w s i n
-item_step (Item-F.CreateField b) = create_field_view (box_value b)
+item_step (Item-F.CreateField s i b n) = create_field s i b n
 item_step (Item-F.Mutex n f) = mutex n f
 item_step (Item-F.Event n) = event n
 item_step (Item-F.Region n s o l) = region n s o l
 item_step (Item-F.Field r f v) = field r f (fields_view v.items)
 item_step (Item-F.IndexField i d f v) = index_field i d f (fields_view v.items)
-item_step (Item-F.BankField b) = bank_field_view (box_value b)
+item_step (Item-F.BankField r b i f v) = bank_field r b i f (fields_view v.items)
 item_step (Item-F.Device n v) = device n (items_of v.items)
 item_step (Item-F.Processor n i b l v) = processor n i b l (items_of v.items)
 item_step (Item-F.Power n l o v) = power n l o (items_of v.items)

@@ -6,7 +6,7 @@ ghost use Rattle.acpi_tree.specs.Objects.{object_view};
 
 use crate::item_copies::{copy_leaf, device_of, power_of, processor_of, scope_of, thermal_of};
 use crate::object::Object;
-use crate::tree::{BufferData, Data, Elem, External, FieldElem, Item, VarPackageData};
+use crate::tree::{Data, Elem, External, FieldElem, Item};
 use std::alloc::{AllocError, Global};
 
 impl Data {
@@ -18,15 +18,9 @@ impl Data {
         match self {
             Data::Int(i) => Ok(Data::Int(*i)),
             Data::Str(s) => Ok(Data::Str(Vec::from_slice(alloc, s)?)),
-            Data::Buffer(b) => Ok(Data::Buffer(Box::new(alloc, b.copy(alloc)?)?)),
+            Data::Buffer(size, bytes) => Ok(Data::Buffer(*size, Vec::from_slice(alloc, bytes)?)),
             Data::Package(n, elems) => Ok(Data::Package(*n, copy_elems(alloc, elems)?)),
-            Data::VarPackage(p) => Ok(Data::VarPackage(Box::new(
-                alloc,
-                VarPackageData {
-                    count: p.count,
-                    elems: copy_elems(alloc, &p.elems)?,
-                },
-            )?)),
+            Data::VarPackage(n, elems) => Ok(Data::VarPackage(*n, copy_elems(alloc, elems)?)),
         }
     }
 }
@@ -55,19 +49,6 @@ fn copy_elems(alloc: Global, elems: &[Elem]) -> Result<Vec<Elem>, AllocError>
     Ok(copies)
 }
 
-impl BufferData {
-    /// An equal buffer with memory of its own.
-    pub fn copy(&self, alloc: Global) -> Result<BufferData, AllocError>
-        ensures size { IfOk result (λ d. d.size ≡ self.now.size) }
-        ensures bytes { IfOk result (λ d. d.bytes.items ≡ self.now.bytes.items) }
-    {
-        Ok(BufferData {
-            size: self.size,
-            bytes: Vec::from_slice(alloc, &self.bytes)?,
-        })
-    }
-}
-
 impl FieldElem {
     /// An equal element with memory of its own.
     pub fn copy(&self, alloc: Global) -> Result<FieldElem, AllocError>
@@ -80,8 +61,8 @@ impl FieldElem {
             FieldElem::ConnectName(name) => {
                 Ok(FieldElem::ConnectName(Box::new(alloc, name.copy()?)?))
             }
-            FieldElem::ConnectBuffer(data) => {
-                Ok(FieldElem::ConnectBuffer(Box::new(alloc, data.copy(alloc)?)?))
+            FieldElem::ConnectBuffer(size, bytes) => {
+                Ok(FieldElem::ConnectBuffer(*size, Vec::from_slice(alloc, bytes)?))
             }
             FieldElem::Extended(kind, attribute, bytes) => {
                 Ok(FieldElem::Extended(*kind, *attribute, *bytes))

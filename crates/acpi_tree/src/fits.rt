@@ -31,7 +31,7 @@ fn data_may_stand(value: &Data) -> bool
     match value {
         Data::Str(text) => is_text(text),
         Data::Package(_, elems) => elems_may_stand(elems),
-        Data::VarPackage(package) => elems_may_stand(&package.elems),
+        Data::VarPackage(_, elems) => elems_may_stand(elems),
         _ => true,
     }
 }
@@ -112,10 +112,10 @@ fn item_may_stand(item: &Item) -> bool
         Item::External(external) => external_may_stand(external),
         Item::ExternalBlock(externals) => externals_may_stand(externals),
         Item::Create { source, .. } => !is_null(source),
-        Item::CreateField(field) => !is_null(&field.source),
+        Item::CreateField { source, .. } => !is_null(source),
         Item::Field { elems, .. } => fields_may_stand(elems),
         Item::IndexField { elems, .. } => fields_may_stand(elems),
-        Item::BankField(list) => fields_may_stand(&list.elems),
+        Item::BankField { elems, .. } => fields_may_stand(elems),
         Item::Device(_, items) => items_fit(items),
         Item::Processor { items, .. } => items_fit(items),
         Item::Power { items, .. } => items_fit(items),

@@ -2,11 +2,11 @@
 
 ghost use Rattle.std.specs.Prelude.{◌≡◌, IfOk, false};
 ghost use Rattle.acpi_tree.specs.Tree as tree;
-ghost use Rattle.acpi_tree.specs.View.{data_view, fields_view, external_view, externals_view, create_field_view, bank_field_view, item_view, items_tree};
+ghost use Rattle.acpi_tree.specs.View.{data_view, fields_view, external_view, externals_view, item_view, items_tree};
 ghost use Rattle.acpi_tree.specs.Fits.{holds_items};
 
 use crate::copies::{copy_externals, copy_fields};
-use crate::tree::{BankField, CreateField, Data, FieldElem, Int, Item, Width};
+use crate::tree::{Data, FieldElem, Int, Item, Width};
 use acpi_name::Name;
 use bytes::Bytes;
 use std::alloc::{AllocError, Global};
@@ -99,16 +99,15 @@ fn copy_create(width: Width, source: &Name, index: Int, name: &Name) -> Result<I
     })
 }
 
-fn copy_create_field(alloc: Global, field: &CreateField) -> Result<Item, AllocError>
-    ensures { IfOk result (λ i. item_view i ≡ create_field_view field.now) }
+fn copy_create_field(source: &Name, index: Int, bits: Int, name: &Name) -> Result<Item, AllocError>
+    ensures { IfOk result (λ i. item_view i ≡ tree.create_field source.now index bits name.now) }
 {
-    let copy = CreateField {
-        source: field.source.copy()?,
-        index: field.index,
-        bits: field.bits,
-        name: field.name.copy()?,
-    };
-    Ok(Item::CreateField(Box::new(alloc, copy)?))
+    Ok(Item::CreateField {
+        source: source.copy()?,
+        index,
+        bits,
+        name: name.copy()?,
+    })
 }
 
 fn copy_region(name: &Name, space: u8, offset: Int, length: Int) -> Result<Item, AllocError>
@@ -154,17 +153,23 @@ fn copy_index_field(
     })
 }
 
-fn copy_bank_field(alloc: Global, list: &BankField) -> Result<Item, AllocError>
-    ensures { IfOk result (λ i. item_view i ≡ bank_field_view list.now) }
+fn copy_bank_field(
+    alloc: Global,
+    region: &Name,
+    bank: &Name,
+    value: Int,
+    flags: u8,
+    elems: &[FieldElem],
+) -> Result<Item, AllocError>
+    ensures { IfOk result (λ i. item_view i ≡ tree.bank_field region.now bank.now value flags (fields_view elems.now)) }
 {
-    let copy = BankField {
-        region: list.region.copy()?,
-        bank: list.bank.copy()?,
-        value: list.value,
-        flags: list.flags,
-        elems: copy_fields(alloc, &list.elems)?,
-    };
-    Ok(Item::BankField(Box::new(alloc, copy)?))
+    Ok(Item::BankField {
+        region: region.copy()?,
+        bank: bank.copy()?,
+        value,
+        flags,
+        elems: copy_fields(alloc, elems)?,
+    })
 }
 
 // Apart from the copy of items that hold items, so that its frame on the stack stays small.
@@ -186,7 +191,12 @@ pub(crate) fn copy_leaf(alloc: Global, item: &Item) -> Result<Item, AllocError>
             index,
             name,
         } => copy_create(*width, source, *index, name),
-        Item::CreateField(field) => copy_create_field(alloc, field),
+        Item::CreateField {
+            source,
+            index,
+            bits,
+            name,
+        } => copy_create_field(source, *index, *bits, name),
         Item::Mutex(name, flags) => Ok(Item::Mutex(name.copy()?, *flags)),
         Item::Event(name) => Ok(Item::Event(name.copy()?)),
         Item::Region {
@@ -206,7 +216,13 @@ pub(crate) fn copy_leaf(alloc: Global, item: &Item) -> Result<Item, AllocError>
             flags,
             elems,
         } => copy_index_field(alloc, index, datum, *flags, elems),
-        Item::BankField(list) => copy_bank_field(alloc, list),
+        Item::BankField {
+            region,
+            bank,
+            value,
+            flags,
+            elems,
+        } => copy_bank_field(alloc, region, bank, *value, *flags, elems),
         Item::Scope(..) => unreachable!(),
         Item::Device(..) => unreachable!(),
         Item::Processor { .. } => unreachable!(),

@@ -2,11 +2,11 @@
 
 ghost use Rattle.std.specs.Prelude.{◌≡◌};
 ghost use Rattle.acpi_tree.specs.Tree as tree;
-ghost use Rattle.acpi_tree.specs.View.{data_view, fields_view, external_view, externals_view, create_field_view, bank_field_view, item_view, items_tree};
+ghost use Rattle.acpi_tree.specs.View.{data_view, fields_view, external_view, externals_view, item_view, items_tree};
 ghost use Rattle.acpi_tree.specs.Equal.{item_eq, items_eq};
 
 use crate::same::{same_data, same_external, same_externals, same_fields, same_int, same_width};
-use crate::tree::{BankField, CreateField, Data, External, FieldElem, Int, Item, Width};
+use crate::tree::{Data, External, FieldElem, Int, Item, Width};
 use acpi_name::Name;
 use bytes::Bytes;
 
@@ -41,7 +41,12 @@ pub(crate) fn same_item(a: &Item, b: &Item) -> bool
             index,
             name,
         } => is_create(*width, source, *index, name, b),
-        Item::CreateField(field) => is_create_field(field, b),
+        Item::CreateField {
+            source,
+            index,
+            bits,
+            name,
+        } => is_create_field(source, *index, *bits, name, b),
         Item::Mutex(name, flags) => is_mutex(name, *flags, b),
         Item::Event(name) => is_event(name, b),
         Item::Region {
@@ -61,7 +66,13 @@ pub(crate) fn same_item(a: &Item, b: &Item) -> bool
             flags,
             elems,
         } => is_index_field(index, datum, *flags, elems, b),
-        Item::BankField(list) => is_bank_field(list, b),
+        Item::BankField {
+            region,
+            bank,
+            value,
+            flags,
+            elems,
+        } => is_bank_field(region, bank, *value, *flags, elems, b),
     }
 }
 
@@ -195,20 +206,16 @@ fn is_create(width: Width, source: &Name, index: Int, name: &Name, item: &Item) 
     }
 }
 
-fn same_create_field(a: &CreateField, b: &CreateField) -> bool
-    ensures { result ≡ item_eq (create_field_view a.now) (create_field_view b.now) }
-{
-    a.source == b.source
-        && same_int(a.index, b.index)
-        && same_int(a.bits, b.bits)
-        && a.name == b.name
-}
-
-fn is_create_field(field: &CreateField, item: &Item) -> bool
-    ensures { result ≡ item_eq (create_field_view field.now) (item_view item.now) }
+fn is_create_field(source: &Name, index: Int, bits: Int, name: &Name, item: &Item) -> bool
+    ensures { result ≡ item_eq (tree.create_field source.now index bits name.now) (item_view item.now) }
 {
     match item {
-        Item::CreateField(other) => same_create_field(field, other),
+        Item::CreateField {
+            source: s,
+            index: i,
+            bits: b,
+            name: n,
+        } => source == s && same_int(index, *i) && same_int(bits, *b) && name == n,
         _ => false,
     }
 }
@@ -272,21 +279,28 @@ fn is_index_field(index: &Name, datum: &Name, flags: u8, elems: &[FieldElem], it
     }
 }
 
-fn same_bank_field(a: &BankField, b: &BankField) -> bool
-    ensures { result ≡ item_eq (bank_field_view a.now) (bank_field_view b.now) }
-{
-    a.region == b.region
-        && a.bank == b.bank
-        && same_int(a.value, b.value)
-        && a.flags == b.flags
-        && same_fields(&a.elems, &b.elems)
-}
-
-fn is_bank_field(list: &BankField, item: &Item) -> bool
-    ensures { result ≡ item_eq (bank_field_view list.now) (item_view item.now) }
+fn is_bank_field(
+    region: &Name,
+    bank: &Name,
+    value: Int,
+    flags: u8,
+    elems: &[FieldElem],
+    item: &Item,
+) -> bool
+    ensures { result ≡ item_eq (tree.bank_field region.now bank.now value flags (fields_view elems.now)) (item_view item.now) }
 {
     match item {
-        Item::BankField(other) => same_bank_field(list, other),
+        Item::BankField {
+            region: r,
+            bank: b,
+            value: v,
+            flags: f,
+            elems: es,
+        } => region == r
+            && bank == b
+            && same_int(value, *v)
+            && flags == *f
+            && same_fields(elems, es),
         _ => false,
     }
 }

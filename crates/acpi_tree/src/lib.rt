@@ -27,7 +27,4 @@ pub use op::Op;
 pub use place::{NamedForm, OperandKind, Place, UnitsForm};
 pub use standing::terms_fit;
 pub use term::{Decl, Operand, Term};
-pub use tree::{
-    BankField, BufferData, CreateField, Data, Elem, External, FieldElem, Int, Item, VarPackageData,
-    Width,
-};
+pub use tree::{Data, Elem, External, FieldElem, Int, Item, Width};

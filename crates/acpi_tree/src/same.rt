@@ -2,7 +2,7 @@
 
 ghost use Rattle.std.specs.Prelude.{◌≡◌, IsTrue, ◌↔◌};
 ghost use Rattle.std.specs.Cmp.{partial_equiv_from_equiv, on_equiv};
-ghost use Rattle.acpi_tree.specs.Tree.{connect_buffer, elems_of};
+ghost use Rattle.acpi_tree.specs.Tree.{elems_of};
 ghost use Rattle.acpi_tree.specs.View.{data_view, elem_view, elems_view, field_view, fields_view, external_view, externals_view, item_view};
 ghost use Rattle.acpi_tree.specs.Objects.{object_view};
 ghost use Rattle.acpi_tree.specs.steps.Equality.{equivalence, data_tells, elem_tells, field_tells, external_tells, item_tells, object_tells};
@@ -10,7 +10,7 @@ ghost use Rattle.acpi_tree.specs.Equal.{int_eq, width_eq, field_form_eq, data_eq
 
 use crate::item_same::same_item;
 use crate::object::{FieldForm, Object};
-use crate::tree::{BufferData, Data, Elem, External, FieldElem, Int, Item, Width};
+use crate::tree::{Data, Elem, External, FieldElem, Int, Item, Width};
 
 pub(crate) fn same_int(a: Int, b: Int) -> bool
     ensures { result ≡ int_eq a b }
@@ -48,10 +48,10 @@ pub(crate) fn same_data(a: &Data, b: &Data) -> bool
     match (a, b) {
         (Data::Int(i), Data::Int(j)) => same_int(*i, *j),
         (Data::Str(s), Data::Str(t)) => s == t,
-        (Data::Buffer(s), Data::Buffer(t)) => same_buffer(s, t),
+        (Data::Buffer(i, s), Data::Buffer(j, t)) => same_int(*i, *j) && s == t,
         (Data::Package(m, es), Data::Package(n, fs)) => m == n && same_elems(es, fs),
-        (Data::VarPackage(p), Data::VarPackage(q)) => same_int(p.count, q.count)
-            && same_elems(&p.elems, &q.elems),
+        (Data::VarPackage(i, es), Data::VarPackage(j, fs)) => same_int(*i, *j)
+            && same_elems(es, fs),
         _ => false,
     }
 }
@@ -82,12 +82,6 @@ fn same_elems(a: &[Elem], b: &[Elem]) -> bool
     true
 }
 
-fn same_buffer(a: &BufferData, b: &BufferData) -> bool
-    ensures { result ≡ field_eq (connect_buffer a.now.size a.now.bytes.items) (connect_buffer b.now.size b.now.bytes.items) }
-{
-    same_int(a.size, b.size) && a.bytes == b.bytes
-}
-
 fn same_field(a: &FieldElem, b: &FieldElem) -> bool
     ensures { result ≡ field_eq (field_view a.now) (field_view b.now) }
 {
@@ -96,7 +90,8 @@ fn same_field(a: &FieldElem, b: &FieldElem) -> bool
         (FieldElem::Reserved(m), FieldElem::Reserved(n)) => m == n,
         (FieldElem::Access(k, l), FieldElem::Access(m, n)) => k == m && l == n,
         (FieldElem::ConnectName(m), FieldElem::ConnectName(n)) => **m == **n,
-        (FieldElem::ConnectBuffer(s), FieldElem::ConnectBuffer(t)) => same_buffer(s, t),
+        (FieldElem::ConnectBuffer(i, s), FieldElem::ConnectBuffer(j, t)) => same_int(*i, *j)
+            && s == t,
         (FieldElem::Extended(j, k, l), FieldElem::Extended(m, n, o)) => j == m && k == n && l == o,
         _ => false,
     }

@@ -24,16 +24,7 @@ pub enum Int {
     QWord(u64),
 }
 
-/// The bytes of a buffer: its size as written, and the bytes that are given.
-#[derive(Debug, Drop)]
-pub struct BufferData {
-    /// The size.
-    pub size: Int,
-    /// The bytes.
-    pub bytes: Vec<u8>,
-}
-
-/// A constant data object. Namespaces hold many, so what is rare and large lies apart.
+/// A constant data object.
 #[cycle(data)]
 #[derive(Debug, Drop)]
 pub enum Data {
@@ -41,22 +32,12 @@ pub enum Data {
     Int(Int),
     /// A string, without the 00 that ends it.
     Str(Vec<u8>),
-    /// A buffer.
-    Buffer(Box<BufferData>),
+    /// A buffer: its size as written, and the bytes that are given.
+    Buffer(Int, Vec<u8>),
     /// A package: its count as written, and the elements that are given.
     Package(u8, Vec<Elem>),
-    /// A package whose count is a term.
-    VarPackage(Box<VarPackageData>),
-}
-
-/// What a package holds whose count is a term.
-#[cycle(data)]
-#[derive(Debug, Drop)]
-pub struct VarPackageData {
-    /// The count as written.
-    pub count: Int,
-    /// The elements that are given.
-    pub elems: Vec<Elem>,
+    /// A package whose count is a term: its count as written, and the elements that are given.
+    VarPackage(Int, Vec<Elem>),
 }
 
 /// An element of a package.
@@ -69,7 +50,7 @@ pub enum Elem {
     Name(Name),
 }
 
-/// An element of a field list. Lists of them are long, so what is rare and large stands apart.
+/// An element of a field list.
 #[derive(Debug, Drop)]
 pub enum FieldElem {
     /// A named field unit, and its width in bits.
@@ -80,8 +61,8 @@ pub enum FieldElem {
     Access(u8, u8),
     /// ConnectField by the name of a connection.
     ConnectName(Box<Name>),
-    /// ConnectField by a buffer.
-    ConnectBuffer(Box<BufferData>),
+    /// ConnectField by a buffer: its size as written, and the bytes that are given.
+    ConnectBuffer(Int, Vec<u8>),
     /// ExtendedAccessField: access type, attribute and length.
     Extended(u8, u8, u8),
 }
@@ -112,26 +93,7 @@ pub enum Width {
     QWord,
 }
 
-/// A buffer field of any width: source, index and number in bits, declared name.
-#[derive(Debug, Drop)]
-pub struct CreateField {
-    pub source: Name,
-    pub index: Int,
-    pub bits: Int,
-    pub name: Name,
-}
-
-/// A field list of a bank: its region, the bank register and the value that selects the bank, flags, elements.
-#[derive(Debug, Drop)]
-pub struct BankField {
-    pub region: Name,
-    pub bank: Name,
-    pub value: Int,
-    pub flags: u8,
-    pub elems: Vec<FieldElem>,
-}
-
-/// A module-level term. Lists of them are long, so what is rare and large lies apart.
+/// A module-level term.
 #[derive(Debug, Drop)]
 pub enum Item {
     /// DefName: a name and its data.
@@ -156,8 +118,13 @@ pub enum Item {
         index: Int,
         name: Name,
     },
-    /// DefCreateField
-    CreateField(Box<CreateField>),
+    /// DefCreateField: source, index and number in bits, declared name.
+    CreateField {
+        source: Name,
+        index: Int,
+        bits: Int,
+        name: Name,
+    },
     /// DefMutex: name and sync flags.
     Mutex(Name, u8),
     /// DefEvent
@@ -182,8 +149,14 @@ pub enum Item {
         flags: u8,
         elems: Vec<FieldElem>,
     },
-    /// DefBankField
-    BankField(Box<BankField>),
+    /// DefBankField: region, bank register and the value that selects the bank, flags, elements.
+    BankField {
+        region: Name,
+        bank: Name,
+        value: Int,
+        flags: u8,
+        elems: Vec<FieldElem>,
+    },
     /// DefDevice
     Device(Name, Vec<Item>),
     /// DefProcessor, as ACPI 6.3 and earlier have it.

@@ -45,16 +45,16 @@ impl Writer {
                 Ok(())
             }
             Data::Str(text) => self.string(text),
-            Data::Buffer(buffer) => self.buffer(&[0x11], buffer.size, &buffer.bytes),
+            Data::Buffer(size, bytes) => self.buffer(&[0x11], *size, bytes),
             Data::Package(count, elems) => {
                 let end = self.len();
                 self.elems(elems)?;
                 self.fill(end, &[0x12], &[Argument::Byte(*count)])
             }
-            Data::VarPackage(package) => {
+            Data::VarPackage(count, elems) => {
                 let end = self.len();
-                self.elems(&package.elems)?;
-                self.fill(end, &[0x13], &[Argument::Int(package.count)])
+                self.elems(elems)?;
+                self.fill(end, &[0x13], &[Argument::Int(*count)])
             }
         }
     }
@@ -119,7 +119,7 @@ impl Writer {
                 self.byte(0x02)?;
                 Ok(())
             }
-            FieldElem::ConnectBuffer(data) => { self.buffer(&[0x02, 0x11], data.size, &data.bytes) }
+            FieldElem::ConnectBuffer(size, bytes) => self.buffer(&[0x02, 0x11], *size, bytes),
             FieldElem::Extended(kind, attribute, length) => {
                 self.bytes(&[0x03, *kind, *attribute, *length])?;
                 Ok(())

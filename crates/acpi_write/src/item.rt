@@ -113,9 +113,12 @@ impl Writer {
                 index,
                 name,
             } => self.create(*width, source, *index, name),
-            Item::CreateField(field) => {
-                self.create_field(&field.source, field.index, field.bits, &field.name)
-            }
+            Item::CreateField {
+                source,
+                index,
+                bits,
+                name,
+            } => self.create_field(source, *index, *bits, name),
             Item::Mutex(name, flags) => self.form(
                 &[0x5B, 0x01],
                 &[Argument::Name(name), Argument::Byte(*flags)],
@@ -149,14 +152,20 @@ impl Writer {
                 ];
                 self.units(&[0x5B, 0x86], &front, elems)
             }
-            Item::BankField(list) => {
+            Item::BankField {
+                region,
+                bank,
+                value,
+                flags,
+                elems,
+            } => {
                 let front = [
-                    Argument::Name(&list.region),
-                    Argument::Name(&list.bank),
-                    Argument::Int(list.value),
-                    Argument::Byte(list.flags),
+                    Argument::Name(region),
+                    Argument::Name(bank),
+                    Argument::Int(*value),
+                    Argument::Byte(*flags),
                 ];
-                self.units(&[0x5B, 0x87], &front, &list.elems)
+                self.units(&[0x5B, 0x87], &front, elems)
             }
             Item::Scope(..) => unreachable!(),
             Item::Device(..) => unreachable!(),

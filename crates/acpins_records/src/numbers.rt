@@ -109,16 +109,9 @@ fn data_numbers(data: &Data) -> [u64; 6]
     match data {
         Data::Int(int) => [0, form_of(*int), value_of(*int), 0, 0, 0],
         Data::Str(bytes) => [1, bytes.len() as u64, 0, 0, 0, 0],
-        Data::Buffer(buffer) => [
-            2,
-            form_of(buffer.size),
-            value_of(buffer.size),
-            buffer.bytes.len() as u64,
-            0,
-            0,
-        ],
+        Data::Buffer(size, bytes) => [2, form_of(*size), value_of(*size), bytes.len() as u64, 0, 0],
         Data::Package(count, _) => [3, u64::from(*count), 0, 0, 0, 0],
-        Data::VarPackage(package) => [4, form_of(package.count), value_of(package.count), 0, 0, 0],
+        Data::VarPackage(count, _) => [4, form_of(*count), value_of(*count), 0, 0, 0],
     }
 }
 

@@ -152,11 +152,9 @@ impl Parts {
         match data {
             Data::Int(int) => self.put_part(INTEGER, *int, 0, 0),
             Data::Str(bytes) => self.put_bytes(STRING, Int::Zero, bytes),
-            Data::Buffer(buffer) => self.put_bytes(BUFFER, buffer.size, &buffer.bytes),
+            Data::Buffer(size, bytes) => self.put_bytes(BUFFER, *size, bytes),
             Data::Package(count, elems) => self.put_package(PACKAGE, Int::Byte(*count), elems),
-            Data::VarPackage(package) => {
-                self.put_package(VAR_PACKAGE, package.count, &package.elems)
-            }
+            Data::VarPackage(count, elems) => self.put_package(VAR_PACKAGE, *count, elems),
         }
     }
 }

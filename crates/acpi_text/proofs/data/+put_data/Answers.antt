@@ -1,15 +1,10 @@
-use Rattle.std.proofs.Common.{◌≡◌, ◌∙◌, ap, sym, ◌++◌, drop, codes, refl}
+use Rattle.std.proofs.Common.{◌++◌, drop, codes, refl}
 use Rattle.std.specs.List.{flat_map}
 use Rattle.acpi_name.specs.NameRefs.{name_parts}
 use Rattle.acpi_tree.specs.declared.tree.Elem.{Elem}
-use Rattle.acpi_tree.specs.declared.tree.Data.{Data-F, fold-roll-Data}
-use Rattle.acpi_tree.specs.declared.tree.Data.TheVariants as constant
-use Rattle.acpi_tree.specs.declared.tree.VarPackageData.{fold-roll-VarPackageData}
-use Rattle.acpi_tree.specs.Tree.{DataTree, ElemTree, elems_of}
-use Rattle.acpi_tree.specs.View.{data_step, elem_step, var_package_step, data_view, elem_view, elems_view}
-use Rattle.acpi_text.specs.Constants.{int_text, bytes_text}
-use Rattle.acpi_text.specs.Objects.{data_text, elem_text, elems_text}
-use Rattle.acpi_text.proofs.DataForms.{elem_is, name_is, int_is, str_is, pkg_put, pieces_put}
+use Rattle.acpi_tree.specs.View.{elem_view}
+use Rattle.acpi_text.specs.Objects.{elem_text}
+use Rattle.acpi_text.proofs.DataForms.{elem_is, name_is, int_is, str_is, buffer_put, pkg_put, var_pkg_put}
 use Rattle.acpi_text.proofs.Elements.{elems_said, next_elem_text}
 use Rattle.acpi_text.proofs.Pieces.{as_said, all_said, last_said, one_more_behind}
 use Rattle.acpi_text.proofs.data.+put_data.Goals as goal
@@ -50,12 +45,8 @@ put_data-returns-in-Str t c =
 
 pub put_data-returns-in_ok-put_sized-in-Buffer : goal.put_data-returns-in_ok-put_sized-in-Buffer
 put_data-returns-in_ok-put_sized-in-Buffer t c =
-    let head = codes "Buffer" ++ codes "(" ++ int_text c.deref-in-Buffer.result.now.size ++ codes ")" in
-    let bytes = bytes_text c.deref-in-Buffer-3.result.now in
-    let is : data_text (data_view c.args.data.now) ≡ head ++ bytes = rw (c.deref-in-Buffer-3.ensures.value, c.deref-in-Buffer-2.ensures, c.deref-in-Buffer.ensures)
-    (ap (λ x. data_text (data_view x)) (c.in-Buffer.is ∙ sym (constant.rolls-Buffer c.in-Buffer.buffer))
-    ∙ ap data_text (fold-roll-Data DataTree ElemTree DataTree data_step elem_step var_package_step (Data-F.Buffer c.in-Buffer.buffer))) in
-    pieces_put c.put_bytes.result c.args.text.now.items _ head bytes _ c.put_bytes.new.text.items is c.in_ok-put_sized-in-Buffer.ensures c.put_bytes.ensures
+    buffer_put c.put_bytes.result c.args.text.now.items c.args.data.now c.in-Buffer.size c.in-Buffer.bytes c.deref-in-Buffer.result.now _ _
+    c.in-Buffer.is c.deref-in-Buffer.ensures.value c.in_ok-put_sized-in-Buffer.ensures c.put_bytes.ensures
 
 pub put_data-returns-in_ok-put_count-in-Package : goal.put_data-returns-in_ok-put_count-in-Package
 put_data-returns-in_ok-put_count-in-Package t c =
@@ -64,12 +55,5 @@ put_data-returns-in_ok-put_count-in-Package t c =
 
 pub put_data-returns-in_ok-put_sized-in-VarPackage : goal.put_data-returns-in_ok-put_sized-in-VarPackage
 put_data-returns-in_ok-put_sized-in-VarPackage t c =
-    let head = codes "VarPackage" ++ codes "(" ++ int_text c.deref-in-VarPackage.result.now.count ++ codes ")" in
-    let elems = elems_text (elems_of (elems_view c.deref-in-VarPackage-3.result.now)) in
-    let is : data_text (data_view c.args.data.now) ≡ head ++ elems = rw (c.deref-in-VarPackage-3.ensures.value, c.deref-in-VarPackage-2.ensures, c.deref-in-VarPackage.ensures)
-    (ap (λ x. data_text (data_view x)) (c.in-VarPackage.is ∙ sym (constant.rolls-VarPackage c.in-VarPackage.package))
-    ∙ ap data_text (fold-roll-Data DataTree ElemTree DataTree data_step elem_step var_package_step (Data-F.VarPackage c.in-VarPackage.package))
-    ∙ ap data_text (fold-roll-VarPackageData DataTree ElemTree DataTree data_step elem_step var_package_step
-    (record { count = c.in-VarPackage.package.value.count; elems = c.in-VarPackage.package.value.elems }))) in
-    pieces_put c.put_elems-in-VarPackage.result c.args.text.now.items _ head elems _ c.put_elems-in-VarPackage.new.text.items is c.in_ok-put_sized-in-VarPackage.ensures
-    c.put_elems-in-VarPackage.ensures
+    var_pkg_put c.put_elems-in-VarPackage.result c.args.text.now.items c.args.data.now c.in-VarPackage.count c.in-VarPackage.elems c.deref-in-VarPackage.result.now _ _
+    c.in-VarPackage.is c.deref-in-VarPackage.ensures.value c.in_ok-put_sized-in-VarPackage.ensures c.put_elems-in-VarPackage.ensures
