@@ -44,7 +44,8 @@ pkg_put r old d n m v es mid new is count same before last =
     let elems = elems_text (elems_of (elems_view es)) in
     as_said r old (data_text (data_view d)) (head ++ elems) new (pkg_is d n m v es is count same) (last_said r old head elems mid new before last)
 
-sized : (word : List ℕ) (size : Int) → List ℕ
+-- a word, and a constant in parentheses
+abbrev sized : (word : List ℕ) (size : Int) → List ℕ
 sized word size = word ++ codes "(" ++ int_text size ++ codes ")"
 
 buffer_is : (d : Data) (i : Int) (v : Vec ℕ) (bytes : List ℕ) → d ≡ constant.Buffer i v → bytes ≡ v.items
@@ -54,7 +55,7 @@ buffer_is d i v bytes is same =
     ∙ ap data_text (fold-roll-Data DataTree ElemTree data_step elem_step (Data-F.Buffer i v)))
 
 pub buffer_put : {T E : Type 0} (r : Result T E) (old : List ℕ) (d : Data) (i : Int) (v : Vec ℕ) (bytes mid new : List ℕ)
-    → d ≡ constant.Buffer i v → bytes ≡ v.items → mid ≡ old ++ (codes "Buffer" ++ codes "(" ++ int_text i ++ codes ")")
+    → d ≡ constant.Buffer i v → bytes ≡ v.items → mid ≡ old ++ sized (codes "Buffer") i
     → OnOk r (new ≡ mid ++ bytes_text bytes) → OnOk r (new ≡ old ++ data_text (data_view d))
 buffer_put r old d i v bytes mid new is same before last =
     as_said r old (data_text (data_view d)) (sized (codes "Buffer") i ++ bytes_text bytes) new (buffer_is d i v bytes is same)
@@ -67,7 +68,7 @@ var_pkg_is d i v es is same =
     ∙ ap data_text (fold-roll-Data DataTree ElemTree data_step elem_step (Data-F.VarPackage i v)))
 
 pub var_pkg_put : {T E : Type 0} (r : Result T E) (old : List ℕ) (d : Data) (i : Int) (v : Vec Elem) (es : List Elem) (mid new : List ℕ)
-    → d ≡ constant.VarPackage i v → es ≡ v.items → mid ≡ old ++ (codes "VarPackage" ++ codes "(" ++ int_text i ++ codes ")")
+    → d ≡ constant.VarPackage i v → es ≡ v.items → mid ≡ old ++ sized (codes "VarPackage") i
     → OnOk r (new ≡ mid ++ elems_text (elems_of (elems_view es))) → OnOk r (new ≡ old ++ data_text (data_view d))
 var_pkg_put r old d i v es mid new is same before last =
     let elems = elems_text (elems_of (elems_view es)) in
