@@ -93,18 +93,17 @@ impl<T> Blocks<T> {
 }
 
 impl<T: Drop> Blocks<T> {
-    /// Puts an item at the end. It refuses a length that no `usize` has, as `Vec` does.
+    /// Puts an item at the end.
     pub(crate) fn push(&mut self, item: T) -> Result<(), AllocError>
         ensures ok { OnOk result (self.new ≡ self.old ++ item ∷ []) }
         ensures err { OnErr result (self.new ≡ self.old) }
     {
-        let len = self.len.checked_add(1).ok_or(AllocError)?;
         if self.len < IN_BLOCKS {
             put_last(self.alloc, &mut self.blocks, self.len, item)?;
         } else {
             self.rest.push(item)?;
         }
-        self.len = len;
+        self.len += 1;
         Ok(())
     }
 }

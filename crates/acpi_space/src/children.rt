@@ -16,19 +16,23 @@ use std::collections::BTreeMap;
 use std::iter::DoubleEndedIterator;
 
 /// The numbers of the nodes one segment below another, in the order of the segments. Most nodes have none, and a child
-/// alone is kept without a map. Numbers have 32 bits.
+/// alone is kept without a map.
 #[derive(Drop)]
 pub enum Children {
     /// No children.
     Empty,
     /// A child alone.
-    One(Seg, u32),
+    One(Seg, usize),
     /// Several children.
-    Several(Box<BTreeMap<Seg, u32>>),
+    Several(Box<BTreeMap<Seg, usize>>),
 }
 
 // Adds a number to a map at a segment.
-fn insert_into(numbers: &mut BTreeMap<Seg, u32>, seg: Seg, number: u32) -> Result<(), AllocError>
+fn insert_into(
+    numbers: &mut BTreeMap<Seg, usize>,
+    seg: Seg,
+    number: usize,
+) -> Result<(), AllocError>
     ensures ordered { IsStrictlySortedBy segment_cmp (map (λ e. e.0) numbers.new.entries) }
     ensures entries { OnOk result (numbers.new.entries ≡ insert_entry segment_cmp numbers.old.entries seg number) }
     ensures child { OnOk result ((g : Segment) → child_of numbers.new.entries g ≡ cond (is_eq (segment_cmp seg g)) (Some number) (child_of numbers.old.entries g)) }
@@ -39,7 +43,7 @@ fn insert_into(numbers: &mut BTreeMap<Seg, u32>, seg: Seg, number: u32) -> Resul
 }
 
 // Puts a step into each child of a map, so that the first is entered first.
-fn push_entries(numbers: &BTreeMap<Seg, u32>, steps: &mut Vec<Step>) -> Result<(), AllocError>
+fn push_entries(numbers: &BTreeMap<Seg, usize>, steps: &mut Vec<Step>) -> Result<(), AllocError>
     ensures { OnOk result (reverse steps.new.items ≡ map enter numbers.now.entries ++ reverse steps.old.items) }
 {
     for (seg, number) in numbers.iter().rev() {
@@ -63,18 +67,23 @@ impl Children {
         match self {
             Children::Empty => None,
             Children::One(only, number) => match seg.cmp(only) {
-                Ordering::Equal => Some(*number as usize),
+                Ordering::Equal => Some(*number),
                 _ => None,
             },
             Children::Several(numbers) => match numbers.get(&seg) {
-                Some(number) => Some(*number as usize),
+                Some(number) => Some(*number),
                 None => None,
             },
         }
     }
 
     /// Adds the number of a child at a segment.
-    pub(crate) fn insert(&mut self, alloc: Global, seg: Seg, number: u32) -> Result<(), AllocError>
+    pub(crate) fn insert(
+        &mut self,
+        alloc: Global,
+        seg: Seg,
+        number: usize,
+    ) -> Result<(), AllocError>
         ensures ordered { IsStrictlySortedBy segment_cmp (map (λ e. e.0) (entries_of self.new)) }
         ensures entries { OnOk result (entries_of self.new ≡ insert_entry segment_cmp (entries_of self.old) seg number) }
         ensures child { OnOk result ((g : Segment) → child_of (entries_of self.new) g ≡ cond (is_eq (segment_cmp seg g)) (Some number) (child_of (entries_of self.old) g)) }

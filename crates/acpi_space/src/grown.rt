@@ -98,16 +98,6 @@ fn step<V: Drop>(
     }
 }
 
-// The number of the next node. One of more than 32 bits is refused as a want of memory.
-fn next_number<V>(nodes: &Blocks<Node<V>>) -> Result<u32, AllocError>
-    ensures { IfOk result (λ n. n ≡ length nodes.now) }
-{
-    match u32::try_from(nodes.len()) {
-        Ok(number) => Ok(number),
-        Err(_) => Err(AllocError),
-    }
-}
-
 // Puts an empty node, and makes it the child of another.
 fn add_child<V: Drop>(
     alloc: Global,
@@ -121,10 +111,10 @@ fn add_child<V: Drop>(
     ensures grown { IsGrown nodes.old nodes.new }
     ensures child { IfOk result (λ m. child_at nodes.new number seg ≡ Some m) }
 {
-    let next = next_number(nodes)?;
+    let next = nodes.len();
     push_empty(nodes)?;
     link(alloc, nodes, number, seg, next)?;
-    Ok(next as usize)
+    Ok(next)
 }
 
 // Puts a node with neither value nor children at the end.
@@ -146,7 +136,7 @@ fn link<V>(
     nodes: &mut Blocks<Node<V>>,
     number: usize,
     seg: Seg,
-    next: u32,
+    next: usize,
 ) -> Result<(), AllocError>
     requires { number < length nodes.old }
     ensures len { length nodes.new ≡ length nodes.old }

@@ -9,7 +9,7 @@ use std::alloc::Global;
 #[derive(Clone, Copy)]
 pub struct Mark {
     pub seg: Seg,
-    pub number: u32,
+    pub number: usize,
 }
 
 /// Where a path leaves a trail.
@@ -29,7 +29,7 @@ pub(crate) fn follow(trail: &[Mark], path: &[Seg]) -> Fork
     let mut number = 0;
     for (depth, seg) in path.iter().enumerate() {
         match trail.get(depth) {
-            Some(mark) if mark.seg == *seg => number = mark.number as usize,
+            Some(mark) if mark.seg == *seg => number = mark.number,
             _ => return Fork { depth, number },
         }
     }
@@ -40,15 +40,12 @@ pub(crate) fn follow(trail: &[Mark], path: &[Seg]) -> Fork
 }
 
 /// Puts a mark at the end of a trail from the root, if the trail ends at the node `number`. Where memory is
-/// refused, or `next` is no number of 32 bits, the trail stays as it was: shorter than it might be.
+/// refused, the trail stays as it was: shorter than it might be.
 pub(crate) fn extend(trail: &mut Vec<Mark>, number: usize, seg: Seg, next: usize)
     ensures { (trail.new.items ≡ trail.old.items) ⊎ (trail_end 0 trail.old.items ≡ number) × (trail.new.items ≡ trail.old.items ++ record { seg = seg; number = next } ∷ []) }
 {
-    if end(trail) != number {
-        return;
-    }
-    if let Ok(number) = u32::try_from(next) {
-        let _ = trail.push(Mark { seg, number });
+    if end(trail) == number {
+        let _ = trail.push(Mark { seg, number: next });
     }
 }
 
@@ -57,7 +54,7 @@ fn end(trail: &[Mark]) -> usize
     ensures { result ≡ trail_end 0 trail.now }
 {
     match trail.last() {
-        Some(mark) => mark.number as usize,
+        Some(mark) => mark.number,
         None => 0,
     }
 }

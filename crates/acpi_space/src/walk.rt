@@ -13,7 +13,7 @@ use std::alloc::{AllocError, Global};
 #[derive(Drop)]
 pub enum Step {
     /// Enter the child at a segment, the node of this number.
-    Enter(Seg, u32),
+    Enter(Seg, usize),
     /// Leave the node that was entered last.
     Leave,
 }
@@ -107,7 +107,7 @@ fn advance(steps: &mut Vec<Step>, path: &mut Path) -> Result<Option<usize>, Allo
             Step::Enter(seg, number) => {
                 path.push(seg)?;
                 steps.push(Step::Leave)?;
-                return Ok(Some(number as usize));
+                return Ok(Some(number));
             }
             Step::Leave => {
                 path.pop();

@@ -18,7 +18,7 @@ pub returns-clause-grown : goal.returns-clause-grown
 returns-clause-grown g c =
     grown_again c.args.nodes.now c.push_empty.new.nodes c.link.new.nodes
     (padded_grown c.args.nodes.now c.push_empty.new.nodes c.in_ok-push_empty.ensures.padded (omega (arith, c.in_ok-push_empty.ensures.ok)) c.requires.tree)
-    (linked_grown c.push_empty.new.nodes c.link.new.nodes c.args.number c.args.seg c.in_ok-next.next
-    (added_link c.args.nodes.now c.push_empty.new.nodes c.link.new.nodes c.args.number c.args.seg c.in_ok-next.next
-    c.requires.tree c.requires.within c.requires.free c.in_ok-push_empty.ensures.padded c.in_ok-push_empty.ensures.ok c.in_ok-next.ensures
+    (linked_grown c.push_empty.new.nodes c.link.new.nodes c.args.number c.args.seg c.len-next.result
+    (added_link c.args.nodes.now c.push_empty.new.nodes c.link.new.nodes c.args.number c.args.seg c.len-next.result
+    c.requires.tree c.requires.within c.requires.free c.in_ok-push_empty.ensures.padded c.in_ok-push_empty.ensures.ok c.len-next.ensures
     c.in_ok-link.ensures.len c.in_ok-link.ensures.others c.in_ok-link.ensures.value c.in_ok-link.ensures.ordered c.in_ok-link.ensures.entries c.in_ok-link.ensures.child))
