@@ -70,10 +70,7 @@ impl Children {
                 Ordering::Equal => Some(*number),
                 _ => None,
             },
-            Children::Several(numbers) => match numbers.get(&seg) {
-                Some(number) => Some(*number),
-                None => None,
-            },
+            Children::Several(numbers) => numbers.get(&seg).copied(),
         }
     }
 

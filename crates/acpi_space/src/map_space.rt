@@ -1,7 +1,5 @@
 //! A namespace that is kept in an ordered map.
 
-ghost use Rattle.std.specs.FinMap as finite;
-
 use crate::space::{Refused, Space};
 use acpi_name::Path;
 use std::alloc::{AllocError, Global};
@@ -28,8 +26,6 @@ impl<V> Model for MapSpace<V> {
 
 impl<V: Drop> Space<V> for MapSpace<V> {
     ghost contents = { λ s. s };
-
-    ghost lower = { λ _. finite.empty };
 
     fn new(alloc: Global) -> Self {
         MapSpace {

@@ -37,8 +37,8 @@ pub trait Visitor<V> {
 pub trait Space<V>: Drop {
     ghost contents: { Self → PathMap V };
 
-    // What a space below it has, if it is laid over one.
-    ghost lower: { Self → PathMap V };
+    // What a space below it has, if it is laid over one: else nothing.
+    ghost lower: { Self → PathMap V } = { λ _. finite.empty };
 
     /// A space in which nothing is defined.
     fn new(alloc: Global) -> Self

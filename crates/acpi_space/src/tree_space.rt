@@ -1,6 +1,5 @@
 //! A namespace that is kept as a tree of numbered nodes.
 ghost use Rattle.std.specs.Prelude.{◌≡◌, IfOk, IsOk, length};
-ghost use Rattle.std.specs.FinMap as finite;
 ghost use Rattle.std.specs.Option.{option_map};
 ghost use Rattle.acpi_space.specs.Search.{nearest_scope};
 ghost use Rattle.acpi_space.specs.Spaces.{is_defined};
@@ -44,8 +43,6 @@ impl<V> Model for TreeSpace<V> {
 
 impl<V: Drop> Space<V> for TreeSpace<V> {
     ghost contents = { λ s. s };
-
-    ghost lower = { λ _. finite.empty };
 
     fn new(alloc: Global) -> Self {
         TreeSpace {
