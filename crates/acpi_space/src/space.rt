@@ -33,7 +33,8 @@ pub trait Visitor<V> {
             → OnOk result (was_shown first (pairs ++ (path.now, value.now) ∷ []) self.new) };
 }
 
-/// A finite map from paths to values: what is defined in a namespace (ACPI 6.5, 5.3).
+/// A finite map from paths to values: what is defined in a namespace (ACPI 6.5, 5.3). An implementation gives
+/// `contents`, `new`, `get`, `insert` and `pairs`; all else has a default.
 pub trait Space<V>: Drop {
     ghost contents: { Self → PathMap V };
 
