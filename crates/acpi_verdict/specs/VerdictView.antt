@@ -9,19 +9,19 @@ use Rattle.acpi_verdict.specs.declared.verdicts.Verdict.{Verdict}
 use Rattle.acpi_verdict.specs.declared.verdicts.Verdict.TheVariants.{NotAlone, Same, Missed, Commute}
 
 abbrev pub verdict_view : Verdict → VerdictTree
-verdict_view (NotAlone ssdt fault) = not_alone ssdt
-verdict_view (Same first second path) = same first second path
+verdict_view (NotAlone i fault) = not_alone i
+verdict_view (Same i j path) = same i j path
 verdict_view (Missed searcher definer path) = missed searcher definer path
 verdict_view Commute = commute
 
 -- a fault that is told of an SSDT: it has the SSDT's number, and the reason is true
 abbrev pub IsFaultAt : ℕ → List ℕ → List (List ℕ) → ℕ → LoadFault → Type 0
-IsFaultAt depth dsdt ssdts ssdt (At table reason) = (table ≡ ssdt) × IsReasonAt depth dsdt ssdts ssdt reason
-IsFaultAt depth dsdt ssdts ssdt Memory = ⊥
+IsFaultAt depth dsdt ssdts i (At table reason) = (table ≡ i) × IsReasonAt depth dsdt ssdts i reason
+IsFaultAt depth dsdt ssdts i Memory = ⊥
 
 abbrev pub IsFaultOf : ℕ → List ℕ → List (List ℕ) → Verdict → Type 0
-IsFaultOf depth dsdt ssdts (NotAlone ssdt fault) = IsFaultAt depth dsdt ssdts ssdt fault
-IsFaultOf depth dsdt ssdts (Same first second path) = Unit {0}
+IsFaultOf depth dsdt ssdts (NotAlone i fault) = IsFaultAt depth dsdt ssdts i fault
+IsFaultOf depth dsdt ssdts (Same i j path) = Unit {0}
 IsFaultOf depth dsdt ssdts (Missed searcher definer path) = Unit {0}
 IsFaultOf depth dsdt ssdts Commute = Unit {0}
 

@@ -31,7 +31,7 @@ fn refused(alloc: Global, fault: LoadFault) -> Result<Checked, LoadFault>
     match fault {
         LoadFault::At { table, reason } => Ok(Checked {
             verdict: Verdict::NotAlone {
-                ssdt: table,
+                i: table,
                 fault: LoadFault::At { table, reason },
             },
             satisfied: Vec::new(alloc),
@@ -46,8 +46,8 @@ fn verdict_of(same: Option<Clash>, missed: Option<Clash>) -> Verdict
 {
     match (same, missed) {
         (Some(clash), _) => Verdict::Same {
-            first: clash.first,
-            second: clash.second,
+            i: clash.first,
+            j: clash.second,
             path: clash.path,
         },
         (None, Some(clash)) => Verdict::Missed {

@@ -7,15 +7,15 @@ use acpi_name::Path;
 /// 5.2.11). SSDTs are numbered from 1.
 #[derive(Debug, Drop)]
 pub enum Verdict {
-    /// The first SSDT that doesn't load over the DSDT alone, and why; the fault has the same number.
+    /// SSDT `i` is the first that doesn't load over the DSDT alone, and why; the fault has the same number.
     NotAlone {
-        ssdt: usize,
+        i: usize,
         fault: LoadFault,
     },
-    /// The first two SSDTs that declare one path, and the first such path.
+    /// SSDTs `i` and `j`, of which `i` is the less, are the first two that declare one path; and the first such path.
     Same {
-        first: usize,
-        second: usize,
+        i: usize,
+        j: usize,
         path: Path,
     },
     /// The first two SSDTs of which the load of the one missed what the other declares, and the first such path.

@@ -101,16 +101,12 @@ pub fn check<S: Space<Object>>(
             put_satisfied(&mut text, &satisfied)?;
             Ok(Output { text, status: 0 })
         }
-        Verdict::NotAlone { ssdt, fault } => {
-            put_not_alone(&mut text, ssdt, &reason_of(fault))?;
+        Verdict::NotAlone { i, fault } => {
+            put_not_alone(&mut text, i, &reason_of(fault))?;
             Ok(Output { text, status: 3 })
         }
-        Verdict::Same {
-            first,
-            second,
-            path,
-        } => {
-            put_triple(&mut text, "same", first, second, &path)?;
+        Verdict::Same { i, j, path } => {
+            put_triple(&mut text, "same", i, j, &path)?;
             Ok(Output { text, status: 3 })
         }
         Verdict::Missed {

@@ -203,12 +203,8 @@ fn check_ssdts(
     )?;
     match verdict {
         Verdict::Commute => Ok(commuting(alloc, &satisfied)?),
-        Verdict::NotAlone { ssdt, fault } => Ok(not_alone(alloc, ssdt, &reason_of(fault))?),
-        Verdict::Same {
-            first,
-            second,
-            path,
-        } => Ok(clashing(alloc, 2, first, second, &path)?),
+        Verdict::NotAlone { i, fault } => Ok(not_alone(alloc, i, &reason_of(fault))?),
+        Verdict::Same { i, j, path } => Ok(clashing(alloc, 2, i, j, &path)?),
         Verdict::Missed {
             searcher,
             definer,
