@@ -183,21 +183,21 @@ impl<'a> Files for HostFiles<'a> {
         if let Some(old) = old
             && let Err(e) = copy_owner_and_permissions(&new.file, &old)
         {
-            self.abandon(name, new);
+            self.abandon(new);
             return Err(FileFault::from(e));
         }
         Ok(new)
     }
 
-    fn close(&mut self, name: &str, file: HostFile) -> Result<(), FileFault> {
+    fn close(&mut self, file: HostFile) -> Result<(), FileFault> {
         if let Err(e) = self.finish(&file) {
-            self.abandon(name, file);
+            self.abandon(file);
             return Err(FileFault::from(e));
         }
         Ok(())
     }
 
-    fn abandon(&mut self, _name: &str, file: HostFile) {
+    fn abandon(&mut self, file: HostFile) {
         if let Some(it) = &file.rename {
             let _ = fs::remove_file(self.rt, it.from.as_path());
         }

@@ -77,10 +77,10 @@ pub fn put_file<'a, F: Files>(files: &mut F, name: &'a str, bytes: &[u8]) -> Res
     };
     let written = file.write_all(bytes).is_ok() && file.flush().is_ok();
     if !written {
-        files.abandon(name, file);
+        files.abandon(file);
         return Err(Failure::Out(name));
     }
-    match files.close(name, file) {
+    match files.close(file) {
         Ok(()) => Ok(()),
         Err(fault) => Err(unwritten(name, fault)),
     }

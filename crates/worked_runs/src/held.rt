@@ -31,11 +31,9 @@ impl<'a> Files for Held<'a> {
         Err(FileFault::Device)
     }
 
-    fn close(&mut self, _name: &str, _file: Sink) -> Result<(), FileFault> {
+    fn close(&mut self, _file: Sink) -> Result<(), FileFault> {
         Err(FileFault::Device)
     }
-
-    fn abandon(&mut self, _name: &str, _file: Sink) {}
 }
 
 // The tables in a file are all of its bytes.

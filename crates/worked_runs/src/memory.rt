@@ -2,8 +2,8 @@
 
 use acpins_run::{FileFault, Files};
 use std::alloc::{AllocError, Global};
-use std::io;
 use std::io::{Read, Write};
+use std::{io, mem};
 
 /// Which step fails; steps are counted from 1, and 0 is none.
 #[derive(Clone, Copy, Debug, PartialEq, Eq)]
@@ -104,6 +104,8 @@ pub struct MemoryFiles {
     pub kept: Vec<(String, Vec<u8>)>,
     /// How many files were made and neither closed nor given up.
     pub unended: usize,
+    // The name of the file that was made last.
+    made: String,
     failing: Failing,
 }
 
@@ -113,6 +115,7 @@ impl MemoryFiles {
             alloc,
             kept: Vec::new(alloc),
             unended: 0,
+            made: String::new(alloc),
             failing,
         }
     }
@@ -157,26 +160,31 @@ impl Files for MemoryFiles {
         })
     }
 
-    fn create(&mut self, _name: &str) -> Result<MemoryWriter, FileFault> {
+    fn create(&mut self, name: &str) -> Result<MemoryWriter, FileFault> {
         if self.failing.create {
             return Err(FileFault::Device);
         }
+        let Ok(made) = String::from_str(self.alloc, name) else {
+            return Err(FileFault::Memory);
+        };
+        self.made = made;
         self.unended = self.unended.saturating_add(1);
         Ok(MemoryWriter::new(self.alloc, self.failing.write))
     }
 
-    fn close(&mut self, name: &str, file: MemoryWriter) -> Result<(), FileFault> {
+    fn close(&mut self, file: MemoryWriter) -> Result<(), FileFault> {
         self.unended = self.unended.saturating_sub(1);
         if self.failing.close {
             return Err(FileFault::Device);
         }
-        match self.add(name, file.bytes.as_slice()) {
+        let name = mem::replace(&mut self.made, String::new(self.alloc));
+        match self.kept.push((name, file.bytes)) {
             Ok(()) => Ok(()),
             Err(_) => Err(FileFault::Memory),
         }
     }
 
-    fn abandon(&mut self, _name: &str, _file: MemoryWriter) {
+    fn abandon(&mut self, _file: MemoryWriter) {
         self.unended = self.unended.saturating_sub(1);
     }
 }
