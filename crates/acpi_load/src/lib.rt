@@ -23,7 +23,7 @@
 //! ```
 //!
 //! What is loaded stands in `acpi_machine`, what is told of an order in `acpi_verdict`, and rewriting in `acpi_rewrite`;
-//! this crate gives them all on.
+//! this crate gives them all on, and in `laws` what holds of them.
 //!
 //! `single` tells of the load with one SSDT what it declares, misses and awaits. `verdict` finds whether all SSDTs may be
 //! loaded in any order, or the first reason that they may not (`IsVerdict` of `acpi_order`), and `satisfied` which methods
@@ -38,14 +38,16 @@
 //! ```
 #![tactic(auto)]
 
+pub mod laws;
+
 pub use acpi_declare::{
     Declared, Keep, LinkMap, LoadFault, LoadReason, Refusal, declare, declare_keeping,
-    declare_shared, laws,
+    declare_shared,
 };
 pub use acpi_machine::{
     Machine, explain, explain_shared, load, load_objects, load_shared, load_with_body_at,
 };
-pub use acpi_rewrite::{rewrite, rewrite_joined, rewrite_shared, rewriting_laws};
+pub use acpi_rewrite::{rewrite, rewrite_joined, rewrite_shared};
 pub use acpi_verdict::{
     Awaited, Checked, Satisfied, Single, Verdict, check_shared, join, satisfied, satisfied_shared,
     single, single_shared, verdict, verdict_shared,
