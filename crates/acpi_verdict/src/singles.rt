@@ -20,10 +20,14 @@ pub struct Awaited {
 /// What a DSDT loads to with one SSDT, and what that load tells of it.
 #[derive(Drop)]
 pub struct Single<S> {
-    pub(crate) machine: Machine<S>,
-    pub(crate) defined: Vec<Path>,
-    pub(crate) missed: Vec<Path>,
-    pub(crate) awaited: Vec<Awaited>,
+    /// What the two tables load to.
+    pub machine: Machine<S>,
+    /// The paths that the SSDT declares, in their order.
+    pub defined: Vec<Path>,
+    /// The paths that the load missed, in their order.
+    pub missed: Vec<Path>,
+    /// The methods that bodies await, in the order of table, path and count.
+    pub awaited: Vec<Awaited>,
 }
 
 impl<S> Single<S> {
