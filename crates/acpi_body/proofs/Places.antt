@@ -1,5 +1,5 @@
 -- What the faults of places and of parts show of a body.
-use Rattle.std.proofs.Common.{◌≡◌, ℕ, ◌-◌, Bool, true, false, cond, Option, Some, None, List, length, drop, Result, Ok, Err, refl, sym, ap, ◌∙◌, inl, inr}
+use Rattle.std.proofs.Common.{◌≡◌, ℕ, ◌-◌, Bool, true, false, cond, ◌⊎◌, Option, Some, None, List, length, drop, Result, Ok, Err, refl, sym, ap, ◌∙◌, inl, inr}
 use Rattle.acpi_name.specs.Names.{Segment}
 use Rattle.acpi_tree.specs.Operators.{is_expression, is_reference}
 use Rattle.acpi_tree.specs.declared.place.Place.{Place}
@@ -12,10 +12,9 @@ use Rattle.acpi_code.specs.declared.fault.CodeReason.TheVariants as codes
 use Rattle.acpi_code.specs.declared.opcode.Opcode.{Opcode}
 use Rattle.acpi_code.specs.declared.opcode.Opcode.TheVariants as opcodes
 use Rattle.acpi_code.specs.Opcodes.{first_opcode}
-use Rattle.acpi_code.specs.Faults.{ShowsPart}
+use Rattle.acpi_code.specs.Faults.{Begins, is_no_constant, IsConnectionSize, IsElementOf, ShowsPart, ShowsElementPart, ShowsElement}
 use Rattle.acpi_code.specs.Fields.{SpellsFields}
 use Rattle.acpi_code.specs.steps.Fields as fields
-use Rattle.acpi_code.proofs.Constants.{NoConstant}
 use Rattle.acpi_code.proofs.Fields as elements
 use Rattle.acpi_code.proofs.Readings.{Judge, judge_told, Source, Position, Shown, stands_at}
 use Rattle.acpi_code.proofs.Opcodes.{Opened}
@@ -23,7 +22,7 @@ use Rattle.acpi_body.specs.declared.fault.BodyReason.{BodyReason}
 use Rattle.acpi_body.specs.declared.fault.BodyReason.TheVariants.{BadOpcode, NotStatement, NotValue, NotTarget, LeftOut, NotData}
 use Rattle.acpi_body.specs.declared.fault.BodyFault.{BodyFault}
 use Rattle.acpi_body.specs.Refusals.{refusal_at}
-use Rattle.acpi_body.specs.Faults.{reason_of, fault_of, constant_fault_of, IsMisplaced, Shows}
+use Rattle.acpi_body.specs.Faults.{reason_of, fault_of, constant_fault_of, IsMisplaced, BeginsFieldList, IsElement, is_other_data, Shows}
 use Rattle.acpi_body.specs.steps.Reading.{part, fields_in, unless}
 
 -- ---- parts
@@ -35,7 +34,7 @@ Bad m s f = Shows m s.depth s.code f.reason f.place
 part_shows : (m : List Segment) (depth : ℕ) (code : List ℕ) (why : CodeReason) (place : ℕ) → ShowsPart depth code why place → Shows m depth code (reason_of why) place
 part_shows m depth code codes.Cut place h = h
 part_shows m depth code codes.ReservedBits place h = h
-part_shows m depth code codes.BadName place h = h
+part_shows m depth code codes.BadName place h = inl h
 part_shows m depth code codes.Overrun place h = h
 part_shows m depth code codes.BadString place h = h
 part_shows m depth code codes.TooDeep place h = h
@@ -48,14 +47,35 @@ pub part_sound : {A : Type 0} (m : List Segment) (s : Source) (Good : A → Type
 part_sound m s Good (Ok x) h = h
 part_sound m s Good (Err f) h = part_bad m s f h
 
-constant_bad : (m : List Segment) (s : Source) (f : ConstantFault) → NoConstant s f → Bad m s (constant_fault_of f)
-constant_bad m s (Part f) h = part_bad m s f h
-constant_bad m s (NotConstant opcode place) h = inr (opcode, h.0, h.1)
+element_shows : (m : List Segment) (depth : ℕ) (code : List ℕ) (why : CodeReason) (place : ℕ) → ShowsElementPart (IsElement code) code why place → Shows m depth code (reason_of why) place
+element_shows m depth code codes.Cut place h = h
+element_shows m depth code codes.ReservedBits place h = h
+element_shows m depth code codes.BadName place h = h
+element_shows m depth code codes.Overrun place h = h
+element_shows m depth code codes.BadString place h = absurd h
+element_shows m depth code codes.TooDeep place h = absurd h
 
--- what is judged of field elements is judged of them in a body
-pub fields_sound : (m : List Segment) (s : Source) (level end : ℕ) (bytes : List ℕ) → Position s.depth level s.code end bytes → Judge (λ es. SpellsFields es bytes) (Bad m s) (fields_in end bytes)
-fields_sound m s level end bytes h =
-    judge_told (λ es. SpellsFields es bytes) (NoConstant s) (Bad m s) constant_fault_of (fields.fields_in end bytes) (constant_bad m s) (elements.fields_sound s level end bytes h)
+no_size : (code : List ℕ) (opcode : Opcode) (place : ℕ) → is_no_constant opcode ≡ true → first_opcode (drop place code) ≡ Some opcode → IsConnectionSize code place
+    → IsMisplaced NotData (drop place code) ⊎ (IsConnectionSize code place × Begins is_other_data code place)
+no_size code (opcodes.Constant form) place computed begins size = absurd cc
+no_size code opcodes.Str place computed begins size = inr (size, (opcodes.Str, begins, refl))
+no_size code opcodes.Buffer place computed begins size = inr (size, (opcodes.Buffer, begins, refl))
+no_size code opcodes.Package place computed begins size = inr (size, (opcodes.Package, begins, refl))
+no_size code opcodes.VarPackage place computed begins size = inr (size, (opcodes.VarPackage, begins, refl))
+no_size code opcode place computed begins size = inl (record { kind = Data; opcode = opcode; begins = begins; refused = refl })
+
+element_bad : (m : List Segment) (s : Source) (f : ConstantFault) → ShowsElement (IsElement s.code) s.code f → Bad m s (constant_fault_of f)
+element_bad m s (Part f) h = element_shows m s.depth s.code f.reason f.place h
+element_bad m s (NotConstant opcode place) h = no_size s.code opcode place h.0.1 h.0.0 h.1
+
+-- what is judged of a field list is judged of it in a body
+pub fields_sound : (m : List Segment) (s : Source) (level end : ℕ) (bytes : List ℕ) → BeginsFieldList s.code (end - length bytes) → Position s.depth level s.code end bytes
+    → Judge (λ es. SpellsFields es bytes) (Bad m s) (fields_in end bytes)
+fields_sound m s level end bytes list h =
+    let start = end - length bytes in
+    judge_told (λ es. SpellsFields es bytes) (elements.ListBad s start) (Bad m s) constant_fault_of (fields.fields_in end bytes)
+    (λ f b. element_bad m s f (elements.shown_at (IsElementOf s.code start) (IsElement s.code) (λ k e. (start, list, e)) s.code f b))
+    (elements.fields_sound s level start end bytes (elements.first_element s.code start) h)
 
 -- ---- the reasons of places
 

@@ -33,7 +33,7 @@ judged args s depth bytes =
       whole = sym (append-nil bytes);
       ends = omega arith;
       start = 0;
-      is_list = inl (refl, refl);
+      is_list = (0, (refl, refl));
       begun = omega arith;
       deep = omega arith;
     } in

@@ -1,5 +1,5 @@
 -- Statements that are read are spelled so, or the fault shows why they aren't read.
-use Rattle.std.proofs.Common.{◌≡◌, ℕ, zero, suc, ◌+◌, ◌≤◌, ◌<◌, true, false, eqb, ◌&&◌, List, [], ◌∷◌, ◌++◌, length, Option, Some, None, Result, Ok, refl, sym, ap, subst, ◌∙◌, append_assoc, arith, inl, inr}
+use Rattle.std.proofs.Common.{◌≡◌, ℕ, zero, suc, ◌-◌, ◌+◌, ◌≤◌, ◌<◌, true, false, eqb, ◌&&◌, List, [], ◌∷◌, ◌++◌, length, Option, Some, None, Result, Ok, refl, sym, ap, subst, ◌∙◌, append_assoc, arith, inl, inr}
 use Rattle.std.specs.Prelude.{is_none}
 use Rattle.std.proofs.lemmas.List.{length-append}
 use Rattle.std.proofs.lemmas.Bool.{eqb-true}
@@ -16,12 +16,14 @@ use Rattle.acpi_tree.specs.Operators.{operands_before, operands_behind, names_of
 use Rattle.acpi_code.specs.declared.opcode.Opcode.{Opcode}
 use Rattle.acpi_code.specs.declared.opcode.Opcode.TheVariants as opcodes
 use Rattle.acpi_code.specs.Opcodes.{opcode_bytes}
+use Rattle.acpi_code.specs.Faults.{has_package}
+use Rattle.acpi_body.specs.Faults.{BeginsFieldList}
 use Rattle.acpi_code.specs.Spelling.{SpellsEach, Packs}
 use Rattle.acpi_code.specs.steps.Reading.{◌>>=◌, Reading, Package, package_at, name_in, opcode_at}
-use Rattle.acpi_code.proofs.Readings.{Judge, judge_bind, judge_into, judge_if, Source, Position, Read, stands_at, position_after, position_deeper, position_up, no_level_shows}
+use Rattle.acpi_code.proofs.Readings.{Judge, judge_bind, judge_into, judge_if, Source, Position, Front, Read, stands_at, position_after, position_deeper, position_up, no_level_shows}
 use Rattle.acpi_code.proofs.Names.{name_sound}
 use Rattle.acpi_code.proofs.Opcodes.{Opened, opcode_sound}
-use Rattle.acpi_code.proofs.Packages.{GoodPackage, package_sound}
+use Rattle.acpi_code.proofs.Packages.{PackageFront, GoodPackage, package_sound, AtPackage, at_package, deeper_package}
 use Rattle.acpi_body.specs.declared.fault.BodyFault.{BodyFault}
 use Rattle.acpi_body.specs.declared.fault.BodyReason.TheVariants.{BadPlace}
 use Rattle.acpi_body.specs.Arguments.{Locals, Arguments}
@@ -66,6 +68,15 @@ behind_inner : (form : NamedForm) → are_inner (operands_behind form) ≡ true
 behind_inner named.Name = refl
 behind_inner _ = refl
 
+units_packed : (form : UnitsForm) → has_package (units_opcode form) ≡ true
+units_packed units.BankField = refl
+units_packed _ = refl
+
+units_long : (form : UnitsForm) → 0 < length (opcode_bytes (units_opcode form))
+units_long units.Field = omega arith
+units_long units.IndexField = omega arith
+units_long units.BankField = omega arith
+
 units_inner : (form : UnitsForm) → are_inner (operands_of_units form) ≡ true
 units_inner units.BankField = refl
 units_inner _ = refl
@@ -81,7 +92,7 @@ module _ (m : List Segment) (s : Source) (args : Arguments) where
   then_read level end Spells Good bytes r f h k = judge_bind (Read s level end Spells bytes) Good (Bad m s) r f h k
 
   opened : {B : Type 0} (level end : ℕ) (bytes : List ℕ) (Good : B → Type 0) (f : Package → Result B BodyFault)
-      → Position s.depth level s.code end bytes → ((p : Package) → GoodPackage s level end bytes p → Judge Good (Bad m s) (f p))
+      → AtPackage s.depth level s.code end bytes → ((p : Package) → GoodPackage s level end bytes p → Judge Good (Bad m s) (f p))
       → Judge Good (Bad m s) (part (package_at end bytes) >>= f)
   opened level end bytes Good f h k = judge_bind (GoodPackage s level end bytes) Good (Bad m s) (part (package_at end bytes)) f
       (part_sound m s (GoodPackage s level end bytes) (package_at end bytes) (package_sound s level end bytes h)) k
@@ -116,7 +127,7 @@ module _ (m : List Segment) (s : Source) (args : Arguments) where
   else_sound level inner k locals end (b ∷ rest) h =
       let Good = Read s level end (Other args m level locals) (b ∷ rest) in
       judge_if Good (Bad m s) (eqb b 0xA1) _ _
-      (λ yes. opened level end rest Good _ (position_after s level end (b ∷ rest) (b ∷ []) rest refl h) (λ p g.
+      (λ yes. opened level end rest Good _ (at_package s level end opcodes.Else (b ∷ rest) rest refl (ap (λ k. k ∷ rest) (eqb-true b 0xA1 yes)) h) (λ p g.
       judge_bind (AreStanding args m level locals p.content) Good (Bad m s) (inner locals p.end p.content) _ (k locals p.end p.content g.1) (λ ts t. (
         record {
           front = 0xA1 ∷ (g.0.len ++ p.content);
@@ -128,7 +139,7 @@ module _ (m : List Segment) (s : Source) (args : Arguments) where
       (λ no. (record { front = []; spells = record { spells = refl; within = omega arith }; whole = refl }, h))
 
   if_sound : (level : ℕ) (locals : Locals) (value : Reader) (inner : Statements) → Inner m s (args locals) level value → InnerStatements level inner
-      → (end : ℕ) (bytes rest : List ℕ) → bytes ≡ 0xA0 ∷ rest → Position s.depth level s.code end rest
+      → (end : ℕ) (bytes rest : List ℕ) → bytes ≡ 0xA0 ∷ rest → AtPackage s.depth level s.code end rest
       → Judge (Read s level end (Standing args m (suc level) locals) bytes) (Bad m s) (if_form value inner m locals end rest)
   unfolding if_form
   if_sound level locals value inner i k end bytes rest is h =
@@ -164,7 +175,7 @@ module _ (m : List Segment) (s : Source) (args : Arguments) where
       )))))
 
   while_sound : (level : ℕ) (locals : Locals) (value : Reader) (inner : Statements) → Inner m s (args locals) level value → InnerStatements level inner
-      → (end : ℕ) (bytes rest : List ℕ) → bytes ≡ 0xA2 ∷ rest → Position s.depth level s.code end rest
+      → (end : ℕ) (bytes rest : List ℕ) → bytes ≡ 0xA2 ∷ rest → AtPackage s.depth level s.code end rest
       → Judge (Read s level end (Standing args m (suc level) locals) bytes) (Bad m s) (while_form value inner locals end rest)
   unfolding while_form
   while_sound level locals value inner i k end bytes rest is h =
@@ -251,18 +262,57 @@ module _ (m : List Segment) (s : Source) (args : Arguments) where
         u.1,
       )))
 
+  -- the field list behind the names and operands
+  field_list : (level : ℕ) (locals : Locals) (form : UnitsForm) (end : ℕ) (bytes rest : List ℕ) (p : Package) (ns : List NameParts × List ℕ) (vs : List TermTree × List ℕ)
+      → bytes ≡ opcode_bytes (units_opcode form) ++ rest → Position s.depth (suc level) s.code end bytes → PackageFront end rest p → Front (AreNames (names_of_units form)) p.content ns
+      → Front (Operands (args locals) level (operands_of_units form)) ns.1 vs → BeginsFieldList s.code (p.end - length vs.1)
+  field_list level locals form end bytes rest p ns vs is h g n v =
+      let op = opcode_bytes (units_opcode form) in
+      record {
+        form = form;
+        args = args locals;
+        at = end - length bytes;
+        n = length g.len + length p.content;
+        len = g.len;
+        names = ns.0;
+        values = terms_of vs.0;
+        a = n.front;
+        b = v.front;
+        rest = vs.1 ++ (p.rest ++ h.after);
+        here = stands_at s (suc level) end bytes h ∙ rw (is, g.whole, n.whole, v.whole) (simp append_assoc);
+        spells_len = g.spells_len;
+        all_names = n.spells.0;
+        are_names = n.spells.1;
+        are_values = v.spells.are;
+        starts = omega (
+          arith,
+          h.ends,
+          ap length is,
+          length-append op rest,
+          ap length g.whole,
+          length-append g.len (p.content ++ p.rest),
+          length-append p.content p.rest,
+          ap length n.whole,
+          length-append n.front ns.1,
+          ap length v.whole,
+          length-append v.front vs.1,
+          g.ends,
+        );
+      }
+
   units_sound : (level : ℕ) (locals : Locals) (value : Reader) → Inner m s (args locals) level value
-      → (form : UnitsForm) (end : ℕ) (bytes rest : List ℕ) → bytes ≡ opcode_bytes (units_opcode form) ++ rest → Position s.depth level s.code end rest
+      → (form : UnitsForm) (end : ℕ) (bytes rest : List ℕ) → bytes ≡ opcode_bytes (units_opcode form) ++ rest → Position s.depth (suc level) s.code end bytes
       → Judge (Read s level end (Standing args m (suc level) locals) bytes) (Bad m s) (units_form value form end rest)
   unfolding units_form
   units_sound level locals value i form end bytes rest is h =
       let Good = Read s level end (Standing args m (suc level) locals) bytes in
       let op = opcode_bytes (units_opcode form) in
-      opened level end rest Good _ h (λ p g.
+      opened level end rest Good _ (deeper_package s level end (units_opcode form) bytes rest (units_packed form) is (units_long form) h) (λ p g.
       then_read level p.end (AreNames (names_of_units form)) Good p.content (names_at (names_of_units form) p.end p.content) _ (names_sound level (names_of_units form) p.end p.content g.1) (λ ns n.
       then_read level p.end (Operands (args locals) level (operands_of_units form)) Good ns.1 (operands_at value (operands_of_units form) p.end ns.1)
       _ (operands_sound m s (args locals) level value i (operands_of_units form) p.end ns.1 (units_inner form) n.1) (λ vs v.
-      judge_bind (λ es. SpellsFields es vs.1) Good (Bad m s) (fields_in p.end vs.1) _ (fields_sound m s level p.end vs.1 v.1) (λ es e.
+      judge_bind (λ es. SpellsFields es vs.1) Good (Bad m s) (fields_in p.end vs.1) _
+      (fields_sound m s level p.end vs.1 (field_list level locals form end bytes rest p ns vs is h g.0 n.0 v.0) v.1) (λ es e.
       let content : p.content ≡ n.0.front ++ (v.0.front ++ vs.1) = n.0.whole ∙ ap (λ (l : List ℕ). n.0.front ++ l) v.0.whole in
       let x : List ℕ = op ++ (g.0.len ++ p.content) in (
         record {
@@ -337,10 +387,12 @@ module _ (m : List Segment) (s : Source) (args : Arguments) where
   unfolding statement_by
   by_sound level locals inner k end bytes rest opcodes.If h o = up level end locals bytes _
       (if_sound level locals (term_at (args locals) level) inner (term_sound m s (args locals) level) k end bytes rest
-      (opening opcodes.If bytes o.front rest o.whole o.told.1) (below level end bytes rest opcodes.If h o))
+      (opening opcodes.If bytes o.front rest o.whole o.told.1)
+      (deeper_package s level end opcodes.If bytes rest refl (opening opcodes.If bytes o.front rest o.whole o.told.1) (omega arith) h))
   by_sound level locals inner k end bytes rest opcodes.While h o = up level end locals bytes _
       (while_sound level locals (term_at (args locals) level) inner (term_sound m s (args locals) level) k end bytes rest
-      (opening opcodes.While bytes o.front rest o.whole o.told.1) (below level end bytes rest opcodes.While h o))
+      (opening opcodes.While bytes o.front rest o.whole o.told.1)
+      (deeper_package s level end opcodes.While bytes rest refl (opening opcodes.While bytes o.front rest o.whole o.told.1) (omega arith) h))
   by_sound level locals inner k end bytes rest opcodes.DeclareName h o =
       up level end locals bytes _ (named_sound level locals (term_at (args locals) level) (term_sound m s (args locals) level) named.Name end bytes
       rest (opening opcodes.DeclareName bytes o.front rest o.whole o.told.1) (below level end bytes rest opcodes.DeclareName h o))
@@ -361,13 +413,13 @@ module _ (m : List Segment) (s : Source) (args : Arguments) where
       (opening opcodes.Event bytes o.front rest o.whole o.told.1) (below level end bytes rest opcodes.Event h o))
   by_sound level locals inner k end bytes rest opcodes.Field h o = up level end locals bytes _
       (units_sound level locals (term_at (args locals) level) (term_sound m s (args locals) level) units.Field end bytes rest
-      (opening opcodes.Field bytes o.front rest o.whole o.told.1) (below level end bytes rest opcodes.Field h o))
+      (opening opcodes.Field bytes o.front rest o.whole o.told.1) h)
   by_sound level locals inner k end bytes rest opcodes.IndexField h o =
       up level end locals bytes _ (units_sound level locals (term_at (args locals) level) (term_sound m s (args locals) level) units.IndexField end
-      bytes rest (opening opcodes.IndexField bytes o.front rest o.whole o.told.1) (below level end bytes rest opcodes.IndexField h o))
+      bytes rest (opening opcodes.IndexField bytes o.front rest o.whole o.told.1) h)
   by_sound level locals inner k end bytes rest opcodes.BankField h o =
       up level end locals bytes _ (units_sound level locals (term_at (args locals) level) (term_sound m s (args locals) level) units.BankField end
-      bytes rest (opening opcodes.BankField bytes o.front rest o.whole o.told.1) (below level end bytes rest opcodes.BankField h o))
+      bytes rest (opening opcodes.BankField bytes o.front rest o.whole o.told.1) h)
   by_sound level locals inner k end bytes rest x h o = plain_sound level locals end bytes rest x refl h o
 
   pub statement_sound : (level : ℕ) (locals : Locals) (end : ℕ) (bytes : List ℕ) → Position s.depth level s.code end bytes

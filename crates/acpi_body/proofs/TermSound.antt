@@ -27,8 +27,8 @@ use Rattle.acpi_code.proofs.Lists.{all_sound}
 use Rattle.acpi_code.proofs.Names.{name_sound, term_name_sound}
 use Rattle.acpi_code.proofs.Numbers.{byte_sound, number_sound}
 use Rattle.acpi_code.proofs.Opcodes.{Opened, opcode_sound}
-use Rattle.acpi_code.proofs.Packages.{GoodPackage, package_sound}
-use Rattle.acpi_code.proofs.Strings.{string_sound}
+use Rattle.acpi_code.proofs.Packages.{GoodPackage, package_sound, AtPackage, deeper_package}
+use Rattle.acpi_code.proofs.Strings.{IsAfterPrefix, after_prefix, string_sound}
 use Rattle.acpi_body.specs.declared.fault.BodyFault.{BodyFault}
 use Rattle.acpi_body.specs.declared.fault.BodyReason.{BodyReason}
 use Rattle.acpi_body.specs.Refusals.{refusal_at}
@@ -247,7 +247,7 @@ module _ (m : List Segment) (s : Source) (args : NameParts → ℕ) where
   Form level p o end bytes r = Judge (Read s level end (Formed args level p o) bytes) (Bad m s) r
 
   buffer_sound : (level : ℕ) (inner : Reader) → Inner m s args level inner → (p : Place) (end : ℕ) (bytes rest : List ℕ) → bytes ≡ 0x11 ∷ rest
-      → Position s.depth level s.code end rest → Form level p opcodes.Buffer end bytes (buffer_form inner end rest)
+      → AtPackage s.depth level s.code end rest → Form level p opcodes.Buffer end bytes (buffer_form inner end rest)
   unfolding buffer_form
   buffer_sound level inner i p end bytes rest is h =
       let Good = Read s level end (Formed args level p opcodes.Buffer) bytes in
@@ -268,7 +268,7 @@ module _ (m : List Segment) (s : Source) (args : NameParts → ℕ) where
       })))
 
   package_form_sound : (level : ℕ) (inner : Reader) → Inner m s args level inner → (p : Place) (end : ℕ) (bytes rest : List ℕ) → bytes ≡ 0x12 ∷ rest
-      → Position s.depth level s.code end rest → Form level p opcodes.Package end bytes (package_form inner end rest)
+      → AtPackage s.depth level s.code end rest → Form level p opcodes.Package end bytes (package_form inner end rest)
   unfolding package_form
   package_form_sound level inner i p end bytes rest is h =
       let Good = Read s level end (Formed args level p opcodes.Package) bytes in
@@ -282,7 +282,7 @@ module _ (m : List Segment) (s : Source) (args : NameParts → ℕ) where
       (λ front packs. record { leads = refl; suits = tt; spells = (count.1, e.0, subst (λ content. Packs (0x12 ∷ []) content front) content packs); within = omega (arith, e.1) }))))
 
   var_package_form_sound : (level : ℕ) (inner : Reader) → Inner m s args level inner → (p : Place) (end : ℕ) (bytes rest : List ℕ)
-      → bytes ≡ 0x13 ∷ rest → Position s.depth level s.code end rest → Form level p opcodes.VarPackage end bytes (var_package_form inner end rest)
+      → bytes ≡ 0x13 ∷ rest → AtPackage s.depth level s.code end rest → Form level p opcodes.VarPackage end bytes (var_package_form inner end rest)
   unfolding var_package_form
   var_package_form_sound level inner i p end bytes rest is h =
       let Good = Read s level end (Formed args level p opcodes.VarPackage) bytes in
@@ -305,11 +305,12 @@ module _ (m : List Segment) (s : Source) (args : NameParts → ℕ) where
         within = omega (arith, e.1, c.0.spells.within);
       }))))
 
-  string_form_sound : (level : ℕ) (p : Place) (end : ℕ) (bytes rest : List ℕ) → bytes ≡ 0x0D ∷ rest → Position s.depth level s.code end rest → Form level p opcodes.Str end bytes (string_form end rest)
+  string_form_sound : (level : ℕ) (p : Place) (end : ℕ) (bytes rest : List ℕ) → bytes ≡ 0x0D ∷ rest → IsAfterPrefix s.code (end - length rest) → Position s.depth level s.code end rest
+      → Form level p opcodes.Str end bytes (string_form end rest)
   unfolding string_form
-  string_form_sound level p end bytes rest is h =
+  string_form_sound level p end bytes rest is prefix h =
       let Good = Read s level end (Formed args level p opcodes.Str) bytes in
-      then_read m s level end SpellsText Good rest (part (string_at end rest)) _ (part_sound m s (Read s level end SpellsText rest) (string_at end rest) (string_sound s level end rest h)) (λ x t. (
+      then_read m s level end SpellsText Good rest (part (string_at end rest)) _ (part_sound m s (Read s level end SpellsText rest) (string_at end rest) (string_sound s level end rest prefix h)) (λ x t. (
         record {
           front = 0x0D ∷ t.0.front;
           spells = record { leads = refl; suits = tt; spells = (t.0.front, t.0.spells, refl); within = omega arith };
@@ -409,15 +410,18 @@ module _ (m : List Segment) (s : Source) (args : NameParts → ℕ) where
       (Read s level end (Formed args level p (opcodes.Constant form)) bytes) (Bad m s) (Bad m s) (constant_form form end rest)
       (λ x g. (g.0, position_deeper s level end bytes g.0.front x.1 g.0.whole (spelled_long args p x.0 g.0.front g.0.spells.suits g.0.spells.spells) h)) (λ f b. b)
       (constant_up level p form end bytes rest h o)
-  form_sound level inner i p end bytes rest opcodes.Str c h o = string_form_sound level p end bytes rest
-      (opening opcodes.Str bytes o.front rest o.whole o.told.1) (below level end bytes rest opcodes.Str h o)
-  form_sound level inner i p end bytes rest opcodes.Buffer c h o = buffer_sound level inner i p end bytes rest
-      (opening opcodes.Buffer bytes o.front rest o.whole o.told.1) (below level end bytes rest opcodes.Buffer h o)
-  form_sound level inner i p end bytes rest opcodes.Package c h o = package_form_sound level inner i p end bytes rest
-      (opening opcodes.Package bytes o.front rest o.whole o.told.1) (below level end bytes rest opcodes.Package h o)
+  form_sound level inner i p end bytes rest opcodes.Str c h o =
+      let is = opening opcodes.Str bytes o.front rest o.whole o.told.1 in
+      string_form_sound level p end bytes rest is (after_prefix s (suc level) end bytes rest is h) (below level end bytes rest opcodes.Str h o)
+  form_sound level inner i p end bytes rest opcodes.Buffer c h o =
+      let is = opening opcodes.Buffer bytes o.front rest o.whole o.told.1 in
+      buffer_sound level inner i p end bytes rest is (deeper_package s level end opcodes.Buffer bytes rest refl is (omega arith) h)
+  form_sound level inner i p end bytes rest opcodes.Package c h o =
+      let is = opening opcodes.Package bytes o.front rest o.whole o.told.1 in
+      package_form_sound level inner i p end bytes rest is (deeper_package s level end opcodes.Package bytes rest refl is (omega arith) h)
   form_sound level inner i p end bytes rest opcodes.VarPackage c h o =
-      var_package_form_sound level inner i p end bytes rest (opening opcodes.VarPackage bytes o.front rest o.whole o.told.1)
-      (below level end bytes rest opcodes.VarPackage h o)
+      let is = opening opcodes.VarPackage bytes o.front rest o.whole o.told.1 in
+      var_package_form_sound level inner i p end bytes rest is (deeper_package s level end opcodes.VarPackage bytes rest refl is (omega arith) h)
   form_sound level inner i p end bytes rest (opcodes.Local n) c h o = let few : n < 8 = ltb-true n 8 o.told.0 in
       one_byte level end p bytes rest (opcodes.Local n) (local n) h o refl tt (o.told.1, omega arith) (omega arith)
   form_sound level inner i p end bytes rest (opcodes.Arg n) c h o = let few : n < 7 = ltb-true n 7 o.told.0 in

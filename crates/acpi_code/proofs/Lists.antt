@@ -4,7 +4,7 @@ use Rattle.std.proofs.lemmas.List.{append-nil, length-append}
 use Rattle.acpi_code.specs.Spelling.{SpellsEach}
 use Rattle.acpi_code.specs.steps.Left.{Left, Shorter}
 use Rattle.acpi_code.specs.steps.Reading.{◌>>=◌, Reading, each_with, each_at}
-use Rattle.acpi_code.proofs.Readings.{Judge, judge_bind, Source, Position, Read}
+use Rattle.acpi_code.proofs.Readings.{Judge, judge_bind, Source, Position, Front, Read}
 
 -- ---- as a loop does
 
@@ -146,26 +146,32 @@ stops_behind one [] b x f long h stops n le = absurd (omega arith)
 stops_behind one (c ∷ a) b x f long h stops zero le = absurd (omega arith)
 stops_behind one (c ∷ a) b x f long h stops (suc n) le = rw (h, stops n (omega (arith, length-append a b))) refl
 
+-- one more behind them
+pub each_snoc : {A : Type 0} (Spells : A → List ℕ → Type 0) (xs : List A) (a : List ℕ) (x : A) (b : List ℕ) → SpellsEach Spells xs a → Spells x b → SpellsEach Spells (xs ++ x ∷ []) (a ++ b)
+each_snoc Spells [] a x b h k = (b, [], k, refl, rw h (sym (append-nil b)))
+each_snoc Spells (y ∷ ys) a x b h k = (h.0, h.1 ++ b, h.2, each_snoc Spells ys h.1 x b h.3 k, ap (λ (l : List ℕ). l ++ b) h.4 ∙ append_assoc h.0 h.1 b)
+
 -- ---- what is read is spelled, or its fault is true
 
--- one after another to the end of the bytes
-pub each_sound : {A F : Type 0} (s : Source) (level end : ℕ) (Spells : A → List ℕ → Type 0) (Bad : F → Type 0) (one : List ℕ → Reading F A) → ((x : A) (a : List ℕ) → Spells x a → 0 < length a)
-    → ((bytes : List ℕ) → Position s.depth level s.code end bytes → Judge (Read s level end Spells bytes) Bad (one bytes))
-    → (n : ℕ) (bytes : List ℕ) → length bytes ≤ n → Position s.depth level s.code end bytes → Judge (λ xs. SpellsEach Spells xs bytes) Bad (each_with one n bytes)
+-- One after another to the end of the bytes. `Where` holds of what is left before each, and behind it.
+pub each_sound : {A F : Type 0} (Where : List ℕ → Type 0) (Spells : A → List ℕ → Type 0) (Bad : F → Type 0) (one : List ℕ → Reading F A) → ((x : A) (a : List ℕ) → Spells x a → 0 < length a)
+    → ((bytes : List ℕ) → Where bytes → Judge (λ x. Front Spells bytes x × Where x.1) Bad (one bytes))
+    → (n : ℕ) (bytes : List ℕ) → length bytes ≤ n → Where bytes → Judge (λ xs. SpellsEach Spells xs bytes) Bad (each_with one n bytes)
 unfolding each_with
-each_sound s level end Spells Bad one long judged zero [] le h = refl
-each_sound s level end Spells Bad one long judged zero (b ∷ rest) le h = absurd (omega arith)
-each_sound s level end Spells Bad one long judged (suc n) [] le h = refl
-each_sound {A} s level end Spells Bad one long judged (suc n) (b ∷ rest) le h =
+each_sound Where Spells Bad one long judged zero [] le h = refl
+each_sound Where Spells Bad one long judged zero (b ∷ rest) le h = absurd (omega arith)
+each_sound Where Spells Bad one long judged (suc n) [] le h = refl
+each_sound {A} Where Spells Bad one long judged (suc n) (b ∷ rest) le h =
     let G : List A → Type 0 = λ xs. SpellsEach Spells xs (b ∷ rest) in
-    judge_bind (Read s level end Spells (b ∷ rest)) G Bad (one (b ∷ rest)) _ (judged (b ∷ rest) h) (λ x p.
+    judge_bind (λ x. Front Spells (b ∷ rest) x × Where x.1) G Bad (one (b ∷ rest)) _ (judged (b ∷ rest) h) (λ x p.
     let t = p.0 in
     let some = long x.0 t.front t.spells in
     let sizes : suc (length rest) ≡ length t.front + length x.1 = ap length t.whole ∙ length-append t.front x.1 in
     judge_bind (λ xs. SpellsEach Spells xs x.1) G Bad (each_with one n x.1) _
-    (each_sound s level end Spells Bad one long judged n x.1 (omega arith) p.1) (λ xs q. (t.front, x.1, t.spells, q, t.whole)))
+    (each_sound Where Spells Bad one long judged n x.1 (omega arith) p.1) (λ xs q. (t.front, x.1, t.spells, q, t.whole)))
 
+-- the same, where what is left stands in the code
 pub all_sound : {A F : Type 0} (s : Source) (level end : ℕ) (Spells : A → List ℕ → Type 0) (Bad : F → Type 0) (one : List ℕ → Reading F A) → ((x : A) (a : List ℕ) → Spells x a → 0 < length a)
     → ((bytes : List ℕ) → Position s.depth level s.code end bytes → Judge (Read s level end Spells bytes) Bad (one bytes))
     → (bytes : List ℕ) → Position s.depth level s.code end bytes → Judge (λ xs. SpellsEach Spells xs bytes) Bad (each_at one bytes)
-all_sound s level end Spells Bad one long judged bytes h = each_sound s level end Spells Bad one long judged (length bytes) bytes (omega arith) h
+all_sound s level end Spells Bad one long judged bytes h = each_sound (Position s.depth level s.code end) Spells Bad one long judged (length bytes) bytes (omega arith) h

@@ -1,5 +1,5 @@
 -- What begins with which bytes.
-use Rattle.std.proofs.Common.{◌≡◌, ℕ, zero, suc, ◌+◌, ◌-◌, ◌<◌, Bool, true, false, cond, eqb, ltb, ◌&&◌, Some, List, [], ◌∷◌, ◌++◌, length, slice_index, Ok, refl, sym, ap, subst, ◌∙◌, arith}
+use Rattle.std.proofs.Common.{◌≡◌, ℕ, zero, suc, ◌+◌, ◌-◌, ◌<◌, Bool, true, false, cond, eqb, ltb, ◌&&◌, Option, Some, List, [], ◌∷◌, ◌++◌, length, slice_index, Ok, refl, sym, ap, subst, ◌∙◌, arith}
 use Rattle.std.proofs.lemmas.Bool.{eqb-true, ltb-true, lt-ltb}
 use Rattle.acpi_name.proofs.NameAgain.{and_true, neq}
 use Rattle.acpi_tree.specs.declared.op.Op.{Op}
@@ -9,10 +9,10 @@ use Rattle.acpi_tree.specs.declared.tree.Width.TheVariants as widths
 use Rattle.acpi_code.specs.declared.opcode.ConstantForm.TheVariants as forms
 use Rattle.acpi_code.specs.declared.opcode.Opcode.{Opcode}
 use Rattle.acpi_code.specs.declared.opcode.Opcode.TheVariants as opcodes
-use Rattle.acpi_code.specs.Opcodes.{Opening, looked_up, plain_opcodes, extended_opcodes, is_name_start, plain_opcode_of, extended_opcode_of, first_opcode, width_bytes, operator_bytes, opcode_bytes, is_spelled}
+use Rattle.acpi_code.specs.Opcodes.{Opening, looked_up, plain_opcodes, extended_opcodes, is_name_start, plain_opcode_of, extended_opcode_of, extended_opcode, first_opcode, width_bytes, operator_bytes, opcode_bytes, is_spelled}
 use Rattle.acpi_code.specs.Faults.{Begins}
 use Rattle.acpi_code.specs.steps.Reading.{byte_at, extended_opcode_at, opcode_at}
-use Rattle.acpi_code.proofs.Readings.{Judge, judge_if, Position, Source, Shown, stands_at, cut_shows}
+use Rattle.acpi_code.proofs.Readings.{Judge, judge_if, Position, Source, Shown, Bare, bare_shown, stands_at, cut_bare}
 
 -- ---- what is spelled is read
 
@@ -240,6 +240,29 @@ plain_told b = by_tests (is_name_start b) refl (ltb 0x5F b && ltb b 0x68) (ltb 0
 extended_told : (b : ℕ) → Told (extended_opcode_of b) (0x5B ∷ b ∷ [])
 extended_told b = told_row (looked_up extended_opcodes b) (0x5B ∷ b ∷ []) (good_row extended_opcodes (λ b. 0x5B ∷ b ∷ []) b extended_good)
 
+-- ---- what begins there
+
+abbrev known : Opcode → Option Opcode
+known o = Some o
+
+-- what is read begins the bytes
+first_is : (end : ℕ) (bytes rest : List ℕ) (o : Opcode) → opcode_at end bytes ≡ Ok (o, rest) → first_opcode bytes ≡ known o
+unfolding opcode_at byte_at
+first_is end [] rest o h = absurd cc
+first_is end (b ∷ more) rest o h = by_lead (eqb b 0x5B) h
+  where
+    extended : (more : List ℕ) → extended_opcode_at end more ≡ Ok (o, rest) → extended_opcode more ≡ known o
+    extended [] h = absurd cc
+    extended (c ∷ r) h = let pair : (extended_opcode_of c, r) ≡ (o, rest) = cc in ap (λ (y : Opcode × List ℕ). known y.0) pair
+
+    by_lead : (t : Bool) → cond t (extended_opcode_at end more) (Ok (plain_opcode_of b, more)) ≡ Ok (o, rest) → cond t (extended_opcode more) (Some (plain_opcode_of b)) ≡ known o
+    by_lead true h = extended more h
+    by_lead false h = let pair : (plain_opcode_of b, more) ≡ (o, rest) = cc in ap (λ (y : Opcode × List ℕ). known y.0) pair
+
+-- the bytes of each opcode begin it
+pub bytes_begin : (o : Opcode) (rest : List ℕ) → is_spelled o ≡ true → first_opcode (opcode_bytes o ++ rest) ≡ known o
+bytes_begin o rest spelled = first_is 0 (opcode_bytes o ++ rest) rest o (opens 0 o rest spelled)
+
 -- ---- what was read
 
 -- this begins at the front of the bytes, and what stands behind it
@@ -250,18 +273,21 @@ pub record Opened (bytes : List ℕ) (x : Opcode × List ℕ) : Type 0 where
   pub is_opcode : (more : List ℕ) → first_opcode (bytes ++ more) ≡ Some x.0
   pub told : Told x.0 front
 
-pub opcode_sound : (s : Source) (level end : ℕ) (bytes : List ℕ) → Position s.depth level s.code end bytes → Judge (Opened bytes) (Shown s) (opcode_at end bytes)
+pub opcode_bare : (s : Source) (level end : ℕ) (bytes : List ℕ) → Position s.depth level s.code end bytes → Judge (Opened bytes) (Bare s) (opcode_at end bytes)
 unfolding opcode_at byte_at
-opcode_sound s level end [] h = cut_shows s level end [] h
-opcode_sound s level end (b ∷ rest) h =
-    judge_if (Opened (b ∷ rest)) (Shown s) (eqb b 0x5B) (extended_opcode_at end rest) (Ok (plain_opcode_of b, rest)) (extended_case rest h)
+opcode_bare s level end [] h = cut_bare s level end [] h
+opcode_bare s level end (b ∷ rest) h =
+    judge_if (Opened (b ∷ rest)) (Bare s) (eqb b 0x5B) (extended_opcode_at end rest) (Ok (plain_opcode_of b, rest)) (extended_case rest h)
     (λ plain. record { front = b ∷ []; whole = refl; some = omega arith; is_opcode = λ more. rw plain refl; told = plain_told b })
   where
-    extended_case : (r : List ℕ) → Position s.depth level s.code end (b ∷ r) → eqb b 0x5B ≡ true → Judge (Opened (b ∷ r)) (Shown s) (extended_opcode_at end r)
-    extended_case [] k e = cut_shows s level end (b ∷ []) k
+    extended_case : (r : List ℕ) → Position s.depth level s.code end (b ∷ r) → eqb b 0x5B ≡ true → Judge (Opened (b ∷ r)) (Bare s) (extended_opcode_at end r)
+    extended_case [] k e = cut_bare s level end (b ∷ []) k
     extended_case (c ∷ r) k e =
         let is = eqb-true b 0x5B e in
         record { front = 0x5B ∷ c ∷ []; whole = rw is refl; some = omega arith; is_opcode = λ more. rw is refl; told = extended_told c }
+
+pub opcode_sound : (s : Source) (level end : ℕ) (bytes : List ℕ) → Position s.depth level s.code end bytes → Judge (Opened bytes) (Shown s) (opcode_at end bytes)
+opcode_sound s level end bytes h = bare_shown s (Opened bytes) (opcode_at end bytes) (opcode_bare s level end bytes h)
 
 -- what begins there passes a test
 pub begins : (s : Source) (level end : ℕ) (bytes : List ℕ) (x : Opcode × List ℕ) (test : Opcode → Bool) → Position s.depth level s.code end bytes

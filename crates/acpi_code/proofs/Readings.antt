@@ -1,8 +1,9 @@
 -- Both ends of a reading at once: what was read, or what its fault shows.
 use Rattle.std.proofs.Common.{◌≡◌, ℕ, suc, ◌-◌, ◌+◌, ◌≤◌, ◌<◌, Bool, true, false, cond, List, [], ◌∷◌, ◌++◌, length, drop, Result, Ok, Err, refl, sym, ap, subst, ◌∙◌, append_assoc, arith}
-use Rattle.std.proofs.lemmas.List.{length-append, drop_at}
+use Rattle.std.proofs.lemmas.List.{length-append, drop_at, drop-drop}
 use Rattle.acpi_code.specs.declared.fault.CodeFault.{CodeFault}
-use Rattle.acpi_code.specs.declared.fault.CodeReason.TheVariants.{Cut}
+use Rattle.acpi_code.specs.declared.fault.CodeReason.{CodeReason}
+use Rattle.acpi_code.specs.declared.fault.CodeReason.TheVariants.{Cut, ReservedBits, BadName, Overrun, BadString, TooDeep}
 use Rattle.acpi_code.specs.steps.Reading.{◌>>=◌, with_fault, Reading, fault_at, no_level}
 use Rattle.acpi_code.specs.Faults.{IsList, ShowsPart}
 
@@ -61,6 +62,35 @@ pub record Source : Type 0 where
 abbrev pub Shown : Source → CodeFault → Type 0
 Shown s f = ShowsPart s.depth s.code f.reason f.place
 
+-- what the fault of a part that has no string and no level shows
+abbrev pub ShowsBare : List ℕ → CodeReason → ℕ → Type 0
+ShowsBare code BadString place = ⊥
+ShowsBare code TooDeep place = ⊥
+ShowsBare code why place = ShowsPart 0 code why place
+
+abbrev pub Bare : Source → CodeFault → Type 0
+Bare s f = ShowsBare s.code f.reason f.place
+
+bare_shows : (depth : ℕ) (code : List ℕ) (why : CodeReason) (place : ℕ) → ShowsBare code why place → ShowsPart depth code why place
+bare_shows depth code Cut place h = h
+bare_shows depth code ReservedBits place h = h
+bare_shows depth code BadName place h = h
+bare_shows depth code Overrun place h = h
+bare_shows depth code BadString place h = absurd h
+bare_shows depth code TooDeep place h = absurd h
+
+pub bare_fault : (s : Source) (f : CodeFault) → Bare s f → Shown s f
+bare_fault s f h = bare_shows s.depth s.code f.reason f.place h
+
+-- what is judged of such a part is judged of it as of any other
+pub bare_shown : {A : Type 0} (s : Source) (Good : A → Type 0) (r : Result A CodeFault) → Judge Good (Bare s) r → Judge Good (Shown s) r
+bare_shown s Good (Ok x) h = h
+bare_shown s Good (Err f) h = bare_fault s f h
+
+-- what stands behind the front of what stands at a place
+pub rest_behind : (code front rest : List ℕ) (at : ℕ) → drop at code ≡ front ++ rest → drop (at + length front) code ≡ rest
+rest_behind code front rest at here = sym (drop-drop (length front) at code) ∙ ap (drop (length front)) here ∙ drop_at front rest (length front) refl
+
 -- x was read from the front of the bytes, and what is behind it stands in the code
 abbrev pub Read : {A : Type 0} → Source → ℕ → ℕ → (A → List ℕ → Type 0) → List ℕ → A × List ℕ → Type 0
 Read s level end Spells bytes x = Front Spells bytes x × Position s.depth level s.code end x.1
@@ -72,7 +102,7 @@ stands_at s level end bytes h =
     rw place (ap (drop (length h.before)) h.whole ∙ drop_at h.before (bytes ++ h.after) (length h.before) refl)
 
 -- what follows the front of a list
-pub position_after : (s : Source) (level end : ℕ) (bytes front rest : List ℕ) → bytes ≡ front ++ rest → Position s.depth level s.code end bytes → Position s.depth level s.code end rest
+unfoldable pub position_after : (s : Source) (level end : ℕ) (bytes front rest : List ℕ) → bytes ≡ front ++ rest → Position s.depth level s.code end bytes → Position s.depth level s.code end rest
 position_after s level end bytes front rest is h = record {
   before = h.before ++ front;
   after = h.after;
@@ -85,7 +115,7 @@ position_after s level end bytes front rest is h = record {
 }
 
 -- behind an opcode a level less is left
-pub position_deeper : (s : Source) (level end : ℕ) (bytes front rest : List ℕ) → bytes ≡ front ++ rest → 0 < length front
+unfoldable pub position_deeper : (s : Source) (level end : ℕ) (bytes front rest : List ℕ) → bytes ≡ front ++ rest → 0 < length front
     → Position s.depth (suc level) s.code end bytes → Position s.depth level s.code end rest
 unfolding position_after
 position_deeper s level end bytes front rest is some h =
@@ -101,11 +131,14 @@ position_deeper s level end bytes front rest is some h =
       deep = omega (arith, h.deep, length-append h.before front);
     }
 
-pub cut_shows : (s : Source) (level end : ℕ) (bytes : List ℕ) → Position s.depth level s.code end bytes → Shown s (fault_at end [] Cut)
-cut_shows s level end bytes h =
+pub cut_bare : (s : Source) (level end : ℕ) (bytes : List ℕ) → Position s.depth level s.code end bytes → Bare s (fault_at end [] Cut)
+cut_bare s level end bytes h =
     let same : end - 0 ≡ end = omega arith in
     let list : IsList s.code h.start (end - 0) = rw same h.is_list in
     (h.start, list)
+
+pub cut_shows : (s : Source) (level end : ℕ) (bytes : List ℕ) → Position s.depth level s.code end bytes → Shown s (fault_at end [] Cut)
+cut_shows s level end bytes h = cut_bare s level end bytes h
 
 pub no_level_shows : (s : Source) (end : ℕ) (bytes : List ℕ) → Position s.depth 0 s.code end bytes → Shown s (no_level end bytes)
 no_level_shows s end [] h = cut_shows s 0 end [] h

@@ -1,7 +1,7 @@
 -- Strings: what is spelled is read, what is read is spelled, or the fault is true.
-use Rattle.std.proofs.Common.{◌≡◌, ℕ, suc, ◌+◌, ◌≤◌, ◌<◌, Bool, true, false, cond, ltb, eqb, ◌&&◌, List, [], ◌∷◌, ◌++◌, length, take, drop, Ok, refl, sym, ap, ◌∙◌, append_assoc, arith}
+use Rattle.std.proofs.Common.{◌≡◌, ℕ, suc, ◌-◌, ◌+◌, ◌≤◌, ◌<◌, Bool, true, false, cond, ltb, eqb, ◌&&◌, List, [], ◌∷◌, ◌++◌, length, take, drop, Ok, refl, sym, ap, ◌∙◌, append_assoc, arith}
 use Rattle.std.proofs.lemmas.Bool.{lt-ltb, ltb-false, ltb-true, eqb-true, eqb-false}
-use Rattle.std.proofs.lemmas.List.{take-append-drop, take_at, drop_at}
+use Rattle.std.proofs.lemmas.List.{length-append, length-take, take-append-drop, take_at, drop_at}
 use Rattle.std.proofs.lemmas.List.Folds.{length-prefix_len}
 use Rattle.std.specs.List.{AllByRecursion, prefix_len}
 use Rattle.acpi_name.proofs.NameAgain.{and_true}
@@ -59,9 +59,23 @@ above_text b none some = by_tests (ltb 0 b) (ltb b 128) refl refl none
     by_tests true false e d f = let low : 128 ≤ b = ltb-false b 128 d in omega arith
     by_tests false h e d f = let low : b ≤ 0 = ltb-false 0 b e in let not_zero = eqb-false b 0 some in absurd (not_zero (omega arith))
 
-pub string_sound : (s : Source) (level end : ℕ) (bytes : List ℕ) → Position s.depth level s.code end bytes → Judge (Read s level end SpellsText bytes) (Shown s) (string_at end bytes)
+-- directly before the place stands StringPrefix
+abbrev pub IsAfterPrefix : List ℕ → ℕ → Type 0
+IsAfterPrefix code place = (at : ℕ) × (drop at code ≡ 0x0D ∷ drop place code) × (place ≡ at + 1)
+
+pub after_prefix : (s : Source) (level end : ℕ) (front bytes : List ℕ) → front ≡ 0x0D ∷ bytes → Position s.depth level s.code end front → IsAfterPrefix s.code (end - length bytes)
+unfolding position_after
+after_prefix s level end front bytes is h =
+    let there = stands_at s level end bytes (position_after s level end front (0x0D ∷ []) bytes is h) in (
+      end - length front,
+      stands_at s level end front h ∙ ap (λ (l : List ℕ). l ++ h.after) is ∙ ap (λ (l : List ℕ). 0x0D ∷ l) (sym there),
+      omega (arith, ap length is, h.ends),
+    )
+
+pub string_sound : (s : Source) (level end : ℕ) (bytes : List ℕ) → IsAfterPrefix s.code (end - length bytes) → Position s.depth level s.code end bytes
+    → Judge (Read s level end SpellsText bytes) (Shown s) (string_at end bytes)
 unfolding string_at byte_at
-string_sound s level end bytes h =
+string_sound s level end bytes prefix h =
     let n = prefix_len is_text bytes in
     let k = length-prefix_len is_text bytes in
     let whole : bytes ≡ take n bytes ++ drop n bytes = sym (take-append-drop n bytes) in
@@ -78,4 +92,19 @@ string_sound s level end bytes h =
           record { front = take n bytes ++ 0 ∷ []; spells = (all_text bytes, refl); whole = whole ∙ sym (append_assoc (take n bytes) (0 ∷ []) rest) },
           position_after s level end (b ∷ rest) (b ∷ []) rest refl k,
         ))
-        (λ other. (b, rest ++ k.after, stands_at s level end (b ∷ rest) k, above_text b (no_text bytes b rest e) other))
+        (λ other.
+        let text = take n bytes in
+        let whole : bytes ≡ text ++ (b ∷ rest) = sym (take-append-drop n bytes) ∙ ap (λ (l : List ℕ). text ++ l) e in
+        let sizes : length bytes ≡ length text + suc (length rest) = ap length whole ∙ length-append text (b ∷ rest) in
+        let there : drop (end - length bytes) s.code ≡ text ++ ((b ∷ rest) ++ h.after) =
+            stands_at s level end bytes h ∙ ap (λ (l : List ℕ). l ++ h.after) whole ∙ append_assoc text (b ∷ rest) h.after in (
+          record {
+            at = prefix.0;
+            text = text;
+            rest = (b ∷ rest) ++ h.after;
+            here = prefix.1 ∙ ap (λ (l : List ℕ). 0x0D ∷ l) there;
+            are_text = all_text bytes;
+            behind = omega (arith, h.ends, prefix.2);
+          },
+          (b, rest ++ k.after, stands_at s level end (b ∷ rest) k, above_text b (no_text bytes b rest e) other),
+        ))

@@ -2,4 +2,5 @@ pub mod Opcodes
 pub mod Spelling
 pub mod Fields
 pub mod Faults
+pub mod Laws
 pub mod steps

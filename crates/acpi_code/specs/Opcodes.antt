@@ -225,7 +225,8 @@ operator_bytes operators.ToBCD = 0x5B ∷ 0x29 ∷ []
 operator_bytes operators.Fatal = 0x5B ∷ 0x32 ∷ []
 operator_bytes operators.Timer = 0x5B ∷ 0x33 ∷ []
 
--- The bytes of an opcode. Names begin in many ways, loads in three, and what is no opcode has none.
+-- The bytes of an opcode. Names begin in many ways, loads in three, and what is no opcode has none. A law says that the bytes of each
+-- begin it, so the rows above and these need only be read once.
 abbrev pub opcode_bytes : Opcode → List ℕ
 opcode_bytes (opcodes.Constant forms.Zero) = 0x00 ∷ []
 opcode_bytes (opcodes.Constant forms.One) = 0x01 ∷ []

@@ -24,6 +24,7 @@ mod constant;
 mod depth;
 mod fault;
 mod field;
+pub mod laws;
 mod name;
 mod number;
 mod opcode;

@@ -7,7 +7,7 @@ use Rattle.acpi_code.proofs.Lists.{AreAll, none_left, each_complete, all_at, all
 use Rattle.acpi_code.proofs.Opcodes.{opens, Opened, opcode_sound}
 use Rattle.acpi_code.specs.Spelling.{SpellsEach}
 use Rattle.acpi_code.specs.steps.Reading.{byte_at, opcode_at, each_with, each_at}
-use Rattle.acpi_terms.proofs.Arguments.{plain_complete, plain_sound}
+use Rattle.acpi_terms.proofs.Arguments.{plain_complete, awaits_all, plain_sound}
 use Rattle.acpi_terms.proofs.DataTrees.{opens_with}
 use Rattle.acpi_terms.specs.Forms.{arguments, external_parts}
 use Rattle.acpi_terms.specs.Spelling.{SpellsArguments, SpellsExternal, block_height}
@@ -47,10 +47,12 @@ content_complete level end xs b h le = all_at (external_at level end) b xs (exte
 abbrev SpellsParts : ExternalParts → List ℕ → Type 0
 SpellsParts x bytes = SpellsExternal x (21 ∷ bytes)
 
-pub parts_sound : (s : Source) (level end : ℕ) (bytes rest : List ℕ) → bytes ≡ 21 ∷ rest → Position s.depth level s.code end rest
+pub parts_sound : (s : Source) (level end : ℕ) (bytes rest : List ℕ) → bytes ≡ 21 ∷ rest → Position s.depth level s.code end bytes
     → Judge (Read s level end SpellsExternal bytes) (Bad s) (parts_at end rest)
 unfolding parts_at
-parts_sound s level end bytes rest is h = plain_sound s level end 0 (arguments opcodes.External) external_parts SpellsExternal bytes (21 ∷ []) rest is (inl refl) (λ v front k le. k) h
+parts_sound s level end bytes rest is h =
+    plain_sound s level end 0 opcodes.External external_parts SpellsExternal bytes rest is (inl refl) (λ v front k le. k)
+    (awaits_all s level end opcodes.External bytes rest refl is h) (position_after s level end bytes (21 ∷ []) rest is h)
 
 -- a fault in a block that is told as it is
 abbrev pub BlockShows : Source → ItemReason → ℕ → Type 0
@@ -77,7 +79,7 @@ external_by_sound : (s : Source) (level end : ℕ) (opcode : Opcode) (bytes rest
 external_by_sound s level end opcodes.External bytes rest h o =
     let is = opens_with bytes opcodes.External rest (21 ∷ []) o (o.told.1) in
     judge_into (Read s level end SpellsExternal bytes) (Read s level end SpellsExternal bytes) (Bad s) (BlockBad s) (parts_at end rest) (λ x r. r) (λ f b. in_block_too s f.reason f.place b)
-    (parts_sound s level end bytes rest is (position_after s level end bytes (21 ∷ []) rest is h))
+    (parts_sound s level end bytes rest is h)
 external_by_sound s level end term bytes rest h o = tt
 
 external_sound : (s : Source) (level end : ℕ) (bytes : List ℕ) → Position s.depth level s.code end bytes

@@ -1,5 +1,5 @@
 -- Constants and sources at their places: what is spelled is read, what is read is spelled, or the fault is true.
-use Rattle.std.proofs.Common.{◌≡◌, ℕ, zero, suc, ◌<◌, List, [], ◌∷◌, ◌++◌, Ok, refl, arith, inr}
+use Rattle.std.proofs.Common.{◌≡◌, ℕ, zero, suc, ◌-◌, ◌<◌, List, [], ◌∷◌, ◌++◌, length, Ok, refl, ap, ◌∙◌, arith, inl, inr}
 use Rattle.acpi_name.specs.Names.{NameParts}
 use Rattle.acpi_name.proofs.NameAgain.{name_long}
 use Rattle.acpi_tree.specs.declared.tree.Int.{Int}
@@ -8,10 +8,13 @@ use Rattle.acpi_code.specs.declared.opcode.Opcode.TheVariants as opcodes
 use Rattle.acpi_code.specs.Spelling.{SpellsInt, SpellsTermName}
 use Rattle.acpi_code.specs.steps.Reading.{name_in, opcode_at}
 use Rattle.acpi_code.specs.steps.Fields.{int_in}
-use Rattle.acpi_code.proofs.Readings.{Judge, judge_bind, judge_into, Source, Position, Read}
+use Rattle.acpi_code.specs.Opcodes.{first_opcode}
+use Rattle.acpi_code.proofs.Readings.{Judge, judge_bind, judge_into, Source, Position, Read, stands_at}
 use Rattle.acpi_code.proofs.Opcodes.{opens_name, Opened, opcode_sound, begins}
-use Rattle.acpi_code.proofs.Names.{name_in_complete, term_name_sound}
+use Rattle.acpi_code.proofs.Names.{name_in_complete, term_name_sound, nothing_begins}
 use Rattle.acpi_code.proofs.Constants as constants
+use Rattle.acpi_terms.specs.Faults.{MustBegin}
+use Rattle.acpi_terms.specs.Forms.{source_arg}
 use Rattle.acpi_terms.specs.steps.Reading.{part, const_at, int_at, source_by, source_at}
 use Rattle.acpi_terms.proofs.Parts.{Bad, deep_bad, part_sound, constant_sound}
 
@@ -48,14 +51,16 @@ int_sound s (suc level) end bytes h =
     judge_into (Read s (suc level) end SpellsInt bytes) (Read s (suc level) end (IntWithin (suc level)) bytes) (Bad s) (Bad s) (const_at end bytes)
     (λ x r. (record { front = r.0.front; spells = (r.0.spells, omega arith); whole = r.0.whole }, r.1)) (λ f b. b) (const_sound s (suc level) end bytes h)
 
-source_by_sound : (s : Source) (level end : ℕ) (opcode : Opcode) (bytes rest : List ℕ) → Position s.depth level s.code end bytes
-    → Opened bytes (opcode, rest) → Judge (Read s level end SpellsTermName bytes) (Bad s) (source_by end bytes opcode)
-source_by_sound s level end opcodes.Name bytes rest h o = part_sound s (Read s level end SpellsTermName bytes) (name_in end bytes) (term_name_sound s level end bytes rest h o)
-source_by_sound s level end opcodes.Nothing bytes rest h o = inr (begins s level end bytes (opcodes.Nothing, rest) _ h o refl)
-source_by_sound s level end opcode bytes rest h o = inr (begins s level end bytes (opcode, rest) _ h o refl)
+source_by_sound : (s : Source) (level end : ℕ) (opcode : Opcode) (bytes rest : List ℕ) → MustBegin source_arg s.code (end - length bytes)
+    → Position s.depth level s.code end bytes → Opened bytes (opcode, rest) → Judge (Read s level end SpellsTermName bytes) (Bad s) (source_by end bytes opcode)
+source_by_sound s level end opcodes.Name bytes rest must h o = part_sound s (Read s level end SpellsTermName bytes) (name_in end bytes) (term_name_sound s level end bytes rest h o)
+source_by_sound s level end opcodes.Nothing bytes rest must h o = inl (inl (nothing_begins _ (ap first_opcode (stands_at s level end bytes h) ∙ o.is_opcode h.after)))
+source_by_sound s level end (opcodes.Constant form) bytes rest must h o = inr (must, begins s level end bytes (opcodes.Constant form, rest) _ h o refl)
+source_by_sound s level end opcode bytes rest must h o = inl (begins s level end bytes (opcode, rest) _ h o refl)
 
-pub source_sound : (s : Source) (level end : ℕ) (bytes : List ℕ) → Position s.depth level s.code end bytes → Judge (Read s level end SpellsTermName bytes) (Bad s) (source_at end bytes)
+pub source_sound : (s : Source) (level end : ℕ) (bytes : List ℕ) → MustBegin source_arg s.code (end - length bytes) → Position s.depth level s.code end bytes
+    → Judge (Read s level end SpellsTermName bytes) (Bad s) (source_at end bytes)
 unfolding source_at
-source_sound s level end bytes h =
+source_sound s level end bytes must h =
     judge_bind (Opened bytes) (Read s level end SpellsTermName bytes) (Bad s) (part (opcode_at end bytes)) _
-    (part_sound s (Opened bytes) (opcode_at end bytes) (opcode_sound s level end bytes h)) (λ x o. source_by_sound s level end x.0 bytes x.1 h o)
+    (part_sound s (Opened bytes) (opcode_at end bytes) (opcode_sound s level end bytes h)) (λ x o. source_by_sound s level end x.0 bytes x.1 must h o)

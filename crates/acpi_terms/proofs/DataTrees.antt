@@ -16,7 +16,7 @@ use Rattle.acpi_terms.specs.Spelling.{SpellsData, SpellsElem, SpellsElems, data_
 use Rattle.acpi_terms.specs.steps.Reading.{Fault, bytes_in, data_by, elems_with, elem_at, data_at, string_data, buffer_data, package_data, var_package_data, elem_by, part}
 use Rattle.acpi_tree.specs.Tree.{DataTree, int, str, buffer, pkg, var_pkg, ElemTree, of_data, of_name, ElemTrees, no_elems, elem, elems_of}
 use Rattle.acpi_code.proofs.Constants.{form_of, int_long, int_opens, whole_constant}
-use Rattle.acpi_code.proofs.Strings.{string_complete, string_sound}
+use Rattle.acpi_code.proofs.Strings.{string_complete, after_prefix, string_sound}
 use Rattle.acpi_code.proofs.Readings.{Judge, judge_bind, judge_up, Position, Source, Read, position_after, position_deeper, read_as, read_behind}
 use Rattle.acpi_terms.proofs.Parts.{Bad, deep_bad, part_sound}
 use Rattle.acpi_code.specs.declared.opcode.Opcode.TheVariants as opcodes
@@ -203,22 +203,23 @@ data_by_sound s level end opcodes.Str bytes rest inner h o =
     let is = opens_with bytes opcodes.Str rest (13 ∷ []) o (o.told.1) in
     read_behind (Bad s) s (suc level) end (λ d a. DataWithin (suc level) d (13 ∷ a)) (DataWithin (suc level)) bytes (13 ∷ []) rest (string_data end rest) is (λ d a k. k)
     (read_as (Bad s) s (suc level) end SpellsText (λ d a. DataWithin (suc level) d (13 ∷ a)) (λ text. str text) rest (part (string_at end rest)) (λ text a k. ((a, k, refl), omega arith))
-    (part_sound s (Read s (suc level) end SpellsText rest) (string_at end rest) (string_sound s (suc level) end rest (position_after s (suc level) end bytes (13 ∷ []) rest is h))))
+    (part_sound s (Read s (suc level) end SpellsText rest) (string_at end rest) (string_sound s (suc level) end rest
+    (after_prefix s (suc level) end bytes rest is h) (position_after s (suc level) end bytes (13 ∷ []) rest is h))))
 data_by_sound s level end opcodes.Buffer bytes rest inner h o =
     let is = opens_with bytes opcodes.Buffer rest (17 ∷ []) o (o.told.1) in
     judge_up (Bad s) s level end (DataWithin (suc level)) bytes (buffer_data level end rest)
-    (packed_sound s level end level (int_arg ∷ []) (λ v content. buffer v.0 content) bytes_in (λ content b. b ≡ content) (DataWithin (suc level)) bytes (17 ∷ []) rest is (inr refl)
-    (λ v x front a b k le fills p. ((a, b, k, fills, p), omega (arith, le))) (λ end b k. bytes_sound s level end b k) (position_deeper s level end bytes (17 ∷ []) rest is (omega arith) h))
+    (packed_sound s level end opcodes.Buffer (λ v content. buffer v.0 content) bytes_in (λ content b. b ≡ content) (DataWithin (suc level)) bytes rest refl (omega arith) is
+    (λ v x front a b k le fills p. ((a, b, k, fills, p), omega (arith, le))) (λ end b w k. bytes_sound s level end b k) h)
 data_by_sound s level end opcodes.Package bytes rest inner h o =
     let is = opens_with bytes opcodes.Package rest (18 ∷ []) o (o.told.1) in
     judge_up (Bad s) s level end (DataWithin (suc level)) bytes (package_data (elems_with (elem_at level)) level end rest)
-    (packed_sound s level end level (byte_arg ∷ []) (λ v es. pkg v.0 es) (elems_with (elem_at level)) (ElemsWithin level) (DataWithin (suc level)) bytes (18 ∷ []) rest is (inr refl)
-    (λ v x front a b k le fills p. ((a, b, k, fills.0, p), omega (arith, fills.1))) inner (position_deeper s level end bytes (18 ∷ []) rest is (omega arith) h))
+    (packed_sound s level end opcodes.Package (λ v es. pkg v.0 es) (elems_with (elem_at level)) (ElemsWithin level) (DataWithin (suc level)) bytes rest refl (omega arith) is
+    (λ v x front a b k le fills p. ((a, b, k, fills.0, p), omega (arith, fills.1))) (λ end b w k. inner end b k) h)
 data_by_sound s level end opcodes.VarPackage bytes rest inner h o =
     let is = opens_with bytes opcodes.VarPackage rest (19 ∷ []) o (o.told.1) in
     judge_up (Bad s) s level end (DataWithin (suc level)) bytes (var_package_data (elems_with (elem_at level)) level end rest)
-    (packed_sound s level end level (int_arg ∷ []) (λ v es. var_pkg v.0 es) (elems_with (elem_at level)) (ElemsWithin level) (DataWithin (suc level)) bytes (19 ∷ []) rest is (inr refl)
-    (λ v x front a b k le fills p. ((a, b, k, fills.0, p), omega (arith, le, fills.1))) inner (position_deeper s level end bytes (19 ∷ []) rest is (omega arith) h))
+    (packed_sound s level end opcodes.VarPackage (λ v es. var_pkg v.0 es) (elems_with (elem_at level)) (ElemsWithin level) (DataWithin (suc level)) bytes rest refl (omega arith) is
+    (λ v x front a b k le fills p. ((a, b, k, fills.0, p), omega (arith, le, fills.1))) (λ end b w k. inner end b k) h)
 data_by_sound s level end opcode bytes rest inner h o = begins s (suc level) end bytes (opcode, rest) _ h o refl
 
 elem_by_sound : (s : Source) (level end : ℕ) (opcode : Opcode) (bytes rest : List ℕ) → InnerSound s level → Position s.depth (suc level) s.code end bytes → Opened bytes (opcode, rest)

@@ -1,5 +1,5 @@
 -- Items: what is spelled is read, what is read is spelled, or the fault is true.
-use Rattle.std.proofs.Common.{◌≡◌, ℕ, zero, suc, ◌-◌, ◌≤◌, ◌<◌, true, List, [], ◌∷◌, ◌++◌, length, Result, Ok, refl, ap, ◌∙◌, append_assoc, arith, ◌+◌, Err, sym, subst, append-nil, inl, inr}
+use Rattle.std.proofs.Common.{◌≡◌, ℕ, zero, suc, ◌-◌, ◌≤◌, ◌<◌, true, false, List, [], ◌∷◌, ◌++◌, length, Result, Ok, refl, ap, ◌∙◌, append_assoc, arith, ◌+◌, Err, sym, subst, append-nil, inl, inr}
 use Rattle.acpi_name.specs.Names.{NameParts}
 use Rattle.acpi_code.specs.declared.opcode.Opcode.{Opcode}
 use Rattle.acpi_tree.specs.declared.tree.Width.{Width}
@@ -7,11 +7,12 @@ use Rattle.acpi_tree.specs.Tree.{DataTree, ExternalParts, ItemTree, name, scope,
 use Rattle.acpi_code.proofs.Lists.{AreAll, none_left, one_more, all_at, all_sound}
 use Rattle.acpi_code.proofs.Names.{name_in_complete, name_sound}
 use Rattle.acpi_code.proofs.Opcodes.{opens, Opened, opcode_sound}
-use Rattle.acpi_code.proofs.Packages.{package_complete, GoodPackage, package_sound}
+use Rattle.acpi_code.specs.Faults.{has_package}
+use Rattle.acpi_code.proofs.Packages.{package_complete, GoodPackage, package_sound, deeper_package}
 use Rattle.acpi_code.specs.Opcodes.{width_bytes, opcode_bytes, is_spelled}
 use Rattle.acpi_code.specs.Spelling.{SpellsEach, Packs}
 use Rattle.acpi_code.specs.steps.Reading.{◌>>=◌, opcode_at, name_in, Package, package_at, each_at}
-use Rattle.acpi_terms.proofs.Arguments.{arguments_height, plain_complete, packed_complete, plain_sound, packed_sound}
+use Rattle.acpi_terms.proofs.Arguments.{arguments_height, plain_complete, packed_complete, awaits_all, plain_sound, packed_sound}
 use Rattle.acpi_terms.proofs.DataTrees.{data_complete, DataWithin, data_sound, opens_with}
 use Rattle.acpi_terms.proofs.Fields.{fields_complete, fields_sound}
 use Rattle.acpi_code.specs.Fields.{SpellsFields}
@@ -25,7 +26,7 @@ use Rattle.acpi_terms.specs.declared.fault.ItemReason.{ItemReason}
 use Rattle.acpi_terms.specs.declared.fault.ItemReason.TheVariants.{BadOpcode, Alias, ModuleIf, ModuleCode, Load, TooDeep, DataRegion}
 use Rattle.acpi_code.proofs.Readings.{Judge, judge_bind, judge_up, Position, Source, Read, stands_at, position_after, position_deeper, read_as}
 use Rattle.acpi_terms.proofs.Parts.{Bad, deep_bad, part_sound, refused}
-use Rattle.acpi_terms.specs.Faults.{Shows}
+use Rattle.acpi_terms.specs.Faults.{Awaits, Shows}
 use Rattle.acpi_code.specs.declared.opcode.Opcode.TheVariants as opcodes
 use Rattle.acpi_tree.specs.declared.tree.Width.TheVariants as widths
 
@@ -219,11 +220,11 @@ inner_sound s level one end bytes h =
     judge_bind (λ is. SpellsEach (ItemWithin level) is bytes) (λ is. ItemsWithin level is bytes) (Bad s) (each_at (item_at level end) bytes) _
     (all_sound s level end (ItemWithin level) (Bad s) (item_at level end) (λ i a k. item_long i a k.0) (one end) bytes h) (λ is k. items_within level is bytes k)
 
-block_sound : (s : Source) (level end : ℕ) (bytes rest : List ℕ) → bytes ≡ 160 ∷ rest → Position s.depth (suc level) s.code end bytes → Position s.depth level s.code end rest
+block_sound : (s : Source) (level end : ℕ) (bytes rest : List ℕ) → bytes ≡ 160 ∷ rest → Position s.depth (suc level) s.code end bytes
     → Judge (Read s level end (ItemWithin (suc level)) bytes) (Bad s) (block_item level end bytes rest)
-block_sound s level end bytes rest is h behind =
+block_sound s level end bytes rest is h =
     judge_bind (GoodPackage s level end rest) G (Bad s) (part (package_at end rest)) _
-    (part_sound s (GoodPackage s level end rest) (package_at end rest) (package_sound s level end rest behind)) (λ p g.
+    (part_sound s (GoodPackage s level end rest) (package_at end rest) (package_sound s level end rest (deeper_package s level end opcodes.If bytes rest refl is (omega arith) h))) (λ p g.
     by_content p g (block_content level p.end p.content) refl (content_sound s level p.end p.content g.1))
   where
     G : ItemTree × List ℕ → Type 0
@@ -272,29 +273,28 @@ name_item_sound s level end bytes rest is h =
     (record { front = 8 ∷ (t.front ++ u.front); spells = ((t.front, u.front, t.spells, u.spells.0, refl), omega (arith, u.spells.1)); whole = rw (is, t.whole, u.whole) (simp append_assoc) }, q.1)))
 
 plain_form : (s : Source) (level end : ℕ) (opcode : Opcode) (made : ArgumentsOf opcode → ItemTree) (bytes rest : List ℕ)
-    (o : Opened bytes (opcode, rest)) → o.front ≡ opcode_bytes opcode → Position s.depth (suc level) s.code end bytes
+    (o : Opened bytes (opcode, rest)) → has_package opcode ≡ false → o.front ≡ opcode_bytes opcode → Position s.depth (suc level) s.code end bytes
     → ((v : ArgumentsOf opcode) (front : List ℕ) → SpellsForm opcode v front → arguments_height (arguments opcode) ≤ level → ItemWithin (suc level) (made v) front)
     → Judge (Read s (suc level) end (ItemWithin (suc level)) bytes) (Bad s) (plain_at (arguments opcode) made level end rest)
-plain_form s level end opcode made bytes rest o told h spells =
+plain_form s level end opcode made bytes rest o plain told h spells =
     let is = opens_with bytes opcode rest (opcode_bytes opcode) o told in
     let some : 0 < length (opcode_bytes opcode) = rw (sym told) o.some in
     judge_up (Bad s) s level end (ItemWithin (suc level)) bytes (plain_at (arguments opcode) made level end rest)
-    (plain_sound s level end level (arguments opcode) made (ItemWithin (suc level)) bytes (opcode_bytes opcode) rest is (inr refl) spells
-    (position_deeper s level end bytes (opcode_bytes opcode) rest is some h))
+    (plain_sound s level end level opcode made (ItemWithin (suc level)) bytes rest is (inr refl) spells
+    (awaits_all s (suc level) end opcode bytes rest plain is h) (position_deeper s level end bytes (opcode_bytes opcode) rest is some h))
 
 packed_form : {X : Type 0} (s : Source) (level end : ℕ) (opcode : Opcode) (made : ArgumentsOf opcode → X → ItemTree)
     (inner : ℕ → List ℕ → Result X Fault) (Fills : X → List ℕ → Type 0) (bytes rest : List ℕ)
-    (o : Opened bytes (opcode, rest)) → o.front ≡ opcode_bytes opcode → Position s.depth (suc level) s.code end bytes
+    (o : Opened bytes (opcode, rest)) → has_package opcode ≡ true → o.front ≡ opcode_bytes opcode → Position s.depth (suc level) s.code end bytes
     → ((v : ArgumentsOf opcode) (x : X) (front a b : List ℕ) → SpellsArguments (arguments opcode) v a → arguments_height (arguments opcode) ≤ level
     → Fills x b → Packs (opcode_bytes opcode) (a ++ b) front → ItemWithin (suc level) (made v x) front)
-    → ((end : ℕ) (b : List ℕ) → Position s.depth level s.code end b → Judge (λ x. Fills x b) (Bad s) (inner end b))
+    → ((end : ℕ) (b : List ℕ) → Awaits opcode [] s.code (end - length b) → Position s.depth level s.code end b → Judge (λ x. Fills x b) (Bad s) (inner end b))
     → Judge (Read s (suc level) end (ItemWithin (suc level)) bytes) (Bad s) (packed_at (arguments opcode) made level inner end rest)
-packed_form s level end opcode made inner Fills bytes rest o told h spells fills =
+packed_form s level end opcode made inner Fills bytes rest o packs told h spells fills =
     let is = opens_with bytes opcode rest (opcode_bytes opcode) o told in
     let some : 0 < length (opcode_bytes opcode) = rw (sym told) o.some in
     judge_up (Bad s) s level end (ItemWithin (suc level)) bytes (packed_at (arguments opcode) made level inner end rest)
-    (packed_sound s level end level (arguments opcode) made inner Fills (ItemWithin (suc level)) bytes (opcode_bytes opcode) rest is (inr refl) spells
-    fills (position_deeper s level end bytes (opcode_bytes opcode) rest is some h))
+    (packed_sound s level end opcode made inner Fills (ItemWithin (suc level)) bytes rest packs some is spells fills h)
 
 item_by_sound : (s : Source) (level end : ℕ) (opcode : Opcode) (bytes rest : List ℕ) → InnerSound s level → Position s.depth (suc level) s.code end bytes → Opened bytes (opcode, rest)
     → Judge (Read s (suc level) end (ItemWithin (suc level)) bytes) (Bad s) (item_by (items_with (item_at level)) level end bytes opcode rest)
@@ -303,52 +303,52 @@ item_by_sound s level end opcodes.DeclareName bytes rest inner h o =
     judge_up (Bad s) s level end (ItemWithin (suc level)) bytes (name_item level end rest)
     (name_item_sound s level end bytes rest is (position_deeper s level end bytes (8 ∷ []) rest is (omega arith) h))
 item_by_sound s level end opcodes.Scope bytes rest inner h o =
-    packed_form s level end opcodes.Scope (λ v is. scope v.0 is) (items_with (item_at level)) (ItemsWithin level) bytes rest o o.told.1 h
-    (λ v x front a b k le fills p. ((a, b, k, fills.0, p), omega (arith, fills.1))) inner
+    packed_form s level end opcodes.Scope (λ v is. scope v.0 is) (items_with (item_at level)) (ItemsWithin level) bytes rest o refl o.told.1 h
+    (λ v x front a b k le fills p. ((a, b, k, fills.0, p), omega (arith, fills.1))) (λ end b w k. inner end b k)
 item_by_sound s level end opcodes.Method bytes rest inner h o =
-    packed_form s level end opcodes.Method (λ v code. method v.0 v.1.0 code) bytes_in (λ code b. b ≡ code) bytes rest o o.told.1 h
-    (λ v x front a b k le fills p. ((a, b, k, fills, p), omega arith)) (λ end b k. refl)
+    packed_form s level end opcodes.Method (λ v code. method v.0 v.1.0 code) bytes_in (λ code b. b ≡ code) bytes rest o refl o.told.1 h
+    (λ v x front a b k le fills p. ((a, b, k, fills, p), omega arith)) (λ end b w k. refl)
 item_by_sound s level end opcodes.External bytes rest inner h o =
     let is = opens_with bytes opcodes.External rest (21 ∷ []) o o.told.1 in
     read_as (Bad s) s (suc level) end SpellsExternal (ItemWithin (suc level)) (λ x. external x) bytes (parts_at end rest) (λ x a k. (k, omega arith))
-    (parts_sound s (suc level) end bytes rest is (position_after s (suc level) end bytes (21 ∷ []) rest is h))
+    (parts_sound s (suc level) end bytes rest is h)
 item_by_sound s level end opcodes.If bytes rest inner h o =
     let is = opens_with bytes opcodes.If rest (160 ∷ []) o o.told.1 in
     judge_up (Bad s) s level end (ItemWithin (suc level)) bytes (block_item level end bytes rest)
-    (block_sound s level end bytes rest is h (position_deeper s level end bytes (160 ∷ []) rest is (omega arith) h))
+    (block_sound s level end bytes rest is h)
 item_by_sound s level end (opcodes.Create w) bytes rest inner h o =
-    plain_form s level end (opcodes.Create w) (λ v. create w v.0 v.1.0 v.1.1.0) bytes rest o o.told.1 h (λ v front k le. (k, omega (arith, le)))
+    plain_form s level end (opcodes.Create w) (λ v. create w v.0 v.1.0 v.1.1.0) bytes rest o refl o.told.1 h (λ v front k le. (k, omega (arith, le)))
 item_by_sound s level end opcodes.CreateField bytes rest inner h o =
-    plain_form s level end opcodes.CreateField (λ v. create_field v.0 v.1.0 v.1.1.0 v.1.1.1.0) bytes rest o o.told.1 h
+    plain_form s level end opcodes.CreateField (λ v. create_field v.0 v.1.0 v.1.1.0 v.1.1.1.0) bytes rest o refl o.told.1 h
     (λ v front k le. (k, omega (arith, le)))
 item_by_sound s level end opcodes.Mutex bytes rest inner h o =
-    plain_form s level end opcodes.Mutex (λ v. mutex v.0 v.1.0) bytes rest o o.told.1 h (λ v front k le. (k, omega arith))
+    plain_form s level end opcodes.Mutex (λ v. mutex v.0 v.1.0) bytes rest o refl o.told.1 h (λ v front k le. (k, omega arith))
 item_by_sound s level end opcodes.Event bytes rest inner h o =
-    plain_form s level end opcodes.Event (λ v. event v.0) bytes rest o o.told.1 h (λ v front k le. (k, omega arith))
+    plain_form s level end opcodes.Event (λ v. event v.0) bytes rest o refl o.told.1 h (λ v front k le. (k, omega arith))
 item_by_sound s level end opcodes.Region bytes rest inner h o =
-    plain_form s level end opcodes.Region (λ v. region v.0 v.1.0 v.1.1.0 v.1.1.1.0) bytes rest o o.told.1 h
+    plain_form s level end opcodes.Region (λ v. region v.0 v.1.0 v.1.1.0 v.1.1.1.0) bytes rest o refl o.told.1 h
     (λ v front k le. (k, omega (arith, le)))
 item_by_sound s level end opcodes.Field bytes rest inner h o =
-    packed_form s level end opcodes.Field (λ v es. field v.0 v.1.0 es) fields_in (λ es b. SpellsFields es b) bytes rest o o.told.1 h
-    (λ v x front a b k le fills p. ((a, b, k, fills, p), omega arith)) (λ end b k. fields_sound s level end b k)
+    packed_form s level end opcodes.Field (λ v es. field v.0 v.1.0 es) fields_in (λ es b. SpellsFields es b) bytes rest o refl o.told.1 h
+    (λ v x front a b k le fills p. ((a, b, k, fills, p), omega arith)) (λ end b w k. fields_sound s level end opcodes.Field b refl w k)
 item_by_sound s level end opcodes.IndexField bytes rest inner h o =
-    packed_form s level end opcodes.IndexField (λ v es. index_field v.0 v.1.0 v.1.1.0 es) fields_in (λ es b. SpellsFields es b) bytes rest o o.told.1 h
-    (λ v x front a b k le fills p. ((a, b, k, fills, p), omega arith)) (λ end b k. fields_sound s level end b k)
+    packed_form s level end opcodes.IndexField (λ v es. index_field v.0 v.1.0 v.1.1.0 es) fields_in (λ es b. SpellsFields es b) bytes rest o refl o.told.1 h
+    (λ v x front a b k le fills p. ((a, b, k, fills, p), omega arith)) (λ end b w k. fields_sound s level end opcodes.IndexField b refl w k)
 item_by_sound s level end opcodes.BankField bytes rest inner h o =
-    packed_form s level end opcodes.BankField (λ v es. bank_field v.0 v.1.0 v.1.1.0 v.1.1.1.0 es) fields_in (λ es b. SpellsFields es b) bytes rest o o.told.1 h
-    (λ v x front a b k le fills p. ((a, b, k, fills, p), omega (arith, le))) (λ end b k. fields_sound s level end b k)
+    packed_form s level end opcodes.BankField (λ v es. bank_field v.0 v.1.0 v.1.1.0 v.1.1.1.0 es) fields_in (λ es b. SpellsFields es b) bytes rest o refl o.told.1 h
+    (λ v x front a b k le fills p. ((a, b, k, fills, p), omega (arith, le))) (λ end b w k. fields_sound s level end opcodes.BankField b refl w k)
 item_by_sound s level end opcodes.Device bytes rest inner h o =
-    packed_form s level end opcodes.Device (λ v is. device v.0 is) (items_with (item_at level)) (ItemsWithin level) bytes rest o o.told.1 h
-    (λ v x front a b k le fills p. ((a, b, k, fills.0, p), omega (arith, fills.1))) inner
+    packed_form s level end opcodes.Device (λ v is. device v.0 is) (items_with (item_at level)) (ItemsWithin level) bytes rest o refl o.told.1 h
+    (λ v x front a b k le fills p. ((a, b, k, fills.0, p), omega (arith, fills.1))) (λ end b w k. inner end b k)
 item_by_sound s level end opcodes.Processor bytes rest inner h o =
-    packed_form s level end opcodes.Processor (λ v is. processor v.0 v.1.0 v.1.1.0 v.1.1.1.0 is) (items_with (item_at level)) (ItemsWithin level) bytes rest o o.told.1 h
-    (λ v x front a b k le fills p. ((a, b, k, fills.0, p), omega (arith, fills.1))) inner
+    packed_form s level end opcodes.Processor (λ v is. processor v.0 v.1.0 v.1.1.0 v.1.1.1.0 is) (items_with (item_at level)) (ItemsWithin level) bytes rest o refl o.told.1 h
+    (λ v x front a b k le fills p. ((a, b, k, fills.0, p), omega (arith, fills.1))) (λ end b w k. inner end b k)
 item_by_sound s level end opcodes.Power bytes rest inner h o =
-    packed_form s level end opcodes.Power (λ v is. power v.0 v.1.0 v.1.1.0 is) (items_with (item_at level)) (ItemsWithin level) bytes rest o o.told.1 h
-    (λ v x front a b k le fills p. ((a, b, k, fills.0, p), omega (arith, fills.1))) inner
+    packed_form s level end opcodes.Power (λ v is. power v.0 v.1.0 v.1.1.0 is) (items_with (item_at level)) (ItemsWithin level) bytes rest o refl o.told.1 h
+    (λ v x front a b k le fills p. ((a, b, k, fills.0, p), omega (arith, fills.1))) (λ end b w k. inner end b k)
 item_by_sound s level end opcodes.Thermal bytes rest inner h o =
-    packed_form s level end opcodes.Thermal (λ v is. thermal v.0 is) (items_with (item_at level)) (ItemsWithin level) bytes rest o o.told.1 h
-    (λ v x front a b k le fills p. ((a, b, k, fills.0, p), omega (arith, fills.1))) inner
+    packed_form s level end opcodes.Thermal (λ v is. thermal v.0 is) (items_with (item_at level)) (ItemsWithin level) bytes rest o refl o.told.1 h
+    (λ v x front a b k le fills p. ((a, b, k, fills.0, p), omega (arith, fills.1))) (λ end b w k. inner end b k)
 item_by_sound s level end opcodes.Nothing bytes rest inner h o = refused s (suc level) end bytes (opcodes.Nothing, rest) BadOpcode h o refl
 item_by_sound s level end opcodes.Alias bytes rest inner h o = refused s (suc level) end bytes (opcodes.Alias, rest) Alias h o refl
 item_by_sound s level end opcodes.Else bytes rest inner h o = inl (refused s (suc level) end bytes (opcodes.Else, rest) ModuleIf h o refl)
@@ -370,4 +370,4 @@ pub code_sound : (depth : ℕ) (code : List ℕ) → Judge (λ is. ItemsWithin d
 code_sound depth code =
     let s : Source = record { depth = depth; code = code } in
     inner_sound s depth (λ end bytes k. item_sound s depth end bytes k) (length code) code
-    (record { before = []; after = []; whole = sym (append-nil code); ends = omega arith; start = 0; is_list = inl (refl, refl); begun = omega arith; deep = omega arith })
+    (record { before = []; after = []; whole = sym (append-nil code); ends = omega arith; start = 0; is_list = (0, (refl, refl)); begun = omega arith; deep = omega arith })

@@ -10,7 +10,7 @@ use Rattle.acpi_code.specs.declared.fault.CodeReason.TheVariants as codes
 use Rattle.acpi_code.specs.declared.opcode.Opcode.{Opcode}
 use Rattle.acpi_code.specs.declared.opcode.Opcode.TheVariants as opcodes
 use Rattle.acpi_code.specs.Opcodes.{first_opcode}
-use Rattle.acpi_code.specs.Faults.{ShowsPart}
+use Rattle.acpi_code.specs.Faults.{ShowsPart, ShowsConstant, ShowsElementPart, IsElementOf}
 use Rattle.acpi_code.specs.steps.Left.{Left}
 use Rattle.acpi_code.specs.steps.Reading.{◌>>=◌, Reading, with_fault, each_at, fault_at, no_level}
 use Rattle.acpi_code.specs.steps.Cursor.{Stops}
@@ -80,7 +80,7 @@ deep_bad s end bytes h = part_bad s (no_level end bytes) (no_level_shows s end b
 pub part_sound : {A : Type 0} (s : Source) (Good : A → Type 0) (r : Result A CodeFault) → Judge Good (Shown s) r → Judge Good (Bad s) (part r)
 part_sound s Good r h = judge_told Good (Shown s) (Bad s) part_fault r (part_bad s) h
 
-constant_bad : (s : Source) (f : ConstantFault) → NoConstant s f → Bad s (constant_fault f)
+pub constant_bad : (s : Source) (f : ConstantFault) → NoConstant s f → Bad s (constant_fault f)
 constant_bad s (Part f) h = part_bad s f h
 constant_bad s (NotConstant opcodes.Nothing place) h = (opcodes.Nothing, h.0, refl)
 constant_bad s (NotConstant (opcodes.Constant form) place) h = absurd cc

@@ -1,5 +1,5 @@
 -- What the readers of one part at the front of some bytes ensure.
-use Rattle.std.proofs.Common.{◌≡◌, ℕ, ◌-◌, ◌≤◌, ◌<◌, List, [], ◌++◌, length, take, drop, Option, Some, None, Result, Ok, Err, refl, sym, ap, subst, ◌∙◌, arith, inl}
+use Rattle.std.proofs.Common.{◌≡◌, ℕ, ◌-◌, ◌≤◌, ◌<◌, List, [], ◌++◌, length, take, drop, Option, Some, None, Result, Ok, Err, refl, sym, ap, subst, ◌∙◌, arith}
 use Rattle.std.proofs.lemmas.List.{length-append, length-drop, append-nil}
 use Rattle.std.proofs.Math.Seq.{take-append_seam, drop-append_seam}
 use Rattle.std.specs.Prelude.{IfOk, IfErr, IfSome, option_map}
@@ -10,17 +10,19 @@ use Rattle.acpi_tree.specs.Tree.{FieldTree}
 use Rattle.acpi_code.proofs.Readings.{Judge, Front, Position, Source, Read}
 use Rattle.acpi_code.specs.Spelling.{SpellsInt}
 use Rattle.acpi_terms.proofs.Constants.{const_complete, const_sound}
-use Rattle.acpi_terms.proofs.Fields.{field_complete, field_sound}
+use Rattle.acpi_terms.proofs.Fields.{field_complete}
 use Rattle.acpi_terms.proofs.Parts.{Bad}
-use Rattle.acpi_terms.specs.Faults.{OrMemory, Shows, ToldOfElem}
+use Rattle.acpi_terms.specs.Faults.{constant_fault_of, OrMemory, ToldOfElem}
 use Rattle.acpi_code.specs.Fields.{SpellsField}
 use Rattle.acpi_code.specs.steps.Fields as codes
-use Rattle.acpi_code.proofs.Constants.{NoConstant}
+use Rattle.acpi_code.specs.declared.fault.ConstantFault.{ConstantFault}
+use Rattle.acpi_code.specs.declared.fault.ConstantFault.TheVariants.{Part, NotConstant}
+use Rattle.acpi_code.specs.steps.Reading.{with_fault}
+use Rattle.acpi_code.specs.Faults.{ShowsElement}
+use Rattle.acpi_code.proofs.Fields.{ElementBad}
 use Rattle.acpi_code.proofs.Fields as fields
 use Rattle.acpi_terms.specs.steps.Cursor.{Gives}
-use Rattle.acpi_terms.specs.steps.Reading.{Fault, found, const_at, field_at, int_front}
-use Rattle.acpi_terms.specs.declared.fault.ItemReason.{ItemReason}
-use Rattle.acpi_terms.specs.declared.fault.ItemReason.TheVariants.{TooDeep}
+use Rattle.acpi_terms.specs.steps.Reading.{Fault, constant_fault, stopped, found, const_at, field_at, int_front}
 
 -- the bytes as a code of their own
 -- as many levels as there are bytes, so that none is lacking
@@ -28,7 +30,7 @@ abbrev pub Whole : List ℕ → Source
 Whole bytes = record { depth = length bytes; code = bytes }
 
 pub whole_position : (bytes : List ℕ) → Position (length bytes) (length bytes) bytes (length bytes) bytes
-whole_position bytes = record { before = []; after = []; whole = sym (append-nil bytes); ends = omega arith; start = 0; is_list = inl (refl, refl); begun = omega arith; deep = omega arith }
+whole_position bytes = record { before = []; after = []; whole = sym (append-nil bytes); ends = omega arith; start = 0; is_list = (0, (refl, refl)); begun = omega arith; deep = omega arith }
 
 -- what stands before the last bytes of a list
 front_is : (bytes front : List ℕ) (used : ℕ) → used ≤ length bytes → bytes ≡ front ++ drop used bytes → front ≡ take used bytes
@@ -96,12 +98,30 @@ int_only_law bytes result e used i front rest s whole = by_result result e used
 
 -- ---- field elements
 
+-- what the first element's fault shows
+abbrev FirstBad : List ℕ → ConstantFault → Type 0
+FirstBad bytes = ElementBad (Whole bytes) (length bytes - length bytes)
+
+abbrev FirstRead : List ℕ → FieldTree × List ℕ → Type 0
+FirstRead bytes = Read (Whole bytes) (length bytes) (length bytes) SpellsField bytes
+
+first_judged : (bytes : List ℕ) → Judge (FirstRead bytes) (FirstBad bytes) (codes.field_at (length bytes) bytes)
+first_judged bytes = fields.field_sound (Whole bytes) (length bytes) (length bytes) bytes (whole_position bytes)
+
+told_as : (f : ConstantFault) → stopped (constant_fault f) ≡ constant_fault_of f
+told_as (Part f) = refl
+told_as (NotConstant opcode place) = refl
+
 pub elem_found_law : {V : Type 0} (view : V → FieldTree) (bytes : List ℕ) (result : Result (V × ℕ) ItemFault) → Gives (λ x. (view x.0, drop x.1 bytes)) result (field_at (length bytes) bytes)
     → IfOk result (λ x. (0 < x.1) × (x.1 ≤ length bytes)) → IfOk result (λ x. SpellsField (view x.0) (take x.1 bytes))
-elem_found_law view bytes (Ok x) h used =
-    let j : Read (Whole bytes) (length bytes) (length bytes) SpellsField bytes (view x.0, drop x.1 bytes) =
-    subst (Judge (Read (Whole bytes) (length bytes) (length bytes) SpellsField bytes) (Bad (Whole bytes))) h (field_sound (Whole bytes) (length bytes) (length bytes) bytes (whole_position bytes)) in
-    took_front SpellsField bytes (view x.0) x.1 used.1 j.0
+elem_found_law view bytes (Ok x) h used = by_reading (codes.field_at (length bytes) bytes) (first_judged bytes) h
+  where
+    by_reading : (r : Result (FieldTree × List ℕ) ConstantFault) → Judge (FirstRead bytes) (FirstBad bytes) r → with_fault constant_fault r ≡ done (view x.0, drop x.1 bytes)
+        → SpellsField (view x.0) (take x.1 bytes)
+    by_reading (Ok y) j e =
+        let pair : y ≡ (view x.0, drop x.1 bytes) = cc in
+        took_front SpellsField bytes (view x.0) x.1 used.1 (subst (FirstRead bytes) pair j).0
+    by_reading (Err f) j e = absurd cc
 elem_found_law view bytes (Err e) h used = tt
 
 pub elem_only_law : {V : Type 0} (view : V → FieldTree) (bytes : List ℕ) (result : Result (V × ℕ) ItemFault) → Gives (λ x. (view x.0, drop x.1 bytes)) result (field_at (length bytes) bytes)
@@ -118,17 +138,22 @@ elem_only_law view bytes (Err (errors.At why place)) h used e front rest s whole
     let no : done (e, rest) ≡ Err (record { reason = why; place = place }) = sym r ∙ h in
     cc
 
-no_level_told : (bytes : List ℕ) (why : ItemReason) (place : ℕ) → Shows (length bytes) bytes why place → ToldOfElem bytes (errors.At why place)
-no_level_told bytes TooDeep place h = absurd (omega arith)
-no_level_told bytes why place h = h
-
 pub elem_faults_law : {V : Type 0} (view : V → FieldTree) (bytes : List ℕ) (result : Result (V × ℕ) ItemFault)
     → Gives (λ x. (view x.0, drop x.1 bytes)) result (field_at (length bytes) bytes) → IfErr result (λ e. ToldOfElem bytes e)
 elem_faults_law view bytes (Ok x) h = tt
 elem_faults_law view bytes (Err errors.Memory) h = tt
-elem_faults_law view bytes (Err (errors.At why place)) h =
-    no_level_told bytes why place (subst (Judge (Read (Whole bytes) (length bytes) (length bytes) SpellsField bytes) (Bad (Whole bytes))) h
-    (field_sound (Whole bytes) (length bytes) (length bytes) bytes (whole_position bytes)))
+elem_faults_law view bytes (Err (errors.At why place)) h = by_reading (codes.field_at (length bytes) bytes) (first_judged bytes) h
+  where
+    failed : Fault → Result (FieldTree × List ℕ) Fault
+    failed f = Err f
+
+    by_reading : (r : Result (FieldTree × List ℕ) ConstantFault) → Judge (FirstRead bytes) (FirstBad bytes) r → with_fault constant_fault r ≡ Err (record { reason = why; place = place })
+        → ToldOfElem bytes (errors.At why place)
+    by_reading (Ok y) j e = absurd cc
+    by_reading (Err f) j e =
+        let same : constant_fault f ≡ record { reason = why; place = place } = cc in
+        let first : length bytes - length bytes ≡ 0 = omega arith in
+        (f, sym (told_as f) ∙ ap stopped same, subst (λ k. ShowsElement (λ n. n ≡ k) bytes f) first j)
 
 -- ---- by what is left behind them
 
@@ -141,6 +166,5 @@ int_exact bytes rest i h =
 pub elem_exact : (bytes rest : List ℕ) (x : FieldTree) → codes.field_at (length bytes) bytes ≡ Ok (x, rest) → field_at (length bytes) bytes ≡ Ok (x, drop (length bytes - length rest) bytes)
 elem_exact bytes rest x h =
     let j : Read (Whole bytes) (length bytes) (length bytes) SpellsField bytes (x, rest) =
-    subst (Judge (Read (Whole bytes) (length bytes) (length bytes) SpellsField bytes) (NoConstant (Whole bytes))) h
-    (fields.field_sound (Whole bytes) (length bytes) (length bytes) bytes (whole_position bytes)) in
+    subst (Judge (FirstRead bytes) (FirstBad bytes)) h (first_judged bytes) in
     rw (h, behind_is bytes j.0.front rest j.0.whole) refl

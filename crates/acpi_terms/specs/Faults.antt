@@ -1,5 +1,5 @@
 -- What a fault shows of the code (ACPI 6.5, 20.2).
-use Rattle.std.specs.Prelude.{◌≡◌, ◌⊎◌, ◌+◌, ◌<◌, ℕ, true, false, Bool, Option, Some, None, List, ◌∷◌, ◌++◌, length, drop, Result, Ok, Err}
+use Rattle.std.specs.Prelude.{◌≡◌, ◌⊎◌, ◌+◌, ◌<◌, ℕ, true, false, Bool, Option, Some, None, List, [], ◌∷◌, ◌++◌, length, drop, Result, Ok, Err}
 use Rattle.acpi_table.specs.PkgLength.{SpellsPkgLength}
 use Rattle.acpi_tree.specs.Tree.{ExternalParts}
 use Rattle.acpi_code.specs.declared.opcode.Opcode.{Opcode}
@@ -11,14 +11,15 @@ use Rattle.acpi_code.specs.declared.fault.ConstantFault.{ConstantFault}
 use Rattle.acpi_code.specs.declared.fault.ConstantFault.TheVariants.{Part, NotConstant}
 use Rattle.acpi_code.specs.declared.fault.FieldFault.{FieldFault}
 use Rattle.acpi_code.specs.declared.fault.FieldFault.TheVariants as fields
-use Rattle.acpi_code.specs.Opcodes.{first_opcode}
+use Rattle.acpi_code.specs.Opcodes.{first_opcode, opcode_bytes}
 use Rattle.acpi_code.specs.Spelling.{SpellsEach}
-use Rattle.acpi_code.specs.Faults.{ByteAt, Begins, ShowsPart}
+use Rattle.acpi_code.specs.Faults.{ByteAt, Begins, has_package, IsElementOf, ShowsPart, ShowsElementPart, ShowsElement}
 use Rattle.acpi_terms.specs.declared.fault.ItemReason.{ItemReason}
 use Rattle.acpi_terms.specs.declared.fault.ItemReason.TheVariants.{Cut, BadOpcode, ReservedBits, BadName, Overrun, Computed, Alias, ModuleIf, ModuleCode, Load, NotData, TooDeep, BadString, DataRegion}
 use Rattle.acpi_terms.specs.declared.fault.ItemFault.{ItemFault}
 use Rattle.acpi_terms.specs.declared.fault.ItemFault.TheVariants as errors
-use Rattle.acpi_terms.specs.Spelling.{SpellsExternal}
+use Rattle.acpi_terms.specs.Forms.{FixedArgument, source_arg, count_arg, Values, arguments}
+use Rattle.acpi_terms.specs.Spelling.{SpellsArguments, SpellsExternal}
 
 -- ---- faults of parts, as faults of items
 
@@ -48,21 +49,15 @@ field_fault_of fields.Memory = errors.Memory
 
 -- ---- what begins at a place (20.3)
 
-abbrev pub is_nothing : Opcode → Bool
-is_nothing opcodes.Nothing = true
-is_nothing _ = false
+abbrev pub is_constant : Opcode → Bool
+is_constant (opcodes.Constant form) = true
+is_constant _ = false
 
 -- a term that is no constant
-abbrev pub is_no_constant : Opcode → Bool
-is_no_constant opcodes.Nothing = false
-is_no_constant (opcodes.Constant form) = false
-is_no_constant _ = true
-
--- a term that is no name
-abbrev pub is_other_term : Opcode → Bool
-is_other_term opcodes.Nothing = false
-is_other_term opcodes.Name = false
-is_other_term _ = true
+abbrev pub is_computed : Opcode → Bool
+is_computed opcodes.Nothing = false
+is_computed (opcodes.Constant form) = false
+is_computed _ = true
 
 -- no data
 abbrev pub is_no_data : Opcode → Bool
@@ -97,6 +92,43 @@ refusal _ = None
 abbrev pub Refused : ItemReason → List ℕ → ℕ → Type 0
 Refused why code place = (lead : Opcode) × (first_opcode (drop place code) ≡ Some lead) × (refusal lead ≡ Some why)
 
+-- ---- what must begin at a place
+
+-- the package length of a form that has a package; another form has none
+abbrev pub IsLengthOf : Bool → List ℕ → Type 0
+IsLengthOf true len = (n : ℕ) × SpellsPkgLength n len
+IsLengthOf false len = len ≡ []
+
+-- These fixed arguments of a form must follow at the place: before it stand the form's opcode, its package length where it has a
+-- package, and the arguments before these (20.2.5).
+pub record Awaits (opcode : Opcode) (kinds : List FixedArgument) (code : List ℕ) (place : ℕ) : Type 0 where
+  pub before : List FixedArgument
+  pub all : arguments opcode ≡ before ++ kinds
+  pub at : ℕ
+  pub len : List ℕ
+  pub is_len : IsLengthOf (has_package opcode) len
+  pub values : Values before
+  pub front : List ℕ
+  pub rest : List ℕ
+  pub here : drop at code ≡ opcode_bytes opcode ++ (len ++ (front ++ rest))
+  pub spells : SpellsArguments before values front
+  pub behind : place ≡ at + (length (opcode_bytes opcode) + (length len + length front))
+
+-- a fixed argument of that kind must begin at the place
+abbrev pub MustBegin : FixedArgument → List ℕ → ℕ → Type 0
+MustBegin kind code place = (opcode : Opcode) × (kinds : List FixedArgument) × Awaits opcode (kind ∷ kinds) code place
+
+-- the forms whose fixed arguments a field list follows (20.2.5.2)
+abbrev pub has_fields : Opcode → Bool
+has_fields opcodes.Field = true
+has_fields opcodes.IndexField = true
+has_fields opcodes.BankField = true
+has_fields _ = false
+
+-- a field element must begin at the place: behind others, in the field list of a form
+abbrev pub IsElement : List ℕ → ℕ → Type 0
+IsElement code place = (opcode : Opcode) × (has_fields opcode ≡ true) × (start : ℕ) × Awaits opcode [] code start × IsElementOf code start place
+
 -- ---- what a fault shows
 
 -- an If whose package isn't `Zero` and Externals alone
@@ -111,18 +143,18 @@ pub record IsOtherIf (bytes : List ℕ) : Type 0 where
 -- What the reason says is true of the code at that place, for some kind of place; `depth` is the number of
 -- levels that are allowed.
 -- Cut: a list ends there. BadOpcode: no term begins there. ReservedBits: a package length with reserved bits, or
--- a count of arguments above 7. BadName: no name or no segment begins there, and the second follows from the first.
--- Overrun: a package length below its own number of bytes, or past the end of a list that it stands in. Computed: a
--- term that is no constant, or one that is no name. ModuleIf: an Else, a While, or an If that is no block of
--- Externals. ModuleCode: a name, data, Local, Arg, Debug or an operator. NotData: no data. TooDeep: a byte, behind at
--- least as many bytes as there are levels. BadString: a byte above 7F.
+-- a count of an External's arguments above 7. BadName: no name begins there, or no segment where a field element must
+-- begin. Overrun: a package length below its own number of bytes, or past the end of the list that it stands in.
+-- Computed: a term that is no constant, or a constant where the source of a Create field must begin. ModuleIf: an Else,
+-- a While, or an If that is no block of Externals. ModuleCode: a name, data, Local, Arg, Debug or an operator. NotData:
+-- no data. TooDeep: a byte, behind at least as many bytes as there are levels. BadString: a byte above 7F in a string.
 abbrev pub Shows : ℕ → List ℕ → ItemReason → ℕ → Type 0
 Shows depth code Cut place = ShowsPart depth code codes.Cut place
 Shows depth code BadOpcode place = Refused BadOpcode code place
-Shows depth code ReservedBits place = ShowsPart depth code codes.ReservedBits place ⊎ ByteAt (λ b. 7 < b) code place
-Shows depth code BadName place = ShowsPart depth code codes.BadName place ⊎ Begins is_nothing code place
+Shows depth code ReservedBits place = ShowsPart depth code codes.ReservedBits place ⊎ (MustBegin count_arg code place × ByteAt (λ b. 7 < b) code place)
+Shows depth code BadName place = ShowsElementPart (IsElement code) code codes.BadName place
 Shows depth code Overrun place = ShowsPart depth code codes.Overrun place
-Shows depth code Computed place = Begins is_no_constant code place ⊎ Begins is_other_term code place
+Shows depth code Computed place = Begins is_computed code place ⊎ (MustBegin source_arg code place × Begins is_constant code place)
 Shows depth code Alias place = Refused Alias code place
 Shows depth code ModuleIf place = Refused ModuleIf code place ⊎ IsOtherIf (drop place code)
 Shows depth code ModuleCode place = Refused ModuleCode code place
@@ -137,10 +169,11 @@ abbrev pub Told : ℕ → List ℕ → ItemFault → Type 0
 Told depth code errors.Memory = Unit {0}
 Told depth code (errors.At reason place) = Shows depth code reason place
 
--- the same of a field element, which has no level
+-- The same of the field element that stands first in these bytes: it is what `acpi_code` tells of the element, as a fault of items. So it is
+-- Cut, ReservedBits, BadName or Overrun, or, where the size of a connection's buffer must be a constant, BadOpcode or Computed.
 abbrev pub ToldOfElem : List ℕ → ItemFault → Type 0
-ToldOfElem bytes (errors.At TooDeep place) = ⊥
-ToldOfElem bytes fault = Told 0 bytes fault
+ToldOfElem bytes errors.Memory = Unit {0}
+ToldOfElem bytes (errors.At reason place) = (f : ConstantFault) × (constant_fault_of f ≡ errors.At reason place) × ShowsElement (λ k. k ≡ 0) bytes f
 
 -- ---- answers, unless memory runs out
 
