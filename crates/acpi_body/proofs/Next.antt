@@ -15,7 +15,7 @@ use Rattle.acpi_body.specs.Arguments.{Locals, Arguments}
 use Rattle.acpi_body.specs.Spelling.{height, heights}
 use Rattle.acpi_body.specs.Statements.{locals_after, IsStatement, AreStatements}
 use Rattle.acpi_body.specs.Refusals.{statement_refusal, never_begins}
-use Rattle.acpi_body.specs.Faults.{IsRefused}
+use Rattle.acpi_body.specs.Faults.{IsNoStatement}
 use Rattle.acpi_body.specs.steps.Reading.{Reader, Statements, fault_at, placed_by, term_at, statements_with, statement_by, statement_at, statements_at, body_at}
 use Rattle.acpi_body.proofs.StatementComplete.{begins_else, statement_starts, statements_start, statement_complete}
 
@@ -122,7 +122,7 @@ stops_behind_statements args s (more t ts) level locals end u w f (x, y, ht, hs,
 
 -- what is refused by itself is told, at its place
 pub next_told : (args : Arguments) (s : List Segment) (depth : ℕ) (locals : Locals) (u w : List ℕ) (ts : TermTrees) (why : BodyReason) → 0 < depth
-    → AreStatements args s locals ts u → heights ts ≤ depth → IsRefused why w
+    → AreStatements args s locals ts u → heights ts ≤ depth → IsNoStatement why w
     → body_at args s depth locals (u ++ w) ≡ Err (record { reason = why; place = length u })
 next_told args s zero locals u w ts why some h le r = absurd (omega arith)
 next_told args s (suc level) locals u w ts why some h le r =

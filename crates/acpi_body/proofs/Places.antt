@@ -22,16 +22,16 @@ use Rattle.acpi_body.specs.declared.fault.BodyReason.{BodyReason}
 use Rattle.acpi_body.specs.declared.fault.BodyReason.TheVariants.{BadOpcode, NotStatement, NotValue, NotTarget, LeftOut, NotData}
 use Rattle.acpi_body.specs.declared.fault.BodyFault.{BodyFault}
 use Rattle.acpi_body.specs.Refusals.{refusal_at}
-use Rattle.acpi_body.specs.Faults.{reason_of, fault_of, constant_fault_of, IsMisplaced, BeginsFieldList, IsElement, is_other_data, Shows}
+use Rattle.acpi_body.specs.Faults.{reason_of, fault_of, constant_fault_of, IsMisplaced, BeginsFieldList, IsBodyElement, is_other_data, ShowsBody}
 use Rattle.acpi_body.specs.steps.Reading.{part, fields_in, unless}
 
 -- ---- parts
 
 -- what a fault shows of the body of a method at a path
 abbrev pub Bad : List Segment → Source → BodyFault → Type 0
-Bad m s f = Shows m s.depth s.code f.reason f.place
+Bad m s f = ShowsBody m s.depth s.code f.reason f.place
 
-part_shows : (m : List Segment) (depth : ℕ) (code : List ℕ) (why : CodeReason) (place : ℕ) → ShowsPart depth code why place → Shows m depth code (reason_of why) place
+part_shows : (m : List Segment) (depth : ℕ) (code : List ℕ) (why : CodeReason) (place : ℕ) → ShowsPart depth code why place → ShowsBody m depth code (reason_of why) place
 part_shows m depth code codes.Cut place h = h
 part_shows m depth code codes.ReservedBits place h = h
 part_shows m depth code codes.BadName place h = inl h
@@ -47,7 +47,7 @@ pub part_sound : {A : Type 0} (m : List Segment) (s : Source) (Good : A → Type
 part_sound m s Good (Ok x) h = h
 part_sound m s Good (Err f) h = part_bad m s f h
 
-element_shows : (m : List Segment) (depth : ℕ) (code : List ℕ) (why : CodeReason) (place : ℕ) → ShowsElementPart (IsElement code) code why place → Shows m depth code (reason_of why) place
+element_shows : (m : List Segment) (depth : ℕ) (code : List ℕ) (why : CodeReason) (place : ℕ) → ShowsElementPart (IsBodyElement code) code why place → ShowsBody m depth code (reason_of why) place
 element_shows m depth code codes.Cut place h = h
 element_shows m depth code codes.ReservedBits place h = h
 element_shows m depth code codes.BadName place h = h
@@ -64,7 +64,7 @@ no_size code opcodes.Package place computed begins size = inr (size, (opcodes.Pa
 no_size code opcodes.VarPackage place computed begins size = inr (size, (opcodes.VarPackage, begins, refl))
 no_size code opcode place computed begins size = inl (record { kind = Data; opcode = opcode; begins = begins; refused = refl })
 
-element_bad : (m : List Segment) (s : Source) (f : ConstantFault) → ShowsElement (IsElement s.code) s.code f → Bad m s (constant_fault_of f)
+element_bad : (m : List Segment) (s : Source) (f : ConstantFault) → ShowsElement (IsBodyElement s.code) s.code f → Bad m s (constant_fault_of f)
 element_bad m s (Part f) h = element_shows m s.depth s.code f.reason f.place h
 element_bad m s (NotConstant opcode place) h = no_size s.code opcode place h.0.1 h.0.0 h.1
 
@@ -74,7 +74,7 @@ pub fields_sound : (m : List Segment) (s : Source) (level end : ℕ) (bytes : Li
 fields_sound m s level end bytes list h =
     let start = end - length bytes in
     judge_told (λ es. SpellsFields es bytes) (elements.ListBad s start) (Bad m s) constant_fault_of (fields.fields_in end bytes)
-    (λ f b. element_bad m s f (elements.shown_at (IsElementOf s.code start) (IsElement s.code) (λ k e. (start, list, e)) s.code f b))
+    (λ f b. element_bad m s f (elements.shown_at (IsElementOf s.code start) (IsBodyElement s.code) (λ k e. (start, list, e)) s.code f b))
     (elements.fields_sound s level start end bytes (elements.first_element s.code start) h)
 
 -- ---- the reasons of places
@@ -107,7 +107,7 @@ refusals Data _ = refl
 refusals Statement opcodes.Str = refl
 refusals Statement _ = refl
 
-shows_misplaced : (m : List Segment) (s : Source) (why : BodyReason) (place : ℕ) → of_place (Some why) ≡ true → IsMisplaced why (drop place s.code) → Shows m s.depth s.code why place
+shows_misplaced : (m : List Segment) (s : Source) (why : BodyReason) (place : ℕ) → of_place (Some why) ≡ true → IsMisplaced why (drop place s.code) → ShowsBody m s.depth s.code why place
 shows_misplaced m s BadOpcode place e h = h
 shows_misplaced m s NotStatement place e h = h
 shows_misplaced m s NotValue place e h = h

@@ -9,8 +9,8 @@ use Rattle.acpi_code.proofs.Readings.{Judge, Source, Position}
 use Rattle.acpi_body.specs.declared.fault.BodyFault.{BodyFault}
 use Rattle.acpi_body.specs.declared.fault.BodyReason.{BodyReason}
 use Rattle.acpi_body.specs.Arguments.{Arguments}
-use Rattle.acpi_body.specs.Statements.{AreStatements, Reads}
-use Rattle.acpi_body.specs.Faults.{Shows, IsRefused}
+use Rattle.acpi_body.specs.Statements.{AreStatements, ReadsBody}
+use Rattle.acpi_body.specs.Faults.{ShowsBody, IsNoStatement}
 use Rattle.acpi_body.specs.Bodies.{BodyTree, read, unread, IsBodyOf}
 use Rattle.acpi_body.specs.steps.Reading.{body_at}
 use Rattle.acpi_body.specs.steps.Answers.{body_of, told}
@@ -45,12 +45,12 @@ good_of Good Bad r x h e = subst (Judge Good Bad) e h
 bad_of : {A F : Type 0} (Good : A → Type 0) (Bad : F → Type 0) (r : Result A F) (f : F) → Judge Good Bad r → r ≡ Err f → Bad f
 bad_of Good Bad r f h e = subst (Judge Good Bad) e h
 
-took : (args : Arguments) (s : List Segment) (depth : ℕ) (bytes : List ℕ) (ts : List TermTree) → reading args s depth bytes ≡ Ok ts → Reads args s depth bytes (terms_of ts)
+took : (args : Arguments) (s : List Segment) (depth : ℕ) (bytes : List ℕ) (ts : List TermTree) → reading args s depth bytes ≡ Ok ts → ReadsBody args s depth bytes (terms_of ts)
 took args s depth bytes ts e =
     let t = good_of (AreStanding args s depth finite.empty bytes) (Bad s (record { depth = depth; code = bytes })) (reading args s depth bytes) ts (judged args s depth bytes) e in
     record { spelled = t.are; within = t.within }
 
-again : (args : Arguments) (s : List Segment) (depth : ℕ) (bytes : List ℕ) (ts : TermTrees) → Reads args s depth bytes ts → reading args s depth bytes ≡ Ok (listed ts)
+again : (args : Arguments) (s : List Segment) (depth : ℕ) (bytes : List ℕ) (ts : TermTrees) → ReadsBody args s depth bytes ts → reading args s depth bytes ≡ Ok (listed ts)
 again args s depth bytes ts h = statements_complete args s ts depth finite.empty (length bytes) bytes h.spelled h.within (length bytes) (omega arith)
 
 abbrev given_terms : List TermTree → Result (List TermTree) BodyFault
@@ -59,7 +59,7 @@ given_terms ts = Ok ts
 ok_is : (x y : List TermTree) → given_terms x ≡ given_terms y → x ≡ y
 ok_is x y e = cc
 
-pub one_reading : (args : Arguments) (s : List Segment) (depth : ℕ) (bytes : List ℕ) (ts us : TermTrees) → Reads args s depth bytes ts → Reads args s depth bytes us → ts ≡ us
+pub one_reading : (args : Arguments) (s : List Segment) (depth : ℕ) (bytes : List ℕ) (ts us : TermTrees) → ReadsBody args s depth bytes ts → ReadsBody args s depth bytes us → ts ≡ us
 one_reading args s depth bytes ts us h k =
     let same = ok_is (listed ts) (listed us) (sym (again args s depth bytes ts h) ∙ again args s depth bytes us k) in
     sym (terms_of-listed ts) ∙ ap terms_of same ∙ terms_of-listed us
@@ -80,10 +80,10 @@ not_given : (bytes : List ℕ) (ts : TermTrees) → unread bytes ≡ given ts �
 not_given bytes ts e = cc
 
 -- bytes are read, or have no reading
-pub read_or_none : (args : Arguments) (s : List Segment) (depth : ℕ) (bytes : List ℕ) → ((ts : TermTrees) × Reads args s depth bytes ts) ⊎ ((ts : TermTrees) → Reads args s depth bytes ts → ⊥)
+pub read_or_none : (args : Arguments) (s : List Segment) (depth : ℕ) (bytes : List ℕ) → ((ts : TermTrees) × ReadsBody args s depth bytes ts) ⊎ ((ts : TermTrees) → ReadsBody args s depth bytes ts → ⊥)
 read_or_none args s depth bytes = by_reading (reading args s depth bytes) refl
   where
-    by_reading : (r : Result (List TermTree) BodyFault) → reading args s depth bytes ≡ r → ((ts : TermTrees) × Reads args s depth bytes ts) ⊎ ((ts : TermTrees) → Reads args s depth bytes ts → ⊥)
+    by_reading : (r : Result (List TermTree) BodyFault) → reading args s depth bytes ≡ r → ((ts : TermTrees) × ReadsBody args s depth bytes ts) ⊎ ((ts : TermTrees) → ReadsBody args s depth bytes ts → ⊥)
     by_reading (Ok ts) e = inl (terms_of ts, took args s depth bytes ts e)
     by_reading (Err f) e = inr (λ ts h. not_both f (listed ts) (sym e ∙ again args s depth bytes ts h))
 
@@ -99,41 +99,41 @@ body_law view args s depth bytes (Ok b) h = subst (IsBodyOf args s depth bytes) 
 body_law view args s depth bytes (Err e) h = tt
 
 -- the same as an equivalence
-read_just : (args : Arguments) (s : List Segment) (depth : ℕ) (bytes : List ℕ) (b : BodyTree) → IsBodyOf args s depth bytes b → (ts : TermTrees) → (b ≡ given ts) ↔ Reads args s depth bytes ts
-read_just args s depth bytes (read us) h ts = (λ e. subst (Reads args s depth bytes) (given_is us ts e) h, λ k. ap given (one_reading args s depth bytes us ts h k))
+read_just : (args : Arguments) (s : List Segment) (depth : ℕ) (bytes : List ℕ) (b : BodyTree) → IsBodyOf args s depth bytes b → (ts : TermTrees) → (b ≡ given ts) ↔ ReadsBody args s depth bytes ts
+read_just args s depth bytes (read us) h ts = (λ e. subst (ReadsBody args s depth bytes) (given_is us ts e) h, λ k. ap given (one_reading args s depth bytes us ts h k))
 read_just args s depth bytes (unread kept) h ts = (λ e. absurd (not_given kept ts e), λ k. absurd (h.1 ts k))
 
 pub read_law : {V : Type 0} {E : Type 0} (view : V → BodyTree) (args : Arguments) (s : List Segment) (depth : ℕ) (bytes : List ℕ) (result : Result V E)
-    → IfOk result (λ b. IsBodyOf args s depth bytes (view b)) → IfOk result (λ b. (ts : TermTrees) → (view b ≡ read ts) ↔ Reads args s depth bytes ts)
+    → IfOk result (λ b. IsBodyOf args s depth bytes (view b)) → IfOk result (λ b. (ts : TermTrees) → (view b ≡ read ts) ↔ ReadsBody args s depth bytes ts)
 read_law view args s depth bytes (Ok b) h = read_just args s depth bytes (view b) h
 read_law view args s depth bytes (Err e) h = tt
 
 -- ---- why it isn't read
 
 why_just : (args : Arguments) (s : List Segment) (depth : ℕ) (bytes : List ℕ) (r : Result (List TermTree) BodyFault) → reading args s depth bytes ≡ r
-    → (told r ≡ None) ↔ ((ts : TermTrees) × Reads args s depth bytes ts)
+    → (told r ≡ None) ↔ ((ts : TermTrees) × ReadsBody args s depth bytes ts)
 why_just args s depth bytes (Ok ts) e = (λ none. (terms_of ts, took args s depth bytes ts e), λ some. refl)
 why_just args s depth bytes (Err f) e = (λ none. absurd cc, λ some. absurd (not_both f (listed some.0) (sym e ∙ again args s depth bytes some.0 some.1)))
 
 pub why_law : {E : Type 0} (args : Arguments) (s : List Segment) (depth : ℕ) (bytes : List ℕ) (result : Result (Option BodyFault) E)
-    → IfOk result (λ w. w ≡ told (reading args s depth bytes)) → IfOk result (λ w. (w ≡ None) ↔ ((ts : TermTrees) × Reads args s depth bytes ts))
-why_law args s depth bytes (Ok w) h = subst (λ w. (w ≡ None) ↔ ((ts : TermTrees) × Reads args s depth bytes ts)) (sym h) (why_just args s depth bytes (reading args s depth bytes) refl)
+    → IfOk result (λ w. w ≡ told (reading args s depth bytes)) → IfOk result (λ w. (w ≡ None) ↔ ((ts : TermTrees) × ReadsBody args s depth bytes ts))
+why_law args s depth bytes (Ok w) h = subst (λ w. (w ≡ None) ↔ ((ts : TermTrees) × ReadsBody args s depth bytes ts)) (sym h) (why_just args s depth bytes (reading args s depth bytes) refl)
 why_law args s depth bytes (Err e) h = tt
 
 pub next_law : {E : Type 0} (args : Arguments) (s : List Segment) (depth : ℕ) (bytes : List ℕ) (result : Result (Option BodyFault) E)
-    → IfOk result (λ w. w ≡ told (reading args s depth bytes)) → 0 < depth → (u w : List ℕ) (ts : TermTrees) (reason : BodyReason) → bytes ≡ u ++ w → Reads args s depth u ts → IsRefused reason w
+    → IfOk result (λ w. w ≡ told (reading args s depth bytes)) → 0 < depth → (u w : List ℕ) (ts : TermTrees) (reason : BodyReason) → bytes ≡ u ++ w → ReadsBody args s depth u ts → IsNoStatement reason w
     → IfOk result (λ f. f ≡ Some (record { reason = reason; place = length u }))
 next_law args s depth bytes (Ok f) h some u w ts reason whole reads refused =
     h ∙ ap told (ap (reading args s depth) whole ∙ next_told args s depth finite.empty u w ts reason some reads.spelled reads.within refused)
 next_law args s depth bytes (Err e) h some u w ts reason whole reads refused = tt
 
 faults_just : (args : Arguments) (s : List Segment) (depth : ℕ) (bytes : List ℕ) (r : Result (List TermTree) BodyFault)
-    → reading args s depth bytes ≡ r → IfSome (told r) (λ f. Shows s depth bytes f.reason f.place)
+    → reading args s depth bytes ≡ r → IfSome (told r) (λ f. ShowsBody s depth bytes f.reason f.place)
 faults_just args s depth bytes (Ok ts) e = tt
 faults_just args s depth bytes (Err f) e = bad_of (AreStanding args s depth finite.empty bytes) (Bad s (record { depth = depth; code = bytes }))
     (reading args s depth bytes) f (judged args s depth bytes) e
 
 pub faults_law : {E : Type 0} (args : Arguments) (s : List Segment) (depth : ℕ) (bytes : List ℕ) (result : Result (Option BodyFault) E)
-    → IfOk result (λ w. w ≡ told (reading args s depth bytes)) → IfOk result (λ w. IfSome w (λ f. Shows s depth bytes f.reason f.place))
-faults_law args s depth bytes (Ok w) h = subst (λ w. IfSome w (λ f. Shows s depth bytes f.reason f.place)) (sym h) (faults_just args s depth bytes (reading args s depth bytes) refl)
+    → IfOk result (λ w. w ≡ told (reading args s depth bytes)) → IfOk result (λ w. IfSome w (λ f. ShowsBody s depth bytes f.reason f.place))
+faults_law args s depth bytes (Ok w) h = subst (λ w. IfSome w (λ f. ShowsBody s depth bytes f.reason f.place)) (sym h) (faults_just args s depth bytes (reading args s depth bytes) refl)
 faults_law args s depth bytes (Err e) h = tt

@@ -1,4 +1,5 @@
 -- Whether two bodies are equal, as a test.
+-- Nothing here needs to be trusted: each `==` promises that it is true exactly of equal values.
 use Rattle.std.specs.Prelude.{Bool, false}
 use Rattle.acpi_tree.specs.Equal.{bytes_eq}
 use Rattle.acpi_tree.specs.TermEqual.{terms_eq}

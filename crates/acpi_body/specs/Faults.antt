@@ -81,8 +81,8 @@ pub record BeginsFieldList (code : List ℕ) (start : ℕ) : Type 0 where
   pub starts : start ≡ at + (length (opcode_bytes (units_opcode form)) + (length len + (length a + length b)))
 
 -- a field element must begin at the place: behind others, in the field list of a form
-abbrev pub IsElement : List ℕ → ℕ → Type 0
-IsElement code place = (start : ℕ) × BeginsFieldList code start × IsElementOf code start place
+abbrev pub IsBodyElement : List ℕ → ℕ → Type 0
+IsBodyElement code place = (start : ℕ) × BeginsFieldList code start × IsElementOf code start place
 
 -- data that is no constant
 abbrev pub is_other_data : Opcode → Bool
@@ -96,17 +96,17 @@ is_other_data _ = false
 -- levels that are allowed. BadName: no name begins there, or no segment where a field element must begin. NotData: no data
 -- begins there, or no constant where the size of a connection's buffer must. BadPlace: a name stands there that can't be
 -- declared.
-abbrev pub Shows : List Segment → ℕ → List ℕ → BodyReason → ℕ → Type 0
-Shows s depth code Cut place = ShowsPart depth code codes.Cut place
-Shows s depth code ReservedBits place = ShowsPart depth code codes.ReservedBits place
-Shows s depth code BadName place = ShowsElementPart (IsElement code) code codes.BadName place
-Shows s depth code Overrun place = ShowsPart depth code codes.Overrun place
-Shows s depth code BadString place = ShowsPart depth code codes.BadString place
-Shows s depth code TooDeep place = ShowsPart depth code codes.TooDeep place
-Shows s depth code BadPlace place = CantDeclare s (drop place code)
-Shows s depth code NotData place = IsMisplaced NotData (drop place code) ⊎ (IsConnectionSize code place × Begins is_other_data code place)
-Shows s depth code why place = IsMisplaced why (drop place code)
+abbrev pub ShowsBody : List Segment → ℕ → List ℕ → BodyReason → ℕ → Type 0
+ShowsBody s depth code Cut place = ShowsPart depth code codes.Cut place
+ShowsBody s depth code ReservedBits place = ShowsPart depth code codes.ReservedBits place
+ShowsBody s depth code BadName place = ShowsElementPart (IsBodyElement code) code codes.BadName place
+ShowsBody s depth code Overrun place = ShowsPart depth code codes.Overrun place
+ShowsBody s depth code BadString place = ShowsPart depth code codes.BadString place
+ShowsBody s depth code TooDeep place = ShowsPart depth code codes.TooDeep place
+ShowsBody s depth code BadPlace place = CantDeclare s (drop place code)
+ShowsBody s depth code NotData place = IsMisplaced NotData (drop place code) ⊎ (IsConnectionSize code place × Begins is_other_data code place)
+ShowsBody s depth code why place = IsMisplaced why (drop place code)
 
 -- what begins there is refused as a statement, whatever stands before it
-abbrev pub IsRefused : BodyReason → List ℕ → Type 0
-IsRefused why bytes = (o : Opcode) × (first_opcode bytes ≡ Some o) × (never_begins o ≡ Some why)
+abbrev pub IsNoStatement : BodyReason → List ℕ → Type 0
+IsNoStatement why bytes = (o : Opcode) × (first_opcode bytes ≡ Some o) × (never_begins o ≡ Some why)

@@ -4,17 +4,17 @@ use Rattle.std.specs.List.{AllByRecursion}
 use Rattle.acpi_name.specs.Names.{Segment, NameParts}
 use Rattle.acpi_tree.specs.Terms.{TermTrees}
 use Rattle.acpi_body.specs.Arguments.{Locals, Arguments}
-use Rattle.acpi_body.specs.Statements.{AreStatements, Reads}
+use Rattle.acpi_body.specs.Statements.{AreStatements, ReadsBody}
 use Rattle.acpi_body.specs.Searches.{all_searches, IsSpelledIn}
 
 -- Bytes have at most one reading.
 abbrev pub AtMostOneReading : Type 0
 AtMostOneReading = (args : Arguments) (s : List Segment) (depth : ℕ) (bytes : List ℕ) (ts us : TermTrees)
-    → Reads args s depth bytes ts → Reads args s depth bytes us → ts ≡ us
+    → ReadsBody args s depth bytes ts → ReadsBody args s depth bytes us → ts ≡ us
 
 -- Bytes are read, or have no reading.
 abbrev pub ReadOrNot : Type 0
-ReadOrNot = (args : Arguments) (s : List Segment) (depth : ℕ) (bytes : List ℕ) → ((ts : TermTrees) × Reads args s depth bytes ts) ⊎ ((ts : TermTrees) → ¬ Reads args s depth bytes ts)
+ReadOrNot = (args : Arguments) (s : List Segment) (depth : ℕ) (bytes : List ℕ) → ((ts : TermTrees) × ReadsBody args s depth bytes ts) ⊎ ((ts : TermTrees) → ¬ ReadsBody args s depth bytes ts)
 
 abbrev pub AgreeAt : Arguments → Arguments → Locals × NameParts → Type 0
 AgreeAt a b e = a e.0 e.1 ≡ b e.0 e.1

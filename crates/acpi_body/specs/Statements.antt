@@ -105,6 +105,6 @@ abbrev mutual
 -- ---- bodies
 
 -- the bytes of the body of a method at the path `s` are these statements, none of them deeper than `depth`
-pub record Reads (args : Arguments) (s : List Segment) (depth : ℕ) (bytes : List ℕ) (ts : TermTrees) : Type 0 where
+pub record ReadsBody (args : Arguments) (s : List Segment) (depth : ℕ) (bytes : List ℕ) (ts : TermTrees) : Type 0 where
   pub spelled : AreStatements args s finite.empty ts bytes
   pub within : heights ts ≤ depth

@@ -5,8 +5,8 @@ ghost use Rattle.std.specs.FinMap as finite;
 ghost use Rattle.acpi_tree.specs.Terms.{TermTrees};
 ghost use Rattle.acpi_body.specs.declared.fault.BodyReason.{BodyReason};
 ghost use Rattle.acpi_body.specs.Arguments.{namespace_of, arguments};
-ghost use Rattle.acpi_body.specs.Statements.{Reads};
-ghost use Rattle.acpi_body.specs.Faults.{Shows, IsRefused};
+ghost use Rattle.acpi_body.specs.Statements.{ReadsBody};
+ghost use Rattle.acpi_body.specs.Faults.{ShowsBody, IsNoStatement};
 ghost use Rattle.acpi_body.specs.Bodies.{read, body_view, body_fits, IsBodyOf};
 ghost use Rattle.acpi_body.specs.steps.Reading.{body_at};
 ghost use Rattle.acpi_body.specs.steps.Answers.{body_of, told};
@@ -63,7 +63,7 @@ pub fn read_body<S: Space<Object>>(
     ensures body { IfOk result (λ b. IsBodyOf (arguments (namespace_of (S.contents space.now)) (finite.get counts.now) method.now) method.now depth bytes.now (body_view b)) }
     // So it is read exactly where it has a reading, and as that.
     ensures read { IfOk result (λ b. (ts : TermTrees) → (body_view b ≡ read ts)
-        ↔ Reads (arguments (namespace_of (S.contents space.now)) (finite.get counts.now) method.now) method.now depth bytes.now ts) }
+        ↔ ReadsBody (arguments (namespace_of (S.contents space.now)) (finite.get counts.now) method.now) method.now depth bytes.now ts) }
     // What is read fits.
     ensures fits { IfOk result (λ b. body_fits (body_view b) ≡ true) }
 {
@@ -98,12 +98,12 @@ pub fn why<S: Space<Object>>(
     counts: &Counts,
 ) -> Result<Option<BodyFault>, AllocError>
     // None exactly where the bytes have a reading.
-    ensures read { IfOk result (λ w. (w ≡ None) ↔ ((ts : TermTrees) × Reads (arguments (namespace_of (S.contents space.now)) (finite.get counts.now) method.now) method.now depth bytes.now ts)) }
+    ensures read { IfOk result (λ w. (w ≡ None) ↔ ((ts : TermTrees) × ReadsBody (arguments (namespace_of (S.contents space.now)) (finite.get counts.now) method.now) method.now depth bytes.now ts)) }
     // What a fault says is true of the bytes.
-    ensures faults { IfOk result (λ w. IfSome w (λ f. Shows method.now depth bytes.now f.reason f.place)) }
+    ensures faults { IfOk result (λ w. IfSome w (λ f. ShowsBody method.now depth bytes.now f.reason f.place)) }
     // Behind statements, what can't begin one is told at its place.
     ensures next { (u w : List ℕ) (ts : TermTrees) (reason : BodyReason) → bytes.now ≡ u ++ w
-        → Reads (arguments (namespace_of (S.contents space.now)) (finite.get counts.now) method.now) method.now depth u ts → IsRefused reason w
+        → ReadsBody (arguments (namespace_of (S.contents space.now)) (finite.get counts.now) method.now) method.now depth u ts → IsNoStatement reason w
         → IfOk result (λ f. f ≡ Some (record { reason = reason; place = length u })) }
 {
     fault_in(alloc, space, method, bytes, depth.get(), counts)

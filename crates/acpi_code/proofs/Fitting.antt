@@ -4,14 +4,14 @@ use Rattle.std.specs.List.{AllByRecursion, list_all}
 use Rattle.std.proofs.lemmas.Bool.{lt-ltb, eqb-true, le-leb}
 use Rattle.std.proofs.Math.Facts.{Fits-lt-pow}
 use Rattle.byteorder.specs.Endian.{little_number}
-use Rattle.acpi_name.specs.Names.{NameParts}
+use Rattle.acpi_name.specs.Names.{NameParts, is_null_name}
 use Rattle.acpi_name.specs.Spelling.{SpellsName, SpellsPath}
 use Rattle.acpi_table.specs.PkgLength.{SpellsPkgLength}
 use Rattle.acpi_code.specs.Opcodes.{is_name_start}
 use Rattle.acpi_code.specs.Spelling.{IsText, SpellsTermName, SpellsEach, Packs}
 use Rattle.acpi_code.specs.Fields.{SpellsField, SpellsFields}
 use Rattle.acpi_tree.specs.Tree.{FieldTree, unit, reserved, access, connect_name, connect_buffer, extended}
-use Rattle.acpi_tree.specs.Fits.{text_fits, is_null_name, bits_fit, field_fits}
+use Rattle.acpi_tree.specs.Fits.{text_fits, bits_fit, field_fits}
 
 abbrev pub AreBytes : List ℕ → Type 0
 AreBytes = AllByRecursion (λ b. b < 256)

@@ -5,7 +5,7 @@ use Rattle.std.proofs.lemmas.List.{length-append, length-take, take-append-drop,
 use Rattle.acpi_table.specs.PkgLength.{SpellsPkgLength}
 use Rattle.acpi_code.specs.declared.opcode.Opcode.{Opcode}
 use Rattle.acpi_code.specs.Opcodes.{opcode_bytes}
-use Rattle.acpi_code.specs.Faults.{StandsAt, has_package, IsBehind}
+use Rattle.acpi_code.specs.Faults.{HasLength, has_package, FollowsOpcode}
 use Rattle.acpi_code.specs.steps.Reading.{length_in, Package, package_of, package_at}
 use Rattle.acpi_code.proofs.Readings.{Judge, judge_bind, judge_if, Position, Source, Shown, Bare, bare_shown, Read, stands_at, position_after, position_deeper}
 use Rattle.acpi_code.proofs.Numbers.{length_complete, length_bare}
@@ -32,11 +32,11 @@ package_complete end len content rest h =
 -- the bytes stand directly behind the opcode of a form that has a package
 pub record AtPackage (depth level : ℕ) (code : List ℕ) (end : ℕ) (bytes : List ℕ) : Type 0 where
   pub position : Position depth level code end bytes
-  pub is_behind : IsBehind has_package code (end - length bytes)
+  pub is_behind : FollowsOpcode has_package code (end - length bytes)
   pub begun : position.start ≤ is_behind.at
 
 behind_opcode : (s : Source) (level end : ℕ) (test : Opcode → Bool) (opcode : Opcode) (bytes rest : List ℕ) → test opcode ≡ true → bytes ≡ opcode_bytes opcode ++ rest
-    → Position s.depth level s.code end bytes → IsBehind test s.code (end - length rest)
+    → Position s.depth level s.code end bytes → FollowsOpcode test s.code (end - length rest)
 behind_opcode s level end test opcode bytes rest passes is h =
     let op = opcode_bytes opcode in
     let sizes : length bytes ≡ length op + length rest = ap length is ∙ length-append op rest in
@@ -97,22 +97,30 @@ inside s level end bytes len content rest there spells_len whole some =
           ∙ ap (λ (y : List ℕ). len ++ y) (append_assoc content rest h.after)) ∙ sym (append_assoc h.before len (content ++ (rest ++ h.after)));
       ends = omega (arith, h.ends, length-append h.before len);
       start = length (h.before ++ len);
-      is_list = (suc h.is_list.0, (h.start, end, h.is_list.1, record {
-        place = end - length bytes;
-        n = length len + length content;
-        stands = record {
-          len = len;
-          rest = (content ++ rest) ++ h.after;
-          here = stands_at s level end bytes h ∙ ap (λ (y : List ℕ). y ++ h.after) whole ∙ append_assoc len (content ++ rest) h.after;
-          spells_len = spells_len;
-        };
-        is_behind = there.is_behind;
-        begun = there.begun;
-        starts = omega (arith, h.ends, length-append h.before len);
-        ends = omega (arith, h.ends);
-        ordered = omega (arith, h.ends, length-append h.before len);
-        within = omega arith;
-      }));
+      is_list = (
+        suc h.is_list.0,
+        (
+          h.start,
+          end,
+          h.is_list.1,
+          record {
+            place = end - length bytes;
+            n = length len + length content;
+            stands = record {
+              len = len;
+              rest = (content ++ rest) ++ h.after;
+              here = stands_at s level end bytes h ∙ ap (λ (y : List ℕ). y ++ h.after) whole ∙ append_assoc len (content ++ rest) h.after;
+              spells_len = spells_len;
+            };
+            is_behind = there.is_behind;
+            begun = there.begun;
+            starts = omega (arith, h.ends, length-append h.before len);
+            ends = omega (arith, h.ends);
+            ordered = omega (arith, h.ends, length-append h.before len);
+            within = omega arith;
+          },
+        ),
+      );
       begun = omega arith;
       deep = omega (arith, h.deep, length-append h.before len);
     }
@@ -140,17 +148,17 @@ package_bare s level end bytes there =
     let some = length_long n.0 t.front t.spells in
     judge_if (GoodPackage s level end bytes) (Bare s) (ltb n.0 used || ltb (length bytes) n.0) _ _
     (λ bad.
-    let stands : StandsAt s.code (end - length bytes) n.0 = record {
+    let stands : HasLength s.code (end - length bytes) n.0 = record {
       len = t.front;
       rest = n.1 ++ h.after;
       here = stands_at s level end bytes h ∙ ap (λ (y : List ℕ). y ++ h.after) t.whole ∙ append_assoc t.front n.1 h.after;
       spells_len = t.spells;
     } in
     let bad : (n.0 < length t.front) ⊎ (end < end - length bytes + n.0) =
-        elim (or_true (ltb n.0 used) (ltb (length bytes) n.0) bad) [
-          | inl low ↦ let lt : n.0 < length bytes - length n.1 = ltb-true _ _ low in inl (omega arith)
-          | inr high ↦ let lt : length bytes < n.0 = ltb-true _ _ high in inr (omega (arith, h.ends))
-        ] in
+    elim (or_true (ltb n.0 used) (ltb (length bytes) n.0) bad) [
+      | inl low ↦ let lt : n.0 < length bytes - length n.1 = ltb-true _ _ low in inl (omega arith)
+      | inr high ↦ let lt : length bytes < n.0 = ltb-true _ _ high in inr (omega (arith, h.ends))
+    ] in
     record {
       n = n.0;
       stands = stands;

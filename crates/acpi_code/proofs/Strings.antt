@@ -97,7 +97,7 @@ string_sound s level end bytes prefix h =
         let whole : bytes ≡ text ++ (b ∷ rest) = sym (take-append-drop n bytes) ∙ ap (λ (l : List ℕ). text ++ l) e in
         let sizes : length bytes ≡ length text + suc (length rest) = ap length whole ∙ length-append text (b ∷ rest) in
         let there : drop (end - length bytes) s.code ≡ text ++ ((b ∷ rest) ++ h.after) =
-            stands_at s level end bytes h ∙ ap (λ (l : List ℕ). l ++ h.after) whole ∙ append_assoc text (b ∷ rest) h.after in (
+        stands_at s level end bytes h ∙ ap (λ (l : List ℕ). l ++ h.after) whole ∙ append_assoc text (b ∷ rest) h.after in (
           record {
             at = prefix.0;
             text = text;

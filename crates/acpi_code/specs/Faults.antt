@@ -26,7 +26,7 @@ abbrev pub Begins : (Opcode → Bool) → List ℕ → ℕ → Type 0
 Begins test code place = (opcode : Opcode) × (first_opcode (drop place code) ≡ Some opcode) × (test opcode ≡ true)
 
 -- directly before the place stands an opcode that passes the test (20.3)
-pub record IsBehind (test : Opcode → Bool) (code : List ℕ) (place : ℕ) : Type 0 where
+pub record FollowsOpcode (test : Opcode → Bool) (code : List ℕ) (place : ℕ) : Type 0 where
   pub opcode : Opcode
   pub passes : test opcode ≡ true
   pub at : ℕ
@@ -35,7 +35,7 @@ pub record IsBehind (test : Opcode → Bool) (code : List ℕ) (place : ℕ) : T
   pub behind : place ≡ at + length (opcode_bytes opcode)
 
 -- a package length that stands at a place (20.2.4)
-pub record StandsAt (code : List ℕ) (place n : ℕ) : Type 0 where
+pub record HasLength (code : List ℕ) (place n : ℕ) : Type 0 where
   pub len : List ℕ
   pub rest : List ℕ
   pub here : drop place code ≡ len ++ rest
@@ -67,8 +67,8 @@ has_package _ = false
 pub record IsPackage (code : List ℕ) (outer outer_end start end : ℕ) : Type 0 where
   pub place : ℕ
   pub n : ℕ
-  pub stands : StandsAt code place n
-  pub is_behind : IsBehind has_package code place
+  pub stands : HasLength code place n
+  pub is_behind : FollowsOpcode has_package code place
   pub begun : outer ≤ is_behind.at
   pub starts : start ≡ place + length stands.len
   pub ends : end ≡ place + n
@@ -87,8 +87,8 @@ IsList code start end = (n : ℕ) × IsListWithin n code start end
 -- a package length in a list, directly behind an opcode, that is less than its own number of bytes or goes past the end of the list
 pub record IsOverrun (code : List ℕ) (place : ℕ) : Type 0 where
   pub n : ℕ
-  pub stands : StandsAt code place n
-  pub is_behind : IsBehind has_package code place
+  pub stands : HasLength code place n
+  pub is_behind : FollowsOpcode has_package code place
   pub start : ℕ
   pub end : ℕ
   pub is_list : IsList code start end

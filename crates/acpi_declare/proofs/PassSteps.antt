@@ -12,16 +12,16 @@ use Rattle.acpi_declare.specs.Namespace.{Namespace}
 use Rattle.acpi_declare.specs.Notes.{Method, Notes, count_at}
 use Rattle.acpi_declare.specs.Placing.{declared_path}
 use Rattle.acpi_declare.specs.Sites.{step, declares_alone, declares, opens, expects, external_step}
-use Rattle.acpi_declare.specs.steps.Pass.{Pass, Passing, no_notes, note_of, joined, after, placement, ◌>>=◌, take_step, take_steps}
+use Rattle.acpi_declare.specs.steps.Pass.{Pass, Passing, no_notes, note_of, all_notes, after, placement, ◌>>=◌, take_step, take_steps}
 use Rattle.acpi_declare.specs.steps.View.{count_said, with_counts, with_method, with_missed}
 use Rattle.acpi_declare.proofs.Unions.{union-nothing, union_assoc}
 
 -- ---- notes
 
-pub nothing_joined : (n : Notes) → joined n no_notes ≡ n
+pub nothing_joined : (n : Notes) → all_notes n no_notes ≡ n
 nothing_joined n = λ i. record { counts = union-nothing n.counts i; methods = append-nil n.methods i; missed = append-nil n.missed i }
 
-pub joined_assoc : (a b c : Notes) → joined (joined a b) c ≡ joined a (joined b c)
+pub joined_assoc : (a b c : Notes) → all_notes (all_notes a b) c ≡ all_notes a (all_notes b c)
 joined_assoc a b c = λ i. record { counts = union_assoc a.counts b.counts c.counts i; methods = append_assoc a.methods b.methods c.methods i; missed = append_assoc a.missed b.missed c.missed i }
 
 -- ---- one step
@@ -83,7 +83,7 @@ declared_method t objects links notes s p n o code placed laid same_links noted 
     one : Method
     one = record { path = p; code = code }
 
-    with_one : joined t.notes (note_of t.objects (placement s (step n (declares o [] (Some code))) p)) ≡ with_method t.notes one
+    with_one : all_notes t.notes (note_of t.objects (placement s (step n (declares o [] (Some code))) p)) ≡ with_method t.notes one
     with_one = λ i. record { counts = union-nothing t.notes.counts i; methods = t.notes.methods ++ one ∷ []; missed = append-nil t.notes.missed i }
 
 -- a Scope term notes what its search missed
@@ -96,7 +96,7 @@ opened_scope t objects links notes s p n same_objects same_links noted = λ i. r
   notes = (noted ∙ with_misses) i;
 }
   where
-    with_misses : with_missed t.notes (missed (is_defined_in t.objects) s n) ≡ joined t.notes (note_of t.objects (placement s (step n opens) p))
+    with_misses : with_missed t.notes (missed (is_defined_in t.objects) s n) ≡ all_notes t.notes (note_of t.objects (placement s (step n opens) p))
     with_misses = λ i. record { counts = sym (union-nothing t.notes.counts) i; methods = sym (append-nil t.notes.methods) i; missed = t.notes.missed ++ missed (is_defined_in t.objects) s n }
 
 -- ---- Externals

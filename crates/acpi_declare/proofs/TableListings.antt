@@ -12,7 +12,7 @@ use Rattle.acpi_declare.specs.Placing.{RefusedAt, placed_path}
 use Rattle.acpi_declare.specs.Sites.{sites}
 use Rattle.acpi_declare.specs.Tables.{IsTableOf}
 use Rattle.acpi_declare.specs.steps.Adding.{AddsTable}
-use Rattle.acpi_declare.specs.steps.Pass.{Pass, no_notes, note_of, joined, after, after_all, pass_items}
+use Rattle.acpi_declare.specs.steps.Pass.{Pass, no_notes, note_of, all_notes, after, after_all, pass_items}
 use Rattle.acpi_declare.proofs.PassSteps.{nothing_joined, joined_assoc}
 use Rattle.acpi_declare.proofs.Listings.{Ran, Stopped, Outcome, objects_after, items_outcome}
 
@@ -36,7 +36,7 @@ after_links : (t : Pass) (es : List Placement) → (after_all t es).links ≡ t.
 after_links t [] = sym (append-nil t.links)
 after_links t (e ∷ es) = after_links (after t e) es ∙ append_assoc t.links (pending_by e.step.effect e.scope e.path) (pending_links es)
 
-pub after_notes : (t : Pass) (es : List Placement) → (after_all t es).notes ≡ joined t.notes (notes_on t.objects es)
+pub after_notes : (t : Pass) (es : List Placement) → (after_all t es).notes ≡ all_notes t.notes (notes_on t.objects es)
 after_notes t [] = sym (nothing_joined t.notes)
 after_notes t (e ∷ es) = after_notes (after t e) es ∙ joined_assoc t.notes (note_of t.objects e) (notes_on (union t.objects (object_of e)) es)
 
@@ -46,7 +46,7 @@ pub pass_adds : (keep : Keep) (depth number : ℕ) (bytes : List ℕ) (is : Item
     → AddsTable keep depth number bytes (record { objects = t.objects; links = t.links; notes = notes }) (record { objects = u.objects; links = u.links; notes = notes ++ kept_of keep u.notes })
 pass_adds keep depth number bytes is t u notes table e none =
     let o : Ran t [] (sites is) u = subst (Outcome t [] (sites is)) e (outcome t is) in
-    let fresh : u.notes ≡ notes_on t.objects o.placements = ap (λ (v : Pass). v.notes) o.after_them ∙ after_notes t o.placements ∙ ap (λ n. joined n (notes_on t.objects o.placements)) none in
+    let fresh : u.notes ≡ notes_on t.objects o.placements = ap (λ (v : Pass). v.notes) o.after_them ∙ after_notes t o.placements ∙ ap (λ n. all_notes n (notes_on t.objects o.placements)) none in
     record {
       is = is;
       table = table;

@@ -5,7 +5,7 @@ use Rattle.acpi_table.specs.Tables as tables
 use Rattle.acpi_tree.specs.Tree.{ItemTrees}
 use Rattle.acpi_terms.specs.declared.fault.ItemReason.{ItemReason}
 use Rattle.acpi_terms.specs.Spelling.{SpellsItems, items_height}
-use Rattle.acpi_terms.specs.Faults.{Shows}
+use Rattle.acpi_terms.specs.Faults.{ShowsItems}
 use Rattle.acpi_terms.specs.Faults as faults
 use Rattle.acpi_declare.specs.declared.fault.LoadReason.{LoadReason}
 use Rattle.acpi_declare.specs.declared.fault.LoadReason.TheVariants.{Table, NotDsdt, NotSsdt, Trailing, Item, Refused}
@@ -38,7 +38,7 @@ pub record HasMore (number : ℕ) (bytes : List ℕ) : Type 0 where
 -- that place, and where a term that can't be an item follows whole items, that term is told.
 pub record IsCodeFault (depth : ℕ) (code : List ℕ) (reason : ItemReason) (place : ℕ) : Type 0 where
   pub none : (is : ItemTrees) → SpellsItems is code → items_height is ≤ depth → ⊥
-  pub shown : Shows depth code reason place
+  pub shown : ShowsItems depth code reason place
   pub next : (u w : List ℕ) (is : ItemTrees) (why : ItemReason) → code ≡ u ++ w → SpellsItems is u → items_height is ≤ depth → faults.Refused why w 0
       → (reason ≡ why) × (place ≡ length u)
 

@@ -19,9 +19,9 @@ use Rattle.acpi_declare.proofs.Unions.{path_same}
 use Rattle.acpi_body.specs.declared.fault.BodyFault.{BodyFault}
 use Rattle.acpi_body.specs.declared.fault.BodyReason.{BodyReason}
 use Rattle.acpi_body.specs.Arguments.{Arguments, arguments}
-use Rattle.acpi_body.specs.Faults.{Shows, IsRefused}
+use Rattle.acpi_body.specs.Faults.{ShowsBody, IsNoStatement}
 use Rattle.acpi_body.specs.Reasons.{IsReason}
-use Rattle.acpi_body.specs.Statements.{Reads}
+use Rattle.acpi_body.specs.Statements.{ReadsBody}
 use Rattle.acpi_order.specs.Bodies.{Method, with_counts, count, all_methods}
 use Rattle.acpi_machine.specs.Explaining.{IsReasonAt, IsExplained}
 use Rattle.acpi_machine.specs.steps.Adding.{noted, all_noted}
@@ -88,8 +88,8 @@ among_either (z ∷ xs) ys x (inr i) = by (among_either xs ys x i)
 
 -- what `why` answers
 pub reason_of : {E : Type 0} (args : Arguments) (s : List Segment) (depth : ℕ) (bytes : List ℕ) (r : Result (Option BodyFault) E)
-    → IfOk r (λ w. (w ≡ None) ↔ ((ts : TermTrees) × Reads args s depth bytes ts)) → IfOk r (λ w. IfSome w (λ f. Shows s depth bytes f.reason f.place))
-    → ((u v : List ℕ) (ts : TermTrees) (reason : BodyReason) → bytes ≡ u ++ v → Reads args s depth u ts → IsRefused reason v
+    → IfOk r (λ w. (w ≡ None) ↔ ((ts : TermTrees) × ReadsBody args s depth bytes ts)) → IfOk r (λ w. IfSome w (λ f. ShowsBody s depth bytes f.reason f.place))
+    → ((u v : List ℕ) (ts : TermTrees) (reason : BodyReason) → bytes ≡ u ++ v → ReadsBody args s depth u ts → IsNoStatement reason v
     → IfOk r (λ w. w ≡ Some (record { reason = reason; place = length u })))
     → IfOk r (λ w. IsReason args s depth bytes w)
 reason_of args s depth bytes (Ok w) read shown next = record { read = read; shown = shown; next = next }

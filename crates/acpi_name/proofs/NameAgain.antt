@@ -6,7 +6,7 @@ use Rattle.std.proofs.lemmas.List.{append_cancel_right, length-append, drop_at, 
 use Rattle.std.proofs.lemmas.List.Folds.{length-prefix_len}
 use Rattle.std.specs.List.{list_all, prefix_len}
 use Rattle.acpi_name.specs.Names.{Segment, NameParts, AreSegments, is_segment, is_lead_char}
-use Rattle.acpi_name.specs.Spelling.{joined, prefix_of, SpellsPath, SpellsName}
+use Rattle.acpi_name.specs.Spelling.{segment_bytes, prefix_of, SpellsPath, SpellsName}
 use Rattle.acpi_name.specs.declared.reading.NameFault.{NameFault}
 use Rattle.acpi_name.specs.steps.Reading.{◌>>=◌, segment_at, segments_at, counted_at, path_at, ups, relative_at, name_at}
 
@@ -43,12 +43,12 @@ segment_again (a ∷ b ∷ []) rest h = absurd cc
 segment_again (a ∷ b ∷ c ∷ []) rest h = absurd cc
 segment_again (a ∷ b ∷ c ∷ d ∷ e ∷ s) rest h = absurd cc
 
-pub segments_again : (ss : List Segment) (rest : List ℕ) → AreSegments ss → segments_at (length ss) (joined ss ++ rest) ≡ Ok (ss, rest)
+pub segments_again : (ss : List Segment) (rest : List ℕ) → AreSegments ss → segments_at (length ss) (segment_bytes ss ++ rest) ≡ Ok (ss, rest)
 unfolding segments_at
 segments_again [] rest h = refl
 segments_again (s ∷ ss) rest h =
     let p = each s ss h in
-    rw (append_assoc s (joined ss) rest, segment_again s (joined ss ++ rest) p.0, segments_again ss rest p.1) refl
+    rw (append_assoc s (segment_bytes ss) rest, segment_again s (segment_bytes ss ++ rest) p.0, segments_again ss rest p.1) refl
 
 -- a segment begins no other form
 path_one : (s rest : List ℕ) → is_segment s ≡ true → path_at (s ++ rest) ≡ segments_at 1 (s ++ rest)
@@ -98,8 +98,8 @@ path_start ss p all (inl h) = (0, [], h.1, refl, refl)
 path_start [] p all (inr (inl h)) = absurd (omega (arith, h.0))
 path_start (s ∷ []) p all (inr (inl h)) = let start = segment_start s (each s [] all).0 in (start.0, start.1, h.1 ∙ start.2, start.3, start.4)
 path_start (s ∷ t ∷ ss) p all (inr (inl h)) = absurd (omega (arith, h.0))
-path_start ss p all (inr (inr (inl h))) = (46, joined ss, h.1, refl, refl)
-path_start ss p all (inr (inr (inr h))) = (47, length ss ∷ joined ss, h.1, refl, refl)
+path_start ss p all (inr (inr (inl h))) = (46, segment_bytes ss, h.1, refl, refl)
+path_start ss p all (inr (inr (inr h))) = (47, length ss ∷ segment_bytes ss, h.1, refl, refl)
 
 ups_again : (n : ℕ) (b : ℕ) (r : List ℕ) → eqb b 94 ≡ false → prefix_len (λ x. eqb x 94) (replicate n 94 ++ b ∷ r) ≡ n
 ups_again zero b r h = rw h refl

@@ -5,7 +5,7 @@ use Rattle.std.proofs.lemmas.List.{length-append, append-nil, length-replicate, 
 use Rattle.std.proofs.lemmas.List.Folds.{length-prefix_len}
 use Rattle.std.specs.List.{prefix_len}
 use Rattle.acpi_name.specs.Names.{Segment, NameParts, AreSegments, is_segment}
-use Rattle.acpi_name.specs.Spelling.{joined, prefix_of, SpellsPath, IsCutName, HasZeroCount, HasTooManyUps}
+use Rattle.acpi_name.specs.Spelling.{segment_bytes, prefix_of, SpellsPath, IsCutName, HasZeroCount, HasTooManyUps}
 use Rattle.acpi_name.specs.declared.reading.NameFault.{NameFault}
 use Rattle.acpi_name.specs.declared.reading.NameFault.TheVariants.{Cut, BadChar, ZeroCount, TooManyUps}
 use Rattle.acpi_name.specs.Names.{is_segment_front}
@@ -66,7 +66,7 @@ record CutSegments (n : ℕ) (bytes : List ℕ) : Type 0 where
   are_segments : AreSegments segments
   more : List ℕ
   missing : 0 < length more
-  whole : bytes ++ more ≡ joined segments
+  whole : bytes ++ more ≡ segment_bytes segments
 
 blanks_are : (n : ℕ) → AreSegments (replicate n blank)
 blanks_are zero = refl
@@ -83,9 +83,9 @@ segments_cut (suc n) bytes e =
             segments = (bytes ++ s.0) ∷ replicate n blank;
             count = ap suc (length-replicate n blank);
             are_segments = rw s.2 (blanks_are n);
-            more = s.0 ++ joined (replicate n blank);
-            missing = omega (arith, s.1, length-append s.0 (joined (replicate n blank)));
-            whole = sym (append_assoc bytes s.0 (joined (replicate n blank)));
+            more = s.0 ++ segment_bytes (replicate n blank);
+            missing = omega (arith, s.1, length-append s.0 (segment_bytes (replicate n blank)));
+            whole = sym (append_assoc bytes s.0 (segment_bytes (replicate n blank)));
           }
       | inr t ↦
           let more = segments_cut n t.0.1 (bind_done (segments_at n t.0.1) (λ ss. (t.0.0 ∷ ss.0, ss.1)) Cut t.2) in

@@ -5,7 +5,7 @@ use Rattle.std.proofs.lemmas.List.{take-append-drop}
 use Rattle.std.proofs.lemmas.List.Folds.{length-prefix_len}
 use Rattle.std.specs.List.{prefix_len}
 use Rattle.acpi_name.specs.Names.{Segment, NameParts, AreSegments, is_segment}
-use Rattle.acpi_name.specs.Spelling.{joined, SpellsPath, SpellsName}
+use Rattle.acpi_name.specs.Spelling.{segment_bytes, SpellsPath, SpellsName}
 use Rattle.acpi_name.specs.declared.reading.NameFault.{NameFault}
 use Rattle.acpi_name.specs.declared.reading.NameFault.TheVariants.{Cut, BadChar, ZeroCount, TooManyUps}
 use Rattle.acpi_name.specs.Names.{is_segment_front}
@@ -51,7 +51,7 @@ pub record TookPath (bytes : List ℕ) (x : List Segment × List ℕ) : Type 0 w
 record TookSegments (n : ℕ) (bytes : List ℕ) (x : List Segment × List ℕ) : Type 0 where
   count : length x.0 ≡ n
   are_segments : AreSegments x.0
-  whole : bytes ≡ joined x.0 ++ x.1
+  whole : bytes ≡ segment_bytes x.0 ++ x.1
 
 -- a segment that is read stands at the front
 pub segment_took : (bytes : List ℕ) (x : Segment × List ℕ) → segment_at bytes ≡ Ok x → (is_segment x.0 ≡ true) × (bytes ≡ x.0 ++ x.1)
@@ -75,7 +75,7 @@ segments_took (suc n) bytes x e =
     let more = segments_took n b.0.1 c.0 c.1 in
     let s = segment_took bytes b.0 b.1 in
     subst (TookSegments (suc n) bytes) (ok_is (b.0.0 ∷ c.0.0, c.0.1) x c.2)
-    (record { count = ap suc more.count; are_segments = rw s.0 more.are_segments; whole = s.1 ∙ ap (λ (r : List ℕ). b.0.0 ++ r) more.whole ∙ sym (append_assoc b.0.0 (joined c.0.0) c.0.1) })
+    (record { count = ap suc more.count; are_segments = rw s.0 more.are_segments; whole = s.1 ∙ ap (λ (r : List ℕ). b.0.0 ++ r) more.whole ∙ sym (append_assoc b.0.0 (segment_bytes c.0.0) c.0.1) })
 
 counted_took : (b : ℕ) (bytes : List ℕ) (x : List Segment × List ℕ) → b ≡ 47 → counted_at bytes ≡ Ok x → TookPath (b ∷ bytes) x
 unfolding counted_at
@@ -87,7 +87,7 @@ counted_took b (n ∷ bytes) x is e =
     let t = segments_took n bytes x k.1 in
     let some : n ≡ 0 → ⊥ = eqb-false n 0 g.0 in
     record {
-      path = 47 ∷ length x.0 ∷ joined x.0;
+      path = 47 ∷ length x.0 ∷ segment_bytes x.0;
       spells_path = inr (inr (inr (omega (arith, some, t.count), refl)));
       are_segments = t.are_segments;
       few = omega (arith, t.count);
@@ -112,7 +112,7 @@ path_took (b ∷ bytes) x e =
             | inl t ↦
                 let s = segments_took 2 bytes x t.1 in
                 record {
-                  path = 46 ∷ joined x.0;
+                  path = 46 ∷ segment_bytes x.0;
                   spells_path = inr (inr (inl (s.count, refl)));
                   are_segments = s.are_segments;
                   few = omega (arith, s.count);
@@ -123,7 +123,7 @@ path_took (b ∷ bytes) x e =
                   | inl t ↦ counted_took b bytes x (eqb-true b 47 t.0) t.1
                   | inr f ↦
                       let s = segments_took 1 (b ∷ bytes) x f.1 in
-                      record { path = joined x.0; spells_path = inr (inl (s.count, refl)); are_segments = s.are_segments; few = omega (arith, s.count); whole = s.whole }
+                      record { path = segment_bytes x.0; spells_path = inr (inl (s.count, refl)); are_segments = s.are_segments; few = omega (arith, s.count); whole = s.whole }
                 ]
           ]
     ]

@@ -6,7 +6,7 @@ use Rattle.std.proofs.lemmas.List.{append-nil}
 use Rattle.std.proofs.lemmas.List.Elements.{All-from_recursion}
 use Rattle.std.proofs.lemmas.List.Splits.{join_with_byte-slice_split, slice_split_none, slice_split_at, length-slice_split}
 use Rattle.acpi_name.specs.Names.{Segment, AreSegments, is_segment, is_lead_char, is_name_char}
-use Rattle.acpi_name.specs.Text.{path_text, SpellsSegment, SpellsPathText, IsPathText}
+use Rattle.acpi_name.specs.Text.{path_text, IsTypedSegment, SpellsPathText, IsPathText}
 use Rattle.acpi_name.specs.steps.TextReading.{checked_segment, typed_segment, before_segments, typed_segments, dotted_parts, path_of_text}
 use Rattle.acpi_name.proofs.NameAgain.{and_true, neq, each}
 use Rattle.acpi_name.proofs.NameTook.{chosen}
@@ -20,7 +20,7 @@ checked_is g h e = by_test (is_segment h) refl e
     by_test true k f = let is : h ≡ g = cc in (sym is, k)
     by_test false k f = absurd cc
 
-segment_typed : (typed : List ℕ) (g : Segment) → typed_segment typed ≡ Some g → SpellsSegment g typed
+segment_typed : (typed : List ℕ) (g : Segment) → typed_segment typed ≡ Some g → IsTypedSegment g typed
 segment_typed [] g e = absurd cc
 segment_typed (a ∷ []) g e = let c = checked_is g (a ∷ 95 ∷ 95 ∷ 95 ∷ []) e in record { some = omega arith; few = omega arith; filled = c.0; segment = ap is_segment c.0 ∙ c.1 }
 segment_typed (a ∷ b ∷ []) g e = let c = checked_is g (a ∷ b ∷ 95 ∷ 95 ∷ []) e in record { some = omega arith; few = omega arith; filled = c.0; segment = ap is_segment c.0 ∙ c.1 }
@@ -35,12 +35,12 @@ before_is (Some g) (Some hs) gs e = let is : g ∷ hs ≡ gs = cc in (g, hs, ref
 before_is (Some g) None gs e = absurd cc
 before_is None p gs e = absurd cc
 
-segments_typed : (parts : List (List ℕ)) (p : List Segment) → typed_segments parts ≡ Some p → AllZip SpellsSegment p parts × (length p ≡ length parts)
-segments_typed [] p e = let is : [] ≡ p = cc in subst (λ (q : List Segment). AllZip SpellsSegment q [] × (length q ≡ 0)) is (tt, refl)
+segments_typed : (parts : List (List ℕ)) (p : List Segment) → typed_segments parts ≡ Some p → AllZip IsTypedSegment p parts × (length p ≡ length parts)
+segments_typed [] p e = let is : [] ≡ p = cc in subst (λ (q : List Segment). AllZip IsTypedSegment q [] × (length q ≡ 0)) is (tt, refl)
 segments_typed (typed ∷ parts) p e =
     let b = before_is (typed_segment typed) (typed_segments parts) p e in
     let more = segments_typed parts b.1 b.3 in
-    subst (λ (q : List Segment). AllZip SpellsSegment q (typed ∷ parts) × (length q ≡ length (typed ∷ parts))) (sym b.4) ((segment_typed typed b.0 b.2, more.0), ap suc more.1)
+    subst (λ (q : List Segment). AllZip IsTypedSegment q (typed ∷ parts) × (length q ≡ length (typed ∷ parts))) (sym b.4) ((segment_typed typed b.0 b.2, more.0), ap suc more.1)
 
 pub text_took : (text : List ℕ) (p : List Segment) → path_of_text text ≡ Some p → SpellsPathText p text
 text_took [] p e = absurd cc
@@ -63,7 +63,7 @@ text_took (b ∷ c ∷ text) p e =
 checked_again : (h : Segment) → is_segment h ≡ true → checked_segment h ≡ Some h
 checked_again h e = rw e refl
 
-typed_again : (g typed : List ℕ) → SpellsSegment g typed → typed_segment typed ≡ Some g
+typed_again : (g typed : List ℕ) → IsTypedSegment g typed → typed_segment typed ≡ Some g
 typed_again g [] h = absurd (omega (arith, h.some))
 typed_again g (a ∷ []) h = ap checked_segment (sym h.filled) ∙ checked_again g h.segment
 typed_again g (a ∷ b ∷ []) h = ap checked_segment (sym h.filled) ∙ checked_again g h.segment
@@ -71,7 +71,7 @@ typed_again g (a ∷ b ∷ c ∷ []) h = ap checked_segment (sym h.filled) ∙ c
 typed_again g (a ∷ b ∷ c ∷ d ∷ []) h = ap checked_segment (sym h.filled) ∙ checked_again g h.segment
 typed_again g (a ∷ b ∷ c ∷ d ∷ x ∷ typed) h = absurd (omega (arith, h.few))
 
-segments_again : (p : List Segment) (typed : List (List ℕ)) → AllZip SpellsSegment p typed → typed_segments typed ≡ Some p
+segments_again : (p : List Segment) (typed : List (List ℕ)) → AllZip IsTypedSegment p typed → typed_segments typed ≡ Some p
 segments_again [] [] h = refl
 segments_again [] (t ∷ typed) h = absurd h
 segments_again (g ∷ p) [] h = absurd h
@@ -91,7 +91,7 @@ undotted a b c d h =
     let r = and_true (is_lead_char a) (is_name_char b) q.0 in
     (not_dot a (lead_is_name a r.0), not_dot b r.1, not_dot c q.1, not_dot d p.1)
 
-no_dots : (g typed : List ℕ) → SpellsSegment g typed → All (λ x. eqb x 46 ≡ false) typed
+no_dots : (g typed : List ℕ) → IsTypedSegment g typed → All (λ x. eqb x 46 ≡ false) typed
 no_dots g [] h = absurd (omega (arith, h.some))
 no_dots g (a ∷ []) h =
     let u = undotted a 95 95 95 (ap is_segment (sym h.filled) ∙ h.segment) in
@@ -107,7 +107,7 @@ no_dots g (a ∷ b ∷ c ∷ d ∷ []) h =
     All-from_recursion (λ x. eqb x 46 ≡ false) (a ∷ b ∷ c ∷ d ∷ []) (u.0, (u.1, (u.2, (u.3, tt))))
 no_dots g (a ∷ b ∷ c ∷ d ∷ x ∷ typed) h = absurd (omega (arith, h.few))
 
-parts_again : (p : List Segment) (typed : List (List ℕ)) → 0 < length p → AllZip SpellsSegment p typed → dotted_parts (join_with_byte 46 typed) ≡ typed
+parts_again : (p : List Segment) (typed : List (List ℕ)) → 0 < length p → AllZip IsTypedSegment p typed → dotted_parts (join_with_byte 46 typed) ≡ typed
 parts_again [] typed some h = absurd (omega arith)
 parts_again (g ∷ p) [] some h = absurd h
 parts_again (g ∷ []) (t ∷ []) some h = slice_split_none (λ x. eqb x 46) t (no_dots g t h.0)
@@ -117,7 +117,7 @@ parts_again (g ∷ k ∷ p) (t ∷ u ∷ typed) some h =
     slice_split_at (λ x. eqb x 46) t 46 (join_with_byte 46 (u ∷ typed)) (no_dots g t h.0) refl ∙ ap (λ (r : List (List ℕ)). t ∷ r) (parts_again (k ∷ p) (u ∷ typed) (omega arith) h.1)
 
 -- what is typed is not empty
-typed_starts : (p : List Segment) (typed : List (List ℕ)) → 0 < length p → AllZip SpellsSegment p typed → (c : ℕ) × (r : List ℕ) × (join_with_byte 46 typed ≡ c ∷ r)
+typed_starts : (p : List Segment) (typed : List (List ℕ)) → 0 < length p → AllZip IsTypedSegment p typed → (c : ℕ) × (r : List ℕ) × (join_with_byte 46 typed ≡ c ∷ r)
 typed_starts [] typed some h = absurd (omega arith)
 typed_starts (g ∷ p) [] some h = absurd h
 typed_starts (g ∷ p) ([] ∷ typed) some h = absurd (omega (arith, h.0.some))
@@ -138,7 +138,7 @@ printed_joined : (g : Segment) (gs : List Segment) → g ++ flat_map (λ h. 46 �
 printed_joined g [] = append-nil g
 printed_joined g (h ∷ gs) = ap (λ (r : List ℕ). g ++ (46 ∷ r)) (printed_joined h gs)
 
-segment_itself : (g : Segment) → is_segment g ≡ true → SpellsSegment g g
+segment_itself : (g : Segment) → is_segment g ≡ true → IsTypedSegment g g
 segment_itself (a ∷ b ∷ c ∷ d ∷ []) h = record { some = omega arith; few = omega arith; filled = refl; segment = h }
 segment_itself [] h = absurd cc
 segment_itself (a ∷ []) h = absurd cc
@@ -146,7 +146,7 @@ segment_itself (a ∷ b ∷ []) h = absurd cc
 segment_itself (a ∷ b ∷ c ∷ []) h = absurd cc
 segment_itself (a ∷ b ∷ c ∷ d ∷ e ∷ g) h = absurd cc
 
-segments_themselves : (gs : List Segment) → AreSegments gs → AllZip SpellsSegment gs gs
+segments_themselves : (gs : List Segment) → AreSegments gs → AllZip IsTypedSegment gs gs
 segments_themselves [] h = tt
 segments_themselves (g ∷ gs) h = let p = each g gs h in (segment_itself g p.0, segments_themselves gs p.1)
 

@@ -1,4 +1,5 @@
 -- `==` on names.
+-- Nothing here needs to be trusted: each `==` promises that it is true exactly of equal values.
 use Rattle.std.specs.Prelude.{Bool, ◌&&◌, nat_eq}
 use Rattle.std.specs.Bool.{beq}
 use Rattle.std.specs.Cmp.Lexicographic.{pointwise}

@@ -1,5 +1,5 @@
 -- Segments and names as contracts see them (ACPI 6.5, 5.3 and 20.2.2).
-use Rattle.std.specs.Prelude.{◌≡◌, ℕ, ◌<◌, Bool, true, false, ◌&&◌, ◌||◌, nat_le, nat_eq, cond, Option, Some, None, List, [], ◌∷◌, length, IsTrue}
+use Rattle.std.specs.Prelude.{◌≡◌, ℕ, ◌<◌, Bool, true, false, ◌&&◌, ◌||◌, not, nat_le, nat_eq, cond, Option, Some, None, List, [], ◌∷◌, length, IsTrue}
 use Rattle.std.specs.List.{list_all}
 
 -- a NameSeg, by its bytes (20.2.2)
@@ -36,6 +36,10 @@ pub record NameParts : Type 0 where
   pub rooted : Bool
   pub parents : ℕ
   pub segments : List Segment
+
+-- the name that the byte 00 spells, which is no term (20.2.2 NullName)
+abbrev pub is_null_name : NameParts → Bool
+is_null_name n = not n.rooted && nat_eq n.parents 0 && nat_eq (length n.segments) 0
 
 -- the parts of a name that has a spelling: a rooted one has no parents, and a byte counts the segments (20.2.2);
 -- that a name goes up at most 255 parents is a limit of this loader

@@ -3,9 +3,9 @@ use Rattle.std.specs.Prelude.{◌≡◌, ◌⊎◌, ℕ, ◌<◌, ◌≤◌, Boo
 use Rattle.acpi_name.specs.Names.{Segment, NameParts, IsName}
 
 -- the segments one after the other
-abbrev pub joined : List Segment → List ℕ
-joined [] = []
-joined (s ∷ ss) = s ++ joined ss
+abbrev pub segment_bytes : List Segment → List ℕ
+segment_bytes [] = []
+segment_bytes (s ∷ ss) = s ++ segment_bytes ss
 
 -- the bytes before a name's segments: RootChar 5C, or a PrefixPath of a 5E for each parent (20.2.2)
 abbrev pub prefix_of : Bool → ℕ → List ℕ
@@ -17,9 +17,9 @@ prefix_of false parents = replicate parents 0x5E
 abbrev pub SpellsPath : List Segment → List ℕ → Type 0
 SpellsPath ss bytes =
     ((length ss ≡ 0) × (bytes ≡ 0x00 ∷ []))
-    ⊎ ((length ss ≡ 1) × (bytes ≡ joined ss))
-    ⊎ ((length ss ≡ 2) × (bytes ≡ 0x2E ∷ joined ss))
-    ⊎ ((0 < length ss) × (bytes ≡ 0x2F ∷ length ss ∷ joined ss))
+    ⊎ ((length ss ≡ 1) × (bytes ≡ segment_bytes ss))
+    ⊎ ((length ss ≡ 2) × (bytes ≡ 0x2E ∷ segment_bytes ss))
+    ⊎ ((0 < length ss) × (bytes ≡ 0x2F ∷ length ss ∷ segment_bytes ss))
 
 -- NameString: the bytes spell the name (20.2.2)
 pub record SpellsName (n : NameParts) (bytes : List ℕ) : Type 0 where
@@ -69,7 +69,7 @@ abbrev pub path_bytes : List Segment → List ℕ
 path_bytes [] = 0 ∷ []
 path_bytes (s ∷ []) = s
 path_bytes (s ∷ t ∷ []) = 0x2E ∷ (s ++ t)
-path_bytes (s ∷ t ∷ u ∷ ss) = 0x2F ∷ length (s ∷ t ∷ u ∷ ss) ∷ joined (s ∷ t ∷ u ∷ ss)
+path_bytes (s ∷ t ∷ u ∷ ss) = 0x2F ∷ length (s ∷ t ∷ u ∷ ss) ∷ segment_bytes (s ∷ t ∷ u ∷ ss)
 
 -- the shortest spelling of a name
 abbrev pub name_bytes : NameParts → List ℕ

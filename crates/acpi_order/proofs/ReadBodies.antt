@@ -10,7 +10,7 @@ use Rattle.acpi_body.specs.Arguments.{Arguments}
 use Rattle.acpi_body.specs.Bodies.{BodyTree, read, unread}
 use Rattle.acpi_body.specs.Laws.{AgreeAt}
 use Rattle.acpi_body.specs.Searches.{all_searches, IsSpelledIn}
-use Rattle.acpi_body.specs.Statements.{Reads}
+use Rattle.acpi_body.specs.Statements.{ReadsBody}
 use Rattle.acpi_body.proofs.Kept.{kept_statements, spelled_statements}
 use Rattle.acpi_body.proofs.ReadBodies.{one_reading, read_or_none}
 use Rattle.acpi_order.specs.Bodies.{Method, count, IsReading, IsBody, AreBodies, bodies_at}
@@ -19,12 +19,12 @@ use Rattle.acpi_order.specs.Bodies.{Method, count, IsReading, IsBody, AreBodies,
 
 -- a reading stays one where the names that it searches count the same
 pub kept_reads : (depth : ℕ) (a b : Arguments) (s : List Segment) (bytes : List ℕ) (ts : TermTrees)
-    → AllByRecursion (AgreeAt a b) (all_searches s finite.empty ts) → Reads a s depth bytes ts → Reads b s depth bytes ts
+    → AllByRecursion (AgreeAt a b) (all_searches s finite.empty ts) → ReadsBody a s depth bytes ts → ReadsBody b s depth bytes ts
 kept_reads depth a b s bytes ts same h = record { spelled = kept_statements a b s finite.empty ts bytes same h.spelled; within = h.within }
 
 -- the names that a reading searches are spelled in its bytes
 pub spelled_reads : (depth : ℕ) (a : Arguments) (s : List Segment) (bytes : List ℕ) (ts : TermTrees)
-    → Reads a s depth bytes ts → AllByRecursion (λ e. IsSpelledIn bytes e.1) (all_searches s finite.empty ts)
+    → ReadsBody a s depth bytes ts → AllByRecursion (λ e. IsSpelledIn bytes e.1) (all_searches s finite.empty ts)
 spelled_reads depth a s bytes ts h = spelled_statements a s finite.empty ts bytes h.spelled
 
 abbrev pub HasNoReading : ℕ → Namespace → Method → Type 0

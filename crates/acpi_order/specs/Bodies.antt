@@ -8,7 +8,7 @@ use Rattle.acpi_declare.specs.Listing.{Placement}
 use Rattle.acpi_declare.specs.Notes.{external_counts}
 use Rattle.acpi_declare.specs.Notes as notes
 use Rattle.acpi_body.specs.Arguments.{Arguments, arguments}
-use Rattle.acpi_body.specs.Statements.{Reads}
+use Rattle.acpi_body.specs.Statements.{ReadsBody}
 use Rattle.acpi_body.specs.Bodies.{BodyTree, IsBodyOf}
 
 -- a method that a table declares, with the argument counts that the table's Externals give
@@ -33,7 +33,7 @@ abbrev pub count : Namespace → Method → Arguments
 count objects m = arguments objects m.counts m.path
 
 abbrev pub IsReading : ℕ → Namespace → Method → TermTrees → Type 0
-IsReading depth objects m ts = Reads (count objects m) m.path depth m.code ts
+IsReading depth objects m ts = ReadsBody (count objects m) m.path depth m.code ts
 
 -- the terms that stand for the method's bytes, or the bytes where none do
 abbrev pub IsBody : ℕ → Namespace → Method → BodyTree → Type 0

@@ -1,4 +1,5 @@
--- What the load of a DSDT with one SSDT tells, and which Externals of independent tables are satisfied (ACPI 6.5, 5.3 and 20.2.5).
+-- What the load of a DSDT with one SSDT tells, and which Externals another SSDT satisfies, whether or not the tables are independent
+-- (ACPI 6.5, 5.3 and 20.2.5).
 use Rattle.std.specs.Prelude.{◌≡◌, ◌≢◌, ◌↔◌, ◌⊎◌, ℕ, zero, suc, false, List, [], ◌∷◌, Some, IsTrue}
 use Rattle.std.specs.declared.cmp.Ordering.{Ordering}
 use Rattle.std.specs.Ordering.{nat_cmp, ordering_then}

@@ -13,7 +13,7 @@ use Rattle.acpi_code.proofs.Opcodes.{opens}
 use Rattle.acpi_terms.specs.declared.holder.Holder.{Holder}
 use Rattle.acpi_terms.specs.declared.holder.HolderForm.{HolderForm}
 use Rattle.acpi_terms.specs.declared.holder.HolderForm.TheVariants as forms
-use Rattle.acpi_terms.specs.Forms.{arguments, ArgumentsOf}
+use Rattle.acpi_terms.specs.Forms.{fixed_arguments, ArgumentsOf}
 use Rattle.acpi_terms.specs.Spelling.{SpellsFilled, SpellsItem, SpellsItems, item_height, items_height}
 use Rattle.acpi_terms.specs.steps.Holding.{opens_items, holding, held_by, holder_item, HasFront}
 use Rattle.acpi_terms.specs.steps.Reading.{Fault, packed_at, item_by}
@@ -90,8 +90,8 @@ same_item i j a b e =
 -- ---- what is left where the items begin
 
 module _ (o : Opcode) (made : ArgumentsOf o → ItemTrees → ItemTree) (v : ArgumentsOf o) (Fills : List ℕ → Type 0) (a rest : List ℕ) (old new : Left) (h : Holder)
-    (some : is_spelled o ≡ true) (holds : opens_items o ≡ true) (flat : arguments_height (arguments o) ≤ 0)
-    (form : (inner : ℕ → List ℕ → Result ItemTrees Fault) (end : ℕ) (whole more : List ℕ) → item_by inner 0 end whole o more ≡ packed_at (arguments o) made 0 inner end more)
+    (some : is_spelled o ≡ true) (holds : opens_items o ≡ true) (flat : arguments_height (fixed_arguments o) ≤ 0)
+    (form : (inner : ℕ → List ℕ → Result ItemTrees Fault) (end : ℕ) (whole more : List ℕ) → item_by inner 0 end whole o more ≡ packed_at (fixed_arguments o) made 0 inner end more)
     (items : (is : ItemTrees) → items_in (made v is) ≡ is)
     (f : SpellsFilled o v Fills a) (whole : old.bytes ≡ a ++ rest) (front : HasFront old new h) where
   abbrev more : List ℕ
@@ -110,7 +110,7 @@ module _ (o : Opcode) (made : ArgumentsOf o → ItemTrees → ItemTree) (v : Arg
   read_here : holder_item telling o old.end more ≡ whole_item (made v here) rest
   read_here =
       sym (as_holder telling 0 old.end more o more holds) ∙ form telling old.end more more
-      ∙ packed_complete (arguments o) made 0 telling old.end v here f.4.len f.0 f.1 rest flat f.2 refl f.4.spells_len
+      ∙ packed_complete (fixed_arguments o) made 0 telling old.end v here f.4.len f.0 f.1 rest flat f.2 refl f.4.spells_len
 
   read_there : holder_item telling o old.end more ≡ whole_item (held_by h.front (told h.inner.end h.inner.bytes)) new.bytes
   read_there = ap (λ (q : Opcode). holder_item telling q old.end more) (sym begun.0) ∙ ap (holder_item telling front.0 old.end) (sym begun.1) ∙ front.4 telling
@@ -155,8 +155,8 @@ module _ (is : ItemTrees) (a rest : List ℕ) (old : Left) (h : Holder) where
 
   module _ (new : Left) (whole : old.bytes ≡ a ++ rest) (front : HasFront old new h) where
     as_filled : (o : Opcode) (made : ArgumentsOf o → ItemTrees → ItemTree) (v : ArgumentsOf o) (f : SpellsFilled o v (λ b. SpellsItems is b) a)
-        → is_spelled o ≡ true → opens_items o ≡ true → arguments_height (arguments o) ≤ 0
-        → ((inner : ℕ → List ℕ → Result ItemTrees Fault) (end : ℕ) (whole more : List ℕ) → item_by inner 0 end whole o more ≡ packed_at (arguments o) made 0 inner end more)
+        → is_spelled o ≡ true → opens_items o ≡ true → arguments_height (fixed_arguments o) ≤ 0
+        → ((inner : ℕ → List ℕ → Result ItemTrees Fault) (end : ℕ) (whole more : List ℕ) → item_by inner 0 end whole o more ≡ packed_at (fixed_arguments o) made 0 inner end more)
         → ((js : ItemTrees) → items_in (made v js) ≡ js)
         → ((table start : ℕ) (places : List CodePlace) → SpellsFilled o v (λ b. SpellsItemsAt table (place_of_last start a b) is b places) a → SpellsItemAt table start (made v is) a places)
         → Inside (made v is) is a rest old h

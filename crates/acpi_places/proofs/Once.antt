@@ -5,7 +5,7 @@ use Rattle.acpi_tree.specs.Tree.{ItemTree, name, scope, method, external, extern
 use Rattle.acpi_code.specs.declared.opcode.Opcode.{Opcode}
 use Rattle.acpi_code.specs.declared.opcode.Opcode.TheVariants as opcodes
 use Rattle.acpi_code.specs.Opcodes.{opcode_bytes}
-use Rattle.acpi_terms.specs.Forms.{arguments, ArgumentsOf}
+use Rattle.acpi_terms.specs.Forms.{fixed_arguments, ArgumentsOf}
 use Rattle.acpi_terms.specs.Spelling.{SpellsFilled, SpellsItem, SpellsItems, item_height}
 use Rattle.acpi_terms.specs.steps.Reading.{packed_at, item_at}
 use Rattle.acpi_terms.proofs.Arguments.{arguments_height, packed_complete}
@@ -49,13 +49,13 @@ mutual
 
 -- ---- what fills a package
 
-module _ (o : Opcode) (made : ArgumentsOf o → ItemTrees → ItemTree) (v : ArgumentsOf o) (a : List ℕ) (flat : arguments_height (arguments o) ≤ 0) (items : (is : ItemTrees) → items_in (made v is) ≡ is) where
-  read_last : (Fills : List ℕ → Type 0) (f : SpellsFilled o v Fills a) → packed_at (arguments o) made 0 telling 0 (drop (length (opcode_bytes o)) a) ≡ whole_item (made v (told 0 f.1)) []
+module _ (o : Opcode) (made : ArgumentsOf o → ItemTrees → ItemTree) (v : ArgumentsOf o) (a : List ℕ) (flat : arguments_height (fixed_arguments o) ≤ 0) (items : (is : ItemTrees) → items_in (made v is) ≡ is) where
+  read_last : (Fills : List ℕ → Type 0) (f : SpellsFilled o v Fills a) → packed_at (fixed_arguments o) made 0 telling 0 (drop (length (opcode_bytes o)) a) ≡ whole_item (made v (told 0 f.1)) []
   read_last Fills f =
       let packed = f.4.len ++ (f.0 ++ f.1) in
       let behind : drop (length (opcode_bytes o)) a ≡ packed ++ [] =
       ap (drop (length (opcode_bytes o))) f.4.whole ∙ drop_at (opcode_bytes o) packed (length (opcode_bytes o)) refl ∙ sym (append-nil packed) in
-      ap (packed_at (arguments o) made 0 telling 0) behind ∙ packed_complete (arguments o) made 0 telling 0 v (told 0 f.1) f.4.len f.0 f.1 [] flat f.2 refl f.4.spells_len
+      ap (packed_at (fixed_arguments o) made 0 telling 0) behind ∙ packed_complete (fixed_arguments o) made 0 telling 0 v (told 0 f.1) f.4.len f.0 f.1 [] flat f.2 refl f.4.spells_len
 
   same_last : (Fills Fills' : List ℕ → Type 0) (f : SpellsFilled o v Fills a) (g : SpellsFilled o v Fills' a) → f.1 ≡ g.1
   same_last Fills Fills' f g =

@@ -24,7 +24,7 @@ use Rattle.acpi_declare.specs.Sites.{sites}
 use Rattle.acpi_declare.specs.Tables.{code_of, IsTableOf}
 use Rattle.acpi_declare.proofs.Unions.{union-nothing, union_assoc}
 use Rattle.acpi_body.specs.Bodies.{BodyTree, read, unread}
-use Rattle.acpi_body.specs.Statements.{Reads}
+use Rattle.acpi_body.specs.Statements.{ReadsBody}
 use Rattle.acpi_order.specs.Bodies.{Method, with_counts, methods_of, all_methods, count, IsBody}
 use Rattle.acpi_order.specs.Machines.{Machine, IsMachine}
 use Rattle.acpi_order.specs.Orders.{TellsOfJoin}
@@ -60,10 +60,10 @@ module _ (depth : ℕ) (objects : Namespace) (m : Method) (code : List ℕ) (bel
   same_body (read ts) is e =
       let r = read_terms_are_written (count objects m) m.path depth m.code ts below is in
       let same : r.written ≡ code = some_same r.written code (sym r.spelling ∙ e) in
-      (subst (λ (c : List ℕ). Reads (count objects m) m.path depth c ts) same r.reads, subst (λ (c : List ℕ). length c ≤ length m.code) same r.within)
+      (subst (λ (c : List ℕ). ReadsBody (count objects m) m.path depth c ts) same r.reads, subst (λ (c : List ℕ). length c ≤ length m.code) same r.within)
   same_body (unread kept) is e =
       let same : m.code ≡ code = sym is.0 ∙ some_same kept code e in (
-        (some_same kept code e, subst (λ (c : List ℕ). (ts : TermTrees) → Reads (count objects m) m.path depth c ts → ⊥) same is.1),
+        (some_same kept code e, subst (λ (c : List ℕ). (ts : TermTrees) → ReadsBody (count objects m) m.path depth c ts → ⊥) same is.1),
         subst (λ (c : List ℕ). length c ≤ length m.code) same (omega arith),
       )
 

@@ -14,7 +14,7 @@ use Rattle.acpi_code.proofs.Numbers.{byte_complete, byte_sound, number_complete,
 use Rattle.acpi_code.proofs.Packages.{package_complete, PackageFront, GoodPackage, package_sound, deeper_package}
 use Rattle.acpi_code.proofs.Names.{name_in_complete, name_sound}
 use Rattle.acpi_terms.specs.Faults.{IsLengthOf, Awaits, MustBegin}
-use Rattle.acpi_terms.specs.Forms.{FixedArgument, name_arg, source_arg, byte_arg, word_arg, dword_arg, count_arg, int_arg, Value, Values, arguments, ArgumentsOf}
+use Rattle.acpi_terms.specs.Forms.{FixedArgument, name_arg, source_arg, byte_arg, word_arg, dword_arg, count_arg, int_arg, Value, Values, fixed_arguments, ArgumentsOf}
 use Rattle.acpi_terms.specs.Spelling.{SpellsArgument, SpellsArguments, SpellsPlain}
 use Rattle.acpi_terms.specs.steps.Reading.{Fault, part, int_at, source_at, args_in, argument_at, arguments_at, plain_at, packed_at}
 use Rattle.acpi_terms.proofs.Parts.{Bad, part_sound}
@@ -153,7 +153,7 @@ next_argument s level end opcode k ks bytes x w h t =
 
 -- behind the opcode of a form without a package all its arguments must follow
 pub awaits_all : (s : Source) (level end : ℕ) (opcode : Opcode) (bytes rest : List ℕ) → has_package opcode ≡ false → bytes ≡ opcode_bytes opcode ++ rest
-    → Position s.depth level s.code end bytes → Awaits opcode (arguments opcode) s.code (end - length rest)
+    → Position s.depth level s.code end bytes → Awaits opcode (fixed_arguments opcode) s.code (end - length rest)
 awaits_all s level end opcode bytes rest plain is h =
     let op = opcode_bytes opcode in
     record {
@@ -172,7 +172,7 @@ awaits_all s level end opcode bytes rest plain is h =
 
 -- the same of a form with a package, whose arguments stand first in it
 awaits_packed : (s : Source) (level end : ℕ) (opcode : Opcode) (bytes rest : List ℕ) (p : Package) → has_package opcode ≡ true → bytes ≡ opcode_bytes opcode ++ rest
-    → Position s.depth level s.code end bytes → PackageFront end rest p → Awaits opcode (arguments opcode) s.code (p.end - length p.content)
+    → Position s.depth level s.code end bytes → PackageFront end rest p → Awaits opcode (fixed_arguments opcode) s.code (p.end - length p.content)
 awaits_packed s level end opcode bytes rest p packs is h g =
     let op = opcode_bytes opcode in
     let some : IsLengthOf true g.len = (length g.len + length p.content, g.spells_len) in
@@ -209,25 +209,27 @@ arguments_sound s level end left opcode (k ∷ ks) bytes l w h =
     judge_bind (ReadArguments s level end left opcode ks x.1) G (Bad s) (arguments_at left ks end x.1) _
     (arguments_sound s level end left opcode ks x.1 (levels_of k ks level left l) next r.1) (λ xs q.
     let u = q.0.0 in (
-      (record {
-        front = t.front ++ u.front;
-        spells = ((t.front, u.front, t.spells.0, u.spells.0, refl), omega (arith, t.spells.1, u.spells.1));
-        whole = t.whole ∙ ap (λ (y : List ℕ). t.front ++ y) u.whole ∙ sym (append_assoc t.front u.front xs.1);
-      },
-      q.0.1),
+      (
+        record {
+          front = t.front ++ u.front;
+          spells = ((t.front, u.front, t.spells.0, u.spells.0, refl), omega (arith, t.spells.1, u.spells.1));
+          whole = t.whole ∙ ap (λ (y : List ℕ). t.front ++ y) u.whole ∙ sym (append_assoc t.front u.front xs.1);
+        },
+        q.0.1,
+      ),
       q.1,
     )))
 
 -- ---- forms behind an opcode
 
 pub plain_sound : {T : Type 0} (s : Source) (level end left : ℕ) (opcode : Opcode) (made : ArgumentsOf opcode → T) (Spells : T → List ℕ → Type 0) (bytes rest : List ℕ)
-    → bytes ≡ opcode_bytes opcode ++ rest → Levels (arguments_height (arguments opcode)) level left
-    → ((v : ArgumentsOf opcode) (front : List ℕ) → SpellsPlain (opcode_bytes opcode) (arguments opcode) v front → arguments_height (arguments opcode) ≤ left
-    → Spells (made v) front) → Awaits opcode (arguments opcode) s.code (end - length rest) → Position s.depth level s.code end rest
-    → Judge (Read s level end Spells bytes) (Bad s) (plain_at (arguments opcode) made left end rest)
+    → bytes ≡ opcode_bytes opcode ++ rest → Levels (arguments_height (fixed_arguments opcode)) level left
+    → ((v : ArgumentsOf opcode) (front : List ℕ) → SpellsPlain (opcode_bytes opcode) (fixed_arguments opcode) v front → arguments_height (fixed_arguments opcode) ≤ left
+    → Spells (made v) front) → Awaits opcode (fixed_arguments opcode) s.code (end - length rest) → Position s.depth level s.code end rest
+    → Judge (Read s level end Spells bytes) (Bad s) (plain_at (fixed_arguments opcode) made left end rest)
 plain_sound {T} s level end left opcode made Spells bytes rest is l spells w h =
     let op = opcode_bytes opcode in
-    let ks = arguments opcode in
+    let ks = fixed_arguments opcode in
     let Behind : T → List ℕ → Type 0 = λ x a. Spells x (op ++ a) in
     read_behind (Bad s) s level end Behind Spells bytes op rest (plain_at ks made left end rest) is (λ x a k. k)
     (read_as (Bad s) s level end (ArgumentsWithin left ks) Behind made rest (arguments_at left ks end rest)
@@ -238,14 +240,14 @@ plain_sound {T} s level end left opcode made Spells bytes rest is l spells w h =
 pub packed_sound : {X T : Type 0} (s : Source) (level end : ℕ) (opcode : Opcode) (made : ArgumentsOf opcode → X → T)
     (inner : ℕ → List ℕ → Result X Fault) (Fills : X → List ℕ → Type 0) (Spells : T → List ℕ → Type 0)
     (bytes rest : List ℕ) → has_package opcode ≡ true → 0 < length (opcode_bytes opcode) → bytes ≡ opcode_bytes opcode ++ rest
-    → ((v : ArgumentsOf opcode) (x : X) (front a b : List ℕ) → SpellsArguments (arguments opcode) v a → arguments_height (arguments opcode) ≤ level → Fills x b
+    → ((v : ArgumentsOf opcode) (x : X) (front a b : List ℕ) → SpellsArguments (fixed_arguments opcode) v a → arguments_height (fixed_arguments opcode) ≤ level → Fills x b
     → Packs (opcode_bytes opcode) (a ++ b) front → Spells (made v x) front)
     → ((end : ℕ) (b : List ℕ) → Awaits opcode [] s.code (end - length b) → Position s.depth level s.code end b → Judge (λ x. Fills x b) (Bad s) (inner end b))
-    → Position s.depth (suc level) s.code end bytes → Judge (Read s level end Spells bytes) (Bad s) (packed_at (arguments opcode) made level inner end rest)
+    → Position s.depth (suc level) s.code end bytes → Judge (Read s level end Spells bytes) (Bad s) (packed_at (fixed_arguments opcode) made level inner end rest)
 packed_sound {X} {T} s level end opcode made inner Fills Spells bytes rest packs some is spells fills h =
     let G : T × List ℕ → Type 0 = Read s level end Spells bytes in
     let op = opcode_bytes opcode in
-    let ks = arguments opcode in
+    let ks = fixed_arguments opcode in
     judge_bind (GoodPackage s level end rest) G (Bad s) (part (package_at end rest)) _
     (part_sound s (GoodPackage s level end rest) (package_at end rest) (package_sound s level end rest (deeper_package s level end opcode bytes rest packs is some h))) (λ p g.
     let w = awaits_packed s (suc level) end opcode bytes rest p packs is h g.0 in

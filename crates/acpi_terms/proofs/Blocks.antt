@@ -9,21 +9,21 @@ use Rattle.acpi_code.specs.Spelling.{SpellsEach}
 use Rattle.acpi_code.specs.steps.Reading.{byte_at, opcode_at, each_with, each_at}
 use Rattle.acpi_terms.proofs.Arguments.{plain_complete, awaits_all, plain_sound}
 use Rattle.acpi_terms.proofs.DataTrees.{opens_with}
-use Rattle.acpi_terms.specs.Forms.{arguments, external_parts}
+use Rattle.acpi_terms.specs.Forms.{fixed_arguments, external_parts}
 use Rattle.acpi_terms.specs.Spelling.{SpellsArguments, SpellsExternal, block_height}
 use Rattle.acpi_terms.specs.steps.Reading.{Fault, parts_at, external_at, block_content, fault_at, external_by, part}
 use Rattle.acpi_terms.specs.declared.fault.ItemReason.{ItemReason}
 use Rattle.acpi_terms.specs.declared.fault.ItemReason.TheVariants.{TooDeep}
 use Rattle.acpi_code.proofs.Readings.{Judge, judge_bind, judge_into, judge_if, Position, Source, Read, position_after}
 use Rattle.acpi_terms.proofs.Parts.{Bad, deep_bad, part_sound}
-use Rattle.acpi_terms.specs.Faults.{Shows}
+use Rattle.acpi_terms.specs.Faults.{ShowsItems}
 use Rattle.acpi_code.specs.declared.opcode.Opcode.TheVariants as opcodes
 
 -- ==== what is spelled is read
 
-pub parts_complete : (end : ℕ) (x : ExternalParts) (a rest : List ℕ) → SpellsArguments (arguments opcodes.External) (x.name, (x.kind, (x.args, tt))) a → parts_at end (a ++ rest) ≡ Ok (x, rest)
+pub parts_complete : (end : ℕ) (x : ExternalParts) (a rest : List ℕ) → SpellsArguments (fixed_arguments opcodes.External) (x.name, (x.kind, (x.args, tt))) a → parts_at end (a ++ rest) ≡ Ok (x, rest)
 unfolding parts_at
-parts_complete end x a rest h = plain_complete (arguments opcodes.External) external_parts 0 end (x.name, (x.kind, (x.args, tt))) a rest (omega arith) h
+parts_complete end x a rest h = plain_complete (fixed_arguments opcodes.External) external_parts 0 end (x.name, (x.kind, (x.args, tt))) a rest (omega arith) h
 
 external_complete : (level end : ℕ) (x : ExternalParts) (a rest : List ℕ) → SpellsExternal x a → external_at (suc level) end (a ++ rest) ≡ Ok (x, rest)
 unfolding external_at
@@ -56,13 +56,13 @@ parts_sound s level end bytes rest is h =
 
 -- a fault in a block that is told as it is
 abbrev pub BlockShows : Source → ItemReason → ℕ → Type 0
-BlockShows s TooDeep place = Shows s.depth s.code TooDeep place
+BlockShows s TooDeep place = ShowsItems s.depth s.code TooDeep place
 BlockShows s why place = Unit {0}
 
 abbrev pub BlockBad : Source → Fault → Type 0
 BlockBad s f = BlockShows s f.reason f.place
 
-pub in_block_too : (s : Source) (why : ItemReason) (place : ℕ) → Shows s.depth s.code why place → BlockShows s why place
+pub in_block_too : (s : Source) (why : ItemReason) (place : ℕ) → ShowsItems s.depth s.code why place → BlockShows s why place
 in_block_too s TooDeep place h = h
 in_block_too s why place h = tt
 

@@ -12,7 +12,7 @@ use Rattle.acpi_code.specs.declared.opcode.Opcode.{Opcode}
 use Rattle.acpi_code.specs.Faults.{IsElementOf, ShowsElementPart, ShowsElement}
 use Rattle.acpi_code.proofs.Fields.{ListBad, shown_at, first_element}
 use Rattle.acpi_code.proofs.Readings.{Judge, judge_told, Position, Source}
-use Rattle.acpi_terms.specs.Faults.{reason_of, has_fields, Awaits, IsElement, Shows}
+use Rattle.acpi_terms.specs.Faults.{reason_of, has_fields, Awaits, IsItemElement, ShowsItems}
 use Rattle.acpi_terms.specs.steps.Reading.{constant_fault, field_at, fields_in}
 use Rattle.acpi_terms.proofs.Parts.{Bad, constant_bad}
 
@@ -22,7 +22,7 @@ field_complete e end a rest h = rw (fields.field_complete end e a rest h) refl
 pub fields_complete : (es : List FieldTree) (end : ℕ) (b : List ℕ) → SpellsFields es b → fields_in end b ≡ Ok es
 fields_complete es end b h = rw (fields.fields_complete end es b h) refl
 
-part_shows : (depth : ℕ) (code : List ℕ) (why : CodeReason) (place : ℕ) → ShowsElementPart (IsElement code) code why place → Shows depth code (reason_of why) place
+part_shows : (depth : ℕ) (code : List ℕ) (why : CodeReason) (place : ℕ) → ShowsElementPart (IsItemElement code) code why place → ShowsItems depth code (reason_of why) place
 part_shows depth code Cut place h = h
 part_shows depth code ReservedBits place h = inl h
 part_shows depth code BadName place h = h
@@ -30,7 +30,7 @@ part_shows depth code Overrun place h = h
 part_shows depth code BadString place h = absurd h
 part_shows depth code TooDeep place h = absurd h
 
-element_bad : (s : Source) (f : ConstantFault) → ShowsElement (IsElement s.code) s.code f → Bad s (constant_fault f)
+element_bad : (s : Source) (f : ConstantFault) → ShowsElement (IsItemElement s.code) s.code f → Bad s (constant_fault f)
 element_bad s (Part f) h = part_shows s.depth s.code f.reason f.place h
 element_bad s (NotConstant opcode place) h = constant_bad s (NotConstant opcode place) h.0
 
@@ -40,5 +40,5 @@ pub fields_sound : (s : Source) (level end : ℕ) (opcode : Opcode) (bytes : Lis
 fields_sound s level end opcode bytes has w h =
     let start = end - length bytes in
     judge_told (λ es. SpellsFields es bytes) (ListBad s start) (Bad s) constant_fault (codes.fields_in end bytes)
-    (λ f b. element_bad s f (shown_at (IsElementOf s.code start) (IsElement s.code) (λ k e. (opcode, has, start, w, e)) s.code f b))
+    (λ f b. element_bad s f (shown_at (IsElementOf s.code start) (IsItemElement s.code) (λ k e. (opcode, has, start, w, e)) s.code f b))
     (fields.fields_sound s level start end bytes (first_element s.code start) h)

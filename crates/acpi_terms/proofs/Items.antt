@@ -16,7 +16,7 @@ use Rattle.acpi_terms.proofs.Arguments.{arguments_height, plain_complete, packed
 use Rattle.acpi_terms.proofs.DataTrees.{data_complete, DataWithin, data_sound, opens_with}
 use Rattle.acpi_terms.proofs.Fields.{fields_complete, fields_sound}
 use Rattle.acpi_code.specs.Fields.{SpellsFields}
-use Rattle.acpi_terms.specs.Forms.{arguments, ArgumentsOf}
+use Rattle.acpi_terms.specs.Forms.{fixed_arguments, ArgumentsOf}
 use Rattle.acpi_terms.specs.Spelling.{SpellsArguments, SpellsExternal, SpellsItem, SpellsItems, data_height, block_height, item_height, items_height, SpellsFilled, SpellsForm}
 use Rattle.acpi_terms.specs.steps.Reading.{Fault, fields_in, bytes_in, plain_at, packed_at, parts_at, block_content, item_by, items_with, item_at, items_at, fault_at, data_at, block_fault, in_block, name_item, block_item, part}
 use Rattle.acpi_terms.proofs.Blocks.{parts_complete, content_complete, BlockShows, BlockBad, InBlock, content_sound, no_block, failed, parts_sound}
@@ -26,7 +26,7 @@ use Rattle.acpi_terms.specs.declared.fault.ItemReason.{ItemReason}
 use Rattle.acpi_terms.specs.declared.fault.ItemReason.TheVariants.{BadOpcode, Alias, ModuleIf, ModuleCode, Load, TooDeep, DataRegion}
 use Rattle.acpi_code.proofs.Readings.{Judge, judge_bind, judge_up, Position, Source, Read, stands_at, position_after, position_deeper, read_as}
 use Rattle.acpi_terms.proofs.Parts.{Bad, deep_bad, part_sound, refused}
-use Rattle.acpi_terms.specs.Faults.{Awaits, Shows}
+use Rattle.acpi_terms.specs.Faults.{Awaits, ShowsItems}
 use Rattle.acpi_code.specs.declared.opcode.Opcode.TheVariants as opcodes
 use Rattle.acpi_tree.specs.declared.tree.Width.TheVariants as widths
 
@@ -44,23 +44,23 @@ opened level end opcode more h = rw (opens end opcode more h) refl
 
 -- a form is read as what stands behind its opcode is
 plain_item : (opcode : Opcode) (made : ArgumentsOf opcode → ItemTree) (level end : ℕ) (v : ArgumentsOf opcode) (bytes rest : List ℕ)
-    → is_spelled opcode ≡ true → arguments_height (arguments opcode) ≤ level
-    → ((whole more : List ℕ) → item_by (inner_items level) level end whole opcode more ≡ plain_at (arguments opcode) made level end more)
+    → is_spelled opcode ≡ true → arguments_height (fixed_arguments opcode) ≤ level
+    → ((whole more : List ℕ) → item_by (inner_items level) level end whole opcode more ≡ plain_at (fixed_arguments opcode) made level end more)
     → SpellsForm opcode v bytes → item_at (suc level) end (bytes ++ rest) ≡ Ok (made v, rest)
 plain_item opcode made level end v bytes rest some le form h =
     rw (h.2, append_assoc (opcode_bytes opcode) h.0 rest)
-    (opened level end opcode (h.0 ++ rest) some ∙ form (opcode_bytes opcode ++ (h.0 ++ rest)) (h.0 ++ rest) ∙ plain_complete (arguments opcode) made level end v h.0 rest le h.1)
+    (opened level end opcode (h.0 ++ rest) some ∙ form (opcode_bytes opcode ++ (h.0 ++ rest)) (h.0 ++ rest) ∙ plain_complete (fixed_arguments opcode) made level end v h.0 rest le h.1)
 
 packed_item : {X : Type 0} (opcode : Opcode) (made : ArgumentsOf opcode → X → ItemTree) (inner : ℕ → List ℕ → Result X Fault)
     (Fills : List ℕ → Type 0) (level end : ℕ) (v : ArgumentsOf opcode) (x : X) (bytes rest : List ℕ)
-    → is_spelled opcode ≡ true → arguments_height (arguments opcode) ≤ level
-    → ((whole more : List ℕ) → item_by (inner_items level) level end whole opcode more ≡ packed_at (arguments opcode) made level inner end more)
+    → is_spelled opcode ≡ true → arguments_height (fixed_arguments opcode) ≤ level
+    → ((whole more : List ℕ) → item_by (inner_items level) level end whole opcode more ≡ packed_at (fixed_arguments opcode) made level inner end more)
     → ((b : List ℕ) → Fills b → inner (end - length rest) b ≡ Ok x) → SpellsFilled opcode v Fills bytes → item_at (suc level) end (bytes ++ rest) ≡ Ok (made v x, rest)
 packed_item opcode made inner Fills level end v x bytes rest some le form fills h =
     let p = h.4 in
     let more = (p.len ++ (h.0 ++ h.1)) ++ rest in
     rw (p.whole, append_assoc (opcode_bytes opcode) (p.len ++ (h.0 ++ h.1)) rest)
-    (opened level end opcode more some ∙ form (opcode_bytes opcode ++ more) more ∙ packed_complete (arguments opcode) made level inner end v x p.len h.0 h.1 rest le h.2 (fills h.1 h.3) p.spells_len)
+    (opened level end opcode more some ∙ form (opcode_bytes opcode ++ more) more ∙ packed_complete (fixed_arguments opcode) made level inner end v x p.len h.0 h.1 rest le h.2 (fills h.1 h.3) p.spells_len)
 
 name_item_complete : (level end : ℕ) (n : NameParts) (d : DataTree) (a rest : List ℕ) → SpellsItem (name n d) a → data_height d ≤ level → item_at (suc level) end (a ++ rest) ≡ Ok (name n d, rest)
 name_item_complete level end n d a rest h le =
@@ -274,26 +274,26 @@ name_item_sound s level end bytes rest is h =
 
 plain_form : (s : Source) (level end : ℕ) (opcode : Opcode) (made : ArgumentsOf opcode → ItemTree) (bytes rest : List ℕ)
     (o : Opened bytes (opcode, rest)) → has_package opcode ≡ false → o.front ≡ opcode_bytes opcode → Position s.depth (suc level) s.code end bytes
-    → ((v : ArgumentsOf opcode) (front : List ℕ) → SpellsForm opcode v front → arguments_height (arguments opcode) ≤ level → ItemWithin (suc level) (made v) front)
-    → Judge (Read s (suc level) end (ItemWithin (suc level)) bytes) (Bad s) (plain_at (arguments opcode) made level end rest)
+    → ((v : ArgumentsOf opcode) (front : List ℕ) → SpellsForm opcode v front → arguments_height (fixed_arguments opcode) ≤ level → ItemWithin (suc level) (made v) front)
+    → Judge (Read s (suc level) end (ItemWithin (suc level)) bytes) (Bad s) (plain_at (fixed_arguments opcode) made level end rest)
 plain_form s level end opcode made bytes rest o plain told h spells =
     let is = opens_with bytes opcode rest (opcode_bytes opcode) o told in
     let some : 0 < length (opcode_bytes opcode) = rw (sym told) o.some in
-    judge_up (Bad s) s level end (ItemWithin (suc level)) bytes (plain_at (arguments opcode) made level end rest)
+    judge_up (Bad s) s level end (ItemWithin (suc level)) bytes (plain_at (fixed_arguments opcode) made level end rest)
     (plain_sound s level end level opcode made (ItemWithin (suc level)) bytes rest is (inr refl) spells
     (awaits_all s (suc level) end opcode bytes rest plain is h) (position_deeper s level end bytes (opcode_bytes opcode) rest is some h))
 
 packed_form : {X : Type 0} (s : Source) (level end : ℕ) (opcode : Opcode) (made : ArgumentsOf opcode → X → ItemTree)
     (inner : ℕ → List ℕ → Result X Fault) (Fills : X → List ℕ → Type 0) (bytes rest : List ℕ)
     (o : Opened bytes (opcode, rest)) → has_package opcode ≡ true → o.front ≡ opcode_bytes opcode → Position s.depth (suc level) s.code end bytes
-    → ((v : ArgumentsOf opcode) (x : X) (front a b : List ℕ) → SpellsArguments (arguments opcode) v a → arguments_height (arguments opcode) ≤ level
+    → ((v : ArgumentsOf opcode) (x : X) (front a b : List ℕ) → SpellsArguments (fixed_arguments opcode) v a → arguments_height (fixed_arguments opcode) ≤ level
     → Fills x b → Packs (opcode_bytes opcode) (a ++ b) front → ItemWithin (suc level) (made v x) front)
     → ((end : ℕ) (b : List ℕ) → Awaits opcode [] s.code (end - length b) → Position s.depth level s.code end b → Judge (λ x. Fills x b) (Bad s) (inner end b))
-    → Judge (Read s (suc level) end (ItemWithin (suc level)) bytes) (Bad s) (packed_at (arguments opcode) made level inner end rest)
+    → Judge (Read s (suc level) end (ItemWithin (suc level)) bytes) (Bad s) (packed_at (fixed_arguments opcode) made level inner end rest)
 packed_form s level end opcode made inner Fills bytes rest o packs told h spells fills =
     let is = opens_with bytes opcode rest (opcode_bytes opcode) o told in
     let some : 0 < length (opcode_bytes opcode) = rw (sym told) o.some in
-    judge_up (Bad s) s level end (ItemWithin (suc level)) bytes (packed_at (arguments opcode) made level inner end rest)
+    judge_up (Bad s) s level end (ItemWithin (suc level)) bytes (packed_at (fixed_arguments opcode) made level inner end rest)
     (packed_sound s level end opcode made inner Fills (ItemWithin (suc level)) bytes rest packs some is spells fills h)
 
 item_by_sound : (s : Source) (level end : ℕ) (opcode : Opcode) (bytes rest : List ℕ) → InnerSound s level → Position s.depth (suc level) s.code end bytes → Opened bytes (opcode, rest)
@@ -366,7 +366,7 @@ item_sound s (suc level) end bytes h =
     (λ x o. item_by_sound s level end x.0 bytes x.1 (inner_sound s level (λ end bytes k. item_sound s level end bytes k)) h o)
 
 -- what is read is spelled so, and a fault shows what it says
-pub code_sound : (depth : ℕ) (code : List ℕ) → Judge (λ is. ItemsWithin depth is code) (λ f. Shows depth code f.reason f.place) (items_at depth code)
+pub code_sound : (depth : ℕ) (code : List ℕ) → Judge (λ is. ItemsWithin depth is code) (λ f. ShowsItems depth code f.reason f.place) (items_at depth code)
 code_sound depth code =
     let s : Source = record { depth = depth; code = code } in
     inner_sound s depth (λ end bytes k. item_sound s depth end bytes k) (length code) code

@@ -21,7 +21,7 @@ use Rattle.acpi_code.proofs.Opcodes.{Opened}
 use Rattle.acpi_terms.specs.declared.fault.ItemReason.{ItemReason}
 use Rattle.acpi_terms.specs.declared.fault.ItemFault.{ItemFault}
 use Rattle.acpi_terms.specs.declared.fault.ItemFault.TheVariants as errors
-use Rattle.acpi_terms.specs.Faults.{reason_of, fault_of, constant_fault_of, field_fault_of, refusal, Refused, Shows}
+use Rattle.acpi_terms.specs.Faults.{reason_of, fault_of, constant_fault_of, field_fault_of, refusal, Refused, ShowsItems}
 use Rattle.acpi_terms.specs.steps.Cursor.{Fails, FailsFree}
 use Rattle.acpi_terms.specs.steps.Reading.{Fault, part, part_fault, constant_fault}
 
@@ -57,9 +57,9 @@ stopped_there one first now front (errors.At why place) some fails so = stopped 
 
 -- what the fault shows
 abbrev pub Bad : Source → Fault → Type 0
-Bad s f = Shows s.depth s.code f.reason f.place
+Bad s f = ShowsItems s.depth s.code f.reason f.place
 
-part_shows : (depth : ℕ) (code : List ℕ) (why : CodeReason) (place : ℕ) → ShowsPart depth code why place → Shows depth code (reason_of why) place
+part_shows : (depth : ℕ) (code : List ℕ) (why : CodeReason) (place : ℕ) → ShowsPart depth code why place → ShowsItems depth code (reason_of why) place
 part_shows depth code codes.Cut place h = h
 part_shows depth code codes.ReservedBits place h = inl h
 part_shows depth code codes.BadName place h = inl h

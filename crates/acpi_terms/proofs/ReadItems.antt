@@ -11,7 +11,7 @@ use Rattle.acpi_code.proofs.Fitting.{AreBytes}
 use Rattle.acpi_terms.proofs.Items.{code_complete, code_sound}
 use Rattle.acpi_terms.proofs.Refusals.{next_told}
 use Rattle.acpi_terms.proofs.ShortOffsets.{offsets_fit}
-use Rattle.acpi_terms.specs.Faults.{Shows, Told, Refused, IsRefused, OrMemory}
+use Rattle.acpi_terms.specs.Faults.{ShowsItems, IsTrueFault, Refused, IsToldAt, OrMemory}
 use Rattle.acpi_terms.specs.Spelling.{SpellsItems, items_height}
 use Rattle.acpi_terms.specs.steps.Cursor.{Gives}
 use Rattle.acpi_terms.specs.steps.Reading.{Fault, items_at}
@@ -19,7 +19,7 @@ use Rattle.acpi_tree.specs.Fits.{items_fit}
 use Rattle.acpi_tree.specs.Offsets.{OffsetsFit}
 
 abbrev pub Judged : ℕ → List ℕ → Result ItemTrees Fault → Type 0
-Judged depth code = Judge (λ is. SpellsItems is code × (items_height is ≤ depth)) (λ f. Shows depth code f.reason f.place)
+Judged depth code = Judge (λ is. SpellsItems is code × (items_height is ≤ depth)) (λ f. ShowsItems depth code f.reason f.place)
 
 judged_as : (depth : ℕ) (code : List ℕ) (r : Result ItemTrees Fault) → items_at depth code ≡ r → Judged depth code r
 judged_as depth code r e = subst (Judged depth code) e (code_sound depth code)
@@ -38,7 +38,7 @@ pub only_law : {V : Type 0} (view : V → ItemTrees) (depth : ℕ) (code : List 
     → (is : ItemTrees) → SpellsItems is code → items_height is ≤ depth → OrMemory result (λ v. view v ≡ is)
 only_law view depth code result h is s le = read_so view result is (subst (Gives view result) (code_complete is depth code s le) h)
 
-pub faults_law : {V : Type 0} (view : V → ItemTrees) (depth : ℕ) (code : List ℕ) (result : Result V ItemFault) → Gives view result (items_at depth code) → IfErr result (λ e. Told depth code e)
+pub faults_law : {V : Type 0} (view : V → ItemTrees) (depth : ℕ) (code : List ℕ) (result : Result V ItemFault) → Gives view result (items_at depth code) → IfErr result (λ e. IsTrueFault depth code e)
 faults_law view depth code (Ok v) h = tt
 faults_law view depth code (Err errors.Memory) h = tt
 faults_law view depth code (Err (errors.At reason place)) h = judged_as depth code (Err (record { reason = reason; place = place })) h
@@ -50,7 +50,7 @@ fault_is : (f g : Fault) → stop f ≡ stop g → f ≡ g
 fault_is f g e = cc
 
 refused_so : {V : Type 0} (view : V → ItemTrees) (result : Result V ItemFault) (why : ItemReason) (place : ℕ)
-    → Gives view result (Err (record { reason = why; place = place })) → IsRefused result why place
+    → Gives view result (Err (record { reason = why; place = place })) → IsToldAt result why place
 refused_so view (Ok v) why place h = absurd cc
 refused_so view (Err errors.Memory) why place h = tt
 refused_so view (Err (errors.At r p)) why place h =
@@ -58,7 +58,7 @@ refused_so view (Err (errors.At r p)) why place h =
     (sym (ap (λ (f : Fault). f.reason) same), sym (ap (λ (f : Fault). f.place) same))
 
 pub next_law : {V : Type 0} (view : V → ItemTrees) (depth : ℕ) (code : List ℕ) (result : Result V ItemFault) → 0 < depth → Gives view result (items_at depth code)
-    → (u w : List ℕ) (is : ItemTrees) (why : ItemReason) → code ≡ u ++ w → SpellsItems is u → items_height is ≤ depth → Refused why w 0 → IsRefused result why (length u)
+    → (u w : List ℕ) (is : ItemTrees) (why : ItemReason) → code ≡ u ++ w → SpellsItems is u → items_height is ≤ depth → Refused why w 0 → IsToldAt result why (length u)
 next_law view depth code result some h u w is why whole s le refused =
     let e : items_at depth code ≡ Err (record { reason = why; place = length u }) = ap (items_at depth) whole ∙ next_told depth u w is why some s le refused in
     refused_so view result why (length u) (subst (Gives view result) e h)

@@ -12,7 +12,7 @@ use Rattle.acpi_code.specs.Spelling.{SpellsInt}
 use Rattle.acpi_terms.proofs.Constants.{const_complete, const_sound}
 use Rattle.acpi_terms.proofs.Fields.{field_complete}
 use Rattle.acpi_terms.proofs.Parts.{Bad}
-use Rattle.acpi_terms.specs.Faults.{constant_fault_of, OrMemory, ToldOfElem}
+use Rattle.acpi_terms.specs.Faults.{constant_fault_of, OrMemory, IsTrueElementFault}
 use Rattle.acpi_code.specs.Fields.{SpellsField}
 use Rattle.acpi_code.specs.steps.Fields as codes
 use Rattle.acpi_code.specs.declared.fault.ConstantFault.{ConstantFault}
@@ -139,7 +139,7 @@ elem_only_law view bytes (Err (errors.At why place)) h used e front rest s whole
     cc
 
 pub elem_faults_law : {V : Type 0} (view : V → FieldTree) (bytes : List ℕ) (result : Result (V × ℕ) ItemFault)
-    → Gives (λ x. (view x.0, drop x.1 bytes)) result (field_at (length bytes) bytes) → IfErr result (λ e. ToldOfElem bytes e)
+    → Gives (λ x. (view x.0, drop x.1 bytes)) result (field_at (length bytes) bytes) → IfErr result (λ e. IsTrueElementFault bytes e)
 elem_faults_law view bytes (Ok x) h = tt
 elem_faults_law view bytes (Err errors.Memory) h = tt
 elem_faults_law view bytes (Err (errors.At why place)) h = by_reading (codes.field_at (length bytes) bytes) (first_judged bytes) h
@@ -148,7 +148,7 @@ elem_faults_law view bytes (Err (errors.At why place)) h = by_reading (codes.fie
     failed f = Err f
 
     by_reading : (r : Result (FieldTree × List ℕ) ConstantFault) → Judge (FirstRead bytes) (FirstBad bytes) r → with_fault constant_fault r ≡ Err (record { reason = why; place = place })
-        → ToldOfElem bytes (errors.At why place)
+        → IsTrueElementFault bytes (errors.At why place)
     by_reading (Ok y) j e = absurd cc
     by_reading (Err f) j e =
         let same : constant_fault f ≡ record { reason = why; place = place } = cc in

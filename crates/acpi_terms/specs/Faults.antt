@@ -18,7 +18,7 @@ use Rattle.acpi_terms.specs.declared.fault.ItemReason.{ItemReason}
 use Rattle.acpi_terms.specs.declared.fault.ItemReason.TheVariants.{Cut, BadOpcode, ReservedBits, BadName, Overrun, Computed, Alias, ModuleIf, ModuleCode, Load, NotData, TooDeep, BadString, DataRegion}
 use Rattle.acpi_terms.specs.declared.fault.ItemFault.{ItemFault}
 use Rattle.acpi_terms.specs.declared.fault.ItemFault.TheVariants as errors
-use Rattle.acpi_terms.specs.Forms.{FixedArgument, source_arg, count_arg, Values, arguments}
+use Rattle.acpi_terms.specs.Forms.{FixedArgument, source_arg, count_arg, Values, fixed_arguments}
 use Rattle.acpi_terms.specs.Spelling.{SpellsArguments, SpellsExternal}
 
 -- ---- faults of parts, as faults of items
@@ -103,7 +103,7 @@ IsLengthOf false len = len ≡ []
 -- package, and the arguments before these (20.2.5).
 pub record Awaits (opcode : Opcode) (kinds : List FixedArgument) (code : List ℕ) (place : ℕ) : Type 0 where
   pub before : List FixedArgument
-  pub all : arguments opcode ≡ before ++ kinds
+  pub all : fixed_arguments opcode ≡ before ++ kinds
   pub at : ℕ
   pub len : List ℕ
   pub is_len : IsLengthOf (has_package opcode) len
@@ -126,8 +126,8 @@ has_fields opcodes.BankField = true
 has_fields _ = false
 
 -- a field element must begin at the place: behind others, in the field list of a form
-abbrev pub IsElement : List ℕ → ℕ → Type 0
-IsElement code place = (opcode : Opcode) × (has_fields opcode ≡ true) × (start : ℕ) × Awaits opcode [] code start × IsElementOf code start place
+abbrev pub IsItemElement : List ℕ → ℕ → Type 0
+IsItemElement code place = (opcode : Opcode) × (has_fields opcode ≡ true) × (start : ℕ) × Awaits opcode [] code start × IsElementOf code start place
 
 -- ---- what a fault shows
 
@@ -148,32 +148,32 @@ pub record IsOtherIf (bytes : List ℕ) : Type 0 where
 -- Computed: a term that is no constant, or a constant where the source of a Create field must begin. ModuleIf: an Else,
 -- a While, or an If that is no block of Externals. ModuleCode: a name, data, Local, Arg, Debug or an operator. NotData:
 -- no data. TooDeep: a byte, behind at least as many bytes as there are levels. BadString: a byte above 7F in a string.
-abbrev pub Shows : ℕ → List ℕ → ItemReason → ℕ → Type 0
-Shows depth code Cut place = ShowsPart depth code codes.Cut place
-Shows depth code BadOpcode place = Refused BadOpcode code place
-Shows depth code ReservedBits place = ShowsPart depth code codes.ReservedBits place ⊎ (MustBegin count_arg code place × ByteAt (λ b. 7 < b) code place)
-Shows depth code BadName place = ShowsElementPart (IsElement code) code codes.BadName place
-Shows depth code Overrun place = ShowsPart depth code codes.Overrun place
-Shows depth code Computed place = Begins is_computed code place ⊎ (MustBegin source_arg code place × Begins is_constant code place)
-Shows depth code Alias place = Refused Alias code place
-Shows depth code ModuleIf place = Refused ModuleIf code place ⊎ IsOtherIf (drop place code)
-Shows depth code ModuleCode place = Refused ModuleCode code place
-Shows depth code Load place = Refused Load code place
-Shows depth code NotData place = Begins is_no_data code place
-Shows depth code TooDeep place = ShowsPart depth code codes.TooDeep place
-Shows depth code BadString place = ShowsPart depth code codes.BadString place
-Shows depth code DataRegion place = Refused DataRegion code place
+abbrev pub ShowsItems : ℕ → List ℕ → ItemReason → ℕ → Type 0
+ShowsItems depth code Cut place = ShowsPart depth code codes.Cut place
+ShowsItems depth code BadOpcode place = Refused BadOpcode code place
+ShowsItems depth code ReservedBits place = ShowsPart depth code codes.ReservedBits place ⊎ (MustBegin count_arg code place × ByteAt (λ b. 7 < b) code place)
+ShowsItems depth code BadName place = ShowsElementPart (IsItemElement code) code codes.BadName place
+ShowsItems depth code Overrun place = ShowsPart depth code codes.Overrun place
+ShowsItems depth code Computed place = Begins is_computed code place ⊎ (MustBegin source_arg code place × Begins is_constant code place)
+ShowsItems depth code Alias place = Refused Alias code place
+ShowsItems depth code ModuleIf place = Refused ModuleIf code place ⊎ IsOtherIf (drop place code)
+ShowsItems depth code ModuleCode place = Refused ModuleCode code place
+ShowsItems depth code Load place = Refused Load code place
+ShowsItems depth code NotData place = Begins is_no_data code place
+ShowsItems depth code TooDeep place = ShowsPart depth code codes.TooDeep place
+ShowsItems depth code BadString place = ShowsPart depth code codes.BadString place
+ShowsItems depth code DataRegion place = Refused DataRegion code place
 
 -- what a refusal says is true of the code
-abbrev pub Told : ℕ → List ℕ → ItemFault → Type 0
-Told depth code errors.Memory = Unit {0}
-Told depth code (errors.At reason place) = Shows depth code reason place
+abbrev pub IsTrueFault : ℕ → List ℕ → ItemFault → Type 0
+IsTrueFault depth code errors.Memory = Unit {0}
+IsTrueFault depth code (errors.At reason place) = ShowsItems depth code reason place
 
 -- The same of the field element that stands first in these bytes: it is what `acpi_code` tells of the element, as a fault of items. So it is
 -- Cut, ReservedBits, BadName or Overrun, or, where the size of a connection's buffer must be a constant, BadOpcode or Computed.
-abbrev pub ToldOfElem : List ℕ → ItemFault → Type 0
-ToldOfElem bytes errors.Memory = Unit {0}
-ToldOfElem bytes (errors.At reason place) = (f : ConstantFault) × (constant_fault_of f ≡ errors.At reason place) × ShowsElement (λ k. k ≡ 0) bytes f
+abbrev pub IsTrueElementFault : List ℕ → ItemFault → Type 0
+IsTrueElementFault bytes errors.Memory = Unit {0}
+IsTrueElementFault bytes (errors.At reason place) = (f : ConstantFault) × (constant_fault_of f ≡ errors.At reason place) × ShowsElement (λ k. k ≡ 0) bytes f
 
 -- ---- answers, unless memory runs out
 
@@ -184,7 +184,7 @@ OrMemory (Err errors.Memory) Is = Unit {0}
 OrMemory (Err (errors.At reason place)) Is = ⊥
 
 -- it is refused for the reason at the place
-abbrev pub IsRefused : {X : Type 0} → Result X ItemFault → ItemReason → ℕ → Type 0
-IsRefused (Ok x) why at = ⊥
-IsRefused (Err errors.Memory) why at = Unit {0}
-IsRefused (Err (errors.At reason place)) why at = (reason ≡ why) × (place ≡ at)
+abbrev pub IsToldAt : {X : Type 0} → Result X ItemFault → ItemReason → ℕ → Type 0
+IsToldAt (Ok x) why at = ⊥
+IsToldAt (Err errors.Memory) why at = Unit {0}
+IsToldAt (Err (errors.At reason place)) why at = (reason ≡ why) × (place ≡ at)

@@ -36,30 +36,30 @@ Values (k ∷ ks) = Value k × Values ks
 
 -- The fixed arguments of each form: behind its opcode, or first in its package (20.2.5.1, 20.2.5.2, 20.2.5.4). A
 -- Processor is as ACPI 6.3 and earlier have it.
-abbrev pub arguments : Opcode → List FixedArgument
-arguments opcodes.Buffer = int_arg ∷ []
-arguments opcodes.Package = byte_arg ∷ []
-arguments opcodes.VarPackage = int_arg ∷ []
-arguments opcodes.Scope = name_arg ∷ []
-arguments opcodes.Method = name_arg ∷ byte_arg ∷ []
-arguments opcodes.External = name_arg ∷ byte_arg ∷ count_arg ∷ []
-arguments (opcodes.Create w) = source_arg ∷ int_arg ∷ name_arg ∷ []
-arguments opcodes.CreateField = source_arg ∷ int_arg ∷ int_arg ∷ name_arg ∷ []
-arguments opcodes.Mutex = name_arg ∷ byte_arg ∷ []
-arguments opcodes.Event = name_arg ∷ []
-arguments opcodes.Region = name_arg ∷ byte_arg ∷ int_arg ∷ int_arg ∷ []
-arguments opcodes.Field = name_arg ∷ byte_arg ∷ []
-arguments opcodes.IndexField = name_arg ∷ name_arg ∷ byte_arg ∷ []
-arguments opcodes.BankField = name_arg ∷ name_arg ∷ int_arg ∷ byte_arg ∷ []
-arguments opcodes.Device = name_arg ∷ []
-arguments opcodes.Processor = name_arg ∷ byte_arg ∷ dword_arg ∷ byte_arg ∷ []
-arguments opcodes.Power = name_arg ∷ byte_arg ∷ word_arg ∷ []
-arguments opcodes.Thermal = name_arg ∷ []
-arguments _ = []
+abbrev pub fixed_arguments : Opcode → List FixedArgument
+fixed_arguments opcodes.Buffer = int_arg ∷ []
+fixed_arguments opcodes.Package = byte_arg ∷ []
+fixed_arguments opcodes.VarPackage = int_arg ∷ []
+fixed_arguments opcodes.Scope = name_arg ∷ []
+fixed_arguments opcodes.Method = name_arg ∷ byte_arg ∷ []
+fixed_arguments opcodes.External = name_arg ∷ byte_arg ∷ count_arg ∷ []
+fixed_arguments (opcodes.Create w) = source_arg ∷ int_arg ∷ name_arg ∷ []
+fixed_arguments opcodes.CreateField = source_arg ∷ int_arg ∷ int_arg ∷ name_arg ∷ []
+fixed_arguments opcodes.Mutex = name_arg ∷ byte_arg ∷ []
+fixed_arguments opcodes.Event = name_arg ∷ []
+fixed_arguments opcodes.Region = name_arg ∷ byte_arg ∷ int_arg ∷ int_arg ∷ []
+fixed_arguments opcodes.Field = name_arg ∷ byte_arg ∷ []
+fixed_arguments opcodes.IndexField = name_arg ∷ name_arg ∷ byte_arg ∷ []
+fixed_arguments opcodes.BankField = name_arg ∷ name_arg ∷ int_arg ∷ byte_arg ∷ []
+fixed_arguments opcodes.Device = name_arg ∷ []
+fixed_arguments opcodes.Processor = name_arg ∷ byte_arg ∷ dword_arg ∷ byte_arg ∷ []
+fixed_arguments opcodes.Power = name_arg ∷ byte_arg ∷ word_arg ∷ []
+fixed_arguments opcodes.Thermal = name_arg ∷ []
+fixed_arguments _ = []
 
 -- their values
 abbrev pub ArgumentsOf : Opcode → Type 0
-ArgumentsOf opcode = Values (arguments opcode)
+ArgumentsOf opcode = Values (fixed_arguments opcode)
 
 -- the parts of an External
 abbrev pub external_parts : ArgumentsOf opcodes.External → ExternalParts

@@ -8,7 +8,7 @@ use Rattle.acpi_code.specs.Opcodes.{opcode_bytes}
 use Rattle.acpi_code.specs.Fields.{SpellsFields}
 use Rattle.acpi_code.specs.Spelling.{SpellsByte, SpellsNumber, SpellsInt, SpellsTermName, SpellsText, SpellsEach, Packs}
 use Rattle.acpi_tree.specs.Tree.{DataTree, int, str, buffer, pkg, var_pkg, ElemTree, of_data, of_name, ElemTrees, no_elems, elem, ExternalParts, ItemTree, name, scope, method, external, external_block, create, create_field, mutex, event, region, field, index_field, bank_field, device, processor, power, thermal, ItemTrees, no_items, item}
-use Rattle.acpi_terms.specs.Forms.{FixedArgument, name_arg, source_arg, byte_arg, word_arg, dword_arg, count_arg, int_arg, Value, Values, arguments, ArgumentsOf}
+use Rattle.acpi_terms.specs.Forms.{FixedArgument, name_arg, source_arg, byte_arg, word_arg, dword_arg, count_arg, int_arg, Value, Values, fixed_arguments, ArgumentsOf}
 
 -- ---- fixed arguments
 
@@ -36,11 +36,11 @@ SpellsPacked opcode ks v Fills bytes = (a : List ℕ) × (b : List ℕ) × Spell
 
 -- the form of an opcode, which has fixed arguments alone
 abbrev pub SpellsForm : (o : Opcode) → ArgumentsOf o → List ℕ → Type 0
-SpellsForm o v bytes = SpellsPlain (opcode_bytes o) (arguments o) v bytes
+SpellsForm o v bytes = SpellsPlain (opcode_bytes o) (fixed_arguments o) v bytes
 
 -- the form of an opcode, whose package has fixed arguments and what fills it
 abbrev pub SpellsFilled : (o : Opcode) → ArgumentsOf o → (List ℕ → Type 0) → List ℕ → Type 0
-SpellsFilled o v Fills bytes = SpellsPacked (opcode_bytes o) (arguments o) v Fills bytes
+SpellsFilled o v Fills bytes = SpellsPacked (opcode_bytes o) (fixed_arguments o) v Fills bytes
 
 -- ---- data (20.2.3 and 20.2.5.4)
 

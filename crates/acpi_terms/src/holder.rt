@@ -2,7 +2,7 @@
 
 ghost use Rattle.std.specs.Prelude.{◌≡◌, ◌++◌, ◌∷◌, [], true, OnOk};
 ghost use Rattle.acpi_tree.specs.View.{item_view, items_view, items_tree};
-ghost use Rattle.acpi_terms.specs.steps.Holding.{opens_items, form_at, front_at, held_by, holder_item, Begins};
+ghost use Rattle.acpi_terms.specs.steps.Holding.{opens_items, form_at, front_at, held_by, holder_item, BeginsHolder};
 ghost use Rattle.acpi_terms.specs.steps.Cursor.{Reads, ReadsOn};
 
 use crate::fault::ItemFault;
@@ -137,7 +137,7 @@ pub(crate) fn begin<'a>(
     code: &mut Code<'a>,
 ) -> Result<Holder<'a>, ItemFault>
     requires { opens_items opcode ≡ true }
-    ensures { Begins (λ inner. holder_item inner opcode) code.old code.new result }
+    ensures { BeginsHolder (λ inner. holder_item inner opcode) code.old code.new result }
 {
     let mut inner = code.package()?;
     let front = front_of(alloc, opcode, &mut inner)?;

@@ -3,7 +3,7 @@
 ghost use Rattle.std.specs.Prelude.{◌≡◌, ◌≤◌, ◌++◌, [], ℕ, true, false, List, length, IfOk, IfErr};
 ghost use Rattle.acpi_tree.specs.Tree.{ItemTrees, items_of};
 ghost use Rattle.acpi_terms.specs.Spelling.{SpellsItems, items_height};
-ghost use Rattle.acpi_terms.specs.Faults.{Told, Refused, OrMemory, IsRefused};
+ghost use Rattle.acpi_terms.specs.Faults.{IsTrueFault, Refused, OrMemory, IsToldAt};
 ghost use Rattle.acpi_tree.specs.Fits.{items_fit};
 ghost use Rattle.acpi_tree.specs.Offsets.{OffsetsFit};
 ghost use Rattle.acpi_terms.specs.declared.fault.ItemReason.{ItemReason};
@@ -205,10 +205,10 @@ pub fn read_items_shared(alloc: Global, code: &Bytes, depth: Depth) -> Result<Ve
     // What is spelled so within the limit is read, unless memory runs out. So a fault means that nothing is.
     ensures only { (is : ItemTrees) → SpellsItems is code.now → items_height is ≤ depth → OrMemory result (λ v. items_tree v.items ≡ is) }
     // What a fault says is true of the code.
-    ensures faults { IfErr result (λ e. Told depth code.now e) }
+    ensures faults { IfErr result (λ e. IsTrueFault depth code.now e) }
     // Behind items, the first term that can't be an item is told at its place, unless memory runs out.
     ensures next { (u w : List ℕ) (is : ItemTrees) (why : ItemReason) → code.now ≡ u ++ w → SpellsItems is u → items_height is ≤ depth
-        → Refused why w 0 → IsRefused result why (length u) }
+        → Refused why w 0 → IsToldAt result why (length u) }
     // What is read fits.
     ensures fits { IfOk result (λ v. items_fit (items_tree v.items) ≡ true) }
     // Where the code is no longer than a table, the bits of each field list are a number of 64 bits.
@@ -226,10 +226,10 @@ pub fn read_items(alloc: Global, code: &[u8], depth: Depth) -> Result<Vec<Item>,
     // What is spelled so within the limit is read, unless memory runs out. So a fault means that nothing is.
     ensures only { (is : ItemTrees) → SpellsItems is code.now → items_height is ≤ depth → OrMemory result (λ v. items_tree v.items ≡ is) }
     // What a fault says is true of the code.
-    ensures faults { IfErr result (λ e. Told depth code.now e) }
+    ensures faults { IfErr result (λ e. IsTrueFault depth code.now e) }
     // Behind items, the first term that can't be an item is told at its place, unless memory runs out.
     ensures next { (u w : List ℕ) (is : ItemTrees) (why : ItemReason) → code.now ≡ u ++ w → SpellsItems is u → items_height is ≤ depth
-        → Refused why w 0 → IsRefused result why (length u) }
+        → Refused why w 0 → IsToldAt result why (length u) }
     // What is read fits.
     ensures fits { IfOk result (λ v. items_fit (items_tree v.items) ≡ true) }
     // Where the code is no longer than a table, the bits of each field list are a number of 64 bits.

@@ -4,7 +4,7 @@ ghost use Rattle.std.specs.Prelude.{◌≡◌, ◌<◌, ◌≤◌, ◌++◌, ℕ
 ghost use Rattle.acpi_tree.specs.Tree.{FieldTree};
 ghost use Rattle.acpi_code.specs.Spelling.{SpellsInt};
 ghost use Rattle.acpi_code.specs.Fields.{SpellsField};
-ghost use Rattle.acpi_terms.specs.Faults.{ToldOfElem, OrMemory};
+ghost use Rattle.acpi_terms.specs.Faults.{IsTrueElementFault, OrMemory};
 ghost use Rattle.acpi_tree.specs.declared.tree.Int.{Int};
 ghost use Rattle.acpi_tree.specs.View.{field_view};
 ghost use Rattle.acpi_terms.specs.steps.Reading.{field_at, int_front};
@@ -60,7 +60,7 @@ pub fn read_elem(alloc: Global, bytes: &[u8]) -> Result<(FieldElem, usize), Item
     ensures only { (e : FieldTree) (front rest : List ℕ) → SpellsField e front → bytes.now ≡ front ++ rest
         → OrMemory result (λ x. (field_view x.0 ≡ e) × (x.1 ≡ length front)) }
     // What a fault says is true of the bytes.
-    ensures faults { IfErr result (λ e. ToldOfElem bytes.now e) }
+    ensures faults { IfErr result (λ e. IsTrueElementFault bytes.now e) }
 {
     front_elem(alloc, bytes)
 }

@@ -1,4 +1,5 @@
 -- Whether two trees are equal, as tests.
+-- Nothing here needs to be trusted: each `==` promises that it is true exactly of equal values.
 use Rattle.std.specs.Prelude.{ℕ, Bool, true, false, ◌&&◌, nat_eq, List}
 use Rattle.std.specs.Cmp.Lexicographic.{pointwise}
 use Rattle.acpi_name.specs.NameEqual.{name_eq}

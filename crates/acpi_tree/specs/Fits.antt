@@ -1,16 +1,12 @@
 -- Which trees have a spelling, but for the lengths of packages (ACPI 6.5, 20.2).
 use Rattle.std.specs.Prelude.{ℕ, Bool, true, false, not, ◌&&◌, nat_eq, nat_lt, nat_le, length}
 use Rattle.std.specs.List.{list_all}
-use Rattle.acpi_name.specs.Names.{NameParts}
+use Rattle.acpi_name.specs.Names.{is_null_name}
 use Rattle.acpi_tree.specs.Tree.{DataTree, str, pkg, var_pkg, ElemTree, of_data, of_name, ElemTrees, no_elems, elem, FieldTree, unit, reserved, ExternalParts, ItemTree, name, scope, external, external_block, create, create_field, field, index_field, bank_field, device, processor, power, thermal, ItemTrees, no_items, item}
 
 -- AsciiChar: 01 to 7F (20.2.3)
 abbrev pub text_fits : ℕ → Bool
 text_fits b = nat_lt 0 b && nat_lt b 128
-
--- the name that the byte 00 spells, which is no term (20.2.2)
-abbrev pub is_null_name : NameParts → Bool
-is_null_name n = not n.rooted && nat_eq n.parents 0 && nat_eq (length n.segments) 0
 
 -- constant data: strings of characters (20.2.3)
 abbrev mutual

@@ -7,7 +7,8 @@ use Rattle.acpi_tree.specs.declared.place.OperandKind.{OperandKind}
 use Rattle.acpi_tree.specs.Terms.{TermTree, TermTrees, int, str, buffer, pkg, var_pkg, local, arg, debug, no_target, raw, ref, call, apply, ElseTree, if_do, no_else, else_do, while_do, declare, declare_units, no_terms, more}
 use Rattle.acpi_tree.specs.Operators.{operands_of, operands_before, operands_behind, names_of_units, operands_of_units}
 use Rattle.acpi_tree.specs.Places.{may_stand, may_be}
-use Rattle.acpi_tree.specs.Fits.{text_fits, is_null_name, field_fits}
+use Rattle.acpi_name.specs.Names.{is_null_name}
+use Rattle.acpi_tree.specs.Fits.{text_fits, field_fits}
 
 -- Strings hold characters; there are eight Locals and seven Args; a name where a term stands isn't the one
 -- that the byte 00 spells; each place and each operand has what may stand there.

@@ -4,7 +4,8 @@ ghost use Rattle.std.specs.Prelude.{◌≡◌, length};
 ghost use Rattle.std.specs.List.{list_all};
 ghost use Rattle.acpi_tree.specs.Tree.{elems_of};
 ghost use Rattle.acpi_tree.specs.View.{data_view, elem_view, elems_view, field_view, fields_view, external_view, externals_view, item_view, items_tree};
-ghost use Rattle.acpi_tree.specs.Fits.{text_fits, is_null_name, data_fits, elem_fits, elems_fit, bits_fit, field_fits, external_fits, item_fits};
+ghost use Rattle.acpi_name.specs.Names.{is_null_name};
+ghost use Rattle.acpi_tree.specs.Fits.{text_fits, data_fits, elem_fits, elems_fit, bits_fit, field_fits, external_fits, item_fits};
 ghost use Rattle.acpi_tree.specs.Fits as fits;
 
 use crate::tree::{Data, Elem, External, FieldElem, Item};

@@ -23,7 +23,7 @@ use Rattle.acpi_order.specs.Misses.{IsBodyMiss, IsAwaiting}
 use Rattle.acpi_order.proofs.Lists.{one_some}
 use Rattle.acpi_order.proofs.ReadBodies.{one_body_there}
 use Rattle.acpi_machine.specs.steps.Adding.{AddsBodies}
-use Rattle.acpi_verdict.specs.steps.Searching.{Found, open_pair, with_opens, SearchesMethod, SearchesAll}
+use Rattle.acpi_verdict.specs.steps.Searching.{Searches, open_pair, with_opens, SearchesMethod, SearchesAll}
 use Rattle.acpi_verdict.specs.steps.Trying.{IsMissedByAny, IsAwaitedByAny}
 
 -- the methods of a table have its counts
@@ -51,8 +51,8 @@ searched_method depth objects m bytes b bodies now before after older newer firm
 
 -- ---- the bodies of several methods
 
-pub adds_bodies : (depth : ℕ) (objects : Namespace) (ms : List Method) (before now : Found) → SearchesAll depth objects ms before now → AddsBodies depth objects ms before.bodies now.bodies
-adds_bodies depth objects [] before now h = ap (λ (f : Found). f.bodies) h
+pub adds_bodies : (depth : ℕ) (objects : Namespace) (ms : List Method) (before now : Searches) → SearchesAll depth objects ms before now → AddsBodies depth objects ms before.bodies now.bodies
+adds_bodies depth objects [] before now h = ap (λ (f : Searches). f.bodies) h
 adds_bodies depth objects (m ∷ ms) before now h =
     let one : SearchesMethod depth objects m before h.0 = h.1 in
     (one.body, one.is_body, subst (λ (l : Lookup BodyTree). AddsBodies depth objects ms l now.bodies) one.bodies_are (adds_bodies depth objects ms h.0 now h.2))
@@ -72,7 +72,7 @@ module _ (depth : ℕ) (objects : Namespace) (m : Method) (b : BodyTree) (is_bod
     (λ h. (b, is_body, h)),
   )
 
-pub misses_grow : (depth : ℕ) (objects : Namespace) (ms : List Method) (before now : Found) → SearchesAll depth objects ms before now
+pub misses_grow : (depth : ℕ) (objects : Namespace) (ms : List Method) (before now : Searches) → SearchesAll depth objects ms before now
     → Grows before.missed now.missed (IsMissedByAny depth objects ms)
 misses_grow depth objects [] before now h =
     rw h (grows_as before.missed before.missed (λ p. ⊥) (IsMissedByAny depth objects []) (λ p. (λ x. absurd x, λ x. absurd x.1)) (grows_not before.missed))
@@ -133,7 +133,7 @@ opens_hold externals m P (e ∷ es) told h =
     from p (inr x) = other p x.0 x.1
 
 module _ (depth : ℕ) (objects : Namespace) (externals : Lookup ℕ) where
-  awaits_hold : (ms : List Method) (P : List Segment → Type 0) (before now : Found) → ((m : Method) → Among ms m → m.counts ≡ externals) → SearchesAll depth objects ms before now
+  awaits_hold : (ms : List Method) (P : List Segment → Type 0) (before now : Searches) → ((m : Method) → Among ms m → m.counts ≡ externals) → SearchesAll depth objects ms before now
       → Holds externals before.awaited P → Holds externals now.awaited (λ p. P p ⊎ ((n : ℕ) × IsAwaitedByAny depth objects ms p n))
   awaits_hold [] P before now same h start =
       rw h (holds_as externals before.awaited P (λ p. P p ⊎ ((n : ℕ) × IsAwaitedByAny depth objects [] p n)) (λ p. (λ x. inl x, by p)) start)
@@ -175,7 +175,7 @@ module _ (depth : ℕ) (objects : Namespace) (externals : Lookup ℕ) where
       from b is opens are p (inr x) = one_of b is opens are p x.0 x.1.0 x.1.1 x.1.2
 
   -- where nothing was awaited before, just what they await has a count
-  pub awaited_are : (ms : List Method) (before now : Found) → ((m : Method) → Among ms m → m.counts ≡ externals) → SearchesAll depth objects ms before now → before.awaited ≡ empty
+  pub awaited_are : (ms : List Method) (before now : Searches) → ((m : Method) → Among ms m → m.counts ≡ externals) → SearchesAll depth objects ms before now → before.awaited ≡ empty
       → (p : List Segment) (n : ℕ) → (get now.awaited p ≡ Some n) ↔ IsAwaitedByAny depth objects ms p n
   awaited_are ms before now same h none p n =
       (λ e. let r = (all p n).0 e in to r.0 r.1, λ x. (all p n).1 (inr (n, x), counted n x))

@@ -29,7 +29,7 @@ use Rattle.acpi_verdict.specs.SingleView.{awaited_view}
 use Rattle.acpi_verdict.specs.declared.searches.Told.{Told}
 use Rattle.acpi_machine.specs.steps.Adding.{noted, all_noted, AddsBodies}
 use Rattle.acpi_verdict.specs.steps.Trying.{IsMissedByAny}
-use Rattle.acpi_verdict.specs.steps.Searching.{Found, SearchesAll, SearchesTables}
+use Rattle.acpi_verdict.specs.steps.Searching.{Searches, SearchesAll, SearchesTables}
 use Rattle.acpi_machine.proofs.AddedBodies.{adds_both}
 use Rattle.acpi_verdict.proofs.AwaitedMethods.{awaited_ascend, awaited_by}
 use Rattle.acpi_verdict.proofs.DefinedPaths.{defined_are, defined_ascend}
@@ -84,10 +84,10 @@ module _ (depth : ℕ) (dsdt ssdt : List ℕ) (one two : State) (h1 : HasTables 
   noted_both : (told.first ≡ notes_on predefined first) × (told.second ≡ notes_on (objects_of_first first) second)
   noted_both = both_same told.first told.second _ _ (sym told.both ∙ notes_are ∙ h2.notes_are ∙ ap (all_notes predefined) pair.are)
 
-  abbrev start_first : Found
+  abbrev start_first : Searches
   start_first = record { bodies = nothing; missed = told.scopes; awaited = empty }
 
-  abbrev start_second : Found
+  abbrev start_second : Searches
   start_second = record { bodies = told.of_first.bodies; missed = told.of_first.missed; awaited = empty }
 
   search_first : SearchesAll depth N (methods_of first) start_first told.of_first

@@ -20,7 +20,7 @@ use Rattle.acpi_code.proofs.Fitting.{AreBytes, parts, packed}
 use Rattle.acpi_tree.specs.declared.tree.Int.{Int}
 use Rattle.acpi_tree.specs.declared.tree.Int.TheVariants.{Zero, One, Ones, Revision, Byte, Word, DWord, QWord}
 use Rattle.acpi_tree.specs.Tree.{DataTree, int, str, buffer, pkg, var_pkg, ElemTree, of_data, of_name, ElemTrees, no_elems, elem, FieldTree, unit, reserved, access, connect_name, connect_buffer, extended, ExternalParts, ItemTree, name, scope, method, external, external_block, create, create_field, mutex, event, region, field, index_field, bank_field, device, processor, power, thermal, ItemTrees, no_items, item}
-use Rattle.acpi_terms.specs.Forms.{FixedArgument, name_arg, source_arg, byte_arg, word_arg, dword_arg, count_arg, int_arg, Value, Values, arguments, ArgumentsOf}
+use Rattle.acpi_terms.specs.Forms.{FixedArgument, name_arg, source_arg, byte_arg, word_arg, dword_arg, count_arg, int_arg, Value, Values, fixed_arguments, ArgumentsOf}
 use Rattle.acpi_terms.specs.Spelling.{SpellsArgument, SpellsArguments, SpellsPlain, SpellsPacked, SpellsForm, SpellsData, SpellsElem, SpellsElems, SpellsExternal, SpellsItem, SpellsItems}
 use Rattle.acpi_write.specs.Canonical.{int_bytes, argument_bytes, arguments_bytes, form_bytes, filled_with, each_bytes, data_bytes, elem_bytes, elems_bytes, bits_bytes, field_bytes, fields_bytes, external_bytes, item_bytes, items_bytes}
 use Rattle.acpi_write.specs.Laws.{IsIntTyped, IsTyped, AreTyped, IsDataTyped, IsElemTyped, AreElemsTyped, IsFieldTyped, IsExternalTyped, IsItemTyped, AreItemsTyped}
@@ -185,11 +185,11 @@ fields_short es b all h = each_short field_bytes SpellsField field_short es b al
 -- ---- items
 
 external_short : (x : ExternalParts) (bytes : List ℕ) → AreBytes bytes → SpellsExternal x bytes → HasWithin (Some (external_bytes x)) bytes
-external_short x bytes all h = plain_short (21 ∷ []) (arguments opcodes.External) (x.name, (x.kind, (x.args, tt))) bytes all h
+external_short x bytes all h = plain_short (21 ∷ []) (fixed_arguments opcodes.External) (x.name, (x.kind, (x.args, tt))) bytes all h
 
 form_short : (o : Opcode) (v : ArgumentsOf o) (i j : ItemTree) (bytes : List ℕ) → AreBytes bytes → SpellsForm o v bytes
     → item_bytes i ≡ Some (form_bytes o v) → j ≡ i → HasWithin (item_bytes j) bytes
-form_short o v i j bytes all h is e = subst (λ x. HasWithin (item_bytes x) bytes) (sym e) (subst (λ x. HasWithin x bytes) (sym is) (plain_short (opcode_bytes o) (arguments o) v bytes all h))
+form_short o v i j bytes all h is e = subst (λ x. HasWithin (item_bytes x) bytes) (sym e) (subst (λ x. HasWithin x bytes) (sym is) (plain_short (opcode_bytes o) (fixed_arguments o) v bytes all h))
 
 mutual
   item_short : (i j : ItemTree) (bytes : List ℕ) → AreBytes bytes → SpellsItem i bytes → IsShortened i j → HasWithin (item_bytes j) bytes
@@ -322,7 +322,7 @@ pub fields_typed : (es : List FieldTree) (bytes : List ℕ) → AreBytes bytes �
 fields_typed es bytes all h = each_typed SpellsField IsFieldTyped field_typed es bytes all h
 
 external_typed : (x : ExternalParts) (bytes : List ℕ) → AreBytes bytes → SpellsExternal x bytes → IsExternalTyped x
-external_typed x bytes all h = (plain_typed (21 ∷ []) (arguments opcodes.External) (x.name, (x.kind, (x.args, tt))) bytes all h).0
+external_typed x bytes all h = (plain_typed (21 ∷ []) (fixed_arguments opcodes.External) (x.name, (x.kind, (x.args, tt))) bytes all h).0
 
 units_typed : (op : List ℕ) (ks : List FixedArgument) (v : Values ks) (es : List FieldTree) (bytes : List ℕ) → AreBytes bytes
     → SpellsPacked op ks v (λ b. SpellsFields es b) bytes → AreTyped ks v × AllByRecursion IsFieldTyped es
@@ -346,11 +346,11 @@ mutual
   item_typed (external x) bytes all h = external_typed x bytes all h
   item_typed (external_block xs) bytes all (b, each, packs) = each_typed SpellsExternal IsExternalTyped external_typed xs b
       (parts (0 ∷ []) b (0 ∷ b) refl (packed (160 ∷ []) (0 ∷ b) bytes packs all)).1 each
-  item_typed (create w source index n) bytes all h = plain_typed (opcode_bytes (opcodes.Create w)) (arguments (opcodes.Create w)) (source, (index, (n, tt))) bytes all h
-  item_typed (create_field source index bits n) bytes all h = plain_typed (91 ∷ 19 ∷ []) (arguments opcodes.CreateField) (source, (index, (bits, (n, tt)))) bytes all h
-  item_typed (mutex n flags) bytes all h = plain_typed (91 ∷ 1 ∷ []) (arguments opcodes.Mutex) (n, (flags, tt)) bytes all h
-  item_typed (event n) bytes all h = plain_typed (91 ∷ 2 ∷ []) (arguments opcodes.Event) (n, tt) bytes all h
-  item_typed (region n space offset len) bytes all h = plain_typed (91 ∷ 128 ∷ []) (arguments opcodes.Region) (n, (space, (offset, (len, tt)))) bytes all h
+  item_typed (create w source index n) bytes all h = plain_typed (opcode_bytes (opcodes.Create w)) (fixed_arguments (opcodes.Create w)) (source, (index, (n, tt))) bytes all h
+  item_typed (create_field source index bits n) bytes all h = plain_typed (91 ∷ 19 ∷ []) (fixed_arguments opcodes.CreateField) (source, (index, (bits, (n, tt)))) bytes all h
+  item_typed (mutex n flags) bytes all h = plain_typed (91 ∷ 1 ∷ []) (fixed_arguments opcodes.Mutex) (n, (flags, tt)) bytes all h
+  item_typed (event n) bytes all h = plain_typed (91 ∷ 2 ∷ []) (fixed_arguments opcodes.Event) (n, tt) bytes all h
+  item_typed (region n space offset len) bytes all h = plain_typed (91 ∷ 128 ∷ []) (fixed_arguments opcodes.Region) (n, (space, (offset, (len, tt)))) bytes all h
   item_typed (field r flags es) bytes all h = units_typed (91 ∷ 129 ∷ []) (name_arg ∷ byte_arg ∷ []) (r, (flags, tt)) es bytes all h
   item_typed (index_field i d flags es) bytes all h = units_typed (91 ∷ 134 ∷ []) (name_arg ∷ name_arg ∷ byte_arg ∷ []) (i, (d, (flags, tt))) es bytes all h
   item_typed (bank_field r bank value flags es) bytes all h = units_typed (91 ∷ 135 ∷ []) (name_arg ∷ name_arg ∷ int_arg ∷ byte_arg ∷ []) (r, (bank, (value, (flags, tt)))) es bytes all h

@@ -6,7 +6,7 @@ use Rattle.std.specs.Prelude.{nat_eq}
 use Rattle.std.specs.Fmt.{option_append}
 use Rattle.std.proofs.lemmas.Bool.{leb-true, eqb-true}
 use Rattle.byteorder.specs.Endian.{little_bytes}
-use Rattle.acpi_name.specs.Names.{Segment, NameParts, IsName}
+use Rattle.acpi_name.specs.Names.{Segment, NameParts, IsName, is_null_name}
 use Rattle.acpi_name.specs.Spelling.{SpellsName, name_bytes}
 use Rattle.acpi_name.proofs.NameWritten.{name_written}
 use Rattle.acpi_code.specs.Opcodes.{opcode_bytes, operator_bytes}
@@ -16,7 +16,7 @@ use Rattle.acpi_tree.specs.declared.place.OperandKind.{OperandKind}
 use Rattle.acpi_tree.specs.Terms.{TermTree, TermTrees, int, str, buffer, pkg, var_pkg, local, arg, debug, no_target, raw, ref, call, apply, ElseTree, if_do, no_else, else_do, while_do, declare, declare_units, no_terms, more}
 use Rattle.acpi_tree.specs.Operators.{operands_of, operands_before, operands_behind, names_of_units, operands_of_units}
 use Rattle.acpi_tree.specs.Places.{may_stand, may_be}
-use Rattle.acpi_tree.specs.Fits.{is_null_name, field_fits}
+use Rattle.acpi_tree.specs.Fits.{field_fits}
 use Rattle.acpi_tree.specs.TermFits.{term_fits, else_fits, all_stand, operands_fit}
 use Rattle.acpi_body.specs.Arguments.{Locals, Arguments}
 use Rattle.acpi_body.specs.Spelling.{values, Spells, AreOperands, AreElements}

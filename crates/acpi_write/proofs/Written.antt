@@ -6,7 +6,7 @@ use Rattle.std.specs.Prelude.{nat_le, nat_lt, nat_eq, cond}
 use Rattle.std.proofs.lemmas.Bool.{ltb-true, leb-true}
 use Rattle.byteorder.specs.Endian.{little_number, little_bytes}
 use Rattle.byteorder.specs.Numbers.{little_number-reads_back, length-bytes_low_first}
-use Rattle.acpi_name.specs.Names.{NameParts, IsName, Segment, is_segment, is_lead_char, is_name_char}
+use Rattle.acpi_name.specs.Names.{NameParts, IsName, Segment, is_segment, is_lead_char, is_name_char, is_null_name}
 use Rattle.acpi_name.specs.Spelling.{name_bytes, prefix_of, path_bytes}
 use Rattle.acpi_name.proofs.NameWritten.{name_written}
 use Rattle.acpi_table.specs.PkgLength.{SpellsPkgLength, shortest_pkg_length, package_number}
@@ -19,8 +19,8 @@ use Rattle.acpi_code.specs.Spelling.{SpellsNumber, SpellsInt, SpellsTermName, Sp
 use Rattle.acpi_tree.specs.declared.tree.Int.{Int}
 use Rattle.acpi_tree.specs.declared.tree.Int.TheVariants.{Zero, One, Ones, Revision, Byte, Word, DWord, QWord}
 use Rattle.acpi_tree.specs.Tree.{DataTree, int, str, buffer, pkg, var_pkg, ElemTree, of_data, of_name, ElemTrees, no_elems, elem, FieldTree, unit, reserved, access, connect_name, connect_buffer, extended, ExternalParts, ItemTree, name, scope, method, external, external_block, create, create_field, mutex, event, region, field, index_field, bank_field, device, processor, power, thermal, ItemTrees, no_items, item}
-use Rattle.acpi_tree.specs.Fits.{text_fits, is_null_name, data_fits, elem_fits, elems_fit, bits_fit, field_fits, external_fits, item_fits, items_fit}
-use Rattle.acpi_terms.specs.Forms.{FixedArgument, name_arg, source_arg, byte_arg, word_arg, dword_arg, count_arg, int_arg, Value, Values, arguments, ArgumentsOf}
+use Rattle.acpi_tree.specs.Fits.{text_fits, data_fits, elem_fits, elems_fit, bits_fit, field_fits, external_fits, item_fits, items_fit}
+use Rattle.acpi_terms.specs.Forms.{FixedArgument, name_arg, source_arg, byte_arg, word_arg, dword_arg, count_arg, int_arg, Value, Values, fixed_arguments, ArgumentsOf}
 use Rattle.acpi_terms.specs.Spelling.{SpellsArgument, SpellsArguments, SpellsPacked, SpellsForm, SpellsData, SpellsElem, SpellsElems, SpellsExternal, SpellsItem, SpellsItems}
 use Rattle.acpi_write.specs.Canonical.{int_bytes, argument_bytes, arguments_bytes, form_bytes, packed_bytes, filled_with, each_bytes, data_bytes, elem_bytes, elems_bytes, bits_bytes, field_bytes, fields_bytes, external_bytes, item_bytes, items_bytes}
 use Rattle.acpi_write.specs.Laws.{IsIntTyped, IsTyped, AreTyped, IsDataTyped, IsElemTyped, AreElemsTyped, IsFieldTyped, IsExternalTyped, IsItemTyped, AreItemsTyped}
@@ -123,8 +123,8 @@ arguments_written (k ∷ ks) v f s = (argument_bytes k v.0, arguments_bytes ks v
 
 -- ---- forms
 
-form_written : (o : Opcode) (v : ArgumentsOf o) (bytes : List ℕ) → AreTyped (arguments o) v → AllStand (arguments o) v → Some (form_bytes o v) ≡ Some bytes → SpellsForm o v bytes
-form_written o v bytes f s e = (arguments_bytes (arguments o) v, arguments_written (arguments o) v f s, sym (some_is (form_bytes o v) bytes e))
+form_written : (o : Opcode) (v : ArgumentsOf o) (bytes : List ℕ) → AreTyped (fixed_arguments o) v → AllStand (fixed_arguments o) v → Some (form_bytes o v) ≡ Some bytes → SpellsForm o v bytes
+form_written o v bytes f s e = (arguments_bytes (fixed_arguments o) v, arguments_written (fixed_arguments o) v f s, sym (some_is (form_bytes o v) bytes e))
 
 pub packs : (opcode content : List ℕ) → length content < 268435452 → Packs opcode content (opcode ++ (shortest_pkg_length (package_number (length content)) ++ content))
 packs opcode content few =

@@ -10,7 +10,7 @@ use Rattle.acpi_code.specs.Opcodes.{opcode_bytes}
 use Rattle.acpi_tree.specs.declared.tree.Int.{Int}
 use Rattle.acpi_tree.specs.declared.tree.Int.TheVariants.{Zero, One, Ones, Revision, Byte, Word, DWord, QWord}
 use Rattle.acpi_tree.specs.Tree.{DataTree, int, str, buffer, pkg, var_pkg, ElemTree, of_data, of_name, ElemTrees, no_elems, elem, FieldTree, unit, reserved, access, connect_name, connect_buffer, extended, ExternalParts, ItemTree, name, scope, method, external, external_block, create, create_field, mutex, event, region, field, index_field, bank_field, device, processor, power, thermal, ItemTrees, no_items, item}
-use Rattle.acpi_terms.specs.Forms.{FixedArgument, name_arg, source_arg, byte_arg, word_arg, dword_arg, count_arg, int_arg, Value, Values, arguments, ArgumentsOf}
+use Rattle.acpi_terms.specs.Forms.{FixedArgument, name_arg, source_arg, byte_arg, word_arg, dword_arg, count_arg, int_arg, Value, Values, fixed_arguments, ArgumentsOf}
 
 -- ---- fixed arguments
 
@@ -44,7 +44,7 @@ arguments_bytes (k ∷ ks) v = argument_bytes k v.0 ++ arguments_bytes ks v.1
 
 -- an opcode and its fixed arguments
 abbrev pub form_bytes : (o : Opcode) → ArgumentsOf o → List ℕ
-form_bytes o v = opcode_bytes o ++ arguments_bytes (arguments o) v
+form_bytes o v = opcode_bytes o ++ arguments_bytes (fixed_arguments o) v
 
 -- An opcode, the least package length and the content; no package holds more than 268,435,451 bytes (20.2.4).
 abbrev pub packed_bytes : List ℕ → List ℕ → Option (List ℕ)
@@ -56,7 +56,7 @@ filled_with opcode front None = None
 filled_with opcode front (Some b) = packed_bytes opcode (front ++ b)
 
 abbrev pub filled_bytes : (o : Opcode) → ArgumentsOf o → Option (List ℕ) → Option (List ℕ)
-filled_bytes o v b = filled_with (opcode_bytes o) (arguments_bytes (arguments o) v) b
+filled_bytes o v b = filled_with (opcode_bytes o) (arguments_bytes (fixed_arguments o) v) b
 
 -- trees of a list one after another; None where one has no spelling
 abbrev pub each_bytes : {A : Type 0} → (A → Option (List ℕ)) → List A → Option (List ℕ)

@@ -6,7 +6,7 @@ use Rattle.acpi_tree.specs.declared.tree.Int.{Int}
 use Rattle.acpi_tree.specs.declared.tree.Int.TheVariants.{Word, DWord, QWord}
 use Rattle.acpi_tree.specs.Tree.{DataTree, int, str, buffer, pkg, var_pkg, ElemTree, of_data, of_name, ElemTrees, no_elems, elem, FieldTree, unit, connect_name, connect_buffer, ExternalParts, ItemTree, name, scope, method, external, external_block, create, create_field, mutex, event, region, field, index_field, bank_field, device, processor, power, thermal, ItemTrees, no_items, item}
 use Rattle.acpi_tree.specs.Fits.{items_fit}
-use Rattle.acpi_terms.specs.Forms.{FixedArgument, name_arg, source_arg, word_arg, dword_arg, int_arg, Value, Values, arguments, ArgumentsOf}
+use Rattle.acpi_terms.specs.Forms.{FixedArgument, name_arg, source_arg, word_arg, dword_arg, int_arg, Value, Values, fixed_arguments, ArgumentsOf}
 use Rattle.acpi_code.specs.declared.opcode.Opcode.{Opcode}
 use Rattle.acpi_code.specs.declared.opcode.Opcode.TheVariants as opcodes
 use Rattle.acpi_terms.specs.Spelling.{SpellsItems}
@@ -34,7 +34,7 @@ AreTyped [] v = Unit {0}
 AreTyped (k ∷ ks) v = IsTyped k v.0 × AreTyped ks v.1
 
 abbrev pub IsFormTyped : (o : Opcode) → ArgumentsOf o → Type 0
-IsFormTyped o v = AreTyped (arguments o) v
+IsFormTyped o v = AreTyped (fixed_arguments o) v
 
 abbrev mutual
   pub IsDataTyped : DataTree → Type 0

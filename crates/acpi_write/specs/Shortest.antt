@@ -5,7 +5,7 @@ use Rattle.acpi_tree.specs.Tree.{ItemTree, scope, method, device, processor, pow
 use Rattle.acpi_tree.specs.Terms.{TermTrees}
 use Rattle.acpi_terms.specs.Spelling.{SpellsItems}
 use Rattle.acpi_body.specs.Arguments.{Arguments}
-use Rattle.acpi_body.specs.Statements.{Reads}
+use Rattle.acpi_body.specs.Statements.{ReadsBody}
 use Rattle.acpi_write.specs.Canonical.{items_bytes}
 use Rattle.acpi_write.specs.CanonicalTerms.{terms_bytes}
 use Rattle.acpi_write.specs.Laws.{AreItemsTyped}
@@ -47,9 +47,9 @@ SpelledItemsAreTyped = (is : ItemTrees) (bytes : List ℕ) → All (λ b. b < 25
 pub record IsWritten (args : Arguments) (s : List Segment) (depth : ℕ) (bytes : List ℕ) (ts : TermTrees) : Type 0 where
   pub written : List ℕ
   pub spelling : terms_bytes ts ≡ Some written
-  pub reads : Reads args s depth written ts
+  pub reads : ReadsBody args s depth written ts
   pub within : length written ≤ length bytes
 
 abbrev pub ReadTermsAreWritten : Type 0
 ReadTermsAreWritten = (args : Arguments) (s : List Segment) (depth : ℕ) (bytes : List ℕ) (ts : TermTrees)
-    → All (λ b. b < 256) bytes → Reads args s depth bytes ts → IsWritten args s depth bytes ts
+    → All (λ b. b < 256) bytes → ReadsBody args s depth bytes ts → IsWritten args s depth bytes ts

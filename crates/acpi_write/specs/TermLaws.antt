@@ -7,7 +7,7 @@ use Rattle.acpi_tree.specs.Terms.{TermTree, TermTrees, int, buffer, pkg, var_pkg
 use Rattle.acpi_tree.specs.TermFits.{terms_fit}
 use Rattle.acpi_body.specs.Arguments.{Locals, Arguments}
 use Rattle.acpi_body.specs.Spelling.{heights}
-use Rattle.acpi_body.specs.Statements.{MayDeclare, locals_after, locals_after_all, Reads}
+use Rattle.acpi_body.specs.Statements.{MayDeclare, locals_after, locals_after_all, ReadsBody}
 use Rattle.acpi_write.specs.Laws.{IsIntTyped, IsFieldTyped}
 use Rattle.acpi_write.specs.CanonicalTerms.{terms_bytes}
 
@@ -84,4 +84,4 @@ abbrev mutual
 -- what is written of the terms of a body is read again as them, at any depth not below their height
 abbrev pub TermsAreSpelled : Type 0
 TermsAreSpelled = (args : Arguments) (s : List Segment) (depth : ℕ) (ts : TermTrees) (bytes : List ℕ)
-    → AreTermsTyped ts → terms_fit ts ≡ true → AllMayStandIn args s finite.empty ts → heights ts ≤ depth → terms_bytes ts ≡ Some bytes → Reads args s depth bytes ts
+    → AreTermsTyped ts → terms_fit ts ≡ true → AllMayStandIn args s finite.empty ts → heights ts ≤ depth → terms_bytes ts ≡ Some bytes → ReadsBody args s depth bytes ts

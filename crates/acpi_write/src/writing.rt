@@ -11,7 +11,7 @@ ghost use Rattle.acpi_tree.specs.Fits.{items_fit};
 ghost use Rattle.acpi_terms.specs.Spelling.{SpellsItems};
 ghost use Rattle.acpi_body.specs.Arguments.{Arguments};
 ghost use Rattle.acpi_body.specs.Spelling.{heights};
-ghost use Rattle.acpi_body.specs.Statements.{Reads};
+ghost use Rattle.acpi_body.specs.Statements.{ReadsBody};
 ghost use Rattle.acpi_write.specs.Canonical.{items_bytes};
 ghost use Rattle.acpi_write.specs.CanonicalTerms.{terms_bytes};
 ghost use Rattle.acpi_write.specs.TermLaws.{AllMayStandIn};
@@ -48,7 +48,7 @@ pub fn write_terms(alloc: Global, terms: &[Term]) -> Result<Vec<u8>, WriteFault>
     // has a place, at any depth not below their height.
     ensures spells { IfOk result (λ bytes. (args : Arguments) (s : List Segment) (depth : ℕ)
         → AllMayStandIn args s finite.empty (terms_tree terms.now) → heights (terms_tree terms.now) ≤ depth
-        → Reads args s depth bytes.items (terms_tree terms.now)) }
+        → ReadsBody args s depth bytes.items (terms_tree terms.now)) }
 {
     let mut writer = Writer::new(alloc);
     writer.terms(terms)?;

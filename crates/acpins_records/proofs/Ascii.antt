@@ -8,7 +8,7 @@ use Rattle.std.proofs.lemmas.List.Elements.{All-nil, All-cons, All-append, All-t
 use Rattle.std.proofs.lemmas.Str.{IsUtf8-from_ascii}
 use Rattle.std.proofs.lemmas.Str.Ascii.{IsAscii-from_all}
 use Rattle.acpi_name.specs.Names.{Segment, is_segment, is_lead_char, is_name_char}
-use Rattle.acpi_name.specs.Text.{SpellsSegment, SpellsPathText, IsPathText}
+use Rattle.acpi_name.specs.Text.{IsTypedSegment, SpellsPathText, IsPathText}
 use Rattle.acpi_name.proofs.NameAgain.{and_true}
 use Rattle.acpins_records.proofs.Runs.{front_kept}
 
@@ -41,11 +41,11 @@ segment_below (a ∷ b ∷ c ∷ d ∷ []) h =
     All-cons P a (b ∷ c ∷ d ∷ []) (char_below a (rw r.0 refl)) (All-cons P b (c ∷ d ∷ []) (char_below b r.1) (All-cons P c (d ∷ []) (char_below c q.1) (All-cons P d [] (char_below d p.1) (All-nil P))))
 segment_below (a ∷ b ∷ c ∷ d ∷ e ∷ s) h = absurd cc
 
-typed_below : (g typed : List ℕ) → SpellsSegment g typed → AreBelow typed
+typed_below : (g typed : List ℕ) → IsTypedSegment g typed → AreBelow typed
 typed_below g typed h =
     subst AreBelow (ap (take (length typed)) h.filled ∙ front_kept typed _) (All-take (λ b. b < 128) (length typed) g (segment_below g h.segment))
 
-joined_below : (p typed : List (List ℕ)) → AllZip SpellsSegment p typed → AreBelow (join_with_byte 0x2E typed)
+joined_below : (p typed : List (List ℕ)) → AllZip IsTypedSegment p typed → AreBelow (join_with_byte 0x2E typed)
 joined_below [] [] h = All-nil (λ b. b < 128)
 joined_below [] (t ∷ ts) h = absurd h
 joined_below (g ∷ p) [] h = absurd h

@@ -40,9 +40,9 @@ unread_record (Some f) = record { is_read = 0; reason = body_reason_code f.reaso
 unread_record None = record { is_read = 0; reason = 0; place = 0 }
 
 -- the text is the statements of the body, or its bytes where it can't be read, and the record says which
-abbrev pub Gives : ℕ → List (List ℕ) → List Segment → BodyTree → BodyRecord → List ℕ → Type 0
-Gives depth tables path (read ts) r text = (r ≡ read_record) × (text ≡ statements_text [] ts)
-Gives depth tables path (unread bytes) r text = (w : Option BodyFault) × IsExplained depth tables path w × (r ≡ unread_record w) × (text ≡ bytes)
+abbrev pub GivesBody : ℕ → List (List ℕ) → List Segment → BodyTree → BodyRecord → List ℕ → Type 0
+GivesBody depth tables path (read ts) r text = (r ≡ read_record) × (text ≡ statements_text [] ts)
+GivesBody depth tables path (unread bytes) r text = (w : Option BodyFault) × IsExplained depth tables path w × (r ≡ unread_record w) × (text ≡ bytes)
 
 -- .. of the body at the path, of the machine to which the tables load
 pub record IsBodyAt (depth : ℕ) (tables : List (List ℕ)) (path : List Segment) (r : BodyRecord) (text : List ℕ) : Type 0 where
@@ -50,7 +50,7 @@ pub record IsBodyAt (depth : ℕ) (tables : List (List ℕ)) (path : List Segmen
   pub loads : IsMachine depth tables machine
   pub body : BodyTree
   pub there : machine.bodies path ≡ Some body
-  pub gives : Gives depth tables path body r text
+  pub gives : GivesBody depth tables path body r text
 
 -- the body at the path that the bytes spell stands at the front of the text
 pub record IsBodyWritten (depth : ℕ) (tables : List (List ℕ)) (spelled old new : List ℕ) (r : BodyRecord) (outcome : Outcome) : Type 0 where

@@ -23,8 +23,8 @@ note_of objects e = record {
 }
 
 -- notes, and later ones behind them
-abbrev pub joined : Notes → Notes → Notes
-joined n m = record { counts = union n.counts m.counts; methods = n.methods ++ m.methods; missed = n.missed ++ m.missed }
+abbrev pub all_notes : Notes → Notes → Notes
+all_notes n m = record { counts = union n.counts m.counts; methods = n.methods ++ m.methods; missed = n.missed ++ m.missed }
 
 -- what the pass has so far
 pub record Pass : Type 0 where
@@ -37,7 +37,7 @@ abbrev pub after : Pass → Placement → Pass
 after t e = record {
   objects = union t.objects (object_of e);
   links = t.links ++ pending_by e.step.effect e.scope e.path;
-  notes = joined t.notes (note_of t.objects e);
+  notes = all_notes t.notes (note_of t.objects e);
 }
 
 abbrev pub after_all : Pass → List Placement → Pass

@@ -69,10 +69,10 @@ holder_item inner opcode end bytes = do
 abbrev pub BeginsWith : Result ItemTrees Fault → Reading Fault ItemTree → code.Holder → List ℕ → Type 0
 BeginsWith inside whole h rest = whole ≡ (inside >>= λ is. Ok (held_by h.front is, rest))
 
-abbrev pub Begins : ((ℕ → List ℕ → Result ItemTrees Fault) → ℕ → List ℕ → Reading Fault ItemTree) → Left → Left → Result code.Holder ItemFault → Type 0
-Begins read old new (Ok h) =
+abbrev pub BeginsHolder : ((ℕ → List ℕ → Result ItemTrees Fault) → ℕ → List ℕ → Reading Fault ItemTree) → Left → Left → Result code.Holder ItemFault → Type 0
+BeginsHolder read old new (Ok h) =
     ((inner : ℕ → List ℕ → Result ItemTrees Fault) → BeginsWith (inner h.inner.end h.inner.bytes) (read inner old.end old.bytes) h new.bytes) × Shorter old new
-Begins read old new (Err e) = (inner : ℕ → List ℕ → Result ItemTrees Fault) → Fails e (read inner old.end old.bytes)
+BeginsHolder read old new (Err e) = (inner : ℕ → List ℕ → Result ItemTrees Fault) → Fails e (read inner old.end old.bytes)
 
 -- what stands before the items of the next item was read, whatever reads these
 abbrev pub HasFront : Left → Left → code.Holder → Type 0

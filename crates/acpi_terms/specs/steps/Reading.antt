@@ -19,7 +19,7 @@ use Rattle.acpi_terms.specs.declared.fault.ItemReason.TheVariants.{BadOpcode, Re
 use Rattle.acpi_terms.specs.declared.fault.ItemFault.{ItemFault}
 use Rattle.acpi_terms.specs.declared.fault.ItemFault.TheVariants as errors
 use Rattle.acpi_terms.specs.Faults.{reason_of, no_constant}
-use Rattle.acpi_terms.specs.Forms.{FixedArgument, name_arg, source_arg, byte_arg, word_arg, dword_arg, count_arg, int_arg, Value, Values, arguments, external_parts}
+use Rattle.acpi_terms.specs.Forms.{FixedArgument, name_arg, source_arg, byte_arg, word_arg, dword_arg, count_arg, int_arg, Value, Values, fixed_arguments, external_parts}
 
 -- ---- faults
 
@@ -122,15 +122,15 @@ string_data end bytes = do
 
 -- DefBuffer: the size is a constant (20.2.5.4)
 abbrev pub buffer_data : ℕ → ℕ → List ℕ → Reading Fault DataTree
-buffer_data level = packed_at (arguments opcodes.Buffer) (λ v content. buffer v.0 content) level bytes_in
+buffer_data level = packed_at (fixed_arguments opcodes.Buffer) (λ v content. buffer v.0 content) level bytes_in
 
 -- DefPackage (20.2.5.4)
 abbrev pub package_data : (ℕ → List ℕ → Result ElemTrees Fault) → ℕ → ℕ → List ℕ → Reading Fault DataTree
-package_data inner level = packed_at (arguments opcodes.Package) (λ v es. pkg v.0 es) level inner
+package_data inner level = packed_at (fixed_arguments opcodes.Package) (λ v es. pkg v.0 es) level inner
 
 -- DefVarPackage: the count is a constant (20.2.5.4)
 abbrev pub var_package_data : (ℕ → List ℕ → Result ElemTrees Fault) → ℕ → ℕ → List ℕ → Reading Fault DataTree
-var_package_data inner level = packed_at (arguments opcodes.VarPackage) (λ v es. var_pkg v.0 es) level inner
+var_package_data inner level = packed_at (fixed_arguments opcodes.VarPackage) (λ v es. var_pkg v.0 es) level inner
 
 -- Data, by what begins there. `inner` reads elements; they and constants have `level` levels left.
 abbrev pub data_by : (ℕ → List ℕ → Result ElemTrees Fault) → ℕ → ℕ → List ℕ → Opcode → List ℕ → Reading Fault DataTree
@@ -191,13 +191,13 @@ name_item level end bytes = do
   Ok (name n.0 d.0, d.1)
 
 abbrev pub scope_item : (ℕ → List ℕ → Result ItemTrees Fault) → ℕ → ℕ → List ℕ → Reading Fault ItemTree
-scope_item inner level = packed_at (arguments opcodes.Scope) (λ v is. scope v.0 is) level inner
+scope_item inner level = packed_at (fixed_arguments opcodes.Scope) (λ v is. scope v.0 is) level inner
 
 abbrev pub method_item : ℕ → ℕ → List ℕ → Reading Fault ItemTree
-method_item level = packed_at (arguments opcodes.Method) (λ v code. method v.0 v.1.0 code) level bytes_in
+method_item level = packed_at (fixed_arguments opcodes.Method) (λ v code. method v.0 v.1.0 code) level bytes_in
 
 unfoldable pub parts_at : ℕ → List ℕ → Reading Fault ExternalParts
-parts_at = plain_at (arguments opcodes.External) external_parts 0
+parts_at = plain_at (fixed_arguments opcodes.External) external_parts 0
 
 -- DefExternal
 abbrev pub external_item : ℕ → List ℕ → Reading Fault ItemTree
@@ -206,41 +206,41 @@ external_item end bytes = do
   Ok (external x.0, x.1)
 
 abbrev pub create_item : Width → ℕ → ℕ → List ℕ → Reading Fault ItemTree
-create_item w = plain_at (arguments (opcodes.Create w)) (λ v. create w v.0 v.1.0 v.1.1.0)
+create_item w = plain_at (fixed_arguments (opcodes.Create w)) (λ v. create w v.0 v.1.0 v.1.1.0)
 
 abbrev pub create_field_item : ℕ → ℕ → List ℕ → Reading Fault ItemTree
-create_field_item = plain_at (arguments opcodes.CreateField) (λ v. create_field v.0 v.1.0 v.1.1.0 v.1.1.1.0)
+create_field_item = plain_at (fixed_arguments opcodes.CreateField) (λ v. create_field v.0 v.1.0 v.1.1.0 v.1.1.1.0)
 
 abbrev pub mutex_item : ℕ → ℕ → List ℕ → Reading Fault ItemTree
-mutex_item = plain_at (arguments opcodes.Mutex) (λ v. mutex v.0 v.1.0)
+mutex_item = plain_at (fixed_arguments opcodes.Mutex) (λ v. mutex v.0 v.1.0)
 
 abbrev pub event_item : ℕ → ℕ → List ℕ → Reading Fault ItemTree
-event_item = plain_at (arguments opcodes.Event) (λ v. event v.0)
+event_item = plain_at (fixed_arguments opcodes.Event) (λ v. event v.0)
 
 abbrev pub region_item : ℕ → ℕ → List ℕ → Reading Fault ItemTree
-region_item = plain_at (arguments opcodes.Region) (λ v. region v.0 v.1.0 v.1.1.0 v.1.1.1.0)
+region_item = plain_at (fixed_arguments opcodes.Region) (λ v. region v.0 v.1.0 v.1.1.0 v.1.1.1.0)
 
 abbrev pub field_item : ℕ → ℕ → List ℕ → Reading Fault ItemTree
-field_item level = packed_at (arguments opcodes.Field) (λ v es. field v.0 v.1.0 es) level fields_in
+field_item level = packed_at (fixed_arguments opcodes.Field) (λ v es. field v.0 v.1.0 es) level fields_in
 
 abbrev pub index_field_item : ℕ → ℕ → List ℕ → Reading Fault ItemTree
-index_field_item level = packed_at (arguments opcodes.IndexField) (λ v es. index_field v.0 v.1.0 v.1.1.0 es) level fields_in
+index_field_item level = packed_at (fixed_arguments opcodes.IndexField) (λ v es. index_field v.0 v.1.0 v.1.1.0 es) level fields_in
 
 abbrev pub bank_field_item : ℕ → ℕ → List ℕ → Reading Fault ItemTree
-bank_field_item level = packed_at (arguments opcodes.BankField) (λ v es. bank_field v.0 v.1.0 v.1.1.0 v.1.1.1.0 es) level fields_in
+bank_field_item level = packed_at (fixed_arguments opcodes.BankField) (λ v es. bank_field v.0 v.1.0 v.1.1.0 v.1.1.1.0 es) level fields_in
 
 abbrev pub device_item : (ℕ → List ℕ → Result ItemTrees Fault) → ℕ → ℕ → List ℕ → Reading Fault ItemTree
-device_item inner level = packed_at (arguments opcodes.Device) (λ v is. device v.0 is) level inner
+device_item inner level = packed_at (fixed_arguments opcodes.Device) (λ v is. device v.0 is) level inner
 
 -- DefProcessor of ACPI 6.3 and earlier
 abbrev pub processor_item : (ℕ → List ℕ → Result ItemTrees Fault) → ℕ → ℕ → List ℕ → Reading Fault ItemTree
-processor_item inner level = packed_at (arguments opcodes.Processor) (λ v is. processor v.0 v.1.0 v.1.1.0 v.1.1.1.0 is) level inner
+processor_item inner level = packed_at (fixed_arguments opcodes.Processor) (λ v is. processor v.0 v.1.0 v.1.1.0 v.1.1.1.0 is) level inner
 
 abbrev pub power_item : (ℕ → List ℕ → Result ItemTrees Fault) → ℕ → ℕ → List ℕ → Reading Fault ItemTree
-power_item inner level = packed_at (arguments opcodes.Power) (λ v is. power v.0 v.1.0 v.1.1.0 is) level inner
+power_item inner level = packed_at (fixed_arguments opcodes.Power) (λ v is. power v.0 v.1.0 v.1.1.0 is) level inner
 
 abbrev pub thermal_item : (ℕ → List ℕ → Result ItemTrees Fault) → ℕ → ℕ → List ℕ → Reading Fault ItemTree
-thermal_item inner level = packed_at (arguments opcodes.Thermal) (λ v is. thermal v.0 is) level inner
+thermal_item inner level = packed_at (fixed_arguments opcodes.Thermal) (λ v is. thermal v.0 is) level inner
 
 -- an External in a block, by what begins there
 abbrev pub external_by : ℕ → List ℕ → Opcode → List ℕ → Reading Fault ExternalParts

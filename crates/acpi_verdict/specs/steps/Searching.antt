@@ -19,12 +19,12 @@ use Rattle.acpi_machine.specs.steps.Adding.{noted}
 use Rattle.acpi_verdict.specs.declared.searches.Found as code
 use Rattle.acpi_verdict.specs.declared.searches.Told.{Told}
 
-pub record Found : Type 0 where
+pub record Searches : Type 0 where
   pub bodies : Lookup BodyTree
   pub missed : Paths
   pub awaited : PathMap ℕ
 
-abbrev pub found_of : code.Found → Found
+abbrev pub found_of : code.Found → Searches
 found_of f = record { bodies = bodies_of f.bodies; missed = f.missed; awaited = f.awaited }
 
 abbrev pub open_pair : OpenMiss → List Segment × ℕ
@@ -36,7 +36,7 @@ with_opens awaited [] = awaited
 with_opens awaited (e ∷ es) = with_opens (with_first awaited e.0 e.1) es
 
 -- the body of the method is read, and what it misses and awaits is added
-pub record SearchesMethod (depth : ℕ) (objects : Namespace) (m : Method) (before now : Found) : Type 0 where
+pub record SearchesMethod (depth : ℕ) (objects : Namespace) (m : Method) (before now : Searches) : Type 0 where
   pub body : BodyTree
   pub is_body : IsBody depth objects m body
   pub bodies_are : now.bodies ≡ union (singleton m.path body) before.bodies
@@ -45,9 +45,9 @@ pub record SearchesMethod (depth : ℕ) (objects : Namespace) (m : Method) (befo
   pub opens_are : (p : List Segment) (n : ℕ) → Among opens (record { path = p; count = n }) ↔ IsOpenMiss objects m.counts m.path body p n
   pub awaited_are : now.awaited ≡ with_opens before.awaited (map open_pair opens)
 
-abbrev pub SearchesAll : ℕ → Namespace → List Method → Found → Found → Type 0
+abbrev pub SearchesAll : ℕ → Namespace → List Method → Searches → Searches → Type 0
 SearchesAll depth objects [] before now = now ≡ before
-SearchesAll depth objects (m ∷ ms) before now = (mid : Found) × SearchesMethod depth objects m before mid × SearchesAll depth objects ms mid now
+SearchesAll depth objects (m ∷ ms) before now = (mid : Searches) × SearchesMethod depth objects m before mid × SearchesAll depth objects ms mid now
 
 -- what bodies of the table await
 abbrev pub tagged : ℕ → List (List Segment × ℕ) → List (ℕ × List Segment × ℕ)
@@ -60,8 +60,8 @@ pub record SearchesTables (depth : ℕ) (objects : Namespace) (notes : List Note
   pub both : notes ≡ first ∷ second ∷ []
   pub scopes : Paths
   pub scopes_are : Grows missed scopes (Among second.missed)
-  pub of_first : Found
-  pub of_second : Found
+  pub of_first : Searches
+  pub of_second : Searches
   pub search_first : SearchesAll depth objects (noted first) (record { bodies = nothing; missed = scopes; awaited = empty }) of_first
   pub search_second : SearchesAll depth objects (noted second) (record { bodies = of_first.bodies; missed = of_first.missed; awaited = empty }) of_second
   pub bodies_are : bodies_of t.bodies ≡ of_second.bodies

@@ -4,7 +4,7 @@ use Rattle.acpi_tree.specs.TermView.{terms_tree}
 use Rattle.acpi_declare.specs.Namespace.{namespace_of}
 use Rattle.acpi_body.specs.Arguments.{arguments}
 use Rattle.acpi_body.specs.Bodies.{body_view, IsBodyOf}
-use Rattle.acpi_body.specs.Statements.{Reads}
+use Rattle.acpi_body.specs.Statements.{ReadsBody}
 use Rattle.acpi_body.specs.declared.body.Body.{Body}
 use Rattle.acpi_write.specs.CanonicalTerms.{terms_bytes}
 use Rattle.acpi_write.specs.declared.fault.WriteFault.{WriteFault}
@@ -17,7 +17,7 @@ unreachable-requires g c =
     let args = arguments (namespace_of (g.S.Space.contents c.args.objects.now)) (get c.args.counts.now) c.args.method.path in
     let code = c.as_slice-code.result.now in
     let ts = terms_tree c.in-Terms.terms.items in
-    let reads : Reads args c.args.method.path c.args.depth code ts =
+    let reads : ReadsBody args c.args.method.path c.args.depth code ts =
     subst (λ (b : Body). IsBodyOf args c.args.method.path c.args.depth code (body_view b)) c.in-Terms.is c.in_ok-terms.ensures.body in
     let w = read_terms_are_written args c.args.method.path c.args.depth code ts c.has_bytes.ensures reads in
     let told : c.write_terms.result ≡ Err TooLong = c.in-Err-TooLong.is ∙ ap (λ (f : WriteFault). Err f) c.in-Err-TooLong.field-0-is in
