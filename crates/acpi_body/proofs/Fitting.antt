@@ -13,6 +13,7 @@ use Rattle.acpi_tree.specs.TermFits.{term_fits, else_fits, all_stand, operands_f
 use Rattle.acpi_code.specs.Opcodes.{opcode_bytes}
 use Rattle.acpi_code.proofs.Fitting.{AreBytes, both, parts, packed, term_name_fits, text_all, fields_fit}
 use Rattle.acpi_body.specs.Arguments.{Locals, Arguments}
+use Rattle.acpi_body.specs.Grammars.{body_grammar}
 use Rattle.acpi_body.specs.Spelling.{values, Spells, AreOperands, AreElements}
 use Rattle.acpi_body.specs.Bodies.{BodyTree, read, unread, IsBodyOf, body_fits}
 use Rattle.acpi_body.specs.Statements.{units_opcode, locals_after, locals_after_all, IsStatement, IsElse, AreStatements}
@@ -20,7 +21,7 @@ use Rattle.acpi_body.specs.Statements.{units_opcode, locals_after, locals_after_
 -- ---- terms
 
 mutual
-  term_fit : (args : NameParts → ℕ) (t : TermTree) (b : List ℕ) → Spells args t b → term_fits t ≡ true
+  term_fit : (args : NameParts → ℕ) (t : TermTree) (b : List ℕ) → Spells (body_grammar args) t b → term_fits t ≡ true
   term_fit args (int i) b h = refl
   term_fit args (str text) b (a, h, whole) = text_all text h.0
   term_fit args (buffer size content) b (s, st, hs, packs) = both st (term_fit args size s hs)
@@ -33,24 +34,24 @@ mutual
   term_fit args (raw k n) b h = refl
   term_fit args (ref n) b h = term_name_fits n b h
   term_fit args (call n vs) b (w, x, spells, hs, whole) = both (term_name_fits n w spells) (values_fit args (args n) vs x hs)
-  term_fit args (apply op vs) b (x, hs, whole) = operands_are_fit args (operands_of op) vs x hs
+  term_fit args (apply op vs) b (x, allowed, hs, whole) = both allowed (operands_are_fit args (operands_of op) vs x hs)
   term_fit args (if_do v ts e) b h = absurd h
   term_fit args (while_do v ts) b h = absurd h
   term_fit args (declare form before n behind) b h = absurd h
   term_fit args (declare_units form ns vs es) b h = absurd h
 
-  operands_are_fit : (args : NameParts → ℕ) (ks : List OperandKind) (ts : TermTrees) (b : List ℕ) → AreOperands args ks ts b → operands_fit ks ts ≡ true
+  operands_are_fit : (args : NameParts → ℕ) (ks : List OperandKind) (ts : TermTrees) (b : List ℕ) → AreOperands (body_grammar args) ks ts b → operands_fit ks ts ≡ true
   operands_are_fit args [] no_terms b h = refl
   operands_are_fit args (k ∷ ks) no_terms b h = absurd h
   operands_are_fit args [] (more t ts) b h = absurd h
   operands_are_fit args (k ∷ ks) (more t ts) b (x, y, st, ht, hs, whole) = both (both st (term_fit args t x ht)) (operands_are_fit args ks ts y hs)
 
-  values_fit : (args : NameParts → ℕ) (n : ℕ) (ts : TermTrees) (b : List ℕ) → AreOperands args (values n) ts b → all_stand Value ts ≡ true
+  values_fit : (args : NameParts → ℕ) (n : ℕ) (ts : TermTrees) (b : List ℕ) → AreOperands (body_grammar args) (values n) ts b → all_stand Value ts ≡ true
   values_fit args n no_terms b h = refl
   values_fit args zero (more t ts) b h = absurd h
   values_fit args (suc n) (more t ts) b (x, y, st, ht, hs, whole) = both (both st (term_fit args t x ht)) (values_fit args n ts y hs)
 
-  elements_fit : (args : NameParts → ℕ) (ts : TermTrees) (b : List ℕ) → AreElements args ts b → all_stand Element ts ≡ true
+  elements_fit : (args : NameParts → ℕ) (ts : TermTrees) (b : List ℕ) → AreElements (body_grammar args) ts b → all_stand Element ts ≡ true
   elements_fit args no_terms b h = refl
   elements_fit args (more t ts) b (x, y, st, ht, hs, whole) = both (both st (term_fit args t x ht)) (elements_fit args ts y hs)
 

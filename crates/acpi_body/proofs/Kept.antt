@@ -8,6 +8,7 @@ use Rattle.acpi_tree.specs.Operators.{operands_of, operands_before, operands_beh
 use Rattle.acpi_code.specs.Opcodes.{opcode_bytes, operator_bytes}
 use Rattle.acpi_code.specs.Spelling.{Packs}
 use Rattle.acpi_body.specs.Arguments.{Locals, Arguments}
+use Rattle.acpi_body.specs.Grammars.{Grammar, body_grammar}
 use Rattle.acpi_body.specs.Spelling.{values, Spells, AreOperands, AreElements}
 use Rattle.acpi_body.specs.Statements.{named_opcode, units_opcode, locals_after, locals_after_all, IsStatement, IsElse, AreStatements}
 use Rattle.acpi_body.specs.Searches.{Searched, term_searches, terms_searches, searches, else_searches, all_searches, IsSpelledIn}
@@ -35,7 +36,7 @@ all_weaker P Q f (x ∷ xs) h = (f x h.0, all_weaker P Q f xs h.1)
 
 module _ (c d : Arguments) where
   mutual
-    kept_term : (locals : Locals) (t : TermTree) (b : List ℕ) → AllByRecursion (AgreeAt c d) (term_searches locals t) → Spells (c locals) t b → Spells (d locals) t b
+    kept_term : (locals : Locals) (t : TermTree) (b : List ℕ) → AllByRecursion (AgreeAt c d) (term_searches locals t) → Spells (body_grammar (c locals)) t b → Spells (body_grammar (d locals)) t b
     kept_term locals (buffer size content) b same (s, here, hs, packs) = (s, here, kept_term locals size s same hs, packs)
     kept_term locals (pkg count es) b same (x, hs, packs) = (x, kept_elements locals es x same hs, packs)
     kept_term locals (var_pkg count es) b same (s, x, here, hc, hs, packs) = (
@@ -47,12 +48,12 @@ module _ (c d : Arguments) where
       packs,
     )
     kept_term locals (call n vs) b same (w, x, spells, hs, whole) =
-        (w, x, spells, subst (λ k. AreOperands (d locals) (values k) vs x) same.0 (kept_operands locals (values (c locals n)) vs x same.1 hs), whole)
-    kept_term locals (apply op vs) b same (x, hs, whole) = (x, kept_operands locals (operands_of op) vs x same hs, whole)
+        (w, x, spells, subst (λ k. AreOperands (body_grammar (d locals)) (values k) vs x) same.0 (kept_operands locals (values (c locals n)) vs x same.1 hs), whole)
+    kept_term locals (apply op vs) b same (x, allowed, hs, whole) = (x, allowed, kept_operands locals (operands_of op) vs x same hs, whole)
     kept_term locals _ b same h = h
 
     kept_operands : (locals : Locals) (ks : List OperandKind) (ts : TermTrees) (b : List ℕ) → AllByRecursion (AgreeAt c d) (terms_searches locals ts)
-        → AreOperands (c locals) ks ts b → AreOperands (d locals) ks ts b
+        → AreOperands (body_grammar (c locals)) ks ts b → AreOperands (body_grammar (d locals)) ks ts b
     kept_operands locals [] no_terms b same h = h
     kept_operands locals (k ∷ ks) no_terms b same h = h
     kept_operands locals [] (more t ts) b same h = h
@@ -65,7 +66,7 @@ module _ (c d : Arguments) where
       whole,
     )
 
-    kept_elements : (locals : Locals) (ts : TermTrees) (b : List ℕ) → AllByRecursion (AgreeAt c d) (terms_searches locals ts) → AreElements (c locals) ts b → AreElements (d locals) ts b
+    kept_elements : (locals : Locals) (ts : TermTrees) (b : List ℕ) → AllByRecursion (AgreeAt c d) (terms_searches locals ts) → AreElements (body_grammar (c locals)) ts b → AreElements (body_grammar (d locals)) ts b
     kept_elements locals no_terms b same h = h
     kept_elements locals (more t ts) b same (x, y, st, ht, hs, whole) = (
       x,
@@ -166,55 +167,55 @@ pack_end : (op x y b : List ℕ) (es : List Searched) → Packs op (x ++ y) b �
 pack_end op x y b es packs = end_of (op ++ (packs.len ++ x)) y b es (packs.whole ∙ ap (λ (l : List ℕ). op ++ l) (sym (append_assoc packs.len x y)) ∙ sym (append_assoc op (packs.len ++ x) y))
 
 mutual
-  spelled_term : (args : NameParts → ℕ) (locals : Locals) (t : TermTree) (b : List ℕ) → Spells args t b → AllByRecursion (Spelled b) (term_searches locals t)
-  spelled_term args locals (buffer size content) b (s, here, hs, packs) = pack_front (0x11 ∷ []) s content b (term_searches locals size) packs (spelled_term args locals size s hs)
-  spelled_term args locals (pkg count es) b (x, hs, packs) = pack_end (0x12 ∷ []) (count ∷ []) x b (terms_searches locals es) packs (spelled_elements args locals es x hs)
-  spelled_term args locals (var_pkg count es) b (s, x, here, hc, hs, packs) =
+  spelled_term : (grammar : Grammar) (locals : Locals) (t : TermTree) (b : List ℕ) → Spells grammar t b → AllByRecursion (Spelled b) (term_searches locals t)
+  spelled_term grammar locals (buffer size content) b (s, here, hs, packs) = pack_front (0x11 ∷ []) s content b (term_searches locals size) packs (spelled_term grammar locals size s hs)
+  spelled_term grammar locals (pkg count es) b (x, hs, packs) = pack_end (0x12 ∷ []) (count ∷ []) x b (terms_searches locals es) packs (spelled_elements grammar locals es x hs)
+  spelled_term grammar locals (var_pkg count es) b (s, x, here, hc, hs, packs) =
       all_both (Spelled b) (term_searches locals count) (terms_searches locals es)
-      (pack_front (0x13 ∷ []) s x b (term_searches locals count) packs (spelled_term args locals count s hc))
-      (pack_end (0x13 ∷ []) s x b (terms_searches locals es) packs (spelled_elements args locals es x hs))
-  spelled_term args locals (call n vs) b (w, x, spells, hs, whole) =
-      (record { before = []; spelled = w; after = x; whole = whole; spells = spells.0 }, end_of w x b (terms_searches locals vs) whole (spelled_operands args locals (values (args n)) vs x hs))
-  spelled_term args locals (apply op vs) b (x, hs, whole) = end_of (operator_bytes op) x b (terms_searches locals vs) whole (spelled_operands args locals (operands_of op) vs x hs)
-  spelled_term args locals _ b h = tt
+      (pack_front (0x13 ∷ []) s x b (term_searches locals count) packs (spelled_term grammar locals count s hc))
+      (pack_end (0x13 ∷ []) s x b (terms_searches locals es) packs (spelled_elements grammar locals es x hs))
+  spelled_term grammar locals (call n vs) b (w, x, spells, hs, whole) =
+      (record { before = []; spelled = w; after = x; whole = whole; spells = spells.0 }, end_of w x b (terms_searches locals vs) whole (spelled_operands grammar locals (values (grammar.args n)) vs x hs))
+  spelled_term grammar locals (apply op vs) b (x, allowed, hs, whole) = end_of (operator_bytes op) x b (terms_searches locals vs) whole (spelled_operands grammar locals (operands_of op) vs x hs)
+  spelled_term grammar locals _ b h = tt
 
-  spelled_operands : (args : NameParts → ℕ) (locals : Locals) (ks : List OperandKind) (ts : TermTrees) (b : List ℕ) → AreOperands args ks ts b → AllByRecursion (Spelled b) (terms_searches locals ts)
-  spelled_operands args locals ks no_terms b h = tt
-  spelled_operands args locals [] (more t ts) b h = absurd h
-  spelled_operands args locals (k ∷ ks) (more t ts) b (x, y, st, ht, hs, whole) =
+  spelled_operands : (grammar : Grammar) (locals : Locals) (ks : List OperandKind) (ts : TermTrees) (b : List ℕ) → AreOperands grammar ks ts b → AllByRecursion (Spelled b) (terms_searches locals ts)
+  spelled_operands grammar locals ks no_terms b h = tt
+  spelled_operands grammar locals [] (more t ts) b h = absurd h
+  spelled_operands grammar locals (k ∷ ks) (more t ts) b (x, y, st, ht, hs, whole) =
       all_both (Spelled b) (term_searches locals t) (terms_searches locals ts)
-      (part_of [] x y b (term_searches locals t) whole (spelled_term args locals t x ht))
-      (end_of x y b (terms_searches locals ts) whole (spelled_operands args locals ks ts y hs))
+      (part_of [] x y b (term_searches locals t) whole (spelled_term grammar locals t x ht))
+      (end_of x y b (terms_searches locals ts) whole (spelled_operands grammar locals ks ts y hs))
 
-  spelled_elements : (args : NameParts → ℕ) (locals : Locals) (ts : TermTrees) (b : List ℕ) → AreElements args ts b → AllByRecursion (Spelled b) (terms_searches locals ts)
-  spelled_elements args locals no_terms b h = tt
-  spelled_elements args locals (more t ts) b (x, y, st, ht, hs, whole) =
+  spelled_elements : (grammar : Grammar) (locals : Locals) (ts : TermTrees) (b : List ℕ) → AreElements grammar ts b → AllByRecursion (Spelled b) (terms_searches locals ts)
+  spelled_elements grammar locals no_terms b h = tt
+  spelled_elements grammar locals (more t ts) b (x, y, st, ht, hs, whole) =
       all_both (Spelled b) (term_searches locals t) (terms_searches locals ts)
-      (part_of [] x y b (term_searches locals t) whole (spelled_term args locals t x ht))
-      (end_of x y b (terms_searches locals ts) whole (spelled_elements args locals ts y hs))
+      (part_of [] x y b (term_searches locals t) whole (spelled_term grammar locals t x ht))
+      (end_of x y b (terms_searches locals ts) whole (spelled_elements grammar locals ts y hs))
 
 mutual
   spelled_statement : (args : Arguments) (s : List Segment) (locals : Locals) (t : TermTree) (b : List ℕ) → IsStatement args s locals t b → AllByRecursion (Spelled b) (searches s locals t)
   spelled_statement args s locals (if_do v ts e) b (x, y, p, q, here, hv, hs, packs, other, whole) =
       let after = locals_after_all s locals ts in
       all_both (Spelled b) (term_searches locals v) (all_searches s locals ts ++ else_searches s after e)
-      (part_of [] p q b (term_searches locals v) whole (pack_front (0xA0 ∷ []) x y p (term_searches locals v) packs (spelled_term (args locals) locals v x hv)))
+      (part_of [] p q b (term_searches locals v) whole (pack_front (0xA0 ∷ []) x y p (term_searches locals v) packs (spelled_term (body_grammar (args locals)) locals v x hv)))
       (all_both (Spelled b) (all_searches s locals ts) (else_searches s after e)
       (part_of [] p q b (all_searches s locals ts) whole (pack_end (0xA0 ∷ []) x y p (all_searches s locals ts) packs (spelled_statements args s locals ts y hs)))
       (end_of p q b (else_searches s after e) whole (spelled_else args s after e q other)))
   spelled_statement args s locals (while_do v ts) b (x, y, here, hv, hs, packs) =
       all_both (Spelled b) (term_searches locals v) (all_searches s locals ts)
-      (pack_front (0xA2 ∷ []) x y b (term_searches locals v) packs (spelled_term (args locals) locals v x hv))
+      (pack_front (0xA2 ∷ []) x y b (term_searches locals v) packs (spelled_term (body_grammar (args locals)) locals v x hv))
       (pack_end (0xA2 ∷ []) x y b (all_searches s locals ts) packs (spelled_statements args s locals ts y hs))
   spelled_statement args s locals (declare form before n behind) b (x, y, z, hb, may, hn, ha, whole) =
       let op = opcode_bytes (named_opcode form) in
       all_both (Spelled b) (terms_searches locals before) (terms_searches locals behind)
-      (part_of op x (y ++ z) b (terms_searches locals before) whole (spelled_operands (args locals) locals (operands_before form) before x hb))
-      (end_of (op ++ (x ++ y)) z b (terms_searches locals behind) (whole ∙ simp append_assoc) (spelled_operands (args locals) locals (operands_behind form) behind z ha))
+      (part_of op x (y ++ z) b (terms_searches locals before) whole (spelled_operands (body_grammar (args locals)) locals (operands_before form) before x hb))
+      (end_of (op ++ (x ++ y)) z b (terms_searches locals behind) (whole ∙ simp append_assoc) (spelled_operands (body_grammar (args locals)) locals (operands_behind form) behind z ha))
   spelled_statement args s locals (declare_units form ns vs es) b (x, y, z, count, hn, hv, he, packs) =
       let op = opcode_bytes (units_opcode form) in
-      part_of (op ++ (packs.len ++ x)) y z b (terms_searches locals vs) (packs.whole ∙ simp append_assoc) (spelled_operands (args locals) locals (operands_of_units form) vs y hv)
-  spelled_statement args s locals t b h = spelled_term (args locals) locals t b h.1
+      part_of (op ++ (packs.len ++ x)) y z b (terms_searches locals vs) (packs.whole ∙ simp append_assoc) (spelled_operands (body_grammar (args locals)) locals (operands_of_units form) vs y hv)
+  spelled_statement args s locals t b h = spelled_term (body_grammar (args locals)) locals t b h.1
 
   spelled_else : (args : Arguments) (s : List Segment) (locals : Locals) (e : ElseTree) (b : List ℕ) → IsElse args s locals e b → AllByRecursion (Spelled b) (else_searches s locals e)
   spelled_else args s locals no_else b h = tt

@@ -12,6 +12,7 @@ use Rattle.acpi_code.specs.steps.Reading.{◌>>=◌, Reading, byte_at, extended_
 use Rattle.acpi_body.specs.declared.fault.BodyFault.{BodyFault}
 use Rattle.acpi_body.specs.declared.fault.BodyReason.{BodyReason}
 use Rattle.acpi_body.specs.Arguments.{Locals, Arguments}
+use Rattle.acpi_body.specs.Grammars.{Grammar, body_grammar}
 use Rattle.acpi_body.specs.Spelling.{height, heights}
 use Rattle.acpi_body.specs.Statements.{locals_after, IsStatement, AreStatements}
 use Rattle.acpi_body.specs.Refusals.{statement_refusal, never_begins}
@@ -57,29 +58,29 @@ no_else_there (b ∷ w) o why e r = by_test (eqb b 0xA1) refl
         absurd (none_known why (ap never_begins (known_is opcodes.Else o is) ∙ r))
     by_test false t = t
 
-as_refusal : (o : Opcode) (why : BodyReason) → never_begins o ≡ known why → statement_refusal o ≡ known why
+as_refusal : (o : Opcode) (why : BodyReason) → never_begins o ≡ known why → statement_refusal false o ≡ known why
 as_refusal opcodes.Else why e = absurd (none_known why e)
 as_refusal _ why e = e
 
-is_placed : (args : NameParts → ℕ) (value : Reader) (inner : Statements) (s : List Segment) (locals : Locals) (end : ℕ) (bytes r : List ℕ)
+is_placed : (grammar : Grammar) (value : Reader) (inner : Statements) (s : List Segment) (locals : Locals) (end : ℕ) (bytes r : List ℕ)
     (o : Opcode) (why : BodyReason) → never_begins o ≡ known why
-    → statement_by args value inner s locals end bytes o r ≡ placed_by args value Statement end bytes o r
+    → statement_by grammar value inner s locals end bytes o r ≡ placed_by grammar value Statement end bytes o r
 unfolding statement_by
-is_placed args value inner s locals end bytes r opcodes.If why e = absurd (none_known why e)
-is_placed args value inner s locals end bytes r opcodes.While why e = absurd (none_known why e)
-is_placed args value inner s locals end bytes r opcodes.DeclareName why e = absurd (none_known why e)
-is_placed args value inner s locals end bytes r (opcodes.Create w) why e = absurd (none_known why e)
-is_placed args value inner s locals end bytes r opcodes.CreateField why e = absurd (none_known why e)
-is_placed args value inner s locals end bytes r opcodes.Region why e = absurd (none_known why e)
-is_placed args value inner s locals end bytes r opcodes.Mutex why e = absurd (none_known why e)
-is_placed args value inner s locals end bytes r opcodes.Event why e = absurd (none_known why e)
-is_placed args value inner s locals end bytes r opcodes.Field why e = absurd (none_known why e)
-is_placed args value inner s locals end bytes r opcodes.IndexField why e = absurd (none_known why e)
-is_placed args value inner s locals end bytes r opcodes.BankField why e = absurd (none_known why e)
-is_placed args value inner s locals end bytes r _ why e = refl
+is_placed grammar value inner s locals end bytes r opcodes.If why e = absurd (none_known why e)
+is_placed grammar value inner s locals end bytes r opcodes.While why e = absurd (none_known why e)
+is_placed grammar value inner s locals end bytes r opcodes.DeclareName why e = absurd (none_known why e)
+is_placed grammar value inner s locals end bytes r (opcodes.Create w) why e = absurd (none_known why e)
+is_placed grammar value inner s locals end bytes r opcodes.CreateField why e = absurd (none_known why e)
+is_placed grammar value inner s locals end bytes r opcodes.Region why e = absurd (none_known why e)
+is_placed grammar value inner s locals end bytes r opcodes.Mutex why e = absurd (none_known why e)
+is_placed grammar value inner s locals end bytes r opcodes.Event why e = absurd (none_known why e)
+is_placed grammar value inner s locals end bytes r opcodes.Field why e = absurd (none_known why e)
+is_placed grammar value inner s locals end bytes r opcodes.IndexField why e = absurd (none_known why e)
+is_placed grammar value inner s locals end bytes r opcodes.BankField why e = absurd (none_known why e)
+is_placed grammar value inner s locals end bytes r _ why e = refl
 
-placed_refused : (args : NameParts → ℕ) (value : Reader) (end : ℕ) (w r : List ℕ) (o : Opcode) (why : BodyReason) → statement_refusal o ≡ known why
-    → placed_by args value Statement end w o r ≡ Err (fault_at end w why)
+placed_refused : (args : NameParts → ℕ) (value : Reader) (end : ℕ) (w r : List ℕ) (o : Opcode) (why : BodyReason) → statement_refusal false o ≡ known why
+    → placed_by (body_grammar args) value Statement end w o r ≡ Err (fault_at end w why)
 unfolding placed_by
 placed_refused args value end w r o why e = rw e refl
 
@@ -88,8 +89,8 @@ stops_there : (args : Arguments) (s : List Segment) (level : ℕ) (locals : Loca
 unfolding statement_at
 stops_there args s level locals end w o why opens refuses =
     let r = first_opens end w o opens in
-    rw r.1 (is_placed (args locals) (term_at (args locals) level) (statements_at args s level) s locals end w r.0 o why refuses
-    ∙ placed_refused (args locals) (term_at (args locals) level) end w r.0 o why (as_refusal o why refuses))
+    rw r.1 (is_placed (body_grammar (args locals)) (term_at (body_grammar (args locals)) level) (statements_at args s level) s locals end w r.0 o why refuses
+    ∙ placed_refused (args locals) (term_at (body_grammar (args locals)) level) end w r.0 o why (as_refusal o why refuses))
 
 -- ---- behind statements
 

@@ -2,8 +2,10 @@
 use Rattle.std.proofs.Common.{◌≡◌, ℕ, ◌-◌, Bool, true, false, cond, ◌⊎◌, Option, Some, None, List, length, drop, Result, Ok, Err, refl, sym, ap, ◌∙◌, inl, inr}
 use Rattle.acpi_name.specs.Names.{Segment}
 use Rattle.acpi_tree.specs.Operators.{is_expression, is_reference}
+use Rattle.acpi_tree.specs.declared.op.Op.{Op}
 use Rattle.acpi_tree.specs.declared.place.Place.{Place}
 use Rattle.acpi_tree.specs.declared.place.Place.TheVariants.{Value, SuperName, SimpleName, Element, Data, Statement}
+use Rattle.acpi_tree.specs.declared.place.Place.TheVariants as places
 use Rattle.acpi_code.specs.declared.fault.CodeFault.{CodeFault}
 use Rattle.acpi_code.specs.declared.fault.ConstantFault.{ConstantFault}
 use Rattle.acpi_code.specs.declared.fault.ConstantFault.TheVariants.{Part, NotConstant}
@@ -21,7 +23,8 @@ use Rattle.acpi_code.proofs.Opcodes.{Opened}
 use Rattle.acpi_body.specs.declared.fault.BodyReason.{BodyReason}
 use Rattle.acpi_body.specs.declared.fault.BodyReason.TheVariants.{BadOpcode, NotStatement, NotValue, NotTarget, LeftOut, NotData}
 use Rattle.acpi_body.specs.declared.fault.BodyFault.{BodyFault}
-use Rattle.acpi_body.specs.Refusals.{refusal_at}
+use Rattle.acpi_body.specs.Grammars.{is_allowed}
+use Rattle.acpi_body.specs.Refusals.{load_refusal, refusal_at}
 use Rattle.acpi_body.specs.Faults.{reason_of, fault_of, constant_fault_of, IsMisplaced, BeginsFieldList, IsBodyElement, is_other_data, ShowsBody}
 use Rattle.acpi_body.specs.steps.Reading.{part, fields_in, unless}
 
@@ -79,6 +82,9 @@ fields_sound m s level end bytes list h =
 
 -- ---- the reasons of places
 
+abbrev some : BodyReason → Option BodyReason
+some why = Some why
+
 abbrev of_place : Option BodyReason → Bool
 of_place None = true
 of_place (Some BadOpcode) = true
@@ -93,19 +99,45 @@ either : (t : Bool) (x y : Option BodyReason) → of_place x ≡ true → of_pla
 either true x y h k = h
 either false x y h k = k
 
-refusals : (p : Place) (o : Opcode) → of_place (refusal_at p o) ≡ true
-refusals Value (opcodes.Operator op) = either (is_expression op) None (Some NotValue) refl refl
-refusals Value _ = refl
-refusals SuperName (opcodes.Operator op) = either (is_reference op) None (Some NotTarget) refl refl
-refusals SuperName _ = refl
-refusals SimpleName opcodes.Name = refl
-refusals SimpleName _ = refl
-refusals Element opcodes.Name = refl
-refusals Element _ = refl
-refusals Data opcodes.Str = refl
-refusals Data _ = refl
-refusals Statement opcodes.Str = refl
-refusals Statement _ = refl
+load_refusals : (loads : Bool) (op : Op) → of_place (load_refusal loads op) ≡ true
+load_refusals loads op = either (is_allowed loads op) None (Some LeftOut) refl refl
+
+refusals : (loads : Bool) (p : Place) (o : Opcode) → of_place (refusal_at loads p o) ≡ true
+refusals loads Value (opcodes.Operator op) = either (is_expression op) (load_refusal loads op) (Some NotValue) (load_refusals loads op) refl
+refusals loads Value _ = refl
+refusals loads SuperName (opcodes.Operator op) = either (is_reference op) None (Some NotTarget) refl refl
+refusals loads SuperName _ = refl
+refusals loads SimpleName opcodes.Name = refl
+refusals loads SimpleName _ = refl
+refusals loads Element opcodes.Name = refl
+refusals loads Element _ = refl
+refusals loads Data opcodes.Str = refl
+refusals loads Data _ = refl
+refusals loads Statement (opcodes.Operator op) = load_refusals loads op
+refusals loads Statement _ = refl
+refusals loads places.Source (opcodes.Operator op) = either (is_expression op) (load_refusal loads op) (Some NotValue) (load_refusals loads op) refl
+refusals loads places.Source _ = refl
+
+-- what is refused where loads may stand is refused in bodies
+value_in_body : (b : Bool) (op : Op) (why : BodyReason) → cond b None (Some NotValue) ≡ some why → cond b (load_refusal false op) (Some NotValue) ≡ some why
+value_in_body true op why h = absurd cc
+value_in_body false op why h = h
+
+with_loads : (p : Place) (o : Opcode) (why : BodyReason) → refusal_at true p o ≡ some why → refusal_at false p o ≡ some why
+with_loads Value (opcodes.Operator op) why h = value_in_body (is_expression op) op why h
+with_loads Value _ why h = h
+with_loads SuperName o why h = h
+with_loads SimpleName o why h = h
+with_loads Element o why h = h
+with_loads Data o why h = h
+with_loads Statement (opcodes.Operator op) why h = absurd cc
+with_loads Statement _ why h = h
+with_loads places.Source (opcodes.Operator op) why h = value_in_body (is_expression op) op why h
+with_loads places.Source _ why h = h
+
+in_body : (loads : Bool) (p : Place) (o : Opcode) (why : BodyReason) → refusal_at loads p o ≡ some why → refusal_at false p o ≡ some why
+in_body true p o why h = with_loads p o why h
+in_body false p o why h = h
 
 shows_misplaced : (m : List Segment) (s : Source) (why : BodyReason) (place : ℕ) → of_place (Some why) ≡ true → IsMisplaced why (drop place s.code) → ShowsBody m s.depth s.code why place
 shows_misplaced m s BadOpcode place e h = h
@@ -117,13 +149,13 @@ shows_misplaced m s NotData place e h = inl h
 shows_misplaced m s _ place e h = absurd cc
 
 -- what begins there is refused at the place, or is judged where it isn't
-pub unless_sound : {A : Type 0} (m : List Segment) (s : Source) (level end : ℕ) (bytes : List ℕ) (p : Place) (x : Opcode × List ℕ) (Good : A → Type 0)
+pub unless_sound : {A : Type 0} (m : List Segment) (s : Source) (loads : Bool) (level end : ℕ) (bytes : List ℕ) (p : Place) (x : Opcode × List ℕ) (Good : A → Type 0)
     (r : Result A BodyFault) → Position s.depth level s.code end bytes → Opened bytes x
-    → (refusal_at p x.0 ≡ None → Judge Good (Bad m s) r) → Judge Good (Bad m s) (unless (refusal_at p x.0) end bytes r)
-unless_sound m s level end bytes p x Good r h o k = by_refusal (refusal_at p x.0) refl
+    → (refusal_at loads p x.0 ≡ None → Judge Good (Bad m s) r) → Judge Good (Bad m s) (unless (refusal_at loads p x.0) end bytes r)
+unless_sound m s loads level end bytes p x Good r h o k = by_refusal (refusal_at loads p x.0) refl
   where
-    by_refusal : (w : Option BodyReason) → refusal_at p x.0 ≡ w → Judge Good (Bad m s) (unless w end bytes r)
+    by_refusal : (w : Option BodyReason) → refusal_at loads p x.0 ≡ w → Judge Good (Bad m s) (unless w end bytes r)
     by_refusal None is = k is
     by_refusal (Some why) is =
-        shows_misplaced m s why (end - length bytes) (ap of_place (sym is) ∙ refusals p x.0)
-        (record { kind = p; opcode = x.0; begins = ap first_opcode (stands_at s level end bytes h) ∙ o.is_opcode h.after; refused = is })
+        shows_misplaced m s why (end - length bytes) (ap of_place (sym is) ∙ refusals loads p x.0)
+        (record { kind = p; opcode = x.0; begins = ap first_opcode (stands_at s level end bytes h) ∙ o.is_opcode h.after; refused = in_body loads p x.0 why is })

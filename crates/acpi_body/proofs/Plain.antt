@@ -14,6 +14,7 @@ use Rattle.acpi_body.specs.declared.fault.BodyReason.{BodyReason}
 use Rattle.acpi_body.specs.declared.fault.Stop.{Stop}
 use Rattle.acpi_body.specs.Arguments.{Locals}
 use Rattle.acpi_body.specs.Statements.{locals_after}
+use Rattle.acpi_body.specs.Grammars.{Grammar}
 use Rattle.acpi_body.specs.Refusals.{refusal_at}
 use Rattle.acpi_body.specs.steps.Cursor.{Reads}
 use Rattle.acpi_body.specs.Spelling.{values}
@@ -57,23 +58,23 @@ named_keeps : (args : NameParts → ℕ) (inner : Reader) (end : ℕ) (is_call :
 named_keeps args inner end true n = keeps_behind (operands_at inner (values (args n.0)) end n.1) (λ vs. Ok (call n.0 (terms_of vs.0), vs.1)) (λ vs s locals. refl)
 named_keeps args inner end false n = λ s locals. refl
 
-form_keeps : (args : NameParts → ℕ) (inner : Reader) (place : Place) (end : ℕ) (whole : List ℕ) (o : Opcode) (rest : List ℕ) → Keeps (form_by args inner place end whole o rest)
+form_keeps : (grammar : Grammar) (inner : Reader) (place : Place) (end : ℕ) (whole : List ℕ) (o : Opcode) (rest : List ℕ) → Keeps (form_by grammar inner place end whole o rest)
 unfolding form_by constant_form string_form name_form operator_form
-form_keeps args inner place end whole (opcodes.Constant form) rest = keeps_behind (part (constant_at form end rest)) (λ i. Ok (int i.0, i.1)) (λ i s locals. refl)
-form_keeps args inner place end whole opcodes.Str rest = keeps_behind (part (string_at end rest)) (λ t. Ok (str t.0, t.1)) (λ t s locals. refl)
-form_keeps args inner place end whole opcodes.Buffer rest = buffer_keeps inner end rest
-form_keeps args inner place end whole opcodes.Package rest = package_keeps inner end rest
-form_keeps args inner place end whole opcodes.VarPackage rest = var_package_keeps inner end rest
-form_keeps args inner place end whole (opcodes.Local n) rest = λ s locals. refl
-form_keeps args inner place end whole (opcodes.Arg n) rest = λ s locals. refl
-form_keeps args inner place end whole opcodes.Debug rest = λ s locals. refl
-form_keeps args inner place end whole opcodes.Name rest = keeps_behind (part (name_in end whole)) (λ n. named_by args inner end (calls place) n) (λ n. named_keeps args inner end (calls place) n)
-form_keeps args inner place end whole (opcodes.Operator op) rest = keeps_behind (operands_at inner (operands_of op) end rest) (λ vs. Ok (apply op (terms_of vs.0), vs.1)) (λ vs s locals. refl)
-form_keeps args inner place end whole _ rest = tt
+form_keeps grammar inner place end whole (opcodes.Constant form) rest = keeps_behind (part (constant_at form end rest)) (λ i. Ok (int i.0, i.1)) (λ i s locals. refl)
+form_keeps grammar inner place end whole opcodes.Str rest = keeps_behind (part (string_at end rest)) (λ t. Ok (str t.0, t.1)) (λ t s locals. refl)
+form_keeps grammar inner place end whole opcodes.Buffer rest = buffer_keeps inner end rest
+form_keeps grammar inner place end whole opcodes.Package rest = package_keeps inner end rest
+form_keeps grammar inner place end whole opcodes.VarPackage rest = var_package_keeps inner end rest
+form_keeps grammar inner place end whole (opcodes.Local n) rest = λ s locals. refl
+form_keeps grammar inner place end whole (opcodes.Arg n) rest = λ s locals. refl
+form_keeps grammar inner place end whole opcodes.Debug rest = λ s locals. refl
+form_keeps grammar inner place end whole opcodes.Name rest = keeps_behind (part (name_in end whole)) (λ n. named_by grammar.args inner end (calls place) n) (λ n. named_keeps grammar.args inner end (calls place) n)
+form_keeps grammar inner place end whole (opcodes.Operator op) rest = keeps_behind (operands_at inner (operands_of op) end rest) (λ vs. Ok (apply op (terms_of vs.0), vs.1)) (λ vs s locals. refl)
+form_keeps grammar inner place end whole _ rest = tt
 
-pub placed_keeps : (args : NameParts → ℕ) (inner : Reader) (place : Place) (end : ℕ) (whole : List ℕ) (o : Opcode) (rest : List ℕ) → Keeps (placed_by args inner place end whole o rest)
+pub placed_keeps : (grammar : Grammar) (inner : Reader) (place : Place) (end : ℕ) (whole : List ℕ) (o : Opcode) (rest : List ℕ) → Keeps (placed_by grammar inner place end whole o rest)
 unfolding placed_by
-placed_keeps args inner place end whole o rest = keeps_unless (refusal_at place o) end whole (form_by args inner place end whole o rest) (form_keeps args inner place end whole o rest)
+placed_keeps grammar inner place end whole o rest = keeps_unless (refusal_at grammar.loads place o) end whole (form_by grammar inner place end whole o rest) (form_keeps grammar inner place end whole o rest)
 
 -- ---- as a function answers it
 

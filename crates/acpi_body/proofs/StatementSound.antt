@@ -27,6 +27,7 @@ use Rattle.acpi_code.proofs.Packages.{PackageFront, GoodPackage, package_sound, 
 use Rattle.acpi_body.specs.declared.fault.BodyFault.{BodyFault}
 use Rattle.acpi_body.specs.declared.fault.BodyReason.TheVariants.{BadPlace}
 use Rattle.acpi_body.specs.Arguments.{Locals, Arguments}
+use Rattle.acpi_body.specs.Grammars.{body_grammar}
 use Rattle.acpi_body.specs.Spelling.{Stands, Spells, height, else_height, heights}
 use Rattle.acpi_code.specs.Fields.{SpellsFields}
 use Rattle.acpi_body.specs.Refusals.{refusal_at}
@@ -138,14 +139,14 @@ module _ (m : List Segment) (s : Source) (args : Arguments) where
       ))))
       (λ no. (record { front = []; spells = record { spells = refl; within = omega arith }; whole = refl }, h))
 
-  if_sound : (level : ℕ) (locals : Locals) (value : Reader) (inner : Statements) → Inner m s (args locals) level value → InnerStatements level inner
+  if_sound : (level : ℕ) (locals : Locals) (value : Reader) (inner : Statements) → Inner m s (body_grammar (args locals)) level value → InnerStatements level inner
       → (end : ℕ) (bytes rest : List ℕ) → bytes ≡ 0xA0 ∷ rest → AtPackage s.depth level s.code end rest
       → Judge (Read s level end (Standing args m (suc level) locals) bytes) (Bad m s) (if_form value inner m locals end rest)
   unfolding if_form
   if_sound level locals value inner i k end bytes rest is h =
       let Good = Read s level end (Standing args m (suc level) locals) bytes in
       opened level end rest Good _ h (λ p g.
-      then_read level p.end (Within (args locals) level Value) Good p.content (value Value p.end p.content) _ (i Value p.end p.content refl g.1) (λ v w.
+      then_read level p.end (Within (body_grammar (args locals)) level Value) Good p.content (value Value p.end p.content) _ (i Value p.end p.content refl g.1) (λ v w.
       judge_bind (AreStanding args m level locals v.1) Good (Bad m s) (inner locals p.end v.1) _ (k locals p.end v.1 w.1) (λ ts t.
       then_read level end (Other args m level (locals_after_all m locals (terms_of ts))) Good p.rest
       (else_at (inner (locals_after_all m locals (terms_of ts))) end p.rest) _
@@ -174,14 +175,14 @@ module _ (m : List Segment) (s : Source) (args : Arguments) where
         o.1,
       )))))
 
-  while_sound : (level : ℕ) (locals : Locals) (value : Reader) (inner : Statements) → Inner m s (args locals) level value → InnerStatements level inner
+  while_sound : (level : ℕ) (locals : Locals) (value : Reader) (inner : Statements) → Inner m s (body_grammar (args locals)) level value → InnerStatements level inner
       → (end : ℕ) (bytes rest : List ℕ) → bytes ≡ 0xA2 ∷ rest → AtPackage s.depth level s.code end rest
       → Judge (Read s level end (Standing args m (suc level) locals) bytes) (Bad m s) (while_form value inner locals end rest)
   unfolding while_form
   while_sound level locals value inner i k end bytes rest is h =
       let Good = Read s level end (Standing args m (suc level) locals) bytes in
       opened level end rest Good _ h (λ p g.
-      then_read level p.end (Within (args locals) level Value) Good p.content (value Value p.end p.content) _ (i Value p.end p.content refl g.1) (λ v w.
+      then_read level p.end (Within (body_grammar (args locals)) level Value) Good p.content (value Value p.end p.content) _ (i Value p.end p.content refl g.1) (λ v w.
       judge_bind (AreStanding args m level locals v.1) Good (Bad m s) (inner locals p.end v.1) _ (k locals p.end v.1 w.1) (λ ts t.
       let x : List ℕ = 0xA2 ∷ (g.0.len ++ p.content) in (
         record {
@@ -222,18 +223,18 @@ module _ (m : List Segment) (s : Source) (args : Arguments) where
       (λ none. record { name = n.0; spelled = t.0.front; rest = n.1 ++ h.after; here = there; spells = t.0.spells; cannot = inr none })
       (λ nameless. record { name = n.0; spelled = t.0.front; rest = n.1 ++ h.after; here = there; spells = t.0.spells; cannot = inl nameless }))
 
-  named_sound : (level : ℕ) (locals : Locals) (value : Reader) → Inner m s (args locals) level value
+  named_sound : (level : ℕ) (locals : Locals) (value : Reader) → Inner m s (body_grammar (args locals)) level value
       → (form : NamedForm) (end : ℕ) (bytes rest : List ℕ) → bytes ≡ opcode_bytes (named_opcode form) ++ rest → Position s.depth level s.code end rest
       → Judge (Read s level end (Standing args m (suc level) locals) bytes) (Bad m s) (named_form value m form end rest)
   unfolding named_form
   named_sound level locals value i form end bytes rest is h =
       let Good = Read s level end (Standing args m (suc level) locals) bytes in
       let op = opcode_bytes (named_opcode form) in
-      then_read level end (Operands (args locals) level (operands_before form)) Good rest (operands_at value (operands_before form) end rest) _
-      (operands_sound m s (args locals) level value i (operands_before form) end rest (before_inner form) h) (λ x b.
+      then_read level end (Operands (body_grammar (args locals)) level (operands_before form)) Good rest (operands_at value (operands_before form) end rest) _
+      (operands_sound m s (body_grammar (args locals)) level value i (operands_before form) end rest (before_inner form) h) (λ x b.
       then_read level end (Declared m) Good x.1 (declared_at m end x.1) _ (declared_sound level end x.1 b.1) (λ n d.
-      then_read level end (Operands (args locals) level (operands_behind form)) Good n.1 (operands_at value (operands_behind form) end n.1) _
-      (operands_sound m s (args locals) level value i (operands_behind form) end n.1 (behind_inner form) d.1) (λ y a.
+      then_read level end (Operands (body_grammar (args locals)) level (operands_behind form)) Good n.1 (operands_at value (operands_behind form) end n.1) _
+      (operands_sound m s (body_grammar (args locals)) level value i (operands_behind form) end n.1 (behind_inner form) d.1) (λ y a.
       let back : rest ≡ (b.0.front ++ (d.0.front ++ a.0.front)) ++ y.1 = b.0.whole
       ∙ ap (λ (l : List ℕ). b.0.front ++ l) (d.0.whole ∙ ap (λ (l : List ℕ). d.0.front ++ l) a.0.whole) ∙ simp append_assoc in (
         record {
@@ -265,7 +266,7 @@ module _ (m : List Segment) (s : Source) (args : Arguments) where
   -- the field list behind the names and operands
   field_list : (level : ℕ) (locals : Locals) (form : UnitsForm) (end : ℕ) (bytes rest : List ℕ) (p : Package) (ns : List NameParts × List ℕ) (vs : List TermTree × List ℕ)
       → bytes ≡ opcode_bytes (units_opcode form) ++ rest → Position s.depth (suc level) s.code end bytes → PackageFront end rest p → Front (AreNames (names_of_units form)) p.content ns
-      → Front (Operands (args locals) level (operands_of_units form)) ns.1 vs → BeginsFieldList s.code (p.end - length vs.1)
+      → Front (Operands (body_grammar (args locals)) level (operands_of_units form)) ns.1 vs → BeginsFieldList s.code (p.end - length vs.1)
   field_list level locals form end bytes rest p ns vs is h g n v =
       let op = opcode_bytes (units_opcode form) in
       record {
@@ -300,7 +301,7 @@ module _ (m : List Segment) (s : Source) (args : Arguments) where
         );
       }
 
-  units_sound : (level : ℕ) (locals : Locals) (value : Reader) → Inner m s (args locals) level value
+  units_sound : (level : ℕ) (locals : Locals) (value : Reader) → Inner m s (body_grammar (args locals)) level value
       → (form : UnitsForm) (end : ℕ) (bytes rest : List ℕ) → bytes ≡ opcode_bytes (units_opcode form) ++ rest → Position s.depth (suc level) s.code end bytes
       → Judge (Read s level end (Standing args m (suc level) locals) bytes) (Bad m s) (units_form value form end rest)
   unfolding units_form
@@ -309,8 +310,8 @@ module _ (m : List Segment) (s : Source) (args : Arguments) where
       let op = opcode_bytes (units_opcode form) in
       opened level end rest Good _ (deeper_package s level end (units_opcode form) bytes rest (units_packed form) is (units_long form) h) (λ p g.
       then_read level p.end (AreNames (names_of_units form)) Good p.content (names_at (names_of_units form) p.end p.content) _ (names_sound level (names_of_units form) p.end p.content g.1) (λ ns n.
-      then_read level p.end (Operands (args locals) level (operands_of_units form)) Good ns.1 (operands_at value (operands_of_units form) p.end ns.1)
-      _ (operands_sound m s (args locals) level value i (operands_of_units form) p.end ns.1 (units_inner form) n.1) (λ vs v.
+      then_read level p.end (Operands (body_grammar (args locals)) level (operands_of_units form)) Good ns.1 (operands_at value (operands_of_units form) p.end ns.1)
+      _ (operands_sound m s (body_grammar (args locals)) level value i (operands_of_units form) p.end ns.1 (units_inner form) n.1) (λ vs v.
       judge_bind (λ es. SpellsFields es vs.1) Good (Bad m s) (fields_in p.end vs.1) _
       (fields_sound m s level p.end vs.1 (field_list level locals form end bytes rest p ns vs is h g.0 n.0 v.0) v.1) (λ es e.
       let content : p.content ≡ n.0.front ++ (v.0.front ++ vs.1) = n.0.whole ∙ ap (λ (l : List ℕ). n.0.front ++ l) v.0.whole in
@@ -338,7 +339,7 @@ module _ (m : List Segment) (s : Source) (args : Arguments) where
   -- ---- a statement
 
   -- a term where a statement stands is a statement
-  as_statement : (locals : Locals) (t : TermTree) (a : List ℕ) → Stands Statement t → Spells (args locals) t a → IsStatement args m locals t a
+  as_statement : (locals : Locals) (t : TermTree) (a : List ℕ) → Stands Statement t → Spells (body_grammar (args locals)) t a → IsStatement args m locals t a
   as_statement locals (if_do v ts e) a st h = absurd h
   as_statement locals (while_do v ts) a st h = absurd h
   as_statement locals (declare form before n behind) a st h = absurd h
@@ -358,13 +359,13 @@ module _ (m : List Segment) (s : Source) (args : Arguments) where
   opening : (o : Opcode) (bytes front rest : List ℕ) → bytes ≡ front ++ rest → front ≡ opcode_bytes o → bytes ≡ opcode_bytes o ++ rest
   opening o bytes front rest is e = is ∙ ap (λ (l : List ℕ). l ++ rest) e
 
-  plain_sound : (level : ℕ) (locals : Locals) (end : ℕ) (bytes rest : List ℕ) (x : Opcode) → (is_block x && is_none (refusal_at Statement x)) ≡ false
+  plain_sound : (level : ℕ) (locals : Locals) (end : ℕ) (bytes rest : List ℕ) (x : Opcode) → (is_block x && is_none (refusal_at false Statement x)) ≡ false
       → Position s.depth (suc level) s.code end bytes → Opened bytes (x, rest)
-      → Judge (Read s (suc level) end (Standing args m (suc level) locals) bytes) (Bad m s) (placed_by (args locals) (term_at (args locals) level) Statement end bytes x rest)
+      → Judge (Read s (suc level) end (Standing args m (suc level) locals) bytes) (Bad m s) (placed_by (body_grammar (args locals)) (term_at (body_grammar (args locals)) level) Statement end bytes x rest)
   plain_sound level locals end bytes rest x clear h o =
-      judge_into (Read s (suc level) end (Within (args locals) (suc level) Statement) bytes)
+      judge_into (Read s (suc level) end (Within (body_grammar (args locals)) (suc level) Statement) bytes)
       (Read s (suc level) end (Standing args m (suc level) locals) bytes) (Bad m s) (Bad m s)
-      (placed_by (args locals) (term_at (args locals) level) Statement end bytes x rest)
+      (placed_by (body_grammar (args locals)) (term_at (body_grammar (args locals)) level) Statement end bytes x rest)
       (λ y g. (
         record {
           front = g.0.front;
@@ -376,49 +377,49 @@ module _ (m : List Segment) (s : Source) (args : Arguments) where
         },
         g.1,
       )) (λ f b. b)
-      (placed_sound m s (args locals) level (term_at (args locals) level) (term_sound m s (args locals) level) Statement end bytes rest x clear h o)
+      (placed_sound m s (body_grammar (args locals)) level (term_at (body_grammar (args locals)) level) (term_sound m s (body_grammar (args locals)) level) Statement end bytes rest x clear h o)
 
   abbrev StatementBy : ℕ → Locals → Statements → ℕ → List ℕ → List ℕ → Opcode → Type 0
   StatementBy level locals inner end bytes rest x = Judge (Read s (suc level) end (Standing args m (suc level) locals) bytes) (Bad m s)
-      (statement_by (args locals) (term_at (args locals) level) inner m locals end bytes x rest)
+      (statement_by (body_grammar (args locals)) (term_at (body_grammar (args locals)) level) inner m locals end bytes x rest)
 
   by_sound : (level : ℕ) (locals : Locals) (inner : Statements) → InnerStatements level inner → (end : ℕ) (bytes rest : List ℕ) (x : Opcode)
       → Position s.depth (suc level) s.code end bytes → Opened bytes (x, rest) → StatementBy level locals inner end bytes rest x
   unfolding statement_by
   by_sound level locals inner k end bytes rest opcodes.If h o = up level end locals bytes _
-      (if_sound level locals (term_at (args locals) level) inner (term_sound m s (args locals) level) k end bytes rest
+      (if_sound level locals (term_at (body_grammar (args locals)) level) inner (term_sound m s (body_grammar (args locals)) level) k end bytes rest
       (opening opcodes.If bytes o.front rest o.whole o.told.1)
       (deeper_package s level end opcodes.If bytes rest refl (opening opcodes.If bytes o.front rest o.whole o.told.1) (omega arith) h))
   by_sound level locals inner k end bytes rest opcodes.While h o = up level end locals bytes _
-      (while_sound level locals (term_at (args locals) level) inner (term_sound m s (args locals) level) k end bytes rest
+      (while_sound level locals (term_at (body_grammar (args locals)) level) inner (term_sound m s (body_grammar (args locals)) level) k end bytes rest
       (opening opcodes.While bytes o.front rest o.whole o.told.1)
       (deeper_package s level end opcodes.While bytes rest refl (opening opcodes.While bytes o.front rest o.whole o.told.1) (omega arith) h))
   by_sound level locals inner k end bytes rest opcodes.DeclareName h o =
-      up level end locals bytes _ (named_sound level locals (term_at (args locals) level) (term_sound m s (args locals) level) named.Name end bytes
+      up level end locals bytes _ (named_sound level locals (term_at (body_grammar (args locals)) level) (term_sound m s (body_grammar (args locals)) level) named.Name end bytes
       rest (opening opcodes.DeclareName bytes o.front rest o.whole o.told.1) (below level end bytes rest opcodes.DeclareName h o))
   by_sound level locals inner k end bytes rest (opcodes.Create w) h o =
-      up level end locals bytes _ (named_sound level locals (term_at (args locals) level) (term_sound m s (args locals) level) (named.Create w) end
+      up level end locals bytes _ (named_sound level locals (term_at (body_grammar (args locals)) level) (term_sound m s (body_grammar (args locals)) level) (named.Create w) end
       bytes rest (opening (opcodes.Create w) bytes o.front rest o.whole o.told.1) (below level end bytes rest (opcodes.Create w) h o))
   by_sound level locals inner k end bytes rest opcodes.CreateField h o =
-      up level end locals bytes _ (named_sound level locals (term_at (args locals) level) (term_sound m s (args locals) level) named.CreateField end
+      up level end locals bytes _ (named_sound level locals (term_at (body_grammar (args locals)) level) (term_sound m s (body_grammar (args locals)) level) named.CreateField end
       bytes rest (opening opcodes.CreateField bytes o.front rest o.whole o.told.1) (below level end bytes rest opcodes.CreateField h o))
   by_sound level locals inner k end bytes rest opcodes.Region h o = up level end locals bytes _
-      (named_sound level locals (term_at (args locals) level) (term_sound m s (args locals) level) named.Region end bytes rest
+      (named_sound level locals (term_at (body_grammar (args locals)) level) (term_sound m s (body_grammar (args locals)) level) named.Region end bytes rest
       (opening opcodes.Region bytes o.front rest o.whole o.told.1) (below level end bytes rest opcodes.Region h o))
   by_sound level locals inner k end bytes rest opcodes.Mutex h o = up level end locals bytes _
-      (named_sound level locals (term_at (args locals) level) (term_sound m s (args locals) level) named.Mutex end bytes rest
+      (named_sound level locals (term_at (body_grammar (args locals)) level) (term_sound m s (body_grammar (args locals)) level) named.Mutex end bytes rest
       (opening opcodes.Mutex bytes o.front rest o.whole o.told.1) (below level end bytes rest opcodes.Mutex h o))
   by_sound level locals inner k end bytes rest opcodes.Event h o = up level end locals bytes _
-      (named_sound level locals (term_at (args locals) level) (term_sound m s (args locals) level) named.Event end bytes rest
+      (named_sound level locals (term_at (body_grammar (args locals)) level) (term_sound m s (body_grammar (args locals)) level) named.Event end bytes rest
       (opening opcodes.Event bytes o.front rest o.whole o.told.1) (below level end bytes rest opcodes.Event h o))
   by_sound level locals inner k end bytes rest opcodes.Field h o = up level end locals bytes _
-      (units_sound level locals (term_at (args locals) level) (term_sound m s (args locals) level) units.Field end bytes rest
+      (units_sound level locals (term_at (body_grammar (args locals)) level) (term_sound m s (body_grammar (args locals)) level) units.Field end bytes rest
       (opening opcodes.Field bytes o.front rest o.whole o.told.1) h)
   by_sound level locals inner k end bytes rest opcodes.IndexField h o =
-      up level end locals bytes _ (units_sound level locals (term_at (args locals) level) (term_sound m s (args locals) level) units.IndexField end
+      up level end locals bytes _ (units_sound level locals (term_at (body_grammar (args locals)) level) (term_sound m s (body_grammar (args locals)) level) units.IndexField end
       bytes rest (opening opcodes.IndexField bytes o.front rest o.whole o.told.1) h)
   by_sound level locals inner k end bytes rest opcodes.BankField h o =
-      up level end locals bytes _ (units_sound level locals (term_at (args locals) level) (term_sound m s (args locals) level) units.BankField end
+      up level end locals bytes _ (units_sound level locals (term_at (body_grammar (args locals)) level) (term_sound m s (body_grammar (args locals)) level) units.BankField end
       bytes rest (opening opcodes.BankField bytes o.front rest o.whole o.told.1) h)
   by_sound level locals inner k end bytes rest x h o = plain_sound level locals end bytes rest x refl h o
 

@@ -21,6 +21,7 @@ use Rattle.acpi_code.specs.Faults.{Begins, IsConnectionSize, IsElementOf, ShowsP
 use Rattle.acpi_body.specs.declared.fault.BodyReason.{BodyReason}
 use Rattle.acpi_body.specs.declared.fault.BodyReason.TheVariants.{Cut, ReservedBits, BadName, Overrun, BadString, TooDeep, NotData, BadPlace}
 use Rattle.acpi_body.specs.declared.fault.BodyFault.{BodyFault}
+use Rattle.acpi_body.specs.Grammars.{body_grammar}
 use Rattle.acpi_body.specs.Refusals.{refusal_at, never_begins}
 use Rattle.acpi_body.specs.Spelling.{AreOperands}
 use Rattle.acpi_body.specs.Statements.{units_opcode}
@@ -44,12 +45,12 @@ constant_fault_of (NotConstant opcode place) = record { reason = NotData; place 
 
 -- ---- what a fault shows
 
--- what begins there may not stand at some kind of place, for that reason
+-- what begins there may not stand at some kind of place of a body, for that reason
 pub record IsMisplaced (why : BodyReason) (bytes : List ℕ) : Type 0 where
   pub kind : Place
   pub opcode : Opcode
   pub begins : first_opcode bytes ≡ Some opcode
-  pub refused : refusal_at kind opcode ≡ Some why
+  pub refused : refusal_at false kind opcode ≡ Some why
 
 -- a name stands there that can't be declared: it has no segments, or no place in the method's path
 pub record CantDeclare (s : List Segment) (bytes : List ℕ) : Type 0 where
@@ -77,7 +78,7 @@ pub record BeginsFieldList (code : List ℕ) (start : ℕ) : Type 0 where
   pub spells_len : SpellsPkgLength n len
   pub all_names : length names ≡ names_of_units form
   pub are_names : SpellsEach SpellsName names a
-  pub are_values : AreOperands args (operands_of_units form) values b
+  pub are_values : AreOperands (body_grammar args) (operands_of_units form) values b
   pub starts : start ≡ at + (length (opcode_bytes (units_opcode form)) + (length len + (length a + length b)))
 
 -- a field element must begin at the place: behind others, in the field list of a form

@@ -1,4 +1,5 @@
 pub mod Arguments
+pub mod Grammars
 pub mod Spelling
 pub mod Statements
 pub mod Refusals

@@ -1,6 +1,5 @@
--- The bytes that spell a term of a method body, given how many values follow each name (ACPI 6.5, 20.2.5).
+-- The bytes that spell a term, by a grammar (ACPI 6.5, 20.2.5).
 use Rattle.std.specs.Prelude.{◌≡◌, ◌+◌, ◌≤◌, ℕ, zero, suc, max, true, List, [], ◌∷◌, ◌++◌}
-use Rattle.acpi_name.specs.Names.{NameParts}
 use Rattle.acpi_tree.specs.declared.place.Place.{Place}
 use Rattle.acpi_tree.specs.declared.place.Place.TheVariants.{Value, Element}
 use Rattle.acpi_tree.specs.declared.place.OperandKind.{OperandKind}
@@ -10,6 +9,7 @@ use Rattle.acpi_tree.specs.Operators.{operands_of}
 use Rattle.acpi_tree.specs.Places.{may_stand, may_be}
 use Rattle.acpi_code.specs.Opcodes.{operator_bytes}
 use Rattle.acpi_code.specs.Spelling.{SpellsNumber, SpellsInt, SpellsTermName, SpellsText, Packs}
+use Rattle.acpi_body.specs.Grammars.{Grammar, is_allowed}
 
 -- the term may stand at the place
 abbrev pub Stands : Place → TermTree → Type 0
@@ -25,34 +25,34 @@ values zero = []
 values (suc n) = At Value ∷ values n
 
 -- Terms that are no blocks and no declarations: DataObject, Locals, Args, DebugObj, a name where it is never
--- a call, a call and its arguments, an operator and its operands.
+-- a call, a call and its arguments, an operator that may stand and its operands.
 abbrev mutual
-  pub Spells : (NameParts → ℕ) → TermTree → List ℕ → Type 0
-  Spells args (int i) bytes = SpellsInt i bytes
-  Spells args (str text) bytes = (b : List ℕ) × SpellsText text b × (bytes ≡ 0x0D ∷ b)
-  Spells args (buffer size content) bytes = (s : List ℕ) × Stands Value size × Spells args size s × Packs (0x11 ∷ []) (s ++ content) bytes
-  Spells args (pkg count es) bytes = (b : List ℕ) × AreElements args es b × Packs (0x12 ∷ []) (count ∷ b) bytes
-  Spells args (var_pkg count es) bytes = (s : List ℕ) × (b : List ℕ) × Stands Value count × Spells args count s × AreElements args es b × Packs (0x13 ∷ []) (s ++ b) bytes
-  Spells args (local n) bytes = (bytes ≡ (n + 0x60) ∷ []) × (n ≤ 7)
-  Spells args (arg n) bytes = (bytes ≡ (n + 0x68) ∷ []) × (n ≤ 6)
-  Spells args debug bytes = bytes ≡ 0x5B ∷ 0x31 ∷ []
-  Spells args no_target bytes = bytes ≡ 0x00 ∷ []
-  Spells args (raw k n) bytes = SpellsNumber k n bytes
-  Spells args (ref n) bytes = SpellsTermName n bytes
-  Spells args (call n vs) bytes = (w : List ℕ) × (x : List ℕ) × SpellsTermName n w × AreOperands args (values (args n)) vs x × (bytes ≡ w ++ x)
-  Spells args (apply op vs) bytes = (x : List ℕ) × AreOperands args (operands_of op) vs x × (bytes ≡ operator_bytes op ++ x)
-  Spells args _ bytes = ⊥
+  pub Spells : Grammar → TermTree → List ℕ → Type 0
+  Spells g (int i) bytes = SpellsInt i bytes
+  Spells g (str text) bytes = (b : List ℕ) × SpellsText text b × (bytes ≡ 0x0D ∷ b)
+  Spells g (buffer size content) bytes = (s : List ℕ) × Stands Value size × Spells g size s × Packs (0x11 ∷ []) (s ++ content) bytes
+  Spells g (pkg count es) bytes = (b : List ℕ) × AreElements g es b × Packs (0x12 ∷ []) (count ∷ b) bytes
+  Spells g (var_pkg count es) bytes = (s : List ℕ) × (b : List ℕ) × Stands Value count × Spells g count s × AreElements g es b × Packs (0x13 ∷ []) (s ++ b) bytes
+  Spells g (local n) bytes = (bytes ≡ (n + 0x60) ∷ []) × (n ≤ 7)
+  Spells g (arg n) bytes = (bytes ≡ (n + 0x68) ∷ []) × (n ≤ 6)
+  Spells g debug bytes = bytes ≡ 0x5B ∷ 0x31 ∷ []
+  Spells g no_target bytes = bytes ≡ 0x00 ∷ []
+  Spells g (raw k n) bytes = SpellsNumber k n bytes
+  Spells g (ref n) bytes = SpellsTermName n bytes
+  Spells g (call n vs) bytes = (w : List ℕ) × (x : List ℕ) × SpellsTermName n w × AreOperands g (values (g.args n)) vs x × (bytes ≡ w ++ x)
+  Spells g (apply op vs) bytes = (x : List ℕ) × (is_allowed g.loads op ≡ true) × AreOperands g (operands_of op) vs x × (bytes ≡ operator_bytes op ++ x)
+  Spells g _ bytes = ⊥
 
   -- they are operands of these kinds, in order
-  pub AreOperands : (NameParts → ℕ) → List OperandKind → TermTrees → List ℕ → Type 0
-  AreOperands args [] no_terms bytes = bytes ≡ []
-  AreOperands args (k ∷ ks) (more t ts) bytes = (a : List ℕ) × (b : List ℕ) × StandsFor k t × Spells args t a × AreOperands args ks ts b × (bytes ≡ a ++ b)
-  AreOperands args _ _ bytes = ⊥
+  pub AreOperands : Grammar → List OperandKind → TermTrees → List ℕ → Type 0
+  AreOperands g [] no_terms bytes = bytes ≡ []
+  AreOperands g (k ∷ ks) (more t ts) bytes = (a : List ℕ) × (b : List ℕ) × StandsFor k t × Spells g t a × AreOperands g ks ts b × (bytes ≡ a ++ b)
+  AreOperands g _ _ bytes = ⊥
 
   -- the elements of a package
-  pub AreElements : (NameParts → ℕ) → TermTrees → List ℕ → Type 0
-  AreElements args no_terms bytes = bytes ≡ []
-  AreElements args (more t ts) bytes = (a : List ℕ) × (b : List ℕ) × Stands Element t × Spells args t a × AreElements args ts b × (bytes ≡ a ++ b)
+  pub AreElements : Grammar → TermTrees → List ℕ → Type 0
+  AreElements g no_terms bytes = bytes ≡ []
+  AreElements g (more t ts) bytes = (a : List ℕ) × (b : List ℕ) × Stands Element t × Spells g t a × AreElements g ts b × (bytes ≡ a ++ b)
 
 -- ---- heights
 -- A term has a level more than the highest term in it. Raw operands, the byte 00 for no target, names and field

@@ -17,6 +17,7 @@ use Rattle.acpi_code.specs.declared.opcode.Opcode.TheVariants as opcodes
 use Rattle.acpi_code.specs.Opcodes.{opcode_bytes}
 use Rattle.acpi_code.specs.Spelling.{SpellsEach, Packs}
 use Rattle.acpi_body.specs.Arguments.{Locals, with_local, Arguments}
+use Rattle.acpi_body.specs.Grammars.{body_grammar}
 use Rattle.acpi_body.specs.Spelling.{Stands, Spells, AreOperands, heights}
 use Rattle.acpi_code.specs.Fields.{SpellsFields}
 
@@ -81,17 +82,17 @@ abbrev mutual
 abbrev mutual
   pub IsStatement : Arguments → List Segment → Locals → TermTree → List ℕ → Type 0
   IsStatement args s locals (if_do v ts e) bytes = (a : List ℕ) × (b : List ℕ) × (x : List ℕ) × (y : List ℕ)
-      × Stands Value v × Spells (args locals) v a × AreStatements args s locals ts b × Packs (0xA0 ∷ []) (a ++ b) x
+      × Stands Value v × Spells (body_grammar (args locals)) v a × AreStatements args s locals ts b × Packs (0xA0 ∷ []) (a ++ b) x
       × IsElse args s (locals_after_all s locals ts) e y × (bytes ≡ x ++ y)
   IsStatement args s locals (while_do v ts) bytes = (a : List ℕ) × (b : List ℕ)
-      × Stands Value v × Spells (args locals) v a × AreStatements args s locals ts b × Packs (0xA2 ∷ []) (a ++ b) bytes
+      × Stands Value v × Spells (body_grammar (args locals)) v a × AreStatements args s locals ts b × Packs (0xA2 ∷ []) (a ++ b) bytes
   IsStatement args s locals (declare form before n behind) bytes = (a : List ℕ) × (b : List ℕ) × (c : List ℕ)
-      × AreOperands (args locals) (operands_before form) before a × MayDeclare s n × SpellsName n b × AreOperands (args locals) (operands_behind form) behind c
+      × AreOperands (body_grammar (args locals)) (operands_before form) before a × MayDeclare s n × SpellsName n b × AreOperands (body_grammar (args locals)) (operands_behind form) behind c
       × (bytes ≡ opcode_bytes (named_opcode form) ++ (a ++ (b ++ c)))
   IsStatement args s locals (declare_units form ns vs es) bytes = (a : List ℕ) × (b : List ℕ) × (c : List ℕ)
-      × (length ns ≡ names_of_units form) × SpellsEach SpellsName ns a × AreOperands (args locals) (operands_of_units form) vs b × SpellsFields es c
+      × (length ns ≡ names_of_units form) × SpellsEach SpellsName ns a × AreOperands (body_grammar (args locals)) (operands_of_units form) vs b × SpellsFields es c
       × Packs (opcode_bytes (units_opcode form)) (a ++ (b ++ c)) bytes
-  IsStatement args s locals t bytes = Stands Statement t × Spells (args locals) t bytes
+  IsStatement args s locals t bytes = Stands Statement t × Spells (body_grammar (args locals)) t bytes
 
   pub IsElse : Arguments → List Segment → Locals → ElseTree → List ℕ → Type 0
   IsElse args s locals no_else bytes = bytes ≡ []

@@ -81,12 +81,10 @@ impl<'a, S: Space<Object>> Context<'a, S> {
 pub(crate) fn add(locals: &mut TreeSpace<()>, path: Path) -> Result<(), AllocError>
     ensures { OnOk result (locals.new ≡ with_local locals.old path) }
 {
-    if locals.get(&path).is_some() {
-        return Ok(());
-    }
     match locals.insert(path, ()) {
         Ok(()) => Ok(()),
-        Err(_) => Err(AllocError),
+        Err(Refused::Taken(())) => Ok(()),
+        Err(Refused::Memory(())) => Err(AllocError),
     }
 }
 

@@ -10,11 +10,12 @@ ghost use Rattle.acpi_tree.specs.declared.place.UnitsForm.TheVariants as units;
 ghost use Rattle.acpi_code.specs.steps.Reading.{name_in};
 ghost use Rattle.acpi_body.specs.Arguments.{with_local};
 ghost use Rattle.acpi_body.specs.Statements.{locals_after, locals_after_units};
-ghost use Rattle.acpi_body.specs.steps.Setting.{args_of};
+ghost use Rattle.acpi_body.specs.steps.Setting.{grammar_of};
 ghost use Rattle.acpi_body.specs.steps.Reading.{part, term_at, fields_in, names_at, declared_at, named_form, units_form};
 ghost use Rattle.acpi_body.specs.steps.Cursor.{Gives, Reads, ReadsAll};
 
 use crate::arguments::{Context, add};
+use crate::counting::Here;
 use crate::fault::{BodyReason, Stop, refused};
 use crate::field::add_units;
 use crate::term::term;
@@ -32,9 +33,17 @@ pub(crate) fn value<S: Space<Object>>(
     level: u32,
     code: &mut Code<'_>,
 ) -> Result<Box<Term>, Stop>
-    ensures { Reads (λ b. term_view (box_value b)) (term_at (args_of context.now locals.now) level Value) code.old code.new result }
+    ensures { Reads (λ b. term_view (box_value b)) (term_at (grammar_of context.now locals.now) level Value) code.old code.new result }
 {
-    let value = term(context, locals, level, Place::Value, code)?;
+    let value = term(
+        &Here {
+            context: &*context,
+            locals: &*locals,
+        },
+        level,
+        Place::Value,
+        code,
+    )?;
     Ok(Box::new(context.alloc(), value)?)
 }
 
@@ -131,11 +140,19 @@ pub(crate) fn name_declared<S: Space<Object>>(
     level: u32,
     code: &mut Code<'_>,
 ) -> Result<Term, Stop>
-    ensures exact { Reads term_view (named_form (term_at (args_of context.now locals.old) level) context.now.method named.Name) code.old code.new result }
+    ensures exact { Reads term_view (named_form (term_at (grammar_of context.now locals.old) level) context.now.method named.Name) code.old code.new result }
     ensures locals { IfOk result (λ t. locals.new ≡ locals_after context.now.method locals.old (term_view t)) }
 {
     let (name, path) = declared(context, code)?;
-    let data = term(context, locals, level, Place::Data, code)?;
+    let data = term(
+        &Here {
+            context: &*context,
+            locals: &*locals,
+        },
+        level,
+        Place::Data,
+        code,
+    )?;
     let data = Box::new(context.alloc(), data)?;
     declared_there(context, locals, path, Decl::Name(name, data))
 }
@@ -149,7 +166,7 @@ pub(crate) fn create_declared<S: Space<Object>>(
     width: Width,
     code: &mut Code<'_>,
 ) -> Result<Term, Stop>
-    ensures exact { Reads term_view (named_form (term_at (args_of context.now locals.old) level) context.now.method (named.Create width)) code.old code.new result }
+    ensures exact { Reads term_view (named_form (term_at (grammar_of context.now locals.old) level) context.now.method (named.Create width)) code.old code.new result }
     ensures locals { IfOk result (λ t. locals.new ≡ locals_after context.now.method locals.old (term_view t)) }
 {
     let source = value(context, locals, level, code)?;
@@ -172,7 +189,7 @@ pub(crate) fn create_field_declared<S: Space<Object>>(
     level: u32,
     code: &mut Code<'_>,
 ) -> Result<Term, Stop>
-    ensures exact { Reads term_view (named_form (term_at (args_of context.now locals.old) level) context.now.method named.CreateField) code.old code.new result }
+    ensures exact { Reads term_view (named_form (term_at (grammar_of context.now locals.old) level) context.now.method named.CreateField) code.old code.new result }
     ensures locals { IfOk result (λ t. locals.new ≡ locals_after context.now.method locals.old (term_view t)) }
 {
     let source = value(context, locals, level, code)?;
@@ -196,7 +213,7 @@ pub(crate) fn region_declared<S: Space<Object>>(
     level: u32,
     code: &mut Code<'_>,
 ) -> Result<Term, Stop>
-    ensures exact { Reads term_view (named_form (term_at (args_of context.now locals.old) level) context.now.method named.Region) code.old code.new result }
+    ensures exact { Reads term_view (named_form (term_at (grammar_of context.now locals.old) level) context.now.method named.Region) code.old code.new result }
     ensures locals { IfOk result (λ t. locals.new ≡ locals_after context.now.method locals.old (term_view t)) }
 {
     let (name, path) = declared(context, code)?;
@@ -220,7 +237,7 @@ pub(crate) fn mutex_declared<S: Space<Object>>(
     level: u32,
     code: &mut Code<'_>,
 ) -> Result<Term, Stop>
-    ensures exact { Reads term_view (named_form (term_at (args_of context.now locals.old) level) context.now.method named.Mutex) code.old code.new result }
+    ensures exact { Reads term_view (named_form (term_at (grammar_of context.now locals.old) level) context.now.method named.Mutex) code.old code.new result }
     ensures locals { IfOk result (λ t. locals.new ≡ locals_after context.now.method locals.old (term_view t)) }
 {
     let (name, path) = declared(context, code)?;
@@ -236,7 +253,7 @@ pub(crate) fn event_declared<S: Space<Object>>(
     level: u32,
     code: &mut Code<'_>,
 ) -> Result<Term, Stop>
-    ensures exact { Reads term_view (named_form (term_at (args_of context.now locals.old) level) context.now.method named.Event) code.old code.new result }
+    ensures exact { Reads term_view (named_form (term_at (grammar_of context.now locals.old) level) context.now.method named.Event) code.old code.new result }
     ensures locals { IfOk result (λ t. locals.new ≡ locals_after context.now.method locals.old (term_view t)) }
 {
     let (name, path) = declared(context, code)?;
@@ -251,7 +268,7 @@ pub(crate) fn field_declared<S: Space<Object>>(
     level: u32,
     code: &mut Code<'_>,
 ) -> Result<Term, Stop>
-    ensures exact { Reads term_view (units_form (term_at (args_of context.now locals.old) level) units.Field) code.old code.new result }
+    ensures exact { Reads term_view (units_form (term_at (grammar_of context.now locals.old) level) units.Field) code.old code.new result }
     ensures locals { IfOk result (λ t. locals.new ≡ locals_after context.now.method locals.old (term_view t)) }
 {
     let mut inner = code.package()?;
@@ -274,7 +291,7 @@ pub(crate) fn index_field_declared<S: Space<Object>>(
     level: u32,
     code: &mut Code<'_>,
 ) -> Result<Term, Stop>
-    ensures exact { Reads term_view (units_form (term_at (args_of context.now locals.old) level) units.IndexField) code.old code.new result }
+    ensures exact { Reads term_view (units_form (term_at (grammar_of context.now locals.old) level) units.IndexField) code.old code.new result }
     ensures locals { IfOk result (λ t. locals.new ≡ locals_after context.now.method locals.old (term_view t)) }
 {
     let mut inner = code.package()?;
@@ -298,7 +315,7 @@ pub(crate) fn bank_field_declared<S: Space<Object>>(
     level: u32,
     code: &mut Code<'_>,
 ) -> Result<Term, Stop>
-    ensures exact { Reads term_view (units_form (term_at (args_of context.now locals.old) level) units.BankField) code.old code.new result }
+    ensures exact { Reads term_view (units_form (term_at (grammar_of context.now locals.old) level) units.BankField) code.old code.new result }
     ensures locals { IfOk result (λ t. locals.new ≡ locals_after context.now.method locals.old (term_view t)) }
 {
     let mut inner = code.package()?;

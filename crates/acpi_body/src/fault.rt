@@ -69,7 +69,7 @@ pub struct BodyFault {
 
 /// Why reading a body stopped.
 #[derive(Clone, Copy)]
-pub(crate) enum Stop {
+pub enum Stop {
     /// The body can't be read.
     Fault(BodyFault),
     /// A growth of memory was refused.

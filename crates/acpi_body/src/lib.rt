@@ -13,6 +13,7 @@
 
 mod arguments;
 mod body;
+mod counting;
 mod declare;
 mod fault;
 mod field;
@@ -30,5 +31,7 @@ mod term;
 pub use acpi_code::Depth;
 pub use acpi_counts::Counts;
 pub use body::{Body, read_body, why};
-pub use fault::{BodyFault, BodyReason};
+pub use counting::Counting;
+pub use fault::{BodyFault, BodyReason, Stop};
 pub use misses::{BodyMisses, OpenMiss, body_misses, body_misses_among};
+pub use term::read_term;

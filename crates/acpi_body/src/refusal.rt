@@ -1,14 +1,25 @@
 //! What may not stand where.
 
 ghost use Rattle.std.specs.Prelude.{◌≡◌};
-ghost use Rattle.acpi_body.specs.Refusals.{value_refusal, simple_name_refusal, super_name_refusal, data_refusal, element_refusal, statement_refusal, refusal_at};
+ghost use Rattle.acpi_body.specs.Refusals.{load_refusal, value_refusal, simple_name_refusal, super_name_refusal, data_refusal, element_refusal, statement_refusal, refusal_at};
 
 use crate::fault::BodyReason;
 use acpi_code::Opcode;
-use acpi_tree::Place;
+use acpi_tree::{Op, Place};
 
-fn of_value(opcode: Opcode) -> Option<BodyReason>
-    ensures { result ≡ value_refusal opcode }
+// Why an operator that has a value, or is a statement, may not stand.
+fn of_load(loads: bool, op: Op) -> Option<BodyReason>
+    ensures { result ≡ load_refusal loads op }
+{
+    if loads || !op.is_load() {
+        None
+    } else {
+        Some(BodyReason::LeftOut)
+    }
+}
+
+fn of_value(loads: bool, opcode: Opcode) -> Option<BodyReason>
+    ensures { result ≡ value_refusal loads opcode }
 {
     match opcode {
         Opcode::Constant(_) => None,
@@ -21,7 +32,7 @@ fn of_value(opcode: Opcode) -> Option<BodyReason>
         Opcode::Arg(_) => None,
         Opcode::Operator(op) => {
             if op.is_expression() {
-                None
+                of_load(loads, op)
             } else {
                 Some(BodyReason::NotValue)
             }
@@ -93,15 +104,15 @@ fn of_element(opcode: Opcode) -> Option<BodyReason>
     }
 }
 
-fn of_statement(opcode: Opcode) -> Option<BodyReason>
-    ensures { result ≡ statement_refusal opcode }
+fn of_statement(loads: bool, opcode: Opcode) -> Option<BodyReason>
+    ensures { result ≡ statement_refusal loads opcode }
 {
     match opcode {
         Opcode::Buffer => None,
         Opcode::Package => None,
         Opcode::VarPackage => None,
         Opcode::Name => None,
-        Opcode::Operator(_) => None,
+        Opcode::Operator(op) => of_load(loads, op),
         Opcode::If => None,
         Opcode::While => None,
         Opcode::DeclareName => None,
@@ -124,16 +135,18 @@ fn of_statement(opcode: Opcode) -> Option<BodyReason>
     }
 }
 
-/// Why what begins there may not stand at the place. None where it may.
-pub(crate) fn refusal(place: Place, opcode: Opcode) -> Option<BodyReason>
-    ensures { result ≡ refusal_at place opcode }
+/// Why what begins there may not stand at the place. None where it may. `loads` says whether LoadTable, Load and Unload
+/// may stand.
+pub(crate) fn refusal(loads: bool, place: Place, opcode: Opcode) -> Option<BodyReason>
+    ensures { result ≡ refusal_at loads place opcode }
 {
     match place {
-        Place::Value => of_value(opcode),
+        Place::Value => of_value(loads, opcode),
         Place::SuperName => of_super_name(opcode),
         Place::SimpleName => of_simple_name(opcode),
         Place::Element => of_element(opcode),
         Place::Data => of_data(opcode),
-        Place::Statement => of_statement(opcode),
+        Place::Statement => of_statement(loads, opcode),
+        Place::Source => of_value(loads, opcode),
     }
 }

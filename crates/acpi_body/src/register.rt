@@ -16,6 +16,7 @@ fn holds_register(place: Place) -> bool
         Place::Value => true,
         Place::SuperName => true,
         Place::SimpleName => true,
+        Place::Source => true,
         _ => false,
     }
 }

@@ -6,11 +6,12 @@ ghost use Rattle.std.specs.Prelude.{box_value, Some};
 ghost use Rattle.acpi_tree.specs.Terms.{if_do, else_do, no_else};
 ghost use Rattle.acpi_tree.specs.TermView.{term_view, terms_view, terms_tree, else_view};
 ghost use Rattle.acpi_body.specs.Statements.{locals_after, locals_after_else, locals_after_all};
-ghost use Rattle.acpi_body.specs.steps.Setting.{args_of};
+ghost use Rattle.acpi_body.specs.steps.Setting.{args_of, grammar_of};
 ghost use Rattle.acpi_body.specs.steps.Reading.{term_at, else_at, if_form, while_form, statement_by, statement_at, statements_at, body_at};
 ghost use Rattle.acpi_body.specs.steps.Cursor.{Gives, Reads, ReadsOn, ReadsAll};
 
 use crate::arguments::Context;
+use crate::counting::Here;
 use crate::declare::{
     bank_field_declared, create_declared, create_field_declared, event_declared, field_declared,
     index_field_declared, mutex_declared, name_declared, region_declared, value,
@@ -47,7 +48,7 @@ fn if_statement<S: Space<Object>>(
     code: &mut Code<'_>,
 ) -> Result<Term, Stop>
     ensures exact { Reads term_view
-        (if_form (term_at (args_of context.now locals.old) level) (statements_at (args_of context.now) context.now.method level) context.now.method locals.old) code.old code.new result }
+        (if_form (term_at (grammar_of context.now locals.old) level) (statements_at (args_of context.now) context.now.method level) context.now.method locals.old) code.old code.new result }
     ensures locals { IfOk result (λ t. locals.new ≡ locals_after context.now.method locals.old (term_view t)) }
 {
     let mut inner = code.package()?;
@@ -85,7 +86,7 @@ fn while_statement<S: Space<Object>>(
     level: u32,
     code: &mut Code<'_>,
 ) -> Result<Term, Stop>
-    ensures exact { Reads term_view (while_form (term_at (args_of context.now locals.old) level) (statements_at (args_of context.now) context.now.method level) locals.old) code.old code.new result }
+    ensures exact { Reads term_view (while_form (term_at (grammar_of context.now locals.old) level) (statements_at (args_of context.now) context.now.method level) locals.old) code.old code.new result }
     ensures locals { IfOk result (λ t. locals.new ≡ locals_after context.now.method locals.old (term_view t)) }
 {
     let mut inner = code.package()?;
@@ -131,7 +132,7 @@ fn form<'a, S: Space<Object>>(
 ) -> Result<Term, Stop>
     requires ends { front.now.end ≡ code.old.end }
     requires behind { length code.old.bytes < length front.now.bytes }
-    ensures exact { Reads term_view (λ end whole. statement_by (args_of context.now locals.old) (term_at (args_of context.now locals.old) level)
+    ensures exact { Reads term_view (λ end whole. statement_by (grammar_of context.now locals.old) (term_at (grammar_of context.now locals.old) level)
         (statements_at (args_of context.now) context.now.method level) context.now.method locals.old end whole opcode code.old.bytes) front.now code.new result }
     ensures locals { IfOk result (λ t. locals.new ≡ locals_after context.now.method locals.old (term_view t)) }
 {
@@ -147,12 +148,35 @@ fn form<'a, S: Space<Object>>(
         Opcode::Field => field_declared(context, locals, level, code),
         Opcode::IndexField => index_field_declared(context, locals, level, code),
         Opcode::BankField => bank_field_declared(context, locals, level, code),
-        Opcode::Buffer => buffer(context, locals, level, code),
-        Opcode::Package => package(context, locals, level, code),
-        Opcode::VarPackage => var_package(context, locals, level, code),
+        Opcode::Buffer => buffer(
+            &Here {
+                context: &*context,
+                locals: &*locals,
+            },
+            level,
+            code,
+        ),
+        Opcode::Package => package(
+            &Here {
+                context: &*context,
+                locals: &*locals,
+            },
+            level,
+            code,
+        ),
+        Opcode::VarPackage => var_package(
+            &Here {
+                context: &*context,
+                locals: &*locals,
+            },
+            level,
+            code,
+        ),
         _ => placed(
-            context,
-            locals,
+            &Here {
+                context: &*context,
+                locals: &*locals,
+            },
             level,
             Place::Statement,
             front,

@@ -7,19 +7,17 @@ ghost use Rattle.acpi_tree.specs.TermView.{term_view, terms_view, operand_view, 
 ghost use Rattle.acpi_tree.specs.declared.place.Place.TheVariants.{Element};
 ghost use Rattle.acpi_code.specs.steps.Reading.{each_at, byte_at, number_at};
 ghost use Rattle.acpi_body.specs.Spelling.{values};
-ghost use Rattle.acpi_body.specs.steps.Setting.{args_of};
 ghost use Rattle.acpi_body.specs.steps.Reading.{as_raw, operand_at, operands_at, calls, form_by, placed_by, term_at};
 ghost use Rattle.acpi_body.specs.steps.Reading.{constant_form, string_form, buffer_form, package_form, var_package_form, name_form, operator_form};
 ghost use Rattle.acpi_body.specs.steps.Cursor.{Gives, Reads, ReadsOn, ReadsAll};
 
-use crate::arguments::{Context, count};
+use crate::counting::Counting;
 use crate::fault::{BodyReason, Stop, refused};
 use crate::refusal::refusal;
 use crate::register::add_register;
 use acpi_code::{Code, ConstantForm, Opcode};
 use acpi_name::NameRef;
-use acpi_space::{Space, TreeSpace};
-use acpi_tree::{Object, Op, Operand, OperandKind, Place, Term};
+use acpi_tree::{Op, Operand, OperandKind, Place, Term};
 use std::alloc::Global;
 
 #[inline(never)]
@@ -51,31 +49,25 @@ fn buffer_of(alloc: Global, size: Term, content: &[u8]) -> Result<Term, Stop>
 #[cycle(read)]
 #[tactic(auto, using(crate::proofs::Parts::part_fails), unfolding(crate::specs::steps::Reading::buffer_form))]
 #[inline(never)]
-pub(crate) fn buffer<S: Space<Object>>(
-    context: &Context<'_, S>,
-    locals: &TreeSpace<()>,
+pub(crate) fn buffer<C: Counting>(
+    counting: &C,
     level: u32,
     code: &mut Code<'_>,
 ) -> Result<Term, Stop>
-    ensures { Reads term_view (buffer_form (term_at (args_of context.now locals.now) level)) code.old code.new result }
+    ensures { Reads term_view (buffer_form (term_at (C.grammar counting.now) level)) code.old code.new result }
 {
     let mut inner = code.package()?;
-    let size = term(context, locals, level, Place::Value, &mut inner)?;
-    buffer_of(context.alloc(), size, inner.left())
+    let size = term(counting, level, Place::Value, &mut inner)?;
+    buffer_of(counting.alloc(), size, inner.left())
 }
 
 #[cycle(read)]
-fn elements<S: Space<Object>>(
-    context: &Context<'_, S>,
-    locals: &TreeSpace<()>,
-    level: u32,
-    code: &mut Code<'_>,
-) -> Result<Vec<Term>, Stop>
-    ensures { ReadsAll (λ v. terms_view v.items) (λ end bytes. each_at (term_at (args_of context.now locals.now) level Element end) bytes) code.old result }
+fn elements<C: Counting>(counting: &C, level: u32, code: &mut Code<'_>) -> Result<Vec<Term>, Stop>
+    ensures { ReadsAll (λ v. terms_view v.items) (λ end bytes. each_at (term_at (C.grammar counting.now) level Element end) bytes) code.old result }
 {
-    let mut found = Vec::new(context.alloc());
+    let mut found = Vec::new(counting.alloc());
     'each: while !code.is_empty() {
-        found.push(term(context, locals, level, Place::Element, code)?)?;
+        found.push(term(counting, level, Place::Element, code)?)?;
     }
     Ok(found)
 }
@@ -83,52 +75,49 @@ fn elements<S: Space<Object>>(
 #[cycle(read)]
 #[tactic(auto, using(crate::proofs::Parts::part_fails), unfolding(crate::specs::steps::Reading::package_form))]
 #[inline(never)]
-pub(crate) fn package<S: Space<Object>>(
-    context: &Context<'_, S>,
-    locals: &TreeSpace<()>,
+pub(crate) fn package<C: Counting>(
+    counting: &C,
     level: u32,
     code: &mut Code<'_>,
 ) -> Result<Term, Stop>
-    ensures { Reads term_view (package_form (term_at (args_of context.now locals.now) level)) code.old code.new result }
+    ensures { Reads term_view (package_form (term_at (C.grammar counting.now) level)) code.old code.new result }
 {
     let mut inner = code.package()?;
     let count = inner.byte()?;
-    let elements = elements(context, locals, level, &mut inner)?;
+    let elements = elements(counting, level, &mut inner)?;
     Ok(Term::Package(count, elements))
 }
 
 #[cycle(read)]
 #[tactic(auto, using(crate::proofs::Parts::part_fails), unfolding(crate::specs::steps::Reading::var_package_form))]
 #[inline(never)]
-pub(crate) fn var_package<S: Space<Object>>(
-    context: &Context<'_, S>,
-    locals: &TreeSpace<()>,
+pub(crate) fn var_package<C: Counting>(
+    counting: &C,
     level: u32,
     code: &mut Code<'_>,
 ) -> Result<Term, Stop>
-    ensures { Reads term_view (var_package_form (term_at (args_of context.now locals.now) level)) code.old code.new result }
+    ensures { Reads term_view (var_package_form (term_at (C.grammar counting.now) level)) code.old code.new result }
 {
     let mut inner = code.package()?;
-    let count = term(context, locals, level, Place::Value, &mut inner)?;
-    let count = Box::new(context.alloc(), count)?;
-    let elements = elements(context, locals, level, &mut inner)?;
+    let count = term(counting, level, Place::Value, &mut inner)?;
+    let count = Box::new(counting.alloc(), count)?;
+    let elements = elements(counting, level, &mut inner)?;
     Ok(Term::VarPackage(count, elements))
 }
 
 // The values that follow a name.
 #[cycle(read)]
-fn arguments<S: Space<Object>>(
-    context: &Context<'_, S>,
-    locals: &TreeSpace<()>,
+fn arguments<C: Counting>(
+    counting: &C,
     level: u32,
     count: u8,
     code: &mut Code<'_>,
 ) -> Result<Vec<Term>, Stop>
-    ensures { ReadsOn (λ v. terms_view v.items) (operands_at (term_at (args_of context.now locals.now) level) (values count)) code.old code.new result }
+    ensures { ReadsOn (λ v. terms_view v.items) (operands_at (term_at (C.grammar counting.now) level) (values count)) code.old code.new result }
 {
-    let mut found = Vec::with_capacity(context.alloc(), usize::from(count))?;
+    let mut found = Vec::with_capacity(counting.alloc(), usize::from(count))?;
     'each: for _ in 0..count {
-        found.push(term(context, locals, level, Place::Value, code)?)?;
+        found.push(term(counting, level, Place::Value, code)?)?;
     }
     Ok(found)
 }
@@ -163,22 +152,21 @@ fn reference_to(alloc: Global, name: NameRef<'_>) -> Result<Term, Stop>
 #[cycle(read)]
 #[tactic(auto, using(crate::proofs::Parts::part_fails), unfolding(crate::specs::steps::Reading::name_form))]
 #[inline(never)]
-fn named<S: Space<Object>>(
-    context: &Context<'_, S>,
-    locals: &TreeSpace<()>,
+fn named<C: Counting>(
+    counting: &C,
     level: u32,
     place: Place,
     code: &mut Code<'_>,
 ) -> Result<Term, Stop>
-    ensures { Reads term_view (name_form (args_of context.now locals.now) (term_at (args_of context.now locals.now) level) place) code.old code.new result }
+    ensures { Reads term_view (name_form (C.grammar counting.now).args (term_at (C.grammar counting.now) level) place) code.old code.new result }
 {
     let name = code.name()?;
     if is_call(place) {
-        let count = count(context, locals, name)?;
-        let values = arguments(context, locals, level, count, code)?;
-        call_of(context.alloc(), name, values)
+        let count = counting.count(name)?;
+        let values = arguments(counting, level, count, code)?;
+        call_of(counting.alloc(), name, values)
     } else {
-        reference_to(context.alloc(), name)
+        reference_to(counting.alloc(), name)
     }
 }
 
@@ -203,23 +191,22 @@ fn dword_operand(code: &mut Code<'_>) -> Result<Operand, Stop>
 // A super name, or the byte 00 for none.
 #[cycle(read)]
 #[tactic(auto, using(crate::proofs::Parts::part_fails), unfolding(crate::specs::steps::Reading::operand_at))]
-fn operand<S: Space<Object>>(
-    context: &Context<'_, S>,
-    locals: &TreeSpace<()>,
+fn operand<C: Counting>(
+    counting: &C,
     level: u32,
     kind: OperandKind,
     code: &mut Code<'_>,
 ) -> Result<Operand, Stop>
-    ensures { Reads operand_view (operand_at (term_at (args_of context.now locals.now) level) kind) code.old code.new result }
+    ensures { Reads operand_view (operand_at (term_at (C.grammar counting.now) level) kind) code.old code.new result }
 {
     match kind {
-        OperandKind::At(place) => Ok(Operand::Term(term(context, locals, level, place, code)?)),
+        OperandKind::At(place) => Ok(Operand::Term(term(counting, level, place, code)?)),
         OperandKind::Target => {
             if code.left().first() == Some(&0x00) {
                 code.skip(1);
                 return Ok(Operand::Term(Term::NoTarget));
             }
-            Ok(Operand::Term(term(context, locals, level, Place::SuperName, code)?))
+            Ok(Operand::Term(term(counting, level, Place::SuperName, code)?))
         }
         OperandKind::Byte => byte_operand(code),
         OperandKind::Word => word_operand(code),
@@ -228,21 +215,20 @@ fn operand<S: Space<Object>>(
 }
 
 #[cycle(read)]
-fn operands<S: Space<Object>>(
-    context: &Context<'_, S>,
-    locals: &TreeSpace<()>,
+fn operands<C: Counting>(
+    counting: &C,
     level: u32,
     kinds: &[OperandKind],
     code: &mut Code<'_>,
 ) -> Result<Vec<Operand>, Stop>
-    ensures { ReadsOn (λ v. operands_view v.items) (operands_at (term_at (args_of context.now locals.now) level) kinds.now) code.old code.new result }
+    ensures { ReadsOn (λ v. operands_view v.items) (operands_at (term_at (C.grammar counting.now) level) kinds.now) code.old code.new result }
 {
-    let mut found = Vec::with_capacity(context.alloc(), kinds.len())?;
+    let mut found = Vec::with_capacity(counting.alloc(), kinds.len())?;
     'each: for kind in kinds {
         if add_register(level, *kind, code, &mut found)? {
             continue;
         }
-        found.push(operand(context, locals, level, *kind, code)?)?;
+        found.push(operand(counting, level, *kind, code)?)?;
     }
     Ok(found)
 }
@@ -250,25 +236,23 @@ fn operands<S: Space<Object>>(
 #[cycle(read)]
 #[tactic(auto, unfolding(crate::specs::steps::Reading::operator_form))]
 #[inline(never)]
-fn operator<S: Space<Object>>(
-    context: &Context<'_, S>,
-    locals: &TreeSpace<()>,
+fn operator<C: Counting>(
+    counting: &C,
     level: u32,
     op: Op,
     code: &mut Code<'_>,
 ) -> Result<Term, Stop>
-    ensures { ReadsOn term_view (operator_form (term_at (args_of context.now locals.now) level) op) code.old code.new result }
+    ensures { ReadsOn term_view (operator_form (term_at (C.grammar counting.now) level) op) code.old code.new result }
 {
-    let operands = operands(context, locals, level, op.operands(), code)?;
+    let operands = operands(counting, level, op.operands(), code)?;
     Ok(Term::Op(op, operands))
 }
 
 // The term whose first opcode, behind `front`, was read; `level` levels are left inside it.
 #[cycle(read)]
 #[tactic(auto, unfolding(crate::specs::steps::Reading::form_by))]
-fn form<'a, S: Space<Object>>(
-    context: &Context<'_, S>,
-    locals: &TreeSpace<()>,
+fn form<'a, C: Counting>(
+    counting: &C,
     level: u32,
     place: Place,
     front: &Code<'a>,
@@ -278,22 +262,22 @@ fn form<'a, S: Space<Object>>(
     requires ends { front.now.end ≡ code.old.end }
     requires behind { length code.old.bytes < length front.now.bytes }
     ensures { Reads term_view
-        (λ end whole. form_by (args_of context.now locals.now) (term_at (args_of context.now locals.now) level) place end whole opcode code.old.bytes) front.now code.new result }
+        (λ end whole. form_by (C.grammar counting.now) (term_at (C.grammar counting.now) level) place end whole opcode code.old.bytes) front.now code.new result }
 {
     match opcode {
         Opcode::Constant(form) => constant(form, code),
-        Opcode::Str => string(context.alloc(), code),
-        Opcode::Buffer => buffer(context, locals, level, code),
-        Opcode::Package => package(context, locals, level, code),
-        Opcode::VarPackage => var_package(context, locals, level, code),
+        Opcode::Str => string(counting.alloc(), code),
+        Opcode::Buffer => buffer(counting, level, code),
+        Opcode::Package => package(counting, level, code),
+        Opcode::VarPackage => var_package(counting, level, code),
         Opcode::Local(n) => Ok(Term::Local(n)),
         Opcode::Arg(n) => Ok(Term::Arg(n)),
         Opcode::Debug => Ok(Term::Debug),
         Opcode::Name => {
             *code = front.fork();
-            named(context, locals, level, place, code)
+            named(counting, level, place, code)
         }
-        Opcode::Operator(op) => operator(context, locals, level, op, code),
+        Opcode::Operator(op) => operator(counting, level, op, code),
         _ => Err(refused(front, BodyReason::NotStatement)),
     }
 }
@@ -301,9 +285,8 @@ fn form<'a, S: Space<Object>>(
 /// The same, where it may stand at the place.
 #[cycle(read)]
 #[tactic(auto, unfolding(crate::specs::steps::Reading::placed_by))]
-pub(crate) fn placed<'a, S: Space<Object>>(
-    context: &Context<'_, S>,
-    locals: &TreeSpace<()>,
+pub(crate) fn placed<'a, C: Counting>(
+    counting: &C,
     level: u32,
     place: Place,
     front: &Code<'a>,
@@ -313,30 +296,43 @@ pub(crate) fn placed<'a, S: Space<Object>>(
     requires ends { front.now.end ≡ code.old.end }
     requires behind { length code.old.bytes < length front.now.bytes }
     ensures { Reads term_view
-        (λ end whole. placed_by (args_of context.now locals.now) (term_at (args_of context.now locals.now) level) place end whole opcode code.old.bytes) front.now code.new result }
+        (λ end whole. placed_by (C.grammar counting.now) (term_at (C.grammar counting.now) level) place end whole opcode code.old.bytes) front.now code.new result }
 {
-    if let Some(reason) = refusal(place, opcode) {
+    if let Some(reason) = refusal(counting.loads(), place, opcode) {
         return Err(refused(front, reason));
     }
-    form(context, locals, level, place, front, opcode, code)
+    form(counting, level, place, front, opcode, code)
 }
 
 /// The term at the front, at a place, `level` levels being left for it.
 #[cycle(read)]
 #[tactic(auto, using(crate::proofs::Parts::part_fails), unfolding(crate::specs::steps::Reading::term_at))]
-pub(crate) fn term<S: Space<Object>>(
-    context: &Context<'_, S>,
-    locals: &TreeSpace<()>,
+pub(crate) fn term<C: Counting>(
+    counting: &C,
     level: u32,
     place: Place,
     code: &mut Code<'_>,
 ) -> Result<Term, Stop>
-    ensures { Reads term_view (term_at (args_of context.now locals.now) level place) code.old code.new result }
+    ensures { Reads term_view (term_at (C.grammar counting.now) level place) code.old code.new result }
 {
     if level == 0 {
         return Err(code.too_deep().into());
     }
     let front = code.fork();
     let opcode = code.opcode()?;
-    placed(context, locals, level - 1, place, &front, opcode, code)
+    placed(counting, level - 1, place, &front, opcode, code)
+}
+
+/// The term at the front, at a place, `level` levels being left for it: a value, a super name, an element, data, or what
+/// stands as a statement and is no block and no declaration. Behind a name where it calls stand as many values as
+/// `counting` says; LoadTable, Load and Unload stand where it allows them, and are refused as `LeftOut` where it doesn't.
+pub fn read_term<C: Counting>(
+    counting: &C,
+    level: u32,
+    place: Place,
+    code: &mut Code<'_>,
+) -> Result<Term, Stop>
+    ensures { Reads term_view (term_at (C.grammar counting.now) level place) code.old code.new result }
+{
+    term(counting, level, place, code)
 }

@@ -75,6 +75,9 @@ operator_opens end operators.FromBCD more = refl
 operator_opens end operators.ToBCD more = refl
 operator_opens end operators.Fatal more = refl
 operator_opens end operators.Timer more = refl
+operator_opens end operators.LoadTable more = refl
+operator_opens end operators.Load more = refl
+operator_opens end operators.Unload more = refl
 
 width_opens : (end : ℕ) (w : Width) (more : List ℕ) → opcode_at end (width_bytes w ++ more) ≡ Ok (opcodes.Create w, more)
 unfolding opcode_at byte_at
@@ -143,7 +146,6 @@ opens end opcodes.IndexField more h = refl
 opens end opcodes.BankField more h = refl
 opens end opcodes.DataRegion more h = refl
 opens end opcodes.Name more h = absurd cc
-opens end opcodes.Load more h = absurd cc
 opens end opcodes.Nothing more h = absurd cc
 opens end (opcodes.Create w) more h = width_opens end w more
 opens end (opcodes.Operator op) more h = operator_opens end op more
@@ -178,7 +180,6 @@ abbrev row_good : Opcode → List ℕ → Bool
 row_good opcodes.Name front = false
 row_good (opcodes.Local n) front = false
 row_good (opcodes.Arg n) front = false
-row_good opcodes.Load front = true
 row_good opcodes.Nothing front = true
 row_good opcode front = same (opcode_bytes opcode) front
 
@@ -205,7 +206,6 @@ extended_good = refl
 -- what the bytes of what begins there are
 abbrev pub Told : Opcode → List ℕ → Type 0
 Told opcodes.Name front = is_name_start (slice_index front 0) ≡ true
-Told opcodes.Load front = Unit {0}
 Told opcodes.Nothing front = Unit {0}
 Told opcode front = (is_spelled opcode ≡ true) × (front ≡ opcode_bytes opcode)
 
@@ -213,7 +213,6 @@ told_row : (opcode : Opcode) (front : List ℕ) → row_good opcode front ≡ tr
 told_row opcodes.Name front h = absurd cc
 told_row (opcodes.Local n) front h = absurd cc
 told_row (opcodes.Arg n) front h = absurd cc
-told_row opcodes.Load front h = tt
 told_row opcodes.Nothing front h = tt
 told_row opcode front h = (refl, sym (same_is (opcode_bytes opcode) front h))
 

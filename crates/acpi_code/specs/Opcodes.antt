@@ -9,152 +9,6 @@ use Rattle.acpi_tree.specs.declared.tree.Width.TheVariants as widths
 use Rattle.acpi_tree.specs.declared.op.Op.{Op}
 use Rattle.acpi_tree.specs.declared.op.Op.TheVariants as operators
 
--- ---- what begins with which bytes
-
--- a byte, and the opcode that it is
-abbrev pub Opening : Type 0
-Opening = ℕ × Opcode
-
--- what the first row with that byte says
-abbrev pub looked_up : List Opening → ℕ → Opcode
-looked_up [] b = opcodes.Nothing
-looked_up (r ∷ rs) b = if b == r.0 then r.1 else looked_up rs b
-
--- the opcodes of one byte (20.3)
-abbrev pub plain_opcodes : List Opening
-plain_opcodes =
-    (0x00, opcodes.Constant forms.Zero) ∷
-    (0x01, opcodes.Constant forms.One) ∷
-    (0xFF, opcodes.Constant forms.Ones) ∷
-    (0x0A, opcodes.Constant forms.Byte) ∷
-    (0x0B, opcodes.Constant forms.Word) ∷
-    (0x0C, opcodes.Constant forms.DWord) ∷
-    (0x0E, opcodes.Constant forms.QWord) ∷
-    (0x0D, opcodes.Str) ∷
-    (0x11, opcodes.Buffer) ∷
-    (0x12, opcodes.Package) ∷
-    (0x13, opcodes.VarPackage) ∷
-    (0x08, opcodes.DeclareName) ∷
-    (0x10, opcodes.Scope) ∷
-    (0x14, opcodes.Method) ∷
-    (0x15, opcodes.External) ∷
-    (0x8A, opcodes.Create widths.DWord) ∷
-    (0x8B, opcodes.Create widths.Word) ∷
-    (0x8C, opcodes.Create widths.Byte) ∷
-    (0x8D, opcodes.Create widths.Bit) ∷
-    (0x8F, opcodes.Create widths.QWord) ∷
-    (0xA0, opcodes.If) ∷
-    (0xA1, opcodes.Else) ∷
-    (0xA2, opcodes.While) ∷
-    (0x06, opcodes.Alias) ∷
-    (0x70, opcodes.Operator operators.Store) ∷
-    (0x71, opcodes.Operator operators.RefOf) ∷
-    (0x72, opcodes.Operator operators.Add) ∷
-    (0x73, opcodes.Operator operators.Concat) ∷
-    (0x74, opcodes.Operator operators.Subtract) ∷
-    (0x75, opcodes.Operator operators.Increment) ∷
-    (0x76, opcodes.Operator operators.Decrement) ∷
-    (0x77, opcodes.Operator operators.Multiply) ∷
-    (0x78, opcodes.Operator operators.Divide) ∷
-    (0x79, opcodes.Operator operators.ShiftLeft) ∷
-    (0x7A, opcodes.Operator operators.ShiftRight) ∷
-    (0x7B, opcodes.Operator operators.And) ∷
-    (0x7C, opcodes.Operator operators.NAnd) ∷
-    (0x7D, opcodes.Operator operators.Or) ∷
-    (0x7E, opcodes.Operator operators.NOr) ∷
-    (0x7F, opcodes.Operator operators.XOr) ∷
-    (0x80, opcodes.Operator operators.Not) ∷
-    (0x81, opcodes.Operator operators.FindSetLeftBit) ∷
-    (0x82, opcodes.Operator operators.FindSetRightBit) ∷
-    (0x83, opcodes.Operator operators.DerefOf) ∷
-    (0x84, opcodes.Operator operators.ConcatRes) ∷
-    (0x85, opcodes.Operator operators.Mod) ∷
-    (0x86, opcodes.Operator operators.Notify) ∷
-    (0x87, opcodes.Operator operators.SizeOf) ∷
-    (0x88, opcodes.Operator operators.Index) ∷
-    (0x89, opcodes.Operator operators.Match) ∷
-    (0x8E, opcodes.Operator operators.ObjectType) ∷
-    (0x90, opcodes.Operator operators.LAnd) ∷
-    (0x91, opcodes.Operator operators.LOr) ∷
-    (0x92, opcodes.Operator operators.LNot) ∷
-    (0x93, opcodes.Operator operators.LEqual) ∷
-    (0x94, opcodes.Operator operators.LGreater) ∷
-    (0x95, opcodes.Operator operators.LLess) ∷
-    (0x96, opcodes.Operator operators.ToBuffer) ∷
-    (0x97, opcodes.Operator operators.ToDecimalString) ∷
-    (0x98, opcodes.Operator operators.ToHexString) ∷
-    (0x99, opcodes.Operator operators.ToInteger) ∷
-    (0x9C, opcodes.Operator operators.ToString) ∷
-    (0x9D, opcodes.Operator operators.CopyObject) ∷
-    (0x9E, opcodes.Operator operators.Mid) ∷
-    (0x9F, opcodes.Operator operators.Continue) ∷
-    (0xA3, opcodes.Operator operators.Noop) ∷
-    (0xA4, opcodes.Operator operators.Return) ∷
-    (0xA5, opcodes.Operator operators.Break) ∷
-    (0xCC, opcodes.Operator operators.BreakPoint) ∷ []
-
--- the opcodes of two bytes, by what follows 5B (20.3)
-abbrev pub extended_opcodes : List Opening
-extended_opcodes =
-    (0x30, opcodes.Constant forms.Revision) ∷
-    (0x31, opcodes.Debug) ∷
-    (0x01, opcodes.Mutex) ∷
-    (0x02, opcodes.Event) ∷
-    (0x13, opcodes.CreateField) ∷
-    (0x80, opcodes.Region) ∷
-    (0x81, opcodes.Field) ∷
-    (0x82, opcodes.Device) ∷
-    (0x83, opcodes.Processor) ∷
-    (0x84, opcodes.Power) ∷
-    (0x85, opcodes.Thermal) ∷
-    (0x86, opcodes.IndexField) ∷
-    (0x87, opcodes.BankField) ∷
-    (0x88, opcodes.DataRegion) ∷
-    (0x1F, opcodes.Load) ∷
-    (0x20, opcodes.Load) ∷
-    (0x2A, opcodes.Load) ∷
-    (0x12, opcodes.Operator operators.CondRefOf) ∷
-    (0x21, opcodes.Operator operators.Stall) ∷
-    (0x22, opcodes.Operator operators.Sleep) ∷
-    (0x23, opcodes.Operator operators.Acquire) ∷
-    (0x24, opcodes.Operator operators.Signal) ∷
-    (0x25, opcodes.Operator operators.Wait) ∷
-    (0x26, opcodes.Operator operators.Reset) ∷
-    (0x27, opcodes.Operator operators.Release) ∷
-    (0x28, opcodes.Operator operators.FromBCD) ∷
-    (0x29, opcodes.Operator operators.ToBCD) ∷
-    (0x32, opcodes.Operator operators.Fatal) ∷
-    (0x33, opcodes.Operator operators.Timer) ∷ []
-
--- a name in the place of a term begins so: with '\', '^', '.', '/' or a lead character (20.2.2 NameString)
-abbrev pub is_name_start : ℕ → Bool
-is_name_start b = b == 0x5C || b == 0x5E || b == 0x2E || b == 0x2F || is_lead_char b
-
--- what begins with a byte that is not 5B: names, Local0 to Local7, Arg0 to Arg6, and the rows
-abbrev pub plain_opcode_of : ℕ → Opcode
-plain_opcode_of b =
-    if is_name_start b then opcodes.Name else
-    if nat_lt 0x5F b && nat_lt b 0x68 then opcodes.Local (b - 0x60) else
-    if nat_lt 0x67 b && nat_lt b 0x6F then opcodes.Arg (b - 0x68) else
-    looked_up plain_opcodes b
-
--- what begins with 5B and a byte
-abbrev pub extended_opcode_of : ℕ → Opcode
-extended_opcode_of b = looked_up extended_opcodes b
-
-abbrev pub extended_opcode : List ℕ → Option Opcode
-extended_opcode [] = None
-extended_opcode (b ∷ rest) = Some (extended_opcode_of b)
-
--- what the bytes begin with, if they are no lone 5B
-abbrev pub first_opcode : List ℕ → Option Opcode
-first_opcode [] = None
-first_opcode (b ∷ rest) = if b == 0x5B then extended_opcode rest else Some (plain_opcode_of b)
-
-abbrev pub is_name_opcode : Opcode → Bool
-is_name_opcode opcodes.Name = true
-is_name_opcode _ = false
-
 -- ---- the bytes of each opcode
 
 -- CreateDWordFieldOp and the like (20.2.5.2)
@@ -224,9 +78,11 @@ operator_bytes operators.FromBCD = 0x5B ∷ 0x28 ∷ []
 operator_bytes operators.ToBCD = 0x5B ∷ 0x29 ∷ []
 operator_bytes operators.Fatal = 0x5B ∷ 0x32 ∷ []
 operator_bytes operators.Timer = 0x5B ∷ 0x33 ∷ []
+operator_bytes operators.LoadTable = 0x5B ∷ 0x1F ∷ []
+operator_bytes operators.Load = 0x5B ∷ 0x20 ∷ []
+operator_bytes operators.Unload = 0x5B ∷ 0x2A ∷ []
 
--- The bytes of an opcode. Names begin in many ways, loads in three, and what is no opcode has none. A law says that the bytes of each
--- begin it, so the rows above and these need only be read once.
+-- The bytes of an opcode (20.3). Names begin in many ways, and what is no opcode has none.
 abbrev pub opcode_bytes : Opcode → List ℕ
 opcode_bytes (opcodes.Constant forms.Zero) = 0x00 ∷ []
 opcode_bytes (opcodes.Constant forms.One) = 0x01 ∷ []
@@ -266,13 +122,167 @@ opcode_bytes (opcodes.Operator op) = operator_bytes op
 opcode_bytes (opcodes.Local n) = (n + 0x60) ∷ []
 opcode_bytes (opcodes.Arg n) = (n + 0x68) ∷ []
 opcode_bytes opcodes.Name = []
-opcode_bytes opcodes.Load = []
 opcode_bytes opcodes.Nothing = []
+
+-- ---- what begins with which bytes
+
+-- a byte, and the opcode that it is
+abbrev pub Opening : Type 0
+Opening = ℕ × Opcode
+
+-- what an opcode's last byte is: itself, if it has one byte, and what follows 5B, if it has two
+abbrev pub last_byte : List ℕ → ℕ
+last_byte [] = 0
+last_byte (b ∷ []) = b
+last_byte (_ ∷ b ∷ bs) = last_byte (b ∷ bs)
+
+-- an opcode by its last byte
+abbrev pub row : Opcode → Opening
+row o = (last_byte (opcode_bytes o), o)
+
+-- what the first row with that byte says
+abbrev pub looked_up : List Opening → ℕ → Opcode
+looked_up [] b = opcodes.Nothing
+looked_up (r ∷ rs) b = if b == r.0 then r.1 else looked_up rs b
+
+-- the opcodes of one byte (20.3)
+abbrev pub plain_opcodes : List Opening
+plain_opcodes =
+    row (opcodes.Constant forms.Zero) ∷
+    row (opcodes.Constant forms.One) ∷
+    row (opcodes.Constant forms.Ones) ∷
+    row (opcodes.Constant forms.Byte) ∷
+    row (opcodes.Constant forms.Word) ∷
+    row (opcodes.Constant forms.DWord) ∷
+    row (opcodes.Constant forms.QWord) ∷
+    row opcodes.Str ∷
+    row opcodes.Buffer ∷
+    row opcodes.Package ∷
+    row opcodes.VarPackage ∷
+    row opcodes.DeclareName ∷
+    row opcodes.Scope ∷
+    row opcodes.Method ∷
+    row opcodes.External ∷
+    row (opcodes.Create widths.DWord) ∷
+    row (opcodes.Create widths.Word) ∷
+    row (opcodes.Create widths.Byte) ∷
+    row (opcodes.Create widths.Bit) ∷
+    row (opcodes.Create widths.QWord) ∷
+    row opcodes.If ∷
+    row opcodes.Else ∷
+    row opcodes.While ∷
+    row opcodes.Alias ∷
+    row (opcodes.Operator operators.Store) ∷
+    row (opcodes.Operator operators.RefOf) ∷
+    row (opcodes.Operator operators.Add) ∷
+    row (opcodes.Operator operators.Concat) ∷
+    row (opcodes.Operator operators.Subtract) ∷
+    row (opcodes.Operator operators.Increment) ∷
+    row (opcodes.Operator operators.Decrement) ∷
+    row (opcodes.Operator operators.Multiply) ∷
+    row (opcodes.Operator operators.Divide) ∷
+    row (opcodes.Operator operators.ShiftLeft) ∷
+    row (opcodes.Operator operators.ShiftRight) ∷
+    row (opcodes.Operator operators.And) ∷
+    row (opcodes.Operator operators.NAnd) ∷
+    row (opcodes.Operator operators.Or) ∷
+    row (opcodes.Operator operators.NOr) ∷
+    row (opcodes.Operator operators.XOr) ∷
+    row (opcodes.Operator operators.Not) ∷
+    row (opcodes.Operator operators.FindSetLeftBit) ∷
+    row (opcodes.Operator operators.FindSetRightBit) ∷
+    row (opcodes.Operator operators.DerefOf) ∷
+    row (opcodes.Operator operators.ConcatRes) ∷
+    row (opcodes.Operator operators.Mod) ∷
+    row (opcodes.Operator operators.Notify) ∷
+    row (opcodes.Operator operators.SizeOf) ∷
+    row (opcodes.Operator operators.Index) ∷
+    row (opcodes.Operator operators.Match) ∷
+    row (opcodes.Operator operators.ObjectType) ∷
+    row (opcodes.Operator operators.LAnd) ∷
+    row (opcodes.Operator operators.LOr) ∷
+    row (opcodes.Operator operators.LNot) ∷
+    row (opcodes.Operator operators.LEqual) ∷
+    row (opcodes.Operator operators.LGreater) ∷
+    row (opcodes.Operator operators.LLess) ∷
+    row (opcodes.Operator operators.ToBuffer) ∷
+    row (opcodes.Operator operators.ToDecimalString) ∷
+    row (opcodes.Operator operators.ToHexString) ∷
+    row (opcodes.Operator operators.ToInteger) ∷
+    row (opcodes.Operator operators.ToString) ∷
+    row (opcodes.Operator operators.CopyObject) ∷
+    row (opcodes.Operator operators.Mid) ∷
+    row (opcodes.Operator operators.Continue) ∷
+    row (opcodes.Operator operators.Noop) ∷
+    row (opcodes.Operator operators.Return) ∷
+    row (opcodes.Operator operators.Break) ∷
+    row (opcodes.Operator operators.BreakPoint) ∷ []
+
+-- the opcodes of two bytes, by what follows 5B (20.3)
+abbrev pub extended_opcodes : List Opening
+extended_opcodes =
+    row (opcodes.Constant forms.Revision) ∷
+    row opcodes.Debug ∷
+    row opcodes.Mutex ∷
+    row opcodes.Event ∷
+    row opcodes.CreateField ∷
+    row opcodes.Region ∷
+    row opcodes.Field ∷
+    row opcodes.Device ∷
+    row opcodes.Processor ∷
+    row opcodes.Power ∷
+    row opcodes.Thermal ∷
+    row opcodes.IndexField ∷
+    row opcodes.BankField ∷
+    row opcodes.DataRegion ∷
+    row (opcodes.Operator operators.LoadTable) ∷
+    row (opcodes.Operator operators.Load) ∷
+    row (opcodes.Operator operators.Unload) ∷
+    row (opcodes.Operator operators.CondRefOf) ∷
+    row (opcodes.Operator operators.Stall) ∷
+    row (opcodes.Operator operators.Sleep) ∷
+    row (opcodes.Operator operators.Acquire) ∷
+    row (opcodes.Operator operators.Signal) ∷
+    row (opcodes.Operator operators.Wait) ∷
+    row (opcodes.Operator operators.Reset) ∷
+    row (opcodes.Operator operators.Release) ∷
+    row (opcodes.Operator operators.FromBCD) ∷
+    row (opcodes.Operator operators.ToBCD) ∷
+    row (opcodes.Operator operators.Fatal) ∷
+    row (opcodes.Operator operators.Timer) ∷ []
+
+-- a name in the place of a term begins so: with '\', '^', '.', '/' or a lead character (20.2.2 NameString)
+abbrev pub is_name_start : ℕ → Bool
+is_name_start b = b == 0x5C || b == 0x5E || b == 0x2E || b == 0x2F || is_lead_char b
+
+-- what begins with a byte that is not 5B: names, Local0 to Local7, Arg0 to Arg6, and the rows
+abbrev pub plain_opcode_of : ℕ → Opcode
+plain_opcode_of b =
+    if is_name_start b then opcodes.Name else
+    if nat_lt 0x5F b && nat_lt b 0x68 then opcodes.Local (b - 0x60) else
+    if nat_lt 0x67 b && nat_lt b 0x6F then opcodes.Arg (b - 0x68) else
+    looked_up plain_opcodes b
+
+-- what begins with 5B and a byte
+abbrev pub extended_opcode_of : ℕ → Opcode
+extended_opcode_of b = looked_up extended_opcodes b
+
+abbrev pub extended_opcode : List ℕ → Option Opcode
+extended_opcode [] = None
+extended_opcode (b ∷ rest) = Some (extended_opcode_of b)
+
+-- what the bytes begin with, if they are no lone 5B
+abbrev pub first_opcode : List ℕ → Option Opcode
+first_opcode [] = None
+first_opcode (b ∷ rest) = if b == 0x5B then extended_opcode rest else Some (plain_opcode_of b)
+
+abbrev pub is_name_opcode : Opcode → Bool
+is_name_opcode opcodes.Name = true
+is_name_opcode _ = false
 
 -- its bytes begin this opcode and no other; Local0 to Local7, Arg0 to Arg6
 abbrev pub is_spelled : Opcode → Bool
 is_spelled opcodes.Name = false
-is_spelled opcodes.Load = false
 is_spelled opcodes.Nothing = false
 is_spelled (opcodes.Local n) = nat_lt n 8
 is_spelled (opcodes.Arg n) = nat_lt n 7

@@ -52,7 +52,7 @@ pub enum Opcode {
     Arg(u8),
     /// DebugOp
     Debug,
-    /// An operator (20.2.5.3, 20.2.5.4)
+    /// An operator (20.2.5.3, 20.2.5.4), or Unload of older editions
     Operator(Op),
     /// IfOp
     If,
@@ -94,8 +94,6 @@ pub enum Opcode {
     BankField,
     /// AliasOp
     Alias,
-    /// LoadOp, LoadTableOp, or Unload of older editions
-    Load,
     /// DataRegionOp
     DataRegion,
     /// No opcode that is read here.
@@ -215,9 +213,9 @@ fn extended_opcode(b: u8) -> Opcode
         0x86 => Opcode::IndexField,
         0x87 => Opcode::BankField,
         0x88 => Opcode::DataRegion,
-        0x1F => Opcode::Load,
-        0x20 => Opcode::Load,
-        0x2A => Opcode::Load,
+        0x1F => Opcode::Operator(Op::LoadTable),
+        0x20 => Opcode::Operator(Op::Load),
+        0x2A => Opcode::Operator(Op::Unload),
         0x12 => Opcode::Operator(Op::CondRefOf),
         0x21 => Opcode::Operator(Op::Stall),
         0x22 => Opcode::Operator(Op::Sleep),

@@ -15,6 +15,7 @@ use Rattle.acpi_declare.specs.Notes.{external_counts, scope_misses}
 use Rattle.acpi_declare.specs.Predefined.{predefined}
 use Rattle.acpi_body.specs.Arguments.{defined_with, args_at, expected_at, expected_place}
 use Rattle.acpi_body.specs.Bodies.{read}
+use Rattle.acpi_body.specs.Grammars.{body_grammar}
 use Rattle.acpi_body.specs.Spelling.{values, AreOperands}
 use Rattle.acpi_body.specs.Misses.{unless_found, awaited_place}
 use Rattle.acpi_order.specs.Bodies.{Method, count, IsReading}
@@ -70,8 +71,8 @@ statement = more (call (plain mth2) no_terms) no_terms
 
 reading : IsReading 1 nothing caller statement
 reading =
-    let operands : AreOperands (count nothing caller finite.empty) (values (count nothing caller finite.empty (plain mth2))) no_terms [] =
-    subst (λ k. AreOperands (count nothing caller finite.empty) (values k) no_terms []) (sym no_values) refl in
+    let operands : AreOperands (body_grammar (count nothing caller finite.empty)) (values (count nothing caller finite.empty (plain mth2))) no_terms [] =
+    subst (λ k. AreOperands (body_grammar (count nothing caller finite.empty)) (values k) no_terms []) (sym no_values) refl in
     record { spelled = (mth2, [], (refl, (mth2, [], (name_written (plain mth2) is_name, refl), operands, refl)), refl, refl); within = omega arith }
 
 awaited : awaited_place nothing caller.counts caller.path finite.empty (plain mth2) ≡ Some (mth2 ∷ [])

@@ -1,8 +1,10 @@
 -- Items: what is spelled is read, what is read is spelled, or the fault is true.
-use Rattle.std.proofs.Common.{◌≡◌, ℕ, zero, suc, ◌-◌, ◌≤◌, ◌<◌, true, false, List, [], ◌∷◌, ◌++◌, length, Result, Ok, refl, ap, ◌∙◌, append_assoc, arith, ◌+◌, Err, sym, subst, append-nil, inl, inr}
+use Rattle.std.proofs.Common.{◌≡◌, ℕ, zero, suc, ◌-◌, ◌≤◌, ◌<◌, Bool, true, false, cond, List, [], ◌∷◌, ◌++◌, length, Result, Ok, refl, ap, ◌∙◌, append_assoc, arith, ◌+◌, Err, sym, subst, append-nil, inl, inr}
 use Rattle.acpi_name.specs.Names.{NameParts}
 use Rattle.acpi_code.specs.declared.opcode.Opcode.{Opcode}
+use Rattle.acpi_tree.specs.declared.op.Op.{Op}
 use Rattle.acpi_tree.specs.declared.tree.Width.{Width}
+use Rattle.acpi_tree.specs.Operators.{is_load}
 use Rattle.acpi_tree.specs.Tree.{DataTree, ExternalParts, ItemTree, name, scope, method, external, external_block, create, create_field, mutex, event, region, field, index_field, bank_field, device, processor, power, thermal, ItemTrees, no_items, item, items_of}
 use Rattle.acpi_code.proofs.Lists.{AreAll, none_left, one_more, all_at, all_sound}
 use Rattle.acpi_code.proofs.Names.{name_in_complete, name_sound}
@@ -26,7 +28,7 @@ use Rattle.acpi_terms.specs.declared.fault.ItemReason.{ItemReason}
 use Rattle.acpi_terms.specs.declared.fault.ItemReason.TheVariants.{BadOpcode, Alias, ModuleIf, ModuleCode, Load, TooDeep, DataRegion}
 use Rattle.acpi_code.proofs.Readings.{Judge, judge_bind, judge_up, Position, Source, Read, stands_at, position_after, position_deeper, read_as}
 use Rattle.acpi_terms.proofs.Parts.{Bad, deep_bad, part_sound, refused}
-use Rattle.acpi_terms.specs.Faults.{Awaits, ShowsItems}
+use Rattle.acpi_terms.specs.Faults.{operator_reason, Awaits, ShowsItems}
 use Rattle.acpi_code.specs.declared.opcode.Opcode.TheVariants as opcodes
 use Rattle.acpi_tree.specs.declared.tree.Width.TheVariants as widths
 
@@ -296,6 +298,15 @@ packed_form s level end opcode made inner Fills bytes rest o packs told h spells
     judge_up (Bad s) s level end (ItemWithin (suc level)) bytes (packed_at (fixed_arguments opcode) made level inner end rest)
     (packed_sound s level end opcode made inner Fills (ItemWithin (suc level)) bytes rest packs some is spells fills h)
 
+-- an operator is refused, whatever it is
+operator_refused : (s : Source) (level end : ℕ) (op : Op) (bytes rest : List ℕ) → Position s.depth (suc level) s.code end bytes → Opened bytes (opcodes.Operator op, rest)
+    → Bad s (fault_at end bytes (operator_reason op))
+operator_refused s level end op bytes rest h o = by_kind (is_load op) refl
+  where
+    by_kind : (t : Bool) → is_load op ≡ t → Bad s (fault_at end bytes (cond t Load ModuleCode))
+    by_kind true e = refused s (suc level) end bytes (opcodes.Operator op, rest) Load h o (rw e refl)
+    by_kind false e = refused s (suc level) end bytes (opcodes.Operator op, rest) ModuleCode h o (rw e refl)
+
 item_by_sound : (s : Source) (level end : ℕ) (opcode : Opcode) (bytes rest : List ℕ) → InnerSound s level → Position s.depth (suc level) s.code end bytes → Opened bytes (opcode, rest)
     → Judge (Read s (suc level) end (ItemWithin (suc level)) bytes) (Bad s) (item_by (items_with (item_at level)) level end bytes opcode rest)
 item_by_sound s level end opcodes.DeclareName bytes rest inner h o =
@@ -353,7 +364,7 @@ item_by_sound s level end opcodes.Nothing bytes rest inner h o = refused s (suc 
 item_by_sound s level end opcodes.Alias bytes rest inner h o = refused s (suc level) end bytes (opcodes.Alias, rest) Alias h o refl
 item_by_sound s level end opcodes.Else bytes rest inner h o = inl (refused s (suc level) end bytes (opcodes.Else, rest) ModuleIf h o refl)
 item_by_sound s level end opcodes.While bytes rest inner h o = inl (refused s (suc level) end bytes (opcodes.While, rest) ModuleIf h o refl)
-item_by_sound s level end opcodes.Load bytes rest inner h o = refused s (suc level) end bytes (opcodes.Load, rest) Load h o refl
+item_by_sound s level end (opcodes.Operator op) bytes rest inner h o = operator_refused s level end op bytes rest h o
 item_by_sound s level end opcodes.DataRegion bytes rest inner h o = refused s (suc level) end bytes (opcodes.DataRegion, rest) DataRegion h o refl
 item_by_sound s level end term bytes rest inner h o = refused s (suc level) end bytes (term, rest) ModuleCode h o refl
 

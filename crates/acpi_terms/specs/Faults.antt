@@ -1,6 +1,8 @@
 -- What a fault shows of the code (ACPI 6.5, 20.2).
-use Rattle.std.specs.Prelude.{◌≡◌, ◌⊎◌, ◌+◌, ◌<◌, ℕ, true, false, Bool, Option, Some, None, List, [], ◌∷◌, ◌++◌, length, drop, Result, Ok, Err}
+use Rattle.std.specs.Prelude.{◌≡◌, ◌⊎◌, ◌+◌, ◌<◌, ℕ, true, false, Bool, Option, Some, None, List, [], ◌∷◌, ◌++◌, length, drop, Result, Ok, Err, if◌then◌else◌}
 use Rattle.acpi_table.specs.PkgLength.{SpellsPkgLength}
+use Rattle.acpi_tree.specs.declared.op.Op.{Op}
+use Rattle.acpi_tree.specs.Operators.{is_load}
 use Rattle.acpi_tree.specs.Tree.{ExternalParts}
 use Rattle.acpi_code.specs.declared.opcode.Opcode.{Opcode}
 use Rattle.acpi_code.specs.declared.opcode.Opcode.TheVariants as opcodes
@@ -68,13 +70,16 @@ is_no_data opcodes.Package = false
 is_no_data opcodes.VarPackage = false
 is_no_data _ = true
 
+-- why an operator is no item
+abbrev pub operator_reason : Op → ItemReason
+operator_reason op = if is_load op then Load else ModuleCode
+
 -- what begins at an item's place and is refused there by itself, and why
 abbrev pub refusal : Opcode → Option ItemReason
 refusal opcodes.Nothing = Some BadOpcode
 refusal opcodes.Alias = Some Alias
 refusal opcodes.Else = Some ModuleIf
 refusal opcodes.While = Some ModuleIf
-refusal opcodes.Load = Some Load
 refusal opcodes.DataRegion = Some DataRegion
 refusal opcodes.Name = Some ModuleCode
 refusal (opcodes.Constant form) = Some ModuleCode
@@ -85,7 +90,7 @@ refusal opcodes.VarPackage = Some ModuleCode
 refusal (opcodes.Local n) = Some ModuleCode
 refusal (opcodes.Arg n) = Some ModuleCode
 refusal opcodes.Debug = Some ModuleCode
-refusal (opcodes.Operator op) = Some ModuleCode
+refusal (opcodes.Operator op) = Some (operator_reason op)
 refusal _ = None
 
 -- such a term begins at the place
@@ -146,8 +151,9 @@ pub record IsOtherIf (bytes : List ℕ) : Type 0 where
 -- a count of an External's arguments above 7. BadName: no name begins there, or no segment where a field element must
 -- begin. Overrun: a package length below its own number of bytes, or past the end of the list that it stands in.
 -- Computed: a term that is no constant, or a constant where the source of a Create field must begin. ModuleIf: an Else,
--- a While, or an If that is no block of Externals. ModuleCode: a name, data, Local, Arg, Debug or an operator. NotData:
--- no data. TooDeep: a byte, behind at least as many bytes as there are levels. BadString: a byte above 7F in a string.
+-- a While, or an If that is no block of Externals. ModuleCode: a name, data, Local, Arg, Debug or an operator,
+-- other than a load. Load: LoadTable, Load or Unload. NotData: no data. TooDeep: a byte, behind at least as many bytes as
+-- there are levels. BadString: a byte above 7F in a string.
 abbrev pub ShowsItems : ℕ → List ℕ → ItemReason → ℕ → Type 0
 ShowsItems depth code Cut place = ShowsPart depth code codes.Cut place
 ShowsItems depth code BadOpcode place = Refused BadOpcode code place

@@ -3,7 +3,7 @@
 ghost use Rattle.std.specs.Prelude.{◌≡◌, ◌≤◌, ◌++◌, [], ℕ, true, false, List, length, IfOk, IfErr};
 ghost use Rattle.acpi_tree.specs.Tree.{ItemTrees, items_of};
 ghost use Rattle.acpi_terms.specs.Spelling.{SpellsItems, items_height};
-ghost use Rattle.acpi_terms.specs.Faults.{IsTrueFault, Refused, OrMemory, IsToldAt};
+ghost use Rattle.acpi_terms.specs.Faults.{operator_reason, IsTrueFault, Refused, OrMemory, IsToldAt};
 ghost use Rattle.acpi_tree.specs.Fits.{items_fit};
 ghost use Rattle.acpi_tree.specs.Offsets.{OffsetsFit};
 ghost use Rattle.acpi_terms.specs.declared.fault.ItemReason.{ItemReason};
@@ -20,7 +20,7 @@ use crate::form::{
 };
 use crate::holder::{Holder, begin, holds_items};
 use acpi_code::{Code, Depth, Opcode};
-use acpi_tree::Item;
+use acpi_tree::{Item, Op};
 use bytes::Bytes;
 use std::alloc::{AllocError, Global};
 
@@ -48,6 +48,17 @@ fn make_room(items: &mut Vec<Item>) -> Result<(), AllocError>
         items.reserve_exact(more)?;
     }
     Ok(())
+}
+
+// Why an operator is no item.
+fn operator_reason(op: Op) -> ItemReason
+    ensures { result ≡ operator_reason op }
+{
+    if op.is_load() {
+        ItemReason::Load
+    } else {
+        ItemReason::ModuleCode
+    }
 }
 
 // An item that holds none, whose first opcode, behind `front`, was read; `level` levels are left inside it.
@@ -84,7 +95,7 @@ fn leaf(
         Opcode::Alias => Err(refused(front, ItemReason::Alias)),
         Opcode::Else => Err(refused(front, ItemReason::ModuleIf)),
         Opcode::While => Err(refused(front, ItemReason::ModuleIf)),
-        Opcode::Load => Err(refused(front, ItemReason::Load)),
+        Opcode::Operator(op) => Err(refused(front, operator_reason(op))),
         Opcode::DataRegion => Err(refused(front, ItemReason::DataRegion)),
         _ => Err(refused(front, ItemReason::ModuleCode)),
     }

@@ -74,6 +74,9 @@ op_text ops.FromBCD = codes "FromBCD"
 op_text ops.ToBCD = codes "ToBCD"
 op_text ops.Fatal = codes "Fatal"
 op_text ops.Timer = codes "Timer"
+op_text ops.LoadTable = codes "LoadTable"
+op_text ops.Load = codes "Load"
+op_text ops.Unload = codes "Unload"
 
 -- a declaration of one name
 abbrev pub named_form_text : NamedForm → List ℕ

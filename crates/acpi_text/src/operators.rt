@@ -67,5 +67,8 @@ pub(crate) fn op_name(op: Op) -> &'static str
         Op::ToBCD => "ToBCD",
         Op::Fatal => "Fatal",
         Op::Timer => "Timer",
+        Op::LoadTable => "LoadTable",
+        Op::Load => "Load",
+        Op::Unload => "Unload",
     }
 }

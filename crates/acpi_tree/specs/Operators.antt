@@ -1,7 +1,7 @@
--- The operators of method bodies: what stands behind the opcode of each (ACPI 6.5, 20.2.5.3 and 20.2.5.4).
+-- The operators: what stands behind the opcode of each (ACPI 6.5, 20.2.5.3 and 20.2.5.4).
 use Rattle.std.specs.Prelude.{ℕ, Bool, true, false, List, [], ◌∷◌}
 use Rattle.acpi_tree.specs.declared.op.Op.{Op}
-use Rattle.acpi_tree.specs.declared.op.Op.TheVariants.{Store, RefOf, Add, Concat, Subtract, Increment, Decrement, Multiply, Divide, ShiftLeft, ShiftRight, And, NAnd, Or, NOr, XOr, Not, FindSetLeftBit, FindSetRightBit, DerefOf, ConcatRes, Mod, Notify, SizeOf, Index, Match, ObjectType, LAnd, LOr, LNot, LEqual, LGreater, LLess, ToBuffer, ToDecimalString, ToHexString, ToInteger, ToString, CopyObject, Mid, Continue, Noop, Return, Break, BreakPoint, CondRefOf, Stall, Sleep, Acquire, Signal, Wait, Reset, Release, FromBCD, ToBCD, Fatal, Timer}
+use Rattle.acpi_tree.specs.declared.op.Op.TheVariants.{Store, RefOf, Add, Concat, Subtract, Increment, Decrement, Multiply, Divide, ShiftLeft, ShiftRight, And, NAnd, Or, NOr, XOr, Not, FindSetLeftBit, FindSetRightBit, DerefOf, ConcatRes, Mod, Notify, SizeOf, Index, Match, ObjectType, LAnd, LOr, LNot, LEqual, LGreater, LLess, ToBuffer, ToDecimalString, ToHexString, ToInteger, ToString, CopyObject, Mid, Continue, Noop, Return, Break, BreakPoint, CondRefOf, Stall, Sleep, Acquire, Signal, Wait, Reset, Release, FromBCD, ToBCD, Fatal, Timer, LoadTable, Load, Unload}
 use Rattle.acpi_tree.specs.declared.place.Place.TheVariants.{Value, SuperName, SimpleName, Data}
 use Rattle.acpi_tree.specs.declared.place.OperandKind.{OperandKind}
 use Rattle.acpi_tree.specs.declared.place.OperandKind.TheVariants.{At, Target, Byte, Word, DWord}
@@ -69,6 +69,9 @@ operands_of FromBCD = At Value ∷ Target ∷ []
 operands_of ToBCD = At Value ∷ Target ∷ []
 operands_of Fatal = Byte ∷ DWord ∷ At Value ∷ []
 operands_of Timer = []
+operands_of LoadTable = At Value ∷ At Value ∷ At Value ∷ At Value ∷ At Value ∷ At Value ∷ []
+operands_of Load = At SimpleName ∷ Target ∷ []
+operands_of Unload = At SuperName ∷ []
 
 -- an expression has a value, so it may stand where a value does; the others are statements alone
 abbrev pub is_expression : Op → Bool
@@ -92,6 +95,13 @@ is_reference RefOf = true
 is_reference DerefOf = true
 is_reference Index = true
 is_reference _ = false
+
+-- the operators that load or unload a table; method bodies have none of them
+abbrev pub is_load : Op → Bool
+is_load LoadTable = true
+is_load Load = true
+is_load Unload = true
+is_load _ = false
 
 -- ---- declarations of one name: what stands before and behind the name (20.2.5.1 and 20.2.5.2)
 

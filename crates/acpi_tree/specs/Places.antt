@@ -1,7 +1,7 @@
--- What may stand at a place of a method body (ACPI 6.5, 20.2.5).
+-- What may stand at a place of a method body, or at the source of a Create field at module level (ACPI 6.5, 20.2.5).
 use Rattle.std.specs.Prelude.{ℕ, Bool, true, false, nat_eq}
 use Rattle.acpi_tree.specs.declared.place.Place.{Place}
-use Rattle.acpi_tree.specs.declared.place.Place.TheVariants.{Value, SuperName, SimpleName, Element, Data, Statement}
+use Rattle.acpi_tree.specs.declared.place.Place.TheVariants.{Value, SuperName, SimpleName, Element, Data, Statement, Source}
 use Rattle.acpi_tree.specs.declared.place.OperandKind.{OperandKind}
 use Rattle.acpi_tree.specs.declared.place.OperandKind.TheVariants.{At, Target, Byte, Word, DWord}
 use Rattle.acpi_tree.specs.Terms.{TermTree, int, str, buffer, pkg, var_pkg, local, arg, debug, no_target, raw, ref, call, apply, if_do, while_do, declare, declare_units}
@@ -47,6 +47,12 @@ abbrev pub is_target : TermTree → Bool
 is_target no_target = true
 is_target t = is_super_name t
 
+-- SourceBuff of a Create field at module level (20.2.5.2): a name, which is never a call, or a value but a call
+abbrev pub is_source : TermTree → Bool
+is_source (ref n) = true
+is_source (call n vs) = false
+is_source t = is_value t
+
 -- TermObj: an operator, Buffer, Package, VarPackage, a call, If, While, a declaration
 abbrev pub is_statement : TermTree → Bool
 is_statement (buffer v s) = true
@@ -67,6 +73,7 @@ may_stand SimpleName t = is_simple_name t
 may_stand Element t = is_element t
 may_stand Data t = is_data t
 may_stand Statement t = is_statement t
+may_stand Source t = is_source t
 
 -- a raw number in k bytes
 abbrev pub is_raw : ℕ → TermTree → Bool

@@ -5,13 +5,13 @@ use Rattle.acpi_tree.specs.declared.place.Place.{Place}
 use Rattle.acpi_tree.specs.declared.place.Place.TheVariants.{Value, Element, Statement}
 use Rattle.acpi_tree.specs.declared.place.OperandKind.{OperandKind}
 use Rattle.acpi_tree.specs.Terms.{TermTree, TermTrees, int, str, buffer, pkg, var_pkg, local, arg, debug, no_target, raw, ref, call, apply, ElseTree, if_do, no_else, else_do, while_do, declare, declare_units, no_terms, more}
-use Rattle.acpi_tree.specs.Operators.{operands_of, operands_before, operands_behind, names_of_units, operands_of_units}
+use Rattle.acpi_tree.specs.Operators.{operands_of, is_load, operands_before, operands_behind, names_of_units, operands_of_units}
 use Rattle.acpi_tree.specs.Places.{may_stand, may_be}
 use Rattle.acpi_name.specs.Names.{is_null_name}
 use Rattle.acpi_tree.specs.Fits.{text_fits, field_fits}
 
 -- Strings hold characters; there are eight Locals and seven Args; a name where a term stands isn't the one
--- that the byte 00 spells; each place and each operand has what may stand there.
+-- that the byte 00 spells; no operator loads or unloads a table; each place and each operand has what may stand there.
 abbrev mutual
   pub term_fits : TermTree → Bool
   term_fits (int i) = true
@@ -26,7 +26,7 @@ abbrev mutual
   term_fits (raw k n) = true
   term_fits (ref n) = not (is_null_name n)
   term_fits (call n vs) = not (is_null_name n) && all_stand Value vs
-  term_fits (apply op vs) = operands_fit (operands_of op) vs
+  term_fits (apply op vs) = not (is_load op) && operands_fit (operands_of op) vs
   term_fits (if_do v ts e) = may_stand Value v && term_fits v && all_stand Statement ts && else_fits e
   term_fits (while_do v ts) = may_stand Value v && term_fits v && all_stand Statement ts
   term_fits (declare form before n behind) = operands_fit (operands_before form) before && operands_fit (operands_behind form) behind

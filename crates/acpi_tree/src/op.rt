@@ -1,11 +1,12 @@
-//! The operators of method bodies.
+//! The operators.
 
 ghost use Rattle.std.specs.Prelude.{◌≡◌};
-ghost use Rattle.acpi_tree.specs.Operators.{operands_of, is_expression, is_reference};
+ghost use Rattle.acpi_tree.specs.Operators.{operands_of, is_expression, is_reference, is_load};
 
 use crate::place::{OperandKind, Place};
 
-/// An operator of a method body (ACPI 6.5, 20.2.5.3 and 20.2.5.4), by its name there without `Def` or `Op`.
+/// An operator (ACPI 6.5, 20.2.5.3 and 20.2.5.4), by its name there without `Def` or `Op`. Unload is that of ACPI 6.4
+/// and earlier. Method bodies have no LoadTable, Load or Unload.
 #[derive(Clone, Copy, Debug, PartialEq, Eq)]
 pub enum Op {
     Store,
@@ -65,6 +66,9 @@ pub enum Op {
     ToBCD,
     Fatal,
     Timer,
+    LoadTable,
+    Load,
+    Unload,
 }
 
 impl Op {
@@ -84,7 +88,8 @@ impl Op {
             | Op::ObjectType
             | Op::Signal
             | Op::Reset
-            | Op::Release => &[OperandKind::At(Place::SuperName)],
+            | Op::Release
+            | Op::Unload => &[OperandKind::At(Place::SuperName)],
             Op::Add
             | Op::Concat
             | Op::Subtract
@@ -156,6 +161,15 @@ impl Op {
                 OperandKind::DWord,
                 OperandKind::At(Place::Value),
             ],
+            Op::LoadTable => &[
+                OperandKind::At(Place::Value),
+                OperandKind::At(Place::Value),
+                OperandKind::At(Place::Value),
+                OperandKind::At(Place::Value),
+                OperandKind::At(Place::Value),
+                OperandKind::At(Place::Value),
+            ],
+            Op::Load => &[OperandKind::At(Place::SimpleName), OperandKind::Target],
         }
     }
 
@@ -185,5 +199,12 @@ impl Op {
         ensures { result ≡ is_reference self }
     {
         matches!(self, Op::RefOf | Op::DerefOf | Op::Index)
+    }
+
+    /// Whether it loads or unloads a table: LoadTable, Load and Unload.
+    pub fn is_load(self) -> bool
+        ensures { result ≡ is_load self }
+    {
+        matches!(self, Op::LoadTable | Op::Load | Op::Unload)
     }
 }

@@ -2,7 +2,8 @@
 
 use crate::tree::Width;
 
-/// A place of a method body at which a term stands (ACPI 6.5, 20.2.5).
+/// A place at which a term stands: in a method body, or the source of a Create field at module level
+/// (ACPI 6.5, 20.2.5).
 #[derive(Clone, Copy, Debug, PartialEq, Eq)]
 pub enum Place {
     /// TermArg
@@ -17,6 +18,8 @@ pub enum Place {
     Data,
     /// TermObj
     Statement,
+    /// SourceBuff of a Create field at module level (20.2.5.2): a name, which is never a call, or a value but a call.
+    Source,
 }
 
 /// What one operand of an operator is.

@@ -82,6 +82,17 @@ fn is_target(term: &Term) -> bool
     }
 }
 
+// SourceBuff of a Create field at module level
+fn is_source(term: &Term) -> bool
+    ensures { result ≡ places.is_source (term_view term.now) }
+{
+    match term {
+        Term::Ref(_) => true,
+        Term::Call(..) => false,
+        _ => is_value(term),
+    }
+}
+
 // TermObj
 fn is_statement(term: &Term) -> bool
     ensures { result ≡ places.is_statement (term_view term.now) }
@@ -117,6 +128,7 @@ fn may_stand(place: Place, term: &Term) -> bool
         Place::Element => is_element(term),
         Place::Data => is_data(term),
         Place::Statement => is_statement(term),
+        Place::Source => is_source(term),
     }
 }
 
@@ -149,7 +161,7 @@ fn fits(term: &Term) -> bool
         Term::NoTarget => true,
         Term::Ref(name) => !is_null(name),
         Term::Call(name, args) => !is_null(name) && all_fit(Place::Value, args),
-        Term::Op(op, operands) => operands_may_be(op.operands(), operands),
+        Term::Op(op, operands) => !op.is_load() && operands_may_be(op.operands(), operands),
         Term::If(test, then, None) => stands(Place::Value, test) && all_fit(Place::Statement, then),
         Term::If(test, then, Some(other)) => {
             stands(Place::Value, test)
@@ -237,9 +249,9 @@ fn decl_fits(decl: &Decl) -> bool
 }
 
 /// Whether the terms have a spelling as the statements of a body, but for the lengths of their packages:
-/// strings hold bytes 01 to 7F; a Local is at most 7 and an Arg at most 6; a bit count fits 28 bits; each
-/// operator has its operands, and each place a term that may stand there (ACPI 6.5, 20.2.5); and no name where a
-/// term stands is the one that the byte 00 spells. It takes no memory.
+/// strings hold bytes 01 to 7F; a Local is at most 7 and an Arg at most 6; a bit count fits 28 bits; no
+/// operator is LoadTable, Load or Unload; each operator has its operands, and each place a term that may stand there
+/// (ACPI 6.5, 20.2.5); and no name where a term stands is the one that the byte 00 spells. It takes no memory.
 pub fn terms_fit(terms: &[Term]) -> bool
     ensures { result ≡ fits.terms_fit (terms_tree terms.now) }
 {

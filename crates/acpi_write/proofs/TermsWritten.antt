@@ -14,11 +14,12 @@ use Rattle.acpi_code.specs.Spelling.{SpellsNumber, SpellsInt, SpellsTermName, Sp
 use Rattle.acpi_tree.specs.declared.place.Place.TheVariants.{Value, Element, Statement}
 use Rattle.acpi_tree.specs.declared.place.OperandKind.{OperandKind}
 use Rattle.acpi_tree.specs.Terms.{TermTree, TermTrees, int, str, buffer, pkg, var_pkg, local, arg, debug, no_target, raw, ref, call, apply, ElseTree, if_do, no_else, else_do, while_do, declare, declare_units, no_terms, more}
-use Rattle.acpi_tree.specs.Operators.{operands_of, operands_before, operands_behind, names_of_units, operands_of_units}
+use Rattle.acpi_tree.specs.Operators.{operands_of, is_load, operands_before, operands_behind, names_of_units, operands_of_units}
 use Rattle.acpi_tree.specs.Places.{may_stand, may_be}
 use Rattle.acpi_tree.specs.Fits.{field_fits}
 use Rattle.acpi_tree.specs.TermFits.{term_fits, else_fits, all_stand, operands_fit}
 use Rattle.acpi_body.specs.Arguments.{Locals, Arguments}
+use Rattle.acpi_body.specs.Grammars.{body_grammar}
 use Rattle.acpi_body.specs.Spelling.{values, Spells, AreOperands, AreElements}
 use Rattle.acpi_body.specs.Statements.{named_opcode, units_opcode, locals_after, locals_after_all, IsStatement, IsElse, AreStatements}
 use Rattle.acpi_write.specs.Canonical.{int_bytes, filled_with, fields_bytes}
@@ -34,7 +35,7 @@ as_operands (more t ts) = ap (λ b. may_stand Value t && term_fits t && b) (as_o
 -- ---- values
 
 mutual
-  term_written : (args : NameParts → ℕ) (t : TermTree) (bytes : List ℕ) → IsTermTyped t → term_fits t ≡ true → IsCounted args t → term_bytes t ≡ Some bytes → Spells args t bytes
+  term_written : (args : NameParts → ℕ) (t : TermTree) (bytes : List ℕ) → IsTermTyped t → term_fits t ≡ true → IsCounted args t → term_bytes t ≡ Some bytes → Spells (body_grammar args) t bytes
   term_written args (int i) bytes h fit k e = subst (SpellsInt i) (some_is (int_bytes i) bytes e) (int_written i h)
   term_written args (str text) bytes h fit k e = (text ++ 0 ∷ [], (text_written text fit, refl), sym (some_is (13 ∷ (text ++ 0 ∷ [])) bytes e))
   term_written args (buffer size content) bytes h fit k e =
@@ -71,17 +72,19 @@ mutual
       let named = term_name_written n h.0 (not_false (is_null_name n) (first_of (not (is_null_name n)) (all_stand Value vs) fit)) in
       let fits_values = sym (as_operands vs) ∙ second_of (not (is_null_name n)) (all_stand Value vs) fit in
       let operands = operands_written args (values (count_of vs)) vs b.0 h.1 fits_values k.1 b.1 in
-      (name_bytes n, b.0, named, subst (λ c. AreOperands args (values c) vs b.0) k.0 operands, b.2)
+      (name_bytes n, b.0, named, subst (λ c. AreOperands (body_grammar args) (values c) vs b.0) k.0 operands, b.2)
   term_written args (apply op vs) bytes h fit k e =
       let b = front_is (operator_bytes op) (terms_bytes vs) bytes e in
-      (b.0, operands_written args (operands_of op) vs b.0 h fit k b.1, b.2)
+      let no_load = first_of (not (is_load op)) (operands_fit (operands_of op) vs) fit in
+      let operands = second_of (not (is_load op)) (operands_fit (operands_of op) vs) fit in
+      (b.0, no_load, operands_written args (operands_of op) vs b.0 h operands k b.1, b.2)
   term_written args (if_do v ts o) bytes h fit k e = absurd k
   term_written args (while_do v ts) bytes h fit k e = absurd k
   term_written args (declare form before n behind) bytes h fit k e = absurd k
   term_written args (declare_units form ns vs es) bytes h fit k e = absurd k
 
   elements_written : (args : NameParts → ℕ) (ts : TermTrees) (bytes : List ℕ) → AreTermsTyped ts → all_stand Element ts ≡ true → AreCounted args ts
-      → terms_bytes ts ≡ Some bytes → AreElements args ts bytes
+      → terms_bytes ts ≡ Some bytes → AreElements (body_grammar args) ts bytes
   elements_written args no_terms bytes h fit k e = sym (some_is [] bytes e)
   elements_written args (more t ts) bytes h fit k e =
       let b = both_of (term_bytes t) (terms_bytes ts) bytes e in
@@ -95,7 +98,7 @@ mutual
       )
 
   operands_written : (args : NameParts → ℕ) (ks : List OperandKind) (ts : TermTrees) (bytes : List ℕ) → AreTermsTyped ts → operands_fit ks ts ≡ true
-      → AreCounted args ts → terms_bytes ts ≡ Some bytes → AreOperands args ks ts bytes
+      → AreCounted args ts → terms_bytes ts ≡ Some bytes → AreOperands (body_grammar args) ks ts bytes
   operands_written args [] no_terms bytes h fit k e = sym (some_is [] bytes e)
   operands_written args (p ∷ ks) no_terms bytes h fit k e = absurd cc
   operands_written args [] (more t ts) bytes h fit k e = absurd cc

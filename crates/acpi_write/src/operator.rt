@@ -67,5 +67,8 @@ pub(crate) fn operator_bytes(op: Op) -> &'static [u8]
         Op::ToBCD => &[0x5B, 0x29],
         Op::Fatal => &[0x5B, 0x32],
         Op::Timer => &[0x5B, 0x33],
+        Op::LoadTable => &[0x5B, 0x1F],
+        Op::Load => &[0x5B, 0x20],
+        Op::Unload => &[0x5B, 0x2A],
     }
 }

@@ -1,4 +1,4 @@
--- Reading a method body from left to right, up to the first fault (ACPI 6.5, 20.2.5), over the readings of parts.
+-- Reading terms and method bodies from left to right, up to the first fault (ACPI 6.5, 20.2.5), over the readings of parts.
 use Rattle.std.specs.Prelude.{◌-◌, ℕ, zero, suc, Bool, true, false, List, [], ◌∷◌, length, Option, Some, None, Result, Ok, Err, ◌==◌, if◌then◌else◌}
 use Rattle.acpi_name.specs.Names.{Segment, NameParts}
 use Rattle.acpi_name.specs.Paths.{place_of}
@@ -24,6 +24,7 @@ use Rattle.acpi_body.specs.declared.fault.BodyReason.{BodyReason}
 use Rattle.acpi_body.specs.declared.fault.BodyReason.TheVariants.{NotStatement, BadPlace}
 use Rattle.acpi_body.specs.declared.fault.BodyFault.{BodyFault}
 use Rattle.acpi_body.specs.Arguments.{Locals, Arguments}
+use Rattle.acpi_body.specs.Grammars.{Grammar, body_grammar}
 use Rattle.acpi_body.specs.Spelling.{values}
 use Rattle.acpi_body.specs.Statements.{locals_after, locals_after_all}
 use Rattle.acpi_body.specs.Refusals.{refusal_at}
@@ -124,33 +125,33 @@ operator_form inner op end bytes = do
   Ok (apply op (terms_of vs.0), vs.1)
 
 -- A term that is no block and no declaration, by what begins there; `whole` from the opcode on, `rest` behind it.
-unfoldable pub form_by : (NameParts → ℕ) → Reader → Place → ℕ → List ℕ → Opcode → List ℕ → Reading BodyFault TermTree
-form_by args inner place end whole (opcodes.Constant form) rest = constant_form form end rest
-form_by args inner place end whole opcodes.Str rest = string_form end rest
-form_by args inner place end whole opcodes.Buffer rest = buffer_form inner end rest
-form_by args inner place end whole opcodes.Package rest = package_form inner end rest
-form_by args inner place end whole opcodes.VarPackage rest = var_package_form inner end rest
-form_by args inner place end whole (opcodes.Local n) rest = Ok (local n, rest)
-form_by args inner place end whole (opcodes.Arg n) rest = Ok (arg n, rest)
-form_by args inner place end whole opcodes.Debug rest = Ok (debug, rest)
-form_by args inner place end whole opcodes.Name rest = name_form args inner place end whole
-form_by args inner place end whole (opcodes.Operator op) rest = operator_form inner op end rest
-form_by args inner place end whole _ rest = Err (fault_at end whole NotStatement)
+unfoldable pub form_by : Grammar → Reader → Place → ℕ → List ℕ → Opcode → List ℕ → Reading BodyFault TermTree
+form_by g inner place end whole (opcodes.Constant form) rest = constant_form form end rest
+form_by g inner place end whole opcodes.Str rest = string_form end rest
+form_by g inner place end whole opcodes.Buffer rest = buffer_form inner end rest
+form_by g inner place end whole opcodes.Package rest = package_form inner end rest
+form_by g inner place end whole opcodes.VarPackage rest = var_package_form inner end rest
+form_by g inner place end whole (opcodes.Local n) rest = Ok (local n, rest)
+form_by g inner place end whole (opcodes.Arg n) rest = Ok (arg n, rest)
+form_by g inner place end whole opcodes.Debug rest = Ok (debug, rest)
+form_by g inner place end whole opcodes.Name rest = name_form g.args inner place end whole
+form_by g inner place end whole (opcodes.Operator op) rest = operator_form inner op end rest
+form_by g inner place end whole _ rest = Err (fault_at end whole NotStatement)
 
 abbrev pub unless : {A : Type 0} → Option BodyReason → ℕ → List ℕ → Result A BodyFault → Result A BodyFault
 unless None end bytes r = r
 unless (Some why) end bytes r = Err (fault_at end bytes why)
 
 -- the same, where it may stand there
-unfoldable pub placed_by : (NameParts → ℕ) → Reader → Place → ℕ → List ℕ → Opcode → List ℕ → Reading BodyFault TermTree
-placed_by args inner place end whole opcode rest = unless (refusal_at place opcode) end whole (form_by args inner place end whole opcode rest)
+unfoldable pub placed_by : Grammar → Reader → Place → ℕ → List ℕ → Opcode → List ℕ → Reading BodyFault TermTree
+placed_by g inner place end whole opcode rest = unless (refusal_at g.loads place opcode) end whole (form_by g inner place end whole opcode rest)
 
 -- a term at a place, `level` levels being left
-unfoldable pub term_at : (NameParts → ℕ) → ℕ → Reader
-term_at args zero place end bytes = Err (fault_of (no_level end bytes))
-term_at args (suc level) place end bytes = do
+unfoldable pub term_at : Grammar → ℕ → Reader
+term_at g zero place end bytes = Err (fault_of (no_level end bytes))
+term_at g (suc level) place end bytes = do
   x ← part (opcode_at end bytes)
-  placed_by args (term_at args level) place end bytes x.0 x.1
+  placed_by g (term_at g level) place end bytes x.0 x.1
 
 -- ---- field elements, which have no level (20.2.5.2 FieldElement)
 
@@ -240,26 +241,26 @@ while_form value inner locals end bytes = do
   Ok (while_do v.0 (terms_of ts), p.rest)
 
 -- A statement, by what begins there; `value` and `inner` read what stands in it.
-unfoldable pub statement_by : (NameParts → ℕ) → Reader → Statements → List Segment → Locals → ℕ → List ℕ → Opcode → List ℕ → Reading BodyFault TermTree
-statement_by args value inner s locals end whole opcodes.If rest = if_form value inner s locals end rest
-statement_by args value inner s locals end whole opcodes.While rest = while_form value inner locals end rest
-statement_by args value inner s locals end whole opcodes.DeclareName rest = named_form value s named.Name end rest
-statement_by args value inner s locals end whole (opcodes.Create w) rest = named_form value s (named.Create w) end rest
-statement_by args value inner s locals end whole opcodes.CreateField rest = named_form value s named.CreateField end rest
-statement_by args value inner s locals end whole opcodes.Region rest = named_form value s named.Region end rest
-statement_by args value inner s locals end whole opcodes.Mutex rest = named_form value s named.Mutex end rest
-statement_by args value inner s locals end whole opcodes.Event rest = named_form value s named.Event end rest
-statement_by args value inner s locals end whole opcodes.Field rest = units_form value units.Field end rest
-statement_by args value inner s locals end whole opcodes.IndexField rest = units_form value units.IndexField end rest
-statement_by args value inner s locals end whole opcodes.BankField rest = units_form value units.BankField end rest
-statement_by args value inner s locals end whole opcode rest = placed_by args value Statement end whole opcode rest
+unfoldable pub statement_by : Grammar → Reader → Statements → List Segment → Locals → ℕ → List ℕ → Opcode → List ℕ → Reading BodyFault TermTree
+statement_by g value inner s locals end whole opcodes.If rest = if_form value inner s locals end rest
+statement_by g value inner s locals end whole opcodes.While rest = while_form value inner locals end rest
+statement_by g value inner s locals end whole opcodes.DeclareName rest = named_form value s named.Name end rest
+statement_by g value inner s locals end whole (opcodes.Create w) rest = named_form value s (named.Create w) end rest
+statement_by g value inner s locals end whole opcodes.CreateField rest = named_form value s named.CreateField end rest
+statement_by g value inner s locals end whole opcodes.Region rest = named_form value s named.Region end rest
+statement_by g value inner s locals end whole opcodes.Mutex rest = named_form value s named.Mutex end rest
+statement_by g value inner s locals end whole opcodes.Event rest = named_form value s named.Event end rest
+statement_by g value inner s locals end whole opcodes.Field rest = units_form value units.Field end rest
+statement_by g value inner s locals end whole opcodes.IndexField rest = units_form value units.IndexField end rest
+statement_by g value inner s locals end whole opcodes.BankField rest = units_form value units.BankField end rest
+statement_by g value inner s locals end whole opcode rest = placed_by g value Statement end whole opcode rest
 
 -- a statement, `level` levels being left
 unfoldable pub statement_at : Arguments → List Segment → ℕ → Locals → ℕ → List ℕ → Reading BodyFault TermTree
 statement_at args s zero locals end bytes = Err (fault_of (no_level end bytes))
 statement_at args s (suc level) locals end bytes = do
   x ← part (opcode_at end bytes)
-  statement_by (args locals) (term_at (args locals) level) (λ locals end bytes. statements_by (λ locals. statement_at args s level locals end) s locals bytes) s locals end bytes x.0 x.1
+  statement_by (body_grammar (args locals)) (term_at (body_grammar (args locals)) level) (λ locals end bytes. statements_by (λ locals. statement_at args s level locals end) s locals bytes) s locals end bytes x.0 x.1
 
 -- the statements of a list, `level` levels being left
 abbrev pub statements_at : Arguments → List Segment → ℕ → Statements

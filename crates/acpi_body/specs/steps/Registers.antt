@@ -1,7 +1,7 @@
 -- Operands that are a Local or an Arg (ACPI 6.5, 20.2.6).
 use Rattle.std.specs.Prelude.{ℕ, ◌-◌, Bool, true, false, ◌&&◌, nat_lt, if◌then◌else◌, List, [], ◌∷◌}
 use Rattle.acpi_tree.specs.declared.place.Place.{Place}
-use Rattle.acpi_tree.specs.declared.place.Place.TheVariants.{Value, SuperName, SimpleName}
+use Rattle.acpi_tree.specs.declared.place.Place.TheVariants.{Value, SuperName, SimpleName, Source}
 use Rattle.acpi_tree.specs.declared.place.OperandKind.{OperandKind}
 use Rattle.acpi_tree.specs.declared.place.OperandKind.TheVariants.{At, Target}
 use Rattle.acpi_tree.specs.Terms.{TermTree, local, arg, debug}
@@ -10,6 +10,7 @@ abbrev pub holds_register : Place → Bool
 holds_register Value = true
 holds_register SuperName = true
 holds_register SimpleName = true
+holds_register Source = true
 holds_register _ = false
 
 abbrev pub takes_register : OperandKind → Bool

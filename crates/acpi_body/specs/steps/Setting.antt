@@ -7,7 +7,8 @@ use Rattle.acpi_name.specs.Paths.{path_cmp}
 use Rattle.acpi_space.specs.Spaces.{PathMap, coded_path}
 use Rattle.acpi_tree.specs.declared.object.Object.{Object}
 use Rattle.acpi_tree.specs.contracts.object.Object as object
-use Rattle.acpi_body.specs.Arguments.{Arguments, namespace_of, arguments}
+use Rattle.acpi_body.specs.Arguments.{Locals, Arguments, namespace_of, arguments}
+use Rattle.acpi_body.specs.Grammars.{Grammar, body_grammar}
 
 -- the objects of the namespace, what the table's Externals say, and the method's path
 pub record Setting : Type 0 where
@@ -28,6 +29,10 @@ setting_code = code_by (PathMap Object × (PathMap ℕ × List Segment)) (coded�
 -- how many values follow a name there
 unfoldable pub args_of : Setting → Arguments
 args_of s = arguments (namespace_of s.objects) (finite.get s.externals) s.method
+
+-- by which the terms of the body are read there
+abbrev pub grammar_of : Setting → Locals → Grammar
+grammar_of s locals = body_grammar (args_of s locals)
 
 -- the greater of two numbers, or the one that is there
 abbrev pub deeper : Option ℕ → Option ℕ → Option ℕ

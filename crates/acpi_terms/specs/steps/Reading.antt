@@ -15,10 +15,10 @@ use Rattle.acpi_code.specs.steps.Reading.{◌>>=◌, Reading, with_fault, each_a
 use Rattle.acpi_code.specs.steps.Fields.{int_in}
 use Rattle.acpi_code.specs.steps.Fields as fields
 use Rattle.acpi_terms.specs.declared.fault.ItemReason.{ItemReason}
-use Rattle.acpi_terms.specs.declared.fault.ItemReason.TheVariants.{BadOpcode, ReservedBits, BadName, Computed, Alias, ModuleIf, ModuleCode, Load, NotData, TooDeep, DataRegion}
+use Rattle.acpi_terms.specs.declared.fault.ItemReason.TheVariants.{BadOpcode, ReservedBits, BadName, Computed, Alias, ModuleIf, ModuleCode, NotData, TooDeep, DataRegion}
 use Rattle.acpi_terms.specs.declared.fault.ItemFault.{ItemFault}
 use Rattle.acpi_terms.specs.declared.fault.ItemFault.TheVariants as errors
-use Rattle.acpi_terms.specs.Faults.{reason_of, no_constant}
+use Rattle.acpi_terms.specs.Faults.{reason_of, no_constant, operator_reason}
 use Rattle.acpi_terms.specs.Forms.{FixedArgument, name_arg, source_arg, byte_arg, word_arg, dword_arg, count_arg, int_arg, Value, Values, fixed_arguments, external_parts}
 
 -- ---- faults
@@ -298,7 +298,7 @@ item_by inner level end whole opcodes.Nothing rest = Err (fault_at end whole Bad
 item_by inner level end whole opcodes.Alias rest = Err (fault_at end whole Alias)
 item_by inner level end whole opcodes.Else rest = Err (fault_at end whole ModuleIf)
 item_by inner level end whole opcodes.While rest = Err (fault_at end whole ModuleIf)
-item_by inner level end whole opcodes.Load rest = Err (fault_at end whole Load)
+item_by inner level end whole (opcodes.Operator op) rest = Err (fault_at end whole (operator_reason op))
 item_by inner level end whole opcodes.DataRegion rest = Err (fault_at end whole DataRegion)
 item_by inner level end whole _ rest = Err (fault_at end whole ModuleCode)
 

@@ -7,7 +7,6 @@ use Rattle.acpi_tree.specs.declared.place.OperandKind.TheVariants.{At}
 use Rattle.acpi_code.proofs.Lists.{turned, all_turned}
 use Rattle.acpi_body.specs.Spelling.{values}
 use Rattle.acpi_body.specs.steps.Cursor.{Reads}
-use Rattle.acpi_body.specs.steps.Setting.{args_of}
 use Rattle.acpi_body.specs.steps.Reading.{Reader, placed_by, term_at}
 use Rattle.acpi_body.specs.steps.Registers.{front_register}
 use Rattle.acpi_body.proofs.Parts.{stopped_there, reads_as}
@@ -18,14 +17,14 @@ use Rattle.acpi_body.proofs.term.+read.Goals as goal
 
 pub elements-returns-in_err-term : goal.elements-returns-in_err-term
 elements-returns-in_err-term g t c =
-    let r : Reader = term_at (args_of c.args.context.now c.args.locals.now) c.args.level in
+    let r : Reader = term_at (g.C.Counting.grammar c.args.counting.now) c.args.level in
     let p = err_from_is_err_and c.from_residual.result c.from_residual.ensures.1 in
     let some : 0 < length c.each.code.bytes = grind arith in
     rw (p.1, p.2) (stopped_there (r Element) c.args.code.now c.each.code _ _ some c.in_err-term.ensures c.each.invariant)
 
 pub elements-each-preserved : goal.elements-each-preserved
 elements-each-preserved g t c =
-    let r : Reader = term_at (args_of c.args.context.now c.args.locals.now) c.args.level in
+    let r : Reader = term_at (g.C.Counting.grammar c.args.counting.now) c.args.level in
     let n = c.in_ok-term.field-0 in
     let some : 0 < length c.each.code.bytes = grind arith in
     let e : terms_view c.push.new.self.items ≡ terms_view c.each.found.items ++ term_view n ∷ [] = rw c.in_ok-push.ensures.items (map_push _ c.each.found.items n) in
@@ -33,13 +32,13 @@ elements-each-preserved g t c =
 
 pub elements-returns : goal.elements-returns
 elements-returns g t c =
-    let r : Reader = term_at (args_of c.args.context.now c.args.locals.now) c.args.level in
+    let r : Reader = term_at (g.C.Counting.grammar c.args.counting.now) c.args.level in
     let none : length c.each.code.bytes ≡ 0 = grind arith in
     all_turned (r Element) c.args.code.now c.each.code _ none c.each.invariant
 
 pub arguments-returns-in_err-term : goal.arguments-returns-in_err-term
 arguments-returns-in_err-term g t c =
-    let r : Reader = term_at (args_of c.args.context.now c.args.locals.now) c.args.level in
+    let r : Reader = term_at (g.C.Counting.grammar c.args.counting.now) c.args.level in
     let p = err_from_is_err_and c.from_residual-in_err-term.result c.from_residual-in_err-term.ensures.1 in
     let left = values_left c.args.count c.each.counter (grind arith) in
     let so : Operated r (values c.args.count) (At Value ∷ values (c.args.count - (c.each.counter + 1))) c.args.code.now c.each.code (terms_view c.each.found.items) = subst (λ ks. Operated r (values c.args.count) ks c.args.code.now c.each.code (terms_view c.each.found.items)) left c.each.invariant in
@@ -47,7 +46,7 @@ arguments-returns-in_err-term g t c =
 
 pub arguments-each-preserved : goal.arguments-each-preserved
 arguments-each-preserved g t c =
-    let r : Reader = term_at (args_of c.args.context.now c.args.locals.now) c.args.level in
+    let r : Reader = term_at (g.C.Counting.grammar c.args.counting.now) c.args.level in
     let n = c.in_ok-term.field-0 in
     let left = values_left c.args.count c.each.counter (grind arith) in
     let so : Operated r (values c.args.count) (At Value ∷ values (c.args.count - (c.each.counter + 1))) c.args.code.now c.each.code (terms_view c.each.found.items) = subst (λ ks. Operated r (values c.args.count) ks c.args.code.now c.each.code (terms_view c.each.found.items)) left c.each.invariant in
@@ -56,13 +55,13 @@ arguments-each-preserved g t c =
 
 pub arguments-returns : goal.arguments-returns
 arguments-returns g t c =
-    let r : Reader = term_at (args_of c.args.context.now c.args.locals.now) c.args.level in
+    let r : Reader = term_at (g.C.Counting.grammar c.args.counting.now) c.args.level in
     let so : Operated r (values c.args.count) [] c.args.code.now c.each.code (terms_view c.each.found.items) = subst (λ ks. Operated r (values c.args.count) ks c.args.code.now c.each.code (terms_view c.each.found.items)) (no_values_left c.args.count c.each.counter (grind arith)) c.each.invariant in
     (operated_is_done r (values c.args.count) c.args.code.now c.each.code _ so, record { same_end = so.same_end; at_most = so.within })
 
 pub operands-each-preserved-then-branch : goal.operands-each-preserved-then-branch
 operands-each-preserved-then-branch g t c =
-    let args = args_of c.args.context.now c.args.locals.now in
+    let args = g.C.Counting.grammar c.args.counting.now in
     let r : Reader = term_at args c.args.level in
     let next = drop_more c.args.kinds.now c.each.kind-index (At Value) (grind arith) in
     let so = subst (λ ks. Operated r c.args.kinds.now ks c.args.code.now c.each.code (operands_view c.each.found.items)) next c.each.invariant in
@@ -75,7 +74,7 @@ operands-each-preserved-then-branch g t c =
 
 pub operands-returns-in_err-operand : goal.operands-returns-in_err-operand
 operands-returns-in_err-operand g t c =
-    let r : Reader = term_at (args_of c.args.context.now c.args.locals.now) c.args.level in
+    let r : Reader = term_at (g.C.Counting.grammar c.args.counting.now) c.args.level in
     let no : c.in_ok-add_register.field-0 ≡ false = search rules in
     let kept = c.in_ok-add_register.ensures.kept no in
     let p = err_from_is_err_and c.from_residual-in_err-operand.result c.from_residual-in_err-operand.ensures.1 in
@@ -85,7 +84,7 @@ operands-returns-in_err-operand g t c =
 
 pub operands-each-preserved : goal.operands-each-preserved
 operands-each-preserved g t c =
-    let r : Reader = term_at (args_of c.args.context.now c.args.locals.now) c.args.level in
+    let r : Reader = term_at (g.C.Counting.grammar c.args.counting.now) c.args.level in
     let n = c.in_ok-operand.field-0 in
     let no : c.in_ok-add_register.field-0 ≡ false = search rules in
     let kept = c.in_ok-add_register.ensures.kept no in
@@ -96,7 +95,7 @@ operands-each-preserved g t c =
 
 pub operands-returns : goal.operands-returns
 operands-returns g t c =
-    let r : Reader = term_at (args_of c.args.context.now c.args.locals.now) c.args.level in
+    let r : Reader = term_at (g.C.Counting.grammar c.args.counting.now) c.args.level in
     let none = none_left_of c.args.kinds.now c.each.kind-index (grind arith) in
     let so = subst (λ ks. Operated r c.args.kinds.now ks c.args.code.now c.each.code (operands_view c.each.found.items)) none c.each.invariant in
     (operated_is_done r c.args.kinds.now c.args.code.now c.each.code _ so, record { same_end = so.same_end; at_most = so.within })
@@ -105,11 +104,11 @@ pub term-returns-in_err-opcode : goal.term-returns-in_err-opcode
 term-returns-in_err-opcode g t c =
     let p = err_from_is_err_and c.from_residual.result c.from_residual.ensures.1 in
     let some : 0 < c.args.level = grind arith in
-    rw (p.1, p.2) (term_unopened (args_of c.args.context.now c.args.locals.now) c.args.level c.args.place c.args.code.now.end c.args.code.now.bytes _ some c.in_err-opcode.ensures)
+    rw (p.1, p.2) (term_unopened (g.C.Counting.grammar c.args.counting.now) c.args.level c.args.place c.args.code.now.end c.args.code.now.bytes _ some c.in_err-opcode.ensures)
 
 pub term-returns : goal.term-returns
 term-returns g t c =
-    let args = args_of c.args.context.now c.args.locals.now in
+    let args = g.C.Counting.grammar c.args.counting.now in
     let some : 0 < c.args.level = grind arith in
     let opens = term_opened args c.args.level c.args.place c.args.code.now.end c.args.code.now.bytes c.in_ok-opcode.opcode c.opcode.new.self.bytes some c.in_ok-opcode.ensures.0 in
     let by : ℕ → List ℕ → _ = λ end whole. placed_by args (term_at args (c.args.level - 1)) c.args.place end whole c.in_ok-opcode.opcode c.opcode.new.self.bytes in

@@ -4,7 +4,6 @@ use Rattle.acpi_tree.specs.declared.place.Place.TheVariants.{Element}
 use Rattle.acpi_code.proofs.Lists.{Turns}
 use Rattle.acpi_body.proofs.InOrder.{Operated}
 use Rattle.acpi_body.specs.Spelling.{values}
-use Rattle.acpi_body.specs.steps.Setting.{args_of}
 use Rattle.acpi_body.specs.steps.Reading.{term_at}
 use Rattle.acpi_body.proofs.term.+read.Given as goal
 
@@ -45,13 +44,13 @@ abbrev pub decreases-placed : goal.decreases-placed
 decreases-placed g l = 16 * l.level + 5
 
 abbrev pub invariant-elements-each : goal.invariant-elements-each
-invariant-elements-each g l = Turns (term_at (args_of l.context l.locals) l.level Element) l.fn.code l.code (terms_view l.found.items)
+invariant-elements-each g l = Turns (term_at (g.C.Counting.grammar l.counting) l.level Element) l.fn.code l.code (terms_view l.found.items)
 
 abbrev pub decreases-elements-each : goal.decreases-elements-each
 decreases-elements-each g l = length l.code.bytes
 
 abbrev pub invariant-arguments-each : goal.invariant-arguments-each
-invariant-arguments-each g l = Operated (term_at (args_of l.context l.locals) l.level) (values l.count) (values (l.count - l.counter)) l.fn.code l.code (terms_view l.found.items)
+invariant-arguments-each g l = Operated (term_at (g.C.Counting.grammar l.counting) l.level) (values l.count) (values (l.count - l.counter)) l.fn.code l.code (terms_view l.found.items)
 
 abbrev pub invariant-operands-each : goal.invariant-operands-each
-invariant-operands-each g l = Operated (term_at (args_of l.context l.locals) l.level) l.kinds (drop l.kind-index l.kinds) l.fn.code l.code (operands_view l.found.items)
+invariant-operands-each g l = Operated (term_at (g.C.Counting.grammar l.counting) l.level) l.kinds (drop l.kind-index l.kinds) l.fn.code l.code (operands_view l.found.items)

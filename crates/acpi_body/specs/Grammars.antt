@@ -1,0 +1,18 @@
+-- What decides how bytes are read as terms (ACPI 6.5, 20.2.5).
+use Rattle.std.specs.Prelude.{ℕ, Bool, false, not, ◌||◌}
+use Rattle.acpi_name.specs.Names.{NameParts}
+use Rattle.acpi_tree.specs.declared.op.Op.{Op}
+use Rattle.acpi_tree.specs.Operators.{is_load}
+
+-- how many values follow a name where it calls, and whether LoadTable, Load and Unload may stand (20.2.5.4)
+pub record Grammar : Type 0 where
+  pub args : NameParts → ℕ
+  pub loads : Bool
+
+-- method bodies have no LoadTable, Load or Unload
+abbrev pub body_grammar : (NameParts → ℕ) → Grammar
+body_grammar args = record { args = args; loads = false }
+
+-- whether the operator may stand
+abbrev pub is_allowed : Bool → Op → Bool
+is_allowed loads op = loads || not (is_load op)
