@@ -8,7 +8,7 @@ ghost use Rattle.acpi_tree.specs.Objects.{object_view};
 ghost use Rattle.acpi_verdict.specs.steps.Defining.{args_at, takes, AddsOther, AddsDefiner};
 
 use acpi_name::Path;
-use acpi_space::{Space, TreeSpace};
+use acpi_space::{Refused, Space, TreeSpace};
 use acpi_terms::Object;
 use std::alloc::{AllocError, Global};
 use std::collections::BTreeMap;
@@ -97,7 +97,8 @@ impl Definers {
         }
         match self.first.insert(path, definer) {
             Ok(()) => Ok(()),
-            Err(_) => Err(AllocError),
+            Err(Refused::Taken(_)) => unreachable!(),
+            Err(Refused::Memory(_)) => Err(AllocError),
         }
     }
 }

@@ -15,12 +15,10 @@ use std::alloc::{AllocError, Global};
 pub(crate) fn add_path(paths: &mut MapSpace<()>, path: Path) -> Result<(), AllocError>
     ensures { OnOk result (paths.new ≡ with_local paths.old path) }
 {
-    if paths.get(&path).is_some() {
-        return Ok(());
-    }
     match paths.insert(path, ()) {
         Ok(()) => Ok(()),
-        Err(_) => Err(AllocError),
+        Err(Refused::Taken(())) => Ok(()),
+        Err(Refused::Memory(())) => Err(AllocError),
     }
 }
 
