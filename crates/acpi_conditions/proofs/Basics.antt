@@ -1,0 +1,201 @@
+-- Tests and lists.
+use Rattle.std.proofs.Common.{◌≡◌, Bool, true, false, cond, not, ◌&&◌, ◌||◌, List, [], ◌∷◌, ◌++◌, map, find, is_some, ◌⊎◌, inl, inr, Option, Some, None, refl, sym, ap, ◌∙◌}
+use Rattle.std.specs.List.{AllByRecursion, filter, flat_map, list_any}
+use Rattle.std.specs.Option.{option_or}
+use Rattle.acpi_name.proofs.EqualPaths.{path_eq_Decides}
+use Rattle.acpi_space.specs.Lookups.{is_same_path, singleton, union}
+use Rattle.acpi_space.specs.Laws.{Among}
+use Rattle.acpi_conditions.specs.Nodes.{Term}
+use Rattle.acpi_conditions.specs.Entries.{Path, Namespace}
+
+-- ---- tests
+
+pub or_left : (a b : Bool) → a ≡ true → (a || b) ≡ true
+or_left true b e = refl
+or_left false b e = cc
+
+pub or_right : (a b : Bool) → b ≡ true → (a || b) ≡ true
+or_right true b e = refl
+or_right false b e = e
+
+pub or_falses : (a b : Bool) → (a || b) ≡ false → (a ≡ false) × (b ≡ false)
+or_falses true b e = cc
+or_falses false b e = (refl, e)
+
+pub and_left : (a b : Bool) → (a && b) ≡ true → a ≡ true
+and_left true b e = refl
+and_left false b e = cc
+
+pub and_right : (a b : Bool) → (a && b) ≡ true → b ≡ true
+and_right true b e = e
+and_right false b e = cc
+
+pub and_both : (a b : Bool) → a ≡ true → b ≡ true → (a && b) ≡ true
+and_both true b e f = f
+and_both false b e f = cc
+
+pub not_is : (a : Bool) → not a ≡ true → a ≡ false
+not_is true e = cc
+not_is false e = refl
+
+pub not_not : (a : Bool) → not a ≡ false → a ≡ true
+not_not true e = refl
+not_not false e = cc
+
+pub never : (a : Bool) → a ≡ true → a ≡ false → ⊥
+never a e f = cc
+
+pub is_false : (a : Bool) → (a ≡ true → ⊥) → a ≡ false
+is_false true f = absurd (f refl)
+is_false false f = refl
+
+-- ---- options
+
+pub none_of : {V : Type 0} (a : Option V) → ((o : V) → a ≡ Some o → ⊥) → a ≡ None
+none_of None f = refl
+none_of (Some o) f = absurd (f o refl)
+
+pub one_some : {V : Type 0} (a b : V) → Some a ≡ Some b → a ≡ b
+one_some a b e = cc
+
+pub not_both : {V : Type 0} (a : Option V) (o : V) → a ≡ Some o → a ≡ None → ⊥
+not_both a o e f = cc
+
+pub some_is : {V : Type 0} (a : Option V) → is_some a ≡ true → (o : V) × (a ≡ Some o)
+some_is None e = cc
+some_is (Some o) e = (o, refl)
+
+pub none_is : {V : Type 0} (a : Option V) → is_some a ≡ false → a ≡ None
+none_is None e = refl
+none_is (Some o) e = cc
+
+-- ---- elements
+
+pub among_left : {X : Type 0} (xs ys : List X) (x : X) → Among xs x → Among (xs ++ ys) x
+among_left [] ys x m = absurd m
+among_left (y ∷ xs) ys x (inl e) = inl e
+among_left (y ∷ xs) ys x (inr m) = inr (among_left xs ys x m)
+
+pub among_right : {X : Type 0} (xs ys : List X) (x : X) → Among ys x → Among (xs ++ ys) x
+among_right [] ys x m = m
+among_right (y ∷ xs) ys x m = inr (among_right xs ys x m)
+
+pub among_append : {X : Type 0} (xs ys : List X) (x : X) → Among (xs ++ ys) x → Among xs x ⊎ Among ys x
+among_append [] ys x m = inr m
+among_append (y ∷ xs) ys x (inl e) = inl (inl e)
+among_append (y ∷ xs) ys x (inr m) = by (among_append xs ys x m)
+  where
+    by : Among xs x ⊎ Among ys x → Among (y ∷ xs) x ⊎ Among ys x
+    by (inl m) = inl (inr m)
+    by (inr m) = inr m
+
+pub all_append : {X : Type 0} (P : X → Type 0) (xs ys : List X) → AllByRecursion P xs → AllByRecursion P ys → AllByRecursion P (xs ++ ys)
+all_append P [] ys a b = b
+all_append P (x ∷ xs) ys a b = (a.0, all_append P xs ys a.1 b)
+
+pub all_map : {X : Type 0} (P Q : X → Type 0) → ((x : X) → P x → Q x) → (xs : List X) → AllByRecursion P xs → AllByRecursion Q xs
+all_map P Q f [] h = tt
+all_map P Q f (x ∷ xs) h = (f x h.0, all_map P Q f xs h.1)
+
+pub append_nothing : {X : Type 0} (xs ys : List X) → xs ++ ys ≡ [] → (xs ≡ []) × (ys ≡ [])
+append_nothing [] ys e = (refl, e)
+append_nothing (x ∷ xs) ys e = cc
+
+pub map_nothing : {X Y : Type 0} (f : X → Y) (xs : List X) → map f xs ≡ [] → xs ≡ []
+map_nothing f [] e = refl
+map_nothing f (x ∷ xs) e = cc
+
+pub among_nothing : {X : Type 0} (xs : List X) (x : X) → xs ≡ [] → Among xs x → ⊥
+among_nothing [] x e m = m
+among_nothing (y ∷ xs) x e m = cc
+
+pub among_flat : {X Y : Type 0} (f : X → List Y) (xs : List X) (y : Y) → Among (flat_map f xs) y → (x : X) × Among xs x × Among (f x) y
+among_flat f [] y m = absurd m
+among_flat f (x ∷ xs) y m = by (among_append (f x) (flat_map f xs) y m) (among_flat f xs y)
+  where
+    by : Among (f x) y ⊎ Among (flat_map f xs) y → (Among (flat_map f xs) y → (z : _) × Among xs z × Among (f z) y) → (z : _) × Among (x ∷ xs) z × Among (f z) y
+    by (inl m) ih = (x, inl refl, m)
+    by (inr m) ih = let r = ih m in (r.0, inr r.1, r.2)
+
+pub among_filter : {X : Type 0} (test : X → Bool) (xs : List X) (x : X) → Among xs x → test x ≡ true → Among (filter test xs) x
+among_filter test [] x m is = absurd m
+among_filter test (y ∷ xs) x m is = by (test y) refl m (among_filter test xs x)
+  where
+    by : (b : Bool) → test y ≡ b → Among (y ∷ xs) x → (Among xs x → test x ≡ true → Among (filter test xs) x) → Among (cond b (y ∷ filter test xs) (filter test xs)) x
+    by true e (inl same) ih = inl same
+    by true e (inr m) ih = inr (ih m is)
+    by false e (inl same) ih = let f : test y ≡ true = ap test same ∙ is in absurd (never (test y) f e)
+    by false e (inr m) ih = ih m is
+
+pub all_filter : {X : Type 0} (P : X → Type 0) (test : X → Bool) (xs : List X) → AllByRecursion P xs → AllByRecursion P (filter test xs)
+all_filter P test [] h = tt
+all_filter P test (x ∷ xs) h = by (test x) (all_filter P test xs h.1)
+  where
+    by : (b : Bool) → AllByRecursion P (filter test xs) → AllByRecursion P (cond b (x ∷ filter test xs) (filter test xs))
+    by true rest = (h.0, rest)
+    by false rest = rest
+
+-- what holds of those that pass the test, and of those that don't, holds of all
+pub all_both : {X : Type 0} (P : X → Type 0) (test : X → Bool) → ((x : X) → test x ≡ false → P x) → (xs : List X) → AllByRecursion P (filter test xs) → AllByRecursion P xs
+all_both P test others [] h = tt
+all_both P test others (x ∷ xs) h = by (test x) refl h (all_both P test others xs)
+  where
+    by : (b : Bool) → test x ≡ b → AllByRecursion P (cond b (x ∷ filter test xs) (filter test xs)) → (AllByRecursion P (filter test xs) → AllByRecursion P xs)
+        → P x × AllByRecursion P xs
+    by true e h ih = (h.0, ih h.1)
+    by false e h ih = (others x e, ih h)
+
+pub any_some : {X : Type 0} (test : X → Bool) (xs : List X) → list_any test xs ≡ true → (x : X) × Among xs x × (test x ≡ true)
+any_some test [] e = cc
+any_some test (x ∷ xs) e = by (test x) refl e (any_some test xs)
+  where
+    by : (b : Bool) → test x ≡ b → (b || list_any test xs) ≡ true → (list_any test xs ≡ true → (y : _) × Among xs y × (test y ≡ true))
+        → (y : _) × Among (x ∷ xs) y × (test y ≡ true)
+    by true is e ih = (x, inl refl, is)
+    by false is e ih = let r = ih e in (r.0, inr r.1, r.2)
+
+pub some_any : {X : Type 0} (test : X → Bool) (xs : List X) (x : X) → Among xs x → test x ≡ true → list_any test xs ≡ true
+some_any test [] x m is = absurd m
+some_any test (y ∷ xs) x (inl e) is = or_left (test y) (list_any test xs) (ap test e ∙ is)
+some_any test (y ∷ xs) x (inr m) is = or_right (test y) (list_any test xs) (some_any test xs x m is)
+
+pub some_found : {X : Type 0} (test : X → Bool) (xs : List X) (x : X) → Among xs x → test x ≡ true → (y : X) × (find test xs ≡ Some y)
+some_found test [] x m is = absurd m
+some_found test (z ∷ xs) x m is = by (test z) refl m (some_found test xs x)
+  where
+    by : (b : Bool) → test z ≡ b → Among (z ∷ xs) x → (Among xs x → test x ≡ true → (y : _) × (find test xs ≡ Some y)) → (y : _) × (cond b (Some z) (find test xs) ≡ Some y)
+    by true e m ih = (z, refl)
+    by false e (inl same) ih = let f : test z ≡ true = ap test same ∙ is in absurd (never (test z) f e)
+    by false e (inr m) ih = ih m is
+
+-- ---- paths
+
+pub same_path : (p q : Path) → is_same_path p q ≡ true → p ≡ q
+same_path p q e = (path_eq_Decides p q).0 e
+
+pub path_itself : (p q : Path) → p ≡ q → is_same_path p q ≡ true
+path_itself p q e = (path_eq_Decides p q).1 e
+
+-- ---- one object more
+
+or_grows : (a b : Option Term) (t : Term) → a ≡ Some t → option_or a b ≡ Some t
+or_grows None b t e = cc
+or_grows (Some o) b t e = e
+
+pub union_grows : (objects more : Namespace) (p : Path) (t : Term) → objects p ≡ Some t → union objects more p ≡ Some t
+union_grows objects more p t e = or_grows (objects p) (more p) t e
+
+or_free : (a b : Option Term) → a ≡ None → option_or a b ≡ b
+or_free None b e = refl
+or_free (Some o) b e = cc
+
+pub union_new : (objects : Namespace) (p : Path) (t : Term) → objects p ≡ None → union objects (singleton p t) p ≡ Some t
+union_new objects p t free = or_free (objects p) (singleton p t p) free ∙ ap (λ b. cond b (Some t) None) (path_itself p p refl)
+
+pub union_cases : (objects : Namespace) (p q : Path) (t u : Term) → union objects (singleton p t) q ≡ Some u → (objects q ≡ Some u) ⊎ ((p ≡ q) × (t ≡ u))
+union_cases objects p q t u e = by (objects q) (is_same_path q p) refl refl e
+  where
+    by : (a : Option Term) (b : Bool) → objects q ≡ a → is_same_path q p ≡ b → option_or a (cond b (Some t) None) ≡ Some u → (a ≡ Some u) ⊎ ((p ≡ q) × (t ≡ u))
+    by (Some o) b x y e = inl e
+    by None true x y e = inr (sym (same_path q p y), one_some t u e)
+    by None false x y e = cc

@@ -1,0 +1,189 @@
+-- The laws of the survey, each as one statement (ACPI 6.5, 5.3, 19.6 and 20.2.5).
+use Rattle.std.specs.Prelude.{◌≡◌, ◌⊎◌, ◌↔◌, false, not, IsTrue, List, [], ◌∷◌, ◌++◌, map, Some, None, ⊤}
+use Rattle.std.specs.List.{AllByRecursion, AllZip, flat_map, list_any}
+use Rattle.acpi_name.specs.Names.{NameParts}
+use Rattle.acpi_name.specs.Paths.{place_of}
+use Rattle.acpi_space.specs.Lookups.{is_defined_in}
+use Rattle.acpi_space.specs.Search.{answer}
+use Rattle.acpi_space.specs.Laws.{Among}
+use Rattle.acpi_conditions.specs.Nodes.{Place, Term, Nodes, places}
+use Rattle.acpi_conditions.specs.Entries.{Path, Namespace, IsFoundIn, Turn, then_branch, else_branch, in_round, within, past, Entry, Holds, HasNoCondition, Why, empty_name, above_root, missing, no_parent, not_a_scope, taken, unsure, Refusal}
+use Rattle.acpi_conditions.specs.Known.{Known, is_certain, is_certain_scope, is_possible, is_possible_scope, candidates, is_certain_name, IsTrueOf}
+use Rattle.acpi_conditions.specs.Survey.{Around, Survey, behind, survey, known_behind, surveys, all_entries, all_refused}
+use Rattle.acpi_conditions.specs.Runs.{Event, State, AreRuns}
+use Rattle.acpi_conditions.specs.Links.{is_round, seen_from}
+use Rattle.acpi_conditions.specs.Listings.{Placement, AreListings, entry_of}
+
+-- ---- sound
+
+-- the way has the turn; a turn past a stop is none of a run's way, since the stop would have ended the run
+abbrev pub HasTurn : List Turn → Turn → Type 0
+HasTurn w (then_branch place) = Among w (then_branch place)
+HasTurn w (else_branch place) = Among w (else_branch place)
+HasTurn w (in_round place) = Among w (in_round place)
+HasTurn w (within place) = Among w (within place)
+HasTurn w (past place) = Unit {0}
+
+-- The entry of an event: it has the term, the scope and the path of that moment; control came by each turn of its way; and the term
+-- declared its object exactly where what the entry asks was so.
+pub record MatchesEntry (ev : Event) (e : Entry) : Type 0 where
+  pub term : e.term ≡ ev.term
+  pub scope : e.scope ≡ ev.scope
+  pub path : place_of ev.scope ev.term.name ≡ Some e.path
+  pub way : AllByRecursion (HasTurn ev.way) e.way
+  pub exact : (p : Path) → (ev.object_path ≡ Some p) ↔ ((p ≡ e.path) × Holds ev.objects e)
+
+-- .. or the refusal of an event: the term declared nothing
+pub record MatchesRefusal (ev : Event) (r : Refusal) : Type 0 where
+  pub place : r.place ≡ ev.term.place
+  pub no_object : ev.object_path ≡ None
+
+abbrev pub IsMatched : List Entry → List Refusal → Event → Type 0
+IsMatched es rs ev = ((e : Entry) × Among es e × MatchesEntry ev e) ⊎ ((r : Refusal) × Among rs r × MatchesRefusal ev r)
+
+-- it is known at which path each Scope is opened, if it is
+abbrev pub IsSure : Why → Type 0
+IsSure (empty_name p) = Unit {0}
+IsSure (above_root p) = Unit {0}
+IsSure (missing p) = Unit {0}
+IsSure (no_parent p) = Unit {0}
+IsSure (not_a_scope p) = Unit {0}
+IsSure (taken p) = Unit {0}
+IsSure (unsure ps) = ⊥
+
+abbrev pub AreSure : List Refusal → Type 0
+AreSure rs = (r : Refusal) → Among rs r → IsSure r.why
+
+-- the premises: a run of the tables from a state in which what is known is true, and a survey without unsure Scopes
+pub record IsRunOf (k : Known) (tables : List Nodes) (S S' : State) : Type 0 where
+  pub known : IsTrueOf S.objects k
+  pub sure : AreSure (all_refused (surveys k tables))
+  pub nothing_yet : (S.events ≡ []) × (S.turns ≡ []) × (S.stop_places ≡ [])
+  pub run : AreRuns tables S S'
+
+-- each time control comes to a term in a run, the term has an entry, and declares its object exactly where what the entry asks is so at
+-- that moment; or it is refused, and declares none
+abbrev pub SurveyIsExact : Type 0
+SurveyIsExact = (k : Known) (tables : List Nodes) (S S' : State) → IsRunOf k tables S S'
+    → AllByRecursion (IsMatched (all_entries (surveys k tables)) (all_refused (surveys k tables))) S'.events
+
+-- so whatever is declared is an entry
+abbrev pub MadeIsEntry : Type 0
+MadeIsEntry = (k : Known) (tables : List Nodes) (S S' : State) → IsRunOf k tables S S'
+    → (p : Path) (t : Term) → S'.objects p ≡ Some t → (S.objects p ≡ Some t) ⊎ ((e : Entry) × Among (all_entries (surveys k tables)) e × (e.path ≡ p) × (e.term ≡ t))
+
+-- and an entry without a condition is declared in every run
+abbrev pub UnconditionalIsMade : Type 0
+UnconditionalIsMade = (k : Known) (tables : List Nodes) (S S' : State) → IsRunOf k tables S S'
+    → (e : Entry) → Among (all_entries (surveys k tables)) e → HasNoCondition e → S'.objects e.path ≡ Some e.term
+
+-- no two of them are the same
+abbrev pub AreDistinct : List Place → Type 0
+AreDistinct [] = ⊤
+AreDistinct (p ∷ ps) = (Among ps p → ⊥) × AreDistinct ps
+
+-- control has come to the entry's term
+abbrev pub IsReached : State → Entry → Type 0
+IsReached S e = (ev : Event) × Among S.events ev × (ev.term ≡ e.term)
+
+-- control hasn't taken the turn; past a stop, it was stopped there
+abbrev pub IsMissed : State → Turn → Type 0
+IsMissed S (then_branch place) = Among S.turns (then_branch place) → ⊥
+IsMissed S (else_branch place) = Among S.turns (else_branch place) → ⊥
+IsMissed S (in_round place) = Among S.turns (in_round place) → ⊥
+IsMissed S (within place) = Among S.turns (within place) → ⊥
+IsMissed S (past place) = Among S.stop_places place
+
+-- Control comes to the term of each entry, unless it misses a turn of the entry's way. (Of entries inside a While, where one round
+-- may miss one turn and another round another, nothing is said.)
+abbrev pub ComesByWay : Type 0
+ComesByWay = (k : Known) (tables : List Nodes) (S S' : State) → IsRunOf k tables S S' → AreDistinct (flat_map places tables)
+    → (e : Entry) → Among (all_entries (surveys k tables)) e
+    → IsReached S' e ⊎ ((turn : Turn) × Among e.way turn × IsMissed S' turn) ⊎ ((place : Place) × Among e.way (in_round place))
+
+-- control has taken the turn; past a stop, it was not stopped there
+abbrev pub IsTaken : State → Turn → Type 0
+IsTaken S (then_branch place) = Among S.turns (then_branch place)
+IsTaken S (else_branch place) = Among S.turns (else_branch place)
+IsTaken S (in_round place) = Among S.turns (in_round place)
+IsTaken S (within place) = Among S.turns (within place)
+IsTaken S (past place) = Among S.stop_places place → ⊥
+
+-- .. and where it comes to the term, it has taken each turn of the way
+abbrev pub TakesTheWay : Type 0
+TakesTheWay = (k : Known) (tables : List Nodes) (S S' : State) → IsRunOf k tables S S' → AreDistinct (flat_map places tables)
+    → (e : Entry) → Among (all_entries (surveys k tables)) e → IsReached S' e
+    → ((turn : Turn) → Among e.way turn → IsTaken S' turn) ⊎ ((place : Place) × Among e.way (in_round place))
+
+-- ---- links
+
+-- a name is found at one of its candidates, if it is; and where one is certain, it is found
+abbrev pub CandidatesCover : Type 0
+CandidatesCover = (objects : Namespace) (k : Known) → IsTrueOf objects k → (s : Path) (n : NameParts)
+    → ((p : Path) → answer (is_defined_in objects) s n ≡ Some p → Among (candidates k s n) p) × (IsTrue (is_certain_name k s n) → IsFoundIn objects s n)
+
+-- where control came to the term of an entry outside of Whiles, what is seen from the entry is true of the namespace at the end
+abbrev pub SeenIsTrue : Type 0
+SeenIsTrue = (k : Known) (tables : List Nodes) (S S' : State) → IsRunOf k tables S S' → AreDistinct (flat_map places tables)
+    → (e : Entry) → Among (all_entries (surveys k tables)) e → IsTrue (not (list_any is_round e.way)) → IsReached S' e
+    → IsTrueOf S'.objects (seen_from k (all_entries (surveys k tables)) e)
+
+-- so a name that is searched from the entry's scope at the end is found at one of its candidates, if it is; and it is found where one
+-- is certain
+abbrev pub LinksCover : Type 0
+LinksCover = (k : Known) (tables : List Nodes) (S S' : State) → IsRunOf k tables S S' → AreDistinct (flat_map places tables)
+    → (e : Entry) → Among (all_entries (surveys k tables)) e → IsTrue (not (list_any is_round e.way)) → IsReached S' e → (n : NameParts)
+    → ((p : Path) → answer (is_defined_in S'.objects) e.scope n ≡ Some p → Among (candidates (seen_from k (all_entries (surveys k tables)) e) e.scope n) p)
+    × (IsTrue (is_certain_name (seen_from k (all_entries (surveys k tables)) e) e.scope n) → IsFoundIn S'.objects e.scope n)
+
+-- ---- behind tables
+
+-- behind the tables what is known is true of the namespace
+abbrev pub KnownStaysTrue : Type 0
+KnownStaysTrue = (k : Known) (tables : List Nodes) (S S' : State) → IsRunOf k tables S S' → IsTrueOf S'.objects (known_behind k tables)
+
+-- there are runs
+abbrev pub RunsExist : Type 0
+RunsExist = (tables : List Nodes) (S : State) → (S' : State) × AreRuns tables S S'
+
+-- ---- strict
+
+-- the namespace is known for certain, and has all that is known
+pub record IsAllOf (objects : Namespace) (k : Known) : Type 0 where
+  pub is_true : IsTrueOf objects k
+  pub not_in_loop : k.in_loop ≡ false
+  pub made_are_certain : (p : Path) (t : Term) → objects p ≡ Some t → Among k.certain (record { path = p; is_scope = t.is_scope })
+  pub entries_are_made : (e : Entry) → Among k.entries e → objects e.path ≡ Some e.term
+
+abbrev pub IsStrict : List Placement → Survey → Type 0
+IsStrict ds x = (x.entries ≡ map entry_of ds) × (x.refused ≡ []) × (x.stops ≡ [])
+
+-- where tables have strict listings, these are the surveys: no entry has a condition, and nothing is refused
+abbrev pub StrictIsSurvey : Type 0
+StrictIsSurvey = (k : Known) (objects : Namespace) (tables : List Nodes) (dss : List (List Placement)) → IsAllOf objects k → AreListings tables objects dss
+    → AllZip IsStrict dss (surveys k tables)
+
+-- ---- by four tests
+
+-- they answer alike, whatever path is asked for
+pub record AnswerAlike (k q : Known) : Type 0 where
+  pub certain : (p : Path) → is_certain k p ≡ is_certain q p
+  pub certain_scope : (p : Path) → is_certain_scope k p ≡ is_certain_scope q p
+  pub possible : (p : Path) → is_possible k p ≡ is_possible q p
+  pub possible_scope : (p : Path) → is_possible_scope k p ≡ is_possible_scope q p
+
+pub record AreAlike (k q : Known) (x y : Survey) : Type 0 where
+  pub entries : x.entries ≡ y.entries
+  pub refused : x.refused ≡ y.refused
+  pub stops : x.stops ≡ y.stops
+  pub behind_them : AnswerAlike (behind k x) (behind q y)
+
+-- what nodes give depends on four tests of what is known, and not on how it is kept
+abbrev pub TestsDecide : Type 0
+TestsDecide = (ns : Nodes) (a : Around) (k q : Known) → AnswerAlike k q → AreAlike k q (survey ns a k) (survey ns a q)
+
+-- ---- of more tables
+
+-- the surveys of a longer list begin with those of a shorter one
+abbrev pub LongerBegins : Type 0
+LongerBegins = (k : Known) (ts us : List Nodes) → surveys k (ts ++ us) ≡ surveys k ts ++ surveys (known_behind k ts) us

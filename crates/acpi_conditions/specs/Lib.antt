@@ -1,0 +1,11 @@
+pub mod Nodes
+pub mod Entries
+pub mod Known
+pub mod Survey
+pub mod Runs
+pub mod Listings
+pub mod KnownLists
+pub mod Laws
+pub mod Links
+pub mod Examples
+pub mod steps

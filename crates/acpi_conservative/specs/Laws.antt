@@ -1,0 +1,36 @@
+-- Where the strict load lists tables, the survey lists the same, without conditions (ACPI 6.5, 5.3).
+use Rattle.std.specs.Prelude.{ℕ, List, map}
+use Rattle.std.specs.List.{AllZip}
+use Rattle.acpi_tree.specs.Tree.{ItemTrees}
+use Rattle.acpi_declare.specs.Namespace.{Namespace}
+use Rattle.acpi_declare.specs.Predefined.{predefined}
+use Rattle.acpi_declare.specs.Listing.{Placement}
+use Rattle.acpi_declare.specs.Loads.{AreListings}
+use Rattle.acpi_conditions.specs.Entries as entries
+use Rattle.acpi_conditions.specs.Known.{Known}
+use Rattle.acpi_conditions.specs.Survey.{surveys}
+use Rattle.acpi_conditions.specs.Laws.{IsAllOf, IsStrict}
+use Rattle.acpi_conditions.specs.Listings as conditions
+use Rattle.acpi_conservative.specs.Strict.{nodes_of, all_placed, Agrees, AreItemListings, AreTablesOf, predefined_terms, predefined_known}
+
+-- the strict listings of item trees are listings of their nodes
+abbrev pub StrictIsListing : Type 0
+StrictIsListing = (objects : Namespace) (terms : entries.Namespace) → Agrees objects terms → (iss : List ItemTrees) (ts : List (List Placement)) → AreItemListings objects iss ts
+    → conditions.AreListings (map nodes_of iss) terms (map all_placed ts)
+
+-- so their surveys are these, no entry has a condition, and nothing is refused
+abbrev pub StrictLoadIsSurvey : Type 0
+StrictLoadIsSurvey = (objects : Namespace) (terms : entries.Namespace) (k : Known) → Agrees objects terms → IsAllOf terms k → (iss : List ItemTrees) (ts : List (List Placement)) → AreItemListings objects iss ts
+    → AllZip IsStrict (map all_placed ts) (surveys k (map nodes_of iss))
+
+-- where a list of tables has strict listings, these are the surveys of its items
+abbrev pub StrictTablesAreSurvey : Type 0
+StrictTablesAreSurvey = (depth : ℕ) (tables : List (List ℕ)) (ts : List (List Placement)) → AreListings depth 0 predefined tables ts
+    → (iss : List ItemTrees) × AreTablesOf depth 0 tables iss × AllZip IsStrict (map all_placed ts) (surveys predefined_known (map nodes_of iss))
+
+-- before any table the terms agree with the predefined objects, and all of them are known
+abbrev pub PredefinedAgrees : Type 0
+PredefinedAgrees = Agrees predefined predefined_terms
+
+abbrev pub PredefinedIsKnown : Type 0
+PredefinedIsKnown = IsAllOf predefined_terms predefined_known

@@ -1,0 +1,16 @@
+//! The law that the survey extends the strict load: the functions do nothing, and their contracts state the law.
+ghost use Rattle.acpi_conservative.specs.Laws.{StrictIsListing, StrictLoadIsSurvey, StrictTablesAreSurvey, PredefinedAgrees, PredefinedIsKnown};
+
+/// Where item trees of tables have strict listings, their nodes have these listings, and the surveys are these: no entry
+/// has a condition, and nothing is refused. So it is where a list of byte strings has strict listings, as `load` needs.
+pub fn strict_load_is_survey()
+    ensures listing { StrictIsListing }
+    ensures survey { StrictLoadIsSurvey }
+    ensures tables { StrictTablesAreSurvey }
+{}
+
+/// The ten predefined objects agree with the terms before any table, and each of these is known for certain.
+pub fn predefined_is_known()
+    ensures agrees { PredefinedAgrees }
+    ensures known { PredefinedIsKnown }
+{}
