@@ -1,0 +1,14 @@
+pub mod Parts
+pub mod Unsure
+pub mod Complete
+pub mod Data
+pub mod Sound
+pub mod FieldLists
+pub mod NodesSound
+pub mod One
+pub mod Going
+pub mod Containing
+pub mod Strict
+pub mod Answered
+pub mod Elements
+pub mod BankFields

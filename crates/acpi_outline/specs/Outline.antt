@@ -1,0 +1,221 @@
+-- Which nodes stand for bytes, under a state: the outline of a table's code (ACPI 6.5, 20.2.5).
+use Rattle.std.specs.Prelude.{◌≡◌, ◌⊎◌, ◌-◌, ◌<◌, ◌≤◌, ℕ, suc, true, false, Bool, List, [], ◌∷◌, ◌++◌, length}
+use Rattle.acpi_name.specs.Names.{NameParts}
+use Rattle.acpi_name.specs.Spelling.{SpellsName}
+use Rattle.acpi_tree.specs.declared.tree.Int.TheVariants.{Zero}
+use Rattle.acpi_tree.specs.declared.place.Place.TheVariants.{Value, Source, Statement}
+use Rattle.acpi_tree.specs.declared.place.OperandKind.{OperandKind}
+use Rattle.acpi_tree.specs.declared.place.OperandKind.TheVariants.{At, Byte, Word, DWord}
+use Rattle.acpi_tree.specs.declared.place.NamedForm.{NamedForm}
+use Rattle.acpi_tree.specs.declared.place.NamedForm.TheVariants as named
+use Rattle.acpi_tree.specs.declared.place.UnitsForm.{UnitsForm}
+use Rattle.acpi_tree.specs.Tree.{FieldTree}
+use Rattle.acpi_tree.specs.Terms.{TermTree, TermTrees, int, str, local, arg, debug, declare}
+use Rattle.acpi_tree.specs.Operators.{operands_behind, names_of_units, operands_of_units}
+use Rattle.acpi_code.specs.Opcodes.{opcode_bytes}
+use Rattle.acpi_code.specs.Spelling.{SpellsEach, Packs}
+use Rattle.acpi_code.specs.Fields.{SpellsField}
+use Rattle.acpi_terms.specs.Spelling.{SpellsExternal}
+use Rattle.acpi_body.specs.Spelling.{Stands, Spells, AreOperands, height, heights}
+use Rattle.acpi_body.specs.Statements.{named_opcode}
+use Rattle.acpi_outline.specs.declared.form.ContainerForm.{ContainerForm}
+use Rattle.acpi_outline.specs.declared.form.ContainerForm.TheVariants as containers
+use Rattle.acpi_outline.specs.declared.form.PackedForm.{PackedForm}
+use Rattle.acpi_outline.specs.declared.form.DataForm.{DataForm}
+use Rattle.acpi_outline.specs.Nodes.{PlainTree, term, external, alias, table_region, FixedTree, scope, container, method, if_so, otherwise, while_so, units, FieldNodes, no_more_fields, fields_lost, field_node}
+use Rattle.acpi_outline.specs.Nodes.{NodeTree, plain, holds, holds_fields, closed, package_lost, data_lost, name_lost, NodeTrees, no_more, lost, node, form_of, form_bytes, data_bytes, has_fields}
+use Rattle.acpi_outline.specs.Rules.{Rules, grammar_at, goes_into, after, is_sure, are_sure, plain_is_sure}
+
+-- ---- plain nodes (20.2.5)
+
+-- what stands behind a declared name; the data of a Name is any value
+abbrev pub operands_after : NamedForm → List OperandKind
+operands_after named.Name = At Value ∷ []
+operands_after form = operands_behind form
+
+-- what stands before it; the source of a Create form is a name, which is never a call, or another value
+abbrev pub operands_first : NamedForm → List OperandKind
+operands_first (named.Create w) = At Source ∷ At Value ∷ []
+operands_first named.CreateField = At Source ∷ At Value ∷ At Value ∷ []
+operands_first _ = []
+
+-- what has no effect where a statement stands: a constant, a string, a Local, an Arg, Debug
+abbrev pub is_stray : TermTree → Bool
+is_stray (int i) = true
+is_stray (str text) = true
+is_stray (local n) = true
+is_stray (arg n) = true
+is_stray debug = true
+is_stray _ = false
+
+-- a declaration, of any name; what may stand as a statement in a method body, or has no effect there; an External; DefAlias
+-- (20.2.5.1); DefDataRegion (20.2.5.2)
+abbrev pub SpellsPlain : {S : Type 0} → Rules S → S → PlainTree → List ℕ → Type 0
+SpellsPlain r known (term (declare form before n behind)) bytes = (a : List ℕ) × (b : List ℕ) × (c : List ℕ)
+    × AreOperands (grammar_at r known) (operands_first form) before a × SpellsName n b × AreOperands (grammar_at r known) (operands_after form) behind c
+    × (bytes ≡ opcode_bytes (named_opcode form) ++ (a ++ (b ++ c)))
+SpellsPlain r known (term t) bytes = (Stands Statement t ⊎ (is_stray t ≡ true)) × Spells (grammar_at r known) t bytes
+SpellsPlain r known (external x) bytes = SpellsExternal x bytes
+SpellsPlain r known (alias source n) bytes = (a : List ℕ) × (b : List ℕ) × SpellsName source a × SpellsName n b × (bytes ≡ 0x06 ∷ (a ++ b))
+SpellsPlain r known (table_region n vs) bytes = (a : List ℕ) × (b : List ℕ)
+    × SpellsName n a × AreOperands (grammar_at r known) (At Value ∷ At Value ∷ At Value ∷ []) vs b × (bytes ≡ 0x5B ∷ 0x88 ∷ (a ++ b))
+
+abbrev pub plain_height : PlainTree → ℕ
+plain_height (term t) = height t
+plain_height (external x) = 1
+plain_height (alias source n) = 1
+plain_height (table_region n vs) = suc (heights vs)
+
+-- .. each of whose names has one count, within the levels that are left
+pub record IsPlain {S : Type 0} (r : Rules S) (level : ℕ) (known : S) (p : PlainTree) (bytes : List ℕ) : Type 0 where
+  pub spells : SpellsPlain r known p bytes
+  pub is_sure : plain_is_sure (r.sure known) p ≡ true
+  pub within : plain_height p ≤ level
+
+-- ---- fixed arguments
+
+-- a predicate of the byte 00 alone has no level
+abbrev pub test_height : TermTree → ℕ
+test_height (int Zero) = 0
+test_height v = height v
+
+-- a value, each of whose names has one count
+pub record IsTest {S : Type 0} (r : Rules S) (level : ℕ) (known : S) (v : TermTree) (bytes : List ℕ) : Type 0 where
+  pub stands : Stands Value v
+  pub spells : Spells (grammar_at r known) v bytes
+  pub is_sure : is_sure (r.sure known) v ≡ true
+  pub within : test_height v ≤ level
+
+-- the numbers behind the name of a package with a scope of its own; of a Processor as ACPI 6.3 and earlier have them
+abbrev pub container_operands : ContainerForm → List OperandKind
+container_operands containers.Device = []
+container_operands containers.Processor = Byte ∷ DWord ∷ Byte ∷ []
+container_operands containers.Power = Byte ∷ Word ∷ []
+container_operands containers.Thermal = []
+
+-- the names and operands of a declaration of field units; each name in its operands has one count
+pub record AreUnitArguments {S : Type 0} (r : Rules S) (level : ℕ) (known : S) (form : UnitsForm) (ns : List NameParts) (vs : TermTrees) (bytes : List ℕ) : Type 0 where
+  pub names : List ℕ
+  pub operands : List ℕ
+  pub all_names : length ns ≡ names_of_units form
+  pub are_names : SpellsEach SpellsName ns names
+  pub are_operands : AreOperands (grammar_at r known) (operands_of_units form) vs operands
+  pub are_sure : are_sure (r.sure known) vs ≡ true
+  pub within : heights vs ≤ level
+  pub whole : bytes ≡ names ++ operands
+
+-- `level` levels are left inside the package
+abbrev pub IsFixed : {S : Type 0} → Rules S → ℕ → S → FixedTree → List ℕ → Type 0
+IsFixed r level known (scope n) bytes = SpellsName n bytes
+IsFixed r level known (container form n vs) bytes = (a : List ℕ) × (b : List ℕ)
+    × SpellsName n a × AreOperands (grammar_at r known) (container_operands form) vs b × (bytes ≡ a ++ b)
+IsFixed r level known (method n flags) bytes = (a : List ℕ) × SpellsName n a × (bytes ≡ a ++ flags ∷ [])
+IsFixed r level known (if_so v) bytes = IsTest r level known v bytes
+IsFixed r level known otherwise bytes = bytes ≡ []
+IsFixed r level known (while_so v) bytes = IsTest r level known v bytes
+IsFixed r level known (units form ns vs) bytes = AreUnitArguments r level known form ns vs bytes
+
+-- ---- what begins at the front of bytes
+
+pub record BeginsPlain {S : Type 0} (r : Rules S) (level : ℕ) (known : S) (bytes : List ℕ) : Type 0 where
+  pub tree : PlainTree
+  pub front : List ℕ
+  pub rest : List ℕ
+  pub is_plain : IsPlain r level known tree front
+  pub whole : bytes ≡ front ++ rest
+
+-- a package, that ends where the bytes do or before
+pub record BeginsPackage (bytes : List ℕ) : Type 0 where
+  pub form : PackedForm
+  pub content : List ℕ
+  pub front : List ℕ
+  pub rest : List ℕ
+  pub packs : Packs (form_bytes form) content front
+  pub whole : bytes ≡ front ++ rest
+
+-- so is a statement that is data
+pub record BeginsData (bytes : List ℕ) : Type 0 where
+  pub form : DataForm
+  pub content : List ℕ
+  pub front : List ℕ
+  pub rest : List ℕ
+  pub packs : Packs (data_bytes form) content front
+  pub whole : bytes ≡ front ++ rest
+
+-- a Name with such data, which has a level more
+pub record IsNameOf (n : NameParts) (form : DataForm) (bytes : List ℕ) : Type 0 where
+  pub content : List ℕ
+  pub spelled : List ℕ
+  pub packed : List ℕ
+  pub spells : SpellsName n spelled
+  pub packs : Packs (data_bytes form) content packed
+  pub whole : bytes ≡ 0x08 ∷ (spelled ++ packed)
+
+pub record BeginsName (bytes : List ℕ) : Type 0 where
+  pub name : NameParts
+  pub form : DataForm
+  pub front : List ℕ
+  pub rest : List ℕ
+  pub is_name : IsNameOf name form front
+  pub whole : bytes ≡ front ++ rest
+
+-- a node
+abbrev pub BeginsNode : {S : Type 0} → Rules S → ℕ → S → List ℕ → Type 0
+BeginsNode r level known bytes = (0 < level) × (BeginsPlain r level known bytes ⊎ (BeginsPackage bytes ⊎ (BeginsData bytes ⊎ ((1 < level) × BeginsName bytes))))
+
+-- the fixed arguments of a package of that form
+pub record BeginsFixed {S : Type 0} (r : Rules S) (level : ℕ) (known : S) (form : PackedForm) (bytes : List ℕ) : Type 0 where
+  pub tree : FixedTree
+  pub front : List ℕ
+  pub rest : List ℕ
+  pub same_form : form_of tree ≡ form
+  pub is_fixed : IsFixed r level known tree front
+  pub whole : bytes ≡ front ++ rest
+
+-- the bytes are a plain node
+abbrev pub ArePlain : {S : Type 0} → Rules S → ℕ → S → List ℕ → Type 0
+ArePlain r level known bytes = (p : PlainTree) × IsPlain r level known p bytes
+
+-- ---- the elements of a field list, which have no level (20.2.5.2)
+
+pub record BeginsField (bytes : List ℕ) : Type 0 where
+  pub tree : FieldTree
+  pub front : List ℕ
+  pub rest : List ℕ
+  pub spells : SpellsField tree front
+  pub whole : bytes ≡ front ++ rest
+
+abbrev pub AreFields : ℕ → FieldNodes → List ℕ → Type 0
+AreFields end no_more_fields bytes = bytes ≡ []
+AreFields end (fields_lost place why) bytes = (place ≡ end - length bytes) × (0 < length bytes) × ¬ BeginsField bytes
+AreFields end (field_node place e es) bytes = (a : List ℕ) × (b : List ℕ) × (place ≡ end - length bytes) × SpellsField e a × AreFields end es b × (bytes ≡ a ++ b)
+
+-- ---- outlines
+
+-- The bytes end at the place `end`. A node is read wherever one begins; where none does, what is left of the list is lost.
+-- A package that ends within its list holds its faults: where its fixed arguments can't be read it is lost alone, and the list
+-- goes on behind it.
+abbrev mutual
+  -- the node stands for the bytes from `place` to `end`, `level` levels being left inside it
+  pub IsNode : {S : Type 0} → Rules S → ℕ → ℕ → ℕ → S → NodeTree → List ℕ → Type 0
+  IsNode r level place end known (plain p) bytes = IsPlain r (suc level) known p bytes
+  IsNode r level place end known (holds f ns) bytes = (a : List ℕ) × (b : List ℕ) × IsFixed r level known f a × (goes_into r known f ≡ true)
+      × AreNodes r level end (r.enter known place f) ns b × Packs (form_bytes (form_of f)) (a ++ b) bytes
+  IsNode r level place end known (holds_fields f es) bytes = (a : List ℕ) × (b : List ℕ) × IsFixed r level known f a × (goes_into r known f ≡ false)
+      × AreFields end es b × Packs (form_bytes (form_of f)) (a ++ b) bytes × (has_fields f ≡ true)
+  IsNode r level place end known (closed f content) bytes = (a : List ℕ) × IsFixed r level known f a × (goes_into r known f ≡ false)
+      × Packs (form_bytes (form_of f)) (a ++ content) bytes × (has_fields f ≡ false)
+  IsNode r level place end known (package_lost form why) bytes = (b : List ℕ) × ¬ BeginsFixed r level known form b × Packs (form_bytes form) b bytes
+  IsNode r level place end known (data_lost form why) bytes = (b : List ℕ) × Packs (data_bytes form) b bytes × ¬ ArePlain r (suc level) known bytes
+  IsNode r level place end known (name_lost n form why) bytes = (0 < level) × IsNameOf n form bytes × ¬ ArePlain r (suc level) known bytes
+
+  -- the nodes stand for all of the bytes, `level` levels being left for each
+  pub AreNodes : {S : Type 0} → Rules S → ℕ → ℕ → S → NodeTrees → List ℕ → Type 0
+  AreNodes r level end known no_more bytes = bytes ≡ []
+  AreNodes r level end known (lost place why) bytes = (place ≡ end - length bytes) × (0 < length bytes) × ¬ BeginsNode r level known bytes
+  AreNodes r level end known (node place n ns) bytes = (a : List ℕ) × (b : List ℕ) × (inside : ℕ) × (level ≡ suc inside) × (place ≡ end - length bytes)
+      × IsNode r inside place (end - length b) known n a × AreNodes r level end (after r place known n) ns b × (bytes ≡ a ++ b)
+
+-- the outline of a code, with at most `depth` levels, from a first state
+abbrev pub IsOutline : {S : Type 0} → Rules S → S → ℕ → NodeTrees → List ℕ → Type 0
+IsOutline r known depth ns code = AreNodes r depth (length code) known ns code

@@ -1,0 +1,76 @@
+//! Reading the elements of field lists.
+
+ghost use Rattle.std.specs.Prelude.{◌≡◌, ◌++◌, ◌∷◌, [], IfOk, OnOk};
+ghost use Rattle.acpi_tree.specs.View.{field_view};
+ghost use Rattle.acpi_outline.specs.View.{fixed_view, placed_fields, fields_before, fields_end};
+ghost use Rattle.acpi_outline.specs.Rules.{after_fields};
+ghost use Rattle.acpi_outline.specs.steps.Reading.{fields_at};
+ghost use Rattle.acpi_outline.specs.steps.Elements.{ReadsField};
+
+use crate::fault::{LostFault, LostReason};
+use crate::known::Known;
+use crate::node::{Fixed, Lost, PlacedField};
+use acpi_body::BodyReason;
+use acpi_code::{Code, ConstantFault, FieldFault, field_element};
+use acpi_tree::FieldElem;
+use std::alloc::{AllocError, Global};
+
+// The next element, or why none is read.
+#[inline(never)]
+fn next_field(
+    alloc: Global,
+    code: &mut Code<'_>,
+) -> Result<Result<FieldElem, LostFault>, AllocError>
+    ensures { IfOk result (ReadsField code.old code.new) }
+{
+    match field_element(alloc, code) {
+        Ok(element) => Ok(Ok(element)),
+        Err(FieldFault::At(ConstantFault::Part(fault))) => Ok(Err(LostFault {
+            reason: LostReason::Term(fault.reason.into()),
+            place: fault.place,
+        })),
+        Err(FieldFault::At(ConstantFault::NotConstant { place, .. })) => Ok(Err(LostFault {
+            reason: LostReason::Term(BodyReason::NotData),
+            place,
+        })),
+        Err(FieldFault::Memory) => Err(AllocError),
+    }
+}
+
+fn put_field(
+    read: &mut Vec<PlacedField>,
+    place: usize,
+    element: FieldElem,
+) -> Result<(), AllocError>
+    ensures { OnOk result (placed_fields read.new.items
+        ≡ placed_fields read.old.items ++ (place, field_view element) ∷ []) }
+{
+    read.push(PlacedField { place, element })?;
+    Ok(())
+}
+
+/// The elements that are left, to the end or to where the rest is lost.
+#[inline(never)]
+pub(crate) fn fields<K: Known>(
+    known: &mut K,
+    fixed: &Fixed,
+    code: &mut Code<'_>,
+) -> Result<(Vec<PlacedField>, Option<Lost>), AllocError>
+    ensures exact { IfOk result (λ fs. fields_before (placed_fields fs.0.items) (fields_end fs.1)
+        ≡ fields_at code.old.end code.old.bytes) }
+    ensures state { IfOk result (λ fs. known.new ≡ after_fields K.rules known.old
+        (fixed_view fixed.now) (fields_before (placed_fields fs.0.items) (fields_end fs.1))) }
+{
+    let mut read = Vec::new(known.alloc());
+    'each: while !code.is_empty() {
+        let place = code.place();
+        match next_field(known.alloc(), code)? {
+            Ok(element) => {
+                known.pass_field(place, fixed, &element)?;
+                put_field(&mut read, place, element)?;
+            }
+            Err(fault) => return Ok((read, Some(Lost { place, fault }))),
+        }
+    }
+    Ok((read, None))
+}

@@ -1,0 +1,191 @@
+//! Reading the fixed arguments of packages.
+
+ghost use Rattle.std.specs.Prelude.{◌≡◌, ◌∷◌, [], IfOk, box_value};
+ghost use Rattle.acpi_tree.specs.TermView.{term_view};
+ghost use Rattle.acpi_tree.specs.declared.place.UnitsForm.TheVariants as units;
+ghost use Rattle.acpi_code.specs.steps.Reading.{name_in};
+ghost use Rattle.acpi_outline.specs.Nodes.{has_fields};
+ghost use Rattle.acpi_outline.specs.View.{fixed_view};
+ghost use Rattle.acpi_outline.specs.Rules.{goes_into};
+ghost use Rattle.acpi_outline.specs.steps.Reading.{part, value_in, test_in, names_in, container_in, units_in, fixed_in};
+ghost use Rattle.acpi_outline.specs.steps.Cursor.{Reads, ReadsOn};
+
+use crate::fault::{LostReason, LostStop, stopped};
+use crate::form::{ContainerForm, PackedForm};
+use crate::known::Known;
+use crate::node::Fixed;
+use crate::plain::value;
+use crate::sure::term_is_sure;
+use acpi_code::Code;
+use acpi_name::Name;
+use acpi_tree::{Int, Term, UnitsForm};
+use std::alloc::{AllocError, Global};
+
+// A value, each of whose names has one count.
+#[inline(never)]
+#[tactic(auto, unfolding(crate::specs::steps::Reading::value_in))]
+fn sure_value<K: Known>(known: &K, level: u32, code: &mut Code<'_>) -> Result<Box<Term>, LostStop>
+    ensures { Reads (λ b. term_view (box_value b)) (value_in K.rules level known.now)
+        code.old code.new result }
+{
+    let front = code.fork();
+    let value = value(known, level, code)?;
+    if !term_is_sure(known, &value)? {
+        return Err(stopped(&front, LostReason::Unsure));
+    }
+    Ok(value)
+}
+
+// The predicate of an If or While; the byte 00 has no level.
+#[inline(never)]
+fn test<K: Known>(known: &K, level: u32, code: &mut Code<'_>) -> Result<Box<Term>, LostStop>
+    ensures { Reads (λ b. term_view (box_value b)) (test_in K.rules level known.now)
+        code.old code.new result }
+{
+    if code.left().first() == Some(&0x00) {
+        code.skip(1);
+        return Ok(Box::new(known.alloc(), Term::Int(Int::Zero))?);
+    }
+    sure_value(known, level, code)
+}
+
+// A name, with memory of its own.
+#[inline(never)]
+#[tactic(auto, using(crate::proofs::Parts::part_fails))]
+fn owned_name(alloc: Global, code: &mut Code<'_>) -> Result<Name, LostStop>
+    ensures { Reads (λ n. n) (λ end bytes. part (name_in end bytes)) code.old code.new result }
+{
+    Ok(code.name()?.own(alloc)?)
+}
+
+#[inline(never)]
+#[tactic(auto, unfolding(crate::specs::steps::Reading::names_in))]
+fn two_names(alloc: Global, code: &mut Code<'_>) -> Result<(Name, Name), LostStop>
+    ensures { Reads (λ x. x.0 ∷ x.1 ∷ []) (names_in 2) code.old code.new result }
+{
+    let first = owned_name(alloc, code)?;
+    let second = owned_name(alloc, code)?;
+    Ok((first, second))
+}
+
+// The name and the numbers of a package with a scope of its own.
+#[inline(never)]
+#[tactic(auto, using(crate::proofs::Parts::part_fails), unfolding(crate::specs::steps::Reading::container_in, acpi_body::specs::steps::Reading::operands_at, acpi_body::specs::steps::Reading::operand_at))]
+fn container<K: Known>(
+    known: &K,
+    level: u32,
+    form: ContainerForm,
+    code: &mut Code<'_>,
+) -> Result<Fixed, LostStop>
+    ensures { Reads fixed_view (container_in K.rules level known.now form)
+        code.old code.new result }
+{
+    let name = owned_name(known.alloc(), code)?;
+    match form {
+        ContainerForm::Device => Ok(Fixed::Device(name)),
+        ContainerForm::Processor => {
+            let id = code.byte()?;
+            let block = code.dword()?;
+            let length = code.byte()?;
+            Ok(Fixed::Processor(name, id, block, length))
+        }
+        ContainerForm::Power => {
+            let system_level = code.byte()?;
+            let order = code.word()?;
+            Ok(Fixed::Power(name, system_level, order))
+        }
+        ContainerForm::Thermal => Ok(Fixed::Thermal(name)),
+    }
+}
+
+#[inline(never)]
+#[tactic(auto, using(crate::proofs::Parts::part_fails), unfolding(crate::specs::steps::Reading::units_in, crate::specs::steps::Reading::names_in, acpi_body::specs::steps::Reading::operands_at, acpi_body::specs::steps::Reading::operand_at))]
+fn field<K: Known>(known: &K, level: u32, code: &mut Code<'_>) -> Result<Fixed, LostStop>
+    ensures { Reads fixed_view (units_in K.rules level known.now units.Field)
+        code.old code.new result }
+{
+    let region = owned_name(known.alloc(), code)?;
+    let flags = code.byte()?;
+    Ok(Fixed::Field(region, flags))
+}
+
+#[inline(never)]
+#[tactic(auto, using(crate::proofs::Parts::part_fails), unfolding(crate::specs::steps::Reading::units_in, acpi_body::specs::steps::Reading::operands_at, acpi_body::specs::steps::Reading::operand_at))]
+fn index_field<K: Known>(known: &K, level: u32, code: &mut Code<'_>) -> Result<Fixed, LostStop>
+    ensures { Reads fixed_view (units_in K.rules level known.now units.IndexField)
+        code.old code.new result }
+{
+    let (index, data) = two_names(known.alloc(), code)?;
+    let flags = code.byte()?;
+    Ok(Fixed::IndexField(index, data, flags))
+}
+
+#[inline(never)]
+#[tactic(auto, using(crate::proofs::Parts::part_fails), unfolding(crate::specs::steps::Reading::units_in, acpi_body::specs::steps::Reading::operands_at, acpi_body::specs::steps::Reading::operand_at))]
+fn bank_field<K: Known>(known: &K, level: u32, code: &mut Code<'_>) -> Result<Fixed, LostStop>
+    ensures { Reads fixed_view (units_in K.rules level known.now units.BankField)
+        code.old code.new result }
+{
+    let (region, bank) = two_names(known.alloc(), code)?;
+    let front = code.fork();
+    let value = value(known, level, code)?;
+    let flags = code.byte()?;
+    if !term_is_sure(known, &value)? {
+        return Err(stopped(&front, LostReason::Unsure));
+    }
+    Ok(Fixed::BankField(region, bank, value, flags))
+}
+
+/// The fixed arguments of a package of that form; `level` levels are left inside it.
+#[inline(never)]
+#[tactic(auto, using(crate::proofs::Parts::part_fails), unfolding(crate::specs::steps::Reading::fixed_in))]
+pub(crate) fn fixed<K: Known>(
+    known: &K,
+    level: u32,
+    form: PackedForm,
+    code: &mut Code<'_>,
+) -> Result<Fixed, LostStop>
+    ensures { ReadsOn fixed_view (fixed_in K.rules level known.now form)
+        code.old code.new result }
+{
+    match form {
+        PackedForm::Scope => Ok(Fixed::Scope(code.name()?.own(known.alloc())?)),
+        PackedForm::Container(form) => container(known, level, form, code),
+        PackedForm::Method => {
+            let name = code.name()?;
+            let flags = code.byte()?;
+            Ok(Fixed::Method(name.own(known.alloc())?, flags))
+        }
+        PackedForm::If => Ok(Fixed::If(test(known, level, code)?)),
+        PackedForm::Else => Ok(Fixed::Else),
+        PackedForm::While => Ok(Fixed::While(test(known, level, code)?)),
+        PackedForm::Units(UnitsForm::Field) => field(known, level, code),
+        PackedForm::Units(UnitsForm::IndexField) => index_field(known, level, code),
+        PackedForm::Units(UnitsForm::BankField) => bank_field(known, level, code),
+    }
+}
+
+/// Whether a field list stands behind them.
+pub(crate) fn holds_fields(fixed: &Fixed) -> bool
+    ensures { result ≡ has_fields (fixed_view fixed.now) }
+{
+    match fixed {
+        Fixed::Field(_, _) => true,
+        Fixed::IndexField(_, _, _) => true,
+        Fixed::BankField(_, _, _, _) => true,
+        _ => false,
+    }
+}
+
+/// Whether one goes into the package; the code of a method is never gone into.
+pub(crate) fn goes_in<K: Known>(known: &K, fixed: &Fixed) -> Result<bool, AllocError>
+    ensures { IfOk result (λ b. b ≡ goes_into K.rules known.now (fixed_view fixed.now)) }
+{
+    match fixed {
+        Fixed::Method(_, _) => Ok(false),
+        Fixed::Field(_, _) => Ok(false),
+        Fixed::IndexField(_, _, _) => Ok(false),
+        Fixed::BankField(_, _, _, _) => Ok(false),
+        _ => known.opens(fixed),
+    }
+}

@@ -1,0 +1,33 @@
+//! Laws of outlines, of the definitions alone. Each law is the contract of a call that does nothing.
+
+ghost use Rattle.acpi_outline.specs.Laws.{HasOutline, AtMostOneOutline, NodesTile};
+ghost use Rattle.acpi_outline.specs.Contained.{PackagesContain};
+ghost use Rattle.acpi_outline.specs.Strict.{StrictIsKept};
+
+use crate::known::Known;
+
+/// Every code has an outline, whatever is known.
+pub fn has_outline<K: Known>()
+    ensures { HasOutline K.rules }
+{}
+
+/// It has one alone, but for the reasons of what is lost.
+pub fn at_most_one_outline<K: Known>()
+    ensures { AtMostOneOutline K.rules }
+{}
+
+/// The nodes of an outline tile the code.
+pub fn nodes_tile<K: Known>()
+    ensures { NodesTile K.rules }
+{}
+
+/// What a package holds may become any other bytes, as many: no node around it changes, if what is known behind it
+/// stays the same.
+pub fn packages_contain<K: Known>()
+    ensures { PackagesContain K.rules }
+{}
+
+/// Where a code spells strict items, its outline is these: nothing is lost, and there is no statement.
+pub fn strict_is_kept<K: Known>()
+    ensures { StrictIsKept K.rules }
+{}

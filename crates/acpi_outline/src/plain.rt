@@ -1,0 +1,270 @@
+//! Reading plain nodes: terms in which no nodes stand.
+
+ghost use Rattle.std.specs.Prelude.{◌≡◌, ◌<◌, ◌-◌, length, None, Ok, box_value};
+ghost use Rattle.acpi_tree.specs.TermView.{term_view, decl_view};
+ghost use Rattle.acpi_tree.specs.declared.place.Place.TheVariants.{Value, Source};
+ghost use Rattle.acpi_tree.specs.declared.place.NamedForm.TheVariants as named;
+ghost use Rattle.acpi_body.specs.steps.Reading.{term_at};
+ghost use Rattle.acpi_outline.specs.Nodes as nodes;
+ghost use Rattle.acpi_outline.specs.Rules.{grammar_at};
+ghost use Rattle.acpi_outline.specs.View.{plain_view};
+ghost use Rattle.acpi_outline.specs.steps.Reading.{of_term, named_in, external_in, alias_in, table_region_in, term_in, plain_by, packed_form};
+ghost use Rattle.acpi_outline.specs.steps.Cursor.{Gives, Reads};
+
+use crate::fault::{LostReason, LostStop, stopped};
+use crate::known::{Counted, Known};
+use crate::node::Plain;
+use acpi_body::read_term;
+use acpi_code::{Code, Opcode};
+use acpi_tree::{Decl, External, Place, Term, Width};
+use std::alloc::Global;
+
+// A term at a place, which lies apart from the frame that asks for it.
+#[inline(never)]
+#[tactic(auto, using(crate::proofs::Parts::term_fails))]
+fn term_apart<K: Known>(
+    known: &K,
+    level: u32,
+    place: Place,
+    code: &mut Code<'_>,
+) -> Result<Box<Term>, LostStop>
+    ensures { Reads (λ b. term_view (box_value b))
+        (λ end bytes. of_term (term_at (grammar_at K.rules known.now) level place end bytes))
+        code.old code.new result }
+{
+    let term = read_term(&Counted { known: &*known }, level, place, code)?;
+    Ok(Box::new(known.alloc(), term)?)
+}
+
+/// A value.
+pub(crate) fn value<K: Known>(
+    known: &K,
+    level: u32,
+    code: &mut Code<'_>,
+) -> Result<Box<Term>, LostStop>
+    ensures { Reads (λ b. term_view (box_value b))
+        (λ end bytes. of_term (term_at (grammar_at K.rules known.now) level Value end bytes))
+        code.old code.new result }
+{
+    term_apart(known, level, Place::Value, code)
+}
+
+// The source of a Create form.
+fn source<K: Known>(known: &K, level: u32, code: &mut Code<'_>) -> Result<Box<Term>, LostStop>
+    ensures { Reads (λ b. term_view (box_value b))
+        (λ end bytes. of_term (term_at (grammar_at K.rules known.now) level Source end bytes))
+        code.old code.new result }
+{
+    term_apart(known, level, Place::Source, code)
+}
+
+// A declaration as a node.
+#[inline(never)]
+fn declaration(alloc: Global, decl: Decl) -> Result<Plain, LostStop>
+    ensures { Gives plain_view result (Ok (nodes.term (decl_view decl))) }
+{
+    Ok(Plain::Term(Term::Declare(Box::new(alloc, decl)?)))
+}
+
+#[inline(never)]
+#[tactic(auto, using(crate::proofs::Parts::part_fails), unfolding(crate::specs::steps::Reading::named_in, acpi_body::specs::steps::Reading::operands_at, acpi_body::specs::steps::Reading::operand_at))]
+fn name_declared<K: Known>(known: &K, level: u32, code: &mut Code<'_>) -> Result<Plain, LostStop>
+    ensures { Reads plain_view (named_in K.rules level known.now named.Name)
+        code.old code.new result }
+{
+    let name = code.name()?;
+    let data = value(known, level, code)?;
+    declaration(known.alloc(), Decl::Name(name.own(known.alloc())?, data))
+}
+
+#[inline(never)]
+#[tactic(auto, using(crate::proofs::Parts::part_fails), unfolding(crate::specs::steps::Reading::named_in, acpi_body::specs::steps::Reading::operands_at, acpi_body::specs::steps::Reading::operand_at))]
+fn region_declared<K: Known>(known: &K, level: u32, code: &mut Code<'_>) -> Result<Plain, LostStop>
+    ensures { Reads plain_view (named_in K.rules level known.now named.Region)
+        code.old code.new result }
+{
+    let name = code.name()?;
+    let space = code.byte()?;
+    let offset = value(known, level, code)?;
+    let length = value(known, level, code)?;
+    let name = name.own(known.alloc())?;
+    declaration(
+        known.alloc(),
+        Decl::Region {
+            name,
+            space,
+            offset,
+            length,
+        },
+    )
+}
+
+#[inline(never)]
+#[tactic(auto, using(crate::proofs::Parts::part_fails), unfolding(crate::specs::steps::Reading::named_in, acpi_body::specs::steps::Reading::operands_at, acpi_body::specs::steps::Reading::operand_at))]
+fn mutex_declared<K: Known>(known: &K, level: u32, code: &mut Code<'_>) -> Result<Plain, LostStop>
+    ensures { Reads plain_view (named_in K.rules level known.now named.Mutex)
+        code.old code.new result }
+{
+    let name = code.name()?;
+    let flags = code.byte()?;
+    declaration(known.alloc(), Decl::Mutex(name.own(known.alloc())?, flags))
+}
+
+#[inline(never)]
+#[tactic(auto, using(crate::proofs::Parts::part_fails), unfolding(crate::specs::steps::Reading::named_in, acpi_body::specs::steps::Reading::operands_at, acpi_body::specs::steps::Reading::operand_at))]
+fn event_declared<K: Known>(known: &K, level: u32, code: &mut Code<'_>) -> Result<Plain, LostStop>
+    ensures { Reads plain_view (named_in K.rules level known.now named.Event)
+        code.old code.new result }
+{
+    let name = code.name()?;
+    declaration(known.alloc(), Decl::Event(name.own(known.alloc())?))
+}
+
+#[inline(never)]
+#[tactic(auto, using(crate::proofs::Parts::part_fails), unfolding(crate::specs::steps::Reading::named_in, acpi_body::specs::steps::Reading::operands_at, acpi_body::specs::steps::Reading::operand_at))]
+fn create_declared<K: Known>(
+    known: &K,
+    level: u32,
+    width: Width,
+    code: &mut Code<'_>,
+) -> Result<Plain, LostStop>
+    ensures { Reads plain_view (named_in K.rules level known.now (named.Create width))
+        code.old code.new result }
+{
+    let source = source(known, level, code)?;
+    let index = value(known, level, code)?;
+    let name = code.name()?.own(known.alloc())?;
+    declaration(
+        known.alloc(),
+        Decl::Create {
+            width,
+            source,
+            index,
+            name,
+        },
+    )
+}
+
+#[inline(never)]
+#[tactic(auto, using(crate::proofs::Parts::part_fails), unfolding(crate::specs::steps::Reading::named_in, acpi_body::specs::steps::Reading::operands_at, acpi_body::specs::steps::Reading::operand_at))]
+fn create_field_declared<K: Known>(
+    known: &K,
+    level: u32,
+    code: &mut Code<'_>,
+) -> Result<Plain, LostStop>
+    ensures { Reads plain_view (named_in K.rules level known.now named.CreateField)
+        code.old code.new result }
+{
+    let source = source(known, level, code)?;
+    let index = value(known, level, code)?;
+    let bits = value(known, level, code)?;
+    let name = code.name()?.own(known.alloc())?;
+    declaration(
+        known.alloc(),
+        Decl::CreateField {
+            source,
+            index,
+            bits,
+            name,
+        },
+    )
+}
+
+#[inline(never)]
+#[tactic(auto, using(crate::proofs::Parts::part_fails), unfolding(crate::specs::steps::Reading::external_in))]
+fn external(alloc: Global, code: &mut Code<'_>) -> Result<Plain, LostStop>
+    ensures { Reads plain_view external_in code.old code.new result }
+{
+    let name = code.name()?;
+    let kind = code.byte()?;
+    let front = code.fork();
+    let args = code.byte()?;
+    if args > 7 {
+        return Err(stopped(&front, LostReason::ManyArguments));
+    }
+    let name = name.own(alloc)?;
+    Ok(Plain::External(External { name, kind, args }))
+}
+
+#[inline(never)]
+#[tactic(auto, using(crate::proofs::Parts::part_fails), unfolding(crate::specs::steps::Reading::alias_in))]
+fn alias(alloc: Global, code: &mut Code<'_>) -> Result<Plain, LostStop>
+    ensures { Reads plain_view alias_in code.old code.new result }
+{
+    let source = code.name()?;
+    let name = code.name()?;
+    Ok(Plain::Alias(source.own(alloc)?, name.own(alloc)?))
+}
+
+#[inline(never)]
+#[tactic(auto, using(crate::proofs::Parts::part_fails), unfolding(crate::specs::steps::Reading::table_region_in, acpi_body::specs::steps::Reading::operands_at, acpi_body::specs::steps::Reading::operand_at))]
+fn table_region<K: Known>(known: &K, level: u32, code: &mut Code<'_>) -> Result<Plain, LostStop>
+    ensures { Reads plain_view (table_region_in K.rules level known.now)
+        code.old code.new result }
+{
+    let name = code.name()?;
+    let signature = value(known, level, code)?;
+    let oem = value(known, level, code)?;
+    let table = value(known, level, code)?;
+    let name = name.own(known.alloc())?;
+    Ok(Plain::TableRegion(name, signature, oem, table))
+}
+
+// A term as one stands at the place, which begins at `front`; `level` levels are left for it.
+#[inline(never)]
+#[tactic(auto, using(crate::proofs::Parts::term_fails), unfolding(crate::specs::steps::Reading::term_in))]
+fn term<'a, K: Known>(
+    known: &K,
+    level: u32,
+    place: Place,
+    front: &Code<'a>,
+    code: &mut Code<'a>,
+) -> Result<Plain, LostStop>
+    requires { 0 < level }
+    ensures { Reads plain_view (term_in K.rules (level - 1) known.now place)
+        front.now code.new result }
+{
+    *code = front.fork();
+    let term = read_term(&Counted { known: &*known }, level, place, code)?;
+    Ok(Plain::Term(term))
+}
+
+/// A plain node, whose opcode, behind `front`, was read; `level` levels are left for it.
+pub(crate) fn plain<'a, K: Known>(
+    known: &K,
+    level: u32,
+    front: &Code<'a>,
+    opcode: Opcode,
+    code: &mut Code<'a>,
+) -> Result<Plain, LostStop>
+    requires some { 0 < level }
+    requires ends { front.now.end ≡ code.old.end }
+    requires behind { length code.old.bytes < length front.now.bytes }
+    requires none { packed_form opcode ≡ None }
+    ensures { Reads plain_view
+        (λ end whole. plain_by K.rules (level - 1) known.now end whole opcode code.old.bytes)
+        front.now code.new result }
+{
+    match opcode {
+        Opcode::DeclareName => name_declared(known, level - 1, code),
+        Opcode::Region => region_declared(known, level - 1, code),
+        Opcode::Mutex => mutex_declared(known, level - 1, code),
+        Opcode::Event => event_declared(known, level - 1, code),
+        Opcode::Create(width) => create_declared(known, level - 1, width, code),
+        Opcode::CreateField => create_field_declared(known, level - 1, code),
+        Opcode::External => external(known.alloc(), code),
+        Opcode::Alias => alias(known.alloc(), code),
+        Opcode::DataRegion => table_region(known, level - 1, code),
+        Opcode::Buffer => term(known, level, Place::Statement, front, code),
+        Opcode::Package => term(known, level, Place::Statement, front, code),
+        Opcode::VarPackage => term(known, level, Place::Statement, front, code),
+        Opcode::Name => term(known, level, Place::Statement, front, code),
+        Opcode::Operator(_) => term(known, level, Place::Statement, front, code),
+        Opcode::Constant(_) => term(known, level, Place::Value, front, code),
+        Opcode::Str => term(known, level, Place::Value, front, code),
+        Opcode::Local(_) => term(known, level, Place::Value, front, code),
+        Opcode::Arg(_) => term(known, level, Place::Value, front, code),
+        Opcode::Debug => term(known, level, Place::SuperName, front, code),
+        _ => Err(stopped(front, LostReason::NoNode)),
+    }
+}
