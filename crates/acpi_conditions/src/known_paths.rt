@@ -114,7 +114,7 @@ impl KnownPaths {
         put_fact(&mut self.slots, &mut self.facts, path, is_scope)
     }
 
-    /// How much is certain: where `take_back` goes back to.
+    /// How often something was certified so far.
     pub fn mark(&self) -> usize
         ensures { result ≡ length self.now.certain }
     {
