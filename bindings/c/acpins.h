@@ -237,7 +237,7 @@ uint32_t acpins_load(const struct acpins_table *tables, size_t table_count, uint
 /* How the body of a method is given. */
 struct acpins_body {
     uint64_t is_read; /* 1: the text is its statements, as `acpins show` prints them; 0: the text is its bytes as they are */
-    uint64_t reason;  /* of is_read 0: why it isn't read, B1 to B13, as 0x4206 for B6; else 0 */
+    uint64_t reason;  /* of is_read 0: why it isn't read, B1 to B13, as 0x4206 for B6; else 0. No call gives S5, 0x5305 */
     uint64_t place;   /* of is_read 0: where, in bytes from the body's first byte; else 0 */
 };
 
@@ -311,6 +311,7 @@ static inline const char *acpins_reason_name(uint64_t reason) {
     case 'K': return number <= sizeof k / sizeof *k ? k[number - 1] : "?";
     case 'E': return number <= sizeof e / sizeof *e ? e[number - 1] : "?";
     case 'B': return number <= sizeof b / sizeof *b ? b[number - 1] : "?";
+    case 'S': return number == 5 ? "S5 UnsureCount" : "?"; /* which no call gives */
     default: return "?";
     }
 }

@@ -41,6 +41,7 @@ int main(int, char **words) {
                     std::strcmp(acpins_kind_name(&objects[place]), "Scope") == 0 &&
                     std::strcmp(acpins_reason_name(0x420D), "B13 BadPlace") == 0 &&
                     std::strcmp(acpins_reason_name(0x420E), "?") == 0 && std::strcmp(acpins_reason_name(0x4B00), "?") == 0 &&
+                    std::strcmp(acpins_reason_name(0x5305), "S5 UnsureCount") == 0 &&
                     std::strcmp(acpins_space_name(ACPINS_PCC), "PCC") == 0 && std::strcmp(acpins_space_name(0x7F), "?") == 0 &&
                     std::strcmp(acpins_space_name(0xFF), "OEM") == 0;
     return is_right ? 0 : 1;

@@ -1,5 +1,5 @@
 -- What may stand at a place, by what it begins with.
-use Rattle.std.proofs.Common.{◌≡◌, ℕ, Bool, true, false, not, cond, List, Option, Some, None, refl}
+use Rattle.std.proofs.Common.{◌≡◌, ℕ, Bool, true, false, not, cond, List, Some, None, refl}
 use Rattle.acpi_tree.specs.declared.op.Op.{Op}
 use Rattle.acpi_tree.specs.declared.op.Op.TheVariants as ops
 use Rattle.acpi_tree.specs.declared.place.Place.{Place}

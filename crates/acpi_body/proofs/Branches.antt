@@ -1,10 +1,9 @@
 -- The steps of an If, with the locals that its statements leave.
-use Rattle.std.proofs.Common.{◌≡◌, ℕ, List, Result, Ok, Err, refl, sym, subst, ◌∙◌}
+use Rattle.std.proofs.Common.{◌≡◌, ℕ, List, Ok, refl, subst}
 use Rattle.acpi_name.specs.Names.{Segment}
 use Rattle.acpi_tree.specs.declared.place.Place.TheVariants.{Value}
-use Rattle.acpi_tree.specs.Terms.{TermTree, TermTrees, ElseTree, if_do, while_do, terms_of}
+use Rattle.acpi_tree.specs.Terms.{TermTree, ElseTree, if_do, while_do, terms_of}
 use Rattle.acpi_code.specs.steps.Reading.{◌>>=◌, Package, package_at}
-use Rattle.acpi_body.specs.declared.fault.BodyFault.{BodyFault}
 use Rattle.acpi_body.specs.declared.fault.Stop.{Stop}
 use Rattle.acpi_body.specs.Arguments.{Locals}
 use Rattle.acpi_body.specs.Statements.{locals_after_all}

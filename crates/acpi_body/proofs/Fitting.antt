@@ -1,6 +1,6 @@
 -- What is read fits.
-use Rattle.std.proofs.Common.{◌≡◌, ℕ, zero, suc, true, List, [], ◌∷◌, ◌++◌, length, Result, Ok, Err, refl}
-use Rattle.std.specs.Prelude.{IfOk}
+use Rattle.std.proofs.Common.{◌≡◌, ℕ, zero, suc, true, List, [], ◌∷◌, ◌++◌, length, Option, Result, Ok, Err, refl}
+use Rattle.std.specs.Prelude.{◌↔◌, IfOk}
 use Rattle.std.specs.FinMap as finite
 use Rattle.std.proofs.lemmas.Bool.{eq-eqb, le-leb}
 use Rattle.acpi_name.specs.Names.{Segment, NameParts}
@@ -9,19 +9,19 @@ use Rattle.acpi_tree.specs.declared.place.OperandKind.{OperandKind}
 use Rattle.acpi_tree.specs.Terms.{TermTree, TermTrees, int, str, buffer, pkg, var_pkg, local, arg, debug, no_target, raw, ref, call, apply, ElseTree, if_do, no_else, else_do, while_do, declare, declare_units, no_terms, more}
 use Rattle.acpi_tree.specs.Operators.{operands_of, operands_before, operands_behind, names_of_units, operands_of_units}
 use Rattle.acpi_tree.specs.Places.{may_stand}
-use Rattle.acpi_tree.specs.TermFits.{term_fits, else_fits, all_stand, operands_fit}
+use Rattle.acpi_tree.specs.TermFits.{term_fits, terms_fit, else_fits, all_stand, operands_fit}
 use Rattle.acpi_code.specs.Opcodes.{opcode_bytes}
 use Rattle.acpi_code.proofs.Fitting.{AreBytes, both, parts, packed, term_name_fits, text_all, fields_fit}
 use Rattle.acpi_body.specs.Arguments.{Locals, Arguments}
 use Rattle.acpi_body.specs.Grammars.{body_grammar}
 use Rattle.acpi_body.specs.Spelling.{values, Spells, AreOperands, AreElements}
 use Rattle.acpi_body.specs.Bodies.{BodyTree, read, unread, IsBodyOf, body_fits}
-use Rattle.acpi_body.specs.Statements.{units_opcode, locals_after, locals_after_all, IsStatement, IsElse, AreStatements}
+use Rattle.acpi_body.specs.Statements.{units_opcode, locals_after, locals_after_all, IsStatement, IsElse, AreStatements, ReadsBody}
 
 -- ---- terms
 
 mutual
-  term_fit : (args : NameParts → ℕ) (t : TermTree) (b : List ℕ) → Spells (body_grammar args) t b → term_fits t ≡ true
+  term_fit : (args : NameParts → Option ℕ) (t : TermTree) (b : List ℕ) → Spells (body_grammar args) t b → term_fits t ≡ true
   term_fit args (int i) b h = refl
   term_fit args (str text) b (a, h, whole) = text_all text h.0
   term_fit args (buffer size content) b (s, st, hs, packs) = both st (term_fit args size s hs)
@@ -33,25 +33,25 @@ mutual
   term_fit args no_target b h = refl
   term_fit args (raw k n) b h = refl
   term_fit args (ref n) b h = term_name_fits n b h
-  term_fit args (call n vs) b (w, x, spells, hs, whole) = both (term_name_fits n w spells) (values_fit args (args n) vs x hs)
+  term_fit args (call n vs) b (count, w, x, sure, spells, hs, whole) = both (term_name_fits n w spells) (values_fit args count vs x hs)
   term_fit args (apply op vs) b (x, allowed, hs, whole) = both allowed (operands_are_fit args (operands_of op) vs x hs)
   term_fit args (if_do v ts e) b h = absurd h
   term_fit args (while_do v ts) b h = absurd h
   term_fit args (declare form before n behind) b h = absurd h
   term_fit args (declare_units form ns vs es) b h = absurd h
 
-  operands_are_fit : (args : NameParts → ℕ) (ks : List OperandKind) (ts : TermTrees) (b : List ℕ) → AreOperands (body_grammar args) ks ts b → operands_fit ks ts ≡ true
+  operands_are_fit : (args : NameParts → Option ℕ) (ks : List OperandKind) (ts : TermTrees) (b : List ℕ) → AreOperands (body_grammar args) ks ts b → operands_fit ks ts ≡ true
   operands_are_fit args [] no_terms b h = refl
   operands_are_fit args (k ∷ ks) no_terms b h = absurd h
   operands_are_fit args [] (more t ts) b h = absurd h
   operands_are_fit args (k ∷ ks) (more t ts) b (x, y, st, ht, hs, whole) = both (both st (term_fit args t x ht)) (operands_are_fit args ks ts y hs)
 
-  values_fit : (args : NameParts → ℕ) (n : ℕ) (ts : TermTrees) (b : List ℕ) → AreOperands (body_grammar args) (values n) ts b → all_stand Value ts ≡ true
+  values_fit : (args : NameParts → Option ℕ) (n : ℕ) (ts : TermTrees) (b : List ℕ) → AreOperands (body_grammar args) (values n) ts b → all_stand Value ts ≡ true
   values_fit args n no_terms b h = refl
   values_fit args zero (more t ts) b h = absurd h
   values_fit args (suc n) (more t ts) b (x, y, st, ht, hs, whole) = both (both st (term_fit args t x ht)) (values_fit args n ts y hs)
 
-  elements_fit : (args : NameParts → ℕ) (ts : TermTrees) (b : List ℕ) → AreElements (body_grammar args) ts b → all_stand Element ts ≡ true
+  elements_fit : (args : NameParts → Option ℕ) (ts : TermTrees) (b : List ℕ) → AreElements (body_grammar args) ts b → all_stand Element ts ≡ true
   elements_fit args no_terms b h = refl
   elements_fit args (more t ts) b (x, y, st, ht, hs, whole) = both (both st (term_fit args t x ht)) (elements_fit args ts y hs)
 
@@ -90,6 +90,11 @@ mutual
       both (both first.0 first.1) (statements_fit args s (locals_after s locals t) ts b hs split.1)
 
 -- ---- bodies
+
+pub terms_fit_law : {V : Type 0} {E : Type 0} (view : V → TermTrees) (args : Arguments) (s : List Segment) (depth : ℕ) (bytes : List ℕ) (result : Result V E) → AreBytes bytes
+    → IfOk result (λ v. (ts : TermTrees) → (view v ≡ ts) ↔ ReadsBody args s depth bytes ts) → IfOk result (λ v. terms_fit (view v) ≡ true)
+terms_fit_law view args s depth bytes (Ok v) all h = statements_fit args s finite.empty (view v) bytes ((h (view v)).0 refl).spelled all
+terms_fit_law view args s depth bytes (Err e) all h = tt
 
 pub fits_law : {V : Type 0} {E : Type 0} (view : V → BodyTree) (args : Arguments) (s : List Segment) (depth : ℕ) (bytes : List ℕ) (result : Result V E) → AreBytes bytes
     → IfOk result (λ b. IsBodyOf args s depth bytes (view b)) → IfOk result (λ b. body_fits (view b) ≡ true)

@@ -1,11 +1,11 @@
 -- Reading operands one after another, as a loop does.
-use Rattle.std.proofs.Common.{◌≡◌, ℕ, zero, suc, ◌-◌, ◌+◌, ◌≤◌, ◌<◌, List, [], ◌∷◌, ◌++◌, length, drop, Result, Ok, Err, refl, sym, ap, ◌∙◌, append_assoc, arith}
+use Rattle.std.proofs.Common.{◌≡◌, ℕ, suc, ◌-◌, ◌+◌, ◌≤◌, ◌<◌, List, [], ◌∷◌, ◌++◌, length, drop, Ok, Err, refl, sym, ap, ◌∙◌, append_assoc, arith}
 use Rattle.std.proofs.lemmas.List.{append-nil, length-drop}
 use Rattle.acpi_tree.specs.Terms.{TermTree}
 use Rattle.acpi_tree.specs.declared.place.Place.TheVariants.{Value}
 use Rattle.acpi_tree.specs.declared.place.OperandKind.{OperandKind}
 use Rattle.acpi_tree.specs.declared.place.OperandKind.TheVariants.{At}
-use Rattle.acpi_code.specs.steps.Left.{Left, Shorter, NoLonger}
+use Rattle.acpi_code.specs.steps.Left.{Left, Shorter}
 use Rattle.acpi_code.specs.steps.Reading.{◌>>=◌, Reading}
 use Rattle.acpi_body.specs.declared.fault.BodyFault.{BodyFault}
 use Rattle.acpi_body.specs.declared.fault.Stop.{Stop}

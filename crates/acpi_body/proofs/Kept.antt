@@ -1,5 +1,5 @@
 -- A reading depends on a namespace only by the arguments of the names that it searches, and each is spelled in its bytes.
-use Rattle.std.proofs.Common.{◌≡◌, ℕ, suc, List, [], ◌∷◌, ◌++◌, length, refl, sym, ap, subst, ◌∙◌, append_assoc}
+use Rattle.std.proofs.Common.{◌≡◌, ℕ, List, [], ◌∷◌, ◌++◌, sym, ap, ◌∙◌, append_assoc}
 use Rattle.std.specs.List.{AllByRecursion}
 use Rattle.acpi_name.specs.Names.{Segment, NameParts}
 use Rattle.acpi_tree.specs.declared.place.OperandKind.{OperandKind}
@@ -47,8 +47,8 @@ module _ (c d : Arguments) where
       kept_elements locals es x (all_right (AgreeAt c d) (term_searches locals count) (terms_searches locals es) same) hs,
       packs,
     )
-    kept_term locals (call n vs) b same (w, x, spells, hs, whole) =
-        (w, x, spells, subst (λ k. AreOperands (body_grammar (d locals)) (values k) vs x) same.0 (kept_operands locals (values (c locals n)) vs x same.1 hs), whole)
+    kept_term locals (call n vs) b same (count, w, x, sure, spells, hs, whole) =
+        (count, w, x, sym same.0 ∙ sure, spells, kept_operands locals (values count) vs x same.1 hs, whole)
     kept_term locals (apply op vs) b same (x, allowed, hs, whole) = (x, allowed, kept_operands locals (operands_of op) vs x same hs, whole)
     kept_term locals _ b same h = h
 
@@ -174,8 +174,8 @@ mutual
       all_both (Spelled b) (term_searches locals count) (terms_searches locals es)
       (pack_front (0x13 ∷ []) s x b (term_searches locals count) packs (spelled_term grammar locals count s hc))
       (pack_end (0x13 ∷ []) s x b (terms_searches locals es) packs (spelled_elements grammar locals es x hs))
-  spelled_term grammar locals (call n vs) b (w, x, spells, hs, whole) =
-      (record { before = []; spelled = w; after = x; whole = whole; spells = spells.0 }, end_of w x b (terms_searches locals vs) whole (spelled_operands grammar locals (values (grammar.args n)) vs x hs))
+  spelled_term grammar locals (call n vs) b (count, w, x, sure, spells, hs, whole) =
+      (record { before = []; spelled = w; after = x; whole = whole; spells = spells.0 }, end_of w x b (terms_searches locals vs) whole (spelled_operands grammar locals (values count) vs x hs))
   spelled_term grammar locals (apply op vs) b (x, allowed, hs, whole) = end_of (operator_bytes op) x b (terms_searches locals vs) whole (spelled_operands grammar locals (operands_of op) vs x hs)
   spelled_term grammar locals _ b h = tt
 

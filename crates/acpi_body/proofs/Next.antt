@@ -1,5 +1,5 @@
 -- What is told of a body that begins with statements and goes on with what is refused by itself.
-use Rattle.std.proofs.Common.{◌≡◌, ℕ, zero, suc, ◌-◌, ◌+◌, ◌≤◌, ◌<◌, max, Bool, true, false, cond, eqb, Option, Some, None, List, [], ◌∷◌, ◌++◌, length, Result, Ok, Err, refl, sym, ap, ◌∙◌, append_assoc, arith}
+use Rattle.std.proofs.Common.{◌≡◌, ℕ, zero, suc, ◌-◌, ◌≤◌, ◌<◌, Bool, true, false, cond, eqb, Option, Some, None, List, [], ◌∷◌, ◌++◌, length, Ok, Err, refl, sym, ap, ◌∙◌, append_assoc, arith}
 use Rattle.std.proofs.lemmas.List.{length-append}
 use Rattle.std.proofs.lemmas.Bool.{eqb-true}
 use Rattle.acpi_name.specs.Names.{Segment, NameParts}
@@ -8,13 +8,13 @@ use Rattle.acpi_tree.specs.Terms.{TermTree, TermTrees, no_terms, more}
 use Rattle.acpi_code.specs.declared.opcode.Opcode.{Opcode}
 use Rattle.acpi_code.specs.declared.opcode.Opcode.TheVariants as opcodes
 use Rattle.acpi_code.specs.Opcodes.{plain_opcode_of, extended_opcode_of, extended_opcode, first_opcode}
-use Rattle.acpi_code.specs.steps.Reading.{◌>>=◌, Reading, byte_at, extended_opcode_at, opcode_at}
+use Rattle.acpi_code.specs.steps.Reading.{Reading, byte_at, extended_opcode_at, opcode_at}
 use Rattle.acpi_body.specs.declared.fault.BodyFault.{BodyFault}
 use Rattle.acpi_body.specs.declared.fault.BodyReason.{BodyReason}
 use Rattle.acpi_body.specs.Arguments.{Locals, Arguments}
 use Rattle.acpi_body.specs.Grammars.{Grammar, body_grammar}
-use Rattle.acpi_body.specs.Spelling.{height, heights}
-use Rattle.acpi_body.specs.Statements.{locals_after, IsStatement, AreStatements}
+use Rattle.acpi_body.specs.Spelling.{heights}
+use Rattle.acpi_body.specs.Statements.{locals_after, AreStatements}
 use Rattle.acpi_body.specs.Refusals.{statement_refusal, never_begins}
 use Rattle.acpi_body.specs.Faults.{IsNoStatement}
 use Rattle.acpi_body.specs.steps.Reading.{Reader, Statements, fault_at, placed_by, term_at, statements_with, statement_by, statement_at, statements_at, body_at}
@@ -79,7 +79,7 @@ is_placed grammar value inner s locals end bytes r opcodes.IndexField why e = ab
 is_placed grammar value inner s locals end bytes r opcodes.BankField why e = absurd (none_known why e)
 is_placed grammar value inner s locals end bytes r _ why e = refl
 
-placed_refused : (args : NameParts → ℕ) (value : Reader) (end : ℕ) (w r : List ℕ) (o : Opcode) (why : BodyReason) → statement_refusal false o ≡ known why
+placed_refused : (args : NameParts → Option ℕ) (value : Reader) (end : ℕ) (w r : List ℕ) (o : Opcode) (why : BodyReason) → statement_refusal false o ≡ known why
     → placed_by (body_grammar args) value Statement end w o r ≡ Err (fault_at end w why)
 unfolding placed_by
 placed_refused args value end w r o why e = rw e refl

@@ -1,10 +1,10 @@
 -- What is read of a term or a statement, when its opcode was read.
-use Rattle.std.proofs.Common.{◌≡◌, ℕ, zero, suc, ◌-◌, ◌<◌, List, Result, Ok, Err, refl, arith}
+use Rattle.std.proofs.Common.{◌≡◌, ℕ, zero, suc, ◌-◌, ◌<◌, List, Ok, Err, refl, arith}
 use Rattle.acpi_name.specs.Names.{Segment}
 use Rattle.acpi_tree.specs.declared.place.Place.{Place}
 use Rattle.acpi_code.specs.declared.fault.CodeFault.{CodeFault}
 use Rattle.acpi_code.specs.declared.opcode.Opcode.{Opcode}
-use Rattle.acpi_code.specs.steps.Reading.{◌>>=◌, opcode_at}
+use Rattle.acpi_code.specs.steps.Reading.{opcode_at}
 use Rattle.acpi_body.specs.declared.fault.Stop.TheVariants as stops
 use Rattle.acpi_body.specs.Arguments.{Locals, Arguments}
 use Rattle.acpi_body.specs.Faults.{fault_of}

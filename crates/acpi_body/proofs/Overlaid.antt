@@ -11,7 +11,7 @@ use Rattle.acpi_space.specs.Search.{beginnings, tries_of, answer, nearest_scope}
 use Rattle.acpi_space.proofs.Beginnings.{find_map, found_within, found_there, not_found}
 use Rattle.acpi_tree.specs.declared.object.Object.{Object}
 use Rattle.acpi_tree.specs.Objects.{object_view}
-use Rattle.acpi_body.specs.Arguments.{Namespace, namespace_of, Locals, defined_with, args_there, args_at, expected_at, expected_place, arguments}
+use Rattle.acpi_body.specs.Arguments.{Namespace, namespace_of, Locals, defined_with, args_there, args_at, expected_at, expected_place, count_behind}
 use Rattle.acpi_body.specs.steps.Setting.{deeper}
 
 -- ---- each beginning is longer than those behind it
@@ -85,14 +85,14 @@ overlaid p q s g = found_deeper (λ b. p (b ++ g ∷ [])) (λ b. q (b ++ g ∷ [
 -- ---- how many values follow a plain name
 
 pub plain_found : (objects : Namespace) (externals : Lookup ℕ) (s : List Segment) (locals : Locals) (n : NameParts) (g : Segment) (q : List Segment) → plain_segment n ≡ Some g
-    → find (λ q. defined_with objects locals (q ++ g ∷ [])) (beginnings s) ≡ Some q → args_there objects locals (q ++ g ∷ []) ≡ arguments objects externals s locals n
+    → find (λ q. defined_with objects locals (q ++ g ∷ [])) (beginnings s) ≡ Some q → args_there objects locals (q ++ g ∷ []) ≡ count_behind objects externals s locals n
 plain_found objects externals s locals n g q plain e =
     let there : answer (defined_with objects locals) s n ≡ Some (q ++ g ∷ []) = ap (λ o. find (defined_with objects locals) (tries_of s n o)) plain
     ∙ find_map (defined_with objects locals) (λ q. q ++ g ∷ []) (beginnings s) ∙ ap (option_map (λ q. q ++ g ∷ [])) e in
     ap (args_at objects locals (expected_at externals (expected_place externals s n))) (sym there)
 
 pub plain_missed : (objects : Namespace) (externals : Lookup ℕ) (s : List Segment) (locals : Locals) (n : NameParts) (g : Segment) → plain_segment n ≡ Some g
-    → find (λ q. defined_with objects locals (q ++ g ∷ [])) (beginnings s) ≡ None → expected_at externals (expected_place externals s n) ≡ arguments objects externals s locals n
+    → find (λ q. defined_with objects locals (q ++ g ∷ [])) (beginnings s) ≡ None → expected_at externals (expected_place externals s n) ≡ count_behind objects externals s locals n
 plain_missed objects externals s locals n g plain e =
     let there : answer (defined_with objects locals) s n ≡ None = ap (λ o. find (defined_with objects locals) (tries_of s n o)) plain
     ∙ find_map (defined_with objects locals) (λ q. q ++ g ∷ []) (beginnings s) ∙ ap (option_map (λ q. q ++ g ∷ [])) e in
@@ -119,12 +119,12 @@ depth_within objects locals s g r depth e f = found_within (λ q. defined_with o
 
 pub count_found : (objects : Namespace) (externals : Lookup ℕ) (s : List Segment) (locals : Locals) (n : NameParts) (g : Segment) (r : Option ℕ) (depth : ℕ) (path : List Segment) (count : ℕ)
     → plain_segment n ≡ Some g → r ≡ option_map length (nearest_scope (defined_with objects locals) s g) → r ≡ Some depth → path ≡ take depth s ++ g ∷ [] → count ≡ args_there objects locals path
-    → count ≡ arguments objects externals s locals n
+    → count ≡ count_behind objects externals s locals n
 count_found objects externals s locals n g r depth path count plain e f is h =
     h ∙ ap (args_there objects locals) is ∙ plain_found objects externals s locals n g (take depth s) plain (found_there (λ q. defined_with objects locals (q ++ g ∷ [])) s r depth e f)
 
 pub count_missed : (objects : Namespace) (externals : Lookup ℕ) (s : List Segment) (locals : Locals) (n : NameParts) (g : Segment) (r : Option ℕ) (count : ℕ)
     → plain_segment n ≡ Some g → r ≡ option_map length (nearest_scope (defined_with objects locals) s g) → r ≡ None → count ≡ expected_at externals (expected_place externals s n)
-    → count ≡ arguments objects externals s locals n
+    → count ≡ count_behind objects externals s locals n
 count_missed objects externals s locals n g r count plain e none h =
     h ∙ plain_missed objects externals s locals n g plain (not_found (nearest_scope (defined_with objects locals) s g) length r e none)

@@ -23,6 +23,7 @@ use Rattle.acpi_code.proofs.Opcodes.{Opened}
 use Rattle.acpi_body.specs.declared.fault.BodyReason.{BodyReason}
 use Rattle.acpi_body.specs.declared.fault.BodyReason.TheVariants.{BadOpcode, NotStatement, NotValue, NotTarget, LeftOut, NotData}
 use Rattle.acpi_body.specs.declared.fault.BodyFault.{BodyFault}
+use Rattle.acpi_body.specs.Arguments.{Arguments}
 use Rattle.acpi_body.specs.Grammars.{is_allowed}
 use Rattle.acpi_body.specs.Refusals.{load_refusal, refusal_at}
 use Rattle.acpi_body.specs.Faults.{reason_of, fault_of, constant_fault_of, IsMisplaced, BeginsFieldList, IsBodyElement, is_other_data, ShowsBody}
@@ -31,32 +32,32 @@ use Rattle.acpi_body.specs.steps.Reading.{part, fields_in, unless}
 -- ---- parts
 
 -- what a fault shows of the body of a method at a path
-abbrev pub Bad : List Segment → Source → BodyFault → Type 0
-Bad m s f = ShowsBody m s.depth s.code f.reason f.place
+abbrev pub Bad : Arguments → List Segment → Source → BodyFault → Type 0
+Bad args m s f = ShowsBody args m s.depth s.code f.reason f.place
 
-part_shows : (m : List Segment) (depth : ℕ) (code : List ℕ) (why : CodeReason) (place : ℕ) → ShowsPart depth code why place → ShowsBody m depth code (reason_of why) place
-part_shows m depth code codes.Cut place h = h
-part_shows m depth code codes.ReservedBits place h = h
-part_shows m depth code codes.BadName place h = inl h
-part_shows m depth code codes.Overrun place h = h
-part_shows m depth code codes.BadString place h = h
-part_shows m depth code codes.TooDeep place h = h
+part_shows : (args : Arguments) (m : List Segment) (depth : ℕ) (code : List ℕ) (why : CodeReason) (place : ℕ) → ShowsPart depth code why place → ShowsBody args m depth code (reason_of why) place
+part_shows args m depth code codes.Cut place h = h
+part_shows args m depth code codes.ReservedBits place h = h
+part_shows args m depth code codes.BadName place h = inl h
+part_shows args m depth code codes.Overrun place h = h
+part_shows args m depth code codes.BadString place h = h
+part_shows args m depth code codes.TooDeep place h = h
 
-pub part_bad : (m : List Segment) (s : Source) (f : CodeFault) → Shown s f → Bad m s (fault_of f)
-part_bad m s f h = part_shows m s.depth s.code f.reason f.place h
+pub part_bad : (args : Arguments) (m : List Segment) (s : Source) (f : CodeFault) → Shown s f → Bad args m s (fault_of f)
+part_bad args m s f h = part_shows args m s.depth s.code f.reason f.place h
 
 -- what is judged of a part is judged of it in a body
-pub part_sound : {A : Type 0} (m : List Segment) (s : Source) (Good : A → Type 0) (r : Result A CodeFault) → Judge Good (Shown s) r → Judge Good (Bad m s) (part r)
-part_sound m s Good (Ok x) h = h
-part_sound m s Good (Err f) h = part_bad m s f h
+pub part_sound : {A : Type 0} (args : Arguments) (m : List Segment) (s : Source) (Good : A → Type 0) (r : Result A CodeFault) → Judge Good (Shown s) r → Judge Good (Bad args m s) (part r)
+part_sound args m s Good (Ok x) h = h
+part_sound args m s Good (Err f) h = part_bad args m s f h
 
-element_shows : (m : List Segment) (depth : ℕ) (code : List ℕ) (why : CodeReason) (place : ℕ) → ShowsElementPart (IsBodyElement code) code why place → ShowsBody m depth code (reason_of why) place
-element_shows m depth code codes.Cut place h = h
-element_shows m depth code codes.ReservedBits place h = h
-element_shows m depth code codes.BadName place h = h
-element_shows m depth code codes.Overrun place h = h
-element_shows m depth code codes.BadString place h = absurd h
-element_shows m depth code codes.TooDeep place h = absurd h
+element_shows : (args : Arguments) (m : List Segment) (depth : ℕ) (code : List ℕ) (why : CodeReason) (place : ℕ) → ShowsElementPart (IsBodyElement code) code why place → ShowsBody args m depth code (reason_of why) place
+element_shows args m depth code codes.Cut place h = h
+element_shows args m depth code codes.ReservedBits place h = h
+element_shows args m depth code codes.BadName place h = h
+element_shows args m depth code codes.Overrun place h = h
+element_shows args m depth code codes.BadString place h = absurd h
+element_shows args m depth code codes.TooDeep place h = absurd h
 
 no_size : (code : List ℕ) (opcode : Opcode) (place : ℕ) → is_no_constant opcode ≡ true → first_opcode (drop place code) ≡ Some opcode → IsConnectionSize code place
     → IsMisplaced NotData (drop place code) ⊎ (IsConnectionSize code place × Begins is_other_data code place)
@@ -67,17 +68,17 @@ no_size code opcodes.Package place computed begins size = inr (size, (opcodes.Pa
 no_size code opcodes.VarPackage place computed begins size = inr (size, (opcodes.VarPackage, begins, refl))
 no_size code opcode place computed begins size = inl (record { kind = Data; opcode = opcode; begins = begins; refused = refl })
 
-element_bad : (m : List Segment) (s : Source) (f : ConstantFault) → ShowsElement (IsBodyElement s.code) s.code f → Bad m s (constant_fault_of f)
-element_bad m s (Part f) h = element_shows m s.depth s.code f.reason f.place h
-element_bad m s (NotConstant opcode place) h = no_size s.code opcode place h.0.1 h.0.0 h.1
+element_bad : (args : Arguments) (m : List Segment) (s : Source) (f : ConstantFault) → ShowsElement (IsBodyElement s.code) s.code f → Bad args m s (constant_fault_of f)
+element_bad args m s (Part f) h = element_shows args m s.depth s.code f.reason f.place h
+element_bad args m s (NotConstant opcode place) h = no_size s.code opcode place h.0.1 h.0.0 h.1
 
 -- what is judged of a field list is judged of it in a body
-pub fields_sound : (m : List Segment) (s : Source) (level end : ℕ) (bytes : List ℕ) → BeginsFieldList s.code (end - length bytes) → Position s.depth level s.code end bytes
-    → Judge (λ es. SpellsFields es bytes) (Bad m s) (fields_in end bytes)
-fields_sound m s level end bytes list h =
+pub fields_sound : (args : Arguments) (m : List Segment) (s : Source) (level end : ℕ) (bytes : List ℕ) → BeginsFieldList s.code (end - length bytes) → Position s.depth level s.code end bytes
+    → Judge (λ es. SpellsFields es bytes) (Bad args m s) (fields_in end bytes)
+fields_sound args m s level end bytes list h =
     let start = end - length bytes in
-    judge_told (λ es. SpellsFields es bytes) (elements.ListBad s start) (Bad m s) constant_fault_of (fields.fields_in end bytes)
-    (λ f b. element_bad m s f (elements.shown_at (IsElementOf s.code start) (IsBodyElement s.code) (λ k e. (start, list, e)) s.code f b))
+    judge_told (λ es. SpellsFields es bytes) (elements.ListBad s start) (Bad args m s) constant_fault_of (fields.fields_in end bytes)
+    (λ f b. element_bad args m s f (elements.shown_at (IsElementOf s.code start) (IsBodyElement s.code) (λ k e. (start, list, e)) s.code f b))
     (elements.fields_sound s level start end bytes (elements.first_element s.code start) h)
 
 -- ---- the reasons of places
@@ -139,23 +140,23 @@ in_body : (loads : Bool) (p : Place) (o : Opcode) (why : BodyReason) → refusal
 in_body true p o why h = with_loads p o why h
 in_body false p o why h = h
 
-shows_misplaced : (m : List Segment) (s : Source) (why : BodyReason) (place : ℕ) → of_place (Some why) ≡ true → IsMisplaced why (drop place s.code) → ShowsBody m s.depth s.code why place
-shows_misplaced m s BadOpcode place e h = h
-shows_misplaced m s NotStatement place e h = h
-shows_misplaced m s NotValue place e h = h
-shows_misplaced m s NotTarget place e h = h
-shows_misplaced m s LeftOut place e h = h
-shows_misplaced m s NotData place e h = inl h
-shows_misplaced m s _ place e h = absurd cc
+shows_misplaced : (args : Arguments) (m : List Segment) (s : Source) (why : BodyReason) (place : ℕ) → of_place (Some why) ≡ true → IsMisplaced why (drop place s.code) → ShowsBody args m s.depth s.code why place
+shows_misplaced args m s BadOpcode place e h = h
+shows_misplaced args m s NotStatement place e h = h
+shows_misplaced args m s NotValue place e h = h
+shows_misplaced args m s NotTarget place e h = h
+shows_misplaced args m s LeftOut place e h = h
+shows_misplaced args m s NotData place e h = inl h
+shows_misplaced args m s _ place e h = absurd cc
 
 -- what begins there is refused at the place, or is judged where it isn't
-pub unless_sound : {A : Type 0} (m : List Segment) (s : Source) (loads : Bool) (level end : ℕ) (bytes : List ℕ) (p : Place) (x : Opcode × List ℕ) (Good : A → Type 0)
+pub unless_sound : {A : Type 0} (args : Arguments) (m : List Segment) (s : Source) (loads : Bool) (level end : ℕ) (bytes : List ℕ) (p : Place) (x : Opcode × List ℕ) (Good : A → Type 0)
     (r : Result A BodyFault) → Position s.depth level s.code end bytes → Opened bytes x
-    → (refusal_at loads p x.0 ≡ None → Judge Good (Bad m s) r) → Judge Good (Bad m s) (unless (refusal_at loads p x.0) end bytes r)
-unless_sound m s loads level end bytes p x Good r h o k = by_refusal (refusal_at loads p x.0) refl
+    → (refusal_at loads p x.0 ≡ None → Judge Good (Bad args m s) r) → Judge Good (Bad args m s) (unless (refusal_at loads p x.0) end bytes r)
+unless_sound args m s loads level end bytes p x Good r h o k = by_refusal (refusal_at loads p x.0) refl
   where
-    by_refusal : (w : Option BodyReason) → refusal_at loads p x.0 ≡ w → Judge Good (Bad m s) (unless w end bytes r)
+    by_refusal : (w : Option BodyReason) → refusal_at loads p x.0 ≡ w → Judge Good (Bad args m s) (unless w end bytes r)
     by_refusal None is = k is
     by_refusal (Some why) is =
-        shows_misplaced m s why (end - length bytes) (ap of_place (sym is) ∙ refusals loads p x.0)
+        shows_misplaced args m s why (end - length bytes) (ap of_place (sym is) ∙ refusals loads p x.0)
         (record { kind = p; opcode = x.0; begins = ap first_opcode (stands_at s level end bytes h) ∙ o.is_opcode h.after; refused = in_body loads p x.0 why is })

@@ -19,7 +19,7 @@ use Rattle.acpi_body.specs.Refusals.{refusal_at}
 use Rattle.acpi_body.specs.steps.Cursor.{Reads}
 use Rattle.acpi_body.specs.Spelling.{values}
 use Rattle.acpi_body.specs.steps.Reading.{Reader, part, operands_at, unless, placed_by, form_by}
-use Rattle.acpi_body.specs.steps.Reading.{constant_form, string_form, buffer_form, package_form, var_package_form, name_form, named_by, calls, operator_form}
+use Rattle.acpi_body.specs.steps.Reading.{constant_form, string_form, buffer_form, package_form, var_package_form, name_form, call_by, named_by, calls, operator_form}
 
 -- what was read leaves the locals as they are
 abbrev pub Keeps : Reading BodyFault TermTree → Type 0
@@ -54,9 +54,13 @@ var_package_keeps inner end bytes =
     (λ p. keeps_behind (inner Value p.end p.content) (λ count. each_at (inner Element p.end) count.1 >>= λ es. Ok (var_pkg count.0 (terms_of es), p.rest))
     (λ count. keeps_behind (each_at (inner Element p.end) count.1) (λ es. Ok (var_pkg count.0 (terms_of es), p.rest)) (λ es s locals. refl)))
 
-named_keeps : (args : NameParts → ℕ) (inner : Reader) (end : ℕ) (is_call : Bool) (n : NameParts × List ℕ) → Keeps (named_by args inner end is_call n)
-named_keeps args inner end true n = keeps_behind (operands_at inner (values (args n.0)) end n.1) (λ vs. Ok (call n.0 (terms_of vs.0), vs.1)) (λ vs s locals. refl)
-named_keeps args inner end false n = λ s locals. refl
+call_keeps : (inner : Reader) (end : ℕ) (bytes : List ℕ) (n : NameParts × List ℕ) (count : Option ℕ) → Keeps (call_by inner end bytes n count)
+call_keeps inner end bytes n None = tt
+call_keeps inner end bytes n (Some count) = keeps_behind (operands_at inner (values count) end n.1) (λ vs. Ok (call n.0 (terms_of vs.0), vs.1)) (λ vs s locals. refl)
+
+named_keeps : (args : NameParts → Option ℕ) (inner : Reader) (end : ℕ) (bytes : List ℕ) (is_call : Bool) (n : NameParts × List ℕ) → Keeps (named_by args inner end bytes is_call n)
+named_keeps args inner end bytes true n = call_keeps inner end bytes n (args n.0)
+named_keeps args inner end bytes false n = λ s locals. refl
 
 form_keeps : (grammar : Grammar) (inner : Reader) (place : Place) (end : ℕ) (whole : List ℕ) (o : Opcode) (rest : List ℕ) → Keeps (form_by grammar inner place end whole o rest)
 unfolding form_by constant_form string_form name_form operator_form
@@ -68,7 +72,7 @@ form_keeps grammar inner place end whole opcodes.VarPackage rest = var_package_k
 form_keeps grammar inner place end whole (opcodes.Local n) rest = λ s locals. refl
 form_keeps grammar inner place end whole (opcodes.Arg n) rest = λ s locals. refl
 form_keeps grammar inner place end whole opcodes.Debug rest = λ s locals. refl
-form_keeps grammar inner place end whole opcodes.Name rest = keeps_behind (part (name_in end whole)) (λ n. named_by grammar.args inner end (calls place) n) (λ n. named_keeps grammar.args inner end (calls place) n)
+form_keeps grammar inner place end whole opcodes.Name rest = keeps_behind (part (name_in end whole)) (λ n. named_by grammar.args inner end whole (calls place) n) (λ n. named_keeps grammar.args inner end whole (calls place) n)
 form_keeps grammar inner place end whole (opcodes.Operator op) rest = keeps_behind (operands_at inner (operands_of op) end rest) (λ vs. Ok (apply op (terms_of vs.0), vs.1)) (λ vs s locals. refl)
 form_keeps grammar inner place end whole _ rest = tt
 

@@ -1,19 +1,25 @@
 -- What is read of a body, by the relation of bodies.
-use Rattle.std.proofs.Common.{◌≡◌, ℕ, ◌≤◌, ◌<◌, ◌⊎◌, ◌↔◌, List, [], ◌∷◌, ◌++◌, length, Option, Some, None, Result, Ok, Err, refl, sym, ap, subst, ◌∙◌, arith, inl, inr}
-use Rattle.std.specs.Prelude.{IfOk, IfSome}
+use Rattle.std.proofs.Common.{◌≡◌, ℕ, ◌<◌, ◌⊎◌, ◌↔◌, List, [], ◌++◌, length, Option, Some, None, Result, Ok, Err, refl, sym, ap, subst, ◌∙◌, arith, inl, inr}
+use Rattle.std.specs.Prelude.{◌≢◌, IfOk, IfErr, IsErrAnd, IfSome, drop}
 use Rattle.std.specs.FinMap as finite
 use Rattle.std.proofs.lemmas.List.{append-nil}
-use Rattle.acpi_name.specs.Names.{Segment}
+use Rattle.acpi_name.specs.Names.{Segment, NameParts}
 use Rattle.acpi_tree.specs.Terms.{TermTree, TermTrees, terms_of}
 use Rattle.acpi_code.proofs.Readings.{Judge, Source, Position}
 use Rattle.acpi_body.specs.declared.fault.BodyFault.{BodyFault}
 use Rattle.acpi_body.specs.declared.fault.BodyReason.{BodyReason}
-use Rattle.acpi_body.specs.Arguments.{Arguments}
-use Rattle.acpi_body.specs.Statements.{AreStatements, ReadsBody}
-use Rattle.acpi_body.specs.Faults.{ShowsBody, IsNoStatement}
+use Rattle.acpi_body.specs.declared.fault.BodyReason.TheVariants.{Unsure}
+use Rattle.acpi_body.specs.declared.fault.Stop.{Stop}
+use Rattle.acpi_body.specs.declared.fault.Stop.TheVariants as stops
+use Rattle.acpi_space.specs.Lookups.{Lookup}
+use Rattle.acpi_body.specs.Arguments.{Namespace, Locals, Arguments, arguments}
+use Rattle.acpi_body.specs.Statements.{ReadsBody}
+use Rattle.acpi_body.specs.Faults.{IsUnsure, ShowsBody, IsNoStatement}
+use Rattle.acpi_body.specs.Reasons.{IfFault}
 use Rattle.acpi_body.specs.Bodies.{BodyTree, read, unread, IsBodyOf}
 use Rattle.acpi_body.specs.steps.Reading.{body_at}
 use Rattle.acpi_body.specs.steps.Answers.{body_of, told}
+use Rattle.acpi_body.specs.steps.Cursor.{Gives}
 use Rattle.acpi_body.proofs.TermComplete.{listed, terms_of-listed}
 use Rattle.acpi_body.proofs.StatementComplete.{statements_complete}
 use Rattle.acpi_body.proofs.StatementSound.{AreStanding, statements_sound}
@@ -24,7 +30,7 @@ abbrev pub reading : Arguments → List Segment → ℕ → List ℕ → Result 
 reading args s depth bytes = body_at args s depth finite.empty bytes
 
 judged : (args : Arguments) (s : List Segment) (depth : ℕ) (bytes : List ℕ)
-    → Judge (AreStanding args s depth finite.empty bytes) (Bad s (record { depth = depth; code = bytes })) (reading args s depth bytes)
+    → Judge (AreStanding args s depth finite.empty bytes) (Bad args s (record { depth = depth; code = bytes })) (reading args s depth bytes)
 judged args s depth bytes =
     let source : Source = record { depth = depth; code = bytes } in
     let here : Position depth depth bytes (length bytes) bytes = record {
@@ -47,7 +53,7 @@ bad_of Good Bad r f h e = subst (Judge Good Bad) e h
 
 took : (args : Arguments) (s : List Segment) (depth : ℕ) (bytes : List ℕ) (ts : List TermTree) → reading args s depth bytes ≡ Ok ts → ReadsBody args s depth bytes (terms_of ts)
 took args s depth bytes ts e =
-    let t = good_of (AreStanding args s depth finite.empty bytes) (Bad s (record { depth = depth; code = bytes })) (reading args s depth bytes) ts (judged args s depth bytes) e in
+    let t = good_of (AreStanding args s depth finite.empty bytes) (Bad args s (record { depth = depth; code = bytes })) (reading args s depth bytes) ts (judged args s depth bytes) e in
     record { spelled = t.are; within = t.within }
 
 again : (args : Arguments) (s : List Segment) (depth : ℕ) (bytes : List ℕ) (ts : TermTrees) → ReadsBody args s depth bytes ts → reading args s depth bytes ≡ Ok (listed ts)
@@ -128,12 +134,62 @@ next_law args s depth bytes (Ok f) h some u w ts reason whole reads refused =
 next_law args s depth bytes (Err e) h some u w ts reason whole reads refused = tt
 
 faults_just : (args : Arguments) (s : List Segment) (depth : ℕ) (bytes : List ℕ) (r : Result (List TermTree) BodyFault)
-    → reading args s depth bytes ≡ r → IfSome (told r) (λ f. ShowsBody s depth bytes f.reason f.place)
+    → reading args s depth bytes ≡ r → IfSome (told r) (λ f. ShowsBody args s depth bytes f.reason f.place)
 faults_just args s depth bytes (Ok ts) e = tt
-faults_just args s depth bytes (Err f) e = bad_of (AreStanding args s depth finite.empty bytes) (Bad s (record { depth = depth; code = bytes }))
+faults_just args s depth bytes (Err f) e = bad_of (AreStanding args s depth finite.empty bytes) (Bad args s (record { depth = depth; code = bytes }))
     (reading args s depth bytes) f (judged args s depth bytes) e
 
 pub faults_law : {E : Type 0} (args : Arguments) (s : List Segment) (depth : ℕ) (bytes : List ℕ) (result : Result (Option BodyFault) E)
-    → IfOk result (λ w. w ≡ told (reading args s depth bytes)) → IfOk result (λ w. IfSome w (λ f. ShowsBody s depth bytes f.reason f.place))
-faults_law args s depth bytes (Ok w) h = subst (λ w. IfSome w (λ f. ShowsBody s depth bytes f.reason f.place)) (sym h) (faults_just args s depth bytes (reading args s depth bytes) refl)
+    → IfOk result (λ w. w ≡ told (reading args s depth bytes)) → IfOk result (λ w. IfSome w (λ f. ShowsBody args s depth bytes f.reason f.place))
+faults_law args s depth bytes (Ok w) h = subst (λ w. IfSome w (λ f. ShowsBody args s depth bytes f.reason f.place)) (sym h) (faults_just args s depth bytes (reading args s depth bytes) refl)
 faults_law args s depth bytes (Err e) h = tt
+
+-- the strict loader is always sure
+always_sure : (objects : Namespace) (externals : Lookup ℕ) (s : List Segment) (locals : Locals) (n : NameParts) → arguments objects externals s locals n ≢ None
+always_sure objects externals s locals n e = cc
+
+pub sure_law : {E : Type 0} (objects : Namespace) (externals : Lookup ℕ) (s : List Segment) (depth : ℕ) (bytes : List ℕ) (result : Result (Option BodyFault) E)
+    → IfOk result (λ w. IfSome w (λ f. ShowsBody (arguments objects externals s) s depth bytes f.reason f.place)) → IfOk result (λ w. IfSome w (λ f. f.reason ≢ Unsure))
+sure_law objects externals s depth bytes (Ok None) h = tt
+sure_law objects externals s depth bytes (Ok (Some f)) h = λ e.
+    let u : IsUnsure (arguments objects externals s) (drop f.place bytes) = subst (λ why. ShowsBody (arguments objects externals s) s depth bytes why f.place) e h in
+    always_sure objects externals s u.locals u.name u.unsure
+sure_law objects externals s depth bytes (Err e) h = tt
+
+-- ---- what is answered of any counting
+
+pub terms_law : {V : Type 0} (view : V → List TermTree) (args : Arguments) (s : List Segment) (depth : ℕ) (bytes : List ℕ) (result : Result V Stop)
+    → Gives view result (reading args s depth bytes) → IfOk result (λ v. (ts : TermTrees) → (terms_of (view v) ≡ ts) ↔ ReadsBody args s depth bytes ts)
+terms_law view args s depth bytes (Ok v) h =
+    let t = took args s depth bytes (view v) h in
+    λ ts. (λ e. subst (ReadsBody args s depth bytes) e t, λ k. one_reading args s depth bytes (terms_of (view v)) ts t k)
+terms_law view args s depth bytes (Err e) h = tt
+
+pub shown_law : {V : Type 0} (view : V → List TermTree) (args : Arguments) (s : List Segment) (depth : ℕ) (bytes : List ℕ) (result : Result V Stop)
+    → Gives view result (reading args s depth bytes) → IfErr result (λ e. IfFault e (λ f. ShowsBody args s depth bytes f.reason f.place))
+shown_law view args s depth bytes (Ok v) h = tt
+shown_law view args s depth bytes (Err stops.Memory) h = tt
+shown_law view args s depth bytes (Err (stops.Fault f)) h = bad_of (AreStanding args s depth finite.empty bytes) (Bad args s (record { depth = depth; code = bytes }))
+    (reading args s depth bytes) f (judged args s depth bytes) h
+
+pub unread_law : {V : Type 0} (view : V → List TermTree) (args : Arguments) (s : List Segment) (depth : ℕ) (bytes : List ℕ) (result : Result V Stop)
+    → Gives view result (reading args s depth bytes) → IfErr result (λ e. IfFault e (λ f. (ts : TermTrees) → ¬ ReadsBody args s depth bytes ts))
+unread_law view args s depth bytes (Ok v) h = tt
+unread_law view args s depth bytes (Err stops.Memory) h = tt
+unread_law view args s depth bytes (Err (stops.Fault f)) h = λ ts k. not_both f (listed ts) (sym h ∙ again args s depth bytes ts k)
+
+fault_is : (f g : BodyFault) → refused f ≡ refused g → f ≡ g
+fault_is f g e = cc
+
+stops_as : {V : Type 0} (view : V → List TermTree) (r : Result (List TermTree) BodyFault) (result : Result V Stop) (f : BodyFault)
+    → Gives view result r → r ≡ Err f → IsErrAnd result (λ e. IfFault e (λ g. g ≡ f))
+stops_as view r (Ok v) f h e = absurd (not_both f (view v) (sym e ∙ h))
+stops_as view r (Err stops.Memory) f h e = tt
+stops_as view r (Err (stops.Fault g)) f h e = fault_is g f (sym h ∙ e)
+
+pub stops_law : {V : Type 0} (view : V → List TermTree) (args : Arguments) (s : List Segment) (depth : ℕ) (bytes : List ℕ) (result : Result V Stop)
+    → Gives view result (reading args s depth bytes) → 0 < depth → (u w : List ℕ) (ts : TermTrees) (reason : BodyReason) → bytes ≡ u ++ w → ReadsBody args s depth u ts → IsNoStatement reason w
+    → IsErrAnd result (λ e. IfFault e (λ f. f ≡ record { reason = reason; place = length u }))
+stops_law view args s depth bytes result h some u w ts reason whole reads refused =
+    stops_as view (reading args s depth bytes) result (record { reason = reason; place = length u }) h
+    (ap (reading args s depth) whole ∙ next_told args s depth finite.empty u w ts reason some reads.spelled reads.within refused)

@@ -6,13 +6,11 @@ use Rattle.acpi_tree.specs.declared.place.Place.{Place}
 use Rattle.acpi_tree.specs.declared.place.Place.TheVariants.{Value, SuperName, SimpleName, Element, Data, Statement, Source}
 use Rattle.acpi_tree.specs.declared.place.OperandKind.{OperandKind}
 use Rattle.acpi_tree.specs.declared.place.OperandKind.TheVariants.{At, Target, Byte, Word, DWord}
-use Rattle.acpi_tree.specs.Terms.{TermTree, local, arg}
-use Rattle.acpi_code.specs.declared.opcode.Opcode.{Opcode}
+use Rattle.acpi_tree.specs.Terms.{local, arg}
 use Rattle.acpi_code.specs.declared.opcode.Opcode.TheVariants as opcodes
 use Rattle.acpi_code.specs.steps.Reading.{opcode_at}
 use Rattle.acpi_code.proofs.Opcodes.{opens}
 use Rattle.acpi_body.specs.Grammars.{Grammar}
-use Rattle.acpi_body.specs.Refusals.{refusal_at}
 use Rattle.acpi_body.specs.steps.Reading.{operand_at, form_by, placed_by, term_at}
 use Rattle.acpi_body.specs.steps.Registers.{register_at, holds_register, takes_register, is_register, begins_register, front_register}
 use Rattle.acpi_body.proofs.Opened.{term_opened}

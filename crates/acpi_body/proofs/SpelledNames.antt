@@ -1,10 +1,10 @@
 -- The names that are spelled in the bytes of a body, place by place.
-use Rattle.std.proofs.Common.{◌≡◌, ◌⊎◌, ◌↔◌, inl, inr, ℕ, zero, suc, ◌+◌, ◌-◌, ◌<◌, ◌≤◌, Bool, true, false, cond, ltb, eqb, List, [], ◌∷◌, ◌++◌, length, take, drop, replicate, Option, Some, None, Result, Ok, Err, refl, sym, ap, subst, ◌∙◌, append_assoc, length-append, length-drop, arith}
+use Rattle.std.proofs.Common.{◌≡◌, ◌⊎◌, inl, inr, ℕ, zero, suc, ◌+◌, ◌-◌, ◌<◌, ◌≤◌, Bool, true, false, cond, eqb, List, [], ◌∷◌, ◌++◌, length, take, drop, Option, Some, None, Result, Ok, Err, refl, sym, ap, subst, ◌∙◌, append_assoc, length-append, length-drop, arith}
 use Rattle.std.specs.Prelude.{OnOk, IsTrue, nat_le, option_to_list}
 use Rattle.std.specs.List.{prefix_len, filter}
 use Rattle.std.proofs.lemmas.Bool.{ltb-true}
 use Rattle.std.proofs.lemmas.List.Folds.{length-prefix_len}
-use Rattle.acpi_name.specs.Names.{Segment, NameParts, plain_segment, only_segment}
+use Rattle.acpi_name.specs.Names.{Segment, NameParts, plain_segment}
 use Rattle.acpi_name.specs.Paths.{place_of}
 use Rattle.acpi_name.specs.Spelling.{SpellsName, BeginsWithName, prefix_of}
 use Rattle.acpi_name.specs.steps.Reading.{ups}
@@ -15,7 +15,6 @@ use Rattle.acpi_space.specs.Laws.{Among}
 use Rattle.acpi_space.specs.Wanted.{Wants}
 use Rattle.acpi_space.proofs.Filters.{among_filter}
 use Rattle.acpi_body.specs.Arguments.{Namespace}
-use Rattle.acpi_body.specs.Searches.{IsSpelledIn}
 use Rattle.acpi_body.specs.Misses.{IsMissedBy}
 use Rattle.acpi_body.specs.steps.Gathering.{Asked, Paths, with_misses, Grows, IsFrontMiss, goes_above}
 use Rattle.acpi_body.proofs.Grown.{grows_not, grows_as, grows_then, misses_grow}

@@ -1,8 +1,8 @@
 -- Reading statements one after another, as a loop does.
-use Rattle.std.proofs.Common.{◌≡◌, ℕ, zero, suc, ◌-◌, ◌+◌, ◌≤◌, ◌<◌, List, [], ◌∷◌, ◌++◌, length, Result, Ok, Err, refl, sym, ap, ◌∙◌, append_assoc, arith}
+use Rattle.std.proofs.Common.{◌≡◌, ℕ, zero, suc, ◌-◌, ◌≤◌, ◌<◌, List, [], ◌∷◌, ◌++◌, length, Result, Ok, Err, refl, sym, ap, ◌∙◌, append_assoc, arith}
 use Rattle.std.proofs.lemmas.List.{append-nil}
 use Rattle.acpi_name.specs.Names.{Segment}
-use Rattle.acpi_tree.specs.Terms.{TermTree, TermTrees, terms_of}
+use Rattle.acpi_tree.specs.Terms.{TermTree, terms_of}
 use Rattle.acpi_code.specs.steps.Left.{Left, Shorter}
 use Rattle.acpi_code.specs.steps.Reading.{◌>>=◌, Reading}
 use Rattle.acpi_body.specs.declared.fault.BodyFault.{BodyFault}

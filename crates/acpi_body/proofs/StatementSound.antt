@@ -20,7 +20,7 @@ use Rattle.acpi_code.specs.Faults.{has_package}
 use Rattle.acpi_body.specs.Faults.{BeginsFieldList}
 use Rattle.acpi_code.specs.Spelling.{SpellsEach, Packs}
 use Rattle.acpi_code.specs.steps.Reading.{◌>>=◌, Reading, Package, package_at, name_in, opcode_at}
-use Rattle.acpi_code.proofs.Readings.{Judge, judge_bind, judge_into, judge_if, Source, Position, Front, Read, stands_at, position_after, position_deeper, position_up, no_level_shows}
+use Rattle.acpi_code.proofs.Readings.{Judge, judge_bind, judge_into, judge_if, Source, Position, Front, Read, stands_at, position_deeper, position_up, no_level_shows}
 use Rattle.acpi_code.proofs.Names.{name_sound}
 use Rattle.acpi_code.proofs.Opcodes.{Opened, opcode_sound}
 use Rattle.acpi_code.proofs.Packages.{PackageFront, GoodPackage, package_sound, AtPackage, at_package, deeper_package}
@@ -86,24 +86,24 @@ module _ (m : List Segment) (s : Source) (args : Arguments) where
   -- statements one level deeper are judged
   abbrev InnerStatements : ℕ → Statements → Type 0
   InnerStatements level inner = (locals : Locals) (end : ℕ) (bytes : List ℕ) → Position s.depth level s.code end bytes
-      → Judge (AreStanding args m level locals bytes) (Bad m s) (inner locals end bytes)
+      → Judge (AreStanding args m level locals bytes) (Bad args m s) (inner locals end bytes)
 
   then_read : {A B : Type 0} (level end : ℕ) (Spells : A → List ℕ → Type 0) (Good : B → Type 0) (bytes : List ℕ) (r : Reading BodyFault A) (f : A × List ℕ → Result B BodyFault)
-      → Judge (Read s level end Spells bytes) (Bad m s) r → ((x : A × List ℕ) → Read s level end Spells bytes x → Judge Good (Bad m s) (f x)) → Judge Good (Bad m s) (r >>= f)
-  then_read level end Spells Good bytes r f h k = judge_bind (Read s level end Spells bytes) Good (Bad m s) r f h k
+      → Judge (Read s level end Spells bytes) (Bad args m s) r → ((x : A × List ℕ) → Read s level end Spells bytes x → Judge Good (Bad args m s) (f x)) → Judge Good (Bad args m s) (r >>= f)
+  then_read level end Spells Good bytes r f h k = judge_bind (Read s level end Spells bytes) Good (Bad args m s) r f h k
 
   opened : {B : Type 0} (level end : ℕ) (bytes : List ℕ) (Good : B → Type 0) (f : Package → Result B BodyFault)
-      → AtPackage s.depth level s.code end bytes → ((p : Package) → GoodPackage s level end bytes p → Judge Good (Bad m s) (f p))
-      → Judge Good (Bad m s) (part (package_at end bytes) >>= f)
-  opened level end bytes Good f h k = judge_bind (GoodPackage s level end bytes) Good (Bad m s) (part (package_at end bytes)) f
-      (part_sound m s (GoodPackage s level end bytes) (package_at end bytes) (package_sound s level end bytes h)) k
+      → AtPackage s.depth level s.code end bytes → ((p : Package) → GoodPackage s level end bytes p → Judge Good (Bad args m s) (f p))
+      → Judge Good (Bad args m s) (part (package_at end bytes) >>= f)
+  opened level end bytes Good f h k = judge_bind (GoodPackage s level end bytes) Good (Bad args m s) (part (package_at end bytes)) f
+      (part_sound args m s (GoodPackage s level end bytes) (package_at end bytes) (package_sound s level end bytes h)) k
 
   -- ---- one after another
 
   statements_sound_with : (level end : ℕ) (one : Locals → List ℕ → Reading BodyFault TermTree)
-      → ((locals : Locals) (bytes : List ℕ) → Position s.depth level s.code end bytes → Judge (Read s level end (Standing args m level locals) bytes) (Bad m s) (one locals bytes))
+      → ((locals : Locals) (bytes : List ℕ) → Position s.depth level s.code end bytes → Judge (Read s level end (Standing args m level locals) bytes) (Bad args m s) (one locals bytes))
       → (n : ℕ) (locals : Locals) (bytes : List ℕ) → length bytes ≤ n → Position s.depth level s.code end bytes
-      → Judge (AreStanding args m level locals bytes) (Bad m s) (statements_with one m n locals bytes)
+      → Judge (AreStanding args m level locals bytes) (Bad args m s) (statements_with one m n locals bytes)
   unfolding statements_with
   statements_sound_with level end one judged zero locals [] le h = record { are = refl; within = omega arith }
   statements_sound_with level end one judged zero locals (b ∷ rest) le h = absurd (omega arith)
@@ -114,22 +114,22 @@ module _ (m : List Segment) (s : Source) (args : Arguments) where
       let t = p.0 in
       let some = (statement_starts args m locals x.0 t.front [] t.spells.spells).1 in
       let sizes : suc (length rest) ≡ length t.front + length x.1 = ap length t.whole ∙ length-append t.front x.1 in
-      judge_bind (AreStanding args m level (locals_after m locals x.0) x.1) Good (Bad m s) (statements_with one m n (locals_after m locals x.0) x.1) _
+      judge_bind (AreStanding args m level (locals_after m locals x.0) x.1) Good (Bad args m s) (statements_with one m n (locals_after m locals x.0) x.1) _
       (statements_sound_with level end one judged n (locals_after m locals x.0) x.1 (omega arith) p.1) (λ xs q.
       record { are = (t.front, x.1, t.spells.spells, q.are, t.whole); within = omega (arith, t.spells.within, q.within) }))
 
   -- ---- blocks
 
   else_sound : (level : ℕ) (inner : Statements) → InnerStatements level inner → (locals : Locals) (end : ℕ) (bytes : List ℕ)
-      → Position s.depth level s.code end bytes → Judge (Read s level end (Other args m level locals) bytes) (Bad m s)
+      → Position s.depth level s.code end bytes → Judge (Read s level end (Other args m level locals) bytes) (Bad args m s)
       (else_at (inner locals) end bytes)
   unfolding else_at
   else_sound level inner k locals end [] h = (record { front = []; spells = record { spells = refl; within = omega arith }; whole = refl }, h)
   else_sound level inner k locals end (b ∷ rest) h =
       let Good = Read s level end (Other args m level locals) (b ∷ rest) in
-      judge_if Good (Bad m s) (eqb b 0xA1) _ _
+      judge_if Good (Bad args m s) (eqb b 0xA1) _ _
       (λ yes. opened level end rest Good _ (at_package s level end opcodes.Else (b ∷ rest) rest refl (ap (λ k. k ∷ rest) (eqb-true b 0xA1 yes)) h) (λ p g.
-      judge_bind (AreStanding args m level locals p.content) Good (Bad m s) (inner locals p.end p.content) _ (k locals p.end p.content g.1) (λ ts t. (
+      judge_bind (AreStanding args m level locals p.content) Good (Bad args m s) (inner locals p.end p.content) _ (k locals p.end p.content g.1) (λ ts t. (
         record {
           front = 0xA1 ∷ (g.0.len ++ p.content);
           spells = record { spells = (p.content, t.are, record { len = g.0.len; spells_len = g.0.spells_len; whole = refl }); within = t.within };
@@ -139,15 +139,15 @@ module _ (m : List Segment) (s : Source) (args : Arguments) where
       ))))
       (λ no. (record { front = []; spells = record { spells = refl; within = omega arith }; whole = refl }, h))
 
-  if_sound : (level : ℕ) (locals : Locals) (value : Reader) (inner : Statements) → Inner m s (body_grammar (args locals)) level value → InnerStatements level inner
+  if_sound : (level : ℕ) (locals : Locals) (value : Reader) (inner : Statements) → Inner args m s (body_grammar (args locals)) level value → InnerStatements level inner
       → (end : ℕ) (bytes rest : List ℕ) → bytes ≡ 0xA0 ∷ rest → AtPackage s.depth level s.code end rest
-      → Judge (Read s level end (Standing args m (suc level) locals) bytes) (Bad m s) (if_form value inner m locals end rest)
+      → Judge (Read s level end (Standing args m (suc level) locals) bytes) (Bad args m s) (if_form value inner m locals end rest)
   unfolding if_form
   if_sound level locals value inner i k end bytes rest is h =
       let Good = Read s level end (Standing args m (suc level) locals) bytes in
       opened level end rest Good _ h (λ p g.
       then_read level p.end (Within (body_grammar (args locals)) level Value) Good p.content (value Value p.end p.content) _ (i Value p.end p.content refl g.1) (λ v w.
-      judge_bind (AreStanding args m level locals v.1) Good (Bad m s) (inner locals p.end v.1) _ (k locals p.end v.1 w.1) (λ ts t.
+      judge_bind (AreStanding args m level locals v.1) Good (Bad args m s) (inner locals p.end v.1) _ (k locals p.end v.1 w.1) (λ ts t.
       then_read level end (Other args m level (locals_after_all m locals (terms_of ts))) Good p.rest
       (else_at (inner (locals_after_all m locals (terms_of ts))) end p.rest) _
       (else_sound level inner k (locals_after_all m locals (terms_of ts)) end p.rest g.2) (λ e o.
@@ -175,15 +175,15 @@ module _ (m : List Segment) (s : Source) (args : Arguments) where
         o.1,
       )))))
 
-  while_sound : (level : ℕ) (locals : Locals) (value : Reader) (inner : Statements) → Inner m s (body_grammar (args locals)) level value → InnerStatements level inner
+  while_sound : (level : ℕ) (locals : Locals) (value : Reader) (inner : Statements) → Inner args m s (body_grammar (args locals)) level value → InnerStatements level inner
       → (end : ℕ) (bytes rest : List ℕ) → bytes ≡ 0xA2 ∷ rest → AtPackage s.depth level s.code end rest
-      → Judge (Read s level end (Standing args m (suc level) locals) bytes) (Bad m s) (while_form value inner locals end rest)
+      → Judge (Read s level end (Standing args m (suc level) locals) bytes) (Bad args m s) (while_form value inner locals end rest)
   unfolding while_form
   while_sound level locals value inner i k end bytes rest is h =
       let Good = Read s level end (Standing args m (suc level) locals) bytes in
       opened level end rest Good _ h (λ p g.
       then_read level p.end (Within (body_grammar (args locals)) level Value) Good p.content (value Value p.end p.content) _ (i Value p.end p.content refl g.1) (λ v w.
-      judge_bind (AreStanding args m level locals v.1) Good (Bad m s) (inner locals p.end v.1) _ (k locals p.end v.1 w.1) (λ ts t.
+      judge_bind (AreStanding args m level locals v.1) Good (Bad args m s) (inner locals p.end v.1) _ (k locals p.end v.1 w.1) (λ ts t.
       let x : List ℕ = 0xA2 ∷ (g.0.len ++ p.content) in (
         record {
           front = x;
@@ -206,35 +206,35 @@ module _ (m : List Segment) (s : Source) (args : Arguments) where
   -- ---- declarations
 
   judge_declared : {A : Type 0} (Good : A → Type 0) (end : ℕ) (bytes : List ℕ) (o : Option (List Segment)) (gs : List Segment) (r : Result A BodyFault)
-      → ((p : List Segment) → o ≡ Some p → 0 < length gs → Judge Good (Bad m s) r) → (o ≡ None → Bad m s (fault_at end bytes BadPlace))
-      → (length gs ≡ 0 → Bad m s (fault_at end bytes BadPlace)) → Judge Good (Bad m s) (declared_if o gs end bytes r)
+      → ((p : List Segment) → o ≡ Some p → 0 < length gs → Judge Good (Bad args m s) r) → (o ≡ None → Bad args m s (fault_at end bytes BadPlace))
+      → (length gs ≡ 0 → Bad args m s (fault_at end bytes BadPlace)) → Judge Good (Bad args m s) (declared_if o gs end bytes r)
   judge_declared Good end bytes None gs r good none nameless = none refl
   judge_declared Good end bytes (Some p) [] r good none nameless = nameless refl
   judge_declared Good end bytes (Some p) (g ∷ gs) r good none nameless = good p refl (omega arith)
 
-  declared_sound : (level end : ℕ) (bytes : List ℕ) → Position s.depth level s.code end bytes → Judge (Read s level end (Declared m) bytes) (Bad m s) (declared_at m end bytes)
+  declared_sound : (level end : ℕ) (bytes : List ℕ) → Position s.depth level s.code end bytes → Judge (Read s level end (Declared m) bytes) (Bad args m s) (declared_at m end bytes)
   unfolding declared_at
   declared_sound level end bytes h =
       let Good = Read s level end (Declared m) bytes in
-      then_read level end SpellsName Good bytes (part (name_in end bytes)) _ (part_sound m s (Read s level end SpellsName bytes) (name_in end bytes) (name_sound s level end bytes h)) (λ n t.
+      then_read level end SpellsName Good bytes (part (name_in end bytes)) _ (part_sound args m s (Read s level end SpellsName bytes) (name_in end bytes) (name_sound s level end bytes h)) (λ n t.
       let there = stands_at s level end bytes h ∙ ap (λ (l : List ℕ). l ++ h.after) t.0.whole ∙ append_assoc t.0.front n.1 h.after in
       judge_declared Good end bytes (place_of m n.0) n.0.segments (Ok n)
       (λ p e some. (record { front = t.0.front; spells = record { may = record { path = p; place = e; some = some }; spells = t.0.spells }; whole = t.0.whole }, t.1))
       (λ none. record { name = n.0; spelled = t.0.front; rest = n.1 ++ h.after; here = there; spells = t.0.spells; cannot = inr none })
       (λ nameless. record { name = n.0; spelled = t.0.front; rest = n.1 ++ h.after; here = there; spells = t.0.spells; cannot = inl nameless }))
 
-  named_sound : (level : ℕ) (locals : Locals) (value : Reader) → Inner m s (body_grammar (args locals)) level value
+  named_sound : (level : ℕ) (locals : Locals) (value : Reader) → Inner args m s (body_grammar (args locals)) level value
       → (form : NamedForm) (end : ℕ) (bytes rest : List ℕ) → bytes ≡ opcode_bytes (named_opcode form) ++ rest → Position s.depth level s.code end rest
-      → Judge (Read s level end (Standing args m (suc level) locals) bytes) (Bad m s) (named_form value m form end rest)
+      → Judge (Read s level end (Standing args m (suc level) locals) bytes) (Bad args m s) (named_form value m form end rest)
   unfolding named_form
   named_sound level locals value i form end bytes rest is h =
       let Good = Read s level end (Standing args m (suc level) locals) bytes in
       let op = opcode_bytes (named_opcode form) in
       then_read level end (Operands (body_grammar (args locals)) level (operands_before form)) Good rest (operands_at value (operands_before form) end rest) _
-      (operands_sound m s (body_grammar (args locals)) level value i (operands_before form) end rest (before_inner form) h) (λ x b.
+      (operands_sound args m s locals false level value i (operands_before form) end rest (before_inner form) h) (λ x b.
       then_read level end (Declared m) Good x.1 (declared_at m end x.1) _ (declared_sound level end x.1 b.1) (λ n d.
       then_read level end (Operands (body_grammar (args locals)) level (operands_behind form)) Good n.1 (operands_at value (operands_behind form) end n.1) _
-      (operands_sound m s (body_grammar (args locals)) level value i (operands_behind form) end n.1 (behind_inner form) d.1) (λ y a.
+      (operands_sound args m s locals false level value i (operands_behind form) end n.1 (behind_inner form) d.1) (λ y a.
       let back : rest ≡ (b.0.front ++ (d.0.front ++ a.0.front)) ++ y.1 = b.0.whole
       ∙ ap (λ (l : List ℕ). b.0.front ++ l) (d.0.whole ∙ ap (λ (l : List ℕ). d.0.front ++ l) a.0.whole) ∙ simp append_assoc in (
         record {
@@ -248,12 +248,12 @@ module _ (m : List Segment) (s : Source) (args : Arguments) where
         a.1,
       ))))
 
-  names_sound : (level : ℕ) (count end : ℕ) (bytes : List ℕ) → Position s.depth level s.code end bytes → Judge (Read s level end (AreNames count) bytes) (Bad m s) (names_at count end bytes)
+  names_sound : (level : ℕ) (count end : ℕ) (bytes : List ℕ) → Position s.depth level s.code end bytes → Judge (Read s level end (AreNames count) bytes) (Bad args m s) (names_at count end bytes)
   unfolding names_at
   names_sound level zero end bytes h = (record { front = []; spells = (refl, refl); whole = refl }, h)
   names_sound level (suc count) end bytes h =
       let Good = Read s level end (AreNames (suc count)) bytes in
-      then_read level end SpellsName Good bytes (part (name_in end bytes)) _ (part_sound m s (Read s level end SpellsName bytes) (name_in end bytes) (name_sound s level end bytes h)) (λ n t.
+      then_read level end SpellsName Good bytes (part (name_in end bytes)) _ (part_sound args m s (Read s level end SpellsName bytes) (name_in end bytes) (name_sound s level end bytes h)) (λ n t.
       then_read level end (AreNames count) Good n.1 (names_at count end n.1) _ (names_sound level count end n.1 t.1) (λ ns u. (
         record {
           front = t.0.front ++ u.0.front;
@@ -271,7 +271,7 @@ module _ (m : List Segment) (s : Source) (args : Arguments) where
       let op = opcode_bytes (units_opcode form) in
       record {
         form = form;
-        args = args locals;
+        grammar = body_grammar (args locals);
         at = end - length bytes;
         n = length g.len + length p.content;
         len = g.len;
@@ -301,9 +301,9 @@ module _ (m : List Segment) (s : Source) (args : Arguments) where
         );
       }
 
-  units_sound : (level : ℕ) (locals : Locals) (value : Reader) → Inner m s (body_grammar (args locals)) level value
+  units_sound : (level : ℕ) (locals : Locals) (value : Reader) → Inner args m s (body_grammar (args locals)) level value
       → (form : UnitsForm) (end : ℕ) (bytes rest : List ℕ) → bytes ≡ opcode_bytes (units_opcode form) ++ rest → Position s.depth (suc level) s.code end bytes
-      → Judge (Read s level end (Standing args m (suc level) locals) bytes) (Bad m s) (units_form value form end rest)
+      → Judge (Read s level end (Standing args m (suc level) locals) bytes) (Bad args m s) (units_form value form end rest)
   unfolding units_form
   units_sound level locals value i form end bytes rest is h =
       let Good = Read s level end (Standing args m (suc level) locals) bytes in
@@ -311,9 +311,9 @@ module _ (m : List Segment) (s : Source) (args : Arguments) where
       opened level end rest Good _ (deeper_package s level end (units_opcode form) bytes rest (units_packed form) is (units_long form) h) (λ p g.
       then_read level p.end (AreNames (names_of_units form)) Good p.content (names_at (names_of_units form) p.end p.content) _ (names_sound level (names_of_units form) p.end p.content g.1) (λ ns n.
       then_read level p.end (Operands (body_grammar (args locals)) level (operands_of_units form)) Good ns.1 (operands_at value (operands_of_units form) p.end ns.1)
-      _ (operands_sound m s (body_grammar (args locals)) level value i (operands_of_units form) p.end ns.1 (units_inner form) n.1) (λ vs v.
-      judge_bind (λ es. SpellsFields es vs.1) Good (Bad m s) (fields_in p.end vs.1) _
-      (fields_sound m s level p.end vs.1 (field_list level locals form end bytes rest p ns vs is h g.0 n.0 v.0) v.1) (λ es e.
+      _ (operands_sound args m s locals false level value i (operands_of_units form) p.end ns.1 (units_inner form) n.1) (λ vs v.
+      judge_bind (λ es. SpellsFields es vs.1) Good (Bad args m s) (fields_in p.end vs.1) _
+      (fields_sound args m s level p.end vs.1 (field_list level locals form end bytes rest p ns vs is h g.0 n.0 v.0) v.1) (λ es e.
       let content : p.content ≡ n.0.front ++ (v.0.front ++ vs.1) = n.0.whole ∙ ap (λ (l : List ℕ). n.0.front ++ l) v.0.whole in
       let x : List ℕ = op ++ (g.0.len ++ p.content) in (
         record {
@@ -347,10 +347,10 @@ module _ (m : List Segment) (s : Source) (args : Arguments) where
   as_statement locals _ a st h = (st, h)
 
   up : (level end : ℕ) (locals : Locals) (bytes : List ℕ) (r : Reading BodyFault TermTree)
-      → Judge (Read s level end (Standing args m (suc level) locals) bytes) (Bad m s) r
-      → Judge (Read s (suc level) end (Standing args m (suc level) locals) bytes) (Bad m s) r
+      → Judge (Read s level end (Standing args m (suc level) locals) bytes) (Bad args m s) r
+      → Judge (Read s (suc level) end (Standing args m (suc level) locals) bytes) (Bad args m s) r
   up level end locals bytes r h = judge_into (Read s level end (Standing args m (suc level) locals) bytes)
-      (Read s (suc level) end (Standing args m (suc level) locals) bytes) (Bad m s) (Bad m s) r
+      (Read s (suc level) end (Standing args m (suc level) locals) bytes) (Bad args m s) (Bad args m s) r
       (λ x g. (g.0, position_up s level end x.1 g.1)) (λ f b. b) h
 
   below : (level end : ℕ) (bytes rest : List ℕ) (x : Opcode) → Position s.depth (suc level) s.code end bytes → (o : Opened bytes (x, rest)) → Position s.depth level s.code end rest
@@ -361,10 +361,10 @@ module _ (m : List Segment) (s : Source) (args : Arguments) where
 
   plain_sound : (level : ℕ) (locals : Locals) (end : ℕ) (bytes rest : List ℕ) (x : Opcode) → (is_block x && is_none (refusal_at false Statement x)) ≡ false
       → Position s.depth (suc level) s.code end bytes → Opened bytes (x, rest)
-      → Judge (Read s (suc level) end (Standing args m (suc level) locals) bytes) (Bad m s) (placed_by (body_grammar (args locals)) (term_at (body_grammar (args locals)) level) Statement end bytes x rest)
+      → Judge (Read s (suc level) end (Standing args m (suc level) locals) bytes) (Bad args m s) (placed_by (body_grammar (args locals)) (term_at (body_grammar (args locals)) level) Statement end bytes x rest)
   plain_sound level locals end bytes rest x clear h o =
       judge_into (Read s (suc level) end (Within (body_grammar (args locals)) (suc level) Statement) bytes)
-      (Read s (suc level) end (Standing args m (suc level) locals) bytes) (Bad m s) (Bad m s)
+      (Read s (suc level) end (Standing args m (suc level) locals) bytes) (Bad args m s) (Bad args m s)
       (placed_by (body_grammar (args locals)) (term_at (body_grammar (args locals)) level) Statement end bytes x rest)
       (λ y g. (
         record {
@@ -377,65 +377,65 @@ module _ (m : List Segment) (s : Source) (args : Arguments) where
         },
         g.1,
       )) (λ f b. b)
-      (placed_sound m s (body_grammar (args locals)) level (term_at (body_grammar (args locals)) level) (term_sound m s (body_grammar (args locals)) level) Statement end bytes rest x clear h o)
+      (placed_sound args m s locals false level (term_at (body_grammar (args locals)) level) (term_sound args m s locals false level) Statement end bytes rest x clear h o)
 
   abbrev StatementBy : ℕ → Locals → Statements → ℕ → List ℕ → List ℕ → Opcode → Type 0
-  StatementBy level locals inner end bytes rest x = Judge (Read s (suc level) end (Standing args m (suc level) locals) bytes) (Bad m s)
+  StatementBy level locals inner end bytes rest x = Judge (Read s (suc level) end (Standing args m (suc level) locals) bytes) (Bad args m s)
       (statement_by (body_grammar (args locals)) (term_at (body_grammar (args locals)) level) inner m locals end bytes x rest)
 
   by_sound : (level : ℕ) (locals : Locals) (inner : Statements) → InnerStatements level inner → (end : ℕ) (bytes rest : List ℕ) (x : Opcode)
       → Position s.depth (suc level) s.code end bytes → Opened bytes (x, rest) → StatementBy level locals inner end bytes rest x
   unfolding statement_by
   by_sound level locals inner k end bytes rest opcodes.If h o = up level end locals bytes _
-      (if_sound level locals (term_at (body_grammar (args locals)) level) inner (term_sound m s (body_grammar (args locals)) level) k end bytes rest
+      (if_sound level locals (term_at (body_grammar (args locals)) level) inner (term_sound args m s locals false level) k end bytes rest
       (opening opcodes.If bytes o.front rest o.whole o.told.1)
       (deeper_package s level end opcodes.If bytes rest refl (opening opcodes.If bytes o.front rest o.whole o.told.1) (omega arith) h))
   by_sound level locals inner k end bytes rest opcodes.While h o = up level end locals bytes _
-      (while_sound level locals (term_at (body_grammar (args locals)) level) inner (term_sound m s (body_grammar (args locals)) level) k end bytes rest
+      (while_sound level locals (term_at (body_grammar (args locals)) level) inner (term_sound args m s locals false level) k end bytes rest
       (opening opcodes.While bytes o.front rest o.whole o.told.1)
       (deeper_package s level end opcodes.While bytes rest refl (opening opcodes.While bytes o.front rest o.whole o.told.1) (omega arith) h))
   by_sound level locals inner k end bytes rest opcodes.DeclareName h o =
-      up level end locals bytes _ (named_sound level locals (term_at (body_grammar (args locals)) level) (term_sound m s (body_grammar (args locals)) level) named.Name end bytes
+      up level end locals bytes _ (named_sound level locals (term_at (body_grammar (args locals)) level) (term_sound args m s locals false level) named.Name end bytes
       rest (opening opcodes.DeclareName bytes o.front rest o.whole o.told.1) (below level end bytes rest opcodes.DeclareName h o))
   by_sound level locals inner k end bytes rest (opcodes.Create w) h o =
-      up level end locals bytes _ (named_sound level locals (term_at (body_grammar (args locals)) level) (term_sound m s (body_grammar (args locals)) level) (named.Create w) end
+      up level end locals bytes _ (named_sound level locals (term_at (body_grammar (args locals)) level) (term_sound args m s locals false level) (named.Create w) end
       bytes rest (opening (opcodes.Create w) bytes o.front rest o.whole o.told.1) (below level end bytes rest (opcodes.Create w) h o))
   by_sound level locals inner k end bytes rest opcodes.CreateField h o =
-      up level end locals bytes _ (named_sound level locals (term_at (body_grammar (args locals)) level) (term_sound m s (body_grammar (args locals)) level) named.CreateField end
+      up level end locals bytes _ (named_sound level locals (term_at (body_grammar (args locals)) level) (term_sound args m s locals false level) named.CreateField end
       bytes rest (opening opcodes.CreateField bytes o.front rest o.whole o.told.1) (below level end bytes rest opcodes.CreateField h o))
   by_sound level locals inner k end bytes rest opcodes.Region h o = up level end locals bytes _
-      (named_sound level locals (term_at (body_grammar (args locals)) level) (term_sound m s (body_grammar (args locals)) level) named.Region end bytes rest
+      (named_sound level locals (term_at (body_grammar (args locals)) level) (term_sound args m s locals false level) named.Region end bytes rest
       (opening opcodes.Region bytes o.front rest o.whole o.told.1) (below level end bytes rest opcodes.Region h o))
   by_sound level locals inner k end bytes rest opcodes.Mutex h o = up level end locals bytes _
-      (named_sound level locals (term_at (body_grammar (args locals)) level) (term_sound m s (body_grammar (args locals)) level) named.Mutex end bytes rest
+      (named_sound level locals (term_at (body_grammar (args locals)) level) (term_sound args m s locals false level) named.Mutex end bytes rest
       (opening opcodes.Mutex bytes o.front rest o.whole o.told.1) (below level end bytes rest opcodes.Mutex h o))
   by_sound level locals inner k end bytes rest opcodes.Event h o = up level end locals bytes _
-      (named_sound level locals (term_at (body_grammar (args locals)) level) (term_sound m s (body_grammar (args locals)) level) named.Event end bytes rest
+      (named_sound level locals (term_at (body_grammar (args locals)) level) (term_sound args m s locals false level) named.Event end bytes rest
       (opening opcodes.Event bytes o.front rest o.whole o.told.1) (below level end bytes rest opcodes.Event h o))
   by_sound level locals inner k end bytes rest opcodes.Field h o = up level end locals bytes _
-      (units_sound level locals (term_at (body_grammar (args locals)) level) (term_sound m s (body_grammar (args locals)) level) units.Field end bytes rest
+      (units_sound level locals (term_at (body_grammar (args locals)) level) (term_sound args m s locals false level) units.Field end bytes rest
       (opening opcodes.Field bytes o.front rest o.whole o.told.1) h)
   by_sound level locals inner k end bytes rest opcodes.IndexField h o =
-      up level end locals bytes _ (units_sound level locals (term_at (body_grammar (args locals)) level) (term_sound m s (body_grammar (args locals)) level) units.IndexField end
+      up level end locals bytes _ (units_sound level locals (term_at (body_grammar (args locals)) level) (term_sound args m s locals false level) units.IndexField end
       bytes rest (opening opcodes.IndexField bytes o.front rest o.whole o.told.1) h)
   by_sound level locals inner k end bytes rest opcodes.BankField h o =
-      up level end locals bytes _ (units_sound level locals (term_at (body_grammar (args locals)) level) (term_sound m s (body_grammar (args locals)) level) units.BankField end
+      up level end locals bytes _ (units_sound level locals (term_at (body_grammar (args locals)) level) (term_sound args m s locals false level) units.BankField end
       bytes rest (opening opcodes.BankField bytes o.front rest o.whole o.told.1) h)
   by_sound level locals inner k end bytes rest x h o = plain_sound level locals end bytes rest x refl h o
 
   pub statement_sound : (level : ℕ) (locals : Locals) (end : ℕ) (bytes : List ℕ) → Position s.depth level s.code end bytes
-      → Judge (Read s level end (Standing args m level locals) bytes) (Bad m s) (statement_at args m level locals end bytes)
+      → Judge (Read s level end (Standing args m level locals) bytes) (Bad args m s) (statement_at args m level locals end bytes)
   unfolding statement_at
-  statement_sound zero locals end bytes h = part_bad m s _ (no_level_shows s end bytes h)
+  statement_sound zero locals end bytes h = part_bad args m s _ (no_level_shows s end bytes h)
   statement_sound (suc level) locals end bytes h =
-      judge_bind (Opened bytes) (Read s (suc level) end (Standing args m (suc level) locals) bytes) (Bad m s) (part (opcode_at end bytes)) _
-      (part_sound m s (Opened bytes) (opcode_at end bytes) (opcode_sound s (suc level) end bytes h)) (λ x o.
+      judge_bind (Opened bytes) (Read s (suc level) end (Standing args m (suc level) locals) bytes) (Bad args m s) (part (opcode_at end bytes)) _
+      (part_sound args m s (Opened bytes) (opcode_at end bytes) (opcode_sound s (suc level) end bytes h)) (λ x o.
       by_sound level locals (statements_at args m level)
       (λ locals end bytes k. statements_sound_with level end (λ locals. statement_at args m level locals end)
       (λ locals bytes j. statement_sound level locals end bytes j) (length bytes) locals bytes (omega arith) k)
       end bytes x.1 x.0 h o)
 
   pub statements_sound : (level : ℕ) (locals : Locals) (end : ℕ) (bytes : List ℕ) → Position s.depth level s.code end bytes
-      → Judge (AreStanding args m level locals bytes) (Bad m s) (statements_at args m level locals end bytes)
+      → Judge (AreStanding args m level locals bytes) (Bad args m s) (statements_at args m level locals end bytes)
   statements_sound level locals end bytes h = statements_sound_with level end (λ locals. statement_at args m level locals end)
       (λ locals bytes j. statement_sound level locals end bytes j) (length bytes) locals bytes (omega arith) h

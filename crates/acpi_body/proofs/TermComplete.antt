@@ -1,5 +1,5 @@
 -- A term that is spelled is read.
-use Rattle.std.proofs.Common.{◌≡◌, ℕ, zero, suc, ◌-◌, ◌+◌, ◌≤◌, ◌<◌, Bool, true, false, cond, eqb, List, [], ◌∷◌, ◌++◌, length, slice_index, None, Ok, refl, sym, ap, subst, ◌∙◌, append_assoc, arith}
+use Rattle.std.proofs.Common.{◌≡◌, ℕ, zero, suc, ◌-◌, ◌+◌, ◌≤◌, ◌<◌, Bool, true, false, cond, eqb, List, [], ◌∷◌, ◌++◌, length, slice_index, Option, Some, None, Ok, refl, sym, ap, subst, ◌∙◌, append_assoc, arith}
 use Rattle.std.proofs.lemmas.List.{length-append}
 use Rattle.std.proofs.lemmas.Bool.{eqb-true, lt-ltb}
 use Rattle.acpi_name.specs.Names.{NameParts}
@@ -65,7 +65,7 @@ spelled_long grammar p debug b u h = rw h (omega arith)
 spelled_long grammar p no_target b u h = absurd u
 spelled_long grammar p (raw k n) b u h = absurd u
 spelled_long grammar p (ref n) b u h = name_long n b h.0
-spelled_long grammar p (call n vs) b u h = omega (arith, ap length h.4, length-append h.0 h.1, name_long n h.0 h.2.0)
+spelled_long grammar p (call n vs) b u h = omega (arith, ap length h.6, length-append h.1 h.2, name_long n h.1 h.4.0)
 spelled_long grammar p (apply op vs) b u h = omega (arith, ap length h.3, length-append (operator_bytes op) h.0, operator_long op)
 spelled_long grammar p _ b u h = absurd h
 
@@ -103,15 +103,15 @@ var_package_made : (inner : Reader) (end : ℕ) (count : TermTree) (es : List Te
 unfolding var_package_form
 var_package_made inner end count es s b len rest i all h = rw (package_complete end len (s ++ b) rest h, i, all) refl
 
-ref_made : (args : NameParts → ℕ) (inner : Reader) (p : Place) (end : ℕ) (n : NameParts) (w y : List ℕ) → calls p ≡ false → SpellsTermName n w → name_form args inner p end (w ++ y) ≡ Ok (ref n, y)
+ref_made : (args : NameParts → Option ℕ) (inner : Reader) (p : Place) (end : ℕ) (n : NameParts) (w y : List ℕ) → calls p ≡ false → SpellsTermName n w → name_form args inner p end (w ++ y) ≡ Ok (ref n, y)
 unfolding name_form
 ref_made args inner p end n w y c h = rw (name_in_complete end n w y h.0, c) refl
 
-call_made : (args : NameParts → ℕ) (inner : Reader) (p : Place) (end : ℕ) (n : NameParts) (vs : List TermTree) (w y rest : List ℕ) → calls p ≡ true
-    → SpellsTermName n w → operands_at inner (values (args n)) end y ≡ Ok (vs, rest)
+call_made : (args : NameParts → Option ℕ) (inner : Reader) (p : Place) (end : ℕ) (n : NameParts) (count : ℕ) (vs : List TermTree) (w y rest : List ℕ) → calls p ≡ true
+    → SpellsTermName n w → args n ≡ Some count → operands_at inner (values count) end y ≡ Ok (vs, rest)
     → name_form args inner p end (w ++ y) ≡ Ok (call n (terms_of vs), rest)
 unfolding name_form
-call_made args inner p end n vs w y rest c h o = rw (name_in_complete end n w y h.0, c, o) refl
+call_made args inner p end n count vs w y rest c h sure o = rw (name_in_complete end n w y h.0, c, sure, o) refl
 
 operator_made : (inner : Reader) (op : Op) (end : ℕ) (vs : List TermTree) (bytes rest : List ℕ)
     → operands_at inner (operands_of op) end bytes ≡ Ok (vs, rest) → operator_form inner op end bytes ≡ Ok (apply op (terms_of vs), rest)
@@ -242,11 +242,11 @@ mutual
   form_complete grammar (ref n) level p end b rest a h le =
       let l = name_leads end n b rest h in
       (l.0, l.1, ref_made grammar.args (term_at grammar level) p end n b rest a.suits h)
-  form_complete grammar (call n vs) level p end b rest a (w, x, spells, hs, whole) le =
+  form_complete grammar (call n vs) level p end b rest a (count, w, x, sure, spells, hs, whole) le =
       let is : b ++ rest ≡ w ++ (x ++ rest) = ap (λ (b : List ℕ). b ++ rest) whole ∙ append_assoc w x rest in
-      let o = operands_complete grammar (values (grammar.args n)) vs level end x rest hs (omega arith) in
+      let o = operands_complete grammar (values count) vs level end x rest hs (omega arith) in
       let l = name_leads end n w (x ++ rest) spells in
-      rw is (l.0, l.1, call_made grammar.args (term_at grammar level) p end n (listed vs) w (x ++ rest) rest a.suits spells o ∙ ap (λ ts. Ok (call n ts, rest)) (terms_of-listed vs))
+      rw is (l.0, l.1, call_made grammar.args (term_at grammar level) p end n count (listed vs) w (x ++ rest) rest a.suits spells sure o ∙ ap (λ ts. Ok (call n ts, rest)) (terms_of-listed vs))
   form_complete grammar (apply op vs) level p end b rest a (x, allowed, hs, whole) le =
       let is : b ++ rest ≡ operator_bytes op ++ (x ++ rest) = ap (λ (b : List ℕ). b ++ rest) whole ∙ append_assoc (operator_bytes op) x rest in
       let o = operands_complete grammar (operands_of op) vs level end x rest hs (omega arith) in (

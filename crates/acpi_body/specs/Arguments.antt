@@ -23,9 +23,9 @@ Locals = PathMap (Unit {0})
 abbrev pub with_local : Locals → List Segment → Locals
 with_local locals p = cond (is_defined locals p) locals (insert locals p tt)
 
--- how many values follow a name, by what the body has declared before it
+-- how many values follow a name, by what the body has declared before it; None where that isn't sure
 abbrev pub Arguments : Type 0
-Arguments = Locals → NameParts → ℕ
+Arguments = Locals → NameParts → Option ℕ
 
 -- what the search of a name finds, with the locals laid over the namespace
 abbrev pub defined_with : Namespace → Locals → List Segment → Bool
@@ -52,5 +52,9 @@ args_at objects locals otherwise None = otherwise
 args_at objects locals otherwise (Some p) = args_there objects locals p
 
 -- the arguments of what the search of the name finds from the scope; where it finds nothing, what the Externals say
+abbrev pub count_behind : Namespace → Lookup ℕ → List Segment → Locals → NameParts → ℕ
+count_behind objects externals s locals n = args_at objects locals (expected_at externals (expected_place externals s n)) (answer (defined_with objects locals) s n)
+
+-- so for the strict loader, which is always sure
 abbrev pub arguments : Namespace → Lookup ℕ → List Segment → Arguments
-arguments objects externals s locals n = args_at objects locals (expected_at externals (expected_place externals s n)) (answer (defined_with objects locals) s n)
+arguments objects externals s locals n = Some (count_behind objects externals s locals n)

@@ -16,12 +16,13 @@ use Rattle.acpi_code.specs.declared.fault.ConstantFault.{ConstantFault}
 use Rattle.acpi_code.specs.declared.fault.ConstantFault.TheVariants.{Part, NotConstant}
 use Rattle.acpi_code.specs.declared.opcode.Opcode.TheVariants as opcodes
 use Rattle.acpi_code.specs.Opcodes.{first_opcode, opcode_bytes}
-use Rattle.acpi_code.specs.Spelling.{SpellsEach}
+use Rattle.acpi_code.specs.Spelling.{SpellsTermName, SpellsEach}
 use Rattle.acpi_code.specs.Faults.{Begins, IsConnectionSize, IsElementOf, ShowsPart, ShowsElementPart}
 use Rattle.acpi_body.specs.declared.fault.BodyReason.{BodyReason}
-use Rattle.acpi_body.specs.declared.fault.BodyReason.TheVariants.{Cut, ReservedBits, BadName, Overrun, BadString, TooDeep, NotData, BadPlace}
+use Rattle.acpi_body.specs.declared.fault.BodyReason.TheVariants.{Cut, ReservedBits, BadName, Overrun, BadString, TooDeep, NotData, BadPlace, Unsure}
 use Rattle.acpi_body.specs.declared.fault.BodyFault.{BodyFault}
-use Rattle.acpi_body.specs.Grammars.{body_grammar}
+use Rattle.acpi_body.specs.Arguments.{Locals, Arguments}
+use Rattle.acpi_body.specs.Grammars.{Grammar}
 use Rattle.acpi_body.specs.Refusals.{refusal_at, never_begins}
 use Rattle.acpi_body.specs.Spelling.{AreOperands}
 use Rattle.acpi_body.specs.Statements.{units_opcode}
@@ -61,11 +62,21 @@ pub record CantDeclare (s : List Segment) (bytes : List ℕ) : Type 0 where
   pub spells : SpellsName name spelled
   pub cannot : (length name.segments ≡ 0) ⊎ (place_of s name ≡ None)
 
+-- a name stands there of which it isn't sure, behind some declarations, how many values follow it
+pub record IsUnsure (args : Arguments) (bytes : List ℕ) : Type 0 where
+  pub name : NameParts
+  pub spelled : List ℕ
+  pub rest : List ℕ
+  pub here : bytes ≡ spelled ++ rest
+  pub spells : SpellsTermName name spelled
+  pub locals : Locals
+  pub unsure : args locals name ≡ None
+
 -- A field list begins at the place: behind the opcode of a form with one, its package length, its names, and its operands, where
 -- each name is followed by some number of values (20.2.5.2).
 pub record BeginsFieldList (code : List ℕ) (start : ℕ) : Type 0 where
   pub form : UnitsForm
-  pub args : NameParts → ℕ
+  pub grammar : Grammar
   pub at : ℕ
   pub n : ℕ
   pub len : List ℕ
@@ -78,7 +89,7 @@ pub record BeginsFieldList (code : List ℕ) (start : ℕ) : Type 0 where
   pub spells_len : SpellsPkgLength n len
   pub all_names : length names ≡ names_of_units form
   pub are_names : SpellsEach SpellsName names a
-  pub are_values : AreOperands (body_grammar args) (operands_of_units form) values b
+  pub are_values : AreOperands grammar (operands_of_units form) values b
   pub starts : start ≡ at + (length (opcode_bytes (units_opcode form)) + (length len + (length a + length b)))
 
 -- a field element must begin at the place: behind others, in the field list of a form
@@ -93,20 +104,22 @@ is_other_data opcodes.Package = true
 is_other_data opcodes.VarPackage = true
 is_other_data _ = false
 
--- What the reason says is true of the body's bytes at that place; `s` is the method's path, and `depth` the number of
--- levels that are allowed. BadName: no name begins there, or no segment where a field element must begin. NotData: no data
--- begins there, or no constant where the size of a connection's buffer must. BadPlace: a name stands there that can't be
--- declared.
-abbrev pub ShowsBody : List Segment → ℕ → List ℕ → BodyReason → ℕ → Type 0
-ShowsBody s depth code Cut place = ShowsPart depth code codes.Cut place
-ShowsBody s depth code ReservedBits place = ShowsPart depth code codes.ReservedBits place
-ShowsBody s depth code BadName place = ShowsElementPart (IsBodyElement code) code codes.BadName place
-ShowsBody s depth code Overrun place = ShowsPart depth code codes.Overrun place
-ShowsBody s depth code BadString place = ShowsPart depth code codes.BadString place
-ShowsBody s depth code TooDeep place = ShowsPart depth code codes.TooDeep place
-ShowsBody s depth code BadPlace place = CantDeclare s (drop place code)
-ShowsBody s depth code NotData place = IsMisplaced NotData (drop place code) ⊎ (IsConnectionSize code place × Begins is_other_data code place)
-ShowsBody s depth code why place = IsMisplaced why (drop place code)
+-- What the reason says is true of the body's bytes at that place; `args` says how many values follow its names, `s` is the
+-- method's path, and `depth` the number of levels that are allowed. BadName: no name begins there, or no segment where a
+-- field element must begin. NotData: no data begins there, or no constant where the size of a connection's buffer must.
+-- BadPlace: a name stands there that can't be declared. Unsure: a name stands there of which it isn't sure, behind some
+-- declarations, how many values follow it.
+abbrev pub ShowsBody : Arguments → List Segment → ℕ → List ℕ → BodyReason → ℕ → Type 0
+ShowsBody args s depth code Cut place = ShowsPart depth code codes.Cut place
+ShowsBody args s depth code ReservedBits place = ShowsPart depth code codes.ReservedBits place
+ShowsBody args s depth code BadName place = ShowsElementPart (IsBodyElement code) code codes.BadName place
+ShowsBody args s depth code Overrun place = ShowsPart depth code codes.Overrun place
+ShowsBody args s depth code BadString place = ShowsPart depth code codes.BadString place
+ShowsBody args s depth code TooDeep place = ShowsPart depth code codes.TooDeep place
+ShowsBody args s depth code BadPlace place = CantDeclare s (drop place code)
+ShowsBody args s depth code Unsure place = IsUnsure args (drop place code)
+ShowsBody args s depth code NotData place = IsMisplaced NotData (drop place code) ⊎ (IsConnectionSize code place × Begins is_other_data code place)
+ShowsBody args s depth code why place = IsMisplaced why (drop place code)
 
 -- what begins there is refused as a statement, whatever stands before it
 abbrev pub IsNoStatement : BodyReason → List ℕ → Type 0

@@ -1,16 +1,17 @@
 -- What decides how bytes are read as terms (ACPI 6.5, 20.2.5).
-use Rattle.std.specs.Prelude.{ℕ, Bool, false, not, ◌||◌}
+use Rattle.std.specs.Prelude.{ℕ, Bool, false, not, ◌||◌, Option}
 use Rattle.acpi_name.specs.Names.{NameParts}
 use Rattle.acpi_tree.specs.declared.op.Op.{Op}
 use Rattle.acpi_tree.specs.Operators.{is_load}
 
--- how many values follow a name where it calls, and whether LoadTable, Load and Unload may stand (20.2.5.4)
+-- how many values follow a name where it calls, or None where that isn't sure; and whether LoadTable, Load and Unload may
+-- stand (20.2.5.4)
 pub record Grammar : Type 0 where
-  pub args : NameParts → ℕ
+  pub args : NameParts → Option ℕ
   pub loads : Bool
 
 -- method bodies have no LoadTable, Load or Unload
-abbrev pub body_grammar : (NameParts → ℕ) → Grammar
+abbrev pub body_grammar : (NameParts → Option ℕ) → Grammar
 body_grammar args = record { args = args; loads = false }
 
 -- whether the operator may stand

@@ -4,6 +4,8 @@ use Rattle.acpi_name.specs.Names.{Segment}
 use Rattle.acpi_tree.specs.Terms.{TermTrees}
 use Rattle.acpi_body.specs.declared.fault.BodyReason.{BodyReason}
 use Rattle.acpi_body.specs.declared.fault.BodyFault.{BodyFault}
+use Rattle.acpi_body.specs.declared.fault.Stop.{Stop}
+use Rattle.acpi_body.specs.declared.fault.Stop.TheVariants as stops
 use Rattle.acpi_body.specs.Arguments.{Arguments}
 use Rattle.acpi_body.specs.Statements.{ReadsBody}
 use Rattle.acpi_body.specs.Faults.{ShowsBody, IsNoStatement}
@@ -12,6 +14,11 @@ use Rattle.acpi_body.specs.Faults.{ShowsBody, IsNoStatement}
 -- and behind statements, what can't begin one, at its place.
 pub record IsReason (args : Arguments) (s : List Segment) (depth : ℕ) (bytes : List ℕ) (w : Option BodyFault) : Type 0 where
   pub read : (w ≡ None) ↔ ((ts : TermTrees) × ReadsBody args s depth bytes ts)
-  pub shown : IfSome w (λ f. ShowsBody s depth bytes f.reason f.place)
+  pub shown : IfSome w (λ f. ShowsBody args s depth bytes f.reason f.place)
   pub next : (u v : List ℕ) (ts : TermTrees) (reason : BodyReason) → bytes ≡ u ++ v → ReadsBody args s depth u ts → IsNoStatement reason v
       → w ≡ Some (record { reason = reason; place = length u })
+
+-- if a reading stopped by a fault and not for memory, this holds of the fault
+abbrev pub IfFault : Stop → (BodyFault → Type 0) → Type 0
+IfFault (stops.Fault f) P = P f
+IfFault stops.Memory P = Unit {0}

@@ -1,5 +1,5 @@
 -- The bytes that spell a term, by a grammar (ACPI 6.5, 20.2.5).
-use Rattle.std.specs.Prelude.{◌≡◌, ◌+◌, ◌≤◌, ℕ, zero, suc, max, true, List, [], ◌∷◌, ◌++◌}
+use Rattle.std.specs.Prelude.{◌≡◌, ◌+◌, ◌≤◌, ℕ, zero, suc, max, true, List, [], ◌∷◌, ◌++◌, Some}
 use Rattle.acpi_tree.specs.declared.place.Place.{Place}
 use Rattle.acpi_tree.specs.declared.place.Place.TheVariants.{Value, Element}
 use Rattle.acpi_tree.specs.declared.place.OperandKind.{OperandKind}
@@ -25,7 +25,7 @@ values zero = []
 values (suc n) = At Value ∷ values n
 
 -- Terms that are no blocks and no declarations: DataObject, Locals, Args, DebugObj, a name where it is never
--- a call, a call and its arguments, an operator that may stand and its operands.
+-- a call, a call and as many arguments as surely follow its name, an operator that may stand and its operands.
 abbrev mutual
   pub Spells : Grammar → TermTree → List ℕ → Type 0
   Spells g (int i) bytes = SpellsInt i bytes
@@ -39,7 +39,8 @@ abbrev mutual
   Spells g no_target bytes = bytes ≡ 0x00 ∷ []
   Spells g (raw k n) bytes = SpellsNumber k n bytes
   Spells g (ref n) bytes = SpellsTermName n bytes
-  Spells g (call n vs) bytes = (w : List ℕ) × (x : List ℕ) × SpellsTermName n w × AreOperands g (values (g.args n)) vs x × (bytes ≡ w ++ x)
+  Spells g (call n vs) bytes = (count : ℕ) × (w : List ℕ) × (x : List ℕ)
+      × (g.args n ≡ Some count) × SpellsTermName n w × AreOperands g (values count) vs x × (bytes ≡ w ++ x)
   Spells g (apply op vs) bytes = (x : List ℕ) × (is_allowed g.loads op ≡ true) × AreOperands g (operands_of op) vs x × (bytes ≡ operator_bytes op ++ x)
   Spells g _ bytes = ⊥
 

@@ -9,8 +9,9 @@ ghost use Rattle.acpi_space.specs.Search.{nearest_scope};
 ghost use Rattle.acpi_name.specs.Paths.{place_of};
 ghost use Rattle.acpi_body.specs.Arguments.{namespace_of, args_there, with_local, defined_with, expected_at, expected_place};
 ghost use Rattle.std.specs.FinMap.{get};
-ghost use Rattle.acpi_body.specs.steps.Setting.{args_of, deeper};
+ghost use Rattle.acpi_body.specs.steps.Setting.{args_of, count_in, deeper};
 
+use crate::counting::MethodCounting;
 use acpi_counts::Counts;
 use acpi_name::{NameRef, Path, PlaceFault, Seg, place};
 use acpi_space::{Refused, Space, TreeSpace};
@@ -18,7 +19,7 @@ use acpi_tree::Object;
 use std::alloc::{AllocError, Global};
 use std::marker::Model;
 
-/// What a body is read against: a namespace, what the table's Externals say, and the method's path.
+/// What a body of the strict loader is read against: a namespace, what the table's Externals say, and the method's path.
 #[derive(Drop)]
 pub(crate) struct Context<'a, S: Space<Object>> {
     alloc: Global,
@@ -74,6 +75,24 @@ impl<'a, S: Space<Object>> Context<'a, S> {
         ensures { result.now ≡ self.now.method }
     {
         self.method
+    }
+}
+
+impl<'a, S: Space<Object>> MethodCounting for Context<'a, S> {
+    ghost arguments = { args_of };
+
+    ghost method = { λ c. c.method };
+
+    fn alloc(&self) -> Global {
+        self.alloc
+    }
+
+    fn method(&self) -> &Path {
+        self.method
+    }
+
+    fn count(&self, locals: &TreeSpace<()>, name: NameRef<'_>) -> Result<Option<u8>, AllocError> {
+        Ok(Some(count(self, locals, name)?))
     }
 }
 
@@ -140,7 +159,7 @@ fn deeper(first: Option<usize>, second: Option<usize>) -> Option<usize>
     }
 }
 
-#[tactic(auto, unfolding(crate::specs::steps::Setting::args_of))]
+#[tactic(auto, unfolding(crate::specs::steps::Setting::count_in))]
 fn plain_count<S: Space<Object>>(
     context: &Context<'_, S>,
     locals: &TreeSpace<()>,
@@ -148,7 +167,7 @@ fn plain_count<S: Space<Object>>(
     seg: Seg,
 ) -> Result<u8, AllocError>
     requires { plain_segment (name_parts name) ≡ Some seg }
-    ensures { IfOk result (λ n. n ≡ args_of context.now locals.now (name_parts name.entry)) }
+    ensures { IfOk result (λ n. n ≡ count_in context.now locals.now (name_parts name.entry)) }
 {
     let method = context.method();
     match nearest(context, locals, seg)? {
@@ -164,7 +183,7 @@ fn plain_count<S: Space<Object>>(
     }
 }
 
-#[tactic(auto, unfolding(crate::specs::steps::Setting::args_of))]
+#[tactic(auto, unfolding(crate::specs::steps::Setting::count_in))]
 fn placed_count<S: Space<Object>>(
     context: &Context<'_, S>,
     locals: &TreeSpace<()>,
@@ -173,7 +192,7 @@ fn placed_count<S: Space<Object>>(
 ) -> Result<u8, AllocError>
     requires plain { plain_segment (name_parts name) ≡ None }
     requires place { place_of context.now.method (name_parts name) ≡ Some path.now }
-    ensures { IfOk result (λ n. n ≡ args_of context.now locals.now (name_parts name.entry)) }
+    ensures { IfOk result (λ n. n ≡ count_in context.now locals.now (name_parts name.entry)) }
 {
     if locals.get(path).is_some() || context.space().get(path).is_some() {
         return Ok(args_there(context.space(), locals, path));
@@ -181,15 +200,16 @@ fn placed_count<S: Space<Object>>(
     expected(context, name)
 }
 
-/// How many values follow the name. It has a frame of its own, so that a level of calls costs less stack.
-#[tactic(auto, unfolding(crate::specs::steps::Setting::args_of))]
+/// How many values follow the name, which is always sure. It has a frame of its own, so that a level of calls costs less
+/// stack.
+#[tactic(auto, unfolding(crate::specs::steps::Setting::count_in))]
 #[inline(never)]
-pub(crate) fn count<S: Space<Object>>(
+fn count<S: Space<Object>>(
     context: &Context<'_, S>,
     locals: &TreeSpace<()>,
     name: NameRef<'_>,
 ) -> Result<u8, AllocError>
-    ensures { IfOk result (λ n. n ≡ args_of context.now locals.now (name_parts name.entry)) }
+    ensures { IfOk result (λ n. n ≡ count_in context.now locals.now (name_parts name.entry)) }
 {
     if let Some(seg) = name.plain() {
         return plain_count(context, locals, name, seg);

@@ -1,17 +1,22 @@
 //! Reading method bodies.
 
-ghost use Rattle.std.specs.Prelude.{◌≡◌, ◌++◌, ◌↔◌, ℕ, List, length, true, Some, None, IfOk, IfSome};
+ghost use Rattle.std.specs.Prelude.{◌≡◌, ◌≢◌, ◌++◌, ◌↔◌, ℕ, List, length, true, Some, None, IfOk, IfErr, IsErrAnd, IfSome};
 ghost use Rattle.std.specs.FinMap as finite;
 ghost use Rattle.acpi_tree.specs.Terms.{TermTrees};
+ghost use Rattle.acpi_tree.specs.TermFits.{terms_fit};
+ghost use Rattle.acpi_tree.specs.TermView.{terms_tree};
 ghost use Rattle.acpi_body.specs.declared.fault.BodyReason.{BodyReason};
+ghost use Rattle.acpi_body.specs.declared.fault.BodyReason.TheVariants.{Unsure};
 ghost use Rattle.acpi_body.specs.Arguments.{namespace_of, arguments};
 ghost use Rattle.acpi_body.specs.Statements.{ReadsBody};
 ghost use Rattle.acpi_body.specs.Faults.{ShowsBody, IsNoStatement};
+ghost use Rattle.acpi_body.specs.Reasons.{IfFault};
 ghost use Rattle.acpi_body.specs.Bodies.{read, body_view, body_fits, IsBodyOf};
 ghost use Rattle.acpi_body.specs.steps.Reading.{body_at};
 ghost use Rattle.acpi_body.specs.steps.Answers.{body_of, told};
 
 use crate::arguments::Context;
+use crate::counting::MethodCounting;
 use crate::fault::{BodyFault, Stop};
 use crate::statement::body;
 use acpi_code::Depth;
@@ -30,7 +35,33 @@ pub enum Body {
     Opaque(Vec<u8>),
 }
 
-#[tactic(auto, unfolding(crate::specs::steps::Setting::args_of))]
+/// The terms of a method's body, where a name is followed by as many values as the counting says; a name for which that
+/// isn't sure is a fault. A place counts from the body's first byte.
+pub fn read_terms<M: MethodCounting>(
+    counting: &M,
+    bytes: &[u8],
+    depth: Depth,
+) -> Result<Vec<Term>, Stop>
+    // Terms are the reading of the bytes.
+    ensures read { IfOk result (λ v. (ts : TermTrees) → (terms_tree v.items ≡ ts)
+        ↔ ReadsBody (M.arguments counting.now) (M.method counting.now) depth bytes.now ts) }
+    // What is read fits.
+    ensures fits { IfOk result (λ v. terms_fit (terms_tree v.items) ≡ true) }
+    // What a fault says is true of the bytes ..
+    ensures faults { IfErr result (λ e. IfFault e (λ f.
+        ShowsBody (M.arguments counting.now) (M.method counting.now) depth bytes.now f.reason f.place)) }
+    // .. and they have no reading.
+    ensures unread { IfErr result (λ e. IfFault e (λ f. (ts : TermTrees)
+        → ¬ ReadsBody (M.arguments counting.now) (M.method counting.now) depth bytes.now ts)) }
+    // Behind statements, what can't begin one is told at its place.
+    ensures next { (u w : List ℕ) (ts : TermTrees) (reason : BodyReason) → bytes.now ≡ u ++ w
+        → ReadsBody (M.arguments counting.now) (M.method counting.now) depth u ts → IsNoStatement reason w
+        → IsErrAnd result (λ e. IfFault e (λ f. f ≡ record { reason = reason; place = length u })) }
+{
+    body(counting, depth.get(), bytes)
+}
+
+#[tactic(auto, unfolding(crate::specs::steps::Setting::count_in))]
 fn body_or_bytes<S: Space<Object>>(
     alloc: Global,
     space: &S,
@@ -70,7 +101,7 @@ pub fn read_body<S: Space<Object>>(
     body_or_bytes(alloc, space, method, bytes, depth.get(), counts)
 }
 
-#[tactic(auto, unfolding(crate::specs::steps::Setting::args_of))]
+#[tactic(auto, unfolding(crate::specs::steps::Setting::count_in))]
 fn fault_in<S: Space<Object>>(
     alloc: Global,
     space: &S,
@@ -100,7 +131,9 @@ pub fn why<S: Space<Object>>(
     // None exactly where the bytes have a reading.
     ensures read { IfOk result (λ w. (w ≡ None) ↔ ((ts : TermTrees) × ReadsBody (arguments (namespace_of (S.contents space.now)) (finite.get counts.now) method.now) method.now depth bytes.now ts)) }
     // What a fault says is true of the bytes.
-    ensures faults { IfOk result (λ w. IfSome w (λ f. ShowsBody method.now depth bytes.now f.reason f.place)) }
+    ensures faults { IfOk result (λ w. IfSome w (λ f. ShowsBody (arguments (namespace_of (S.contents space.now)) (finite.get counts.now) method.now) method.now depth bytes.now f.reason f.place)) }
+    // It is always sure how many values follow a name.
+    ensures sure { IfOk result (λ w. IfSome w (λ f. f.reason ≢ Unsure)) }
     // Behind statements, what can't begin one is told at its place.
     ensures next { (u w : List ℕ) (ts : TermTrees) (reason : BodyReason) → bytes.now ≡ u ++ w
         → ReadsBody (arguments (namespace_of (S.contents space.now)) (finite.get counts.now) method.now) method.now depth u ts → IsNoStatement reason w

@@ -10,61 +10,58 @@ ghost use Rattle.acpi_tree.specs.declared.place.UnitsForm.TheVariants as units;
 ghost use Rattle.acpi_code.specs.steps.Reading.{name_in};
 ghost use Rattle.acpi_body.specs.Arguments.{with_local};
 ghost use Rattle.acpi_body.specs.Statements.{locals_after, locals_after_units};
-ghost use Rattle.acpi_body.specs.steps.Setting.{grammar_of};
+ghost use Rattle.acpi_body.specs.Grammars.{body_grammar};
 ghost use Rattle.acpi_body.specs.steps.Reading.{part, term_at, fields_in, names_at, declared_at, named_form, units_form};
 ghost use Rattle.acpi_body.specs.steps.Cursor.{Gives, Reads, ReadsAll};
 
-use crate::arguments::{Context, add};
-use crate::counting::Here;
+use crate::arguments::add;
+use crate::counting::{Here, MethodCounting};
 use crate::fault::{BodyReason, Stop, refused};
 use crate::field::add_units;
 use crate::term::term;
 use acpi_code::{Code, field_elements};
 use acpi_name::{Name, Path, PlaceFault, place};
-use acpi_space::{Space, TreeSpace};
-use acpi_tree::{Decl, FieldElem, Object, Place, Term, Width};
+use acpi_space::TreeSpace;
+use acpi_tree::{Decl, FieldElem, Place, Term, Width};
 use std::alloc::Global;
 
 /// A value, which lies apart from the frame that asks for it.
 #[inline(never)]
-pub(crate) fn value<S: Space<Object>>(
-    context: &Context<'_, S>,
+pub(crate) fn value<M: MethodCounting>(
+    counting: &M,
     locals: &TreeSpace<()>,
     level: u32,
     code: &mut Code<'_>,
 ) -> Result<Box<Term>, Stop>
-    ensures { Reads (λ b. term_view (box_value b)) (term_at (grammar_of context.now locals.now) level Value) code.old code.new result }
+    ensures { Reads (λ b. term_view (box_value b)) (term_at (body_grammar (M.arguments counting.now locals.now)) level Value) code.old code.new result }
 {
     let value = term(
         &Here {
-            context: &*context,
+            counting: &*counting,
             locals: &*locals,
         },
         level,
         Place::Value,
         code,
     )?;
-    Ok(Box::new(context.alloc(), value)?)
+    Ok(Box::new(counting.alloc(), value)?)
 }
 
 // A declared name, and its place.
 #[inline(never)]
 #[tactic(auto, using(crate::proofs::Parts::part_fails), unfolding(crate::specs::steps::Reading::declared_at))]
-fn declared<S: Space<Object>>(
-    context: &Context<'_, S>,
-    code: &mut Code<'_>,
-) -> Result<(Name, Path), Stop>
-    ensures exact { Reads (λ x. x.0) (declared_at context.now.method) code.old code.new result }
-    ensures path { IfOk result (λ x. place_of context.now.method x.0 ≡ Some x.1) }
+fn declared<M: MethodCounting>(counting: &M, code: &mut Code<'_>) -> Result<(Name, Path), Stop>
+    ensures exact { Reads (λ x. x.0) (declared_at (M.method counting.now)) code.old code.new result }
+    ensures path { IfOk result (λ x. place_of (M.method counting.now) x.0 ≡ Some x.1) }
 {
     let front = code.fork();
     let name = code.name()?;
-    match place(context.alloc(), context.method(), name) {
+    match place(counting.alloc(), counting.method(), name) {
         Ok(path) => {
             if name.is_empty() {
                 return Err(refused(&front, BodyReason::BadPlace));
             }
-            Ok((name.own(context.alloc())?, path))
+            Ok((name.own(counting.alloc())?, path))
         }
         Err(PlaceFault::AboveRoot) => Err(refused(&front, BodyReason::BadPlace)),
         Err(PlaceFault::Memory) => Err(Stop::Memory),
@@ -74,38 +71,35 @@ fn declared<S: Space<Object>>(
 // A name, with memory of its own.
 #[inline(never)]
 #[tactic(auto, using(crate::proofs::Parts::part_fails))]
-fn owned_name<S: Space<Object>>(context: &Context<'_, S>, code: &mut Code<'_>) -> Result<Name, Stop>
+fn owned_name<M: MethodCounting>(counting: &M, code: &mut Code<'_>) -> Result<Name, Stop>
     ensures { Reads (λ n. n) (λ end bytes. part (name_in end bytes)) code.old code.new result }
 {
-    Ok(code.name()?.own(context.alloc())?)
+    Ok(code.name()?.own(counting.alloc())?)
 }
 
 #[inline(never)]
 #[tactic(auto, unfolding(crate::specs::steps::Reading::names_at))]
-fn two_names<S: Space<Object>>(
-    context: &Context<'_, S>,
-    code: &mut Code<'_>,
-) -> Result<(Name, Name), Stop>
+fn two_names<M: MethodCounting>(counting: &M, code: &mut Code<'_>) -> Result<(Name, Name), Stop>
     ensures { Reads (λ x. x.0 ∷ x.1 ∷ []) (names_at 2) code.old code.new result }
 {
-    let first = owned_name(context, code)?;
-    let second = owned_name(context, code)?;
+    let first = owned_name(counting, code)?;
+    let second = owned_name(counting, code)?;
     Ok((first, second))
 }
 
 // The elements that are left. Their units are locals from then on.
 #[inline(never)]
 #[tactic(auto, using(crate::proofs::Parts::field_fails))]
-fn units<S: Space<Object>>(
-    context: &Context<'_, S>,
+fn units<M: MethodCounting>(
+    counting: &M,
     locals: &mut TreeSpace<()>,
     code: &mut Code<'_>,
 ) -> Result<Vec<FieldElem>, Stop>
     ensures exact { ReadsAll (λ v. fields_view v.items) fields_in code.old result }
-    ensures locals { IfOk result (λ v. locals.new ≡ locals_after_units context.now.method locals.old (fields_view v.items)) }
+    ensures locals { IfOk result (λ v. locals.new ≡ locals_after_units (M.method counting.now) locals.old (fields_view v.items)) }
 {
-    let elems = field_elements(context.alloc(), code)?;
-    add_units(locals, context.method(), &elems)?;
+    let elems = field_elements(counting.alloc(), code)?;
+    add_units(locals, counting.method(), &elems)?;
     Ok(elems)
 }
 
@@ -119,8 +113,8 @@ fn declaration(alloc: Global, decl: Decl) -> Result<Term, Stop>
 
 // The same, of one name, whose place is a local from then on.
 #[inline(never)]
-fn declared_there<S: Space<Object>>(
-    context: &Context<'_, S>,
+fn declared_there<M: MethodCounting>(
+    counting: &M,
     locals: &mut TreeSpace<()>,
     path: Path,
     decl: Decl,
@@ -129,200 +123,200 @@ fn declared_there<S: Space<Object>>(
     ensures locals { IfOk result (λ _. locals.new ≡ with_local locals.old path) }
 {
     add(locals, path)?;
-    declaration(context.alloc(), decl)
+    declaration(counting.alloc(), decl)
 }
 
 #[inline(never)]
 #[tactic(auto, using(crate::proofs::Parts::part_fails), unfolding(crate::specs::steps::Reading::named_form, crate::specs::steps::Reading::operands_at, crate::specs::steps::Reading::operand_at))]
-pub(crate) fn name_declared<S: Space<Object>>(
-    context: &Context<'_, S>,
+pub(crate) fn name_declared<M: MethodCounting>(
+    counting: &M,
     locals: &mut TreeSpace<()>,
     level: u32,
     code: &mut Code<'_>,
 ) -> Result<Term, Stop>
-    ensures exact { Reads term_view (named_form (term_at (grammar_of context.now locals.old) level) context.now.method named.Name) code.old code.new result }
-    ensures locals { IfOk result (λ t. locals.new ≡ locals_after context.now.method locals.old (term_view t)) }
+    ensures exact { Reads term_view (named_form (term_at (body_grammar (M.arguments counting.now locals.old)) level) (M.method counting.now) named.Name) code.old code.new result }
+    ensures locals { IfOk result (λ t. locals.new ≡ locals_after (M.method counting.now) locals.old (term_view t)) }
 {
-    let (name, path) = declared(context, code)?;
+    let (name, path) = declared(counting, code)?;
     let data = term(
         &Here {
-            context: &*context,
+            counting: &*counting,
             locals: &*locals,
         },
         level,
         Place::Data,
         code,
     )?;
-    let data = Box::new(context.alloc(), data)?;
-    declared_there(context, locals, path, Decl::Name(name, data))
+    let data = Box::new(counting.alloc(), data)?;
+    declared_there(counting, locals, path, Decl::Name(name, data))
 }
 
 #[inline(never)]
 #[tactic(auto, using(crate::proofs::Parts::part_fails), unfolding(crate::specs::steps::Reading::named_form, crate::specs::steps::Reading::operands_at, crate::specs::steps::Reading::operand_at))]
-pub(crate) fn create_declared<S: Space<Object>>(
-    context: &Context<'_, S>,
+pub(crate) fn create_declared<M: MethodCounting>(
+    counting: &M,
     locals: &mut TreeSpace<()>,
     level: u32,
     width: Width,
     code: &mut Code<'_>,
 ) -> Result<Term, Stop>
-    ensures exact { Reads term_view (named_form (term_at (grammar_of context.now locals.old) level) context.now.method (named.Create width)) code.old code.new result }
-    ensures locals { IfOk result (λ t. locals.new ≡ locals_after context.now.method locals.old (term_view t)) }
+    ensures exact { Reads term_view (named_form (term_at (body_grammar (M.arguments counting.now locals.old)) level) (M.method counting.now) (named.Create width)) code.old code.new result }
+    ensures locals { IfOk result (λ t. locals.new ≡ locals_after (M.method counting.now) locals.old (term_view t)) }
 {
-    let source = value(context, locals, level, code)?;
-    let index = value(context, locals, level, code)?;
-    let (name, path) = declared(context, code)?;
+    let source = value(counting, locals, level, code)?;
+    let index = value(counting, locals, level, code)?;
+    let (name, path) = declared(counting, code)?;
     let decl = Decl::Create {
         width,
         source,
         index,
         name,
     };
-    declared_there(context, locals, path, decl)
+    declared_there(counting, locals, path, decl)
 }
 
 #[inline(never)]
 #[tactic(auto, using(crate::proofs::Parts::part_fails), unfolding(crate::specs::steps::Reading::named_form, crate::specs::steps::Reading::operands_at, crate::specs::steps::Reading::operand_at))]
-pub(crate) fn create_field_declared<S: Space<Object>>(
-    context: &Context<'_, S>,
+pub(crate) fn create_field_declared<M: MethodCounting>(
+    counting: &M,
     locals: &mut TreeSpace<()>,
     level: u32,
     code: &mut Code<'_>,
 ) -> Result<Term, Stop>
-    ensures exact { Reads term_view (named_form (term_at (grammar_of context.now locals.old) level) context.now.method named.CreateField) code.old code.new result }
-    ensures locals { IfOk result (λ t. locals.new ≡ locals_after context.now.method locals.old (term_view t)) }
+    ensures exact { Reads term_view (named_form (term_at (body_grammar (M.arguments counting.now locals.old)) level) (M.method counting.now) named.CreateField) code.old code.new result }
+    ensures locals { IfOk result (λ t. locals.new ≡ locals_after (M.method counting.now) locals.old (term_view t)) }
 {
-    let source = value(context, locals, level, code)?;
-    let index = value(context, locals, level, code)?;
-    let bits = value(context, locals, level, code)?;
-    let (name, path) = declared(context, code)?;
+    let source = value(counting, locals, level, code)?;
+    let index = value(counting, locals, level, code)?;
+    let bits = value(counting, locals, level, code)?;
+    let (name, path) = declared(counting, code)?;
     let decl = Decl::CreateField {
         source,
         index,
         bits,
         name,
     };
-    declared_there(context, locals, path, decl)
+    declared_there(counting, locals, path, decl)
 }
 
 #[inline(never)]
 #[tactic(auto, using(crate::proofs::Parts::part_fails), unfolding(crate::specs::steps::Reading::named_form, crate::specs::steps::Reading::operands_at, crate::specs::steps::Reading::operand_at))]
-pub(crate) fn region_declared<S: Space<Object>>(
-    context: &Context<'_, S>,
+pub(crate) fn region_declared<M: MethodCounting>(
+    counting: &M,
     locals: &mut TreeSpace<()>,
     level: u32,
     code: &mut Code<'_>,
 ) -> Result<Term, Stop>
-    ensures exact { Reads term_view (named_form (term_at (grammar_of context.now locals.old) level) context.now.method named.Region) code.old code.new result }
-    ensures locals { IfOk result (λ t. locals.new ≡ locals_after context.now.method locals.old (term_view t)) }
+    ensures exact { Reads term_view (named_form (term_at (body_grammar (M.arguments counting.now locals.old)) level) (M.method counting.now) named.Region) code.old code.new result }
+    ensures locals { IfOk result (λ t. locals.new ≡ locals_after (M.method counting.now) locals.old (term_view t)) }
 {
-    let (name, path) = declared(context, code)?;
+    let (name, path) = declared(counting, code)?;
     let space = code.byte()?;
-    let offset = value(context, locals, level, code)?;
-    let length = value(context, locals, level, code)?;
+    let offset = value(counting, locals, level, code)?;
+    let length = value(counting, locals, level, code)?;
     let decl = Decl::Region {
         name,
         space,
         offset,
         length,
     };
-    declared_there(context, locals, path, decl)
+    declared_there(counting, locals, path, decl)
 }
 
 #[inline(never)]
 #[tactic(auto, using(crate::proofs::Parts::part_fails), unfolding(crate::specs::steps::Reading::named_form, crate::specs::steps::Reading::operands_at, crate::specs::steps::Reading::operand_at))]
-pub(crate) fn mutex_declared<S: Space<Object>>(
-    context: &Context<'_, S>,
+pub(crate) fn mutex_declared<M: MethodCounting>(
+    counting: &M,
     locals: &mut TreeSpace<()>,
     level: u32,
     code: &mut Code<'_>,
 ) -> Result<Term, Stop>
-    ensures exact { Reads term_view (named_form (term_at (grammar_of context.now locals.old) level) context.now.method named.Mutex) code.old code.new result }
-    ensures locals { IfOk result (λ t. locals.new ≡ locals_after context.now.method locals.old (term_view t)) }
+    ensures exact { Reads term_view (named_form (term_at (body_grammar (M.arguments counting.now locals.old)) level) (M.method counting.now) named.Mutex) code.old code.new result }
+    ensures locals { IfOk result (λ t. locals.new ≡ locals_after (M.method counting.now) locals.old (term_view t)) }
 {
-    let (name, path) = declared(context, code)?;
+    let (name, path) = declared(counting, code)?;
     let flags = code.byte()?;
-    declared_there(context, locals, path, Decl::Mutex(name, flags))
+    declared_there(counting, locals, path, Decl::Mutex(name, flags))
 }
 
 #[inline(never)]
 #[tactic(auto, using(crate::proofs::Parts::part_fails), unfolding(crate::specs::steps::Reading::named_form, crate::specs::steps::Reading::operands_at, crate::specs::steps::Reading::operand_at))]
-pub(crate) fn event_declared<S: Space<Object>>(
-    context: &Context<'_, S>,
+pub(crate) fn event_declared<M: MethodCounting>(
+    counting: &M,
     locals: &mut TreeSpace<()>,
     level: u32,
     code: &mut Code<'_>,
 ) -> Result<Term, Stop>
-    ensures exact { Reads term_view (named_form (term_at (grammar_of context.now locals.old) level) context.now.method named.Event) code.old code.new result }
-    ensures locals { IfOk result (λ t. locals.new ≡ locals_after context.now.method locals.old (term_view t)) }
+    ensures exact { Reads term_view (named_form (term_at (body_grammar (M.arguments counting.now locals.old)) level) (M.method counting.now) named.Event) code.old code.new result }
+    ensures locals { IfOk result (λ t. locals.new ≡ locals_after (M.method counting.now) locals.old (term_view t)) }
 {
-    let (name, path) = declared(context, code)?;
-    declared_there(context, locals, path, Decl::Event(name))
+    let (name, path) = declared(counting, code)?;
+    declared_there(counting, locals, path, Decl::Event(name))
 }
 
 #[inline(never)]
 #[tactic(auto, using(crate::proofs::Parts::part_fails), unfolding(crate::specs::steps::Reading::units_form, crate::specs::steps::Reading::names_at, crate::specs::steps::Reading::operands_at, crate::specs::steps::Reading::operand_at))]
-pub(crate) fn field_declared<S: Space<Object>>(
-    context: &Context<'_, S>,
+pub(crate) fn field_declared<M: MethodCounting>(
+    counting: &M,
     locals: &mut TreeSpace<()>,
     level: u32,
     code: &mut Code<'_>,
 ) -> Result<Term, Stop>
-    ensures exact { Reads term_view (units_form (term_at (grammar_of context.now locals.old) level) units.Field) code.old code.new result }
-    ensures locals { IfOk result (λ t. locals.new ≡ locals_after context.now.method locals.old (term_view t)) }
+    ensures exact { Reads term_view (units_form (term_at (body_grammar (M.arguments counting.now locals.old)) level) units.Field) code.old code.new result }
+    ensures locals { IfOk result (λ t. locals.new ≡ locals_after (M.method counting.now) locals.old (term_view t)) }
 {
     let mut inner = code.package()?;
-    let region = owned_name(context, &mut inner)?;
+    let region = owned_name(counting, &mut inner)?;
     let flags = inner.byte()?;
-    let elems = units(context, locals, &mut inner)?;
+    let elems = units(counting, locals, &mut inner)?;
     let decl = Decl::Field {
         region,
         flags,
         elems,
     };
-    declaration(context.alloc(), decl)
+    declaration(counting.alloc(), decl)
 }
 
 #[inline(never)]
 #[tactic(auto, using(crate::proofs::Parts::part_fails), unfolding(crate::specs::steps::Reading::units_form, crate::specs::steps::Reading::names_at, crate::specs::steps::Reading::operands_at, crate::specs::steps::Reading::operand_at))]
-pub(crate) fn index_field_declared<S: Space<Object>>(
-    context: &Context<'_, S>,
+pub(crate) fn index_field_declared<M: MethodCounting>(
+    counting: &M,
     locals: &mut TreeSpace<()>,
     level: u32,
     code: &mut Code<'_>,
 ) -> Result<Term, Stop>
-    ensures exact { Reads term_view (units_form (term_at (grammar_of context.now locals.old) level) units.IndexField) code.old code.new result }
-    ensures locals { IfOk result (λ t. locals.new ≡ locals_after context.now.method locals.old (term_view t)) }
+    ensures exact { Reads term_view (units_form (term_at (body_grammar (M.arguments counting.now locals.old)) level) units.IndexField) code.old code.new result }
+    ensures locals { IfOk result (λ t. locals.new ≡ locals_after (M.method counting.now) locals.old (term_view t)) }
 {
     let mut inner = code.package()?;
-    let (index, datum) = two_names(context, &mut inner)?;
+    let (index, datum) = two_names(counting, &mut inner)?;
     let flags = inner.byte()?;
-    let elems = units(context, locals, &mut inner)?;
+    let elems = units(counting, locals, &mut inner)?;
     let decl = Decl::IndexField {
         index,
         datum,
         flags,
         elems,
     };
-    declaration(context.alloc(), decl)
+    declaration(counting.alloc(), decl)
 }
 
 #[inline(never)]
 #[tactic(auto, using(crate::proofs::Parts::part_fails), unfolding(crate::specs::steps::Reading::units_form, crate::specs::steps::Reading::names_at, crate::specs::steps::Reading::operands_at, crate::specs::steps::Reading::operand_at))]
-pub(crate) fn bank_field_declared<S: Space<Object>>(
-    context: &Context<'_, S>,
+pub(crate) fn bank_field_declared<M: MethodCounting>(
+    counting: &M,
     locals: &mut TreeSpace<()>,
     level: u32,
     code: &mut Code<'_>,
 ) -> Result<Term, Stop>
-    ensures exact { Reads term_view (units_form (term_at (grammar_of context.now locals.old) level) units.BankField) code.old code.new result }
-    ensures locals { IfOk result (λ t. locals.new ≡ locals_after context.now.method locals.old (term_view t)) }
+    ensures exact { Reads term_view (units_form (term_at (body_grammar (M.arguments counting.now locals.old)) level) units.BankField) code.old code.new result }
+    ensures locals { IfOk result (λ t. locals.new ≡ locals_after (M.method counting.now) locals.old (term_view t)) }
 {
     let mut inner = code.package()?;
-    let (region, bank) = two_names(context, &mut inner)?;
-    let value = value(context, locals, level, &mut inner)?;
+    let (region, bank) = two_names(counting, &mut inner)?;
+    let value = value(counting, locals, level, &mut inner)?;
     let flags = inner.byte()?;
-    let elems = units(context, locals, &mut inner)?;
+    let elems = units(counting, locals, &mut inner)?;
     let decl = Decl::BankField {
         region,
         bank,
@@ -330,5 +324,5 @@ pub(crate) fn bank_field_declared<S: Space<Object>>(
         flags,
         elems,
     };
-    declaration(context.alloc(), decl)
+    declaration(counting.alloc(), decl)
 }

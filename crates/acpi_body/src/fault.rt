@@ -55,6 +55,9 @@ pub enum BodyReason {
     /// A declared name that has no segments, or whose place would be above the root.
     #[error("B13 BadPlace")]
     BadPlace,
+    /// It isn't sure how many values follow a name. Never of a body of the strict loader.
+    #[error("S5 UnsureCount")]
+    Unsure,
 }
 
 /// Why a method body can't be read.

@@ -7,6 +7,9 @@
 //!                                             ─►  the bytes themselves        where nothing is known of MTH2
 //! ```
 //!
+//! `read_terms` reads a body against whatever counts the values behind a name, a `MethodCounting`; where that isn't sure of
+//! a name, the reading stops there.
+//!
 //! A contract sees a body as terms of `acpi_tree`, and says of which bytes they are the reading by the relation of
 //! `specs/Statements.antt`, and of a fault what it shows of them by `specs/Faults.antt`.
 #![tactic(auto)]
@@ -30,8 +33,8 @@ mod term;
 
 pub use acpi_code::Depth;
 pub use acpi_counts::Counts;
-pub use body::{Body, read_body, why};
-pub use counting::Counting;
+pub use body::{Body, read_body, read_terms, why};
+pub use counting::{Counting, MethodCounting};
 pub use fault::{BodyFault, BodyReason, Stop};
 pub use misses::{BodyMisses, OpenMiss, body_misses, body_misses_among};
 pub use term::read_term;

@@ -6,12 +6,11 @@ ghost use Rattle.std.specs.Prelude.{box_value, Some};
 ghost use Rattle.acpi_tree.specs.Terms.{if_do, else_do, no_else};
 ghost use Rattle.acpi_tree.specs.TermView.{term_view, terms_view, terms_tree, else_view};
 ghost use Rattle.acpi_body.specs.Statements.{locals_after, locals_after_else, locals_after_all};
-ghost use Rattle.acpi_body.specs.steps.Setting.{args_of, grammar_of};
+ghost use Rattle.acpi_body.specs.Grammars.{body_grammar};
 ghost use Rattle.acpi_body.specs.steps.Reading.{term_at, else_at, if_form, while_form, statement_by, statement_at, statements_at, body_at};
 ghost use Rattle.acpi_body.specs.steps.Cursor.{Gives, Reads, ReadsOn, ReadsAll};
 
-use crate::arguments::Context;
-use crate::counting::Here;
+use crate::counting::{Here, MethodCounting};
 use crate::declare::{
     bank_field_declared, create_declared, create_field_declared, event_declared, field_declared,
     index_field_declared, mutex_declared, name_declared, region_declared, value,
@@ -20,7 +19,7 @@ use crate::fault::Stop;
 use crate::term::{buffer, package, placed, var_package};
 use acpi_code::{Code, Opcode};
 use acpi_space::{Space, TreeSpace};
-use acpi_tree::{Object, Place, Term};
+use acpi_tree::{Place, Term};
 
 fn with_else(predicate: Box<Term>, then: Vec<Term>, other: Vec<Term>) -> Term
     ensures { term_view result ≡ if_do (term_view (box_value predicate)) (terms_tree then.items) (else_do (terms_tree other.items)) }
@@ -41,57 +40,57 @@ fn branch(predicate: Box<Term>, then: Vec<Term>, other: Option<Vec<Term>>) -> Te
 #[cycle(statement)]
 #[tactic(auto, using(crate::proofs::Parts::part_fails), unfolding(crate::specs::steps::Reading::if_form))]
 #[inline(never)]
-fn if_statement<S: Space<Object>>(
-    context: &Context<'_, S>,
+fn if_statement<M: MethodCounting>(
+    counting: &M,
     locals: &mut TreeSpace<()>,
     level: u32,
     code: &mut Code<'_>,
 ) -> Result<Term, Stop>
     ensures exact { Reads term_view
-        (if_form (term_at (grammar_of context.now locals.old) level) (statements_at (args_of context.now) context.now.method level) context.now.method locals.old) code.old code.new result }
-    ensures locals { IfOk result (λ t. locals.new ≡ locals_after context.now.method locals.old (term_view t)) }
+        (if_form (term_at (body_grammar (M.arguments counting.now locals.old)) level) (statements_at (M.arguments counting.now) (M.method counting.now) level) (M.method counting.now) locals.old) code.old code.new result }
+    ensures locals { IfOk result (λ t. locals.new ≡ locals_after (M.method counting.now) locals.old (term_view t)) }
 {
     let mut inner = code.package()?;
-    let predicate = value(context, locals, level, &mut inner)?;
-    let then = statements(context, locals, level, &mut inner)?;
-    let other = else_statements(context, locals, level, code)?;
+    let predicate = value(counting, locals, level, &mut inner)?;
+    let then = statements(counting, locals, level, &mut inner)?;
+    let other = else_statements(counting, locals, level, code)?;
     Ok(branch(predicate, then, other))
 }
 
 #[cycle(statement)]
 #[tactic(auto, using(crate::proofs::Parts::part_fails), unfolding(crate::specs::steps::Reading::else_at))]
-fn else_statements<S: Space<Object>>(
-    context: &Context<'_, S>,
+fn else_statements<M: MethodCounting>(
+    counting: &M,
     locals: &mut TreeSpace<()>,
     level: u32,
     code: &mut Code<'_>,
 ) -> Result<Option<Vec<Term>>, Stop>
-    ensures exact { ReadsOn else_view (else_at (statements_at (args_of context.now) context.now.method level locals.old)) code.old code.new result }
-    ensures locals { IfOk result (λ o. locals.new ≡ locals_after_else context.now.method locals.old (else_view o)) }
+    ensures exact { ReadsOn else_view (else_at (statements_at (M.arguments counting.now) (M.method counting.now) level locals.old)) code.old code.new result }
+    ensures locals { IfOk result (λ o. locals.new ≡ locals_after_else (M.method counting.now) locals.old (else_view o)) }
 {
     if code.left().first() != Some(&0xA1) {
         return Ok(None);
     }
     code.skip(1);
     let mut inner = code.package()?;
-    Ok(Some(statements(context, locals, level, &mut inner)?))
+    Ok(Some(statements(counting, locals, level, &mut inner)?))
 }
 
 #[cycle(statement)]
 #[tactic(auto, using(crate::proofs::Parts::part_fails), unfolding(crate::specs::steps::Reading::while_form))]
 #[inline(never)]
-fn while_statement<S: Space<Object>>(
-    context: &Context<'_, S>,
+fn while_statement<M: MethodCounting>(
+    counting: &M,
     locals: &mut TreeSpace<()>,
     level: u32,
     code: &mut Code<'_>,
 ) -> Result<Term, Stop>
-    ensures exact { Reads term_view (while_form (term_at (grammar_of context.now locals.old) level) (statements_at (args_of context.now) context.now.method level) locals.old) code.old code.new result }
-    ensures locals { IfOk result (λ t. locals.new ≡ locals_after context.now.method locals.old (term_view t)) }
+    ensures exact { Reads term_view (while_form (term_at (body_grammar (M.arguments counting.now locals.old)) level) (statements_at (M.arguments counting.now) (M.method counting.now) level) locals.old) code.old code.new result }
+    ensures locals { IfOk result (λ t. locals.new ≡ locals_after (M.method counting.now) locals.old (term_view t)) }
 {
     let mut inner = code.package()?;
-    let predicate = value(context, locals, level, &mut inner)?;
-    let then = statements(context, locals, level, &mut inner)?;
+    let predicate = value(counting, locals, level, &mut inner)?;
+    let then = statements(counting, locals, level, &mut inner)?;
     Ok(Term::While(predicate, then))
 }
 
@@ -103,18 +102,18 @@ fn room(left: usize) -> usize {
 }
 
 #[cycle(statement)]
-fn statements<S: Space<Object>>(
-    context: &Context<'_, S>,
+fn statements<M: MethodCounting>(
+    counting: &M,
     locals: &mut TreeSpace<()>,
     level: u32,
     code: &mut Code<'_>,
 ) -> Result<Vec<Term>, Stop>
-    ensures exact { ReadsAll (λ v. terms_view v.items) (statements_at (args_of context.now) context.now.method level locals.old) code.old result }
-    ensures locals { IfOk result (λ v. locals.new ≡ locals_after_all context.now.method locals.old (terms_tree v.items)) }
+    ensures exact { ReadsAll (λ v. terms_view v.items) (statements_at (M.arguments counting.now) (M.method counting.now) level locals.old) code.old result }
+    ensures locals { IfOk result (λ v. locals.new ≡ locals_after_all (M.method counting.now) locals.old (terms_tree v.items)) }
 {
-    let mut found = Vec::with_capacity(context.alloc(), room(code.left().len()))?;
+    let mut found = Vec::with_capacity(counting.alloc(), room(code.left().len()))?;
     'each: while !code.is_empty() {
-        found.push(statement(context, locals, level, code)?)?;
+        found.push(statement(counting, locals, level, code)?)?;
     }
     Ok(found)
 }
@@ -122,8 +121,8 @@ fn statements<S: Space<Object>>(
 // The statement whose first opcode, behind `front`, was read; `level` levels are left inside it.
 #[cycle(statement)]
 #[tactic(auto, unfolding(crate::specs::steps::Reading::statement_by, crate::specs::steps::Reading::placed_by, crate::specs::steps::Reading::form_by))]
-fn form<'a, S: Space<Object>>(
-    context: &Context<'_, S>,
+fn form<'a, M: MethodCounting>(
+    counting: &M,
     locals: &mut TreeSpace<()>,
     level: u32,
     front: &Code<'a>,
@@ -132,25 +131,25 @@ fn form<'a, S: Space<Object>>(
 ) -> Result<Term, Stop>
     requires ends { front.now.end ≡ code.old.end }
     requires behind { length code.old.bytes < length front.now.bytes }
-    ensures exact { Reads term_view (λ end whole. statement_by (grammar_of context.now locals.old) (term_at (grammar_of context.now locals.old) level)
-        (statements_at (args_of context.now) context.now.method level) context.now.method locals.old end whole opcode code.old.bytes) front.now code.new result }
-    ensures locals { IfOk result (λ t. locals.new ≡ locals_after context.now.method locals.old (term_view t)) }
+    ensures exact { Reads term_view (λ end whole. statement_by (body_grammar (M.arguments counting.now locals.old)) (term_at (body_grammar (M.arguments counting.now locals.old)) level)
+        (statements_at (M.arguments counting.now) (M.method counting.now) level) (M.method counting.now) locals.old end whole opcode code.old.bytes) front.now code.new result }
+    ensures locals { IfOk result (λ t. locals.new ≡ locals_after (M.method counting.now) locals.old (term_view t)) }
 {
     match opcode {
-        Opcode::If => if_statement(context, locals, level, code),
-        Opcode::While => while_statement(context, locals, level, code),
-        Opcode::DeclareName => name_declared(context, locals, level, code),
-        Opcode::Create(width) => create_declared(context, locals, level, width, code),
-        Opcode::CreateField => create_field_declared(context, locals, level, code),
-        Opcode::Region => region_declared(context, locals, level, code),
-        Opcode::Mutex => mutex_declared(context, locals, level, code),
-        Opcode::Event => event_declared(context, locals, level, code),
-        Opcode::Field => field_declared(context, locals, level, code),
-        Opcode::IndexField => index_field_declared(context, locals, level, code),
-        Opcode::BankField => bank_field_declared(context, locals, level, code),
+        Opcode::If => if_statement(counting, locals, level, code),
+        Opcode::While => while_statement(counting, locals, level, code),
+        Opcode::DeclareName => name_declared(counting, locals, level, code),
+        Opcode::Create(width) => create_declared(counting, locals, level, width, code),
+        Opcode::CreateField => create_field_declared(counting, locals, level, code),
+        Opcode::Region => region_declared(counting, locals, level, code),
+        Opcode::Mutex => mutex_declared(counting, locals, level, code),
+        Opcode::Event => event_declared(counting, locals, level, code),
+        Opcode::Field => field_declared(counting, locals, level, code),
+        Opcode::IndexField => index_field_declared(counting, locals, level, code),
+        Opcode::BankField => bank_field_declared(counting, locals, level, code),
         Opcode::Buffer => buffer(
             &Here {
-                context: &*context,
+                counting: &*counting,
                 locals: &*locals,
             },
             level,
@@ -158,7 +157,7 @@ fn form<'a, S: Space<Object>>(
         ),
         Opcode::Package => package(
             &Here {
-                context: &*context,
+                counting: &*counting,
                 locals: &*locals,
             },
             level,
@@ -166,7 +165,7 @@ fn form<'a, S: Space<Object>>(
         ),
         Opcode::VarPackage => var_package(
             &Here {
-                context: &*context,
+                counting: &*counting,
                 locals: &*locals,
             },
             level,
@@ -174,7 +173,7 @@ fn form<'a, S: Space<Object>>(
         ),
         _ => placed(
             &Here {
-                context: &*context,
+                counting: &*counting,
                 locals: &*locals,
             },
             level,
@@ -188,31 +187,31 @@ fn form<'a, S: Space<Object>>(
 
 #[cycle(statement)]
 #[tactic(auto, using(crate::proofs::Parts::part_fails), unfolding(crate::specs::steps::Reading::statement_at))]
-fn statement<S: Space<Object>>(
-    context: &Context<'_, S>,
+fn statement<M: MethodCounting>(
+    counting: &M,
     locals: &mut TreeSpace<()>,
     level: u32,
     code: &mut Code<'_>,
 ) -> Result<Term, Stop>
-    ensures exact { Reads term_view (statement_at (args_of context.now) context.now.method level locals.old) code.old code.new result }
-    ensures locals { IfOk result (λ t. locals.new ≡ locals_after context.now.method locals.old (term_view t)) }
+    ensures exact { Reads term_view (statement_at (M.arguments counting.now) (M.method counting.now) level locals.old) code.old code.new result }
+    ensures locals { IfOk result (λ t. locals.new ≡ locals_after (M.method counting.now) locals.old (term_view t)) }
 {
     if level == 0 {
         return Err(code.too_deep().into());
     }
     let front = code.fork();
     let opcode = code.opcode()?;
-    form(context, locals, level - 1, &front, opcode, code)
+    form(counting, locals, level - 1, &front, opcode, code)
 }
 
 /// All of a body, with at most `depth` levels.
-pub(crate) fn body<S: Space<Object>>(
-    context: &Context<'_, S>,
+pub(crate) fn body<M: MethodCounting>(
+    counting: &M,
     depth: u32,
     bytes: &[u8],
 ) -> Result<Vec<Term>, Stop>
-    ensures { Gives (λ v. terms_view v.items) result (body_at (args_of context.now) context.now.method depth finite.empty bytes.now) }
+    ensures { Gives (λ v. terms_view v.items) result (body_at (M.arguments counting.now) (M.method counting.now) depth finite.empty bytes.now) }
 {
-    let mut locals = TreeSpace::new(context.alloc());
-    statements(context, &mut locals, depth, &mut Code::new(bytes))
+    let mut locals = TreeSpace::new(counting.alloc());
+    statements(counting, &mut locals, depth, &mut Code::new(bytes))
 }

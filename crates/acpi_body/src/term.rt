@@ -148,7 +148,7 @@ fn reference_to(alloc: Global, name: NameRef<'_>) -> Result<Term, Stop>
     Ok(Term::Ref(name.own(alloc)?))
 }
 
-// A name, and the values that follow it where it calls.
+// A name, and where it calls the values that follow it, if it is sure how many.
 #[cycle(read)]
 #[tactic(auto, using(crate::proofs::Parts::part_fails), unfolding(crate::specs::steps::Reading::name_form))]
 #[inline(never)]
@@ -160,9 +160,12 @@ fn named<C: Counting>(
 ) -> Result<Term, Stop>
     ensures { Reads term_view (name_form (C.grammar counting.now).args (term_at (C.grammar counting.now) level) place) code.old code.new result }
 {
+    let front = code.fork();
     let name = code.name()?;
     if is_call(place) {
-        let count = counting.count(name)?;
+        let Some(count) = counting.count(name)? else {
+            return Err(refused(&front, BodyReason::Unsure));
+        };
         let values = arguments(counting, level, count, code)?;
         call_of(counting.alloc(), name, values)
     } else {
@@ -325,7 +328,8 @@ pub(crate) fn term<C: Counting>(
 
 /// The term at the front, at a place, `level` levels being left for it: a value, a super name, an element, data, or what
 /// stands as a statement and is no block and no declaration. Behind a name where it calls stand as many values as
-/// `counting` says; LoadTable, Load and Unload stand where it allows them, and are refused as `LeftOut` where it doesn't.
+/// `counting` says, and a name of which it isn't sure is refused as `Unsure`; LoadTable, Load and Unload stand where it
+/// allows them, and are refused as `LeftOut` where it doesn't.
 pub fn read_term<C: Counting>(
     counting: &C,
     level: u32,

@@ -88,7 +88,7 @@ among_either (z ∷ xs) ys x (inr i) = by (among_either xs ys x i)
 
 -- what `why` answers
 pub reason_of : {E : Type 0} (args : Arguments) (s : List Segment) (depth : ℕ) (bytes : List ℕ) (r : Result (Option BodyFault) E)
-    → IfOk r (λ w. (w ≡ None) ↔ ((ts : TermTrees) × ReadsBody args s depth bytes ts)) → IfOk r (λ w. IfSome w (λ f. ShowsBody s depth bytes f.reason f.place))
+    → IfOk r (λ w. (w ≡ None) ↔ ((ts : TermTrees) × ReadsBody args s depth bytes ts)) → IfOk r (λ w. IfSome w (λ f. ShowsBody args s depth bytes f.reason f.place))
     → ((u v : List ℕ) (ts : TermTrees) (reason : BodyReason) → bytes ≡ u ++ v → ReadsBody args s depth u ts → IsNoStatement reason v
     → IfOk r (λ w. w ≡ Some (record { reason = reason; place = length u })))
     → IfOk r (λ w. IsReason args s depth bytes w)

@@ -14,7 +14,7 @@ use Rattle.acpi_tree.specs.Terms.{TermTrees}
 use Rattle.acpi_declare.specs.Namespace.{Namespace}
 use Rattle.acpi_declare.specs.Links.{answers}
 use Rattle.acpi_declare.proofs.Unions.{path_same}
-use Rattle.acpi_body.specs.Arguments.{Locals, defined_with, expected_place, expected_at, args_at}
+use Rattle.acpi_body.specs.Arguments.{Locals, defined_with, expected_place, expected_at, args_at, count_behind}
 use Rattle.acpi_body.specs.Bodies.{BodyTree, read, unread}
 use Rattle.acpi_order.specs.Bodies.{Method, count, IsReading, IsBody}
 use Rattle.acpi_order.specs.Misses.{IsBodyMiss, IsAwaiting}
@@ -116,8 +116,8 @@ module _ (N M : Namespace) (Miss : List Segment → Type 0) (Await : List Segmen
 
   -- the count is kept where each path that was missed is a miss
   kept_firm : (locals : Locals) (n : NameParts) → ((p : List Segment) → Among (missed (defined_with N locals) m.path n) p → Miss p) → count M m locals n ≡ count N m locals n
-  kept_firm locals n missing = kept_count N M kept.up locals (expected m n) (tries m.path n)
-      (all_among _ _ (λ p k o at. absurd (not_both (M p) o at (kept.free p (none_at locals n p k) (missing p k)))))
+  kept_firm locals n missing = ap Some (kept_count N M kept.up locals (expected m n) (tries m.path n)
+      (all_among _ _ (λ p k o at. absurd (not_both (M p) o at (kept.free p (none_at locals n p k) (missing p k))))))
 
   -- .. and where one of them, whose External gave the count, is awaited
   kept_open : (locals : Locals) (n : NameParts)
@@ -139,9 +139,9 @@ module _ (N M : Namespace) (Miss : List Segment → Type 0) (Await : List Segmen
       by (Some a) is =
           let both = unless_is (answer (defined_with N locals) m.path n) _ a is in
           let r = is_some_of (m.counts a) (found_passes (λ q. is_some (m.counts q)) (tries m.path n) a both.1) in
-          let counted : count N m locals n ≡ r.0 = ap (args_at N locals (expected m n)) both.0 ∙ ap (expected_at m.counts) both.1 ∙ ap (λ c. unwrap_or c 0) r.1 in
-          kept_count N M kept.up locals (expected m n) (tries m.path n)
-          (all_among _ _ (λ p i. subst (λ k. IsHarmless M k p) (sym counted) (harmless a is r.0 r.1 p i (is_same_path p a) refl)))
+          let counted : count_behind N m.counts m.path locals n ≡ r.0 = ap (args_at N locals (expected m n)) both.0 ∙ ap (expected_at m.counts) both.1 ∙ ap (λ c. unwrap_or c 0) r.1 in
+          ap Some (kept_count N M kept.up locals (expected m n) (tries m.path n)
+          (all_among _ _ (λ p i. subst (λ k. IsHarmless M k p) (sym counted) (harmless a is r.0 r.1 p i (is_same_path p a) refl))))
 
   module _ (depth : ℕ) (missing : (p : List Segment) → IsBodyMiss depth N m p → Miss p) (awaits : (p : List Segment) (k : ℕ) → IsAwaiting depth N m p k → Await p k) where
     kept_reading : (ts : TermTrees) → IsReading depth N m ts → IsReading depth M m ts

@@ -15,8 +15,6 @@ use Rattle.acpi_declare.specs.Notes.{external_counts, scope_misses}
 use Rattle.acpi_declare.specs.Predefined.{predefined}
 use Rattle.acpi_body.specs.Arguments.{defined_with, args_at, expected_at, expected_place}
 use Rattle.acpi_body.specs.Bodies.{read}
-use Rattle.acpi_body.specs.Grammars.{body_grammar}
-use Rattle.acpi_body.specs.Spelling.{values, AreOperands}
 use Rattle.acpi_body.specs.Misses.{unless_found, awaited_place}
 use Rattle.acpi_order.specs.Bodies.{Method, count, IsReading}
 use Rattle.acpi_order.specs.Misses.{IsBodyMiss, IsAwaiting}
@@ -63,17 +61,14 @@ nowhere = λ i q. ap (λ (o : Option (Unit {0})). is_some o || false) (get-empty
 abbrev values_by : (List Segment → Bool) → ℕ
 values_by d = args_at nothing finite.empty (expected_at caller.counts (expected_place caller.counts caller.path (plain mth2))) (answer d caller.path (plain mth2))
 
-no_values : count nothing caller finite.empty (plain mth2) ≡ 0
-no_values = ap values_by nowhere
+no_values : count nothing caller finite.empty (plain mth2) ≡ Some 0
+no_values = ap (λ (d : List Segment → Bool). Some (values_by d)) nowhere
 
 abbrev statement : TermTrees
 statement = more (call (plain mth2) no_terms) no_terms
 
 reading : IsReading 1 nothing caller statement
-reading =
-    let operands : AreOperands (body_grammar (count nothing caller finite.empty)) (values (count nothing caller finite.empty (plain mth2))) no_terms [] =
-    subst (λ k. AreOperands (body_grammar (count nothing caller finite.empty)) (values k) no_terms []) (sym no_values) refl in
-    record { spelled = (mth2, [], (refl, (mth2, [], (name_written (plain mth2) is_name, refl), operands, refl)), refl, refl); within = omega arith }
+reading = record { spelled = (mth2, [], (refl, (0, mth2, [], no_values, (name_written (plain mth2) is_name, refl), refl, refl)), refl, refl); within = omega arith }
 
 awaited : awaited_place nothing caller.counts caller.path finite.empty (plain mth2) ≡ Some (mth2 ∷ [])
 awaited = ap (λ (d : List Segment → Bool). unless_found (answer d caller.path (plain mth2)) (expected_place caller.counts caller.path (plain mth2))) nowhere

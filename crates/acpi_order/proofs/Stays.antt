@@ -115,7 +115,7 @@ module _ (objects more : Namespace) (locals : Locals) where
 
   count_stays : (m : Method) (n : NameParts) → ((p : List Segment) → Among (missed (defined_with objects locals) m.path n) p → more p ≡ None)
       → count P m locals n ≡ count objects m locals n
-  count_stays m n quiet = ap (args_at P locals (expected m n)) (with_answer m.path n quiet) ∙ args_stay (expected m n) m.path n (answer (defined_with objects locals) m.path n) refl
+  count_stays m n quiet = ap Some (ap (args_at P locals (expected m n)) (with_answer m.path n quiet) ∙ args_stay (expected m n) m.path n (answer (defined_with objects locals) m.path n) refl)
 
   awaited_stays : (m : Method) (n : NameParts) → ((p : List Segment) → Among (missed (defined_with objects locals) m.path n) p → more p ≡ None)
       → awaited_place P m.counts m.path locals n ≡ awaited_place objects m.counts m.path locals n

@@ -1,5 +1,5 @@
 -- No spelling is shorter: terms.
-use Rattle.std.proofs.Common.{◌≡◌, ◌<◌, ℕ, zero, suc, List, [], ◌∷◌, ◌++◌, Option, Some, None, refl, ap, arith}
+use Rattle.std.proofs.Common.{◌≡◌, ◌<◌, ℕ, zero, suc, List, [], ◌∷◌, ◌++◌, Option, Some, None, refl, sym, ap, ◌∙◌, arith}
 use Rattle.std.proofs.lemmas.List.Elements.{recursion_from_All}
 use Rattle.std.specs.FinMap as finite
 use Rattle.std.specs.Fmt.{option_append}
@@ -35,7 +35,7 @@ within_package op content inner bytes all packs h = within_packed op [] content 
 -- ---- values
 
 mutual
-  term_short : (args : NameParts → ℕ) (t : TermTree) (bytes : List ℕ) → AreBytes bytes → Spells (body_grammar args) t bytes → HasWithin (term_bytes t) bytes
+  term_short : (args : NameParts → Option ℕ) (t : TermTree) (bytes : List ℕ) → AreBytes bytes → Spells (body_grammar args) t bytes → HasWithin (term_bytes t) bytes
   term_short args (int i) bytes all h = int_short i bytes h
   term_short args (str text) bytes all h = rw (h.2, h.1.1) (omega arith)
   term_short args (buffer size content) bytes all (s, stands, hs, packs) =
@@ -57,9 +57,9 @@ mutual
   term_short args no_target bytes all h = rw h (omega arith)
   term_short args (raw k n) bytes all h = number_short k n bytes h
   term_short args (ref n) bytes all h = name_shortest n bytes h.0
-  term_short args (call n vs) bytes all (w, x, named, hs, whole) =
+  term_short args (call n vs) bytes all (count, w, x, sure, named, hs, whole) =
       let split = parts w x bytes whole all in
-      within_both (Some (name_bytes n)) (terms_bytes vs) w x bytes (name_shortest n w named.0) (operands_short args (values (args n)) vs x split.1 hs) whole
+      within_both (Some (name_bytes n)) (terms_bytes vs) w x bytes (name_shortest n w named.0) (operands_short args (values count) vs x split.1 hs) whole
   term_short args (apply op vs) bytes all (x, allowed, hs, whole) =
       let split = parts (operator_bytes op) x bytes whole all in
       within_both (Some (operator_bytes op)) (terms_bytes vs) (operator_bytes op) x bytes (omega arith) (operands_short args (operands_of op) vs x split.1 hs) whole
@@ -68,7 +68,7 @@ mutual
   term_short args (declare form before n behind) bytes all h = absurd h
   term_short args (declare_units form ns vs es) bytes all h = absurd h
 
-  operands_short : (args : NameParts → ℕ) (ks : List OperandKind) (ts : TermTrees) (bytes : List ℕ) → AreBytes bytes → AreOperands (body_grammar args) ks ts bytes → HasWithin (terms_bytes ts) bytes
+  operands_short : (args : NameParts → Option ℕ) (ks : List OperandKind) (ts : TermTrees) (bytes : List ℕ) → AreBytes bytes → AreOperands (body_grammar args) ks ts bytes → HasWithin (terms_bytes ts) bytes
   operands_short args [] no_terms bytes all h = omega arith
   operands_short args (k ∷ ks) no_terms bytes all h = absurd h
   operands_short args [] (more t ts) bytes all h = absurd h
@@ -76,14 +76,14 @@ mutual
       let split = parts a b bytes whole all in
       within_both (term_bytes t) (terms_bytes ts) a b bytes (term_short args t a split.0 first) (operands_short args ks ts b split.1 rest) whole
 
-  elements_short : (args : NameParts → ℕ) (ts : TermTrees) (bytes : List ℕ) → AreBytes bytes → AreElements (body_grammar args) ts bytes → HasWithin (terms_bytes ts) bytes
+  elements_short : (args : NameParts → Option ℕ) (ts : TermTrees) (bytes : List ℕ) → AreBytes bytes → AreElements (body_grammar args) ts bytes → HasWithin (terms_bytes ts) bytes
   elements_short args no_terms bytes all h = omega arith
   elements_short args (more t ts) bytes all (a, b, stands, first, rest, whole) =
       let split = parts a b bytes whole all in
       within_both (term_bytes t) (terms_bytes ts) a b bytes (term_short args t a split.0 first) (elements_short args ts b split.1 rest) whole
 
 mutual
-  term_typed : (args : NameParts → ℕ) (t : TermTree) (bytes : List ℕ) → AreBytes bytes → Spells (body_grammar args) t bytes → IsTermTyped t
+  term_typed : (args : NameParts → Option ℕ) (t : TermTree) (bytes : List ℕ) → AreBytes bytes → Spells (body_grammar args) t bytes → IsTermTyped t
   term_typed args (int i) bytes all h = int_typed i bytes all h
   term_typed args (str text) bytes all h = tt
   term_typed args (buffer size content) bytes all (s, stands, hs, packs) = term_typed args size s (parts s content (s ++ content) refl (packed (17 ∷ []) (s ++ content) bytes packs all)).0 hs
@@ -97,32 +97,32 @@ mutual
   term_typed args no_target bytes all h = tt
   term_typed args (raw k n) bytes all h = number_below k n bytes all h
   term_typed args (ref n) bytes all h = h.0.is_name
-  term_typed args (call n vs) bytes all (w, x, named, hs, whole) = (named.0.is_name, operands_typed args (values (args n)) vs x (parts w x bytes whole all).1 hs)
+  term_typed args (call n vs) bytes all (count, w, x, sure, named, hs, whole) = (named.0.is_name, operands_typed args (values count) vs x (parts w x bytes whole all).1 hs)
   term_typed args (apply op vs) bytes all (x, allowed, hs, whole) = operands_typed args (operands_of op) vs x (parts (operator_bytes op) x bytes whole all).1 hs
   term_typed args (if_do v ts e) bytes all h = absurd h
   term_typed args (while_do v ts) bytes all h = absurd h
   term_typed args (declare form before n behind) bytes all h = absurd h
   term_typed args (declare_units form ns vs es) bytes all h = absurd h
 
-  operands_typed : (args : NameParts → ℕ) (ks : List OperandKind) (ts : TermTrees) (bytes : List ℕ) → AreBytes bytes → AreOperands (body_grammar args) ks ts bytes → AreTermsTyped ts
+  operands_typed : (args : NameParts → Option ℕ) (ks : List OperandKind) (ts : TermTrees) (bytes : List ℕ) → AreBytes bytes → AreOperands (body_grammar args) ks ts bytes → AreTermsTyped ts
   operands_typed args [] no_terms bytes all h = tt
   operands_typed args (k ∷ ks) no_terms bytes all h = absurd h
   operands_typed args [] (more t ts) bytes all h = absurd h
   operands_typed args (k ∷ ks) (more t ts) bytes all (a, b, stands, first, rest, whole) = let split = parts a b bytes whole all in
       (term_typed args t a split.0 first, operands_typed args ks ts b split.1 rest)
 
-  elements_typed : (args : NameParts → ℕ) (ts : TermTrees) (bytes : List ℕ) → AreBytes bytes → AreElements (body_grammar args) ts bytes → AreTermsTyped ts
+  elements_typed : (args : NameParts → Option ℕ) (ts : TermTrees) (bytes : List ℕ) → AreBytes bytes → AreElements (body_grammar args) ts bytes → AreTermsTyped ts
   elements_typed args no_terms bytes all h = tt
   elements_typed args (more t ts) bytes all (a, b, stands, first, rest, whole) = let split = parts a b bytes whole all in (term_typed args t a split.0 first, elements_typed args ts b split.1 rest)
 
-counted_values : (args : NameParts → ℕ) (n : ℕ) (ts : TermTrees) (bytes : List ℕ) → AreOperands (body_grammar args) (values n) ts bytes → count_of ts ≡ n
+counted_values : (args : NameParts → Option ℕ) (n : ℕ) (ts : TermTrees) (bytes : List ℕ) → AreOperands (body_grammar args) (values n) ts bytes → count_of ts ≡ n
 counted_values args zero no_terms bytes h = refl
 counted_values args zero (more t ts) bytes h = absurd h
 counted_values args (suc n) no_terms bytes h = absurd h
 counted_values args (suc n) (more t ts) bytes (a, b, stands, first, rest, whole) = ap (λ (k : ℕ). suc k) (counted_values args n ts b rest)
 
 mutual
-  term_counted : (args : NameParts → ℕ) (t : TermTree) (bytes : List ℕ) → Spells (body_grammar args) t bytes → IsCounted args t
+  term_counted : (args : NameParts → Option ℕ) (t : TermTree) (bytes : List ℕ) → Spells (body_grammar args) t bytes → IsCounted args t
   term_counted args (int i) bytes h = tt
   term_counted args (str text) bytes h = tt
   term_counted args (buffer size content) bytes h = term_counted args size h.0 h.2
@@ -134,20 +134,20 @@ mutual
   term_counted args no_target bytes h = tt
   term_counted args (raw k n) bytes h = tt
   term_counted args (ref n) bytes h = tt
-  term_counted args (call n vs) bytes (w, x, named, hs, whole) = (counted_values args (args n) vs x hs, operands_counted args (values (args n)) vs x hs)
+  term_counted args (call n vs) bytes (count, w, x, sure, named, hs, whole) = (sure ∙ ap Some (sym (counted_values args count vs x hs)), operands_counted args (values count) vs x hs)
   term_counted args (apply op vs) bytes h = operands_counted args (operands_of op) vs h.0 h.2
   term_counted args (if_do v ts e) bytes h = h
   term_counted args (while_do v ts) bytes h = h
   term_counted args (declare form before n behind) bytes h = h
   term_counted args (declare_units form ns vs es) bytes h = h
 
-  operands_counted : (args : NameParts → ℕ) (ks : List OperandKind) (ts : TermTrees) (bytes : List ℕ) → AreOperands (body_grammar args) ks ts bytes → AreCounted args ts
+  operands_counted : (args : NameParts → Option ℕ) (ks : List OperandKind) (ts : TermTrees) (bytes : List ℕ) → AreOperands (body_grammar args) ks ts bytes → AreCounted args ts
   operands_counted args [] no_terms bytes h = tt
   operands_counted args (k ∷ ks) no_terms bytes h = absurd h
   operands_counted args [] (more t ts) bytes h = absurd h
   operands_counted args (k ∷ ks) (more t ts) bytes (a, b, stands, first, rest, whole) = (term_counted args t a first, operands_counted args ks ts b rest)
 
-  elements_counted : (args : NameParts → ℕ) (ts : TermTrees) (bytes : List ℕ) → AreElements (body_grammar args) ts bytes → AreCounted args ts
+  elements_counted : (args : NameParts → Option ℕ) (ts : TermTrees) (bytes : List ℕ) → AreElements (body_grammar args) ts bytes → AreCounted args ts
   elements_counted args no_terms bytes h = tt
   elements_counted args (more t ts) bytes (a, b, stands, first, rest, whole) = (term_counted args t a first, elements_counted args ts b rest)
 

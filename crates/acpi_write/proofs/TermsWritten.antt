@@ -1,5 +1,5 @@
 -- What is written of terms spells them.
-use Rattle.std.proofs.Common.{◌≡◌, ◌≤◌, ◌+◌, ◌%◌, ℕ, true, not, ◌&&◌, List, [], ◌∷◌, ◌++◌, length, Some, refl, sym, ap, subst, ◌∙◌, arith}
+use Rattle.std.proofs.Common.{◌≡◌, ◌≤◌, ◌+◌, ◌%◌, ℕ, true, not, ◌&&◌, List, [], ◌∷◌, ◌++◌, length, Option, Some, refl, sym, ap, subst, ◌∙◌, arith}
 use Rattle.std.specs.FinMap as finite
 use Rattle.std.specs.List.{AllByRecursion, list_all}
 use Rattle.std.specs.Prelude.{nat_eq}
@@ -35,7 +35,7 @@ as_operands (more t ts) = ap (λ b. may_stand Value t && term_fits t && b) (as_o
 -- ---- values
 
 mutual
-  term_written : (args : NameParts → ℕ) (t : TermTree) (bytes : List ℕ) → IsTermTyped t → term_fits t ≡ true → IsCounted args t → term_bytes t ≡ Some bytes → Spells (body_grammar args) t bytes
+  term_written : (args : NameParts → Option ℕ) (t : TermTree) (bytes : List ℕ) → IsTermTyped t → term_fits t ≡ true → IsCounted args t → term_bytes t ≡ Some bytes → Spells (body_grammar args) t bytes
   term_written args (int i) bytes h fit k e = subst (SpellsInt i) (some_is (int_bytes i) bytes e) (int_written i h)
   term_written args (str text) bytes h fit k e = (text ++ 0 ∷ [], (text_written text fit, refl), sym (some_is (13 ∷ (text ++ 0 ∷ [])) bytes e))
   term_written args (buffer size content) bytes h fit k e =
@@ -72,7 +72,7 @@ mutual
       let named = term_name_written n h.0 (not_false (is_null_name n) (first_of (not (is_null_name n)) (all_stand Value vs) fit)) in
       let fits_values = sym (as_operands vs) ∙ second_of (not (is_null_name n)) (all_stand Value vs) fit in
       let operands = operands_written args (values (count_of vs)) vs b.0 h.1 fits_values k.1 b.1 in
-      (name_bytes n, b.0, named, subst (λ c. AreOperands (body_grammar args) (values c) vs b.0) k.0 operands, b.2)
+      (count_of vs, name_bytes n, b.0, k.0, named, operands, b.2)
   term_written args (apply op vs) bytes h fit k e =
       let b = front_is (operator_bytes op) (terms_bytes vs) bytes e in
       let no_load = first_of (not (is_load op)) (operands_fit (operands_of op) vs) fit in
@@ -83,7 +83,7 @@ mutual
   term_written args (declare form before n behind) bytes h fit k e = absurd k
   term_written args (declare_units form ns vs es) bytes h fit k e = absurd k
 
-  elements_written : (args : NameParts → ℕ) (ts : TermTrees) (bytes : List ℕ) → AreTermsTyped ts → all_stand Element ts ≡ true → AreCounted args ts
+  elements_written : (args : NameParts → Option ℕ) (ts : TermTrees) (bytes : List ℕ) → AreTermsTyped ts → all_stand Element ts ≡ true → AreCounted args ts
       → terms_bytes ts ≡ Some bytes → AreElements (body_grammar args) ts bytes
   elements_written args no_terms bytes h fit k e = sym (some_is [] bytes e)
   elements_written args (more t ts) bytes h fit k e =
@@ -97,7 +97,7 @@ mutual
         b.whole,
       )
 
-  operands_written : (args : NameParts → ℕ) (ks : List OperandKind) (ts : TermTrees) (bytes : List ℕ) → AreTermsTyped ts → operands_fit ks ts ≡ true
+  operands_written : (args : NameParts → Option ℕ) (ks : List OperandKind) (ts : TermTrees) (bytes : List ℕ) → AreTermsTyped ts → operands_fit ks ts ≡ true
       → AreCounted args ts → terms_bytes ts ≡ Some bytes → AreOperands (body_grammar args) ks ts bytes
   operands_written args [] no_terms bytes h fit k e = sym (some_is [] bytes e)
   operands_written args (p ∷ ks) no_terms bytes h fit k e = absurd cc

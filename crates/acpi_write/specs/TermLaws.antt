@@ -1,5 +1,5 @@
 -- What is written of terms is read again (ACPI 6.5, 20.2.5).
-use Rattle.std.specs.Prelude.{◌≡◌, ◌<◌, ◌≤◌, ◌^◌, ℕ, zero, suc, true, List, Some}
+use Rattle.std.specs.Prelude.{◌≡◌, ◌<◌, ◌≤◌, ◌^◌, ℕ, zero, suc, true, List, Option, Some}
 use Rattle.std.specs.FinMap as finite
 use Rattle.std.specs.List.{AllByRecursion}
 use Rattle.acpi_name.specs.Names.{IsName, Segment, NameParts}
@@ -43,13 +43,13 @@ abbrev pub count_of : TermTrees → ℕ
 count_of no_terms = zero
 count_of (more t ts) = suc (count_of ts)
 
--- each call in the value has as many arguments as its name asks for; a block or a declaration is no value
+-- it is sure of each call in the value how many arguments its name asks for, and it has as many; a block or a declaration is no value
 abbrev mutual
-  pub IsCounted : (NameParts → ℕ) → TermTree → Type 0
+  pub IsCounted : (NameParts → Option ℕ) → TermTree → Type 0
   IsCounted args (buffer size content) = IsCounted args size
   IsCounted args (pkg count es) = AreCounted args es
   IsCounted args (var_pkg count es) = IsCounted args count × AreCounted args es
-  IsCounted args (call n vs) = (count_of vs ≡ args n) × AreCounted args vs
+  IsCounted args (call n vs) = (args n ≡ Some (count_of vs)) × AreCounted args vs
   IsCounted args (apply op vs) = AreCounted args vs
   IsCounted args (if_do v ts e) = ⊥
   IsCounted args (while_do v ts) = ⊥
@@ -57,7 +57,7 @@ abbrev mutual
   IsCounted args (declare_units form ns vs es) = ⊥
   IsCounted args _ = Unit {0}
 
-  pub AreCounted : (NameParts → ℕ) → TermTrees → Type 0
+  pub AreCounted : (NameParts → Option ℕ) → TermTrees → Type 0
   AreCounted args no_terms = Unit {0}
   AreCounted args (more t ts) = IsCounted args t × AreCounted args ts
 

@@ -5,7 +5,7 @@ use Rattle.acpi_tree.specs.Objects.{ObjectTree}
 use Rattle.acpi_text.specs.Lines.{line_text}
 use Rattle.acpi_text.specs.Terms.{statements_text, opaque_text}
 use Rattle.acpi_body.specs.declared.fault.BodyReason.{BodyReason}
-use Rattle.acpi_body.specs.declared.fault.BodyReason.TheVariants.{Cut, BadOpcode, ReservedBits, BadName, Overrun, NotStatement, NotValue, NotTarget, LeftOut, BadString, TooDeep, NotData, BadPlace}
+use Rattle.acpi_body.specs.declared.fault.BodyReason.TheVariants.{Cut, BadOpcode, ReservedBits, BadName, Overrun, NotStatement, NotValue, NotTarget, LeftOut, BadString, TooDeep, NotData, BadPlace, Unsure}
 use Rattle.acpi_body.specs.declared.fault.BodyFault.{BodyFault}
 use Rattle.acpi_body.specs.Bodies.{BodyTree, read, unread}
 use Rattle.acpi_order.specs.Machines.{Machine, IsMachine}
@@ -26,6 +26,7 @@ body_reason_text BadString = codes "B10 BadString"
 body_reason_text TooDeep = codes "B11 TooDeep"
 body_reason_text NotData = codes "B12 NotData"
 body_reason_text BadPlace = codes "B13 BadPlace"
+body_reason_text Unsure = codes "S5 UnsureCount"
 
 -- its line: the place in the body, and the reason
 abbrev pub reason_text : Option BodyFault → List ℕ

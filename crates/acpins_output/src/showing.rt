@@ -36,6 +36,7 @@ fn reason_word(reason: BodyReason) -> &'static str
         BodyReason::TooDeep => "B11 TooDeep",
         BodyReason::NotData => "B12 NotData",
         BodyReason::BadPlace => "B13 BadPlace",
+        BodyReason::Unsure => "S5 UnsureCount",
     }
 }
 

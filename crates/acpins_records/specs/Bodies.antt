@@ -5,7 +5,7 @@ use Rattle.acpi_name.specs.Text.{SpellsPathText}
 use Rattle.acpi_body.specs.Bodies.{BodyTree, read, unread}
 use Rattle.acpi_body.specs.declared.fault.BodyFault.{BodyFault}
 use Rattle.acpi_body.specs.declared.fault.BodyReason.{BodyReason}
-use Rattle.acpi_body.specs.declared.fault.BodyReason.TheVariants.{Cut, BadOpcode, ReservedBits, BadName, Overrun, NotStatement, NotValue, NotTarget, LeftOut, BadString, TooDeep, NotData, BadPlace}
+use Rattle.acpi_body.specs.declared.fault.BodyReason.TheVariants.{Cut, BadOpcode, ReservedBits, BadName, Overrun, NotStatement, NotValue, NotTarget, LeftOut, BadString, TooDeep, NotData, BadPlace, Unsure}
 use Rattle.acpi_machine.specs.Explaining.{IsExplained}
 use Rattle.acpi_order.specs.Machines.{Machine, IsMachine}
 use Rattle.acpi_text.specs.Terms.{statements_text}
@@ -29,6 +29,7 @@ body_reason_code BadString = 0x420A
 body_reason_code TooDeep = 0x420B
 body_reason_code NotData = 0x420C
 body_reason_code BadPlace = 0x420D
+body_reason_code Unsure = 0x5305
 
 -- a body that is read
 abbrev pub read_record : BodyRecord

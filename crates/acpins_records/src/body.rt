@@ -53,6 +53,7 @@ fn body_reason_code(reason: BodyReason) -> u64
         BodyReason::TooDeep => 0x420B,
         BodyReason::NotData => 0x420C,
         BodyReason::BadPlace => 0x420D,
+        BodyReason::Unsure => 0x5305,
     }
 }
 

@@ -1,12 +1,15 @@
-//! Bodies over both kinds of space: one that is read, with what it misses, and one that isn't, with the reason. Other
-//! bodies, and which of several true reasons is told of one, are rows of the program.
+//! Bodies over both kinds of space: one that is read, with what it misses, and one that isn't, with the reason; and one by
+//! counts that aren't sure. Other bodies, and which of several true reasons is told of one, are rows of the program.
+
+ghost use Rattle.std.specs.Prelude.{None};
 
 use crate::expect::{expect_number, expect_path, path_of};
 use crate::machines::limit;
 use acpi_body::*;
+use acpi_name::{NameRef, Path};
 use acpi_space::{MapSpace, Space, TreeSpace};
 use acpi_tree::Object;
-use std::alloc::Global;
+use std::alloc::{AllocError, Global};
 use std::process::Abort;
 
 // A space with a method of two arguments at \MTH2.
@@ -58,4 +61,44 @@ fn reads_bodies_over_a_map(rt: HostRuntime) {
 fn reads_bodies_over_a_tree(rt: HostRuntime) {
     expect_missed::<TreeSpace<Object>>(&rt, rt.alloc());
     expect_reason::<TreeSpace<Object>>(&rt, rt.alloc());
+}
+
+// Counts that are sure of no name.
+#[derive(Drop)]
+struct NeverSure<'a> {
+    alloc: Global,
+    method: &'a Path,
+}
+
+impl<'a> MethodCounting for NeverSure<'a> {
+    ghost arguments = { λ _ _ _. None };
+
+    ghost method = { λ c. c.method.now };
+
+    fn alloc(&self) -> Global {
+        self.alloc
+    }
+
+    fn method(&self) -> &Path {
+        self.method
+    }
+
+    fn count(&self, _: &TreeSpace<()>, _: NameRef<'_>) -> Result<Option<u8>, AllocError> {
+        Ok(None)
+    }
+}
+
+#[test]
+fn unsure_name_ends_the_reading(rt: HostRuntime) {
+    let alloc = rt.alloc();
+    let method = path_of(&rt, alloc, "\\M001");
+    let counting = NeverSure {
+        alloc,
+        method: &method,
+    };
+    let reason = BodyReason::Unsure;
+    match read_terms(&counting, CALL, limit(&rt, 4)) {
+        Err(Stop::Fault(fault)) => assert!(rt; fault == BodyFault { reason, place: 1 }),
+        _ => assert!(rt; false),
+    }
 }

@@ -98,6 +98,7 @@ fn prints_reasons(rt: HostRuntime) {
         place: 5,
     };
     expect_printed(&rt, alloc, &fault, "B6 NotStatement");
+    expect_printed(&rt, alloc, &BodyReason::Unsure, "S5 UnsureCount");
     let rows = [
         (LoadReason::Table(TableFault::BadSum), "T5 BadSum"),
         (LoadReason::NotDsdt, "L1 NotDsdt"),

@@ -1,7 +1,6 @@
 -- The test of bodies decides equality, and so is an equivalence.
-use Rattle.std.proofs.Common.{◌≡◌, true, refl, ap}
-use Rattle.acpi_tree.specs.Terms.{TermTree, TermTrees, pkg}
-use Rattle.acpi_tree.specs.TermEqual.{terms_eq}
+use Rattle.std.proofs.Common.{◌≡◌, true, ap}
+use Rattle.acpi_tree.specs.Terms.{TermTrees, pkg}
 use Rattle.acpi_tree.specs.steps.Equality.{Tells, bytes_tell, never}
 use Rattle.acpi_tree.specs.steps.TermEquality.{term_tells}
 use Rattle.acpi_body.specs.Bodies.{BodyTree, read, unread}

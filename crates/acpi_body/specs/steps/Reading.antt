@@ -21,7 +21,7 @@ use Rattle.acpi_code.specs.declared.opcode.Opcode.TheVariants as opcodes
 use Rattle.acpi_code.specs.steps.Reading.{◌>>=◌, Reading, with_fault, each_at, no_level, byte_at, number_at, package_at, name_in, opcode_at, constant_at, string_at}
 use Rattle.acpi_code.specs.steps.Fields as fields
 use Rattle.acpi_body.specs.declared.fault.BodyReason.{BodyReason}
-use Rattle.acpi_body.specs.declared.fault.BodyReason.TheVariants.{NotStatement, BadPlace}
+use Rattle.acpi_body.specs.declared.fault.BodyReason.TheVariants.{NotStatement, BadPlace, Unsure}
 use Rattle.acpi_body.specs.declared.fault.BodyFault.{BodyFault}
 use Rattle.acpi_body.specs.Arguments.{Locals, Arguments}
 use Rattle.acpi_body.specs.Grammars.{Grammar, body_grammar}
@@ -108,16 +108,21 @@ calls Value = true
 calls Statement = true
 calls _ = false
 
-abbrev pub named_by : (NameParts → ℕ) → Reader → ℕ → Bool → NameParts × List ℕ → Reading BodyFault TermTree
-named_by args inner end true n = do
-  vs ← operands_at inner (values (args n.0)) end n.1
+-- A call, by how many values follow its name, which `bytes` begin with.
+abbrev pub call_by : Reader → ℕ → List ℕ → NameParts × List ℕ → Option ℕ → Reading BodyFault TermTree
+call_by inner end bytes n None = Err (fault_at end bytes Unsure)
+call_by inner end bytes n (Some count) = do
+  vs ← operands_at inner (values count) end n.1
   Ok (call n.0 (terms_of vs.0), vs.1)
-named_by args inner end false n = Ok (ref n.0, n.1)
 
-unfoldable pub name_form : (NameParts → ℕ) → Reader → Place → ℕ → List ℕ → Reading BodyFault TermTree
+abbrev pub named_by : (NameParts → Option ℕ) → Reader → ℕ → List ℕ → Bool → NameParts × List ℕ → Reading BodyFault TermTree
+named_by args inner end bytes true n = call_by inner end bytes n (args n.0)
+named_by args inner end bytes false n = Ok (ref n.0, n.1)
+
+unfoldable pub name_form : (NameParts → Option ℕ) → Reader → Place → ℕ → List ℕ → Reading BodyFault TermTree
 name_form args inner place end bytes = do
   n ← part (name_in end bytes)
-  named_by args inner end (calls place) n
+  named_by args inner end bytes (calls place) n
 
 unfoldable pub operator_form : Reader → Op → ℕ → List ℕ → Reading BodyFault TermTree
 operator_form inner op end bytes = do

@@ -2,13 +2,11 @@
 use Rattle.std.specs.Prelude.{ℕ, List, Option, Some, None, nat_lt, if◌then◌else◌, refl}
 use Rattle.std.specs.Coded.{Coded, code_by, coded×, coded_ℕ}
 use Rattle.std.specs.FinMap as finite
-use Rattle.acpi_name.specs.Names.{Segment}
-use Rattle.acpi_name.specs.Paths.{path_cmp}
+use Rattle.acpi_name.specs.Names.{Segment, NameParts}
 use Rattle.acpi_space.specs.Spaces.{PathMap, coded_path}
 use Rattle.acpi_tree.specs.declared.object.Object.{Object}
 use Rattle.acpi_tree.specs.contracts.object.Object as object
-use Rattle.acpi_body.specs.Arguments.{Locals, Arguments, namespace_of, arguments}
-use Rattle.acpi_body.specs.Grammars.{Grammar, body_grammar}
+use Rattle.acpi_body.specs.Arguments.{Locals, Arguments, namespace_of, count_behind}
 
 -- the objects of the namespace, what the table's Externals say, and the method's path
 pub record Setting : Type 0 where
@@ -27,12 +25,12 @@ setting_code = code_by (PathMap Object × (PathMap ℕ × List Segment)) (coded�
     (λ s. (s.objects, (s.externals, s.method))) (λ p. record { objects = p.0; externals = p.1.0; method = p.1.1 }) (λ _. refl)
 
 -- how many values follow a name there
-unfoldable pub args_of : Setting → Arguments
-args_of s = arguments (namespace_of s.objects) (finite.get s.externals) s.method
+unfoldable pub count_in : Setting → Locals → NameParts → ℕ
+count_in s = count_behind (namespace_of s.objects) (finite.get s.externals) s.method
 
--- by which the terms of the body are read there
-abbrev pub grammar_of : Setting → Locals → Grammar
-grammar_of s locals = body_grammar (args_of s locals)
+-- .. which is always sure
+abbrev pub args_of : Setting → Arguments
+args_of s locals n = Some (count_in s locals n)
 
 -- the greater of two numbers, or the one that is there
 abbrev pub deeper : Option ℕ → Option ℕ → Option ℕ

@@ -5,17 +5,17 @@ use Rattle.acpi_name.specs.Names.{Segment, NameParts, plain_segment}
 use Rattle.acpi_name.specs.NameRefs.{name_parts}
 use Rattle.acpi_name.specs.Paths.{place_of}
 use Rattle.acpi_space.specs.Lookups.{Lookup}
-use Rattle.acpi_body.specs.Arguments.{Namespace, namespace_of, Locals, arguments}
-use Rattle.acpi_body.specs.steps.Setting.{args_of}
+use Rattle.acpi_body.specs.Arguments.{Namespace, namespace_of, Locals, count_behind}
+use Rattle.acpi_body.specs.steps.Setting.{count_in}
 use Rattle.acpi_body.proofs.arguments.count.Goals as goal
 
 -- a name that has no place is followed by nothing
 count_above : (objects : Namespace) (externals : Lookup ℕ) (s : List Segment) (locals : Locals) (n : NameParts) → plain_segment n ≡ None → place_of s n ≡ None
-    → arguments objects externals s locals n ≡ 0
+    → count_behind objects externals s locals n ≡ 0
 count_above objects externals s locals n plain none = rw (plain, none) refl
 
 pub returns-in-Err-AboveRoot : goal.returns-in-Err-AboveRoot
-unfolding args_of
+unfolding count_in
 returns-in-Err-AboveRoot g c =
     let s = c.args.context.now in
     let plain : plain_segment (name_parts c.args.name) ≡ None = search rules in

@@ -1,4 +1,4 @@
-use Rattle.std.proofs.Common.{sym, ap, ap₂, ◌∙◌, length}
+use Rattle.std.proofs.Common.{ap, ap₂, ◌∙◌, length}
 use Rattle.std.specs.Option.{option_map}
 use Rattle.acpi_space.specs.Spaces.{is_defined}
 use Rattle.acpi_space.specs.Search.{nearest_scope}

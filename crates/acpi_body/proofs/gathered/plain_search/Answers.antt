@@ -1,4 +1,4 @@
-use Rattle.std.proofs.Common.{ℕ, ◌≤◌, length, ap, arith}
+use Rattle.std.proofs.Common.{◌≤◌, length, ap, arith}
 use Rattle.acpi_body.specs.Arguments.{namespace_of, defined_with}
 use Rattle.acpi_body.proofs.Missed.{is_found, is_not_found, asked_inside, asked_everywhere}
 use Rattle.acpi_body.proofs.Overlaid.{depth_within}

@@ -1,6 +1,5 @@
 use Rattle.std.proofs.Common.{◌+◌, ◌*◌, length}
 use Rattle.acpi_tree.specs.TermView.{terms_view}
-use Rattle.acpi_body.specs.steps.Setting.{args_of}
 use Rattle.acpi_body.specs.steps.Reading.{statement_at}
 use Rattle.acpi_body.proofs.Stated.{Stated}
 use Rattle.acpi_body.proofs.statement.+statement.Given as goal
@@ -24,7 +23,7 @@ abbrev pub decreases-form : goal.decreases-form
 decreases-form g l = 8 * l.level + 4
 
 abbrev pub invariant-statements-each : goal.invariant-statements-each
-invariant-statements-each g l = Stated (statement_at (args_of l.context) l.context.method l.level) l.context.method l.initial.locals l.fn.code l.locals l.code (terms_view l.found.items)
+invariant-statements-each g l = Stated (statement_at (g.M.MethodCounting.arguments l.counting) (g.M.MethodCounting.method l.counting) l.level) (g.M.MethodCounting.method l.counting) l.initial.locals l.fn.code l.locals l.code (terms_view l.found.items)
 
 abbrev pub decreases-statements-each : goal.decreases-statements-each
 decreases-statements-each g l = length l.code.bytes

@@ -1,4 +1,4 @@
-use Rattle.std.proofs.Common.{Some, sym, refl, ap, ◌∙◌}
+use Rattle.std.proofs.Common.{Some, sym, ap, ◌∙◌}
 use Rattle.acpi_tree.specs.Terms.{TermTree}
 use Rattle.acpi_tree.specs.TermView.{decl_step, operand_step, term_step, term_view}
 use Rattle.acpi_tree.specs.declared.term.Term.{Term-F, fold-roll-Term}
