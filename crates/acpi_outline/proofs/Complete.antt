@@ -38,7 +38,7 @@ use Rattle.acpi_outline.specs.declared.form.PackedForm.{PackedForm}
 use Rattle.acpi_outline.specs.declared.form.PackedForm.TheVariants as forms
 use Rattle.acpi_outline.specs.declared.fault.LostFault.{LostFault}
 use Rattle.acpi_outline.specs.Nodes.{PlainTree, term, external, alias, table_region, FixedTree, scope, container, method, if_so, otherwise, while_so, units, NodeTree, plain, form_of, container_opcode, form_opcode, form_bytes}
-use Rattle.acpi_outline.specs.Rules.{Rules, grammar_at, are_sure, plain_is_sure}
+use Rattle.acpi_outline.specs.Rules.{Rules, grammar_at}
 use Rattle.acpi_outline.specs.Outline.{operands_first, operands_after, is_stray, SpellsPlain, container_operands, IsPlain, IsTest, AreUnitArguments, IsFixed}
 use Rattle.acpi_outline.specs.steps.Reading.{named_in, external_in, term_in, alias_in, table_region_in, plain_by, plain_in, value_in, test_in, names_in, container_in, units_in, fixed_in, packed_by, packed_in, packed_form, nodes_at, node_at}
 
@@ -214,25 +214,24 @@ plain_leads r level known end (alias source n) b rest h = alias_leads r level kn
 plain_leads r level known end (table_region n vs) b rest h = region_leads r level known end n vs b rest h.spells (omega (arith, h.within))
 
 pub leads_in : {S : Type 0} (r : Rules S) (level : ℕ) (known : S) (end : ℕ) (p : PlainTree) (bytes rest : List ℕ) (l : Leads r level known end bytes p rest)
-    → plain_is_sure (r.sure known) p ≡ true → plain_in r level known end bytes l.opcode l.behind ≡ Ok (plain p, rest)
+    → plain_in r level known end bytes l.opcode l.behind ≡ Ok (plain p, rest)
 unfolding plain_in
-leads_in r level known end p bytes rest l sure = rw (l.reads, sure) refl
+leads_in r level known end p bytes rest l = rw l.reads refl
 
 leads_on : {S : Type 0} (r : Rules S) (level : ℕ) (known : S) (end : ℕ) (p : PlainTree) (bytes rest : List ℕ) → Leads r level known end bytes p rest
-    → plain_is_sure (r.sure known) p ≡ true → node_at r (suc level) known end bytes ≡ Ok (plain p, rest)
+    → node_at r (suc level) known end bytes ≡ Ok (plain p, rest)
 unfolding node_at plain_in
-leads_on r level known end p bytes rest l sure = rw (l.opens, l.no_form, l.reads, sure) refl
+leads_on r level known end p bytes rest l = rw (l.opens, l.no_form, l.reads) refl
 
 pub plain_complete : {S : Type 0} (r : Rules S) (level : ℕ) (known : S) (end : ℕ) (p : PlainTree) (b rest : List ℕ) → IsPlain r (suc level) known p b
     → node_at r (suc level) known end (b ++ rest) ≡ Ok (plain p, rest)
-plain_complete r level known end p b rest h = leads_on r level known end p (b ++ rest) rest (plain_leads r level known end p b rest h) h.is_sure
+plain_complete r level known end p b rest h = leads_on r level known end p (b ++ rest) rest (plain_leads r level known end p b rest h)
 
 -- ---- fixed arguments
 
 value_complete : {S : Type 0} (r : Rules S) (level : ℕ) (known : S) (end : ℕ) (v : TermTree) (a rest : List ℕ) → IsTest r level known v a → height v ≤ level
     → value_in r level known end (a ++ rest) ≡ Ok (v, rest)
-unfolding value_in
-value_complete r level known end v a rest h le = rw (term_complete (grammar_at r known) v level Value end a rest h.stands h.spells le, h.is_sure) refl
+value_complete r level known end v a rest h le = rw (term_complete (grammar_at r known) v level Value end a rest h.stands h.spells le) refl
 
 abbrev read_value : TermTree × List ℕ → Result (TermTree × List ℕ) LostFault
 read_value x = Ok x
@@ -240,7 +239,7 @@ read_value x = Ok x
 -- a value that begins with the byte 00 is that byte
 zero_value : {S : Type 0} (r : Rules S) (level : ℕ) (known : S) (end : ℕ) (rest : List ℕ) (x : TermTree × List ℕ) → value_in r level known end (0 ∷ rest) ≡ read_value x
     → read_value (int Zero, rest) ≡ read_value x
-unfolding value_in term_at placed_by form_by constant_form opcode_at byte_at
+unfolding term_at placed_by form_by constant_form opcode_at byte_at
 zero_value r zero known end rest x e = absurd cc
 zero_value r (suc level) known end rest x e = e
 
@@ -318,8 +317,7 @@ units_complete r level known end form ns vs a rest h =
     let n : names_in (names_of_units form) end (h.names ++ (h.operands ++ rest)) ≡ Ok (ns, h.operands ++ rest) =
     ap (λ k. names_in k end (h.names ++ (h.operands ++ rest))) (sym h.all_names) ∙ names_complete ns end h.names (h.operands ++ rest) h.are_names in
     let o = operands_complete (grammar_at r known) (operands_of_units form) vs level end h.operands rest h.are_operands h.within in
-    let sure : are_sure (r.sure known) (terms_of (listed vs)) ≡ true = ap (are_sure (r.sure known)) (terms_of-listed vs) ∙ h.are_sure in
-    rw (whole, n, o, sure) (ap (λ ts. Ok (units form ns ts, rest)) (terms_of-listed vs))
+    rw (whole, n, o) (ap (λ ts. Ok (units form ns ts, rest)) (terms_of-listed vs))
 
 pub fixed_complete : {S : Type 0} (r : Rules S) (level : ℕ) (known : S) (end : ℕ) (f : FixedTree) (a rest : List ℕ) → IsFixed r level known f a
     → fixed_in r level known (form_of f) end (a ++ rest) ≡ Ok (f, rest)

@@ -258,7 +258,7 @@ no_plain r level known end bytes rest front behind o why p opened none is h =
     let l = plain_leads r level known end p front behind h in
     let at : opcode_at end bytes ≡ read_opcode (l.opcode, l.behind) = ap (opcode_at end) is ∙ l.opens in
     let same = same_opcode (l.opcode, l.behind) (o, rest) (sym at ∙ opened) in
-    let read : plain_in r level known end (front ++ behind) l.opcode l.behind ≡ found_node (plain p, behind) = leads_in r level known end p (front ++ behind) behind l h.is_sure in
+    let read : plain_in r level known end (front ++ behind) l.opcode l.behind ≡ found_node (plain p, behind) = leads_in r level known end p (front ++ behind) behind l in
     let moved : plain_in r level known end bytes o rest ≡ found_node (plain p, behind) =
     ap (λ (b : List ℕ). plain_in r level known end b o rest) is ∙ ap (λ (x : Opcode × List ℕ). plain_in r level known end (front ++ behind) x.0 x.1) (sym same) ∙ read in
     not_found why (plain p, behind) (sym moved ∙ none)

@@ -4,12 +4,11 @@ use Rattle.acpi_tree.specs.Tree.{FieldTree}
 use Rattle.acpi_code.specs.declared.fault.ConstantFault.{ConstantFault}
 use Rattle.acpi_code.specs.steps.Fields.{field_at}
 use Rattle.acpi_code.specs.steps.Left.{Left, Shorter}
-use Rattle.acpi_body.specs.Faults.{constant_fault_of}
 use Rattle.acpi_outline.specs.declared.fault.LostFault.{LostFault}
 use Rattle.acpi_outline.specs.Nodes.{FixedTree, FieldNodes, no_more_fields, fields_lost, field_node}
 use Rattle.acpi_outline.specs.View.{PlacedElement, fields_before}
 use Rattle.acpi_outline.specs.Rules.{Rules, after_fields}
-use Rattle.acpi_outline.specs.Faults.{term_fault}
+use Rattle.acpi_outline.specs.Faults.{element_fault}
 use Rattle.acpi_outline.specs.steps.Reading.{fields_with, fields_at}
 use Rattle.acpi_outline.specs.steps.Elements.{FieldsFollow}
 use Rattle.acpi_outline.proofs.FieldLists.{no_fields_left, field_turn}
@@ -42,7 +41,7 @@ fields_go_on r f known first now_known now next_known next front e some read sta
 
 pub fields_end_lost : {S : Type 0} (r : Rules S) (f : FixedTree) (known : S) (first : Left) (now_known : S) (now : Left) (front : List PlacedElement) (g : ConstantFault) → 0 < length now.bytes
     → field_at now.end now.bytes ≡ Err g → FieldsFollow r f known first now_known now front
-    → fields_before front (fields_lost (now.end - length now.bytes) (term_fault (constant_fault_of g))) ≡ fields_at first.end first.bytes
+    → fields_before front (fields_lost (now.end - length now.bytes) (element_fault g)) ≡ fields_at first.end first.bytes
 fields_end_lost r f known first now_known now front g some read so =
     ap (fields_before front) (sym (field_turn so.turns now.end now.bytes (Err g) some so.enough read)) ∙ so.whole
 

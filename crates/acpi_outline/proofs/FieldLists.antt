@@ -1,7 +1,7 @@
 -- The elements of a field list: what is read stands for the bytes, and what stands for them is read.
-use Rattle.std.proofs.Common.{◌≡◌, ◌⊎◌, ℕ, zero, suc, ◌-◌, ◌+◌, ◌≤◌, ◌<◌, true, Some, List, [], ◌∷◌, ◌++◌, length, drop, Ok, Err, refl, sym, ap, subst, ◌∙◌, append_assoc, arith, inl, inr}
+use Rattle.std.proofs.Common.{◌≡◌, ℕ, zero, suc, ◌-◌, ◌+◌, ◌≤◌, ◌<◌, true, Some, List, [], ◌∷◌, ◌++◌, length, drop, Ok, Err, refl, sym, ap, subst, ◌∙◌, append_assoc, arith, inl, inr}
 use Rattle.std.proofs.lemmas.List.{length-append}
-use Rattle.acpi_tree.specs.declared.place.Place.TheVariants.{Data}
+use Rattle.acpi_tree.specs.declared.place.Place.TheVariants.{Value}
 use Rattle.acpi_tree.specs.Tree.{FieldTree}
 use Rattle.acpi_code.specs.declared.fault.CodeReason.{CodeReason}
 use Rattle.acpi_code.specs.declared.fault.CodeReason.TheVariants as codes
@@ -10,7 +10,7 @@ use Rattle.acpi_code.specs.declared.fault.ConstantFault.TheVariants.{Part, NotCo
 use Rattle.acpi_code.specs.declared.opcode.Opcode.{Opcode}
 use Rattle.acpi_code.specs.declared.opcode.Opcode.TheVariants as opcodes
 use Rattle.acpi_code.specs.Opcodes.{first_opcode, opcode_bytes}
-use Rattle.acpi_code.specs.Faults.{Begins, is_no_constant, IsElementOf, IsConnectionSize, ShowsElementPart, ShowsElement}
+use Rattle.acpi_code.specs.Faults.{is_no_constant, IsElementOf, IsConnectionSize, ShowsElementPart, ShowsElement}
 use Rattle.acpi_code.specs.Fields.{SpellsField}
 use Rattle.acpi_code.specs.steps.Reading.{Reading, Package}
 use Rattle.acpi_code.specs.steps.Fields.{field_at}
@@ -18,8 +18,7 @@ use Rattle.acpi_code.proofs.Fields.{ElementBad, shown_at, first_element, field_c
 use Rattle.acpi_code.proofs.Lists.{each_snoc}
 use Rattle.acpi_code.proofs.Packages.{PackageFront}
 use Rattle.acpi_code.proofs.Readings.{Judge, Source, Position, Front, Read, rest_behind, stands_at}
-use Rattle.acpi_body.specs.declared.fault.BodyReason.TheVariants.{NotData}
-use Rattle.acpi_body.specs.Faults.{reason_of, constant_fault_of, IsMisplaced, is_other_data}
+use Rattle.acpi_body.specs.Faults.{reason_of}
 use Rattle.acpi_body.specs.Statements.{units_opcode}
 use Rattle.acpi_outline.specs.declared.fault.LostReason.TheVariants.{Term}
 use Rattle.acpi_outline.specs.declared.fault.LostFault.{LostFault}
@@ -27,7 +26,7 @@ use Rattle.acpi_outline.specs.Nodes.{FixedTree, units, form_of, form_bytes, has_
 use Rattle.acpi_outline.specs.Rules.{Rules}
 use Rattle.acpi_outline.specs.Outline.{IsFixed, BeginsField, AreFields}
 use Rattle.acpi_outline.specs.Tiling.{TilesFields}
-use Rattle.acpi_outline.specs.Faults.{term_fault, BeginsFields, IsFieldElement, ShowsLost, FieldsHaveTrueFaults}
+use Rattle.acpi_outline.specs.Faults.{no_constant, element_fault, BeginsFields, IsFieldElement, ShowsLost, FieldsHaveTrueFaults}
 use Rattle.acpi_outline.specs.steps.Reading.{then_fields, fields_with, fields_at}
 use Rattle.acpi_outline.proofs.Sound.{Bad}
 
@@ -43,18 +42,15 @@ element_shows r known depth code codes.Overrun place h = h
 element_shows r known depth code codes.BadString place h = absurd h
 element_shows r known depth code codes.TooDeep place h = absurd h
 
-no_size : (code : List ℕ) (opcode : Opcode) (place : ℕ) → is_no_constant opcode ≡ true → first_opcode (drop place code) ≡ Some opcode → IsConnectionSize code place
-    → IsMisplaced NotData (drop place code) ⊎ (IsConnectionSize code place × Begins is_other_data code place)
-no_size code (opcodes.Constant form) place computed begins size = absurd cc
-no_size code opcodes.Str place computed begins size = inr (size, (opcodes.Str, begins, refl))
-no_size code opcodes.Buffer place computed begins size = inr (size, (opcodes.Buffer, begins, refl))
-no_size code opcodes.Package place computed begins size = inr (size, (opcodes.Package, begins, refl))
-no_size code opcodes.VarPackage place computed begins size = inr (size, (opcodes.VarPackage, begins, refl))
-no_size code opcode place computed begins size = inl (record { kind = Data; opcode = opcode; begins = begins; refused = refl })
+no_size : {S : Type 0} (r : Rules S) (known : S) (depth : ℕ) (code : List ℕ) (opcode : Opcode) (place : ℕ) → is_no_constant opcode ≡ true → first_opcode (drop place code) ≡ Some opcode
+    → IsConnectionSize code place → ShowsLost r known depth code (no_constant opcode) place
+no_size r known depth code (opcodes.Constant form) place computed begins size = absurd cc
+no_size r known depth code opcodes.Nothing place computed begins size = record { kind = Value; opcode = opcodes.Nothing; begins = begins; refused = refl }
+no_size r known depth code opcode place computed begins size = (size, (opcode, begins, refl))
 
-element_bad : {S : Type 0} (s : Source) (r : Rules S) (known : S) (f : ConstantFault) → ShowsElement (IsFieldElement r known s.code) s.code f → Bad s r known (term_fault (constant_fault_of f))
+element_bad : {S : Type 0} (s : Source) (r : Rules S) (known : S) (f : ConstantFault) → ShowsElement (IsFieldElement r known s.code) s.code f → Bad s r known (element_fault f)
 element_bad s r known (Part f) h = element_shows r known s.depth s.code f.reason f.place h
-element_bad s r known (NotConstant opcode place) h = no_size s.code opcode place h.0.1 h.0.0 h.1
+element_bad s r known (NotConstant opcode place) h = no_size r known s.depth s.code opcode place h.0.1 h.0.0 h.1
 
 -- a field list begins behind the fixed arguments of its form
 pub field_list : {S : Type 0} (s : Source) (r : Rules S) (level : ℕ) (known : S) (end : ℕ) (bytes rest : List ℕ) (p : Package) (f : FixedTree) (front behind : List ℕ)

@@ -1,5 +1,4 @@
 pub mod Parts
-pub mod Unsure
 pub mod Complete
 pub mod Data
 pub mod Sound
@@ -11,4 +10,3 @@ pub mod Containing
 pub mod Strict
 pub mod Answered
 pub mod Elements
-pub mod BankFields

@@ -10,12 +10,7 @@ use Rattle.acpi_code.proofs.Readings.{Judge, judge_bind, Source, Position, Read,
 use Rattle.acpi_code.proofs.Opcodes.{Opened, opcode_sound}
 use Rattle.acpi_code.specs.Faults.{has_package}
 use Rattle.acpi_code.proofs.Packages.{AtPackage, at_package, deeper_package, GoodPackage, package_sound}
-use Rattle.acpi_tree.specs.Terms.{declare}
-use Rattle.acpi_tree.specs.declared.place.Place.TheVariants.{Value}
-use Rattle.acpi_tree.specs.declared.place.OperandKind.TheVariants.{At}
 use Rattle.acpi_tree.specs.declared.place.UnitsForm.TheVariants as fields
-use Rattle.acpi_code.specs.Opcodes.{opcode_bytes}
-use Rattle.acpi_body.specs.Statements.{named_opcode}
 use Rattle.acpi_name.specs.Names.{NameParts}
 use Rattle.acpi_name.specs.Spelling.{SpellsName}
 use Rattle.acpi_code.proofs.Names.{name_sound}
@@ -26,16 +21,14 @@ use Rattle.acpi_outline.specs.declared.form.DataForm.{DataForm}
 use Rattle.acpi_outline.specs.declared.form.ContainerForm.TheVariants as containers
 use Rattle.acpi_outline.specs.declared.form.PackedForm.{PackedForm}
 use Rattle.acpi_outline.specs.declared.form.PackedForm.TheVariants as forms
-use Rattle.acpi_outline.specs.declared.fault.LostReason.TheVariants.{Unsure}
 use Rattle.acpi_outline.specs.declared.fault.LostFault.{LostFault}
-use Rattle.acpi_outline.specs.Nodes.{PlainTree, term, external, alias, table_region, FixedTree, NodeTree, plain, form_of, form_opcode, form_bytes, data_opcode, data_bytes, data_lost, name_lost, has_fields}
-use Rattle.acpi_outline.specs.Rules.{Rules, grammar_at, goes_into, after, are_sure, plain_is_sure}
-use Rattle.acpi_outline.specs.Outline.{operands_first, operands_after, SpellsPlain, IsFixed, BeginsNode, BeginsFixed, IsNode, AreNodes, IsPlain, AreFields}
+use Rattle.acpi_outline.specs.Nodes.{PlainTree, FixedTree, NodeTree, plain, form_of, form_opcode, form_bytes, data_opcode, data_bytes, data_lost, name_lost, has_fields}
+use Rattle.acpi_outline.specs.Rules.{Rules, goes_into, after}
+use Rattle.acpi_outline.specs.Outline.{IsFixed, BeginsNode, BeginsFixed, IsNode, AreNodes, IsPlain, AreFields}
 use Rattle.acpi_outline.specs.Faults.{BeginsFields, HasTrueFaults, HaveTrueFaults}
-use Rattle.acpi_outline.specs.steps.Reading.{fault_at, part, if_sure, plain_by, plain_in, fixed_in, Nodes, filled_by, packed_by, packed_in, packed_form, node_by, then_nodes, nodes_with, nodes_at, node_at, packed_as, data_form, data_by, opened_data, named_data, name_at_level, contained_by, or_contained, unentered, fields_at}
-use Rattle.acpi_outline.proofs.Unsure.{HasUnsure, in_part, at_end, either, unsure_term, unsure_operands}
+use Rattle.acpi_outline.specs.steps.Reading.{part, plain_by, plain_in, fixed_in, Nodes, filled_by, packed_by, packed_in, packed_form, node_by, then_nodes, nodes_with, nodes_at, node_at, packed_as, data_form, data_by, opened_data, named_data, name_at_level, contained_by, or_contained, unentered, fields_at}
 use Rattle.acpi_outline.proofs.Complete.{plain_complete, fixed_complete, packed, packed_complete}
-use Rattle.acpi_outline.proofs.Sound.{Bad, part_bad, sure_sound, Plain, opened, below, plain_sound, FixedOf, fixed_sound}
+use Rattle.acpi_outline.proofs.Sound.{Bad, part_bad, Plain, opened, below, plain_sound, FixedOf, fixed_sound}
 
 -- ---- what was read
 
@@ -85,20 +78,6 @@ form_long (forms.Units fields.IndexField) = omega arith
 form_long (forms.Units fields.BankField) = omega arith
 form_long _ = omega arith
 
--- a plain node that isn't sure has a name that isn't
-unsure_plain : {S : Type 0} (r : Rules S) (known : S) (p : PlainTree) (b : List ℕ) → SpellsPlain r known p b → plain_is_sure (r.sure known) p ≡ false → HasUnsure (r.sure known) b
-unsure_plain r known (term (declare form before n behind)) b (x, a, c, hb, hn, ho, whole) bad =
-    let op = opcode_bytes (named_opcode form) in
-    elim (either (are_sure (r.sure known) before) (are_sure (r.sure known) behind) bad) [
-      | inl first ↦ in_part (r.sure known) op x (a ++ c) b whole (unsure_operands (grammar_at r known) (r.sure known) (operands_first form) before x hb first)
-      | inr last ↦ at_end (r.sure known) (op ++ (x ++ a)) c b (whole ∙ simp append_assoc) (unsure_operands (grammar_at r known) (r.sure known) (operands_after form) behind c ho last)
-    ]
-unsure_plain r known (term t) b h bad = unsure_term (grammar_at r known) (r.sure known) t b h.1 bad
-unsure_plain r known (external x) b h bad = absurd cc
-unsure_plain r known (alias source n) b h bad = absurd cc
-unsure_plain r known (table_region n vs) b (x, y, hn, ho, whole) bad =
-    at_end (r.sure known) (0x5B ∷ 0x88 ∷ x) y b whole (unsure_operands (grammar_at r known) (r.sure known) (At Value ∷ At Value ∷ At Value ∷ []) vs y ho bad)
-
 module _ {S : Type 0} (s : Source) (r : Rules S) where
   abbrev InnerNodes : ℕ → Nodes S → Type 0
   InnerNodes level inner = (known : S) (end : ℕ) (bytes : List ℕ) → Position s.depth level s.code end bytes
@@ -121,20 +100,17 @@ module _ {S : Type 0} (s : Source) (r : Rules S) where
         → Position s.depth (suc level) s.code end bytes → Opened bytes (x, rest) → Judge (PlainRead end bytes) (Bad s r known) (plain_in r level known end bytes x rest)
     unfolding plain_in
     plain_in_sound end bytes rest x n e h o =
-        let Sure : PlainTree × List ℕ → Type 0 = λ p. Plain s r level known end bytes p × (plain_is_sure (r.sure known) p.0 ≡ true) in
         judge_bind (Plain s r level known end bytes) (PlainRead end bytes) (Bad s r known) (plain_by r level known end bytes x rest) _
         (plain_sound s r level known end bytes rest x n e h o) (λ p g.
-        judge_bind Sure (PlainRead end bytes) (Bad s r known) (if_sure (plain_is_sure (r.sure known) p.0) (fault_at end bytes Unsure) p) _
-        (sure_sound s r known Sure (plain_is_sure (r.sure known) p.0) (suc level) end bytes g.0.front p.1 p h g.0.whole (λ sure. (g, sure)) (λ unsure. unsure_plain r known p.0 g.0.front g.0.spells.spells unsure)) (λ q k.
         record {
-          tree = q.0;
-          front = k.0.0.front;
-          whole = k.0.0.whole;
-          is_plain = record { spells = k.0.0.spells.spells; is_sure = k.1; within = k.0.0.spells.within };
+          tree = p.0;
+          front = g.0.front;
+          whole = g.0.whole;
+          is_plain = record { spells = g.0.spells.spells; within = g.0.spells.within };
           is = refl;
-          long = k.0.0.spells.long;
-          behind = position_up s level end q.1 k.0.1;
-        }))
+          long = g.0.spells.long;
+          behind = position_up s level end p.1 g.1;
+        })
 
   -- ---- packages
 

@@ -103,7 +103,7 @@ mutual
   after_with_reason : {S : Type 0} (r : Rules S) (why : LostFault) (n : NodeTree) (place : ℕ) (known : S) → after r place known (with_reason why n) ≡ after r place known n
   after_with_reason r why (plain p) place known = refl
   after_with_reason r why (holds f ns) place known = ap r.leave (after_all_with_reason r why ns (r.enter known place f))
-  after_with_reason r why (holds_fields f es) place known = after_fields_with_reason r why f es known
+  after_with_reason r why (holds_fields f es) place known = after_fields_with_reason r why f es (r.begin_fields known place f)
   after_with_reason r why (closed f content) place known = refl
   after_with_reason r why (package_lost form w) place known = refl
   after_with_reason r why (data_lost form w) place known = refl

@@ -1,6 +1,7 @@
--- What is read is spelled so, or its fault is true of the code: plain nodes, fixeds.
-use Rattle.std.proofs.Common.{◌≡◌, ◌⊎◌, ℕ, zero, suc, ◌-◌, ◌≤◌, ◌<◌, Bool, true, false, eqb, ltb, ◌&&◌, List, [], ◌∷◌, ◌++◌, length, drop, None, Result, Ok, Err, refl, sym, ap, ◌∙◌, append_assoc, arith, inl, inr}
+-- What is read is spelled so, or its fault is true of the code: plain nodes, fixed arguments.
+use Rattle.std.proofs.Common.{◌≡◌, ◌⊎◌, ℕ, zero, suc, ◌-◌, ◌≤◌, ◌<◌, Bool, true, false, eqb, ltb, ◌&&◌, List, [], ◌∷◌, ◌++◌, length, None, Result, Ok, Err, refl, sym, ap, ◌∙◌, append_assoc, arith, inl, inr}
 use Rattle.std.specs.Prelude.{is_none}
+use Rattle.std.specs.FinMap.{empty}
 use Rattle.std.proofs.lemmas.List.{length-append}
 use Rattle.std.proofs.lemmas.Bool.{eqb-true, ltb-true, ltb-false}
 use Rattle.acpi_name.specs.Names.{NameParts}
@@ -16,7 +17,7 @@ use Rattle.acpi_tree.specs.declared.place.NamedForm.{NamedForm}
 use Rattle.acpi_tree.specs.declared.place.NamedForm.TheVariants as named
 use Rattle.acpi_tree.specs.declared.place.UnitsForm.{UnitsForm}
 use Rattle.acpi_tree.specs.declared.place.UnitsForm.TheVariants as fields
-use Rattle.acpi_tree.specs.Terms.{TermTree, int, str, local, arg, debug, declare, terms_of}
+use Rattle.acpi_tree.specs.Terms.{TermTree, int, str, local, arg, debug, declare}
 use Rattle.acpi_tree.specs.Operators.{names_of_units, operands_of_units}
 use Rattle.acpi_code.specs.declared.fault.CodeFault.{CodeFault}
 use Rattle.acpi_code.specs.declared.opcode.Opcode.{Opcode}
@@ -24,7 +25,7 @@ use Rattle.acpi_code.specs.declared.opcode.Opcode.TheVariants as opcodes
 use Rattle.acpi_code.specs.Opcodes.{opcode_bytes}
 use Rattle.acpi_code.specs.Spelling.{SpellsByte, SpellsEach}
 use Rattle.acpi_code.specs.steps.Reading.{Reading, byte_at, name_in, opcode_at}
-use Rattle.acpi_code.proofs.Readings.{Judge, judge_bind, judge_if, Source, Position, Front, Read, Shown, stands_at, position_after, position_deeper}
+use Rattle.acpi_code.proofs.Readings.{Judge, judge_bind, judge_into, judge_if, Source, Position, Front, Read, Shown, stands_at, position_after, position_deeper}
 use Rattle.acpi_code.proofs.Names.{name_sound}
 use Rattle.acpi_code.proofs.Numbers.{byte_sound}
 use Rattle.acpi_code.proofs.Opcodes.{Opened, begins}
@@ -47,14 +48,13 @@ use Rattle.acpi_outline.specs.declared.form.ContainerForm.{ContainerForm}
 use Rattle.acpi_outline.specs.declared.form.ContainerForm.TheVariants as containers
 use Rattle.acpi_outline.specs.declared.form.PackedForm.{PackedForm}
 use Rattle.acpi_outline.specs.declared.form.PackedForm.TheVariants as forms
-use Rattle.acpi_outline.specs.declared.fault.LostReason.TheVariants.{Term, Unsure}
+use Rattle.acpi_outline.specs.declared.fault.LostReason.TheVariants.{Term}
 use Rattle.acpi_outline.specs.declared.fault.LostFault.{LostFault}
 use Rattle.acpi_outline.specs.Nodes.{PlainTree, term, external, alias, table_region, FixedTree, form_of}
-use Rattle.acpi_outline.specs.Rules.{Rules, grammar_at, is_sure, are_sure}
+use Rattle.acpi_outline.specs.Rules.{Rules, grammar_at}
 use Rattle.acpi_outline.specs.Outline.{operands_first, operands_after, is_stray, SpellsPlain, plain_height, test_height, IsTest, container_operands, IsFixed}
-use Rattle.acpi_outline.specs.Faults.{begins_none, part_fault, ShowsLost}
-use Rattle.acpi_outline.specs.steps.Reading.{fault_at, part, of_term, if_sure, named_in, external_in, term_in, alias_in, table_region_in, plain_by, value_in, test_in, names_in, container_in, units_in, fixed_in, packed_form}
-use Rattle.acpi_outline.proofs.Unsure.{HasUnsure, in_part, unsure_term, unsure_operands}
+use Rattle.acpi_outline.specs.Faults.{begins_none, part_fault, args_at, ShowsLost}
+use Rattle.acpi_outline.specs.steps.Reading.{part, of_term, named_in, external_in, term_in, alias_in, table_region_in, plain_by, value_in, test_in, names_in, container_in, units_in, fixed_in, packed_form}
 
 -- ---- faults
 
@@ -62,29 +62,28 @@ use Rattle.acpi_outline.proofs.Unsure.{HasUnsure, in_part, unsure_term, unsure_o
 abbrev pub Bad : {S : Type 0} → Source → Rules S → S → LostFault → Type 0
 Bad s r known f = ShowsLost r known s.depth s.code f.reason f.place
 
-term_bad : {S : Type 0} (s : Source) (r : Rules S) (known : S) (why : BodyReason) (place : ℕ) → ShowsBody [] s.depth s.code why place → ShowsLost r known s.depth s.code (Term why) place
+term_bad : {S : Type 0} (s : Source) (r : Rules S) (known : S) (why : BodyReason) (place : ℕ) → ShowsBody (args_at r known) [] s.depth s.code why place → ShowsLost r known s.depth s.code (Term why) place
 term_bad s r known BadName place h = inl h
 term_bad s r known _ place h = h
 
 pub part_bad : {S : Type 0} (s : Source) (r : Rules S) (known : S) (f : CodeFault) → Shown s f → Bad s r known (part_fault f)
-part_bad s r known f h = term_bad s r known (reason_of f.reason) f.place (bodies.part_bad [] s f h)
+part_bad s r known f h = term_bad s r known (reason_of f.reason) f.place (bodies.part_bad (args_at r known) [] s f h)
 
 pub part_sound : {A S : Type 0} (s : Source) (r : Rules S) (known : S) (Good : A → Type 0) (x : Result A CodeFault) → Judge Good (Shown s) x → Judge Good (Bad s r known) (part x)
 part_sound s r known Good (Ok x) h = h
 part_sound s r known Good (Err f) h = part_bad s r known f h
 
-of_term_sound : {A S : Type 0} (s : Source) (r : Rules S) (known : S) (Good : A → Type 0) (x : Result A BodyFault) → Judge Good (bodies.Bad [] s) x → Judge Good (Bad s r known) (of_term x)
+of_term_sound : {A S : Type 0} (s : Source) (r : Rules S) (known : S) (Good : A → Type 0) (x : Result A BodyFault) → Judge Good (bodies.Bad (args_at r known) [] s) x → Judge Good (Bad s r known) (of_term x)
 of_term_sound s r known Good (Ok x) h = h
 of_term_sound s r known Good (Err f) h = term_bad s r known f.reason f.place h
 
--- what is sure is judged so, and of what isn't a name is told that stands there or behind
-pub sure_sound : {A S : Type 0} (s : Source) (r : Rules S) (known : S) (Good : A → Type 0) (b : Bool) (level end : ℕ) (bytes a rest : List ℕ) (x : A) → Position s.depth level s.code end bytes → bytes ≡ a ++ rest
-    → (b ≡ true → Good x) → (b ≡ false → HasUnsure (r.sure known) a) → Judge Good (Bad s r known) (if_sure b (fault_at end bytes Unsure) x)
-sure_sound s r known Good true level end bytes a rest x h is good bad = good refl
-sure_sound s r known Good false level end bytes a rest x h is good bad =
-    let there : drop (end - length bytes) s.code ≡ a ++ (rest ++ h.after) = stands_at s level end bytes h ∙ ap (λ (l : List ℕ). l ++ h.after) is ∙ append_assoc a rest h.after in
-    let u = in_part (r.sure known) [] a (rest ++ h.after) (drop (end - length bytes) s.code) there (bad refl) in
-    record { name = u.0; unsure = u.1; spelled = u.2 }
+terms_sound : {S : Type 0} (s : Source) (r : Rules S) (level : ℕ) (known : S) (ks : List OperandKind) (end : ℕ) (bytes : List ℕ) → are_inner ks ≡ true → Position s.depth level s.code end bytes
+    → Judge (Read s level end (Operands (grammar_at r known) level ks) bytes) (Bad s r known) (of_term (operands_at (term_at (grammar_at r known) level) ks end bytes))
+terms_sound s r level known ks end bytes ok h =
+    let grammar = grammar_at r known in
+    let args = args_at r known in
+    of_term_sound s r known (Read s level end (Operands grammar level ks) bytes) (operands_at (term_at grammar level) ks end bytes)
+    (operands_sound args [] s empty true level (term_at grammar level) (term_sound args [] s empty true level) ks end bytes ok h)
 
 abbrev read_opcode : Opcode × List ℕ → Reading CodeFault Opcode
 read_opcode x = Ok x
@@ -92,7 +91,7 @@ read_opcode x = Ok x
 same_opcode : (x y : Opcode × List ℕ) → read_opcode x ≡ read_opcode y → x ≡ y
 same_opcode x y e = cc
 
--- ---- plain nodes, but for whether they are sure
+-- ---- plain nodes
 
 pub record Spelled {S : Type 0} (r : Rules S) (level : ℕ) (known : S) (p : PlainTree) (bytes : List ℕ) : Type 0 where
   pub spells : SpellsPlain r known p bytes
@@ -185,14 +184,12 @@ module _ {S : Type 0} (s : Source) (r : Rules S) (level : ℕ) (known : S) where
       let op = opcode_bytes (named_opcode form) in
       let First = Read s level end (Operands grammar level (operands_first form)) rest in
       judge_bind First (Plain end bytes) (Bad s r known) (of_term (operands_at (term_at grammar level) (operands_first form) end rest)) _
-      (of_term_sound s r known First (operands_at (term_at grammar level) (operands_first form) end rest)
-      (operands_sound [] s grammar level (term_at grammar level) (term_sound [] s grammar level) (operands_first form) end rest (first_inner form) h)) (λ us u.
+      (terms_sound s r level known (operands_first form) end rest (first_inner form) h) (λ us u.
       judge_bind (Read s level end SpellsName us.1) (Plain end bytes) (Bad s r known) (part (name_in end us.1)) _
       (part_sound s r known (Read s level end SpellsName us.1) (name_in end us.1) (name_sound s level end us.1 u.1)) (λ n f.
       let Behind = Read s level end (Operands grammar level (operands_after form)) n.1 in
       judge_bind Behind (Plain end bytes) (Bad s r known) (of_term (operands_at (term_at grammar level) (operands_after form) end n.1)) _
-      (of_term_sound s r known Behind (operands_at (term_at grammar level) (operands_after form) end n.1)
-      (operands_sound [] s grammar level (term_at grammar level) (term_sound [] s grammar level) (operands_after form) end n.1 (after_inner form) f.1)) (λ vs o.
+      (terms_sound s r level known (operands_after form) end n.1 (after_inner form) f.1) (λ vs o.
       let front = u.0.front ++ (f.0.front ++ o.0.front) in
       let back : rest ≡ front ++ vs.1 = u.0.whole ∙ ap (λ (l : List ℕ). u.0.front ++ l) (f.0.whole ∙ ap (λ (l : List ℕ). f.0.front ++ l) o.0.whole) ∙ simp append_assoc in (
         record {
@@ -271,7 +268,7 @@ module _ {S : Type 0} (s : Source) (r : Rules S) (level : ℕ) (known : S) where
       let no_block : (is_block x && is_none (refusal_at grammar.loads place x)) ≡ false = rw clear refl in
       judge_bind Good (Plain end bytes) (Bad s r known) (of_term (term_at grammar (suc level) place end bytes)) _
       (of_term_sound s r known Good (term_at grammar (suc level) place end bytes)
-      (rw e (placed_sound [] s grammar level (term_at grammar level) (term_sound [] s grammar level) place end bytes rest x no_block h o)))
+      (rw e (placed_sound (args_at r known) [] s empty true level (term_at grammar level) (term_sound (args_at r known) [] s empty true level) place end bytes rest x no_block h o)))
       (λ t g.
       let w = g.0.spells in
       let f = form_complete grammar t.0 level place end g.0.front t.1 (allowed_at grammar place t.0 g.0.front w.stands w.spells) w.spells w.within in
@@ -320,8 +317,7 @@ module _ {S : Type 0} (s : Source) (r : Rules S) (level : ℕ) (known : S) where
       judge_bind (Read s level end SpellsName rest) (Plain end bytes) (Bad s r known) (part (name_in end rest)) _
       (part_sound s r known (Read s level end SpellsName rest) (name_in end rest) (name_sound s level end rest h)) (λ n f.
       judge_bind (Read s level end (Operands grammar level ks) n.1) (Plain end bytes) (Bad s r known) (of_term (operands_at (term_at grammar level) ks end n.1)) _
-      (of_term_sound s r known (Read s level end (Operands grammar level ks) n.1) (operands_at (term_at grammar level) ks end n.1)
-      (operands_sound [] s grammar level (term_at grammar level) (term_sound [] s grammar level) ks end n.1 refl f.1)) (λ vs o. (
+      (terms_sound s r level known ks end n.1 refl f.1) (λ vs o. (
         record {
           front = 0x5B ∷ 0x88 ∷ (f.0.front ++ o.0.front);
           spells = record { spells = (f.0.front, o.0.front, f.0.spells, o.0.spells.are, refl); within = omega (arith, o.0.spells.within); long = omega arith };
@@ -365,34 +361,32 @@ module _ {S : Type 0} (s : Source) (r : Rules S) (level : ℕ) (known : S) where
   plain_sound end bytes rest opcodes.Field n e h o = absurd cc
   plain_sound end bytes rest _ n e h o = begins s (suc level) end bytes _ begins_none h o refl
 
-  -- ---- fixeds
+  -- ---- fixed arguments
 
   test_low : (v : TermTree) → test_height v ≤ height v
   test_low (int Zero) = omega arith
   test_low _ = omega arith
 
   value_sound : (end : ℕ) (bytes : List ℕ) → Position s.depth level s.code end bytes → Judge (Read s level end (IsTest r level known) bytes) (Bad s r known) (value_in r level known end bytes)
-  unfolding value_in
   value_sound end bytes h =
       let grammar = grammar_at r known in
       let Good = Read s level end (Within grammar level Value) bytes in
-      judge_bind Good (Read s level end (IsTest r level known) bytes) (Bad s r known) (of_term (term_at grammar level Value end bytes)) _
-      (of_term_sound s r known Good (term_at grammar level Value end bytes) (term_sound [] s grammar level Value end bytes refl h)) (λ v g.
-      sure_sound s r known (Read s level end (IsTest r level known) bytes) (is_sure (r.sure known) v.0) level end bytes g.0.front v.1 v h g.0.whole (λ sure. (
+      judge_into Good (Read s level end (IsTest r level known) bytes) (Bad s r known) (Bad s r known) (value_in r level known end bytes) (λ v g. (
         record {
           front = g.0.front;
-          spells = record { stands = g.0.spells.stands; spells = g.0.spells.spells; is_sure = sure; within = omega (arith, g.0.spells.within, test_low v.0) };
+          spells = record { stands = g.0.spells.stands; spells = g.0.spells.spells; within = omega (arith, g.0.spells.within, test_low v.0) };
           whole = g.0.whole;
         },
         g.1,
-      )) (λ unsure. unsure_term grammar (r.sure known) v.0 g.0.front g.0.spells.spells unsure))
+      )) (λ f bad. bad)
+      (of_term_sound s r known Good (term_at grammar level Value end bytes) (term_sound (args_at r known) [] s empty true level Value end bytes refl h))
 
   test_sound : (end : ℕ) (bytes : List ℕ) → Position s.depth level s.code end bytes → Judge (Read s level end (IsTest r level known) bytes) (Bad s r known) (test_in r level known end bytes)
   test_sound end [] h = value_sound end [] h
   test_sound end (b ∷ rest) h =
       judge_if (Read s level end (IsTest r level known) (b ∷ rest)) (Bad s r known) (eqb b 0) (Ok (int Zero, rest)) (value_in r level known end (b ∷ rest))
       (λ zero. (
-        record { front = b ∷ []; spells = record { stands = refl; spells = ap (λ k. k ∷ []) (eqb-true b 0 zero); is_sure = refl; within = omega arith }; whole = refl },
+        record { front = b ∷ []; spells = record { stands = refl; spells = ap (λ k. k ∷ []) (eqb-true b 0 zero); within = omega arith }; whole = refl },
         position_after s level end (b ∷ rest) (b ∷ []) rest refl h,
       ))
       (λ other. value_sound end (b ∷ rest) h)
@@ -415,8 +409,7 @@ module _ {S : Type 0} (s : Source) (r : Rules S) (level : ℕ) (known : S) where
       judge_bind (Read s level end SpellsName bytes) Good (Bad s r known) (part (name_in end bytes)) _
       (part_sound s r known (Read s level end SpellsName bytes) (name_in end bytes) (name_sound s level end bytes h)) (λ n f.
       judge_bind (Read s level end (Operands grammar level ks) n.1) Good (Bad s r known) (of_term (operands_at (term_at grammar level) ks end n.1)) _
-      (of_term_sound s r known (Read s level end (Operands grammar level ks) n.1) (operands_at (term_at grammar level) ks end n.1)
-      (operands_sound [] s grammar level (term_at grammar level) (term_sound [] s grammar level) ks end n.1 (container_inner form) f.1)) (λ vs o. (
+      (terms_sound s r level known ks end n.1 (container_inner form) f.1) (λ vs o. (
         record {
           front = f.0.front ++ o.0.front;
           spells = (refl, (f.0.front, o.0.front, f.0.spells, o.0.spells.are, refl));
@@ -454,33 +447,25 @@ module _ {S : Type 0} (s : Source) (r : Rules S) (level : ℕ) (known : S) where
       judge_bind (Read s level end (AreNames (names_of_units form)) bytes) Good (Bad s r known) (names_in (names_of_units form) end bytes) _
       (names_sound (names_of_units form) end bytes h) (λ ns f.
       judge_bind (Read s level end (Operands grammar level ks) ns.1) Good (Bad s r known) (of_term (operands_at (term_at grammar level) ks end ns.1)) _
-      (of_term_sound s r known (Read s level end (Operands grammar level ks) ns.1) (operands_at (term_at grammar level) ks end ns.1)
-      (operands_sound [] s grammar level (term_at grammar level) (term_sound [] s grammar level) ks end ns.1 (units_inner form) f.1)) (λ vs o.
-      let Sure : List TermTree × List ℕ → Type 0 = λ ws.
-      Read s level end (Operands grammar level ks) ns.1 ws × (are_sure (r.sure known) (terms_of ws.0) ≡ true) in
-      judge_bind Sure Good (Bad s r known) (if_sure (are_sure (r.sure known) (terms_of vs.0)) (fault_at end ns.1 Unsure) vs) _
-      (sure_sound s r known Sure (are_sure (r.sure known) (terms_of vs.0)) level end ns.1 o.0.front vs.1 vs f.1 o.0.whole (λ sure. (o, sure))
-      (λ unsure. unsure_operands grammar (r.sure known) ks (terms_of vs.0) o.0.front o.0.spells.are unsure)) (λ ws k.
-      let w = k.0 in (
+      (terms_sound s r level known ks end ns.1 (units_inner form) f.1) (λ vs o. (
         record {
-          front = f.0.front ++ w.0.front;
+          front = f.0.front ++ o.0.front;
           spells = (
             refl,
             record {
               names = f.0.front;
-              operands = w.0.front;
+              operands = o.0.front;
               all_names = f.0.spells.0;
               are_names = f.0.spells.1;
-              are_operands = w.0.spells.are;
-              are_sure = k.1;
-              within = w.0.spells.within;
+              are_operands = o.0.spells.are;
+              within = o.0.spells.within;
               whole = refl;
             },
           );
-          whole = f.0.whole ∙ ap (λ (l : List ℕ). f.0.front ++ l) w.0.whole ∙ sym (append_assoc f.0.front w.0.front ws.1);
+          whole = f.0.whole ∙ ap (λ (l : List ℕ). f.0.front ++ l) o.0.whole ∙ sym (append_assoc f.0.front o.0.front vs.1);
         },
-        w.1,
-      ))))
+        o.1,
+      )))
 
   pub fixed_sound : (form : PackedForm) (end : ℕ) (bytes : List ℕ) → Position s.depth level s.code end bytes → Judge (Fixed form end bytes) (Bad s r known) (fixed_in r level known form end bytes)
   unfolding fixed_in

@@ -1,7 +1,6 @@
 -- Where a code spells strict items, its outline is these.
 use Rattle.std.proofs.Common.{◌≡◌, ℕ, suc, ◌-◌, ◌≤◌, ◌<◌, Bool, true, false, List, [], ◌∷◌, ◌++◌, length, refl, sym, ap, subst, ◌∙◌, append_assoc, arith, inl, inr}
 use Rattle.std.proofs.lemmas.List.{append-nil}
-use Rattle.acpi_name.specs.Names.{NameParts}
 use Rattle.acpi_name.specs.Spelling.{SpellsName}
 use Rattle.acpi_tree.specs.declared.tree.Int.TheVariants.{Zero}
 use Rattle.acpi_tree.specs.declared.place.Place.TheVariants.{Value, Element}
@@ -21,7 +20,7 @@ use Rattle.acpi_outline.specs.declared.fault.LostFault.{LostFault}
 use Rattle.acpi_outline.specs.Nodes as nodes
 use Rattle.acpi_outline.specs.Nodes.{PlainTree, FixedTree, container, if_so, units, FieldNodes, no_more_fields, fields_lost, field_node, fields_with_reason, form_of, form_bytes, has_fields}
 use Rattle.acpi_outline.specs.Nodes.{NodeTree, plain, holds, holds_fields, closed, package_lost, data_lost, name_lost, NodeTrees, no_more, lost, node, with_reason, all_with_reason}
-use Rattle.acpi_outline.specs.Rules.{Rules, grammar_at, goes_into, after, is_sure, are_sure}
+use Rattle.acpi_outline.specs.Rules.{Rules, grammar_at, goes_into, after}
 use Rattle.acpi_outline.specs.Outline.{IsPlain, IsFixed, AreFields, IsNode, AreNodes}
 use Rattle.acpi_outline.specs.Strict.{data_term, elem_term, elem_terms, declares, AreExternals, AreFieldsOf, Holds, HoldsFields, IsItem, AreItems, StrictIsKept}
 use Rattle.acpi_outline.proofs.One.{any_fault, at_most_one}
@@ -82,22 +81,6 @@ mutual
   elems_high no_elems = refl
   elems_high (elem e es) = rw (elem_high e, elems_high es) refl
 
-mutual
-  data_sure : (sure : NameParts → Bool) (d : DataTree) → is_sure sure (data_term d) ≡ true
-  data_sure sure (int i) = refl
-  data_sure sure (str text) = refl
-  data_sure sure (buffer size content) = refl
-  data_sure sure (pkg count es) = elems_sure sure es
-  data_sure sure (var_pkg count es) = elems_sure sure es
-
-  elem_sure : (sure : NameParts → Bool) (e : ElemTree) → is_sure sure (elem_term e) ≡ true
-  elem_sure sure (of_data d) = data_sure sure d
-  elem_sure sure (of_name n) = refl
-
-  elems_sure : (sure : NameParts → Bool) (es : ElemTrees) → are_sure sure (elem_terms es) ≡ true
-  elems_sure sure no_elems = refl
-  elems_sure sure (elem e es) = rw (elem_sure sure e, elems_sure sure es) refl
-
 -- ---- items are nodes
 
 byte_is : (n : ℕ) (a : List ℕ) → SpellsByte n a → SpellsNumber 1 n a
@@ -130,7 +113,7 @@ module _ {S : Type 0} (r : Rules S) where
       let place = end - length b in
       let n = plain (nodes.external x) in
       let rest = externals_nodes xs left (after r place known n) end c hs (omega (arith, block_low xs)) in
-      let is : IsPlain r (suc (left - 1)) known (nodes.external x) a = record { spells = hx; is_sure = refl; within = omega arith } in
+      let is : IsPlain r (suc (left - 1)) known (nodes.external x) a = record { spells = hx; within = omega arith } in
       let levels : left ≡ suc (left - 1) = omega arith in
       (node place n rest.0, (a, c, left - 1, levels, refl, is, rest.1, whole), (place, rest.0, refl, rest.2))
 
@@ -155,7 +138,6 @@ module _ {S : Type 0} (r : Rules S) where
       declares named.Name no_terms n (more (data_term d) no_terms),
       record {
         spells = ([], x, y, refl, hn, (y, [], data_stands d, data_spelled (grammar_at r known) d y hd, refl, sym (append-nil y)), whole);
-        is_sure = rw (data_sure (r.sure known) d) refl;
         within = omega (arith, data_high d);
       },
       refl,
@@ -183,25 +165,25 @@ module _ {S : Type 0} (r : Rules S) where
     item_node (method n flags code) inside known place end a (q, b, (x, y, hn, (c, d, hc, none, split2), split), same, packs) le =
         let is : q ≡ x ++ flags ∷ [] = split ∙ ap (λ (l : List ℕ). x ++ l) (only y c d none split2 ∙ hc) in
         (closed (nodes.method n flags) code, (q, (x, hn, is), refl, subst (λ l. Packs (0x14 ∷ []) (q ++ l) a) same packs, refl), refl)
-    item_node (external x) inside known place end a h le = (plain (nodes.external x), record { spells = h; is_sure = refl; within = omega arith }, refl)
+    item_node (external x) inside known place end a h le = (plain (nodes.external x), record { spells = h; within = omega arith }, refl)
     item_node (external_block xs) inside known place end a (b, hs, packs) le =
         let f = if_so (terms.int Zero) in
         let inner = externals_nodes xs inside (r.enter known place f) end b hs (omega arith) in
         held_node f (λ ns. AreExternals xs ns) (λ b. SpellsEach SpellsExternal xs b) inside known place end a (0x00 ∷ []) b hs refl
-        (record { stands = refl; spells = refl; is_sure = refl; within = omega arith }) packs inner (goes_into r known f) refl
+        (record { stands = refl; spells = refl; within = omega arith }) packs inner (goes_into r known f) refl
     item_node (mutex n flags) inside known place end a (q, (x, y, hn, (c, d, hc, none, split2), split), whole) le = (
       declares named.Mutex no_terms n (more (terms.raw 1 flags) no_terms),
-      record { spells = ([], x, y, refl, hn, (c, d, refl, byte_is flags c hc, none, split2), rw (sym split) whole); is_sure = refl; within = omega arith },
+      record { spells = ([], x, y, refl, hn, (c, d, refl, byte_is flags c hc, none, split2), rw (sym split) whole); within = omega arith },
       refl,
     )
     item_node (event n) inside known place end a (q, (x, y, hn, none, split), whole) le = (
       declares named.Event no_terms n no_terms,
-      record { spells = ([], x, y, refl, hn, none, rw (sym split) whole); is_sure = refl; within = omega arith },
+      record { spells = ([], x, y, refl, hn, none, rw (sym split) whole); within = omega arith },
       refl,
     )
     item_node (region n space offset len) inside known place end a (q, (x, y, hn, (s, y2, hs, (o, y3, ho, (l, y4, hl, none, e4), e3), e2), e1), whole) le = (
       declares named.Region no_terms n (more (terms.raw 1 space) (more (terms.int offset) (more (terms.int len) no_terms))),
-      record { spells = ([], x, y, refl, hn, (s, y2, refl, byte_is space s hs, (o, y3, refl, ho, (l, y4, refl, hl, none, e4), e3), e2), rw (sym e1) whole); is_sure = refl; within = omega arith },
+      record { spells = ([], x, y, refl, hn, (s, y2, refl, byte_is space s hs, (o, y3, refl, ho, (l, y4, refl, hl, none, e4), e3), e2), rw (sym e1) whole); within = omega arith },
       refl,
     )
     item_node (field n flags es) inside known place end a (q, b, (x, y, hn, (c, d, hc, none, split2), split), hs, packs) le =
@@ -212,7 +194,6 @@ module _ {S : Type 0} (r : Rules S) where
           all_names = refl;
           are_names = (x, [], hn, refl, sym (append-nil x));
           are_operands = (c, d, refl, byte_is flags c hc, none, split2);
-          are_sure = refl;
           within = omega arith;
           whole = split;
         }) packs
@@ -224,7 +205,6 @@ module _ {S : Type 0} (r : Rules S) where
           all_names = refl;
           are_names = (x, d, hi, (d, [], hk, refl, sym (append-nil d)), refl);
           are_operands = (c, y3, refl, byte_is flags c hc, none, e3);
-          are_sure = refl;
           within = omega arith;
           whole = e1 ∙ ap (λ (l : List ℕ). x ++ l) e2 ∙ sym (append_assoc x d y2);
         }) packs
@@ -236,7 +216,6 @@ module _ {S : Type 0} (r : Rules S) where
           all_names = refl;
           are_names = (x, d, hn, (d, [], hk, refl, sym (append-nil d)), refl);
           are_operands = (v, y3, refl, hv, (c, y4, refl, byte_is flags c hc, none, e4), e3);
-          are_sure = refl;
           within = omega arith;
           whole = e1 ∙ ap (λ (l : List ℕ). x ++ l) e2 ∙ sym (append_assoc x d y2);
         }) packs
@@ -252,7 +231,6 @@ module _ {S : Type 0} (r : Rules S) where
           refl,
           rw (whole, e1, e2, e3, none) (simp append_assoc),
         );
-        is_sure = refl;
         within = omega arith;
       },
       refl,
@@ -269,7 +247,6 @@ module _ {S : Type 0} (r : Rules S) where
           refl,
           rw (whole, e1, e2, e3, e4, none) (simp append_assoc),
         );
-        is_sure = refl;
         within = omega arith;
       },
       refl,

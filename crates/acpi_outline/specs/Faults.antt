@@ -7,17 +7,19 @@ use Rattle.acpi_tree.specs.Terms.{TermTrees}
 use Rattle.acpi_code.specs.declared.opcode.Opcode.{Opcode}
 use Rattle.acpi_code.specs.declared.opcode.Opcode.TheVariants as opcodes
 use Rattle.acpi_code.specs.declared.fault.CodeFault.{CodeFault}
+use Rattle.acpi_code.specs.declared.fault.ConstantFault.{ConstantFault}
+use Rattle.acpi_code.specs.declared.fault.ConstantFault.TheVariants.{Part, NotConstant}
 use Rattle.acpi_code.specs.Opcodes.{opcode_bytes}
-use Rattle.acpi_code.specs.Faults.{ByteAt, Begins, IsElementOf, HasNoSegment}
+use Rattle.acpi_code.specs.Faults.{ByteAt, Begins, IsElementOf, IsConnectionSize, HasNoSegment}
 use Rattle.acpi_terms.specs.Forms.{count_arg}
-use Rattle.acpi_terms.specs.Faults.{MustBegin}
-use Rattle.acpi_body.specs.declared.fault.BodyReason.TheVariants.{BadName}
+use Rattle.acpi_terms.specs.Faults.{is_computed, MustBegin}
+use Rattle.acpi_body.specs.declared.fault.BodyReason.TheVariants.{BadOpcode, BadName}
 use Rattle.acpi_body.specs.declared.fault.BodyFault.{BodyFault}
+use Rattle.acpi_body.specs.Arguments.{Arguments}
 use Rattle.acpi_body.specs.Faults.{fault_of, ShowsBody}
-use Rattle.acpi_body.specs.Searches.{IsSpelledIn}
 use Rattle.acpi_body.specs.Statements.{units_opcode}
 use Rattle.acpi_outline.specs.declared.fault.LostReason.{LostReason}
-use Rattle.acpi_outline.specs.declared.fault.LostReason.TheVariants.{Term, NoNode, ManyArguments, Unsure}
+use Rattle.acpi_outline.specs.declared.fault.LostReason.TheVariants.{Term, NoNode, ManyArguments, Computed}
 use Rattle.acpi_outline.specs.declared.fault.LostFault.{LostFault}
 use Rattle.acpi_outline.specs.Nodes.{FieldNodes, no_more_fields, fields_lost, field_node}
 use Rattle.acpi_outline.specs.Nodes.{NodeTree, plain, holds, holds_fields, closed, package_lost, data_lost, name_lost, NodeTrees, no_more, lost, node}
@@ -31,16 +33,20 @@ term_fault f = record { reason = Term f.reason; place = f.place }
 abbrev pub part_fault : CodeFault → LostFault
 part_fault f = term_fault (fault_of f)
 
+-- why what begins with the opcode is no constant: no term begins so, or it is another term
+abbrev pub no_constant : Opcode → LostReason
+no_constant opcodes.Nothing = Term BadOpcode
+no_constant _ = Computed
+
+-- the fault of an element of a field list, as one of a lost range
+abbrev pub element_fault : ConstantFault → LostFault
+element_fault (Part f) = part_fault f
+element_fault (NotConstant opcode place) = record { reason = no_constant opcode; place = place }
+
 -- what begins no node
 abbrev pub begins_none : Opcode → Bool
 begins_none opcodes.Nothing = true
 begins_none _ = false
-
--- a name of which the state isn't sure how many values follow it is spelled somewhere
-pub record IsUnsure {S : Type 0} (r : Rules S) (known : S) (bytes : List ℕ) : Type 0 where
-  pub name : NameParts
-  pub unsure : r.sure known name ≡ false
-  pub spelled : IsSpelledIn bytes name
 
 -- A field list begins at the place: behind the opcode of a declaration of field units, its package length and its fixed
 -- arguments (20.2.5.2).
@@ -63,16 +69,21 @@ pub record BeginsFields {S : Type 0} (r : Rules S) (known : S) (code : List ℕ)
 abbrev pub IsFieldElement : {S : Type 0} → Rules S → S → List ℕ → ℕ → Type 0
 IsFieldElement r known code place = (start : ℕ) × BeginsFields r known code start × IsElementOf code start place
 
+-- how many values follow a name there, whatever a method body declares
+abbrev pub args_at : {S : Type 0} → Rules S → S → Arguments
+args_at r known locals = r.args known
+
 -- What the reason says is true of the code at that place; `depth` is the number of levels that are allowed, and `known` what is
--- known there. Term: what the fault of a term in a method body shows, whatever method it is; or no segment begins where a field
--- element must. NoNode: no node begins so. ManyArguments: a byte above 7, where the number of an External's arguments must
--- stand. Unsure: a name stands there or behind, of which it isn't sure how many values follow it.
+-- known there. Term: what the fault of a term in a method body shows, by the counts that are known there and whatever method it
+-- is; or no segment begins where a field element must. NoNode: no node begins so. ManyArguments: a byte above 7, where the
+-- number of an External's arguments must stand. Computed: a term that is no constant, where the size of a connection's buffer
+-- must stand.
 abbrev pub ShowsLost : {S : Type 0} → Rules S → S → ℕ → List ℕ → LostReason → ℕ → Type 0
-ShowsLost r known depth code (Term BadName) place = ShowsBody [] depth code BadName place ⊎ HasNoSegment (IsFieldElement r known code) code place
-ShowsLost r known depth code (Term why) place = ShowsBody [] depth code why place
+ShowsLost r known depth code (Term BadName) place = ShowsBody (args_at r known) [] depth code BadName place ⊎ HasNoSegment (IsFieldElement r known code) code place
+ShowsLost r known depth code (Term why) place = ShowsBody (args_at r known) [] depth code why place
 ShowsLost r known depth code NoNode place = Begins begins_none code place
 ShowsLost r known depth code ManyArguments place = MustBegin count_arg code place × ByteAt (λ b. 7 < b) code place
-ShowsLost r known depth code Unsure place = IsUnsure r known (drop place code)
+ShowsLost r known depth code Computed place = IsConnectionSize code place × Begins is_computed code place
 
 -- so it is of all that is lost, each with what is known there
 abbrev pub FieldsHaveTrueFaults : {S : Type 0} → Rules S → S → ℕ → List ℕ → FieldNodes → Type 0

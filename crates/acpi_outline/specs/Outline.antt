@@ -24,7 +24,7 @@ use Rattle.acpi_outline.specs.declared.form.PackedForm.{PackedForm}
 use Rattle.acpi_outline.specs.declared.form.DataForm.{DataForm}
 use Rattle.acpi_outline.specs.Nodes.{PlainTree, term, external, alias, table_region, FixedTree, scope, container, method, if_so, otherwise, while_so, units, FieldNodes, no_more_fields, fields_lost, field_node}
 use Rattle.acpi_outline.specs.Nodes.{NodeTree, plain, holds, holds_fields, closed, package_lost, data_lost, name_lost, NodeTrees, no_more, lost, node, form_of, form_bytes, data_bytes, has_fields}
-use Rattle.acpi_outline.specs.Rules.{Rules, grammar_at, goes_into, after, is_sure, are_sure, plain_is_sure}
+use Rattle.acpi_outline.specs.Rules.{Rules, grammar_at, goes_into, after}
 
 -- ---- plain nodes (20.2.5)
 
@@ -66,10 +66,9 @@ plain_height (external x) = 1
 plain_height (alias source n) = 1
 plain_height (table_region n vs) = suc (heights vs)
 
--- .. each of whose names has one count, within the levels that are left
+-- a plain node within the levels that are left
 pub record IsPlain {S : Type 0} (r : Rules S) (level : ℕ) (known : S) (p : PlainTree) (bytes : List ℕ) : Type 0 where
   pub spells : SpellsPlain r known p bytes
-  pub is_sure : plain_is_sure (r.sure known) p ≡ true
   pub within : plain_height p ≤ level
 
 -- ---- fixed arguments
@@ -79,11 +78,10 @@ abbrev pub test_height : TermTree → ℕ
 test_height (int Zero) = 0
 test_height v = height v
 
--- a value, each of whose names has one count
+-- a predicate within the levels that are left: a value
 pub record IsTest {S : Type 0} (r : Rules S) (level : ℕ) (known : S) (v : TermTree) (bytes : List ℕ) : Type 0 where
   pub stands : Stands Value v
   pub spells : Spells (grammar_at r known) v bytes
-  pub is_sure : is_sure (r.sure known) v ≡ true
   pub within : test_height v ≤ level
 
 -- the numbers behind the name of a package with a scope of its own; of a Processor as ACPI 6.3 and earlier have them
@@ -93,14 +91,13 @@ container_operands containers.Processor = Byte ∷ DWord ∷ Byte ∷ []
 container_operands containers.Power = Byte ∷ Word ∷ []
 container_operands containers.Thermal = []
 
--- the names and operands of a declaration of field units; each name in its operands has one count
+-- the names and operands of a declaration of field units
 pub record AreUnitArguments {S : Type 0} (r : Rules S) (level : ℕ) (known : S) (form : UnitsForm) (ns : List NameParts) (vs : TermTrees) (bytes : List ℕ) : Type 0 where
   pub names : List ℕ
   pub operands : List ℕ
   pub all_names : length ns ≡ names_of_units form
   pub are_names : SpellsEach SpellsName ns names
   pub are_operands : AreOperands (grammar_at r known) (operands_of_units form) vs operands
-  pub are_sure : are_sure (r.sure known) vs ≡ true
   pub within : heights vs ≤ level
   pub whole : bytes ≡ names ++ operands
 

@@ -7,11 +7,10 @@ ghost use Rattle.acpi_outline.specs.Rules.{after_fields};
 ghost use Rattle.acpi_outline.specs.steps.Reading.{fields_at};
 ghost use Rattle.acpi_outline.specs.steps.Elements.{ReadsField};
 
-use crate::fault::{LostFault, LostReason};
+use crate::fault::LostFault;
 use crate::known::Known;
 use crate::node::{Fixed, Lost, PlacedField};
-use acpi_body::BodyReason;
-use acpi_code::{Code, ConstantFault, FieldFault, field_element};
+use acpi_code::{Code, FieldFault, field_element};
 use acpi_tree::FieldElem;
 use std::alloc::{AllocError, Global};
 
@@ -25,14 +24,7 @@ fn next_field(
 {
     match field_element(alloc, code) {
         Ok(element) => Ok(Ok(element)),
-        Err(FieldFault::At(ConstantFault::Part(fault))) => Ok(Err(LostFault {
-            reason: LostReason::Term(fault.reason.into()),
-            place: fault.place,
-        })),
-        Err(FieldFault::At(ConstantFault::NotConstant { place, .. })) => Ok(Err(LostFault {
-            reason: LostReason::Term(BodyReason::NotData),
-            place,
-        })),
+        Err(FieldFault::At(fault)) => Ok(Err(fault.into())),
         Err(FieldFault::Memory) => Err(AllocError),
     }
 }

@@ -7,34 +7,18 @@ ghost use Rattle.acpi_code.specs.steps.Reading.{name_in};
 ghost use Rattle.acpi_outline.specs.Nodes.{has_fields};
 ghost use Rattle.acpi_outline.specs.View.{fixed_view};
 ghost use Rattle.acpi_outline.specs.Rules.{goes_into};
-ghost use Rattle.acpi_outline.specs.steps.Reading.{part, value_in, test_in, names_in, container_in, units_in, fixed_in};
+ghost use Rattle.acpi_outline.specs.steps.Reading.{part, test_in, names_in, container_in, units_in, fixed_in};
 ghost use Rattle.acpi_outline.specs.steps.Cursor.{Reads, ReadsOn};
 
-use crate::fault::{LostReason, LostStop, stopped};
+use crate::fault::LostStop;
 use crate::form::{ContainerForm, PackedForm};
 use crate::known::Known;
 use crate::node::Fixed;
 use crate::plain::value;
-use crate::sure::term_is_sure;
 use acpi_code::Code;
 use acpi_name::Name;
 use acpi_tree::{Int, Term, UnitsForm};
 use std::alloc::{AllocError, Global};
-
-// A value, each of whose names has one count.
-#[inline(never)]
-#[tactic(auto, unfolding(crate::specs::steps::Reading::value_in))]
-fn sure_value<K: Known>(known: &K, level: u32, code: &mut Code<'_>) -> Result<Box<Term>, LostStop>
-    ensures { Reads (λ b. term_view (box_value b)) (value_in K.rules level known.now)
-        code.old code.new result }
-{
-    let front = code.fork();
-    let value = value(known, level, code)?;
-    if !term_is_sure(known, &value)? {
-        return Err(stopped(&front, LostReason::Unsure));
-    }
-    Ok(value)
-}
 
 // The predicate of an If or While; the byte 00 has no level.
 #[inline(never)]
@@ -46,7 +30,7 @@ fn test<K: Known>(known: &K, level: u32, code: &mut Code<'_>) -> Result<Box<Term
         code.skip(1);
         return Ok(Box::new(known.alloc(), Term::Int(Int::Zero))?);
     }
-    sure_value(known, level, code)
+    value(known, level, code)
 }
 
 // A name, with memory of its own.
@@ -127,12 +111,8 @@ fn bank_field<K: Known>(known: &K, level: u32, code: &mut Code<'_>) -> Result<Fi
         code.old code.new result }
 {
     let (region, bank) = two_names(known.alloc(), code)?;
-    let front = code.fork();
     let value = value(known, level, code)?;
     let flags = code.byte()?;
-    if !term_is_sure(known, &value)? {
-        return Err(stopped(&front, LostReason::Unsure));
-    }
     Ok(Fixed::BankField(region, bank, value, flags))
 }
 

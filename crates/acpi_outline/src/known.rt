@@ -6,6 +6,7 @@ ghost use Rattle.acpi_tree.specs.View.{field_view};
 ghost use Rattle.acpi_outline.specs.Rules.{grammar_at};
 ghost use Rattle.acpi_outline.specs.View.{fixed_view, plain_view};
 
+use crate::form::PackedForm;
 use crate::node::{Fixed, Plain};
 use acpi_body::Counting;
 use acpi_name::{Name, NameRef};
@@ -22,13 +23,9 @@ pub trait Known {
     /// Where nodes take their memory.
     fn alloc(&self) -> Global;
 
-    /// How many values follow the name, where a value or a statement stands.
-    fn count(&self, name: NameRef<'_>) -> Result<u8, AllocError>
+    /// How many values follow the name, where a value or a statement stands; None where that isn't sure.
+    fn count(&self, name: NameRef<'_>) -> Result<Option<u8>, AllocError>
         ensures { IfOk result (λ n. n ≡ rules.args self.now (name_parts name.entry)) };
-
-    /// Whether that is sure.
-    fn is_sure(&self, name: NameRef<'_>) -> Result<bool, AllocError>
-        ensures { IfOk result (λ b. b ≡ rules.sure self.now (name_parts name.entry)) };
 
     /// Whether one may go into a package with these fixed arguments.
     fn opens(&self, fixed: &Fixed) -> Result<bool, AllocError>
@@ -43,6 +40,11 @@ pub trait Known {
     fn pass_name(&mut self, place: usize, name: &Name) -> Result<(), AllocError>
         ensures { OnOk result (self.new ≡ rules.after_name self.old place name.now) };
 
+    /// Goes past a package of that form at the place, whose fixed arguments are lost; with no form, past a statement
+    /// whose data is lost.
+    fn pass_lost(&mut self, place: usize, form: Option<PackedForm>) -> Result<(), AllocError>
+        ensures { OnOk result (self.new ≡ rules.after_lost self.old place form) };
+
     /// Goes into a package at the place.
     fn enter(&mut self, place: usize, fixed: &Fixed) -> Result<(), AllocError>
         ensures { OnOk result (self.new ≡ rules.enter self.old place (fixed_view fixed.now)) };
@@ -50,6 +52,11 @@ pub trait Known {
     /// Goes out of the package that was entered last.
     fn leave(&mut self) -> Result<(), AllocError>
         ensures { OnOk result (self.new ≡ rules.leave self.old) };
+
+    /// Comes to the field list of a package at the place, behind the fixed arguments.
+    fn begin_fields(&mut self, place: usize, fixed: &Fixed) -> Result<(), AllocError>
+        ensures { OnOk result (self.new
+            ≡ rules.begin_fields self.old place (fixed_view fixed.now)) };
 
     /// Goes past an element, at the place, of the field list behind the fixed arguments.
     fn pass_field(
@@ -85,7 +92,7 @@ impl<'a, K: Known> Counting for Counted<'a, K> {
         self.known.alloc()
     }
 
-    fn count(&self, name: NameRef<'_>) -> Result<u8, AllocError> {
+    fn count(&self, name: NameRef<'_>) -> Result<Option<u8>, AllocError> {
         self.known.count(name)
     }
 

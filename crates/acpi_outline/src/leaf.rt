@@ -2,18 +2,16 @@
 
 ghost use Rattle.std.specs.Prelude.{◌≡◌, ◌<◌, ◌-◌, length, None};
 ghost use Rattle.acpi_outline.specs.Nodes as nodes;
-ghost use Rattle.acpi_outline.specs.View.{plain_view};
 ghost use Rattle.acpi_code.specs.steps.Reading.{package_at};
 ghost use Rattle.acpi_outline.specs.steps.Cursor.{Reads};
 ghost use Rattle.acpi_outline.specs.steps.Leaves.{leaf_view};
 ghost use Rattle.acpi_outline.specs.steps.Reading.{plain_in, packed_form, data_form, packed_as, name_at_level, contained_by, or_contained};
 
-use crate::fault::{LostFault, LostReason, LostStop, stopped};
+use crate::fault::{LostFault, LostStop};
 use crate::form::DataForm;
 use crate::known::Known;
 use crate::node::Plain;
 use crate::plain::plain;
-use crate::sure::plain_is_sure;
 use acpi_code::{Code, Opcode};
 use acpi_name::Name;
 use std::alloc::Global;
@@ -27,31 +25,6 @@ pub(crate) enum Leaf {
     DataLost(DataForm, LostFault),
     /// A Name whose data can't be read.
     NameLost(Name, DataForm, LostFault),
-}
-
-// The plain node whose first opcode, behind `front`, was read, if each of its names has one count.
-#[inline(never)]
-#[tactic(auto, unfolding(crate::specs::steps::Reading::plain_in))]
-fn sure_plain<'a, K: Known>(
-    known: &K,
-    level: u32,
-    front: &Code<'a>,
-    opcode: Opcode,
-    code: &mut Code<'a>,
-) -> Result<Plain, LostStop>
-    requires some { 0 < level }
-    requires ends { front.now.end ≡ code.old.end }
-    requires behind { length code.old.bytes < length front.now.bytes }
-    requires none { packed_form opcode ≡ None }
-    ensures { Reads (λ p. nodes.plain (plain_view p))
-        (λ end whole. plain_in K.rules (level - 1) known.now end whole opcode code.old.bytes)
-        front.now code.new result }
-{
-    let plain = plain(known, level, front, opcode, code)?;
-    if !plain_is_sure(known, &plain)? {
-        return Err(stopped(front, LostReason::Unsure));
-    }
-    Ok(plain)
 }
 
 /// The form of the data that begins with the opcode, if some does.
@@ -129,6 +102,7 @@ fn held(
 
 /// The node in which none stand whose opcode, behind `front`, was read; `level` levels are left for it.
 #[inline(never)]
+#[tactic(auto, unfolding(crate::specs::steps::Reading::plain_in))]
 pub(crate) fn read_leaf<'a, K: Known>(
     known: &K,
     level: u32,
@@ -146,7 +120,7 @@ pub(crate) fn read_leaf<'a, K: Known>(
         front.now code.new result }
 {
     let behind = code.fork();
-    match sure_plain(known, level, front, opcode, code) {
+    match plain(known, level, front, opcode, code) {
         Ok(plain) => Ok(Leaf::Plain(plain)),
         Err(LostStop::Fault(why)) => {
             *code = behind;

@@ -31,7 +31,6 @@ mod node;
 mod outline;
 mod plain;
 mod reader;
-mod sure;
 
 pub use fault::{LostFault, LostReason};
 pub use form::{ContainerForm, DataForm, PackedForm};

@@ -93,6 +93,7 @@ fn pass<K: Known>(
         (has_fields (fixed_view fixed)))) }
 {
     if holds_fields(&fixed) {
+        known.begin_fields(place, &fixed)?;
         let (read, lost) = fields(known, &fixed, inner)?;
         return Ok(filled(fixed, read, lost));
     }
@@ -129,7 +130,10 @@ fn open<'a, K: Known>(
             }
             Ok(Next::Read(pass(known, place, fixed, &mut inner)?))
         }
-        Err(LostStop::Fault(fault)) => Ok(Next::Read(Node::PackageLost(form, fault))),
+        Err(LostStop::Fault(fault)) => {
+            known.pass_lost(place, Some(form))?;
+            Ok(Next::Read(Node::PackageLost(form, fault)))
+        }
         Err(LostStop::Memory) => Err(AllocError),
     }
 }
@@ -146,7 +150,10 @@ fn tell<K: Known>(known: &mut K, place: usize, leaf: Leaf) -> Result<Node, Alloc
             known.pass_plain(place, &plain)?;
             Ok(Node::Plain(plain))
         }
-        Leaf::DataLost(form, why) => Ok(Node::DataLost(form, why)),
+        Leaf::DataLost(form, why) => {
+            known.pass_lost(place, None)?;
+            Ok(Node::DataLost(form, why))
+        }
         Leaf::NameLost(name, form, why) => {
             known.pass_name(place, &name)?;
             Ok(Node::NameLost(name, form, why))

@@ -5,18 +5,17 @@ use Rattle.acpi_tree.specs.View.{field_view}
 use Rattle.acpi_code.specs.declared.fault.ConstantFault.{ConstantFault}
 use Rattle.acpi_code.specs.steps.Fields.{field_at}
 use Rattle.acpi_code.specs.steps.Left.{Left, Shorter}
-use Rattle.acpi_body.specs.Faults.{constant_fault_of}
 use Rattle.acpi_outline.specs.declared.fault.LostFault.{LostFault}
 use Rattle.acpi_outline.specs.Nodes.{FixedTree, no_more_fields}
 use Rattle.acpi_outline.specs.View.{PlacedElement, fields_before}
 use Rattle.acpi_outline.specs.Rules.{Rules, after_fields}
-use Rattle.acpi_outline.specs.Faults.{term_fault}
+use Rattle.acpi_outline.specs.Faults.{element_fault}
 use Rattle.acpi_outline.specs.steps.Reading.{fields_with, fields_at}
 
 -- the next element was read, or none is, for that reason
 abbrev pub ReadsField : Left → Left → Result FieldElem LostFault → Type 0
 ReadsField old new (Ok e) = (field_at old.end old.bytes ≡ Ok (field_view e, new.bytes)) × Shorter old new
-ReadsField old new (Err why) = (f : ConstantFault) × (field_at old.end old.bytes ≡ Err f) × (why ≡ term_fault (constant_fault_of f))
+ReadsField old new (Err why) = (f : ConstantFault) × (field_at old.end old.bytes ≡ Err f) × (why ≡ element_fault f)
 
 -- these elements were read of what was left at first, and what is left now follows them
 pub record FieldsFollow {S : Type 0} (r : Rules S) (f : FixedTree) (known : S) (first : Left) (then : S) (now : Left) (front : List PlacedElement) : Type 0 where

@@ -21,7 +21,6 @@ use Rattle.acpi_code.specs.declared.opcode.Opcode.TheVariants as opcodes
 use Rattle.acpi_code.specs.steps.Reading.{◌>>=◌, Reading, Package, with_fault, no_level, byte_at, package_at, name_in, opcode_at}
 use Rattle.acpi_code.specs.steps.Fields.{field_at}
 use Rattle.acpi_body.specs.declared.fault.BodyFault.{BodyFault}
-use Rattle.acpi_body.specs.Faults.{constant_fault_of}
 use Rattle.acpi_body.specs.steps.Reading.{operands_at, term_at}
 use Rattle.acpi_outline.specs.declared.form.ContainerForm.{ContainerForm}
 use Rattle.acpi_outline.specs.declared.form.ContainerForm.TheVariants as containers
@@ -30,12 +29,12 @@ use Rattle.acpi_outline.specs.declared.form.PackedForm.TheVariants as forms
 use Rattle.acpi_outline.specs.declared.form.DataForm.{DataForm}
 use Rattle.acpi_outline.specs.declared.form.DataForm.TheVariants as datas
 use Rattle.acpi_outline.specs.declared.fault.LostReason.{LostReason}
-use Rattle.acpi_outline.specs.declared.fault.LostReason.TheVariants.{NoNode, ManyArguments, Unsure}
+use Rattle.acpi_outline.specs.declared.fault.LostReason.TheVariants.{NoNode, ManyArguments}
 use Rattle.acpi_outline.specs.declared.fault.LostFault.{LostFault}
-use Rattle.acpi_outline.specs.Faults.{term_fault, part_fault}
+use Rattle.acpi_outline.specs.Faults.{term_fault, part_fault, element_fault}
 use Rattle.acpi_outline.specs.Nodes.{PlainTree, term, external, alias, table_region, FixedTree, scope, container, method, if_so, otherwise, while_so, units, FieldNodes, no_more_fields, fields_lost, field_node}
 use Rattle.acpi_outline.specs.Nodes.{NodeTree, plain, holds, holds_fields, closed, package_lost, data_lost, name_lost, NodeTrees, no_more, lost, node, has_fields}
-use Rattle.acpi_outline.specs.Rules.{Rules, grammar_at, goes_into, after, is_sure, are_sure, plain_is_sure}
+use Rattle.acpi_outline.specs.Rules.{Rules, grammar_at, goes_into, after}
 use Rattle.acpi_outline.specs.Outline.{operands_first, operands_after, container_operands}
 
 -- ---- faults
@@ -50,11 +49,6 @@ part read = with_fault part_fault read
 
 abbrev pub of_term : {A : Type 0} → Result A BodyFault → Result A LostFault
 of_term read = with_fault term_fault read
-
--- what was read, if it is sure
-abbrev pub if_sure : {A : Type 0} → Bool → LostFault → A → Result A LostFault
-if_sure true why x = Ok x
-if_sure false why x = Err why
 
 -- ---- plain nodes
 
@@ -117,20 +111,17 @@ plain_by r level known end whole (opcodes.Arg n) rest = term_in r level known Va
 plain_by r level known end whole opcodes.Debug rest = term_in r level known SuperName end whole
 plain_by r level known end whole _ rest = Err (fault_at end whole NoNode)
 
--- .. each of whose names has one count
+-- .. as a node
 unfoldable pub plain_in : {S : Type 0} → Rules S → ℕ → S → ℕ → List ℕ → Opcode → List ℕ → Reading LostFault NodeTree
 plain_in r level known end whole opcode rest = do
   p ← plain_by r level known end whole opcode rest
-  q ← if_sure (plain_is_sure (r.sure known) p.0) (fault_at end whole Unsure) p
-  Ok (plain q.0, q.1)
+  Ok (plain p.0, p.1)
 
--- ---- fixeds
+-- ---- fixed arguments
 
--- a value, each of whose names has one count
-unfoldable pub value_in : {S : Type 0} → Rules S → ℕ → S → ℕ → List ℕ → Reading LostFault TermTree
-value_in r level known end bytes = do
-  v ← of_term (term_at (grammar_at r known) level Value end bytes)
-  if_sure (is_sure (r.sure known) v.0) (fault_at end bytes Unsure) v
+-- a value
+abbrev pub value_in : {S : Type 0} → Rules S → ℕ → S → ℕ → List ℕ → Reading LostFault TermTree
+value_in r level known end bytes = of_term (term_at (grammar_at r known) level Value end bytes)
 
 -- the test of an If; the byte 00 has no level
 abbrev pub test_in : {S : Type 0} → Rules S → ℕ → S → ℕ → List ℕ → Reading LostFault TermTree
@@ -152,13 +143,12 @@ container_in r level known form end bytes = do
   vs ← of_term (operands_at (term_at (grammar_at r known) level) (container_operands form) end n.1)
   Ok (container form n.0 (terms_of vs.0), vs.1)
 
--- the names and operands of a declaration of field units, each of whose names has one count
+-- the names and operands of a declaration of field units
 unfoldable pub units_in : {S : Type 0} → Rules S → ℕ → S → UnitsForm → ℕ → List ℕ → Reading LostFault FixedTree
 units_in r level known form end bytes = do
   ns ← names_in (names_of_units form) end bytes
   vs ← of_term (operands_at (term_at (grammar_at r known) level) (operands_of_units form) end ns.1)
-  ws ← if_sure (are_sure (r.sure known) (terms_of vs.0)) (fault_at end ns.1 Unsure) vs
-  Ok (units form ns.0 (terms_of ws.0), ws.1)
+  Ok (units form ns.0 (terms_of vs.0), vs.1)
 
 abbrev pub fixed_by : {S : Type 0} → Rules S → ℕ → S → PackedForm → ℕ → List ℕ → Reading LostFault FixedTree
 fixed_by r level known forms.Scope end bytes = part (name_in end bytes) >>= λ n. Ok (scope n.0, n.1)
@@ -181,7 +171,7 @@ Nodes S = S → ℕ → List ℕ → NodeTrees
 -- the elements behind what was read at a place, or nothing but what is lost from there on
 abbrev pub then_fields : ℕ → Reading ConstantFault FieldTree → (FieldTree × List ℕ → FieldNodes) → FieldNodes
 then_fields place (Ok x) next = field_node place x.0 (next x)
-then_fields place (Err f) next = fields_lost place (term_fault (constant_fault_of f))
+then_fields place (Err f) next = fields_lost place (element_fault f)
 
 -- the elements of a field list; the number bounds the turns, and the length is enough
 unfoldable pub fields_with : ℕ → ℕ → List ℕ → FieldNodes
