@@ -93,7 +93,7 @@ module _ (k q : Known) (h : AnswerAlike k q) where
   same_in s (g ∷ gs) (Some p) =
       λ i. cond (h.possible (parent_of p) i) (cond (h.possible_scope (parent_of p) i) (cond (h.certain p i) (Err (taken p)) (Ok p)) (Err (not_a_scope (parent_of p)))) (Err (no_parent (parent_of p)))
 
-  same_name : (s : Path) (n : NameParts) → is_certain_name k s n ≡ is_certain_name q s n
+  pub same_name : (s : Path) (n : NameParts) → is_certain_name k s n ≡ is_certain_name q s n
   same_name s n = by (tries s n)
     where
       by : (ps : List Path) → list_any (is_certain k) ps ≡ list_any (is_certain q) ps
@@ -107,7 +107,7 @@ module _ (k q : Known) (h : AnswerAlike k q) where
       by [] = refl
       by (n ∷ ns) = λ i. cond (not (same_name s n i)) (n ∷ by ns i) (by ns i)
 
-  same_up_to : (ps : List Path) → up_to_certain k ps ≡ up_to_certain q ps
+  pub same_up_to : (ps : List Path) → up_to_certain k ps ≡ up_to_certain q ps
   same_up_to [] = refl
   same_up_to (p ∷ ps) = λ i. cond (h.certain p i) (p ∷ []) (cond (h.possible p i) (p ∷ same_up_to ps i) (same_up_to ps i))
 

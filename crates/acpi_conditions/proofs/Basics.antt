@@ -1,5 +1,5 @@
 -- Tests and lists.
-use Rattle.std.proofs.Common.{◌≡◌, Bool, true, false, cond, not, ◌&&◌, ◌||◌, List, [], ◌∷◌, ◌++◌, map, find, is_some, ◌⊎◌, inl, inr, Option, Some, None, refl, sym, ap, ◌∙◌}
+use Rattle.std.proofs.Common.{◌≡◌, Bool, true, false, cond, not, ◌&&◌, ◌||◌, List, [], ◌∷◌, ◌++◌, map, find, is_some, ◌⊎◌, inl, inr, Option, Some, None, Result, Ok, Err, IfOk, refl, sym, ap, ◌∙◌}
 use Rattle.std.specs.List.{AllByRecursion, filter, flat_map, list_any}
 use Rattle.std.specs.Option.{option_or}
 use Rattle.acpi_name.proofs.EqualPaths.{path_eq_Decides}
@@ -199,3 +199,13 @@ union_cases objects p q t u e = by (objects q) (is_same_path q p) refl refl e
     by (Some o) b x y e = inl e
     by None true x y e = inr (sym (same_path q p y), one_some t u e)
     by None false x y e = cc
+
+-- ---- results
+
+pub if_ok_map : {X E : Type 0} (r : Result X E) (P Q : X → Type 0) → ((x : X) → P x → Q x) → IfOk r P → IfOk r Q
+if_ok_map (Ok x) P Q f h = f x h
+if_ok_map (Err e) P Q f h = tt
+
+pub if_ok_both : {X E : Type 0} (r : Result X E) (P Q R : X → Type 0) → ((x : X) → P x → Q x → R x) → IfOk r P → IfOk r Q → IfOk r R
+if_ok_both (Ok x) P Q R f h k = f x h k
+if_ok_both (Err e) P Q R f h k = tt

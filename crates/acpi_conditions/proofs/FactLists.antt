@@ -147,3 +147,37 @@ certain_kept old new facts more h n same e = record {
 
 pub taken_back : (facts pushed more : List Fact) (f : Fact) (count : ℕ) → pushed ≡ facts ++ f ∷ [] → count ≡ length facts → more ≡ take count pushed → more ≡ facts
 taken_back facts pushed more f count e n t = t ∙ ap₂ take n e ∙ take-append_seam facts (f ∷ [])
+
+-- ---- one fact less
+
+module _ (old : Slots) (facts more : List Fact) (f : Fact) (h : IsCertainBy old facts) (pop : facts ≡ more ++ f ∷ []) where
+  newest_popped : reverse facts ≡ f ∷ reverse more
+  newest_popped = ap reverse pop ∙ reverse_push more f
+
+  facts_before : AreFacts (f ∷ reverse more)
+  facts_before = subst AreFacts newest_popped h.facts
+
+  pub something_there : is_something (kept_in old f.path).certain ≡ true
+  something_there =
+      ap is_something (h.certain f.path ∙ ap (certainty_at f.path) newest_popped ∙ ap (λ b. cond b (raised f.is_scope (certainty_at f.path (reverse more))) (certainty_at f.path (reverse more))) (path_itself f.path f.path refl))
+      ∙ raised_something f.is_scope (certainty_at f.path (reverse more))
+
+  module _ (new : Slots) (n : IsNumbered new.numbers (length new.slots.items)) (set : (p : Path) → kept_in new p ≡ kept_over f.path (with_certain f.before) (kept_in old) p) where
+    certain_popped : (p : Path) → (kept_in new p).certain ≡ certainty_at p (reverse more)
+    certain_popped p = ap (λ (x : Here). x.certain) (set p) ∙ by (is_same_path p f.path) refl
+      where
+        by : (b : Bool) → is_same_path p f.path ≡ b → (cond b (with_certain f.before (kept_in old f.path)) (kept_in old p)).certain ≡ certainty_at p (reverse more)
+        by true u = facts_before.0 ∙ ap (λ q. certainty_at q (reverse more)) (sym (same_path p f.path u))
+        by false u =
+            h.certain p ∙ ap (certainty_at p) newest_popped
+            ∙ ap (λ b. cond b (raised f.is_scope (certainty_at p (reverse more))) (certainty_at p (reverse more))) (same_either_way f.path p ∙ u)
+
+    pub fact_popped : IsCertainBy new more
+    fact_popped = record { numbered = n; certain = certain_popped; facts = facts_before.1 }
+
+    pub sights_popped : SameSights old new
+    sights_popped p = ap (λ (x : Here). x.sights) (set p) ∙ by (is_same_path p f.path) refl
+      where
+        by : (b : Bool) → is_same_path p f.path ≡ b → (cond b (with_certain f.before (kept_in old f.path)) (kept_in old p)).sights ≡ (kept_in old p).sights
+        by true u = ap (λ q. (kept_in old q).sights) (sym (same_path p f.path u))
+        by false u = refl

@@ -16,7 +16,7 @@ use Rattle.acpi_conditions.proofs.Outcomes.{Outcome, IsCovered, covered_here, co
 use Rattle.acpi_conditions.proofs.Steps.{maybe_turned}
 use Rattle.acpi_conditions.proofs.Tables.{true_behind_table, table_outcome}
 use Rattle.acpi_conditions.proofs.Logs.{turn_place, Logged, IsLogged, logged_nodes, logged_tables}
-use Rattle.acpi_conditions.proofs.Ways.{passing_way}
+use Rattle.acpi_conditions.proofs.EntryWays.{passing_way}
 use Rattle.acpi_conditions.proofs.Reached.{distinct_left, distinct_right, apart, IsFresh, fresh_inside, turn_all}
 use Rattle.acpi_conditions.proofs.Pieces.{Piece, piece_nodes, piece_declaring, piece_opening, piece_branching, piece_looping, piece_stopping}
 use Rattle.acpi_conditions.proofs.Taken.{HasRound}

@@ -16,8 +16,8 @@ use Rattle.acpi_conditions.proofs.Outcomes.{Outcome, IsCovered, IsSound, covered
 use Rattle.acpi_conditions.proofs.Steps.{maybe_turned, all_farther, sound_declaring, sound_opening, sound_branching, sound_looping, sound_stopping, rooted_nodes, sound_nodes}
 use Rattle.acpi_conditions.proofs.Tables.{true_behind_table, table_outcome}
 use Rattle.acpi_conditions.proofs.Logs.{turn_place, Logged, IsLogged, logged_declaring, logged_opening, logged_branching, logged_looping, logged_stopping, logged_nodes, logged_tables}
-use Rattle.acpi_conditions.proofs.Ways as ways
-use Rattle.acpi_conditions.proofs.Ways.{IsExtended, extended_nodes, stopping_declaring, stopping_opening, stopping_branching, stopping_looping, stopping_stop, stopping_nodes}
+use Rattle.acpi_conditions.proofs.EntryWays as ways
+use Rattle.acpi_conditions.proofs.EntryWays.{IsExtended, extended_nodes, stopping_declaring, stopping_opening, stopping_branching, stopping_looping, stopping_stop, stopping_nodes}
 
 -- ---- distinct places
 

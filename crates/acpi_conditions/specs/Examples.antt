@@ -6,6 +6,7 @@ use Rattle.acpi_conditions.specs.Entries.{Path, Turn, then_branch, else_branch, 
 use Rattle.acpi_conditions.specs.Known.{Known, candidates, is_certain_name}
 use Rattle.acpi_conditions.specs.Links.{seen_from}
 use Rattle.acpi_conditions.specs.Survey.{table_survey}
+use Rattle.acpi_conditions.specs.Walk.{Walk, first_walk, predefine, declare, enter_other, lost_if, leave}
 use Rattle.acpi_conditions.specs.Listings.{nothing_asked}
 
 abbrev pub plain : List ℕ → NameParts
@@ -130,6 +131,23 @@ SecondRound = lines (loop 1 (declares (leaf_at 2 (codes "DEVD" ∷ codes "NNNN" 
 abbrev pub BranchesInWhile : Type 0
 BranchesInWhile = lines (loop 1 (branch 2 (declares (device 3 (codes "DEVD")) no_nodes no_nodes) (declares (leaf 4 (codes "DEVD")) no_nodes no_nodes) no_nodes) no_nodes) ≡
     (codes "DEVD" ∷ [], in_round 1 ∷ then_branch 2 ∷ [], asks_no) ∷ (codes "DEVD" ∷ [], in_round 1 ∷ else_branch 2 ∷ [], asks_no) ∷ []
+
+-- ---- an Else that has no If, or whose If can't be read
+
+abbrev pub walk_at_first : Walk
+walk_at_first = predefine (record { place = 0; name = rooted []; is_scope = true; needs = [] }) [] first_walk
+
+-- in the Else at 2: Name (AAAA)
+abbrev pub ways_in_else : Walk → List (Path × List Turn)
+ways_in_else w = map (λ e. (e.path, e.way)) (leave (declare (leaf 3 (codes "AAAA")) (enter_other 2 w))).entries
+
+-- .. with no If before it: as that of an If at 2
+abbrev pub ElseAlone : Type 0
+ElseAlone = ways_in_else walk_at_first ≡ ([], []) ∷ (codes "AAAA" ∷ [], else_branch 2 ∷ []) ∷ []
+
+-- .. behind the If at 1, whose test can't be read
+abbrev pub ElseOfLostIf : Type 0
+ElseOfLostIf = ways_in_else (lost_if 1 walk_at_first) ≡ ([], []) ∷ (codes "AAAA" ∷ [], else_branch 1 ∷ []) ∷ []
 
 -- ---- links
 

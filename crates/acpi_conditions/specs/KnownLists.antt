@@ -1,21 +1,19 @@
 -- What is known of the paths, as lists that answer the four tests (ACPI 6.5, 5.3).
-use Rattle.std.specs.Prelude.{◌&&◌, ℕ, suc, Bool, true, cond, nat_le, nat_lt, List, [], ◌∷◌}
+use Rattle.std.specs.Prelude.{◌&&◌, ℕ, suc, Bool, false, cond, nat_le, nat_lt, List, [], ◌∷◌, map, reverse, take}
 use Rattle.std.specs.List.{list_any}
-use Rattle.acpi_conditions.specs.Entries.{Path, Entry}
+use Rattle.acpi_conditions.specs.Entries.{Turn, Entry}
 use Rattle.acpi_conditions.specs.Known.{Certain, Known}
-use Rattle.acpi_conditions.specs.Listings.{nothing_asked}
+use Rattle.acpi_conditions.specs.EntryForms.{entry_view}
+use Rattle.acpi_conditions.specs.declared.entry.Entry.{Entry as EntryForm}
 use Rattle.acpi_conditions.specs.declared.facts.Hidden.{Hidden}
+use Rattle.acpi_conditions.specs.declared.facts.Mark.{Mark}
 
--- the entries in their order, what is certain, the newest first, the ranges of entries that are hidden, and the number of Whiles around
+-- the entries in their order, what is certain, the newest first, the ranges of entries that are hidden, and whether a While is around
 pub record KnownLists : Type 0 where
-  pub entries : List Entry
+  pub entries : List EntryForm
   pub certain : List Certain
   pub hidden : List Hidden
-  pub loops : ℕ
-
--- an entry of which only its path matters, and whether its object is a scope
-abbrev pub sight_of : Path → Bool → Entry
-sight_of p b = record { term = record { place = 0; name = record { rooted = true; parents = 0; segments = p }; is_scope = b; needs = [] }; scope = []; path = p; way = []; asks = nothing_asked }
+  pub in_loop : Bool
 
 -- one of the ranges has the number
 abbrev pub is_hidden : List Hidden → ℕ → Bool
@@ -26,9 +24,24 @@ abbrev pub seen_beyond : List Hidden → ℕ → List Entry → List Entry
 seen_beyond ranges n [] = []
 seen_beyond ranges n (e ∷ es) = cond (is_hidden ranges n) (seen_beyond ranges (suc n) es) (e ∷ seen_beyond ranges (suc n) es)
 
--- what is known by the lists
-abbrev pub known_by : KnownLists → Known
-known_by k = record { entries = seen_beyond k.hidden 0 k.entries; certain = k.certain; in_loop = nat_lt 0 k.loops }
+-- what is known by the lists, with the ways that their entries have
+abbrev pub known_by : List (List Turn) → KnownLists → Known
+known_by ways k = record { entries = seen_beyond k.hidden 0 (map (entry_view ways) k.entries); certain = k.certain; in_loop = k.in_loop }
 
 abbrev pub nothing_listed : KnownLists
-nothing_listed = record { entries = []; certain = []; hidden = []; loops = 0 }
+nothing_listed = record { entries = []; certain = []; hidden = []; in_loop = false }
+
+-- ---- at an earlier moment
+
+-- so many of what is certain, the oldest
+abbrev pub oldest : ℕ → List Certain → List Certain
+oldest n cs = reverse (take n (reverse cs))
+
+-- the lists behind a package: hidden is what was at its mark, and a While is around where one was; certain is what was inside, or at
+-- the mark
+abbrev pub lists_behind : Mark → Bool → KnownLists → KnownLists
+lists_behind m keeps k = record k { certain = cond keeps k.certain (oldest m.certain k.certain); hidden = take m.hidden k.hidden; in_loop = m.in_loop }
+
+-- the lists as they stood at the mark
+abbrev pub lists_at : Mark → KnownLists → KnownLists
+lists_at m k = record { entries = take m.entries k.entries; certain = oldest m.certain k.certain; hidden = take m.hidden k.hidden; in_loop = m.in_loop }

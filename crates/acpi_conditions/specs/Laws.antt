@@ -10,8 +10,10 @@ use Rattle.acpi_conditions.specs.Nodes.{Place, Term, Nodes, places}
 use Rattle.acpi_conditions.specs.Entries.{Path, Namespace, IsFoundIn, Turn, then_branch, else_branch, in_round, within, past, Entry, Holds, HasNoCondition, Why, empty_name, above_root, missing, no_parent, not_a_scope, taken, unsure, Refusal}
 use Rattle.acpi_conditions.specs.Known.{Known, is_certain, is_certain_scope, is_possible, is_possible_scope, candidates, is_certain_name, IsTrueOf}
 use Rattle.acpi_conditions.specs.Survey.{Around, Survey, behind, survey, known_behind, surveys, all_entries, all_refused}
+use Rattle.acpi_conditions.specs.Walk.{of_first, Package, Walk, passed, pass, enter_other, leave, started, walked, walked_tables}
 use Rattle.acpi_conditions.specs.Runs.{Event, State, AreRuns}
-use Rattle.acpi_conditions.specs.Links.{is_round, seen_from}
+use Rattle.acpi_conditions.specs.Links.{is_round, seen_from, links}
+use Rattle.acpi_conditions.specs.Views.{known_with}
 use Rattle.acpi_conditions.specs.Listings.{Placement, AreListings, entry_of}
 
 -- ---- sound
@@ -187,3 +189,41 @@ TestsDecide = (ns : Nodes) (a : Around) (k q : Known) → AnswerAlike k q → Ar
 -- the surveys of a longer list begin with those of a shorter one
 abbrev pub LongerBegins : Type 0
 LongerBegins = (k : Known) (ts us : List Nodes) → surveys k (ts ++ us) ≡ surveys k ts ++ surveys (known_behind k ts) us
+
+-- ---- one step after another
+
+-- but for whether an If stands directly before, the walk through nodes gives their survey
+abbrev pub WalkIsSurvey : Type 0
+WalkIsSurvey = (ns : Nodes) (w : Walk) → pass (walked ns w) ≡ passed (survey ns w.around w.known) w
+
+-- the innermost package is the first branch of an If
+abbrev pub IsInFirst : Walk → Type 0
+IsInFirst w = (p : Package) × (outer : List Package) × (w.packages ≡ p ∷ outer) × (p.kind ≡ of_first)
+
+-- so an If without an Else is one whose Else has nothing inside
+abbrev pub EmptyElseIsNone : Type 0
+EmptyElseIsNone = (place : Place) (w : Walk) → IsInFirst w → pass (leave (enter_other place (leave w))) ≡ pass (leave w)
+
+-- through tables it gives their surveys, and behind them the same is known
+abbrev pub TableWalkIsSurveys : Type 0
+TableWalkIsSurveys = (tables : List Nodes) (w : Walk) → walked_tables tables (started w) ≡ started (record w {
+  known = known_behind w.known tables;
+  entries = w.entries ++ all_entries (surveys w.known tables);
+  refused = w.refused ++ all_refused (surveys w.known tables);
+})
+
+-- ---- seen from an entry
+
+-- entries without a condition, whose objects are there before all tables, may be counted among those of the tables
+abbrev pub SeenAmongAll : Type 0
+SeenAmongAll = (k : Known) (before es : List Entry) (e : Entry) → AllByRecursion HasNoCondition before
+    → AnswerAlike (seen_from (known_with k before) es e) (seen_from k (before ++ es) e)
+
+abbrev pub NamesAmongAll : Type 0
+NamesAmongAll = (k : Known) (before es : List Entry) (e : Entry) (s : Path) (n : NameParts) → AllByRecursion HasNoCondition before
+    → (candidates (seen_from (known_with k before) es e) s n ≡ candidates (seen_from k (before ++ es) e) s n)
+    × (is_certain_name (seen_from (known_with k before) es e) s n ≡ is_certain_name (seen_from k (before ++ es) e) s n)
+
+abbrev pub LinksAmongAll : Type 0
+LinksAmongAll = (k : Known) (before es : List Entry) (e : Entry) (names : List NameParts) → AllByRecursion HasNoCondition before
+    → links (known_with k before) es e names ≡ links k (before ++ es) e names

@@ -2,10 +2,16 @@ pub mod Nodes
 pub mod Entries
 pub mod Known
 pub mod Survey
+pub mod Walk
 pub mod Runs
 pub mod Listings
 pub mod KnownLists
 pub mod Laws
 pub mod Links
+pub mod Turns
+pub mod EntryForms
+pub mod Views
+pub mod Met
+pub mod Here
 pub mod Examples
 pub mod steps

@@ -3,3 +3,11 @@ pub mod Tries
 pub mod Faults
 pub mod Facts
 pub mod KeptPaths
+pub mod Ways
+pub mod Views
+pub mod Meetings
+pub mod Stops
+pub mod Settled
+pub mod Packages
+pub mod Walks
+pub mod Moves

@@ -1,6 +1,6 @@
 //! What is certain, and which entries are hidden.
 
-ghost use Rattle.std.specs.Prelude.{◌≡◌, ◌∷◌, map, reverse, OnOk, OnErr};
+ghost use Rattle.std.specs.Prelude.{◌≡◌, ◌∷◌, ◌-◌, length, map, reverse, take, OnOk, OnErr};
 ghost use Rattle.acpi_conditions.specs.KnownLists.{is_hidden};
 ghost use Rattle.acpi_conditions.specs.steps.Facts.{certain_of, IsCertainBy, is_scope_certain, is_scope_seen, is_seen, is_something, kept_in, raised, SameSights};
 
@@ -26,6 +26,19 @@ pub struct Hidden {
     pub from: usize,
     /// The first behind them.
     pub to: usize,
+}
+
+/// A moment: how many entries, facts and hidden ranges there were.
+#[derive(Debug, Clone, Copy)]
+pub struct Mark {
+    /// The number of entries.
+    pub entries: usize,
+    /// How often something was certified.
+    pub certain: usize,
+    /// The number of ranges of entries that were hidden.
+    pub hidden: usize,
+    /// Whether a While was around.
+    pub in_loop: bool,
 }
 
 /// What is certain at a path by one fact more.
@@ -125,6 +138,30 @@ pub(crate) fn put_fact(
             facts.truncate(count);
             Err(AllocError)
         }
+    }
+}
+
+// Takes back the newest fact.
+fn pop_fact(slots: &mut Slots, facts: &mut Vec<Fact>)
+    requires { IsCertainBy slots.old facts.old.items }
+    ensures kept { IsCertainBy slots.new facts.new.items }
+    ensures same { SameSights slots.old slots.new }
+    ensures facts { facts.new.items ≡ take (length facts.old.items - 1) facts.old.items }
+{
+    if let Some(fact) = facts.pop() {
+        slots.reset_certain(&fact.path, fact.before);
+    }
+}
+
+/// Takes back all facts but the oldest, as many as the mark says.
+pub(crate) fn take_back(slots: &mut Slots, facts: &mut Vec<Fact>, mark: usize)
+    requires { IsCertainBy slots.old facts.old.items }
+    ensures kept { IsCertainBy slots.new facts.new.items }
+    ensures same { SameSights slots.old slots.new }
+    ensures facts { facts.new.items ≡ take mark facts.old.items }
+{
+    while facts.len() > mark {
+        pop_fact(slots, facts);
     }
 }
 

@@ -1,6 +1,6 @@
 //! Laws of the survey, of the definitions alone: the functions do nothing, and their contracts state the laws.
-ghost use Rattle.acpi_conditions.specs.Laws.{SurveyIsExact, MadeIsEntry, UnconditionalIsMade, KnownStaysTrue, RunsExist, ComesByWay, TakesTheWay, CandidatesCover, SeenIsTrue, LinksCover, StrictIsSurvey, TestsDecide, LongerBegins};
-ghost use Rattle.acpi_conditions.specs.Examples.{InBothBranches, ScopeBehindBoth, NameThrice, ThirdIsRefused, NeedsLater, NeedsEarlier, BreakInWhile, ReturnInIf, MadeBetween, SecondRound, BranchesInWhile, FieldSeesItsBranch, RoundsSeeBothBranches};
+ghost use Rattle.acpi_conditions.specs.Laws.{SurveyIsExact, MadeIsEntry, UnconditionalIsMade, KnownStaysTrue, RunsExist, ComesByWay, TakesTheWay, CandidatesCover, SeenIsTrue, LinksCover, StrictIsSurvey, TestsDecide, LongerBegins, WalkIsSurvey, EmptyElseIsNone, TableWalkIsSurveys, SeenAmongAll, NamesAmongAll, LinksAmongAll};
+ghost use Rattle.acpi_conditions.specs.Examples.{InBothBranches, ScopeBehindBoth, NameThrice, ThirdIsRefused, NeedsLater, NeedsEarlier, BreakInWhile, ReturnInIf, MadeBetween, SecondRound, BranchesInWhile, ElseAlone, ElseOfLostIf, FieldSeesItsBranch, RoundsSeeBothBranches};
 
 /// In every run of tables whose survey refuses no Scope as unsure, with any choice at each If and any number of rounds at
 /// each While, a term to which control comes declares its object exactly where what its entry asks is so at that moment.
@@ -30,6 +30,14 @@ pub fn links_are_sound()
     ensures links { LinksCover }
 {}
 
+/// What is seen from an entry stays the same where the objects that are there before all tables are counted among the
+/// entries of the tables, in front of them.
+pub fn known_is_seen_among_all()
+    ensures seen { SeenAmongAll }
+    ensures names { NamesAmongAll }
+    ensures links { LinksAmongAll }
+{}
+
 /// Where tables have a strict listing, it is their survey, and no entry has a condition.
 pub fn strict_is_survey()
     ensures { StrictIsSurvey }
@@ -46,6 +54,14 @@ pub fn longer_begins()
     ensures { LongerBegins }
 {}
 
+/// A walk over nodes, one step after another, gives their survey, and through tables it gives theirs. An If without an
+/// Else is walked as one whose Else has nothing inside.
+pub fn walk_is_survey()
+    ensures nodes { WalkIsSurvey }
+    ensures no_else { EmptyElseIsNone }
+    ensures tables { TableWalkIsSurveys }
+{}
+
 /// The survey of small tables.
 pub fn small_tables()
     ensures both { InBothBranches }
@@ -59,6 +75,8 @@ pub fn small_tables()
     ensures between { MadeBetween }
     ensures second { SecondRound }
     ensures rounds { BranchesInWhile }
+    ensures else_alone { ElseAlone }
+    ensures else_of_lost_if { ElseOfLostIf }
     ensures field { FieldSeesItsBranch }
     ensures both_seen { RoundsSeeBothBranches }
 {}

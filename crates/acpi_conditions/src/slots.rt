@@ -1,6 +1,6 @@
 //! What is kept at each path.
 
-ghost use Rattle.std.specs.Prelude.{◌≡◌, ◌<◌, length, cond, Some, IfOk, OnOk, OnErr, slice_get, IsSome};
+ghost use Rattle.std.specs.Prelude.{◌≡◌, ◌<◌, length, cond, Some, IfOk, OnOk, OnErr, slice_get, IsSome, IsTrue};
 ghost use Rattle.std.specs.Option.{option_copied};
 ghost use Rattle.std.specs.FinMap as finite;
 ghost use Rattle.acpi_conditions.specs.Entries.{Path as PathParts};
@@ -47,6 +47,7 @@ pub struct Slots {
 }
 
 impl Slots {
+    ghost use Rattle.acpi_conditions.specs.steps.Facts.{is_something};
     ghost use Rattle.acpi_conditions.specs.steps.Slots.{IsNumbered, kept_at, kept_over, nothing_here, slot_of, with_certain, with_sight};
 
     /// No slots.
@@ -102,6 +103,23 @@ impl Slots {
         let slot = &mut self.slots[number];
         slot.certain = certain;
         Ok(())
+    }
+
+    /// Says anew what is certain at a path where something is certain.
+    pub(crate) fn reset_certain(&mut self, path: &Path, certain: Certainty)
+        requires numbered { IsNumbered self.old.numbers (length self.old.slots.items) }
+        requires certain { IsTrue (is_something
+            (kept_at self.old.numbers self.old.slots.items path.now).certain) }
+        ensures numbered { IsNumbered self.new.numbers (length self.new.slots.items) }
+        ensures certain { (p : PathParts) → kept_at self.new.numbers self.new.slots.items p
+            ≡ kept_over path.now (with_certain certain)
+            (kept_at self.old.numbers self.old.slots.items) p }
+    {
+        if let Some(number) = self.numbers.get(path) {
+            let number = *number;
+            let slot = &mut self.slots[number];
+            slot.certain = certain;
+        }
     }
 
     // The number of a path, which has a slot by then.

@@ -1,18 +1,15 @@
 -- How the code keeps what is known of the paths (ACPI 6.5, 5.3).
-use Rattle.std.specs.Prelude.{◌≡◌, map, reverse}
-use Rattle.acpi_conditions.specs.Entries.{Path, Entry}
-use Rattle.acpi_conditions.specs.KnownLists.{KnownLists, sight_of}
-use Rattle.acpi_conditions.specs.declared.known_paths.Declared.{Declared}
+use Rattle.std.specs.Prelude.{◌≡◌, [], map, reverse}
+use Rattle.acpi_conditions.specs.Entries.{Path}
+use Rattle.acpi_conditions.specs.EntryForms.{entry_view}
+use Rattle.acpi_conditions.specs.KnownLists.{KnownLists}
 use Rattle.acpi_conditions.specs.declared.known_paths.KnownPaths.TheInside.{Inside}
 use Rattle.acpi_conditions.specs.steps.Facts.{certain_of, sights_beyond, kept_in, IsCertainBy}
 
-abbrev pub entry_of : Declared → Entry
-entry_of d = sight_of d.path d.is_scope
-
 abbrev pub lists_of : Inside → KnownLists
-lists_of k = record { entries = map entry_of k.entries.items; certain = map certain_of (reverse k.facts.items); hidden = k.hidden.items; loops = k.loops }
+lists_of k = record { entries = k.entries.items; certain = map certain_of (reverse k.facts.items); hidden = k.hidden.items; in_loop = k.in_loop }
 
--- the slots agree with the entries and the facts
+-- the slots agree with the entries, whatever their ways are, and the facts
 pub record IsKept (k : Inside) : Type 0 where
   pub certain : IsCertainBy k.slots k.facts.items
-  pub sights : (p : Path) → (kept_in k.slots p).sights ≡ sights_beyond p 0 (map entry_of k.entries.items)
+  pub sights : (p : Path) → (kept_in k.slots p).sights ≡ sights_beyond p 0 (map (entry_view []) k.entries.items)

@@ -1,4 +1,4 @@
-use Rattle.acpi_conditions.proofs.Seen.{candidates_cover, seen_is_true, links_cover}
+use Rattle.acpi_conditions.proofs.SeenIsTrue.{candidates_cover, seen_is_true, links_cover}
 use Rattle.acpi_conditions.proofs.laws.links_are_sound.Goals as goal
 
 pub returns-clause-candidates : goal.returns-clause-candidates

@@ -39,3 +39,9 @@ returns-clause-field c = (refl, refl, refl)
 
 pub returns-clause-both_seen : goal.returns-clause-both_seen
 returns-clause-both_seen c = refl
+
+pub returns-clause-else_alone : goal.returns-clause-else_alone
+returns-clause-else_alone c = refl
+
+pub returns-clause-else_of_lost_if : goal.returns-clause-else_of_lost_if
+returns-clause-else_of_lost_if c = refl

@@ -1,15 +1,15 @@
-use Rattle.std.proofs.Common.{◌∙◌, ap}
+use Rattle.std.proofs.Common.{[], ◌∙◌, ap}
 use Rattle.acpi_conditions.specs.Known.{is_possible_scope}
 use Rattle.acpi_conditions.specs.KnownLists.{known_by}
 use Rattle.acpi_conditions.specs.steps.Facts.{is_scope_seen, kept_in}
 use Rattle.acpi_conditions.proofs.KeptLists.{possible_scope_in_loop, possible_scope_outside}
 use Rattle.acpi_conditions.proofs.known_paths.KnownPathsStatuses.is_possible_scope.Goals as goal
 
-pub returns-then-loops-gt0 : goal.returns-then-loops-gt0
-returns-then-loops-gt0 c =
-    possible_scope_in_loop c.self.inside c.self.invariant c.args.path.now c.if-loops-gt0.true ∙ ap (λ k. is_possible_scope (known_by k) c.args.path.now) c.self.view_is
+pub returns-then-self : goal.returns-then-self
+returns-then-self c =
+    possible_scope_in_loop c.self.inside c.self.invariant c.args.path.now c.if-self.true ∙ ap (λ k. is_possible_scope (known_by [] k) c.args.path.now) c.self.view_is
 
 pub returns : goal.returns
 returns c =
     c.scope_seen_at.ensures ∙ ap (λ l. is_scope_seen l (kept_in c.self.inside.slots c.args.path.now).sights) c.deref.ensures.value
-    ∙ possible_scope_outside c.self.inside c.self.invariant c.args.path.now c.if-loops-gt0.false ∙ ap (λ k. is_possible_scope (known_by k) c.args.path.now) c.self.view_is
+    ∙ possible_scope_outside c.self.inside c.self.invariant c.args.path.now c.if-self.false ∙ ap (λ k. is_possible_scope (known_by [] k) c.args.path.now) c.self.view_is

@@ -19,7 +19,7 @@ use Rattle.acpi_conditions.proofs.Knowing.{found_candidate, certain_found}
 use Rattle.acpi_conditions.proofs.Outcomes.{Lasts, certain_grow}
 use Rattle.acpi_conditions.proofs.Tables.{survey_is_exact}
 use Rattle.acpi_conditions.proofs.Logs.{Logged, IsMaking, logged_tables}
-use Rattle.acpi_conditions.proofs.Ways.{unfiltered}
+use Rattle.acpi_conditions.proofs.EntryWays.{unfiltered}
 use Rattle.acpi_conditions.proofs.Reached.{IsReachedIn, coming_tables}
 use Rattle.acpi_conditions.proofs.Taken.{HasRound, Untouched, filtered, taking_tables}
 use Rattle.acpi_conditions.proofs.Opposed.{IsSide, HasBoth, AreTurned, wayed_tables, one_tables}
