@@ -1,0 +1,8 @@
+pub mod FilePieces
+mod Judging
+pub mod Walking
+pub mod TableWalks
+mod LocalPaths
+mod Growing
+pub mod Parts
+mod SegmentNames

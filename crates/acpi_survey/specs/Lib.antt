@@ -1,0 +1,14 @@
+pub mod Needs
+pub mod Tables
+pub mod Pieces
+pub mod Counts
+pub mod Bodies
+pub mod Nodes
+pub mod Reading
+pub mod Predefined
+pub mod Survey
+pub mod Laws
+pub mod Spans
+pub mod SpanViews
+pub mod Problems
+pub mod steps

@@ -1,0 +1,143 @@
+-- How the nodes of tables are read: what is known so far (ACPI 6.5, 5.3 and 20.2.5).
+use Rattle.std.specs.Prelude.{◌+◌, ◌%◌, ◌==◌, ◌&&◌, nat_le, ℕ, Bool, true, false, cond, is_ok, List, [], ◌∷◌, ◌++◌, Option, Some, None}
+use Rattle.std.specs.List.{list_any}
+use Rattle.std.specs.FinMap as finite
+use Rattle.acpi_name.specs.Names.{Segment, NameParts}
+use Rattle.acpi_name.specs.Paths.{place_of}
+use Rattle.acpi_space.specs.Lookups.{is_same_path}
+use Rattle.acpi_space.specs.Spaces.{PathMap}
+use Rattle.acpi_tree.specs.declared.op.Op.{Op}
+use Rattle.acpi_tree.specs.declared.op.Op.TheVariants as ops
+use Rattle.acpi_tree.specs.Tree.{ExternalParts, FieldTree, unit}
+use Rattle.acpi_tree.specs.Terms.{apply, declare}
+use Rattle.acpi_counts.specs.Counts.{with_first}
+use Rattle.acpi_outline.specs.declared.form.PackedForm.{PackedForm}
+use Rattle.acpi_outline.specs.declared.form.PackedForm.TheVariants as forms
+use Rattle.acpi_outline.specs.Nodes as outline
+use Rattle.acpi_outline.specs.Nodes.{PlainTree, FixedTree, container, method, if_so, otherwise, while_so, units}
+use Rattle.acpi_outline.specs.Rules.{Rules}
+use Rattle.acpi_conditions.specs.Nodes as nodes
+use Rattle.acpi_conditions.specs.Nodes.{Term}
+use Rattle.acpi_conditions.specs.Entries.{Path}
+use Rattle.acpi_conditions.specs.Known.{candidates, declared_at, opened_at}
+use Rattle.acpi_conditions.specs.Met.{met_by, numbers_met}
+use Rattle.acpi_conditions.specs.Here.{meeting, scopes_around}
+use Rattle.acpi_conditions.specs.Walk as walks
+use Rattle.acpi_conditions.specs.Walk.{Walk}
+use Rattle.acpi_survey.specs.Counts.{counts_numbered, count_of}
+use Rattle.acpi_survey.specs.Needs.{names_in_all, names_before}
+use Rattle.acpi_survey.specs.Nodes.{term_at, unit_at, operands_of}
+
+-- What is known: the walk over the nodes so far; the place of the code's first byte; of each entry how many values follow its name where
+-- it is called, None where that isn't sure; and what the Externals of the table so far say.
+pub record Reading : Type 0 where
+  pub walk : Walk
+  pub base : ℕ
+  pub counts : List (Option ℕ)
+  pub expected : PathMap ℕ
+
+-- ---- how many values follow a name
+
+-- a scope around isn't called
+abbrev pub counts_at : Reading → Path → List (Option ℕ)
+counts_at s p = cond (list_any (λ q. is_same_path q p) (scopes_around s.walk)) (Some 0 ∷ []) (counts_numbered s.counts (numbers_met (meeting s.walk) p))
+
+abbrev pub count_at : Reading → NameParts → Option ℕ
+count_at s n = count_of (finite.get s.expected) s.walk.around.scope (counts_at s) n (candidates (met_by (meeting s.walk)) s.walk.around.scope n)
+
+-- ---- how it goes on
+
+abbrev pub is_declared : Term → Walk → Bool
+is_declared t w = is_ok (declared_at w.known w.around.scope t.name)
+
+-- a term, with the count of its entry, if it is one
+abbrev pub with_count : Term → Option ℕ → Reading → List (Option ℕ)
+with_count t c s = cond (is_declared t s.walk) (s.counts ++ c ∷ []) s.counts
+
+abbrev pub declaring : Term → Option ℕ → Reading → Reading
+declaring t c s = record s { walk = walks.declare t s.walk; counts = with_count t c s }
+
+abbrev pub entering : Term → Reading → Reading
+entering t s = record s { walk = walks.enter_term t s.walk; counts = with_count t (Some 0) s }
+
+abbrev pub passing : Reading → Reading
+passing s = record s { walk = walks.pass s.walk }
+
+abbrev pub stopping : ℕ → nodes.Stop → Reading → Reading
+stopping place kind s = record s { walk = walks.stop_at place kind s.walk }
+
+-- an External of a method (20.2.5.2, type 8) says how many arguments it has, seven at most, if none before it does
+abbrev pub is_heard : ExternalParts → Bool
+is_heard x = x.kind == 8 && nat_le x.args 7
+
+abbrev pub with_expected : PathMap ℕ → ℕ → List Segment → Option Path → PathMap ℕ
+with_expected counts n [] place = counts
+with_expected counts n (g ∷ gs) None = counts
+with_expected counts n (g ∷ gs) (Some p) = with_first counts p n
+
+abbrev pub expecting : ExternalParts → Reading → Reading
+expecting x s = record (passing s) { expected = cond (is_heard x) (with_expected s.expected x.args x.name.segments (place_of s.walk.around.scope x.name)) s.expected }
+
+abbrev pub after_operator : ℕ → Op → Reading → Reading
+after_operator place ops.Return s = stopping place nodes.returns s
+after_operator place ops.Break s = stopping place nodes.breaks s
+after_operator place ops.Continue s = stopping place nodes.continues s
+after_operator place _ s = passing s
+
+abbrev pub after_plain : Reading → ℕ → PlainTree → Reading
+after_plain s place (outline.term (declare form before n behind)) = declaring (term_at (s.base + place) n false (names_before before ++ names_in_all behind)) (Some 0) s
+after_plain s place (outline.term (apply op vs)) = after_operator (s.base + place) op s
+after_plain s place (outline.term t) = passing s
+after_plain s place (outline.external x) = expecting x s
+after_plain s place (outline.alias source n) = declaring (term_at (s.base + place) n false (source ∷ [])) (count_at s source) s
+after_plain s place (outline.table_region n vs) = declaring (term_at (s.base + place) n false (names_in_all vs)) (Some 0) s
+
+abbrev pub after_name : Reading → ℕ → NameParts → Reading
+after_name s place n = declaring (term_at (s.base + place) n false []) (Some 0) s
+
+abbrev pub opens : Reading → FixedTree → Bool
+opens s (outline.scope n) = is_ok (opened_at s.walk.known s.walk.around.scope n)
+opens s (container form n vs) = is_ok (declared_at s.walk.known s.walk.around.scope n)
+opens s _ = true
+
+abbrev pub enter : Reading → ℕ → FixedTree → Reading
+enter s place (outline.scope n) = record s { walk = walks.enter_scope (s.base + place) n s.walk }
+enter s place (container form n vs) = entering (term_at (s.base + place) n true []) s
+enter s place (if_so v) = record s { walk = walks.enter_first (s.base + place) s.walk }
+enter s place otherwise = record s { walk = walks.enter_other (s.base + place) s.walk }
+enter s place (while_so v) = record s { walk = walks.enter_body (s.base + place) s.walk }
+enter s place _ = s
+
+abbrev pub leave : Reading → Reading
+leave s = record s { walk = walks.leave s.walk }
+
+-- an element of a field list
+abbrev pub after_field : Reading → ℕ → FixedTree → FieldTree → Reading
+after_field s place f (unit g bits) = declaring (unit_at (s.base + place) g (operands_of f)) (Some 0) s
+after_field s place f e = passing s
+
+-- a package that isn't gone into: a method, by the number of its arguments, or what is refused
+abbrev pub after_closed : Reading → ℕ → FixedTree → List ℕ → Reading
+after_closed s place (outline.scope n) content = record s { walk = walks.walked_scope (s.base + place) n (λ w. w) s.walk }
+after_closed s place (container form n vs) content = declaring (term_at (s.base + place) n true []) (Some 0) s
+after_closed s place (method n flags) content = declaring (term_at (s.base + place) n false []) (Some (flags % 8)) s
+after_closed s place f content = passing s
+
+-- behind an If whose test is lost an Else belongs to it
+abbrev pub after_lost : Reading → ℕ → Option PackedForm → Reading
+after_lost s place (Some forms.If) = record s { walk = walks.lost_if (s.base + place) s.walk }
+after_lost s place form = passing s
+
+abbrev pub survey_rules : Rules Reading
+survey_rules = record {
+  args = count_at;
+  opens = opens;
+  after_plain = after_plain;
+  after_name = after_name;
+  enter = enter;
+  leave = leave;
+  begin_fields = λ s place f. passing s;
+  after_field = after_field;
+  after_closed = after_closed;
+  after_lost = after_lost;
+}

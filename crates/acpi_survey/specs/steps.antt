@@ -1,0 +1,3 @@
+pub mod Readings
+pub mod Remainders
+pub mod LostParts

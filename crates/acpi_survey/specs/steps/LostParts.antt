@@ -1,0 +1,17 @@
+-- Why a part of a code is lost.
+use Rattle.std.specs.Prelude.{List, [], ◌∷◌}
+use Rattle.std.specs.List.{flat_map}
+use Rattle.acpi_outline.specs.declared.fault.LostFault.{LostFault}
+use Rattle.acpi_outline.specs.Nodes.{NodeTree, package_lost, data_lost, name_lost}
+use Rattle.acpi_survey.specs.Spans.{Part, of_node, of_element, of_lost, PlacedPart}
+
+abbrev pub why_lost : Part → List LostFault
+why_lost (of_node (package_lost form why)) = why ∷ []
+why_lost (of_node (data_lost form why)) = why ∷ []
+why_lost (of_node (name_lost n form why)) = why ∷ []
+why_lost (of_node n) = []
+why_lost (of_element e) = []
+why_lost (of_lost why) = why ∷ []
+
+abbrev pub lost_among : List PlacedPart → List LostFault
+lost_among ps = flat_map (λ p. why_lost p.part) ps

@@ -1,0 +1,102 @@
+//! The bodies of methods that tables may declare.
+
+ghost use Rattle.std.specs.Prelude.{◌≡◌, ◌++◌, IfOk, OnOk};
+ghost use Rattle.std.specs.List.{flat_map};
+ghost use Rattle.std.specs.FinMap as finite;
+ghost use Rattle.acpi_name.specs.NameRefs.{name_parts};
+ghost use Rattle.acpi_body.specs.Arguments.{expected_at, expected_place};
+ghost use Rattle.acpi_conditions.specs.Met.{numbers_met};
+ghost use Rattle.acpi_conditions.specs.Views.{seen_by};
+ghost use Rattle.acpi_survey.specs.Counts.{counts_numbered, count_of};
+ghost use Rattle.acpi_survey.specs.Bodies.{body_count, counts_behind};
+
+use crate::counts::{agreed, put_counts};
+use crate::locals::{Behind, is_local};
+use acpi_body::MethodCounting;
+use acpi_conditions::{Met, Seen, find};
+use acpi_counts::Counts;
+use acpi_name::{NameRef, Path};
+use acpi_space::TreeSpace;
+use std::alloc::{AllocError, Global};
+
+/// What the body of a method is read against, as it is seen from the method's entry.
+#[derive(Drop)]
+pub(crate) struct Setting<'a> {
+    pub(crate) alloc: Global,
+    pub(crate) seen: Seen<'a>,
+    pub(crate) met: Met<'a>,
+    pub(crate) counts: &'a [Option<u8>],
+    pub(crate) expected: &'a Counts,
+    pub(crate) method: &'a Path,
+}
+
+/// How many values follow a name that is nowhere, as Externals say it.
+pub(crate) fn expected_count(
+    alloc: Global,
+    expected: &Counts,
+    scope: &Path,
+    name: NameRef<'_>,
+) -> Result<u8, AllocError>
+    ensures { IfOk result (λ n. n ≡ expected_at (finite.get expected.now)
+        (expected_place (finite.get expected.now) scope.now (name_parts name.entry))) }
+{
+    match expected.find(alloc, scope, name)? {
+        Some(path) => match expected.get(&path) {
+            Some(count) => Ok(count),
+            None => Ok(0),
+        },
+        None => Ok(0),
+    }
+}
+
+impl<'a> Setting<'a> {
+    // Puts the counts of what is at a path behind others.
+    fn put_counts_at(
+        &self,
+        found: &mut Vec<Option<u8>>,
+        locals: &TreeSpace<()>,
+        path: &Path,
+    ) -> Result<(), AllocError>
+        ensures { OnOk result (found.new.items ≡ found.old.items
+            ++ counts_behind locals.now (λ p. counts_numbered self.now.counts.now (numbers_met self.now.met p)) path.now) }
+    {
+        if is_local(locals, path) {
+            found.push(Some(0))?;
+            return Ok(());
+        }
+        let numbers = self.met.numbers_at(self.alloc, path)?;
+        put_counts(found, self.counts, &numbers)
+    }
+}
+
+impl<'a> MethodCounting for Setting<'a> {
+    ghost arguments = { λ s. body_count (finite.get s.expected.now) s.method.now (seen_by s.seen)
+        (λ p. counts_numbered s.counts.now (numbers_met s.met p)) };
+
+    ghost method = { λ s. s.method.now };
+
+    fn alloc(&self) -> Global {
+        self.alloc
+    }
+
+    fn method(&self) -> &Path {
+        self.method
+    }
+
+    fn count(&self, locals: &TreeSpace<()>, name: NameRef<'_>) -> Result<Option<u8>, AllocError> {
+        let behind = Behind {
+            known: &self.seen,
+            locals,
+        };
+        let candidates = find(self.alloc, &behind, self.method, name)?;
+        if candidates.paths.is_empty() {
+            let count = expected_count(self.alloc, self.expected, self.method, name)?;
+            return Ok(Some(count));
+        }
+        let mut found = Vec::new(self.alloc);
+        'each: for path in &candidates.paths {
+            self.put_counts_at(&mut found, locals, path)?;
+        }
+        Ok(agreed(&found))
+    }
+}

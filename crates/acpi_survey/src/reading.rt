@@ -1,0 +1,299 @@
+//! What is known while the nodes of tables are read.
+
+ghost use Rattle.std.specs.Prelude.{◌≡◌, ◌++◌, ◌+◌, is_ok, IfOk, OnOk, IsTrue};
+ghost use Rattle.std.specs.FinMap as finite;
+ghost use Rattle.acpi_name.specs.NameRefs.{name_parts};
+ghost use Rattle.acpi_name.specs.Paths.{place_of};
+ghost use Rattle.acpi_tree.specs.View.{external_view};
+ghost use Rattle.acpi_conditions.specs.Here.{meeting};
+ghost use Rattle.acpi_conditions.specs.EntryForms.{term_view as declaring_view};
+ghost use Rattle.acpi_conditions.specs.Known.{opened_at, declared_at};
+ghost use Rattle.acpi_conditions.specs.Walk as walks;
+ghost use Rattle.acpi_conditions.specs.steps.Stops.{stop_of};
+ghost use Rattle.acpi_survey.specs.Reading.{count_at, counts_at, is_heard, with_expected, declaring, stopping, passing, expecting, entering, leave};
+ghost use Rattle.acpi_survey.specs.Survey.{place_in, at_table, behind_table};
+
+use crate::bodies::expected_count;
+use crate::counts::{agreed, put_counts};
+use crate::remarks::Remarks;
+use acpi_conditions::{Met, Stop, Term as Declaring, Walk};
+use acpi_counts::Counts;
+use acpi_name::{Name, NameRef, Path, PlaceFault, place};
+use acpi_tree::External;
+use std::alloc::{AllocError, Global};
+use std::marker::Model;
+
+/// What is known while the nodes of tables are read: what is declared so far, and how many values follow a name.
+#[derive(Drop)]
+pub(crate) struct Reading {
+    alloc: Global,
+    walk: Walk,
+    table: usize,
+    counts: Vec<Option<u8>>,
+    expected: Counts,
+    remarks: Remarks,
+}
+
+impl Model for Reading {
+    ghost use Rattle.acpi_survey.specs.Reading.{Reading as ReadingParts};
+    ghost use Rattle.acpi_survey.specs.steps.Readings.{reading_of, expected_code};
+    ghost use Rattle.std.specs.Coded.{codes};
+
+    ghost Value = { ReadingParts };
+
+    ghost coded = { Prim.hlevel (codes, expected_code) };
+
+    ghost view = { reading_of };
+}
+
+/// The place of a node, as one number.
+pub(crate) fn place_in(table: usize, offset: usize) -> u128
+    ensures { result ≡ place_in table offset }
+{
+    table as u128 * (1 << 64) + offset as u128
+}
+
+impl Reading {
+    /// Where memory comes from.
+    pub(crate) fn memory(&self) -> Global {
+        self.alloc
+    }
+
+    /// The place, among the bytes of all tables, of what stands at the offset of the code.
+    pub(crate) fn place(&self, offset: usize) -> u128
+        ensures { result ≡ self.now.base + offset }
+    {
+        place_in(self.table, offset)
+    }
+
+    /// Comes to a table of that number.
+    pub(crate) fn come_to_table(&mut self, number: usize)
+        ensures { self.new ≡ at_table number self.old }
+    {
+        self.table = number;
+        self.expected = Counts::new(self.alloc);
+    }
+
+    /// Ends a table.
+    pub(crate) fn end_table(&mut self) -> Result<(), AllocError>
+        ensures { OnOk result (self.new ≡ behind_table self.old) }
+    {
+        self.walk.end_table()
+    }
+
+    /// Passes a term with nothing inside, whose object takes so many arguments, where that is sure.
+    pub(crate) fn declare(&mut self, term: Declaring, count: Option<u8>) -> Result<(), AllocError>
+        ensures { OnOk result (self.new ≡ declaring (declaring_view term) count self.old) }
+    {
+        if self.walk.declare(term)? {
+            self.counts.push(count)?;
+        }
+        Ok(())
+    }
+
+    /// Goes into the package of a term, where it can be declared.
+    pub(crate) fn enter_term(&mut self, term: Declaring) -> Result<(), AllocError>
+        ensures { OnOk result (self.new ≡ entering (declaring_view term) self.old) }
+    {
+        if self.walk.enter_term(term)? {
+            self.counts.push(Some(0))?;
+        }
+        Ok(())
+    }
+
+    /// Passes what has no effect on what is declared.
+    pub(crate) fn pass(&mut self)
+        ensures { self.new ≡ passing self.old }
+    {
+        self.walk.pass();
+    }
+
+    /// Passes a Return, a Break or a Continue.
+    pub(crate) fn stop(&mut self, place: u128, kind: Stop) -> Result<(), AllocError>
+        ensures { OnOk result (self.new ≡ stopping place (stop_of kind) self.old) }
+    {
+        self.walk.stop(place, kind)
+    }
+
+    /// Passes an If whose test is lost.
+    pub(crate) fn lost_if(&mut self, place: u128) -> Result<(), AllocError>
+        ensures { OnOk result (self.new
+            ≡ record self.old { walk = walks.lost_if place self.old.walk }) }
+    {
+        self.walk.lost_if(place)
+    }
+
+    /// Goes into the first branch of an If.
+    pub(crate) fn enter_first(&mut self, place: u128) -> Result<(), AllocError>
+        ensures { OnOk result (self.new
+            ≡ record self.old { walk = walks.enter_first place self.old.walk }) }
+    {
+        self.walk.enter_first(place)
+    }
+
+    /// Goes into an Else.
+    pub(crate) fn enter_other(&mut self, place: u128) -> Result<(), AllocError>
+        ensures { OnOk result (self.new
+            ≡ record self.old { walk = walks.enter_other place self.old.walk }) }
+    {
+        self.walk.enter_other(place)
+    }
+
+    /// Goes into the body of a While.
+    pub(crate) fn enter_body(&mut self, place: u128) -> Result<(), AllocError>
+        ensures { OnOk result (self.new
+            ≡ record self.old { walk = walks.enter_body place self.old.walk }) }
+    {
+        self.walk.enter_body(place)
+    }
+
+    /// Goes into a Scope, where it opens a scope. Whether it does.
+    pub(crate) fn enter_scope(&mut self, place: u128, name: NameRef<'_>) -> Result<bool, AllocError>
+        ensures walk { OnOk result (self.new
+            ≡ record self.old { walk = walks.enter_scope place (name_parts name.entry) self.old.walk }) }
+        ensures entered { IfOk result (λ b. b ≡ is_ok
+            (opened_at self.old.walk.known self.old.walk.around.scope (name_parts name.entry))) }
+    {
+        let entered = self.walk.enter_scope(place, name)?;
+        if entered {
+            self.remarks.put_opened(place, self.walk.scope().copy()?)?;
+        }
+        Ok(entered)
+    }
+
+    /// Goes out of the package that was entered last.
+    pub(crate) fn leave_package(&mut self) -> Result<(), AllocError>
+        ensures { OnOk result (self.new ≡ leave self.old) }
+    {
+        self.walk.leave()
+    }
+
+    /// Whether a term of this name can be declared here.
+    pub(crate) fn can_declare(&self, name: NameRef<'_>) -> Result<bool, AllocError>
+        ensures { IfOk result (λ b. b ≡ is_ok (declared_at self.now.walk.known
+            self.now.walk.around.scope (name_parts name.entry))) }
+    {
+        self.walk.can_declare(name)
+    }
+
+    /// Whether a Scope of this name opens a scope here.
+    pub(crate) fn can_open(&self, name: NameRef<'_>) -> Result<bool, AllocError>
+        ensures { IfOk result (λ b. b ≡ is_ok (opened_at self.now.walk.known
+            self.now.walk.around.scope (name_parts name.entry))) }
+    {
+        self.walk.can_open(name)
+    }
+}
+
+// ---- how many values follow a name
+
+impl Reading {
+    // Puts the counts of what is at a path behind others.
+    fn put_counts_at(
+        &self,
+        met: &Met<'_>,
+        found: &mut Vec<Option<u8>>,
+        path: &Path,
+    ) -> Result<(), AllocError>
+        requires { met.now ≡ meeting self.now.walk }
+        ensures { OnOk result (found.new.items ≡ found.old.items ++ counts_at self.now path.now) }
+    {
+        if self.walk.is_around(path) {
+            found.push(Some(0))?;
+            return Ok(());
+        }
+        let numbers = met.numbers_at(self.alloc, path)?;
+        put_counts(found, &self.counts, &numbers)
+    }
+
+    /// How many values follow a name here.
+    pub(crate) fn count_at(&self, name: NameRef<'_>) -> Result<Option<u8>, AllocError>
+        ensures { IfOk result (λ n. n ≡ count_at self.now (name_parts name.entry)) }
+    {
+        let met = self.walk.met()?;
+        let scope = self.walk.scope();
+        let candidates = met.find(self.alloc, scope, name)?;
+        if candidates.paths.is_empty() {
+            let count = expected_count(self.alloc, &self.expected, scope, name)?;
+            return Ok(Some(count));
+        }
+        let mut found = Vec::new(self.alloc);
+        'each: for path in &candidates.paths {
+            self.put_counts_at(&met, &mut found, path)?;
+        }
+        Ok(agreed(&found))
+    }
+
+    /// Passes an External, which may say how many arguments a method takes.
+    pub(crate) fn expect(&mut self, external: &External) -> Result<(), AllocError>
+        ensures { OnOk result (self.new ≡ expecting (external_view external.now) self.old) }
+    {
+        self.walk.pass();
+        if is_heard(external) {
+            add_expected(self.alloc, &mut self.expected, self.walk.scope(), external)?;
+        }
+        Ok(())
+    }
+}
+
+// ---- what is noticed
+
+impl Reading {
+    // Whether nothing is known of a name here.
+    fn is_unknown(&self, name: NameRef<'_>) -> Result<bool, AllocError> {
+        let met = self.walk.met()?;
+        let scope = self.walk.scope();
+        let candidates = met.find(self.alloc, scope, name)?;
+        if !candidates.paths.is_empty() {
+            return Ok(false);
+        }
+        Ok(self.expected.find(self.alloc, scope, name)?.is_none())
+    }
+
+    // Those of the names of which nothing is known here.
+    fn unknown_among(&self, names: Vec<Name>) -> Result<Vec<Name>, AllocError> {
+        let mut unknown = Vec::new(self.alloc);
+        'each: for name in names {
+            if self.is_unknown(name.view())? {
+                unknown.push(name)?;
+            }
+        }
+        Ok(unknown)
+    }
+
+    /// Keeps those names in the node at the place of which nothing is known here.
+    pub(crate) fn keep_unknown(&mut self, place: u128, names: Vec<Name>) -> Result<(), AllocError>
+        ensures { OnOk result (self.new ≡ self.old) }
+    {
+        let unknown = self.unknown_among(names)?;
+        self.remarks.put_unknown(place, unknown)
+    }
+}
+
+// Whether an External says how many arguments a method takes.
+fn is_heard(external: &External) -> bool
+    ensures { result ≡ is_heard (external_view external.now) }
+{
+    external.kind == 8 && external.args <= 7
+}
+
+// Adds what an External in the scope says.
+fn add_expected(
+    alloc: Global,
+    expected: &mut Counts,
+    scope: &Path,
+    external: &External,
+) -> Result<(), AllocError>
+    requires { IsTrue (is_heard (external_view external.now)) }
+    ensures { OnOk result (expected.new ≡ with_expected expected.old external.now.args
+        external.now.name.segments (place_of scope.now external.now.name)) }
+{
+    if external.name.view().is_empty() {
+        return Ok(());
+    }
+    match place(alloc, scope, external.name.view()) {
+        Ok(path) => expected.add(path, external.args),
+        Err(PlaceFault::AboveRoot) => Ok(()),
+        Err(PlaceFault::Memory) => Err(AllocError),
+    }
+}
