@@ -14,9 +14,10 @@ use Rattle.acpi_conditions.specs.Known.{Known}
 use Rattle.acpi_conditions.specs.Listings.{Placement, with_object, made_behind, entry_of}
 use Rattle.acpi_conditions.specs.Laws.{IsAllOf, IsStrict}
 use Rattle.acpi_conditions.specs.Survey.{surveys}
+use Rattle.acpi_conditions.specs.Views.{nothing_known, known_with}
 use Rattle.acpi_conditions.proofs.Strict.{all_inside}
 use Rattle.acpi_conservative.proofs.Items.{strict_load_is_survey}
-use Rattle.acpi_conservative.specs.Strict.{nodes_of, all_placed, AreItemListings, AreTablesOf, Agrees, predefined_objects, placement_of, predefined_terms, known_with, nothing_known, predefined_known}
+use Rattle.acpi_conservative.specs.Strict.{nodes_of, all_placed, AreItemListings, AreTablesOf, Agrees, predefined_objects, placement_of, predefined_terms, predefined_known}
 use Rattle.acpi_conservative.proofs.Agreeing.{or_alike, one_alike}
 
 agrees_with : (objects : Namespace) (terms : entries.Namespace) → Agrees objects terms → (es : List (List Segment × ObjectTree)) → Agrees (with_objects objects es) (made_behind terms (map placement_of es))
@@ -32,7 +33,7 @@ abbrev AreFree : entries.Namespace → List Placement → Type 0
 AreFree terms [] = Unit {0}
 AreFree terms (d ∷ ds) = (terms d.path ≡ None) × AreFree (with_object terms d.path d.term) ds
 
-all_with : (terms : entries.Namespace) (k : Known) → IsAllOf terms k → (ds : List Placement) → AreFree terms ds → IsAllOf (made_behind terms ds) (known_with k ds)
+all_with : (terms : entries.Namespace) (k : Known) → IsAllOf terms k → (ds : List Placement) → AreFree terms ds → IsAllOf (made_behind terms ds) (known_with k (map entry_of ds))
 all_with terms k all [] free = all
 all_with terms k all (d ∷ ds) free = all_with (with_object terms d.path d.term) _ (all_inside terms k all (entry_of d) free.0) ds free.1
 
@@ -46,7 +47,7 @@ predefined_is_known = all_with nothing nothing_known (record {
 
 -- ---- tables
 
-items_of : (depth number : ℕ) (objects : Namespace) (bs : List (List ℕ)) (ts : List (List code.Placement)) → AreListings depth number objects bs ts
+pub items_of : (depth number : ℕ) (objects : Namespace) (bs : List (List ℕ)) (ts : List (List code.Placement)) → AreListings depth number objects bs ts
     → (iss : List ItemTrees) × AreTablesOf depth number bs iss × AreItemListings objects iss ts
 items_of depth number objects [] [] l = ([], tt, tt)
 items_of depth number objects [] (t ∷ ts) l = absurd l

@@ -1,16 +1,25 @@
 -- Where the strict load lists tables, the survey lists the same, without conditions (ACPI 6.5, 5.3).
-use Rattle.std.specs.Prelude.{ℕ, List, map}
-use Rattle.std.specs.List.{AllZip}
+use Rattle.std.specs.Prelude.{◌≡◌, ℕ, false, List, [], ◌++◌, map}
+use Rattle.std.specs.List.{AllZip, flat_map}
 use Rattle.acpi_tree.specs.Tree.{ItemTrees}
 use Rattle.acpi_declare.specs.Namespace.{Namespace}
 use Rattle.acpi_declare.specs.Predefined.{predefined}
 use Rattle.acpi_declare.specs.Listing.{Placement}
 use Rattle.acpi_declare.specs.Loads.{AreListings}
+use Rattle.acpi_declare.specs.Tables.{IsTableOf, code_of}
+use Rattle.acpi_outline.specs.Nodes.{NodeTrees}
 use Rattle.acpi_conditions.specs.Entries as entries
+use Rattle.acpi_conditions.specs.Entries.{Entry, HasNoCondition}
 use Rattle.acpi_conditions.specs.Known.{Known}
 use Rattle.acpi_conditions.specs.Survey.{surveys}
 use Rattle.acpi_conditions.specs.Laws.{IsAllOf, IsStrict}
 use Rattle.acpi_conditions.specs.Listings as conditions
+use Rattle.acpi_survey.specs.declared.tables.Judged.{Judged}
+use Rattle.acpi_survey.specs.declared.tables.Judged.TheVariants.{Read}
+use Rattle.acpi_survey.specs.Tables.{IsJudged}
+use Rattle.acpi_survey.specs.Reading.{Reading}
+use Rattle.acpi_survey.specs.Predefined.{first_reading}
+use Rattle.acpi_survey.specs.Survey.{AreRead}
 use Rattle.acpi_conservative.specs.Strict.{nodes_of, all_placed, Agrees, AreItemListings, AreTablesOf, predefined_terms, predefined_known}
 
 -- the strict listings of item trees are listings of their nodes
@@ -34,3 +43,25 @@ PredefinedAgrees = Agrees predefined predefined_terms
 
 abbrev pub PredefinedIsKnown : Type 0
 PredefinedIsKnown = IsAllOf predefined_terms predefined_known
+
+-- ---- as the survey reads the bytes
+
+-- nothing is wrong with a table of the strict load: it isn't cut, its bytes sum to 0, it is in place, and nothing stands behind it
+abbrev pub StrictTableIsRead : Type 0
+StrictTableIsRead = (depth number : ℕ) (bytes : List ℕ) (is : ItemTrees) → IsTableOf depth number bytes is → (j : Judged) → IsJudged number bytes j → j ≡ Read (code_of bytes) false false false 0
+
+-- the entry is the placement's, wherever its term stands, and has no condition
+pub record IsEntryOf (d : conditions.Placement) (e : Entry) : Type 0 where
+  pub scope : e.scope ≡ d.scope
+  pub path : e.path ≡ d.path
+  pub name : e.term.name ≡ d.term.name
+  pub is_scope : e.term.is_scope ≡ d.term.is_scope
+  pub needs : e.term.needs ≡ d.term.needs
+  pub no_condition : HasNoCondition e
+
+-- Where tables have strict listings, the entries that are read of their bytes, behind those that are there before any table, are these,
+-- in their order; and nothing is refused.
+abbrev pub StrictReadIsSurvey : Type 0
+StrictReadIsSurvey = (depth : ℕ) (tables : List (List ℕ)) (ts : List (List Placement)) → AreListings depth 0 predefined tables ts
+    → (nss : List NodeTrees) (last : Reading) → AreRead depth 0 first_reading tables nss last
+    → (es : List Entry) × (last.walk.entries ≡ first_reading.walk.entries ++ es) × AllZip IsEntryOf (flat_map all_placed ts) es × (last.walk.refused ≡ [])

@@ -1,5 +1,5 @@
 -- Item trees of the strict load as nodes of the survey (ACPI 6.5, 20.2.5).
-use Rattle.std.specs.Prelude.{◌≡◌, Bool, true, false, List, [], ◌∷◌, map, ⊤, codes, ℕ, suc}
+use Rattle.std.specs.Prelude.{◌≡◌, Bool, List, [], ◌∷◌, map, ⊤, codes, ℕ, suc}
 use Rattle.std.specs.List.{flat_map}
 use Rattle.std.specs.Option.{option_map}
 use Rattle.acpi_name.specs.Names.{Segment, NameParts}
@@ -14,8 +14,8 @@ use Rattle.acpi_conditions.specs.Nodes as nodes
 use Rattle.acpi_conditions.specs.Nodes.{Nodes, no_nodes}
 use Rattle.acpi_conditions.specs.Entries as entries
 use Rattle.acpi_conditions.specs.Known.{Known}
-use Rattle.acpi_conditions.specs.Survey.{known_inside}
 use Rattle.acpi_conditions.specs.Listings as conditions
+use Rattle.acpi_survey.specs.Predefined.{term_of as predefined_term, first_reading}
 
 abbrev pub term_of : NameParts → Bool → nodes.Term
 term_of n is_scope = record { place = 0; name = n; is_scope = is_scope; needs = [] }
@@ -96,19 +96,13 @@ predefined_objects =
     ∷ (codes "_REV" ∷ [], predefined_object)
     ∷ []
 
+-- the term of each, as the survey has it
 abbrev pub placement_of : List Segment × ObjectTree → conditions.Placement
-placement_of e = record { term = term_of (record { rooted = true; parents = 0; segments = e.0 }) (opens_scope e.1); scope = []; path = e.0 }
+placement_of e = record { term = predefined_term (record { path = e.0; is_scope = opens_scope e.1; args = 0 }); scope = []; path = e.0 }
 
 abbrev pub predefined_terms : entries.Namespace
 predefined_terms = conditions.made_behind nothing (map placement_of predefined_objects)
 
--- each of them an entry without a condition, and certain
-abbrev pub known_with : Known → List conditions.Placement → Known
-known_with k [] = k
-known_with k (d ∷ ds) = known_with (known_inside k (conditions.entry_of d)) ds
-
-abbrev pub nothing_known : Known
-nothing_known = record { entries = []; certain = []; in_loop = false }
-
+-- what the survey knows then: each of them is an entry without a condition, and certain
 abbrev pub predefined_known : Known
-predefined_known = known_with nothing_known (map placement_of predefined_objects)
+predefined_known = first_reading.walk.known

@@ -1,5 +1,5 @@
 //! The law that the survey extends the strict load: the functions do nothing, and their contracts state the law.
-ghost use Rattle.acpi_conservative.specs.Laws.{StrictIsListing, StrictLoadIsSurvey, StrictTablesAreSurvey, PredefinedAgrees, PredefinedIsKnown};
+ghost use Rattle.acpi_conservative.specs.Laws.{StrictIsListing, StrictLoadIsSurvey, StrictTablesAreSurvey, PredefinedAgrees, PredefinedIsKnown, StrictTableIsRead, StrictReadIsSurvey};
 
 /// Where item trees of tables have strict listings, their nodes have these listings, and the surveys are these: no entry
 /// has a condition, and nothing is refused. So it is where a list of byte strings has strict listings, as `load` needs.
@@ -13,4 +13,12 @@ pub fn strict_load_is_survey()
 pub fn predefined_is_known()
     ensures agrees { PredefinedAgrees }
     ensures known { PredefinedIsKnown }
+{}
+
+/// Of a table of the strict load all of its code is read, and nothing is wrong with it. Where a list of tables has strict
+/// listings, as `load` needs, the entries that the survey reads of the same bytes are these, in their order, without
+/// conditions, and nothing is refused.
+pub fn strict_read_is_survey()
+    ensures tables { StrictTableIsRead }
+    ensures entries { StrictReadIsSurvey }
 {}

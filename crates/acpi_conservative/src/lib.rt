@@ -3,8 +3,10 @@
 //!
 //! ```text
 //! bytes of a table ──► item tree ──► sites ──► strict listing: paths and objects
-//!                          │                        ║ the same paths (strict_load_is_survey)
-//!                          └──► nodes ──► survey: entries, none with a condition
+//!     │                    │                        ║ the same paths (strict_load_is_survey)
+//!     │                    └──► nodes ──► survey: entries, none with a condition
+//!     │                                             ║ the same but for places (strict_read_is_survey)
+//!     └──► outline ──► nodes at their places ──► entries that are read of the bytes
 //! ```
 #![tactic(auto)]
 
