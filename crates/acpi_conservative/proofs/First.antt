@@ -9,6 +9,7 @@ use Rattle.acpi_tree.specs.Tree.{ItemTrees}
 use Rattle.acpi_declare.specs.Listing as code
 use Rattle.acpi_declare.specs.Loads.{AreListings}
 use Rattle.acpi_declare.specs.Predefined.{with_objects, predefined}
+use Rattle.acpi_survey.specs.Predefined.{first_reading, with_object as with_known_object}
 use Rattle.acpi_conditions.specs.Entries as entries
 use Rattle.acpi_conditions.specs.Known.{Known}
 use Rattle.acpi_conditions.specs.Listings.{Placement, with_object, made_behind, entry_of}
@@ -38,6 +39,7 @@ all_with terms k all [] free = all
 all_with terms k all (d ∷ ds) free = all_with (with_object terms d.path d.term) _ (all_inside terms k all (entry_of d) free.0) ds free.1
 
 pub predefined_is_known : IsAllOf predefined_terms predefined_known
+unfolding first_reading with_known_object
 predefined_is_known = all_with nothing nothing_known (record {
   is_true = record { certain = λ c m. absurd m; possible = λ l p t e. let f : ⊥ = cc in absurd f };
   not_in_loop = refl;

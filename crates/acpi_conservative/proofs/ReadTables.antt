@@ -21,7 +21,7 @@ use Rattle.acpi_conditions.specs.Laws.{IsStrict}
 use Rattle.acpi_conditions.proofs.Strict.{strict_is_survey}
 use Rattle.acpi_survey.specs.Nodes as read
 use Rattle.acpi_survey.specs.Reading.{Reading, survey_rules}
-use Rattle.acpi_survey.specs.Predefined.{first_reading}
+use Rattle.acpi_survey.specs.Predefined.{first_reading, with_object}
 use Rattle.acpi_survey.specs.Survey as tables
 use Rattle.acpi_survey.specs.Survey.{code_read, place_in, at_table, AreRead, all_nodes}
 use Rattle.acpi_survey.specs.Laws.{IsAtStart, IsSurveyed}
@@ -133,6 +133,7 @@ first_terms : terms_without predefined_terms ≡ predefined_terms
 first_terms = made_without nothing (map placement_of predefined_objects)
 
 pub strict_read_is_survey : StrictReadIsSurvey
+unfolding first_reading with_object
 strict_read_is_survey depth bs ts l nss last r =
     let items = items_of depth 0 predefined bs ts l in
     let iss : List ItemTrees = items.0 in

@@ -6,3 +6,6 @@ mod LocalPaths
 mod Growing
 pub mod Parts
 mod SegmentNames
+pub mod Refusals
+mod Surveys
+mod Numbers

@@ -3,11 +3,13 @@ use Rattle.std.specs.Prelude.{◌++◌, ℕ, false, cond, List, [], ◌∷◌, m
 use Rattle.std.specs.FinMap as finite
 use Rattle.acpi_name.specs.Names.{NameParts}
 use Rattle.acpi_space.specs.Lookups.{Lookup}
-use Rattle.acpi_space.specs.Spaces.{is_defined}
+use Rattle.acpi_space.specs.Spaces.{PathMap, is_defined}
 use Rattle.acpi_body.specs.Arguments.{Locals}
-use Rattle.acpi_conditions.specs.Entries.{Path}
+use Rattle.acpi_conditions.specs.Entries.{Path, Entry}
+use Rattle.acpi_conditions.specs.Met.{numbers_beyond}
+use Rattle.acpi_conditions.specs.Views.{seen_by}
 use Rattle.acpi_conditions.specs.Known.{Known, Certain, candidates}
-use Rattle.acpi_survey.specs.Counts.{count_of}
+use Rattle.acpi_survey.specs.Counts.{count_of, counts_numbered}
 
 -- what the body has declared is certain
 abbrev pub object_at : Path → Certain
@@ -23,3 +25,7 @@ counts_behind locals counts p = cond (is_defined locals p) (Some 0 ∷ []) (coun
 -- in the scope of the method's path, over what is known where it is declared
 abbrev pub body_count : Lookup ℕ → Path → Known → (Path → List (Option ℕ)) → Locals → NameParts → Option ℕ
 body_count externals s k counts locals n = count_of externals s (counts_behind locals counts) n (candidates (known_behind locals k) s n)
+
+-- as the body of the method of an entry is read, by all entries, their counts, and what the Externals of the method's table say
+abbrev pub entry_count : List Entry → List (Option ℕ) → PathMap ℕ → Entry → Locals → NameParts → Option ℕ
+entry_count es counts expected e = body_count (finite.get expected) e.path (seen_by (record { entries = es; entry = e })) (λ p. counts_numbered counts (numbers_beyond e.way p 0 es))

@@ -7,8 +7,10 @@ pub mod Nodes
 pub mod Reading
 pub mod Predefined
 pub mod Survey
+pub mod Surveys
 pub mod Laws
 pub mod Spans
 pub mod SpanViews
 pub mod Problems
+pub mod Notes
 pub mod steps

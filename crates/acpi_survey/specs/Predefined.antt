@@ -16,7 +16,7 @@ pub record Predefined : Type 0 where
 abbrev pub term_of : Predefined → Term
 term_of o = record { place = 0; name = record { rooted = false; parents = 0; segments = o.path }; is_scope = o.is_scope; needs = [] }
 
-abbrev pub with_object : Reading → Predefined → Reading
+unfoldable pub with_object : Reading → Predefined → Reading
 with_object s o = record s { walk = predefine (term_of o) o.path s.walk; counts = s.counts ++ Some o.args ∷ [] }
 
 abbrev pub with_objects : Reading → List Predefined → Reading
@@ -32,20 +32,16 @@ scope_named g = record { path = g ∷ []; is_scope = true; args = 0 }
 abbrev pub object_named : List ℕ → ℕ → Predefined
 object_named g n = record { path = g ∷ []; is_scope = false; args = n }
 
--- the root, scopes, a mutex, a method, and objects of which nothing more is known
-abbrev pub predefined : List Predefined
-predefined =
-    record { path = []; is_scope = true; args = 0 }
-    ∷ scope_named (codes "_GPE")
-    ∷ scope_named (codes "_PR_")
-    ∷ scope_named (codes "_SB_")
-    ∷ scope_named (codes "_SI_")
-    ∷ scope_named (codes "_TZ_")
-    ∷ object_named (codes "_GL_") 0
-    ∷ object_named (codes "_OSI") 1
-    ∷ object_named (codes "_OS_") 0
-    ∷ object_named (codes "_REV") 0
-    ∷ []
+-- scopes
+abbrev pub predefined_scopes : List Predefined
+predefined_scopes = scope_named (codes "_GPE") ∷ scope_named (codes "_PR_") ∷ scope_named (codes "_SB_") ∷ scope_named (codes "_SI_") ∷ scope_named (codes "_TZ_") ∷ []
 
-abbrev pub first_reading : Reading
-first_reading = with_objects nothing_read predefined
+-- a mutex, a method, and objects of which nothing more is known
+abbrev pub predefined_objects : List Predefined
+predefined_objects = object_named (codes "_GL_") 0 ∷ object_named (codes "_OSI") 1 ∷ object_named (codes "_OS_") 0 ∷ object_named (codes "_REV") 0 ∷ []
+
+abbrev pub predefined_root : Predefined
+predefined_root = record { path = []; is_scope = true; args = 0 }
+
+unfoldable pub first_reading : Reading
+first_reading = with_objects (with_objects (with_object nothing_read predefined_root) predefined_scopes) predefined_objects

@@ -24,10 +24,11 @@ place_in table offset = table * 2 ^ 64 + offset
 
 -- before a table
 abbrev pub at_table : ℕ → Reading → Reading
-at_table number s = record s { base = place_in number 0; expected = finite.empty }
+at_table number s = record s { base = place_in number 0 }
 
+-- behind it; what its Externals say is forgotten
 abbrev pub behind_table : Reading → Reading
-behind_table s = record s { walk = walks.end_table s.walk }
+behind_table s = record s { walk = walks.end_table s.walk; expected = finite.empty }
 
 -- Tables have these nodes, read one after another; and what is known behind them.
 abbrev pub AreRead : ℕ → ℕ → Reading → List (List ℕ) → List NodeTrees → Reading → Type 0

@@ -1,3 +1,4 @@
 pub mod Readings
 pub mod Remainders
 pub mod LostParts
+pub mod MethodBodies

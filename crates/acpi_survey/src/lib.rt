@@ -1,24 +1,51 @@
-//! The survey of tables.
+//! The survey of tables: what a DSDT and SSDTs may declare, and under which condition, whatever stands in them
+//! (ACPI 6.5, 5.2.11, 5.3 and 20.2.5). None of their code is run, and no table is refused.
+//!
+//! ```text
+//! file ──pieces──► tables ──judge──► code ──read_outline──► nodes
+//!                                              │
+//!                             a walk over nodes, which counts what follows a name
+//!                                              ▼
+//!                              entries and refusals, problems and notes
+//! ```
+//!
+//! ```text
+//! let survey = survey_tables(alloc, &tables, depth)?;
+//! let problems = survey.problems(alloc)?;   // what is lost or refused, where, and why
+//! let notes = survey.notes(alloc)?;         // what is noticed and loses nothing
+//! ```
+//!
+//! What the nodes of a table do with what is declared is said by `specs/Nodes.antt`, and how many values follow a name by
+//! `specs/Reading.antt`. `laws` says that what is read of tables is the survey of what their nodes do
+//! (`read_is_survey`), so that all laws of `acpi_conditions` hold of it, and that no two nodes stand at one place
+//! (`places_are_distinct`).
 #![tactic(auto)]
 
 mod bodies;
 mod calls;
 mod counts;
 mod file;
+mod found;
 mod known;
 pub mod laws;
 mod locals;
 mod lookup;
 mod marks;
+mod method_bodies;
+mod names;
 mod needs;
 mod notes;
+mod predefined;
 mod problems;
 mod reading;
 mod reading_nodes;
 mod remarks;
 mod scopes;
 mod spans;
+mod survey;
 mod tables;
+#[cfg(test)]
+mod tests;
 
 pub use file::{pieces, pieces_make_the_file};
 pub use lookup::{Found, node_at};
@@ -27,4 +54,5 @@ pub use notes::{Note, NoteReason, Unknown, notes_of};
 pub use problems::{LostRange, Problem, ProblemReason, ReadTable, Site, problems_of};
 pub use scopes::Opened;
 pub use spans::{Span, Spans, What};
+pub use survey::{Survey, SurveyedTable, survey_tables};
 pub use tables::{Judged, TableReason, judge};

@@ -1,7 +1,10 @@
 //! What is noticed of a table that loses nothing.
 
+ghost use Rattle.std.specs.Prelude.{◌≡◌, ◌++◌, [], None, IfOk, IfSome, OnOk};
+ghost use Rattle.acpi_survey.specs.Notes.{misplaced, whole_in, whole_noted, whole_notes};
+
 use crate::marks::{Mark, Marks, code_at};
-use crate::problems::{ReadTable, Site, code_of, offset_of, refusal_at};
+use crate::problems::{ReadTable, Site, code_of, offset_of};
 use crate::reading::place_in;
 use crate::scopes::{Places, Scopes};
 use crate::spans::{Span, Spans, What};
@@ -52,7 +55,9 @@ pub struct Note {
 
 // ---- the table as a whole
 
-fn of_table(number: usize, reason: NoteReason) -> Note {
+fn of_table(number: usize, reason: NoteReason) -> Note
+    ensures { result.reason ≡ reason }
+{
     Note {
         site: Site {
             table: number,
@@ -63,7 +68,9 @@ fn of_table(number: usize, reason: NoteReason) -> Note {
     }
 }
 
-fn place_reason(number: usize) -> NoteReason {
+fn place_reason(number: usize) -> NoteReason
+    ensures { result ≡ misplaced number }
+{
     if number == 0 {
         NoteReason::NotDsdt
     } else {
@@ -71,7 +78,10 @@ fn place_reason(number: usize) -> NoteReason {
     }
 }
 
-fn put_first(found: &mut Vec<Note>, table: &ReadTable<'_>) -> Result<(), AllocError> {
+fn put_first(found: &mut Vec<Note>, table: &ReadTable<'_>) -> Result<(), AllocError>
+    ensures { OnOk result (whole_noted found.new.items
+        ≡ whole_noted found.old.items ++ whole_notes table.now.number table.now.judged.now) }
+{
     if let Judged::Read {
         has_bad_sum,
         is_out_of_place,
@@ -120,7 +130,10 @@ fn put(
     place: usize,
     reason: NoteReason,
     scope: &Path,
-) -> Result<(), AllocError> {
+) -> Result<(), AllocError>
+    ensures { OnOk result (whole_noted found.new.items
+        ≡ whole_noted found.old.items ++ whole_in reason) }
+{
     found.push(Note {
         site: Site {
             table: number,
@@ -137,7 +150,9 @@ fn reason_of(
     table: &ReadTable<'_>,
     place: u128,
     mark: &Mark<'_>,
-) -> Result<Option<NoteReason>, AllocError> {
+) -> Result<Option<NoteReason>, AllocError>
+    ensures { IfOk result (λ r. IfSome r (λ n. whole_in n ≡ [])) }
+{
     match mark.name {
         None => Ok(Some(NoteReason::Loads)),
         Some(name) => {
@@ -157,7 +172,9 @@ fn put_marks(
     marks: &[Mark<'_>],
     place: u128,
     scope: &Path,
-) -> Result<(), AllocError> {
+) -> Result<(), AllocError>
+    ensures { OnOk result (whole_noted found.new.items ≡ whole_noted found.old.items) }
+{
     'each: for mark in marks {
         if let Some(reason) = reason_of(table, place, mark)? {
             put(found, table.number, mark.place, reason, scope)?;
@@ -173,7 +190,9 @@ fn put_of_plain(
     plain: &Plain,
     offset: usize,
     scope: &Path,
-) -> Result<(), AllocError> {
+) -> Result<(), AllocError>
+    ensures { OnOk result (whole_noted found.new.items ≡ whole_noted found.old.items) }
+{
     let place = place_in(table.number, offset);
     match plain {
         Plain::Term(term) => {
@@ -200,7 +219,9 @@ fn put_of_fixed(
     fixed: &Fixed,
     offset: usize,
     scope: &Path,
-) -> Result<(), AllocError> {
+) -> Result<(), AllocError>
+    ensures { OnOk result (whole_noted found.new.items ≡ whole_noted found.old.items) }
+{
     let marks = Marks::of_fixed(alloc, fixed, &mut code_at(code_of(table.judged), offset))?;
     put_marks(found, table, &marks, place_in(table.number, offset), scope)
 }
@@ -213,7 +234,9 @@ fn put_of_node(
     node: &Node,
     offset: usize,
     scope: &Path,
-) -> Result<(), AllocError> {
+) -> Result<(), AllocError>
+    ensures { OnOk result (whole_noted found.new.items ≡ whole_noted found.old.items) }
+{
     match node {
         Node::Plain(plain) => put_of_plain(alloc, found, table, plain, offset, scope),
         Node::Holds(fixed, _) => put_of_fixed(alloc, found, table, fixed, offset, scope),
@@ -262,7 +285,7 @@ impl Ifs {
 
 // ---- all
 
-// Puts the notes of what a span has. What is refused has none.
+// Puts the notes of what a span has.
 fn put_of_span(
     alloc: Global,
     found: &mut Vec<Note>,
@@ -270,12 +293,11 @@ fn put_of_span(
     span: &Span<'_>,
     is_behind_if: bool,
     scope: &Path,
-) -> Result<(), AllocError> {
+) -> Result<(), AllocError>
+    ensures { OnOk result (whole_noted found.new.items ≡ whole_noted found.old.items) }
+{
     if is_else(span.what) && !is_behind_if {
         put(found, table.number, span.from, NoteReason::StrayElse, scope)?;
-    }
-    if refusal_at(table.refused, place_in(table.number, span.from)).is_some() {
-        return Ok(());
     }
     match span.what {
         What::Node(node) => put_of_node(alloc, found, table, node, span.from, scope),
@@ -288,7 +310,9 @@ fn put_of_code(
     found: &mut Vec<Note>,
     table: &ReadTable<'_>,
     root: &Path,
-) -> Result<(), AllocError> {
+) -> Result<(), AllocError>
+    ensures { OnOk result (whole_noted found.new.items ≡ whole_noted found.old.items) }
+{
     let places = Places {
         table: table.number,
         entries: table.entries,
@@ -308,7 +332,11 @@ fn put_of_code(
 }
 
 /// The notes of a table, in the order of their sites.
-pub fn notes_of(alloc: Global, table: &ReadTable<'_>) -> Result<Vec<Note>, AllocError> {
+pub fn notes_of(alloc: Global, table: &ReadTable<'_>) -> Result<Vec<Note>, AllocError>
+    // What is noticed of the table as a whole is told.
+    ensures { IfOk result (λ v. whole_noted v.items
+        ≡ whole_notes table.now.number table.now.judged.now) }
+{
     let root = Path::root(alloc);
     let mut found = Vec::new(alloc);
     put_first(&mut found, table)?;

@@ -1,12 +1,14 @@
 //! What is lost or refused in a table.
 
-ghost use Rattle.std.specs.Prelude.{◌≡◌, ◌++◌, IfOk, OnOk, option_to_list};
+ghost use Rattle.std.specs.Prelude.{◌≡◌, ◌++◌, IfOk, IfSome, OnOk, option_to_list};
+ghost use Rattle.acpi_space.specs.Laws.{Among};
+ghost use Rattle.acpi_conditions.specs.steps.Faults.{why_of};
 ghost use Rattle.acpi_outline.specs.View.{node_view, nodes_view};
-ghost use Rattle.acpi_survey.specs.Problems.{lost_in, lost_told};
+ghost use Rattle.acpi_survey.specs.Problems.{lost_in, lost_told, whole_problems, whole_told, AreGiven, offset_of};
 ghost use Rattle.acpi_survey.specs.Spans.{of_node};
 ghost use Rattle.acpi_survey.specs.declared.problems.ProblemReason.TheVariants as reasons;
 ghost use Rattle.acpi_survey.specs.SpanViews.{part_of};
-ghost use Rattle.acpi_survey.specs.steps.LostParts.{why_lost};
+ghost use Rattle.acpi_survey.specs.steps.LostParts.{why_lost, front_problems, trailing_problems};
 
 use crate::marks::code_at;
 use crate::notes::Unknown;
@@ -92,7 +94,9 @@ pub struct ReadTable<'a> {
 }
 
 /// An offset from the table's first byte, of a place in its code.
-pub(crate) fn offset_of(place: usize) -> usize {
+pub(crate) fn offset_of(place: usize) -> usize
+    ensures { result ≡ offset_of place }
+{
     place.saturating_add(HEADER_BYTES)
 }
 
@@ -104,10 +108,24 @@ pub(crate) fn code_of<'a>(judged: &'a Judged) -> &'a [u8] {
     }
 }
 
-/// The refusal at a place.
-pub(crate) fn refusal_at(refused: &[Refusal], place: u128) -> Option<&Refusal> {
+// The refusal of that number.
+#[tactic(auto, using(crate::proofs::Refusals::among_index))]
+fn refusal(refused: &[Refusal], number: usize) -> Option<&Refusal>
+    ensures { IfSome result (λ r. Among refused.now r.now) }
+{
+    match refused.get(number) {
+        Some(first) => Some(first),
+        None => None,
+    }
+}
+
+// The refusal at a place.
+fn refusal_at(refused: &[Refusal], place: u128) -> Option<&Refusal>
+    ensures given { IfSome result (λ r. Among refused.now r.now) }
+    ensures place { IfSome result (λ r. r.now.place ≡ place) }
+{
     let count = refused.partition_point(|r| r.place < place);
-    let first = refused.get(count)?;
+    let first = refusal(refused, count)?;
     if first.place == place {
         Some(first)
     } else {
@@ -146,7 +164,11 @@ fn unread(number: usize, length: usize, reason: TableReason) -> Problem
 }
 
 fn put_first(found: &mut Vec<Problem>, table: &ReadTable<'_>) -> Result<(), AllocError>
-    ensures { OnOk result (lost_told found.new.items ≡ lost_told found.old.items) }
+    ensures lost { OnOk result (lost_told found.new.items ≡ lost_told found.old.items) }
+    ensures whole { OnOk result (whole_told found.new.items
+        ≡ whole_told found.old.items ++ front_problems table.now.judged.now) }
+    ensures given { AreGiven table.now.refused.now found.old.items
+        → OnOk result (AreGiven table.now.refused.now found.new.items) }
 {
     match table.judged {
         Judged::Unread(reason) => {
@@ -171,7 +193,11 @@ fn behind(number: usize, from: usize, to: usize) -> Problem
 }
 
 fn put_trailing(found: &mut Vec<Problem>, table: &ReadTable<'_>) -> Result<(), AllocError>
-    ensures { OnOk result (lost_told found.new.items ≡ lost_told found.old.items) }
+    ensures lost { OnOk result (lost_told found.new.items ≡ lost_told found.old.items) }
+    ensures whole { OnOk result (whole_told found.new.items
+        ≡ whole_told found.old.items ++ trailing_problems table.now.judged.now) }
+    ensures given { AreGiven table.now.refused.now found.old.items
+        → OnOk result (AreGiven table.now.refused.now found.new.items) }
 {
     if let Judged::Read { trailing, .. } = table.judged {
         if *trailing > 0 {
@@ -184,7 +210,9 @@ fn put_trailing(found: &mut Vec<Problem>, table: &ReadTable<'_>) -> Result<(), A
 
 // ---- what is refused
 
-fn copies(alloc: Global, paths: &[Path]) -> Result<Vec<Path>, AllocError> {
+fn copies(alloc: Global, paths: &[Path]) -> Result<Vec<Path>, AllocError>
+    ensures { IfOk result (λ v. v.items ≡ paths.now) }
+{
     let mut copies = Vec::new(alloc);
     'each: for path in paths {
         copies.push(path.copy()?)?;
@@ -192,7 +220,9 @@ fn copies(alloc: Global, paths: &[Path]) -> Result<Vec<Path>, AllocError> {
     Ok(copies)
 }
 
-fn copy_reason(alloc: Global, reason: &Reason) -> Result<Reason, AllocError> {
+fn copy_reason(alloc: Global, reason: &Reason) -> Result<Reason, AllocError>
+    ensures { IfOk result (λ r. why_of r ≡ why_of reason.now) }
+{
     Ok(match reason {
         Reason::EmptyName(path) => Reason::EmptyName(path.copy()?),
         Reason::AboveRoot(path) => Reason::AboveRoot(path.copy()?),
@@ -211,7 +241,9 @@ fn range(from: usize, to: usize) -> LostRange {
     }
 }
 
-fn site_at(number: usize, place: usize) -> Site {
+fn site_at(number: usize, place: usize) -> Site
+    ensures { result ≡ record { table = number; offset = offset_of place } }
+{
     Site {
         table: number,
         offset: offset_of(place),
@@ -226,7 +258,10 @@ fn put_refused(
     span: &Span<'_>,
     scope: &Path,
 ) -> Result<(), AllocError>
-    ensures { OnOk result (lost_told found.new.items ≡ lost_told found.old.items) }
+    ensures lost { OnOk result (lost_told found.new.items ≡ lost_told found.old.items) }
+    ensures whole { OnOk result (whole_told found.new.items ≡ whole_told found.old.items) }
+    ensures given { AreGiven table.now.refused.now found.old.items
+        → OnOk result (AreGiven table.now.refused.now found.new.items) }
 {
     if let Some(refusal) = refusal_at(table.refused, place_in(table.number, span.from)) {
         found.push(Problem {
@@ -315,8 +350,11 @@ fn put_lost(
     span: &Span<'_>,
     scope: &Path,
 ) -> Result<(), AllocError>
-    ensures { OnOk result (lost_told found.new.items
+    ensures whole { OnOk result (whole_told found.new.items ≡ whole_told found.old.items) }
+    ensures lost { OnOk result (lost_told found.new.items
         ≡ lost_told found.old.items ++ why_lost (part_of span.now.what)) }
+    ensures given { AreGiven table.now.refused.now found.old.items
+        → OnOk result (AreGiven table.now.refused.now found.new.items) }
 {
     if let Some(fault) = fault_of(span.what) {
         let code = code_of(table.judged);
@@ -341,8 +379,11 @@ fn put_of_code(
     table: &ReadTable<'_>,
     root: &Path,
 ) -> Result<(), AllocError>
-    ensures { OnOk result (lost_told found.new.items
+    ensures whole { OnOk result (whole_told found.new.items ≡ whole_told found.old.items) }
+    ensures lost { OnOk result (lost_told found.new.items
         ≡ lost_told found.old.items ++ lost_in (nodes_view table.now.nodes.now)) }
+    ensures given { AreGiven table.now.refused.now found.old.items
+        → OnOk result (AreGiven table.now.refused.now found.new.items) }
 {
     let places = Places {
         table: table.number,
@@ -361,7 +402,12 @@ fn put_of_code(
 
 /// The problems of a table, in the order of their sites.
 pub fn problems_of(alloc: Global, table: &ReadTable<'_>) -> Result<Vec<Problem>, AllocError>
-    ensures { IfOk result (λ v. lost_told v.items ≡ lost_in (nodes_view table.now.nodes.now)) }
+    // All that is lost of its code is told, in order.
+    ensures lost { IfOk result (λ v. lost_told v.items ≡ lost_in (nodes_view table.now.nodes.now)) }
+    // What is wrong with the table as a whole is told.
+    ensures whole { IfOk result (λ v. whole_told v.items ≡ whole_problems table.now.judged.now) }
+    // The refusals that are told are among those that are given, and stand at their places.
+    ensures given { IfOk result (λ v. AreGiven table.now.refused.now v.items) }
 {
     let root = Path::root(alloc);
     let mut found = Vec::new(alloc);

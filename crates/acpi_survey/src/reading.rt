@@ -1,27 +1,30 @@
 //! What is known while the nodes of tables are read.
 
-ghost use Rattle.std.specs.Prelude.{◌≡◌, ◌++◌, ◌+◌, is_ok, IfOk, OnOk, IsTrue};
+ghost use Rattle.std.specs.Prelude.{◌≡◌, ◌++◌, ◌+◌, ◌∷◌, [], Some, is_ok, map, IfOk, OnOk, IsTrue};
 ghost use Rattle.std.specs.FinMap as finite;
 ghost use Rattle.acpi_name.specs.NameRefs.{name_parts};
 ghost use Rattle.acpi_name.specs.Paths.{place_of};
 ghost use Rattle.acpi_tree.specs.View.{external_view};
 ghost use Rattle.acpi_conditions.specs.Here.{meeting};
-ghost use Rattle.acpi_conditions.specs.EntryForms.{term_view as declaring_view};
+ghost use Rattle.acpi_conditions.specs.EntryForms.{entry_view, term_view as declaring_view};
+ghost use Rattle.acpi_conditions.specs.steps.Walks.{refusal_of};
 ghost use Rattle.acpi_conditions.specs.Known.{opened_at, declared_at};
 ghost use Rattle.acpi_conditions.specs.Walk as walks;
 ghost use Rattle.acpi_conditions.specs.steps.Stops.{stop_of};
 ghost use Rattle.acpi_survey.specs.Reading.{count_at, counts_at, is_heard, with_expected, declaring, stopping, passing, expecting, entering, leave};
+ghost use Rattle.acpi_survey.specs.Predefined.{nothing_read};
 ghost use Rattle.acpi_survey.specs.Survey.{place_in, at_table, behind_table};
 
 use crate::bodies::expected_count;
 use crate::counts::{agreed, put_counts};
 use crate::remarks::Remarks;
-use acpi_conditions::{Met, Stop, Term as Declaring, Walk};
+use acpi_conditions::{Entries, Met, Refusal, Stop, Term as Declaring, Walk};
 use acpi_counts::Counts;
 use acpi_name::{Name, NameRef, Path, PlaceFault, place};
 use acpi_tree::External;
 use std::alloc::{AllocError, Global};
 use std::marker::Model;
+use std::mem::replace;
 
 /// What is known while the nodes of tables are read: what is declared so far, and how many values follow a name.
 #[derive(Drop)]
@@ -66,19 +69,60 @@ impl Reading {
         place_in(self.table, offset)
     }
 
+    /// What is known where nothing is.
+    pub(crate) fn empty(alloc: Global) -> Reading
+        ensures { result ≡ nothing_read }
+    {
+        Reading {
+            alloc,
+            walk: Walk::new(alloc),
+            table: 0,
+            counts: Vec::new(alloc),
+            expected: Counts::new(alloc),
+            remarks: Remarks::new(alloc),
+        }
+    }
+
+    /// Puts an object that is there before all tables, at a path.
+    pub(crate) fn predefine(
+        &mut self,
+        name: Name,
+        path: Path,
+        is_scope: bool,
+        args: u8,
+    ) -> Result<(), AllocError>
+        ensures { OnOk result (self.new ≡ record self.old {
+          walk = walks.predefine
+              (record { place = 0; name = name; is_scope = is_scope; needs = [] })
+              path self.old.walk;
+          counts = self.old.counts ++ Some args ∷ [];
+        }) }
+    {
+        let term = Declaring {
+            place: 0,
+            name,
+            is_scope,
+            needs: Vec::new(self.alloc),
+        };
+        self.walk.predefine(term, path)?;
+        self.counts.push(Some(args))?;
+        Ok(())
+    }
+
     /// Comes to a table of that number.
     pub(crate) fn come_to_table(&mut self, number: usize)
         ensures { self.new ≡ at_table number self.old }
     {
         self.table = number;
-        self.expected = Counts::new(self.alloc);
     }
 
-    /// Ends a table.
-    pub(crate) fn end_table(&mut self) -> Result<(), AllocError>
-        ensures { OnOk result (self.new ≡ behind_table self.old) }
+    /// Ends a table. What its Externals say, which is forgotten.
+    pub(crate) fn end_table(&mut self) -> Result<Counts, AllocError>
+        ensures table { OnOk result (self.new ≡ behind_table self.old) }
+        ensures expected { IfOk result (λ c. c ≡ self.old.expected) }
     {
-        self.walk.end_table()
+        self.walk.end_table()?;
+        Ok(replace(&mut self.expected, Counts::new(self.alloc)))
     }
 
     /// Passes a term with nothing inside, whose object takes so many arguments, where that is sure.
@@ -150,7 +194,9 @@ impl Reading {
     /// Goes into a Scope, where it opens a scope. Whether it does.
     pub(crate) fn enter_scope(&mut self, place: u128, name: NameRef<'_>) -> Result<bool, AllocError>
         ensures walk { OnOk result (self.new
-            ≡ record self.old { walk = walks.enter_scope place (name_parts name.entry) self.old.walk }) }
+            ≡ record self.old {
+              walk = walks.enter_scope place (name_parts name.entry) self.old.walk;
+            }) }
         ensures entered { IfOk result (λ b. b ≡ is_ok
             (opened_at self.old.walk.known self.old.walk.around.scope (name_parts name.entry))) }
     {
@@ -182,6 +228,25 @@ impl Reading {
             self.now.walk.around.scope (name_parts name.entry))) }
     {
         self.walk.can_open(name)
+    }
+}
+
+// ---- what is known
+
+impl Reading {
+    /// The entries so far, by path, and their ways.
+    pub(crate) fn entries(&self) -> Entries<'_>
+        ensures { map (entry_view result.ways.now) result.paths.now.entries
+            ≡ self.now.walk.entries }
+    {
+        self.walk.entries()
+    }
+
+    /// The refusals so far.
+    pub(crate) fn refused(&self) -> &[Refusal]
+        ensures { map refusal_of result.now ≡ self.now.walk.refused }
+    {
+        self.walk.refused()
     }
 }
 
@@ -239,6 +304,18 @@ impl Reading {
 // ---- what is noticed
 
 impl Reading {
+    /// The walk over the nodes so far.
+    pub(crate) fn walk(&self) -> &Walk
+        ensures { result.now ≡ self.now.walk }
+    {
+        &self.walk
+    }
+
+    /// What is noticed so far.
+    pub(crate) fn remarks(&self) -> &Remarks {
+        &self.remarks
+    }
+
     // Whether nothing is known of a name here.
     fn is_unknown(&self, name: NameRef<'_>) -> Result<bool, AllocError> {
         let met = self.walk.met()?;

@@ -9,27 +9,17 @@ ghost use Rattle.acpi_outline.specs.View.{fixed_view, plain_view};
 ghost use Rattle.acpi_conditions.specs.EntryForms.{term_view as declaring_view};
 ghost use Rattle.acpi_conditions.specs.Walk as walks;
 ghost use Rattle.acpi_survey.specs.Needs.{names_in_all, with_names};
-ghost use Rattle.acpi_survey.specs.Nodes.{name_of, term_at, unit_at, operands_of};
+ghost use Rattle.acpi_survey.specs.Nodes.{term_at, unit_at, operands_of};
 ghost use Rattle.acpi_survey.specs.Reading.{after_operator, after_plain, count_at, declaring, entering, passing};
 
+use crate::names::segment_name;
 use crate::needs::{needs_of, needs_of_three, needs_of_value, put};
 use crate::reading::Reading;
 use acpi_conditions::{Stop, Term as Declaring};
-use acpi_name::{Name, Seg, read_name};
+use acpi_name::{Name, Seg};
 use acpi_outline::{Fixed, Plain};
 use acpi_tree::{Decl, Op, Term};
 use std::alloc::{AllocError, Global};
-
-// The name of one segment.
-fn segment_name(alloc: Global, seg: Seg) -> Result<Name, AllocError>
-    ensures { IfOk result (λ n. n ≡ name_of seg) }
-{
-    let bytes = seg.bytes();
-    match read_name(&bytes) {
-        Ok((name, _)) => name.own(alloc),
-        Err(_) => unreachable!(),
-    }
-}
 
 // What the elements of the field list behind fixed arguments need.
 fn needs_of_list(alloc: Global, fixed: &Fixed) -> Result<Vec<Name>, AllocError>
@@ -75,8 +65,8 @@ impl Reading {
         name: &Name,
         count: u8,
     ) -> Result<(), AllocError>
-        ensures { OnOk result (self.new
-            ≡ declaring (term_at (self.old.base + offset) name.now false []) (Some count) self.old) }
+        ensures { OnOk result (self.new ≡ declaring
+            (term_at (self.old.base + offset) name.now false []) (Some count) self.old) }
     {
         let needs = Vec::new(self.memory());
         self.declare_named(offset, name.copy()?, needs, Some(count))

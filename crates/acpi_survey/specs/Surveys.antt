@@ -1,0 +1,43 @@
+-- What a survey keeps of the tables that it reads (ACPI 6.5, 5.2.11, 5.3 and 20.2.5).
+use Rattle.std.specs.Prelude.{◌≡◌, ℕ, suc, cond, List, [], ◌∷◌, map}
+use Rattle.acpi_space.specs.Lookups.{is_same_path}
+use Rattle.acpi_conditions.specs.Entries.{Path, Entry}
+use Rattle.acpi_outline.specs.Nodes.{NodeTrees}
+use Rattle.acpi_outline.specs.Outline.{IsOutline}
+use Rattle.acpi_outline.specs.Faults.{HaveTrueFaults}
+use Rattle.acpi_outline.specs.Rules.{after_all}
+use Rattle.acpi_outline.specs.View.{nodes_view}
+use Rattle.acpi_survey.specs.Tables.{IsJudged}
+use Rattle.acpi_survey.specs.Reading.{Reading, survey_rules}
+use Rattle.acpi_survey.specs.Survey.{code_read, at_table, behind_table}
+use Rattle.acpi_survey.specs.declared.survey.SurveyedTable.{SurveyedTable}
+
+-- the bytes of each table
+abbrev pub bytes_of : List SurveyedTable → List (List ℕ)
+bytes_of ts = map (λ t. t.bytes) ts
+
+-- the nodes of each table
+abbrev pub nodes_of_each : List SurveyedTable → List NodeTrees
+nodes_of_each ts = map (λ t. nodes_view t.nodes) ts
+
+-- behind the nodes of a table, and not behind the table yet
+abbrev pub behind_nodes : ℕ → Reading → SurveyedTable → Reading
+behind_nodes number s t = after_all survey_rules (at_table number s) (nodes_view t.nodes)
+
+-- A table, of that number and behind what is known, is as it is kept: what of its bytes is read, its nodes, why each of its lost ranges
+-- is lost, and what its Externals say.
+pub record IsTable (depth number : ℕ) (s : Reading) (t : SurveyedTable) : Type 0 where
+  pub judged : IsJudged number t.bytes t.judged
+  pub outline : IsOutline survey_rules (at_table number s) depth (nodes_view t.nodes) (code_read t.judged)
+  pub faults : HaveTrueFaults survey_rules (at_table number s) depth (code_read t.judged) (nodes_view t.nodes)
+  pub expected : t.expected ≡ (behind_nodes number s t).expected
+
+-- so is each table, behind those before it; and what is known behind them
+abbrev pub AreTables : ℕ → ℕ → Reading → List SurveyedTable → Reading → Type 0
+AreTables depth number s [] last = last ≡ s
+AreTables depth number s (t ∷ ts) last = IsTable depth number s t × AreTables depth (suc number) (behind_table (behind_nodes number s t)) ts last
+
+-- the numbers of the entries at a path, of those from a number on
+abbrev pub numbers_at : Path → ℕ → List Entry → List ℕ
+numbers_at p n [] = []
+numbers_at p n (e ∷ es) = cond (is_same_path e.path p) (n ∷ numbers_at p (suc n) es) (numbers_at p (suc n) es)
