@@ -5,7 +5,8 @@ ghost use Rattle.std.specs.List.{filter};
 ghost use Rattle.acpi_name.specs.NameRefs.{name_parts};
 ghost use Rattle.acpi_name.specs.Paths.{parent_of, place_of};
 ghost use Rattle.acpi_conditions.specs.Known.{declared_at, if_below, is_certain_name, is_certain_scope, is_possible, opened_at, why_missing};
-ghost use Rattle.acpi_conditions.specs.steps.Faults.{IsFaultOf, why_of};
+ghost use Rattle.acpi_conditions.specs.EntryForms.{why_of};
+ghost use Rattle.acpi_conditions.specs.steps.Faults.{IsFaultOf};
 
 use crate::searches::find;
 use crate::statuses::Statuses;

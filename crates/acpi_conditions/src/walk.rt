@@ -5,16 +5,13 @@ ghost use Rattle.std.specs.List.{flat_map, list_any};
 ghost use Rattle.acpi_space.specs.Lookups.{is_same_path};
 ghost use Rattle.acpi_conditions.specs.Here.{meeting, scopes_around};
 ghost use Rattle.std.specs.Option.{option_map};
-ghost use Rattle.acpi_conditions.specs.EntryForms.{entry_view, term_view};
-ghost use Rattle.acpi_conditions.specs.Turns.{turn_of};
+ghost use Rattle.acpi_conditions.specs.EntryForms.{entry_view, refusal_of, term_view, why_of};
+ghost use Rattle.acpi_conditions.specs.Turns.{stop_of, turn_of};
 ghost use Rattle.acpi_conditions.specs.Survey.{lasting, refusing};
 ghost use Rattle.acpi_conditions.specs.Walk.{first_walk, lost_if, package_at, pass, passed, started};
-ghost use Rattle.acpi_conditions.specs.steps.Faults.{why_of};
 ghost use Rattle.acpi_conditions.specs.steps.Moves.{at_start, entry_here, gone_back, gone_out, innermost, IsBehindTerm, left_term, with_certain, with_entry, with_loop, with_other, with_package, with_returns, with_scope, with_turn, with_turns};
 ghost use Rattle.acpi_conditions.specs.steps.Packages.{if_directly_before, kind_of};
 ghost use Rattle.acpi_conditions.specs.steps.Settled.{certain_list};
-ghost use Rattle.acpi_conditions.specs.steps.Stops.{stop_of};
-ghost use Rattle.acpi_conditions.specs.steps.Walks.{refusal_of};
 ghost use Rattle.acpi_conditions.specs.declared.packages.Kind.TheVariants.{Other};
 
 use crate::entry::{Entry, Term};

@@ -3,11 +3,11 @@
 ghost use Rattle.std.specs.Prelude.{◌≡◌, ◌++◌, ◌∷◌, [], Ok, is_ok, IfOk, IfErr, OnOk};
 ghost use Rattle.acpi_name.specs.NameRefs.{name_parts};
 ghost use Rattle.acpi_conditions.specs.EntryForms.{term_view};
+ghost use Rattle.acpi_conditions.specs.Turns.{stop_of};
 ghost use Rattle.acpi_conditions.specs.Entries.{asks_nothing};
 ghost use Rattle.acpi_conditions.specs.Known.{declared_at, opened_at, settled};
 ghost use Rattle.acpi_conditions.specs.Walk.{declare, end_table, enter_body, enter_first, enter_other, enter_scope, enter_term, into_term, leave, package_at, pass, predefine, stop_at};
 ghost use Rattle.acpi_conditions.specs.steps.Moves.{entry_here, with_certain, with_entry};
-ghost use Rattle.acpi_conditions.specs.steps.Stops.{stop_of};
 
 use crate::entry::{Asks, Term};
 use crate::packages::Kind;

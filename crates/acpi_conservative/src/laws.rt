@@ -1,5 +1,5 @@
 //! The law that the survey extends the strict load: the functions do nothing, and their contracts state the law.
-ghost use Rattle.acpi_conservative.specs.Laws.{StrictIsListing, StrictLoadIsSurvey, StrictTablesAreSurvey, PredefinedAgrees, PredefinedIsKnown, StrictTableIsRead, StrictReadIsSurvey};
+ghost use Rattle.acpi_conservative.specs.Laws.{StrictIsListing, StrictLoadIsSurvey, StrictTablesAreSurvey, PredefinedAgrees, PredefinedIsKnown, StrictTableIsRead, StrictReadIsSurvey, StrictReadIsItems, StrictHasNoProblem, StrictLinks, StrictCounts};
 
 /// Where item trees of tables have strict listings, their nodes have these listings, and the surveys are these: no entry
 /// has a condition, and nothing is refused. So it is where a list of byte strings has strict listings, as `load` needs.
@@ -21,4 +21,17 @@ pub fn predefined_is_known()
 pub fn strict_read_is_survey()
     ensures tables { StrictTableIsRead }
     ensures entries { StrictReadIsSurvey }
+{}
+
+/// So the nodes that are read of each table are its items, and the survey has no problem.
+pub fn strict_read_is_whole()
+    ensures items { StrictReadIsItems }
+    ensures problems { StrictHasNoProblem }
+{}
+
+/// Behind them the links of each entry are what the strict load finds over all objects, and as many values follow a name
+/// in a method's body, whatever the Externals say.
+pub fn strict_links_and_counts()
+    ensures links { StrictLinks }
+    ensures counts { StrictCounts }
 {}

@@ -39,8 +39,9 @@ use Rattle.acpi_outline.specs.declared.form.PackedForm.TheVariants as forms
 use Rattle.acpi_outline.specs.declared.fault.LostFault.{LostFault}
 use Rattle.acpi_outline.specs.Nodes.{PlainTree, term, external, alias, table_region, FixedTree, scope, container, method, if_so, otherwise, while_so, units, NodeTree, plain, form_of, container_opcode, form_opcode, form_bytes}
 use Rattle.acpi_outline.specs.Rules.{Rules, grammar_at}
-use Rattle.acpi_outline.specs.Outline.{operands_first, operands_after, is_stray, SpellsPlain, container_operands, IsPlain, IsTest, AreUnitArguments, IsFixed}
-use Rattle.acpi_outline.specs.steps.Reading.{named_in, external_in, term_in, alias_in, table_region_in, plain_by, plain_in, value_in, test_in, names_in, container_in, units_in, fixed_in, packed_by, packed_in, packed_form, nodes_at, node_at}
+use Rattle.acpi_outline.specs.Outline.{operands_after, is_stray, SpellsPlain, first_heights, container_operands, IsPlain, IsTest, AreUnitArguments, IsFixed}
+use Rattle.acpi_outline.specs.steps.Reading.{first_in, named_in, external_in, term_in, alias_in, table_region_in, plain_by, plain_in, value_in, test_in, names_in, container_in, units_in, fixed_in, packed_by, packed_in, packed_form, nodes_at, node_at}
+use Rattle.acpi_outline.proofs.Sources.{first_complete}
 
 -- ---- plain nodes
 
@@ -62,7 +63,7 @@ pub record Leads {S : Type 0} (r : Rules S) (level : ℕ) (known : S) (end : ℕ
   pub reads : plain_by r level known end bytes opcode behind ≡ Ok (p, rest)
 
 named_made : {S : Type 0} (r : Rules S) (level : ℕ) (known : S) (form : NamedForm) (end : ℕ) (n : NameParts) (us vs : List TermTree) (x a y rest : List ℕ)
-    → operands_at (term_at (grammar_at r known) level) (operands_first form) end x ≡ Ok (us, a ++ y) → SpellsName n a
+    → first_in r level known form end x ≡ Ok (us, a ++ y) → SpellsName n a
     → operands_at (term_at (grammar_at r known) level) (operands_after form) end y ≡ Ok (vs, rest)
     → named_in r level known form end x ≡ Ok (term (declare form (terms_of us) n (terms_of vs)), rest)
 unfolding named_in
@@ -79,12 +80,12 @@ named_leads r level known named.Mutex end bytes x p rest lead is e = record { op
 named_leads r level known named.Event end bytes x p rest lead is e = record { opcode = opcodes.Event; behind = x; opens = ap (opcode_at end) is ∙ opens end opcodes.Event x refl; lead = lead; no_form = refl; reads = e }
 
 declared_leads : {S : Type 0} (r : Rules S) (level : ℕ) (known : S) (end : ℕ) (form : NamedForm) (before : TermTrees) (n : NameParts) (behind : TermTrees) (b rest : List ℕ)
-    → SpellsPlain r known (term (declare form before n behind)) b → heights before ≤ level → heights behind ≤ level
+    → SpellsPlain r known (term (declare form before n behind)) b → first_heights before ≤ level → heights behind ≤ level
     → Leads r level known end (b ++ rest) (term (declare form before n behind)) rest
 declared_leads r level known end form before n behind b rest (x, a, c, hb, hn, ho, whole) first last =
     let op = opcode_bytes (named_opcode form) in
     let is : b ++ rest ≡ op ++ (x ++ (a ++ (c ++ rest))) = rw whole (simp append_assoc) in
-    let u = operands_complete (grammar_at r known) (operands_first form) before level end x (a ++ (c ++ rest)) hb first in
+    let u = first_complete r level known form end before x (a ++ (c ++ rest)) hb first in
     let o = operands_complete (grammar_at r known) (operands_after form) behind level end c rest ho last in
     let made = named_made r level known form end n (listed before) (listed behind) (x ++ (a ++ (c ++ rest))) a (c ++ rest) rest u hn o in
     let same : term (declare form (terms_of (listed before)) n (terms_of (listed behind))) ≡ term (declare form before n behind) = rw (terms_of-listed before, terms_of-listed behind) refl in

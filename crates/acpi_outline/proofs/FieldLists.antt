@@ -28,7 +28,7 @@ use Rattle.acpi_outline.specs.Outline.{IsFixed, BeginsField, AreFields}
 use Rattle.acpi_outline.specs.Tiling.{TilesFields}
 use Rattle.acpi_outline.specs.Faults.{no_constant, element_fault, BeginsFields, IsFieldElement, ShowsLost, FieldsHaveTrueFaults}
 use Rattle.acpi_outline.specs.steps.Reading.{then_fields, fields_with, fields_at}
-use Rattle.acpi_outline.proofs.Sound.{Bad}
+use Rattle.acpi_outline.proofs.LostFaults.{Bad}
 
 -- ---- what the fault of an element shows
 

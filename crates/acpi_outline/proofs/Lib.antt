@@ -1,4 +1,6 @@
 pub mod Parts
+pub mod LostFaults
+pub mod Sources
 pub mod Complete
 pub mod Data
 pub mod Sound

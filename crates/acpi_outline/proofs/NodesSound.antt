@@ -28,7 +28,8 @@ use Rattle.acpi_outline.specs.Outline.{IsFixed, BeginsNode, BeginsFixed, IsNode,
 use Rattle.acpi_outline.specs.Faults.{BeginsFields, HasTrueFaults, HaveTrueFaults}
 use Rattle.acpi_outline.specs.steps.Reading.{part, plain_by, plain_in, fixed_in, Nodes, filled_by, packed_by, packed_in, packed_form, node_by, then_nodes, nodes_with, nodes_at, node_at, packed_as, data_form, data_by, opened_data, named_data, name_at_level, contained_by, or_contained, unentered, fields_at}
 use Rattle.acpi_outline.proofs.Complete.{plain_complete, fixed_complete, packed, packed_complete}
-use Rattle.acpi_outline.proofs.Sound.{Bad, part_bad, Plain, opened, below, plain_sound, FixedOf, fixed_sound}
+use Rattle.acpi_outline.proofs.LostFaults.{Bad, part_bad}
+use Rattle.acpi_outline.proofs.Sound.{Plain, opened, below, plain_sound, FixedOf, fixed_sound}
 
 -- ---- what was read
 

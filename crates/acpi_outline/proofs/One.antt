@@ -23,7 +23,8 @@ use Rattle.acpi_outline.specs.Outline.{BeginsNode, BeginsFixed, IsNode, AreNodes
 use Rattle.acpi_outline.specs.Tiling.{TilesInside, Tiles}
 use Rattle.acpi_outline.specs.steps.Reading.{fixed_in, packed_by, then_nodes, nodes_with, nodes_at, node_at, plain_in, packed_form, fields_at}
 use Rattle.acpi_outline.proofs.Complete.{plain_complete, fixed_complete, packed, packed_complete}
-use Rattle.acpi_outline.proofs.Sound.{Bad, plain_long, FixedOf, fixed_sound}
+use Rattle.acpi_outline.proofs.LostFaults.{Bad}
+use Rattle.acpi_outline.proofs.Sound.{plain_long, FixedOf, fixed_sound}
 use Rattle.acpi_outline.proofs.NodesSound.{GoodNode, form_long, node_at_sound, nodes_sound, PlainRead, plain_in_sound}
 
 -- ---- bytes anywhere

@@ -1,5 +1,5 @@
 -- What is read is spelled so, or its fault is true of the code: plain nodes, fixed arguments.
-use Rattle.std.proofs.Common.{◌≡◌, ◌⊎◌, ℕ, zero, suc, ◌-◌, ◌≤◌, ◌<◌, Bool, true, false, eqb, ltb, ◌&&◌, List, [], ◌∷◌, ◌++◌, length, None, Result, Ok, Err, refl, sym, ap, ◌∙◌, append_assoc, arith, inl, inr}
+use Rattle.std.proofs.Common.{◌≡◌, ◌⊎◌, ℕ, zero, suc, ◌-◌, ◌≤◌, ◌<◌, Bool, true, false, eqb, ltb, ◌&&◌, List, [], ◌∷◌, ◌++◌, length, None, Ok, refl, sym, ap, ◌∙◌, append_assoc, arith, inl, inr}
 use Rattle.std.specs.Prelude.{is_none}
 use Rattle.std.specs.FinMap.{empty}
 use Rattle.std.proofs.lemmas.List.{length-append}
@@ -17,7 +17,7 @@ use Rattle.acpi_tree.specs.declared.place.NamedForm.{NamedForm}
 use Rattle.acpi_tree.specs.declared.place.NamedForm.TheVariants as named
 use Rattle.acpi_tree.specs.declared.place.UnitsForm.{UnitsForm}
 use Rattle.acpi_tree.specs.declared.place.UnitsForm.TheVariants as fields
-use Rattle.acpi_tree.specs.Terms.{TermTree, int, str, local, arg, debug, declare}
+use Rattle.acpi_tree.specs.Terms.{TermTree, TermTrees, int, str, local, arg, debug, declare, no_terms, more}
 use Rattle.acpi_tree.specs.Operators.{names_of_units, operands_of_units}
 use Rattle.acpi_code.specs.declared.fault.CodeFault.{CodeFault}
 use Rattle.acpi_code.specs.declared.opcode.Opcode.{Opcode}
@@ -25,65 +25,31 @@ use Rattle.acpi_code.specs.declared.opcode.Opcode.TheVariants as opcodes
 use Rattle.acpi_code.specs.Opcodes.{opcode_bytes}
 use Rattle.acpi_code.specs.Spelling.{SpellsByte, SpellsEach}
 use Rattle.acpi_code.specs.steps.Reading.{Reading, byte_at, name_in, opcode_at}
-use Rattle.acpi_code.proofs.Readings.{Judge, judge_bind, judge_into, judge_if, Source, Position, Front, Read, Shown, stands_at, position_after, position_deeper}
+use Rattle.acpi_code.proofs.Readings.{Judge, judge_bind, judge_into, judge_if, Source, Position, Front, Read, stands_at, position_after, position_deeper}
 use Rattle.acpi_code.proofs.Names.{name_sound}
 use Rattle.acpi_code.proofs.Numbers.{byte_sound}
 use Rattle.acpi_code.proofs.Opcodes.{Opened, begins}
 use Rattle.acpi_terms.specs.Forms.{name_arg, byte_arg, count_arg}
 use Rattle.acpi_terms.specs.Faults.{Awaits}
-use Rattle.acpi_body.specs.declared.fault.BodyFault.{BodyFault}
-use Rattle.acpi_body.specs.declared.fault.BodyReason.{BodyReason}
-use Rattle.acpi_body.specs.declared.fault.BodyReason.TheVariants.{BadName}
-use Rattle.acpi_body.specs.Faults.{reason_of, ShowsBody}
 use Rattle.acpi_body.specs.Grammars.{Grammar}
-use Rattle.acpi_body.specs.Spelling.{Stands, Spells, height}
+use Rattle.acpi_body.specs.Spelling.{Stands, Spells, height, heights}
 use Rattle.acpi_body.specs.Refusals.{refusal_at}
 use Rattle.acpi_body.specs.Statements.{named_opcode}
 use Rattle.acpi_body.specs.steps.Reading.{operands_at, term_at}
 use Rattle.acpi_body.proofs.Allowed.{lead_of, Suits, allowed_at}
-use Rattle.acpi_body.proofs.Places as bodies
 use Rattle.acpi_body.proofs.TermComplete.{spelled_long, form_complete}
-use Rattle.acpi_body.proofs.TermSound.{is_block, are_inner, Within, Operands, operands_sound, placed_sound, term_sound}
+use Rattle.acpi_body.proofs.TermSound.{is_block, are_inner, Within, Operands, placed_sound, term_sound}
 use Rattle.acpi_outline.specs.declared.form.ContainerForm.{ContainerForm}
 use Rattle.acpi_outline.specs.declared.form.ContainerForm.TheVariants as containers
 use Rattle.acpi_outline.specs.declared.form.PackedForm.{PackedForm}
 use Rattle.acpi_outline.specs.declared.form.PackedForm.TheVariants as forms
-use Rattle.acpi_outline.specs.declared.fault.LostReason.TheVariants.{Term}
-use Rattle.acpi_outline.specs.declared.fault.LostFault.{LostFault}
 use Rattle.acpi_outline.specs.Nodes.{PlainTree, term, external, alias, table_region, FixedTree, form_of}
 use Rattle.acpi_outline.specs.Rules.{Rules, grammar_at}
-use Rattle.acpi_outline.specs.Outline.{operands_first, operands_after, is_stray, SpellsPlain, plain_height, test_height, IsTest, container_operands, IsFixed}
-use Rattle.acpi_outline.specs.Faults.{begins_none, part_fault, args_at, ShowsLost}
-use Rattle.acpi_outline.specs.steps.Reading.{part, of_term, named_in, external_in, term_in, alias_in, table_region_in, plain_by, value_in, test_in, names_in, container_in, units_in, fixed_in, packed_form}
-
--- ---- faults
-
--- what the fault of a lost range shows
-abbrev pub Bad : {S : Type 0} → Source → Rules S → S → LostFault → Type 0
-Bad s r known f = ShowsLost r known s.depth s.code f.reason f.place
-
-term_bad : {S : Type 0} (s : Source) (r : Rules S) (known : S) (why : BodyReason) (place : ℕ) → ShowsBody (args_at r known) [] s.depth s.code why place → ShowsLost r known s.depth s.code (Term why) place
-term_bad s r known BadName place h = inl h
-term_bad s r known _ place h = h
-
-pub part_bad : {S : Type 0} (s : Source) (r : Rules S) (known : S) (f : CodeFault) → Shown s f → Bad s r known (part_fault f)
-part_bad s r known f h = term_bad s r known (reason_of f.reason) f.place (bodies.part_bad (args_at r known) [] s f h)
-
-pub part_sound : {A S : Type 0} (s : Source) (r : Rules S) (known : S) (Good : A → Type 0) (x : Result A CodeFault) → Judge Good (Shown s) x → Judge Good (Bad s r known) (part x)
-part_sound s r known Good (Ok x) h = h
-part_sound s r known Good (Err f) h = part_bad s r known f h
-
-of_term_sound : {A S : Type 0} (s : Source) (r : Rules S) (known : S) (Good : A → Type 0) (x : Result A BodyFault) → Judge Good (bodies.Bad (args_at r known) [] s) x → Judge Good (Bad s r known) (of_term x)
-of_term_sound s r known Good (Ok x) h = h
-of_term_sound s r known Good (Err f) h = term_bad s r known f.reason f.place h
-
-terms_sound : {S : Type 0} (s : Source) (r : Rules S) (level : ℕ) (known : S) (ks : List OperandKind) (end : ℕ) (bytes : List ℕ) → are_inner ks ≡ true → Position s.depth level s.code end bytes
-    → Judge (Read s level end (Operands (grammar_at r known) level ks) bytes) (Bad s r known) (of_term (operands_at (term_at (grammar_at r known) level) ks end bytes))
-terms_sound s r level known ks end bytes ok h =
-    let grammar = grammar_at r known in
-    let args = args_at r known in
-    of_term_sound s r known (Read s level end (Operands grammar level ks) bytes) (operands_at (term_at grammar level) ks end bytes)
-    (operands_sound args [] s empty true level (term_at grammar level) (term_sound args [] s empty true level) ks end bytes ok h)
+use Rattle.acpi_outline.specs.Outline.{operands_first, operands_after, is_stray, SpellsPlain, first_heights, plain_height, test_height, IsTest, container_operands, IsFixed}
+use Rattle.acpi_outline.specs.Faults.{begins_none, args_at}
+use Rattle.acpi_outline.specs.steps.Reading.{part, of_term, first_in, named_in, external_in, term_in, alias_in, table_region_in, plain_by, value_in, test_in, names_in, container_in, units_in, fixed_in, packed_form}
+use Rattle.acpi_outline.proofs.LostFaults.{Bad, part_sound, of_term_sound, terms_sound}
+use Rattle.acpi_outline.proofs.Sources.{AreSourced, source_low, first_sound}
 
 abbrev read_opcode : Opcode × List ℕ → Reading CodeFault Opcode
 read_opcode x = Ok x
@@ -98,10 +64,13 @@ pub record Spelled {S : Type 0} (r : Rules S) (level : ℕ) (known : S) (p : Pla
   pub within : plain_height p ≤ suc level
   pub long : 0 < length bytes
 
-first_inner : (form : NamedForm) → are_inner (operands_first form) ≡ true
-first_inner (named.Create w) = refl
-first_inner named.CreateField = refl
-first_inner _ = refl
+firsts_low : (vs : TermTrees) → first_heights vs ≤ heights vs
+firsts_low no_terms = omega arith
+firsts_low (more v vs) = omega (arith, source_low v)
+
+plain_low : (t : TermTree) → plain_height (term t) ≤ height t
+plain_low (declare form before n behind) = omega (arith, firsts_low before)
+plain_low _ = omega arith
 
 after_inner : (form : NamedForm) → are_inner (operands_after form) ≡ true
 after_inner named.Name = refl
@@ -182,9 +151,8 @@ module _ {S : Type 0} (s : Source) (r : Rules S) (level : ℕ) (known : S) where
   named_sound form end bytes rest is h =
       let grammar = grammar_at r known in
       let op = opcode_bytes (named_opcode form) in
-      let First = Read s level end (Operands grammar level (operands_first form)) rest in
-      judge_bind First (Plain end bytes) (Bad s r known) (of_term (operands_at (term_at grammar level) (operands_first form) end rest)) _
-      (terms_sound s r level known (operands_first form) end rest (first_inner form) h) (λ us u.
+      let First = Read s level end (AreSourced grammar level (operands_first form)) rest in
+      judge_bind First (Plain end bytes) (Bad s r known) (first_in r level known form end rest) _ (first_sound s r level known form end rest h) (λ us u.
       judge_bind (Read s level end SpellsName us.1) (Plain end bytes) (Bad s r known) (part (name_in end us.1)) _
       (part_sound s r known (Read s level end SpellsName us.1) (name_in end us.1) (name_sound s level end us.1 u.1)) (λ n f.
       let Behind = Read s level end (Operands grammar level (operands_after form)) n.1 in
@@ -277,7 +245,7 @@ module _ {S : Type 0} (s : Source) (r : Rules S) (level : ℕ) (known : S) where
           front = g.0.front;
           spells = record {
             spells = as_plain t.0 g.0.front (suits t.0 w.stands (ap (λ (y : Opcode × List ℕ). y.0) same)) w.spells;
-            within = w.within;
+            within = omega (arith, w.within, plain_low t.0);
             long = w.long;
           };
           whole = g.0.whole;

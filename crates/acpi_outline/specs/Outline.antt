@@ -1,5 +1,5 @@
 -- Which nodes stand for bytes, under a state: the outline of a table's code (ACPI 6.5, 20.2.5).
-use Rattle.std.specs.Prelude.{◌≡◌, ◌⊎◌, ◌-◌, ◌<◌, ◌≤◌, ℕ, suc, true, false, Bool, List, [], ◌∷◌, ◌++◌, length}
+use Rattle.std.specs.Prelude.{◌≡◌, ◌⊎◌, ◌-◌, ◌<◌, ◌≤◌, ℕ, suc, max, true, false, Bool, List, [], ◌∷◌, ◌++◌, length}
 use Rattle.acpi_name.specs.Names.{NameParts}
 use Rattle.acpi_name.specs.Spelling.{SpellsName}
 use Rattle.acpi_tree.specs.declared.tree.Int.TheVariants.{Zero}
@@ -10,7 +10,7 @@ use Rattle.acpi_tree.specs.declared.place.NamedForm.{NamedForm}
 use Rattle.acpi_tree.specs.declared.place.NamedForm.TheVariants as named
 use Rattle.acpi_tree.specs.declared.place.UnitsForm.{UnitsForm}
 use Rattle.acpi_tree.specs.Tree.{FieldTree}
-use Rattle.acpi_tree.specs.Terms.{TermTree, TermTrees, int, str, local, arg, debug, declare}
+use Rattle.acpi_tree.specs.Terms.{TermTree, TermTrees, int, str, local, arg, debug, ref, declare, no_terms, more}
 use Rattle.acpi_tree.specs.Operators.{operands_behind, names_of_units, operands_of_units}
 use Rattle.acpi_code.specs.Opcodes.{opcode_bytes}
 use Rattle.acpi_code.specs.Spelling.{SpellsEach, Packs}
@@ -60,7 +60,18 @@ SpellsPlain r known (alias source n) bytes = (a : List ℕ) × (b : List ℕ) ×
 SpellsPlain r known (table_region n vs) bytes = (a : List ℕ) × (b : List ℕ)
     × SpellsName n a × AreOperands (grammar_at r known) (At Value ∷ At Value ∷ At Value ∷ []) vs b × (bytes ≡ 0x5B ∷ 0x88 ∷ (a ++ b))
 
+-- a source that is a name has no level
+abbrev pub source_height : TermTree → ℕ
+source_height (ref n) = 0
+source_height v = height v
+
+-- what stands before a declared name begins with a source
+abbrev pub first_heights : TermTrees → ℕ
+first_heights no_terms = 0
+first_heights (more v vs) = max (source_height v) (heights vs)
+
 abbrev pub plain_height : PlainTree → ℕ
+plain_height (term (declare form before n behind)) = suc (max (first_heights before) (heights behind))
 plain_height (term t) = height t
 plain_height (external x) = 1
 plain_height (alias source n) = 1

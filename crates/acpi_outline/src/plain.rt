@@ -2,20 +2,20 @@
 
 ghost use Rattle.std.specs.Prelude.{◌≡◌, ◌<◌, ◌-◌, length, None, Ok, box_value};
 ghost use Rattle.acpi_tree.specs.TermView.{term_view, decl_view};
-ghost use Rattle.acpi_tree.specs.declared.place.Place.TheVariants.{Value, Source};
+ghost use Rattle.acpi_tree.specs.declared.place.Place.TheVariants.{Value};
 ghost use Rattle.acpi_tree.specs.declared.place.NamedForm.TheVariants as named;
 ghost use Rattle.acpi_body.specs.steps.Reading.{term_at};
 ghost use Rattle.acpi_outline.specs.Nodes as nodes;
 ghost use Rattle.acpi_outline.specs.Rules.{grammar_at};
 ghost use Rattle.acpi_outline.specs.View.{plain_view};
-ghost use Rattle.acpi_outline.specs.steps.Reading.{of_term, named_in, external_in, alias_in, table_region_in, term_in, plain_by, packed_form};
+ghost use Rattle.acpi_outline.specs.steps.Reading.{of_term, reference_in, source_in, named_in, external_in, alias_in, table_region_in, term_in, plain_by, packed_form};
 ghost use Rattle.acpi_outline.specs.steps.Cursor.{Gives, Reads};
 
 use crate::fault::{LostReason, LostStop, stopped};
 use crate::known::{Counted, Known};
 use crate::node::Plain;
 use acpi_body::read_term;
-use acpi_code::{Code, Opcode};
+use acpi_code::{Code, Opcode, name_start};
 use acpi_tree::{Decl, External, Place, Term, Width};
 use std::alloc::Global;
 
@@ -49,12 +49,27 @@ pub(crate) fn value<K: Known>(
     term_apart(known, level, Place::Value, code)
 }
 
-// The source of a Create form.
+// A name that is never a call.
+#[inline(never)]
+#[tactic(auto, using(crate::proofs::Parts::part_fails), unfolding(crate::specs::steps::Reading::reference_in))]
+fn reference(alloc: Global, code: &mut Code<'_>) -> Result<Box<Term>, LostStop>
+    ensures { Reads (λ b. term_view (box_value b)) reference_in code.old code.new result }
+{
+    let name = code.name()?.own(alloc)?;
+    Ok(Box::new(alloc, Term::Ref(name))?)
+}
+
+// The source of a Create form; a name has no level.
+#[inline(never)]
 fn source<K: Known>(known: &K, level: u32, code: &mut Code<'_>) -> Result<Box<Term>, LostStop>
-    ensures { Reads (λ b. term_view (box_value b))
-        (λ end bytes. of_term (term_at (grammar_at K.rules known.now) level Source end bytes))
+    ensures { Reads (λ b. term_view (box_value b)) (source_in K.rules level known.now)
         code.old code.new result }
 {
+    if let Some(first) = code.left().first() {
+        if name_start(*first) {
+            return reference(known.alloc(), code);
+        }
+    }
     term_apart(known, level, Place::Source, code)
 }
 
@@ -121,7 +136,7 @@ fn event_declared<K: Known>(known: &K, level: u32, code: &mut Code<'_>) -> Resul
 }
 
 #[inline(never)]
-#[tactic(auto, using(crate::proofs::Parts::part_fails), unfolding(crate::specs::steps::Reading::named_in, acpi_body::specs::steps::Reading::operands_at, acpi_body::specs::steps::Reading::operand_at))]
+#[tactic(auto, using(crate::proofs::Parts::part_fails), unfolding(crate::specs::steps::Reading::named_in, crate::specs::steps::Reading::sourced_in, acpi_body::specs::steps::Reading::operands_at, acpi_body::specs::steps::Reading::operand_at))]
 fn create_declared<K: Known>(
     known: &K,
     level: u32,
@@ -146,7 +161,7 @@ fn create_declared<K: Known>(
 }
 
 #[inline(never)]
-#[tactic(auto, using(crate::proofs::Parts::part_fails), unfolding(crate::specs::steps::Reading::named_in, acpi_body::specs::steps::Reading::operands_at, acpi_body::specs::steps::Reading::operand_at))]
+#[tactic(auto, using(crate::proofs::Parts::part_fails), unfolding(crate::specs::steps::Reading::named_in, crate::specs::steps::Reading::sourced_in, acpi_body::specs::steps::Reading::operands_at, acpi_body::specs::steps::Reading::operand_at))]
 fn create_field_declared<K: Known>(
     known: &K,
     level: u32,

@@ -24,17 +24,17 @@ use Rattle.acpi_survey.specs.Reading.{Reading, survey_rules}
 use Rattle.acpi_survey.specs.Survey.{code_read, place_in, at_table, behind_table, AreRead, all_nodes}
 
 -- they grow, from a first one on, and stand before the last
-abbrev Grow : ℕ → ℕ → List ℕ → Type 0
+abbrev pub Grow : ℕ → ℕ → List ℕ → Type 0
 Grow first last [] = first ≤ last
 Grow first last (p ∷ ps) = (first ≤ p) × Grow (suc p) last ps
 
 -- ---- lists that grow
 
-grow_from : (first later last : ℕ) (ps : List ℕ) → first ≤ later → Grow later last ps → Grow first last ps
+pub grow_from : (first later last : ℕ) (ps : List ℕ) → first ≤ later → Grow later last ps → Grow first last ps
 grow_from first later last [] le h = omega (arith, le, h)
 grow_from first later last (p ∷ ps) le h = (omega (arith, le, h.0), h.1)
 
-grow_on : (first middle last : ℕ) (ps qs : List ℕ) → Grow first middle ps → Grow middle last qs → Grow first last (ps ++ qs)
+pub grow_on : (first middle last : ℕ) (ps qs : List ℕ) → Grow first middle ps → Grow middle last qs → Grow first last (ps ++ qs)
 grow_on first middle last [] qs h n = grow_from first middle last qs h n
 grow_on first middle last (p ∷ ps) qs h n = (h.0, grow_on (suc p) middle last ps qs h.1 n)
 
@@ -43,7 +43,7 @@ is_later first last [] p h m = absurd m
 is_later first last (q ∷ ps) p h (inl same) = subst (λ p. first ≤ p) same h.0
 is_later first last (q ∷ ps) p h (inr m) = let le : suc q ≤ p = is_later (suc q) last ps p h.1 m in omega (arith, le, h.0)
 
-grow_within : (first last : ℕ) (ps : List ℕ) → Grow first last ps → first ≤ last
+pub grow_within : (first last : ℕ) (ps : List ℕ) → Grow first last ps → first ≤ last
 grow_within first last [] h = h
 grow_within first last (p ∷ ps) h = let le : suc p ≤ last = grow_within (suc p) last ps h.1 in omega (arith, h.0, le)
 
@@ -191,7 +191,7 @@ code_short number bytes (Read code is_cut has_bad_sum is_out_of_place trailing) 
     let is : length code ≡ length (take (length_field bytes) bytes) - 36 = ap length h.2 ∙ length-drop 36 (take (length_field bytes) bytes) in
     omega (arith, is, short, h.0.most)
 
-tables_grow : (depth number : ℕ) (s last : Reading) (tables : List (List ℕ)) (nss : List NodeTrees) → AreRead depth number s tables nss last
+pub tables_grow : (depth number : ℕ) (s last : Reading) (tables : List (List ℕ)) (nss : List NodeTrees) → AreRead depth number s tables nss last
     → (end : ℕ) × Grow (place_in number 0) end (flat_map places (all_nodes number nss))
 tables_grow depth number s last [] [] h = (place_in number 0, omega arith)
 tables_grow depth number s last (b ∷ bs) (ns ∷ nss) h =

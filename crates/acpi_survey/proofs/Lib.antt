@@ -1,11 +1,25 @@
 pub mod FilePieces
 mod Judging
+pub mod Judgements
+pub mod OneReading
 pub mod Walking
 pub mod TableWalks
-mod LocalPaths
+pub mod LocalPaths
 mod Growing
+mod EntryOrder
 pub mod Parts
+pub mod PlacedLists
+pub mod OpenedScopes
+pub mod Codes
+pub mod Places
+pub mod Lookups
+pub mod DeclaringParts
+pub mod DeclaringBodies
 mod SegmentNames
-pub mod Refusals
-mod Surveys
+pub mod Surveys
 mod Numbers
+pub mod Finding
+pub mod Refusals
+pub mod Standing
+pub mod Telling
+pub mod SureCounts

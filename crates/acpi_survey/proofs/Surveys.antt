@@ -3,11 +3,12 @@ use Rattle.std.proofs.Common.{◌≡◌, ◌≤◌, ◌++◌, ◌+◌, ℕ, suc,
 use Rattle.std.proofs.lemmas.List.{drop_all}
 use Rattle.acpi_survey.specs.Reading.{Reading}
 use Rattle.acpi_survey.specs.Predefined.{Predefined, with_object, with_objects, first_reading, predefined_root, predefined_scopes, predefined_objects, nothing_read}
-use Rattle.acpi_survey.specs.Laws.{IsAtStart, IsSurveyed}
+use Rattle.acpi_survey.specs.Laws.{IsAtStart, IsSurveyed, IsOnlyReading}
 use Rattle.acpi_survey.specs.Survey.{AreRead, behind_table}
 use Rattle.acpi_survey.specs.Surveys.{IsTable, AreTables, behind_nodes, bytes_of, nodes_of_each}
 use Rattle.acpi_survey.proofs.TableWalks.{read_is_survey}
-use Rattle.acpi_survey.specs.declared.survey.SurveyedTable.{SurveyedTable}
+use Rattle.acpi_survey.proofs.OneReading.{at_most_one}
+use Rattle.acpi_survey.specs.declared.machine_survey.SurveyedTable.{SurveyedTable}
 
 pub are_read : (depth number : ℕ) (s last : Reading) (ts : List SurveyedTable) → AreTables depth number s ts last → AreRead depth number s (bytes_of ts) (nodes_of_each ts) last
 are_read depth number s last [] h = h
@@ -85,3 +86,7 @@ all_read depth i read s all h k =
 pub all_surveyed : (depth i : ℕ) (read : List SurveyedTable) (s : Reading) (all : List (List ℕ)) → length all ≤ i → Kept depth read s (drop i all) all
     → IsSurveyed 0 first_reading s (nodes_of_each read)
 all_surveyed depth i read s all h k = read_is_survey depth 0 first_reading s all (nodes_of_each read) first_at_start (all_read depth i read s all h k)
+
+pub all_only : (depth i : ℕ) (read : List SurveyedTable) (s : Reading) (all : List (List ℕ)) → length all ≤ i → Kept depth read s (drop i all) all
+    → IsOnlyReading depth all (nodes_of_each read) s
+all_only depth i read s all h k = λ mss other r. at_most_one depth 0 first_reading s other all (nodes_of_each read) mss (all_read depth i read s all h k) r

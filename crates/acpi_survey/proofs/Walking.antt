@@ -26,7 +26,7 @@ use Rattle.acpi_conditions.specs.Laws.{IsInFirst}
 use Rattle.acpi_conditions.proofs.Walks.{gives_nodes, empty_else_is_none}
 use Rattle.acpi_survey.specs.Needs.{names_in_all, names_before}
 use Rattle.acpi_survey.specs.Nodes.{term_at, unit_at, operator_at, plain_at, package_at as package_at_place, element_at, operands_of, fields_at, Listed, no_else, listed, nodes_of}
-use Rattle.acpi_survey.specs.Reading.{Reading, survey_rules, count_at, declaring as declaring_in, passing, stopping, expecting, after_operator, after_plain, enter, after_field, after_closed, after_lost}
+use Rattle.acpi_survey.specs.Reading.{Reading, survey_rules, count_at, declaring as declaring_in, passing, stopping, expecting, after_operator, after_plain, enter, after_field, after_closed, after_lost, with_source}
 
 -- ---- walks that differ in whether an If stands directly before
 
@@ -132,7 +132,9 @@ plain_step place (outline.term (declare form before n behind)) s = declaring_ste
 plain_step place (outline.term (apply op vs)) s = operator_step (s.base + place) op s
 plain_step place (outline.term t) s = passing_step s (passing s) refl refl
 plain_step place (outline.external x) s = passing_step s (expecting x s) refl refl
-plain_step place (outline.alias source n) s = declaring_step (term_at (s.base + place) n false (source ∷ [])) (count_at s source) s
+plain_step place (outline.alias source n) s =
+    let step = declaring_step (term_at (s.base + place) n false (source ∷ [])) (count_at s source) (with_source (s.base + place) source s) in
+    record { fresh = step.fresh; base = step.base; on = step.on }
 plain_step place (outline.table_region n vs) s = declaring_step (term_at (s.base + place) n false (names_in_all vs)) (Some 0) s
 
 element_step : (place : ℕ) (f : FixedTree) (e : FieldTree) (s : Reading) → IsStep s (after_field s place f e) (element_at (s.base + place) (operands_of f) e)

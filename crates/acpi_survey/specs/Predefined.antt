@@ -24,7 +24,7 @@ with_objects s [] = s
 with_objects s (o ∷ os) = with_objects (with_object s o) os
 
 abbrev pub nothing_read : Reading
-nothing_read = record { walk = first_walk; base = 0; counts = []; expected = finite.empty }
+nothing_read = record { walk = first_walk; base = 0; counts = []; expected = finite.empty; opened = []; sources = [] }
 
 abbrev pub scope_named : List ℕ → Predefined
 scope_named g = record { path = g ∷ []; is_scope = true; args = 0 }

@@ -1,5 +1,5 @@
 -- How the nodes of tables are read: what is known so far (ACPI 6.5, 5.3 and 20.2.5).
-use Rattle.std.specs.Prelude.{◌+◌, ◌%◌, ◌==◌, ◌&&◌, nat_le, ℕ, Bool, true, false, cond, is_ok, List, [], ◌∷◌, ◌++◌, Option, Some, None}
+use Rattle.std.specs.Prelude.{◌+◌, ◌%◌, ◌==◌, ◌&&◌, nat_le, ℕ, Bool, true, false, cond, is_ok, List, [], ◌∷◌, ◌++◌, Option, Some, None, Result, Ok, Err}
 use Rattle.std.specs.List.{list_any}
 use Rattle.std.specs.FinMap as finite
 use Rattle.acpi_name.specs.Names.{Segment, NameParts}
@@ -18,8 +18,8 @@ use Rattle.acpi_outline.specs.Nodes.{PlainTree, FixedTree, container, method, if
 use Rattle.acpi_outline.specs.Rules.{Rules}
 use Rattle.acpi_conditions.specs.Nodes as nodes
 use Rattle.acpi_conditions.specs.Nodes.{Term}
-use Rattle.acpi_conditions.specs.Entries.{Path}
-use Rattle.acpi_conditions.specs.Known.{candidates, declared_at, opened_at}
+use Rattle.acpi_conditions.specs.Entries.{Path, Why}
+use Rattle.acpi_conditions.specs.Known.{candidates, is_certain_name, declared_at, opened_at}
 use Rattle.acpi_conditions.specs.Met.{met_by, numbers_met}
 use Rattle.acpi_conditions.specs.Here.{meeting, scopes_around}
 use Rattle.acpi_conditions.specs.Walk as walks
@@ -28,13 +28,22 @@ use Rattle.acpi_survey.specs.Counts.{counts_numbered, count_of}
 use Rattle.acpi_survey.specs.Needs.{names_in_all, names_before}
 use Rattle.acpi_survey.specs.Nodes.{term_at, unit_at, operands_of}
 
+-- An Alias, by its place: where its source may be found when it is read, and whether it is found for certain.
+pub record Source : Type 0 where
+  pub place : ℕ
+  pub paths : List Path
+  pub is_certain : Bool
+
 -- What is known: the walk over the nodes so far; the place of the code's first byte; of each entry how many values follow its name where
--- it is called, None where that isn't sure; and what the Externals of the table so far say.
+-- it is called, None where that isn't sure; what the Externals of the table so far say; the Scopes that were entered, by their places
+-- and the paths of their targets; and the Aliases.
 pub record Reading : Type 0 where
   pub walk : Walk
   pub base : ℕ
   pub counts : List (Option ℕ)
   pub expected : PathMap ℕ
+  pub opened : List (ℕ × Path)
+  pub sources : List Source
 
 -- ---- how many values follow a name
 
@@ -59,6 +68,17 @@ declaring t c s = record s { walk = walks.declare t s.walk; counts = with_count 
 
 abbrev pub entering : Term → Reading → Reading
 entering t s = record s { walk = walks.enter_term t s.walk; counts = with_count t (Some 0) s }
+
+-- the Aliases, and one whose source has that name
+abbrev pub source_at : Reading → (place : ℕ) → NameParts → Source
+source_at s place n = record {
+  place = place;
+  paths = candidates (met_by (meeting s.walk)) s.walk.around.scope n;
+  is_certain = is_certain_name (met_by (meeting s.walk)) s.walk.around.scope n;
+}
+
+abbrev pub with_source : (place : ℕ) → NameParts → Reading → Reading
+with_source place n s = record s { sources = s.sources ++ source_at s place n ∷ [] }
 
 abbrev pub passing : Reading → Reading
 passing s = record s { walk = walks.pass s.walk }
@@ -89,7 +109,7 @@ after_plain s place (outline.term (declare form before n behind)) = declaring (t
 after_plain s place (outline.term (apply op vs)) = after_operator (s.base + place) op s
 after_plain s place (outline.term t) = passing s
 after_plain s place (outline.external x) = expecting x s
-after_plain s place (outline.alias source n) = declaring (term_at (s.base + place) n false (source ∷ [])) (count_at s source) s
+after_plain s place (outline.alias source n) = declaring (term_at (s.base + place) n false (source ∷ [])) (count_at s source) (with_source (s.base + place) source s)
 after_plain s place (outline.table_region n vs) = declaring (term_at (s.base + place) n false (names_in_all vs)) (Some 0) s
 
 abbrev pub after_name : Reading → ℕ → NameParts → Reading
@@ -100,8 +120,16 @@ opens s (outline.scope n) = is_ok (opened_at s.walk.known s.walk.around.scope n)
 opens s (container form n vs) = is_ok (declared_at s.walk.known s.walk.around.scope n)
 opens s _ = true
 
+-- the Scopes, and one of the name that opens a scope
+abbrev pub with_opened : (place : ℕ) → Result Path Why → List (ℕ × Path) → List (ℕ × Path)
+with_opened place (Ok p) opened = opened ++ (place, p) ∷ []
+with_opened place (Err why) opened = opened
+
+abbrev pub opened_behind : Reading → (place : ℕ) → NameParts → List (ℕ × Path)
+opened_behind s place n = with_opened place (opened_at s.walk.known s.walk.around.scope n) s.opened
+
 abbrev pub enter : Reading → ℕ → FixedTree → Reading
-enter s place (outline.scope n) = record s { walk = walks.enter_scope (s.base + place) n s.walk }
+enter s place (outline.scope n) = record s { walk = walks.enter_scope (s.base + place) n s.walk; opened = opened_behind s (s.base + place) n }
 enter s place (container form n vs) = entering (term_at (s.base + place) n true []) s
 enter s place (if_so v) = record s { walk = walks.enter_first (s.base + place) s.walk }
 enter s place otherwise = record s { walk = walks.enter_other (s.base + place) s.walk }
@@ -118,7 +146,7 @@ after_field s place f e = passing s
 
 -- a package that isn't gone into: a method, by the number of its arguments, or what is refused
 abbrev pub after_closed : Reading → ℕ → FixedTree → List ℕ → Reading
-after_closed s place (outline.scope n) content = record s { walk = walks.walked_scope (s.base + place) n (λ w. w) s.walk }
+after_closed s place (outline.scope n) content = record s { walk = walks.walked_scope (s.base + place) n (λ w. w) s.walk; opened = opened_behind s (s.base + place) n }
 after_closed s place (container form n vs) content = declaring (term_at (s.base + place) n true []) (Some 0) s
 after_closed s place (method n flags) content = declaring (term_at (s.base + place) n false []) (Some (flags % 8)) s
 after_closed s place f content = passing s

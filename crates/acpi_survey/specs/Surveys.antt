@@ -1,5 +1,7 @@
 -- What a survey keeps of the tables that it reads (ACPI 6.5, 5.2.11, 5.3 and 20.2.5).
-use Rattle.std.specs.Prelude.{◌≡◌, ℕ, suc, cond, List, [], ◌∷◌, map}
+use Rattle.std.specs.Prelude.{◌≡◌, ◌&&◌, nat_eq, nat_lt, ℕ, suc, Bool, cond, List, [], ◌∷◌, map, length}
+use Rattle.std.specs.Cmp.Lexicographic.{pointwise}
+use Rattle.std.specs.List.{starts_with}
 use Rattle.acpi_space.specs.Lookups.{is_same_path}
 use Rattle.acpi_conditions.specs.Entries.{Path, Entry}
 use Rattle.acpi_outline.specs.Nodes.{NodeTrees}
@@ -10,7 +12,7 @@ use Rattle.acpi_outline.specs.View.{nodes_view}
 use Rattle.acpi_survey.specs.Tables.{IsJudged}
 use Rattle.acpi_survey.specs.Reading.{Reading, survey_rules}
 use Rattle.acpi_survey.specs.Survey.{code_read, at_table, behind_table}
-use Rattle.acpi_survey.specs.declared.survey.SurveyedTable.{SurveyedTable}
+use Rattle.acpi_survey.specs.declared.machine_survey.SurveyedTable.{SurveyedTable}
 
 -- the bytes of each table
 abbrev pub bytes_of : List SurveyedTable → List (List ℕ)
@@ -37,7 +39,22 @@ abbrev pub AreTables : ℕ → ℕ → Reading → List SurveyedTable → Readin
 AreTables depth number s [] last = last ≡ s
 AreTables depth number s (t ∷ ts) last = IsTable depth number s t × AreTables depth (suc number) (behind_table (behind_nodes number s t)) ts last
 
+-- ---- entries
+
+-- an entry but for its way
+abbrev pub without_way : Entry → Entry
+without_way e = record e { way = [] }
+
 -- the numbers of the entries at a path, of those from a number on
 abbrev pub numbers_at : Path → ℕ → List Entry → List ℕ
 numbers_at p n [] = []
 numbers_at p n (e ∷ es) = cond (is_same_path e.path p) (n ∷ numbers_at p (suc n) es) (numbers_at p (suc n) es)
+
+-- a path begins with the segments of another, and has more
+abbrev pub lies_below : (above : Path) → Path → Bool
+lies_below above p = nat_lt (length above) (length p) && starts_with (pointwise nat_eq) p above
+
+-- the numbers of the entries whose path lies below another, of those from a number on
+abbrev pub numbers_below : Path → ℕ → List Entry → List ℕ
+numbers_below p n [] = []
+numbers_below p n (e ∷ es) = cond (lies_below p e.path) (n ∷ numbers_below p (suc n) es) (numbers_below p (suc n) es)

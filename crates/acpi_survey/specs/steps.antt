@@ -1,4 +1,10 @@
 pub mod Readings
+pub mod ByPlace
+pub mod ReadTables
 pub mod Remainders
-pub mod LostParts
+pub mod Lookups
+pub mod PlacedItems
 pub mod MethodBodies
+pub mod MarkViews
+pub mod NotedViews
+pub mod Indexes

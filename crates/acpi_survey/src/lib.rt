@@ -10,9 +10,9 @@
 //! ```
 //!
 //! ```text
-//! let survey = survey_tables(alloc, &tables, depth)?;
-//! let problems = survey.problems(alloc)?;   // what is lost or refused, where, and why
-//! let notes = survey.notes(alloc)?;         // what is noticed and loses nothing
+//! let survey = survey(alloc, &tables, depth)?;
+//! let problems = survey.problems();   // what is lost or refused, where, and why
+//! let notes = survey.notes();         // what is noticed and loses nothing
 //! ```
 //!
 //! What the nodes of a table do with what is declared is said by `specs/Nodes.antt`, and how many values follow a name by
@@ -22,19 +22,28 @@
 #![tactic(auto)]
 
 mod bodies;
+mod body;
+mod by_place;
 mod calls;
+mod condition;
 mod counts;
+pub mod entry_laws;
+mod entry_parts;
 mod file;
 mod found;
+mod index;
 mod known;
 pub mod laws;
+mod links;
 mod locals;
 mod lookup;
+mod machine_survey;
 mod marks;
 mod method_bodies;
 mod names;
 mod needs;
 mod notes;
+mod placed;
 mod predefined;
 mod problems;
 mod reading;
@@ -42,17 +51,23 @@ mod reading_nodes;
 mod remarks;
 mod scopes;
 mod spans;
-mod survey;
+mod table_reader;
 mod tables;
 #[cfg(test)]
 mod tests;
+#[cfg(test)]
+mod tests_of_entries;
 
+pub use body::{BodyReading, MethodBody};
+pub use condition::{Literal, PlacedLiteral};
 pub use file::{pieces, pieces_make_the_file};
-pub use lookup::{Found, node_at};
+pub use links::Link;
+pub use lookup::node_at;
+pub use machine_survey::{Survey, SurveyedTable};
 pub use needs::{needs_of, needs_of_three, needs_of_value};
-pub use notes::{Note, NoteReason, Unknown, notes_of};
-pub use problems::{LostRange, Problem, ProblemReason, ReadTable, Site, problems_of};
+pub use notes::{Note, NoteReason, Unknown};
+pub use problems::{LostRange, Problem, ProblemReason, Site};
 pub use scopes::Opened;
 pub use spans::{Span, Spans, What};
-pub use survey::{Survey, SurveyedTable, survey_tables};
+pub use table_reader::survey;
 pub use tables::{Judged, TableReason, judge};

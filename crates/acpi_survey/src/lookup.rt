@@ -1,66 +1,169 @@
-//! The node at a place.
+//! The part of a table's code at a place.
 
-use acpi_outline::{Fixed, Node, Nodes, PlacedField, PlacedNode};
+ghost use Rattle.std.specs.Prelude.{◌≡◌, ◌≤◌, ◌<◌, ◌==◌, ℕ, true, false, length, IfSome, Some, nat_le, slice_get};
+ghost use Rattle.std.specs.Option.{option_map};
+ghost use Rattle.std.specs.List.Sorted.{IsNonDecreasingBy, IsPartitionPoint};
+ghost use Rattle.acpi_outline.specs.Tiling.{Tiles};
+ghost use Rattle.acpi_outline.specs.View.{node_view, nodes_view, fixed_view, placed_fields, fields_before, fields_end};
+ghost use Rattle.acpi_tree.specs.View.{field_view};
+ghost use Rattle.acpi_outline.specs.declared.node.PlacedNode.{PlacedNode as PlacedForm};
+ghost use Rattle.acpi_outline.specs.declared.node.PlacedField.{PlacedField as FieldForm};
+ghost use Rattle.acpi_survey.specs.Lookup.{bits_behind, element_at, found_of, part_at};
+ghost use Rattle.acpi_survey.specs.Spans.{inner_parts, parts_of};
+ghost use Rattle.acpi_survey.specs.steps.Lookups.{end_behind, nodes_before, IsBefore};
+
+use crate::placed::item;
+use crate::spans::{Span, What, width};
+use acpi_outline::{Fixed, Lost, Node, Nodes, PlacedField, PlacedNode};
 use acpi_tree::FieldElem;
 
-/// What begins at a place of a table's code.
+/// A node and its range, in bytes from the code's first.
 #[derive(Debug, Clone, Copy)]
-pub enum Found<'a> {
-    /// A node.
-    Node(&'a Node),
-    /// An element of the field list that is behind these fixed arguments.
-    Element(&'a Fixed, &'a FieldElem),
+struct NodeRange<'a> {
+    from: usize,
+    to: usize,
+    node: &'a Node,
 }
 
-/// How a search for a place goes on.
-enum Step<'a> {
-    Found(Found<'a>),
-    Inside(&'a Nodes),
-    Nothing,
+// How many of nodes begin at the place or before it.
+fn count_before(nodes: &[PlacedNode], place: usize) -> usize
+    ensures bound { result ≤ length nodes.now }
+    ensures parted { IsNonDecreasingBy (λ (n : PlacedForm). n.place) nodes.now
+        → IsPartitionPoint (λ n. nat_le n.place place ≡ true) (λ n. nat_le n.place place ≡ false)
+        nodes.now result }
+{
+    nodes.partition_point(|n| n.place <= place)
 }
 
-// The last of the nodes that begins at the place or before it.
-fn last_node(nodes: &[PlacedNode], place: usize) -> Option<&PlacedNode> {
-    let count = nodes.partition_point(|n| n.place <= place);
-    nodes.get(count.checked_sub(1)?)
-}
-
-// The element that begins at the place.
-fn element(fields: &[PlacedField], place: usize) -> Option<&FieldElem> {
-    let count = fields.partition_point(|u| u.place < place);
-    let found = fields.get(count)?;
-    if found.place == place {
-        Some(&found.element)
-    } else {
-        None
+// Where an item ends that this place follows, if one does.
+fn end_behind(next: Option<usize>, lost: Option<Lost>, end: usize) -> usize
+    ensures { result ≡ end_behind next lost end }
+{
+    match (next, lost) {
+        (Some(place), _) => place,
+        (None, Some(lost)) => lost.place,
+        (None, None) => end,
     }
 }
 
-fn next_step(nodes: &Nodes, place: usize) -> Step<'_> {
-    let Some(last) = last_node(&nodes.read, place) else {
-        return Step::Nothing;
-    };
-    if last.place == place {
-        return Step::Found(Found::Node(&last.node));
-    }
-    match &last.node {
-        Node::Holds(_, inside) => Step::Inside(inside),
-        Node::Fields(fixed, fields, _) => match element(fields, place) {
-            Some(found) => Step::Found(Found::Element(fixed, found)),
-            None => Step::Nothing,
-        },
-        _ => Step::Nothing,
+// Where the node of that number begins, if there is one.
+fn place_of(nodes: &[PlacedNode], number: usize) -> Option<usize>
+    ensures { result ≡ option_map (λ (n : PlacedForm). n.place) (slice_get nodes.now number) }
+{
+    match item(nodes, number) {
+        Some(node) => Some(node.place),
+        None => None,
     }
 }
 
-/// What begins at the place, in bytes from the code's first.
-pub fn node_at(nodes: &Nodes, place: usize) -> Option<Found<'_>> {
+// The last of the nodes that begins at the place or before it; `lost` is behind them.
+fn node_before<'a>(
+    nodes: &'a [PlacedNode],
+    lost: Option<Lost>,
+    end: usize,
+    place: usize,
+) -> Option<NodeRange<'a>>
+    ensures found { (start : ℕ) → Tiles start end (nodes_before nodes.now lost)
+        → IsBefore place result (part_at place end (nodes_before nodes.now lost)) }
+    ensures smaller { IfSome result (λ r. length (inner_parts (node_view r.node.now))
+        < length (parts_of (nodes_before nodes.now lost))) }
+{
+    let count = count_before(nodes, place);
+    if count == 0 {
+        return None;
+    }
+    let number = count - 1;
+    let last = &nodes[number];
+    Some(NodeRange {
+        from: last.place,
+        to: end_behind(place_of(nodes, count), lost, end),
+        node: &last.node,
+    })
+}
+
+fn last_in(nodes: &Nodes, end: usize, place: usize) -> Option<NodeRange<'_>>
+    ensures found { (start : ℕ) → Tiles start end (nodes_view nodes.now)
+        → IsBefore place result (part_at place end (nodes_view nodes.now)) }
+    ensures smaller { IfSome result (λ r. length (inner_parts (node_view r.node.now))
+        < length (parts_of (nodes_view nodes.now))) }
+{
+    node_before(&nodes.read, nodes.lost, end, place)
+}
+
+// Where the element of that number begins, if there is one.
+fn field_place(fields: &[PlacedField], number: usize) -> Option<usize>
+    ensures { result ≡ option_map (λ (f : FieldForm). f.place) (slice_get fields.now number) }
+{
+    match item(fields, number) {
+        Some(field) => Some(field.place),
+        None => None,
+    }
+}
+
+// The number of bits before the next element.
+fn bits_behind(offset: u64, element: &FieldElem) -> u64
+    ensures { result ≡ bits_behind offset (field_view element.now) }
+{
+    offset.saturating_add(width(element))
+}
+
+// The element that begins at the place, of a list that stands in so many nodes.
+fn element_at<'a>(
+    fixed: &'a Fixed,
+    fields: &'a [PlacedField],
+    lost: Option<Lost>,
+    end: usize,
+    depth: usize,
+    place: usize,
+) -> Option<Span<'a>>
+    ensures from { IfSome result (λ s. s.from ≡ place) }
+    ensures found { option_map found_of result ≡ option_map Some (element_at place end
+        (fixed_view fixed.now) 0 (fields_before (placed_fields fields.now) (fields_end lost))) }
+{
+    let mut offset = 0u64;
+    'each: for i in 0..fields.len() {
+        let field = &fields[i];
+        if field.place == place {
+            return Some(Span {
+                depth,
+                from: place,
+                to: end_behind(field_place(fields, i + 1), lost, end),
+                what: What::Element(fixed, &field.element, offset),
+            });
+        }
+        offset = bits_behind(offset, &field.element);
+    }
+    None
+}
+
+/// The node or the element that begins at the place, in bytes from the code's first, of nodes that end there.
+pub fn node_at(nodes: &Nodes, end: usize, place: usize) -> Option<Span<'_>>
+    ensures from { IfSome result (λ s. s.from ≡ place) }
+    ensures found { Tiles 0 end (nodes_view nodes.now)
+        → option_map found_of result ≡ option_map Some (part_at place end (nodes_view nodes.now)) }
+{
     let mut list = nodes;
-    for _ in 0..u64::MAX {
-        match next_step(list, place) {
-            Step::Found(found) => return Some(found),
-            Step::Inside(inside) => list = inside,
-            Step::Nothing => return None,
+    let mut list_end = end;
+    let mut depth = 0usize;
+    'levels: while let Some(range) = last_in(list, list_end, place) {
+        if range.from == place {
+            return Some(Span {
+                depth,
+                from: place,
+                to: range.to,
+                what: What::Node(range.node),
+            });
+        }
+        depth = depth.saturating_add(1);
+        match range.node {
+            Node::Holds(_, inside) => {
+                list = inside;
+                list_end = range.to;
+            }
+            Node::Fields(fixed, fields, lost) => {
+                return element_at(fixed, fields, *lost, range.to, depth, place);
+            }
+            _ => return None,
         }
     }
     None

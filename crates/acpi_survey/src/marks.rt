@@ -1,5 +1,12 @@
 //! Where calls and loads stand in a term.
 
+ghost use Rattle.std.specs.Prelude.{◌≡◌, ◌++◌, [], map, IfOk, OnOk};
+ghost use Rattle.acpi_tree.specs.Terms.{terms_of};
+ghost use Rattle.acpi_tree.specs.TermView.{decl_view, operands_view, term_view, terms_tree};
+ghost use Rattle.acpi_outline.specs.View.{fixed_view, plain_view};
+ghost use Rattle.acpi_survey.specs.Marks.{marks_in, marks_in_all, marks_in_fixed, marks_in_plain};
+ghost use Rattle.acpi_survey.specs.steps.MarkViews.{mark_view, marks_told};
+
 use acpi_code::{Code, Opcode};
 use acpi_name::Name;
 use acpi_outline::{Fixed, Plain};
@@ -41,9 +48,30 @@ fn skip(code: &mut Code<'_>) {
     }
 }
 
+// The same, where nothing can fail.
+fn past(code: &mut Code<'_>) -> Result<(), AllocError> {
+    skip(code);
+    Ok(())
+}
+
 // Goes past a byte, if there is one.
 fn skip_byte(code: &mut Code<'_>) {
     let _ = code.byte();
+}
+
+// Goes past an operand that is no term.
+fn skip_number(operand: &Operand, code: &mut Code<'_>) {
+    match operand {
+        Operand::Term(_) => {}
+        Operand::Byte(_) => skip_byte(code),
+        Operand::Word(_) => {
+            skip_byte(code);
+            skip_byte(code);
+        }
+        Operand::DWord(_) => {
+            let _ = code.dword();
+        }
+    }
 }
 
 fn skip_name(code: &mut Code<'_>) {
@@ -54,9 +82,19 @@ fn skip_opcode(code: &mut Code<'_>) {
     let _ = code.opcode();
 }
 
+// What the package at the front holds, or what is left where there is none.
+fn package_in<'b>(code: &mut Code<'b>) -> Code<'b> {
+    match code.package() {
+        Ok(package) => package,
+        Err(_) => code.fork(),
+    }
+}
+
 impl<'a> Marks<'a> {
     // None.
-    fn new(alloc: Global) -> Marks<'a> {
+    fn new(alloc: Global) -> Marks<'a>
+        ensures { marks_told result ≡ [] }
+    {
         Marks {
             found: Vec::new(alloc),
         }
@@ -67,7 +105,9 @@ impl<'a> Marks<'a> {
         alloc: Global,
         plain: &'a Plain,
         code: &mut Code<'_>,
-    ) -> Result<Vec<Mark<'a>>, AllocError> {
+    ) -> Result<Vec<Mark<'a>>, AllocError>
+        ensures { IfOk result (λ v. map mark_view v.items ≡ marks_in_plain (plain_view plain.now)) }
+    {
         let mut marks = Marks::new(alloc);
         match plain {
             Plain::Term(term) => marks.term(term, code)?,
@@ -89,27 +129,30 @@ impl<'a> Marks<'a> {
         alloc: Global,
         fixed: &'a Fixed,
         code: &mut Code<'_>,
-    ) -> Result<Vec<Mark<'a>>, AllocError> {
+    ) -> Result<Vec<Mark<'a>>, AllocError>
+        ensures { IfOk result (λ v. map mark_view v.items ≡ marks_in_fixed (fixed_view fixed.now)) }
+    {
         let mut marks = Marks::new(alloc);
         skip_opcode(code);
-        if let Ok(package) = code.package() {
-            let mut inner = package;
-            match fixed {
-                Fixed::If(test) => marks.term(test, &mut inner)?,
-                Fixed::While(test) => marks.term(test, &mut inner)?,
-                Fixed::BankField(_, _, value, _) => {
-                    skip_name(&mut inner);
-                    skip_name(&mut inner);
-                    marks.term(value, &mut inner)?;
-                }
-                _ => {}
+        let mut inner = package_in(code);
+        match fixed {
+            Fixed::If(test) => marks.term(test, &mut inner)?,
+            Fixed::While(test) => marks.term(test, &mut inner)?,
+            Fixed::BankField(_, _, value, _) => {
+                skip_name(&mut inner);
+                skip_name(&mut inner);
+                marks.term(value, &mut inner)?;
             }
+            _ => {}
         }
         Ok(marks.found)
     }
 
     #[cycle(marks)]
-    fn term(&mut self, term: &'a Term, code: &mut Code<'_>) -> Result<(), AllocError> {
+    fn term(&mut self, term: &'a Term, code: &mut Code<'_>) -> Result<(), AllocError>
+        ensures { OnOk result (marks_told self.new
+            ≡ marks_told self.old ++ marks_in (term_view term.now)) }
+    {
         let place = code.place();
         match term {
             Term::NoTarget => {
@@ -136,40 +179,37 @@ impl<'a> Marks<'a> {
                 self.operands(operands, code)
             }
             Term::Declare(decl) => self.decl(decl, code),
-            Term::Buffer(_, _) => self.data(term, code),
-            Term::Package(_, _) => self.data(term, code),
-            Term::VarPackage(_, _) => self.data(term, code),
-            _ => {
-                skip(code);
-                Ok(())
+            Term::Buffer(size, _) => {
+                skip_opcode(code);
+                self.term(size, &mut package_in(code))
             }
-        }
-    }
-
-    // A term that is data in a package.
-    #[cycle(marks)]
-    fn data(&mut self, term: &'a Term, code: &mut Code<'_>) -> Result<(), AllocError> {
-        skip_opcode(code);
-        let Ok(package) = code.package() else {
-            return Ok(());
-        };
-        let mut inner = package;
-        match term {
-            Term::Buffer(size, _) => self.term(size, &mut inner),
             Term::Package(_, elements) => {
+                skip_opcode(code);
+                let mut inner = package_in(code);
                 skip_byte(&mut inner);
                 self.terms(elements, &mut inner)
             }
             Term::VarPackage(count, elements) => {
+                skip_opcode(code);
+                let mut inner = package_in(code);
                 self.term(count, &mut inner)?;
                 self.terms(elements, &mut inner)
             }
-            _ => Ok(()),
+            Term::Int(_) => past(code),
+            Term::Str(_) => past(code),
+            Term::Local(_) => past(code),
+            Term::Arg(_) => past(code),
+            Term::Debug => past(code),
+            Term::If(_, _, _) => Ok(()),
+            Term::While(_, _) => Ok(()),
         }
     }
 
     #[cycle(marks)]
-    fn terms(&mut self, terms: &'a [Term], code: &mut Code<'_>) -> Result<(), AllocError> {
+    fn terms(&mut self, terms: &'a [Term], code: &mut Code<'_>) -> Result<(), AllocError>
+        ensures { OnOk result (marks_told self.new
+            ≡ marks_told self.old ++ marks_in_all (terms_tree terms.now)) }
+    {
         'each: for term in terms {
             self.term(term, code)?;
         }
@@ -177,25 +217,24 @@ impl<'a> Marks<'a> {
     }
 
     #[cycle(marks)]
-    fn operands(&mut self, operands: &'a [Operand], code: &mut Code<'_>) -> Result<(), AllocError> {
+    fn operands(&mut self, operands: &'a [Operand], code: &mut Code<'_>) -> Result<(), AllocError>
+        ensures { OnOk result (marks_told self.new
+            ≡ marks_told self.old ++ marks_in_all (terms_of (operands_view operands.now))) }
+    {
         'each: for operand in operands {
             match operand {
                 Operand::Term(term) => self.term(term, code)?,
-                Operand::Byte(_) => skip_byte(code),
-                Operand::Word(_) => {
-                    skip_byte(code);
-                    skip_byte(code);
-                }
-                Operand::DWord(_) => {
-                    let _ = code.dword();
-                }
+                _ => skip_number(operand, code),
             }
         }
         Ok(())
     }
 
     #[cycle(marks)]
-    fn decl(&mut self, decl: &'a Decl, code: &mut Code<'_>) -> Result<(), AllocError> {
+    fn decl(&mut self, decl: &'a Decl, code: &mut Code<'_>) -> Result<(), AllocError>
+        ensures { OnOk result (marks_told self.new
+            ≡ marks_told self.old ++ marks_in (decl_view decl.now)) }
+    {
         skip_opcode(code);
         match decl {
             Decl::Name(_, data) => {
@@ -222,7 +261,11 @@ impl<'a> Marks<'a> {
                 self.term(offset, code)?;
                 self.term(length, code)
             }
-            _ => Ok(()),
+            Decl::Mutex(_, _) => Ok(()),
+            Decl::Event(_) => Ok(()),
+            Decl::Field { .. } => Ok(()),
+            Decl::IndexField { .. } => Ok(()),
+            Decl::BankField { .. } => Ok(()),
         }
     }
 }

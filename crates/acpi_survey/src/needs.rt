@@ -111,7 +111,8 @@ pub fn add_of_source(names: &mut Vec<Name>, source: &Term) -> Result<(), AllocEr
     }
 }
 
-fn is_among(names: &[Name], name: &Name) -> bool
+/// Whether a name is among others.
+pub(crate) fn is_among(names: &[Name], name: &Name) -> bool
     ensures { result ≡ is_among names.now name.now }
 {
     names.iter().any(|n| *n == *name)

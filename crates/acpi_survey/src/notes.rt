@@ -1,30 +1,44 @@
 //! What is noticed of a table that loses nothing.
 
-ghost use Rattle.std.specs.Prelude.{◌≡◌, ◌++◌, [], None, IfOk, IfSome, OnOk};
-ghost use Rattle.acpi_survey.specs.Notes.{misplaced, whole_in, whole_noted, whole_notes};
+ghost use Rattle.std.specs.Prelude.{◌≡◌, ◌++◌, ◌∷◌, [], map, IfOk, IfSome, OnOk, Some, None};
+ghost use Rattle.std.specs.Option.{option_to_list};
+ghost use Rattle.std.specs.List.{flat_map};
+ghost use Rattle.acpi_tree.specs.TermView.{term_view};
+ghost use Rattle.acpi_outline.specs.Outline.{is_stray};
+ghost use Rattle.acpi_outline.specs.View.{fixed_view, node_view, nodes_view, plain_view};
+ghost use Rattle.acpi_survey.specs.Marks.{called};
+ghost use Rattle.acpi_survey.specs.Needs.{is_among};
+ghost use Rattle.acpi_survey.specs.Notes.{else_reasons, fixed_reasons, is_else, mark_reasons, misplaced, node_reasons, note_parts, offset_told, own_reasons, part_reasons, plain_reasons, range_notes, table_notes, whole_notes};
+ghost use Rattle.acpi_survey.specs.NoteViews.{note_view};
+ghost use Rattle.acpi_survey.specs.Problems.{offset_of, table_ranges};
+ghost use Rattle.acpi_survey.specs.SpanViews.{part_of, range_of, scope_of};
+ghost use Rattle.acpi_survey.specs.Survey.{place_in};
+ghost use Rattle.acpi_survey.specs.steps.MarkViews.{mark_view};
+ghost use Rattle.acpi_survey.specs.steps.NotedViews.{notes_at};
+ghost use Rattle.acpi_survey.specs.steps.ReadTables.{entered_at, unknowns_of};
 
 use crate::marks::{Mark, Marks, code_at};
-use crate::problems::{ReadTable, Site, code_of, offset_of};
+use crate::needs::is_among;
+use crate::problems::{ReadTable, Site, code_of, copy_path, scope_copy, site_at};
 use crate::reading::place_in;
-use crate::scopes::{Places, Scopes};
-use crate::spans::{Span, Spans, What};
+use crate::spans::{ScopedSpan, What};
 use crate::tables::Judged;
 use acpi_name::{Name, Path};
-use acpi_outline::{Fixed, Node, PackedForm, Plain};
+use acpi_outline::{Fixed, Node, Plain};
 use acpi_tree::Term;
 use std::alloc::{AllocError, Global};
 
-/// A name of which nothing is known where a node is read.
+/// Names of which nothing is known where a node is read.
 #[derive(Debug, Drop)]
 pub struct Unknown {
     /// Where the node stands: the table's number times 2^64, and the number of bytes of the table's code before it.
     pub place: u128,
-    /// The name.
-    pub name: Name,
+    /// The names.
+    pub names: Vec<Name>,
 }
 
 /// What is noticed of a table that loses nothing.
-#[derive(Debug, Drop)]
+#[derive(Debug, Drop, PartialEq, Eq)]
 pub enum NoteReason {
     /// The table's bytes don't sum to 0.
     BadSum,
@@ -43,7 +57,7 @@ pub enum NoteReason {
 }
 
 /// What is noticed of a table.
-#[derive(Debug, Drop)]
+#[derive(Debug, Drop, PartialEq, Eq)]
 pub struct Note {
     /// Where.
     pub site: Site,
@@ -53,10 +67,40 @@ pub struct Note {
     pub scope: Option<Path>,
 }
 
+impl NoteReason {
+    /// An equal reason with memory of its own.
+    pub fn copy(&self) -> Result<NoteReason, AllocError>
+        ensures { IfOk result (λ r. r ≡ self.now) }
+    {
+        Ok(match self {
+            NoteReason::BadSum => NoteReason::BadSum,
+            NoteReason::NotDsdt => NoteReason::NotDsdt,
+            NoteReason::NotSsdt => NoteReason::NotSsdt,
+            NoteReason::Unknown(name) => NoteReason::Unknown(name.copy()?),
+            NoteReason::Stray => NoteReason::Stray,
+            NoteReason::StrayElse => NoteReason::StrayElse,
+            NoteReason::Loads => NoteReason::Loads,
+        })
+    }
+}
+
+impl Note {
+    /// An equal note with memory of its own.
+    pub fn copy(&self) -> Result<Note, AllocError>
+        ensures { IfOk result (λ n. n ≡ self.now) }
+    {
+        Ok(Note {
+            site: self.site,
+            reason: self.reason.copy()?,
+            scope: copy_path(&self.scope)?,
+        })
+    }
+}
+
 // ---- the table as a whole
 
 fn of_table(number: usize, reason: NoteReason) -> Note
-    ensures { result.reason ≡ reason }
+    ensures { note_view result ≡ note_parts number 0 reason None }
 {
     Note {
         site: Site {
@@ -78,9 +122,9 @@ fn place_reason(number: usize) -> NoteReason
     }
 }
 
-fn put_first(found: &mut Vec<Note>, table: &ReadTable<'_>) -> Result<(), AllocError>
-    ensures { OnOk result (whole_noted found.new.items
-        ≡ whole_noted found.old.items ++ whole_notes table.now.number table.now.judged.now) }
+fn put_whole(found: &mut Vec<Note>, table: &ReadTable<'_, '_>) -> Result<(), AllocError>
+    ensures { OnOk result (map note_view found.new.items ≡ map note_view found.old.items
+        ++ whole_notes table.now.number table.now.judged.now) }
 {
     if let Judged::Read {
         has_bad_sum,
@@ -101,245 +145,273 @@ fn put_first(found: &mut Vec<Note>, table: &ReadTable<'_>) -> Result<(), AllocEr
 // ---- one node
 
 // Whether a term has no effect where a statement stands.
-fn is_stray(term: &Term) -> bool {
-    matches!(
-        term,
-        Term::Int(_) | Term::Str(_) | Term::Local(_) | Term::Arg(_) | Term::Debug
-    )
-}
-
-// Whether nothing is known of a name in the node at the place.
-fn is_unknown(unknown: &[Unknown], place: u128, name: &Name) -> bool {
-    let first = unknown.partition_point(|u| u.place < place);
-    for i in first..unknown.len() {
-        let here = &unknown[i];
-        if here.place != place {
-            return false;
-        }
-        if here.name == *name {
-            return true;
-        }
+fn is_stray(term: &Term) -> bool
+    ensures { result ≡ is_stray (term_view term.now) }
+{
+    match term {
+        Term::Int(_) => true,
+        Term::Str(_) => true,
+        Term::Local(_) => true,
+        Term::Arg(_) => true,
+        Term::Debug => true,
+        _ => false,
     }
-    false
 }
 
-// Puts a note of what stands at the place of a code.
-fn put(
-    found: &mut Vec<Note>,
+// The node in which notes are made: the number of its table, its place in the code, the names in it of which nothing is
+// known, and the scope around.
+#[derive(Clone, Copy)]
+struct Noted<'a> {
     number: usize,
     place: usize,
-    reason: NoteReason,
-    scope: &Path,
-) -> Result<(), AllocError>
-    ensures { OnOk result (whole_noted found.new.items
-        ≡ whole_noted found.old.items ++ whole_in reason) }
-{
-    found.push(Note {
-        site: Site {
-            table: number,
-            offset: offset_of(place),
-        },
-        reason,
-        scope: Some(scope.copy()?),
-    })?;
-    Ok(())
+    unknown: &'a [Name],
+    around: Option<&'a Path>,
 }
 
-// What is noticed of a call or a load in the node at the place.
-fn reason_of(
-    table: &ReadTable<'_>,
-    place: u128,
-    mark: &Mark<'_>,
-) -> Result<Option<NoteReason>, AllocError>
-    ensures { IfOk result (λ r. IfSome r (λ n. whole_in n ≡ [])) }
-{
-    match mark.name {
-        None => Ok(Some(NoteReason::Loads)),
-        Some(name) => {
-            if is_unknown(table.unknown, place, name) {
-                Ok(Some(NoteReason::Unknown(name.copy()?)))
-            } else {
-                Ok(None)
+impl<'a> Noted<'a> {
+    // Puts a note of what stands at a place of the code.
+    fn put(
+        self,
+        alloc: Global,
+        found: &mut Vec<Note>,
+        place: usize,
+        reason: NoteReason,
+    ) -> Result<(), AllocError>
+        ensures { OnOk result (map note_view found.new.items ≡ map note_view found.old.items
+            ++ note_parts self.entry.number (offset_of place) reason (Some (scope_of self.entry.around)) ∷ []) }
+    {
+        found.push(Note {
+            site: site_at(self.number, place),
+            reason,
+            scope: Some(scope_copy(alloc, self.around)?),
+        })?;
+        Ok(())
+    }
+
+    // Puts the note of a name that stands at a place of the code, if nothing is known of it.
+    fn put_name(
+        self,
+        alloc: Global,
+        found: &mut Vec<Note>,
+        place: usize,
+        name: &Name,
+    ) -> Result<(), AllocError>
+        ensures { OnOk result (map note_view found.new.items ≡ map note_view found.old.items
+            ++ notes_at self.entry (mark_reasons self.entry.unknown.now (called name.now))) }
+    {
+        if is_among(self.unknown, name) {
+            self.put(alloc, found, place, NoteReason::Unknown(name.copy()?))?;
+        }
+        Ok(())
+    }
+
+    // Puts the note of a call or a load, if there is one.
+    fn put_mark(
+        self,
+        alloc: Global,
+        found: &mut Vec<Note>,
+        mark: &Mark<'_>,
+    ) -> Result<(), AllocError>
+        ensures { OnOk result (map note_view found.new.items ≡ map note_view found.old.items
+            ++ notes_at self.entry (mark_reasons self.entry.unknown.now (mark_view mark.now))) }
+    {
+        match mark.name {
+            Some(name) => self.put_name(alloc, found, mark.place, name),
+            None => self.put(alloc, found, mark.place, NoteReason::Loads),
+        }
+    }
+
+    // Puts the notes of calls and loads.
+    fn put_marks(
+        self,
+        alloc: Global,
+        found: &mut Vec<Note>,
+        marks: &[Mark<'_>],
+    ) -> Result<(), AllocError>
+        ensures { OnOk result (map note_view found.new.items ≡ map note_view found.old.items
+            ++ notes_at self.entry
+            (flat_map (mark_reasons self.entry.unknown.now) (map mark_view marks.now))) }
+    {
+        'each: for mark in marks {
+            self.put_mark(alloc, found, mark)?;
+        }
+        Ok(())
+    }
+
+    // Puts the notes of a plain node, but for calls and loads.
+    fn put_own(self, alloc: Global, found: &mut Vec<Note>, plain: &Plain) -> Result<(), AllocError>
+        ensures { OnOk result (map note_view found.new.items ≡ map note_view found.old.items
+            ++ notes_at self.entry (own_reasons self.entry.unknown.now (plain_view plain.now))) }
+    {
+        match plain {
+            Plain::Term(term) => {
+                if is_stray(term) {
+                    self.put(alloc, found, self.place, NoteReason::Stray)?;
+                }
+                Ok(())
             }
+            Plain::Alias(source, _) => self.put_name(alloc, found, self.place, source),
+            Plain::External(_) => Ok(()),
+            Plain::TableRegion(_, _, _, _) => Ok(()),
+        }
+    }
+
+    fn put_plain(
+        self,
+        alloc: Global,
+        found: &mut Vec<Note>,
+        code: &[u8],
+        plain: &Plain,
+    ) -> Result<(), AllocError>
+        ensures { OnOk result (map note_view found.new.items ≡ map note_view found.old.items
+            ++ notes_at self.entry (plain_reasons self.entry.unknown.now (plain_view plain.now))) }
+    {
+        self.put_own(alloc, found, plain)?;
+        let marks = Marks::of_plain(alloc, plain, &mut code_at(code, self.place))?;
+        self.put_marks(alloc, found, &marks)
+    }
+
+    fn put_fixed(
+        self,
+        alloc: Global,
+        found: &mut Vec<Note>,
+        code: &[u8],
+        fixed: &Fixed,
+    ) -> Result<(), AllocError>
+        ensures { OnOk result (map note_view found.new.items ≡ map note_view found.old.items
+            ++ notes_at self.entry (fixed_reasons self.entry.unknown.now (fixed_view fixed.now))) }
+    {
+        let marks = Marks::of_fixed(alloc, fixed, &mut code_at(code, self.place))?;
+        self.put_marks(alloc, found, &marks)
+    }
+
+    // Puts the notes of a node, but for what is noticed of an Else.
+    fn put_node(
+        self,
+        alloc: Global,
+        found: &mut Vec<Note>,
+        code: &[u8],
+        node: &Node,
+    ) -> Result<(), AllocError>
+        ensures { OnOk result (map note_view found.new.items ≡ map note_view found.old.items
+            ++ notes_at self.entry (node_reasons self.entry.unknown.now (node_view node.now))) }
+    {
+        match node {
+            Node::Plain(plain) => self.put_plain(alloc, found, code, plain),
+            Node::Holds(fixed, _) => self.put_fixed(alloc, found, code, fixed),
+            Node::Fields(fixed, _, _) => self.put_fixed(alloc, found, code, fixed),
+            _ => Ok(()),
+        }
+    }
+
+    // Puts that an Else belongs to no If.
+    fn put_else(
+        self,
+        alloc: Global,
+        found: &mut Vec<Note>,
+        node: &Node,
+        is_behind_if: bool,
+    ) -> Result<(), AllocError>
+        ensures { OnOk result (map note_view found.new.items ≡ map note_view found.old.items
+            ++ notes_at self.entry (else_reasons is_behind_if (node_view node.now))) }
+    {
+        if is_else(node) && !is_behind_if {
+            self.put(alloc, found, self.place, NoteReason::StrayElse)?;
+        }
+        Ok(())
+    }
+
+    // Puts the notes of what stands in a range.
+    fn put_part(
+        self,
+        alloc: Global,
+        found: &mut Vec<Note>,
+        code: &[u8],
+        range: &ScopedSpan<'_>,
+    ) -> Result<(), AllocError>
+        ensures { OnOk result (map note_view found.new.items ≡ map note_view found.old.items
+            ++ notes_at self.entry (part_reasons self.entry.unknown.now range.now.is_behind_if
+            (part_of range.now.span.what))) }
+    {
+        match range.span.what {
+            What::Node(node) => {
+                self.put_else(alloc, found, node, range.is_behind_if)?;
+                self.put_node(alloc, found, code, node)
+            }
+            _ => Ok(()),
         }
     }
 }
 
-// Puts the notes of calls and loads in the node at the place.
-fn put_marks(
-    found: &mut Vec<Note>,
-    table: &ReadTable<'_>,
-    marks: &[Mark<'_>],
-    place: u128,
-    scope: &Path,
-) -> Result<(), AllocError>
-    ensures { OnOk result (whole_noted found.new.items ≡ whole_noted found.old.items) }
-{
-    'each: for mark in marks {
-        if let Some(reason) = reason_of(table, place, mark)? {
-            put(found, table.number, mark.place, reason, scope)?;
-        }
-    }
-    Ok(())
-}
-
-fn put_of_plain(
-    alloc: Global,
-    found: &mut Vec<Note>,
-    table: &ReadTable<'_>,
-    plain: &Plain,
-    offset: usize,
-    scope: &Path,
-) -> Result<(), AllocError>
-    ensures { OnOk result (whole_noted found.new.items ≡ whole_noted found.old.items) }
-{
-    let place = place_in(table.number, offset);
-    match plain {
-        Plain::Term(term) => {
-            if is_stray(term) {
-                put(found, table.number, offset, NoteReason::Stray, scope)?;
-            }
-        }
-        Plain::Alias(source, _) => {
-            if is_unknown(table.unknown, place, source) {
-                let reason = NoteReason::Unknown(source.copy()?);
-                put(found, table.number, offset, reason, scope)?;
-            }
-        }
-        _ => {}
-    }
-    let marks = Marks::of_plain(alloc, plain, &mut code_at(code_of(table.judged), offset))?;
-    put_marks(found, table, &marks, place, scope)
-}
-
-fn put_of_fixed(
-    alloc: Global,
-    found: &mut Vec<Note>,
-    table: &ReadTable<'_>,
-    fixed: &Fixed,
-    offset: usize,
-    scope: &Path,
-) -> Result<(), AllocError>
-    ensures { OnOk result (whole_noted found.new.items ≡ whole_noted found.old.items) }
-{
-    let marks = Marks::of_fixed(alloc, fixed, &mut code_at(code_of(table.judged), offset))?;
-    put_marks(found, table, &marks, place_in(table.number, offset), scope)
-}
-
-// Puts the notes of a node, but for what is noticed of an Else.
-fn put_of_node(
-    alloc: Global,
-    found: &mut Vec<Note>,
-    table: &ReadTable<'_>,
-    node: &Node,
-    offset: usize,
-    scope: &Path,
-) -> Result<(), AllocError>
-    ensures { OnOk result (whole_noted found.new.items ≡ whole_noted found.old.items) }
+// Whether a node is an Else.
+fn is_else(node: &Node) -> bool
+    ensures { result ≡ is_else (node_view node.now) }
 {
     match node {
-        Node::Plain(plain) => put_of_plain(alloc, found, table, plain, offset, scope),
-        Node::Holds(fixed, _) => put_of_fixed(alloc, found, table, fixed, offset, scope),
-        Node::Fields(fixed, _, _) => put_of_fixed(alloc, found, table, fixed, offset, scope),
-        _ => Ok(()),
-    }
-}
-
-// ---- Else
-
-fn is_if(what: What<'_>) -> bool {
-    match what {
-        What::Node(node) => matches!(
-            node,
-            Node::Holds(Fixed::If(_), _) | Node::PackageLost(PackedForm::If, _)
-        ),
+        Node::Holds(Fixed::Else, _) => true,
         _ => false,
-    }
-}
-
-fn is_else(what: What<'_>) -> bool {
-    match what {
-        What::Node(node) => matches!(node, Node::Holds(Fixed::Else, _)),
-        _ => false,
-    }
-}
-
-/// Whether an If is the last node so far in each list around.
-#[derive(Drop)]
-struct Ifs {
-    last: Vec<bool>,
-}
-
-impl Ifs {
-    // Whether an If stands directly before the next span.
-    fn next(&mut self, span: &Span<'_>) -> Result<bool, AllocError> {
-        let is_behind = match self.last.get(span.depth) {
-            Some(is_if) => *is_if,
-            None => false,
-        };
-        self.last.truncate(span.depth);
-        self.last.push(is_if(span.what))?;
-        Ok(is_behind)
     }
 }
 
 // ---- all
 
-// Puts the notes of what a span has.
-fn put_of_span(
-    alloc: Global,
-    found: &mut Vec<Note>,
-    table: &ReadTable<'_>,
-    span: &Span<'_>,
-    is_behind_if: bool,
-    scope: &Path,
-) -> Result<(), AllocError>
-    ensures { OnOk result (whole_noted found.new.items ≡ whole_noted found.old.items) }
+// The names of which nothing is known in what begins at the place of the code.
+fn unknown_at<'a>(table: &ReadTable<'_, 'a>, place: usize) -> &'a [Name]
+    ensures { result.now ≡ unknowns_of table.now (place_in table.now.number place) }
 {
-    if is_else(span.what) && !is_behind_if {
-        put(found, table.number, span.from, NoteReason::StrayElse, scope)?;
-    }
-    match span.what {
-        What::Node(node) => put_of_node(alloc, found, table, node, span.from, scope),
-        _ => Ok(()),
+    match table.index.unknown.at(place_in(table.number, place)) {
+        Some(names) => names,
+        None => &[],
     }
 }
 
+// Puts the notes of a range.
+fn put_of_range(
+    alloc: Global,
+    found: &mut Vec<Note>,
+    table: &ReadTable<'_, '_>,
+    range: &ScopedSpan<'_>,
+) -> Result<(), AllocError>
+    ensures { OnOk result (map note_view found.new.items ≡ map note_view found.old.items
+        ++ range_notes (unknowns_of table.now) table.now.number (range_of range.now)) }
+{
+    let noted = Noted {
+        number: table.number,
+        place: range.span.from,
+        unknown: unknown_at(table, range.span.from),
+        around: range.around,
+    };
+    noted.put_part(alloc, found, code_of(table.judged), range)
+}
+
+// Puts the notes of the table's code.
 fn put_of_code(
     alloc: Global,
     found: &mut Vec<Note>,
-    table: &ReadTable<'_>,
-    root: &Path,
+    table: &ReadTable<'_, '_>,
 ) -> Result<(), AllocError>
-    ensures { OnOk result (whole_noted found.new.items ≡ whole_noted found.old.items) }
+    ensures { OnOk result (map note_view found.new.items ≡ map note_view found.old.items
+        ++ flat_map (range_notes (unknowns_of table.now) table.now.number)
+        (table_ranges (entered_at table.now) table.now.judged.now
+        (nodes_view table.now.nodes.now))) }
 {
-    let places = Places {
-        table: table.number,
-        entries: table.entries,
-        opened: table.opened,
-    };
-    let mut scopes = Scopes::new(alloc, places, root);
-    let mut ifs = Ifs {
-        last: Vec::new(alloc),
-    };
-    let mut spans = Spans::new(alloc, table.nodes, code_of(table.judged).len())?;
-    while let Some(span) = spans.next()? {
-        let scope = scopes.next(&span)?;
-        let is_behind_if = ifs.next(&span)?;
-        put_of_span(alloc, found, table, &span, is_behind_if, scope)?;
+    let mut ranges = table.ranges(alloc)?;
+    while let Some(range) = table.next_range(&mut ranges)? {
+        put_of_range(alloc, found, table, &range)?;
     }
     Ok(())
 }
 
-/// The notes of a table, in the order of their sites.
-pub fn notes_of(alloc: Global, table: &ReadTable<'_>) -> Result<Vec<Note>, AllocError>
-    // What is noticed of the table as a whole is told.
-    ensures { IfOk result (λ v. whole_noted v.items
-        ≡ whole_notes table.now.number table.now.judged.now) }
+/// Puts the notes of a table behind others, in the order of their sites.
+pub(crate) fn put_notes(
+    alloc: Global,
+    found: &mut Vec<Note>,
+    table: &ReadTable<'_, '_>,
+) -> Result<(), AllocError>
+    ensures { OnOk result (map note_view found.new.items ≡ map note_view found.old.items
+        ++ table_notes (entered_at table.now) (unknowns_of table.now) table.now.number
+        table.now.judged.now (nodes_view table.now.nodes.now)) }
 {
-    let root = Path::root(alloc);
-    let mut found = Vec::new(alloc);
-    put_first(&mut found, table)?;
-    put_of_code(alloc, &mut found, table, &root)?;
-    Ok(found)
+    put_whole(found, table)?;
+    put_of_code(alloc, found, table)
 }

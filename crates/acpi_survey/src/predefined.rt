@@ -9,6 +9,9 @@ use crate::reading::Reading;
 use acpi_name::{Path, Seg};
 use std::alloc::{AllocError, Global};
 
+/// The number of objects that are there before any table.
+pub(crate) const PREDEFINED: usize = 10;
+
 impl Reading {
     // Puts an object below the root.
     #[tactic(auto, unfolding(crate::specs::Predefined::with_object))]

@@ -1,24 +1,27 @@
 //! What is lost or refused in a table.
 
-ghost use Rattle.std.specs.Prelude.{◌≡◌, ◌++◌, IfOk, IfSome, OnOk, option_to_list};
-ghost use Rattle.acpi_space.specs.Laws.{Among};
-ghost use Rattle.acpi_conditions.specs.steps.Faults.{why_of};
+ghost use Rattle.std.specs.Prelude.{◌≡◌, ◌+◌, ◌++◌, ◌∷◌, [], drop, length, map, IfOk, OnOk, Some};
+ghost use Rattle.std.specs.Option.{option_copied, option_map, option_to_list};
+ghost use Rattle.std.specs.List.{flat_map};
+ghost use Rattle.acpi_name.specs.NameRefs.{name_parts};
+ghost use Rattle.acpi_conditions.specs.EntryForms.{why_of};
 ghost use Rattle.acpi_outline.specs.View.{node_view, nodes_view};
-ghost use Rattle.acpi_survey.specs.Problems.{lost_in, lost_told, whole_problems, whole_told, AreGiven, offset_of};
+ghost use Rattle.acpi_survey.specs.Problems.{bytes_between, front_kept, front_problems, lost_in, name_front, named_front, offset_of, package_front, range_lost, range_problems, refused_in, site_at, table_problem, table_problems, table_ranges, trailing_problems, unsure_name, why_lost};
+ghost use Rattle.acpi_survey.specs.Survey.{code_read};
+ghost use Rattle.acpi_survey.specs.ProblemViews.{problem_view, reason_view};
 ghost use Rattle.acpi_survey.specs.Spans.{of_node};
-ghost use Rattle.acpi_survey.specs.declared.problems.ProblemReason.TheVariants as reasons;
-ghost use Rattle.acpi_survey.specs.SpanViews.{part_of};
-ghost use Rattle.acpi_survey.specs.steps.LostParts.{why_lost, front_problems, trailing_problems};
+ghost use Rattle.acpi_survey.specs.SpanViews.{part_of, range_of, ranges_left, scope_of, with_first_range};
+ghost use Rattle.acpi_survey.specs.steps.ReadTables.{entered_at, refusals_of};
 
-use crate::marks::code_at;
-use crate::notes::Unknown;
+use crate::index::PlaceIndex;
 use crate::reading::place_in;
-use crate::scopes::{Opened, Places, Scopes};
-use crate::spans::{Span, Spans, What};
+use crate::scopes::Places;
+use crate::spans::{ScopedSpan, Span, Spans, What};
 use crate::tables::{Judged, TableReason};
 use acpi_body::BodyReason;
-use acpi_conditions::{Entry, Reason, Refusal};
-use acpi_name::{Name, Path, read_name};
+use acpi_code::Code;
+use acpi_conditions::Reason;
+use acpi_name::{Name, NameRef, Path};
 use acpi_outline::{LostFault, LostReason, Node, Nodes, PackedForm};
 use acpi_table::HEADER_BYTES;
 use bytes::Bytes;
@@ -72,9 +75,9 @@ pub struct Problem {
     pub scope: Option<Path>,
 }
 
-/// A table that is read, and what the reading of the tables up to it gave.
+/// A table that is read, and what the reading of all tables gave.
 #[derive(Clone, Copy)]
-pub struct ReadTable<'a> {
+pub(crate) struct ReadTable<'b, 'a> {
     /// Its number, the first being 0.
     pub number: usize,
     /// Its bytes, and those behind it.
@@ -83,14 +86,32 @@ pub struct ReadTable<'a> {
     pub judged: &'a Judged,
     /// Its nodes.
     pub nodes: &'a Nodes,
-    /// The entries, in the order of their places.
-    pub entries: &'a [Entry],
-    /// The refusals, in the order of their places.
-    pub refused: &'a [Refusal],
-    /// The Scopes that are entered, in the order of their places.
-    pub opened: &'a [Opened],
-    /// The names of which nothing is known, in the order of the places of their nodes.
-    pub unknown: &'a [Unknown],
+    /// What the reading of all tables gave, by place.
+    pub index: &'b PlaceIndex<'a>,
+}
+
+impl<'b, 'a> ReadTable<'b, 'a> {
+    /// The ranges of its code.
+    pub(crate) fn ranges(&self, alloc: Global) -> Result<Spans<'a>, AllocError>
+        ensures { IfOk result (λ s. ranges_left (entered_at self.now) s
+            ≡ table_ranges (entered_at self.now) self.now.judged.now (nodes_view self.now.nodes.now)) }
+    {
+        Spans::new(alloc, self.nodes, code_of(self.judged).len())
+    }
+
+    /// The next of its ranges.
+    pub(crate) fn next_range(
+        &self,
+        ranges: &mut Spans<'a>,
+    ) -> Result<Option<ScopedSpan<'a>>, AllocError>
+        ensures { IfOk result (λ range. ranges_left (entered_at self.now) ranges.old
+            ≡ with_first_range range (ranges_left (entered_at self.now) ranges.new)) }
+    {
+        ranges.next_scoped(Some(Places {
+            table: self.number,
+            paths: &self.index.paths,
+        }))
+    }
 }
 
 /// An offset from the table's first byte, of a place in its code.
@@ -101,42 +122,29 @@ pub(crate) fn offset_of(place: usize) -> usize
 }
 
 /// The code of which the table's nodes are.
-pub(crate) fn code_of<'a>(judged: &'a Judged) -> &'a [u8] {
+pub(crate) fn code_of<'a>(judged: &'a Judged) -> &'a [u8]
+    ensures { result.now ≡ code_read judged.now }
+{
     match judged {
         Judged::Read { code, .. } => code.as_slice(),
         Judged::Unread(_) => &[],
     }
 }
 
-// The refusal of that number.
-#[tactic(auto, using(crate::proofs::Refusals::among_index))]
-fn refusal(refused: &[Refusal], number: usize) -> Option<&Refusal>
-    ensures { IfSome result (λ r. Among refused.now r.now) }
+/// The path of a scope around, or that of the root.
+pub(crate) fn scope_copy(alloc: Global, around: Option<&Path>) -> Result<Path, AllocError>
+    ensures { IfOk result (λ p. p ≡ scope_of around.entry) }
 {
-    match refused.get(number) {
-        Some(first) => Some(first),
-        None => None,
-    }
-}
-
-// The refusal at a place.
-fn refusal_at(refused: &[Refusal], place: u128) -> Option<&Refusal>
-    ensures given { IfSome result (λ r. Among refused.now r.now) }
-    ensures place { IfSome result (λ r. r.now.place ≡ place) }
-{
-    let count = refused.partition_point(|r| r.place < place);
-    let first = refusal(refused, count)?;
-    if first.place == place {
-        Some(first)
-    } else {
-        None
+    match around {
+        Some(path) => path.copy(),
+        None => Ok(Path::root(alloc)),
     }
 }
 
 // ---- the table as a whole
 
-fn of_table(number: usize, offset: usize, reason: ProblemReason) -> Problem
-    ensures { result.reason ≡ reason }
+fn of_table(number: usize, offset: usize, reason: ProblemReason, lost: Option<LostRange>) -> Problem
+    ensures { problem_view result ≡ table_problem number offset (reason_view reason) lost }
 {
     Problem {
         site: Site {
@@ -145,64 +153,42 @@ fn of_table(number: usize, offset: usize, reason: ProblemReason) -> Problem
         },
         reason,
         name: None,
-        lost: None,
+        lost,
         scope: None,
     }
 }
 
-fn unread(number: usize, length: usize, reason: TableReason) -> Problem
-    ensures { result.reason ≡ reasons.Unread reason }
-{
-    let lost = LostRange {
-        from: 0,
-        to: length,
-    };
-    Problem {
-        lost: Some(lost),
-        ..of_table(number, 0, ProblemReason::Unread(reason))
-    }
-}
-
-fn put_first(found: &mut Vec<Problem>, table: &ReadTable<'_>) -> Result<(), AllocError>
-    ensures lost { OnOk result (lost_told found.new.items ≡ lost_told found.old.items) }
-    ensures whole { OnOk result (whole_told found.new.items
-        ≡ whole_told found.old.items ++ front_problems table.now.judged.now) }
-    ensures given { AreGiven table.now.refused.now found.old.items
-        → OnOk result (AreGiven table.now.refused.now found.new.items) }
+fn put_first(found: &mut Vec<Problem>, table: &ReadTable<'_, '_>) -> Result<(), AllocError>
+    ensures { OnOk result (map problem_view found.new.items ≡ map problem_view found.old.items
+        ++ front_problems table.now.number table.now.bytes.now table.now.judged.now) }
 {
     match table.judged {
         Judged::Unread(reason) => {
-            found.push(unread(table.number, table.bytes.len(), *reason))?;
+            let lost = LostRange {
+                from: 0,
+                to: table.bytes.len(),
+            };
+            found.push(of_table(table.number, 0, ProblemReason::Unread(*reason), Some(lost)))?;
         }
         Judged::Read { is_cut, .. } => {
             if *is_cut {
-                found.push(of_table(table.number, 0, ProblemReason::Cut))?;
+                found.push(of_table(table.number, 0, ProblemReason::Cut, None))?;
             }
         }
     }
     Ok(())
 }
 
-fn behind(number: usize, from: usize, to: usize) -> Problem
-    ensures { result.reason ≡ reasons.Trailing }
-{
-    Problem {
-        lost: Some(LostRange { from, to }),
-        ..of_table(number, from, ProblemReason::Trailing)
-    }
-}
-
-fn put_trailing(found: &mut Vec<Problem>, table: &ReadTable<'_>) -> Result<(), AllocError>
-    ensures lost { OnOk result (lost_told found.new.items ≡ lost_told found.old.items) }
-    ensures whole { OnOk result (whole_told found.new.items
-        ≡ whole_told found.old.items ++ trailing_problems table.now.judged.now) }
-    ensures given { AreGiven table.now.refused.now found.old.items
-        → OnOk result (AreGiven table.now.refused.now found.new.items) }
+fn put_trailing(found: &mut Vec<Problem>, table: &ReadTable<'_, '_>) -> Result<(), AllocError>
+    ensures { OnOk result (map problem_view found.new.items ≡ map problem_view found.old.items
+        ++ trailing_problems table.now.number table.now.bytes.now table.now.judged.now) }
 {
     if let Judged::Read { trailing, .. } = table.judged {
         if *trailing > 0 {
-            let end = table.bytes.len();
-            found.push(behind(table.number, end.saturating_sub(*trailing), end))?;
+            let to = table.bytes.len();
+            let from = to.saturating_sub(*trailing);
+            let lost = LostRange { from, to };
+            found.push(of_table(table.number, from, ProblemReason::Trailing, Some(lost)))?;
         }
     }
     Ok(())
@@ -210,7 +196,8 @@ fn put_trailing(found: &mut Vec<Problem>, table: &ReadTable<'_>) -> Result<(), A
 
 // ---- what is refused
 
-fn copies(alloc: Global, paths: &[Path]) -> Result<Vec<Path>, AllocError>
+/// The same paths, with memory of their own.
+pub(crate) fn copies(alloc: Global, paths: &[Path]) -> Result<Vec<Path>, AllocError>
     ensures { IfOk result (λ v. v.items ≡ paths.now) }
 {
     let mut copies = Vec::new(alloc);
@@ -234,15 +221,70 @@ fn copy_reason(alloc: Global, reason: &Reason) -> Result<Reason, AllocError>
     })
 }
 
-fn range(from: usize, to: usize) -> LostRange {
+impl ProblemReason {
+    /// An equal reason with memory of its own.
+    pub fn copy(&self, alloc: Global) -> Result<ProblemReason, AllocError>
+        ensures { IfOk result (λ r. reason_view r ≡ reason_view self.now) }
+    {
+        Ok(match self {
+            ProblemReason::Unread(reason) => ProblemReason::Unread(*reason),
+            ProblemReason::Cut => ProblemReason::Cut,
+            ProblemReason::Trailing => ProblemReason::Trailing,
+            ProblemReason::Lost(fault) => ProblemReason::Lost(*fault),
+            ProblemReason::Refused(reason) => {
+                ProblemReason::Refused(copy_reason(alloc, reason)?)
+            }
+        })
+    }
+}
+
+// The name again, if there is one.
+fn copy_name(name: &Option<Name>) -> Result<Option<Name>, AllocError>
+    ensures { IfOk result (λ n. n ≡ name.now) }
+{
+    match name {
+        Some(name) => Ok(Some(name.copy()?)),
+        None => Ok(None),
+    }
+}
+
+/// The path again, if there is one.
+pub(crate) fn copy_path(path: &Option<Path>) -> Result<Option<Path>, AllocError>
+    ensures { IfOk result (λ p. p ≡ path.now) }
+{
+    match path {
+        Some(path) => Ok(Some(path.copy()?)),
+        None => Ok(None),
+    }
+}
+
+impl Problem {
+    /// An equal problem with memory of its own.
+    pub fn copy(&self, alloc: Global) -> Result<Problem, AllocError>
+        ensures { IfOk result (λ p. problem_view p ≡ problem_view self.now) }
+    {
+        Ok(Problem {
+            site: self.site,
+            reason: self.reason.copy(alloc)?,
+            name: copy_name(&self.name)?,
+            lost: self.lost,
+            scope: copy_path(&self.scope)?,
+        })
+    }
+}
+
+fn bytes_between(from: usize, to: usize) -> LostRange
+    ensures { result ≡ bytes_between from to }
+{
     LostRange {
         from: offset_of(from),
         to: offset_of(to),
     }
 }
 
-fn site_at(number: usize, place: usize) -> Site
-    ensures { result ≡ record { table = number; offset = offset_of place } }
+/// The site of a place in the code of a table.
+pub(crate) fn site_at(number: usize, place: usize) -> Site
+    ensures { result ≡ site_at number place }
 {
     Site {
         table: number,
@@ -250,26 +292,24 @@ fn site_at(number: usize, place: usize) -> Site
     }
 }
 
-// Puts the refusal of the term or the element that a span has, if it is refused.
+// Puts the refusal of the term or the element in a range, if it is refused.
 fn put_refused(
     alloc: Global,
     found: &mut Vec<Problem>,
-    table: &ReadTable<'_>,
-    span: &Span<'_>,
-    scope: &Path,
+    table: &ReadTable<'_, '_>,
+    range: &ScopedSpan<'_>,
 ) -> Result<(), AllocError>
-    ensures lost { OnOk result (lost_told found.new.items ≡ lost_told found.old.items) }
-    ensures whole { OnOk result (whole_told found.new.items ≡ whole_told found.old.items) }
-    ensures given { AreGiven table.now.refused.now found.old.items
-        → OnOk result (AreGiven table.now.refused.now found.new.items) }
+    ensures { OnOk result (map problem_view found.new.items ≡ map problem_view found.old.items
+        ++ refused_in (refusals_of table.now) table.now.number (range_of range.now)) }
 {
-    if let Some(refusal) = refusal_at(table.refused, place_in(table.number, span.from)) {
+    let span = &range.span;
+    if let Some(reason) = table.index.refused.at(place_in(table.number, span.from)) {
         found.push(Problem {
             site: site_at(table.number, span.from),
-            reason: ProblemReason::Refused(copy_reason(alloc, &refusal.reason)?),
+            reason: ProblemReason::Refused(copy_reason(alloc, reason)?),
             name: None,
-            lost: Some(range(span.from, span.to)),
-            scope: Some(scope.copy()?),
+            lost: Some(bytes_between(span.from, span.to)),
+            scope: Some(scope_copy(alloc, range.around)?),
         })?;
     }
     Ok(())
@@ -298,72 +338,106 @@ fn fault_of(what: What<'_>) -> Option<LostFault>
     }
 }
 
-// Where the package begins that stands behind an opcode and its own length, at the place of a code.
-fn package_start(code: &[u8], place: usize) -> usize {
-    let mut front = code_at(code, place);
-    let _ = front.opcode();
-    match front.package() {
-        Ok(package) => package.place().min(code.len()),
-        Err(_) => place,
+// What of a code is behind its first bytes.
+#[tactic(auto, using(std::proofs::lemmas::List::drop_min))]
+fn code_behind(code: &[u8], place: usize) -> &[u8]
+    ensures { result.now ≡ drop place code.now }
+{
+    &code[place.min(code.len())..]
+}
+
+// The name that bytes begin with, and how many of them spell it.
+fn name_front<'a>(bytes: &'a [u8]) -> Option<(NameRef<'a>, usize)>
+    ensures { option_map (λ x. (name_parts x.0, x.1)) result ≡ name_front bytes.now }
+{
+    let mut front = Code::new(bytes);
+    match front.name() {
+        Ok(name) => Some((name, front.place())),
+        Err(_) => None,
     }
 }
 
-// Where the data of the Name begins that stands at the place of a code.
-fn data_start(code: &[u8], place: usize) -> usize {
-    let mut front = code_at(code, place);
-    let _ = front.opcode();
-    let _ = front.name();
-    front.place()
+// How many bytes an opcode of one byte and a package length take.
+fn package_front(bytes: &[u8]) -> usize
+    ensures { result ≡ package_front bytes.now }
+{
+    match bytes {
+        [_, lead, ..] => 2 + usize::from(*lead / 64),
+        _ => 0,
+    }
 }
 
-// The first byte that is lost, where something of a span is.
-fn lost_from(code: &[u8], span: &Span<'_>) -> usize {
-    match span.what {
-        What::Node(node) => match node {
-            Node::PackageLost(PackedForm::If, _) => package_start(code, span.from),
-            Node::PackageLost(PackedForm::While, _) => package_start(code, span.from),
-            Node::NameLost(_, _, _) => data_start(code, span.from),
-            _ => span.from,
+// How many bytes an opcode of one byte and a name take.
+fn named_front(bytes: &[u8]) -> usize
+    ensures { result ≡ named_front bytes.now }
+{
+    match bytes {
+        [_, rest @ ..] => match name_front(rest) {
+            Some((_, used)) => used.saturating_add(1),
+            None => 0,
         },
-        _ => span.from,
+        [] => 0,
     }
+}
+
+// How many bytes of a part, from its first on, aren't lost.
+fn front_kept(bytes: &[u8], what: What<'_>) -> usize
+    ensures { result ≡ front_kept bytes.now (part_of what.entry) }
+{
+    match what {
+        What::Node(node) => match node {
+            Node::PackageLost(PackedForm::If, _) => package_front(bytes),
+            Node::PackageLost(PackedForm::While, _) => package_front(bytes),
+            Node::NameLost(_, _, _) => named_front(bytes),
+            _ => 0,
+        },
+        _ => 0,
+    }
+}
+
+// The bytes of a range that are lost.
+#[tactic(auto, using(crate::proofs::Codes::offset_behind))]
+fn range_lost(code: &[u8], range: &ScopedSpan<'_>) -> LostRange
+    ensures { result ≡ range_lost code.now (range_of range.now) }
+{
+    let span = &range.span;
+    let kept = front_kept(code_behind(code, span.from), span.what);
+    bytes_between(span.from.saturating_add(kept), span.to)
 }
 
 // The name of which it isn't sure how many values follow it.
-fn unsure_name(alloc: Global, code: &[u8], fault: LostFault) -> Result<Option<Name>, AllocError> {
+fn unsure_name(alloc: Global, code: &[u8], fault: LostFault) -> Result<Option<Name>, AllocError>
+    ensures { IfOk result (λ n. n ≡ unsure_name code.now fault.place fault.reason) }
+{
     match fault.reason {
         LostReason::Term(BodyReason::Unsure) => {
-            match read_name(code_at(code, fault.place).left()) {
-                Ok((name, _)) => Ok(Some(name.own(alloc)?)),
-                Err(_) => Ok(None),
+            match name_front(code_behind(code, fault.place)) {
+                Some((name, _)) => Ok(Some(name.own(alloc)?)),
+                None => Ok(None),
             }
         }
         _ => Ok(None),
     }
 }
 
-// Puts what is lost of a span, if something is.
+// Puts what is lost of a range, if something is.
 fn put_lost(
     alloc: Global,
     found: &mut Vec<Problem>,
-    table: &ReadTable<'_>,
-    span: &Span<'_>,
-    scope: &Path,
+    table: &ReadTable<'_, '_>,
+    range: &ScopedSpan<'_>,
 ) -> Result<(), AllocError>
-    ensures whole { OnOk result (whole_told found.new.items ≡ whole_told found.old.items) }
-    ensures lost { OnOk result (lost_told found.new.items
-        ≡ lost_told found.old.items ++ why_lost (part_of span.now.what)) }
-    ensures given { AreGiven table.now.refused.now found.old.items
-        → OnOk result (AreGiven table.now.refused.now found.new.items) }
+    ensures { OnOk result (map problem_view found.new.items ≡ map problem_view found.old.items
+        ++ lost_in (code_read table.now.judged.now) table.now.number (range_of range.now)) }
 {
-    if let Some(fault) = fault_of(span.what) {
+    if let Some(fault) = fault_of(range.span.what) {
         let code = code_of(table.judged);
         found.push(Problem {
             site: site_at(table.number, fault.place),
             reason: ProblemReason::Lost(fault),
             name: unsure_name(alloc, code, fault)?,
-            lost: Some(range(lost_from(code, span), span.to)),
-            scope: Some(scope.copy()?),
+            lost: Some(range_lost(code, range)),
+            scope: Some(scope_copy(alloc, range.around)?),
         })?;
     }
     Ok(())
@@ -371,48 +445,51 @@ fn put_lost(
 
 // ---- all
 
-// Puts what is lost or refused of the table's code.
-#[tactic(auto, using(crate::proofs::Parts::parts_lose))]
+// Puts the problems of a range.
+fn put_of_range(
+    alloc: Global,
+    found: &mut Vec<Problem>,
+    table: &ReadTable<'_, '_>,
+    range: &ScopedSpan<'_>,
+) -> Result<(), AllocError>
+    ensures { OnOk result (map problem_view found.new.items ≡ map problem_view found.old.items
+        ++ range_problems (refusals_of table.now) (code_read table.now.judged.now)
+        table.now.number (range_of range.now)) }
+{
+    put_refused(alloc, found, table, range)?;
+    put_lost(alloc, found, table, range)
+}
+
+// Puts the problems of the table's code.
 fn put_of_code(
     alloc: Global,
     found: &mut Vec<Problem>,
-    table: &ReadTable<'_>,
-    root: &Path,
+    table: &ReadTable<'_, '_>,
 ) -> Result<(), AllocError>
-    ensures whole { OnOk result (whole_told found.new.items ≡ whole_told found.old.items) }
-    ensures lost { OnOk result (lost_told found.new.items
-        ≡ lost_told found.old.items ++ lost_in (nodes_view table.now.nodes.now)) }
-    ensures given { AreGiven table.now.refused.now found.old.items
-        → OnOk result (AreGiven table.now.refused.now found.new.items) }
+    ensures { OnOk result (map problem_view found.new.items ≡ map problem_view found.old.items
+        ++ flat_map (range_problems (refusals_of table.now) (code_read table.now.judged.now)
+        table.now.number)
+        (table_ranges (entered_at table.now) table.now.judged.now
+        (nodes_view table.now.nodes.now))) }
 {
-    let places = Places {
-        table: table.number,
-        entries: table.entries,
-        opened: table.opened,
-    };
-    let mut scopes = Scopes::new(alloc, places, root);
-    let mut spans = Spans::new(alloc, table.nodes, code_of(table.judged).len())?;
-    while let Some(span) = spans.next()? {
-        let scope = scopes.next(&span)?;
-        put_refused(alloc, found, table, &span, scope)?;
-        put_lost(alloc, found, table, &span, scope)?;
+    let mut ranges = table.ranges(alloc)?;
+    while let Some(range) = table.next_range(&mut ranges)? {
+        put_of_range(alloc, found, table, &range)?;
     }
     Ok(())
 }
 
-/// The problems of a table, in the order of their sites.
-pub fn problems_of(alloc: Global, table: &ReadTable<'_>) -> Result<Vec<Problem>, AllocError>
-    // All that is lost of its code is told, in order.
-    ensures lost { IfOk result (λ v. lost_told v.items ≡ lost_in (nodes_view table.now.nodes.now)) }
-    // What is wrong with the table as a whole is told.
-    ensures whole { IfOk result (λ v. whole_told v.items ≡ whole_problems table.now.judged.now) }
-    // The refusals that are told are among those that are given, and stand at their places.
-    ensures given { IfOk result (λ v. AreGiven table.now.refused.now v.items) }
+/// Puts the problems of a table behind others, in the order of their sites.
+pub(crate) fn put_problems(
+    alloc: Global,
+    found: &mut Vec<Problem>,
+    table: &ReadTable<'_, '_>,
+) -> Result<(), AllocError>
+    ensures { OnOk result (map problem_view found.new.items ≡ map problem_view found.old.items
+        ++ table_problems (entered_at table.now) (refusals_of table.now) table.now.number
+        table.now.bytes.now table.now.judged.now (nodes_view table.now.nodes.now)) }
 {
-    let root = Path::root(alloc);
-    let mut found = Vec::new(alloc);
-    put_first(&mut found, table)?;
-    put_of_code(alloc, &mut found, table, &root)?;
-    put_trailing(&mut found, table)?;
-    Ok(found)
+    put_first(found, table)?;
+    put_of_code(alloc, found, table)?;
+    put_trailing(found, table)
 }

@@ -6,19 +6,20 @@ ghost use Rattle.acpi_name.specs.NameRefs.{name_parts};
 ghost use Rattle.acpi_name.specs.Paths.{place_of};
 ghost use Rattle.acpi_tree.specs.View.{external_view};
 ghost use Rattle.acpi_conditions.specs.Here.{meeting};
-ghost use Rattle.acpi_conditions.specs.EntryForms.{entry_view, term_view as declaring_view};
-ghost use Rattle.acpi_conditions.specs.steps.Walks.{refusal_of};
-ghost use Rattle.acpi_conditions.specs.Known.{opened_at, declared_at};
+ghost use Rattle.acpi_conditions.specs.EntryForms.{entry_view, refusal_of, term_view as declaring_view};
+ghost use Rattle.acpi_conditions.specs.Turns.{stop_of};
+ghost use Rattle.acpi_conditions.specs.Known.{candidates, is_certain_name, opened_at, declared_at};
+ghost use Rattle.acpi_conditions.specs.Met.{met_by};
 ghost use Rattle.acpi_conditions.specs.Walk as walks;
-ghost use Rattle.acpi_conditions.specs.steps.Stops.{stop_of};
-ghost use Rattle.acpi_survey.specs.Reading.{count_at, counts_at, is_heard, with_expected, declaring, stopping, passing, expecting, entering, leave};
+ghost use Rattle.acpi_survey.specs.Reading.{count_at, opened_behind, counts_at, is_heard, with_expected, declaring, stopping, passing, expecting, entering, leave, with_source};
 ghost use Rattle.acpi_survey.specs.Predefined.{nothing_read};
+ghost use Rattle.acpi_survey.specs.steps.Readings.{opened_pairs, source_of};
 ghost use Rattle.acpi_survey.specs.Survey.{place_in, at_table, behind_table};
 
 use crate::bodies::expected_count;
 use crate::counts::{agreed, put_counts};
 use crate::remarks::Remarks;
-use acpi_conditions::{Entries, Met, Refusal, Stop, Term as Declaring, Walk};
+use acpi_conditions::{Candidates, Entries, Met, Refusal, Stop, Term as Declaring, Walk};
 use acpi_counts::Counts;
 use acpi_name::{Name, NameRef, Path, PlaceFault, place};
 use acpi_tree::External;
@@ -192,10 +193,12 @@ impl Reading {
     }
 
     /// Goes into a Scope, where it opens a scope. Whether it does.
+    #[tactic(auto, using(crate::proofs::OpenedScopes::opened_more, crate::proofs::OpenedScopes::opened_same))]
     pub(crate) fn enter_scope(&mut self, place: u128, name: NameRef<'_>) -> Result<bool, AllocError>
-        ensures walk { OnOk result (self.new
+        ensures scope { OnOk result (self.new
             ≡ record self.old {
               walk = walks.enter_scope place (name_parts name.entry) self.old.walk;
+              opened = opened_behind self.old place (name_parts name.entry);
             }) }
         ensures entered { IfOk result (λ b. b ≡ is_ok
             (opened_at self.old.walk.known self.old.walk.around.scope (name_parts name.entry))) }
@@ -312,7 +315,10 @@ impl Reading {
     }
 
     /// What is noticed so far.
-    pub(crate) fn remarks(&self) -> &Remarks {
+    pub(crate) fn remarks(&self) -> &Remarks
+        ensures opened { opened_pairs result.now.opened.items ≡ self.now.opened }
+        ensures sources { map source_of result.now.sources.items ≡ self.now.sources }
+    {
         &self.remarks
     }
 
@@ -344,6 +350,34 @@ impl Reading {
     {
         let unknown = self.unknown_among(names)?;
         self.remarks.put_unknown(place, unknown)
+    }
+
+    // Where a name may be found here.
+    fn found_here(&self, name: NameRef<'_>) -> Result<Candidates, AllocError>
+        ensures paths { IfOk result (λ c. c.paths.items ≡ candidates
+            (met_by (meeting self.now.walk)) self.now.walk.around.scope (name_parts name.entry)) }
+        ensures certain { IfOk result (λ c. c.is_certain ≡ is_certain_name
+            (met_by (meeting self.now.walk)) self.now.walk.around.scope (name_parts name.entry)) }
+    {
+        let met = self.walk.met()?;
+        met.find(self.alloc, self.walk.scope(), name)
+    }
+
+    /// Keeps where the source of the Alias at the offset of the code may be found here.
+    pub(crate) fn keep_source(&mut self, offset: usize, source: &Name) -> Result<(), AllocError>
+        ensures { OnOk result (self.new
+            ≡ with_source (self.old.base + offset) source.now self.old) }
+    {
+        let found = self.found_here(source.view())?;
+        let place = self.place(offset);
+        self.remarks.put_source(place, found)
+    }
+
+    /// Of each entry how many values follow its name, where that is sure.
+    pub(crate) fn counts(&self) -> &[Option<u8>]
+        ensures { result.now ≡ self.now.counts }
+    {
+        &self.counts
     }
 }
 

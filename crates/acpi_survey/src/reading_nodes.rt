@@ -10,7 +10,7 @@ ghost use Rattle.acpi_conditions.specs.EntryForms.{term_view as declaring_view};
 ghost use Rattle.acpi_conditions.specs.Walk as walks;
 ghost use Rattle.acpi_survey.specs.Needs.{names_in_all, with_names};
 ghost use Rattle.acpi_survey.specs.Nodes.{term_at, unit_at, operands_of};
-ghost use Rattle.acpi_survey.specs.Reading.{after_operator, after_plain, count_at, declaring, entering, passing};
+ghost use Rattle.acpi_survey.specs.Reading.{after_operator, after_plain, count_at, declaring, entering, opened_behind, passing};
 
 use crate::names::segment_name;
 use crate::needs::{needs_of, needs_of_three, needs_of_value, put};
@@ -132,6 +132,7 @@ impl Reading {
             ≡ after_plain self.old offset (outline.alias source.now name.now)) }
     {
         let count = self.count_at(source.view())?;
+        self.keep_source(offset, source)?;
         let mut needs = Vec::new(self.memory());
         put(&mut needs, source)?;
         self.declare_named(offset, name.copy()?, needs, count)
@@ -204,6 +205,7 @@ impl Reading {
         ensures { OnOk result (self.new ≡ record self.old {
           walk = walks.enter_scope
               (self.old.base + offset) name.now self.old.walk;
+          opened = opened_behind self.old (self.old.base + offset) name.now;
         }) }
     {
         let place = self.place(offset);
@@ -216,6 +218,7 @@ impl Reading {
         ensures { OnOk result (self.new ≡ record self.old {
           walk = walks.walked_scope
               (self.old.base + offset) name.now (λ w. w) self.old.walk;
+          opened = opened_behind self.old (self.old.base + offset) name.now;
         }) }
     {
         let place = self.place(offset);

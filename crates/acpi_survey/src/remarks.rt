@@ -1,47 +1,94 @@
 //! What is noticed while the nodes of tables are read.
 
+ghost use Rattle.std.specs.Prelude.{◌≡◌, ◌++◌, ◌∷◌, [], OnOk};
+
 use crate::notes::Unknown;
 use crate::scopes::Opened;
+use acpi_conditions::Candidates;
 use acpi_name::{Name, Path};
 use std::alloc::{AllocError, Global};
 
-/// The Scopes that are entered, and the names of which nothing is known, in the order of their places.
+/// Where the source of an Alias may be found.
+#[derive(Drop)]
+pub(crate) struct Source {
+    /// Where the Alias stands: the table's number times 2^64, and the number of bytes of the table's code before it.
+    pub place: u128,
+    /// Where its source may be found from there, when the Alias is read.
+    pub found: Candidates,
+}
+
+/// The Scopes that are entered, the names of which nothing is known, and the sources of Aliases, each in the order of
+/// their places.
 #[derive(Drop)]
 pub(crate) struct Remarks {
     opened: Vec<Opened>,
     unknown: Vec<Unknown>,
+    sources: Vec<Source>,
 }
 
 impl Remarks {
     /// Nothing is noticed.
-    pub(crate) fn new(alloc: Global) -> Remarks {
+    pub(crate) fn new(alloc: Global) -> Remarks
+        ensures opened { result.opened.items ≡ [] }
+        ensures sources { result.sources.items ≡ [] }
+    {
         Remarks {
             opened: Vec::new(alloc),
             unknown: Vec::new(alloc),
+            sources: Vec::new(alloc),
         }
     }
 
     /// The Scopes.
-    pub(crate) fn opened(&self) -> &[Opened] {
+    pub(crate) fn opened(&self) -> &[Opened]
+        ensures { result.now ≡ self.now.opened.items }
+    {
         &self.opened
     }
 
     /// The names.
-    pub(crate) fn unknown(&self) -> &[Unknown] {
+    pub(crate) fn unknown(&self) -> &[Unknown]
+        ensures { result.now ≡ self.now.unknown.items }
+    {
         &self.unknown
     }
 
+    /// The sources of Aliases.
+    pub(crate) fn sources(&self) -> &[Source]
+        ensures { result.now ≡ self.now.sources.items }
+    {
+        &self.sources
+    }
+
     /// Puts a Scope behind others, and the path of its target.
-    pub(crate) fn put_opened(&mut self, place: u128, path: Path) -> Result<(), AllocError> {
+    pub(crate) fn put_opened(&mut self, place: u128, path: Path) -> Result<(), AllocError>
+        ensures opened { OnOk result (self.new.opened.items
+            ≡ self.old.opened.items ++ record { place = place; path = path } ∷ []) }
+        ensures sources { OnOk result (self.new.sources.items ≡ self.old.sources.items) }
+    {
         self.opened.push(Opened { place, path })?;
         Ok(())
     }
 
-    /// Puts names in the node at the place behind others.
-    pub(crate) fn put_unknown(&mut self, place: u128, names: Vec<Name>) -> Result<(), AllocError> {
-        'each: for name in names {
-            self.unknown.push(Unknown { place, name })?;
+    /// Puts the names in the node at the place behind others, if there are any.
+    pub(crate) fn put_unknown(&mut self, place: u128, names: Vec<Name>) -> Result<(), AllocError>
+        ensures opened { OnOk result (self.new.opened.items ≡ self.old.opened.items) }
+        ensures sources { OnOk result (self.new.sources.items ≡ self.old.sources.items) }
+    {
+        if names.is_empty() {
+            return Ok(());
         }
+        self.unknown.push(Unknown { place, names })?;
+        Ok(())
+    }
+
+    /// Puts the source of the Alias at the place behind others.
+    pub(crate) fn put_source(&mut self, place: u128, found: Candidates) -> Result<(), AllocError>
+        ensures opened { OnOk result (self.new.opened.items ≡ self.old.opened.items) }
+        ensures sources { OnOk result (self.new.sources.items
+            ≡ self.old.sources.items ++ record { place = place; found = found } ∷ []) }
+    {
+        self.sources.push(Source { place, found })?;
         Ok(())
     }
 }

@@ -1,10 +1,19 @@
 //! The scopes in which the parts of a table stand.
 
+ghost use Rattle.std.specs.Prelude.{◌≡◌, ◌++◌, ℕ, map, unwrap_or, IfOk, OnOk};
+ghost use Rattle.std.specs.Option.{option_copied};
+ghost use Rattle.acpi_outline.specs.View.{fixed_view};
+ghost use Rattle.acpi_conditions.specs.Entries.{Path};
+ghost use Rattle.acpi_survey.specs.Places.{last_at, last_or};
+ghost use Rattle.acpi_survey.specs.Ranges.{has_scope, scope_inside};
+ghost use Rattle.acpi_survey.specs.SpanViews.{entered_in};
+ghost use Rattle.acpi_survey.specs.steps.ByPlace.{kept_at};
+
+use crate::by_place::ByPlace;
 use crate::reading::place_in;
-use crate::spans::{Span, What};
 use acpi_conditions::Entry;
 use acpi_name::Path;
-use acpi_outline::{Fixed, Node};
+use acpi_outline::Fixed;
 use std::alloc::{AllocError, Global};
 
 /// A Scope that is entered.
@@ -16,92 +25,77 @@ pub struct Opened {
     pub path: Path,
 }
 
-/// What is known of the scopes in a table: its number, and entries and entered Scopes in the order of their places.
+// Puts the paths of entries, the last at a place instead of those before it.
+fn put_entries<'a>(paths: &mut ByPlace<'a, Path>, entries: &'a [Entry]) -> Result<(), AllocError>
+    ensures { OnOk result ((q : ℕ) → kept_at paths.new q
+        ≡ last_or (kept_at paths.old q) (map (λ e. (e.term.place, e.path)) entries.now) q) }
+{
+    'each: for entry in entries {
+        paths.put(entry.term.place, &entry.path)?;
+    }
+    Ok(())
+}
+
+// Puts the paths of the targets of Scopes.
+fn put_opened<'a>(paths: &mut ByPlace<'a, Path>, opened: &'a [Opened]) -> Result<(), AllocError>
+    ensures { OnOk result ((q : ℕ) → kept_at paths.new q
+        ≡ last_or (kept_at paths.old q) (map (λ o. (o.place, o.path)) opened.now) q) }
+{
+    'each: for scope in opened {
+        paths.put(scope.place, &scope.path)?;
+    }
+    Ok(())
+}
+
+/// The paths of entries, and of the targets of Scopes, by their places.
+#[tactic(auto, using(crate::proofs::Places::last_behind))]
+pub(crate) fn entered_paths<'a>(
+    alloc: Global,
+    entries: &'a [Entry],
+    opened: &'a [Opened],
+) -> Result<ByPlace<'a, Path>, AllocError>
+    ensures { IfOk result (λ m. (q : ℕ) → kept_at m q
+        ≡ last_at (map (λ e. (e.term.place, e.path)) entries.now
+        ++ map (λ o. (o.place, o.path)) opened.now) q) }
+{
+    let mut paths = ByPlace::new(alloc);
+    put_entries(&mut paths, entries)?;
+    put_opened(&mut paths, opened)?;
+    Ok(paths)
+}
+
+/// What is entered at the places of one table's code: the table's number, and the paths by the places of all tables.
 #[derive(Clone, Copy)]
-pub(crate) struct Places<'a> {
-    /// The number of the table.
+pub(crate) struct Places<'b, 'a> {
+    /// The number.
     pub table: usize,
-    /// The entries.
-    pub entries: &'a [Entry],
-    /// The Scopes.
-    pub opened: &'a [Opened],
+    /// The paths.
+    pub paths: &'b ByPlace<'a, Path>,
 }
 
-/// The scopes around a span, the innermost last.
-#[derive(Drop)]
-pub(crate) struct Scopes<'a> {
-    places: Places<'a>,
-    root: &'a Path,
-    around: Vec<&'a Path>,
-}
-
-fn entry_path(entries: &[Entry], place: u128) -> Option<&Path> {
-    let count = entries.partition_point(|e| e.term.place <= place);
-    let last = entries.get(count.checked_sub(1)?)?;
-    if last.term.place == place {
-        Some(&last.path)
-    } else {
-        None
+// Whether a package with these fixed arguments has a scope of its own.
+fn has_scope(fixed: &Fixed) -> bool
+    ensures { result ≡ has_scope (fixed_view fixed.now) }
+{
+    match fixed {
+        Fixed::Scope(_) => true,
+        Fixed::Device(_) => true,
+        Fixed::Processor(_, _, _, _) => true,
+        Fixed::Power(_, _, _) => true,
+        Fixed::Thermal(_) => true,
+        _ => false,
     }
 }
 
-fn opened_path(opened: &[Opened], place: u128) -> Option<&Path> {
-    let count = opened.partition_point(|o| o.place < place);
-    let first = opened.get(count)?;
-    if first.place == place {
-        Some(&first.path)
-    } else {
-        None
-    }
-}
-
-impl<'a> Places<'a> {
-    // The scope in a package with these fixed arguments, if it is another than the one around.
-    fn inside(self, fixed: &Fixed, offset: usize) -> Option<&'a Path> {
-        let place = place_in(self.table, offset);
-        match fixed {
-            Fixed::Scope(_) => opened_path(self.opened, place),
-            Fixed::Device(_) => entry_path(self.entries, place),
-            Fixed::Processor(_, _, _, _) => entry_path(self.entries, place),
-            Fixed::Power(_, _, _) => entry_path(self.entries, place),
-            Fixed::Thermal(_) => entry_path(self.entries, place),
-            _ => None,
+impl<'b, 'a> Places<'b, 'a> {
+    /// The scope in the package at the place with these fixed arguments, if it is another than the one around.
+    pub(crate) fn inside(self, fixed: &Fixed, place: usize) -> Option<&'a Path>
+        ensures { (s : Path) → unwrap_or (option_copied result) s
+            ≡ scope_inside (entered_in self.entry) place (fixed_view fixed.now) s }
+    {
+        if !has_scope(fixed) {
+            return None;
         }
-    }
-}
-
-impl<'a> Scopes<'a> {
-    /// The scopes before the first span.
-    pub(crate) fn new(alloc: Global, places: Places<'a>, root: &'a Path) -> Scopes<'a> {
-        Scopes {
-            places,
-            root,
-            around: Vec::new(alloc),
-        }
-    }
-
-    fn inside(&self, span: &Span<'a>, around: &'a Path) -> &'a Path {
-        match span.what {
-            What::Node(node) => match node {
-                Node::Holds(fixed, _) => match self.places.inside(fixed, span.from) {
-                    Some(path) => path,
-                    None => around,
-                },
-                _ => around,
-            },
-            _ => around,
-        }
-    }
-
-    /// The scope in which the next span stands.
-    pub(crate) fn next(&mut self, span: &Span<'a>) -> Result<&'a Path, AllocError> {
-        self.around.truncate(span.depth);
-        let around = match self.around.last() {
-            Some(path) => *path,
-            None => self.root,
-        };
-        let inside = self.inside(span, around);
-        self.around.push(inside)?;
-        Ok(around)
+        self.paths.at(place_in(self.table, place))
     }
 }

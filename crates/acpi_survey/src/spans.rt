@@ -1,13 +1,17 @@
 //! What each byte of a table's code belongs to.
 
-ghost use Rattle.std.specs.Prelude.{◌≡◌, ◌<◌, ◌++◌, [], length, IfOk, IfSome, OnOk, None};
-ghost use Rattle.acpi_outline.specs.View.{node_view, nodes_view};
-ghost use Rattle.acpi_survey.specs.Spans.{parts_of, inner_parts};
-ghost use Rattle.acpi_survey.specs.SpanViews.{left_in, part_of, parts_left, with_first_span};
-ghost use Rattle.acpi_survey.specs.steps.Remainders.{HasNoItems, inside_part, left_in_some, with_first_item};
+ghost use Rattle.std.specs.Prelude.{◌≡◌, ◌<◌, ◌++◌, false, [], length, map, IfOk, IfSome, OnOk, None};
+ghost use Rattle.acpi_tree.specs.View.{field_view};
+ghost use Rattle.acpi_outline.specs.View.{node_view, nodes_view, fixed_view, placed_views, put_before, end_view, placed_fields, fields_before, fields_end};
+ghost use Rattle.acpi_survey.specs.Lookup.{width};
+ghost use Rattle.acpi_survey.specs.Ranges.{Entered, first_place, first_field_place, inner_ranges, is_if, ranges_of, scope_inside};
+ghost use Rattle.acpi_survey.specs.SpanViews.{entered_by, left_in, part_of, parts_left, placed_range, ranges_left, scope_of, with_first_range, with_first_span};
+ghost use Rattle.acpi_survey.specs.steps.Remainders.{HasNoItems, behind_if_in, inside_span, left_in_some, with_first_item};
 ghost use Rattle.acpi_survey.specs.declared.spans.Items.TheVariants as items;
 
-use acpi_outline::{Fixed, Lost, LostFault, Node, Nodes, PlacedField, PlacedNode};
+use crate::scopes::Places;
+use acpi_name::Path;
+use acpi_outline::{Fixed, Lost, LostFault, Node, Nodes, PackedForm, PlacedField, PlacedNode};
 use acpi_tree::FieldElem;
 use std::alloc::{AllocError, Global};
 
@@ -35,6 +39,17 @@ pub struct Span<'a> {
     pub what: What<'a>,
 }
 
+/// A range of a table's code, and where it stands.
+#[derive(Debug, Clone, Copy)]
+pub(crate) struct ScopedSpan<'a> {
+    /// The range.
+    pub span: Span<'a>,
+    /// The path of the innermost Scope or container around, if there is one.
+    pub around: Option<&'a Path>,
+    /// Whether an If stands directly before it in its list.
+    pub is_behind_if: bool,
+}
+
 /// What is left of a list.
 #[derive(Debug, Clone, Copy)]
 enum Items<'a> {
@@ -42,12 +57,15 @@ enum Items<'a> {
     Fields(&'a Fixed, &'a [PlacedField], u64),
 }
 
-/// A list that is gone through: what is left of it, what is lost behind that, and where the list ends.
+/// A list that is gone through: what is left of it, what is lost behind that, where the list ends, the scope around, if it
+/// isn't the root, and whether an If stands directly before what is left.
 #[derive(Debug, Clone, Copy)]
 struct Remainder<'a> {
     items: Items<'a>,
     lost: Option<Lost>,
     end: usize,
+    around: Option<&'a Path>,
+    is_behind_if: bool,
 }
 
 /// The ranges of a table's code in the order of their first bytes, those inside a node behind the node's own.
@@ -56,8 +74,10 @@ pub struct Spans<'a> {
     lists: Vec<Remainder<'a>>,
 }
 
-// The number of bits that an element takes.
-fn width(element: &FieldElem) -> u64 {
+/// The number of bits that an element takes.
+pub(crate) fn width(element: &FieldElem) -> u64
+    ensures { result ≡ width (field_view element.now) }
+{
     match element {
         FieldElem::Unit(_, bits) => u64::from(*bits),
         FieldElem::Reserved(bits) => u64::from(*bits),
@@ -65,46 +85,66 @@ fn width(element: &FieldElem) -> u64 {
     }
 }
 
-fn in_node<'a>(node: &'a Node, end: usize) -> Option<Remainder<'a>>
-    ensures { left_in_some result ≡ inner_parts (node_view node.now) }
+// Whether a node is an If.
+fn is_if(node: &Node) -> bool
+    ensures { result ≡ is_if (node_view node.now) }
 {
     match node {
-        Node::Holds(_, nodes) => Some(Remainder {
-            items: Items::Nodes(&nodes.read),
-            lost: nodes.lost,
-            end,
-        }),
-        Node::Fields(fixed, fields, lost) => Some(Remainder {
-            items: Items::Fields(fixed, fields, 0),
-            lost: *lost,
-            end,
-        }),
-        _ => None,
-    }
-}
-
-fn in_span<'a>(span: &Span<'a>) -> Option<Remainder<'a>>
-    ensures { left_in_some result ≡ inside_part (part_of span.now.what) }
-{
-    match span.what {
-        What::Node(node) => in_node(node, span.to),
-        _ => None,
+        Node::Holds(Fixed::If(_), _) => true,
+        Node::PackageLost(PackedForm::If, _) => true,
+        _ => false,
     }
 }
 
 impl<'a> Remainder<'a> {
-    // Where an item ends that the one at the place follows, if one does.
-    fn end_before(&self, next: Option<usize>) -> usize {
-        match (next, self.lost) {
-            (Some(place), _) => place,
-            (None, Some(lost)) => lost.place,
-            (None, None) => self.end,
+    // Where the items end.
+    fn items_end(&self) -> usize
+        ensures nodes { result ≡ first_place self.now.end (end_view self.now.lost) }
+        ensures fields { result ≡ first_field_place self.now.end (fields_end self.now.lost) }
+    {
+        match self.lost {
+            Some(lost) => lost.place,
+            None => self.end,
+        }
+    }
+
+    // Where a node ends that these stand behind.
+    fn node_end(&self, rest: &[PlacedNode]) -> usize
+        ensures { result ≡ first_place self.now.end
+            (put_before (placed_views rest.now) (end_view self.now.lost)) }
+    {
+        match rest {
+            [next, ..] => next.place,
+            [] => self.items_end(),
+        }
+    }
+
+    // Where an element ends that these stand behind.
+    fn field_end(&self, rest: &[PlacedField]) -> usize
+        ensures { result ≡ first_field_place self.now.end
+            (fields_before (placed_fields rest.now) (fields_end self.now.lost)) }
+    {
+        match rest {
+            [next, ..] => next.place,
+            [] => self.items_end(),
+        }
+    }
+
+    // Whether an If stands directly before the next item.
+    fn is_behind_if(&self) -> bool
+        ensures { result ≡ behind_if_in self.now }
+    {
+        match self.items {
+            Items::Nodes(_) => self.is_behind_if,
+            Items::Fields(_, _, _) => false,
         }
     }
 
     // The next range of the list.
     fn next(&mut self, depth: usize) -> Option<Span<'a>>
-        ensures { left_in self.old ≡ with_first_item result (left_in self.new) }
+        ensures left { (entered : Entered) → left_in entered self.old
+            ≡ with_first_item entered (scope_of self.old.around) (behind_if_in self.old) result
+            (left_in entered self.new) }
     {
         match self.items {
             Items::Nodes(nodes) => self.next_node(depth, nodes),
@@ -114,16 +154,19 @@ impl<'a> Remainder<'a> {
 
     fn next_node(&mut self, depth: usize, nodes: &'a [PlacedNode]) -> Option<Span<'a>>
         requires { self.old.items ≡ items.Nodes nodes }
-        ensures { left_in self.old ≡ with_first_item result (left_in self.new) }
+        ensures left { (entered : Entered) → left_in entered self.old
+            ≡ with_first_item entered (scope_of self.old.around) (behind_if_in self.old) result
+            (left_in entered self.new) }
     {
-        let Some((first, rest)) = nodes.split_first() else {
+        let [first, rest @ ..] = nodes else {
             return self.rest(depth);
         };
         self.items = Items::Nodes(rest);
+        self.is_behind_if = is_if(&first.node);
         Some(Span {
             depth,
             from: first.place,
-            to: self.end_before(rest.first().map(|n| n.place)),
+            to: self.node_end(rest),
             what: What::Node(&first.node),
         })
     }
@@ -135,10 +178,12 @@ impl<'a> Remainder<'a> {
         fields: &'a [PlacedField],
         offset: u64,
     ) -> Option<Span<'a>>
-        requires { self.old.items ≡ items.Fields fixed fields offset }
-        ensures { left_in self.old ≡ with_first_item result (left_in self.new) }
+        requires items { self.old.items ≡ items.Fields fixed fields offset }
+        ensures left { (entered : Entered) → left_in entered self.old
+            ≡ with_first_item entered (scope_of self.old.around) (behind_if_in self.old) result
+            (left_in entered self.new) }
     {
-        let Some((first, rest)) = fields.split_first() else {
+        let [first, rest @ ..] = fields else {
             return self.rest(depth);
         };
         let behind = offset.saturating_add(width(&first.element));
@@ -146,7 +191,7 @@ impl<'a> Remainder<'a> {
         Some(Span {
             depth,
             from: first.place,
-            to: self.end_before(rest.first().map(|u| u.place)),
+            to: self.field_end(rest),
             what: What::Element(fixed, &first.element, offset),
         })
     }
@@ -154,7 +199,9 @@ impl<'a> Remainder<'a> {
     // What is lost behind the items.
     fn rest(&mut self, depth: usize) -> Option<Span<'a>>
         requires { HasNoItems self.old.items }
-        ensures { left_in self.old ≡ with_first_item result (left_in self.new) }
+        ensures left { (entered : Entered) → left_in entered self.old
+            ≡ with_first_item entered (scope_of self.old.around) (behind_if_in self.old) result
+            (left_in entered self.new) }
     {
         let lost = self.lost.take()?;
         Some(Span {
@@ -166,35 +213,103 @@ impl<'a> Remainder<'a> {
     }
 }
 
+// The list of nodes that ends there and stands in a scope.
+fn list_of<'a>(nodes: &'a Nodes, end: usize, around: Option<&'a Path>) -> Remainder<'a>
+    ensures { (entered : Entered) → left_in entered result
+        ≡ ranges_of entered (scope_of around.entry) end false (nodes_view nodes.now) }
+{
+    Remainder {
+        items: Items::Nodes(&nodes.read),
+        lost: nodes.lost,
+        end,
+        around,
+        is_behind_if: false,
+    }
+}
+
+// The scope inside the package at the place with these fixed arguments.
+fn scope_inside<'a>(
+    places: Option<Places<'_, 'a>>,
+    fixed: &Fixed,
+    place: usize,
+    around: Option<&'a Path>,
+) -> Option<&'a Path>
+    ensures { scope_of result ≡ scope_inside (entered_by places.entry) place
+        (fixed_view fixed.now) (scope_of around.entry) }
+{
+    let Some(places) = places else {
+        return around;
+    };
+    match places.inside(fixed, place) {
+        Some(path) => Some(path),
+        None => around,
+    }
+}
+
+impl<'a> ScopedSpan<'a> {
+    // The list in a node that stands in the range.
+    fn in_node(&self, places: Option<Places<'_, 'a>>, node: &'a Node) -> Option<Remainder<'a>>
+        ensures { left_in_some (entered_by places.entry) result
+            ≡ inner_ranges (entered_by places.entry) self.now.span.from
+            (scope_of self.now.around) self.now.span.to (node_view node.now) }
+    {
+        let end = self.span.to;
+        match node {
+            Node::Holds(fixed, nodes) => Some(list_of(
+                nodes,
+                end,
+                scope_inside(places, fixed, self.span.from, self.around),
+            )),
+            Node::Fields(fixed, fields, lost) => Some(Remainder {
+                items: Items::Fields(fixed, fields, 0),
+                lost: *lost,
+                end,
+                around: self.around,
+                is_behind_if: false,
+            }),
+            _ => None,
+        }
+    }
+
+    // The list in what stands in the range.
+    fn inside(&self, places: Option<Places<'_, 'a>>) -> Option<Remainder<'a>>
+        ensures { left_in_some (entered_by places.entry) result
+            ≡ inside_span (entered_by places.entry) (scope_of self.now.around) self.now.span }
+    {
+        match self.span.what {
+            What::Node(node) => self.in_node(places, node),
+            _ => None,
+        }
+    }
+}
+
 impl<'a> Spans<'a> {
     /// The ranges of nodes that end there.
     pub fn new(alloc: Global, nodes: &'a Nodes, end: usize) -> Result<Spans<'a>, AllocError>
-        ensures { IfOk result (λ s. parts_left s ≡ parts_of (nodes_view nodes.now)) }
+        ensures ranges { IfOk result (λ s. (entered : Entered) → ranges_left entered s
+            ≡ ranges_of entered [] end false (nodes_view nodes.now)) }
     {
         let mut lists = Vec::new(alloc);
-        lists.push(Remainder {
-            items: Items::Nodes(&nodes.read),
-            lost: nodes.lost,
-            end,
-        })?;
+        lists.push(list_of(nodes, end, None))?;
         Ok(Spans { lists })
     }
 
     // Puts a list behind others.
     #[tactic(auto, using(crate::proofs::Parts::left_behind))]
     fn put(&mut self, list: Remainder<'a>) -> Result<(), AllocError>
-        ensures { OnOk result (parts_left self.new ≡ left_in list.entry ++ parts_left self.old) }
+        ensures { OnOk result ((entered : Entered) → ranges_left entered self.new
+            ≡ left_in entered list.entry ++ ranges_left entered self.old) }
     {
         self.lists.push(list)?;
         Ok(())
     }
 
-    // Puts what stands in a span behind the lists.
-    fn put_inside(&mut self, span: &Span<'a>) -> Result<(), AllocError>
-        ensures { OnOk result (parts_left self.new
-            ≡ inside_part (part_of span.now.what) ++ parts_left self.old) }
+    // Puts the list in a range behind the others, if there is one.
+    fn put_inside(&mut self, list: Option<Remainder<'a>>) -> Result<(), AllocError>
+        ensures { OnOk result ((entered : Entered) → ranges_left entered self.new
+            ≡ left_in_some entered list.entry ++ ranges_left entered self.old) }
     {
-        match in_span(span) {
+        match list {
             Some(list) => self.put(list),
             None => Ok(()),
         }
@@ -203,11 +318,39 @@ impl<'a> Spans<'a> {
     // The last of the lists, which is taken.
     #[tactic(auto, using(crate::proofs::Parts::left_behind))]
     fn take(&mut self) -> Option<Remainder<'a>>
-        ensures left { parts_left self.old ≡ left_in_some result ++ parts_left self.new }
+        ensures left { (entered : Entered) → ranges_left entered self.old
+            ≡ left_in_some entered result ++ ranges_left entered self.new }
         ensures fewer { IfSome result (λ _. length self.new.lists.items < length self.old.lists.items) }
-        ensures none { result ≡ None → parts_left self.old ≡ [] }
+        ensures none { result ≡ None → (entered : Entered) → ranges_left entered self.old ≡ [] }
     {
         self.lists.pop()
+    }
+
+    /// The next range, and where it stands, in a table with these scopes.
+    pub(crate) fn next_scoped(
+        &mut self,
+        places: Option<Places<'_, 'a>>,
+    ) -> Result<Option<ScopedSpan<'a>>, AllocError>
+        ensures { IfOk result (λ range. ranges_left (entered_by places.entry) self.old
+            ≡ with_first_range range (ranges_left (entered_by places.entry) self.new)) }
+    {
+        while let Some(taken) = self.take() {
+            let mut list = taken;
+            let around = list.around;
+            let is_behind_if = list.is_behind_if();
+            let Some(span) = list.next(self.lists.len()) else {
+                continue;
+            };
+            let range = ScopedSpan {
+                span,
+                around,
+                is_behind_if,
+            };
+            self.put(list)?;
+            self.put_inside(range.inside(places))?;
+            return Ok(Some(range));
+        }
+        Ok(None)
     }
 
     /// The next range.
@@ -215,15 +358,9 @@ impl<'a> Spans<'a> {
         ensures { IfOk result (λ span. parts_left self.old
             ≡ with_first_span span (parts_left self.new)) }
     {
-        while let Some(taken) = self.take() {
-            let mut list = taken;
-            let Some(span) = list.next(self.lists.len()) else {
-                continue;
-            };
-            self.put(list)?;
-            self.put_inside(&span)?;
-            return Ok(Some(span));
+        match self.next_scoped(None)? {
+            Some(range) => Ok(Some(range.span)),
+            None => Ok(None),
         }
-        Ok(None)
     }
 }

@@ -1,22 +1,22 @@
 //! Tables with what is lost, refused and noticed in them.
 
-use crate::notes::{Note, NoteReason, notes_of};
-use crate::problems::{Problem, ProblemReason, ReadTable, problems_of};
-use crate::reading::Reading;
-use crate::tables::{Judged, judge};
+use crate::found::Found;
+use crate::notes::NoteReason;
+use crate::problems::ProblemReason;
+use crate::table_reader::survey;
 use acpi_body::BodyReason;
 use acpi_code::Depth;
 use acpi_conditions::Reason;
 use acpi_name::Path;
-use acpi_outline::{LostReason, Nodes, read_outline};
+use acpi_outline::LostReason;
 use bytes::Bytes;
 use std::alloc::Global;
 use std::process::Abort;
 
 // ---- tables
 
-// A table with that code and a sum of 0.
-fn table(rt: &impl Abort, alloc: Global, signature: &[u8; 4], code: &[u8]) -> Bytes {
+/// A table with that code and a sum of 0.
+pub(crate) fn table(rt: &impl Abort, alloc: Global, signature: &[u8; 4], code: &[u8]) -> Bytes {
     let mut bytes = Vec::new(alloc);
     for byte in signature {
         bytes.push(*byte).expect(rt, "memory");
@@ -40,68 +40,9 @@ fn table(rt: &impl Abort, alloc: Global, signature: &[u8; 4], code: &[u8]) -> By
     Bytes::copy_from_slice(alloc, &bytes).expect(rt, "memory")
 }
 
-/// What is found in tables.
-#[derive(Drop)]
-struct Found {
-    problems: Vec<Problem>,
-    notes: Vec<Note>,
-}
-
-#[derive(Drop)]
-struct Outlined {
-    judged: Judged,
-    nodes: Nodes,
-}
-
-fn outline_of(
-    rt: &impl Abort,
-    reading: &mut Reading,
-    number: usize,
-    bytes: &Bytes,
-    levels: u32,
-) -> Outlined {
-    let judged = judge(number, bytes).expect(rt, "memory");
-    let depth = Depth::new(levels).expect(rt, "a limit");
-    reading.come_to_table(number);
-    let nodes = match &judged {
-        Judged::Read { code, .. } => read_outline(reading, code, depth).expect(rt, "memory"),
-        Judged::Unread(_) => read_outline(reading, &Bytes::new(), depth).expect(rt, "memory"),
-    };
-    let _counts = reading.end_table().expect(rt, "memory");
-    Outlined { judged, nodes }
-}
-
 fn found_in(rt: &impl Abort, alloc: Global, tables: &[Bytes], levels: u32) -> Found {
-    let mut reading = Reading::new(alloc).expect(rt, "memory");
-    let mut outlines = Vec::new(alloc);
-    for number in 0..tables.len() {
-        let outline = outline_of(rt, &mut reading, number, &tables[number], levels);
-        outlines.push(outline).expect(rt, "memory");
-    }
-    let mut found = Found {
-        problems: Vec::new(alloc),
-        notes: Vec::new(alloc),
-    };
-    for number in 0..tables.len() {
-        let outline = outlines.get(number).expect(rt, "an outline");
-        let table = ReadTable {
-            number,
-            bytes: &tables[number],
-            judged: &outline.judged,
-            nodes: &outline.nodes,
-            entries: reading.walk().entries().paths.entries(),
-            refused: reading.walk().refused(),
-            opened: reading.remarks().opened(),
-            unknown: reading.remarks().unknown(),
-        };
-        for problem in problems_of(alloc, &table).expect(rt, "memory") {
-            found.problems.push(problem).expect(rt, "memory");
-        }
-        for note in notes_of(alloc, &table).expect(rt, "memory") {
-            found.notes.push(note).expect(rt, "memory");
-        }
-    }
-    found
+    let depth = Depth::new(levels).expect(rt, "a limit");
+    survey(alloc, tables, depth).expect(rt, "memory").found
 }
 
 fn found_in_one(rt: &impl Abort, alloc: Global, code: &[u8]) -> Found {
@@ -111,8 +52,8 @@ fn found_in_one(rt: &impl Abort, alloc: Global, code: &[u8]) -> Found {
 
 // ---- what is wanted
 
-// Whether a path has these segments, each of four bytes.
-fn is_path(path: &Path, segments: &[u8]) -> bool {
+/// Whether a path has these segments, each of four bytes.
+pub(crate) fn is_path(path: &Path, segments: &[u8]) -> bool {
     if path.len() != segments.len() / 4 {
         return false;
     }

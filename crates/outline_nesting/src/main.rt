@@ -77,6 +77,11 @@ const CODES: [(&str, &[u8]); 7] = [
 /// A Name whose data is a package.
 const DEEP: [u8; 8] = [0x08, 0x41, 0x41, 0x41, 0x41, 0x12, 0x02, 0x00];
 
+/// A Create field whose source is a name, and one whose source is a Local.
+const NAMED_SOURCE: [u8; 10] = [0x8A, 0x42, 0x55, 0x46, 0x30, 0x00, 0x43, 0x52, 0x45, 0x30];
+
+const LOCAL_SOURCE: [u8; 7] = [0x8A, 0x60, 0x00, 0x43, 0x52, 0x45, 0x30];
+
 /// An If that asks a name, a Name, and a Store of a name.
 const CALLS: [u8; 19] = [
     0xA0, 0x06, 0x41, 0x41, 0x41, 0x41, 0xA3, 0x08, 0x42, 0x42, 0x42, 0x42, 0x01, 0x70, 0x41, 0x41,
@@ -286,6 +291,14 @@ fn main(rt: HostRuntime) -> anyhow::Result<()> {
     println!(rt;
         "a Name at the last level:{}",
         outline_of(known, &DEEP, 1, 8)?
+    )?;
+    println!(rt;
+        "a named source at the last level:{}",
+        outline_of(known, &NAMED_SOURCE, 1, 8)?
+    )?;
+    println!(rt;
+        "a Local as source at the last level:{}",
+        outline_of(known, &LOCAL_SOURCE, 1, 8)?
     )?;
     let unsure = Nothing { alloc, count: None };
     println!(rt;

@@ -1,18 +1,11 @@
 -- Stops, and the ways past them, as the code keeps them (ACPI 6.5, 19.6).
 use Rattle.std.specs.Prelude.{◌≡◌, ◌<◌, ◌++◌, ℕ, Bool, List, length, take, drop, map}
 use Rattle.std.specs.List.{filter}
-use Rattle.acpi_conditions.specs.Nodes.{Stop, returns, breaks, continues}
 use Rattle.acpi_conditions.specs.Entries.{Turn, past, StopAt}
 use Rattle.acpi_conditions.specs.Survey.{leaves_table}
+use Rattle.acpi_conditions.specs.Turns.{stop_of}
 use Rattle.acpi_conditions.specs.declared.turns.Way.{Way}
-use Rattle.acpi_conditions.specs.declared.stops.Stop.{Stop as StopForm}
-use Rattle.acpi_conditions.specs.declared.stops.Stop.TheVariants.{Returns, Breaks, Continues}
 use Rattle.acpi_conditions.specs.declared.stops.StopAt.{StopAt as StopAtForm}
-
-abbrev pub stop_of : StopForm → Stop
-stop_of Returns = returns
-stop_of Breaks = breaks
-stop_of Continues = continues
 
 abbrev pub stop_at_of : StopAtForm → StopAt
 stop_at_of s = record { place = s.place; kind = stop_of s.kind }

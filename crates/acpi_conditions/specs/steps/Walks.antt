@@ -2,24 +2,19 @@
 use Rattle.std.specs.Prelude.{ℕ, ◌<◌, ◌≤◌, List, [], ◌∷◌, ◌++◌, Option, map, reverse, length, take, ⊤, option_to_list}
 use Rattle.std.specs.List.{AllByRecursion}
 use Rattle.std.specs.Option.{option_map}
-use Rattle.acpi_conditions.specs.Entries.{Turn, Refusal}
+use Rattle.acpi_conditions.specs.Entries.{Turn}
 use Rattle.acpi_conditions.specs.Turns.{way_of}
-use Rattle.acpi_conditions.specs.EntryForms.{entry_view}
+use Rattle.acpi_conditions.specs.EntryForms.{entry_view, refusal_of}
 use Rattle.acpi_conditions.specs.KnownLists.{KnownLists, known_by, lists_at}
 use Rattle.acpi_conditions.specs.Walk.{Package, Walk}
-use Rattle.acpi_conditions.specs.steps.Faults.{why_of}
 use Rattle.acpi_conditions.specs.steps.Packages.{kind_of}
 use Rattle.acpi_conditions.specs.steps.Stops.{stop_at_of, IsWayOf}
 use Rattle.acpi_conditions.specs.declared.facts.Mark.{Mark}
 use Rattle.acpi_conditions.specs.declared.facts.Hidden.{Hidden}
-use Rattle.acpi_conditions.specs.declared.packages.Refusal.{Refusal as RefusalForm}
 use Rattle.acpi_conditions.specs.declared.packages.Package.{Package as PackageForm}
 use Rattle.acpi_conditions.specs.declared.walk.Walk.TheInside.{Inside}
 
 -- ---- what it is
-
-abbrev pub refusal_of : RefusalForm → Refusal
-refusal_of r = record { place = r.place; why = why_of r.reason }
 
 -- a package, by the ways and by what the lists were before it
 abbrev pub package_of : List (List Turn) → KnownLists → PackageForm → Package

@@ -5,19 +5,21 @@ use Rattle.std.specs.Prelude.{◌-◌, ℕ, zero, suc, Bool, true, false, List, 
 use Rattle.acpi_name.specs.Names.{NameParts}
 use Rattle.acpi_tree.specs.declared.tree.Int.TheVariants.{Zero}
 use Rattle.acpi_tree.specs.declared.place.Place.{Place}
-use Rattle.acpi_tree.specs.declared.place.Place.TheVariants.{Value, SuperName, Statement}
+use Rattle.acpi_tree.specs.declared.place.Place.TheVariants.{Value, Source, SuperName, Statement}
+use Rattle.acpi_tree.specs.declared.place.OperandKind.{OperandKind}
 use Rattle.acpi_tree.specs.declared.place.OperandKind.TheVariants.{At}
 use Rattle.acpi_tree.specs.declared.place.NamedForm.{NamedForm}
 use Rattle.acpi_tree.specs.declared.place.NamedForm.TheVariants as named
 use Rattle.acpi_tree.specs.declared.place.UnitsForm.{UnitsForm}
 use Rattle.acpi_tree.specs.declared.place.UnitsForm.TheVariants as fields
 use Rattle.acpi_tree.specs.Tree.{FieldTree}
-use Rattle.acpi_tree.specs.Terms.{TermTree, int, declare, terms_of}
+use Rattle.acpi_tree.specs.Terms.{TermTree, int, ref, declare, terms_of}
 use Rattle.acpi_tree.specs.Operators.{names_of_units, operands_of_units}
 use Rattle.acpi_code.specs.declared.fault.CodeFault.{CodeFault}
 use Rattle.acpi_code.specs.declared.fault.ConstantFault.{ConstantFault}
 use Rattle.acpi_code.specs.declared.opcode.Opcode.{Opcode}
 use Rattle.acpi_code.specs.declared.opcode.Opcode.TheVariants as opcodes
+use Rattle.acpi_code.specs.Opcodes.{is_name_start}
 use Rattle.acpi_code.specs.steps.Reading.{◌>>=◌, Reading, Package, with_fault, no_level, byte_at, package_at, name_in, opcode_at}
 use Rattle.acpi_code.specs.steps.Fields.{field_at}
 use Rattle.acpi_body.specs.declared.fault.BodyFault.{BodyFault}
@@ -35,7 +37,7 @@ use Rattle.acpi_outline.specs.Faults.{term_fault, part_fault, element_fault}
 use Rattle.acpi_outline.specs.Nodes.{PlainTree, term, external, alias, table_region, FixedTree, scope, container, method, if_so, otherwise, while_so, units, FieldNodes, no_more_fields, fields_lost, field_node}
 use Rattle.acpi_outline.specs.Nodes.{NodeTree, plain, holds, holds_fields, closed, package_lost, data_lost, name_lost, NodeTrees, no_more, lost, node, has_fields}
 use Rattle.acpi_outline.specs.Rules.{Rules, grammar_at, goes_into, after}
-use Rattle.acpi_outline.specs.Outline.{operands_first, operands_after, container_operands}
+use Rattle.acpi_outline.specs.Outline.{operands_after, container_operands}
 
 -- ---- faults
 
@@ -52,10 +54,38 @@ of_term read = with_fault term_fault read
 
 -- ---- plain nodes
 
+-- a value in the place of a source
+abbrev pub source_at : {S : Type 0} → Rules S → ℕ → S → ℕ → List ℕ → Reading LostFault TermTree
+source_at r level known end bytes = of_term (term_at (grammar_at r known) level Source end bytes)
+
+-- a name that is never a call
+unfoldable pub reference_in : ℕ → List ℕ → Reading LostFault TermTree
+reference_in end bytes = do
+  n ← part (name_in end bytes)
+  Ok (ref n.0, n.1)
+
+-- the source of a Create form; a name has no level
+abbrev pub source_in : {S : Type 0} → Rules S → ℕ → S → ℕ → List ℕ → Reading LostFault TermTree
+source_in r level known end [] = source_at r level known end []
+source_in r level known end (b ∷ rest) = if is_name_start b then reference_in end (b ∷ rest) else source_at r level known end (b ∷ rest)
+
+-- .. and operands of these kinds behind it
+unfoldable pub sourced_in : {S : Type 0} → Rules S → ℕ → S → List OperandKind → ℕ → List ℕ → Reading LostFault (List TermTree)
+sourced_in r level known ks end bytes = do
+  v ← source_in r level known end bytes
+  vs ← of_term (operands_at (term_at (grammar_at r known) level) ks end v.1)
+  Ok (v.0 ∷ vs.0, vs.1)
+
+-- what stands before a declared name
+abbrev pub first_in : {S : Type 0} → Rules S → ℕ → S → NamedForm → ℕ → List ℕ → Reading LostFault (List TermTree)
+first_in r level known (named.Create w) end bytes = sourced_in r level known (At Value ∷ []) end bytes
+first_in r level known named.CreateField end bytes = sourced_in r level known (At Value ∷ At Value ∷ []) end bytes
+first_in r level known _ end bytes = Ok ([], bytes)
+
 -- a declaration, behind its opcode
 unfoldable pub named_in : {S : Type 0} → Rules S → ℕ → S → NamedForm → ℕ → List ℕ → Reading LostFault PlainTree
 named_in r level known form end bytes = do
-  us ← of_term (operands_at (term_at (grammar_at r known) level) (operands_first form) end bytes)
+  us ← first_in r level known form end bytes
   n ← part (name_in end us.1)
   vs ← of_term (operands_at (term_at (grammar_at r known) level) (operands_after form) end n.1)
   Ok (term (declare form (terms_of us.0) n.0 (terms_of vs.0)), vs.1)

@@ -1,10 +1,19 @@
-use Rattle.std.proofs.Common.{◌≡◌, length}
-use Rattle.acpi_survey.specs.Notes.{whole_noted}
-use Rattle.acpi_survey.specs.SpanViews.{parts_left}
+use Rattle.std.proofs.Common.{◌≡◌, ◌++◌, length, map}
+use Rattle.std.specs.List.{flat_map}
+use Rattle.acpi_outline.specs.View.{nodes_view}
+use Rattle.acpi_survey.specs.Notes.{range_notes}
+use Rattle.acpi_survey.specs.NoteViews.{note_view}
+use Rattle.acpi_survey.specs.Problems.{table_ranges}
+use Rattle.acpi_survey.specs.SpanViews.{ranges_left}
+use Rattle.acpi_survey.specs.steps.ReadTables.{entered_at, unknowns_of}
 use Rattle.acpi_survey.proofs.notes.put_of_code.Given as goal
 
-abbrev pub invariant-loop-spans : goal.invariant-loop-spans
-invariant-loop-spans l = whole_noted l.found.items ≡ whole_noted l.initial.found.items
+-- what is noticed, and the notes of the ranges that are left
+abbrev pub invariant-loop-ranges : goal.invariant-loop-ranges
+invariant-loop-ranges l =
+    map note_view l.found.items ++ flat_map (range_notes (unknowns_of l.table) l.table.number) (ranges_left (entered_at l.table) l.ranges)
+    ≡ map note_view l.initial.found.items
+    ++ flat_map (range_notes (unknowns_of l.table) l.table.number) (table_ranges (entered_at l.table) l.table.judged.now (nodes_view l.table.nodes.now))
 
-abbrev pub decreases-loop-spans : goal.decreases-loop-spans
-decreases-loop-spans l = length (parts_left l.spans)
+abbrev pub decreases-loop-ranges : goal.decreases-loop-ranges
+decreases-loop-ranges l = length (ranges_left (entered_at l.table) l.ranges)

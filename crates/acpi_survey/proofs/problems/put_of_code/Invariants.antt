@@ -1,16 +1,19 @@
-use Rattle.std.proofs.Common.{◌≡◌, ◌++◌, length}
+use Rattle.std.proofs.Common.{◌≡◌, ◌++◌, length, map}
+use Rattle.std.specs.List.{flat_map}
 use Rattle.acpi_outline.specs.View.{nodes_view}
-use Rattle.acpi_survey.specs.Problems.{lost_in, lost_told, whole_told, AreGiven}
-use Rattle.acpi_survey.specs.SpanViews.{parts_left}
-use Rattle.acpi_survey.specs.steps.LostParts.{lost_among}
+use Rattle.acpi_survey.specs.Survey.{code_read}
+use Rattle.acpi_survey.specs.Problems.{range_problems, table_ranges}
+use Rattle.acpi_survey.specs.ProblemViews.{problem_view}
+use Rattle.acpi_survey.specs.SpanViews.{ranges_left}
+use Rattle.acpi_survey.specs.steps.ReadTables.{entered_at, refusals_of}
 use Rattle.acpi_survey.proofs.problems.put_of_code.Given as goal
 
--- what is told, and what is lost of the parts that are left
-abbrev pub invariant-loop-spans : goal.invariant-loop-spans
-invariant-loop-spans l =
-    (lost_told l.found.items ++ lost_among (parts_left l.spans) ≡ lost_told l.initial.found.items ++ lost_in (nodes_view l.table.nodes.now))
-    × (whole_told l.found.items ≡ whole_told l.initial.found.items)
-    × (AreGiven l.table.refused.now l.initial.found.items → AreGiven l.table.refused.now l.found.items)
+-- what is told, and the problems of the ranges that are left
+abbrev pub invariant-loop-ranges : goal.invariant-loop-ranges
+invariant-loop-ranges l =
+    map problem_view l.found.items ++ flat_map (range_problems (refusals_of l.table) (code_read l.table.judged.now) l.table.number) (ranges_left (entered_at l.table) l.ranges)
+    ≡ map problem_view l.initial.found.items
+    ++ flat_map (range_problems (refusals_of l.table) (code_read l.table.judged.now) l.table.number) (table_ranges (entered_at l.table) l.table.judged.now (nodes_view l.table.nodes.now))
 
-abbrev pub decreases-loop-spans : goal.decreases-loop-spans
-decreases-loop-spans l = length (parts_left l.spans)
+abbrev pub decreases-loop-ranges : goal.decreases-loop-ranges
+decreases-loop-ranges l = length (ranges_left (entered_at l.table) l.ranges)

@@ -2,8 +2,7 @@ use Rattle.std.proofs.Common.{◌≡◌, List, [], ◌∷◌, ◌++◌, map, ap,
 use Rattle.std.proofs.lemmas.List.{map_push}
 use Rattle.acpi_conditions.specs.Entries.{Refusal}
 use Rattle.acpi_conditions.specs.Walk.{Walk}
-use Rattle.acpi_conditions.specs.steps.Faults.{why_of}
-use Rattle.acpi_conditions.specs.steps.Walks.{refusal_of}
+use Rattle.acpi_conditions.specs.EntryForms.{refusal_of, why_of}
 use Rattle.acpi_conditions.proofs.WalkSteps.{refused_is}
 use Rattle.acpi_conditions.proofs.walk.Walk.refuse.Goals as goal
 

@@ -1,0 +1,102 @@
+-- Nothing is lost in the nodes of strict items.
+use Rattle.std.proofs.Common.{◌≡◌, ℕ, suc, Bool, false, List, [], ◌∷◌, ◌++◌, inl, inr, ap, sym, subst, refl}
+use Rattle.std.specs.List.{AllZip, AllByRecursion}
+use Rattle.acpi_tree.specs.Tree.{ExternalParts, FieldTree}
+use Rattle.acpi_tree.specs.Tree.{ItemTree, name, scope, method, external, external_block, create, create_field, mutex, event, region, field, index_field, bank_field, device, processor, power, thermal, ItemTrees, no_items, item}
+use Rattle.acpi_terms.specs.Spelling.{SpellsItems}
+use Rattle.acpi_declare.specs.Predefined.{predefined}
+use Rattle.acpi_conditions.specs.Entries.{Path}
+use Rattle.acpi_outline.specs.Nodes.{FieldNodes, NodeTree, NodeTrees}
+use Rattle.acpi_outline.specs.Rules.{after_all}
+use Rattle.acpi_outline.specs.Strict.{AreExternals, AreFieldsOf, IsItem, AreItems}
+use Rattle.acpi_outline.proofs.Strict.{strict_kept}
+use Rattle.acpi_survey.specs.Spans.{of_node}
+use Rattle.acpi_survey.specs.Ranges.{Range, Entered, element_ranges, first_place, inner_ranges, is_if, ranges_of}
+use Rattle.acpi_survey.specs.Problems.{why_lost}
+use Rattle.acpi_survey.specs.Reading.{Reading, survey_rules}
+use Rattle.acpi_survey.specs.Predefined.{first_reading}
+use Rattle.acpi_survey.specs.Survey.{code_read, at_table, behind_table, AreRead}
+use Rattle.acpi_conservative.specs.Strict.{AreTablesOf}
+use Rattle.acpi_conservative.specs.Laws.{StrictReadIsItems}
+use Rattle.acpi_conservative.proofs.First.{items_of}
+use Rattle.acpi_conservative.proofs.WholeTables.{strict_table_is_read}
+
+-- nothing of what stands in the range is lost
+abbrev pub IsKept : Range → Type 0
+IsKept r = why_lost r.part ≡ []
+
+abbrev pub AreKept : List Range → Type 0
+AreKept rs = AllByRecursion IsKept rs
+
+both_kept : (rs us : List Range) → AreKept rs → AreKept us → AreKept (rs ++ us)
+both_kept [] us h k = k
+both_kept (r ∷ rs) us h k = (h.0, both_kept rs us h.1 k)
+
+-- ---- in items
+
+externals_kept : (xs : List ExternalParts) (ns : NodeTrees) → AreExternals xs ns → (entered : Entered) (s : Path) (end : ℕ) (b : Bool) → AreKept (ranges_of entered s end b ns)
+externals_kept [] ns h entered s end b = subst (λ (ns : NodeTrees). AreKept (ranges_of entered s end b ns)) (sym h) tt
+externals_kept (x ∷ xs) ms (place, ns, e, h) entered s end b =
+    subst (λ (ms : NodeTrees). AreKept (ranges_of entered s end b ms)) (sym e) (refl, externals_kept xs ns h entered s end false)
+
+fields_kept : (es : List FieldTree) (us : FieldNodes) → AreFieldsOf es us → (s : Path) (end : ℕ) → AreKept (element_ranges s end us)
+fields_kept [] us h s end = subst (λ (us : FieldNodes). AreKept (element_ranges s end us)) (sym h) tt
+fields_kept (e ∷ es) us (place, rest, is, h) s end = subst (λ (us : FieldNodes). AreKept (element_ranges s end us)) (sym is) (refl, fields_kept es rest h s end)
+
+-- neither the node nor anything in it
+abbrev IsNodeKept : Entered → ℕ → Path → ℕ → NodeTree → Type 0
+IsNodeKept entered place s end m = (why_lost (of_node m) ≡ []) × AreKept (inner_ranges entered place s end m)
+
+mutual
+  item_kept : (i : ItemTree) (m : NodeTree) → IsItem i m → (entered : Entered) (place : ℕ) (s : Path) (end : ℕ) → IsNodeKept entered place s end m
+  item_kept (name n d) m h entered place s end = subst (IsNodeKept entered place s end) (sym h) (refl, tt)
+  item_kept (scope n is) m (inl (ms, e, h)) entered place s end = subst (IsNodeKept entered place s end) (sym e) (refl, items_kept is ms h entered _ end false)
+  item_kept (scope n is) m (inr (b, e, h)) entered place s end = subst (IsNodeKept entered place s end) (sym e) (refl, tt)
+  item_kept (device n is) m (inl (ms, e, h)) entered place s end = subst (IsNodeKept entered place s end) (sym e) (refl, items_kept is ms h entered _ end false)
+  item_kept (device n is) m (inr (b, e, h)) entered place s end = subst (IsNodeKept entered place s end) (sym e) (refl, tt)
+  item_kept (processor n id block len is) m (inl (ms, e, h)) entered place s end = subst (IsNodeKept entered place s end) (sym e) (refl, items_kept is ms h entered _ end false)
+  item_kept (processor n id block len is) m (inr (b, e, h)) entered place s end = subst (IsNodeKept entered place s end) (sym e) (refl, tt)
+  item_kept (power n deepest order is) m (inl (ms, e, h)) entered place s end = subst (IsNodeKept entered place s end) (sym e) (refl, items_kept is ms h entered _ end false)
+  item_kept (power n deepest order is) m (inr (b, e, h)) entered place s end = subst (IsNodeKept entered place s end) (sym e) (refl, tt)
+  item_kept (thermal n is) m (inl (ms, e, h)) entered place s end = subst (IsNodeKept entered place s end) (sym e) (refl, items_kept is ms h entered _ end false)
+  item_kept (thermal n is) m (inr (b, e, h)) entered place s end = subst (IsNodeKept entered place s end) (sym e) (refl, tt)
+  item_kept (method n flags code) m h entered place s end = subst (IsNodeKept entered place s end) (sym h) (refl, tt)
+  item_kept (external x) m h entered place s end = subst (IsNodeKept entered place s end) (sym h) (refl, tt)
+  item_kept (external_block xs) m (inl (ms, e, h)) entered place s end = subst (IsNodeKept entered place s end) (sym e) (refl, externals_kept xs ms h entered _ end false)
+  item_kept (external_block xs) m (inr (b, e, h)) entered place s end = subst (IsNodeKept entered place s end) (sym e) (refl, tt)
+  item_kept (mutex n flags) m h entered place s end = subst (IsNodeKept entered place s end) (sym h) (refl, tt)
+  item_kept (event n) m h entered place s end = subst (IsNodeKept entered place s end) (sym h) (refl, tt)
+  item_kept (region n space offset len) m h entered place s end = subst (IsNodeKept entered place s end) (sym h) (refl, tt)
+  item_kept (field n flags es) m (us, e, h) entered place s end = subst (IsNodeKept entered place s end) (sym e) (refl, fields_kept es us h s end)
+  item_kept (index_field i k flags es) m (us, e, h) entered place s end = subst (IsNodeKept entered place s end) (sym e) (refl, fields_kept es us h s end)
+  item_kept (bank_field n bank value flags es) m (us, e, h) entered place s end = subst (IsNodeKept entered place s end) (sym e) (refl, fields_kept es us h s end)
+  item_kept (create w source index n) m h entered place s end = subst (IsNodeKept entered place s end) (sym h) (refl, tt)
+  item_kept (create_field source index bits n) m h entered place s end = subst (IsNodeKept entered place s end) (sym h) (refl, tt)
+
+  pub items_kept : (is : ItemTrees) (ms : NodeTrees) → AreItems is ms → (entered : Entered) (s : Path) (end : ℕ) (b : Bool) → AreKept (ranges_of entered s end b ms)
+  items_kept no_items ms h entered s end b = subst (λ (ms : NodeTrees). AreKept (ranges_of entered s end b ms)) (sym h) tt
+  items_kept (item i is) ms (place, n, ns, e, hi, hs) entered s end b =
+      let to : ℕ = first_place end ns in
+      let k : IsNodeKept entered place s to n = item_kept i n hi entered place s to in
+      subst (λ (ms : NodeTrees). AreKept (ranges_of entered s end b ms)) (sym e)
+      (k.0, both_kept (inner_ranges entered place s to n) (ranges_of entered s end (is_if n) ns) k.1 (items_kept is ns hs entered s end (is_if n)))
+
+-- ---- in tables
+
+pub nodes_are_items : (depth number : ℕ) (s last : Reading) (bs : List (List ℕ)) (iss : List ItemTrees) (nss : List NodeTrees) → AreTablesOf depth number bs iss → AreRead depth number s bs nss last
+    → AllZip AreItems iss nss
+nodes_are_items depth number s last [] [] [] t r = tt
+nodes_are_items depth number s last [] [] (ns ∷ nss) t r = absurd r
+nodes_are_items depth number s last [] (is ∷ iss) nss t r = absurd t
+nodes_are_items depth number s last (b ∷ bs) [] nss t r = absurd t
+nodes_are_items depth number s last (b ∷ bs) (is ∷ iss) [] t r = absurd r
+nodes_are_items depth number s last (b ∷ bs) (is ∷ iss) (ns ∷ nss) t r = (
+  strict_kept survey_rules (at_table number s) depth (code_read r.0) is ns
+      (subst (SpellsItems is) (sym (ap code_read (strict_table_is_read depth number b is t.0 r.0 r.1))) t.0.spelled) t.0.height r.2,
+  nodes_are_items depth (suc number) (behind_table (after_all survey_rules (at_table number s) ns)) last bs iss nss t.1 r.3,
+)
+
+pub strict_read_is_items : StrictReadIsItems
+strict_read_is_items depth bs ts l nss last r =
+    let items = items_of depth 0 predefined bs ts l in
+    (items.0, items.1, nodes_are_items depth 0 first_reading last bs items.0 nss items.1 r)

@@ -1,0 +1,28 @@
+-- What a survey keeps stands in the order of places (ACPI 6.5, 5.2.11 and 20.2.5).
+use Rattle.std.specs.Prelude.{ℕ, List, drop}
+use Rattle.std.specs.List.Sorted.{IsNonDecreasingBy}
+use Rattle.acpi_name.specs.Names.{Segment}
+use Rattle.acpi_conditions.specs.Entries.{Path, Entry}
+use Rattle.acpi_survey.specs.Reading.{Reading, Source}
+use Rattle.acpi_survey.specs.Predefined.{first_reading}
+use Rattle.acpi_survey.specs.Surveys.{AreTables}
+use Rattle.acpi_survey.specs.declared.machine_survey.SurveyedTable.{SurveyedTable}
+use Rattle.acpi_survey.specs.EntryParts.{AllTile, predefined_count}
+use Rattle.acpi_survey.specs.declared.machine_survey.Survey.{Survey}
+
+-- What is kept of tables that were read has nodes that tile their codes, and the entries of tables stand in the order of their places.
+abbrev pub TablesTile : Type 0
+TablesTile = (depth number : ℕ) (s last : Reading) (ts : List SurveyedTable) → AreTables depth number s ts last → AllTile ts
+
+abbrev pub EntriesStandInOrder : Type 0
+EntriesStandInOrder = (depth : ℕ) (last : Reading) (ts : List SurveyedTable) → AreTables depth 0 first_reading ts last
+    → IsNonDecreasingBy (λ (e : Entry). e.term.place) (drop predefined_count last.walk.entries)
+
+-- ---- of a survey
+
+-- the nodes of each table tile its code, and the entries of tables, the Scopes that were entered and the Aliases stand in order
+pub record IsInOrder (s : Survey) : Type 0 where
+  pub tile : AllTile s.tables.items
+  pub entries : IsNonDecreasingBy (λ (e : Entry). e.term.place) (drop predefined_count s.reading.walk.entries)
+  pub opened : IsNonDecreasingBy (λ (o : ℕ × Path). o.0) s.reading.opened
+  pub sources : IsNonDecreasingBy (λ (s : Source). s.place) s.reading.sources

@@ -1,0 +1,140 @@
+//! The body of the method of an entry.
+
+ghost use Rattle.std.specs.Prelude.{◌≡◌, IfOk};
+ghost use Rattle.std.specs.Option.{option_map, option_and_then};
+ghost use Rattle.acpi_survey.specs.steps.MethodBodies.{method_count};
+ghost use Rattle.acpi_survey.specs.EntryParts.{AllTile};
+ghost use Rattle.acpi_survey.specs.EntryBodies.{IsBodyReading, IsBodyOf, method_code};
+ghost use Rattle.acpi_survey.specs.Lookup.{found_of};
+
+use crate::entry_parts::entry_numbered;
+use crate::machine_survey::{Survey, SurveyedTable};
+use crate::method_bodies::{Methods, terms_of};
+use crate::problems::offset_of;
+use crate::spans::{Span, What};
+use acpi_body::{BodyFault, BodyReason, Stop};
+use acpi_code::Depth;
+use acpi_conditions::{Entries, Entry};
+use acpi_name::{Name, read_name};
+use acpi_outline::{Fixed, Node};
+use acpi_tree::Term;
+use std::alloc::{AllocError, Global};
+
+/// What the code of a method is read as.
+#[derive(Debug, Drop)]
+pub enum BodyReading {
+    /// Terms.
+    Terms(Vec<Term>),
+    /// Nothing.
+    Opaque {
+        /// Why.
+        reason: BodyReason,
+        /// Where, in bytes from the code's first.
+        place: usize,
+        /// The name of which it isn't sure how many values follow it, where that is the reason.
+        name: Option<Name>,
+    },
+}
+
+/// The code of the method of an entry, and what it is read as (ACPI 6.5, 20.2.5.2).
+#[derive(Debug, Drop)]
+pub struct MethodBody<'a> {
+    /// The code.
+    pub code: &'a [u8],
+    /// Where it begins, in bytes from the table's first, the header included.
+    pub offset: usize,
+    /// What it is read as.
+    pub reading: BodyReading,
+}
+
+/// The code of a method, and where it begins in the table.
+#[derive(Debug, Clone, Copy)]
+struct MethodCode<'a> {
+    code: &'a [u8],
+    offset: usize,
+}
+
+fn code_in<'a>(part: &Span<'a>) -> Option<MethodCode<'a>>
+    ensures { option_map (λ m. (m.offset, m.code.now)) result
+        ≡ option_and_then method_code (found_of part.now) }
+{
+    match part.what {
+        What::Node(Node::Closed(Fixed::Method(_, _), code)) => Some(MethodCode {
+            code,
+            offset: offset_of(part.to.saturating_sub(code.len())),
+        }),
+        _ => None,
+    }
+}
+
+// The name of which it isn't sure how many values follow it, at the place of a code.
+fn unsure_name(alloc: Global, code: &[u8], fault: BodyFault) -> Result<Option<Name>, AllocError> {
+    if fault.reason != BodyReason::Unsure {
+        return Ok(None);
+    }
+    match read_name(&code[fault.place.min(code.len())..]) {
+        Ok((name, _)) => Ok(Some(name.own(alloc)?)),
+        Err(_) => Ok(None),
+    }
+}
+
+// What the code of the method of an entry is read as.
+fn read_body(
+    methods: &Methods<'_>,
+    entry: &Entry,
+    code: &[u8],
+    depth: Depth,
+) -> Result<BodyReading, AllocError>
+    ensures { IfOk result (λ r. IsBodyReading (method_count methods.now entry.now) entry.now.path
+        depth code.now r) }
+{
+    match terms_of(methods, entry, code, depth) {
+        Ok(terms) => Ok(BodyReading::Terms(terms)),
+        Err(Stop::Fault(fault)) => Ok(BodyReading::Opaque {
+            reason: fault.reason,
+            place: fault.place,
+            name: unsure_name(methods.alloc, code, fault)?,
+        }),
+        Err(Stop::Memory) => Err(AllocError),
+    }
+}
+
+impl Survey {
+    // What bodies of the methods of a table are read against.
+    fn methods_of<'a>(&'a self, entries: Entries<'a>, table: &'a SurveyedTable) -> Methods<'a>
+        ensures entries { result.entries ≡ entries.entry }
+        ensures counts { result.counts.now ≡ self.now.reading.counts }
+        ensures expected { result.expected.now ≡ table.now.expected }
+    {
+        Methods {
+            alloc: self.reading.memory(),
+            entries,
+            counts: self.reading.counts(),
+            expected: &table.expected,
+        }
+    }
+
+    /// The body of the entry of that number, if it is a method of a table.
+    pub fn body(&self, number: usize) -> Result<Option<MethodBody<'_>>, AllocError>
+        ensures { AllTile self.now.tables.items → IfOk result (λ b. IsBodyOf
+            self.now.reading.walk.entries self.now.reading.counts self.now.tables.items
+            self.now.depth number b) }
+    {
+        let entries = self.entries();
+        let Some(entry) = entry_numbered(entries, number) else {
+            return Ok(None);
+        };
+        let Some(part) = self.part_of(number) else {
+            return Ok(None);
+        };
+        let (Some(table), Some(found)) = (self.table_at(entry.term.place), code_in(&part)) else {
+            return Ok(None);
+        };
+        let methods = self.methods_of(entries, table);
+        Ok(Some(MethodBody {
+            code: found.code,
+            offset: found.offset,
+            reading: read_body(&methods, entry, found.code, self.depth)?,
+        }))
+    }
+}

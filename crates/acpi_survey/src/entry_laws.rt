@@ -1,0 +1,12 @@
+//! Laws of the entries of surveys, of the definitions alone: the functions do nothing, and their contracts state the laws.
+ghost use Rattle.acpi_survey.specs.SurveyOrder.{TablesTile, EntriesStandInOrder};
+
+/// The nodes of each table that was read tile its code.
+pub fn tables_tile()
+    ensures { TablesTile }
+{}
+
+/// The entries of tables stand in the order of their places.
+pub fn entries_stand_in_order()
+    ensures { EntriesStandInOrder }
+{}

@@ -1,0 +1,80 @@
+//! What the reading of tables gave, by place.
+
+ghost use Rattle.std.specs.Prelude.{◌≡◌, ◌++◌, ℕ, map, IfOk, OnOk};
+ghost use Rattle.acpi_survey.specs.Places.{last_at, last_or};
+ghost use Rattle.acpi_survey.specs.steps.ByPlace.{kept_at};
+
+use crate::by_place::ByPlace;
+use crate::notes::Unknown;
+use crate::remarks::Remarks;
+use crate::scopes::entered_paths;
+use acpi_conditions::{Entry, Reason, Refusal};
+use acpi_name::{Name, Path};
+use std::alloc::{AllocError, Global};
+
+/// What the reading of tables gave, by place.
+#[derive(Drop)]
+pub(crate) struct PlaceIndex<'a> {
+    /// The paths of entries and of the targets of Scopes.
+    pub paths: ByPlace<'a, Path>,
+    /// The reasons of refusals.
+    pub refused: ByPlace<'a, Reason>,
+    /// The names of which nothing is known in a node.
+    pub unknown: ByPlace<'a, Vec<Name>>,
+}
+
+// Puts the reasons of refusals.
+fn put_refused<'a>(
+    reasons: &mut ByPlace<'a, Reason>,
+    refused: &'a [Refusal],
+) -> Result<(), AllocError>
+    ensures { OnOk result ((q : ℕ) → kept_at reasons.new q
+        ≡ last_or (kept_at reasons.old q) (map (λ r. (r.place, r.reason)) refused.now) q) }
+{
+    'each: for refusal in refused {
+        reasons.put(refusal.place, &refusal.reason)?;
+    }
+    Ok(())
+}
+
+// Puts names of which nothing is known.
+fn put_unknown<'a>(
+    names: &mut ByPlace<'a, Vec<Name>>,
+    unknown: &'a [Unknown],
+) -> Result<(), AllocError>
+    ensures { OnOk result ((q : ℕ) → kept_at names.new q
+        ≡ last_or (kept_at names.old q) (map (λ u. (u.place, u.names)) unknown.now) q) }
+{
+    'each: for node in unknown {
+        names.put(node.place, &node.names)?;
+    }
+    Ok(())
+}
+
+impl<'a> PlaceIndex<'a> {
+    /// That of these entries, refusals and remarks.
+    pub(crate) fn new(
+        alloc: Global,
+        entries: &'a [Entry],
+        refused: &'a [Refusal],
+        remarks: &'a Remarks,
+    ) -> Result<PlaceIndex<'a>, AllocError>
+        ensures paths { IfOk result (λ x. (q : ℕ) → kept_at x.paths q
+            ≡ last_at (map (λ e. (e.term.place, e.path)) entries.now
+            ++ map (λ o. (o.place, o.path)) remarks.now.opened.items) q) }
+        ensures refused { IfOk result (λ x. (q : ℕ) → kept_at x.refused q
+            ≡ last_at (map (λ r. (r.place, r.reason)) refused.now) q) }
+        ensures unknown { IfOk result (λ x. (q : ℕ) → kept_at x.unknown q
+            ≡ last_at (map (λ u. (u.place, u.names)) remarks.now.unknown.items) q) }
+    {
+        let mut reasons = ByPlace::new(alloc);
+        put_refused(&mut reasons, refused)?;
+        let mut names = ByPlace::new(alloc);
+        put_unknown(&mut names, remarks.unknown())?;
+        Ok(PlaceIndex {
+            paths: entered_paths(alloc, entries, remarks.opened())?,
+            refused: reasons,
+            unknown: names,
+        })
+    }
+}

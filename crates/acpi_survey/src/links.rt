@@ -1,0 +1,223 @@
+//! Where the names of an entry's term may be found.
+
+ghost use Rattle.std.specs.Prelude.{◌≡◌, ◌++◌, ◌∷◌, [], map, slice_get, IfOk, OnOk};
+ghost use Rattle.std.specs.Option.{option_map, option_to_list, option_and_then};
+ghost use Rattle.acpi_tree.specs.TermView.{term_view, decl_view};
+ghost use Rattle.acpi_tree.specs.Terms.{more, no_terms};
+ghost use Rattle.acpi_outline.specs.View.{node_view, fixed_view, plain_view};
+ghost use Rattle.acpi_conditions.specs.EntryForms.{entry_view};
+ghost use Rattle.acpi_survey.specs.EntryParts.{part_declaring};
+ghost use Rattle.acpi_survey.specs.EntryLinks.{alias_links, alias_name, create_names, field_names, links_of_part, node_names, plain_names, searched, seen_link, seen_links, source_names};
+ghost use Rattle.acpi_survey.specs.ConditionViews.{link_views};
+ghost use Rattle.acpi_survey.specs.Lookup.{found_of};
+ghost use Rattle.acpi_survey.specs.SurveyOrder.{IsInOrder};
+
+use crate::entry_parts::entry_numbered;
+use crate::machine_survey::Survey;
+use crate::placed::source_at;
+use crate::problems::copies;
+use crate::spans::{Span, What};
+use acpi_conditions::{Candidates, Entries, Entry, Seen};
+use acpi_name::{Name, Path};
+use acpi_outline::{Fixed, Node, Plain};
+use acpi_tree::{Decl, Term};
+use std::alloc::{AllocError, Global};
+
+/// Where a name of an entry's term may be found (ACPI 6.5, 5.3).
+#[derive(Debug, Drop)]
+pub struct Link<'a> {
+    /// The name.
+    pub name: &'a Name,
+    /// The paths, the innermost first.
+    pub paths: Vec<Path>,
+    /// Whether it is found for certain, at the last of them if not before.
+    pub is_certain: bool,
+}
+
+fn put_link<'a>(
+    links: &mut Vec<Link<'a>>,
+    name: &'a Name,
+    found: Candidates,
+) -> Result<(), AllocError>
+    ensures { OnOk result (link_views links.new.items ≡ link_views links.old.items ++ record {
+      name = name.now;
+      paths = found.paths.items;
+      is_certain = found.is_certain;
+    } ∷ []) }
+{
+    links.push(Link {
+        name,
+        paths: found.paths,
+        is_certain: found.is_certain,
+    })?;
+    Ok(())
+}
+
+// ---- the names that are searched behind all tables
+
+// The name that is the source of a Create field.
+fn source_name(source: &Term) -> Option<&Name>
+    ensures { option_to_list (option_map (λ n. n.now) result)
+        ≡ source_names (more (term_view source.now) no_terms) }
+{
+    match source {
+        Term::Ref(name) => Some(name),
+        _ => None,
+    }
+}
+
+fn create_source(decl: &Decl) -> Option<&Name>
+    ensures { option_to_list (option_map (λ n. n.now) result) ≡ create_names (decl_view decl.now) }
+{
+    match decl {
+        Decl::Create { source, .. } => source_name(source),
+        Decl::CreateField { source, .. } => source_name(source),
+        Decl::Name(_, _) => None,
+        Decl::Mutex(_, _) => None,
+        Decl::Event(_) => None,
+        Decl::Region { .. } => None,
+        Decl::Field { .. } => None,
+        Decl::IndexField { .. } => None,
+        Decl::BankField { .. } => None,
+    }
+}
+
+fn plain_source(leaf: &Plain) -> Option<&Name>
+    ensures { option_to_list (option_map (λ n. n.now) result) ≡ plain_names (plain_view leaf.now) }
+{
+    match leaf {
+        Plain::Term(Term::Declare(decl)) => create_source(decl),
+        _ => None,
+    }
+}
+
+fn put_of_fields<'a>(names: &mut Vec<&'a Name>, fixed: &'a Fixed) -> Result<(), AllocError>
+    ensures { OnOk result (map (λ n. n.now) names.new.items
+        ≡ map (λ n. n.now) names.old.items ++ field_names (fixed_view fixed.now)) }
+{
+    match fixed {
+        Fixed::Field(region, _) => {
+            names.push(region)?;
+        }
+        Fixed::IndexField(index, datum, _) => {
+            names.push(index)?;
+            names.push(datum)?;
+        }
+        Fixed::BankField(region, bank, _, _) => {
+            names.push(region)?;
+            names.push(bank)?;
+        }
+        _ => {}
+    }
+    Ok(())
+}
+
+fn put_of_node<'a>(names: &mut Vec<&'a Name>, node: &'a Node) -> Result<(), AllocError>
+    ensures { OnOk result (map (λ n. n.now) names.new.items
+        ≡ map (λ n. n.now) names.old.items ++ node_names (node_view node.now)) }
+{
+    if let Node::Plain(leaf) = node {
+        if let Some(name) = plain_source(leaf) {
+            names.push(name)?;
+        }
+    }
+    Ok(())
+}
+
+fn searched_names<'a>(alloc: Global, part: &Span<'a>) -> Result<Vec<&'a Name>, AllocError>
+    ensures { IfOk result (λ v. option_map searched (found_of part.now)
+        ≡ option_map (λ _. map (λ n. n.now) v.items) (found_of part.now)) }
+{
+    let mut names = Vec::new(alloc);
+    match part.what {
+        What::Node(node) => put_of_node(&mut names, node)?,
+        What::Element(fixed, _, _) => put_of_fields(&mut names, fixed)?,
+        What::Lost(_) => {}
+    }
+    Ok(names)
+}
+
+fn seen_by_names<'a>(
+    alloc: Global,
+    seen: &Seen<'_>,
+    names: &[&'a Name],
+) -> Result<Vec<Link<'a>>, AllocError>
+    ensures { IfOk result (λ v. link_views v.items
+        ≡ map (seen_link seen.now) (map (λ n. n.now) names.now)) }
+{
+    let mut links = Vec::new(alloc);
+    'each: for name in names {
+        let found = seen.find(alloc, name.view())?;
+        put_link(&mut links, *name, found)?;
+    }
+    Ok(links)
+}
+
+fn seen_links<'a>(
+    alloc: Global,
+    entries: Entries<'_>,
+    entry: &Entry,
+    names: &[&'a Name],
+) -> Result<Vec<Link<'a>>, AllocError>
+    ensures { IfOk result (λ v. link_views v.items ≡ seen_links
+        (map (entry_view entries.entry.ways.now) entries.entry.paths.now.entries)
+        (entry_view entries.entry.ways.now entry.now) (map (λ n. n.now) names.now)) }
+{
+    let seen = Seen::new(entries.paths, entries.ways, entry)?;
+    seen_by_names(alloc, &seen, names)
+}
+
+// ---- an Alias
+
+// The name of which an Alias is another.
+fn alias_source<'a>(part: &Span<'a>) -> Option<&'a Name>
+    ensures { option_map (λ n. n.now) result
+        ≡ option_and_then alias_name (found_of part.now) }
+{
+    match part.what {
+        What::Node(Node::Plain(Plain::Alias(source, _))) => Some(source),
+        _ => None,
+    }
+}
+
+impl Survey {
+    // The link of an Alias at a place, as it was when the Alias was read.
+    fn alias_links<'a>(&self, place: u128, source: &'a Name) -> Result<Vec<Link<'a>>, AllocError>
+        ensures { IsInOrder self.now → IfOk result (λ v. link_views v.items
+            ≡ alias_links self.now.reading.sources place source.now) }
+    {
+        let alloc = self.reading.memory();
+        let mut links = Vec::new(alloc);
+        if let Some(kept) = source_at(self.reading.remarks().sources(), place) {
+            let found = Candidates {
+                paths: copies(alloc, &kept.found.paths)?,
+                is_certain: kept.found.is_certain,
+            };
+            put_link(&mut links, source, found)?;
+        }
+        Ok(links)
+    }
+
+    /// Where the names of the term of the entry of that number may be found: of a field element those of its region, index
+    /// and data, or region and bank, and of a Create field that of its source, behind all tables; of an Alias its source,
+    /// where the Alias is read.
+    pub fn links(&self, number: usize) -> Result<Vec<Link<'_>>, AllocError>
+        ensures { IsInOrder self.now → IfOk result (λ v. link_views v.items
+            ≡ links_of_part self.now.reading.walk.entries self.now.reading.sources
+            (slice_get self.now.reading.walk.entries number)
+            (part_declaring self.now.tables.items self.now.reading.walk.entries number)) }
+    {
+        let alloc = self.reading.memory();
+        let entries = self.entries();
+        let Some(entry) = entry_numbered(entries, number) else {
+            return Ok(Vec::new(alloc));
+        };
+        let Some(part) = self.part_of(number) else {
+            return Ok(Vec::new(alloc));
+        };
+        match alias_source(&part) {
+            Some(source) => self.alias_links(entry.term.place, source),
+            None => seen_links(alloc, entries, entry, &searched_names(alloc, &part)?),
+        }
+    }
+}

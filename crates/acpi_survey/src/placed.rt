@@ -1,0 +1,108 @@
+//! What stands at a place, among what stands in the order of places.
+
+ghost use Rattle.std.specs.Prelude.{◌≡◌, ◌==◌, ℕ, drop, map, slice_get};
+ghost use Rattle.std.specs.Option.{option_and_then, option_copied, option_map};
+ghost use Rattle.acpi_conditions.specs.Entries.{Path, Entry as EntryParts};
+ghost use Rattle.acpi_conditions.specs.EntryForms.{entry_view};
+ghost use Rattle.acpi_survey.specs.Reading.{Source as SourceParts};
+ghost use Rattle.acpi_survey.specs.Condition.{entry_at};
+ghost use Rattle.acpi_survey.specs.EntryParts.{predefined_count};
+ghost use Rattle.acpi_survey.specs.steps.Readings.{opened_pairs, source_of};
+ghost use Rattle.acpi_survey.specs.steps.PlacedItems.{if_there};
+ghost use Rattle.std.specs.List.{find};
+ghost use Rattle.std.specs.List.Sorted.{IsNonDecreasingBy};
+
+use crate::entry_parts::table_entries;
+use crate::remarks::Source;
+use crate::scopes::Opened;
+use acpi_conditions::{Entries, Entry};
+
+/// What stands at a place: a table's number times 2^64, and the number of bytes of the table's code before it.
+pub(crate) trait Placed {
+    ghost place: { Self → ℕ };
+
+    /// The place.
+    fn place(&self) -> u128
+        ensures { result ≡ place self.now };
+}
+
+impl Placed for Entry {
+    ghost place = { λ e. e.term.place };
+
+    fn place(&self) -> u128 {
+        self.term.place
+    }
+}
+
+impl Placed for Opened {
+    ghost place = { λ o. o.place };
+
+    fn place(&self) -> u128 {
+        self.place
+    }
+}
+
+impl Placed for Source {
+    ghost place = { λ s. s.place };
+
+    fn place(&self) -> u128 {
+        self.place
+    }
+}
+
+/// The item of that number.
+pub(crate) fn item<T>(items: &[T], number: usize) -> Option<&T>
+    ensures { option_copied result ≡ slice_get items.now number }
+{
+    items.get(number)
+}
+
+// The item, if it stands at the place.
+fn if_there<T: Placed>(found: Option<&T>, place: u128) -> Option<&T>
+    ensures { option_copied result
+        ≡ option_and_then (if_there T.place place) (option_copied found.entry) }
+{
+    let first = found?;
+    if first.place() == place {
+        Some(first)
+    } else {
+        None
+    }
+}
+
+/// The first at a place, of what stands in the order of places.
+pub(crate) fn first_at<T: Placed>(items: &[T], place: u128) -> Option<&T>
+    ensures { IsNonDecreasingBy T.place items.now
+        → option_copied result ≡ find (λ x. T.place x == place) items.now }
+{
+    let count = items.partition_point(|x| x.place() < place);
+    if_there(item(items, count), place)
+}
+
+/// The entry of a table at a place.
+pub(crate) fn entry_at<'a>(entries: Entries<'a>, place: u128) -> Option<&'a Entry>
+    ensures { IsNonDecreasingBy (λ (e : EntryParts). e.term.place) (drop predefined_count
+        (map (entry_view entries.entry.ways.now) entries.entry.paths.now.entries))
+        → option_map (λ e. entry_view entries.entry.ways.now e.now) result
+        ≡ entry_at (map (entry_view entries.entry.ways.now) entries.entry.paths.now.entries) place }
+{
+    first_at(table_entries(entries.paths.entries()), place)
+}
+
+/// The Scope that was entered at a place.
+pub(crate) fn scope_at(opened: &[Opened], place: u128) -> Option<&Opened>
+    ensures { IsNonDecreasingBy (λ (o : ℕ × Path). o.0) (opened_pairs opened.now)
+        → option_map (λ o. (o.now.place, o.now.path)) result
+        ≡ find (λ (o : ℕ × Path). o.0 == place) (opened_pairs opened.now) }
+{
+    first_at(opened, place)
+}
+
+/// The Alias at a place.
+pub(crate) fn source_at(sources: &[Source], place: u128) -> Option<&Source>
+    ensures { IsNonDecreasingBy (λ (s : SourceParts). s.place) (map source_of sources.now)
+        → option_map (λ s. source_of s.now) result
+        ≡ find (λ (s : SourceParts). s.place == place) (map source_of sources.now) }
+{
+    first_at(sources, place)
+}

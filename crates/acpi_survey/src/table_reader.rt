@@ -1,0 +1,93 @@
+//! The survey of tables.
+
+ghost use Rattle.std.specs.Prelude.{◌≡◌, map, IfOk};
+ghost use Rattle.acpi_survey.specs.Predefined.{first_reading};
+ghost use Rattle.acpi_survey.specs.Laws.{IsSurveyed, IsOnlyReading};
+ghost use Rattle.acpi_survey.specs.Survey.{AreRead, behind_table, code_read};
+ghost use Rattle.acpi_survey.specs.ProblemViews.{problem_view};
+ghost use Rattle.acpi_survey.specs.Found.{entered_in, notes_by, problems_in};
+ghost use Rattle.acpi_survey.specs.Notes.{Unknowns};
+ghost use Rattle.acpi_survey.specs.NoteViews.{note_view};
+ghost use Rattle.acpi_survey.specs.Surveys.{AreTables, IsTable, behind_nodes, bytes_of, nodes_of_each};
+
+use crate::found::found_in;
+use crate::machine_survey::{Survey, SurveyedTable};
+use crate::reading::Reading;
+use crate::tables::{Judged, judge};
+use acpi_code::Depth;
+use acpi_outline::read_outline;
+use bytes::Bytes;
+use std::alloc::{AllocError, Global};
+
+// The code of a table, of which nothing is read where the table isn't.
+fn code_of(judged: &Judged) -> Result<Bytes, AllocError>
+    ensures { IfOk result (λ b. b ≡ code_read judged.now) }
+{
+    match judged {
+        Judged::Read { code, .. } => code.slice(..),
+        Judged::Unread(_) => Ok(Bytes::new()),
+    }
+}
+
+// Reads the table of that number, behind those before it.
+fn read_table(
+    reading: &mut Reading,
+    number: usize,
+    bytes: &Bytes,
+    depth: Depth,
+) -> Result<SurveyedTable, AllocError>
+    ensures bytes { IfOk result (λ t. t.bytes ≡ bytes.now) }
+    ensures table { IfOk result (λ t. IsTable depth number reading.old t) }
+    ensures behind { IfOk result (λ t. reading.new
+        ≡ behind_table (behind_nodes number reading.old t)) }
+{
+    let judged = judge(number, bytes)?;
+    let code = code_of(&judged)?;
+    reading.come_to_table(number);
+    let nodes = read_outline(reading, &code, depth)?;
+    let expected = reading.end_table()?;
+    Ok(SurveyedTable {
+        bytes: bytes.slice(..)?,
+        judged,
+        nodes,
+        expected,
+    })
+}
+
+/// The survey of tables, whatever their bytes are, with at most `depth` levels of terms. Only an allocation failure is
+/// an error.
+pub fn survey(alloc: Global, tables: &[Bytes], depth: Depth) -> Result<Survey, AllocError>
+    // Each table is kept, as it is read behind those before it.
+    ensures bytes { IfOk result (λ s. bytes_of s.tables.items ≡ tables.now) }
+    ensures tables { IfOk result (λ s. AreTables depth 0 first_reading s.tables.items s.reading) }
+    // The limit is kept.
+    ensures depth { IfOk result (λ s. s.depth ≡ depth) }
+    // So they have these nodes, and no others, but for the reasons of what is lost.
+    ensures read { IfOk result (λ s. AreRead depth 0 first_reading tables.now
+        (nodes_of_each s.tables.items) s.reading) }
+    ensures only { IfOk result (λ s. IsOnlyReading depth tables.now
+        (nodes_of_each s.tables.items) s.reading) }
+    // What is known behind them is the survey of what their nodes do.
+    ensures entries { IfOk result (λ s. IsSurveyed 0 first_reading s.reading
+        (nodes_of_each s.tables.items)) }
+    // What is lost or refused in them is told.
+    ensures problems { IfOk result (λ s. map problem_view s.found.problems.items
+        ≡ problems_in s.reading s.tables.items) }
+    // What is noticed in them is told, by names of which nothing is known.
+    ensures notes { IfOk result (λ s. (unknowns : Unknowns) × (map note_view s.found.notes.items
+        ≡ notes_by (entered_in s.reading) unknowns 0 s.tables.items)) }
+{
+    let mut reading = Reading::new(alloc)?;
+    let mut read = Vec::new(alloc);
+    'each: for bytes in tables {
+        let number = read.len();
+        read.push(read_table(&mut reading, number, bytes, depth)?)?;
+    }
+    let found = found_in(alloc, &read, &reading)?;
+    Ok(Survey {
+        tables: read,
+        depth,
+        reading,
+        found,
+    })
+}
