@@ -13,8 +13,9 @@ fn plain(b: u8) -> bool
     (0x20..=0x7E).contains(&b) && b != b'"' && b != b'\\'
 }
 
-// A character of a string: itself, or `\x` and two digits.
-fn put_char(text: &mut Vec<u8>, b: u8) -> Result<(), AllocError>
+/// Puts a character of a string: itself, or `\x` and two digits where it is no printable one of ASCII, a quote or a
+/// backslash.
+pub fn put_char(text: &mut Vec<u8>, b: u8) -> Result<(), AllocError>
     ensures { OnOk result (text.new.items ≡ text.old.items ++ char_text b) }
 {
     if plain(b) {
@@ -37,8 +38,8 @@ pub(crate) fn put_string(text: &mut Vec<u8>, bytes: &[u8]) -> Result<(), AllocEr
     put(text, "\"")
 }
 
-// Bytes with a blank between each two.
-fn put_spaced(text: &mut Vec<u8>, bytes: &[u8]) -> Result<(), AllocError>
+/// Puts the two hexadecimal digits of each byte, with a blank between each two.
+pub fn put_spaced(text: &mut Vec<u8>, bytes: &[u8]) -> Result<(), AllocError>
     ensures { OnOk result (text.new.items ≡ text.old.items ++ separated (codes " ") (hex_digits 2) bytes.now) }
 {
     match bytes {

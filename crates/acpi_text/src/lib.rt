@@ -26,9 +26,11 @@ mod operators;
 mod statements;
 mod terms;
 
+pub use bytes::{put_char, put_spaced};
 pub use data::put_data;
 pub use lines::{put_line, put_links};
 pub use names::{put_name, put_path};
-pub use numbers::{put_decimal, put_int};
+pub use numbers::{put, put_byte, put_decimal, put_int};
 pub use objects::put_object;
 pub use statements::{put_opaque, put_terms};
+pub use terms::put_term;

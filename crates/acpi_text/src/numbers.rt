@@ -8,8 +8,8 @@ ghost use Rattle.acpi_text.specs.Terms.{raw_text};
 use acpi_tree::Int;
 use std::alloc::AllocError;
 
-// Puts characters behind the text.
-pub(crate) fn put(text: &mut Vec<u8>, characters: &str) -> Result<(), AllocError>
+/// Puts characters behind the text.
+pub fn put(text: &mut Vec<u8>, characters: &str) -> Result<(), AllocError>
     ensures { OnOk result (text.new.items ≡ text.old.items ++ characters.now) }
 {
     text.extend_from_slice(characters.as_bytes())
@@ -23,8 +23,8 @@ fn digit(n: u8) -> u8
     if n < 10 { b'0' + n } else { b'A' + (n - 10) }
 }
 
-// The two digits of a byte.
-pub(crate) fn put_byte(text: &mut Vec<u8>, n: u8) -> Result<(), AllocError>
+/// Puts the two hexadecimal digits of a byte, in capitals.
+pub fn put_byte(text: &mut Vec<u8>, n: u8) -> Result<(), AllocError>
     ensures { OnOk result (text.new.items ≡ text.old.items ++ hex_digits 2 n) }
 {
     text.extend_from_slice(&[digit(n / 16), digit(n % 16)])

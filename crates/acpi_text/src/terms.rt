@@ -14,9 +14,9 @@ use crate::operators::op_name;
 use acpi_tree::{Int, Operand, Term};
 use std::alloc::AllocError;
 
-// A term, in one line; of an If or a While its head alone.
+/// Puts a term in one line (ACPI 6.5, 20.2.5); of an If or a While its head alone.
 #[cycle(put_term)]
-pub(crate) fn put_term(text: &mut Vec<u8>, term: &Term) -> Result<(), AllocError>
+pub fn put_term(text: &mut Vec<u8>, term: &Term) -> Result<(), AllocError>
     ensures { OnOk result (text.new.items ≡ text.old.items ++ term_text (term_view term.now)) }
 {
     match term {

@@ -1,4 +1,4 @@
 pub mod Printing
 pub mod BodyAt
-pub mod Telling
+pub mod PathTexts
 pub mod Wholes

@@ -1,5 +1,4 @@
 pub mod FaultTexts
-pub mod Told
 pub mod Listings
 pub mod Shown
 pub mod Checked

@@ -8,12 +8,12 @@ ghost use Rattle.acpins_output.specs.FaultTexts.{fault_text};
 
 use crate::faults::put_fault;
 use crate::output::{Output, put};
-use crate::parts::IntoText;
 use acpi_load::{Checked, LoadFault, LoadReason, Satisfied, Verdict, check_shared};
 use acpi_name::Path;
 use acpi_space::Space;
 use acpi_terms::{Depth, Object};
 use acpi_text::{put_decimal, put_path};
+use acpins_io::IntoText;
 use bytes::Bytes;
 use std::alloc::{AllocError, Global};
 

@@ -3,14 +3,14 @@
 ghost use Rattle.std.specs.Prelude.{◌≡◌, ◌++◌, ◌∷◌, codes, decimal};
 ghost use Rattle.std.specs.List.{flat_map};
 ghost use Rattle.acpi_name.specs.Text.{path_text};
-ghost use Rattle.acpins_output.specs.Told.{Tells};
+ghost use Rattle.acpins_io.specs.Told.{Tells};
 ghost use Rattle.acpins_output.specs.FaultTexts.{table_fault_text, item_reason_text, refusal_text, load_reason_text, fault_text};
 
-use crate::parts::PartWriter;
 use acpi_load::{LoadReason, Refusal};
 use acpi_name::{Path, Seg};
 use acpi_table::{HEADER_BYTES, TableFault};
 use acpi_terms::ItemReason;
+use acpins_io::{PartWriter, put_number, put_text};
 
 /// The words of a table fault.
 pub fn table_fault_word(fault: TableFault) -> &'static str
@@ -56,25 +56,6 @@ fn refusal_word(refusal: Refusal) -> &'static str
         Refusal::NoParent => "E4 NoParent",
         Refusal::NotAScope => "E5 NotAScope",
         Refusal::Taken => "E6 Taken",
-    }
-}
-
-/// Writes a text.
-pub fn put_text<E, P: PartWriter<E>>(parts: &mut P, err: &mut E, text: &str)
-    ensures { Tells text.now (P.failed parts.old) (P.contents err.old) (P.failed parts.new) (P.contents err.new) }
-{
-    parts.write_part(err, text.as_bytes())
-}
-
-/// Writes a number's decimal digits: those of its tenth part, and the last one.
-pub fn put_number<E, P: PartWriter<E>>(parts: &mut P, err: &mut E, n: usize)
-    ensures { Tells (decimal n) (P.failed parts.old) (P.contents err.old) (P.failed parts.new) (P.contents err.new) }
-{
-    if n >= 10 {
-        put_number(parts, err, n / 10);
-        parts.write_part(err, &[b'0' + (n % 10) as u8])
-    } else {
-        parts.write_part(err, &[b'0' + n as u8])
     }
 }
 

@@ -15,12 +15,10 @@ mod checking;
 mod faults;
 mod listing;
 mod output;
-mod parts;
 mod showing;
 
 pub use checking::check;
-pub use faults::{put_fault, put_item, put_load_reason, put_number, put_text, table_fault_word};
+pub use faults::{put_fault, put_item, put_load_reason, table_fault_word};
 pub use listing::{links_of, list};
 pub use output::Output;
-pub use parts::{IntoText, PartWriter, UntilFailure, write_whole};
 pub use showing::{body_at, show};

@@ -8,7 +8,7 @@ use Rattle.std.proofs.lemmas.List.Elements.{All-nil, All-push}
 use Rattle.std.proofs.lemmas.List.Folds.{concat-append}
 use Rattle.acpi_table.specs.Tables.{IsTable, IsRefusedAs}
 use Rattle.acpi_table.specs.declared.tables.TableFault.{TableFault}
-use Rattle.acpins_run.specs.Hexadecimal.{SpellsInHex}
+use Rattle.acpins_io.specs.Hexadecimal.{SpellsInHex}
 use Rattle.acpins_run.specs.Input.{FileBytes, Stores, AreTablesIn, AreTablesOf, AddsTablesOf, BreaksOff, IsFileFault, IsFilesFault}
 use Rattle.acpins_run.specs.steps.HexFiles.{IsHexFault}
 use Rattle.acpins_run.specs.declared.failure.Failure.{Failure}

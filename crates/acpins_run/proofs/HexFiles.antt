@@ -2,8 +2,8 @@
 use Rattle.std.proofs.Common.{◌≡◌, ℕ, List, [], ◌++◌, Option, Some, None, sym, subst, ap, ◌∙◌, append_assoc, append-nil}
 use Rattle.std.specs.Prelude.{IfSome}
 use Rattle.std.specs.Io.KnownBytes.{Consumes, IsAtEnd}
-use Rattle.acpins_run.specs.Hexadecimal.{SpellsInHex}
-use Rattle.acpins_run.specs.steps.HexDecoding.{SpellsNothing}
+use Rattle.acpins_io.specs.Hexadecimal.{SpellsInHex}
+use Rattle.acpins_io.specs.steps.HexDecoding.{SpellsNothing}
 
 -- what holds of the text that was taken holds of all that is known
 pub of_whole : (P : List ℕ → Type 0) (a b : Option (List ℕ)) (text : List ℕ) → Consumes a b text → IsAtEnd b → P text → IfSome a P

@@ -1,5 +1,4 @@
 pub mod Cutting
-pub mod Decoding
 pub mod HexFiles
 pub mod Runs
 pub mod Refused

@@ -10,7 +10,7 @@ use Rattle.acpins_run.specs.Input.{FileBytes, AreTablesOf}
 use Rattle.acpins_run.specs.Failures.{failure_of}
 use Rattle.acpins_run.specs.Runs.{IsFailureOf, IsRunFailure, GetsBeginning, loaded_by}
 use Rattle.acpins_run.specs.declared.failure.Failure.TheVariants.{Output}
-use Rattle.acpins_output.proofs.Telling.{appends_nothing}
+use Rattle.acpins_io.proofs.Telling.{appends_nothing}
 
 -- a refusal of what the command loads is a failure of the run
 pub refusal_of : (bytes_of : FileBytes) (asked : Asked) (tables loaded : List (List ℕ)) (e : LoadFault) → AreTablesOf bytes_of asked.hex asked.files tables

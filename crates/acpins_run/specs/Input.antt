@@ -5,7 +5,7 @@ use Rattle.acpi_table.specs.Sources.{one_more}
 use Rattle.acpi_table.specs.Tables.{IsTable, IsRefusedAs}
 use Rattle.acpi_table.specs.declared.tables.TableFault.{TableFault}
 use Rattle.acpi_order.specs.Machines.{Machine, IsMachine}
-use Rattle.acpins_run.specs.Hexadecimal.{SpellsInHex}
+use Rattle.acpins_io.specs.Hexadecimal.{SpellsInHex}
 use Rattle.acpins_run.specs.declared.failure.Failure.{Failure}
 use Rattle.acpins_run.specs.declared.failure.Failure.TheVariants.{Read, BadHex, Table, Memory}
 use Rattle.acpins_words.specs.declared.words.Request.{Request}

@@ -1,4 +1,3 @@
-pub mod Hexadecimal
 pub mod Input
 pub mod Failures
 pub mod FailureLines

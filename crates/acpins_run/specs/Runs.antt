@@ -14,7 +14,7 @@ use Rattle.acpins_run.specs.Input.{FileBytes, AreTablesOf, IsFilesFault, IsLoadO
 use Rattle.acpins_output.specs.Listings.{Prints}
 use Rattle.acpins_output.specs.Shown.{Shows}
 use Rattle.acpins_output.specs.Checked.{Checks}
-use Rattle.acpins_output.specs.Told.{AppendsBeginning}
+use Rattle.acpins_io.specs.Told.{AppendsBeginning}
 use Rattle.acpins_run.specs.Rewritten.{file_text, IsUnwritten, Holds}
 use Rattle.acpins_run.specs.Failures.{failure_of, status_of}
 use Rattle.acpins_run.specs.FailureLines.{failure_line}

@@ -1,2 +1,1 @@
-pub mod HexDecoding
 pub mod HexFiles

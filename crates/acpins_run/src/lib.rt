@@ -21,19 +21,16 @@
 #![tactic(auto)]
 
 mod failure;
-mod files;
-mod hexadecimal;
-mod host;
 pub mod laws;
 mod lines;
 mod program;
 mod rewriting;
 mod tables;
 
-pub use acpins_output::{Output, PartWriter, UntilFailure};
+pub use acpins_io::{
+    FileFault, Files, HexFault, HostFile, HostFiles, PartWriter, UntilFailure, from_hex,
+};
+pub use acpins_output::Output;
 pub use failure::Failure;
-pub use files::{FileFault, Files};
-pub use hexadecimal::{HexFault, from_hex};
-pub use host::{HostFile, HostFiles};
 pub use program::{made_in, run, run_telling, told};
 pub use tables::add_tables;

@@ -1,14 +1,13 @@
 //! The line that says why a run failed.
 
 ghost use Rattle.std.specs.Prelude.{◌≡◌, ◌++◌, codes, decimal};
-ghost use Rattle.acpins_output.specs.Told.{Tells};
+ghost use Rattle.acpins_io.specs.Told.{Tells};
 ghost use Rattle.acpins_output.specs.FaultTexts.{table_fault_text, item_reason_text, load_reason_text};
 ghost use Rattle.acpins_run.specs.FailureLines.{failure_text, failure_line};
 
 use crate::failure::Failure;
-use acpins_output::{
-    PartWriter, put_item, put_load_reason, put_number, put_text, table_fault_word,
-};
+use acpins_io::{PartWriter, put_number, put_text};
+use acpins_output::{put_item, put_load_reason, table_fault_word};
 
 // A table's number, before what fails in it.
 fn put_table<E, P: PartWriter<E>>(parts: &mut P, err: &mut E, number: usize)

@@ -6,10 +6,10 @@ ghost use Rattle.acpi_declare.specs.Refusals.{IsLoadFault};
 ghost use Rattle.acpins_run.specs.Rewritten.{file_text, table_text, IsFileOf, IsUnwritten, Holds};
 
 use crate::failure::Failure;
-use crate::files::{FileFault, Files};
 use acpi_load::{LoadFault, rewrite_joined, rewrite_shared};
 use acpi_space::Space;
 use acpi_terms::{Depth, Object};
+use acpins_io::{FileFault, Files};
 use bytes::Bytes;
 use std::alloc::{AllocError, Global};
 use std::io::Write;
@@ -59,8 +59,8 @@ fn unwritten(name: &str, fault: FileFault) -> Failure<'_>
     ensures { IsUnwritten name.now result }
 {
     match fault {
-        FileFault::Device => Failure::Out(name),
         FileFault::Memory => Failure::Memory,
+        _ => Failure::Out(name),
     }
 }
 

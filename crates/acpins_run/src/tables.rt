@@ -1,14 +1,13 @@
 //! Files into tables.
 
 ghost use Rattle.std.specs.Prelude.{◌≡◌, ◌++◌, ◌∷◌, [], false, IfOk, IfErr, OnOk, IfSome, vec_len};
-ghost use Rattle.acpins_run.specs.Hexadecimal.{SpellsInHex};
+ghost use Rattle.acpins_io.specs.Hexadecimal.{SpellsInHex};
 ghost use Rattle.acpins_run.specs.Input.{AddsTablesOf, IsFileFault, CountsFailedRead};
 ghost use Rattle.acpins_run.specs.steps.HexFiles.{IsHexFault};
 
 use crate::failure::Failure;
-use crate::files::{FileFault, Files};
-use crate::hexadecimal::{HexDecoder, HexFault};
 use acpi_table::{FromRead, ReadFault, SliceSource, Source, read_table};
+use acpins_io::{FileFault, Files, HexDecoder, HexFault};
 use bytes::Bytes;
 use std::alloc::{AllocError, Global};
 use std::io::Read;
@@ -93,8 +92,8 @@ pub fn add_tables<'a, F: Files>(
 {
     let mut file = match files.open(name) {
         Ok(file) => file,
-        Err(FileFault::Device) => return Err(Failure::Read(name)),
         Err(FileFault::Memory) => return Err(Failure::Memory),
+        Err(_) => return Err(Failure::Read(name)),
     };
     if !hex {
         return cut(alloc, name, &mut FromRead::new(file), tables);

@@ -1,4 +1,3 @@
-mod Adding
+pub mod Adding
 mod DepthText
-mod HexFlag
-mod WordsAsked
+pub mod WordsAsked

@@ -7,7 +7,6 @@ use Rattle.clap.specs.Faults.{fault_of, is_simple_and_free}
 use Rattle.clap.specs.Kinds.{IsAmong, Kinds}
 use Rattle.clap.specs.Simple.{is_simple, subcommand_of, subcommand_rows}
 use Rattle.clap.specs.Takes.{is_given}
-use Rattle.clap.specs.Values.{bool_text}
 use Rattle.clap.specs.Walk.{Row, Text, all_of, first_of, is_empty}
 use Rattle.clap.specs.declared.error.kind.ErrorKind.{ErrorKind}
 use Rattle.clap.specs.declared.parser.matches.ArgMatches.TheViews.{out-SubCommand}
@@ -50,12 +49,6 @@ no_depth name rows command is none = asked_by_parts name rows command _ None _ i
     go : (o : Option Command) → option_and_then (λ c. nothing) o ≡ None
     go None = refl
     go (Some c) = refl
-
--- the value of a flag, by the text that is read of it
-pub flag_is : (b flag : Bool) (one : Option Text) → one ≡ Some (bool_text b) → (one ≡ Some (codes "true") → flag ≡ true) → (one ≡ Some (codes "false") → flag ≡ false)
-    → flag ≡ b
-flag_is true flag one is on off = on is
-flag_is false flag one is on off = off is
 
 not_empty : {X : Type 0} (x : X) (xs : List X) → is_empty (x ∷ xs) ≡ false
 not_empty x xs = grind (arith, nat_tests)

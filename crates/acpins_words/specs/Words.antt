@@ -8,9 +8,8 @@ use Rattle.clap.specs.Lexer.{usize_max}
 use Rattle.clap.specs.Faults.{fault_of}
 use Rattle.clap.specs.Simple.{App, Shape, new_rule, new_shape, subcommand_of, with_subcommand}
 use Rattle.clap.specs.Takes.{is_given}
-use Rattle.clap.specs.Walk.{Row, Rule, all_of, first_of, is_empty, one_of}
+use Rattle.clap.specs.Walk.{Row, Rule, all_of, first_of, is_empty}
 pub use Rattle.clap.specs.Walk.{Text, texts}
-use Rattle.clap.specs.Values.{bool_text}
 use Rattle.clap.specs.declared.builder.ArgAction.TheVariants.{Append, Set, SetTrue}
 use Rattle.acpins_words.specs.declared.words.Command.{Command as CommandWords}
 use Rattle.acpins_words.specs.declared.words.Command.TheVariants as read
@@ -42,25 +41,21 @@ file_rule = record (new_rule (codes "file")) {
   action = Some Append;
 }
 
--- `list`
-abbrev pub list_shape : Shape
-list_shape = record (new_shape (codes "list")) { rules = hex_rule ∷ depth_rule ∷ file_rule ∷ [] }
+-- a command over files
+abbrev pub files_shape : Text → Shape
+files_shape name = record (new_shape name) { rules = hex_rule ∷ depth_rule ∷ file_rule ∷ [] }
 
--- `show`: the first word that is no option is the path, and the others are files
-abbrev pub show_shape : Shape
-show_shape = record (new_shape (codes "show")) { rules = hex_rule ∷ depth_rule ∷ path_rule ∷ file_rule ∷ [] }
+-- .. with a path: the first word that is no option, and the others are files
+abbrev pub path_shape : Text → Shape
+path_shape name = record (new_shape name) { rules = hex_rule ∷ depth_rule ∷ path_rule ∷ file_rule ∷ [] }
 
--- `check`
-abbrev pub check_shape : Shape
-check_shape = record (new_shape (codes "check")) { rules = hex_rule ∷ depth_rule ∷ file_rule ∷ [] }
+-- .. with the file that is written: the first word that is no option, and the others are read
+abbrev pub out_shape : Text → Shape
+out_shape name = record (new_shape name) { rules = hex_rule ∷ depth_rule ∷ out_rule ∷ file_rule ∷ [] }
 
--- `rewrite`: the first word that is no option is the file that is written, and the others are read
-abbrev pub rewrite_shape : Shape
-rewrite_shape = record (new_shape (codes "rewrite")) { rules = hex_rule ∷ depth_rule ∷ out_rule ∷ file_rule ∷ [] }
-
--- a subcommand is wanted, and there is no help and no version to ask for
-abbrev pub acpins_shape : Shape
-acpins_shape = record (new_shape (codes "acpins")) {
+-- a program: a subcommand is wanted, and there is no help and no version to ask for
+abbrev pub program_shape : Text → Shape
+program_shape name = record (new_shape name) {
   no_binary_name = true;
   disable_help_flag = true;
   disable_version_flag = true;
@@ -74,7 +69,11 @@ alone shape = record { top = shape; subs = [] }
 
 -- the command, as clap reads it
 abbrev pub acpins_app : App
-acpins_app = with_subcommand (with_subcommand (with_subcommand (with_subcommand (alone acpins_shape) list_shape) show_shape) check_shape) rewrite_shape
+acpins_app =
+    let list = with_subcommand (alone (program_shape (codes "acpins"))) (files_shape (codes "list")) in
+    let show = with_subcommand list (path_shape (codes "show")) in
+    let check = with_subcommand show (files_shape (codes "check")) in
+    with_subcommand check (out_shape (codes "rewrite"))
 
 -- ---- what words ask for
 
@@ -126,10 +125,6 @@ asked_by name rows =
     }) (all_of (codes "file") rows))
     (depth_or_usual (first_of (codes "depth") rows)))
     (command_by name rows)
-
--- of `--hex` a typed getter reads `true` where the words say it, and else `false`
-abbrev pub ReadsHex : List Row → Type 0
-ReadsHex rows = one_of (codes "hex") rows ≡ Some (bool_text (is_given (codes "hex") rows))
 
 -- nothing, where clap finds a fault in the words
 unfoldable pub asked_of : List Text → Option Asked

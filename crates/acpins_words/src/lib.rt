@@ -5,9 +5,12 @@
 //! // request.command is Command::Show("\\_SB_.PCI0"); request.files is ["dsdt.hex"]
 //! ```
 //!
+//! `arguments` has what the words of other commands over tables share with these.
+//!
 //! The forms are `clap`'s; what words ask for is `asked_of` of `specs/`, over `clap`'s own account of its forms.
 #![tactic(auto)]
 
+pub mod arguments;
 mod fault;
 mod words;
 

@@ -2,7 +2,7 @@
 
 ghost use Rattle.std.specs.Prelude.{◌≡◌, ℕ, List, Some, IfOk};
 ghost use Rattle.std.specs.List.{concat};
-ghost use Rattle.acpins_run.specs.Hexadecimal.{SpellsInHex};
+ghost use Rattle.acpins_io.specs.Hexadecimal.{SpellsInHex};
 
 use crate::outcome::{Kept, PCI0, kept_bytes};
 use acpins_run::{Failure, FileFault, Files, add_tables};

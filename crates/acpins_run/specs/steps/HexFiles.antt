@@ -1,6 +1,6 @@
 -- Files of hexadecimal text.
 use Rattle.std.specs.Prelude.{◌≡◌, ℕ, List, Option, IfSome}
-use Rattle.acpins_run.specs.Hexadecimal.{SpellsInHex}
+use Rattle.acpins_io.specs.Hexadecimal.{SpellsInHex}
 use Rattle.acpins_run.specs.declared.failure.Failure.{Failure}
 use Rattle.acpins_run.specs.declared.failure.Failure.TheVariants.{Read, BadHex, Memory}
 

@@ -1,5 +1,6 @@
 use Rattle.std.proofs.Common.{◌∷◌}
-use Rattle.acpins_output.proofs.Telling.{tells_more, behind_more}
+use Rattle.acpins_io.proofs.Telling.{tells_more}
+use Rattle.acpins_output.proofs.PathTexts.{behind_more}
 use Rattle.acpins_output.proofs.faults.put_behind.Goals as goal
 
 pub loop-seg-preserved : goal.loop-seg-preserved

@@ -1,6 +1,6 @@
 use Rattle.std.proofs.Common.{◌∷◌, take}
 use Rattle.std.specs.List.{flat_map}
-use Rattle.acpins_output.specs.Told.{Tells}
+use Rattle.acpins_io.specs.Told.{Tells}
 use Rattle.acpins_output.proofs.faults.put_behind.Given as goal
 
 abbrev pub invariant-loop-seg : goal.invariant-loop-seg

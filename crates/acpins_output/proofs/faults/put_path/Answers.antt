@@ -1,4 +1,5 @@
-use Rattle.acpins_output.proofs.Telling.{tells_more, path_said}
+use Rattle.acpins_io.proofs.Telling.{tells_more}
+use Rattle.acpins_output.proofs.PathTexts.{path_said}
 use Rattle.acpins_output.proofs.faults.put_path.Goals as goal
 
 pub returns-in-len1-up : goal.returns-in-len1-up

@@ -1,4 +1,4 @@
-use Rattle.acpins_output.proofs.Telling.{tells_more}
+use Rattle.acpins_io.proofs.Telling.{tells_more}
 use Rattle.acpins_output.proofs.faults.put_refusal.Goals as goal
 
 pub returns : goal.returns

@@ -1,4 +1,4 @@
-use Rattle.acpins_output.proofs.Telling.{tells_more}
+use Rattle.acpins_io.proofs.Telling.{tells_more}
 use Rattle.acpins_run.proofs.lines.put_failure.Goals as goal
 
 pub returns-in-Read : goal.returns-in-Read

@@ -1,5 +1,5 @@
 use Rattle.std.proofs.Common.{◌≡◌, ◌<◌, ◌++◌, [], ℕ, List, length, take, ap, arith, refl, Err}
-use Rattle.acpins_run.specs.Hexadecimal.{SpellsInHex}
+use Rattle.acpins_io.specs.Hexadecimal.{SpellsInHex}
 use Rattle.acpins_run.proofs.Cutting.{Consumes-both}
 use Rattle.acpins_run.proofs.HexFiles.{of_whole, at_end, none_spelled}
 use Rattle.acpins_run.proofs.tables.read_hex.Goals as goal

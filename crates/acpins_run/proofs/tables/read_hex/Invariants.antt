@@ -1,6 +1,6 @@
 use Rattle.std.proofs.Common.{◌≡◌, ℕ, List, length}
 use Rattle.std.specs.Io.KnownBytes.{Consumes}
-use Rattle.acpins_run.specs.steps.HexDecoding.{IsDecoded}
+use Rattle.acpins_io.specs.steps.HexDecoding.{IsDecoded}
 use Rattle.acpins_run.proofs.tables.read_hex.Given as goal
 
 abbrev pub invariant-loop : goal.invariant-loop

@@ -9,7 +9,6 @@ use Rattle.clap.specs.Walk.{rows_of, texts}
 use Rattle.clap.specs.declared.parser.matches.ArgMatches.TheViews.{out-ArgMatches}
 use Rattle.acpins_words.specs.Words.{acpins_app, asked_by, asked_of}
 use Rattle.acpins_words.specs.declared.fault.WordsFault.TheVariants.{Memory, Wrong}
-use Rattle.acpins_words.proofs.HexFlag.{hex_read}
 use Rattle.acpins_words.proofs.WordsAsked.{app_is_free, app_is_simple, faulty_words, found_whole, sound_words}
 use Rattle.acpins_words.proofs.words.read_words.Goals as goal
 use Rattle.acpins_words.proofs.words.read_words.Goals.{In-Some}
@@ -40,9 +39,6 @@ asked_are c =
     let none = c.in-Ok.ensures.kinds (ap is_simple_and_free app_is ∙ app_is_free) in
     sound_words (texts c.args.words.now) c.in-Some.name.now (rows_of (found_of c.in-Some.found.now))
     (ap (λ (a : App). fault_of a (texts c.args.words.now)) (sym app_is) ∙ none) (found_are c)
-
-pub request_of-requires : goal.request_of-requires
-request_of-requires c = hex_read (texts c.args.words.now) c.in-Some.name.now (rows_of (found_of c.in-Some.found.now)) (found_are c)
 
 pub returns-clause-found : goal.returns-clause-found
 returns-clause-found c =

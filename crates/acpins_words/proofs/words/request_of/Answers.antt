@@ -1,10 +1,10 @@
 use Rattle.std.proofs.Common.{◌∙◌, ◌≡◌, ap, refl, Some, None, codes}
-use Rattle.clap.proofs.WalkLemmas.{one_text-rows, raw_values-rows}
+use Rattle.clap.proofs.WalkLemmas.{raw_values-rows}
 use Rattle.clap.specs.Matches.{found_of}
 use Rattle.clap.specs.Takes.{is_given}
 use Rattle.clap.specs.Walk.{rows_of, texts}
 use Rattle.acpins_words.specs.Words.{command_in}
-use Rattle.acpins_words.proofs.WordsAsked.{asked_by_parts, flag_is, no_command, no_depth}
+use Rattle.acpins_words.proofs.WordsAsked.{asked_by_parts, no_command, no_depth}
 use Rattle.acpins_words.proofs.words.request_of.Goals as goal
 
 pub returns-in_default-clause-wrong : goal.returns-in_default-clause-wrong
@@ -26,9 +26,6 @@ pub returns-clause-found : goal.returns-clause-found
 returns-clause-found c =
     let found = found_of c.args.found.now in
     let rows = rows_of found in
-    let read = one_text-rows found (codes "hex") in
-    let hex : c.get_flag.result ≡ is_given (codes "hex") rows =
-    flag_is (is_given (codes "hex") rows) c.get_flag.result _ (read ∙ c.requires) c.get_flag.ensures.value c.get_flag.ensures.other in
-    asked_by_parts c.args.name.now rows (Some (command_in c.in-Some.command)) c.get_flag.result (Some c.in-Some-depth_in.depth) (Some (texts c.in_ok-files.files.items))
-    c.in-Some.ensures hex c.in-Some-depth_in.ensures
+    asked_by_parts c.args.name.now rows (Some (command_in c.in-Some.command)) c.has_hex.result (Some c.in-Some-depth_in.depth) (Some (texts c.in_ok-files.files.items))
+    c.in-Some.ensures c.has_hex.ensures c.in-Some-depth_in.ensures
     (ap (λ items. Some (texts items)) c.in_ok-files.ensures.items ∙ c.in-Some-get_strs.ensures ∙ raw_values-rows found (codes "file"))

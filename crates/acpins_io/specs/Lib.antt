@@ -1,0 +1,4 @@
+pub mod Told
+pub mod Hexadecimal
+pub mod Dump
+pub mod steps

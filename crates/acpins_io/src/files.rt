@@ -1,0 +1,81 @@
+//! The files that a run opens and makes.
+
+ghost use Rattle.std.specs.Prelude.{◌≡◌, ◌≢◌, ℕ, List, [], Option, Some, None, IfOk, OnOk, OnErr, IfSome, ⊤};
+ghost use Rattle.std.specs.Io.KnownBytes.{Keeps};
+ghost use Rattle.acpins_io.specs.declared.files.FileFault.{FileFault};
+
+use std::alloc::{AllocError, AllocFailed};
+use std::io::{Read, Write};
+
+/// Why a file can't be had.
+#[derive(Clone, Copy, Debug, PartialEq, Eq)]
+pub enum FileFault {
+    /// No file has that name.
+    Missing,
+    /// The file may not be opened.
+    Denied,
+    /// The file could not be opened, made, read or ended for another reason.
+    Device,
+    /// A growth of memory was refused.
+    Memory,
+}
+
+impl From<AllocError> for FileFault {
+    ghost from_gives = { λ _ f. f ≡ FileFault.Memory };
+
+    fn from(_error: AllocError) -> FileFault {
+        FileFault::Memory
+    }
+}
+
+impl<T: Drop> From<AllocFailed<T>> for FileFault {
+    ghost from_gives = { λ _ f. f ≡ FileFault.Memory };
+
+    fn from(_failed: AllocFailed<T>) -> FileFault {
+        FileFault::Memory
+    }
+}
+
+/// Files by name, as the words give it. Contracts see the bytes of the file of each name, and what was written to it
+/// since the run began, where these are known.
+pub trait Files {
+    // The bytes of each file before the run. Nothing is said of what making or ending a file does to them.
+    ghost bytes_of: { Self → List ℕ → Option (List ℕ) } = { λ _ _. None };
+
+    // What was written to each file that was ended; none to one that was never made.
+    ghost written_to: { Self → List ℕ → Option (List ℕ) } = { λ _ _. None };
+
+    // Whether the file that was made last was made under that name; any name may be it, where that is not known.
+    ghost was_made: { Self → List ℕ → Type 0 } = { λ _ _. ⊤ };
+
+    /// A file that is read.
+    type R: Read + Drop;
+
+    /// A file that is written.
+    type W: Write + Drop;
+
+    /// Opens the file to be read from its first byte.
+    fn open(&mut self, name: &str) -> Result<Self::R, FileFault>
+        ensures bytes { IfOk result (λ file. IfSome (bytes_of self.old name.now) (λ bytes. Self.R.remaining file ≡ Some bytes)) }
+        ensures stays { bytes_of self.new ≡ bytes_of self.old }
+        ensures others { written_to self.new ≡ written_to self.old };
+
+    /// Makes a file, which is to stand under that name once it is closed; what stands there stays until then. Files
+    /// are made one at a time: the next one is made when this one was closed or given up.
+    fn create(&mut self, name: &str) -> Result<Self::W, FileFault>
+        ensures made { OnOk result (was_made self.new name.now) }
+        ensures empty { IfOk result (λ file. IfSome (written_to self.old name.now) (λ _. Self.W.contents file ≡ Some [])) }
+        ensures stays { written_to self.new ≡ written_to self.old };
+
+    /// Ends the file that was made last, which was written whole. One that can't be ended is given up.
+    fn close(&mut self, file: Self::W) -> Result<(), FileFault>
+        ensures written { OnOk result ((name : List ℕ) → was_made self.old name
+            → IfSome (written_to self.old name) (λ _. Keeps (Self.W.contents file) (written_to self.new name))) }
+        ensures others { (name other : List ℕ) → was_made self.old name → other ≢ name → written_to self.new other ≡ written_to self.old other }
+        ensures left { OnErr result (written_to self.new ≡ written_to self.old) };
+
+    /// Gives up a file that was not written whole.
+    fn abandon(&mut self, _file: Self::W)
+        ensures stays { written_to self.new ≡ written_to self.old }
+    {}
+}

@@ -1,0 +1,23 @@
+//! What the programs read and write: files by name, lines on a stream, hexadecimal text, and the text of `acpidump`.
+//!
+//! ```text
+//! name ── Files::open ──► bytes         HostFiles: the files of the host
+//! text ── from_hex ─────► bytes         HexDecoder: part by part
+//! text ── tables_in_dump ► tables       of the text that acpidump writes
+//! line ── PartWriter ───► a stream      UntilFailure: until a write fails; IntoText: into a text
+//! ```
+#![tactic(auto)]
+
+mod dump;
+mod files;
+mod hexadecimal;
+mod host;
+mod parts;
+
+pub use dump::{is_header, tables_in_dump};
+pub use files::{FileFault, Files};
+pub use hexadecimal::{HexDecoder, HexFault, from_hex};
+pub use host::{HostFile, HostFiles};
+pub use parts::{
+    IntoText, PartWriter, UntilFailure, Written, put_number, put_text, write_bytes, write_whole,
+};

@@ -1,0 +1,42 @@
+-- What entries declare, and the text of all of them.
+use Rattle.std.proofs.Common.{◌≡◌, ◌∙◌, ℕ, List, [], ◌++◌, Option, Some, None, is_some, unwrap_or, map, true≢false, ap, sym}
+use Rattle.std.specs.Option.{option_and_then, option_map}
+use Rattle.std.specs.Borrow.{Bor}
+use Rattle.std.specs.List.{flat_map}
+use Rattle.acpi_conditions.specs.Entries.{Path}
+use Rattle.acpi_tree.specs.Objects.{predefined_object}
+use Rattle.acpi_survey.specs.Lookup.{Found}
+use Rattle.acpi_survey.specs.declared.machine_survey.Survey.{Survey}
+use Rattle.acpi_survey.specs.declared.notes.Note.{Note}
+use Rattle.acpi_survey.specs.declared.problems.Problem.{Problem}
+use Rattle.acpins_survey_output.specs.Declaring.{object_in, predefined}
+use Rattle.acpins_survey_output.specs.Found.{found_text}
+use Rattle.acpins_survey_output.specs.Listings.{lent_pair, numbered_line, object_of}
+use Rattle.acpins_survey_output.specs.Objects.{ObjectParts, constant}
+use Rattle.acpins_survey_output.proofs.Separating.{flat_mapped}
+
+-- what a part declares that is found by number, or that of an object of a kind that isn't known
+pub declared_said : (p f : Option Found) (o : Option ObjectParts) (n : ℕ) → Some f ≡ option_map Some p → o ≡ option_and_then object_in f
+    → unwrap_or o (constant predefined_object) ≡ object_of p n
+declared_said None f o n found said = absurd (true≢false (ap is_some found))
+declared_said (Some part) f o n found said =
+    let same : f ≡ Some part = ap (λ x. unwrap_or x None) found in
+    ap (λ x. unwrap_or x (constant predefined_object)) (said ∙ ap (option_and_then object_in) same)
+
+-- without a part
+pub predefined_said : (p : Option Found) (o : ObjectParts) (n : ℕ) → None ≡ option_map Some p → o ≡ predefined n → o ≡ object_of p n
+predefined_said None o n found said = said
+predefined_said (Some part) o n found said = absurd (true≢false (sym (ap is_some found)))
+
+-- a line for each entry, and those of problems and notes behind
+pub listed : (s : Survey) (order lent : List (Bor Path × ℕ)) (ps : List Problem) (ns : List Note) (start mid new : List ℕ) → start ≡ [] → lent ≡ order
+    → ps ≡ s.found.problems.items → ns ≡ s.found.notes.items → mid ≡ start ++ flat_map (λ x. numbered_line s x.0.now x.1) lent → new ≡ mid ++ found_text ps ns
+    → new ≡ flat_map (λ (x : Path × ℕ). numbered_line s x.0 x.1) (map lent_pair order) ++ found_text s.found.problems.items s.found.notes.items
+listed s order lent ps ns start mid new none same problems notes first last =
+    let line = λ (x : Path × ℕ). numbered_line s x.0 x.1 in
+    let lines : mid ≡ flat_map line (map lent_pair order) =
+    first ∙ ap (λ t. t ++ flat_map (λ x. numbered_line s x.0.now x.1) lent) none
+    ∙ ap (λ xs. flat_map (λ (x : Bor Path × ℕ). numbered_line s x.0.now x.1) xs) same
+    ∙ sym (flat_mapped line lent_pair order) in
+    last ∙ ap (λ qs. mid ++ found_text qs ns) problems ∙ ap (λ ms. mid ++ found_text s.found.problems.items ms) notes
+    ∙ ap (λ t. t ++ found_text s.found.problems.items s.found.notes.items) lines

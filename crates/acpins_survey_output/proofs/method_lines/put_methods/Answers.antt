@@ -1,0 +1,13 @@
+use Rattle.std.proofs.Common.{ℕ, Option}
+use Rattle.acpi_conditions.specs.Entries.{Path}
+use Rattle.acpi_survey.specs.declared.body.MethodBody.{MethodBody}
+use Rattle.acpins_survey_output.specs.Listings.{lent_pair}
+use Rattle.acpins_survey_output.specs.Shown.{IsBodyAt, verdict_line}
+use Rattle.acpins_survey_output.proofs.Zipping.{zip_more_viewed}
+use Rattle.acpins_survey_output.proofs.method_lines.put_methods.Goals as goal
+
+pub loop-numbered-preserved : goal.loop-numbered-preserved
+loop-numbered-preserved c = λ o.
+    zip_more_viewed lent_pair (λ (x : Path × ℕ) (b : Option MethodBody). IsBodyAt c.args.survey.now x.1 b) verdict_line c.args.order.now c.loop-numbered.numbered-index
+    c.numbered-item.result c.args.text.now.items c.loop-numbered.text.items _ c.loop-numbered-test.true (c.loop-numbered.invariant o)
+    (c.in_ok-body.body, c.in_ok-body.ensures o.tile, c.in_ok-put_some_method.ensures) c.numbered-item.is

@@ -1,0 +1,69 @@
+-- What `list` prints of a survey (ACPI 6.5, 5.3).
+use Rattle.std.specs.Prelude.{◌≡◌, ℕ, suc, List, [], ◌∷◌, ◌++◌, Option, Some, None, map, slice_get, unwrap_or}
+use Rattle.std.specs.Borrow.{Bor}
+use Rattle.std.specs.Option.{option_map}
+use Rattle.std.specs.List.{flat_map}
+use Rattle.std.specs.List.Sorted.{IsPermutation, IsSorted}
+use Rattle.std.specs.Ordering.{ordering_then, nat_cmp}
+use Rattle.std.specs.declared.cmp.Ordering.{Ordering}
+use Rattle.acpi_name.specs.Paths.{path_cmp}
+use Rattle.acpi_tree.specs.Objects.{predefined_object}
+use Rattle.acpi_conditions.specs.Entries.{Path, Entry}
+use Rattle.acpi_survey.specs.Condition.{condition, PlacedParts}
+use Rattle.acpi_survey.specs.EntryLinks.{LinkParts, links_of_part}
+use Rattle.acpi_survey.specs.EntryParts.{part_declaring}
+use Rattle.acpi_survey.specs.Lookup.{Found}
+use Rattle.acpi_survey.specs.declared.machine_survey.Survey.{Survey}
+use Rattle.acpins_survey_output.specs.Declaring.{object_in, predefined}
+use Rattle.acpins_survey_output.specs.Entries.{entry_line}
+use Rattle.acpins_survey_output.specs.Found.{found_text}
+use Rattle.acpins_survey_output.specs.Objects.{ObjectParts, constant}
+
+-- ---- one entry, by its number
+
+abbrev pub entries_of : Survey → List Entry
+entries_of s = s.reading.walk.entries
+
+abbrev pub part_of : Survey → ℕ → Option Found
+part_of s n = part_declaring s.tables.items (entries_of s) n
+
+-- what the part declares; without a part the predefined object of that number
+abbrev pub object_of : Option Found → ℕ → ObjectParts
+object_of None n = predefined n
+object_of (Some part) n = unwrap_or (object_in part) (constant predefined_object)
+
+abbrev pub links_of : Survey → ℕ → List LinkParts
+links_of s n = links_of_part (entries_of s) s.reading.sources (slice_get (entries_of s) n) (part_of s n)
+
+abbrev pub condition_of : Survey → ℕ → List PlacedParts
+condition_of s n = unwrap_or (option_map (condition s.tables.items s.reading.opened (entries_of s)) (slice_get (entries_of s) n)) []
+
+-- the line of the entry of that number, which has that path
+abbrev pub numbered_line : Survey → Path → ℕ → List ℕ
+numbered_line s p n = entry_line p (object_of (part_of s n) n) (links_of s n) (condition_of s n)
+
+-- ---- all of them
+
+-- paths and numbers, in the order of the paths, those of one path in the order of the numbers
+abbrev pub numbered_from : ℕ → List Path → List (Path × ℕ)
+numbered_from n [] = []
+numbered_from n (p ∷ ps) = (p, n) ∷ numbered_from (suc n) ps
+
+abbrev pub numbered_cmp : Path × ℕ → Path × ℕ → Ordering
+numbered_cmp x y = ordering_then (path_cmp x.0 y.0) (nat_cmp x.1 y.1)
+
+-- each of the paths is there once, with its number
+pub record AreByPath (paths : List Path) (order : List (Path × ℕ)) : Type 0 where
+  pub each : IsPermutation (numbered_from 0 paths) order
+  pub ascending : IsSorted numbered_cmp order
+
+-- The text is a line for each entry, in the order of the paths, those of one path in the order of their places; and then a line for each
+-- problem and note.
+pub record IsListing (s : Survey) (text : List ℕ) : Type 0 where
+  pub order : List (Path × ℕ)
+  pub by_path : AreByPath (map (λ (e : Entry). e.path) (entries_of s)) order
+  pub text_is : text ≡ flat_map (λ (x : Path × ℕ). numbered_line s x.0 x.1) order ++ found_text s.found.problems.items s.found.notes.items
+
+-- a path that is lent, and a number
+abbrev pub lent_pair : Bor Path × ℕ → Path × ℕ
+lent_pair x = (x.0.now, x.1)

@@ -1,0 +1,76 @@
+//! The lines of entries.
+
+ghost use Rattle.std.specs.Prelude.{◌≡◌, ◌++◌, OnOk};
+ghost use Rattle.acpi_survey.specs.ConditionViews.{link_views, placed_views};
+ghost use Rattle.acpins_survey_output.specs.Entries.{entry_line};
+ghost use Rattle.acpins_survey_output.specs.ObjectViews.{declared_view};
+ghost use Rattle.acpi_survey.specs.EntryParts.{AllTile};
+ghost use Rattle.acpi_survey.specs.SurveyOrder.{IsInOrder};
+ghost use Rattle.acpins_survey_output.specs.Listings.{object_of, part_of, numbered_line};
+
+use crate::condition::put_condition;
+use crate::links::put_links;
+use crate::objects::{Declared, declared_by, predefined, put_declared};
+use acpi_conditions::Entry;
+use acpi_name::Path;
+use acpi_survey::{Link, PlacedLiteral, Site, Survey};
+use acpi_table::HEADER_BYTES;
+use acpi_text::{put, put_path};
+use std::alloc::AllocError;
+
+/// What the entry of that number declares.
+pub(crate) fn declared_at(survey: &Survey, number: usize) -> Declared<'_>
+    ensures { AllTile survey.now.tables.items → declared_view result
+        ≡ object_of (part_of survey.now number) number }
+{
+    match survey.part_of(number) {
+        Some(part) => match declared_by(&part) {
+            Some(declared) => declared,
+            None => Declared::Predefined,
+        },
+        None => predefined(number),
+    }
+}
+
+/// Puts the line of an entry: its path, what it declares, the links, and the condition where there is one.
+pub fn put_entry(
+    text: &mut Vec<u8>,
+    path: &Path,
+    declared: &Declared<'_>,
+    links: &[Link<'_>],
+    condition: &[PlacedLiteral<'_>],
+) -> Result<(), AllocError>
+    ensures { OnOk result (text.new.items ≡ text.old.items ++ entry_line path.now (declared_view declared.now) (link_views links.now) (placed_views condition.now)) }
+{
+    put_path(text, path)?;
+    put(text, " ")?;
+    put_declared(text, declared)?;
+    put_links(text, declared, links)?;
+    put_condition(text, condition)?;
+    put(text, "\n")
+}
+
+/// Puts the line of the entry of that number, which has that path.
+pub(crate) fn put_numbered(
+    text: &mut Vec<u8>,
+    survey: &Survey,
+    path: &Path,
+    number: usize,
+) -> Result<(), AllocError>
+    ensures { IsInOrder survey.now → OnOk result (text.new.items
+        ≡ text.old.items ++ numbered_line survey.now path.now number) }
+{
+    let declared = declared_at(survey, number);
+    let links = survey.links(number)?;
+    let condition = survey.condition(number)?;
+    put_entry(text, path, &declared, &links, &condition)
+}
+
+/// Where the term of an entry of a table stands.
+pub(crate) fn site_of(entry: &Entry) -> Site {
+    let place = entry.term.place;
+    Site {
+        table: (place / (1 << 64)) as usize,
+        offset: ((place % (1 << 64)) as usize).saturating_add(HEADER_BYTES),
+    }
+}

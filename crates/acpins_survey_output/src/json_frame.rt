@@ -1,0 +1,32 @@
+//! All that is said of tables, for programs.
+
+use crate::json_bodies::put_bodies;
+use crate::json_entries::put_entries;
+use crate::json_found::{put_notes, put_problems};
+use crate::json_tables::put_tables;
+use crate::json_values::put_number;
+use crate::order::by_path;
+use acpi_survey::Survey;
+use acpi_text::put;
+use std::alloc::{AllocError, Global};
+
+/// An object of JSON (RFC 8259) with all that the survey says: the limit of levels, tables, entries, bodies, problems and
+/// notes. Its members stand each on lines of their own, and so do the elements of their lists.
+pub fn json(alloc: Global, survey: &Survey) -> Result<Vec<u8>, AllocError> {
+    let order = by_path(alloc, survey.entries().paths.entries())?;
+    let mut text = Vec::new(alloc);
+    put(&mut text, "{\n\"format\":\"acpins-survey 1\",\n\"depth\":")?;
+    put_number(&mut text, u64::from(survey.depth.get()))?;
+    put(&mut text, ",\n")?;
+    put_tables(&mut text, &survey.tables)?;
+    put(&mut text, ",\n")?;
+    put_entries(&mut text, survey, &order)?;
+    put(&mut text, ",\n")?;
+    put_bodies(&mut text, survey, &order)?;
+    put(&mut text, ",\n")?;
+    put_problems(&mut text, survey.problems())?;
+    put(&mut text, ",\n")?;
+    put_notes(&mut text, survey.notes())?;
+    put(&mut text, "\n}\n")?;
+    Ok(text)
+}

@@ -1,0 +1,5 @@
+pub mod Failures
+pub mod FailureLines
+pub mod Input
+pub mod Runs
+pub mod steps

@@ -1,0 +1,105 @@
+-- What a run prints and says, and why it prints nothing.
+use Rattle.std.specs.Prelude.{◌≡◌, ◌≢◌, ◌⊎◌, ◌↔◌, ℕ, List, [], Option, Some, None}
+use Rattle.std.specs.Io.KnownBytes.{Appends}
+use Rattle.acpi_name.specs.Names.{Segment}
+use Rattle.acpi_name.specs.Text.{IsPathText, SpellsPathText}
+use Rattle.acpi_survey.specs.Predefined.{first_reading}
+use Rattle.acpi_survey.specs.SurveyOrder.{IsInOrder}
+use Rattle.acpi_survey.specs.Surveys.{AreTables, bytes_of}
+use Rattle.acpi_survey.specs.declared.machine_survey.Survey.{Survey}
+use Rattle.acpins_survey_output.specs.Listings.{IsListing}
+use Rattle.acpins_survey_output.specs.Shown.{IsBodyListing, IsShownOrNone}
+use Rattle.acpins_io.specs.Told.{AppendsBeginning}
+use Rattle.acpins_words.specs.Words.{Text}
+use Rattle.acpins_survey_words.specs.Words.{Asked, Command, Wish, listing, showing, telling_bodies, help, version, survey, wish_of}
+use Rattle.acpins_survey_run.specs.FailureLines.{failure_line}
+use Rattle.acpins_survey_run.specs.Failures.{status_of}
+use Rattle.acpins_survey_run.specs.Input.{FileBytes, FolderNames, AreTablesOf, IsFilesFault}
+use Rattle.acpins_survey_run.specs.declared.failure.Failure.{Failure}
+use Rattle.acpins_survey_run.specs.declared.failure.Failure.TheVariants.{WrongWords, BadPath, NoSuchPath, NoTable, Read, BadHex, Output, Memory}
+
+-- ---- what is printed
+
+-- the survey of these tables
+pub record IsSurvey (depth : ℕ) (tables : List (List ℕ)) (s : Survey) : Type 0 where
+  pub kept : bytes_of s.tables.items ≡ tables
+  pub read : AreTables depth 0 first_reading s.tables.items s.reading
+
+-- the survey of the tables in the files, one at least
+pub record IsSurveyOfFiles (files : FileBytes) (folders : FolderNames) (asked : Asked) (s : Survey) : Type 0 where
+  pub tables : List (List ℕ)
+  pub of_files : AreTablesOf files folders asked.hex asked.files tables
+  pub some : tables ≢ []
+  pub is : IsSurvey asked.depth tables s
+
+-- What a command prints of a survey. Nothing is said of `map` and `json`, and of the others where the entries of a table stand in order.
+abbrev pub IsTextOf : Command → Survey → List ℕ → Type 0
+IsTextOf listing s text = IsInOrder s → IsListing s text
+IsTextOf (showing word) s text = (path : List Segment) × SpellsPathText path word × (IsInOrder s → IsShownOrNone s path (Some text))
+IsTextOf telling_bodies s text = IsInOrder s → IsBodyListing s text
+IsTextOf _ s text = Unit {0}
+
+-- the word of `show` spells a path at which no object may be
+abbrev pub HasNothingAt : Command → Survey → Type 0
+HasNothingAt (showing word) s = (path : List Segment) × SpellsPathText path word × (IsInOrder s → IsShownOrNone s path None)
+HasNothingAt _ s = ⊥
+
+-- the text and the status of a command over tables: 3 where something in them is lost or refused, and else 0
+pub record IsSurveyed (files : FileBytes) (folders : FolderNames) (asked : Asked) (status : ℕ) (text : List ℕ) : Type 0 where
+  pub survey : Survey
+  pub is : IsSurveyOfFiles files folders asked survey
+  pub printed : IsTextOf asked.command survey text
+  pub status_is : (status ≡ 0) ⊎ (status ≡ 3)
+  pub problems : (status ≡ 0) ↔ (survey.found.problems.items ≡ [])
+
+-- what is printed for a wish, and the status with which the run ends then
+abbrev pub IsPrinted : FileBytes → FolderNames → Wish → ℕ → List ℕ → Type 0
+IsPrinted files folders (help topic) status text = status ≡ 0
+IsPrinted files folders version status text = status ≡ 0
+IsPrinted files folders (survey asked) status text = IsSurveyed files folders asked status text
+
+-- the words ask for that text
+abbrev pub IsOutput : FileBytes → FolderNames → List Text → ℕ → List ℕ → Type 0
+IsOutput files folders words status text = (wish : Wish) × (wish_of words ≡ Some wish) × IsPrinted files folders wish status text
+
+-- standard output gets it, whole
+abbrev pub GetsOutput : FileBytes → FolderNames → List Text → ℕ → Option (List ℕ) → Option (List ℕ) → Type 0
+GetsOutput files folders words status old new = (text : List ℕ) × IsOutput files folders words status text × Appends old new text
+
+-- .. or a beginning of it
+abbrev pub GetsBeginning : FileBytes → FolderNames → List Text → Option (List ℕ) → Option (List ℕ) → Type 0
+GetsBeginning files folders words old new = (status : ℕ) × (text : List ℕ) × IsOutput files folders words status text × AppendsBeginning text old new
+
+-- ---- why nothing is
+
+-- the word of `show` spells no path
+abbrev pub IsBadPath : Command → Type 0
+IsBadPath (showing word) = ¬ IsPathText word
+IsBadPath _ = ⊥
+
+-- why what the words ask for can't be made
+abbrev pub IsFailureOf : FileBytes → FolderNames → Asked → Failure → Type 0
+IsFailureOf files folders asked (Read file cause) = IsFilesFault files asked.hex (Read file cause)
+IsFailureOf files folders asked (BadHex file) = IsFilesFault files asked.hex (BadHex file)
+IsFailureOf files folders asked BadPath = IsBadPath asked.command
+IsFailureOf files folders asked NoSuchPath = (s : Survey) × IsSurveyOfFiles files folders asked s × HasNothingAt asked.command s
+IsFailureOf files folders asked NoTable = AreTablesOf files folders asked.hex asked.files []
+IsFailureOf files folders asked Memory = Unit {0}
+IsFailureOf files folders asked _ = ⊥
+
+-- why a run fails: the words ask for nothing; or what they ask for can't be made, or can't be written
+abbrev pub IsRunFailure : FileBytes → FolderNames → List Text → Failure → Type 0
+IsRunFailure files folders words WrongWords = wish_of words ≡ None
+IsRunFailure files folders words Memory = Unit {0}
+IsRunFailure files folders words Output = (status : ℕ) × (text : List ℕ) × IsOutput files folders words status text
+IsRunFailure files folders words failure = (asked : Asked) × (wish_of words ≡ Some (survey asked)) × IsFailureOf files folders asked failure
+
+-- A run ends with the status of such a failure, and its line is said. Standard output is as it was; if it was that which
+-- could not be written, it got a beginning of what the words ask for.
+pub record FailsWith (files : FileBytes) (folders : FolderNames) (words : List Text) (status : ℕ) (old new : Option (List ℕ)) (is_said : List ℕ → Type 0) : Type 0 where
+  pub failure : Failure
+  pub true_of : IsRunFailure files folders words failure
+  pub status_is : status ≡ status_of failure
+  pub kept : failure ≢ Output → new ≡ old
+  pub begun : failure ≡ Output → GetsBeginning files folders words old new
+  pub said : is_said (failure_line failure)

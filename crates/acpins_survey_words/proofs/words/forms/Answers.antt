@@ -1,0 +1,24 @@
+use Rattle.std.proofs.Common.{codes}
+use Rattle.std.proofs.lemmas.Result.{IfOk-weaker}
+use Rattle.clap.specs.Simple.{with_subcommand}
+use Rattle.acpins_words.specs.Words.{alone, files_shape, path_shape, program_shape}
+use Rattle.acpins_words.proofs.Adding.{subcommand_added}
+use Rattle.acpins_survey_words.proofs.words.forms.Goals as goal
+
+pub returns : goal.returns
+returns c =
+    let begun = alone (program_shape (codes "acpins-survey")) in
+    let list = files_shape (codes "list") in
+    let show = path_shape (codes "show") in
+    let map = files_shape (codes "map") in
+    let bodies = files_shape (codes "bodies") in
+    let listing = with_subcommand begun list in
+    let showing = with_subcommand listing show in
+    let mapping = with_subcommand showing map in
+    let telling = with_subcommand mapping bodies in
+    let with_list = subcommand_added c.over_files.result _ _ begun list c.in_ok-command.ensures c.program.ensures c.over_files.ensures.app c.over_files.ensures.local in
+    let with_show = subcommand_added c.over_path.result _ _ listing show c.in_ok-command-2.ensures with_list c.over_path.ensures.app c.over_path.ensures.local in
+    let with_map = subcommand_added c.over_files-2.result _ _ showing map c.in_ok-command-3.ensures with_show c.over_files-2.ensures.app c.over_files-2.ensures.local in
+    let with_bodies = subcommand_added c.over_files-3.result _ _ mapping bodies c.in_ok-command-4.ensures with_map c.over_files-3.ensures.app c.over_files-3.ensures.local in
+    IfOk-weaker c.with-5.result _ _
+    (λ command added. subcommand_added c.over_files-4.result _ command telling (files_shape (codes "json")) added with_bodies c.over_files-4.ensures.app c.over_files-4.ensures.local) c.with-5.ensures

@@ -1,0 +1,129 @@
+-- The words that follow the program's name, and what they ask for.
+use Rattle.std.specs.Prelude.{◌≡◌, ℕ, Bool, List, [], ◌∷◌, Option, Some, None, codes, if◌then◌else◌, option_and_then, option_map}
+use Rattle.std.specs.Str.{bytes_eq}
+use Rattle.clap.specs.Faults.{fault_of}
+use Rattle.clap.specs.Simple.{App, subcommand_of, with_subcommand}
+use Rattle.clap.specs.Takes.{is_given}
+use Rattle.clap.specs.Walk.{Row, all_of, first_of, is_empty}
+use Rattle.acpins_words.specs.Words.{Text, texts, alone, depth_or_usual, files_shape, path_shape, program_shape}
+use Rattle.acpins_survey_words.specs.declared.words.Command.{Command as CommandWords}
+use Rattle.acpins_survey_words.specs.declared.words.Command.TheVariants as read
+use Rattle.acpins_survey_words.specs.declared.words.Request.{Request}
+use Rattle.acpins_survey_words.specs.declared.words.Topic.{Topic}
+use Rattle.acpins_survey_words.specs.declared.words.Topic.TheVariants as topics
+use Rattle.acpins_survey_words.specs.declared.words.Wish.{Wish as WishWords}
+use Rattle.acpins_survey_words.specs.declared.words.Wish.TheVariants as wishes
+
+-- the command, as clap reads it
+abbrev pub survey_app : App
+survey_app =
+    let list = with_subcommand (alone (program_shape (codes "acpins-survey"))) (files_shape (codes "list")) in
+    let show = with_subcommand list (path_shape (codes "show")) in
+    let map = with_subcommand show (files_shape (codes "map")) in
+    let bodies = with_subcommand map (files_shape (codes "bodies")) in
+    with_subcommand bodies (files_shape (codes "json"))
+
+-- what is made of the survey of tables: the listing; the objects at the path that a text spells; the map of the bytes; the methods; JSON
+pub data Command : Type 0 where
+  listing : Command
+  showing : Text → Command
+  mapping : Command
+  telling_bodies : Command
+  json : Command
+
+-- a command over a list of tables: whether their files are hexadecimal text, how many levels terms may have, and the files
+pub record Asked : Type 0 where
+  pub command : Command
+  pub hex : Bool
+  pub depth : ℕ
+  pub files : List Text
+
+-- how the program is called, which one it is, or a survey
+pub data Wish : Type 0 where
+  help : Topic → Wish
+  version : Wish
+  survey : Asked → Wish
+
+-- ---- help
+
+-- what help is about, behind the name of a command
+abbrev pub topic_of : Text → Option Topic
+topic_of name =
+    if bytes_eq name (codes "list") then Some topics.List
+    else (if bytes_eq name (codes "show") then Some topics.Show
+    else (if bytes_eq name (codes "map") then Some topics.Map
+    else (if bytes_eq name (codes "bodies") then Some topics.Bodies
+    else (if bytes_eq name (codes "json") then Some topics.Json
+    else None))))
+
+abbrev pub lone_wish : Text → Option Wish
+lone_wish word =
+    if bytes_eq word (codes "--help") then Some (help topics.Program)
+    else (if bytes_eq word (codes "--version") then Some version else None)
+
+-- `--help`, `--version`, or the name of a command and `--help`
+abbrev pub help_in : List Text → Option Wish
+help_in (word ∷ []) = lone_wish word
+help_in (name ∷ word ∷ []) = if bytes_eq word (codes "--help") then option_map help (topic_of name) else None
+help_in _ = None
+
+-- ---- a survey
+
+-- the command of this name; for `show` the text that stands as PATH
+abbrev pub command_by : Text → List Row → Option Command
+command_by name rows =
+    if bytes_eq name (codes "list") then Some listing
+    else (if bytes_eq name (codes "show") then option_map showing (first_of (codes "path") rows)
+    else (if bytes_eq name (codes "map") then Some mapping
+    else (if bytes_eq name (codes "bodies") then Some telling_bodies
+    else (if bytes_eq name (codes "json") then Some json
+    else None))))
+
+-- what clap found: the command, `--hex`, the value of `--depth`, and the files
+abbrev pub asked_by : Text → List Row → Option Asked
+asked_by name rows =
+    option_and_then (λ command. option_and_then (λ depth. option_map (λ files. record {
+      command = command;
+      hex = is_given (codes "hex") rows;
+      depth = depth;
+      files = files;
+    }) (all_of (codes "file") rows))
+    (depth_or_usual (first_of (codes "depth") rows)))
+    (command_by name rows)
+
+-- nothing, where clap finds a fault in the words
+unfoldable pub asked_of : List Text → Option Asked
+asked_of words =
+    if is_empty (fault_of survey_app words)
+    then option_and_then (λ found. asked_by found.0 found.1) (subcommand_of survey_app words)
+    else None
+
+-- ---- what words ask for
+
+abbrev pub wish_or : Option Wish → List Text → Option Wish
+wish_or (Some wish) words = Some wish
+wish_or None words = option_map survey (asked_of words)
+
+abbrev pub wish_of : List Text → Option Wish
+wish_of words = wish_or (help_in words) words
+
+abbrev pub command_in : CommandWords → Command
+command_in read.List = listing
+command_in (read.Show path) = showing path.now
+command_in read.Map = mapping
+command_in read.Bodies = telling_bodies
+command_in read.Json = json
+
+-- a request, as what it asks for
+abbrev pub asked_in : Request → Asked
+asked_in r = record {
+  command = command_in r.command;
+  hex = r.hex;
+  depth = r.depth;
+  files = texts r.files.items;
+}
+
+abbrev pub wish_in : WishWords → Wish
+wish_in (wishes.Help topic) = help topic
+wish_in wishes.Version = version
+wish_in (wishes.Survey request) = survey (asked_in request)

@@ -1,0 +1,76 @@
+//! The texts of `--help` and `--version`.
+
+use crate::words::Topic;
+
+/// What `--version` prints.
+pub const VERSION: &str = "acpins-survey 1\n";
+
+const PROGRAM: &str = "\
+acpins-survey: what the tables DSDT and SSDT of a machine declare or may declare, and under which condition
+
+  acpins-survey list FILE..       a line for each object that may exist, then problems and notes
+  acpins-survey show PATH FILE..  the objects at PATH, with the bodies of methods
+  acpins-survey map FILE..        what each byte of each table is
+  acpins-survey bodies FILE..     every method: read, or why not
+  acpins-survey json FILE..       all of it, for programs
+
+  acpins-survey COMMAND --help    what COMMAND prints
+  acpins-survey --version         which program this is
+
+A FILE holds tables one after another, or the text that acpidump writes. A folder stands for the
+files in it: DSDT, then SSDT1, SSDT2 and so on, then the SSDTs in its folder dynamic; so
+/sys/firmware/acpi/tables stands for the tables of this machine. The first table is the DSDT.
+
+  --hex      the files are hexadecimal text
+  --depth N  the greatest level that a term may have, 1 to 4096; 1024 without it
+  --         ends the options
+
+The status is 0 where all is read, 3 where a table has a problem, 1 where a file or the output
+fails, and 2 where the words or PATH are wrong.
+";
+
+const LIST: &str = "\
+acpins-survey list [--hex] [--depth N] FILE..
+
+prints a line for each object that may exist, in the order of the paths: its path, what it is, and
+behind ? the condition under which it is declared. Then a line for each problem (!) and note (~),
+in the order of the tables: the table, the offset, why, and what is lost.
+";
+
+const SHOW: &str = "\
+acpins-survey show [--hex] [--depth N] PATH FILE..
+
+prints the line of each object at PATH, as list does, and below that of a method its body. PATH is
+\\, or \\ and names joined by dots, as \\_SB_.PCI0.
+";
+
+const MAP: &str = "\
+acpins-survey map [--hex] [--depth N] FILE..
+
+prints what each byte of each table belongs to: a line for each range, with the table, the first
+byte, the one behind the last, and what stands there. What stands in a range is below it.
+";
+
+const BODIES: &str = "\
+acpins-survey bodies [--hex] [--depth N] FILE..
+
+prints a line for each method of a table: that its terms are read, or why not, and where.
+";
+
+const JSON: &str = "\
+acpins-survey json [--hex] [--depth N] FILE..
+
+prints one object of JSON with all that list, show, bodies and the headers of the tables say.
+";
+
+/// What `--help` prints on the topic.
+pub fn help_of(topic: Topic) -> &'static str {
+    match topic {
+        Topic::Program => PROGRAM,
+        Topic::List => LIST,
+        Topic::Show => SHOW,
+        Topic::Map => MAP,
+        Topic::Bodies => BODIES,
+        Topic::Json => JSON,
+    }
+}

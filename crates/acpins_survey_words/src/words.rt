@@ -1,0 +1,195 @@
+//! The words of the command.
+
+ghost use Rattle.std.specs.Prelude.{◌≡◌, ◌∷◌, [], IfOk, None, option_map};
+ghost use Rattle.clap.specs.Matches.{found_of};
+ghost use Rattle.clap.specs.Simple.{app_of};
+ghost use Rattle.clap.specs.Walk.{rows_of, texts};
+ghost use Rattle.acpins_survey_words.specs.Words.{asked_by, asked_in, asked_of, command_by, command_in, help_in, lone_wish, survey_app, topic_of, wish_in, wish_of};
+
+use acpi_code::Depth;
+use acpins_words::WordsFault;
+use acpins_words::arguments::{depth_in, fault_of, has_hex, over_files, over_path, program, with};
+use clap::ArgMatches;
+use std::alloc::{AllocError, Global};
+
+/// What is made of the survey of the tables.
+#[derive(Debug, Drop)]
+pub enum Command<'a> {
+    /// A line for each object that may exist, then the problems and notes.
+    List,
+    /// The objects at the path that this text spells. Whether it spells one has not been looked at.
+    Show(&'a str),
+    /// What each byte of each table is.
+    Map,
+    /// Every method: read, or why not.
+    Bodies,
+    /// All of it, as JSON.
+    Json,
+}
+
+/// A survey that the words ask for: a command over the tables in these files.
+#[derive(Debug, Drop)]
+pub struct Request<'a> {
+    /// What is made.
+    pub command: Command<'a>,
+    /// Whether the files are hexadecimal text.
+    pub hex: bool,
+    /// The greatest level that a term may have.
+    pub depth: Depth,
+    /// The files and folders, in order.
+    pub files: Vec<&'a str>,
+}
+
+/// What help is about.
+#[derive(Clone, Copy, Debug, PartialEq, Eq)]
+pub enum Topic {
+    /// The whole program.
+    Program,
+    /// `list`
+    List,
+    /// `show`
+    Show,
+    /// `map`
+    Map,
+    /// `bodies`
+    Bodies,
+    /// `json`
+    Json,
+}
+
+/// What the words ask for.
+#[derive(Debug, Drop)]
+pub enum Wish<'a> {
+    /// How the program is called.
+    Help(Topic),
+    /// Which program this is.
+    Version,
+    /// A survey.
+    Survey(Request<'a>),
+}
+
+// What help is about behind the name of a command.
+fn topic_of(name: &str) -> Option<Topic>
+    ensures { result ≡ topic_of name.now }
+{
+    match name {
+        "list" => Some(Topic::List),
+        "show" => Some(Topic::Show),
+        "map" => Some(Topic::Map),
+        "bodies" => Some(Topic::Bodies),
+        "json" => Some(Topic::Json),
+        _ => None,
+    }
+}
+
+// What a word asks for that stands alone.
+fn lone_wish<'a>(word: &str) -> Option<Wish<'a>>
+    ensures { option_map wish_in result ≡ lone_wish word.now }
+{
+    match word {
+        "--help" => Some(Wish::Help(Topic::Program)),
+        "--version" => Some(Wish::Version),
+        _ => None,
+    }
+}
+
+// The help on a command that two words ask for.
+fn command_help<'a>(name: &str, word: &str) -> Option<Wish<'a>>
+    ensures { option_map wish_in result ≡ help_in (name.now ∷ word.now ∷ []) }
+{
+    match word {
+        "--help" => Some(Wish::Help(topic_of(name)?)),
+        _ => None,
+    }
+}
+
+// The help or the version that words ask for.
+fn help_in<'a>(words: &[&str]) -> Option<Wish<'a>>
+    ensures { option_map wish_in result ≡ help_in (texts words.now) }
+{
+    match words {
+        [word] => lone_wish(word),
+        [name, word] => command_help(name, word),
+        _ => None,
+    }
+}
+
+fn forms<'a>(alloc: Global) -> Result<clap::Command<'a>, AllocError>
+    ensures { IfOk result (λ command. app_of command ≡ survey_app) }
+{
+    let command = with(program(alloc, "acpins-survey"), over_files(alloc, "list"))?;
+    let command = with(command, over_path(alloc, "show"))?;
+    let command = with(command, over_files(alloc, "map"))?;
+    let command = with(command, over_files(alloc, "bodies"))?;
+    with(command, over_files(alloc, "json"))
+}
+
+// The command of this name, with what was found for it.
+fn command_in<'a>(name: &str, found: &ArgMatches<'a>) -> Option<Command<'a>>
+    ensures { option_map command_in result ≡ command_by name.now (rows_of (found_of found.now)) }
+{
+    match name {
+        "list" => Some(Command::List),
+        "show" => Some(Command::Show(found.get_str("path")?)),
+        "map" => Some(Command::Map),
+        "bodies" => Some(Command::Bodies),
+        "json" => Some(Command::Json),
+        _ => None,
+    }
+}
+
+// What the command of this name was found to ask for.
+fn request_of<'a>(
+    alloc: Global,
+    name: &str,
+    found: &ArgMatches<'a>,
+) -> Result<Request<'a>, WordsFault>
+    ensures found { IfOk result (λ request.
+        asked_by name.now (rows_of (found_of found.now)) ≡ Some (asked_in request)) }
+    ensures wrong { result ≡ Err WordsFault.Wrong
+        → asked_by name.now (rows_of (found_of found.now)) ≡ None }
+{
+    let Some(command) = command_in(name, found) else {
+        return Err(WordsFault::Wrong);
+    };
+    let Some(depth) = depth_in(found) else {
+        return Err(WordsFault::Wrong);
+    };
+    let Some(files) = found.get_strs("file") else {
+        return Err(WordsFault::Wrong);
+    };
+    let files = Vec::from_slice(alloc, files)?;
+    Ok(Request {
+        command,
+        hex: has_hex(found),
+        depth,
+        files,
+    })
+}
+
+// The survey that the words ask for.
+fn read_request<'a>(alloc: Global, words: &'a [&'a str]) -> Result<Request<'a>, WordsFault>
+    ensures found { IfOk result (λ request. asked_of (texts words.now) ≡ Some (asked_in request)) }
+    ensures wrong { result ≡ Err WordsFault.Wrong → asked_of (texts words.now) ≡ None }
+{
+    let command = forms(alloc)?;
+    let matches = match command.try_get_matches_from(words) {
+        Ok(matches) => matches,
+        Err(error) => return Err(fault_of(&error)),
+    };
+    let Some((name, found)) = matches.subcommand() else {
+        return Err(WordsFault::Wrong);
+    };
+    request_of(alloc, name, found)
+}
+
+/// Reads the words that follow the program's name. `WordsFault::Wrong` where they ask for nothing.
+pub fn read_words<'a>(alloc: Global, words: &'a [&'a str]) -> Result<Wish<'a>, WordsFault>
+    ensures found { IfOk result (λ wish. wish_of (texts words.now) ≡ Some (wish_in wish)) }
+    ensures wrong { result ≡ Err WordsFault.Wrong → wish_of (texts words.now) ≡ None }
+{
+    match help_in(words) {
+        Some(wish) => Ok(wish),
+        None => Ok(Wish::Survey(read_request(alloc, words)?)),
+    }
+}

@@ -1,0 +1,21 @@
+//! HTML that is written: markup that the program has, and data that comes from outside, which stands in the page as text
+//! whatever its bytes are.
+//!
+//! ```text
+//! let mut page = Html::new(alloc);
+//! page.markup("<b title=\"")?;
+//! page.text(name)?;                     // <"A" & 'B'>  ──►  &lt;&quot;A&quot; &amp; &#39;B&#39;&gt;
+//! page.markup("\">")?;
+//! let bytes = page.into_bytes();
+//! ```
+//!
+//! Markup is a constant of the program (`&'static str`), so data can't be put as markup by mistake. `laws` says that
+
+#![tactic(auto)]
+
+mod html;
+pub mod laws;
+#[cfg(test)]
+mod tests;
+
+pub use html::Html;
