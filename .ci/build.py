@@ -1,5 +1,7 @@
 #!/usr/bin/env python3
-"""Proves the crates that the program stands on, side by side where none stands on the other, and builds the program.
+"""Proves the crates that a program stands on, side by side where none stands on the other, and builds the program.
+
+Usage: build.py [CRATE], the program's crate: acpins where none is named.
 
 What it does stands on standard error, line by line; nothing goes to standard output. A crate that was proved as it
 stands, over what it stands on now, is left alone. The crates are proved by the kit's own `rt`, whose parts this script
@@ -20,7 +22,8 @@ import time
 from concurrent.futures import FIRST_COMPLETED, ThreadPoolExecutor, wait
 
 TOP = os.path.dirname(os.path.dirname(os.path.abspath(__file__)))
-PROGRAM = f"{TOP}/crates/acpins"
+NAME = sys.argv[1] if len(sys.argv) > 1 else "acpins"
+PROGRAM = f"{TOP}/crates/{NAME}"
 START = time.monotonic()
 
 
@@ -146,7 +149,7 @@ def prove_all(library, crates, todo, processors):
 
 def link_program():
     """Links the program without a loader, where the host has what that takes."""
-    made = f"{PROGRAM}/out/acpins"
+    made = f"{PROGRAM}/out/{NAME}"
     linked = subprocess.run(["sh", f"{TOP}/link-static", f"{made}.o", f"{made}-static"], stdin=subprocess.DEVNULL)
     if linked.returncode and os.path.exists(f"{made}-static"):
         os.remove(f"{made}-static")
@@ -160,7 +163,7 @@ def sources_sum():
 def keep_sum(sources):
     """Writes beside the program what it was made from, so that it is built again only where that changes; without one,
     removes what was written."""
-    for program in (f"{PROGRAM}/out/acpins", f"{PROGRAM}/out/acpins-static"):
+    for program in (f"{PROGRAM}/out/{NAME}", f"{PROGRAM}/out/{NAME}-static"):
         if os.path.exists(f"{program}.made-from"):
             os.remove(f"{program}.made-from")
         if sources and os.path.exists(program):
@@ -170,16 +173,16 @@ def keep_sum(sources):
 
 def build_program(library, program, processors):
     kit = library.KIT
-    words = ["--target", "x86_64-unknown-linux-gnu", "--toolchain", f"{kit}/toolchain", "-o", "out/acpins", "out/acpins.o"]
+    words = ["--target", "x86_64-unknown-linux-gnu", "--toolchain", f"{kit}/toolchain", "-o", f"out/{NAME}", f"out/{NAME}.o"]
     os.makedirs(f"{PROGRAM}/out", exist_ok=True)
     with tempfile.TemporaryFile("w+", errors="replace") as program.out:
-        status = program.compile(["--jobs", str(processors)], "out/acpins.o")
+        status = program.compile(["--jobs", str(processors)], f"out/{NAME}.o")
         status = status or program.call(f"{kit}/bin/rattle-link", *words, f"{kit}/c/libos_c.a", f"{kit}/c/liblibc_c.a")
         program.out.seek(0)
         said = program.out.read()
     if status:
         sys.stderr.write(said)
-        say("acpins is not proved, or not built")
+        say(f"{NAME} is not proved, or not built")
         sys.exit(1)
 
 
@@ -189,7 +192,7 @@ def build_by_rt(processors):
     ran = subprocess.run(words, cwd=PROGRAM, stdin=subprocess.DEVNULL, stdout=subprocess.PIPE, stderr=subprocess.STDOUT)
     if ran.returncode:
         sys.stderr.write(ran.stdout.decode(errors="replace"))
-        say("acpins is not proved, or not built")
+        say(f"{NAME} is not proved, or not built")
         sys.exit(1)
 
 
@@ -230,7 +233,7 @@ def main():
     # After an edit meanwhile nobody knows of which text it was built.
     if begun == sources_sum():
         keep_sum(begun)
-    say(f"acpins is built, {so_far()}")
+    say(f"{NAME} is built, {so_far()}")
 
 
 if __name__ == "__main__":

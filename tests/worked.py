@@ -1,4 +1,5 @@
-"""Worked rows: runs over tables, and all that they answer and print. A file of rows/ is a list of them, parted by blank lines:
+"""Worked rows: runs over tables, and all that they answer and print. A file of rows/, or of survey-rows/, is a list of them,
+parted by blank lines:
 
     row: what the row shows
     run: the words, parted by spaces ('' is an empty one), or `every order:` for each order of the files behind the first
@@ -7,6 +8,7 @@
     before: what the file `out` holds before the run
     status: the status, if it isn't 0
     adds: a line that `list` prints beside those of the predefined objects
+    tells: a line behind those of the objects: a problem or a note of a survey
     out: a line of standard output
     err: a line of standard error
     written: what `out` holds behind the run; several lines stand one after another
@@ -104,7 +106,7 @@ def row_of(text, front):
     words = found.pop("run", None) or found.pop("every order")
     printed = found.pop("out", [])
     if "adds" in found:
-        printed = in_order(PREDEFINED + [it for it in found.pop("adds") if it])
+        printed = in_order(PREDEFINED + [it for it in found.pop("adds") if it]) + found.pop("tells", [])
     answer = Answer(int(found.pop("status", ["0"])[0]), lines_of(printed), lines_of(found.pop("err", [])))
     if "written" in found:
         answer.written = b"".join(kept(it).bytes() for it in found.pop("written"))
@@ -115,10 +117,10 @@ def row_of(text, front):
     return row
 
 
-def rows_of(name):
-    """The rows of a file of rows/."""
+def rows_of(name, folder="rows"):
+    """The rows of a file of rows/, or of another folder."""
     rows, front = [], ""
-    with open(f"{HERE}/rows/{name}.rows", encoding="utf-8") as handle:
+    with open(f"{HERE}/{folder}/{name}.rows", encoding="utf-8") as handle:
         parts = handle.read().strip("\n").split("\n\n")
     for part in parts:
         text = "\n".join(it for it in part.strip("\n").split("\n") if not it.startswith("#"))
@@ -140,9 +142,9 @@ def orders(row):
         yield Row(f"{row.shows}: {' '.join(order)}", [*row.words[:first], *order], row.files, row.before, row.answer)
 
 
-def all_rows():
-    names = sorted(os.path.basename(it)[:-5] for it in glob.glob(f"{HERE}/rows/*.rows"))
-    return [row for name in names for row in rows_of(name)]
+def all_rows(folder="rows"):
+    names = sorted(os.path.basename(it)[:-5] for it in glob.glob(f"{HERE}/{folder}/*.rows"))
+    return [row for name in names for row in rows_of(name, folder)]
 
 
 def packages(levels, opcode, first, inner=b""):
