@@ -35,7 +35,11 @@ impl<'a, S: Space<Object>> Model for Context<'a, S> {
 
     ghost coded = { setting_code };
 
-    ghost view = { λ c. record { objects = S.contents c.space.now; externals = c.counts.now; method = c.method.now } };
+    ghost view = { λ c. record {
+      objects = S.contents c.space.now;
+      externals = c.counts.now;
+      method = c.method.now;
+    } };
 }
 
 impl<'a, S: Space<Object>> Context<'a, S> {
@@ -45,7 +49,11 @@ impl<'a, S: Space<Object>> Context<'a, S> {
         counts: &'a Counts,
         method: &'a Path,
     ) -> Context<'a, S>
-        ensures { result ≡ record { objects = S.contents space.now; externals = counts.now; method = method.now } }
+        ensures { result ≡ record {
+          objects = S.contents space.now;
+          externals = counts.now;
+          method = method.now;
+        } }
     {
         Context {
             alloc,
@@ -120,7 +128,8 @@ fn args_there<S: Space<Object>>(space: &S, locals: &TreeSpace<()>, path: &Path) 
 }
 
 fn expected<S: Space<Object>>(context: &Context<'_, S>, name: NameRef<'_>) -> Result<u8, AllocError>
-    ensures { IfOk result (λ n. n ≡ expected_at (get context.now.externals) (expected_place (get context.now.externals) context.now.method (name_parts name.entry))) }
+    ensures { IfOk result (λ n. n ≡ expected_at (get context.now.externals)
+        (expected_place (get context.now.externals) context.now.method (name_parts name.entry))) }
 {
     match context
         .counts()
@@ -140,7 +149,9 @@ pub(crate) fn nearest<S: Space<Object>>(
     locals: &TreeSpace<()>,
     seg: Seg,
 ) -> Result<Option<usize>, AllocError>
-    ensures { IfOk result (λ n. n ≡ option_map length (nearest_scope (defined_with (namespace_of context.now.objects) locals.now) context.now.method seg)) }
+    ensures { IfOk result (λ n. n ≡ option_map length
+        (nearest_scope (defined_with (namespace_of context.now.objects) locals.now)
+        context.now.method seg)) }
 {
     let method = context.method();
     let space = context.space();

@@ -49,13 +49,15 @@ pub fn read_terms<M: MethodCounting>(
     ensures fits { IfOk result (λ v. terms_fit (terms_tree v.items) ≡ true) }
     // What a fault says is true of the bytes ..
     ensures faults { IfErr result (λ e. IfFault e (λ f.
-        ShowsBody (M.arguments counting.now) (M.method counting.now) depth bytes.now f.reason f.place)) }
+        ShowsBody (M.arguments counting.now) (M.method counting.now) depth bytes.now f.reason
+        f.place)) }
     // .. and they have no reading.
     ensures unread { IfErr result (λ e. IfFault e (λ f. (ts : TermTrees)
         → ¬ ReadsBody (M.arguments counting.now) (M.method counting.now) depth bytes.now ts)) }
     // Behind statements, what can't begin one is told at its place.
     ensures next { (u w : List ℕ) (ts : TermTrees) (reason : BodyReason) → bytes.now ≡ u ++ w
-        → ReadsBody (M.arguments counting.now) (M.method counting.now) depth u ts → IsNoStatement reason w
+        → ReadsBody (M.arguments counting.now) (M.method counting.now) depth u ts
+        → IsNoStatement reason w
         → IsErrAnd result (λ e. IfFault e (λ f. f ≡ record { reason = reason; place = length u })) }
 {
     body(counting, depth.get(), bytes)
@@ -71,7 +73,8 @@ fn body_or_bytes<S: Space<Object>>(
     counts: &Counts,
 ) -> Result<Body, AllocError>
     ensures { IfOk result (λ b. body_view b
-        ≡ body_of bytes.now (body_at (arguments (namespace_of (S.contents space.now)) (finite.get counts.now) method.now) method.now depth finite.empty bytes.now)) }
+        ≡ body_of bytes.now (body_at (arguments (namespace_of (S.contents space.now))
+        (finite.get counts.now) method.now) method.now depth finite.empty bytes.now)) }
 {
     match body(&Context::new(alloc, space, counts, method), depth, bytes) {
         Ok(terms) => Ok(Body::Terms(terms)),
@@ -91,10 +94,13 @@ pub fn read_body<S: Space<Object>>(
     counts: &Counts,
 ) -> Result<Body, AllocError>
     // Terms are the reading of the bytes; opaque bytes are the same, and have no reading.
-    ensures body { IfOk result (λ b. IsBodyOf (arguments (namespace_of (S.contents space.now)) (finite.get counts.now) method.now) method.now depth bytes.now (body_view b)) }
+    ensures body { IfOk result (λ b. IsBodyOf
+        (arguments (namespace_of (S.contents space.now)) (finite.get counts.now) method.now)
+        method.now depth bytes.now (body_view b)) }
     // So it is read exactly where it has a reading, and as that.
     ensures read { IfOk result (λ b. (ts : TermTrees) → (body_view b ≡ read ts)
-        ↔ ReadsBody (arguments (namespace_of (S.contents space.now)) (finite.get counts.now) method.now) method.now depth bytes.now ts) }
+        ↔ ReadsBody (arguments (namespace_of (S.contents space.now))
+        (finite.get counts.now) method.now) method.now depth bytes.now ts) }
     // What is read fits.
     ensures fits { IfOk result (λ b. body_fits (body_view b) ≡ true) }
 {
@@ -110,7 +116,9 @@ fn fault_in<S: Space<Object>>(
     depth: u32,
     counts: &Counts,
 ) -> Result<Option<BodyFault>, AllocError>
-    ensures { IfOk result (λ w. w ≡ told (body_at (arguments (namespace_of (S.contents space.now)) (finite.get counts.now) method.now) method.now depth finite.empty bytes.now)) }
+    ensures { IfOk result (λ w. w ≡ told (body_at
+        (arguments (namespace_of (S.contents space.now)) (finite.get counts.now) method.now)
+        method.now depth finite.empty bytes.now)) }
 {
     match body(&Context::new(alloc, space, counts, method), depth, bytes) {
         Ok(_) => Ok(None),
@@ -129,14 +137,19 @@ pub fn why<S: Space<Object>>(
     counts: &Counts,
 ) -> Result<Option<BodyFault>, AllocError>
     // None exactly where the bytes have a reading.
-    ensures read { IfOk result (λ w. (w ≡ None) ↔ ((ts : TermTrees) × ReadsBody (arguments (namespace_of (S.contents space.now)) (finite.get counts.now) method.now) method.now depth bytes.now ts)) }
+    ensures read { IfOk result (λ w. (w ≡ None)
+        ↔ ((ts : TermTrees) × ReadsBody (arguments (namespace_of (S.contents space.now))
+        (finite.get counts.now) method.now) method.now depth bytes.now ts)) }
     // What a fault says is true of the bytes.
-    ensures faults { IfOk result (λ w. IfSome w (λ f. ShowsBody (arguments (namespace_of (S.contents space.now)) (finite.get counts.now) method.now) method.now depth bytes.now f.reason f.place)) }
+    ensures faults { IfOk result (λ w. IfSome w
+        (λ f. ShowsBody (arguments (namespace_of (S.contents space.now))
+        (finite.get counts.now) method.now) method.now depth bytes.now f.reason f.place)) }
     // It is always sure how many values follow a name.
     ensures sure { IfOk result (λ w. IfSome w (λ f. f.reason ≢ Unsure)) }
     // Behind statements, what can't begin one is told at its place.
     ensures next { (u w : List ℕ) (ts : TermTrees) (reason : BodyReason) → bytes.now ≡ u ++ w
-        → ReadsBody (arguments (namespace_of (S.contents space.now)) (finite.get counts.now) method.now) method.now depth u ts → IsNoStatement reason w
+        → ReadsBody (arguments (namespace_of (S.contents space.now))
+        (finite.get counts.now) method.now) method.now depth u ts → IsNoStatement reason w
         → IfOk result (λ f. f ≡ Some (record { reason = reason; place = length u })) }
 {
     fault_in(alloc, space, method, bytes, depth.get(), counts)

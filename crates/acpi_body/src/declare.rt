@@ -33,7 +33,9 @@ pub(crate) fn value<M: MethodCounting>(
     level: u32,
     code: &mut Code<'_>,
 ) -> Result<Box<Term>, Stop>
-    ensures { Reads (λ b. term_view (box_value b)) (term_at (body_grammar (M.arguments counting.now locals.now)) level Value) code.old code.new result }
+    ensures { Reads (λ b. term_view (box_value b))
+        (term_at (body_grammar (M.arguments counting.now locals.now)) level Value) code.old
+        code.new result }
 {
     let value = term(
         &Here {
@@ -51,7 +53,8 @@ pub(crate) fn value<M: MethodCounting>(
 #[inline(never)]
 #[tactic(auto, using(crate::proofs::Parts::part_fails), unfolding(crate::specs::steps::Reading::declared_at))]
 fn declared<M: MethodCounting>(counting: &M, code: &mut Code<'_>) -> Result<(Name, Path), Stop>
-    ensures exact { Reads (λ x. x.0) (declared_at (M.method counting.now)) code.old code.new result }
+    ensures exact { Reads (λ x. x.0) (declared_at (M.method counting.now)) code.old code.new
+        result }
     ensures path { IfOk result (λ x. place_of (M.method counting.now) x.0 ≡ Some x.1) }
 {
     let front = code.fork();
@@ -96,7 +99,8 @@ fn units<M: MethodCounting>(
     code: &mut Code<'_>,
 ) -> Result<Vec<FieldElem>, Stop>
     ensures exact { ReadsAll (λ v. fields_view v.items) fields_in code.old result }
-    ensures locals { IfOk result (λ v. locals.new ≡ locals_after_units (M.method counting.now) locals.old (fields_view v.items)) }
+    ensures locals { IfOk result (λ v. locals.new
+        ≡ locals_after_units (M.method counting.now) locals.old (fields_view v.items)) }
 {
     let elems = field_elements(counting.alloc(), code)?;
     add_units(locals, counting.method(), &elems)?;
@@ -134,8 +138,11 @@ pub(crate) fn name_declared<M: MethodCounting>(
     level: u32,
     code: &mut Code<'_>,
 ) -> Result<Term, Stop>
-    ensures exact { Reads term_view (named_form (term_at (body_grammar (M.arguments counting.now locals.old)) level) (M.method counting.now) named.Name) code.old code.new result }
-    ensures locals { IfOk result (λ t. locals.new ≡ locals_after (M.method counting.now) locals.old (term_view t)) }
+    ensures exact { Reads term_view (named_form
+        (term_at (body_grammar (M.arguments counting.now locals.old)) level)
+        (M.method counting.now) named.Name) code.old code.new result }
+    ensures locals { IfOk result (λ t. locals.new
+        ≡ locals_after (M.method counting.now) locals.old (term_view t)) }
 {
     let (name, path) = declared(counting, code)?;
     let data = term(
@@ -160,8 +167,11 @@ pub(crate) fn create_declared<M: MethodCounting>(
     width: Width,
     code: &mut Code<'_>,
 ) -> Result<Term, Stop>
-    ensures exact { Reads term_view (named_form (term_at (body_grammar (M.arguments counting.now locals.old)) level) (M.method counting.now) (named.Create width)) code.old code.new result }
-    ensures locals { IfOk result (λ t. locals.new ≡ locals_after (M.method counting.now) locals.old (term_view t)) }
+    ensures exact { Reads term_view (named_form
+        (term_at (body_grammar (M.arguments counting.now locals.old)) level)
+        (M.method counting.now) (named.Create width)) code.old code.new result }
+    ensures locals { IfOk result (λ t. locals.new
+        ≡ locals_after (M.method counting.now) locals.old (term_view t)) }
 {
     let source = value(counting, locals, level, code)?;
     let index = value(counting, locals, level, code)?;
@@ -183,8 +193,11 @@ pub(crate) fn create_field_declared<M: MethodCounting>(
     level: u32,
     code: &mut Code<'_>,
 ) -> Result<Term, Stop>
-    ensures exact { Reads term_view (named_form (term_at (body_grammar (M.arguments counting.now locals.old)) level) (M.method counting.now) named.CreateField) code.old code.new result }
-    ensures locals { IfOk result (λ t. locals.new ≡ locals_after (M.method counting.now) locals.old (term_view t)) }
+    ensures exact { Reads term_view (named_form
+        (term_at (body_grammar (M.arguments counting.now locals.old)) level)
+        (M.method counting.now) named.CreateField) code.old code.new result }
+    ensures locals { IfOk result (λ t. locals.new
+        ≡ locals_after (M.method counting.now) locals.old (term_view t)) }
 {
     let source = value(counting, locals, level, code)?;
     let index = value(counting, locals, level, code)?;
@@ -207,8 +220,11 @@ pub(crate) fn region_declared<M: MethodCounting>(
     level: u32,
     code: &mut Code<'_>,
 ) -> Result<Term, Stop>
-    ensures exact { Reads term_view (named_form (term_at (body_grammar (M.arguments counting.now locals.old)) level) (M.method counting.now) named.Region) code.old code.new result }
-    ensures locals { IfOk result (λ t. locals.new ≡ locals_after (M.method counting.now) locals.old (term_view t)) }
+    ensures exact { Reads term_view (named_form
+        (term_at (body_grammar (M.arguments counting.now locals.old)) level)
+        (M.method counting.now) named.Region) code.old code.new result }
+    ensures locals { IfOk result (λ t. locals.new
+        ≡ locals_after (M.method counting.now) locals.old (term_view t)) }
 {
     let (name, path) = declared(counting, code)?;
     let space = code.byte()?;
@@ -231,8 +247,11 @@ pub(crate) fn mutex_declared<M: MethodCounting>(
     level: u32,
     code: &mut Code<'_>,
 ) -> Result<Term, Stop>
-    ensures exact { Reads term_view (named_form (term_at (body_grammar (M.arguments counting.now locals.old)) level) (M.method counting.now) named.Mutex) code.old code.new result }
-    ensures locals { IfOk result (λ t. locals.new ≡ locals_after (M.method counting.now) locals.old (term_view t)) }
+    ensures exact { Reads term_view (named_form
+        (term_at (body_grammar (M.arguments counting.now locals.old)) level)
+        (M.method counting.now) named.Mutex) code.old code.new result }
+    ensures locals { IfOk result (λ t. locals.new
+        ≡ locals_after (M.method counting.now) locals.old (term_view t)) }
 {
     let (name, path) = declared(counting, code)?;
     let flags = code.byte()?;
@@ -247,8 +266,11 @@ pub(crate) fn event_declared<M: MethodCounting>(
     level: u32,
     code: &mut Code<'_>,
 ) -> Result<Term, Stop>
-    ensures exact { Reads term_view (named_form (term_at (body_grammar (M.arguments counting.now locals.old)) level) (M.method counting.now) named.Event) code.old code.new result }
-    ensures locals { IfOk result (λ t. locals.new ≡ locals_after (M.method counting.now) locals.old (term_view t)) }
+    ensures exact { Reads term_view (named_form
+        (term_at (body_grammar (M.arguments counting.now locals.old)) level)
+        (M.method counting.now) named.Event) code.old code.new result }
+    ensures locals { IfOk result (λ t. locals.new
+        ≡ locals_after (M.method counting.now) locals.old (term_view t)) }
 {
     let (name, path) = declared(counting, code)?;
     declared_there(counting, locals, path, Decl::Event(name))
@@ -262,8 +284,11 @@ pub(crate) fn field_declared<M: MethodCounting>(
     level: u32,
     code: &mut Code<'_>,
 ) -> Result<Term, Stop>
-    ensures exact { Reads term_view (units_form (term_at (body_grammar (M.arguments counting.now locals.old)) level) units.Field) code.old code.new result }
-    ensures locals { IfOk result (λ t. locals.new ≡ locals_after (M.method counting.now) locals.old (term_view t)) }
+    ensures exact { Reads term_view (units_form
+        (term_at (body_grammar (M.arguments counting.now locals.old)) level) units.Field) code.old
+        code.new result }
+    ensures locals { IfOk result (λ t. locals.new
+        ≡ locals_after (M.method counting.now) locals.old (term_view t)) }
 {
     let mut inner = code.package()?;
     let region = owned_name(counting, &mut inner)?;
@@ -285,8 +310,11 @@ pub(crate) fn index_field_declared<M: MethodCounting>(
     level: u32,
     code: &mut Code<'_>,
 ) -> Result<Term, Stop>
-    ensures exact { Reads term_view (units_form (term_at (body_grammar (M.arguments counting.now locals.old)) level) units.IndexField) code.old code.new result }
-    ensures locals { IfOk result (λ t. locals.new ≡ locals_after (M.method counting.now) locals.old (term_view t)) }
+    ensures exact { Reads term_view (units_form
+        (term_at (body_grammar (M.arguments counting.now locals.old)) level) units.IndexField)
+        code.old code.new result }
+    ensures locals { IfOk result (λ t. locals.new
+        ≡ locals_after (M.method counting.now) locals.old (term_view t)) }
 {
     let mut inner = code.package()?;
     let (index, datum) = two_names(counting, &mut inner)?;
@@ -309,8 +337,11 @@ pub(crate) fn bank_field_declared<M: MethodCounting>(
     level: u32,
     code: &mut Code<'_>,
 ) -> Result<Term, Stop>
-    ensures exact { Reads term_view (units_form (term_at (body_grammar (M.arguments counting.now locals.old)) level) units.BankField) code.old code.new result }
-    ensures locals { IfOk result (λ t. locals.new ≡ locals_after (M.method counting.now) locals.old (term_view t)) }
+    ensures exact { Reads term_view (units_form
+        (term_at (body_grammar (M.arguments counting.now locals.old)) level) units.BankField)
+        code.old code.new result }
+    ensures locals { IfOk result (λ t. locals.new
+        ≡ locals_after (M.method counting.now) locals.old (term_view t)) }
 {
     let mut inner = code.package()?;
     let (region, bank) = two_names(counting, &mut inner)?;

@@ -15,7 +15,8 @@ fn add_unit(
     method: &Path,
     element: &FieldElem,
 ) -> Result<(), AllocError>
-    ensures { OnOk result (locals.new ≡ locals_after_unit method.now locals.old (field_view element.now)) }
+    ensures { OnOk result (locals.new ≡ locals_after_unit method.now locals.old
+        (field_view element.now)) }
 {
     match element {
         FieldElem::Unit(seg, _) => {
@@ -33,7 +34,8 @@ pub(crate) fn add_units(
     method: &Path,
     elements: &[FieldElem],
 ) -> Result<(), AllocError>
-    ensures { OnOk result (locals.new ≡ locals_after_units method.now locals.old (fields_view elements.now)) }
+    ensures { OnOk result (locals.new ≡ locals_after_units method.now locals.old
+        (fields_view elements.now)) }
 {
     'each: for element in elements {
         add_unit(locals, method, element)?;

@@ -38,7 +38,9 @@ pub(crate) fn missed<S: Space<Object>, Q: Wanted>(
     wanted: &Q,
     name: NameRef<'_>,
 ) -> Result<Vec<Path>, AllocError>
-    ensures { IfOk result (λ v. v.items ≡ filter (Q.wanted wanted.now) (missed (is_defined_in (namespace_of context.now.objects)) context.now.method (name_parts name.entry))) }
+    ensures { IfOk result (λ v. v.items ≡ filter (Q.wanted wanted.now)
+        (missed (is_defined_in (namespace_of context.now.objects)) context.now.method
+        (name_parts name.entry))) }
 {
     match wanted_misses(
         context.alloc(),
@@ -61,8 +63,12 @@ fn plain_search<S: Space<Object>, Q: Wanted>(
     seg: Seg,
 ) -> Result<Tried, AllocError>
     ensures missed { IfOk result (λ t. t.missed.items
-        ≡ filter (Q.wanted wanted.now) (skipped (defined_with (namespace_of context.now.objects) locals.now) (map (λ q. q ++ seg ∷ []) (beginnings context.now.method)))) }
-    ensures found { IfOk result (λ t. t.found ≡ is_some (find (defined_with (namespace_of context.now.objects) locals.now) (map (λ q. q ++ seg ∷ []) (beginnings context.now.method)))) }
+        ≡ filter (Q.wanted wanted.now) (skipped
+        (defined_with (namespace_of context.now.objects) locals.now)
+        (map (λ q. q ++ seg ∷ []) (beginnings context.now.method)))) }
+    ensures found { IfOk result (λ t. t.found
+        ≡ is_some (find (defined_with (namespace_of context.now.objects) locals.now)
+        (map (λ q. q ++ seg ∷ []) (beginnings context.now.method)))) }
 {
     let method = context.method();
     let _len = method.len();
@@ -91,8 +97,11 @@ fn place_search<S: Space<Object>, Q: Wanted>(
     wanted: &Q,
     path: Path,
 ) -> Result<Tried, AllocError>
-    ensures missed { IfOk result (λ t. t.missed.items ≡ filter (Q.wanted wanted.now) (skipped (defined_with (namespace_of context.now.objects) locals.now) (path ∷ []))) }
-    ensures found { IfOk result (λ t. t.found ≡ is_some (find (defined_with (namespace_of context.now.objects) locals.now) (path ∷ []))) }
+    ensures missed { IfOk result (λ t. t.missed.items
+        ≡ filter (Q.wanted wanted.now) (skipped
+        (defined_with (namespace_of context.now.objects) locals.now) (path ∷ []))) }
+    ensures found { IfOk result (λ t. t.found
+        ≡ is_some (find (defined_with (namespace_of context.now.objects) locals.now) (path ∷ []))) }
 {
     let found = locals.get(&path).is_some() || context.space().get(&path).is_some();
     let mut missed = Vec::new(context.alloc());
@@ -109,8 +118,13 @@ fn search_with<S: Space<Object>, Q: Wanted>(
     wanted: &Q,
     name: NameRef<'_>,
 ) -> Result<Tried, AllocError>
-    ensures missed { IfOk result (λ t. t.missed.items ≡ filter (Q.wanted wanted.now) (missed (defined_with (namespace_of context.now.objects) locals.now) context.now.method (name_parts name.entry))) }
-    ensures found { IfOk result (λ t. t.found ≡ is_some (answer (defined_with (namespace_of context.now.objects) locals.now) context.now.method (name_parts name.entry))) }
+    ensures missed { IfOk result (λ t. t.missed.items
+        ≡ filter (Q.wanted wanted.now) (missed
+        (defined_with (namespace_of context.now.objects) locals.now) context.now.method
+        (name_parts name.entry))) }
+    ensures found { IfOk result (λ t. t.found
+        ≡ is_some (answer (defined_with (namespace_of context.now.objects) locals.now)
+        context.now.method (name_parts name.entry))) }
 {
     if let Some(seg) = name.plain() {
         return plain_search(context, locals, wanted, seg);
@@ -132,8 +146,11 @@ fn awaited<S: Space<Object>>(
     name: NameRef<'_>,
     found: bool,
 ) -> Result<Option<Path>, AllocError>
-    requires { found ≡ is_some (answer (defined_with (namespace_of context.now.objects) locals.now) context.now.method (name_parts name)) }
-    ensures { IfOk result (λ p. p ≡ awaited_place (namespace_of context.now.objects) (get context.now.externals) context.now.method locals.now (name_parts name.entry)) }
+    requires { found
+        ≡ is_some (answer (defined_with (namespace_of context.now.objects) locals.now)
+        context.now.method (name_parts name)) }
+    ensures { IfOk result (λ p. p ≡ awaited_place (namespace_of context.now.objects)
+        (get context.now.externals) context.now.method locals.now (name_parts name.entry)) }
 {
     if found {
         return Ok(None);
@@ -204,7 +221,8 @@ fn is_asked<S: Space<Object>, Q: Wanted>(
     wanted: &Q,
     name: NameRef<'_>,
 ) -> Result<bool, AllocError>
-    ensures { IfOk result (λ b. b ≡ is_some (answer (Q.wanted wanted.now) context.now.method (name_parts name.entry))) }
+    ensures { IfOk result (λ b. b ≡ is_some (answer (Q.wanted wanted.now) context.now.method
+        (name_parts name.entry))) }
 {
     if let Some(seg) = name.plain() {
         return wanted.wants_below(context.method(), seg);
@@ -227,7 +245,8 @@ pub(crate) fn gather_search<S: Space<Object>, Q: Wanted>(
     gathered: &mut Gathered,
     name: NameRef<'_>,
 ) -> Result<(), AllocError>
-    ensures { OnOk result (gathered.new ≡ with_search (Q.wanted wanted.now) context.now gathered.old (locals.now, name_parts name.entry)) }
+    ensures { OnOk result (gathered.new ≡ with_search
+        (Q.wanted wanted.now) context.now gathered.old (locals.now, name_parts name.entry)) }
 {
     if !is_asked(context, wanted, name)? {
         return Ok(());

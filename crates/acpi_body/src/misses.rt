@@ -57,9 +57,14 @@ fn gather_terms<S: Space<Object>, Q: Wanted>(
     terms: &[Term],
 ) -> Result<Gathered, AllocError>
     ensures firm { IfOk result (λ g. (p : List Segment) → IsTrue (is_defined g.firm p)
-        ↔ (IsMissedIn (namespace_of context.now.objects) (finite.get context.now.externals) context.now.method (terms_tree terms.now) p × IsTrue (Q.wanted wanted.now p))) }
-    ensures awaited { IfOk result (λ g. (p : List Segment) (count : ℕ) → (finite.get g.awaited p ≡ Some count)
-        ↔ (IsAwaitedIn (namespace_of context.now.objects) (finite.get context.now.externals) context.now.method (terms_tree terms.now) p count × IsTrue (Q.wanted wanted.now p))) }
+        ↔ (IsMissedIn (namespace_of context.now.objects)
+        (finite.get context.now.externals) context.now.method (terms_tree terms.now) p
+        × IsTrue (Q.wanted wanted.now p))) }
+    ensures awaited { IfOk result (λ g. (p : List Segment) (count : ℕ)
+        → (finite.get g.awaited p ≡ Some count)
+        ↔ (IsAwaitedIn (namespace_of context.now.objects)
+        (finite.get context.now.externals) context.now.method (terms_tree terms.now) p count
+        × IsTrue (Q.wanted wanted.now p))) }
 {
     let mut gathered = none(context.alloc());
     let mut locals = TreeSpace::new(context.alloc());
@@ -74,8 +79,10 @@ fn gather_bytes<S: Space<Object>, Q: Wanted>(
     bytes: &[u8],
 ) -> Result<Gathered, AllocError>
     ensures firm { IfOk result (λ g. (p : List Segment) → IsTrue (is_defined g.firm p)
-        ↔ (IsMissedBy (namespace_of context.now.objects) context.now.method bytes.now p × IsTrue (Q.wanted wanted.now p))) }
-    ensures awaited { IfOk result (λ g. (p : List Segment) (count : ℕ) → (finite.get g.awaited p ≡ Some count) ↔ ⊥) }
+        ↔ (IsMissedBy (namespace_of context.now.objects) context.now.method bytes.now p
+        × IsTrue (Q.wanted wanted.now p))) }
+    ensures awaited { IfOk result (λ g. (p : List Segment) (count : ℕ)
+        → (finite.get g.awaited p ≡ Some count) ↔ ⊥) }
 {
     let mut gathered = none(context.alloc());
     add_spelled(context, wanted, &mut gathered.firm, bytes)?;
@@ -88,9 +95,14 @@ fn gather<S: Space<Object>, Q: Wanted>(
     body: &Body,
 ) -> Result<Gathered, AllocError>
     ensures firm { IfOk result (λ g. (p : List Segment) → IsTrue (is_defined g.firm p)
-        ↔ (IsFirmMiss (namespace_of context.now.objects) (finite.get context.now.externals) context.now.method (body_view body.now) p × IsTrue (Q.wanted wanted.now p))) }
-    ensures awaited { IfOk result (λ g. (p : List Segment) (count : ℕ) → (finite.get g.awaited p ≡ Some count)
-        ↔ (IsOpenMiss (namespace_of context.now.objects) (finite.get context.now.externals) context.now.method (body_view body.now) p count × IsTrue (Q.wanted wanted.now p))) }
+        ↔ (IsFirmMiss (namespace_of context.now.objects)
+        (finite.get context.now.externals) context.now.method (body_view body.now) p
+        × IsTrue (Q.wanted wanted.now p))) }
+    ensures awaited { IfOk result (λ g. (p : List Segment) (count : ℕ)
+        → (finite.get g.awaited p ≡ Some count)
+        ↔ (IsOpenMiss (namespace_of context.now.objects)
+        (finite.get context.now.externals) context.now.method (body_view body.now) p count
+        × IsTrue (Q.wanted wanted.now p))) }
 {
     match body {
         Body::Terms(terms) => gather_terms(context, wanted, terms),
@@ -133,11 +145,16 @@ pub fn body_misses<S: Space<Object>>(
     body: &Body,
     counts: &Counts,
 ) -> Result<BodyMisses, AllocError>
-    ensures firm { IfOk result (λ m. (p : List Segment) → Among m.firm.items p ↔ IsFirmMiss (namespace_of (S.contents space.now)) (finite.get counts.now) method.now (body_view body.now) p) }
+    ensures firm { IfOk result (λ m. (p : List Segment) → Among m.firm.items p
+        ↔ IsFirmMiss (namespace_of (S.contents space.now)) (finite.get counts.now) method.now
+        (body_view body.now) p) }
     ensures firm_ascend { IfOk result (λ m. IsStrictlySortedBy path_cmp m.firm.items) }
-    ensures open { IfOk result (λ m. (p : List Segment) (count : ℕ) → Among m.open.items (record { path = p; count = count })
-        ↔ IsOpenMiss (namespace_of (S.contents space.now)) (finite.get counts.now) method.now (body_view body.now) p count) }
-    ensures open_ascend { IfOk result (λ m. IsStrictlySortedBy path_cmp (map (λ o. o.path) m.open.items)) }
+    ensures open { IfOk result (λ m. (p : List Segment) (count : ℕ)
+        → Among m.open.items (record { path = p; count = count })
+        ↔ IsOpenMiss (namespace_of (S.contents space.now)) (finite.get counts.now) method.now
+        (body_view body.now) p count) }
+    ensures open_ascend { IfOk result (λ m. IsStrictlySortedBy path_cmp
+        (map (λ o. o.path) m.open.items)) }
 {
     misses_of(&Context::new(alloc, space, counts, method), &AllPaths, body)
 }
@@ -152,11 +169,15 @@ pub fn body_misses_among<S: Space<Object>, W, T: Space<W>>(
     among: &T,
 ) -> Result<BodyMisses, AllocError>
     ensures firm { IfOk result (λ m. (p : List Segment) → Among m.firm.items p
-        ↔ (IsFirmMiss (namespace_of (S.contents space.now)) (finite.get counts.now) method.now (body_view body.now) p × IsTrue (is_defined (T.contents among.now) p))) }
+        ↔ (IsFirmMiss (namespace_of (S.contents space.now)) (finite.get counts.now) method.now
+        (body_view body.now) p × IsTrue (is_defined (T.contents among.now) p))) }
     ensures firm_ascend { IfOk result (λ m. IsStrictlySortedBy path_cmp m.firm.items) }
-    ensures open { IfOk result (λ m. (p : List Segment) (count : ℕ) → Among m.open.items (record { path = p; count = count })
-        ↔ (IsOpenMiss (namespace_of (S.contents space.now)) (finite.get counts.now) method.now (body_view body.now) p count × IsTrue (is_defined (T.contents among.now) p))) }
-    ensures open_ascend { IfOk result (λ m. IsStrictlySortedBy path_cmp (map (λ o. o.path) m.open.items)) }
+    ensures open { IfOk result (λ m. (p : List Segment) (count : ℕ)
+        → Among m.open.items (record { path = p; count = count })
+        ↔ (IsOpenMiss (namespace_of (S.contents space.now)) (finite.get counts.now) method.now
+        (body_view body.now) p count × IsTrue (is_defined (T.contents among.now) p))) }
+    ensures open_ascend { IfOk result (λ m. IsStrictlySortedBy path_cmp
+        (map (λ o. o.path) m.open.items)) }
 {
     let context = Context::new(alloc, space, counts, method);
     misses_of(&context, &PathsOf::new(among), body)
@@ -164,7 +185,8 @@ pub fn body_misses_among<S: Space<Object>, W, T: Space<W>>(
 
 fn listed(alloc: Global, gathered: &Gathered) -> Result<BodyMisses, AllocError>
     ensures firm { IfOk result (λ m. m.firm.items ≡ finite.keys gathered.now.firm) }
-    ensures open { IfOk result (λ m. map (λ o. (o.path, o.count)) m.open.items ≡ finite.entries gathered.now.awaited) }
+    ensures open { IfOk result (λ m. map (λ o. (o.path, o.count)) m.open.items
+        ≡ finite.entries gathered.now.awaited) }
 {
     let firm = paths_of(alloc, &gathered.firm)?;
     let open = open_misses_of(alloc, &gathered.awaited)?;
@@ -178,11 +200,17 @@ fn misses_of<S: Space<Object>, Q: Wanted>(
     body: &Body,
 ) -> Result<BodyMisses, AllocError>
     ensures firm { IfOk result (λ m. (p : List Segment) → Among m.firm.items p
-        ↔ (IsFirmMiss (namespace_of context.now.objects) (finite.get context.now.externals) context.now.method (body_view body.now) p × IsTrue (Q.wanted wanted.now p))) }
+        ↔ (IsFirmMiss (namespace_of context.now.objects)
+        (finite.get context.now.externals) context.now.method (body_view body.now) p
+        × IsTrue (Q.wanted wanted.now p))) }
     ensures firm_ascend { IfOk result (λ m. IsStrictlySortedBy path_cmp m.firm.items) }
-    ensures open { IfOk result (λ m. (p : List Segment) (count : ℕ) → Among m.open.items (record { path = p; count = count })
-        ↔ (IsOpenMiss (namespace_of context.now.objects) (finite.get context.now.externals) context.now.method (body_view body.now) p count × IsTrue (Q.wanted wanted.now p))) }
-    ensures open_ascend { IfOk result (λ m. IsStrictlySortedBy path_cmp (map (λ o. o.path) m.open.items)) }
+    ensures open { IfOk result (λ m. (p : List Segment) (count : ℕ)
+        → Among m.open.items (record { path = p; count = count })
+        ↔ (IsOpenMiss (namespace_of context.now.objects)
+        (finite.get context.now.externals) context.now.method (body_view body.now) p count
+        × IsTrue (Q.wanted wanted.now p))) }
+    ensures open_ascend { IfOk result (λ m. IsStrictlySortedBy path_cmp
+        (map (λ o. o.path) m.open.items)) }
 {
     let gathered = gather(context, wanted, body)?;
     listed(context.alloc(), &gathered)

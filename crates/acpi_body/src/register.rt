@@ -40,7 +40,8 @@ fn is_register(byte: u8) -> bool
 
 fn put_register(found: &mut Vec<Operand>, byte: u8) -> Result<(), AllocError>
     requires { is_register byte ≡ true }
-    ensures { OnOk result (operands_view found.new.items ≡ operands_view found.old.items ++ register_at byte ∷ []) }
+    ensures { OnOk result (operands_view found.new.items ≡ operands_view found.old.items
+        ++ register_at byte ∷ []) }
 {
     if byte < 0x68 {
         found.push(Operand::Term(Term::Local(byte - 0x60)))?;
@@ -59,9 +60,12 @@ pub(crate) fn add_register(
     found: &mut Vec<Operand>,
 ) -> Result<bool, AllocError>
     ensures told { IfOk result (λ done. done ≡ begins_register level kind code.old.bytes) }
-    ensures behind { IfOk result (λ done. done ≡ true → (code.new.bytes ≡ drop 1 code.old.bytes) × (code.new.end ≡ code.old.end)) }
-    ensures put { IfOk result (λ done. done ≡ true → operands_view found.new.items ≡ operands_view found.old.items ++ front_register code.old.bytes ∷ []) }
-    ensures kept { IfOk result (λ done. done ≡ false → (code.new ≡ code.old) × (found.new.items ≡ found.old.items)) }
+    ensures behind { IfOk result (λ done. done ≡ true → (code.new.bytes ≡ drop 1 code.old.bytes)
+        × (code.new.end ≡ code.old.end)) }
+    ensures put { IfOk result (λ done. done ≡ true → operands_view found.new.items
+        ≡ operands_view found.old.items ++ front_register code.old.bytes ∷ []) }
+    ensures kept { IfOk result (λ done. done ≡ false → (code.new ≡ code.old)
+        × (found.new.items ≡ found.old.items)) }
 {
     match code.left() {
         [byte, ..] if 0 < level && takes_register(kind) && is_register(*byte) => {

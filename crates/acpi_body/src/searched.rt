@@ -24,7 +24,8 @@ fn value<S: Space<Object>, Q: Wanted>(
     gathered: &mut Gathered,
     term: &Term,
 ) -> Result<(), AllocError>
-    ensures { OnOk result (gathered.new ≡ after_value (Q.wanted wanted.now) context.now locals.now gathered.old (term_view term.now)) }
+    ensures { OnOk result (gathered.new ≡ after_value
+        (Q.wanted wanted.now) context.now locals.now gathered.old (term_view term.now)) }
 {
     match term {
         Term::Buffer(size, _) => value(context, locals, wanted, gathered, size),
@@ -50,7 +51,8 @@ fn values<S: Space<Object>, Q: Wanted>(
     gathered: &mut Gathered,
     terms: &[Term],
 ) -> Result<(), AllocError>
-    ensures { OnOk result (gathered.new ≡ after_values (Q.wanted wanted.now) context.now locals.now gathered.old (terms_tree terms.now)) }
+    ensures { OnOk result (gathered.new ≡ after_values
+        (Q.wanted wanted.now) context.now locals.now gathered.old (terms_tree terms.now)) }
 {
     'each: for term in terms {
         value(context, locals, wanted, gathered, term)?;
@@ -66,7 +68,9 @@ fn operand_values<S: Space<Object>, Q: Wanted>(
     gathered: &mut Gathered,
     operands: &[Operand],
 ) -> Result<(), AllocError>
-    ensures { OnOk result (gathered.new ≡ after_values (Q.wanted wanted.now) context.now locals.now gathered.old (terms_of (operands_view operands.now))) }
+    ensures { OnOk result (gathered.new ≡ after_values
+        (Q.wanted wanted.now) context.now locals.now gathered.old
+        (terms_of (operands_view operands.now))) }
 {
     'each: for operand in operands {
         if let Operand::Term(term) = operand {
@@ -82,7 +86,8 @@ fn declare<S: Space<Object>>(
     locals: &mut TreeSpace<()>,
     name: &Name,
 ) -> Result<(), AllocError>
-    ensures { OnOk result (locals.new ≡ with_place locals.old (place_of context.now.method name.now)) }
+    ensures { OnOk result (locals.new ≡ with_place locals.old
+        (place_of context.now.method name.now)) }
 {
     match place(context.alloc(), context.method(), name.view()) {
         Ok(path) => add(locals, path),
@@ -102,8 +107,11 @@ fn declare_behind<S: Space<Object>, Q: Wanted>(
     name: &Name,
 ) -> Result<(), AllocError>
     ensures gathered { OnOk result (gathered.new
-        ≡ after_value (Q.wanted wanted.now) context.now locals.old (after_value (Q.wanted wanted.now) context.now locals.old gathered.old (term_view first.now)) (term_view second.now)) }
-    ensures locals { OnOk result (locals.new ≡ with_place locals.old (place_of context.now.method name.now)) }
+        ≡ after_value (Q.wanted wanted.now) context.now locals.old
+        (after_value (Q.wanted wanted.now) context.now locals.old gathered.old
+        (term_view first.now)) (term_view second.now)) }
+    ensures locals { OnOk result (locals.new ≡ with_place locals.old
+        (place_of context.now.method name.now)) }
 {
     value(context, locals, wanted, gathered, first)?;
     value(context, locals, wanted, gathered, second)?;
@@ -119,8 +127,11 @@ fn declaration<S: Space<Object>, Q: Wanted>(
     gathered: &mut Gathered,
     decl: &Decl,
 ) -> Result<(), AllocError>
-    ensures gathered { OnOk result (gathered.new ≡ after_statement (Q.wanted wanted.now) context.now locals.old gathered.old (decl_view decl.now)) }
-    ensures locals { OnOk result (locals.new ≡ locals_after context.now.method locals.old (decl_view decl.now)) }
+    ensures gathered { OnOk result (gathered.new
+        ≡ after_statement (Q.wanted wanted.now) context.now locals.old gathered.old
+        (decl_view decl.now)) }
+    ensures locals { OnOk result (locals.new ≡ locals_after context.now.method locals.old
+        (decl_view decl.now)) }
 {
     match decl {
         Decl::Name(name, data) => {
@@ -172,8 +183,11 @@ fn statement<S: Space<Object>, Q: Wanted>(
     gathered: &mut Gathered,
     term: &Term,
 ) -> Result<(), AllocError>
-    ensures gathered { OnOk result (gathered.new ≡ after_statement (Q.wanted wanted.now) context.now locals.old gathered.old (term_view term.now)) }
-    ensures locals { OnOk result (locals.new ≡ locals_after context.now.method locals.old (term_view term.now)) }
+    ensures gathered { OnOk result (gathered.new
+        ≡ after_statement (Q.wanted wanted.now) context.now locals.old gathered.old
+        (term_view term.now)) }
+    ensures locals { OnOk result (locals.new ≡ locals_after context.now.method locals.old
+        (term_view term.now)) }
 {
     match term {
         Term::If(test, then, other) => {
@@ -198,8 +212,11 @@ fn else_statements<S: Space<Object>, Q: Wanted>(
     gathered: &mut Gathered,
     other: &Option<Vec<Term>>,
 ) -> Result<(), AllocError>
-    ensures gathered { OnOk result (gathered.new ≡ after_else (Q.wanted wanted.now) context.now locals.old gathered.old (else_view other.now)) }
-    ensures locals { OnOk result (locals.new ≡ locals_after_else context.now.method locals.old (else_view other.now)) }
+    ensures gathered { OnOk result (gathered.new
+        ≡ after_else (Q.wanted wanted.now) context.now locals.old gathered.old
+        (else_view other.now)) }
+    ensures locals { OnOk result (locals.new ≡ locals_after_else context.now.method locals.old
+        (else_view other.now)) }
 {
     match other {
         Some(other) => statements(context, locals, wanted, gathered, other),
@@ -216,8 +233,11 @@ pub(crate) fn statements<S: Space<Object>, Q: Wanted>(
     gathered: &mut Gathered,
     terms: &[Term],
 ) -> Result<(), AllocError>
-    ensures gathered { OnOk result (gathered.new ≡ after_statements (Q.wanted wanted.now) context.now locals.old gathered.old (terms_tree terms.now)) }
-    ensures locals { OnOk result (locals.new ≡ locals_after_all context.now.method locals.old (terms_tree terms.now)) }
+    ensures gathered { OnOk result (gathered.new
+        ≡ after_statements (Q.wanted wanted.now) context.now locals.old gathered.old
+        (terms_tree terms.now)) }
+    ensures locals { OnOk result (locals.new ≡ locals_after_all context.now.method locals.old
+        (terms_tree terms.now)) }
 {
     'each: for term in terms {
         statement(context, locals, wanted, gathered, term)?;

@@ -40,7 +40,9 @@ fn add_front<S: Space<Object>, Q: Wanted>(
     firm: &mut TreeSpace<()>,
     bytes: &[u8],
 ) -> Result<(), AllocError>
-    ensures { OnOk result (Grows firm.old firm.new (Asked (Q.wanted wanted.now) (IsFrontMiss (namespace_of context.now.objects) context.now.method bytes.now))) }
+    ensures { OnOk result (Grows firm.old firm.new
+        (Asked (Q.wanted wanted.now) (IsFrontMiss
+        (namespace_of context.now.objects) context.now.method bytes.now))) }
 {
     if goes_above(context.method(), bytes) {
         return Ok(());
@@ -58,7 +60,9 @@ pub(crate) fn add_spelled<S: Space<Object>, Q: Wanted>(
     firm: &mut TreeSpace<()>,
     bytes: &[u8],
 ) -> Result<(), AllocError>
-    ensures { OnOk result (Grows firm.old firm.new (Asked (Q.wanted wanted.now) (IsMissedBy (namespace_of context.now.objects) context.now.method bytes.now))) }
+    ensures { OnOk result (Grows firm.old firm.new
+        (Asked (Q.wanted wanted.now) (IsMissedBy
+        (namespace_of context.now.objects) context.now.method bytes.now))) }
 {
     for place in 0..bytes.len() {
         add_front(context, wanted, firm, &bytes[place..])?;

@@ -22,13 +22,15 @@ use acpi_space::{Space, TreeSpace};
 use acpi_tree::{Place, Term};
 
 fn with_else(predicate: Box<Term>, then: Vec<Term>, other: Vec<Term>) -> Term
-    ensures { term_view result ≡ if_do (term_view (box_value predicate)) (terms_tree then.items) (else_do (terms_tree other.items)) }
+    ensures { term_view result ≡ if_do (term_view (box_value predicate)) (terms_tree then.items)
+        (else_do (terms_tree other.items)) }
 {
     Term::If(predicate, then, Some(other))
 }
 
 fn branch(predicate: Box<Term>, then: Vec<Term>, other: Option<Vec<Term>>) -> Term
-    ensures { term_view result ≡ if_do (term_view (box_value predicate)) (terms_tree then.items) (else_view other) }
+    ensures { term_view result ≡ if_do (term_view (box_value predicate)) (terms_tree then.items)
+        (else_view other) }
 {
     match other {
         Some(other) => with_else(predicate, then, other),
@@ -47,8 +49,11 @@ fn if_statement<M: MethodCounting>(
     code: &mut Code<'_>,
 ) -> Result<Term, Stop>
     ensures exact { Reads term_view
-        (if_form (term_at (body_grammar (M.arguments counting.now locals.old)) level) (statements_at (M.arguments counting.now) (M.method counting.now) level) (M.method counting.now) locals.old) code.old code.new result }
-    ensures locals { IfOk result (λ t. locals.new ≡ locals_after (M.method counting.now) locals.old (term_view t)) }
+        (if_form (term_at (body_grammar (M.arguments counting.now locals.old)) level)
+        (statements_at (M.arguments counting.now) (M.method counting.now) level)
+        (M.method counting.now) locals.old) code.old code.new result }
+    ensures locals { IfOk result (λ t. locals.new
+        ≡ locals_after (M.method counting.now) locals.old (term_view t)) }
 {
     let mut inner = code.package()?;
     let predicate = value(counting, locals, level, &mut inner)?;
@@ -65,8 +70,11 @@ fn else_statements<M: MethodCounting>(
     level: u32,
     code: &mut Code<'_>,
 ) -> Result<Option<Vec<Term>>, Stop>
-    ensures exact { ReadsOn else_view (else_at (statements_at (M.arguments counting.now) (M.method counting.now) level locals.old)) code.old code.new result }
-    ensures locals { IfOk result (λ o. locals.new ≡ locals_after_else (M.method counting.now) locals.old (else_view o)) }
+    ensures exact { ReadsOn else_view (else_at
+        (statements_at (M.arguments counting.now) (M.method counting.now) level locals.old))
+        code.old code.new result }
+    ensures locals { IfOk result (λ o. locals.new
+        ≡ locals_after_else (M.method counting.now) locals.old (else_view o)) }
 {
     if code.left().first() != Some(&0xA1) {
         return Ok(None);
@@ -85,8 +93,12 @@ fn while_statement<M: MethodCounting>(
     level: u32,
     code: &mut Code<'_>,
 ) -> Result<Term, Stop>
-    ensures exact { Reads term_view (while_form (term_at (body_grammar (M.arguments counting.now locals.old)) level) (statements_at (M.arguments counting.now) (M.method counting.now) level) locals.old) code.old code.new result }
-    ensures locals { IfOk result (λ t. locals.new ≡ locals_after (M.method counting.now) locals.old (term_view t)) }
+    ensures exact { Reads term_view (while_form
+        (term_at (body_grammar (M.arguments counting.now locals.old)) level)
+        (statements_at (M.arguments counting.now) (M.method counting.now) level) locals.old)
+        code.old code.new result }
+    ensures locals { IfOk result (λ t. locals.new
+        ≡ locals_after (M.method counting.now) locals.old (term_view t)) }
 {
     let mut inner = code.package()?;
     let predicate = value(counting, locals, level, &mut inner)?;
@@ -108,8 +120,11 @@ fn statements<M: MethodCounting>(
     level: u32,
     code: &mut Code<'_>,
 ) -> Result<Vec<Term>, Stop>
-    ensures exact { ReadsAll (λ v. terms_view v.items) (statements_at (M.arguments counting.now) (M.method counting.now) level locals.old) code.old result }
-    ensures locals { IfOk result (λ v. locals.new ≡ locals_after_all (M.method counting.now) locals.old (terms_tree v.items)) }
+    ensures exact { ReadsAll (λ v. terms_view v.items)
+        (statements_at (M.arguments counting.now) (M.method counting.now) level locals.old)
+        code.old result }
+    ensures locals { IfOk result (λ v. locals.new
+        ≡ locals_after_all (M.method counting.now) locals.old (terms_tree v.items)) }
 {
     let mut found = Vec::with_capacity(counting.alloc(), room(code.left().len()))?;
     'each: while !code.is_empty() {
@@ -131,9 +146,14 @@ fn form<'a, M: MethodCounting>(
 ) -> Result<Term, Stop>
     requires ends { front.now.end ≡ code.old.end }
     requires behind { length code.old.bytes < length front.now.bytes }
-    ensures exact { Reads term_view (λ end whole. statement_by (body_grammar (M.arguments counting.now locals.old)) (term_at (body_grammar (M.arguments counting.now locals.old)) level)
-        (statements_at (M.arguments counting.now) (M.method counting.now) level) (M.method counting.now) locals.old end whole opcode code.old.bytes) front.now code.new result }
-    ensures locals { IfOk result (λ t. locals.new ≡ locals_after (M.method counting.now) locals.old (term_view t)) }
+    ensures exact { Reads term_view (λ end whole. statement_by
+        (body_grammar (M.arguments counting.now locals.old))
+        (term_at (body_grammar (M.arguments counting.now locals.old)) level)
+        (statements_at (M.arguments counting.now) (M.method counting.now) level)
+        (M.method counting.now) locals.old end whole opcode code.old.bytes) front.now code.new
+        result }
+    ensures locals { IfOk result (λ t. locals.new
+        ≡ locals_after (M.method counting.now) locals.old (term_view t)) }
 {
     match opcode {
         Opcode::If => if_statement(counting, locals, level, code),
@@ -193,8 +213,10 @@ fn statement<M: MethodCounting>(
     level: u32,
     code: &mut Code<'_>,
 ) -> Result<Term, Stop>
-    ensures exact { Reads term_view (statement_at (M.arguments counting.now) (M.method counting.now) level locals.old) code.old code.new result }
-    ensures locals { IfOk result (λ t. locals.new ≡ locals_after (M.method counting.now) locals.old (term_view t)) }
+    ensures exact { Reads term_view (statement_at (M.arguments counting.now)
+        (M.method counting.now) level locals.old) code.old code.new result }
+    ensures locals { IfOk result (λ t. locals.new
+        ≡ locals_after (M.method counting.now) locals.old (term_view t)) }
 {
     if level == 0 {
         return Err(code.too_deep().into());
@@ -210,7 +232,8 @@ pub(crate) fn body<M: MethodCounting>(
     depth: u32,
     bytes: &[u8],
 ) -> Result<Vec<Term>, Stop>
-    ensures { Gives (λ v. terms_view v.items) result (body_at (M.arguments counting.now) (M.method counting.now) depth finite.empty bytes.now) }
+    ensures { Gives (λ v. terms_view v.items) result
+        (body_at (M.arguments counting.now) (M.method counting.now) depth finite.empty bytes.now) }
 {
     let mut locals = TreeSpace::new(counting.alloc());
     statements(counting, &mut locals, depth, &mut Code::new(bytes))

@@ -54,7 +54,8 @@ pub(crate) fn buffer<C: Counting>(
     level: u32,
     code: &mut Code<'_>,
 ) -> Result<Term, Stop>
-    ensures { Reads term_view (buffer_form (term_at (C.grammar counting.now) level)) code.old code.new result }
+    ensures { Reads term_view (buffer_form (term_at (C.grammar counting.now) level)) code.old
+        code.new result }
 {
     let mut inner = code.package()?;
     let size = term(counting, level, Place::Value, &mut inner)?;
@@ -63,7 +64,9 @@ pub(crate) fn buffer<C: Counting>(
 
 #[cycle(read)]
 fn elements<C: Counting>(counting: &C, level: u32, code: &mut Code<'_>) -> Result<Vec<Term>, Stop>
-    ensures { ReadsAll (λ v. terms_view v.items) (λ end bytes. each_at (term_at (C.grammar counting.now) level Element end) bytes) code.old result }
+    ensures { ReadsAll (λ v. terms_view v.items)
+        (λ end bytes. each_at (term_at (C.grammar counting.now) level Element end) bytes) code.old
+        result }
 {
     let mut found = Vec::new(counting.alloc());
     'each: while !code.is_empty() {
@@ -80,7 +83,8 @@ pub(crate) fn package<C: Counting>(
     level: u32,
     code: &mut Code<'_>,
 ) -> Result<Term, Stop>
-    ensures { Reads term_view (package_form (term_at (C.grammar counting.now) level)) code.old code.new result }
+    ensures { Reads term_view (package_form (term_at (C.grammar counting.now) level)) code.old
+        code.new result }
 {
     let mut inner = code.package()?;
     let count = inner.byte()?;
@@ -96,7 +100,8 @@ pub(crate) fn var_package<C: Counting>(
     level: u32,
     code: &mut Code<'_>,
 ) -> Result<Term, Stop>
-    ensures { Reads term_view (var_package_form (term_at (C.grammar counting.now) level)) code.old code.new result }
+    ensures { Reads term_view (var_package_form (term_at (C.grammar counting.now) level)) code.old
+        code.new result }
 {
     let mut inner = code.package()?;
     let count = term(counting, level, Place::Value, &mut inner)?;
@@ -113,7 +118,9 @@ fn arguments<C: Counting>(
     count: u8,
     code: &mut Code<'_>,
 ) -> Result<Vec<Term>, Stop>
-    ensures { ReadsOn (λ v. terms_view v.items) (operands_at (term_at (C.grammar counting.now) level) (values count)) code.old code.new result }
+    ensures { ReadsOn (λ v. terms_view v.items)
+        (operands_at (term_at (C.grammar counting.now) level) (values count)) code.old code.new
+        result }
 {
     let mut found = Vec::with_capacity(counting.alloc(), usize::from(count))?;
     'each: for _ in 0..count {
@@ -135,7 +142,8 @@ fn is_call(place: Place) -> bool
 // A call. With a frame of its own, a level of calls costs less stack.
 #[inline(never)]
 fn call_of(alloc: Global, name: NameRef<'_>, values: Vec<Term>) -> Result<Term, Stop>
-    ensures { Gives term_view result (Ok (call (name_parts name.entry) (terms_of (terms_view values.items)))) }
+    ensures { Gives term_view result (Ok (call (name_parts name.entry)
+        (terms_of (terms_view values.items)))) }
 {
     Ok(Term::Call(name.own(alloc)?, values))
 }
@@ -158,7 +166,8 @@ fn named<C: Counting>(
     place: Place,
     code: &mut Code<'_>,
 ) -> Result<Term, Stop>
-    ensures { Reads term_view (name_form (C.grammar counting.now).args (term_at (C.grammar counting.now) level) place) code.old code.new result }
+    ensures { Reads term_view (name_form (C.grammar counting.now).args
+        (term_at (C.grammar counting.now) level) place) code.old code.new result }
 {
     let front = code.fork();
     let name = code.name()?;
@@ -174,19 +183,22 @@ fn named<C: Counting>(
 }
 
 fn byte_operand(code: &mut Code<'_>) -> Result<Operand, Stop>
-    ensures { Reads operand_view (λ end bytes. as_raw 1 (byte_at end bytes)) code.old code.new result }
+    ensures { Reads operand_view (λ end bytes. as_raw 1 (byte_at end bytes)) code.old code.new
+        result }
 {
     Ok(Operand::Byte(code.byte()?))
 }
 
 fn word_operand(code: &mut Code<'_>) -> Result<Operand, Stop>
-    ensures { Reads operand_view (λ end bytes. as_raw 2 (number_at 2 end bytes)) code.old code.new result }
+    ensures { Reads operand_view (λ end bytes. as_raw 2 (number_at 2 end bytes)) code.old code.new
+        result }
 {
     Ok(Operand::Word(code.word()?))
 }
 
 fn dword_operand(code: &mut Code<'_>) -> Result<Operand, Stop>
-    ensures { Reads operand_view (λ end bytes. as_raw 4 (number_at 4 end bytes)) code.old code.new result }
+    ensures { Reads operand_view (λ end bytes. as_raw 4 (number_at 4 end bytes)) code.old code.new
+        result }
 {
     Ok(Operand::DWord(code.dword()?))
 }
@@ -200,7 +212,8 @@ fn operand<C: Counting>(
     kind: OperandKind,
     code: &mut Code<'_>,
 ) -> Result<Operand, Stop>
-    ensures { Reads operand_view (operand_at (term_at (C.grammar counting.now) level) kind) code.old code.new result }
+    ensures { Reads operand_view (operand_at (term_at (C.grammar counting.now) level) kind)
+        code.old code.new result }
 {
     match kind {
         OperandKind::At(place) => Ok(Operand::Term(term(counting, level, place, code)?)),
@@ -224,7 +237,8 @@ fn operands<C: Counting>(
     kinds: &[OperandKind],
     code: &mut Code<'_>,
 ) -> Result<Vec<Operand>, Stop>
-    ensures { ReadsOn (λ v. operands_view v.items) (operands_at (term_at (C.grammar counting.now) level) kinds.now) code.old code.new result }
+    ensures { ReadsOn (λ v. operands_view v.items)
+        (operands_at (term_at (C.grammar counting.now) level) kinds.now) code.old code.new result }
 {
     let mut found = Vec::with_capacity(counting.alloc(), kinds.len())?;
     'each: for kind in kinds {
@@ -245,7 +259,8 @@ fn operator<C: Counting>(
     op: Op,
     code: &mut Code<'_>,
 ) -> Result<Term, Stop>
-    ensures { ReadsOn term_view (operator_form (term_at (C.grammar counting.now) level) op) code.old code.new result }
+    ensures { ReadsOn term_view (operator_form (term_at (C.grammar counting.now) level) op)
+        code.old code.new result }
 {
     let operands = operands(counting, level, op.operands(), code)?;
     Ok(Term::Op(op, operands))
@@ -265,7 +280,9 @@ fn form<'a, C: Counting>(
     requires ends { front.now.end ≡ code.old.end }
     requires behind { length code.old.bytes < length front.now.bytes }
     ensures { Reads term_view
-        (λ end whole. form_by (C.grammar counting.now) (term_at (C.grammar counting.now) level) place end whole opcode code.old.bytes) front.now code.new result }
+        (λ end whole. form_by (C.grammar counting.now)
+        (term_at (C.grammar counting.now) level) place end whole opcode code.old.bytes) front.now
+        code.new result }
 {
     match opcode {
         Opcode::Constant(form) => constant(form, code),
@@ -299,7 +316,9 @@ pub(crate) fn placed<'a, C: Counting>(
     requires ends { front.now.end ≡ code.old.end }
     requires behind { length code.old.bytes < length front.now.bytes }
     ensures { Reads term_view
-        (λ end whole. placed_by (C.grammar counting.now) (term_at (C.grammar counting.now) level) place end whole opcode code.old.bytes) front.now code.new result }
+        (λ end whole. placed_by (C.grammar counting.now)
+        (term_at (C.grammar counting.now) level) place end whole opcode code.old.bytes) front.now
+        code.new result }
 {
     if let Some(reason) = refusal(counting.loads(), place, opcode) {
         return Err(refused(front, reason));
@@ -316,7 +335,8 @@ pub(crate) fn term<C: Counting>(
     place: Place,
     code: &mut Code<'_>,
 ) -> Result<Term, Stop>
-    ensures { Reads term_view (term_at (C.grammar counting.now) level place) code.old code.new result }
+    ensures { Reads term_view (term_at (C.grammar counting.now) level place) code.old code.new
+        result }
 {
     if level == 0 {
         return Err(code.too_deep().into());
@@ -336,7 +356,8 @@ pub fn read_term<C: Counting>(
     place: Place,
     code: &mut Code<'_>,
 ) -> Result<Term, Stop>
-    ensures { Reads term_view (term_at (C.grammar counting.now) level place) code.old code.new result }
+    ensures { Reads term_view (term_at (C.grammar counting.now) level place) code.old code.new
+        result }
 {
     term(counting, level, place, code)
 }

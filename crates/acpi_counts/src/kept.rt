@@ -35,7 +35,8 @@ impl Kept {
 
     /// Adds a count. A path that has a count keeps it.
     pub(crate) fn add(&mut self, alloc: Global, path: Path, count: u8) -> Result<(), AllocError>
-        ensures ok { OnOk result (kept_counts self.new ≡ with_first (kept_counts self.old) path count) }
+        ensures ok { OnOk result (kept_counts self.new
+            ≡ with_first (kept_counts self.old) path count) }
         ensures err { OnErr result (kept_counts self.new ≡ kept_counts self.old) }
     {
         match self {
@@ -58,7 +59,8 @@ impl Kept {
         scope: &Path,
         name: NameRef<'_>,
     ) -> Result<Option<Path>, AllocError>
-        ensures { IfOk result (λ p. p ≡ answer (is_defined (kept_counts self.now)) scope.now (name_parts name.entry)) }
+        ensures { IfOk result (λ p. p ≡ answer (is_defined (kept_counts self.now)) scope.now
+            (name_parts name.entry)) }
     {
         match self {
             Kept::One(only, _) => find_only(alloc, only, scope, name),
@@ -75,7 +77,8 @@ fn map_of(
     path: Path,
     count: u8,
 ) -> Result<TreeSpace<u8>, AllocError>
-    ensures { IfOk result (λ m. m ≡ with_first (finite.insert finite.empty only.now first) path count) }
+    ensures { IfOk result (λ m. m ≡ with_first
+        (finite.insert finite.empty only.now first) path count) }
 {
     let mut map = TreeSpace::new(alloc);
     add_to(&mut map, only.copy()?, first)?;

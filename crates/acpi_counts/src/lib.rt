@@ -90,7 +90,8 @@ impl Counts {
         scope: &Path,
         name: NameRef<'_>,
     ) -> Result<Option<Path>, AllocError>
-        ensures { IfOk result (λ p. p ≡ answer (is_defined self.now) scope.now (name_parts name.entry)) }
+        ensures { IfOk result (λ p. p ≡ answer (is_defined self.now) scope.now
+            (name_parts name.entry)) }
     {
         match &self.kept {
             Some(kept) => kept.find(alloc, scope, name),

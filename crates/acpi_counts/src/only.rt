@@ -23,7 +23,8 @@ fn is_below(path: &Path, scope: &Path, seg: Seg) -> bool
 
 // Whether the path is the place of the name in the scope.
 fn is_place(alloc: Global, path: &Path, scope: &Path, name: NameRef<'_>) -> Result<bool, AllocError>
-    ensures { IfOk result (λ b. IsTrue b ↔ (place_of scope.now (name_parts name.entry) ≡ Some path.now)) }
+    ensures { IfOk result (λ b. IsTrue b ↔ (place_of scope.now (name_parts name.entry)
+        ≡ Some path.now)) }
 {
     match place(alloc, scope, name) {
         Ok(found) => Ok(found == *path),
@@ -34,7 +35,8 @@ fn is_place(alloc: Global, path: &Path, scope: &Path, name: NameRef<'_>) -> Resu
 
 // Whether a search of the name from the scope tries the path.
 fn is_tried(alloc: Global, path: &Path, scope: &Path, name: NameRef<'_>) -> Result<bool, AllocError>
-    ensures { IfOk result (λ b. answer (λ q. is_same_path q path.now) scope.now (name_parts name.entry) ≡ cond b (Some path.now) None) }
+    ensures { IfOk result (λ b. answer (λ q. is_same_path q path.now) scope.now
+        (name_parts name.entry) ≡ cond b (Some path.now) None) }
 {
     search_is_longest();
     match name.plain() {
@@ -50,7 +52,8 @@ pub(crate) fn find_only(
     scope: &Path,
     name: NameRef<'_>,
 ) -> Result<Option<Path>, AllocError>
-    ensures { IfOk result (λ p. p ≡ answer (λ q. is_same_path q path.now) scope.now (name_parts name.entry)) }
+    ensures { IfOk result (λ p. p ≡ answer (λ q. is_same_path q path.now) scope.now
+        (name_parts name.entry)) }
 {
     if is_tried(alloc, path, scope, name)? {
         Ok(Some(path.copy()?))

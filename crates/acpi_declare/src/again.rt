@@ -70,8 +70,10 @@ pub(crate) struct Again<'a> {
 impl<'a> Again<'a> {
     // Takes the next of the missed paths, if it is this one.
     fn takes(&mut self, path: &Path) -> bool
-        ensures answer { (others : List (List Segment)) → first_answer (path.now ∷ others) self.old.left.now
-            ≡ cond result (first_answer others self.new.left.now) (Some (path.now, self.new.left.now)) }
+        ensures answer { (others : List (List Segment))
+            → first_answer (path.now ∷ others) self.old.left.now
+            ≡ cond result (first_answer others self.new.left.now)
+            (Some (path.now, self.new.left.now)) }
         ensures notes { self.new.notes ≡ self.old.notes }
     {
         match self.left.split_first() {
@@ -86,7 +88,8 @@ impl<'a> Again<'a> {
     // What the search of a plain name answered: it tries the segment in the scope and then in each of its parents.
     fn found_upwards(&mut self, scope: &Path, seg: Seg) -> Result<Path, AllocError>
         requires { IsSome (first_answer (tries_below scope.now seg) self.old.left.now) }
-        ensures path { IfOk result (λ p. first_answer (tries_below scope.now seg) self.old.left.now ≡ Some (p, self.new.left.now)) }
+        ensures path { IfOk result (λ p. first_answer (tries_below scope.now seg) self.old.left.now
+            ≡ Some (p, self.new.left.now)) }
         ensures notes { self.new.notes ≡ self.old.notes }
     {
         let mut path = unit_path(scope, seg)?;
@@ -103,7 +106,8 @@ impl<'a> Again<'a> {
     // What the search of a name answered.
     fn found(&mut self, scope: &Path, name: &Name) -> Result<Path, AllocError>
         requires { IsSome (answer_again scope.now name.now self.old.left.now) }
-        ensures path { IfOk result (λ p. answer_again scope.now name.now self.old.left.now ≡ Some (p, self.new.left.now)) }
+        ensures path { IfOk result (λ p. answer_again scope.now name.now self.old.left.now
+            ≡ Some (p, self.new.left.now)) }
         ensures notes { self.new.notes ≡ self.old.notes }
     {
         match name.view().plain() {
@@ -115,7 +119,8 @@ impl<'a> Again<'a> {
     // The path of an item that holds items: of the scope that it opens, or of the object that it declares.
     fn path_of(&mut self, scope: &Path, front: &HolderFront) -> Result<Path, AllocError>
         requires { IsSome (path_again front.now.form scope.now front.now.name self.old.left.now) }
-        ensures path { IfOk result (λ p. path_again front.now.form scope.now front.now.name self.old.left.now ≡ Some (p, self.new.left.now)) }
+        ensures path { IfOk result (λ p. path_again front.now.form scope.now front.now.name
+            self.old.left.now ≡ Some (p, self.new.left.now)) }
         ensures notes { self.new.notes ≡ self.old.notes }
     {
         match front.form {
@@ -128,7 +133,8 @@ impl<'a> Again<'a> {
     fn note_leaf(&mut self, scope: &Path, item: Item) -> Result<(), AllocError>
         requires leaf { holds_items (item_view item) ≡ false }
         requires some { IsSome (item_again (noted_in self.old) scope.now (item_view item)) }
-        ensures { OnOk result (item_again (noted_in self.old) scope.now (item_view item) ≡ Some (noted_in self.new)) }
+        ensures { OnOk result (item_again (noted_in self.old) scope.now (item_view item)
+            ≡ Some (noted_in self.new)) }
     {
         match item {
             Item::Method { name, code, .. } => {
@@ -151,9 +157,11 @@ impl<'a> Again<'a> {
         code: &mut Code<'c>,
     ) -> Result<Inside<'c>, AllocError>
         requires more { 0 < length code.old.bytes }
-        requires some { (is : ItemTrees) × Yields level code.old.end code.old.bytes is × IsSome (items_again (noted_in self.old) scope.old is) }
+        requires some { (is : ItemTrees) × Yields level code.old.end code.old.bytes is
+            × IsSome (items_again (noted_in self.old) scope.old is) }
         ensures ok { (is : ItemTrees) → Yields level code.old.end code.old.bytes is
-            → IfOk result (λ e. GoesOn level (noted_in self.old) (noted_in self.new) scope.old scope.new code.new is e) }
+            → IfOk result (λ e. GoesOn level (noted_in self.old)
+            (noted_in self.new) scope.old scope.new code.new is e) }
         ensures level { IfOk result (λ e. 0 < level) }
         ensures left { IfOk result (λ e. Shorter code.old code.new) }
         ensures scope { IfOk result (λ e. IsScopeWithin scope.old scope.new e) }
@@ -179,8 +187,10 @@ impl<'a> Again<'a> {
     #[inline(never)]
     #[cycle(again)]
     fn note_elsewhere(&mut self, scope: Path, level: u32, code: Code<'_>) -> Result<(), AllocError>
-        requires { (is : ItemTrees) × Yields level code.end code.bytes is × IsSome (items_again (noted_in self.old) scope is) }
-        ensures { (is : ItemTrees) → Yields level code.entry.end code.entry.bytes is → OnOk result (items_again (noted_in self.old) scope is ≡ Some (noted_in self.new)) }
+        requires { (is : ItemTrees) × Yields level code.end code.bytes is
+            × IsSome (items_again (noted_in self.old) scope is) }
+        ensures { (is : ItemTrees) → Yields level code.entry.end code.entry.bytes is
+            → OnOk result (items_again (noted_in self.old) scope is ≡ Some (noted_in self.new)) }
     {
         let mut scope = scope;
         self.note_items(&mut scope, level, code)
@@ -189,8 +199,11 @@ impl<'a> Again<'a> {
     // The items of some code, in order.
     #[cycle(again)]
     fn note_items(&mut self, scope: &mut Path, level: u32, code: Code<'_>) -> Result<(), AllocError>
-        requires { (is : ItemTrees) × Yields level code.end code.bytes is × IsSome (items_again (noted_in self.old) scope.old is) }
-        ensures noted { (is : ItemTrees) → Yields level code.entry.end code.entry.bytes is → OnOk result (items_again (noted_in self.old) scope.old is ≡ Some (noted_in self.new)) }
+        requires { (is : ItemTrees) × Yields level code.end code.bytes is
+            × IsSome (items_again (noted_in self.old) scope.old is) }
+        ensures noted { (is : ItemTrees) → Yields level code.entry.end code.entry.bytes is
+            → OnOk result (items_again (noted_in self.old) scope.old is
+            ≡ Some (noted_in self.new)) }
         ensures scope { OnOk result (scope.new ≡ scope.old) }
     {
         let mut left = code;
@@ -217,10 +230,16 @@ pub fn notes_again<'a>(
     depth: Depth,
     missed: &'a [Path],
 ) -> Result<(TableNotes, &'a [Path]), AllocError>
-    requires { (number : ℕ) × (before : Namespace) × (placements : List Placement) × (later : List (List Segment)) × IsNotedAgain depth number before table.now placements missed.now later }
-    ensures notes { (number : ℕ) (before : Namespace) (placements : List Placement) (later : List (List Segment)) → IsNotedAgain depth number before table.now placements missed.now later
+    requires { (number : ℕ) × (before : Namespace) × (placements : List Placement)
+        × (later : List (List Segment)) × IsNotedAgain depth number before table.now placements
+        missed.now later }
+    ensures notes { (number : ℕ) (before : Namespace) (placements : List Placement)
+        (later : List (List Segment)) → IsNotedAgain depth number before table.now placements
+        missed.now later
         → IfOk result (λ r. HasMethodsOf (notes_of r.0) placements) }
-    ensures later { (number : ℕ) (before : Namespace) (placements : List Placement) (later : List (List Segment)) → IsNotedAgain depth number before table.now placements missed.now later
+    ensures later { (number : ℕ) (before : Namespace) (placements : List Placement)
+        (later : List (List Segment)) → IsNotedAgain depth number before table.now placements
+        missed.now later
         → IfOk result (λ r. r.1.now ≡ later) }
     ensures missed { IfOk result (λ r. (notes_of r.0).missed ≡ []) }
 {

@@ -39,8 +39,10 @@ impl<S: Space<Object>> Declaring<S> {
 
     /// What a DSDT declares.
     pub fn dsdt(alloc: Global, dsdt: &Bytes, depth: Depth) -> Result<Declaring<S>, LoadFault>
-        ensures ok { IfOk result (λ d. HasTables depth (dsdt.now ∷ []) (state_of (S.contents (objects_so_far d)) d)) }
-        ensures err { (later : List (List ℕ)) → IfErr result (λ e. IsLoadFault depth (dsdt.now ∷ later) e) }
+        ensures ok { IfOk result (λ d. HasTables depth (dsdt.now ∷ [])
+            (state_of (S.contents (objects_so_far d)) d)) }
+        ensures err { (later : List (List ℕ))
+            → IfErr result (λ e. IsLoadFault depth (dsdt.now ∷ later) e) }
     {
         add_table(alloc, start(alloc, 1)?, 0, dsdt, Keep::All, depth)
     }
@@ -52,9 +54,12 @@ impl<S: Space<Object>> Declaring<S> {
         ssdt: &Bytes,
         depth: Depth,
     ) -> Result<Declaring<S>, LoadFault>
-        ensures ok { (tables : List (List ℕ)) → HasTables depth tables (state_of (S.contents (objects_so_far self)) self)
-            → IfOk result (λ d. HasTables depth (tables ++ ssdt.now ∷ []) (state_of (S.contents (objects_so_far d)) d)) }
-        ensures err { (tables later : List (List ℕ)) → HasTables depth tables (state_of (S.contents (objects_so_far self)) self)
+        ensures ok { (tables : List (List ℕ))
+            → HasTables depth tables (state_of (S.contents (objects_so_far self)) self)
+            → IfOk result (λ d. HasTables depth (tables ++ ssdt.now ∷ [])
+            (state_of (S.contents (objects_so_far d)) d)) }
+        ensures err { (tables later : List (List ℕ))
+            → HasTables depth tables (state_of (S.contents (objects_so_far self)) self)
             → IfErr result (λ e. IsLoadFault depth (tables ++ ssdt.now ∷ later) e) }
     {
         let number = self.notes.len();
@@ -69,10 +74,15 @@ impl<S: Space<Object>> Declaring<S> {
         ssdt: &Bytes,
         depth: Depth,
     ) -> Result<Declaring<Overlay<'_, S>>, LoadFault>
-        ensures ok { (tables : List (List ℕ)) → (so : HasTables depth tables (state_of (S.contents (objects_so_far self.now)) self.now))
-            → IfOk result (λ d. HasTableOver depth tables so.placements ssdt.now (state_of (contents_over S.contents (objects_so_far d)) d)) }
-        ensures lower { IfOk result (λ d. lower_of S.contents (objects_so_far d) ≡ S.contents (objects_so_far self.now)) }
-        ensures err { (tables later : List (List ℕ)) → HasTables depth tables (state_of (S.contents (objects_so_far self.now)) self.now)
+        ensures ok { (tables : List (List ℕ))
+            → (so : HasTables depth tables (state_of
+            (S.contents (objects_so_far self.now)) self.now))
+            → IfOk result (λ d. HasTableOver depth tables so.placements ssdt.now
+            (state_of (contents_over S.contents (objects_so_far d)) d)) }
+        ensures lower { IfOk result (λ d. lower_of S.contents (objects_so_far d)
+            ≡ S.contents (objects_so_far self.now)) }
+        ensures err { (tables later : List (List ℕ))
+            → HasTables depth tables (state_of (S.contents (objects_so_far self.now)) self.now)
             → IfErr result (λ e. IsLoadFault depth (tables ++ ssdt.now ∷ later) e) }
     {
         let layer = Declaring {
@@ -101,7 +111,8 @@ impl<S: Space<Object>> Declaring<S> {
     /// and one may be there several times.
     pub fn link_misses(&self, alloc: Global) -> Result<Vec<Path>, AllocError>
         ensures { IfOk result (λ v. (p : List Segment) → Among v.items p
-            ↔ IsMissedLink (state_of (S.contents (objects_so_far self.now)) self.now).objects (state_of (S.contents (objects_so_far self.now)) self.now).links p) }
+            ↔ IsMissedLink (state_of (S.contents (objects_so_far self.now)) self.now).objects
+            (state_of (S.contents (objects_so_far self.now)) self.now).links p) }
     {
         misses_of_links(alloc, &self.objects, &self.links, &AllPaths)
     }
@@ -114,7 +125,8 @@ impl<S: Space<Object>> Declaring<S> {
         among: &T,
     ) -> Result<Vec<Path>, AllocError>
         ensures { IfOk result (λ v. (p : List Segment) → Among v.items p
-            ↔ (IsMissedLink (namespace_of (O.contents objects.now)) (state_of (S.contents (objects_so_far self.now)) self.now).links p
+            ↔ (IsMissedLink (namespace_of (O.contents objects.now))
+            (state_of (S.contents (objects_so_far self.now)) self.now).links p
             × IsTrue (is_defined (T.contents among.now) p))) }
     {
         misses_of_links(alloc, objects, &self.links, &PathsOf::new(among))
@@ -122,10 +134,15 @@ impl<S: Space<Object>> Declaring<S> {
 
     /// The namespace, the links, searched over it, and the notes.
     pub fn finish(self, alloc: Global) -> Result<Declared<S>, LoadFault>
-        ensures found { IfOk result (λ d. links_at (links_in d) ≡ links_of (state_of (S.contents (objects_so_far self)) self).objects (state_of (S.contents (objects_so_far self)) self).links) }
-        ensures load { IfOk result (λ d. (depth : ℕ) (tables : List (List ℕ)) → HasTables depth tables (state_of (S.contents (objects_so_far self)) self)
-            → IsLoad depth tables (namespace_of (S.contents (objects_in d))) (links_at (links_in d))) }
-        ensures notes { IfOk result (λ d. (depth : ℕ) (tables : List (List ℕ)) → HasTables depth tables (state_of (S.contents (objects_so_far self)) self)
+        ensures found { IfOk result (λ d. links_at (links_in d)
+            ≡ links_of (state_of (S.contents (objects_so_far self)) self).objects
+            (state_of (S.contents (objects_so_far self)) self).links) }
+        ensures load { IfOk result (λ d. (depth : ℕ) (tables : List (List ℕ))
+            → HasTables depth tables (state_of (S.contents (objects_so_far self)) self)
+            → IsLoad depth tables (namespace_of (S.contents (objects_in d)))
+            (links_at (links_in d))) }
+        ensures notes { IfOk result (λ d. (depth : ℕ) (tables : List (List ℕ))
+            → HasTables depth tables (state_of (S.contents (objects_so_far self)) self)
             → AreNotes depth tables (map notes_of (notes_in d))) }
         ensures objects { IfOk result (λ d. objects_in d ≡ objects_so_far self) }
         ensures same_notes { IfOk result (λ d. notes_in d ≡ notes_so_far self) }

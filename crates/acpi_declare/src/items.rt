@@ -45,8 +45,10 @@ pub fn give_back<T: Drop>(left: &mut Vec<T>)
 // each is open while those inside it are read, have one path.
 #[tactic(auto, using(crate::proofs::Searches::rejoined_parts))]
 pub(crate) fn go_below(path: &mut Path, inside: Path) -> Result<Option<Path>, AllocError>
-    ensures below { IfOk result (λ other. IfNone other ((path.new ≡ inside) × (parent_of path.new ≡ path.old))) }
-    ensures other { IfOk result (λ other. IfSome other (λ p. (p ≡ inside) × (path.new ≡ path.old))) }
+    ensures below { IfOk result (λ other. IfNone other
+        ((path.new ≡ inside) × (parent_of path.new ≡ path.old))) }
+    ensures other { IfOk result (λ other. IfSome other
+        (λ p. (p ≡ inside) × (path.new ≡ path.old))) }
 {
     let mut parent = inside;
     match parent.pop() {
@@ -72,10 +74,13 @@ pub enum Entered {
 impl<S: Space<Object>> Pass<S> {
     // Declares an object inside which others stand, and gives its path.
     fn declare_scope(&mut self, scope: &Path, name: &Name, object: Object) -> Result<Path, Stop>
-        ensures path { IfOk result (λ p. declared_path (namespace_of (S.contents self.old.objects)) scope.now name.now ≡ Ok p) }
+        ensures path { IfOk result (λ p. declared_path
+            (namespace_of (S.contents self.old.objects)) scope.now name.now ≡ Ok p) }
         ensures ok { IfOk result (λ p. pass_of (S.contents self.new.objects) self.new
-            ≡ after (pass_of (S.contents self.old.objects) self.old) (placement scope.now (step name.now (declares_alone (object_view object))) p)) }
-        ensures refused { IfErr result (λ f. IsStopOf f (declared_path (namespace_of (S.contents self.old.objects)) scope.now name.now)) }
+            ≡ after (pass_of (S.contents self.old.objects) self.old)
+            (placement scope.now (step name.now (declares_alone (object_view object))) p)) }
+        ensures refused { IfErr result (λ f. IsStopOf f
+            (declared_path (namespace_of (S.contents self.old.objects)) scope.now name.now)) }
         ensures lower { OnOk result (S.lower self.new.objects ≡ S.lower self.old.objects) }
     {
         let path = declared(self.alloc, &self.objects, scope, name)?;
@@ -86,10 +91,13 @@ impl<S: Space<Object>> Pass<S> {
 
     // Opens a scope, and gives its path.
     fn open_scope(&mut self, scope: &Path, name: &Name) -> Result<Path, Stop>
-        ensures path { IfOk result (λ p. opened_path (namespace_of (S.contents self.old.objects)) scope.now name.now ≡ Ok p) }
+        ensures path { IfOk result (λ p. opened_path
+            (namespace_of (S.contents self.old.objects)) scope.now name.now ≡ Ok p) }
         ensures ok { IfOk result (λ p. pass_of (S.contents self.new.objects) self.new
-            ≡ after (pass_of (S.contents self.old.objects) self.old) (placement scope.now (step name.now opens) p)) }
-        ensures refused { IfErr result (λ f. IsStopOf f (opened_path (namespace_of (S.contents self.old.objects)) scope.now name.now)) }
+            ≡ after (pass_of (S.contents self.old.objects) self.old)
+            (placement scope.now (step name.now opens) p)) }
+        ensures refused { IfErr result (λ f. IsStopOf f
+            (opened_path (namespace_of (S.contents self.old.objects)) scope.now name.now)) }
         ensures lower { OnOk result (S.lower self.new.objects ≡ S.lower self.old.objects) }
     {
         let target = opened(self.alloc, &self.objects, scope, name)?;
@@ -111,11 +119,14 @@ impl<S: Space<Object>> Pass<S> {
         object: Object,
         items: Vec<Item>,
     ) -> Result<(Path, Vec<Item>), Stop>
-        ensures path { IfOk result (λ left. declared_path (namespace_of (S.contents self.old.objects)) scope.now name ≡ Ok left.0) }
+        ensures path { IfOk result (λ left. declared_path
+            (namespace_of (S.contents self.old.objects)) scope.now name ≡ Ok left.0) }
         ensures items { IfOk result (λ left. left.1 ≡ items) }
         ensures ok { IfOk result (λ left. pass_of (S.contents self.new.objects) self.new
-            ≡ after (pass_of (S.contents self.old.objects) self.old) (placement scope.now (step name (declares_alone (object_view object))) left.0)) }
-        ensures refused { IfErr result (λ f. IsStopOf f (declared_path (namespace_of (S.contents self.old.objects)) scope.now name)) }
+            ≡ after (pass_of (S.contents self.old.objects) self.old)
+            (placement scope.now (step name (declares_alone (object_view object))) left.0)) }
+        ensures refused { IfErr result (λ f. IsStopOf f
+            (declared_path (namespace_of (S.contents self.old.objects)) scope.now name)) }
         ensures lower { OnOk result (S.lower self.new.objects ≡ S.lower self.old.objects) }
     {
         let inside = self.declare_scope(scope, &name, object)?;
@@ -129,11 +140,14 @@ impl<S: Space<Object>> Pass<S> {
         name: Name,
         items: Vec<Item>,
     ) -> Result<(Path, Vec<Item>), Stop>
-        ensures path { IfOk result (λ left. opened_path (namespace_of (S.contents self.old.objects)) scope.now name ≡ Ok left.0) }
+        ensures path { IfOk result (λ left. opened_path
+            (namespace_of (S.contents self.old.objects)) scope.now name ≡ Ok left.0) }
         ensures items { IfOk result (λ left. left.1 ≡ items) }
         ensures ok { IfOk result (λ left. pass_of (S.contents self.new.objects) self.new
-            ≡ after (pass_of (S.contents self.old.objects) self.old) (placement scope.now (step name opens) left.0)) }
-        ensures refused { IfErr result (λ f. IsStopOf f (opened_path (namespace_of (S.contents self.old.objects)) scope.now name)) }
+            ≡ after (pass_of (S.contents self.old.objects) self.old)
+            (placement scope.now (step name opens) left.0)) }
+        ensures refused { IfErr result (λ f. IsStopOf f
+            (opened_path (namespace_of (S.contents self.old.objects)) scope.now name)) }
         ensures lower { OnOk result (S.lower self.new.objects ≡ S.lower self.old.objects) }
     {
         let inside = self.open_scope(scope, &name)?;
@@ -147,8 +161,12 @@ impl<S: Space<Object>> Pass<S> {
         requires room { OffsetFits (item_view item) }
         requires fits { item_fits (item_view item) ≡ true }
         ensures ok { IfOk result
-            (λ left. Enters (item_view item) (pass_item (pass_of (S.contents self.old.objects) self.old) scope.now (item_view item)) (pass_of (S.contents self.new.objects) self.new) left) }
-        ensures refused { IfErr result (λ f. IsStopOf f (pass_item (pass_of (S.contents self.old.objects) self.old) scope.now (item_view item))) }
+            (λ left. Enters (item_view item) (pass_item
+            (pass_of (S.contents self.old.objects) self.old) scope.now (item_view item))
+            (pass_of (S.contents self.new.objects) self.new) left) }
+        ensures refused { IfErr result (λ f. IsStopOf f
+            (pass_item (pass_of (S.contents self.old.objects) self.old) scope.now
+            (item_view item))) }
         ensures lower { OnOk result (S.lower self.new.objects ≡ S.lower self.old.objects) }
     {
         let left = match item {
@@ -183,11 +201,17 @@ impl<S: Space<Object>> Pass<S> {
         requires some { left.old.items ≢ [] }
         requires room { OffsetsFit (items_tree (reverse left.old.items)) }
         requires fits { items_fit (items_tree (reverse left.old.items)) ≡ true }
-        ensures ok { IfOk result (λ e. EntersNext (pass_items (pass_of (S.contents self.old.objects) self.old) scope.old (items_tree (reverse left.old.items)))
-            (λ t. pass_items t scope.old (items_tree (reverse left.new.items))) (pass_of (S.contents self.new.objects) self.new) scope.new e) }
-        ensures left { IfOk result (λ e. IsLeftBehind (items_tree (reverse left.old.items)) (items_tree (reverse left.new.items)) e) }
+        ensures ok { IfOk result (λ e. EntersNext
+            (pass_items (pass_of (S.contents self.old.objects) self.old) scope.old
+            (items_tree (reverse left.old.items)))
+            (λ t. pass_items t scope.old (items_tree (reverse left.new.items)))
+            (pass_of (S.contents self.new.objects) self.new) scope.new e) }
+        ensures left { IfOk result (λ e. IsLeftBehind (items_tree (reverse left.old.items))
+            (items_tree (reverse left.new.items)) e) }
         ensures scope { IfOk result (λ e. IsScopeOf scope.old scope.new e) }
-        ensures refused { IfErr result (λ f. IsStopOf f (pass_items (pass_of (S.contents self.old.objects) self.old) scope.old (items_tree (reverse left.old.items)))) }
+        ensures refused { IfErr result (λ f. IsStopOf f
+            (pass_items (pass_of (S.contents self.old.objects) self.old) scope.old
+            (items_tree (reverse left.old.items)))) }
         ensures lower { OnOk result (S.lower self.new.objects ≡ S.lower self.old.objects) }
     {
         let Some(item) = left.pop() else {
@@ -209,9 +233,12 @@ impl<S: Space<Object>> Pass<S> {
     fn declare_elsewhere(&mut self, scope: Path, items: Vec<Item>) -> Result<(), Stop>
         requires room { OffsetsFit (items_tree items.items) }
         requires fits { items_fit (items_tree items.items) ≡ true }
-        ensures ok { OnOk result (pass_items (pass_of (S.contents self.old.objects) self.old) scope (items_tree items.items)
+        ensures ok { OnOk result (pass_items (pass_of (S.contents self.old.objects) self.old) scope
+            (items_tree items.items)
             ≡ Ok (pass_of (S.contents self.new.objects) self.new)) }
-        ensures refused { IfErr result (λ f. IsStopOf f (pass_items (pass_of (S.contents self.old.objects) self.old) scope (items_tree items.items))) }
+        ensures refused { IfErr result (λ f. IsStopOf f
+            (pass_items (pass_of (S.contents self.old.objects) self.old) scope
+            (items_tree items.items))) }
         ensures lower { OnOk result (S.lower self.new.objects ≡ S.lower self.old.objects) }
     {
         let mut scope = scope;
@@ -223,9 +250,12 @@ impl<S: Space<Object>> Pass<S> {
     pub(crate) fn declare_items(&mut self, scope: &mut Path, items: Vec<Item>) -> Result<(), Stop>
         requires room { OffsetsFit (items_tree items.items) }
         requires fits { items_fit (items_tree items.items) ≡ true }
-        ensures ok { OnOk result (pass_items (pass_of (S.contents self.old.objects) self.old) scope.old (items_tree items.items)
+        ensures ok { OnOk result (pass_items (pass_of (S.contents self.old.objects) self.old)
+            scope.old (items_tree items.items)
             ≡ Ok (pass_of (S.contents self.new.objects) self.new)) }
-        ensures refused { IfErr result (λ f. IsStopOf f (pass_items (pass_of (S.contents self.old.objects) self.old) scope.old (items_tree items.items))) }
+        ensures refused { IfErr result (λ f. IsStopOf f
+            (pass_items (pass_of (S.contents self.old.objects) self.old) scope.old
+            (items_tree items.items))) }
         ensures lower { OnOk result (S.lower self.new.objects ≡ S.lower self.old.objects) }
         ensures scope { OnOk result (scope.new ≡ scope.old) }
     {

@@ -47,7 +47,8 @@ pub(crate) fn put_kept(
     notes: TableNotes,
     keep: Keep<'_>,
 ) -> Result<(), AllocError>
-    ensures { OnOk result (map notes_of kept.new.items ≡ map notes_of kept.old.items ++ kept_of keep.entry (notes_of notes)) }
+    ensures { OnOk result (map notes_of kept.new.items ≡ map notes_of kept.old.items
+        ++ kept_of keep.entry (notes_of notes)) }
 {
     match keep {
         Keep::All => {

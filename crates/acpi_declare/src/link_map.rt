@@ -56,7 +56,8 @@ impl LinkMap {
         path: Path,
         answers: Vec<Option<Path>>,
     ) -> Result<(), AllocError>
-        ensures ok { OnOk result (links_at self.new ≡ union (links_at self.old) (singleton path answers.items)) }
+        ensures ok { OnOk result (links_at self.new
+            ≡ union (links_at self.old) (singleton path answers.items)) }
         ensures err { OnErr result (links_at self.new ≡ links_at self.old) }
     {
         self.share(path, &Arc::new(alloc, answers)?)?;
@@ -70,7 +71,8 @@ impl LinkMap {
         path: Path,
         answers: &Arc<Vec<Option<Path>>>,
     ) -> Result<(), AllocError>
-        ensures ok { OnOk result (links_at self.new ≡ union (links_at self.old) (singleton path answers.now.value.items)) }
+        ensures ok { OnOk result (links_at self.new
+            ≡ union (links_at self.old) (singleton path answers.now.value.items)) }
         ensures err { OnErr result (links_at self.new ≡ links_at self.old) }
     {
         match self.answers.insert(path, answers.clone()?) {

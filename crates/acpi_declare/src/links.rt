@@ -30,7 +30,8 @@ fn answer_of<S: Space<Object>>(
     scope: &Path,
     name: &Name,
 ) -> Result<Option<Path>, LoadFault>
-    ensures found { IfOk result (λ o. o ≡ answer (is_defined_in (namespace_of (S.contents objects.now))) scope.now name.now) }
+    ensures found { IfOk result (λ o. o ≡ answer
+        (is_defined_in (namespace_of (S.contents objects.now))) scope.now name.now) }
     ensures memory { IfErr result (λ f. f ≡ LoadFault.Memory) }
 {
     match search(alloc, objects, scope, name.view()) {
@@ -48,7 +49,8 @@ fn answers_of<S: Space<Object>>(
     scope: &Path,
     names: &[Name],
 ) -> Result<Vec<Option<Path>>, LoadFault>
-    ensures found { IfOk result (λ v. v.items ≡ answers (namespace_of (S.contents objects.now)) scope.now names.now) }
+    ensures found { IfOk result (λ v. v.items
+        ≡ answers (namespace_of (S.contents objects.now)) scope.now names.now) }
     ensures memory { IfErr result (λ f. f ≡ LoadFault.Memory) }
 {
     let mut found = Vec::with_capacity(alloc, names.len())?;
@@ -82,7 +84,9 @@ fn put_unit_links(
     segs: Vec<Seg>,
     answers: &Arc<Vec<Option<Path>>>,
 ) -> Result<(), AllocError>
-    ensures { OnOk result (links_at links.new ≡ union (links_at links.old) (links_with answers.now.value.items (unit_paths scope.now segs.items))) }
+    ensures { OnOk result (links_at links.new
+        ≡ union (links_at links.old) (links_with answers.now.value.items
+        (unit_paths scope.now segs.items))) }
 {
     let mut left = segs;
     while let Some(seg) = left.pop() {
@@ -99,7 +103,9 @@ fn put_links(
     paths: LinkedPaths,
     answers: &Arc<Vec<Option<Path>>>,
 ) -> Result<(), AllocError>
-    ensures { OnOk result (links_at links.new ≡ union (links_at links.old) (links_with answers.now.value.items (linked_paths scope.now paths))) }
+    ensures { OnOk result (links_at links.new
+        ≡ union (links_at links.old) (links_with answers.now.value.items
+        (linked_paths scope.now paths))) }
 {
     match paths {
         LinkedPaths::One(path) => links.share(path, answers),
@@ -114,7 +120,9 @@ fn put_pending<S: Space<Object>>(
     links: &mut LinkMap,
     pending: PendingLinks,
 ) -> Result<(), LoadFault>
-    ensures ok { OnOk result (links_at links.new ≡ union (links_at links.old) (links_of (namespace_of (S.contents objects.now)) (pending_of pending))) }
+    ensures ok { OnOk result (links_at links.new
+        ≡ union (links_at links.old) (links_of (namespace_of (S.contents objects.now))
+        (pending_of pending))) }
     ensures memory { IfErr result (λ f. f ≡ LoadFault.Memory) }
 {
     let PendingLinks {
@@ -133,7 +141,8 @@ pub(crate) fn linked<S: Space<Object>>(
     objects: &S,
     pending: Vec<PendingLinks>,
 ) -> Result<LinkMap, LoadFault>
-    ensures found { IfOk result (λ m. links_at m ≡ links_of (namespace_of (S.contents objects.now)) (all_pending_of pending.items)) }
+    ensures found { IfOk result (λ m. links_at m
+        ≡ links_of (namespace_of (S.contents objects.now)) (all_pending_of pending.items)) }
     ensures memory { IfErr result (λ f. f ≡ LoadFault.Memory) }
 {
     let mut links = LinkMap::new(alloc);
@@ -153,7 +162,8 @@ fn misses_of_name<S: Space<Object>, Q: Wanted>(
     name: &Name,
     wanted: &Q,
 ) -> Result<Vec<Path>, AllocError>
-    ensures { IfOk result (λ v. v.items ≡ filter (Q.wanted wanted.now) (missed (is_defined_in (namespace_of (S.contents objects.now))) scope.now name.now)) }
+    ensures { IfOk result (λ v. v.items ≡ filter (Q.wanted wanted.now)
+        (missed (is_defined_in (namespace_of (S.contents objects.now))) scope.now name.now)) }
 {
     match wanted_misses(alloc, objects, scope, name.view(), wanted) {
         Ok(paths) => Ok(paths),
@@ -171,7 +181,9 @@ fn add_misses<S: Space<Object>, Q: Wanted>(
     wanted: &Q,
     missed: &mut Vec<Path>,
 ) -> Result<(), AllocError>
-    ensures { OnOk result (missed.new.items ≡ missed.old.items ++ misses_from (Q.wanted wanted.now) (namespace_of (S.contents objects.now)) scope.now names.now) }
+    ensures { OnOk result (missed.new.items ≡ missed.old.items
+        ++ misses_from (Q.wanted wanted.now) (namespace_of (S.contents objects.now)) scope.now
+        names.now) }
 {
     for name in names {
         let mut paths = misses_of_name(alloc, objects, scope, name, wanted)?;
@@ -187,7 +199,9 @@ pub(crate) fn misses_of_links<S: Space<Object>, Q: Wanted>(
     pending: &[PendingLinks],
     wanted: &Q,
 ) -> Result<Vec<Path>, AllocError>
-    ensures { IfOk result (λ v. (p : List Segment) → Among v.items p ↔ (IsMissedLink (namespace_of (S.contents objects.now)) (all_pending_of pending.now) p × IsTrue (Q.wanted wanted.now p))) }
+    ensures { IfOk result (λ v. (p : List Segment) → Among v.items p
+        ↔ (IsMissedLink (namespace_of (S.contents objects.now)) (all_pending_of pending.now) p
+        × IsTrue (Q.wanted wanted.now p))) }
 {
     let mut missed = Vec::new(alloc);
     for link in pending {

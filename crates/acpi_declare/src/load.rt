@@ -99,7 +99,8 @@ fn is_signed(number: usize, signature: [u8; 4]) -> bool
 
 // Why table `number` is refused where it has another signature.
 fn unsigned(number: usize) -> LoadReason
-    ensures { (depth : ℕ) (objects : Namespace) (bytes : List ℕ) → HasOtherSignature number bytes → IsLoadReason depth number objects bytes result }
+    ensures { (depth : ℕ) (objects : Namespace) (bytes : List ℕ) → HasOtherSignature number bytes
+        → IsLoadReason depth number objects bytes result }
 {
     if number == 0 {
         LoadReason::NotDsdt
@@ -112,7 +113,8 @@ fn unsigned(number: usize) -> LoadReason
 fn table_code(number: usize, bytes: &Bytes) -> Result<Bytes, LoadFault>
     ensures ok { IfOk result (λ b. IsCodeOf number bytes.now b) }
     ensures short { IfOk result (λ b. length b ≤ 16777216) }
-    ensures err { (depth : ℕ) (objects : Namespace) → IfErr result (λ e. IsTableFault depth number objects bytes.now e) }
+    ensures err { (depth : ℕ) (objects : Namespace)
+        → IfErr result (λ e. IsTableFault depth number objects bytes.now e) }
 {
     match split_table(bytes.as_slice()) {
         Ok((table, rest)) => {
@@ -138,7 +140,8 @@ fn table_items(
     ensures ok { IfOk result (λ v. IsTableOf depth number bytes.now (items_tree v.items)) }
     ensures room { IfOk result (λ v. OffsetsFit (items_tree v.items)) }
     ensures fits { IfOk result (λ v. items_fit (items_tree v.items) ≡ true) }
-    ensures err { (objects : Namespace) → IfErr result (λ e. IsTableFault depth number objects bytes.now e) }
+    ensures err { (objects : Namespace) → IfErr result
+        (λ e. IsTableFault depth number objects bytes.now e) }
 {
     let code = table_code(number, bytes)?;
     match read_items_shared(alloc, &code, depth) {
@@ -160,9 +163,11 @@ pub(crate) fn add_table<S: Space<Object>>(
     keep: Keep<'_>,
     depth: Depth,
 ) -> Result<Declaring<S>, LoadFault>
-    ensures ok { IfOk result (λ r. AddsTable keep.entry depth number bytes.now (state_of (S.contents loaded.objects) loaded) (state_of (S.contents r.objects) r)) }
+    ensures ok { IfOk result (λ r. AddsTable keep.entry depth number bytes.now
+        (state_of (S.contents loaded.objects) loaded) (state_of (S.contents r.objects) r)) }
     ensures lower { IfOk result (λ r. S.lower r.objects ≡ S.lower loaded.objects) }
-    ensures err { IfErr result (λ e. IsTableFault depth number (namespace_of (S.contents loaded.objects)) bytes.now e) }
+    ensures err { IfErr result (λ e. IsTableFault depth number
+        (namespace_of (S.contents loaded.objects)) bytes.now e) }
 {
     let items = table_items(alloc, number, bytes, depth)?;
     let Declaring {
@@ -204,10 +209,13 @@ pub fn declare_shared<S: Space<Object>>(
     ssdts: &[Bytes],
     depth: Depth,
 ) -> Result<Declared<S>, LoadFault>
-    ensures ok { IfOk result (λ d. IsLoad depth (dsdt.now ∷ ssdts.now) (namespace_of (S.contents (objects_in d))) (links_at (links_in d))) }
-    ensures notes { IfOk result (λ d. AreNotes depth (dsdt.now ∷ ssdts.now) (map notes_of (notes_in d))) }
+    ensures ok { IfOk result (λ d. IsLoad depth (dsdt.now ∷ ssdts.now)
+        (namespace_of (S.contents (objects_in d))) (links_at (links_in d))) }
+    ensures notes { IfOk result (λ d. AreNotes depth (dsdt.now ∷ ssdts.now)
+        (map notes_of (notes_in d))) }
     ensures err { IfErr result (λ e. IsLoadFault depth (dsdt.now ∷ ssdts.now) e) }
-    ensures none { IfErr result (λ e. e ≢ LoadFault.Memory → HasNoLoad depth (dsdt.now ∷ ssdts.now)) }
+    ensures none { IfErr result (λ e. e ≢ LoadFault.Memory
+        → HasNoLoad depth (dsdt.now ∷ ssdts.now)) }
 {
     declare_keeping(alloc, dsdt, ssdts, Keep::All, depth)
 }
@@ -220,10 +228,13 @@ pub fn declare_keeping<S: Space<Object>>(
     keep: Keep<'_>,
     depth: Depth,
 ) -> Result<Declared<S>, LoadFault>
-    ensures ok { IfOk result (λ d. IsLoad depth (dsdt.now ∷ ssdts.now) (namespace_of (S.contents (objects_in d))) (links_at (links_in d))) }
-    ensures notes { IfOk result (λ d. AreKeptNotes depth (dsdt.now ∷ ssdts.now) keep.entry (map notes_of (notes_in d))) }
+    ensures ok { IfOk result (λ d. IsLoad depth (dsdt.now ∷ ssdts.now)
+        (namespace_of (S.contents (objects_in d))) (links_at (links_in d))) }
+    ensures notes { IfOk result (λ d. AreKeptNotes depth (dsdt.now ∷ ssdts.now) keep.entry
+        (map notes_of (notes_in d))) }
     ensures err { IfErr result (λ e. IsLoadFault depth (dsdt.now ∷ ssdts.now) e) }
-    ensures none { IfErr result (λ e. e ≢ LoadFault.Memory → HasNoLoad depth (dsdt.now ∷ ssdts.now)) }
+    ensures none { IfErr result (λ e. e ≢ LoadFault.Memory
+        → HasNoLoad depth (dsdt.now ∷ ssdts.now)) }
 {
     declare_all(alloc, dsdt, ssdts, keep, depth)?.finish(alloc)
 }
@@ -246,10 +257,13 @@ pub fn declare<S: Space<Object>>(
     ssdts: &[&[u8]],
     depth: Depth,
 ) -> Result<Declared<S>, LoadFault>
-    ensures ok { IfOk result (λ d. IsLoad depth (dsdt.now ∷ map (λ b. b.now) ssdts.now) (namespace_of (S.contents (objects_in d))) (links_at (links_in d))) }
-    ensures notes { IfOk result (λ d. AreNotes depth (dsdt.now ∷ map (λ b. b.now) ssdts.now) (map notes_of (notes_in d))) }
+    ensures ok { IfOk result (λ d. IsLoad depth (dsdt.now ∷ map (λ b. b.now) ssdts.now)
+        (namespace_of (S.contents (objects_in d))) (links_at (links_in d))) }
+    ensures notes { IfOk result (λ d. AreNotes depth (dsdt.now ∷ map (λ b. b.now) ssdts.now)
+        (map notes_of (notes_in d))) }
     ensures err { IfErr result (λ e. IsLoadFault depth (dsdt.now ∷ map (λ b. b.now) ssdts.now) e) }
-    ensures none { IfErr result (λ e. e ≢ LoadFault.Memory → HasNoLoad depth (dsdt.now ∷ map (λ b. b.now) ssdts.now)) }
+    ensures none { IfErr result (λ e. e ≢ LoadFault.Memory
+        → HasNoLoad depth (dsdt.now ∷ map (λ b. b.now) ssdts.now)) }
 {
     let dsdt = Bytes::copy_from_slice(alloc, dsdt)?;
     let ssdts = shared_tables(alloc, ssdts)?;
@@ -279,7 +293,8 @@ pub(crate) fn declare_all<S: Space<Object>>(
     keep: Keep<'_>,
     depth: Depth,
 ) -> Result<Declaring<S>, LoadFault>
-    ensures ok { IfOk result (λ r. HasKept keep.entry depth (dsdt.now ∷ ssdts.now) (state_of (S.contents r.objects) r)) }
+    ensures ok { IfOk result (λ r. HasKept keep.entry depth (dsdt.now ∷ ssdts.now)
+        (state_of (S.contents r.objects) r)) }
     ensures err { IfErr result (λ e. IsLoadFault depth (dsdt.now ∷ ssdts.now) e) }
 {
     let begun = start(alloc, most_kept(ssdts.len(), keep))?;

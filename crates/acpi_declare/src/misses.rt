@@ -40,9 +40,11 @@ pub fn declare_with_misses<S: Space<Object>>(
     ssdts: &[Bytes],
     depth: Depth,
 ) -> Result<(S, Vec<Path>), LoadFault>
-    ensures ok { IfOk result (λ r. HasMisses depth (dsdt.now ∷ ssdts.now) (namespace_of (S.contents r.0)) r.1.items) }
+    ensures ok { IfOk result (λ r. HasMisses depth (dsdt.now ∷ ssdts.now)
+        (namespace_of (S.contents r.0)) r.1.items) }
     ensures err { IfErr result (λ e. IsLoadFault depth (dsdt.now ∷ ssdts.now) e) }
-    ensures none { IfErr result (λ e. e ≢ LoadFault.Memory → HasNoLoad depth (dsdt.now ∷ ssdts.now)) }
+    ensures none { IfErr result (λ e. e ≢ LoadFault.Memory
+        → HasNoLoad depth (dsdt.now ∷ ssdts.now)) }
 {
     let Declaring {
         objects,

@@ -64,7 +64,8 @@ impl TableNotes {
         external: &External,
     ) -> Result<(), AllocError>
         requires { external_fits (external_view external.now) ≡ true }
-        ensures { OnOk result (notes_of self.new ≡ with_counts (notes_of self.old) (count_said scope.now (external_view external.now))) }
+        ensures { OnOk result (notes_of self.new
+            ≡ with_counts (notes_of self.old) (count_said scope.now (external_view external.now))) }
     {
         if external.kind != 8 || external.name.view().len() == 0 {
             return Ok(());
@@ -87,7 +88,9 @@ impl TableNotes {
         externals: &[External],
     ) -> Result<(), AllocError>
         requires { list_all external_fits (externals_view externals.now) ≡ true }
-        ensures { OnOk result (notes_of self.new ≡ with_counts (notes_of self.old) (counts_said scope.now (externals_view externals.now))) }
+        ensures { OnOk result (notes_of self.new
+            ≡ with_counts (notes_of self.old)
+            (counts_said scope.now (externals_view externals.now))) }
     {
         for external in externals {
             self.expect(alloc, scope, external)?;
@@ -97,7 +100,8 @@ impl TableNotes {
 
     // Notes a method.
     pub(crate) fn add_method(&mut self, path: Path, code: Bytes) -> Result<(), AllocError>
-        ensures { OnOk result (notes_of self.new ≡ with_method (notes_of self.old) (record { path = path; code = code })) }
+        ensures { OnOk result (notes_of self.new
+            ≡ with_method (notes_of self.old) (record { path = path; code = code })) }
     {
         self.methods.push(Method { path, code })?;
         Ok(())

@@ -72,7 +72,8 @@ fn add_links(
     scope: &Path,
     names: Vec<Name>,
 ) -> Result<(), AllocError>
-    ensures { OnOk result (all_pending_of links.new.items ≡ all_pending_of links.old.items ++ pending_from scope.now names.items (linked_paths scope.now paths)) }
+    ensures { OnOk result (all_pending_of links.new.items ≡ all_pending_of links.old.items
+        ++ pending_from scope.now names.items (linked_paths scope.now paths)) }
 {
     links.push(PendingLinks {
         paths,
@@ -89,7 +90,8 @@ fn add_links_of(
     scope: &Path,
     names: Vec<Name>,
 ) -> Result<(), AllocError>
-    ensures { OnOk result (all_pending_of links.new.items ≡ all_pending_of links.old.items ++ pending_for path.now scope.now names.items ∷ []) }
+    ensures { OnOk result (all_pending_of links.new.items ≡ all_pending_of links.old.items
+        ++ pending_for path.now scope.now names.items ∷ []) }
 {
     add_links(links, LinkedPaths::One(path.copy()?), scope, names)?;
     Ok(())
@@ -100,7 +102,8 @@ impl<S: Space<Object>> Pass<S> {
     pub(crate) fn put(&mut self, path: Path, object: Object) -> Result<(), AllocError>
         requires { namespace_of (S.contents self.old.objects) path ≡ None }
         ensures objects { OnOk result (namespace_of (S.contents self.new.objects)
-            ≡ union (namespace_of (S.contents self.old.objects)) (singleton path (object_view object))) }
+            ≡ union (namespace_of (S.contents self.old.objects))
+            (singleton path (object_view object))) }
         ensures links { self.new.links ≡ self.old.links }
         ensures notes { self.new.notes ≡ self.old.notes }
         ensures lower { OnOk result (S.lower self.new.objects ≡ S.lower self.old.objects) }
@@ -111,9 +114,12 @@ impl<S: Space<Object>> Pass<S> {
 
     // Declares an object that has no links.
     fn declare(&mut self, scope: &Path, name: &Name, object: Object) -> Result<(), Stop>
-        ensures ok { OnOk result (take_step (pass_of (S.contents self.old.objects) self.old) scope.now (step name.now (declares_alone (object_view object)))
+        ensures ok { OnOk result (take_step (pass_of (S.contents self.old.objects) self.old)
+            scope.now (step name.now (declares_alone (object_view object)))
             ≡ Ok (pass_of (S.contents self.new.objects) self.new)) }
-        ensures refused { IfErr result (λ f. IsStopOf f (take_step (pass_of (S.contents self.old.objects) self.old) scope.now (step name.now (declares_alone (object_view object))))) }
+        ensures refused { IfErr result (λ f. IsStopOf f
+            (take_step (pass_of (S.contents self.old.objects) self.old) scope.now
+            (step name.now (declares_alone (object_view object))))) }
         ensures lower { OnOk result (S.lower self.new.objects ≡ S.lower self.old.objects) }
     {
         let path = declared(self.alloc, &self.objects, scope, name)?;
@@ -125,9 +131,11 @@ impl<S: Space<Object>> Pass<S> {
     fn put_method(&mut self, path: Path, flags: u8, code: Bytes) -> Result<(), AllocError>
         requires { namespace_of (S.contents self.old.objects) path ≡ None }
         ensures objects { OnOk result (namespace_of (S.contents self.new.objects)
-            ≡ union (namespace_of (S.contents self.old.objects)) (singleton path (method_object flags))) }
+            ≡ union (namespace_of (S.contents self.old.objects))
+            (singleton path (method_object flags))) }
         ensures links { self.new.links ≡ self.old.links }
-        ensures notes { OnOk result (notes_of self.new.notes ≡ with_method (notes_of self.old.notes) (record { path = path; code = code })) }
+        ensures notes { OnOk result (notes_of self.new.notes
+            ≡ with_method (notes_of self.old.notes) (record { path = path; code = code })) }
         ensures lower { OnOk result (S.lower self.new.objects ≡ S.lower self.old.objects) }
     {
         self.notes.add_method(path.copy()?, code)?;
@@ -143,9 +151,12 @@ impl<S: Space<Object>> Pass<S> {
         flags: u8,
         code: Bytes,
     ) -> Result<(), Stop>
-        ensures ok { OnOk result (take_step (pass_of (S.contents self.old.objects) self.old) scope.now (step name.now (declares (method_object flags) [] (Some code)))
+        ensures ok { OnOk result (take_step (pass_of (S.contents self.old.objects) self.old)
+            scope.now (step name.now (declares (method_object flags) [] (Some code)))
             ≡ Ok (pass_of (S.contents self.new.objects) self.new)) }
-        ensures refused { IfErr result (λ f. IsStopOf f (take_step (pass_of (S.contents self.old.objects) self.old) scope.now (step name.now (declares (method_object flags) [] (Some code))))) }
+        ensures refused { IfErr result (λ f. IsStopOf f
+            (take_step (pass_of (S.contents self.old.objects) self.old) scope.now
+            (step name.now (declares (method_object flags) [] (Some code))))) }
         ensures lower { OnOk result (S.lower self.new.objects ≡ S.lower self.old.objects) }
     {
         let path = declared(self.alloc, &self.objects, scope, name)?;
@@ -163,8 +174,10 @@ impl<S: Space<Object>> Pass<S> {
     ) -> Result<(), AllocError>
         requires { namespace_of (S.contents self.old.objects) path ≡ None }
         ensures objects { OnOk result (namespace_of (S.contents self.new.objects)
-            ≡ union (namespace_of (S.contents self.old.objects)) (singleton path (object_view object))) }
-        ensures links { OnOk result (all_pending_of self.new.links.items ≡ all_pending_of self.old.links.items ++ pending_for path scope.now names.items ∷ []) }
+            ≡ union (namespace_of (S.contents self.old.objects))
+            (singleton path (object_view object))) }
+        ensures links { OnOk result (all_pending_of self.new.links.items
+            ≡ all_pending_of self.old.links.items ++ pending_for path scope.now names.items ∷ []) }
         ensures notes { self.new.notes ≡ self.old.notes }
         ensures lower { OnOk result (S.lower self.new.objects ≡ S.lower self.old.objects) }
     {
@@ -182,9 +195,12 @@ impl<S: Space<Object>> Pass<S> {
         names: Vec<Name>,
     ) -> Result<(), Stop>
         requires { names.items ≢ [] }
-        ensures ok { OnOk result (take_step (pass_of (S.contents self.old.objects) self.old) scope.now (step name.now (declares (object_view object) names.items None))
+        ensures ok { OnOk result (take_step (pass_of (S.contents self.old.objects) self.old)
+            scope.now (step name.now (declares (object_view object) names.items None))
             ≡ Ok (pass_of (S.contents self.new.objects) self.new)) }
-        ensures refused { IfErr result (λ f. IsStopOf f (take_step (pass_of (S.contents self.old.objects) self.old) scope.now (step name.now (declares (object_view object) names.items None)))) }
+        ensures refused { IfErr result (λ f. IsStopOf f
+            (take_step (pass_of (S.contents self.old.objects) self.old) scope.now
+            (step name.now (declares (object_view object) names.items None)))) }
         ensures lower { OnOk result (S.lower self.new.objects ≡ S.lower self.old.objects) }
     {
         let path = declared(self.alloc, &self.objects, scope, name)?;
@@ -203,11 +219,21 @@ impl<S: Space<Object>> Pass<S> {
         bits: u32,
     ) -> Result<(), Stop>
         requires { fields.now.names.now ≢ [] }
-        ensures ok { OnOk result (take_step (pass_with (S.contents self.old.objects) self.old (pending_from scope.now fields.now.names.now (unit_paths scope.now segs.old.items))) scope.now
-            (step (unit_name seg) (declares (field_object fields.now.form fields.now.flags offset bits) fields.now.names.now None))
-            ≡ Ok (pass_with (S.contents self.new.objects) self.new (pending_from scope.now fields.now.names.now (unit_paths scope.now segs.new.items)))) }
-        ensures refused { IfErr result (λ f. IsStopOf f (take_step (pass_with (S.contents self.old.objects) self.old (pending_from scope.now fields.now.names.now (unit_paths scope.now segs.old.items))) scope.now
-            (step (unit_name seg) (declares (field_object fields.now.form fields.now.flags offset bits) fields.now.names.now None)))) }
+        ensures ok { OnOk result (take_step (pass_with (S.contents self.old.objects) self.old
+            (pending_from scope.now fields.now.names.now (unit_paths scope.now segs.old.items)))
+            scope.now
+            (step (unit_name seg)
+            (declares (field_object fields.now.form fields.now.flags offset bits)
+            fields.now.names.now None))
+            ≡ Ok (pass_with (S.contents self.new.objects) self.new
+            (pending_from scope.now fields.now.names.now (unit_paths scope.now segs.new.items)))) }
+        ensures refused { IfErr result (λ f. IsStopOf f
+            (take_step (pass_with (S.contents self.old.objects) self.old
+            (pending_from scope.now fields.now.names.now (unit_paths scope.now segs.old.items)))
+            scope.now
+            (step (unit_name seg)
+            (declares (field_object fields.now.form fields.now.flags offset bits)
+            fields.now.names.now None)))) }
         ensures lower { OnOk result (S.lower self.new.objects ≡ S.lower self.old.objects) }
     {
         let path = declared_unit(&self.objects, scope, seg)?;
@@ -225,7 +251,8 @@ impl<S: Space<Object>> Pass<S> {
     // Keeps what an External says.
     fn expect(&mut self, scope: &Path, external: &External) -> Result<(), Stop>
         requires { external_fits (external_view external.now) ≡ true }
-        ensures ok { OnOk result (take_steps (pass_of (S.contents self.old.objects) self.old) scope.now (external_step (external_view external.now))
+        ensures ok { OnOk result (take_steps (pass_of (S.contents self.old.objects) self.old)
+            scope.now (external_step (external_view external.now))
             ≡ Ok (pass_of (S.contents self.new.objects) self.new)) }
         ensures memory { IfErr result (λ f. f ≡ Stop.Memory) }
         ensures lower { OnOk result (S.lower self.new.objects ≡ S.lower self.old.objects) }
@@ -237,7 +264,8 @@ impl<S: Space<Object>> Pass<S> {
     // Keeps what the Externals of a block say.
     fn expect_all(&mut self, scope: &Path, externals: &[External]) -> Result<(), Stop>
         requires { list_all external_fits (externals_view externals.now) ≡ true }
-        ensures ok { OnOk result (take_steps (pass_of (S.contents self.old.objects) self.old) scope.now (external_steps (externals_view externals.now))
+        ensures ok { OnOk result (take_steps (pass_of (S.contents self.old.objects) self.old)
+            scope.now (external_steps (externals_view externals.now))
             ≡ Ok (pass_of (S.contents self.new.objects) self.new)) }
         ensures memory { IfErr result (λ f. f ≡ Stop.Memory) }
         ensures lower { OnOk result (S.lower self.new.objects ≡ S.lower self.old.objects) }
@@ -257,12 +285,20 @@ impl<S: Space<Object>> Pass<S> {
     ) -> Result<u64, Stop>
         requires some { fields.now.names.now ≢ [] }
         requires room { offset + element_bits (field_view elem.now) < 2 ^ 64 }
-        ensures ok { OnOk result (take_steps (pass_with (S.contents self.old.objects) self.old (pending_from scope.now fields.now.names.now (unit_paths scope.now segs.old.items))) scope.now
-            (unit_step fields.now.form fields.now.flags fields.now.names.now offset (field_view elem.now))
-            ≡ Ok (pass_with (S.contents self.new.objects) self.new (pending_from scope.now fields.now.names.now (unit_paths scope.now segs.new.items)))) }
+        ensures ok { OnOk result (take_steps (pass_with (S.contents self.old.objects) self.old
+            (pending_from scope.now fields.now.names.now (unit_paths scope.now segs.old.items)))
+            scope.now
+            (unit_step fields.now.form fields.now.flags fields.now.names.now offset
+            (field_view elem.now))
+            ≡ Ok (pass_with (S.contents self.new.objects) self.new
+            (pending_from scope.now fields.now.names.now (unit_paths scope.now segs.new.items)))) }
         ensures behind { IfOk result (λ n. n ≡ offset + element_bits (field_view elem.now)) }
-        ensures refused { IfErr result (λ f. IsStopOf f (take_steps (pass_with (S.contents self.old.objects) self.old (pending_from scope.now fields.now.names.now (unit_paths scope.now segs.old.items))) scope.now
-            (unit_step fields.now.form fields.now.flags fields.now.names.now offset (field_view elem.now)))) }
+        ensures refused { IfErr result (λ f. IsStopOf f
+            (take_steps (pass_with (S.contents self.old.objects) self.old
+            (pending_from scope.now fields.now.names.now (unit_paths scope.now segs.old.items)))
+            scope.now
+            (unit_step fields.now.form fields.now.flags fields.now.names.now offset
+            (field_view elem.now)))) }
         ensures lower { OnOk result (S.lower self.new.objects ≡ S.lower self.old.objects) }
     {
         match elem {
@@ -285,11 +321,19 @@ impl<S: Space<Object>> Pass<S> {
     ) -> Result<(), Stop>
         requires some { fields.now.names.now ≢ [] }
         requires room { list_bits (fields_view elems.items) < 2 ^ 64 }
-        ensures ok { OnOk result (take_steps (pass_with (S.contents self.old.objects) self.old (pending_from scope.now fields.now.names.now (unit_paths scope.now segs.old.items))) scope.now
-            (unit_steps fields.now.form fields.now.flags fields.now.names.now 0 (fields_view elems.items))
-            ≡ Ok (pass_with (S.contents self.new.objects) self.new (pending_from scope.now fields.now.names.now (unit_paths scope.now segs.new.items)))) }
-        ensures refused { IfErr result (λ f. IsStopOf f (take_steps (pass_with (S.contents self.old.objects) self.old (pending_from scope.now fields.now.names.now (unit_paths scope.now segs.old.items))) scope.now
-            (unit_steps fields.now.form fields.now.flags fields.now.names.now 0 (fields_view elems.items)))) }
+        ensures ok { OnOk result (take_steps (pass_with (S.contents self.old.objects) self.old
+            (pending_from scope.now fields.now.names.now (unit_paths scope.now segs.old.items)))
+            scope.now
+            (unit_steps fields.now.form fields.now.flags fields.now.names.now 0
+            (fields_view elems.items))
+            ≡ Ok (pass_with (S.contents self.new.objects) self.new
+            (pending_from scope.now fields.now.names.now (unit_paths scope.now segs.new.items)))) }
+        ensures refused { IfErr result (λ f. IsStopOf f
+            (take_steps (pass_with (S.contents self.old.objects) self.old
+            (pending_from scope.now fields.now.names.now (unit_paths scope.now segs.old.items)))
+            scope.now
+            (unit_steps fields.now.form fields.now.flags fields.now.names.now 0
+            (fields_view elems.items)))) }
         ensures lower { OnOk result (S.lower self.new.objects ≡ S.lower self.old.objects) }
     {
         let mut offset = 0;
@@ -307,9 +351,12 @@ impl<S: Space<Object>> Pass<S> {
         requires leaf { IsTrue (is_leaf (item_view item)) }
         requires room { OffsetFits (item_view item) }
         requires fits { item_fits (item_view item) ≡ true }
-        ensures ok { OnOk result (take_steps (pass_of (S.contents self.old.objects) self.old) scope.now (own_steps (item_view item))
+        ensures ok { OnOk result (take_steps (pass_of (S.contents self.old.objects) self.old)
+            scope.now (own_steps (item_view item))
             ≡ Ok (pass_of (S.contents self.new.objects) self.new)) }
-        ensures refused { IfErr result (λ f. IsStopOf f (take_steps (pass_of (S.contents self.old.objects) self.old) scope.now (own_steps (item_view item)))) }
+        ensures refused { IfErr result (λ f. IsStopOf f
+            (take_steps (pass_of (S.contents self.old.objects) self.old) scope.now
+            (own_steps (item_view item)))) }
         ensures lower { OnOk result (S.lower self.new.objects ≡ S.lower self.old.objects) }
     {
         match item {
@@ -384,9 +431,12 @@ impl<S: Space<Object>> Pass<S> {
         object: Object,
         source: Name,
     ) -> Result<(), Stop>
-        ensures ok { OnOk result (take_step (pass_of (S.contents self.old.objects) self.old) scope.now (step name.now (declares (object_view object) (source ∷ []) None))
+        ensures ok { OnOk result (take_step (pass_of (S.contents self.old.objects) self.old)
+            scope.now (step name.now (declares (object_view object) (source ∷ []) None))
             ≡ Ok (pass_of (S.contents self.new.objects) self.new)) }
-        ensures refused { IfErr result (λ f. IsStopOf f (take_step (pass_of (S.contents self.old.objects) self.old) scope.now (step name.now (declares (object_view object) (source ∷ []) None)))) }
+        ensures refused { IfErr result (λ f. IsStopOf f
+            (take_step (pass_of (S.contents self.old.objects) self.old) scope.now
+            (step name.now (declares (object_view object) (source ∷ []) None)))) }
         ensures lower { OnOk result (S.lower self.new.objects ≡ S.lower self.old.objects) }
     {
         let names = one(self.alloc, source)?;
@@ -402,9 +452,12 @@ impl<S: Space<Object>> Pass<S> {
         elems: Vec<FieldElem>,
     ) -> Result<(), Stop>
         requires room { list_bits (fields_view elems.items) < 2 ^ 64 }
-        ensures ok { OnOk result (take_steps (pass_of (S.contents self.old.objects) self.old) scope.now (unit_steps FieldForm.Field flags (region ∷ []) 0 (fields_view elems.items))
+        ensures ok { OnOk result (take_steps (pass_of (S.contents self.old.objects) self.old)
+            scope.now (unit_steps FieldForm.Field flags (region ∷ []) 0 (fields_view elems.items))
             ≡ Ok (pass_of (S.contents self.new.objects) self.new)) }
-        ensures refused { IfErr result (λ f. IsStopOf f (take_steps (pass_of (S.contents self.old.objects) self.old) scope.now (unit_steps FieldForm.Field flags (region ∷ []) 0 (fields_view elems.items)))) }
+        ensures refused { IfErr result (λ f. IsStopOf f
+            (take_steps (pass_of (S.contents self.old.objects) self.old) scope.now
+            (unit_steps FieldForm.Field flags (region ∷ []) 0 (fields_view elems.items)))) }
         ensures lower { OnOk result (S.lower self.new.objects ≡ S.lower self.old.objects) }
     {
         let names = one(self.alloc, region)?;
@@ -422,9 +475,12 @@ impl<S: Space<Object>> Pass<S> {
         elems: Vec<FieldElem>,
     ) -> Result<(), Stop>
         requires room { list_bits (fields_view elems.items) < 2 ^ 64 }
-        ensures ok { OnOk result (take_steps (pass_of (S.contents self.old.objects) self.old) scope.now (unit_steps form flags (first ∷ second ∷ []) 0 (fields_view elems.items))
+        ensures ok { OnOk result (take_steps (pass_of (S.contents self.old.objects) self.old)
+            scope.now (unit_steps form flags (first ∷ second ∷ []) 0 (fields_view elems.items))
             ≡ Ok (pass_of (S.contents self.new.objects) self.new)) }
-        ensures refused { IfErr result (λ f. IsStopOf f (take_steps (pass_of (S.contents self.old.objects) self.old) scope.now (unit_steps form flags (first ∷ second ∷ []) 0 (fields_view elems.items)))) }
+        ensures refused { IfErr result (λ f. IsStopOf f
+            (take_steps (pass_of (S.contents self.old.objects) self.old) scope.now
+            (unit_steps form flags (first ∷ second ∷ []) 0 (fields_view elems.items)))) }
         ensures lower { OnOk result (S.lower self.new.objects ≡ S.lower self.old.objects) }
     {
         let names = two(self.alloc, first, second)?;
@@ -442,9 +498,12 @@ impl<S: Space<Object>> Pass<S> {
     ) -> Result<(), Stop>
         requires some { names.items ≢ [] }
         requires room { list_bits (fields_view elems.items) < 2 ^ 64 }
-        ensures ok { OnOk result (take_steps (pass_of (S.contents self.old.objects) self.old) scope.now (unit_steps form flags names.items 0 (fields_view elems.items))
+        ensures ok { OnOk result (take_steps (pass_of (S.contents self.old.objects) self.old)
+            scope.now (unit_steps form flags names.items 0 (fields_view elems.items))
             ≡ Ok (pass_of (S.contents self.new.objects) self.new)) }
-        ensures refused { IfErr result (λ f. IsStopOf f (take_steps (pass_of (S.contents self.old.objects) self.old) scope.now (unit_steps form flags names.items 0 (fields_view elems.items)))) }
+        ensures refused { IfErr result (λ f. IsStopOf f
+            (take_steps (pass_of (S.contents self.old.objects) self.old) scope.now
+            (unit_steps form flags names.items 0 (fields_view elems.items)))) }
         ensures lower { OnOk result (S.lower self.new.objects ≡ S.lower self.old.objects) }
     {
         let mut segs = Vec::new(self.alloc);

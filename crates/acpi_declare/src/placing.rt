@@ -22,7 +22,8 @@ pub(crate) fn put<S: Space<Object>>(
     object: Object,
 ) -> Result<(), AllocError>
     requires { namespace_of (S.contents objects.old) path ≡ None }
-    ensures objects { OnOk result (namespace_of (S.contents objects.new) ≡ union (namespace_of (S.contents objects.old)) (singleton path (object_view object))) }
+    ensures objects { OnOk result (namespace_of (S.contents objects.new)
+        ≡ union (namespace_of (S.contents objects.old)) (singleton path (object_view object))) }
     ensures lower { OnOk result (S.lower objects.new ≡ S.lower objects.old) }
 {
     match objects.insert(path, object) {
@@ -46,8 +47,11 @@ pub(crate) fn rejoined(parent: Path, last: Option<Seg>) -> Result<Path, AllocErr
 // The path, if an object may be declared there.
 #[tactic(auto, using(crate::proofs::Searches::rejoined_parts))]
 fn free_below<S: Space<Object>>(objects: &S, path: Path) -> Result<Path, Stop>
-    ensures ok { IfOk result (λ p. below (namespace_of (S.contents objects.now)) path (namespace_of (S.contents objects.now) (parent_of path)) ≡ Ok p) }
-    ensures refused { IfErr result (λ f. IsStopOf f (below (namespace_of (S.contents objects.now)) path (namespace_of (S.contents objects.now) (parent_of path)))) }
+    ensures ok { IfOk result (λ p. below (namespace_of (S.contents objects.now)) path
+        (namespace_of (S.contents objects.now) (parent_of path)) ≡ Ok p) }
+    ensures refused { IfErr result (λ f. IsStopOf f
+        (below (namespace_of (S.contents objects.now)) path
+        (namespace_of (S.contents objects.now) (parent_of path)))) }
 {
     let mut path = path;
     let last = path.pop();
@@ -73,8 +77,10 @@ pub(crate) fn declared<S: Space<Object>>(
     scope: &Path,
     name: &Name,
 ) -> Result<Path, Stop>
-    ensures ok { IfOk result (λ p. declared_path (namespace_of (S.contents objects.now)) scope.now name.now ≡ Ok p) }
-    ensures refused { IfErr result (λ f. IsStopOf f (declared_path (namespace_of (S.contents objects.now)) scope.now name.now)) }
+    ensures ok { IfOk result (λ p. declared_path
+        (namespace_of (S.contents objects.now)) scope.now name.now ≡ Ok p) }
+    ensures refused { IfErr result (λ f. IsStopOf f
+        (declared_path (namespace_of (S.contents objects.now)) scope.now name.now)) }
 {
     if name.view().len() == 0 {
         return Err(Stop::Refused(Refusal::EmptyName, scope.copy()?));
@@ -101,8 +107,10 @@ pub(crate) fn declared_unit<S: Space<Object>>(
     scope: &Path,
     seg: Seg,
 ) -> Result<Path, Stop>
-    ensures ok { IfOk result (λ p. declared_path (namespace_of (S.contents objects.now)) scope.now (unit_name seg) ≡ Ok p) }
-    ensures refused { IfErr result (λ f. IsStopOf f (declared_path (namespace_of (S.contents objects.now)) scope.now (unit_name seg))) }
+    ensures ok { IfOk result (λ p. declared_path (namespace_of (S.contents objects.now)) scope.now
+        (unit_name seg) ≡ Ok p) }
+    ensures refused { IfErr result (λ f. IsStopOf f
+        (declared_path (namespace_of (S.contents objects.now)) scope.now (unit_name seg))) }
 {
     free_below(objects, unit_path(scope, seg)?)
 }
@@ -115,8 +123,10 @@ pub(crate) fn opened<S: Space<Object>>(
     scope: &Path,
     name: &Name,
 ) -> Result<Path, Stop>
-    ensures ok { IfOk result (λ p. opened_path (namespace_of (S.contents objects.now)) scope.now name.now ≡ Ok p) }
-    ensures refused { IfErr result (λ f. IsStopOf f (opened_path (namespace_of (S.contents objects.now)) scope.now name.now)) }
+    ensures ok { IfOk result (λ p. opened_path
+        (namespace_of (S.contents objects.now)) scope.now name.now ≡ Ok p) }
+    ensures refused { IfErr result (λ f. IsStopOf f
+        (opened_path (namespace_of (S.contents objects.now)) scope.now name.now)) }
 {
     let target = match search(alloc, objects, scope, name.view()) {
         Ok(Found::At(path)) => path,
@@ -139,7 +149,8 @@ pub(crate) fn opened<S: Space<Object>>(
 // The refusal of a Scope term without an answer: it names the name's place.
 fn missing(alloc: Global, scope: &Path, name: &Name) -> Stop
     requires { place_of scope.now name.now ≢ None }
-    ensures { (objects : Namespace) → IsStopOf result (opened_in objects scope.now (place_of scope.now name.now) None) }
+    ensures { (objects : Namespace) → IsStopOf result
+        (opened_in objects scope.now (place_of scope.now name.now) None) }
 {
     match place(alloc, scope, name.view()) {
         Ok(path) => Stop::Refused(Refusal::Missing, path),

@@ -22,7 +22,9 @@ fn put_named<S: Space<Object>>(
 ) -> Result<(), AllocError>
     requires segment { IsTrue (is_segment name) }
     requires free { namespace_of (S.contents objects.old) (name ∷ []) ≡ None }
-    ensures { OnOk result (namespace_of (S.contents objects.new) ≡ union (namespace_of (S.contents objects.old)) (singleton (name ∷ []) (object_view object))) }
+    ensures { OnOk result (namespace_of (S.contents objects.new)
+        ≡ union (namespace_of (S.contents objects.old))
+        (singleton (name ∷ []) (object_view object))) }
 {
     match Seg::new(name) {
         Some(seg) => {

@@ -19,7 +19,8 @@ use std::collections::BTreeMap;
 
 /// Gives the path this body, in place of the one that it had. The error is a want of memory.
 pub fn put_body(bodies: &mut BTreeMap<Path, Body>, path: Path, body: Body) -> Result<(), AllocError>
-    ensures { OnOk result (body_map bodies.new ≡ finite.insert (body_map bodies.old) path (body_view body)) }
+    ensures { OnOk result (body_map bodies.new
+        ≡ finite.insert (body_map bodies.old) path (body_view body)) }
 {
     match bodies.insert(path, body) {
         Ok(_) => Ok(()),
@@ -35,7 +36,8 @@ fn read_methods<S: Space<Object>>(
     depth: Depth,
     bodies: &mut BTreeMap<Path, Body>,
 ) -> Result<(), AllocError>
-    ensures { OnOk result (AddsBodies depth (namespace_of (S.contents objects.now)) (noted (notes_of notes)) (bodies_of bodies.old) (bodies_of bodies.new)) }
+    ensures { OnOk result (AddsBodies depth (namespace_of (S.contents objects.now))
+        (noted (notes_of notes)) (bodies_of bodies.old) (bodies_of bodies.new)) }
 {
     let TableNotes {
         counts,
@@ -57,7 +59,8 @@ pub(crate) fn read_bodies<S: Space<Object>>(
     notes: Vec<TableNotes>,
     depth: Depth,
 ) -> Result<BTreeMap<Path, Body>, AllocError>
-    ensures { IfOk result (λ m. AddsBodies depth (namespace_of (S.contents objects.now)) (all_noted (map notes_of notes.items)) nothing (bodies_of m)) }
+    ensures { IfOk result (λ m. AddsBodies depth (namespace_of (S.contents objects.now))
+        (all_noted (map notes_of notes.items)) nothing (bodies_of m)) }
 {
     let mut bodies = BTreeMap::new(alloc);
     for table in notes {

@@ -71,9 +71,11 @@ fn load_keeping<S: Space<Object>>(
     keep: Keep<'_>,
     depth: Depth,
 ) -> Result<Machine<S>, LoadFault>
-    ensures ok { IfOk result (λ m. HasBodies keep.entry depth (dsdt.now ∷ ssdts.now) (machine_of (S.contents (objects_in m)) m)) }
+    ensures ok { IfOk result (λ m. HasBodies keep.entry depth (dsdt.now ∷ ssdts.now)
+        (machine_of (S.contents (objects_in m)) m)) }
     ensures err { IfErr result (λ e. IsLoadFault depth (dsdt.now ∷ ssdts.now) e) }
-    ensures none { IfErr result (λ e. e ≢ LoadFault.Memory → HasNoLoad depth (dsdt.now ∷ ssdts.now)) }
+    ensures none { IfErr result (λ e. e ≢ LoadFault.Memory
+        → HasNoLoad depth (dsdt.now ∷ ssdts.now)) }
 {
     let (objects, links, notes) = declare_keeping(alloc, dsdt, ssdts, keep, depth)?.into_parts();
     let bodies = read_bodies(alloc, &objects, notes, depth)?;
@@ -91,9 +93,11 @@ fn load_in_order<S: Space<Object>>(
     ssdts: &[Bytes],
     depth: Depth,
 ) -> Result<Machine<S>, LoadFault>
-    ensures ok { IfOk result (λ m. IsMachine depth (dsdt.now ∷ ssdts.now) (machine_of (S.contents (objects_in m)) m)) }
+    ensures ok { IfOk result (λ m. IsMachine depth (dsdt.now ∷ ssdts.now)
+        (machine_of (S.contents (objects_in m)) m)) }
     ensures err { IfErr result (λ e. IsLoadFault depth (dsdt.now ∷ ssdts.now) e) }
-    ensures none { IfErr result (λ e. e ≢ LoadFault.Memory → HasNoLoad depth (dsdt.now ∷ ssdts.now)) }
+    ensures none { IfErr result (λ e. e ≢ LoadFault.Memory
+        → HasNoLoad depth (dsdt.now ∷ ssdts.now)) }
 {
     load_keeping(alloc, dsdt, ssdts, Keep::All, depth)
 }
@@ -106,12 +110,18 @@ pub fn load_objects<S: Space<Object>>(
     keep: Keep<'_>,
     depth: Depth,
 ) -> Result<Declared<S>, LoadFault>
-    ensures ok { IfOk result (λ d. IsLoad depth (dsdt.now ∷ ssdts.now) (namespace_of (S.contents (declared.objects_in d))) (links_at (declared.links_in d))) }
-    ensures machine { IfOk result (λ d. HasMachine depth (dsdt.now ∷ ssdts.now) (namespace_of (S.contents (declared.objects_in d))) (links_at (declared.links_in d))) }
-    ensures notes { IfOk result (λ d. AreKeptNotes depth (dsdt.now ∷ ssdts.now) keep.entry (map notes_of (declared.notes_in d))) }
+    ensures ok { IfOk result (λ d. IsLoad depth (dsdt.now ∷ ssdts.now)
+        (namespace_of (S.contents (declared.objects_in d))) (links_at (declared.links_in d))) }
+    ensures machine { IfOk result (λ d. HasMachine depth (dsdt.now ∷ ssdts.now)
+        (namespace_of (S.contents (declared.objects_in d))) (links_at (declared.links_in d))) }
+    ensures notes { IfOk result (λ d. AreKeptNotes depth (dsdt.now ∷ ssdts.now) keep.entry
+        (map notes_of (declared.notes_in d))) }
     ensures err { IfErr result (λ e. IsLoadFault depth (dsdt.now ∷ ssdts.now) e) }
-    ensures none { IfErr result (λ e. e ≢ LoadFault.Memory → HasNoLoad depth (dsdt.now ∷ ssdts.now)) }
-    ensures any_order { TellsOfJoin (λ Part d. AreJoined Part (namespace_of (S.contents (declared.objects_in d))) (links_at (declared.links_in d))) depth dsdt.now ssdts.now result }
+    ensures none { IfErr result (λ e. e ≢ LoadFault.Memory
+        → HasNoLoad depth (dsdt.now ∷ ssdts.now)) }
+    ensures any_order { TellsOfJoin (λ Part d. AreJoined Part
+        (namespace_of (S.contents (declared.objects_in d))) (links_at (declared.links_in d))) depth
+        dsdt.now ssdts.now result }
 {
     declare_keeping(alloc, dsdt, ssdts, keep, depth)
 }
@@ -125,10 +135,13 @@ pub fn load_with_body_at<S: Space<Object>>(
     path: &Path,
     depth: Depth,
 ) -> Result<Machine<S>, LoadFault>
-    ensures ok { IfOk result (λ m. IsMachineAt depth (dsdt.now ∷ ssdts.now) path.now (machine_of (S.contents (objects_in m)) m)) }
+    ensures ok { IfOk result (λ m. IsMachineAt depth (dsdt.now ∷ ssdts.now) path.now
+        (machine_of (S.contents (objects_in m)) m)) }
     ensures err { IfErr result (λ e. IsLoadFault depth (dsdt.now ∷ ssdts.now) e) }
-    ensures none { IfErr result (λ e. e ≢ LoadFault.Memory → HasNoLoad depth (dsdt.now ∷ ssdts.now)) }
-    ensures any_order { TellsOfJoin (λ Part m. IsJoinAt Part path.now (machine_of (S.contents (objects_in m)) m)) depth dsdt.now ssdts.now result }
+    ensures none { IfErr result (λ e. e ≢ LoadFault.Memory
+        → HasNoLoad depth (dsdt.now ∷ ssdts.now)) }
+    ensures any_order { TellsOfJoin (λ Part m. IsJoinAt Part path.now
+        (machine_of (S.contents (objects_in m)) m)) depth dsdt.now ssdts.now result }
 {
     load_keeping(alloc, dsdt, ssdts, Keep::MethodAt(path), depth)
 }
@@ -146,11 +159,14 @@ pub fn load_shared<S: Space<Object>>(
     ssdts: &[Bytes],
     depth: Depth,
 ) -> Result<Machine<S>, LoadFault>
-    ensures ok { IfOk result (λ m. IsMachine depth (dsdt.now ∷ ssdts.now) (machine_of (S.contents (objects_in m)) m)) }
+    ensures ok { IfOk result (λ m. IsMachine depth (dsdt.now ∷ ssdts.now)
+        (machine_of (S.contents (objects_in m)) m)) }
     ensures err { IfErr result (λ e. IsLoadFault depth (dsdt.now ∷ ssdts.now) e) }
-    ensures none { IfErr result (λ e. e ≢ LoadFault.Memory → HasNoLoad depth (dsdt.now ∷ ssdts.now)) }
+    ensures none { IfErr result (λ e. e ≢ LoadFault.Memory
+        → HasNoLoad depth (dsdt.now ∷ ssdts.now)) }
     // Independent SSDTs load in any order to the join of their single loads, or memory is refused.
-    ensures any_order { TellsOfJoin (λ Part m. IsJoin Part (machine_of (S.contents (objects_in m)) m)) depth dsdt.now ssdts.now result }
+    ensures any_order { TellsOfJoin (λ Part m. IsJoin Part
+        (machine_of (S.contents (objects_in m)) m)) depth dsdt.now ssdts.now result }
 {
     load_in_order(alloc, dsdt, ssdts, depth)
 }
@@ -162,10 +178,14 @@ pub fn load<S: Space<Object>>(
     ssdts: &[&[u8]],
     depth: Depth,
 ) -> Result<Machine<S>, LoadFault>
-    ensures ok { IfOk result (λ m. IsMachine depth (dsdt.now ∷ map (λ b. b.now) ssdts.now) (machine_of (S.contents (objects_in m)) m)) }
+    ensures ok { IfOk result (λ m. IsMachine depth (dsdt.now ∷ map (λ b. b.now) ssdts.now)
+        (machine_of (S.contents (objects_in m)) m)) }
     ensures err { IfErr result (λ e. IsLoadFault depth (dsdt.now ∷ map (λ b. b.now) ssdts.now) e) }
-    ensures none { IfErr result (λ e. e ≢ LoadFault.Memory → HasNoLoad depth (dsdt.now ∷ map (λ b. b.now) ssdts.now)) }
-    ensures any_order { TellsOfJoin (λ Part m. IsJoin Part (machine_of (S.contents (objects_in m)) m)) depth dsdt.now (map (λ b. b.now) ssdts.now) result }
+    ensures none { IfErr result (λ e. e ≢ LoadFault.Memory
+        → HasNoLoad depth (dsdt.now ∷ map (λ b. b.now) ssdts.now)) }
+    ensures any_order { TellsOfJoin (λ Part m. IsJoin Part
+        (machine_of (S.contents (objects_in m)) m)) depth dsdt.now
+        (map (λ b. b.now) ssdts.now) result }
 {
     let dsdt = Bytes::copy_from_slice(alloc, dsdt)?;
     let ssdts = shared_tables(alloc, ssdts)?;

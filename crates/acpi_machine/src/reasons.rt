@@ -33,7 +33,8 @@ fn reason_at<S: Space<Object>>(
     path: &Path,
     depth: Depth,
 ) -> Result<Option<BodyFault>, AllocError>
-    ensures { IfOk result (λ w. IsReasonAt depth (namespace_of (S.contents objects.now)) (all_noted (map notes_of notes.now)) path.now w) }
+    ensures { IfOk result (λ w. IsReasonAt depth (namespace_of (S.contents objects.now))
+        (all_noted (map notes_of notes.now)) path.now w) }
 {
     for table in notes {
         if let Some(method) = method_at(&table.methods, path) {
@@ -62,7 +63,8 @@ pub fn explain_shared<S: Space<Object>>(
 ) -> Result<Option<BodyFault>, LoadFault>
     ensures ok { IfOk result (λ w. IsExplained depth (dsdt.now ∷ ssdts.now) path.now w) }
     ensures err { IfErr result (λ e. IsLoadFault depth (dsdt.now ∷ ssdts.now) e) }
-    ensures none { IfErr result (λ e. e ≢ LoadFault.Memory → HasNoLoad depth (dsdt.now ∷ ssdts.now)) }
+    ensures none { IfErr result (λ e. e ≢ LoadFault.Memory
+        → HasNoLoad depth (dsdt.now ∷ ssdts.now)) }
 {
     let declared: Declared<S> = declare_keeping(alloc, dsdt, ssdts, Keep::MethodAt(path), depth)?;
     Ok(reason_at(alloc, declared.objects(), declared.notes(), path, depth)?)
@@ -76,9 +78,11 @@ pub fn explain<S: Space<Object>>(
     path: &Path,
     depth: Depth,
 ) -> Result<Option<BodyFault>, LoadFault>
-    ensures ok { IfOk result (λ w. IsExplained depth (dsdt.now ∷ map (λ b. b.now) ssdts.now) path.now w) }
+    ensures ok { IfOk result (λ w. IsExplained depth
+        (dsdt.now ∷ map (λ b. b.now) ssdts.now) path.now w) }
     ensures err { IfErr result (λ e. IsLoadFault depth (dsdt.now ∷ map (λ b. b.now) ssdts.now) e) }
-    ensures none { IfErr result (λ e. e ≢ LoadFault.Memory → HasNoLoad depth (dsdt.now ∷ map (λ b. b.now) ssdts.now)) }
+    ensures none { IfErr result (λ e. e ≢ LoadFault.Memory
+        → HasNoLoad depth (dsdt.now ∷ map (λ b. b.now) ssdts.now)) }
 {
     let dsdt = Bytes::copy_from_slice(alloc, dsdt)?;
     let ssdts = shared_tables(alloc, ssdts)?;

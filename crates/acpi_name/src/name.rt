@@ -26,7 +26,11 @@ impl<'a> NameRef<'a> {
     /// The name of these parts.
     pub(crate) fn of_parts(rooted: bool, parents: u8, segs: &'a [[u8; 4]]) -> NameRef<'a>
         requires { IsName record { rooted = rooted; parents = parents; segments = segs.now } }
-        ensures { name_parts result ≡ record { rooted = rooted; parents = parents; segments = segs.now } }
+        ensures { name_parts result ≡ record {
+          rooted = rooted;
+          parents = parents;
+          segments = segs.now;
+        } }
     {
         NameRef {
             rooted,

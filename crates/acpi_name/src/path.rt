@@ -57,7 +57,8 @@ impl Eq for Path {
 impl PartialOrd for Path {
     ghost partial_cmp = { as_partial_cmp path_cmp };
 
-    ghost laws = { partial_order_from_agreeing_total path_cmp path_cmp_total (Prim.search (comparing, rules)) (Prim.search (comparing, rules)) };
+    ghost laws = { partial_order_from_agreeing_total path_cmp path_cmp_total
+        (Prim.search (comparing, rules)) (Prim.search (comparing, rules)) };
 
     fn partial_cmp(&self, other: &Path) -> Option<Ordering> {
         Some(self.cmp(other))

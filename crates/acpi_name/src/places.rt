@@ -41,7 +41,8 @@ impl<T: Drop> From<AllocFailed<T>> for PlaceFault {
 /// if it is rooted, else those of the scope without its last `parents` segments, and then the segments.
 pub fn place(alloc: Global, scope: &Path, name: NameRef<'_>) -> Result<Path, PlaceFault>
     ensures ok { IfOk result (λ p. place_of scope.now (name_parts name.entry) ≡ Some p) }
-    ensures above { (result ≡ Err PlaceFault.AboveRoot) ↔ (place_of scope.now (name_parts name.entry) ≡ None) }
+    ensures above { (result ≡ Err PlaceFault.AboveRoot)
+        ↔ (place_of scope.now (name_parts name.entry) ≡ None) }
 {
     let start = if name.rooted() {
         0

@@ -147,7 +147,8 @@ pub fn read_name(bytes: &[u8]) -> Result<(NameRef<'_>, usize), NameFault>
     ensures used { IfOk result (λ x. (0 < x.1) × (x.1 ≤ length bytes.now)) }
 
     // What stands at the front is answered. So no spelling begins another.
-    ensures only { (n : NameParts) (count : ℕ) → BeginsWithName n count bytes.now → IsOkAnd result (λ x. (name_parts x.0 ≡ n) × (x.1 ≡ count)) }
+    ensures only { (n : NameParts) (count : ℕ) → BeginsWithName n count bytes.now
+        → IsOkAnd result (λ x. (name_parts x.0 ≡ n) × (x.1 ≡ count)) }
 
     // When each fault comes.
     ensures cut { (result ≡ Err NameFault.Cut) ↔ IsCutName bytes.now }

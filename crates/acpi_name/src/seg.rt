@@ -38,7 +38,8 @@ impl Model for Seg {
 impl PartialOrd for Seg {
     ghost partial_cmp = { as_partial_cmp segment_cmp };
 
-    ghost laws = { partial_order_from_agreeing_total segment_cmp nat_list_cmp_total (Prim.search (comparing, rules)) (Prim.search (comparing, rules)) };
+    ghost laws = { partial_order_from_agreeing_total segment_cmp nat_list_cmp_total
+        (Prim.search (comparing, rules)) (Prim.search (comparing, rules)) };
 
     fn partial_cmp(&self, other: &Seg) -> Option<Ordering> {
         Some(self.cmp(other))

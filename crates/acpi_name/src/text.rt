@@ -90,7 +90,8 @@ fn are_segments(text: &[u8]) -> bool
 
 // Puts the segments between the dots at the end of the path.
 fn push_segments(path: &mut Path, text: &[u8]) -> Result<(), PathFault>
-    ensures ok { OnOk result (option_map (λ gs. path.old ++ gs) (typed_segments (dotted_parts text.now)) ≡ Some path.new) }
+    ensures ok { OnOk result (option_map (λ gs. path.old ++ gs)
+        (typed_segments (dotted_parts text.now)) ≡ Some path.new) }
     ensures bad { result ≡ Err PathFault.BadText → typed_segments (dotted_parts text.now) ≡ None }
 {
     let mut rest = text;

@@ -12,7 +12,8 @@ use std::alloc::{AllocError, Global};
 pub fn write_name(alloc: Global, name: NameRef<'_>) -> Result<Vec<u8>, AllocError>
     ensures exact { IfOk result (λ bytes. bytes.items ≡ name_bytes (name_parts name.entry)) }
     ensures spells { IfOk result (λ bytes. SpellsName (name_parts name.entry) bytes.items) }
-    ensures shortest { (other : List ℕ) → SpellsName (name_parts name.entry) other → IfOk result (λ bytes. length bytes.items ≤ length other) }
+    ensures shortest { (other : List ℕ) → SpellsName (name_parts name.entry) other
+        → IfOk result (λ bytes. length bytes.items ≤ length other) }
 {
     let mut bytes = Vec::new(alloc);
     put_prefix(&mut bytes, name.rooted(), name.parents())?;

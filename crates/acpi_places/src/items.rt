@@ -19,7 +19,8 @@ fn add_place(
     places: &mut Vec<CodePlace>,
 ) -> Result<(), AllocError>
     requires { code_length (item_view item) ≤ end }
-    ensures { OnOk result (places.new.items ≡ places.old.items ++ leaf_places table end (item_view item)) }
+    ensures { OnOk result (places.new.items ≡ places.old.items
+        ++ leaf_places table end (item_view item)) }
 {
     match item {
         Item::Method { code, .. } => {
@@ -48,7 +49,8 @@ fn next<'c>(
     requires some { 0 < length code.old.bytes }
     requires items { (is : ItemTrees) × IsSpelled level code.old is }
     ensures next { (is : ItemTrees) → IsSpelled level code.old is
-        → IfOk result (λ e. GoesOn table level code.old is code.new places.old.items places.new.items e) }
+        → IfOk result (λ e. GoesOn table level code.old is code.new places.old.items
+        places.new.items e) }
     ensures level { IfOk result (λ _. 0 < level) }
     ensures shorter { OnOk result (Shorter code.old code.new) }
 {

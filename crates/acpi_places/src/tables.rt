@@ -55,7 +55,8 @@ fn put_all(
     methods: &[Method],
     found: &[CodePlace],
 ) -> Result<(), AllocError>
-    ensures { OnOk result (get places.new ≡ union (get places.old) (by_path (map method_of methods.now) found.now)) }
+    ensures { OnOk result (get places.new ≡ union (get places.old)
+        (by_path (map method_of methods.now) found.now)) }
 {
     for (method, place) in methods.iter().zip(found) {
         put(places, method.path.copy()?, *place)?;
@@ -74,7 +75,8 @@ fn add_table(
 ) -> Result<(), AllocError>
     requires { (is : ItemTrees) × IsTableOf depth number table.now is }
     ensures { (is : ItemTrees) → IsTableOf depth number table.now is
-        → OnOk result (AddsTable number table.now is (notes_of notes.now) (get places.old) (get places.new)) }
+        → OnOk result (AddsTable number table.now is (notes_of notes.now) (get places.old)
+        (get places.new)) }
 {
     let found = table_places(alloc, number, table, depth)?;
     put_all(places, &notes.methods, &found)

@@ -33,9 +33,12 @@ impl Recoding {
     // The item, with the next code if it is a method.
     fn with_next_code(&mut self, item: Item) -> Item
         requires leaf { holds_items (item_view item) ≡ false }
-        requires codes { length (item_codes (item_view item)) ≤ length (into_iter_items self.old.fresh) }
-        ensures item { item_view result ≡ item_with (into_iter_items self.old.fresh) (item_view item) }
-        ensures codes { into_iter_items self.new.fresh ≡ drop (length (item_codes (item_view item))) (into_iter_items self.old.fresh) }
+        requires codes { length (item_codes (item_view item))
+            ≤ length (into_iter_items self.old.fresh) }
+        ensures item { item_view result ≡ item_with (into_iter_items self.old.fresh)
+            (item_view item) }
+        ensures codes { into_iter_items self.new.fresh
+            ≡ drop (length (item_codes (item_view item))) (into_iter_items self.old.fresh) }
         ensures bytes { self.new.bytes ≡ self.old.bytes }
     {
         match item {
@@ -50,9 +53,13 @@ impl Recoding {
     // Writes an item that holds none.
     fn leaf(&mut self, item: Item) -> Result<(), WriteFault>
         requires leaf { holds_items (item_view item) ≡ false }
-        requires codes { length (item_codes (item_view item)) ≤ length (into_iter_items self.old.fresh) }
-        ensures put { Appends result (item_bytes (item_with (into_iter_items self.old.fresh) (item_view item))) self.old.bytes.items self.new.bytes.items }
-        ensures codes { OnOk result (into_iter_items self.new.fresh ≡ drop (length (item_codes (item_view item))) (into_iter_items self.old.fresh)) }
+        requires codes { length (item_codes (item_view item))
+            ≤ length (into_iter_items self.old.fresh) }
+        ensures put { Appends result (item_bytes
+            (item_with (into_iter_items self.old.fresh) (item_view item))) self.old.bytes.items
+            self.new.bytes.items }
+        ensures codes { OnOk result (into_iter_items self.new.fresh
+            ≡ drop (length (item_codes (item_view item))) (into_iter_items self.old.fresh)) }
     {
         let item = self.with_next_code(item);
         append_item(self.alloc, &item, &mut self.bytes)
@@ -67,8 +74,10 @@ impl Recoding {
         code: &mut Code<'c>,
     ) -> Result<Option<Holder<'c>>, WriteFault>
         requires some { 0 < length code.old.bytes }
-        requires items { (is : ItemTrees) × Yields level code.old.end code.old.bytes is × HasCodes (written_of self.old) is }
-        ensures next { (is : ItemTrees) → Yields level code.old.end code.old.bytes is → HasCodes (written_of self.old) is
+        requires items { (is : ItemTrees) × Yields level code.old.end code.old.bytes is
+            × HasCodes (written_of self.old) is }
+        ensures next { (is : ItemTrees) → Yields level code.old.end code.old.bytes is
+            → HasCodes (written_of self.old) is
             → IsNextWritten level code.new is (written_of self.old) (written_of self.new) result }
         ensures shorter { OnOk result (Shorter code.old code.new) }
     {
@@ -87,7 +96,8 @@ impl Recoding {
     #[inline(never)]
     fn enclose(&mut self, front: HolderFront, start: usize) -> Result<(), WriteFault>
         requires { start ≤ length self.old.bytes.items }
-        ensures put { Appends result (holder_bytes front (Some (drop start self.old.bytes.items))) (take start self.old.bytes.items) self.new.bytes.items }
+        ensures put { Appends result (holder_bytes front (Some (drop start self.old.bytes.items)))
+            (take start self.old.bytes.items) self.new.bytes.items }
         ensures codes { self.new.fresh ≡ self.old.fresh }
     {
         enclose_items(self.alloc, &front, start, &mut self.bytes)
@@ -95,8 +105,10 @@ impl Recoding {
 
     // Writes the items of a list.
     fn items(&mut self, level: u32, code: Code<'_>) -> Result<(), WriteFault>
-        requires { (is : ItemTrees) × Yields level code.end code.bytes is × HasCodes (written_of self.old) is }
-        ensures { (is : ItemTrees) → Yields level code.entry.end code.entry.bytes is → HasCodes (written_of self.old) is
+        requires { (is : ItemTrees) × Yields level code.end code.bytes is
+            × HasCodes (written_of self.old) is }
+        ensures { (is : ItemTrees) → Yields level code.entry.end code.entry.bytes is
+            → HasCodes (written_of self.old) is
             → AreWritten is (written_of self.old) (written_of self.new) result }
     {
         let mut code = code;
@@ -123,8 +135,11 @@ pub(crate) fn recoded(
     fresh: Vec<Bytes>,
     depth: Depth,
 ) -> Result<Vec<u8>, AllocError>
-    requires { (is : ItemTrees) × SpellsItems is code.now × (items_height is ≤ depth) × (length (codes is) ≤ length fresh.items) × (items_bytes (items_with fresh.items is) ≢ None) }
-    ensures { (is : ItemTrees) → SpellsItems is code.now → items_height is ≤ depth → length (codes is) ≤ length fresh.items
+    requires { (is : ItemTrees) × SpellsItems is code.now × (items_height is ≤ depth)
+        × (length (codes is) ≤ length fresh.items)
+        × (items_bytes (items_with fresh.items is) ≢ None) }
+    ensures { (is : ItemTrees) → SpellsItems is code.now → items_height is ≤ depth
+        → length (codes is) ≤ length fresh.items
         → IfOk result (λ b. items_bytes (items_with fresh.items is) ≡ Some b.items) }
 {
     let mut recoding = Recoding {

@@ -58,7 +58,8 @@ fn new_code<S: Space<Object>>(
     method: Method,
     depth: Depth,
 ) -> Result<Bytes, AllocError>
-    ensures { IfOk result (λ c. IsNewCode depth (namespace_of (S.contents objects.now)) (with_counts (get counts.now) (method_of method)) c) }
+    ensures { IfOk result (λ c. IsNewCode depth (namespace_of (S.contents objects.now))
+        (with_counts (get counts.now) (method_of method)) c) }
 {
     let code = method.code.as_slice();
     has_bytes(code);
@@ -79,7 +80,8 @@ fn new_codes<S: Space<Object>>(
     notes: TableNotes,
     depth: Depth,
 ) -> Result<Vec<Bytes>, AllocError>
-    ensures { IfOk result (λ v. AllZip (IsNewCode depth (namespace_of (S.contents objects.now))) (noted (notes_of notes)) v.items) }
+    ensures { IfOk result (λ v. AllZip (IsNewCode depth (namespace_of (S.contents objects.now)))
+        (noted (notes_of notes)) v.items) }
 {
     let TableNotes {
         counts,
@@ -103,9 +105,12 @@ fn rewritten_table(
     table: &Bytes,
     depth: Depth,
 ) -> Result<Vec<u8>, AllocError>
-    requires { (objects : Namespace) × (t : List Placement) × HasNewCodes depth objects table.now t codes.items }
+    requires { (objects : Namespace) × (t : List Placement)
+        × HasNewCodes depth objects table.now t codes.items }
     ensures bytes { IfOk result (λ b. All (λ n. n < 256) table.now × All (λ n. n < 256) b.items) }
-    ensures rewritten { (objects : Namespace) (t : List Placement) → HasNewCodes depth objects table.now t codes.items → IfOk result (λ b. IsRewritten depth objects t table.now b.items) }
+    ensures rewritten { (objects : Namespace) (t : List Placement)
+        → HasNewCodes depth objects table.now t codes.items
+        → IfOk result (λ b. IsRewritten depth objects t table.now b.items) }
 {
     let bytes = table.as_slice();
     has_bytes(bytes);
@@ -132,11 +137,18 @@ fn rewrite_next<'a, S: Space<Object>>(
     depth: Depth,
     missed: &'a [Path],
 ) -> Result<(Vec<u8>, &'a [Path]), AllocError>
-    requires { (number : ℕ) × (before : Namespace) × (t : List Placement) × (later : List (List Segment)) × IsNotedAgain depth number before table.now t missed.now later }
+    requires { (number : ℕ) × (before : Namespace) × (t : List Placement)
+        × (later : List (List Segment)) × IsNotedAgain depth number before table.now t missed.now
+        later }
     ensures bytes { IfOk result (λ r. All (λ n. n < 256) table.now × All (λ n. n < 256) r.0.items) }
-    ensures rewritten { (number : ℕ) (before : Namespace) (t : List Placement) (later : List (List Segment)) → IsNotedAgain depth number before table.now t missed.now later
-        → IfOk result (λ r. IsRewritten depth (namespace_of (S.contents objects.now)) t table.now r.0.items) }
-    ensures later { (number : ℕ) (before : Namespace) (t : List Placement) (later : List (List Segment)) → IsNotedAgain depth number before table.now t missed.now later
+    ensures rewritten { (number : ℕ) (before : Namespace) (t : List Placement)
+        (later : List (List Segment)) → IsNotedAgain depth number before table.now t missed.now
+        later
+        → IfOk result (λ r. IsRewritten depth
+        (namespace_of (S.contents objects.now)) t table.now r.0.items) }
+    ensures later { (number : ℕ) (before : Namespace) (t : List Placement)
+        (later : List (List Segment)) → IsNotedAgain depth number before table.now t missed.now
+        later
         → IfOk result (λ r. r.1.now ≡ later) }
 {
     let (notes, later) = notes_again(alloc, table, depth, missed)?;
@@ -152,10 +164,13 @@ fn rewrite_tables<S: Space<Object>>(
     ssdts: &[Bytes],
     depth: Depth,
 ) -> Result<Vec<Vec<u8>>, LoadFault>
-    ensures ok { IfOk result (λ v. AreRewritten depth (dsdt.now ∷ ssdts.now) (map (λ b. b.items) v.items)) }
-    ensures bytes { IfOk result (λ v. AreTablesOfBytes (dsdt.now ∷ ssdts.now) × AreTablesOfBytes (map (λ b. b.items) v.items)) }
+    ensures ok { IfOk result (λ v. AreRewritten depth (dsdt.now ∷ ssdts.now)
+        (map (λ b. b.items) v.items)) }
+    ensures bytes { IfOk result (λ v. AreTablesOfBytes (dsdt.now ∷ ssdts.now)
+        × AreTablesOfBytes (map (λ b. b.items) v.items)) }
     ensures err { IfErr result (λ e. IsLoadFault depth (dsdt.now ∷ ssdts.now) e) }
-    ensures none { IfErr result (λ e. e ≢ LoadFault.Memory → HasNoLoad depth (dsdt.now ∷ ssdts.now)) }
+    ensures none { IfErr result (λ e. e ≢ LoadFault.Memory
+        → HasNoLoad depth (dsdt.now ∷ ssdts.now)) }
 {
     let (objects, missed) = declare_with_misses::<S>(alloc, dsdt, ssdts, depth)?;
     let mut rewritten = Vec::new(alloc);
@@ -179,19 +194,28 @@ pub fn rewrite_shared<S: Space<Object>>(
     ssdts: &[Bytes],
     depth: Depth,
 ) -> Result<Vec<Vec<u8>>, LoadFault>
-    ensures ok { IfOk result (λ v. AreRewritten depth (dsdt.now ∷ ssdts.now) (map (λ b. b.items) v.items)) }
+    ensures ok { IfOk result (λ v. AreRewritten depth (dsdt.now ∷ ssdts.now)
+        (map (λ b. b.items) v.items)) }
     // They load to the same machine.
-    ensures alike { IfOk result (λ v. (m : Machine) → IsMachine depth (dsdt.now ∷ ssdts.now) m ↔ IsMachine depth (map (λ b. b.items) v.items) m) }
+    ensures alike { IfOk result (λ v. (m : Machine) → IsMachine depth (dsdt.now ∷ ssdts.now) m
+        ↔ IsMachine depth (map (λ b. b.items) v.items) m) }
     // No table has grown.
-    ensures no_longer { IfOk result (λ v. AllZip (λ old now. length now ≤ length old) (dsdt.now ∷ ssdts.now) (map (λ b. b.items) v.items)) }
+    ensures no_longer { IfOk result (λ v. AllZip (λ old now. length now ≤ length old)
+        (dsdt.now ∷ ssdts.now) (map (λ b. b.items) v.items)) }
     // Rewritten again, they stay as they are, and nothing else is their rewriting.
-    ensures stay { IfOk result (λ v. AreRewritten depth (map (λ b. b.items) v.items) (map (λ b. b.items) v.items)) }
-    ensures only { IfOk result (λ v. (again : List (List ℕ)) → AreTablesOfBytes again → AreRewritten depth (map (λ b. b.items) v.items) again → again ≡ map (λ b. b.items) v.items) }
-    ensures bytes { IfOk result (λ v. AreTablesOfBytes (dsdt.now ∷ ssdts.now) × AreTablesOfBytes (map (λ b. b.items) v.items)) }
+    ensures stay { IfOk result (λ v. AreRewritten depth (map (λ b. b.items) v.items)
+        (map (λ b. b.items) v.items)) }
+    ensures only { IfOk result (λ v. (again : List (List ℕ)) → AreTablesOfBytes again
+        → AreRewritten depth (map (λ b. b.items) v.items) again → again
+        ≡ map (λ b. b.items) v.items) }
+    ensures bytes { IfOk result (λ v. AreTablesOfBytes (dsdt.now ∷ ssdts.now)
+        × AreTablesOfBytes (map (λ b. b.items) v.items)) }
     // Of independent SSDTs in any order they load to the join of the single loads.
-    ensures any_order { TellsOfJoin (λ Part v. LoadToJoin Part depth (map (λ b. b.items) v.items)) depth dsdt.now ssdts.now result }
+    ensures any_order { TellsOfJoin (λ Part v. LoadToJoin Part depth (map (λ b. b.items) v.items))
+        depth dsdt.now ssdts.now result }
     ensures err { IfErr result (λ e. IsLoadFault depth (dsdt.now ∷ ssdts.now) e) }
-    ensures none { IfErr result (λ e. e ≢ LoadFault.Memory → HasNoLoad depth (dsdt.now ∷ ssdts.now)) }
+    ensures none { IfErr result (λ e. e ≢ LoadFault.Memory
+        → HasNoLoad depth (dsdt.now ∷ ssdts.now)) }
 {
     rewritten_load_alike();
     none_grows();
@@ -209,7 +233,8 @@ fn joined_tables<S: Space<Object>>(
 ) -> Result<Vec<u8>, LoadFault>
     ensures ok { IfOk result (λ v. AreRewrittenIn depth (dsdt.now ∷ ssdts.now) v.items) }
     ensures err { IfErr result (λ e. IsLoadFault depth (dsdt.now ∷ ssdts.now) e) }
-    ensures none { IfErr result (λ e. e ≢ LoadFault.Memory → HasNoLoad depth (dsdt.now ∷ ssdts.now)) }
+    ensures none { IfErr result (λ e. e ≢ LoadFault.Memory
+        → HasNoLoad depth (dsdt.now ∷ ssdts.now)) }
 {
     let (objects, missed) = declare_with_misses::<S>(alloc, dsdt, ssdts, depth)?;
     let (first, later) = rewrite_next(alloc, &objects, dsdt, depth, &missed)?;
@@ -232,9 +257,11 @@ pub fn rewrite_joined<S: Space<Object>>(
     depth: Depth,
 ) -> Result<Vec<u8>, LoadFault>
     ensures ok { IfOk result (λ v. AreRewrittenIn depth (dsdt.now ∷ ssdts.now) v.items) }
-    ensures any_order { TellsOfJoin (λ Part v. HoldsJoin Part depth v.items) depth dsdt.now ssdts.now result }
+    ensures any_order { TellsOfJoin (λ Part v. HoldsJoin Part depth v.items) depth dsdt.now
+        ssdts.now result }
     ensures err { IfErr result (λ e. IsLoadFault depth (dsdt.now ∷ ssdts.now) e) }
-    ensures none { IfErr result (λ e. e ≢ LoadFault.Memory → HasNoLoad depth (dsdt.now ∷ ssdts.now)) }
+    ensures none { IfErr result (λ e. e ≢ LoadFault.Memory
+        → HasNoLoad depth (dsdt.now ∷ ssdts.now)) }
 {
     joined_tables::<S>(alloc, dsdt, ssdts, depth)
 }
@@ -246,14 +273,23 @@ pub fn rewrite<S: Space<Object>>(
     ssdts: &[&[u8]],
     depth: Depth,
 ) -> Result<Vec<Vec<u8>>, LoadFault>
-    ensures ok { IfOk result (λ v. AreRewritten depth (dsdt.now ∷ map (λ b. b.now) ssdts.now) (map (λ b. b.items) v.items)) }
-    ensures alike { IfOk result (λ v. (m : Machine) → IsMachine depth (dsdt.now ∷ map (λ b. b.now) ssdts.now) m ↔ IsMachine depth (map (λ b. b.items) v.items) m) }
-    ensures no_longer { IfOk result (λ v. AllZip (λ old now. length now ≤ length old) (dsdt.now ∷ map (λ b. b.now) ssdts.now) (map (λ b. b.items) v.items)) }
-    ensures stay { IfOk result (λ v. AreRewritten depth (map (λ b. b.items) v.items) (map (λ b. b.items) v.items)) }
-    ensures only { IfOk result (λ v. (again : List (List ℕ)) → AreTablesOfBytes again → AreRewritten depth (map (λ b. b.items) v.items) again → again ≡ map (λ b. b.items) v.items) }
-    ensures any_order { TellsOfJoin (λ Part v. LoadToJoin Part depth (map (λ b. b.items) v.items)) depth dsdt.now (map (λ b. b.now) ssdts.now) result }
+    ensures ok { IfOk result (λ v. AreRewritten depth (dsdt.now ∷ map (λ b. b.now) ssdts.now)
+        (map (λ b. b.items) v.items)) }
+    ensures alike { IfOk result (λ v. (m : Machine)
+        → IsMachine depth (dsdt.now ∷ map (λ b. b.now) ssdts.now) m
+        ↔ IsMachine depth (map (λ b. b.items) v.items) m) }
+    ensures no_longer { IfOk result (λ v. AllZip (λ old now. length now ≤ length old)
+        (dsdt.now ∷ map (λ b. b.now) ssdts.now) (map (λ b. b.items) v.items)) }
+    ensures stay { IfOk result (λ v. AreRewritten depth (map (λ b. b.items) v.items)
+        (map (λ b. b.items) v.items)) }
+    ensures only { IfOk result (λ v. (again : List (List ℕ)) → AreTablesOfBytes again
+        → AreRewritten depth (map (λ b. b.items) v.items) again → again
+        ≡ map (λ b. b.items) v.items) }
+    ensures any_order { TellsOfJoin (λ Part v. LoadToJoin Part depth (map (λ b. b.items) v.items))
+        depth dsdt.now (map (λ b. b.now) ssdts.now) result }
     ensures err { IfErr result (λ e. IsLoadFault depth (dsdt.now ∷ map (λ b. b.now) ssdts.now) e) }
-    ensures none { IfErr result (λ e. e ≢ LoadFault.Memory → HasNoLoad depth (dsdt.now ∷ map (λ b. b.now) ssdts.now)) }
+    ensures none { IfErr result (λ e. e ≢ LoadFault.Memory
+        → HasNoLoad depth (dsdt.now ∷ map (λ b. b.now) ssdts.now)) }
 {
     let dsdt = Bytes::copy_from_slice(alloc, dsdt)?;
     let ssdts = shared_tables(alloc, ssdts)?;

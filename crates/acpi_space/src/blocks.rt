@@ -118,7 +118,8 @@ fn put_last<T: Drop>(
     requires filled { IsFilled (map vec_items blocks.old.items) }
     requires len { len ≡ length (in_blocks (map vec_items blocks.old.items)) }
     ensures filled { IsFilled (map vec_items blocks.new.items) }
-    ensures ok { OnOk result (in_blocks (map vec_items blocks.new.items) ≡ in_blocks (map vec_items blocks.old.items) ++ item ∷ []) }
+    ensures ok { OnOk result (in_blocks (map vec_items blocks.new.items)
+        ≡ in_blocks (map vec_items blocks.old.items) ++ item ∷ []) }
     ensures err { OnErr result (map vec_items blocks.new.items ≡ map vec_items blocks.old.items) }
 {
     if len % BLOCK == 0 {

@@ -34,8 +34,10 @@ fn insert_into(
     number: usize,
 ) -> Result<(), AllocError>
     ensures ordered { IsStrictlySortedBy segment_cmp (map (λ e. e.0) numbers.new.entries) }
-    ensures entries { OnOk result (numbers.new.entries ≡ insert_entry segment_cmp numbers.old.entries seg number) }
-    ensures child { OnOk result ((g : Segment) → child_of numbers.new.entries g ≡ cond (is_eq (segment_cmp seg g)) (Some number) (child_of numbers.old.entries g)) }
+    ensures entries { OnOk result (numbers.new.entries
+        ≡ insert_entry segment_cmp numbers.old.entries seg number) }
+    ensures child { OnOk result ((g : Segment) → child_of numbers.new.entries g
+        ≡ cond (is_eq (segment_cmp seg g)) (Some number) (child_of numbers.old.entries g)) }
     ensures err { OnErr result (numbers.new.entries ≡ numbers.old.entries) }
 {
     numbers.insert(seg, number)?;
@@ -44,7 +46,8 @@ fn insert_into(
 
 // Puts a step into each child of a map, so that the first is entered first.
 fn push_entries(numbers: &BTreeMap<Seg, usize>, steps: &mut Vec<Step>) -> Result<(), AllocError>
-    ensures { OnOk result (reverse steps.new.items ≡ map enter numbers.now.entries ++ reverse steps.old.items) }
+    ensures { OnOk result (reverse steps.new.items ≡ map enter numbers.now.entries
+        ++ reverse steps.old.items) }
 {
     for (seg, number) in numbers.iter().rev() {
         steps.push(Step::Enter(*seg, *number))?;
@@ -82,8 +85,10 @@ impl Children {
         number: usize,
     ) -> Result<(), AllocError>
         ensures ordered { IsStrictlySortedBy segment_cmp (map (λ e. e.0) (entries_of self.new)) }
-        ensures entries { OnOk result (entries_of self.new ≡ insert_entry segment_cmp (entries_of self.old) seg number) }
-        ensures child { OnOk result ((g : Segment) → child_of (entries_of self.new) g ≡ cond (is_eq (segment_cmp seg g)) (Some number) (child_of (entries_of self.old) g)) }
+        ensures entries { OnOk result (entries_of self.new
+            ≡ insert_entry segment_cmp (entries_of self.old) seg number) }
+        ensures child { OnOk result ((g : Segment) → child_of (entries_of self.new) g
+            ≡ cond (is_eq (segment_cmp seg g)) (Some number) (child_of (entries_of self.old) g)) }
         ensures err { OnErr result (entries_of self.new ≡ entries_of self.old) }
     {
         match self {
@@ -104,7 +109,8 @@ impl Children {
 
     /// Puts a step into each child, so that the first is entered first.
     pub(crate) fn push_steps(&self, steps: &mut Vec<Step>) -> Result<(), AllocError>
-        ensures { OnOk result (reverse steps.new.items ≡ map enter (entries_of self.now) ++ reverse steps.old.items) }
+        ensures { OnOk result (reverse steps.new.items ≡ map enter (entries_of self.now)
+            ++ reverse steps.old.items) }
     {
         match self {
             Children::Empty => Ok(()),

@@ -141,11 +141,16 @@ fn link<V>(
     requires { number < length nodes.old }
     ensures len { length nodes.new ≡ length nodes.old }
     ensures others { (n : ℕ) → n ≢ number → slice_get nodes.new n ≡ slice_get nodes.old n }
-    ensures value { node_value (slice_get nodes.new number) ≡ node_value (slice_get nodes.old number) }
-    ensures ordered { IsStrictlySortedBy segment_cmp (map (λ e. e.0) (node_children (slice_get nodes.new number))) }
-    ensures entries { OnOk result (node_children (slice_get nodes.new number) ≡ insert_entry segment_cmp (node_children (slice_get nodes.old number)) seg next) }
-    ensures child { OnOk result ((g : Segment) → child_at nodes.new number g ≡ cond (is_eq (segment_cmp seg g)) (Some next) (child_at nodes.old number g)) }
-    ensures err { OnErr result (node_children (slice_get nodes.new number) ≡ node_children (slice_get nodes.old number)) }
+    ensures value { node_value (slice_get nodes.new number)
+        ≡ node_value (slice_get nodes.old number) }
+    ensures ordered { IsStrictlySortedBy segment_cmp
+        (map (λ e. e.0) (node_children (slice_get nodes.new number))) }
+    ensures entries { OnOk result (node_children (slice_get nodes.new number)
+        ≡ insert_entry segment_cmp (node_children (slice_get nodes.old number)) seg next) }
+    ensures child { OnOk result ((g : Segment) → child_at nodes.new number g
+        ≡ cond (is_eq (segment_cmp seg g)) (Some next) (child_at nodes.old number g)) }
+    ensures err { OnErr result (node_children (slice_get nodes.new number)
+        ≡ node_children (slice_get nodes.old number)) }
 {
     nodes.at_mut(number).children.insert(alloc, seg, next)?;
     Ok(())
@@ -160,7 +165,8 @@ pub(crate) fn put<V: Drop>(
     requires { number < length nodes.old }
     ensures free { OnOk result (node_value (slice_get nodes.old number) ≡ None) }
     ensures ok { OnOk result (HasPut nodes.old nodes.new number value) }
-    ensures taken { IfErr result (λ e. (e ≡ Refused.Taken value) × IsSome (node_value (slice_get nodes.old number))) }
+    ensures taken { IfErr result (λ e. (e ≡ Refused.Taken value)
+        × IsSome (node_value (slice_get nodes.old number))) }
     ensures err { OnErr result (nodes.new ≡ nodes.old) }
 {
     let node = nodes.at_mut(number);

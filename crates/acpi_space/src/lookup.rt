@@ -67,8 +67,10 @@ pub fn search<V, S: Space<V>>(
     scope: &Path,
     name: NameRef<'_>,
 ) -> Result<Found, SearchFault>
-    ensures answer { IfOk result (λ f. found_path f ≡ answer (is_defined (S.contents space.now)) scope.now (name_parts name.entry)) }
-    ensures above { (result ≡ Err SearchFault.AboveRoot) ↔ (place_of scope.now (name_parts name.entry) ≡ None) }
+    ensures answer { IfOk result (λ f. found_path f
+        ≡ answer (is_defined (S.contents space.now)) scope.now (name_parts name.entry)) }
+    ensures above { (result ≡ Err SearchFault.AboveRoot)
+        ↔ (place_of scope.now (name_parts name.entry) ≡ None) }
 {
     if let Some(seg) = name.plain() {
         return Ok(search_plain(alloc, space, scope, seg)?);
@@ -88,7 +90,8 @@ fn search_plain<V, S: Space<V>>(
     scope: &Path,
     seg: Seg,
 ) -> Result<Found, AllocError>
-    ensures { IfOk result (λ f. found_path f ≡ find (is_defined (S.contents space.now)) (map (λ q. q ++ seg ∷ []) (beginnings scope.now))) }
+    ensures { IfOk result (λ f. found_path f ≡ find (is_defined (S.contents space.now))
+        (map (λ q. q ++ seg ∷ []) (beginnings scope.now))) }
 {
     match space.nearest(scope, seg)? {
         None => Ok(Found::Missing),

@@ -63,7 +63,8 @@ fn nearer<V>(
     depth: usize,
     found: Option<usize>,
 ) -> Option<usize>
-    ensures { result ≡ (if is_some (value_below nodes.now number (seg ∷ [])) then Some depth else found) }
+    ensures { result
+        ≡ (if is_some (value_below nodes.now number (seg ∷ [])) then Some depth else found) }
 {
     match child(nodes, number, seg) {
         Some(next) if value(nodes, next).is_some() => Some(depth),
@@ -73,7 +74,8 @@ fn nearer<V>(
 
 /// The length of the longest beginning of the scope below which the segment has a value.
 pub(crate) fn nearest_to<V>(nodes: &Blocks<Node<V>>, scope: &[Seg], seg: Seg) -> Option<usize>
-    ensures { result ≡ option_map length (find (λ q. is_some (value_below nodes.now 0 (q ++ seg ∷ []))) (beginnings scope.now)) }
+    ensures { result ≡ option_map length (find
+        (λ q. is_some (value_below nodes.now 0 (q ++ seg ∷ []))) (beginnings scope.now)) }
 {
     let mut number = 0;
     let mut found = None;

@@ -87,7 +87,8 @@ impl<'a, S> Overlay<'a, S> {
         S: Space<V>,
         ensures ascend { IfOk result (λ v. IsStrictlySortedBy path_cmp v.items) }
         ensures are { IfOk result (λ v. (p : List Segment) → Among v.items p
-            ↔ (IsTrue (is_defined (contents_over S.contents self.now) p) × (is_defined (lower_of S.contents self.now) p ≡ false))) }
+            ↔ (IsTrue (is_defined (contents_over S.contents self.now) p)
+            × (is_defined (lower_of S.contents self.now) p ≡ false))) }
     {
         let mut own = OwnPaths {
             lower: self.lower,
@@ -131,7 +132,8 @@ fn lent_pairs<'a, V, S: Space<V>>(
     alloc: Global,
     space: Option<&'a S>,
 ) -> Result<Vec<(Path, &'a V)>, AllocError>
-    ensures { IfOk result (λ v. map (λ p. (p.0, p.1.now)) v.items ≡ finite.entries (lent S.contents space.entry)) }
+    ensures { IfOk result (λ v. map (λ p. (p.0, p.1.now)) v.items
+        ≡ finite.entries (lent S.contents space.entry)) }
 {
     match space {
         Some(space) => space.pairs(),
@@ -145,7 +147,8 @@ fn lent_nearest<V, S: Space<V>>(
     scope: &Path,
     seg: Seg,
 ) -> Result<Option<usize>, AllocError>
-    ensures { IfOk result (λ n. n ≡ option_map length (nearest_scope (is_defined (lent S.contents space.entry)) scope.now seg)) }
+    ensures { IfOk result (λ n. n ≡ option_map length
+        (nearest_scope (is_defined (lent S.contents space.entry)) scope.now seg)) }
 {
     match space {
         Some(space) => space.nearest(scope, seg),
@@ -169,7 +172,8 @@ fn add_pairs<'a, V>(
     pairs: &mut BTreeMap<Path, &'a V>,
     more: Vec<(Path, &'a V)>,
 ) -> Result<(), AllocError>
-    ensures { OnOk result (pairs_of pairs.new.entries ≡ both (pairs_of pairs.old.entries) (pairs_of more.entry.items)) }
+    ensures { OnOk result (pairs_of pairs.new.entries
+        ≡ both (pairs_of pairs.old.entries) (pairs_of more.entry.items)) }
 {
     for (path, value) in more {
         if !pairs.contains_key(&path) {
@@ -184,7 +188,8 @@ fn listed<'a, V>(
     alloc: Global,
     pairs: BTreeMap<Path, &'a V>,
 ) -> Result<Vec<(Path, &'a V)>, AllocError>
-    ensures { IfOk result (λ v. map (λ p. (p.0, p.1.now)) v.items ≡ finite.entries (pairs_of pairs.entry.entries)) }
+    ensures { IfOk result (λ v. map (λ p. (p.0, p.1.now)) v.items
+        ≡ finite.entries (pairs_of pairs.entry.entries)) }
 {
     let mut list = Vec::new(alloc);
     for (path, value) in pairs {

@@ -17,7 +17,8 @@ pub(crate) fn paths_below(
     outer: usize,
 ) -> Result<Vec<Path>, AllocError>
     requires { outer ≤ length scope.now + 1 }
-    ensures { IfOk result (λ v. v.items ≡ map (λ q. q ++ seg ∷ []) (take (length scope.now + 1 - outer) (beginnings scope.now))) }
+    ensures { IfOk result (λ v. v.items ≡ map (λ q. q ++ seg ∷ [])
+        (take (length scope.now + 1 - outer) (beginnings scope.now))) }
 {
     let mut paths = Vec::new(alloc);
     let mut depth = scope.len() + 1;
@@ -39,7 +40,8 @@ pub(crate) fn paths_among<W, T: Space<W>>(
     outer: usize,
     among: &T,
 ) -> Result<Vec<Path>, AllocError>
-    ensures { IfOk result (λ v. v.items ≡ filter (is_defined (T.contents among.now)) (map (λ q. q ++ seg ∷ []) (take (length scope.now + 1 - outer) (beginnings scope.now)))) }
+    ensures { IfOk result (λ v. v.items ≡ filter (is_defined (T.contents among.now))
+        (map (λ q. q ++ seg ∷ []) (take (length scope.now + 1 - outer) (beginnings scope.now)))) }
 {
     let mut paths = Vec::new(alloc);
     let Some(mut inner) = innermost(alloc, scope, seg, outer, among)? else {
@@ -67,7 +69,8 @@ fn innermost<W, T: Space<W>>(
     outer: usize,
     among: &T,
 ) -> Result<Option<Path>, AllocError>
-    ensures { IfOk result (λ q. IsInnermost (λ q. is_defined (T.contents among.now) (q ++ seg ∷ [])) outer scope.now q) }
+    ensures { IfOk result (λ q. IsInnermost (λ q. is_defined (T.contents among.now)
+        (q ++ seg ∷ [])) outer scope.now q) }
 {
     let Some(depth) = among.nearest(scope, seg)? else {
         return Ok(None);

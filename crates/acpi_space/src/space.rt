@@ -53,19 +53,23 @@ pub trait Space<V>: Drop {
     /// back and no pair changes. A space below never changes.
     fn insert(&mut self, path: Path, value: V) -> Result<(), Refused<V>>
         ensures free { OnOk result (finite.get (contents self.old) path ≡ None) }
-        ensures ok { OnOk result (contents self.new ≡ finite.insert (contents self.old) path value) }
+        ensures ok { OnOk result (contents self.new
+            ≡ finite.insert (contents self.old) path value) }
         ensures refused { IfErr result (IsRefusal (contents self.old) path value) }
         ensures err { OnErr result (contents self.new ≡ contents self.old) }
         ensures lower { lower self.new ≡ lower self.old };
 
     /// All pairs, in the order of the paths.
     fn pairs(&self) -> Result<Vec<(Path, &V)>, AllocError>
-        ensures { IfOk result (λ v. map (λ p. (p.0, p.1.now)) v.items ≡ finite.entries (contents self.now)) };
+        ensures { IfOk result (λ v. map (λ p. (p.0, p.1.now)) v.items
+            ≡ finite.entries (contents self.now)) };
 
     /// Shows all pairs to the visitor, in the order of the paths; the first failure of the visitor ends it.
     fn visit_pairs<T: Visitor<V>>(&self, visitor: &mut T) -> Result<(), AllocError>
-        ensures { (first : T) (pairs : List (List Segment × V)) → T.was_shown first pairs visitor.old
-            → OnOk result (T.was_shown first (pairs ++ finite.entries (contents self.now)) visitor.new) }
+        ensures { (first : T) (pairs : List (List Segment × V))
+            → T.was_shown first pairs visitor.old
+            → OnOk result (T.was_shown first (pairs
+            ++ finite.entries (contents self.now)) visitor.new) }
     {
         for (path, value) in self.pairs()? {
             visitor.visit(&path, value)?;
@@ -75,7 +79,8 @@ pub trait Space<V>: Drop {
 
     /// The length of the longest beginning of the scope below which the segment is defined.
     fn nearest(&self, scope: &Path, seg: Seg) -> Result<Option<usize>, AllocError>
-        ensures { IfOk result (λ n. n ≡ option_map length (nearest_scope (is_defined (contents self.now)) scope.now seg)) }
+        ensures { IfOk result (λ n. n ≡ option_map length
+            (nearest_scope (is_defined (contents self.now)) scope.now seg)) }
     {
         let mut path = scope.copy()?;
         loop {

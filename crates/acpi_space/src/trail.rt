@@ -42,7 +42,8 @@ pub(crate) fn follow(trail: &[Mark], path: &[Seg]) -> Fork
 /// Puts a mark at the end of a trail from the root, if the trail ends at the node `number`. Where memory is
 /// refused, the trail stays as it was: shorter than it might be.
 pub(crate) fn extend(trail: &mut Vec<Mark>, number: usize, seg: Seg, next: usize)
-    ensures { (trail.new.items ≡ trail.old.items) ⊎ (trail_end 0 trail.old.items ≡ number) × (trail.new.items ≡ trail.old.items ++ record { seg = seg; number = next } ∷ []) }
+    ensures { (trail.new.items ≡ trail.old.items) ⊎ (trail_end 0 trail.old.items ≡ number)
+        × (trail.new.items ≡ trail.old.items ++ record { seg = seg; number = next } ∷ []) }
 {
     if end(trail) == number {
         let _ = trail.push(Mark { seg, number: next });

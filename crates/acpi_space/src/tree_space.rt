@@ -86,7 +86,8 @@ impl<V: Drop> Space<V> for TreeSpace<V> {
 
     // It takes no memory, so it never fails.
     fn nearest(&self, scope: &Path, seg: Seg) -> Result<Option<usize>, AllocError>
-        ensures nearest { IfOk result (λ n. n ≡ option_map length (nearest_scope (is_defined self.now) scope.now seg)) }
+        ensures nearest { IfOk result (λ n. n
+            ≡ option_map length (nearest_scope (is_defined self.now) scope.now seg)) }
         ensures always { IsOk result }
     {
         Ok(nearest_to(&self.nodes, scope.segs(), seg))

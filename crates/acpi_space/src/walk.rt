@@ -56,7 +56,8 @@ impl<'a, V> Walk<'a, V> {
     /// The value of the next pair.
     pub(crate) fn next(&mut self) -> Result<Option<&'a V>, AllocError>
         requires { IsTree self.old.nodes.now }
-        ensures given { IfOk result (λ next. left_of self.old ≡ with_given (option_copied next) self.new) }
+        ensures given { IfOk result (λ next. left_of self.old
+            ≡ with_given (option_copied next) self.new) }
         ensures tree { IsTree self.new.nodes.now }
     {
         while let Some(number) = self.enter()? {
@@ -70,7 +71,8 @@ impl<'a, V> Walk<'a, V> {
 
     // The next node, which is entered by that.
     fn enter(&mut self) -> Result<Option<usize>, AllocError>
-        ensures next { IfOk result (λ next. places_of self.old ≡ next_ahead next self.new.path (reverse self.new.steps.items)) }
+        ensures next { IfOk result (λ next. places_of self.old
+            ≡ next_ahead next self.new.path (reverse self.new.steps.items)) }
         ensures nodes { self.new.nodes ≡ self.old.nodes }
         ensures none { OnOk result (self.new.entered ≡ None) }
     {
@@ -90,7 +92,8 @@ fn push_children<V>(
     number: usize,
     steps: &mut Vec<Step>,
 ) -> Result<(), AllocError>
-    ensures { OnOk result (reverse steps.new.items ≡ map enter (node_children (slice_get nodes.now number)) ++ reverse steps.old.items) }
+    ensures { OnOk result (reverse steps.new.items
+        ≡ map enter (node_children (slice_get nodes.now number)) ++ reverse steps.old.items) }
 {
     match nodes.get(number) {
         Some(node) => node.children.push_steps(steps),
@@ -100,7 +103,8 @@ fn push_children<V>(
 
 // Leaves nodes until there is one to enter, and enters it.
 fn advance(steps: &mut Vec<Step>, path: &mut Path) -> Result<Option<usize>, AllocError>
-    ensures { IfOk result (λ next. ahead path.old (reverse steps.old.items) ≡ next_ahead next path.new (reverse steps.new.items)) }
+    ensures { IfOk result (λ next. ahead path.old (reverse steps.old.items)
+        ≡ next_ahead next path.new (reverse steps.new.items)) }
 {
     while let Some(step) = steps.pop() {
         match step {

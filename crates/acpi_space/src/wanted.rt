@@ -38,7 +38,9 @@ pub trait Wanted {
         outer: usize,
     ) -> Result<Vec<Path>, AllocError>
         requires { outer ≤ length scope.now + 1 }
-        ensures { IfOk result (λ v. v.items ≡ filter (wanted self.now) (map (λ q. q ++ seg ∷ []) (take (length scope.now + 1 - outer) (beginnings scope.now)))) };
+        ensures { IfOk result (λ v. v.items ≡ filter (wanted self.now)
+            (map (λ q. q ++ seg ∷ []) (take (length scope.now + 1 - outer)
+            (beginnings scope.now)))) };
 }
 
 /// All paths.
@@ -116,8 +118,10 @@ pub fn misses<V, S: Space<V>>(
     scope: &Path,
     name: NameRef<'_>,
 ) -> Result<Vec<Path>, SearchFault>
-    ensures missed { IfOk result (λ v. v.items ≡ missed (is_defined (S.contents space.now)) scope.now (name_parts name.entry)) }
-    ensures above { (result ≡ Err SearchFault.AboveRoot) ↔ (place_of scope.now (name_parts name.entry) ≡ None) }
+    ensures missed { IfOk result (λ v. v.items
+        ≡ missed (is_defined (S.contents space.now)) scope.now (name_parts name.entry)) }
+    ensures above { (result ≡ Err SearchFault.AboveRoot)
+        ↔ (place_of scope.now (name_parts name.entry) ≡ None) }
 {
     wanted_misses(alloc, space, scope, name, &AllPaths)
 }
@@ -130,8 +134,11 @@ pub fn wanted_misses<V, S: Space<V>, Q: Wanted>(
     name: NameRef<'_>,
     wanted: &Q,
 ) -> Result<Vec<Path>, SearchFault>
-    ensures missed { IfOk result (λ v. v.items ≡ filter (Q.wanted wanted.now) (missed (is_defined (S.contents space.now)) scope.now (name_parts name.entry))) }
-    ensures above { (result ≡ Err SearchFault.AboveRoot) ↔ (place_of scope.now (name_parts name.entry) ≡ None) }
+    ensures missed { IfOk result (λ v. v.items
+        ≡ filter (Q.wanted wanted.now) (missed (is_defined (S.contents space.now)) scope.now
+        (name_parts name.entry))) }
+    ensures above { (result ≡ Err SearchFault.AboveRoot)
+        ↔ (place_of scope.now (name_parts name.entry) ≡ None) }
 {
     if let Some(seg) = name.plain() {
         return Ok(plain_misses(alloc, space, scope, seg, wanted)?);
@@ -152,7 +159,9 @@ fn plain_misses<V, S: Space<V>, Q: Wanted>(
     seg: Seg,
     wanted: &Q,
 ) -> Result<Vec<Path>, AllocError>
-    ensures { IfOk result (λ v. v.items ≡ filter (Q.wanted wanted.now) (skipped (is_defined (S.contents space.now)) (map (λ q. q ++ seg ∷ []) (beginnings scope.now)))) }
+    ensures { IfOk result (λ v. v.items ≡ filter (Q.wanted wanted.now)
+        (skipped (is_defined (S.contents space.now))
+        (map (λ q. q ++ seg ∷ []) (beginnings scope.now)))) }
 {
     if !wanted.wants_below(scope, seg)? {
         return Ok(Vec::new(alloc));
@@ -163,7 +172,9 @@ fn plain_misses<V, S: Space<V>, Q: Wanted>(
 
 // The length of the shortest beginning of the scope below which the segment is missed.
 fn first_missed<V, S: Space<V>>(space: &S, scope: &Path, seg: Seg) -> Result<usize, AllocError>
-    ensures missed { IfOk result (λ n. skipped (λ q. is_defined (S.contents space.now) (q ++ seg ∷ [])) (beginnings scope.now) ≡ take (length scope.now + 1 - n) (beginnings scope.now)) }
+    ensures missed { IfOk result (λ n. skipped
+        (λ q. is_defined (S.contents space.now) (q ++ seg ∷ [])) (beginnings scope.now)
+        ≡ take (length scope.now + 1 - n) (beginnings scope.now)) }
     ensures within { IfOk result (λ n. n ≤ length scope.now + 1) }
 {
     let _len = scope.len();

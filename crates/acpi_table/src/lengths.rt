@@ -48,9 +48,11 @@ impl PkgBytes {
 pub fn read_pkg_length(bytes: &[u8]) -> Result<(u32, usize), PkgFault>
     // What is read is spelled so.
     ensures found { IfOk result (λ x. SpellsPkgLength x.0 (take x.1 bytes.now)) }
-    ensures within { IfOk result (λ x. (x.1 ≤ length bytes.now) × (1 ≤ x.1) × (x.1 ≤ 4) × (x.0 < 2 ^ 28)) }
+    ensures within { IfOk result (λ x. (x.1 ≤ length bytes.now) × (1 ≤ x.1) × (x.1 ≤ 4)
+        × (x.0 < 2 ^ 28)) }
     // What is spelled so is read.
-    ensures only { (n : ℕ) (front rest : List ℕ) → SpellsPkgLength n front → bytes.now ≡ front ++ rest
+    ensures only { (n : ℕ) (front rest : List ℕ) → SpellsPkgLength n front → bytes.now ≡ front
+        ++ rest
         → result ≡ Ok (n, length front) }
 
     ensures reserved { IsErrOf result PkgFault.ReservedBits ↔ HasReservedBits bytes.now }
@@ -129,7 +131,8 @@ pub fn write_pkg_length(number: u32) -> Option<PkgBytes>
 #[tactic(auto, using(crate::proofs::PkgLengths::own_bytes), unfolding(crate::specs::PkgLength::package_number))]
 pub fn package_length(payload: u32) -> Option<u32>
     ensures none { IsNone result ↔ (268435451 < payload) }
-    ensures counts { IfSome result (λ number. number ≡ length (shortest_pkg_length number) + payload) }
+    ensures counts { IfSome result (λ number. number
+        ≡ length (shortest_pkg_length number) + payload) }
     ensures least { IfSome result (λ number. (other : ℕ) (bytes : List ℕ) → All (λ b. b < 256) bytes
         → SpellsPkgLength other bytes → other ≡ length bytes + payload → number ≤ other) }
     ensures exact { IfSome result (λ number. number ≡ package_number payload) }

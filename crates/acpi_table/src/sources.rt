@@ -24,7 +24,8 @@ pub trait Source {
     /// input, or where the buffer is empty. After a fault nothing is said of the bytes still to come.
     fn read(&mut self, buf: &mut [u8]) -> Result<usize, SourceFault>
         ensures within { IfOk result (λ n. n ≤ length buf.new) }
-        ensures taken { IfOk result (λ n. Consumes (coming self.old) (coming self.new) (take n buf.new)) }
+        ensures taken { IfOk result (λ n. Consumes (coming self.old) (coming self.new)
+            (take n buf.new)) }
         ensures ended { result ≡ Ok 0 → 0 < length buf.new → IsAtEnd (coming self.new) }
         ensures kept { OnOk result (failures self.new ≡ failures self.old) }
         ensures failed { OnErr result (failures self.new ≡ one_more (failures self.old)) };

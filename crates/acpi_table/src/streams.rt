@@ -57,9 +57,11 @@ const PIECE: usize = 4096;
 pub fn read_table<S: Source>(alloc: Global, source: &mut S) -> Result<Option<Vec<u8>>, ReadFault>
     // A table is taken, and no more.
     ensures table { IfOk result (λ o. IfSome o (λ v. IsTable v.items)) }
-    ensures taken { IfOk result (λ o. IfSome o (λ v. Consumes (S.coming source.old) (S.coming source.new) v.items)) }
+    ensures taken { IfOk result (λ o. IfSome o
+        (λ v. Consumes (S.coming source.old) (S.coming source.new) v.items)) }
     // No table: the input is at its end, and was.
-    ensures ended { IfOk result (λ o. IfNone o (IsAtEnd (S.coming source.old) × IsAtEnd (S.coming source.new))) }
+    ensures ended { IfOk result (λ o. IfNone o
+        (IsAtEnd (S.coming source.old) × IsAtEnd (S.coming source.new))) }
 
     // What was read is no table: the bytes show it, and there are some.
     ensures refused { (fault : TableFault) → IsErrOf result (ReadFault.Table fault)
@@ -96,7 +98,8 @@ pub fn read_table<S: Source>(alloc: Global, source: &mut S) -> Result<Option<Vec
 fn fill<S: Source>(source: &mut S, table: &mut Vec<u8>, target: usize) -> Result<(), ReadFault>
     requires { vec_len table.old ≤ target }
     ensures within { OnOk result (vec_len table.new ≤ target) }
-    ensures taken { OnOk result (TakesOnto (S.coming source.old) (S.coming source.new) table.old.items table.new.items) }
+    ensures taken { OnOk result (TakesOnto (S.coming source.old)
+        (S.coming source.new) table.old.items table.new.items) }
     ensures ended { OnOk result (vec_len table.new < target → IsAtEnd (S.coming source.new)) }
     ensures faults { IfErr result IsNoTableFault }
     ensures failures { CountsFailures result (S.failures source.old) (S.failures source.new) }
@@ -119,7 +122,8 @@ fn read_piece<S: Source>(
     requires some { 0 < wanted }
     requires few { wanted ≤ PIECE }
     ensures within { IfOk result (λ n. (n ≤ wanted) × (vec_len table.new ≡ vec_len table.old + n)) }
-    ensures taken { OnOk result (TakesOnto (S.coming source.old) (S.coming source.new) table.old.items table.new.items) }
+    ensures taken { OnOk result (TakesOnto (S.coming source.old)
+        (S.coming source.new) table.old.items table.new.items) }
     ensures ended { IfOk result (λ n. n ≡ 0 → IsAtEnd (S.coming source.new)) }
     ensures faults { IfErr result IsNoTableFault }
     ensures failures { CountsFailures result (S.failures source.old) (S.failures source.new) }

@@ -27,7 +27,8 @@ fn external_term(alloc: Global, level: u32, code: &mut Code<'_>) -> Result<Exter
 }
 
 fn externals(alloc: Global, level: u32, code: &mut Code<'_>) -> Result<Vec<External>, ItemFault>
-    ensures { ReadsAll (λ v. externals_view v.items) (λ end. each_at (external_at level end)) code.old result }
+    ensures { ReadsAll (λ v. externals_view v.items)
+        (λ end. each_at (external_at level end)) code.old result }
 {
     let mut found = Vec::new(alloc);
     'each: while !code.is_empty() {
@@ -71,7 +72,8 @@ pub(crate) fn block_form(
     code: &mut Code<'_>,
 ) -> Result<Item, ItemFault>
     requires { front.now.end ≡ code.old.end }
-    ensures { Reads item_view (λ end rest. block_item level end front.now.bytes rest) code.old code.new result }
+    ensures { Reads item_view (λ end rest. block_item level end front.now.bytes rest) code.old
+        code.new result }
 {
     let mut inner = code.package()?;
     match content(alloc, level, &mut inner) {

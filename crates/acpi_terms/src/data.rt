@@ -43,7 +43,8 @@ fn buffer_form(alloc: Global, level: u32, code: &mut Code<'_>) -> Result<Data, I
 #[cycle(read)]
 #[tactic(auto, using(crate::proofs::Parts::part_fails))]
 fn package_form(alloc: Global, level: u32, code: &mut Code<'_>) -> Result<Data, ItemFault>
-    ensures { Reads data_view (package_data (elems_with (elem_at level)) level) code.old code.new result }
+    ensures { Reads data_view (package_data (elems_with (elem_at level)) level) code.old code.new
+        result }
 {
     let mut inner = code.package()?;
     let count = inner.byte()?;
@@ -54,7 +55,8 @@ fn package_form(alloc: Global, level: u32, code: &mut Code<'_>) -> Result<Data, 
 #[cycle(read)]
 #[tactic(auto, using(crate::proofs::Parts::part_fails))]
 fn var_package_form(alloc: Global, level: u32, code: &mut Code<'_>) -> Result<Data, ItemFault>
-    ensures { Reads data_view (var_package_data (elems_with (elem_at level)) level) code.old code.new result }
+    ensures { Reads data_view (var_package_data (elems_with (elem_at level)) level) code.old
+        code.new result }
 {
     let mut inner = code.package()?;
     let count = int(level, &mut inner)?;
@@ -72,7 +74,9 @@ fn data_form(
     code: &mut Code<'_>,
 ) -> Result<Data, ItemFault>
     requires { front.now.end ≡ code.old.end }
-    ensures { ReadsOn data_view (λ end rest. data_by (elems_with (elem_at level)) level end front.now.bytes opcode rest) code.old code.new result }
+    ensures { ReadsOn data_view (λ end rest. data_by
+        (elems_with (elem_at level)) level end front.now.bytes opcode rest) code.old code.new
+        result }
 {
     match opcode {
         Opcode::Constant(form) => int_form(form, code),
@@ -102,7 +106,9 @@ fn data_elem(
     code: &mut Code<'_>,
 ) -> Result<Elem, ItemFault>
     requires { front.now.end ≡ code.old.end }
-    ensures { ReadsOn elem_view (λ end rest. data_elem_of (data_by (elems_with (elem_at level)) level end front.now.bytes opcode rest)) code.old code.new result }
+    ensures { ReadsOn elem_view (λ end rest. data_elem_of
+        (data_by (elems_with (elem_at level)) level end front.now.bytes opcode rest)) code.old
+        code.new result }
 {
     Ok(Elem::Data(data_form(alloc, level, front, opcode, code)?))
 }
@@ -127,7 +133,8 @@ fn elem(alloc: Global, level: u32, code: &mut Code<'_>) -> Result<Elem, ItemFaul
 
 #[cycle(read)]
 fn elems(alloc: Global, level: u32, code: &mut Code<'_>) -> Result<Vec<Elem>, ItemFault>
-    ensures { ReadsAll (λ v. elems_of (elems_view v.items)) (elems_with (elem_at level)) code.old result }
+    ensures { ReadsAll (λ v. elems_of (elems_view v.items))
+        (elems_with (elem_at level)) code.old result }
 {
     let mut found = Vec::new(alloc);
     'each: while !code.is_empty() {

@@ -64,7 +64,8 @@ impl HolderFront {
     /// Puts the item in which these items stand behind others.
     #[inline(never)]
     pub(crate) fn put(self, items: Vec<Item>, found: &mut Vec<Item>) -> Result<(), AllocError>
-        ensures { OnOk result (items_view found.new.items ≡ items_view found.old.items ++ held_by self (items_tree items.items) ∷ []) }
+        ensures { OnOk result (items_view found.new.items ≡ items_view found.old.items
+            ++ held_by self (items_tree items.items) ∷ []) }
     {
         found.push(self.holding(items))?;
         Ok(())

@@ -71,7 +71,9 @@ fn leaf(
 ) -> Result<Item, ItemFault>
     requires ends { front.now.end ≡ code.old.end }
     requires none { opens_items opcode ≡ false }
-    ensures { Reads item_view (λ end rest. item_by (items_with (item_at level)) level end front.now.bytes opcode rest) code.old code.new result }
+    ensures { Reads item_view (λ end rest. item_by
+        (items_with (item_at level)) level end front.now.bytes opcode rest) code.old code.new
+        result }
 {
     match opcode {
         Opcode::DeclareName => name_form(alloc, level, code),
@@ -143,7 +145,8 @@ fn next<'a>(
     code: &mut Code<'a>,
     found: &mut Vec<Item>,
 ) -> Result<Option<Holder<'a>>, ItemFault>
-    ensures { ReadsNext level code.old code.new (items_view found.old.items) (items_view found.new.items) result }
+    ensures { ReadsNext level code.old code.new (items_view found.old.items)
+        (items_view found.new.items) result }
 {
     make_room(found)?;
     match next_item(alloc, level, code)? {
@@ -164,7 +167,8 @@ fn find_items(
     found: &mut Vec<Item>,
 ) -> Result<(), ItemFault>
     requires { found.old.items ≡ [] }
-    ensures { ReadsAll (λ _. items_tree found.new.items) (items_with (item_at level)) code.old result }
+    ensures { ReadsAll (λ _. items_tree found.new.items)
+        (items_with (item_at level)) code.old result }
 {
     'each: while !code.is_empty() {
         match next(alloc, level, code, found)? {
@@ -201,7 +205,8 @@ fn items(alloc: Global, level: u32, code: &mut Code<'_>) -> Result<Vec<Item>, It
 fn all_items(alloc: Global, depth: u32, shared: &Bytes, code: &[u8]) -> Result<Vec<Item>, ItemFault>
     requires { shared.now ≡ code.now }
     ensures fits { IfOk result (λ v. items_fit (items_tree v.items) ≡ true) }
-    ensures offsets { length code.now ≤ 16777216 → IfOk result (λ v. OffsetsFit (items_tree v.items)) }
+    ensures offsets { length code.now ≤ 16777216
+        → IfOk result (λ v. OffsetsFit (items_tree v.items)) }
     ensures exact { Gives (λ v. items_tree v.items) result (items_at depth code.now) }
 {
     items(alloc, depth, &mut Code::shared(shared))
@@ -212,18 +217,22 @@ fn all_items(alloc: Global, depth: u32, shared: &Bytes, code: &[u8]) -> Result<V
 /// code's first byte; or that a growth of memory was refused.
 pub fn read_items_shared(alloc: Global, code: &Bytes, depth: Depth) -> Result<Vec<Item>, ItemFault>
     // What is read is spelled so, within the limit.
-    ensures found { IfOk result (λ v. SpellsItems (items_tree v.items) code.now × (items_height (items_tree v.items) ≤ depth)) }
+    ensures found { IfOk result (λ v. SpellsItems (items_tree v.items) code.now
+        × (items_height (items_tree v.items) ≤ depth)) }
     // What is spelled so within the limit is read, unless memory runs out. So a fault means that nothing is.
-    ensures only { (is : ItemTrees) → SpellsItems is code.now → items_height is ≤ depth → OrMemory result (λ v. items_tree v.items ≡ is) }
+    ensures only { (is : ItemTrees) → SpellsItems is code.now → items_height is ≤ depth
+        → OrMemory result (λ v. items_tree v.items ≡ is) }
     // What a fault says is true of the code.
     ensures faults { IfErr result (λ e. IsTrueFault depth code.now e) }
     // Behind items, the first term that can't be an item is told at its place, unless memory runs out.
-    ensures next { (u w : List ℕ) (is : ItemTrees) (why : ItemReason) → code.now ≡ u ++ w → SpellsItems is u → items_height is ≤ depth
+    ensures next { (u w : List ℕ) (is : ItemTrees) (why : ItemReason) → code.now ≡ u ++ w
+        → SpellsItems is u → items_height is ≤ depth
         → Refused why w 0 → IsToldAt result why (length u) }
     // What is read fits.
     ensures fits { IfOk result (λ v. items_fit (items_tree v.items) ≡ true) }
     // Where the code is no longer than a table, the bits of each field list are a number of 64 bits.
-    ensures offsets { length code.now ≤ 16777216 → IfOk result (λ v. OffsetsFit (items_tree v.items)) }
+    ensures offsets { length code.now ≤ 16777216
+        → IfOk result (λ v. OffsetsFit (items_tree v.items)) }
 {
     all_items(alloc, depth.get(), code, code.as_slice())
 }
@@ -233,18 +242,22 @@ pub fn read_items_shared(alloc: Global, code: &Bytes, depth: Depth) -> Result<Ve
 /// growth of memory was refused.
 pub fn read_items(alloc: Global, code: &[u8], depth: Depth) -> Result<Vec<Item>, ItemFault>
     // What is read is spelled so, within the limit.
-    ensures found { IfOk result (λ v. SpellsItems (items_tree v.items) code.now × (items_height (items_tree v.items) ≤ depth)) }
+    ensures found { IfOk result (λ v. SpellsItems (items_tree v.items) code.now
+        × (items_height (items_tree v.items) ≤ depth)) }
     // What is spelled so within the limit is read, unless memory runs out. So a fault means that nothing is.
-    ensures only { (is : ItemTrees) → SpellsItems is code.now → items_height is ≤ depth → OrMemory result (λ v. items_tree v.items ≡ is) }
+    ensures only { (is : ItemTrees) → SpellsItems is code.now → items_height is ≤ depth
+        → OrMemory result (λ v. items_tree v.items ≡ is) }
     // What a fault says is true of the code.
     ensures faults { IfErr result (λ e. IsTrueFault depth code.now e) }
     // Behind items, the first term that can't be an item is told at its place, unless memory runs out.
-    ensures next { (u w : List ℕ) (is : ItemTrees) (why : ItemReason) → code.now ≡ u ++ w → SpellsItems is u → items_height is ≤ depth
+    ensures next { (u w : List ℕ) (is : ItemTrees) (why : ItemReason) → code.now ≡ u ++ w
+        → SpellsItems is u → items_height is ≤ depth
         → Refused why w 0 → IsToldAt result why (length u) }
     // What is read fits.
     ensures fits { IfOk result (λ v. items_fit (items_tree v.items) ≡ true) }
     // Where the code is no longer than a table, the bits of each field list are a number of 64 bits.
-    ensures offsets { length code.now ≤ 16777216 → IfOk result (λ v. OffsetsFit (items_tree v.items)) }
+    ensures offsets { length code.now ≤ 16777216
+        → IfOk result (λ v. OffsetsFit (items_tree v.items)) }
 {
     let code = Bytes::copy_from_slice(alloc, code)?;
     read_items_shared(alloc, &code, depth)

@@ -34,7 +34,8 @@ pub fn read_int(bytes: &[u8]) -> Option<(Int, usize)>
     ensures found { IfSome result (λ x. SpellsInt x.0 (take x.1 bytes.now)) }
     ensures used { IfSome result (λ x. (0 < x.1) × (x.1 ≤ length bytes.now)) }
     // What is spelled at the front is answered. So None means that nothing is.
-    ensures only { (i : Int) (front rest : List ℕ) → SpellsInt i front → bytes.now ≡ front ++ rest → result ≡ Some (i, length front) }
+    ensures only { (i : Int) (front rest : List ℕ) → SpellsInt i front → bytes.now ≡ front ++ rest
+        → result ≡ Some (i, length front) }
 {
     front_int(bytes)
 }
@@ -42,7 +43,8 @@ pub fn read_int(bytes: &[u8]) -> Option<(Int, usize)>
 #[tactic(auto, using(crate::proofs::Parts::field_fails))]
 fn front_elem(alloc: Global, bytes: &[u8]) -> Result<(FieldElem, usize), ItemFault>
     ensures used { IfOk result (λ x. (0 < x.1) × (x.1 ≤ length bytes.now)) }
-    ensures exact { Gives (λ x. (field_view x.0, drop x.1 bytes.now)) result (field_at (length bytes.now) bytes.now) }
+    ensures exact { Gives (λ x. (field_view x.0, drop x.1 bytes.now)) result
+        (field_at (length bytes.now) bytes.now) }
 {
     let mut code = Code::new(bytes);
     let elem = field_element(alloc, &mut code)?;
@@ -57,7 +59,8 @@ pub fn read_elem(alloc: Global, bytes: &[u8]) -> Result<(FieldElem, usize), Item
     ensures found { IfOk result (λ x. SpellsField (field_view x.0) (take x.1 bytes.now)) }
     ensures used { IfOk result (λ x. (0 < x.1) × (x.1 ≤ length bytes.now)) }
     // What is spelled at the front is answered, unless memory runs out.
-    ensures only { (e : FieldTree) (front rest : List ℕ) → SpellsField e front → bytes.now ≡ front ++ rest
+    ensures only { (e : FieldTree) (front rest : List ℕ) → SpellsField e front → bytes.now ≡ front
+        ++ rest
         → OrMemory result (λ x. (field_view x.0 ≡ e) × (x.1 ≡ length front)) }
     // What a fault says is true of the bytes.
     ensures faults { IfErr result (λ e. IsTrueElementFault bytes.now e) }

@@ -40,7 +40,8 @@ pub(crate) fn put_string(text: &mut Vec<u8>, bytes: &[u8]) -> Result<(), AllocEr
 
 /// Puts the two hexadecimal digits of each byte, with a blank between each two.
 pub fn put_spaced(text: &mut Vec<u8>, bytes: &[u8]) -> Result<(), AllocError>
-    ensures { OnOk result (text.new.items ≡ text.old.items ++ separated (codes " ") (hex_digits 2) bytes.now) }
+    ensures { OnOk result (text.new.items ≡ text.old.items
+        ++ separated (codes " ") (hex_digits 2) bytes.now) }
 {
     match bytes {
         [] => Ok(()),

@@ -14,7 +14,8 @@ use std::alloc::AllocError;
 
 // A word, and a constant in parentheses.
 pub(crate) fn put_sized(text: &mut Vec<u8>, word: &str, size: Int) -> Result<(), AllocError>
-    ensures { OnOk result (text.new.items ≡ text.old.items ++ (word.now ++ codes "(" ++ int_text size ++ codes ")")) }
+    ensures { OnOk result (text.new.items ≡ text.old.items
+        ++ (word.now ++ codes "(" ++ int_text size ++ codes ")")) }
 {
     put(text, word)?;
     put(text, "(")?;
@@ -24,7 +25,8 @@ pub(crate) fn put_sized(text: &mut Vec<u8>, word: &str, size: Int) -> Result<(),
 
 // The count of a package's elements.
 pub(crate) fn put_count(text: &mut Vec<u8>, count: u64) -> Result<(), AllocError>
-    ensures { OnOk result (text.new.items ≡ text.old.items ++ (codes "Package(" ++ decimal count ++ codes ")")) }
+    ensures { OnOk result (text.new.items ≡ text.old.items
+        ++ (codes "Package(" ++ decimal count ++ codes ")")) }
 {
     put_number(text, "Package(", count)?;
     put(text, ")")
@@ -43,7 +45,8 @@ fn put_elem(text: &mut Vec<u8>, elem: &Elem) -> Result<(), AllocError>
 // Elements in braces.
 #[cycle(put_data)]
 fn put_elems(text: &mut Vec<u8>, elems: &[Elem]) -> Result<(), AllocError>
-    ensures { OnOk result (text.new.items ≡ text.old.items ++ elems_text (elems_of (elems_view elems.now))) }
+    ensures { OnOk result (text.new.items ≡ text.old.items
+        ++ elems_text (elems_of (elems_view elems.now))) }
 {
     match elems {
         [] => put(text, "{}"),

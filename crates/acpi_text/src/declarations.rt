@@ -21,7 +21,8 @@ use std::alloc::AllocError;
 
 // The word of a declaration, a parenthesis, and the name that comes first.
 fn put_first_name(text: &mut Vec<u8>, word: &str, name: &Name) -> Result<(), AllocError>
-    ensures { OnOk result (text.new.items ≡ text.old.items ++ (word.now ++ codes "(" ++ name_text name.now)) }
+    ensures { OnOk result (text.new.items ≡ text.old.items
+        ++ (word.now ++ codes "(" ++ name_text name.now)) }
 {
     put(text, word)?;
     put(text, "(")?;
@@ -30,7 +31,8 @@ fn put_first_name(text: &mut Vec<u8>, word: &str, name: &Name) -> Result<(), All
 
 // .. and one more, behind which other arguments stand
 fn put_two_names(text: &mut Vec<u8>, word: &str, name: &Name, next: &Name) -> Result<(), AllocError>
-    ensures { OnOk result (text.new.items ≡ text.old.items ++ (word.now ++ codes "(" ++ name_text name.now ++ codes ", " ++ name_text next.now)) }
+    ensures { OnOk result (text.new.items ≡ text.old.items
+        ++ (word.now ++ codes "(" ++ name_text name.now ++ codes ", " ++ name_text next.now)) }
 {
     put_first_name(text, word, name)?;
     put_next_name(text, next)
@@ -46,7 +48,8 @@ fn put_next_name(text: &mut Vec<u8>, name: &Name) -> Result<(), AllocError>
 
 // The last argument: a name.
 fn put_last_name(text: &mut Vec<u8>, name: &Name) -> Result<(), AllocError>
-    ensures { OnOk result (text.new.items ≡ text.old.items ++ (codes ", " ++ name_text name.now ++ codes ")")) }
+    ensures { OnOk result (text.new.items ≡ text.old.items
+        ++ (codes ", " ++ name_text name.now ++ codes ")")) }
 {
     put_next_name(text, name)?;
     put(text, ")")
@@ -54,7 +57,8 @@ fn put_last_name(text: &mut Vec<u8>, name: &Name) -> Result<(), AllocError>
 
 // The word of a Create declaration, and a parenthesis.
 fn put_create(text: &mut Vec<u8>, width: Width) -> Result<(), AllocError>
-    ensures { OnOk result (text.new.items ≡ text.old.items ++ (codes "Create" ++ width_text width ++ codes "Field(")) }
+    ensures { OnOk result (text.new.items ≡ text.old.items
+        ++ (codes "Create" ++ width_text width ++ codes "Field(")) }
 {
     put(text, "Create")?;
     put_width(text, width)?;
@@ -63,7 +67,8 @@ fn put_create(text: &mut Vec<u8>, width: Width) -> Result<(), AllocError>
 
 // The name of a region, and its space.
 fn put_space(text: &mut Vec<u8>, name: &Name, space: u8) -> Result<(), AllocError>
-    ensures { OnOk result (text.new.items ≡ text.old.items ++ (codes "OperationRegion(" ++ name_text name.now ++ codes ", " ++ raw_text 1 space)) }
+    ensures { OnOk result (text.new.items ≡ text.old.items
+        ++ (codes "OperationRegion(" ++ name_text name.now ++ codes ", " ++ raw_text 1 space)) }
 {
     put_first_name(text, "OperationRegion", name)?;
     put_raw(text, ", ", space)
@@ -72,7 +77,8 @@ fn put_space(text: &mut Vec<u8>, name: &Name, space: u8) -> Result<(), AllocErro
 // One more argument: a term.
 #[cycle(put_term)]
 fn put_next_term(text: &mut Vec<u8>, term: &Term) -> Result<(), AllocError>
-    ensures { OnOk result (text.new.items ≡ text.old.items ++ (codes ", " ++ term_text (term_view term.now))) }
+    ensures { OnOk result (text.new.items ≡ text.old.items
+        ++ (codes ", " ++ term_text (term_view term.now))) }
 {
     put(text, ", ")?;
     put_term(text, term)
@@ -150,7 +156,8 @@ pub(crate) fn put_decl(text: &mut Vec<u8>, decl: &Decl) -> Result<(), AllocError
 // The forms apart, but for those with several terms, whose proof goes down them together.
 
 fn put_mutex(text: &mut Vec<u8>, name: &Name, flags: u8) -> Result<(), AllocError>
-    ensures { OnOk result (text.new.items ≡ text.old.items ++ term_text (declare named.Mutex no_terms name.now (more (raw 1 flags) no_terms))) }
+    ensures { OnOk result (text.new.items ≡ text.old.items
+        ++ term_text (declare named.Mutex no_terms name.now (more (raw 1 flags) no_terms))) }
 {
     put_first_name(text, "Mutex", name)?;
     put_raw(text, ", ", flags)?;
@@ -158,7 +165,8 @@ fn put_mutex(text: &mut Vec<u8>, name: &Name, flags: u8) -> Result<(), AllocErro
 }
 
 fn put_event(text: &mut Vec<u8>, name: &Name) -> Result<(), AllocError>
-    ensures { OnOk result (text.new.items ≡ text.old.items ++ term_text (declare named.Event no_terms name.now no_terms)) }
+    ensures { OnOk result (text.new.items ≡ text.old.items
+        ++ term_text (declare named.Event no_terms name.now no_terms)) }
 {
     put_first_name(text, "Event", name)?;
     put(text, ")")
@@ -166,7 +174,9 @@ fn put_event(text: &mut Vec<u8>, name: &Name) -> Result<(), AllocError>
 
 // The flags of field units, which are the last argument, and the units.
 fn put_units(text: &mut Vec<u8>, flags: u8, elems: &[FieldElem]) -> Result<(), AllocError>
-    ensures { OnOk result (text.new.items ≡ text.old.items ++ (codes ", " ++ raw_text 1 flags ++ codes ") " ++ braces_text (map field_text (fields_view elems.now)))) }
+    ensures { OnOk result (text.new.items ≡ text.old.items
+        ++ (codes ", " ++ raw_text 1 flags ++ codes ") "
+        ++ braces_text (map field_text (fields_view elems.now)))) }
 {
     put_raw(text, ", ", flags)?;
     put(text, ") ")?;
@@ -179,7 +189,9 @@ fn put_field(
     flags: u8,
     elems: &[FieldElem],
 ) -> Result<(), AllocError>
-    ensures { OnOk result (text.new.items ≡ text.old.items ++ term_text (declare_units units.Field (region.now ∷ []) (more (raw 1 flags) no_terms) (fields_view elems.now))) }
+    ensures { OnOk result (text.new.items ≡ text.old.items
+        ++ term_text (declare_units units.Field (region.now ∷ []) (more (raw 1 flags) no_terms)
+        (fields_view elems.now))) }
 {
     put_first_name(text, "Field", region)?;
     put_units(text, flags, elems)
@@ -192,7 +204,9 @@ fn put_index_field(
     flags: u8,
     elems: &[FieldElem],
 ) -> Result<(), AllocError>
-    ensures { OnOk result (text.new.items ≡ text.old.items ++ term_text (declare_units units.IndexField (index.now ∷ datum.now ∷ []) (more (raw 1 flags) no_terms) (fields_view elems.now))) }
+    ensures { OnOk result (text.new.items ≡ text.old.items
+        ++ term_text (declare_units units.IndexField (index.now ∷ datum.now ∷ [])
+        (more (raw 1 flags) no_terms) (fields_view elems.now))) }
 {
     put_two_names(text, "IndexField", index, datum)?;
     put_units(text, flags, elems)
@@ -207,7 +221,9 @@ fn put_bank_field(
     flags: u8,
     elems: &[FieldElem],
 ) -> Result<(), AllocError>
-    ensures { OnOk result (text.new.items ≡ text.old.items ++ term_text (declare_units units.BankField (region.now ∷ bank.now ∷ []) (more (term_view value.now) (more (raw 1 flags) no_terms)) (fields_view elems.now))) }
+    ensures { OnOk result (text.new.items ≡ text.old.items
+        ++ term_text (declare_units units.BankField (region.now ∷ bank.now ∷ [])
+        (more (term_view value.now) (more (raw 1 flags) no_terms)) (fields_view elems.now))) }
 {
     put_two_names(text, "BankField", region, bank)?;
     put_next_term(text, value)?;

@@ -13,7 +13,8 @@ use std::alloc::AllocError;
 
 // A word, access type and attribute of an element.
 fn put_access(text: &mut Vec<u8>, word: &str, kind: u8, attribute: u8) -> Result<(), AllocError>
-    ensures { OnOk result (text.new.items ≡ text.old.items ++ (word.now ++ raw_text 1 kind ++ codes " " ++ raw_text 1 attribute)) }
+    ensures { OnOk result (text.new.items ≡ text.old.items
+        ++ (word.now ++ raw_text 1 kind ++ codes " " ++ raw_text 1 attribute)) }
 {
     put_raw(text, word, kind)?;
     put_raw(text, " ", attribute)
@@ -46,7 +47,8 @@ fn put_field_elem(text: &mut Vec<u8>, elem: &FieldElem) -> Result<(), AllocError
 
 // The elements of a field list, in braces.
 pub(crate) fn put_fields(text: &mut Vec<u8>, elems: &[FieldElem]) -> Result<(), AllocError>
-    ensures { OnOk result (text.new.items ≡ text.old.items ++ braces_text (map field_text (fields_view elems.now))) }
+    ensures { OnOk result (text.new.items ≡ text.old.items
+        ++ braces_text (map field_text (fields_view elems.now))) }
 {
     match elems {
         [] => put(text, "{}"),

@@ -47,7 +47,8 @@ pub fn put_line(
     object: &Object,
     links: &[Option<Path>],
 ) -> Result<(), AllocError>
-    ensures { OnOk result (text.new.items ≡ text.old.items ++ line_text path.now (object_view object.now) links.now) }
+    ensures { OnOk result (text.new.items ≡ text.old.items
+        ++ line_text path.now (object_view object.now) links.now) }
 {
     put_path(text, path)?;
     put(text, " ")?;

@@ -42,7 +42,8 @@ pub fn put_path(text: &mut Vec<u8>, path: &Path) -> Result<(), AllocError>
 
 // Segments with a dot between each two.
 fn put_dotted(text: &mut Vec<u8>, name: NameRef<'_>) -> Result<(), AllocError>
-    ensures { OnOk result (text.new.items ≡ text.old.items ++ dotted (name_parts name.entry).segments) }
+    ensures { OnOk result (text.new.items ≡ text.old.items
+        ++ dotted (name_parts name.entry).segments) }
 {
     if name.is_empty() {
         return Ok(());

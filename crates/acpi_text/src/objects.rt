@@ -43,7 +43,8 @@ fn put_constant(text: &mut Vec<u8>, before: &str, int: Int) -> Result<(), AllocE
 }
 
 fn put_processor(text: &mut Vec<u8>, id: u8, block: u32, length: u8) -> Result<(), AllocError>
-    ensures { OnOk result (text.new.items ≡ text.old.items ++ object_text (processor_object id block length)) }
+    ensures { OnOk result (text.new.items ≡ text.old.items
+        ++ object_text (processor_object id block length)) }
 {
     put_digits(text, "Processor id=", id)?;
     put(text, " block=")?;
@@ -52,7 +53,8 @@ fn put_processor(text: &mut Vec<u8>, id: u8, block: u32, length: u8) -> Result<(
 }
 
 fn put_power(text: &mut Vec<u8>, level: u8, order: u16) -> Result<(), AllocError>
-    ensures { OnOk result (text.new.items ≡ text.old.items ++ object_text (power_object level order)) }
+    ensures { OnOk result (text.new.items ≡ text.old.items
+        ++ object_text (power_object level order)) }
 {
     put_digits(text, "PowerResource level=", level)?;
     put(text, " order=")?;
@@ -60,7 +62,8 @@ fn put_power(text: &mut Vec<u8>, level: u8, order: u16) -> Result<(), AllocError
 }
 
 fn put_region(text: &mut Vec<u8>, space: u8, offset: Int, length: Int) -> Result<(), AllocError>
-    ensures { OnOk result (text.new.items ≡ text.old.items ++ object_text (region_object space offset length)) }
+    ensures { OnOk result (text.new.items ≡ text.old.items
+        ++ object_text (region_object space offset length)) }
 {
     put_digits(text, "OperationRegion space=", space)?;
     put_constant(text, " offset=", offset)?;
@@ -98,7 +101,8 @@ fn put_field(
     offset: u64,
     bits: u32,
 ) -> Result<(), AllocError>
-    ensures { OnOk result (text.new.items ≡ text.old.items ++ object_text (field_object form flags offset bits)) }
+    ensures { OnOk result (text.new.items ≡ text.old.items
+        ++ object_text (field_object form flags offset bits)) }
 {
     put_form(text, form)?;
     put_number(text, " offset=", offset)?;
@@ -124,7 +128,8 @@ pub(crate) fn put_width(text: &mut Vec<u8>, width: Width) -> Result<(), AllocErr
 }
 
 fn put_create(text: &mut Vec<u8>, width: Width, index: Int) -> Result<(), AllocError>
-    ensures { OnOk result (text.new.items ≡ text.old.items ++ object_text (create_object width index)) }
+    ensures { OnOk result (text.new.items ≡ text.old.items
+        ++ object_text (create_object width index)) }
 {
     put(text, "Create")?;
     put_width(text, width)?;
@@ -132,7 +137,8 @@ fn put_create(text: &mut Vec<u8>, width: Width, index: Int) -> Result<(), AllocE
 }
 
 fn put_create_field(text: &mut Vec<u8>, index: Int, bits: Int) -> Result<(), AllocError>
-    ensures { OnOk result (text.new.items ≡ text.old.items ++ object_text (create_field_object index bits)) }
+    ensures { OnOk result (text.new.items ≡ text.old.items
+        ++ object_text (create_field_object index bits)) }
 {
     put_constant(text, "CreateField index=", index)?;
     put_constant(text, " bits=", bits)
@@ -140,7 +146,8 @@ fn put_create_field(text: &mut Vec<u8>, index: Int, bits: Int) -> Result<(), All
 
 // A name's data.
 fn put_named(text: &mut Vec<u8>, data: &Data) -> Result<(), AllocError>
-    ensures { OnOk result (text.new.items ≡ text.old.items ++ object_text (name_object (data_view «data».now))) }
+    ensures { OnOk result (text.new.items ≡ text.old.items
+        ++ object_text (name_object (data_view «data».now))) }
 {
     put(text, "Name ")?;
     put_data(text, data)
@@ -155,7 +162,8 @@ fn put_mutex(text: &mut Vec<u8>, flags: u8) -> Result<(), AllocError>
 /// Puts an object without its links (docs/COMMAND.md): its kind, and what is known of it. Offsets and widths
 /// of field units are in bits.
 pub fn put_object(text: &mut Vec<u8>, object: &Object) -> Result<(), AllocError>
-    ensures { OnOk result (text.new.items ≡ text.old.items ++ object_text (object_view object.now)) }
+    ensures { OnOk result (text.new.items ≡ text.old.items
+        ++ object_text (object_view object.now)) }
 {
     match object {
         Object::Root => put(text, "Root"),

@@ -16,7 +16,9 @@ fn put_block(
     margin: &mut Vec<u8>,
     statements: &[Term],
 ) -> Result<(), AllocError>
-    ensures text { OnOk result (text.new.items ≡ text.old.items ++ block_text margin.old.items (statements_text (deeper margin.old.items) (terms_tree statements.now))) }
+    ensures text { OnOk result (text.new.items ≡ text.old.items
+        ++ block_text margin.old.items (statements_text (deeper margin.old.items)
+        (terms_tree statements.now))) }
     ensures margin { OnOk result (margin.new.items ≡ margin.old.items) }
 {
     put(text, " {\n")?;
@@ -34,7 +36,8 @@ fn put_statement(
     margin: &mut Vec<u8>,
     statement: &Term,
 ) -> Result<(), AllocError>
-    ensures text { OnOk result (text.new.items ≡ text.old.items ++ statement_text margin.old.items (term_view statement.now)) }
+    ensures text { OnOk result (text.new.items ≡ text.old.items
+        ++ statement_text margin.old.items (term_view statement.now)) }
     ensures margin { OnOk result (margin.new.items ≡ margin.old.items) }
 {
     put_term(text, statement)?;
@@ -63,7 +66,8 @@ fn put_statements(
     margin: &mut Vec<u8>,
     statements: &[Term],
 ) -> Result<(), AllocError>
-    ensures text { OnOk result (text.new.items ≡ text.old.items ++ statements_text margin.old.items (terms_tree statements.now)) }
+    ensures text { OnOk result (text.new.items ≡ text.old.items
+        ++ statements_text margin.old.items (terms_tree statements.now)) }
     ensures margin { OnOk result (margin.new.items ≡ margin.old.items) }
 {
     for statement in statements {
@@ -77,7 +81,8 @@ fn put_statements(
 /// Puts the statements of a body that was read, a line for each (docs/COMMAND.md); the lines of a block stand
 /// two blanks deeper than its head.
 pub fn put_terms(text: &mut Vec<u8>, statements: &[Term]) -> Result<(), AllocError>
-    ensures { OnOk result (text.new.items ≡ text.old.items ++ statements_text [] (terms_tree statements.now)) }
+    ensures { OnOk result (text.new.items ≡ text.old.items
+        ++ statements_text [] (terms_tree statements.now)) }
 {
     let mut margin = Vec::new(*text.allocator());
     put_statements(text, &mut margin, statements)

@@ -56,7 +56,8 @@ pub fn put_term(text: &mut Vec<u8>, term: &Term) -> Result<(), AllocError>
 // A word, and a term in parentheses.
 #[cycle(put_term)]
 fn put_of(text: &mut Vec<u8>, word: &str, term: &Term) -> Result<(), AllocError>
-    ensures { OnOk result (text.new.items ≡ text.old.items ++ (word.now ++ codes "(" ++ term_text (term_view term.now) ++ codes ")")) }
+    ensures { OnOk result (text.new.items ≡ text.old.items
+        ++ (word.now ++ codes "(" ++ term_text (term_view term.now) ++ codes ")")) }
 {
     put(text, word)?;
     put(text, "(")?;
@@ -72,7 +73,8 @@ fn put_joined(
     terms: &[Term],
     behind: &str,
 ) -> Result<(), AllocError>
-    ensures { OnOk result (text.new.items ≡ text.old.items ++ (before.now ++ joined (term_texts (terms_tree terms.now)) ++ behind.now)) }
+    ensures { OnOk result (text.new.items ≡ text.old.items
+        ++ (before.now ++ joined (term_texts (terms_tree terms.now)) ++ behind.now)) }
 {
     put(text, before)?;
     match terms {
@@ -91,7 +93,8 @@ fn put_joined(
 // The arguments of a call.
 #[cycle(put_term)]
 fn put_args(text: &mut Vec<u8>, args: &[Term]) -> Result<(), AllocError>
-    ensures { OnOk result (text.new.items ≡ text.old.items ++ arguments_text (term_texts (terms_tree args.now))) }
+    ensures { OnOk result (text.new.items ≡ text.old.items
+        ++ arguments_text (term_texts (terms_tree args.now))) }
 {
     if args.is_empty() {
         Ok(())
@@ -103,7 +106,8 @@ fn put_args(text: &mut Vec<u8>, args: &[Term]) -> Result<(), AllocError>
 // The operands of an operator.
 #[cycle(put_term)]
 fn put_operands(text: &mut Vec<u8>, operands: &[Operand]) -> Result<(), AllocError>
-    ensures { OnOk result (text.new.items ≡ text.old.items ++ arguments_text (term_texts (terms_of (operands_view operands.now)))) }
+    ensures { OnOk result (text.new.items ≡ text.old.items
+        ++ arguments_text (term_texts (terms_of (operands_view operands.now)))) }
 {
     match operands {
         [] => Ok(()),
@@ -121,7 +125,8 @@ fn put_operands(text: &mut Vec<u8>, operands: &[Operand]) -> Result<(), AllocErr
 
 #[cycle(put_term)]
 fn put_operand(text: &mut Vec<u8>, operand: &Operand) -> Result<(), AllocError>
-    ensures { OnOk result (text.new.items ≡ text.old.items ++ term_text (operand_view operand.now)) }
+    ensures { OnOk result (text.new.items ≡ text.old.items
+        ++ term_text (operand_view operand.now)) }
 {
     match operand {
         Operand::Term(term) => put_term(text, term),

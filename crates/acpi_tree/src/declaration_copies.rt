@@ -84,7 +84,8 @@ impl Decl {
 // What is copied already is given as a box.
 
 fn name_of(name: &Name, value: Box<Term>) -> Result<Decl, AllocError>
-    ensures { IfOk result (λ d. decl_view d ≡ declare named.Name no_terms name.now (more (term_view (box_value value)) no_terms)) }
+    ensures { IfOk result (λ d. decl_view d ≡ declare named.Name no_terms name.now
+        (more (term_view (box_value value)) no_terms)) }
 {
     Ok(Decl::Name(name.copy()?, value))
 }
@@ -95,7 +96,9 @@ fn create_of(
     index: Box<Term>,
     name: &Name,
 ) -> Result<Decl, AllocError>
-    ensures { IfOk result (λ d. decl_view d ≡ declare (named.Create width) (more (term_view (box_value source)) (more (term_view (box_value index)) no_terms)) name.now no_terms) }
+    ensures { IfOk result (λ d. decl_view d ≡ declare (named.Create width)
+        (more (term_view (box_value source)) (more (term_view (box_value index)) no_terms))
+        name.now no_terms) }
 {
     let name = name.copy()?;
     Ok(Decl::Create {
@@ -112,7 +115,9 @@ fn create_field_of(
     bits: Box<Term>,
     name: &Name,
 ) -> Result<Decl, AllocError>
-    ensures { IfOk result (λ d. decl_view d ≡ declare named.CreateField (more (term_view (box_value source)) (more (term_view (box_value index)) (more (term_view (box_value bits)) no_terms))) name.now no_terms) }
+    ensures { IfOk result (λ d. decl_view d ≡ declare named.CreateField
+        (more (term_view (box_value source)) (more (term_view (box_value index))
+        (more (term_view (box_value bits)) no_terms))) name.now no_terms) }
 {
     let name = name.copy()?;
     Ok(Decl::CreateField {
@@ -124,7 +129,8 @@ fn create_field_of(
 }
 
 fn copy_mutex(name: &Name, flags: u8) -> Result<Decl, AllocError>
-    ensures { IfOk result (λ d. decl_view d ≡ declare named.Mutex no_terms name.now (more (raw 1 flags) no_terms)) }
+    ensures { IfOk result (λ d. decl_view d ≡ declare named.Mutex no_terms name.now
+        (more (raw 1 flags) no_terms)) }
 {
     Ok(Decl::Mutex(name.copy()?, flags))
 }
@@ -141,7 +147,9 @@ fn region_of(
     offset: Box<Term>,
     length: Box<Term>,
 ) -> Result<Decl, AllocError>
-    ensures { IfOk result (λ d. decl_view d ≡ declare named.Region no_terms name.now (more (raw 1 space) (more (term_view (box_value offset)) (more (term_view (box_value length)) no_terms)))) }
+    ensures { IfOk result (λ d. decl_view d ≡ declare named.Region no_terms name.now
+        (more (raw 1 space) (more (term_view (box_value offset))
+        (more (term_view (box_value length)) no_terms)))) }
 {
     let name = name.copy()?;
     Ok(Decl::Region {
@@ -158,7 +166,8 @@ fn copy_field(
     flags: u8,
     elems: &[FieldElem],
 ) -> Result<Decl, AllocError>
-    ensures { IfOk result (λ d. decl_view d ≡ declare_units units.Field (region.now ∷ []) (more (raw 1 flags) no_terms) (fields_view elems.now)) }
+    ensures { IfOk result (λ d. decl_view d ≡ declare_units units.Field (region.now ∷ [])
+        (more (raw 1 flags) no_terms) (fields_view elems.now)) }
 {
     Ok(Decl::Field {
         region: region.copy()?,
@@ -174,7 +183,8 @@ fn copy_index_field(
     flags: u8,
     elems: &[FieldElem],
 ) -> Result<Decl, AllocError>
-    ensures { IfOk result (λ d. decl_view d ≡ declare_units units.IndexField (index.now ∷ datum.now ∷ []) (more (raw 1 flags) no_terms) (fields_view elems.now)) }
+    ensures { IfOk result (λ d. decl_view d ≡ declare_units units.IndexField
+        (index.now ∷ datum.now ∷ []) (more (raw 1 flags) no_terms) (fields_view elems.now)) }
 {
     Ok(Decl::IndexField {
         index: index.copy()?,
@@ -192,7 +202,9 @@ fn bank_field_of(
     flags: u8,
     elems: &[FieldElem],
 ) -> Result<Decl, AllocError>
-    ensures { IfOk result (λ d. decl_view d ≡ declare_units units.BankField (region.now ∷ bank.now ∷ []) (more (term_view (box_value value)) (more (raw 1 flags) no_terms)) (fields_view elems.now)) }
+    ensures { IfOk result (λ d. decl_view d ≡ declare_units units.BankField
+        (region.now ∷ bank.now ∷ []) (more (term_view (box_value value))
+        (more (raw 1 flags) no_terms)) (fields_view elems.now)) }
 {
     let region = region.copy()?;
     let bank = bank.copy()?;

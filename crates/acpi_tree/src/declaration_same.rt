@@ -14,7 +14,8 @@ use crate::tree::FieldElem;
 use acpi_name::Name;
 
 pub(crate) fn is_mutex(name: &Name, flags: u8, decl: &Decl) -> bool
-    ensures { result ≡ term_eq (terms.declare named.Mutex terms.no_terms name.now (terms.more (terms.raw 1 flags) terms.no_terms)) (decl_view decl.now) }
+    ensures { result ≡ term_eq (terms.declare named.Mutex terms.no_terms name.now
+        (terms.more (terms.raw 1 flags) terms.no_terms)) (decl_view decl.now) }
 {
     match decl {
         Decl::Mutex(n, f) => name == n && flags == *f,
@@ -23,7 +24,8 @@ pub(crate) fn is_mutex(name: &Name, flags: u8, decl: &Decl) -> bool
 }
 
 pub(crate) fn is_event(name: &Name, decl: &Decl) -> bool
-    ensures { result ≡ term_eq (terms.declare named.Event terms.no_terms name.now terms.no_terms) (decl_view decl.now) }
+    ensures { result ≡ term_eq (terms.declare named.Event terms.no_terms name.now terms.no_terms)
+        (decl_view decl.now) }
 {
     match decl {
         Decl::Event(n) => name == n,
@@ -32,7 +34,9 @@ pub(crate) fn is_event(name: &Name, decl: &Decl) -> bool
 }
 
 pub(crate) fn is_field(region: &Name, flags: u8, elems: &[FieldElem], decl: &Decl) -> bool
-    ensures { result ≡ term_eq (terms.declare_units units.Field (region.now ∷ []) (terms.more (terms.raw 1 flags) terms.no_terms) (fields_view elems.now)) (decl_view decl.now) }
+    ensures { result ≡ term_eq (terms.declare_units units.Field (region.now ∷ [])
+        (terms.more (terms.raw 1 flags) terms.no_terms) (fields_view elems.now))
+        (decl_view decl.now) }
 {
     match decl {
         Decl::Field {
@@ -51,7 +55,9 @@ pub(crate) fn is_index_field(
     elems: &[FieldElem],
     decl: &Decl,
 ) -> bool
-    ensures { result ≡ term_eq (terms.declare_units units.IndexField (index.now ∷ datum.now ∷ []) (terms.more (terms.raw 1 flags) terms.no_terms) (fields_view elems.now)) (decl_view decl.now) }
+    ensures { result ≡ term_eq (terms.declare_units units.IndexField (index.now ∷ datum.now ∷ [])
+        (terms.more (terms.raw 1 flags) terms.no_terms) (fields_view elems.now))
+        (decl_view decl.now) }
 {
     match decl {
         Decl::IndexField {

@@ -35,7 +35,8 @@ pub(crate) fn processor_of(
     length: u8,
     items: Vec<Item>,
 ) -> Result<Item, AllocError>
-    ensures { IfOk result (λ i. item_view i ≡ tree.processor name.now id block length (items_tree items.items)) }
+    ensures { IfOk result (λ i. item_view i ≡ tree.processor name.now id block length
+        (items_tree items.items)) }
 {
     Ok(Item::Processor {
         name: name.copy()?,
@@ -53,7 +54,8 @@ pub(crate) fn power_of(
     order: u16,
     items: Vec<Item>,
 ) -> Result<Item, AllocError>
-    ensures { IfOk result (λ i. item_view i ≡ tree.power name.now level order (items_tree items.items)) }
+    ensures { IfOk result (λ i. item_view i ≡ tree.power name.now level order
+        (items_tree items.items)) }
 {
     Ok(Item::Power {
         name: name.copy()?,
@@ -143,7 +145,8 @@ fn copy_index_field(
     flags: u8,
     elems: &[FieldElem],
 ) -> Result<Item, AllocError>
-    ensures { IfOk result (λ i. item_view i ≡ tree.index_field index.now datum.now flags (fields_view elems.now)) }
+    ensures { IfOk result (λ i. item_view i ≡ tree.index_field index.now datum.now flags
+        (fields_view elems.now)) }
 {
     Ok(Item::IndexField {
         index: index.copy()?,
@@ -161,7 +164,8 @@ fn copy_bank_field(
     flags: u8,
     elems: &[FieldElem],
 ) -> Result<Item, AllocError>
-    ensures { IfOk result (λ i. item_view i ≡ tree.bank_field region.now bank.now value flags (fields_view elems.now)) }
+    ensures { IfOk result (λ i. item_view i ≡ tree.bank_field region.now bank.now value flags
+        (fields_view elems.now)) }
 {
     Ok(Item::BankField {
         region: region.copy()?,

@@ -132,7 +132,8 @@ fn is_thermal(name: &Name, items: &[Item], item: &Item) -> bool
 
 #[cycle(same_item)]
 fn is_processor(name: &Name, id: u8, block: u32, length: u8, items: &[Item], item: &Item) -> bool
-    ensures { result ≡ item_eq (tree.processor name.now id block length (items_tree items.now)) (item_view item.now) }
+    ensures { result ≡ item_eq (tree.processor name.now id block length (items_tree items.now))
+        (item_view item.now) }
 {
     match item {
         Item::Processor {
@@ -148,7 +149,8 @@ fn is_processor(name: &Name, id: u8, block: u32, length: u8, items: &[Item], ite
 
 #[cycle(same_item)]
 fn is_power(name: &Name, level: u8, order: u16, items: &[Item], item: &Item) -> bool
-    ensures { result ≡ item_eq (tree.power name.now level order (items_tree items.now)) (item_view item.now) }
+    ensures { result ≡ item_eq (tree.power name.now level order (items_tree items.now))
+        (item_view item.now) }
 {
     match item {
         Item::Power {
@@ -184,7 +186,8 @@ fn is_external(external: &External, item: &Item) -> bool
 }
 
 fn is_external_block(externals: &[External], item: &Item) -> bool
-    ensures { result ≡ item_eq (tree.external_block (externals_view externals.now)) (item_view item.now) }
+    ensures { result ≡ item_eq (tree.external_block (externals_view externals.now))
+        (item_view item.now) }
 {
     match item {
         Item::ExternalBlock(xs) => same_externals(externals, xs),
@@ -207,7 +210,8 @@ fn is_create(width: Width, source: &Name, index: Int, name: &Name, item: &Item) 
 }
 
 fn is_create_field(source: &Name, index: Int, bits: Int, name: &Name, item: &Item) -> bool
-    ensures { result ≡ item_eq (tree.create_field source.now index bits name.now) (item_view item.now) }
+    ensures { result ≡ item_eq (tree.create_field source.now index bits name.now)
+        (item_view item.now) }
 {
     match item {
         Item::CreateField {
@@ -253,7 +257,8 @@ fn is_region(name: &Name, space: u8, offset: Int, length: Int, item: &Item) -> b
 }
 
 fn is_field(region: &Name, flags: u8, elems: &[FieldElem], item: &Item) -> bool
-    ensures { result ≡ item_eq (tree.field region.now flags (fields_view elems.now)) (item_view item.now) }
+    ensures { result ≡ item_eq (tree.field region.now flags (fields_view elems.now))
+        (item_view item.now) }
 {
     match item {
         Item::Field {
@@ -266,7 +271,8 @@ fn is_field(region: &Name, flags: u8, elems: &[FieldElem], item: &Item) -> bool
 }
 
 fn is_index_field(index: &Name, datum: &Name, flags: u8, elems: &[FieldElem], item: &Item) -> bool
-    ensures { result ≡ item_eq (tree.index_field index.now datum.now flags (fields_view elems.now)) (item_view item.now) }
+    ensures { result ≡ item_eq (tree.index_field index.now datum.now flags (fields_view elems.now))
+        (item_view item.now) }
 {
     match item {
         Item::IndexField {
@@ -287,7 +293,8 @@ fn is_bank_field(
     elems: &[FieldElem],
     item: &Item,
 ) -> bool
-    ensures { result ≡ item_eq (tree.bank_field region.now bank.now value flags (fields_view elems.now)) (item_view item.now) }
+    ensures { result ≡ item_eq (tree.bank_field region.now bank.now value flags
+        (fields_view elems.now)) (item_view item.now) }
 {
     match item {
         Item::BankField {

@@ -176,7 +176,8 @@ fn fits(term: &Term) -> bool
 // The term may stand at the place, and fits.
 #[cycle(term_fits)]
 fn stands(place: Place, term: &Term) -> bool
-    ensures { result ≡ (places.may_stand place (term_view term.now) && term_fits (term_view term.now)) }
+    ensures { result ≡ (places.may_stand place (term_view term.now) && term_fits
+        (term_view term.now)) }
 {
     may_stand(place, term) && fits(term)
 }
@@ -195,7 +196,8 @@ fn all_fit(place: Place, terms: &[Term]) -> bool
 
 #[cycle(term_fits)]
 fn operand_may_be(kind: &OperandKind, operand: &Operand) -> bool
-    ensures { result ≡ (places.may_be kind.now (operand_view operand.now) && term_fits (operand_view operand.now)) }
+    ensures { result ≡ (places.may_be kind.now (operand_view operand.now) && term_fits
+        (operand_view operand.now)) }
 {
     match (kind, operand) {
         (_, Operand::Term(term)) => term_may_be(*kind, term) && fits(term),

@@ -78,7 +78,8 @@ fn copy_package(alloc: Global, count: u8, elems: &[Term]) -> Result<Term, AllocE
 #[cycle(copy_term)]
 #[inline(never)]
 fn copy_var_package(alloc: Global, elems: &[Term], count: Box<Term>) -> Result<Term, AllocError>
-    ensures { IfOk result (λ t. term_view t ≡ var_pkg (term_view (box_value count)) (terms_tree elems.now)) }
+    ensures { IfOk result (λ t. term_view t ≡ var_pkg (term_view (box_value count))
+        (terms_tree elems.now)) }
 {
     Ok(Term::VarPackage(count, copy_terms(alloc, elems)?))
 }
@@ -110,7 +111,8 @@ fn copy_operator(alloc: Global, op: Op, operands: &[Operand]) -> Result<Term, Al
 #[cycle(copy_term)]
 #[inline(never)]
 fn copy_if(alloc: Global, then: &[Term], test: Box<Term>) -> Result<Term, AllocError>
-    ensures { IfOk result (λ t. term_view t ≡ if_do (term_view (box_value test)) (terms_tree then.now) no_else) }
+    ensures { IfOk result (λ t. term_view t ≡ if_do (term_view (box_value test))
+        (terms_tree then.now) no_else) }
 {
     Ok(Term::If(test, copy_terms(alloc, then)?, None))
 }
@@ -124,7 +126,8 @@ fn copy_else(
     test: Box<Term>,
     then: Vec<Term>,
 ) -> Result<Term, AllocError>
-    ensures { IfOk result (λ t. term_view t ≡ if_do (term_view (box_value test)) (terms_tree then.items) (else_do (terms_tree other.now))) }
+    ensures { IfOk result (λ t. term_view t ≡ if_do (term_view (box_value test))
+        (terms_tree then.items) (else_do (terms_tree other.now))) }
 {
     Ok(with_else(test, then, copy_terms(alloc, other)?))
 }
@@ -132,7 +135,8 @@ fn copy_else(
 #[cycle(copy_term)]
 #[inline(never)]
 fn copy_while(alloc: Global, then: &[Term], test: Box<Term>) -> Result<Term, AllocError>
-    ensures { IfOk result (λ t. term_view t ≡ while_do (term_view (box_value test)) (terms_tree then.now)) }
+    ensures { IfOk result (λ t. term_view t ≡ while_do (term_view (box_value test))
+        (terms_tree then.now)) }
 {
     Ok(Term::While(test, copy_terms(alloc, then)?))
 }
@@ -147,7 +151,8 @@ fn copy_declaration(alloc: Global, decl: &Decl) -> Result<Term, AllocError>
 
 // An If with an Else.
 fn with_else(test: Box<Term>, then: Vec<Term>, other: Vec<Term>) -> Term
-    ensures { term_view result ≡ if_do (term_view (box_value test)) (terms_tree then.items) (else_do (terms_tree other.items)) }
+    ensures { term_view result ≡ if_do (term_view (box_value test)) (terms_tree then.items)
+        (else_do (terms_tree other.items)) }
 {
     Term::If(test, then, Some(other))
 }

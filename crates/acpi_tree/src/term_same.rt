@@ -126,7 +126,8 @@ fn is_package(count: u8, elems: &[Term], term: &Term) -> bool
 
 #[cycle(same_term)]
 fn is_var_package(count: &Term, elems: &[Term], term: &Term) -> bool
-    ensures { result ≡ term_eq (terms.var_pkg (term_view count.now) (terms_tree elems.now)) (term_view term.now) }
+    ensures { result ≡ term_eq (terms.var_pkg (term_view count.now) (terms_tree elems.now))
+        (term_view term.now) }
 {
     match term {
         Term::VarPackage(v, ts) => same_term(count, v) && same_terms(elems, ts),
@@ -173,7 +174,8 @@ fn is_call(name: &Name, args: &[Term], term: &Term) -> bool
 
 #[cycle(same_term)]
 fn is_operator(op: Op, operands: &[Operand], term: &Term) -> bool
-    ensures { result ≡ term_eq (terms.apply op (terms_of (operands_view operands.now))) (term_view term.now) }
+    ensures { result ≡ term_eq (terms.apply op (terms_of (operands_view operands.now)))
+        (term_view term.now) }
 {
     match term {
         Term::Op(o, ts) => op == *o && same_operands(operands, ts),
@@ -183,7 +185,8 @@ fn is_operator(op: Op, operands: &[Operand], term: &Term) -> bool
 
 #[cycle(same_term)]
 fn is_if(test: &Term, then: &[Term], term: &Term) -> bool
-    ensures { result ≡ term_eq (terms.if_do (term_view test.now) (terms_tree «then».now) terms.no_else) (term_view term.now) }
+    ensures { result ≡ term_eq (terms.if_do (term_view test.now)
+        (terms_tree «then».now) terms.no_else) (term_view term.now) }
 {
     match term {
         Term::If(v, ts, None) => same_term(test, v) && same_terms(then, ts),
@@ -193,7 +196,8 @@ fn is_if(test: &Term, then: &[Term], term: &Term) -> bool
 
 #[cycle(same_term)]
 fn is_if_else(test: &Term, then: &[Term], other: &[Term], term: &Term) -> bool
-    ensures { result ≡ term_eq (terms.if_do (term_view test.now) (terms_tree «then».now) (terms.else_do (terms_tree other.now))) (term_view term.now) }
+    ensures { result ≡ term_eq (terms.if_do (term_view test.now) (terms_tree «then».now)
+        (terms.else_do (terms_tree other.now))) (term_view term.now) }
 {
     match term {
         Term::If(v, ts, Some(us)) => {
@@ -205,7 +209,8 @@ fn is_if_else(test: &Term, then: &[Term], other: &[Term], term: &Term) -> bool
 
 #[cycle(same_term)]
 fn is_while(test: &Term, then: &[Term], term: &Term) -> bool
-    ensures { result ≡ term_eq (terms.while_do (term_view test.now) (terms_tree «then».now)) (term_view term.now) }
+    ensures { result ≡ term_eq (terms.while_do (term_view test.now) (terms_tree «then».now))
+        (term_view term.now) }
 {
     match term {
         Term::While(v, ts) => same_term(test, v) && same_terms(then, ts),
@@ -290,7 +295,8 @@ fn same_decl(a: &Decl, b: &Decl) -> bool
 
 #[cycle(same_term)]
 fn is_name(name: &Name, data: &Term, decl: &Decl) -> bool
-    ensures { result ≡ term_eq (terms.declare named.Name terms.no_terms name.now (terms.more (term_view «data».now) terms.no_terms)) (decl_view decl.now) }
+    ensures { result ≡ term_eq (terms.declare named.Name terms.no_terms name.now
+        (terms.more (term_view «data».now) terms.no_terms)) (decl_view decl.now) }
 {
     match decl {
         Decl::Name(n, t) => name == n && same_term(data, t),
@@ -301,7 +307,8 @@ fn is_name(name: &Name, data: &Term, decl: &Decl) -> bool
 #[cycle(same_term)]
 fn is_create(width: Width, source: &Term, index: &Term, name: &Name, decl: &Decl) -> bool
     ensures { result ≡ term_eq
-        (terms.declare (named.Create width) (terms.more (term_view source.now) (terms.more (term_view index.now) terms.no_terms)) name.now terms.no_terms)
+        (terms.declare (named.Create width) (terms.more (term_view source.now)
+        (terms.more (term_view index.now) terms.no_terms)) name.now terms.no_terms)
         (decl_view decl.now) }
 {
     match decl {
@@ -319,7 +326,8 @@ fn is_create(width: Width, source: &Term, index: &Term, name: &Name, decl: &Decl
 fn is_create_field(source: &Term, index: &Term, bits: &Term, name: &Name, decl: &Decl) -> bool
     ensures { result ≡ term_eq
         (terms.declare named.CreateField
-        (terms.more (term_view source.now) (terms.more (term_view index.now) (terms.more (term_view bits.now) terms.no_terms))) name.now terms.no_terms)
+        (terms.more (term_view source.now) (terms.more (term_view index.now)
+        (terms.more (term_view bits.now) terms.no_terms))) name.now terms.no_terms)
         (decl_view decl.now) }
 {
     match decl {
@@ -337,7 +345,8 @@ fn is_create_field(source: &Term, index: &Term, bits: &Term, name: &Name, decl: 
 fn is_region(name: &Name, space: u8, offset: &Term, length: &Term, decl: &Decl) -> bool
     ensures { result ≡ term_eq
         (terms.declare named.Region terms.no_terms name.now
-        (terms.more (terms.raw 1 space) (terms.more (term_view offset.now) (terms.more (term_view length.now) terms.no_terms))))
+        (terms.more (terms.raw 1 space) (terms.more (term_view offset.now)
+        (terms.more (term_view length.now) terms.no_terms))))
         (decl_view decl.now) }
 {
     match decl {
@@ -360,7 +369,9 @@ fn is_bank_field(
     elems: &[FieldElem],
     decl: &Decl,
 ) -> bool
-    ensures { result ≡ term_eq (terms.declare_units units.BankField (region.now ∷ bank.now ∷ []) (terms.more (term_view value.now) (terms.more (terms.raw 1 flags) terms.no_terms)) (fields_view elems.now)) (decl_view decl.now) }
+    ensures { result ≡ term_eq (terms.declare_units units.BankField (region.now ∷ bank.now ∷ [])
+        (terms.more (term_view value.now) (terms.more (terms.raw 1 flags) terms.no_terms))
+        (fields_view elems.now)) (decl_view decl.now) }
 {
     match decl {
         Decl::BankField {

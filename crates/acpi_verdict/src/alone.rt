@@ -30,9 +30,11 @@ pub(crate) fn lay<'a, S: Space<Object>>(
     ssdt: &Bytes,
     depth: Depth,
 ) -> Result<Laid<Overlay<'a, S>>, LoadFault>
-    ensures ok { (bytes : List ℕ) → HasTables depth (bytes ∷ []) (state_of (S.contents (objects_so_far dsdt.now)) dsdt.now)
+    ensures ok { (bytes : List ℕ) → HasTables depth (bytes ∷ [])
+        (state_of (S.contents (objects_so_far dsdt.now)) dsdt.now)
         → IfOk result (λ l. IsLaid depth bytes ssdt.now (laid_tree (contents_over S.contents) l)) }
-    ensures err { (bytes : List ℕ) → HasTables depth (bytes ∷ []) (state_of (S.contents (objects_so_far dsdt.now)) dsdt.now)
+    ensures err { (bytes : List ℕ) → HasTables depth (bytes ∷ [])
+        (state_of (S.contents (objects_so_far dsdt.now)) dsdt.now)
         → IfErr result (λ e. IsLoadFault depth (bytes ∷ ssdt.now ∷ []) e) }
 {
     let declared = dsdt.ssdt_over(alloc, ssdt, depth)?;

@@ -25,7 +25,8 @@ use std::alloc::Global;
 
 // What is told of the first SSDT that doesn't load alone, by its refusal.
 fn refused(alloc: Global, fault: LoadFault) -> Result<Checked, LoadFault>
-    ensures ok { (depth : ℕ) (dsdt : List ℕ) (ssdts : List (List ℕ)) → IsSinglesFault depth dsdt ssdts fault → IfOk result (λ c. IsChecked depth dsdt ssdts c) }
+    ensures ok { (depth : ℕ) (dsdt : List ℕ) (ssdts : List (List ℕ))
+        → IsSinglesFault depth dsdt ssdts fault → IfOk result (λ c. IsChecked depth dsdt ssdts c) }
     ensures memory { IfErr result (λ e. e ≡ LoadFault.Memory) }
 {
     match fault {
@@ -67,9 +68,12 @@ fn checked_declared<S: Space<Object>>(
     depth: Depth,
     declared: Declared,
 ) -> Result<Checked, LoadFault>
-    ensures ok { (bytes : List ℕ) → HasTables depth (bytes ∷ []) (state_of (S.contents (objects_so_far dsdt.now)) dsdt.now)
-        → AreDeclared depth bytes ssdts.now declared → IfOk result (λ c. IsChecked depth bytes ssdts.now c) }
-    ensures memory { (bytes : List ℕ) → HasTables depth (bytes ∷ []) (state_of (S.contents (objects_so_far dsdt.now)) dsdt.now)
+    ensures ok { (bytes : List ℕ) → HasTables depth (bytes ∷ [])
+        (state_of (S.contents (objects_so_far dsdt.now)) dsdt.now)
+        → AreDeclared depth bytes ssdts.now declared
+        → IfOk result (λ c. IsChecked depth bytes ssdts.now c) }
+    ensures memory { (bytes : List ℕ) → HasTables depth (bytes ∷ [])
+        (state_of (S.contents (objects_so_far dsdt.now)) dsdt.now)
         → AreDeclared depth bytes ssdts.now declared → IfErr result (λ e. e ≡ LoadFault.Memory) }
 {
     let Declared { definers, same } = declared;
@@ -85,8 +89,12 @@ fn checked_over<S: Space<Object>>(
     ssdts: &[Bytes],
     depth: Depth,
 ) -> Result<Checked, LoadFault>
-    ensures ok { (bytes : List ℕ) → HasTables depth (bytes ∷ []) (state_of (S.contents (objects_so_far dsdt.now)) dsdt.now) → IfOk result (λ c. IsChecked depth bytes ssdts.now c) }
-    ensures memory { (bytes : List ℕ) → HasTables depth (bytes ∷ []) (state_of (S.contents (objects_so_far dsdt.now)) dsdt.now) → IfErr result (λ e. e ≡ LoadFault.Memory) }
+    ensures ok { (bytes : List ℕ) → HasTables depth (bytes ∷ [])
+        (state_of (S.contents (objects_so_far dsdt.now)) dsdt.now)
+        → IfOk result (λ c. IsChecked depth bytes ssdts.now c) }
+    ensures memory { (bytes : List ℕ) → HasTables depth (bytes ∷ [])
+        (state_of (S.contents (objects_so_far dsdt.now)) dsdt.now)
+        → IfErr result (λ e. e ≡ LoadFault.Memory) }
 {
     match declare_all(alloc, dsdt, ssdts, depth) {
         Ok(declared) => checked_declared(alloc, dsdt, ssdts, depth, declared),
@@ -105,11 +113,15 @@ pub fn check_shared<S: Space<Object>>(
 ) -> Result<Checked, LoadFault>
     ensures ok { IfOk result (λ c. IsVerdict depth dsdt.now ssdts.now (verdict_view c.verdict)) }
     ensures fault { IfOk result (λ c. IsFaultOf depth dsdt.now ssdts.now c.verdict) }
-    ensures commute { ssdts.now ≢ [] → IfOk result (λ c. (c.verdict ≡ Verdict.Commute) ↔ IsIndependent depth dsdt.now ssdts.now) }
+    ensures commute { ssdts.now ≢ [] → IfOk result
+        (λ c. (c.verdict ≡ Verdict.Commute) ↔ IsIndependent depth dsdt.now ssdts.now) }
     // SSDTs that commute load in each order, to the join of their single loads.
-    ensures orders { ssdts.now ≢ [] → IfOk result (λ c. c.verdict ≡ Verdict.Commute → EachOrderLoadsToJoin depth dsdt.now ssdts.now) }
-    ensures satisfied { IfOk result (λ c. AllAlone depth dsdt.now ssdts.now → AreSatisfied depth dsdt.now ssdts.now c.satisfied.items) }
-    ensures refused { IfOk result (λ c. (AllAlone depth dsdt.now ssdts.now → ⊥) → c.satisfied.items ≡ []) }
+    ensures orders { ssdts.now ≢ [] → IfOk result
+        (λ c. c.verdict ≡ Verdict.Commute → EachOrderLoadsToJoin depth dsdt.now ssdts.now) }
+    ensures satisfied { IfOk result (λ c. AllAlone depth dsdt.now ssdts.now
+        → AreSatisfied depth dsdt.now ssdts.now c.satisfied.items) }
+    ensures refused { IfOk result (λ c. (AllAlone depth dsdt.now ssdts.now → ⊥) → c.satisfied.items
+        ≡ []) }
     ensures err { IfErr result (λ e. IsLoadFault depth (dsdt.now ∷ []) e) }
     ensures none { IfErr result (λ e. e ≢ LoadFault.Memory → HasNoLoad depth (dsdt.now ∷ [])) }
 {

@@ -32,8 +32,10 @@ pub fn verdict_shared<S: Space<Object>>(
 ) -> Result<Verdict, LoadFault>
     ensures ok { IfOk result (λ v. IsVerdict depth dsdt.now ssdts.now (verdict_view v)) }
     ensures fault { IfOk result (λ v. IsFaultOf depth dsdt.now ssdts.now v) }
-    ensures commute { ssdts.now ≢ [] → IfOk result (λ v. (v ≡ Verdict.Commute) ↔ IsIndependent depth dsdt.now ssdts.now) }
-    ensures orders { ssdts.now ≢ [] → IfOk result (λ v. v ≡ Verdict.Commute → EachOrderLoadsToJoin depth dsdt.now ssdts.now) }
+    ensures commute { ssdts.now ≢ [] → IfOk result
+        (λ v. (v ≡ Verdict.Commute) ↔ IsIndependent depth dsdt.now ssdts.now) }
+    ensures orders { ssdts.now ≢ [] → IfOk result
+        (λ v. v ≡ Verdict.Commute → EachOrderLoadsToJoin depth dsdt.now ssdts.now) }
     ensures err { IfErr result (λ e. IsLoadFault depth (dsdt.now ∷ []) e) }
     ensures none { IfErr result (λ e. e ≢ LoadFault.Memory → HasNoLoad depth (dsdt.now ∷ [])) }
 {
@@ -47,10 +49,15 @@ pub fn verdict<S: Space<Object>>(
     ssdts: &[&[u8]],
     depth: Depth,
 ) -> Result<Verdict, LoadFault>
-    ensures ok { IfOk result (λ v. IsVerdict depth dsdt.now (map (λ b. b.now) ssdts.now) (verdict_view v)) }
+    ensures ok { IfOk result (λ v. IsVerdict depth dsdt.now (map (λ b. b.now) ssdts.now)
+        (verdict_view v)) }
     ensures fault { IfOk result (λ v. IsFaultOf depth dsdt.now (map (λ b. b.now) ssdts.now) v) }
-    ensures commute { map (λ b. b.now) ssdts.now ≢ [] → IfOk result (λ v. (v ≡ Verdict.Commute) ↔ IsIndependent depth dsdt.now (map (λ b. b.now) ssdts.now)) }
-    ensures orders { map (λ b. b.now) ssdts.now ≢ [] → IfOk result (λ v. v ≡ Verdict.Commute → EachOrderLoadsToJoin depth dsdt.now (map (λ b. b.now) ssdts.now)) }
+    ensures commute { map (λ b. b.now) ssdts.now ≢ []
+        → IfOk result (λ v. (v ≡ Verdict.Commute)
+        ↔ IsIndependent depth dsdt.now (map (λ b. b.now) ssdts.now)) }
+    ensures orders { map (λ b. b.now) ssdts.now ≢ []
+        → IfOk result (λ v. v ≡ Verdict.Commute
+        → EachOrderLoadsToJoin depth dsdt.now (map (λ b. b.now) ssdts.now)) }
     ensures err { IfErr result (λ e. IsLoadFault depth (dsdt.now ∷ []) e) }
     ensures none { IfErr result (λ e. e ≢ LoadFault.Memory → HasNoLoad depth (dsdt.now ∷ [])) }
 {

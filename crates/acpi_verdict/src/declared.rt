@@ -34,7 +34,8 @@ fn offer_same(
     number: usize,
     path: &Path,
 ) -> Result<(), AllocError>
-    ensures { OnOk result (Offers same.old same.new (IsSameAt number (path.now ∷ []) definers.now)) }
+    ensures { OnOk result (Offers same.old same.new
+        (IsSameAt number (path.now ∷ []) definers.now)) }
 {
     match definers.first.get(path) {
         Some(first) if first.number < number => offer(same, first.number, number, path),
@@ -49,7 +50,8 @@ fn add_path(
     path: Path,
     definer: Definer,
 ) -> Result<(), AllocError>
-    ensures { OnOk result (AddsSsdt definer.number (path ∷ []) (λ _. definer.args) declared.old declared.new) }
+    ensures { OnOk result (AddsSsdt definer.number (path ∷ [])
+        (λ _. definer.args) declared.old declared.new) }
 {
     offer_same(
         &mut declared.same,
@@ -65,7 +67,8 @@ fn signatures<O: Space<Object>>(
     alloc: Global,
     laid: Laid<O>,
 ) -> Result<Vec<(Path, Option<u8>)>, AllocError>
-    ensures { IfOk result (λ v. v.items ≡ map (with_args (laid_tree O.contents laid)) laid.defined.items) }
+    ensures { IfOk result (λ v. v.items ≡ map
+        (with_args (laid_tree O.contents laid)) laid.defined.items) }
 {
     let Laid {
         declared: tables,
@@ -86,7 +89,8 @@ fn add_ssdt<O: Space<Object>>(
     number: usize,
     laid: Laid<O>,
 ) -> Result<(), AllocError>
-    ensures { OnOk result (AddsSsdt number laid.defined.items (args_in (laid_tree O.contents laid)) declared.old declared.new) }
+    ensures { OnOk result (AddsSsdt number laid.defined.items
+        (args_in (laid_tree O.contents laid)) declared.old declared.new) }
 {
     for (path, args) in signatures(alloc, laid)? {
         add_path(alloc, declared, path, Definer { number, args })?;
@@ -102,9 +106,11 @@ pub(crate) fn declare_all<S: Space<Object>>(
     ssdts: &[Bytes],
     depth: Depth,
 ) -> Result<Declared, LoadFault>
-    ensures ok { (bytes : List ℕ) → HasTables depth (bytes ∷ []) (state_of (S.contents (objects_so_far dsdt.now)) dsdt.now)
+    ensures ok { (bytes : List ℕ) → HasTables depth (bytes ∷ [])
+        (state_of (S.contents (objects_so_far dsdt.now)) dsdt.now)
         → IfOk result (λ d. AreDeclared depth bytes ssdts.now d) }
-    ensures err { (bytes : List ℕ) → HasTables depth (bytes ∷ []) (state_of (S.contents (objects_so_far dsdt.now)) dsdt.now)
+    ensures err { (bytes : List ℕ) → HasTables depth (bytes ∷ [])
+        (state_of (S.contents (objects_so_far dsdt.now)) dsdt.now)
         → IfErr result (λ e. IsSinglesFault depth bytes ssdts.now e) }
 {
     let mut declared = Declared {

@@ -72,12 +72,17 @@ fn add_ssdt<S: Space<Object>>(
     alone: &Alone,
     definers: &Definers,
 ) -> Result<(), LoadFault>
-    ensures ok { (bytes : List ℕ) (ssdts : List (List ℕ)) → HasTables depth (bytes ∷ []) (state_of (S.contents (objects_so_far dsdt.now)) dsdt.now)
-        → Tries (is_defined definers.now.first) depth (state_of (S.contents (objects_so_far dsdt.now)) dsdt.now).objects
-        (state_of (S.contents (objects_so_far dsdt.now)) dsdt.now) finite.empty (tried_of alone.now.tried)
-        → AreTouching definers.now (tried_of alone.now.tried) alone.now.touching.items → AreDefiners depth bytes ssdts definers.now → IsSsdt ssdts number ssdt.now
+    ensures ok { (bytes : List ℕ) (ssdts : List (List ℕ))
+        → HasTables depth (bytes ∷ []) (state_of (S.contents (objects_so_far dsdt.now)) dsdt.now)
+        → Tries (is_defined definers.now.first) depth
+        (state_of (S.contents (objects_so_far dsdt.now)) dsdt.now).objects
+        (state_of (S.contents (objects_so_far dsdt.now)) dsdt.now) finite.empty
+        (tried_of alone.now.tried)
+        → AreTouching definers.now (tried_of alone.now.tried) alone.now.touching.items
+        → AreDefiners depth bytes ssdts definers.now → IsSsdt ssdts number ssdt.now
         → OnOk result (FindsSsdt depth bytes ssdt.now definers.now number found.old found.new) }
-    ensures err { (bytes : List ℕ) → HasTables depth (bytes ∷ []) (state_of (S.contents (objects_so_far dsdt.now)) dsdt.now)
+    ensures err { (bytes : List ℕ) → HasTables depth (bytes ∷ [])
+        (state_of (S.contents (objects_so_far dsdt.now)) dsdt.now)
         → LoadsAlone depth bytes ssdt.now → IfErr result (λ e. e ≡ LoadFault.Memory) }
 {
     let declared = dsdt.ssdt_over(alloc, ssdt, depth)?;
@@ -103,9 +108,12 @@ pub(crate) fn find_all<S: Space<Object>>(
     depth: Depth,
     definers: &Definers,
 ) -> Result<Found, LoadFault>
-    ensures ok { (bytes : List ℕ) → HasTables depth (bytes ∷ []) (state_of (S.contents (objects_so_far dsdt.now)) dsdt.now)
-        → AreDefiners depth bytes ssdts.now definers.now → IfOk result (λ f. AreFound depth bytes ssdts.now definers.now f) }
-    ensures err { (bytes : List ℕ) → HasTables depth (bytes ∷ []) (state_of (S.contents (objects_so_far dsdt.now)) dsdt.now)
+    ensures ok { (bytes : List ℕ) → HasTables depth (bytes ∷ [])
+        (state_of (S.contents (objects_so_far dsdt.now)) dsdt.now)
+        → AreDefiners depth bytes ssdts.now definers.now
+        → IfOk result (λ f. AreFound depth bytes ssdts.now definers.now f) }
+    ensures err { (bytes : List ℕ) → HasTables depth (bytes ∷ [])
+        (state_of (S.contents (objects_so_far dsdt.now)) dsdt.now)
         → AllAlone depth bytes ssdts.now → IfErr result (λ e. e ≡ LoadFault.Memory) }
 {
     let tried = try_alone(alloc, dsdt, depth, &definers.first)?;

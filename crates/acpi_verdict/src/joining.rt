@@ -28,7 +28,8 @@ fn add_object<S: Space<Object>>(
     path: Path,
     object: &Object,
 ) -> Result<bool, AllocError>
-    ensures { IfOk result (λ b. JoinsValue (namespace_of (S.contents objects.old)) (namespace_of (S.contents objects.new)) path (object_view object.now) b) }
+    ensures { IfOk result (λ b. JoinsValue (namespace_of (S.contents objects.old))
+        (namespace_of (S.contents objects.new)) path (object_view object.now) b) }
 {
     if let Some(other) = objects.get(&path) {
         return Ok(other == object);
@@ -46,7 +47,8 @@ fn add_objects<S: Space<Object>>(
     objects: &mut S,
     part: &S,
 ) -> Result<bool, AllocError>
-    ensures { IfOk result (λ b. JoinsPart (namespace_of (S.contents objects.old)) (namespace_of (S.contents objects.new)) (namespace_of (S.contents part.now)) b) }
+    ensures { IfOk result (λ b. JoinsPart (namespace_of (S.contents objects.old))
+        (namespace_of (S.contents objects.new)) (namespace_of (S.contents part.now)) b) }
 {
     for (path, object) in part.pairs()? {
         if !add_object(alloc, objects, path, object)? {
@@ -69,7 +71,8 @@ fn add_link(
     path: Path,
     answers: &[Option<Path>],
 ) -> Result<bool, AllocError>
-    ensures { IfOk result (λ b. JoinsValue (links_at links.old) (links_at links.new) path answers.now b) }
+    ensures { IfOk result (λ b. JoinsValue (links_at links.old)
+        (links_at links.new) path answers.now b) }
 {
     if let Some(others) = links.get(&path) {
         return Ok(same_answers(others, answers));
@@ -80,7 +83,8 @@ fn add_link(
 
 // Adds copies of all links of a part.
 fn add_links(alloc: Global, links: &mut LinkMap, part: &LinkMap) -> Result<bool, AllocError>
-    ensures { IfOk result (λ b. JoinsPart (links_at links.old) (links_at links.new) (links_at part.now) b) }
+    ensures { IfOk result (λ b. JoinsPart (links_at links.old) (links_at links.new)
+        (links_at part.now) b) }
 {
     for (path, answers) in part.pairs(alloc)? {
         if !add_link(alloc, links, path, answers)? {
@@ -97,7 +101,8 @@ fn add_body(
     path: &Path,
     body: &Body,
 ) -> Result<bool, AllocError>
-    ensures { IfOk result (λ b. JoinsValue (bodies_of bodies.old) (bodies_of bodies.new) path.now (body_view body.now) b) }
+    ensures { IfOk result (λ b. JoinsValue (bodies_of bodies.old) (bodies_of bodies.new) path.now
+        (body_view body.now) b) }
 {
     if let Some(other) = bodies.get(path) {
         return Ok(other == body);
@@ -114,7 +119,8 @@ fn add_bodies(
     bodies: &mut BTreeMap<Path, Body>,
     part: &BTreeMap<Path, Body>,
 ) -> Result<bool, AllocError>
-    ensures { IfOk result (λ b. JoinsPart (bodies_of bodies.old) (bodies_of bodies.new) (bodies_of part.now) b) }
+    ensures { IfOk result (λ b. JoinsPart (bodies_of bodies.old) (bodies_of bodies.new)
+        (bodies_of part.now) b) }
 {
     for (path, body) in part.iter() {
         if !add_body(alloc, bodies, path, body)? {
@@ -130,7 +136,9 @@ fn add_machine<S: Space<Object>>(
     joined: &mut Machine<S>,
     part: &Machine<S>,
 ) -> Result<bool, AllocError>
-    ensures { IfOk result (λ b. JoinsMachine (machine_of (S.contents (objects_in joined.old)) joined.old) (machine_of (S.contents (objects_in joined.new)) joined.new)
+    ensures { IfOk result (λ b. JoinsMachine (machine_of
+        (S.contents (objects_in joined.old)) joined.old)
+        (machine_of (S.contents (objects_in joined.new)) joined.new)
         (machine_of (S.contents (objects_in part.now)) part.now) b) }
 {
     if !add_objects(alloc, &mut joined.objects, &part.objects)? {
@@ -150,9 +158,15 @@ pub fn join<S: Space<Object>>(
 ) -> Result<Option<Machine<S>>, AllocError>
     // What is joined has the values of all of the machines, and no others.
     ensures join { IfOk result
-        (λ r. IfSome r (λ m. IsJoin (Among (map (λ s. machine_of (S.contents (objects_in (machine_in s))) (machine_in s)) singles.now)) (machine_of (S.contents (objects_in m)) m))) }
+        (λ r. IfSome r
+        (λ m. IsJoin
+        (Among (map (λ s. machine_of (S.contents (objects_in (machine_in s))) (machine_in s))
+        singles.now)) (machine_of (S.contents (objects_in m)) m))) }
     // It is there exactly where there are machines, and no two of them disagree.
-    ensures none { IfOk result (λ r. (r ≡ None) ↔ ((singles.now ≡ []) ⊎ (AllAgree (map (λ s. machine_of (S.contents (objects_in (machine_in s))) (machine_in s)) singles.now) → ⊥))) }
+    ensures none { IfOk result (λ r. (r ≡ None)
+        ↔ ((singles.now ≡ [])
+        ⊎ (AllAgree (map (λ s. machine_of (S.contents (objects_in (machine_in s))) (machine_in s))
+        singles.now) → ⊥))) }
 {
     if singles.is_empty() {
         return Ok(None);

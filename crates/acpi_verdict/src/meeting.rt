@@ -23,7 +23,8 @@ fn add_if_met(
     count: u8,
     definer: &Definer,
 ) -> Result<(), AllocError>
-    ensures { OnOk result (AddsMet found.old.items found.new.items (IsMetByAny user path.now count (definer.now ∷ []))) }
+    ensures { OnOk result (AddsMet found.old.items found.new.items
+        (IsMetByAny user path.now count (definer.now ∷ []))) }
 {
     if definer.number != user && definer.takes(count) {
         found.push(Satisfied {
@@ -43,7 +44,8 @@ fn add_all_met(
     count: u8,
     definers: &[Definer],
 ) -> Result<(), AllocError>
-    ensures { OnOk result (AddsMet found.old.items found.new.items (IsMetByAny user path.now count definers.now)) }
+    ensures { OnOk result (AddsMet found.old.items found.new.items
+        (IsMetByAny user path.now count definers.now)) }
 {
     for definer in definers {
         add_if_met(found, user, path, count, definer)?;
@@ -59,7 +61,8 @@ fn add_first(
     path: &Path,
     count: u8,
 ) -> Result<(), AllocError>
-    ensures { OnOk result (AddsMet found.old.items found.new.items (IsMetAt user path.now count (λ p x. finite.get first.now p ≡ Some x))) }
+    ensures { OnOk result (AddsMet found.old.items found.new.items
+        (IsMetAt user path.now count (λ p x. finite.get first.now p ≡ Some x))) }
 {
     match first.get(path) {
         Some(definer) => add_if_met(found, user, path, count, definer),
@@ -75,7 +78,8 @@ fn add_others(
     path: &Path,
     count: u8,
 ) -> Result<(), AllocError>
-    ensures { OnOk result (AddsMet found.old.items found.new.items (IsMetAt user path.now count (IsOther others.now))) }
+    ensures { OnOk result (AddsMet found.old.items found.new.items
+        (IsMetAt user path.now count (IsOther others.now))) }
 {
     match others.get(path) {
         Some(definers) => add_all_met(found, user, path, count, definers),
@@ -91,7 +95,8 @@ fn add_met(
     path: &Path,
     count: u8,
 ) -> Result<(), AllocError>
-    ensures { OnOk result (AddsMet found.old.items found.new.items (AreMet definers.now user ((path.now, count) ∷ []))) }
+    ensures { OnOk result (AddsMet found.old.items found.new.items
+        (AreMet definers.now user ((path.now, count) ∷ []))) }
 {
     add_first(found, &definers.first, user, path, count)?;
     add_others(found, &definers.others, user, path, count)
@@ -104,7 +109,8 @@ fn add_awaited(
     user: usize,
     awaited: &MapSpace<u8>,
 ) -> Result<(), AllocError>
-    ensures { OnOk result (AddsMet found.old.items found.new.items (AreMet definers.now user (finite.entries awaited.now))) }
+    ensures { OnOk result (AddsMet found.old.items found.new.items
+        (AreMet definers.now user (finite.entries awaited.now))) }
 {
     for (path, count) in awaited.pairs()? {
         add_met(found, definers, user, &path, *count)?;
@@ -143,7 +149,8 @@ pub(crate) fn put_user(
     user: usize,
     awaited: &MapSpace<u8>,
 ) -> Result<(), AllocError>
-    ensures { OnOk result (PutsMet list.old.items list.new.items (AreMet definers.now user (finite.entries awaited.now))) }
+    ensures { OnOk result (PutsMet list.old.items list.new.items
+        (AreMet definers.now user (finite.entries awaited.now))) }
 {
     let mut own = Vec::new(alloc);
     add_awaited(&mut own, definers, user, awaited)?;

@@ -25,9 +25,12 @@ pub fn single_shared<S: Space<Object>>(
     ssdt: &Bytes,
     depth: Depth,
 ) -> Result<Single<S>, LoadFault>
-    ensures ok { IfOk result (λ s. IsSingle depth dsdt.now ssdt.now (machine_of (S.contents (objects_in (machine_in s))) (machine_in s)) (defined_in s) (missed_in s) (awaits_in s)) }
+    ensures ok { IfOk result (λ s. IsSingle depth dsdt.now ssdt.now
+        (machine_of (S.contents (objects_in (machine_in s))) (machine_in s)) (defined_in s)
+        (missed_in s) (awaits_in s)) }
     ensures err { IfErr result (λ e. IsLoadFault depth (dsdt.now ∷ ssdt.now ∷ []) e) }
-    ensures none { IfErr result (λ e. e ≢ LoadFault.Memory → HasNoLoad depth (dsdt.now ∷ ssdt.now ∷ [])) }
+    ensures none { IfErr result (λ e. e ≢ LoadFault.Memory
+        → HasNoLoad depth (dsdt.now ∷ ssdt.now ∷ [])) }
 {
     let first: Declaring<S> = Declaring::dsdt(alloc, dsdt, depth)?;
     let mut known = MapSpace::new(alloc);
@@ -64,9 +67,12 @@ pub fn single<S: Space<Object>>(
     ssdt: &[u8],
     depth: Depth,
 ) -> Result<Single<S>, LoadFault>
-    ensures ok { IfOk result (λ s. IsSingle depth dsdt.now ssdt.now (machine_of (S.contents (objects_in (machine_in s))) (machine_in s)) (defined_in s) (missed_in s) (awaits_in s)) }
+    ensures ok { IfOk result (λ s. IsSingle depth dsdt.now ssdt.now
+        (machine_of (S.contents (objects_in (machine_in s))) (machine_in s)) (defined_in s)
+        (missed_in s) (awaits_in s)) }
     ensures err { IfErr result (λ e. IsLoadFault depth (dsdt.now ∷ ssdt.now ∷ []) e) }
-    ensures none { IfErr result (λ e. e ≢ LoadFault.Memory → HasNoLoad depth (dsdt.now ∷ ssdt.now ∷ [])) }
+    ensures none { IfErr result (λ e. e ≢ LoadFault.Memory
+        → HasNoLoad depth (dsdt.now ∷ ssdt.now ∷ [])) }
 {
     let dsdt = Bytes::copy_from_slice(alloc, dsdt)?;
     let ssdt = Bytes::copy_from_slice(alloc, ssdt)?;

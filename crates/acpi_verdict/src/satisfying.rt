@@ -26,9 +26,14 @@ fn satisfied_over<S: Space<Object>>(
     ssdts: &[Bytes],
     depth: Depth,
 ) -> Result<Vec<Satisfied>, LoadFault>
-    ensures ok { (bytes : List ℕ) → HasTables depth (bytes ∷ []) (state_of (S.contents (objects_so_far dsdt.now)) dsdt.now) → IfOk result (λ v. AreSatisfied depth bytes ssdts.now v.items) }
-    ensures loads { (bytes : List ℕ) → HasTables depth (bytes ∷ []) (state_of (S.contents (objects_so_far dsdt.now)) dsdt.now) → OnOk result (AllAlone depth bytes ssdts.now) }
-    ensures err { (bytes : List ℕ) → HasTables depth (bytes ∷ []) (state_of (S.contents (objects_so_far dsdt.now)) dsdt.now)
+    ensures ok { (bytes : List ℕ) → HasTables depth (bytes ∷ [])
+        (state_of (S.contents (objects_so_far dsdt.now)) dsdt.now)
+        → IfOk result (λ v. AreSatisfied depth bytes ssdts.now v.items) }
+    ensures loads { (bytes : List ℕ) → HasTables depth (bytes ∷ [])
+        (state_of (S.contents (objects_so_far dsdt.now)) dsdt.now)
+        → OnOk result (AllAlone depth bytes ssdts.now) }
+    ensures err { (bytes : List ℕ) → HasTables depth (bytes ∷ [])
+        (state_of (S.contents (objects_so_far dsdt.now)) dsdt.now)
         → IfErr result (λ e. IsSinglesFault depth bytes ssdts.now e) }
 {
     let declared = declare_all(alloc, dsdt, ssdts, depth)?;
@@ -46,10 +51,12 @@ pub fn satisfied_shared<S: Space<Object>>(
     ssdts: &[Bytes],
     depth: Depth,
 ) -> Result<Vec<Satisfied>, LoadFault>
-    ensures ok { IfOk result (λ v. (t : Satisfied) → Among v.items t ↔ IsSatisfied depth dsdt.now ssdts.now t.user t.definer t.path) }
+    ensures ok { IfOk result (λ v. (t : Satisfied) → Among v.items t
+        ↔ IsSatisfied depth dsdt.now ssdts.now t.user t.definer t.path) }
     ensures ascend { IfOk result (λ v. IsStrictlySortedBy satisfied_cmp v.items) }
     ensures loads { OnOk result (DsdtLoads depth dsdt.now × AllAlone depth dsdt.now ssdts.now) }
-    ensures err { IfErr result (λ e. IsLoadFault depth (dsdt.now ∷ []) e ⊎ IsSinglesFault depth dsdt.now ssdts.now e) }
+    ensures err { IfErr result (λ e. IsLoadFault depth (dsdt.now ∷ []) e
+        ⊎ IsSinglesFault depth dsdt.now ssdts.now e) }
 {
     let declared: Declaring<S> = Declaring::dsdt(alloc, dsdt, depth)?;
     satisfied_over(alloc, &declared, ssdts, depth)
@@ -62,10 +69,13 @@ pub fn satisfied<S: Space<Object>>(
     ssdts: &[&[u8]],
     depth: Depth,
 ) -> Result<Vec<Satisfied>, LoadFault>
-    ensures ok { IfOk result (λ v. (t : Satisfied) → Among v.items t ↔ IsSatisfied depth dsdt.now (map (λ b. b.now) ssdts.now) t.user t.definer t.path) }
+    ensures ok { IfOk result (λ v. (t : Satisfied) → Among v.items t
+        ↔ IsSatisfied depth dsdt.now (map (λ b. b.now) ssdts.now) t.user t.definer t.path) }
     ensures ascend { IfOk result (λ v. IsStrictlySortedBy satisfied_cmp v.items) }
-    ensures loads { OnOk result (DsdtLoads depth dsdt.now × AllAlone depth dsdt.now (map (λ b. b.now) ssdts.now)) }
-    ensures err { IfErr result (λ e. IsLoadFault depth (dsdt.now ∷ []) e ⊎ IsSinglesFault depth dsdt.now (map (λ b. b.now) ssdts.now) e) }
+    ensures loads { OnOk result (DsdtLoads depth dsdt.now
+        × AllAlone depth dsdt.now (map (λ b. b.now) ssdts.now)) }
+    ensures err { IfErr result (λ e. IsLoadFault depth (dsdt.now ∷ []) e
+        ⊎ IsSinglesFault depth dsdt.now (map (λ b. b.now) ssdts.now) e) }
 {
     let dsdt = Bytes::copy_from_slice(alloc, dsdt)?;
     let ssdts = shared_tables(alloc, ssdts)?;

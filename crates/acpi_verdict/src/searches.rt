@@ -59,7 +59,9 @@ fn search_method<S: Space<Object>>(
     depth: Depth,
     found: &mut Found,
 ) -> Result<(), AllocError>
-    ensures { OnOk result (SearchesMethod depth (namespace_of (S.contents objects.now)) (with_counts (finite.get counts.now) (method_of method)) (found_of found.old) (found_of found.new)) }
+    ensures { OnOk result (SearchesMethod depth (namespace_of (S.contents objects.now))
+        (with_counts (finite.get counts.now) (method_of method)) (found_of found.old)
+        (found_of found.new)) }
 {
     let Method { path, code } = method;
     let body = read_body(alloc, objects, &path, &code, depth, counts)?;
@@ -80,7 +82,9 @@ fn search_methods<S: Space<Object>>(
     found: &mut Found,
 ) -> Result<(), AllocError>
     ensures { OnOk result
-        (SearchesAll depth (namespace_of (S.contents objects.now)) (map (with_counts (finite.get counts.now)) (map method_of methods.items)) (found_of found.old) (found_of found.new)) }
+        (SearchesAll depth (namespace_of (S.contents objects.now))
+        (map (with_counts (finite.get counts.now)) (map method_of methods.items))
+        (found_of found.old) (found_of found.new)) }
 {
     for method in methods {
         search_method(alloc, objects, method, counts, depth, found)?;
@@ -94,7 +98,8 @@ fn list_awaited(
     table: u32,
     list: &mut Vec<Awaited>,
 ) -> Result<(), AllocError>
-    ensures { OnOk result (map awaited_view list.new.items ≡ map awaited_view list.old.items ++ tagged table (finite.entries awaited)) }
+    ensures { OnOk result (map awaited_view list.new.items ≡ map awaited_view list.old.items
+        ++ tagged table (finite.entries awaited)) }
 {
     for (path, count) in awaited.pairs()? {
         list.push(Awaited {
@@ -138,7 +143,8 @@ pub(crate) fn search_tables<S: Space<Object>>(
     missed: MapSpace<()>,
 ) -> Result<Told, AllocError>
     requires { length notes.items ≡ 2 }
-    ensures { IfOk result (λ t. SearchesTables depth (namespace_of (S.contents objects.now)) (map notes_of notes.items) missed t) }
+    ensures { IfOk result (λ t. SearchesTables depth (namespace_of (S.contents objects.now))
+        (map notes_of notes.items) missed t) }
 {
     let (first, second) = two(notes);
     let mut found = Found {

@@ -22,7 +22,8 @@ pub(crate) fn try_alone<S: Space<Object>, W, T: Space<W>>(
     depth: Depth,
     among: &T,
 ) -> Result<Tried, AllocError>
-    ensures { IfOk result (λ t. Tries (is_defined (T.contents among.now)) depth (state_of (S.contents (objects_so_far dsdt.now)) dsdt.now).objects
+    ensures { IfOk result (λ t. Tries (is_defined (T.contents among.now)) depth
+        (state_of (S.contents (objects_so_far dsdt.now)) dsdt.now).objects
         (state_of (S.contents (objects_so_far dsdt.now)) dsdt.now) finite.empty (tried_of t)) }
 {
     try_tables(
@@ -46,7 +47,8 @@ fn try_under<'a, S: Space<Object>, O: Space<Object>, W, T: Space<W>>(
     alone: &'a Tried,
     among: &T,
 ) -> Result<Under<'a>, AllocError>
-    ensures { IfOk result (λ u. ((touched ≡ false) × (under_of u ≡ tried_of alone.now)) ⊎ Tries (is_defined (T.contents among.now)) depth (namespace_of (O.contents objects.now))
+    ensures { IfOk result (λ u. ((touched ≡ false) × (under_of u ≡ tried_of alone.now))
+        ⊎ Tries (is_defined (T.contents among.now)) depth (namespace_of (O.contents objects.now))
         (state_of (S.contents (objects_so_far dsdt.now)) dsdt.now) finite.empty (under_of u)) }
 {
     if touched {
@@ -67,8 +69,10 @@ pub(crate) fn told_of<'a, S: Space<Object>, O: Space<Object>, W, T: Space<W>>(
     alone: &'a Tried,
     among: &T,
 ) -> Result<Told<'a>, AllocError>
-    ensures { IfOk result (λ t. IsToldOf (is_defined (T.contents among.now)) depth (state_of (S.contents (objects_so_far dsdt.now)) dsdt.now)
-        (tried_of alone.now) touched (state_of (O.contents (objects_so_far declared.now)) declared.now) (told_tree t)) }
+    ensures { IfOk result (λ t. IsToldOf (is_defined (T.contents among.now)) depth
+        (state_of (S.contents (objects_so_far dsdt.now)) dsdt.now)
+        (tried_of alone.now) touched (state_of
+        (O.contents (objects_so_far declared.now)) declared.now) (told_tree t)) }
 {
     let scopes = missed_scopes(alloc, declared.notes(), among)?;
     let own = try_tables(alloc, declared, declared.objects(), depth, among, scopes)?;

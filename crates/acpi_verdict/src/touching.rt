@@ -55,7 +55,8 @@ fn mark_paths<V: Drop>(
     definers: &Definers,
     paths: &MapSpace<V>,
 ) -> Result<(), AllocError>
-    ensures { OnOk result (Marks touching.old.items touching.new.items (IsNotedAtAny definers.now (entries paths.now))) }
+    ensures { OnOk result (Marks touching.old.items touching.new.items
+        (IsNotedAtAny definers.now (entries paths.now))) }
 {
     for (path, _) in paths.pairs()? {
         mark_first(touching, definers, &path);

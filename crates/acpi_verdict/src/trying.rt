@@ -33,8 +33,10 @@ fn try_method<O: Space<Object>, W, T: Space<W>>(
     among: &T,
     tried: &mut Tried,
 ) -> Result<(), AllocError>
-    ensures { OnOk result (TriesMethod (is_defined (T.contents among.now)) depth (namespace_of (O.contents objects.now))
-        (with_counts (finite.get counts.now) (method_of method.now)) (tried_of tried.old) (tried_of tried.new)) }
+    ensures { OnOk result (TriesMethod (is_defined (T.contents among.now)) depth
+        (namespace_of (O.contents objects.now))
+        (with_counts (finite.get counts.now) (method_of method.now)) (tried_of tried.old)
+        (tried_of tried.new)) }
 {
     let body = read_body(alloc, objects, &method.path, &method.code, depth, counts)?;
     let BodyMisses { firm, open } = body_misses_among(
@@ -58,7 +60,9 @@ fn try_methods<O: Space<Object>, W, T: Space<W>>(
     among: &T,
     tried: &mut Tried,
 ) -> Result<(), AllocError>
-    ensures { OnOk result (TriesAll (is_defined (T.contents among.now)) depth (namespace_of (O.contents objects.now)) (noted (notes_of notes.now)) (tried_of tried.old) (tried_of tried.new)) }
+    ensures { OnOk result (TriesAll (is_defined (T.contents among.now)) depth
+        (namespace_of (O.contents objects.now)) (noted (notes_of notes.now)) (tried_of tried.old)
+        (tried_of tried.new)) }
 {
     for method in &notes.methods {
         try_method(alloc, objects, method, &notes.counts, depth, among, tried)?;
@@ -77,7 +81,9 @@ pub(crate) fn try_tables<S: Space<Object>, O: Space<Object>, W, T: Space<W>>(
     missed: MapSpace<()>,
 ) -> Result<Tried, AllocError>
     ensures { IfOk result
-        (λ t. Tries (is_defined (T.contents among.now)) depth (namespace_of (O.contents objects.now)) (state_of (S.contents (objects_so_far tables.now)) tables.now) missed (tried_of t)) }
+        (λ t. Tries (is_defined (T.contents among.now)) depth
+        (namespace_of (O.contents objects.now))
+        (state_of (S.contents (objects_so_far tables.now)) tables.now) missed (tried_of t)) }
 {
     let mut tried = Tried {
         missed,
@@ -99,7 +105,8 @@ fn add_among<W, T: Space<W>>(
     paths: &[Path],
     among: &T,
 ) -> Result<(), AllocError>
-    ensures { OnOk result (Grows missed.old missed.new (λ p. Among paths.now p × IsTrue (is_defined (T.contents among.now) p))) }
+    ensures { OnOk result (Grows missed.old missed.new
+        (λ p. Among paths.now p × IsTrue (is_defined (T.contents among.now) p))) }
 {
     for path in paths {
         if among.get(path).is_some() {
@@ -115,7 +122,9 @@ pub(crate) fn missed_scopes<W, T: Space<W>>(
     notes: &[TableNotes],
     among: &T,
 ) -> Result<MapSpace<()>, AllocError>
-    ensures { IfOk result (λ m. Grows finite.empty m (λ p. IsMissedScope (map notes_of notes.now) p × IsTrue (is_defined (T.contents among.now) p))) }
+    ensures { IfOk result (λ m. Grows finite.empty m
+        (λ p. IsMissedScope (map notes_of notes.now) p
+        × IsTrue (is_defined (T.contents among.now) p))) }
 {
     let mut missed = MapSpace::new(alloc);
     for table in notes {

@@ -20,7 +20,8 @@ fn offer_missed(
     searcher: usize,
     path: &Path,
 ) -> Result<(), AllocError>
-    ensures { OnOk result (Offers clash.old clash.new (IsMissedOf definers.now searcher (path.now ∷ []))) }
+    ensures { OnOk result (Offers clash.old clash.new
+        (IsMissedOf definers.now searcher (path.now ∷ []))) }
 {
     match definers.get(path) {
         Some(definer) if definer.number != searcher => {
@@ -38,7 +39,8 @@ fn offer_awaited(
     path: &Path,
     count: u8,
 ) -> Result<(), AllocError>
-    ensures { OnOk result (Offers clash.old clash.new (IsAwaitedOf definers.now searcher ((path.now, count) ∷ []))) }
+    ensures { OnOk result (Offers clash.old clash.new
+        (IsAwaitedOf definers.now searcher ((path.now, count) ∷ []))) }
 {
     match definers.get(path) {
         Some(definer) if definer.number != searcher && !definer.takes(count) => {
@@ -55,7 +57,8 @@ fn offer_all_missed(
     searcher: usize,
     missed: &MapSpace<()>,
 ) -> Result<(), AllocError>
-    ensures { OnOk result (Offers clash.old clash.new (IsMissedOf definers.now searcher (finite.keys missed.now))) }
+    ensures { OnOk result (Offers clash.old clash.new
+        (IsMissedOf definers.now searcher (finite.keys missed.now))) }
 {
     for (path, _) in missed.pairs()? {
         offer_missed(clash, definers, searcher, &path)?;
@@ -70,7 +73,8 @@ fn offer_all_awaited(
     searcher: usize,
     awaited: &MapSpace<u8>,
 ) -> Result<(), AllocError>
-    ensures { OnOk result (Offers clash.old clash.new (IsAwaitedOf definers.now searcher (finite.entries awaited.now))) }
+    ensures { OnOk result (Offers clash.old clash.new
+        (IsAwaitedOf definers.now searcher (finite.entries awaited.now))) }
 {
     for (path, count) in awaited.pairs()? {
         offer_awaited(clash, definers, searcher, &path, *count)?;
@@ -86,7 +90,8 @@ pub(crate) fn offer_unmet(
     searcher: usize,
     tried: &Tried,
 ) -> Result<(), AllocError>
-    ensures { OnOk result (Offers clash.old clash.new (IsUnmetOf definers.now searcher (tried_of tried.now))) }
+    ensures { OnOk result (Offers clash.old clash.new
+        (IsUnmetOf definers.now searcher (tried_of tried.now))) }
 {
     offer_all_missed(clash, definers, searcher, &tried.missed)?;
     offer_all_awaited(clash, definers, searcher, &tried.awaited)

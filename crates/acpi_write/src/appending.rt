@@ -36,7 +36,8 @@ pub fn enclose_items(
     bytes: &mut Vec<u8>,
 ) -> Result<(), WriteFault>
     requires { start ≤ length bytes.old.items }
-    ensures { Appends result (holder_bytes front.now (Some (drop start bytes.old.items))) (take start bytes.old.items) bytes.new.items }
+    ensures { Appends result (holder_bytes front.now (Some (drop start bytes.old.items)))
+        (take start bytes.old.items) bytes.new.items }
 {
     let head = holder_head(alloc, front, &bytes[start..])?;
     put_before(alloc, bytes, start, &head)?;
@@ -47,7 +48,8 @@ pub fn enclose_items(
 /// other fields are the header's. `TooLong` exactly where the table would have more than 16,777,216 bytes.
 pub fn table_of_code(alloc: Global, header: &Header, code: Vec<u8>) -> Result<Vec<u8>, WriteFault>
     ensures table { IfOk result (λ bytes. IsTable bytes.items) }
-    ensures header { IfOk result (λ bytes. header_of bytes.items ≡ header_for header.now bytes.items) }
+    ensures header { IfOk result (λ bytes. header_of bytes.items
+        ≡ header_for header.now bytes.items) }
     ensures code { IfOk result (λ bytes. drop 36 bytes.items ≡ code.items) }
     ensures long { result ≡ Err WriteFault.TooLong → 16777216 < 36 + length code.items }
 {
@@ -63,7 +65,8 @@ pub fn table_of_code(alloc: Global, header: &Header, code: Vec<u8>) -> Result<Ve
 // Puts a header before this code, with the Length of the table that they are, and 0 for Checksum.
 fn put_header(alloc: Global, header: &Header, bytes: &mut Vec<u8>) -> Result<(), AllocError>
     requires { 36 + length bytes.old.items ≤ 16777216 }
-    ensures put { OnOk result (bytes.new.items ≡ header_bytes header.now (36 + length bytes.old.items) 0 ++ bytes.old.items) }
+    ensures put { OnOk result (bytes.new.items
+        ≡ header_bytes header.now (36 + length bytes.old.items) 0 ++ bytes.old.items) }
     ensures widths { OnOk result (HasWidths header.now) }
 {
     let length = HEADER_BYTES + bytes.len();
@@ -81,7 +84,8 @@ fn put_before(
     head: &[u8],
 ) -> Result<(), AllocError>
     requires { start ≤ length bytes.old.items }
-    ensures { OnOk result (bytes.new.items ≡ take start bytes.old.items ++ (head.now ++ drop start bytes.old.items)) }
+    ensures { OnOk result (bytes.new.items ≡ take start bytes.old.items
+        ++ (head.now ++ drop start bytes.old.items)) }
 {
     let mut behind = Vec::with_capacity(alloc, bytes.len() - start)?;
     behind.extend_from_slice(&bytes[start..])?;
@@ -126,7 +130,8 @@ fn package_head(
     arguments: &[Argument<'_>],
     content: &[u8],
 ) -> Result<Vec<u8>, WriteFault>
-    ensures { Heads result (filled_with opcode.now (pieces arguments.now) (Some content.now)) content.now }
+    ensures { Heads result (filled_with opcode.now (pieces arguments.now) (Some content.now))
+        content.now }
 {
     let mut writer = Writer::new(alloc);
     writer.arguments(arguments)?;

@@ -25,7 +25,8 @@ impl Writer {
     }
 
     fn buffer(&mut self, opcode: &[u8], size: Int, content: &[u8]) -> Result<(), WriteFault>
-        ensures put { Puts result (filled_with opcode.now (int_bytes size) (Some content.now)) self.old self.new }
+        ensures put { Puts result (filled_with opcode.now (int_bytes size) (Some content.now))
+            self.old self.new }
         ensures typed { OnOk result (IsIntTyped size) }
     {
         let end = self.len();
@@ -75,7 +76,8 @@ impl Writer {
 
     #[cycle(data)]
     fn elems(&mut self, elems: &[Elem]) -> Result<(), WriteFault>
-        ensures put { Puts result (elems_bytes (elems_of (elems_view elems.now))) self.old self.new }
+        ensures put { Puts result (elems_bytes (elems_of (elems_view elems.now))) self.old
+            self.new }
         ensures typed { OnOk result (AreElemsTyped (elems_of (elems_view elems.now))) }
     {
         for i in (0..elems.len()).rev() {

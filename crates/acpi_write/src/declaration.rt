@@ -137,7 +137,8 @@ impl Writer {
     // The flags of a Field and its field list.
     #[inline(never)]
     fn flagged(&mut self, flags: u8, elems: &[FieldElem]) -> Result<(), WriteFault>
-        ensures put { Puts result (option_append (Some (little_bytes 1 flags)) (fields_bytes (fields_view elems.now))) self.old self.new }
+        ensures put { Puts result (option_append (Some (little_bytes 1 flags))
+            (fields_bytes (fields_view elems.now))) self.old self.new }
         ensures typed { OnOk result (AllByRecursion IsFieldTyped (fields_view elems.now)) }
     {
         self.fields(elems)?;

@@ -177,7 +177,8 @@ impl Writer {
 
     // DefName
     fn named(&mut self, name: &Name, data: &Data) -> Result<(), WriteFault>
-        ensures put { Puts result (item_bytes (named_item name.now (data_view «data».now))) self.old self.new }
+        ensures put { Puts result (item_bytes (named_item name.now (data_view «data».now)))
+            self.old self.new }
         ensures typed { OnOk result (IsName name.now × IsDataTyped (data_view «data».now)) }
     {
         self.data(data)?;
@@ -188,7 +189,8 @@ impl Writer {
 
     // DefMethod
     fn method(&mut self, name: &Name, flags: u8, code: &[u8]) -> Result<(), WriteFault>
-        ensures put { Puts result (item_bytes (method_item name.now flags code.now)) self.old self.new }
+        ensures put { Puts result (item_bytes (method_item name.now flags code.now)) self.old
+            self.new }
         ensures typed { OnOk result (IsItemTyped (method_item name.now flags code.now)) }
     {
         let end = self.len();
@@ -204,7 +206,8 @@ impl Writer {
         index: Int,
         name: &'a Name,
     ) -> Result<(), WriteFault>
-        ensures put { Puts result (item_bytes (create_item width source.now index name.now)) self.old self.new }
+        ensures put { Puts result (item_bytes (create_item width source.now index name.now))
+            self.old self.new }
         ensures typed { OnOk result (IsItemTyped (create_item width source.now index name.now)) }
     {
         let parts = [
@@ -223,8 +226,10 @@ impl Writer {
         bits: Int,
         name: &'a Name,
     ) -> Result<(), WriteFault>
-        ensures put { Puts result (item_bytes (create_field_item source.now index bits name.now)) self.old self.new }
-        ensures typed { OnOk result (IsItemTyped (create_field_item source.now index bits name.now)) }
+        ensures put { Puts result (item_bytes (create_field_item source.now index bits name.now))
+            self.old self.new }
+        ensures typed { OnOk result (IsItemTyped
+            (create_field_item source.now index bits name.now)) }
     {
         let parts = [
             Argument::Name(source),
@@ -237,7 +242,8 @@ impl Writer {
 
     // DefOpRegion
     fn region(&mut self, name: &Name, space: u8, offset: Int, length: Int) -> Result<(), WriteFault>
-        ensures put { Puts result (item_bytes (region_item name.now space offset length)) self.old self.new }
+        ensures put { Puts result (item_bytes (region_item name.now space offset length)) self.old
+            self.new }
         ensures typed { OnOk result (IsItemTyped (region_item name.now space offset length)) }
     {
         let parts = [
@@ -251,7 +257,8 @@ impl Writer {
 
     // DefExternal
     fn external(&mut self, external: &External) -> Result<(), WriteFault>
-        ensures put { Puts result (Some (external_bytes (external_view external.now))) self.old self.new }
+        ensures put { Puts result (Some (external_bytes (external_view external.now))) self.old
+            self.new }
         ensures typed { OnOk result (IsExternalTyped (external_view external.now)) }
     {
         let parts = [
@@ -263,8 +270,10 @@ impl Writer {
     }
 
     fn externals(&mut self, externals: &[External]) -> Result<(), WriteFault>
-        ensures put { Puts result (each_bytes (λ x. Some (external_bytes x)) (externals_view externals.now)) self.old self.new }
-        ensures typed { OnOk result (AllByRecursion IsExternalTyped (externals_view externals.now)) }
+        ensures put { Puts result (each_bytes (λ x. Some (external_bytes x))
+            (externals_view externals.now)) self.old self.new }
+        ensures typed { OnOk result (AllByRecursion IsExternalTyped
+            (externals_view externals.now)) }
     {
         for i in (0..externals.len()).rev() {
             self.external(&externals[i])?;
@@ -274,8 +283,10 @@ impl Writer {
 
     // An If whose test is Zero, with Externals alone
     fn external_block(&mut self, externals: &[External]) -> Result<(), WriteFault>
-        ensures put { Puts result (item_bytes (external_block_item (externals_view externals.now))) self.old self.new }
-        ensures typed { OnOk result (IsItemTyped (external_block_item (externals_view externals.now))) }
+        ensures put { Puts result (item_bytes (external_block_item (externals_view externals.now)))
+            self.old self.new }
+        ensures typed { OnOk result (IsItemTyped
+            (external_block_item (externals_view externals.now))) }
     {
         let end = self.len();
         self.externals(externals)?;
@@ -289,8 +300,10 @@ impl Writer {
         front: &[Argument<'_>],
         elems: &[FieldElem],
     ) -> Result<(), WriteFault>
-        ensures put { Puts result (filled_with opcode.now (pieces front.now) (fields_bytes (fields_view elems.now))) self.old self.new }
-        ensures typed { OnOk result (AreArgumentsTyped front.now × AllByRecursion IsFieldTyped (fields_view elems.now)) }
+        ensures put { Puts result (filled_with opcode.now (pieces front.now)
+            (fields_bytes (fields_view elems.now))) self.old self.new }
+        ensures typed { OnOk result (AreArgumentsTyped front.now
+            × AllByRecursion IsFieldTyped (fields_view elems.now)) }
     {
         let end = self.len();
         self.fields(elems)?;

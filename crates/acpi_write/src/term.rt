@@ -121,7 +121,8 @@ impl Writer {
     // The package of an Else.
     #[cycle(terms)]
     fn alternative(&mut self, terms: &[Term]) -> Result<(), WriteFault>
-        ensures put { Puts result (filled_with (0xA1 ∷ []) [] (terms_bytes (terms_tree terms.now))) self.old self.new }
+        ensures put { Puts result (filled_with (0xA1 ∷ []) [] (terms_bytes (terms_tree terms.now)))
+            self.old self.new }
         ensures typed { OnOk result (AreTermsTyped (terms_tree terms.now)) }
     {
         let end = self.len();
@@ -132,7 +133,8 @@ impl Writer {
     // A name and its arguments.
     #[cycle(terms)]
     fn call(&mut self, name: &Name, args: &[Term]) -> Result<(), WriteFault>
-        ensures put { Puts result (option_append (Some (name_bytes name.now)) (terms_bytes (terms_tree args.now))) self.old self.new }
+        ensures put { Puts result (option_append (Some (name_bytes name.now))
+            (terms_bytes (terms_tree args.now))) self.old self.new }
         ensures typed { OnOk result (IsName name.now × AreTermsTyped (terms_tree args.now)) }
     {
         self.terms(args)?;
@@ -142,7 +144,8 @@ impl Writer {
     // An operator and its operands.
     #[cycle(terms)]
     fn operation(&mut self, op: Op, operands: &[Operand]) -> Result<(), WriteFault>
-        ensures put { Puts result (option_append (Some (opcodes.operator_bytes op)) (terms_bytes (terms_of (operands_view operands.now)))) self.old self.new }
+        ensures put { Puts result (option_append (Some (opcodes.operator_bytes op))
+            (terms_bytes (terms_of (operands_view operands.now)))) self.old self.new }
         ensures typed { OnOk result (AreTermsTyped (terms_of (operands_view operands.now))) }
     {
         self.operands(operands)?;
@@ -151,7 +154,8 @@ impl Writer {
 
     #[cycle(terms)]
     fn operands(&mut self, operands: &[Operand]) -> Result<(), WriteFault>
-        ensures put { Puts result (terms_bytes (terms_of (operands_view operands.now))) self.old self.new }
+        ensures put { Puts result (terms_bytes (terms_of (operands_view operands.now))) self.old
+            self.new }
         ensures typed { OnOk result (AreTermsTyped (terms_of (operands_view operands.now))) }
     {
         for i in (0..operands.len()).rev() {

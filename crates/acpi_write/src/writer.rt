@@ -172,7 +172,8 @@ impl Writer {
     ) -> Result<(), WriteFault>
         requires { end ≤ length self.old }
         ensures put { (content rest : List ℕ) → self.old ≡ content ++ rest → length rest ≡ end
-            → Puts result (filled_with opcode.now (pieces arguments.now) (Some content)) rest self.new }
+            → Puts result (filled_with opcode.now (pieces arguments.now) (Some content)) rest
+            self.new }
         ensures typed { OnOk result (AreArgumentsTyped arguments.now) }
     {
         self.arguments(arguments)?;

@@ -47,7 +47,8 @@ pub fn write_terms(alloc: Global, terms: &[Term]) -> Result<Vec<u8>, WriteFault>
     // So they are read from it again, where each call has the arguments that its name asks for and each declared name
     // has a place, at any depth not below their height.
     ensures spells { IfOk result (λ bytes. (args : Arguments) (s : List Segment) (depth : ℕ)
-        → AllMayStandIn args s finite.empty (terms_tree terms.now) → heights (terms_tree terms.now) ≤ depth
+        → AllMayStandIn args s finite.empty (terms_tree terms.now) → heights (terms_tree terms.now)
+        ≤ depth
         → ReadsBody args s depth bytes.items (terms_tree terms.now)) }
 {
     let mut writer = Writer::new(alloc);
@@ -61,10 +62,14 @@ pub fn write_terms(alloc: Global, terms: &[Term]) -> Result<Vec<u8>, WriteFault>
 pub fn write_table(alloc: Global, header: &Header, items: &[Item]) -> Result<Vec<u8>, WriteFault>
     requires fit { IsTrue (items_fit (items_tree items.now)) }
     ensures table { IfOk result (λ bytes. IsTable bytes.items) }
-    ensures header { IfOk result (λ bytes. header_of bytes.items ≡ header_for header.now bytes.items) }
-    ensures code { IfOk result (λ bytes. items_bytes (items_tree items.now) ≡ Some (drop 36 bytes.items)) }
-    ensures spells { IfOk result (λ bytes. SpellsItems (items_tree items.now) (drop 36 bytes.items)) }
-    ensures long { result ≡ Err WriteFault.TooLong → (code : List ℕ) → items_bytes (items_tree items.now) ≡ Some code → 16777216 < 36 + length code }
+    ensures header { IfOk result (λ bytes. header_of bytes.items
+        ≡ header_for header.now bytes.items) }
+    ensures code { IfOk result (λ bytes. items_bytes (items_tree items.now)
+        ≡ Some (drop 36 bytes.items)) }
+    ensures spells { IfOk result (λ bytes. SpellsItems (items_tree items.now)
+        (drop 36 bytes.items)) }
+    ensures long { result ≡ Err WriteFault.TooLong → (code : List ℕ)
+        → items_bytes (items_tree items.now) ≡ Some code → 16777216 < 36 + length code }
 {
     let code = write_items(alloc, items)?;
     table_of_code(alloc, header, code)

@@ -36,16 +36,21 @@ pub extern "C" fn acpins_load(
     outcome: &mut Outcome,
 ) -> u32
     // The arrays begin with the records, targets, text, parts and bytes of what the tables load to.
-    ensures ok { result ≡ OK → IsWritten depth (bytes_of tables.now) (contents_of arrays.old) (contents_of arrays.new) outcome.new }
+    ensures ok { result ≡ OK → IsWritten depth (bytes_of tables.now) (contents_of arrays.old)
+        (contents_of arrays.new) outcome.new }
     // Of independent SSDTs they begin with the same for each order, but for the numbers of tables.
-    ensures any_order { result ≡ OK → IsWrittenInAnyOrder depth (bytes_of tables.now) (contents_of arrays.old) (contents_of arrays.new) }
+    ensures any_order { result ≡ OK → IsWrittenInAnyOrder depth (bytes_of tables.now)
+        (contents_of arrays.old) (contents_of arrays.new) }
     // The tables have no load, for the reason that the outcome has.
-    ensures refused { result ≡ REFUSED → IsRefusal depth (bytes_of tables.now) arrays.old.text.now arrays.new.text.now outcome.new }
+    ensures refused { result ≡ REFUSED → IsRefusal depth
+        (bytes_of tables.now) arrays.old.text.now arrays.new.text.now outcome.new }
     // They load, to more than there is room for: the outcome has how much it is.
-    ensures room { result ≡ NO_ROOM → NeedsRoom depth (bytes_of tables.now) (contents_of arrays.old) outcome.new }
+    ensures room { result ≡ NO_ROOM → NeedsRoom depth (bytes_of tables.now)
+        (contents_of arrays.old) outcome.new }
     ensures call { (result ≡ CALL) ↔ ((tables.now ≡ []) ⊎ ((depth < 1) ⊎ (4096 < depth))) }
     ensures stay { result ≢ OK → StayButText (contents_of arrays.old) (contents_of arrays.new) }
-    ensures text_stays { result ≢ OK → result ≢ REFUSED → arrays.new.text.now ≡ arrays.old.text.now }
+    ensures text_stays { result ≢ OK → result ≢ REFUSED → arrays.new.text.now
+        ≡ arrays.old.text.now }
     // The arrays stay where they are.
     ensures places { SamePlaces arrays.old arrays.new }
     ensures statuses { result ≤ 4 }
@@ -64,9 +69,12 @@ pub extern "C" fn acpins_body(
     body: &mut BodyRecord,
     outcome: &mut Outcome,
 ) -> u32
-    ensures ok { result ≡ OK → IsBodyWritten depth (bytes_of tables.now) path.now text.old text.new body.new outcome.new }
-    ensures refused { result ≡ REFUSED → IsRefusal depth (bytes_of tables.now) text.old text.new outcome.new }
-    ensures room { result ≡ NO_ROOM → NeedsText depth (bytes_of tables.now) path.now text.old body.new outcome.new }
+    ensures ok { result ≡ OK → IsBodyWritten depth
+        (bytes_of tables.now) path.now text.old text.new body.new outcome.new }
+    ensures refused { result ≡ REFUSED → IsRefusal depth
+        (bytes_of tables.now) text.old text.new outcome.new }
+    ensures room { result ≡ NO_ROOM → NeedsText depth
+        (bytes_of tables.now) path.now text.old body.new outcome.new }
     ensures none { result ≡ NO_METHOD → HasNoMethod depth (bytes_of tables.now) path.now }
     ensures bad { result ≡ BAD_PATH → IsPathText path.now → ⊥ }
     ensures call { (result ≡ CALL) ↔ ((tables.now ≡ []) ⊎ ((depth < 1) ⊎ (4096 < depth))) }
@@ -88,10 +96,14 @@ pub extern "C" fn acpins_check(
     verdict: &mut VerdictRecord,
     outcome: &mut Outcome,
 ) -> u32
-    ensures ok { result ≡ OK → IsVerdictWritten depth (bytes_of tables.now) satisfied.old satisfied.new text.old text.new verdict.new outcome.new }
+    ensures ok { result ≡ OK → IsVerdictWritten depth
+        (bytes_of tables.now) satisfied.old satisfied.new text.old text.new verdict.new
+        outcome.new }
     // Only the DSDT is refused: an SSDT that can't be loaded over it is a verdict.
-    ensures refused { result ≡ REFUSED → IsRefusal depth (take 1 (bytes_of tables.now)) text.old text.new outcome.new }
-    ensures room { result ≡ NO_ROOM → NeedsAnswerRoom depth (bytes_of tables.now) satisfied.old text.old verdict.new outcome.new }
+    ensures refused { result ≡ REFUSED → IsRefusal depth
+        (take 1 (bytes_of tables.now)) text.old text.new outcome.new }
+    ensures room { result ≡ NO_ROOM → NeedsAnswerRoom depth
+        (bytes_of tables.now) satisfied.old text.old verdict.new outcome.new }
     ensures call { (result ≡ CALL) ↔ ((tables.now ≡ []) ⊎ ((depth < 1) ⊎ (4096 < depth))) }
     ensures stay { result ≢ OK → satisfied.new ≡ satisfied.old }
     ensures text_stays { result ≢ OK → result ≢ REFUSED → text.new ≡ text.old }
@@ -111,9 +123,12 @@ pub extern "C" fn acpins_rewrite(
     ends: &mut [u64],
     outcome: &mut Outcome,
 ) -> u32
-    ensures ok { result ≡ OK → AreTablesWritten depth (bytes_of tables.now) bytes.old bytes.new ends.old ends.new outcome.new }
-    ensures refused { result ≡ REFUSED → IsRefusal depth (bytes_of tables.now) bytes.old bytes.new outcome.new }
-    ensures room { result ≡ NO_ROOM → NeedTablesRoom depth (bytes_of tables.now) bytes.old ends.old outcome.new }
+    ensures ok { result ≡ OK → AreTablesWritten depth
+        (bytes_of tables.now) bytes.old bytes.new ends.old ends.new outcome.new }
+    ensures refused { result ≡ REFUSED → IsRefusal depth
+        (bytes_of tables.now) bytes.old bytes.new outcome.new }
+    ensures room { result ≡ NO_ROOM → NeedTablesRoom depth
+        (bytes_of tables.now) bytes.old ends.old outcome.new }
     ensures call { (result ≡ CALL) ↔ ((tables.now ≡ []) ⊎ ((depth < 1) ⊎ (4096 < depth))) }
     ensures stay { result ≢ OK → result ≢ REFUSED → bytes.new ≡ bytes.old }
     ensures ends_stay { result ≢ OK → ends.new ≡ ends.old }

@@ -89,7 +89,8 @@ fn add_blocks(
     tables: &mut Vec<Vec<u8>>,
 ) -> Result<(), AllocError>
     ensures { OnOk result (map (λ t. t.items) tables.new.items
-        ≡ map (λ t. t.items) tables.old.items ++ blocks_of signature.now (map (λ line. line.now) lines.now)) }
+        ≡ map (λ t. t.items) tables.old.items
+        ++ blocks_of signature.now (map (λ line. line.now) lines.now)) }
 {
     for i in 0..lines.len() {
         let line = lines[i];

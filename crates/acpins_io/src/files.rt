@@ -56,7 +56,8 @@ pub trait Files {
 
     /// Opens the file to be read from its first byte.
     fn open(&mut self, name: &str) -> Result<Self::R, FileFault>
-        ensures bytes { IfOk result (λ file. IfSome (bytes_of self.old name.now) (λ bytes. Self.R.remaining file ≡ Some bytes)) }
+        ensures bytes { IfOk result (λ file. IfSome (bytes_of self.old name.now)
+            (λ bytes. Self.R.remaining file ≡ Some bytes)) }
         ensures stays { bytes_of self.new ≡ bytes_of self.old }
         ensures others { written_to self.new ≡ written_to self.old };
 
@@ -64,14 +65,17 @@ pub trait Files {
     /// are made one at a time: the next one is made when this one was closed or given up.
     fn create(&mut self, name: &str) -> Result<Self::W, FileFault>
         ensures made { OnOk result (was_made self.new name.now) }
-        ensures empty { IfOk result (λ file. IfSome (written_to self.old name.now) (λ _. Self.W.contents file ≡ Some [])) }
+        ensures empty { IfOk result (λ file. IfSome (written_to self.old name.now)
+            (λ _. Self.W.contents file ≡ Some [])) }
         ensures stays { written_to self.new ≡ written_to self.old };
 
     /// Ends the file that was made last, which was written whole. One that can't be ended is given up.
     fn close(&mut self, file: Self::W) -> Result<(), FileFault>
         ensures written { OnOk result ((name : List ℕ) → was_made self.old name
-            → IfSome (written_to self.old name) (λ _. Keeps (Self.W.contents file) (written_to self.new name))) }
-        ensures others { (name other : List ℕ) → was_made self.old name → other ≢ name → written_to self.new other ≡ written_to self.old other }
+            → IfSome (written_to self.old name)
+            (λ _. Keeps (Self.W.contents file) (written_to self.new name))) }
+        ensures others { (name other : List ℕ) → was_made self.old name → other ≢ name
+            → written_to self.new other ≡ written_to self.old other }
         ensures left { OnErr result (written_to self.new ≡ written_to self.old) };
 
     /// Gives up a file that was not written whole.

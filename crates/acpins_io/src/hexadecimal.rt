@@ -61,7 +61,8 @@ impl HexDecoder {
 
     // Takes the text's next character.
     fn take(&mut self, c: u8) -> Result<(), HexFault>
-        ensures ok { OnOk result ((text : List ℕ) → IsDecoded text self.old → IsDecoded (text ++ c ∷ []) self.new) }
+        ensures ok { OnOk result ((text : List ℕ) → IsDecoded text self.old
+            → IsDecoded (text ++ c ∷ []) self.new) }
         ensures bad { result ≡ Err HexFault.BadHex → SpellsNothing (c ∷ []) }
     {
         if blank(c) {
@@ -83,7 +84,8 @@ impl HexDecoder {
 
     /// Takes the text's next part, unless a character in it can stand in no text.
     pub fn take_part(&mut self, part: &[u8]) -> Result<(), HexFault>
-        ensures ok { OnOk result ((text : List ℕ) → IsDecoded text self.old → IsDecoded (text ++ part.now) self.new) }
+        ensures ok { OnOk result ((text : List ℕ) → IsDecoded text self.old
+            → IsDecoded (text ++ part.now) self.new) }
         ensures bad { result ≡ Err HexFault.BadHex → SpellsNothing part.now }
     {
         for c in part {
@@ -94,8 +96,10 @@ impl HexDecoder {
 
     /// The bytes of the whole text; None where its digits are an odd number.
     pub fn finish(self) -> Option<Vec<u8>>
-        ensures found { (text : List ℕ) → IsDecoded text self → IfSome result (λ v. SpellsInHex v.items text) }
-        ensures none { IfNone result ((text bytes : List ℕ) → IsDecoded text self → SpellsInHex bytes text → ⊥) }
+        ensures found { (text : List ℕ) → IsDecoded text self
+            → IfSome result (λ v. SpellsInHex v.items text) }
+        ensures none { IfNone result ((text bytes : List ℕ) → IsDecoded text self
+            → SpellsInHex bytes text → ⊥) }
     {
         match self.high {
             None => Some(self.bytes),
@@ -107,7 +111,8 @@ impl HexDecoder {
 /// The bytes whose digits the text has, in either case; spaces, tabs, CR and LF are skipped.
 pub fn from_hex(alloc: Global, text: &[u8]) -> Result<Vec<u8>, HexFault>
     ensures found { IfOk result (λ v. SpellsInHex v.items text.now) }
-    ensures none { result ≡ Err HexFault.BadHex → (bytes : List ℕ) → SpellsInHex bytes text.now → ⊥ }
+    ensures none { result ≡ Err HexFault.BadHex → (bytes : List ℕ) → SpellsInHex bytes text.now
+        → ⊥ }
 {
     let mut decoder = HexDecoder::new(alloc);
     decoder.take_part(text)?;

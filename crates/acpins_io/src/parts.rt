@@ -15,7 +15,8 @@ pub trait PartWriter<E> {
 
     /// Writes the part, unless a write fails or one has failed.
     fn write_part(&mut self, stream: &mut E, part: &[u8])
-        ensures { Tells part.now (failed self.old) (contents stream.old) (failed self.new) (contents stream.new) };
+        ensures { Tells part.now (failed self.old) (contents stream.old) (failed self.new)
+            (contents stream.new) };
 }
 
 /// Writes parts to a writer until a write fails, and leaves out what comes after that.
@@ -56,7 +57,8 @@ fn written_of(kind: ErrorKind) -> Written
 
 /// Writes the bytes until a write fails. A write that was interrupted is tried again.
 pub fn write_bytes<E: Write>(stream: &mut E, bytes: &[u8]) -> Written
-    ensures whole { result ≡ Written.Whole → Appends (E.contents stream.old) (E.contents stream.new) bytes.now }
+    ensures whole { result ≡ Written.Whole → Appends (E.contents stream.old)
+        (E.contents stream.new) bytes.now }
     ensures begins { AppendsBeginning bytes.now (E.contents stream.old) (E.contents stream.new) }
 {
     let mut written = 0;
@@ -76,7 +78,8 @@ pub fn write_bytes<E: Write>(stream: &mut E, bytes: &[u8]) -> Written
 
 /// The same, and answers whether they were written whole.
 pub fn write_whole<E: Write>(stream: &mut E, bytes: &[u8]) -> bool
-    ensures whole { IsTrue result → Appends (E.contents stream.old) (E.contents stream.new) bytes.now }
+    ensures whole { IsTrue result → Appends (E.contents stream.old)
+        (E.contents stream.new) bytes.now }
     ensures begins { AppendsBeginning bytes.now (E.contents stream.old) (E.contents stream.new) }
 {
     match write_bytes(stream, bytes) {
@@ -133,14 +136,16 @@ impl PartWriter<Vec<u8>> for IntoText {
 
 /// Writes a text.
 pub fn put_text<E, P: PartWriter<E>>(parts: &mut P, err: &mut E, text: &str)
-    ensures { Tells text.now (P.failed parts.old) (P.contents err.old) (P.failed parts.new) (P.contents err.new) }
+    ensures { Tells text.now (P.failed parts.old) (P.contents err.old) (P.failed parts.new)
+        (P.contents err.new) }
 {
     parts.write_part(err, text.as_bytes())
 }
 
 /// Writes a number's decimal digits: those of its tenth part, and the last one.
 pub fn put_number<E, P: PartWriter<E>>(parts: &mut P, err: &mut E, n: usize)
-    ensures { Tells (decimal n) (P.failed parts.old) (P.contents err.old) (P.failed parts.new) (P.contents err.new) }
+    ensures { Tells (decimal n) (P.failed parts.old) (P.contents err.old) (P.failed parts.new)
+        (P.contents err.new) }
 {
     if n >= 10 {
         put_number(parts, err, n / 10);

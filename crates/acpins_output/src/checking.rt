@@ -25,7 +25,8 @@ fn put_triple(
     second: usize,
     path: &Path,
 ) -> Result<(), AllocError>
-    ensures { OnOk result (text.new.items ≡ text.old.items ++ triple_line word.now first second path.now) }
+    ensures { OnOk result (text.new.items ≡ text.old.items
+        ++ triple_line word.now first second path.now) }
 {
     put(text, word)?;
     put(text, " ")?;
@@ -62,7 +63,8 @@ fn reason_of(fault: LoadFault) -> LoadReason
 
 // The line of an SSDT that is refused over the DSDT alone.
 fn put_not_alone(text: &mut Vec<u8>, ssdt: usize, reason: &LoadReason) -> Result<(), AllocError>
-    ensures { OnOk result (text.new.items ≡ text.old.items ++ (codes "not alone " ++ decimal ssdt ++ codes ": " ++ fault_text reason.now ++ 10 ∷ [])) }
+    ensures { OnOk result (text.new.items ≡ text.old.items
+        ++ (codes "not alone " ++ decimal ssdt ++ codes ": " ++ fault_text reason.now ++ 10 ∷ [])) }
 {
     put(text, "not alone ")?;
     put_decimal(text, ssdt as u64)?;
@@ -73,7 +75,8 @@ fn put_not_alone(text: &mut Vec<u8>, ssdt: usize, reason: &LoadReason) -> Result
 
 // A line for each External that another table satisfies.
 fn put_satisfied(text: &mut Vec<u8>, satisfied: &[Satisfied]) -> Result<(), AllocError>
-    ensures { OnOk result (text.new.items ≡ text.old.items ++ flat_map satisfied_line satisfied.now) }
+    ensures { OnOk result (text.new.items ≡ text.old.items
+        ++ flat_map satisfied_line satisfied.now) }
 {
     for triple in satisfied {
         put_triple(text, "satisfied", triple.user, triple.definer, &triple.path)?;

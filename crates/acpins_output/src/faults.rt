@@ -61,7 +61,8 @@ fn refusal_word(refusal: Refusal) -> &'static str
 
 // A dot, and a segment's four characters.
 fn put_dot_segment<E, P: PartWriter<E>>(parts: &mut P, err: &mut E, seg: Seg)
-    ensures { Tells (46 ∷ seg) (P.failed parts.old) (P.contents err.old) (P.failed parts.new) (P.contents err.new) }
+    ensures { Tells (46 ∷ seg) (P.failed parts.old) (P.contents err.old) (P.failed parts.new)
+        (P.contents err.new) }
 {
     let [a, b, c, d] = seg.bytes();
     parts.write_part(err, &[b'.', a, b, c, d])
@@ -69,7 +70,8 @@ fn put_dot_segment<E, P: PartWriter<E>>(parts: &mut P, err: &mut E, seg: Seg)
 
 // Segments, each behind a dot.
 fn put_behind<E, P: PartWriter<E>>(parts: &mut P, err: &mut E, segs: &[Seg])
-    ensures { Tells (flat_map (λ h. 46 ∷ h) segs.now) (P.failed parts.old) (P.contents err.old) (P.failed parts.new) (P.contents err.new) }
+    ensures { Tells (flat_map (λ h. 46 ∷ h) segs.now) (P.failed parts.old) (P.contents err.old)
+        (P.failed parts.new) (P.contents err.new) }
 {
     for seg in segs {
         put_dot_segment(parts, err, *seg);
@@ -78,7 +80,8 @@ fn put_behind<E, P: PartWriter<E>>(parts: &mut P, err: &mut E, segs: &[Seg])
 
 // A path: a backslash, and the segments with a dot between each two.
 fn put_path<E, P: PartWriter<E>>(parts: &mut P, err: &mut E, path: &Path)
-    ensures { Tells (path_text path.now) (P.failed parts.old) (P.contents err.old) (P.failed parts.new) (P.contents err.new) }
+    ensures { Tells (path_text path.now) (P.failed parts.old) (P.contents err.old)
+        (P.failed parts.new) (P.contents err.new) }
 {
     put_text(parts, err, "\\");
     if let [first, rest @ ..] = path.segs() {
@@ -89,7 +92,8 @@ fn put_path<E, P: PartWriter<E>>(parts: &mut P, err: &mut E, path: &Path)
 
 // Why a declaration or a Scope term is refused, and the path that the refusal names.
 fn put_refusal<E, P: PartWriter<E>>(parts: &mut P, err: &mut E, refusal: Refusal, path: &Path)
-    ensures { Tells (refusal_text refusal ++ codes " " ++ path_text path.now) (P.failed parts.old) (P.contents err.old) (P.failed parts.new) (P.contents err.new) }
+    ensures { Tells (refusal_text refusal ++ codes " " ++ path_text path.now) (P.failed parts.old)
+        (P.contents err.old) (P.failed parts.new) (P.contents err.new) }
 {
     put_text(parts, err, refusal_word(refusal));
     put_text(parts, err, " ");
@@ -98,7 +102,8 @@ fn put_refusal<E, P: PartWriter<E>>(parts: &mut P, err: &mut E, refusal: Refusal
 
 /// Writes why a table can't be loaded, without the place of a reason of its code.
 pub fn put_load_reason<E, P: PartWriter<E>>(parts: &mut P, err: &mut E, reason: &LoadReason)
-    ensures { Tells (load_reason_text reason.now) (P.failed parts.old) (P.contents err.old) (P.failed parts.new) (P.contents err.new) }
+    ensures { Tells (load_reason_text reason.now) (P.failed parts.old) (P.contents err.old)
+        (P.failed parts.new) (P.contents err.new) }
 {
     match reason {
         LoadReason::Table(fault) => put_text(parts, err, table_fault_word(*fault)),
@@ -112,7 +117,8 @@ pub fn put_load_reason<E, P: PartWriter<E>>(parts: &mut P, err: &mut E, reason: 
 
 /// Writes why a code can't be read, and where, in bytes.
 pub fn put_item<E, P: PartWriter<E>>(parts: &mut P, err: &mut E, reason: ItemReason, place: usize)
-    ensures { Tells (item_reason_text reason ++ codes " at " ++ decimal place) (P.failed parts.old) (P.contents err.old) (P.failed parts.new) (P.contents err.new) }
+    ensures { Tells (item_reason_text reason ++ codes " at " ++ decimal place) (P.failed parts.old)
+        (P.contents err.old) (P.failed parts.new) (P.contents err.new) }
 {
     put_text(parts, err, item_reason_word(reason));
     put_text(parts, err, " at ");
@@ -121,7 +127,8 @@ pub fn put_item<E, P: PartWriter<E>>(parts: &mut P, err: &mut E, reason: ItemRea
 
 /// Writes why a table can't be loaded; a reason of its code with its place, in bytes from the table's first byte.
 pub fn put_fault<E, P: PartWriter<E>>(parts: &mut P, err: &mut E, reason: &LoadReason)
-    ensures { Tells (fault_text reason.now) (P.failed parts.old) (P.contents err.old) (P.failed parts.new) (P.contents err.new) }
+    ensures { Tells (fault_text reason.now) (P.failed parts.old) (P.contents err.old)
+        (P.failed parts.new) (P.contents err.new) }
 {
     match reason {
         LoadReason::Item { reason, place } => {

@@ -45,8 +45,10 @@ pub fn list<S: Space<Object>>(
     objects: &S,
     links: &LinkMap,
 ) -> Result<Vec<u8>, AllocError>
-    ensures exact { IfOk result (λ text. text.items ≡ listing_text (objects_by_path (S.contents objects.now)) (links_at links.now)) }
-    ensures namespace { IfOk result (λ text. Prints (namespace_of (S.contents objects.now)) (links_at links.now) text.items) }
+    ensures exact { IfOk result (λ text. text.items
+        ≡ listing_text (objects_by_path (S.contents objects.now)) (links_at links.now)) }
+    ensures namespace { IfOk result (λ text. Prints (namespace_of (S.contents objects.now))
+        (links_at links.now) text.items) }
 {
     let mut lines = Lines {
         text: Vec::new(alloc),

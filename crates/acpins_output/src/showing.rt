@@ -72,7 +72,9 @@ fn put_body<S: Space<Object>>(
     path: &Path,
     text: &mut Vec<u8>,
 ) -> Result<(), LoadFault>
-    ensures ok { OnOk result ((added : List ℕ) × IsBodyText depth (dsdt.now ∷ ssdts.now) path.now (bodies_of bodies.now path.now) added × (text.new.items ≡ text.old.items ++ added)) }
+    ensures ok { OnOk result ((added : List ℕ)
+        × IsBodyText depth (dsdt.now ∷ ssdts.now) path.now (bodies_of bodies.now path.now) added
+        × (text.new.items ≡ text.old.items ++ added)) }
     ensures err { IfErr result (λ e. IsLoadFault depth (dsdt.now ∷ ssdts.now) e) }
 {
     match body_at(path, bodies) {
@@ -95,7 +97,9 @@ fn shown_of<S: Space<Object>>(
     machine: &Machine<S>,
     path: &Path,
 ) -> Result<Option<Vec<u8>>, LoadFault>
-    ensures ok { IfOk result (λ text. ShowsOrNone depth (dsdt.now ∷ ssdts.now) (machine_of (S.contents (objects_in machine.now)) machine.now) path.now (option_map (λ v. v.items) text)) }
+    ensures ok { IfOk result (λ text. ShowsOrNone depth (dsdt.now ∷ ssdts.now)
+        (machine_of (S.contents (objects_in machine.now)) machine.now) path.now
+        (option_map (λ v. v.items) text)) }
     ensures err { IfErr result (λ e. IsLoadFault depth (dsdt.now ∷ ssdts.now) e) }
 {
     let Some(object) = machine.objects().get(path) else {
@@ -116,7 +120,8 @@ pub fn show<S: Space<Object>>(
     depth: Depth,
     path: &Path,
 ) -> Result<Option<Vec<u8>>, LoadFault>
-    ensures ok { IfOk result (λ text. ShowsLoaded depth (dsdt.now ∷ ssdts.now) path.now (option_map (λ v. v.items) text)) }
+    ensures ok { IfOk result (λ text. ShowsLoaded depth (dsdt.now ∷ ssdts.now) path.now
+        (option_map (λ v. v.items) text)) }
     ensures err { IfErr result (λ e. IsLoadFault depth (dsdt.now ∷ ssdts.now) e) }
 {
     let machine: Machine<S> = load_with_body_at(alloc, dsdt, ssdts, path, depth)?;

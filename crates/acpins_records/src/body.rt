@@ -151,7 +151,8 @@ fn write_given(given: &Given, text: &mut [u8], body: &mut BodyRecord, outcome: &
     ensures count { outcome.new ≡ text_outcome (length given.now.text.items) }
     ensures body { body.new ≡ given.now.record }
     ensures ok { result ≡ OK → IsFront given.now.text.items text.old text.new }
-    ensures room { result ≢ OK → (length text.old < length given.now.text.items) × (text.new ≡ text.old) }
+    ensures room { result ≢ OK → (length text.old < length given.now.text.items)
+        × (text.new ≡ text.old) }
     ensures status { (result ≡ OK) ⊎ (result ≡ NO_ROOM) }
 {
     *outcome = Outcome::of_text(given.text.len());
@@ -174,9 +175,12 @@ pub fn write_body(
     body: &mut BodyRecord,
     outcome: &mut Outcome,
 ) -> u32
-    ensures ok { result ≡ OK → IsBodyWritten depth (bytes_of tables.now) path.now text.old text.new body.new outcome.new }
-    ensures refused { result ≡ REFUSED → IsRefusal depth (bytes_of tables.now) text.old text.new outcome.new }
-    ensures room { result ≡ NO_ROOM → NeedsText depth (bytes_of tables.now) path.now text.old body.new outcome.new }
+    ensures ok { result ≡ OK → IsBodyWritten depth
+        (bytes_of tables.now) path.now text.old text.new body.new outcome.new }
+    ensures refused { result ≡ REFUSED → IsRefusal depth
+        (bytes_of tables.now) text.old text.new outcome.new }
+    ensures room { result ≡ NO_ROOM → NeedsText depth
+        (bytes_of tables.now) path.now text.old body.new outcome.new }
     ensures none { result ≡ NO_METHOD → HasNoMethod depth (bytes_of tables.now) path.now }
     ensures bad { result ≡ BAD_PATH → IsPathText path.now → ⊥ }
     ensures call { (result ≡ CALL) ↔ ((tables.now ≡ []) ⊎ ((depth < 1) ⊎ (4096 < depth))) }

@@ -55,7 +55,8 @@ struct Entry<'a> {
 
 // The links of an object; only fields and buffer fields have some.
 fn links_of<'a>(path: &Path, object: &Object, links: &'a LinkMap) -> &'a [Option<Path>]
-    ensures { result.now ≡ links_by (object_view object.now) (own_links (links_at links.now) path.now) }
+    ensures { result.now ≡ links_by (object_view object.now)
+        (own_links (links_at links.now) path.now) }
 {
     match object {
         Object::Field { .. } | Object::Create { .. } | Object::CreateField { .. } => {
@@ -123,7 +124,8 @@ fn put_line(
     object: &Object,
     links: &[Option<Path>],
 ) -> Result<usize, AllocError>
-    ensures { IfOk result (λ n. PutsLine path.now (object_view object.now) links.now text.old.items text.new.items n) }
+    ensures { IfOk result (λ n. PutsLine path.now
+        (object_view object.now) links.now text.old.items text.new.items n) }
 {
     let line = text.len();
     put_path(text, path)?;
@@ -210,7 +212,8 @@ fn put_wanted<'a>(
     wanted: &mut Vec<&'a Option<Path>>,
     links: &'a [Option<Path>],
 ) -> Result<(), AllocError>
-    ensures { OnOk result (map (λ a. a.now) wanted.new.items ≡ map (λ a. a.now) wanted.old.items ++ links.now) }
+    ensures { OnOk result (map (λ a. a.now) wanted.new.items ≡ map (λ a. a.now) wanted.old.items
+        ++ links.now) }
 {
     for answer in links {
         wanted.push(answer)?;
@@ -271,7 +274,8 @@ fn set_place(object: &mut ObjectRecord, parent: u64, below: u64)
 fn set_places(objects: &mut [ObjectRecord], tree: &Tree)
     requires parents { length tree.now.parents.items ≡ length objects.old }
     requires ends { length tree.now.ends.items ≡ length objects.old }
-    ensures { objects.new ≡ placed_from 0 (slice_index tree.now.parents.items) (slice_index tree.now.ends.items) objects.old }
+    ensures { objects.new ≡ placed_from 0 (slice_index tree.now.parents.items)
+        (slice_index tree.now.ends.items) objects.old }
 {
     for k in 0..objects.len() {
         set_place(&mut objects[k], tree.parents[k], tree.ends[k] as u64);
@@ -286,7 +290,8 @@ pub(crate) fn build_records<'a>(
     codes: &'a TreeSpace<CodePlace>,
 ) -> Result<Records, AllocError>
     ensures { AllSuit (links_at links.now) (get codes.now) (objects_by_path objects.now)
-        → IfOk result (λ r. AreRecords (objects_by_path objects.now) (links_at links.now) (get codes.now) r) }
+        → IfOk result (λ r. AreRecords (objects_by_path objects.now) (links_at links.now)
+        (get codes.now) r) }
 {
     let in_order = InOrder::of(codes)?;
     let expected = count_objects(objects)?;

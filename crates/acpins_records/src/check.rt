@@ -127,7 +127,8 @@ fn path_of_reason(alloc: Global, reason: &LoadReason) -> Result<Vec<u8>, AllocEr
 
 // SSDTs that may be loaded in any order.
 fn commuting(alloc: Global, satisfied: &[Satisfied]) -> Result<Answer, AllocError>
-    ensures record { IfOk result (λ a. a.record ≡ verdict_record 0 0 0 0 0 0 (length satisfied.now)) }
+    ensures record { IfOk result (λ a. a.record
+        ≡ verdict_record 0 0 0 0 0 0 (length satisfied.now)) }
     ensures satisfied { IfOk result (λ a. a.satisfied.items ≡ satisfied_from 0 satisfied.now) }
     ensures text { IfOk result (λ a. a.text.items ≡ satisfied_text satisfied.now) }
 {
@@ -141,7 +142,9 @@ fn commuting(alloc: Global, satisfied: &[Satisfied]) -> Result<Answer, AllocErro
 
 // An SSDT that doesn't load alone.
 fn not_alone(alloc: Global, ssdt: usize, reason: &LoadReason) -> Result<Answer, AllocError>
-    ensures record { IfOk result (λ a. a.record ≡ verdict_record 1 ssdt 0 (reason_code reason.now) (place_of reason.now) (length (reason_path reason.now)) 0) }
+    ensures record { IfOk result (λ a. a.record
+        ≡ verdict_record 1 ssdt 0 (reason_code reason.now) (place_of reason.now)
+        (length (reason_path reason.now)) 0) }
     ensures satisfied { IfOk result (λ a. a.satisfied.items ≡ []) }
     ensures text { IfOk result (λ a. a.text.items ≡ reason_path reason.now) }
 {
@@ -164,7 +167,8 @@ fn clashing(
     second: usize,
     path: &Path,
 ) -> Result<Answer, AllocError>
-    ensures record { IfOk result (λ a. a.record ≡ verdict_record order first second 0 0 (length (path_text path.now)) 0) }
+    ensures record { IfOk result (λ a. a.record
+        ≡ verdict_record order first second 0 0 (length (path_text path.now)) 0) }
     ensures satisfied { IfOk result (λ a. a.satisfied.items ≡ []) }
     ensures text { IfOk result (λ a. a.text.items ≡ path_text path.now) }
 {
@@ -194,7 +198,8 @@ fn check_ssdts(
     ssdts: &[Bytes],
     depth: Depth,
 ) -> Result<Answer, LoadFault>
-    ensures ok { IfOk result (λ a. IsAnswerOf depth dsdt.now ssdts.now a.record a.satisfied.items a.text.items) }
+    ensures ok { IfOk result (λ a. IsAnswerOf depth dsdt.now ssdts.now a.record a.satisfied.items
+        a.text.items) }
     ensures err { IfErr result (λ e. IsLoadFault depth (dsdt.now ∷ []) e) }
     ensures none { IfErr result (λ e. e ≢ LoadFault.Memory → HasNoLoad depth (dsdt.now ∷ [])) }
 {
@@ -216,7 +221,8 @@ fn check_ssdts(
 // .. of tables, the first of which is the DSDT.
 fn check(alloc: Global, tables: &[Bytes], depth: Depth) -> Result<Answer, LoadFault>
     requires { tables.now ≢ [] }
-    ensures ok { IfOk result (λ a. IsAnswer depth tables.now a.record a.satisfied.items a.text.items) }
+    ensures ok { IfOk result (λ a. IsAnswer depth tables.now a.record a.satisfied.items
+        a.text.items) }
     ensures err { IfErr result (λ e. IsLoadFault depth (take 1 tables.now) e) }
     ensures none { IfErr result (λ e. e ≢ LoadFault.Memory → HasNoLoad depth (take 1 tables.now)) }
 {
@@ -236,9 +242,11 @@ fn write_answer(
 ) -> u32
     ensures count { outcome.new ≡ text_outcome (length answer.now.text.items) }
     ensures verdict { verdict.new ≡ answer.now.record }
-    ensures satisfied { result ≡ OK → IsFront answer.now.satisfied.items satisfied.old satisfied.new }
+    ensures satisfied { result ≡ OK → IsFront answer.now.satisfied.items satisfied.old
+        satisfied.new }
     ensures text { result ≡ OK → IsFront answer.now.text.items text.old text.new }
-    ensures room { result ≢ OK → (length satisfied.old < length answer.now.satisfied.items) ⊎ (length text.old < length answer.now.text.items) }
+    ensures room { result ≢ OK → (length satisfied.old < length answer.now.satisfied.items)
+        ⊎ (length text.old < length answer.now.text.items) }
     ensures stay { result ≢ OK → (satisfied.new ≡ satisfied.old) × (text.new ≡ text.old) }
     ensures status { (result ≡ OK) ⊎ (result ≡ NO_ROOM) }
 {
@@ -263,10 +271,14 @@ pub fn write_verdict(
     verdict: &mut VerdictRecord,
     outcome: &mut Outcome,
 ) -> u32
-    ensures ok { result ≡ OK → IsVerdictWritten depth (bytes_of tables.now) satisfied.old satisfied.new text.old text.new verdict.new outcome.new }
+    ensures ok { result ≡ OK → IsVerdictWritten depth
+        (bytes_of tables.now) satisfied.old satisfied.new text.old text.new verdict.new
+        outcome.new }
     // Only the DSDT is refused: an SSDT that can't be loaded over it is a verdict.
-    ensures refused { result ≡ REFUSED → IsRefusal depth (take 1 (bytes_of tables.now)) text.old text.new outcome.new }
-    ensures room { result ≡ NO_ROOM → NeedsAnswerRoom depth (bytes_of tables.now) satisfied.old text.old verdict.new outcome.new }
+    ensures refused { result ≡ REFUSED → IsRefusal depth
+        (take 1 (bytes_of tables.now)) text.old text.new outcome.new }
+    ensures room { result ≡ NO_ROOM → NeedsAnswerRoom depth
+        (bytes_of tables.now) satisfied.old text.old verdict.new outcome.new }
     ensures call { (result ≡ CALL) ↔ ((tables.now ≡ []) ⊎ ((depth < 1) ⊎ (4096 < depth))) }
     ensures stay { result ≢ OK → satisfied.new ≡ satisfied.old }
     ensures text_stays { result ≢ OK → result ≢ REFUSED → text.new ≡ text.old }

@@ -30,8 +30,10 @@ fn records_of(
     links: &LinkMap,
     codes: &TreeSpace<CodePlace>,
 ) -> Result<Records, AllocError>
-    ensures { (depth : ℕ) (tables : List (List ℕ)) → IsLoad depth tables (namespace_of objects.now) (links_at links.now)
-        → AreCodePlaces depth tables (get codes.now) → IfOk result (λ r. IsContentsOf depth tables (contents_in r)) }
+    ensures { (depth : ℕ) (tables : List (List ℕ))
+        → IsLoad depth tables (namespace_of objects.now) (links_at links.now)
+        → AreCodePlaces depth tables (get codes.now)
+        → IfOk result (λ r. IsContentsOf depth tables (contents_in r)) }
 {
     build_records(alloc, objects, links, codes)
 }
@@ -66,7 +68,8 @@ fn have_room(records: &Records, arrays: &Arrays<'_>) -> bool
 // Writes the records, where there is room for them.
 fn write_records(records: &Records, arrays: &mut Arrays<'_>, outcome: &mut Outcome) -> u32
     ensures counts { outcome.new ≡ counted (contents_in records.now) }
-    ensures ok { result ≡ OK → AreFronts (contents_in records.now) (contents_of arrays.old) (contents_of arrays.new) }
+    ensures ok { result ≡ OK → AreFronts (contents_in records.now) (contents_of arrays.old)
+        (contents_of arrays.new) }
     ensures room { result ≢ OK → IsShort (contents_in records.now) (contents_of arrays.old) }
     ensures status { (result ≡ OK) ⊎ (result ≡ NO_ROOM) }
     ensures places { SamePlaces arrays.old arrays.new }
@@ -101,12 +104,16 @@ fn load_into(
     arrays: &mut Arrays<'_>,
     outcome: &mut Outcome,
 ) -> u32
-    ensures ok { result ≡ OK → IsWritten depth (bytes_of tables.now) (contents_of arrays.old) (contents_of arrays.new) outcome.new }
-    ensures refused { result ≡ REFUSED → IsRefusal depth (bytes_of tables.now) arrays.old.text.now arrays.new.text.now outcome.new }
-    ensures room { result ≡ NO_ROOM → NeedsRoom depth (bytes_of tables.now) (contents_of arrays.old) outcome.new }
+    ensures ok { result ≡ OK → IsWritten depth (bytes_of tables.now) (contents_of arrays.old)
+        (contents_of arrays.new) outcome.new }
+    ensures refused { result ≡ REFUSED → IsRefusal depth
+        (bytes_of tables.now) arrays.old.text.now arrays.new.text.now outcome.new }
+    ensures room { result ≡ NO_ROOM → NeedsRoom depth (bytes_of tables.now)
+        (contents_of arrays.old) outcome.new }
     ensures call { (result ≡ CALL) ↔ ((tables.now ≡ []) ⊎ ((depth < 1) ⊎ (4096 < depth))) }
     ensures stay { result ≢ OK → StayButText (contents_of arrays.old) (contents_of arrays.new) }
-    ensures text_stays { result ≢ OK → result ≢ REFUSED → arrays.new.text.now ≡ arrays.old.text.now }
+    ensures text_stays { result ≢ OK → result ≢ REFUSED → arrays.new.text.now
+        ≡ arrays.old.text.now }
     ensures places { SamePlaces arrays.old arrays.new }
     ensures statuses { result ≤ 4 }
 {
@@ -142,16 +149,21 @@ pub fn write_load(
     outcome: &mut Outcome,
 ) -> u32
     // The arrays begin with the records, targets, text, parts and bytes of what the tables load to.
-    ensures ok { result ≡ OK → IsWritten depth (bytes_of tables.now) (contents_of arrays.old) (contents_of arrays.new) outcome.new }
+    ensures ok { result ≡ OK → IsWritten depth (bytes_of tables.now) (contents_of arrays.old)
+        (contents_of arrays.new) outcome.new }
     // Of independent SSDTs they begin with the same for each order, but for the numbers of tables.
-    ensures any_order { result ≡ OK → IsWrittenInAnyOrder depth (bytes_of tables.now) (contents_of arrays.old) (contents_of arrays.new) }
+    ensures any_order { result ≡ OK → IsWrittenInAnyOrder depth (bytes_of tables.now)
+        (contents_of arrays.old) (contents_of arrays.new) }
     // The tables have no load, for the reason that the outcome has.
-    ensures refused { result ≡ REFUSED → IsRefusal depth (bytes_of tables.now) arrays.old.text.now arrays.new.text.now outcome.new }
+    ensures refused { result ≡ REFUSED → IsRefusal depth
+        (bytes_of tables.now) arrays.old.text.now arrays.new.text.now outcome.new }
     // They load, to more than there is room for: the outcome has how much it is.
-    ensures room { result ≡ NO_ROOM → NeedsRoom depth (bytes_of tables.now) (contents_of arrays.old) outcome.new }
+    ensures room { result ≡ NO_ROOM → NeedsRoom depth (bytes_of tables.now)
+        (contents_of arrays.old) outcome.new }
     ensures call { (result ≡ CALL) ↔ ((tables.now ≡ []) ⊎ ((depth < 1) ⊎ (4096 < depth))) }
     ensures stay { result ≢ OK → StayButText (contents_of arrays.old) (contents_of arrays.new) }
-    ensures text_stays { result ≢ OK → result ≢ REFUSED → arrays.new.text.now ≡ arrays.old.text.now }
+    ensures text_stays { result ≢ OK → result ≢ REFUSED → arrays.new.text.now
+        ≡ arrays.old.text.now }
     // The arrays stay where they are.
     ensures places { SamePlaces arrays.old arrays.new }
     ensures statuses { result ≤ 4 }

@@ -133,7 +133,8 @@ impl Parts {
     // Puts a package before its elements.
     #[cycle(put_data)]
     fn put_package(&mut self, kind: u64, count: Int, elems: &[Elem]) -> Result<(), AllocError>
-        ensures { OnOk result (AddsPackage kind count (elems_of (elems_view elems.now)) self.old self.new) }
+        ensures { OnOk result (AddsPackage kind count
+            (elems_of (elems_view elems.now)) self.old self.new) }
     {
         let place = self.parts.len();
         self.put_part(kind, count, 0, 0)?;

@@ -45,7 +45,8 @@ fn path_bytes(alloc: Global, path: &Path) -> Result<Vec<u8>, AllocError>
 /// Writes the text of a path, where there is room for it, and gives its length.
 pub(crate) fn write_path(alloc: Global, path: &Path, text: &mut [u8]) -> Result<usize, AllocError>
     ensures count { IfOk result (λ n. n ≡ length (path_text path.now)) }
-    ensures put { IfOk result (λ n. n ≤ length text.old → text.new ≡ path_text path.now ++ drop n text.old) }
+    ensures put { IfOk result (λ n. n ≤ length text.old → text.new ≡ path_text path.now
+        ++ drop n text.old) }
     ensures short { IfOk result (λ n. length text.old < n → text.new ≡ text.old) }
     ensures err { OnErr result (text.new ≡ text.old) }
 {
@@ -64,7 +65,8 @@ pub(crate) fn write_refusal(
     text: &mut [u8],
     outcome: &mut Outcome,
 ) -> u32
-    ensures refused { result ≡ REFUSED → outcome.new ≡ refused_as table reason.now outcome.new.text }
+    ensures refused { result ≡ REFUSED → outcome.new
+        ≡ refused_as table reason.now outcome.new.text }
     ensures path { result ≡ REFUSED → TellsPath reason.now outcome.new.text text.old text.new }
     ensures status { (result ≡ REFUSED) ⊎ (result ≡ MEMORY) }
     ensures stay { result ≢ REFUSED → text.new ≡ text.old }

@@ -57,7 +57,8 @@ fn write_joined(joined: &Joined, bytes: &mut [u8], ends: &mut [u64], outcome: &m
     ensures count { outcome.new ≡ bytes_outcome (length joined.now.bytes.items) }
     ensures bytes { result ≡ OK → IsFront joined.now.bytes.items bytes.old bytes.new }
     ensures ends { result ≡ OK → IsFront joined.now.ends.items ends.old ends.new }
-    ensures room { result ≢ OK → (length bytes.old < length joined.now.bytes.items) ⊎ (length ends.old < length joined.now.ends.items) }
+    ensures room { result ≢ OK → (length bytes.old < length joined.now.bytes.items)
+        ⊎ (length ends.old < length joined.now.ends.items) }
     ensures stay { result ≢ OK → (bytes.new ≡ bytes.old) × (ends.new ≡ ends.old) }
     ensures status { (result ≡ OK) ⊎ (result ≡ NO_ROOM) }
 {
@@ -80,9 +81,12 @@ pub fn write_tables(
     ends: &mut [u64],
     outcome: &mut Outcome,
 ) -> u32
-    ensures ok { result ≡ OK → AreTablesWritten depth (bytes_of tables.now) bytes.old bytes.new ends.old ends.new outcome.new }
-    ensures refused { result ≡ REFUSED → IsRefusal depth (bytes_of tables.now) bytes.old bytes.new outcome.new }
-    ensures room { result ≡ NO_ROOM → NeedTablesRoom depth (bytes_of tables.now) bytes.old ends.old outcome.new }
+    ensures ok { result ≡ OK → AreTablesWritten depth
+        (bytes_of tables.now) bytes.old bytes.new ends.old ends.new outcome.new }
+    ensures refused { result ≡ REFUSED → IsRefusal depth
+        (bytes_of tables.now) bytes.old bytes.new outcome.new }
+    ensures room { result ≡ NO_ROOM → NeedTablesRoom depth
+        (bytes_of tables.now) bytes.old ends.old outcome.new }
     ensures call { (result ≡ CALL) ↔ ((tables.now ≡ []) ⊎ ((depth < 1) ⊎ (4096 < depth))) }
     ensures stay { result ≢ OK → result ≢ REFUSED → bytes.new ≡ bytes.old }
     ensures ends_stay { result ≢ OK → ends.new ≡ ends.old }

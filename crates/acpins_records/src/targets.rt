@@ -47,7 +47,8 @@ pub(crate) fn put_targets(
     answers: &[&Option<Path>],
 ) -> Result<(), AllocError>
     requires { Ascend paths.now }
-    ensures { OnOk result (AddsTargets paths.now (map (λ a. a.now) answers.now) targets.old.items targets.new.items) }
+    ensures { OnOk result (AddsTargets paths.now
+        (map (λ a. a.now) answers.now) targets.old.items targets.new.items) }
 {
     for answer in answers {
         targets.push(target_of(paths, answer))?;

@@ -30,7 +30,8 @@ fn stands_below(paths: &Paths, parents: &[u64], next: usize, k: usize) -> bool
     requires within { (k < length paths.now) × (next < length paths.now) }
     requires room { length parents.now ≡ length paths.now }
     requires parents { AreParents paths.now parents.now }
-    ensures { (p q : List Segment) → slice_get paths.now k ≡ Some p → slice_get paths.now next ≡ Some q → IsTrue result ↔ IsBelow p q }
+    ensures { (p q : List Segment) → slice_get paths.now k ≡ Some p → slice_get paths.now next
+        ≡ Some q → IsTrue result ↔ IsBelow p q }
 {
     // A place is less than their count, so it is never `NONE`.
     let _count = paths.len();
@@ -42,7 +43,8 @@ fn run_end(paths: &Paths, parents: &[u64], ends: &[usize], k: usize) -> usize
     requires room { (length parents.now ≡ length paths.now) × (length ends.now ≡ length paths.now) }
     requires within { k < length paths.now }
     requires parents { AreParents paths.now parents.now }
-    requires later { (j : ℕ) → k < j → j < length paths.now → RunsTo paths.now j (slice_index ends.now j) }
+    requires later { (j : ℕ) → k < j → j < length paths.now
+        → RunsTo paths.now j (slice_index ends.now j) }
     ensures { RunsTo paths.now k result }
 {
     let mut next = k + 1;
@@ -57,7 +59,8 @@ fn run_ends(alloc: Global, paths: &Paths, parents: &[u64]) -> Result<Vec<usize>,
     requires room { length parents.now ≡ length paths.now }
     requires parents { AreParents paths.now parents.now }
     ensures count { IfOk result (λ v. length v.items ≡ length paths.now) }
-    ensures runs { IfOk result (λ v. (k : ℕ) → k < length paths.now → RunsTo paths.now k (slice_index v.items k)) }
+    ensures runs { IfOk result (λ v. (k : ℕ) → k < length paths.now
+        → RunsTo paths.now k (slice_index v.items k)) }
 {
     let mut ends = Vec::with_capacity(alloc, paths.len())?;
     for k in 0..paths.len() {
@@ -121,8 +124,10 @@ pub(crate) struct Tree {
 pub(crate) fn tree_of(alloc: Global, paths: &Paths) -> Result<Tree, AllocError>
     requires { Ascend paths.now }
     ensures parents { IfOk result (λ t. AreParents paths.now t.parents.items) }
-    ensures ends { IfOk result (λ t. (k : ℕ) → k < length paths.now → EndsBelow paths.now k (slice_index t.ends.items k)) }
-    ensures counts { IfOk result (λ t. (length t.parents.items ≡ length paths.now) × (length t.ends.items ≡ length paths.now)) }
+    ensures ends { IfOk result (λ t. (k : ℕ) → k < length paths.now
+        → EndsBelow paths.now k (slice_index t.ends.items k)) }
+    ensures counts { IfOk result (λ t. (length t.parents.items ≡ length paths.now)
+        × (length t.ends.items ≡ length paths.now)) }
 {
     let parents = parent_places(alloc, paths)?;
     let ends = run_ends(alloc, paths, &parents)?;

@@ -11,7 +11,8 @@ use acpins_output::{put_item, put_load_reason, table_fault_word};
 
 // A table's number, before what fails in it.
 fn put_table<E, P: PartWriter<E>>(parts: &mut P, err: &mut E, number: usize)
-    ensures { Tells (codes "table " ++ decimal number ++ codes ": ") (P.failed parts.old) (P.contents err.old) (P.failed parts.new) (P.contents err.new) }
+    ensures { Tells (codes "table " ++ decimal number ++ codes ": ") (P.failed parts.old)
+        (P.contents err.old) (P.failed parts.new) (P.contents err.new) }
 {
     put_text(parts, err, "table ");
     put_number(parts, err, number);
@@ -19,7 +20,8 @@ fn put_table<E, P: PartWriter<E>>(parts: &mut P, err: &mut E, number: usize)
 }
 
 fn put_failure<E, P: PartWriter<E>>(parts: &mut P, err: &mut E, failure: &Failure<'_>)
-    ensures { Tells (failure_text failure.now) (P.failed parts.old) (P.contents err.old) (P.failed parts.new) (P.contents err.new) }
+    ensures { Tells (failure_text failure.now) (P.failed parts.old) (P.contents err.old)
+        (P.failed parts.new) (P.contents err.new) }
 {
     match failure {
         Failure::WrongWords => put_text(parts, err, "wrong words"),
@@ -57,7 +59,8 @@ fn put_failure<E, P: PartWriter<E>>(parts: &mut P, err: &mut E, failure: &Failur
 
 /// Writes the line that says why a run failed. It takes no memory.
 pub fn put_line<E, P: PartWriter<E>>(parts: &mut P, err: &mut E, failure: &Failure<'_>)
-    ensures { Tells (failure_line failure.now) (P.failed parts.old) (P.contents err.old) (P.failed parts.new) (P.contents err.new) }
+    ensures { Tells (failure_line failure.now) (P.failed parts.old) (P.contents err.old)
+        (P.failed parts.new) (P.contents err.new) }
 {
     put_text(parts, err, "acpins: ");
     put_failure(parts, err, failure);

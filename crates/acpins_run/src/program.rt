@@ -33,8 +33,10 @@ fn tables_of<'a, F: Files>(
     request: &Request<'a>,
     files: &mut F,
 ) -> Result<Vec<Bytes>, Failure<'a>>
-    ensures ok { IfOk result (λ v. AreTablesOf (F.bytes_of files.old) request.now.hex (files_of request.now) v.items) }
-    ensures err { IfErr result (IsFilesFault (F.bytes_of files.old) request.now.hex (files_of request.now)) }
+    ensures ok { IfOk result (λ v. AreTablesOf (F.bytes_of files.old) request.now.hex
+        (files_of request.now) v.items) }
+    ensures err { IfErr result (IsFilesFault (F.bytes_of files.old) request.now.hex
+        (files_of request.now)) }
     ensures others { F.written_to files.new ≡ F.written_to files.old }
 {
     let mut tables = Vec::new(alloc);
@@ -50,7 +52,8 @@ fn some_tables_of<'a, F: Files>(
     request: &Request<'a>,
     files: &mut F,
 ) -> Result<Vec<Bytes>, Failure<'a>>
-    ensures ok { IfOk result (λ v. AreTablesOf (F.bytes_of files.old) request.now.hex (files_of request.now) v.items) }
+    ensures ok { IfOk result (λ v. AreTablesOf (F.bytes_of files.old) request.now.hex
+        (files_of request.now) v.items) }
     ensures some { IfOk result (λ v. v.items ≢ []) }
     ensures err { IfErr result (IsFailureOf (F.bytes_of files.old) (asked_in request.now)) }
     ensures others { F.written_to files.new ≡ F.written_to files.old }
@@ -70,7 +73,8 @@ fn listing_of<'a, S: Space<Object>, F: Files>(
     files: &mut F,
 ) -> Result<Vec<u8>, Failure<'a>>
     requires { (asked_in request.now).command ≡ listing }
-    ensures ok { IfOk result (λ text. IsListing (F.bytes_of files.old) (asked_in request.now) text.items) }
+    ensures ok { IfOk result (λ text. IsListing (F.bytes_of files.old)
+        (asked_in request.now) text.items) }
     ensures err { IfErr result (IsFailureOf (F.bytes_of files.old) (asked_in request.now)) }
     ensures others { F.written_to files.new ≡ F.written_to files.old }
 {
@@ -88,7 +92,8 @@ fn listing_of<'a, S: Space<Object>, F: Files>(
 // The path that the word spells.
 fn path_of<'a>(alloc: Global, word: &str) -> Result<Path, Failure<'a>>
     ensures ok { IfOk result (λ p. SpellsPathText p word.now) }
-    ensures err { IfErr result (λ f. ((f ≡ Failure.BadPath) × (IsPathText word.now → ⊥)) ⊎ (f ≡ Failure.Memory)) }
+    ensures err { IfErr result (λ f. ((f ≡ Failure.BadPath) × (IsPathText word.now → ⊥))
+        ⊎ (f ≡ Failure.Memory)) }
 {
     match Path::from_text(alloc, word) {
         Ok(path) => Ok(path),
@@ -105,7 +110,8 @@ fn showing_of<'a, S: Space<Object>, F: Files>(
     files: &mut F,
 ) -> Result<Vec<u8>, Failure<'a>>
     requires { (asked_in request.now).command ≡ showing word.now }
-    ensures ok { IfOk result (λ text. IsShowing (F.bytes_of files.old) (asked_in request.now) word.now text.items) }
+    ensures ok { IfOk result (λ text. IsShowing (F.bytes_of files.old)
+        (asked_in request.now) word.now text.items) }
     ensures err { IfErr result (IsFailureOf (F.bytes_of files.old) (asked_in request.now)) }
     ensures others { F.written_to files.new ≡ F.written_to files.old }
 {
@@ -127,7 +133,8 @@ fn checking_of<'a, S: Space<Object>, F: Files>(
     files: &mut F,
 ) -> Result<Output, Failure<'a>>
     requires { (asked_in request.now).command ≡ checking }
-    ensures ok { IfOk result (λ m. IsChecking (F.bytes_of files.old) (asked_in request.now) m.status m.text.items) }
+    ensures ok { IfOk result (λ m. IsChecking (F.bytes_of files.old)
+        (asked_in request.now) m.status m.text.items) }
     ensures err { IfErr result (IsFailureOf (F.bytes_of files.old) (asked_in request.now)) }
     ensures others { F.written_to files.new ≡ F.written_to files.old }
 {
@@ -149,7 +156,8 @@ fn rewriting_of<'a, S: Space<Object>, F: Files>(
     requires { (asked_in request.now).command ≡ rewriting out.now }
     ensures ok { OnOk result (IsRewriting (F.bytes_of files.old) (asked_in request.now)) }
     ensures err { IfErr result (IsFailureOf (F.bytes_of files.old) (asked_in request.now)) }
-    ensures stored { OnOk result (IsStored (F.bytes_of files.old) (asked_in request.now) out.now (F.written_to files.old) (F.written_to files.new)) }
+    ensures stored { OnOk result (IsStored (F.bytes_of files.old) (asked_in request.now) out.now
+        (F.written_to files.old) (F.written_to files.new)) }
     ensures left { OnErr result (F.written_to files.new ≡ F.written_to files.old) }
 {
     let tables = some_tables_of(alloc, request, files)?;
@@ -167,10 +175,13 @@ pub fn made_in<'a, S: Space<Object>, F: Files>(
     words: &'a [&'a str],
     files: &mut F,
 ) -> Result<Output, Failure<'a>>
-    ensures ok { IfOk result (λ m. IsOutput (F.bytes_of files.old) (texts words.now) m.status m.text.items) }
+    ensures ok { IfOk result (λ m. IsOutput (F.bytes_of files.old)
+        (texts words.now) m.status m.text.items) }
     ensures err { IfErr result (IsRunFailure (F.bytes_of files.old) (texts words.now)) }
-    ensures stored { OnOk result (StoresOutput (F.bytes_of files.old) (texts words.now) (F.written_to files.old) (F.written_to files.new)) }
-    ensures left { IfErr result (λ f. LeavesFiles (F.bytes_of files.old) (texts words.now) f (F.written_to files.old) (F.written_to files.new)) }
+    ensures stored { OnOk result (StoresOutput (F.bytes_of files.old) (texts words.now)
+        (F.written_to files.old) (F.written_to files.new)) }
+    ensures left { IfErr result (λ f. LeavesFiles (F.bytes_of files.old) (texts words.now) f
+        (F.written_to files.old) (F.written_to files.new)) }
 {
     let request = read_words(alloc, words)?;
     let text = match request.command {
@@ -190,10 +201,13 @@ fn made<'a, F: Files>(
     words: &'a [&'a str],
     files: &mut F,
 ) -> Result<Output, Failure<'a>>
-    ensures ok { IfOk result (λ m. IsOutput (F.bytes_of files.old) (texts words.now) m.status m.text.items) }
+    ensures ok { IfOk result (λ m. IsOutput (F.bytes_of files.old)
+        (texts words.now) m.status m.text.items) }
     ensures err { IfErr result (IsRunFailure (F.bytes_of files.old) (texts words.now)) }
-    ensures stored { OnOk result (StoresOutput (F.bytes_of files.old) (texts words.now) (F.written_to files.old) (F.written_to files.new)) }
-    ensures left { IfErr result (λ f. LeavesFiles (F.bytes_of files.old) (texts words.now) f (F.written_to files.old) (F.written_to files.new)) }
+    ensures stored { OnOk result (StoresOutput (F.bytes_of files.old) (texts words.now)
+        (F.written_to files.old) (F.written_to files.new)) }
+    ensures left { IfErr result (λ f. LeavesFiles (F.bytes_of files.old) (texts words.now) f
+        (F.written_to files.old) (F.written_to files.new)) }
 {
     made_in::<TreeSpace<Object>, F>(alloc, words, files)
 }
@@ -206,13 +220,19 @@ fn ended<'a, F: Files, O: Write>(
     files: &mut F,
     out: &mut O,
 ) -> Result<u8, Failure<'a>>
-    ensures ok { IfOk result (λ status. GetsOutput (F.bytes_of files.old) (texts words.now) status (O.contents out.old) (O.contents out.new)) }
+    ensures ok { IfOk result (λ status. GetsOutput (F.bytes_of files.old) (texts words.now) status
+        (O.contents out.old) (O.contents out.new)) }
     ensures statuses { IfOk result (λ status. (status ≡ 0) ⊎ (status ≡ 3)) }
     ensures err { IfErr result (IsRunFailure (F.bytes_of files.old) (texts words.now)) }
-    ensures kept { IfErr result (λ f. f ≢ Failure.Output → O.contents out.new ≡ O.contents out.old) }
-    ensures begun { IfErr result (λ f. f ≡ Failure.Output → GetsBeginning (F.bytes_of files.old) (texts words.now) (O.contents out.old) (O.contents out.new)) }
-    ensures stored { OnOk result (StoresOutput (F.bytes_of files.old) (texts words.now) (F.written_to files.old) (F.written_to files.new)) }
-    ensures left { IfErr result (λ f. LeavesFiles (F.bytes_of files.old) (texts words.now) f (F.written_to files.old) (F.written_to files.new)) }
+    ensures kept { IfErr result (λ f. f ≢ Failure.Output → O.contents out.new
+        ≡ O.contents out.old) }
+    ensures begun { IfErr result (λ f. f ≡ Failure.Output
+        → GetsBeginning (F.bytes_of files.old) (texts words.now) (O.contents out.old)
+        (O.contents out.new)) }
+    ensures stored { OnOk result (StoresOutput (F.bytes_of files.old) (texts words.now)
+        (F.written_to files.old) (F.written_to files.new)) }
+    ensures left { IfErr result (λ f. LeavesFiles (F.bytes_of files.old) (texts words.now) f
+        (F.written_to files.old) (F.written_to files.new)) }
 {
     let Output { text, status } = made(alloc, words, files)?;
     if !write_whole(out, &text) || out.flush().is_err() {
@@ -224,7 +244,8 @@ fn ended<'a, F: Files, O: Write>(
 /// Says why a run failed, as far as it can be said, and answers the status.
 pub fn told<E, P: PartWriter<E>>(failure: &Failure<'_>, err: &mut E, parts: &mut P) -> u8
     ensures status { result ≡ status_of failure.now }
-    ensures line { Tells (failure_line failure.now) (P.failed parts.old) (P.contents err.old) (P.failed parts.new) (P.contents err.new) }
+    ensures line { Tells (failure_line failure.now) (P.failed parts.old) (P.contents err.old)
+        (P.failed parts.new) (P.contents err.new) }
 {
     put_line(parts, err, failure);
     failure.status()
@@ -239,12 +260,17 @@ pub fn run_telling<'a, F: Files, O: Write, E, P: PartWriter<E>>(
     err: &mut E,
     parts: &mut P,
 ) -> u8
-    ensures done { result ≢ 1 → result ≢ 2 → GetsOutput (F.bytes_of files.old) (texts words.now) result (O.contents out.old) (O.contents out.new) }
+    ensures done { result ≢ 1 → result ≢ 2 → GetsOutput (F.bytes_of files.old)
+        (texts words.now) result (O.contents out.old) (O.contents out.new) }
     ensures quiet { result ≢ 1 → result ≢ 2 → err.new ≡ err.old }
-    ensures stored { result ≢ 1 → result ≢ 2 → StoresOutput (F.bytes_of files.old) (texts words.now) (F.written_to files.old) (F.written_to files.new) }
+    ensures stored { result ≢ 1 → result ≢ 2 → StoresOutput (F.bytes_of files.old)
+        (texts words.now) (F.written_to files.old) (F.written_to files.new) }
     // The failure's line is said whole, unless a write of it failed.
-    ensures failed { 1 ≤ result → result ≤ 2 → FailsWith (F.bytes_of files.old) (texts words.now) result (O.contents out.old) (O.contents out.new)
-        (F.written_to files.old) (F.written_to files.new) (λ line. Tells line (P.failed parts.old) (P.contents err.old) (P.failed parts.new) (P.contents err.new)) }
+    ensures failed { 1 ≤ result → result ≤ 2 → FailsWith (F.bytes_of files.old)
+        (texts words.now) result (O.contents out.old) (O.contents out.new)
+        (F.written_to files.old) (F.written_to files.new)
+        (λ line. Tells line (P.failed parts.old) (P.contents err.old) (P.failed parts.new)
+        (P.contents err.new)) }
     ensures statuses { result ≤ 3 }
 {
     match ended(alloc, words, files, out) {
@@ -264,14 +290,19 @@ pub fn run<'a, F: Files, O: Write, E: Write>(
     err: &mut E,
 ) -> u8
     // All that the words ask for is printed, and nothing else.
-    ensures done { result ≢ 1 → result ≢ 2 → GetsOutput (F.bytes_of files.old) (texts words.now) result (O.contents out.old) (O.contents out.new) }
+    ensures done { result ≢ 1 → result ≢ 2 → GetsOutput (F.bytes_of files.old)
+        (texts words.now) result (O.contents out.old) (O.contents out.new) }
     ensures quiet { result ≢ 1 → result ≢ 2 → err.new ≡ err.old }
-    ensures stored { result ≢ 1 → result ≢ 2 → StoresOutput (F.bytes_of files.old) (texts words.now) (F.written_to files.old) (F.written_to files.new) }
+    ensures stored { result ≢ 1 → result ≢ 2 → StoresOutput (F.bytes_of files.old)
+        (texts words.now) (F.written_to files.old) (F.written_to files.new) }
     // Something failed, and its line is said, or a beginning of it; nothing is printed, unless it was the printing.
-    ensures failed { 1 ≤ result → result ≤ 2 → FailsWith (F.bytes_of files.old) (texts words.now) result (O.contents out.old) (O.contents out.new)
-        (F.written_to files.old) (F.written_to files.new) (λ line. AppendsBeginning line (E.contents err.old) (E.contents err.new)) }
+    ensures failed { 1 ≤ result → result ≤ 2 → FailsWith (F.bytes_of files.old)
+        (texts words.now) result (O.contents out.old) (O.contents out.new)
+        (F.written_to files.old) (F.written_to files.new)
+        (λ line. AppendsBeginning line (E.contents err.old) (E.contents err.new)) }
     // The words ask for nothing, or for a path that is none, and nothing is printed.
-    ensures wrong { result ≡ 2 → IsWrong (texts words.now) × (O.contents out.new ≡ O.contents out.old) }
+    ensures wrong { result ≡ 2 → IsWrong (texts words.now)
+        × (O.contents out.new ≡ O.contents out.old) }
     ensures statuses { result ≤ 3 }
 {
     run_telling(alloc, words, files, out, err, &mut UntilFailure::new())

@@ -45,7 +45,8 @@ pub fn rewritten_text<S: Space<Object>>(
 ) -> Result<Vec<u8>, LoadFault>
     ensures ok { IfOk result (λ text. IsFileOf hex depth (dsdt.now ∷ ssdts.now) text.items) }
     ensures err { IfErr result (λ e. IsLoadFault depth (dsdt.now ∷ ssdts.now) e) }
-    ensures none { IfErr result (λ e. e ≢ LoadFault.Memory → HasNoLoad depth (dsdt.now ∷ ssdts.now)) }
+    ensures none { IfErr result (λ e. e ≢ LoadFault.Memory
+        → HasNoLoad depth (dsdt.now ∷ ssdts.now)) }
 {
     if !hex {
         return rewrite_joined::<S>(alloc, dsdt, ssdts, depth);
@@ -66,8 +67,10 @@ fn unwritten(name: &str, fault: FileFault) -> Failure<'_>
 
 /// Makes the file of that name, and writes the bytes to it. Where that fails, what stands under the name stays.
 pub fn put_file<'a, F: Files>(files: &mut F, name: &'a str, bytes: &[u8]) -> Result<(), Failure<'a>>
-    ensures held { OnOk result (Holds (F.written_to files.old name.now) (F.written_to files.new name.now) bytes.now) }
-    ensures others { (other : List ℕ) → other ≢ name.now → F.written_to files.new other ≡ F.written_to files.old other }
+    ensures held { OnOk result (Holds (F.written_to files.old name.now)
+        (F.written_to files.new name.now) bytes.now) }
+    ensures others { (other : List ℕ) → other ≢ name.now → F.written_to files.new other
+        ≡ F.written_to files.old other }
     ensures err { IfErr result (IsUnwritten name.now) }
     ensures left { OnErr result (F.written_to files.new ≡ F.written_to files.old) }
 {

@@ -55,8 +55,10 @@ fn cut<'a, S: Source>(
     source: &mut S,
     tables: &mut Vec<Bytes>,
 ) -> Result<(), Failure<'a>>
-    ensures ok { OnOk result (AddsTablesOf false (S.coming source.old) tables.old.items tables.new.items) }
-    ensures err { IfErr result (λ f. IsFileFault false name.now (S.coming source.old) (vec_len tables.old) f) }
+    ensures ok { OnOk result (AddsTablesOf false
+        (S.coming source.old) tables.old.items tables.new.items) }
+    ensures err { IfErr result (λ f. IsFileFault false name.now (S.coming source.old)
+        (vec_len tables.old) f) }
     // A file that can't be read is one failed read, and no other answer has one.
     ensures failures { CountsFailedRead result (S.failures source.old) (S.failures source.new) }
 {
@@ -85,8 +87,10 @@ pub fn add_tables<'a, F: Files>(
     hex: bool,
     tables: &mut Vec<Bytes>,
 ) -> Result<(), Failure<'a>>
-    ensures ok { OnOk result (AddsTablesOf hex (F.bytes_of files.old name.now) tables.old.items tables.new.items) }
-    ensures err { IfErr result (λ f. IsFileFault hex name.now (F.bytes_of files.old name.now) (vec_len tables.old) f) }
+    ensures ok { OnOk result (AddsTablesOf hex
+        (F.bytes_of files.old name.now) tables.old.items tables.new.items) }
+    ensures err { IfErr result (λ f. IsFileFault hex name.now (F.bytes_of files.old name.now)
+        (vec_len tables.old) f) }
     ensures stays { F.bytes_of files.new ≡ F.bytes_of files.old }
     ensures others { F.written_to files.new ≡ F.written_to files.old }
 {

@@ -65,7 +65,8 @@ fn files<'a>(alloc: Global) -> Arg<'a>
 
 // A command over tables, with the options that each has.
 fn over_tables<'a>(alloc: Global, name: &'a str) -> Result<Command<'a>, AllocError>
-    ensures app { IfOk result (λ command. app_of command ≡ with_rule (with_rule (new_app name.now) hex_rule) depth_rule) }
+    ensures app { IfOk result (λ command. app_of command
+        ≡ with_rule (with_rule (new_app name.now) hex_rule) depth_rule) }
     ensures local { IfOk result (λ command. (fields_of command).has_globals ≡ false) }
 {
     Command::new(alloc, name).arg(hex(alloc))?.arg(depth(alloc))
@@ -114,7 +115,8 @@ pub fn with<'a>(
     command: Command<'a>,
     subcommand: Result<Command<'a>, AllocError>,
 ) -> Result<Command<'a>, AllocError>
-    ensures { IfOk result (λ new. IsOkAnd subcommand.entry (λ added. AddsSubcommand command.entry added new)) }
+    ensures { IfOk result (λ new. IsOkAnd subcommand.entry
+        (λ added. AddsSubcommand command.entry added new)) }
 {
     command.subcommand(subcommand?)
 }
