@@ -14,4 +14,5 @@ pub mod Views
 pub mod Met
 pub mod Here
 pub mod Examples
+pub mod ReasonEqual
 pub mod steps

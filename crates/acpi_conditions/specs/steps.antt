@@ -11,3 +11,4 @@ pub mod Settled
 pub mod Packages
 pub mod Walks
 pub mod Moves
+pub mod ReasonEquality

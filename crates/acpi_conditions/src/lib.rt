@@ -61,6 +61,7 @@ pub mod laws;
 mod met;
 mod packages;
 mod placing;
+mod reasons;
 mod searches;
 mod seen;
 mod settled;
