@@ -2,8 +2,8 @@
 
 use crate::words::Topic;
 
-/// What `--version` prints.
-pub const VERSION: &str = "acpins-survey 1\n";
+/// What `--version` prints: the version, and the kit that builds it.
+pub const VERSION: &str = "acpins-survey 0.3.0 (rattle-kit-13f)\n";
 
 const PROGRAM: &str = "\
 acpins-survey: what the tables DSDT and SSDT of a machine declare or may declare, and under which condition
@@ -15,7 +15,7 @@ acpins-survey: what the tables DSDT and SSDT of a machine declare or may declare
   acpins-survey json FILE..       all of it, for programs
 
   acpins-survey COMMAND --help    what COMMAND prints
-  acpins-survey --version         which program this is
+  acpins-survey --version         the version, and the kit that built it
 
 A FILE holds tables one after another, or the text that acpidump writes. A folder stands for the
 files in it: DSDT, then SSDT1, SSDT2 and so on, then the SSDTs in its folder dynamic; so

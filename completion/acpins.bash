@@ -1,0 +1,27 @@
+# Completion of acpins(1) for bash.
+_acpins() {
+    local word=${COMP_WORDS[COMP_CWORD]} before=("${COMP_WORDS[@]:1:COMP_CWORD-1}") options='' option
+    COMPREPLY=()
+    if ((COMP_CWORD == 1)); then
+        mapfile -t COMPREPLY < <(compgen -W 'check list rewrite show' -- "$word")
+        compopt +o default
+        return
+    fi
+    case " ${before[*]} " in *' -- '*) return ;; esac
+    case ${before[-1]} in
+        --depth | =)
+            compopt +o default
+            return
+            ;;
+    esac
+    [[ $word == -* ]] || return
+    for option in --depth --hex; do
+        case " ${before[*]} " in
+            *" $option "*) ;;
+            *) options+=" $option" ;;
+        esac
+    done
+    mapfile -t COMPREPLY < <(compgen -W "$options" -- "$word")
+    compopt +o default
+}
+complete -o default -F _acpins acpins
