@@ -86,7 +86,7 @@ term_goes_on t c s r o none =
 
 -- ---- out of a package
 
-nothing_behind : (x : Surveying) (a : Around) (k : Known) → followed_by x empty_survey a k ≡ x a k
+pub nothing_behind : (x : Surveying) (a : Around) (k : Known) → followed_by x empty_survey a k ≡ x a k
 nothing_behind x a k = λ i. record {
   entries = append-nil (x a k).entries i;
   refused = append-nil (x a k).refused i;
@@ -98,7 +98,7 @@ nothing_behind x a k = λ i. record {
 module _ (s s1 : Reading) (ms : NodeTrees) (level end : ℕ) (bytes : List ℕ) (are : AreNodes survey_rules level end s1 ms bytes) (p : Package) (outer : List Package)
     (around : s1.walk.packages ≡ p ∷ outer) (fresh : s1.walk.last_if ≡ None) (n : Nodes)
     (through_it : walked n s.walk ≡ leave (walked (nodes_of s1.base ms) s1.walk)) where
-  left : pass (leave (after_all survey_rules s1 ms).walk) ≡ passed (survey n s.walk.around s.walk.known) s.walk
+  pub left : pass (leave (after_all survey_rules s1 ms).walk) ≡ passed (survey n s.walk.around s.walk.known) s.walk
   left =
       let u : Walk = (after_all survey_rules s1 ms).walk in
       let v : Walk = walked (nodes_of s1.base ms) s1.walk in

@@ -31,11 +31,11 @@ placed_both : (es fs : List Placement) → all_placed (es ++ fs) ≡ all_placed 
 placed_both [] fs = refl
 placed_both (e ∷ es) fs = ap (λ ds. placed e ++ ds) (placed_both es fs) ∙ sym (append_assoc (placed e) (all_placed es) (all_placed fs))
 
-length_paths : (es : List Placement) → length (paths_of es) ≡ length es
+pub length_paths : (es : List Placement) → length (paths_of es) ≡ length es
 length_paths [] = refl
 length_paths (e ∷ es) = ap suc (length_paths es)
 
-length_justified : (objects : Namespace) (before : List (List Segment)) (xs : List Site) (es : List Placement) → IsJustified objects before xs es → length es ≡ length xs
+pub length_justified : (objects : Namespace) (before : List (List Segment)) (xs : List Site) (es : List Placement) → IsJustified objects before xs es → length es ≡ length xs
 length_justified objects before [] [] h = refl
 length_justified objects before (x ∷ xs) (e ∷ es) h = ap suc (length_justified (union objects (object_of e)) (before ++ e.path ∷ []) xs es h.3)
 length_justified objects before [] (e ∷ es) h = absurd h
@@ -43,32 +43,32 @@ length_justified objects before (x ∷ xs) [] h = absurd h
 
 -- ---- the current scope
 
-abbrev Inside : List (List Segment) → Option ℕ → List Segment → Type 0
+abbrev pub Inside : List (List Segment) → Option ℕ → List Segment → Type 0
 Inside before inside s = (more : List (List Segment)) → scope_within (before ++ more) inside ≡ s
 
-inside_later : (before new : List (List Segment)) (inside : Option ℕ) (s : List Segment) → Inside before inside s → Inside (before ++ new) inside s
+pub inside_later : (before new : List (List Segment)) (inside : Option ℕ) (s : List Segment) → Inside before inside s → Inside (before ++ new) inside s
 inside_later before new inside s h more = ap (λ ps. scope_within ps inside) (append_assoc before new more) ∙ h (new ++ more)
 
-inside_now : (before : List (List Segment)) (inside : Option ℕ) (s : List Segment) → Inside before inside s → scope_within before inside ≡ s
+pub inside_now : (before : List (List Segment)) (inside : Option ℕ) (s : List Segment) → Inside before inside s → scope_within before inside ≡ s
 inside_now before inside s h = ap (λ ps. scope_within ps inside) (sym (append-nil before)) ∙ h []
 
 path_at_seam : (ps qs : List (List Segment)) (p : List Segment) → path_at (ps ++ p ∷ qs) (length ps) ≡ p
 path_at_seam [] qs p = refl
 path_at_seam (x ∷ ps) qs p = path_at_seam ps qs p
 
-inside_newest : (before : List (List Segment)) (p : List Segment) → Inside (before ++ p ∷ []) (Some (length before)) p
+pub inside_newest : (before : List (List Segment)) (p : List Segment) → Inside (before ++ p ∷ []) (Some (length before)) p
 inside_newest before p more = ap (λ ps. path_at ps (length before)) (append_assoc before (p ∷ []) more) ∙ path_at_seam before more p
 
 -- ---- a listing in two parts
 
-record Parts (objects : Namespace) (before : List (List Segment)) (xs ys : List Site) (es : List Placement) : Type 0 where
-  front : List Placement
-  back : List Placement
-  whole : es ≡ front ++ back
-  justified_front : IsJustified objects before xs front
-  justified_back : IsJustified (union objects (objects_of front)) (before ++ paths_of front) ys back
+pub record Parts (objects : Namespace) (before : List (List Segment)) (xs ys : List Site) (es : List Placement) : Type 0 where
+  pub front : List Placement
+  pub back : List Placement
+  pub whole : es ≡ front ++ back
+  pub justified_front : IsJustified objects before xs front
+  pub justified_back : IsJustified (union objects (objects_of front)) (before ++ paths_of front) ys back
 
-parts : (objects : Namespace) (before : List (List Segment)) (xs ys : List Site) (es : List Placement) → IsJustified objects before (xs ++ ys) es → Parts objects before xs ys es
+pub parts : (objects : Namespace) (before : List (List Segment)) (xs ys : List Site) (es : List Placement) → IsJustified objects before (xs ++ ys) es → Parts objects before xs ys es
 parts objects before [] ys es h = record {
   front = [];
   back = es;

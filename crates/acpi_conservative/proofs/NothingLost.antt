@@ -1,18 +1,21 @@
--- Nothing is lost in the nodes of strict items.
-use Rattle.std.proofs.Common.{◌≡◌, ℕ, suc, Bool, false, List, [], ◌∷◌, ◌++◌, inl, inr, ap, sym, subst, refl}
-use Rattle.std.specs.List.{AllZip, AllByRecursion}
-use Rattle.acpi_tree.specs.Tree.{ExternalParts, FieldTree}
+-- Nothing is lost in the nodes of strict items, and nothing noticed.
+use Rattle.std.proofs.Common.{◌≡◌, ◌∙◌, ℕ, suc, Bool, false, List, [], ◌∷◌, ◌++◌, inl, inr, ap, sym, subst, refl}
+use Rattle.std.specs.List.{AllZip, AllByRecursion, flat_map}
+use Rattle.acpi_name.specs.Names.{NameParts}
+use Rattle.acpi_tree.specs.Tree.{DataTree, int, str, buffer, pkg, var_pkg, ElemTrees, no_elems, elem, of_data, of_name, ExternalParts, FieldTree}
 use Rattle.acpi_tree.specs.Tree.{ItemTree, name, scope, method, external, external_block, create, create_field, mutex, event, region, field, index_field, bank_field, device, processor, power, thermal, ItemTrees, no_items, item}
 use Rattle.acpi_terms.specs.Spelling.{SpellsItems}
 use Rattle.acpi_declare.specs.Predefined.{predefined}
 use Rattle.acpi_conditions.specs.Entries.{Path}
 use Rattle.acpi_outline.specs.Nodes.{FieldNodes, NodeTree, NodeTrees}
 use Rattle.acpi_outline.specs.Rules.{after_all}
-use Rattle.acpi_outline.specs.Strict.{AreExternals, AreFieldsOf, IsItem, AreItems}
+use Rattle.acpi_outline.specs.Strict.{data_term, elem_terms, AreExternals, AreFieldsOf, IsItem, AreItems}
 use Rattle.acpi_outline.proofs.Strict.{strict_kept}
-use Rattle.acpi_survey.specs.Spans.{of_node}
+use Rattle.acpi_survey.specs.Spans.{Part, of_node}
 use Rattle.acpi_survey.specs.Ranges.{Range, Entered, element_ranges, first_place, inner_ranges, is_if, ranges_of}
 use Rattle.acpi_survey.specs.Problems.{why_lost}
+use Rattle.acpi_survey.specs.Marks.{MarkTree, marks_in, marks_in_all}
+use Rattle.acpi_survey.specs.Notes.{mark_reasons, part_reasons}
 use Rattle.acpi_survey.specs.Reading.{Reading, survey_rules}
 use Rattle.acpi_survey.specs.Predefined.{first_reading}
 use Rattle.acpi_survey.specs.Survey.{code_read, at_table, behind_table, AreRead}
@@ -21,9 +24,12 @@ use Rattle.acpi_conservative.specs.Laws.{StrictReadIsItems}
 use Rattle.acpi_conservative.proofs.First.{items_of}
 use Rattle.acpi_conservative.proofs.WholeTables.{strict_table_is_read}
 
--- nothing of what stands in the range is lost
+-- nothing of a part is lost, and nothing of it is noticed, whatever names are unknown and whether an If stands before it
+abbrev IsPartKept : Part → Type 0
+IsPartKept p = (why_lost p ≡ []) × ((unknown : List NameParts) (behind_if : Bool) → part_reasons unknown behind_if p ≡ [])
+
 abbrev pub IsKept : Range → Type 0
-IsKept r = why_lost r.part ≡ []
+IsKept r = IsPartKept r.part
 
 abbrev pub AreKept : List Range → Type 0
 AreKept rs = AllByRecursion IsKept rs
@@ -32,46 +38,61 @@ both_kept : (rs us : List Range) → AreKept rs → AreKept us → AreKept (rs +
 both_kept [] us h k = k
 both_kept (r ∷ rs) us h k = (h.0, both_kept rs us h.1 k)
 
+-- ---- constants have no calls and no loads
+
+mutual
+  data_marks : (d : DataTree) → marks_in (data_term d) ≡ []
+  data_marks (int i) = refl
+  data_marks (str text) = refl
+  data_marks (buffer size content) = refl
+  data_marks (pkg count es) = elems_marks es
+  data_marks (var_pkg count es) = elems_marks es
+
+  elems_marks : (es : ElemTrees) → marks_in_all (elem_terms es) ≡ []
+  elems_marks no_elems = refl
+  elems_marks (elem (of_data d) es) = ap (λ (ms : List MarkTree). ms ++ marks_in_all (elem_terms es)) (data_marks d) ∙ elems_marks es
+  elems_marks (elem (of_name n) es) = elems_marks es
+
 -- ---- in items
 
 externals_kept : (xs : List ExternalParts) (ns : NodeTrees) → AreExternals xs ns → (entered : Entered) (s : Path) (end : ℕ) (b : Bool) → AreKept (ranges_of entered s end b ns)
 externals_kept [] ns h entered s end b = subst (λ (ns : NodeTrees). AreKept (ranges_of entered s end b ns)) (sym h) tt
 externals_kept (x ∷ xs) ms (place, ns, e, h) entered s end b =
-    subst (λ (ms : NodeTrees). AreKept (ranges_of entered s end b ms)) (sym e) (refl, externals_kept xs ns h entered s end false)
+    subst (λ (ms : NodeTrees). AreKept (ranges_of entered s end b ms)) (sym e) ((refl, λ unknown b. refl), externals_kept xs ns h entered s end false)
 
 fields_kept : (es : List FieldTree) (us : FieldNodes) → AreFieldsOf es us → (s : Path) (end : ℕ) → AreKept (element_ranges s end us)
 fields_kept [] us h s end = subst (λ (us : FieldNodes). AreKept (element_ranges s end us)) (sym h) tt
-fields_kept (e ∷ es) us (place, rest, is, h) s end = subst (λ (us : FieldNodes). AreKept (element_ranges s end us)) (sym is) (refl, fields_kept es rest h s end)
+fields_kept (e ∷ es) us (place, rest, is, h) s end = subst (λ (us : FieldNodes). AreKept (element_ranges s end us)) (sym is) ((refl, λ unknown b. refl), fields_kept es rest h s end)
 
 -- neither the node nor anything in it
 abbrev IsNodeKept : Entered → ℕ → Path → ℕ → NodeTree → Type 0
-IsNodeKept entered place s end m = (why_lost (of_node m) ≡ []) × AreKept (inner_ranges entered place s end m)
+IsNodeKept entered place s end m = IsPartKept (of_node m) × AreKept (inner_ranges entered place s end m)
 
 mutual
   item_kept : (i : ItemTree) (m : NodeTree) → IsItem i m → (entered : Entered) (place : ℕ) (s : Path) (end : ℕ) → IsNodeKept entered place s end m
-  item_kept (name n d) m h entered place s end = subst (IsNodeKept entered place s end) (sym h) (refl, tt)
-  item_kept (scope n is) m (inl (ms, e, h)) entered place s end = subst (IsNodeKept entered place s end) (sym e) (refl, items_kept is ms h entered _ end false)
-  item_kept (scope n is) m (inr (b, e, h)) entered place s end = subst (IsNodeKept entered place s end) (sym e) (refl, tt)
-  item_kept (device n is) m (inl (ms, e, h)) entered place s end = subst (IsNodeKept entered place s end) (sym e) (refl, items_kept is ms h entered _ end false)
-  item_kept (device n is) m (inr (b, e, h)) entered place s end = subst (IsNodeKept entered place s end) (sym e) (refl, tt)
-  item_kept (processor n id block len is) m (inl (ms, e, h)) entered place s end = subst (IsNodeKept entered place s end) (sym e) (refl, items_kept is ms h entered _ end false)
-  item_kept (processor n id block len is) m (inr (b, e, h)) entered place s end = subst (IsNodeKept entered place s end) (sym e) (refl, tt)
-  item_kept (power n deepest order is) m (inl (ms, e, h)) entered place s end = subst (IsNodeKept entered place s end) (sym e) (refl, items_kept is ms h entered _ end false)
-  item_kept (power n deepest order is) m (inr (b, e, h)) entered place s end = subst (IsNodeKept entered place s end) (sym e) (refl, tt)
-  item_kept (thermal n is) m (inl (ms, e, h)) entered place s end = subst (IsNodeKept entered place s end) (sym e) (refl, items_kept is ms h entered _ end false)
-  item_kept (thermal n is) m (inr (b, e, h)) entered place s end = subst (IsNodeKept entered place s end) (sym e) (refl, tt)
-  item_kept (method n flags code) m h entered place s end = subst (IsNodeKept entered place s end) (sym h) (refl, tt)
-  item_kept (external x) m h entered place s end = subst (IsNodeKept entered place s end) (sym h) (refl, tt)
-  item_kept (external_block xs) m (inl (ms, e, h)) entered place s end = subst (IsNodeKept entered place s end) (sym e) (refl, externals_kept xs ms h entered _ end false)
-  item_kept (external_block xs) m (inr (b, e, h)) entered place s end = subst (IsNodeKept entered place s end) (sym e) (refl, tt)
-  item_kept (mutex n flags) m h entered place s end = subst (IsNodeKept entered place s end) (sym h) (refl, tt)
-  item_kept (event n) m h entered place s end = subst (IsNodeKept entered place s end) (sym h) (refl, tt)
-  item_kept (region n space offset len) m h entered place s end = subst (IsNodeKept entered place s end) (sym h) (refl, tt)
-  item_kept (field n flags es) m (us, e, h) entered place s end = subst (IsNodeKept entered place s end) (sym e) (refl, fields_kept es us h s end)
-  item_kept (index_field i k flags es) m (us, e, h) entered place s end = subst (IsNodeKept entered place s end) (sym e) (refl, fields_kept es us h s end)
-  item_kept (bank_field n bank value flags es) m (us, e, h) entered place s end = subst (IsNodeKept entered place s end) (sym e) (refl, fields_kept es us h s end)
-  item_kept (create w source index n) m h entered place s end = subst (IsNodeKept entered place s end) (sym h) (refl, tt)
-  item_kept (create_field source index bits n) m h entered place s end = subst (IsNodeKept entered place s end) (sym h) (refl, tt)
+  item_kept (name n d) m h entered place s end = subst (IsNodeKept entered place s end) (sym h) ((refl, λ unknown b. ap (λ (ms : List MarkTree). flat_map (mark_reasons unknown) (ms ++ [])) (data_marks d)), tt)
+  item_kept (scope n is) m (inl (ms, e, h)) entered place s end = subst (IsNodeKept entered place s end) (sym e) ((refl, λ unknown b. refl), items_kept is ms h entered _ end false)
+  item_kept (scope n is) m (inr (b, e, h)) entered place s end = subst (IsNodeKept entered place s end) (sym e) ((refl, λ unknown b. refl), tt)
+  item_kept (device n is) m (inl (ms, e, h)) entered place s end = subst (IsNodeKept entered place s end) (sym e) ((refl, λ unknown b. refl), items_kept is ms h entered _ end false)
+  item_kept (device n is) m (inr (b, e, h)) entered place s end = subst (IsNodeKept entered place s end) (sym e) ((refl, λ unknown b. refl), tt)
+  item_kept (processor n id block len is) m (inl (ms, e, h)) entered place s end = subst (IsNodeKept entered place s end) (sym e) ((refl, λ unknown b. refl), items_kept is ms h entered _ end false)
+  item_kept (processor n id block len is) m (inr (b, e, h)) entered place s end = subst (IsNodeKept entered place s end) (sym e) ((refl, λ unknown b. refl), tt)
+  item_kept (power n deepest order is) m (inl (ms, e, h)) entered place s end = subst (IsNodeKept entered place s end) (sym e) ((refl, λ unknown b. refl), items_kept is ms h entered _ end false)
+  item_kept (power n deepest order is) m (inr (b, e, h)) entered place s end = subst (IsNodeKept entered place s end) (sym e) ((refl, λ unknown b. refl), tt)
+  item_kept (thermal n is) m (inl (ms, e, h)) entered place s end = subst (IsNodeKept entered place s end) (sym e) ((refl, λ unknown b. refl), items_kept is ms h entered _ end false)
+  item_kept (thermal n is) m (inr (b, e, h)) entered place s end = subst (IsNodeKept entered place s end) (sym e) ((refl, λ unknown b. refl), tt)
+  item_kept (method n flags code) m h entered place s end = subst (IsNodeKept entered place s end) (sym h) ((refl, λ unknown b. refl), tt)
+  item_kept (external x) m h entered place s end = subst (IsNodeKept entered place s end) (sym h) ((refl, λ unknown b. refl), tt)
+  item_kept (external_block xs) m (inl (ms, e, h)) entered place s end = subst (IsNodeKept entered place s end) (sym e) ((refl, λ unknown b. refl), externals_kept xs ms h entered _ end false)
+  item_kept (external_block xs) m (inr (b, e, h)) entered place s end = subst (IsNodeKept entered place s end) (sym e) ((refl, λ unknown b. refl), tt)
+  item_kept (mutex n flags) m h entered place s end = subst (IsNodeKept entered place s end) (sym h) ((refl, λ unknown b. refl), tt)
+  item_kept (event n) m h entered place s end = subst (IsNodeKept entered place s end) (sym h) ((refl, λ unknown b. refl), tt)
+  item_kept (region n space offset len) m h entered place s end = subst (IsNodeKept entered place s end) (sym h) ((refl, λ unknown b. refl), tt)
+  item_kept (field n flags es) m (us, e, h) entered place s end = subst (IsNodeKept entered place s end) (sym e) ((refl, λ unknown b. refl), fields_kept es us h s end)
+  item_kept (index_field i k flags es) m (us, e, h) entered place s end = subst (IsNodeKept entered place s end) (sym e) ((refl, λ unknown b. refl), fields_kept es us h s end)
+  item_kept (bank_field n bank value flags es) m (us, e, h) entered place s end = subst (IsNodeKept entered place s end) (sym e) ((refl, λ unknown b. refl), fields_kept es us h s end)
+  item_kept (create w source index n) m h entered place s end = subst (IsNodeKept entered place s end) (sym h) ((refl, λ unknown b. refl), tt)
+  item_kept (create_field source index bits n) m h entered place s end = subst (IsNodeKept entered place s end) (sym h) ((refl, λ unknown b. refl), tt)
 
   pub items_kept : (is : ItemTrees) (ms : NodeTrees) → AreItems is ms → (entered : Entered) (s : Path) (end : ℕ) (b : Bool) → AreKept (ranges_of entered s end b ms)
   items_kept no_items ms h entered s end b = subst (λ (ms : NodeTrees). AreKept (ranges_of entered s end b ms)) (sym h) tt

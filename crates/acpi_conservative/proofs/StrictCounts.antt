@@ -1,5 +1,5 @@
 -- As many values follow a name in a body as in the strict load.
-use Rattle.std.proofs.Common.{◌≡◌, ◌||◌, ◌&&◌, ◌+◌, ◌<◌, ℕ, suc, Bool, true, false, true≢false, cond, not, List, [], ◌∷◌, ◌++◌, append-nil, drop, length, find, Option, Some, None, refl, sym, ap, subst, ◌∙◌, arith}
+use Rattle.std.proofs.Common.{◌≡◌, ◌||◌, ◌&&◌, ◌+◌, ◌<◌, ℕ, suc, Bool, true, false, true≢false, cond, not, List, [], ◌∷◌, ◌++◌, append-nil, drop, length, Option, Some, None, refl, sym, ap, subst, ◌∙◌, arith}
 use Rattle.std.specs.Prelude.{option_to_list, slice_index_or, nat_eq}
 use Rattle.std.specs.List.{AllByRecursion, AllZip, list_all}
 use Rattle.std.specs.FinMap as finite
@@ -19,7 +19,8 @@ use Rattle.acpi_conditions.specs.Views.{seen_by}
 use Rattle.acpi_survey.specs.Bodies.{known_behind, counts_behind, entry_count}
 use Rattle.acpi_survey.specs.Counts.{is_count, agreed, counts_numbered, count_of}
 use Rattle.acpi_survey.proofs.LocalPaths.{certain_behind}
-use Rattle.acpi_conditions.proofs.Basics.{one_some, same_path}
+use Rattle.acpi_survey.proofs.SureCounts.{found_passes}
+use Rattle.acpi_conditions.proofs.Basics.{same_path, or_right}
 use Rattle.acpi_conservative.proofs.AllSeen.{is_there, seen_certain, seen_possible, one_candidate}
 use Rattle.acpi_conservative.proofs.StrictLinks.{IsAllThere}
 
@@ -120,18 +121,6 @@ module _ (objects : Namespace) (all : List (Option ℕ)) (w : List Turn) (p : Pa
   counts_agree fs h z there = numbers_agree (args_in (objects p)) all (numbers_beyond w p 0 fs) (all_numbers 0 fs all refl h z) (some_numbers w p 0 fs h there)
 
 -- ---- a name in a body
-
-or_right : (a b : Bool) → b ≡ true → (a || b) ≡ true
-or_right true b h = refl
-or_right false b h = h
-
-found_passes : (test : Path → Bool) (ps : List Path) (p : Path) → find test ps ≡ Some p → test p ≡ true
-found_passes test [] p e = cc
-found_passes test (q ∷ qs) p e = by (test q) refl (found_passes test qs p)
-  where
-    by : (b : Bool) → test q ≡ b → (find test qs ≡ Some p → test p ≡ true) → test p ≡ true
-    by true is rest = ap test (sym (one_some q p (sym (ap (λ b. cond b (Some q) (find test qs)) is) ∙ e))) ∙ is
-    by false is rest = rest (sym (ap (λ b. cond b (Some q) (find test qs)) is) ∙ e)
 
 module _ (objects : Namespace) (es : List Entry) (counts : List (Option ℕ)) (all : IsAllThere objects es) (counted : AllZip (IsCounted objects) es counts) (e : Entry) (expected : PathMap ℕ) (locals : Locals) where
   abbrev seen : Known

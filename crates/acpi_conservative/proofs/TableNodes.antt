@@ -176,7 +176,7 @@ externals_listed : (base : ℕ) (xs : List ExternalParts) (ms : NodeTrees) → A
 externals_listed base [] ms h = ap (read.nodes_of base) h
 externals_listed base (x ∷ xs) ms (place, ns, e, h) = ap (read.nodes_of base) e ∙ externals_listed base xs ns h
 
-externals_walked : (xs : List ExternalParts) (ms : NodeTrees) → AreExternals xs ms → (s : Reading) → pass s.walk ≡ s.walk
+pub externals_walked : (xs : List ExternalParts) (ms : NodeTrees) → AreExternals xs ms → (s : Reading) → pass s.walk ≡ s.walk
     → ((after_all survey_rules s ms).walk ≡ s.walk) × ((after_all survey_rules s ms).base ≡ s.base)
 externals_walked [] ms h s fresh = (ap (λ (m : NodeTrees). (after_all survey_rules s m).walk) h, ap (λ (m : NodeTrees). (after_all survey_rules s m).base) h)
 externals_walked (x ∷ xs) ms (place, ns, e, h) s fresh =
@@ -324,7 +324,7 @@ fields_node base place i form ns vs none units_form flags links es us h of_field
 
 -- ---- all items
 
-data_none : (d : DataTree) → names_before no_terms ++ names_in_all (more (data_term d) no_terms) ≡ []
+pub data_none : (d : DataTree) → names_before no_terms ++ names_in_all (more (data_term d) no_terms) ≡ []
 data_none d = ap (λ (ns : List NameParts). ns ++ []) (data_names d)
 
 mutual

@@ -1,21 +1,29 @@
 -- Where the strict load lists tables, the survey lists the same, without conditions (ACPI 6.5, 5.3).
-use Rattle.std.specs.Prelude.{◌≡◌, ℕ, false, List, [], ◌++◌, map, option_to_list}
+use Rattle.std.specs.Prelude.{◌≡◌, ℕ, false, List, [], ◌++◌, map, option_to_list, Option, Some, slice_get}
 use Rattle.std.specs.List.{AllByRecursion, AllZip, flat_map}
 use Rattle.std.specs.FinMap as finite
 use Rattle.acpi_name.specs.Names.{NameParts}
 use Rattle.acpi_space.specs.Spaces.{PathMap}
+use Rattle.acpi_space.specs.Lookups.{Lookup}
 use Rattle.acpi_tree.specs.Tree.{ItemTrees}
+use Rattle.acpi_tree.specs.TermView.{terms_tree}
 use Rattle.acpi_declare.specs.Namespace.{Namespace}
 use Rattle.acpi_declare.specs.Predefined.{predefined}
 use Rattle.acpi_declare.specs.Listing.{Placement}
 use Rattle.acpi_declare.specs.Links.{answers}
 use Rattle.acpi_declare.specs.Loads.{AreListings, objects_after}
+use Rattle.acpi_declare.specs.Notes.{external_counts, Method, methods}
 use Rattle.acpi_declare.specs.Tables.{IsTableOf, code_of}
-use Rattle.acpi_body.specs.Arguments.{arguments}
+use Rattle.acpi_body.specs.Arguments.{Arguments, arguments}
+use Rattle.acpi_body.specs.Faults.{ShowsBody}
+use Rattle.acpi_body.specs.Bodies as bodies
+use Rattle.acpi_body.specs.Bodies.{BodyTree, read, unread}
+use Rattle.acpi_order.specs.Bodies as machines
+use Rattle.acpi_order.specs.Machines.{Machine, IsMachine}
 use Rattle.acpi_outline.specs.Nodes.{NodeTrees}
 use Rattle.acpi_outline.specs.Strict.{AreItems}
 use Rattle.acpi_conditions.specs.Entries as entries
-use Rattle.acpi_conditions.specs.Entries.{Entry, HasNoCondition}
+use Rattle.acpi_conditions.specs.Entries.{Path, Entry, HasNoCondition}
 use Rattle.acpi_conditions.specs.Known.{Known}
 use Rattle.acpi_conditions.specs.Survey.{surveys}
 use Rattle.acpi_conditions.specs.Laws.{IsAllOf, IsStrict}
@@ -24,8 +32,14 @@ use Rattle.acpi_conditions.specs.Views.{links_by}
 use Rattle.acpi_survey.specs.declared.tables.Judged.{Judged}
 use Rattle.acpi_survey.specs.declared.tables.Judged.TheVariants.{Read}
 use Rattle.acpi_survey.specs.declared.machine_survey.SurveyedTable.{SurveyedTable}
+use Rattle.acpi_survey.specs.declared.body.BodyReading.{BodyReading}
+use Rattle.acpi_survey.specs.declared.body.BodyReading.TheVariants.{Terms, Opaque}
+use Rattle.acpi_survey.specs.declared.body.MethodBody.{MethodBody}
 use Rattle.acpi_survey.specs.Bodies.{entry_count}
-use Rattle.acpi_survey.specs.Found.{problems_in}
+use Rattle.acpi_survey.specs.EntryBodies.{IsBodyOf}
+use Rattle.acpi_survey.specs.Found.{problems_in, notes_by}
+use Rattle.acpi_survey.specs.Notes.{Unknowns}
+use Rattle.acpi_survey.specs.Ranges.{Entered}
 use Rattle.acpi_survey.specs.Surveys.{AreTables, bytes_of}
 use Rattle.acpi_survey.specs.Tables.{IsJudged}
 use Rattle.acpi_survey.specs.Reading.{Reading}
@@ -91,6 +105,12 @@ abbrev pub StrictHasNoProblem : Type 0
 StrictHasNoProblem = (depth : ℕ) (kept : List SurveyedTable) (last : Reading) → AreTables depth 0 first_reading kept last
     → (ts : List (List Placement)) → AreListings depth 0 predefined (bytes_of kept) ts → problems_in last kept ≡ []
 
+-- Nor has it a note, whatever is entered and whatever names are unknown: no sum is wrong, no table is out of place, and nothing is called,
+-- loaded or stray.
+abbrev pub StrictHasNoNote : Type 0
+StrictHasNoNote = (depth : ℕ) (kept : List SurveyedTable) (last : Reading) → AreTables depth 0 first_reading kept last
+    → (ts : List (List Placement)) → AreListings depth 0 predefined (bytes_of kept) ts → (entered : ℕ → Entered) (unknowns : Unknowns) → notes_by entered unknowns 0 kept ≡ []
+
 -- ---- links and bodies
 
 -- The links of an entry are what the strict load finds over all objects: for each name one candidate, or none.
@@ -106,3 +126,56 @@ StrictCounts = (depth : ℕ) (tables : List (List ℕ)) (ts : List (List Placeme
     → (nss : List NodeTrees) (last : Reading) → AreRead depth 0 first_reading tables nss last
     → (e : Entry) (expected : PathMap ℕ)
     → entry_count last.walk.entries last.counts expected e ≡ arguments (objects_after predefined ts) (finite.get expected) e.path
+
+-- ---- bodies
+
+-- the survey hears of a table's Externals what the strict load does
+abbrev pub HearsAlike : List Placement → SurveyedTable → Type 0
+HearsAlike t k = finite.get k.expected ≡ external_counts t
+
+abbrev pub StrictExternals : Type 0
+StrictExternals = (depth : ℕ) (kept : List SurveyedTable) (last : Reading) → AreTables depth 0 first_reading kept last
+    → (ts : List (List Placement)) → AreListings depth 0 predefined (bytes_of kept) ts → AllZip HearsAlike ts kept
+
+-- What the load keeps of a method's code, and what the survey reads of it: the same terms; or none, since the code has none, for a reason
+-- that is true of it.
+abbrev pub IsSameBody : Arguments → Path → (depth : ℕ) → (code : List ℕ) → BodyTree → BodyReading → Type 0
+IsSameBody counts p depth code (read ts) (Terms v) = terms_tree v.items ≡ ts
+IsSameBody counts p depth code (unread bytes) (Opaque reason place name) = (bytes ≡ code) × ShowsBody counts p depth code reason place
+IsSameBody counts p depth code (read ts) (Opaque reason place name) = ⊥
+IsSameBody counts p depth code (unread bytes) (Terms v) = ⊥
+
+-- The entry of that number stands at the method's path, and its body is the method's: it has the method's code, and what is read of it is
+-- what the load keeps, by its objects and what the Externals of the method's table say.
+pub record HasBodyOf (depth : ℕ) (kept : List SurveyedTable) (last : Reading) (objects : Namespace) (externals : Lookup ℕ) (m : Method) : Type 0 where
+  pub number : ℕ
+  pub entry : Entry
+  pub is_numbered : slice_get last.walk.entries number ≡ Some entry
+  pub path : entry.path ≡ m.path
+  pub body : (b : Option MethodBody) → IsBodyOf last.walk.entries last.counts kept depth number b
+      → (c : MethodBody) × (b ≡ Some c) × (c.code.now ≡ m.code)
+      × ((tree : BodyTree) → bodies.IsBodyOf (arguments objects externals m.path) m.path depth m.code tree → IsSameBody (arguments objects externals m.path) m.path depth m.code tree c.reading)
+
+-- each method of each table has such an entry
+abbrev pub HaveBodies : (depth : ℕ) → List SurveyedTable → Reading → Namespace → List Placement → Type 0
+HaveBodies depth kept last objects t = AllByRecursion (HasBodyOf depth kept last objects (external_counts t)) (methods t)
+
+abbrev pub StrictBodies : Type 0
+StrictBodies = (depth : ℕ) (kept : List SurveyedTable) (last : Reading) → AreTables depth 0 first_reading kept last
+    → (ts : List (List Placement)) → AreListings depth 0 predefined (bytes_of kept) ts → AllByRecursion (HaveBodies depth kept last (objects_after predefined ts)) ts
+
+-- ---- the machine
+
+-- So is the body of a method of a machine what is kept of it.
+pub record IsKeptAs (depth : ℕ) (kept : List SurveyedTable) (last : Reading) (objects : Namespace) (m : machines.Method) (tree : BodyTree) : Type 0 where
+  pub number : ℕ
+  pub entry : Entry
+  pub is_numbered : slice_get last.walk.entries number ≡ Some entry
+  pub path : entry.path ≡ m.path
+  pub body : (b : Option MethodBody) → IsBodyOf last.walk.entries last.counts kept depth number b
+      → (c : MethodBody) × (b ≡ Some c) × (c.code.now ≡ m.code) × IsSameBody (machines.count objects m) m.path depth m.code tree c.reading
+
+-- Where tables load to a machine, each of its methods has an entry whose body is what the machine keeps.
+abbrev pub StrictMachineBodies : Type 0
+StrictMachineBodies = (depth : ℕ) (kept : List SurveyedTable) (last : Reading) → AreTables depth 0 first_reading kept last
+    → (m : Machine) (is : IsMachine depth (bytes_of kept) m) → AllZip (IsKeptAs depth kept last m.objects) (machines.all_methods is.placements) is.trees

@@ -1,5 +1,5 @@
 //! The law that the survey extends the strict load: the functions do nothing, and their contracts state the law.
-ghost use Rattle.acpi_conservative.specs.Laws.{StrictIsListing, StrictLoadIsSurvey, StrictTablesAreSurvey, PredefinedAgrees, PredefinedIsKnown, StrictTableIsRead, StrictReadIsSurvey, StrictReadIsItems, StrictHasNoProblem, StrictLinks, StrictCounts};
+ghost use Rattle.acpi_conservative.specs.Laws.{StrictIsListing, StrictLoadIsSurvey, StrictTablesAreSurvey, PredefinedAgrees, PredefinedIsKnown, StrictTableIsRead, StrictReadIsSurvey, StrictReadIsItems, StrictHasNoProblem, StrictHasNoNote, StrictLinks, StrictCounts, StrictExternals, StrictBodies, StrictMachineBodies};
 
 /// Where item trees of tables have strict listings, their nodes have these listings, and the surveys are these: no entry
 /// has a condition, and nothing is refused. So it is where a list of byte strings has strict listings, as `load` needs.
@@ -23,10 +23,11 @@ pub fn strict_read_is_survey()
     ensures entries { StrictReadIsSurvey }
 {}
 
-/// So the nodes that are read of each table are its items, and the survey has no problem.
+/// So the nodes that are read of each table are its items, and the survey has no problem and no note.
 pub fn strict_read_is_whole()
     ensures items { StrictReadIsItems }
     ensures problems { StrictHasNoProblem }
+    ensures notes { StrictHasNoNote }
 {}
 
 /// Behind them the links of each entry are what the strict load finds over all objects, and as many values follow a name
@@ -34,4 +35,13 @@ pub fn strict_read_is_whole()
 pub fn strict_links_and_counts()
     ensures links { StrictLinks }
     ensures counts { StrictCounts }
+{}
+
+/// The Externals of each table say the same in the survey and in the strict load. So where the load has the terms of a method's
+/// code, the survey's body of that entry has the same, and where the load has none, neither has the survey. Where tables
+/// load to a machine, the bodies of its methods are these.
+pub fn strict_bodies_are_read()
+    ensures externals { StrictExternals }
+    ensures bodies { StrictBodies }
+    ensures machine { StrictMachineBodies }
 {}

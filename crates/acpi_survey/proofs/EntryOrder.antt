@@ -92,7 +92,7 @@ no_less n first last [] i d g lt = absurd (omega (arith, lt))
 no_less n first last (x ∷ xs) zero d g lt = g.0
 no_less n first last (x ∷ xs) (suc i) d g lt = omega (arith, g.0, no_less n (suc (n x)) last xs i d g.1 (omega (arith, lt)))
 
-in_order : {X : Type 0} (n : X → ℕ) (first last : ℕ) (xs : List X) → Grow first last (map n xs) → IsNonDecreasingBy n xs
+pub in_order : {X : Type 0} (n : X → ℕ) (first last : ℕ) (xs : List X) → Grow first last (map n xs) → IsNonDecreasingBy n xs
 in_order n first last [] g i j d le lt = absurd (omega (arith, lt))
 in_order n first last (x ∷ xs) g zero zero d le lt = omega arith
 in_order n first last (x ∷ xs) g zero (suc j) d le lt = omega (arith, no_less n (suc (n x)) last xs j d g.1 (omega (arith, lt)))

@@ -184,7 +184,7 @@ mutual
 -- ---- tables
 
 -- a code is shorter than what sets the places of two tables apart
-code_short : (number : ℕ) (bytes : List ℕ) (j : Judged) → IsJudged number bytes j → length (code_read j) ≤ 2 ^ 64
+pub code_short : (number : ℕ) (bytes : List ℕ) (j : Judged) → IsJudged number bytes j → length (code_read j) ≤ 2 ^ 64
 code_short number bytes (Unread why) h = omega arith
 code_short number bytes (Read code is_cut has_bad_sum is_out_of_place trailing) h =
     let short : length (take (length_field bytes) bytes) ≤ length_field bytes = simp length-take (omega arith) in

@@ -7,6 +7,7 @@ pub mod TableWalks
 pub mod LocalPaths
 mod Growing
 mod EntryOrder
+mod KeptOrder
 pub mod Parts
 pub mod PlacedLists
 pub mod OpenedScopes
@@ -23,3 +24,4 @@ pub mod Refusals
 pub mod Standing
 pub mod Telling
 pub mod SureCounts
+mod NameFronts

@@ -187,7 +187,7 @@ base_closed place (container form n vs) content s = refl
 base_closed place (method n flags) content s = refl
 base_closed place f content s = refl
 
-base_enter : (place : ℕ) (f : FixedTree) (s : Reading) → (enter s place f).base ≡ s.base
+pub base_enter : (place : ℕ) (f : FixedTree) (s : Reading) → (enter s place f).base ≡ s.base
 base_enter place (outline.scope n) s = refl
 base_enter place (container form n vs) s = refl
 base_enter place (if_so v) s = refl
@@ -196,7 +196,7 @@ base_enter place (while_so v) s = refl
 base_enter place f s = refl
 
 mutual
-  base_after : (place : ℕ) (n : NodeTree) (s : Reading) → (after survey_rules place s n).base ≡ s.base
+  pub base_after : (place : ℕ) (n : NodeTree) (s : Reading) → (after survey_rules place s n).base ≡ s.base
   base_after place (plain p) s = (plain_step place p s).base
   base_after place (holds f ns) s = base_kept ns (enter s place f) ∙ base_enter place f s
   base_after place (holds_fields f es) s = (fields_step f es s.base (passing s) refl refl).base

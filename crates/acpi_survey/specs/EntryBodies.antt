@@ -6,21 +6,24 @@ use Rattle.acpi_tree.specs.TermView.{terms_tree}
 use Rattle.acpi_body.specs.Arguments.{Arguments}
 use Rattle.acpi_body.specs.Statements.{ReadsBody}
 use Rattle.acpi_body.specs.Faults.{ShowsBody}
+use Rattle.acpi_outline.specs.declared.fault.LostReason.TheVariants.{Term}
 use Rattle.acpi_outline.specs.Nodes.{closed, method}
 use Rattle.acpi_conditions.specs.Entries.{Path, Entry}
 use Rattle.acpi_survey.specs.Bodies.{entry_count}
 use Rattle.acpi_survey.specs.EntryParts.{table_at, part_declaring}
 use Rattle.acpi_survey.specs.declared.machine_survey.SurveyedTable.{SurveyedTable}
 use Rattle.acpi_survey.specs.Lookup.{Found, node_found, element_found}
-use Rattle.acpi_survey.specs.Problems.{offset_of}
+use Rattle.acpi_survey.specs.Problems.{offset_of, unsure_name}
 use Rattle.acpi_survey.specs.declared.body.BodyReading.{BodyReading}
 use Rattle.acpi_survey.specs.declared.body.BodyReading.TheVariants.{Terms, Opaque}
 use Rattle.acpi_survey.specs.declared.body.MethodBody.{MethodBody}
 
--- The code of a method at a path is read as its terms; or it is opaque, and has no reading, for a reason that is true of it.
+-- The code of a method at a path is read as its terms; or it is opaque, and has no reading, for a reason that is true of it. Where that is
+-- that it isn't sure how many values follow a name, the name is told that stands there.
 abbrev pub IsBodyReading : Arguments → Path → (depth : ℕ) → (code : List ℕ) → BodyReading → Type 0
 IsBodyReading counts p depth code (Terms v) = (ts : TermTrees) → (terms_tree v.items ≡ ts) ↔ ReadsBody counts p depth code ts
-IsBodyReading counts p depth code (Opaque reason place name) = ShowsBody counts p depth code reason place × ((ts : TermTrees) → ¬ ReadsBody counts p depth code ts)
+IsBodyReading counts p depth code (Opaque reason place name) =
+    ShowsBody counts p depth code reason place × ((ts : TermTrees) → ¬ ReadsBody counts p depth code ts) × (name ≡ unsure_name code place (Term reason))
 
 -- the code of a method, and where it begins
 abbrev pub method_code : Found → Option (ℕ × List ℕ)

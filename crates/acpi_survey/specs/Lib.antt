@@ -26,4 +26,6 @@ pub mod EntryBodies
 pub mod SurveyOrder
 pub mod NoteViews
 pub mod Found
+pub mod BodyViews
+pub mod ValuesEqual
 pub mod steps

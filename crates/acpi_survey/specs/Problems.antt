@@ -1,9 +1,10 @@
 -- What is lost or refused in a table, and where (ACPI 6.5, 5.2.6, 5.3 and 20.2.5).
-use Rattle.std.specs.Prelude.{◌+◌, ◌-◌, ◌/◌, ◌^◌, min, ℕ, false, cond, nat_lt, List, [], ◌∷◌, ◌++◌, length, drop, map, unwrap_or, Option, Some, None}
+use Rattle.std.specs.Prelude.{◌≡◌, ◌↔◌, ◌+◌, ◌-◌, ◌/◌, ◌^◌, min, ℕ, false, cond, nat_lt, List, [], ◌∷◌, ◌++◌, length, drop, map, unwrap_or, Option, Some, None}
 use Rattle.std.specs.Option.{option_map, option_to_list}
 use Rattle.std.specs.Result.{result_ok}
 use Rattle.std.specs.List.{flat_map}
 use Rattle.acpi_name.specs.Names.{NameParts}
+use Rattle.acpi_name.specs.Spelling.{BeginsWithName}
 use Rattle.acpi_code.specs.steps.Reading.{name_in}
 use Rattle.acpi_body.specs.declared.fault.BodyReason.TheVariants.{Unsure}
 use Rattle.acpi_outline.specs.declared.fault.LostFault.{LostFault}
@@ -83,6 +84,10 @@ why_lost (of_lost why) = why ∷ []
 -- the name that bytes begin with (20.2.2), and how many of them spell it
 abbrev pub name_front : List ℕ → Option (NameParts × ℕ)
 name_front bytes = option_map (λ x. (x.0, length bytes - length x.1)) (result_ok (name_in (length bytes) bytes))
+
+-- a law of it: it is the name that is spelled at the front, and the number of the bytes that spell it
+abbrev pub NameFrontsAreSpelled : Type 0
+NameFrontsAreSpelled = (bytes : List ℕ) (n : NameParts) (count : ℕ) → (name_front bytes ≡ Some (n, count)) ↔ BeginsWithName n count bytes
 
 -- how many bytes an opcode of one byte and a package length take, whose first byte says in its two highest bits how many follow it (20.2.4)
 abbrev pub package_front : List ℕ → ℕ

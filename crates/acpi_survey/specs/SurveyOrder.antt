@@ -18,6 +18,14 @@ abbrev pub EntriesStandInOrder : Type 0
 EntriesStandInOrder = (depth : ℕ) (last : Reading) (ts : List SurveyedTable) → AreTables depth 0 first_reading ts last
     → IsNonDecreasingBy (λ (e : Entry). e.term.place) (drop predefined_count last.walk.entries)
 
+-- So do the Scopes that were entered ..
+abbrev pub ScopesStandInOrder : Type 0
+ScopesStandInOrder = (depth : ℕ) (last : Reading) (ts : List SurveyedTable) → AreTables depth 0 first_reading ts last → IsNonDecreasingBy (λ (o : ℕ × Path). o.0) last.opened
+
+-- .. and the Aliases.
+abbrev pub AliasesStandInOrder : Type 0
+AliasesStandInOrder = (depth : ℕ) (last : Reading) (ts : List SurveyedTable) → AreTables depth 0 first_reading ts last → IsNonDecreasingBy (λ (s : Source). s.place) last.sources
+
 -- ---- of a survey
 
 -- the nodes of each table tile its code, and the entries of tables, the Scopes that were entered and the Aliases stand in order

@@ -8,3 +8,4 @@ pub mod MethodBodies
 pub mod MarkViews
 pub mod NotedViews
 pub mod Indexes
+pub mod ValueEquality

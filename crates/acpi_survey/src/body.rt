@@ -10,15 +10,15 @@ ghost use Rattle.acpi_survey.specs.Lookup.{found_of};
 use crate::entry_parts::entry_numbered;
 use crate::machine_survey::{Survey, SurveyedTable};
 use crate::method_bodies::{Methods, terms_of};
-use crate::problems::offset_of;
+use crate::problems::{offset_of, unsure_name};
 use crate::spans::{Span, What};
-use acpi_body::{BodyFault, BodyReason, Stop};
+use acpi_body::{BodyReason, Stop};
 use acpi_code::Depth;
 use acpi_conditions::{Entries, Entry};
-use acpi_name::{Name, read_name};
-use acpi_outline::{Fixed, Node};
+use acpi_name::Name;
+use acpi_outline::{Fixed, LostReason, Node};
 use acpi_tree::Term;
-use std::alloc::{AllocError, Global};
+use std::alloc::AllocError;
 
 /// What the code of a method is read as.
 #[derive(Debug, Drop)]
@@ -67,17 +67,6 @@ fn code_in<'a>(part: &Span<'a>) -> Option<MethodCode<'a>>
     }
 }
 
-// The name of which it isn't sure how many values follow it, at the place of a code.
-fn unsure_name(alloc: Global, code: &[u8], fault: BodyFault) -> Result<Option<Name>, AllocError> {
-    if fault.reason != BodyReason::Unsure {
-        return Ok(None);
-    }
-    match read_name(&code[fault.place.min(code.len())..]) {
-        Ok((name, _)) => Ok(Some(name.own(alloc)?)),
-        Err(_) => Ok(None),
-    }
-}
-
 // What the code of the method of an entry is read as.
 fn read_body(
     methods: &Methods<'_>,
@@ -93,7 +82,12 @@ fn read_body(
         Err(Stop::Fault(fault)) => Ok(BodyReading::Opaque {
             reason: fault.reason,
             place: fault.place,
-            name: unsure_name(methods.alloc, code, fault)?,
+            name: unsure_name(
+                methods.alloc,
+                code,
+                fault.place,
+                LostReason::Term(fault.reason),
+            )?,
         }),
         Err(Stop::Memory) => Err(AllocError),
     }

@@ -1,5 +1,6 @@
 //! Laws of the survey of tables, of the definitions alone: the functions do nothing, and their contracts state the laws.
 ghost use Rattle.acpi_survey.specs.Laws.{ReadIsSurvey, PlacesAreDistinct, TablesAreRead, AtMostOneReading, SureCountsHold};
+ghost use Rattle.acpi_survey.specs.Problems.{NameFrontsAreSpelled};
 ghost use Rattle.acpi_survey.specs.Found.{EachRefusalIsTold, OnlyRefusalsAreTold};
 
 /// What the tables may declare, as they are read one after another, is the survey of what their nodes do.
@@ -37,4 +38,9 @@ pub fn only_refusals_are_told()
 /// what the name finds at the end was declared by the body before, or by an entry with this count.
 pub fn sure_counts_hold()
     ensures { SureCountsHold }
+{}
+
+/// The name with which bytes begin, as problems and bodies tell it, is the one that is spelled there.
+pub fn name_fronts_are_spelled()
+    ensures { NameFrontsAreSpelled }
 {}

@@ -23,6 +23,7 @@
 
 mod bodies;
 mod body;
+mod body_values;
 mod by_place;
 mod calls;
 mod condition;
@@ -35,6 +36,7 @@ mod index;
 mod known;
 pub mod laws;
 mod links;
+mod literal_values;
 mod locals;
 mod lookup;
 mod machine_survey;
@@ -42,9 +44,11 @@ mod marks;
 mod method_bodies;
 mod names;
 mod needs;
+mod note_values;
 mod notes;
 mod placed;
 mod predefined;
+mod problem_values;
 mod problems;
 mod reading;
 mod reading_nodes;

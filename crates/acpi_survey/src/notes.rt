@@ -1,6 +1,6 @@
 //! What is noticed of a table that loses nothing.
 
-ghost use Rattle.std.specs.Prelude.{◌≡◌, ◌++◌, ◌∷◌, [], map, IfOk, IfSome, OnOk, Some, None};
+ghost use Rattle.std.specs.Prelude.{◌≡◌, ◌++◌, ◌∷◌, [], map, IfSome, OnOk, Some, None};
 ghost use Rattle.std.specs.Option.{option_to_list};
 ghost use Rattle.std.specs.List.{flat_map};
 ghost use Rattle.acpi_tree.specs.TermView.{term_view};
@@ -19,7 +19,7 @@ ghost use Rattle.acpi_survey.specs.steps.ReadTables.{entered_at, unknowns_of};
 
 use crate::marks::{Mark, Marks, code_at};
 use crate::needs::is_among;
-use crate::problems::{ReadTable, Site, code_of, copy_path, scope_copy, site_at};
+use crate::problems::{ReadTable, Site, code_of, scope_copy, site_at};
 use crate::reading::place_in;
 use crate::spans::{ScopedSpan, What};
 use crate::tables::Judged;
@@ -38,7 +38,7 @@ pub struct Unknown {
 }
 
 /// What is noticed of a table that loses nothing.
-#[derive(Debug, Drop, PartialEq, Eq)]
+#[derive(Debug, Drop)]
 pub enum NoteReason {
     /// The table's bytes don't sum to 0.
     BadSum,
@@ -57,7 +57,7 @@ pub enum NoteReason {
 }
 
 /// What is noticed of a table.
-#[derive(Debug, Drop, PartialEq, Eq)]
+#[derive(Debug, Drop)]
 pub struct Note {
     /// Where.
     pub site: Site,
@@ -65,36 +65,6 @@ pub struct Note {
     pub reason: NoteReason,
     /// The scope in which it stands; none of what concerns the table as a whole.
     pub scope: Option<Path>,
-}
-
-impl NoteReason {
-    /// An equal reason with memory of its own.
-    pub fn copy(&self) -> Result<NoteReason, AllocError>
-        ensures { IfOk result (λ r. r ≡ self.now) }
-    {
-        Ok(match self {
-            NoteReason::BadSum => NoteReason::BadSum,
-            NoteReason::NotDsdt => NoteReason::NotDsdt,
-            NoteReason::NotSsdt => NoteReason::NotSsdt,
-            NoteReason::Unknown(name) => NoteReason::Unknown(name.copy()?),
-            NoteReason::Stray => NoteReason::Stray,
-            NoteReason::StrayElse => NoteReason::StrayElse,
-            NoteReason::Loads => NoteReason::Loads,
-        })
-    }
-}
-
-impl Note {
-    /// An equal note with memory of its own.
-    pub fn copy(&self) -> Result<Note, AllocError>
-        ensures { IfOk result (λ n. n ≡ self.now) }
-    {
-        Ok(Note {
-            site: self.site,
-            reason: self.reason.copy()?,
-            scope: copy_path(&self.scope)?,
-        })
-    }
 }
 
 // ---- the table as a whole

@@ -4,7 +4,6 @@ ghost use Rattle.std.specs.Prelude.{◌≡◌, ◌+◌, ◌++◌, ◌∷◌, [],
 ghost use Rattle.std.specs.Option.{option_copied, option_map, option_to_list};
 ghost use Rattle.std.specs.List.{flat_map};
 ghost use Rattle.acpi_name.specs.NameRefs.{name_parts};
-ghost use Rattle.acpi_conditions.specs.EntryForms.{why_of};
 ghost use Rattle.acpi_outline.specs.View.{node_view, nodes_view};
 ghost use Rattle.acpi_survey.specs.Problems.{bytes_between, front_kept, front_problems, lost_in, name_front, named_front, offset_of, package_front, range_lost, range_problems, refused_in, site_at, table_problem, table_problems, table_ranges, trailing_problems, unsure_name, why_lost};
 ghost use Rattle.acpi_survey.specs.Survey.{code_read};
@@ -207,47 +206,6 @@ pub(crate) fn copies(alloc: Global, paths: &[Path]) -> Result<Vec<Path>, AllocEr
     Ok(copies)
 }
 
-fn copy_reason(alloc: Global, reason: &Reason) -> Result<Reason, AllocError>
-    ensures { IfOk result (λ r. why_of r ≡ why_of reason.now) }
-{
-    Ok(match reason {
-        Reason::EmptyName(path) => Reason::EmptyName(path.copy()?),
-        Reason::AboveRoot(path) => Reason::AboveRoot(path.copy()?),
-        Reason::Missing(path) => Reason::Missing(path.copy()?),
-        Reason::NoParent(path) => Reason::NoParent(path.copy()?),
-        Reason::NotAScope(path) => Reason::NotAScope(path.copy()?),
-        Reason::Taken(path) => Reason::Taken(path.copy()?),
-        Reason::Unsure(paths) => Reason::Unsure(copies(alloc, paths)?),
-    })
-}
-
-impl ProblemReason {
-    /// An equal reason with memory of its own.
-    pub fn copy(&self, alloc: Global) -> Result<ProblemReason, AllocError>
-        ensures { IfOk result (λ r. reason_view r ≡ reason_view self.now) }
-    {
-        Ok(match self {
-            ProblemReason::Unread(reason) => ProblemReason::Unread(*reason),
-            ProblemReason::Cut => ProblemReason::Cut,
-            ProblemReason::Trailing => ProblemReason::Trailing,
-            ProblemReason::Lost(fault) => ProblemReason::Lost(*fault),
-            ProblemReason::Refused(reason) => {
-                ProblemReason::Refused(copy_reason(alloc, reason)?)
-            }
-        })
-    }
-}
-
-// The name again, if there is one.
-fn copy_name(name: &Option<Name>) -> Result<Option<Name>, AllocError>
-    ensures { IfOk result (λ n. n ≡ name.now) }
-{
-    match name {
-        Some(name) => Ok(Some(name.copy()?)),
-        None => Ok(None),
-    }
-}
-
 /// The path again, if there is one.
 pub(crate) fn copy_path(path: &Option<Path>) -> Result<Option<Path>, AllocError>
     ensures { IfOk result (λ p. p ≡ path.now) }
@@ -255,21 +213,6 @@ pub(crate) fn copy_path(path: &Option<Path>) -> Result<Option<Path>, AllocError>
     match path {
         Some(path) => Ok(Some(path.copy()?)),
         None => Ok(None),
-    }
-}
-
-impl Problem {
-    /// An equal problem with memory of its own.
-    pub fn copy(&self, alloc: Global) -> Result<Problem, AllocError>
-        ensures { IfOk result (λ p. problem_view p ≡ problem_view self.now) }
-    {
-        Ok(Problem {
-            site: self.site,
-            reason: self.reason.copy(alloc)?,
-            name: copy_name(&self.name)?,
-            lost: self.lost,
-            scope: copy_path(&self.scope)?,
-        })
     }
 }
 
@@ -306,7 +249,7 @@ fn put_refused(
     if let Some(reason) = table.index.refused.at(place_in(table.number, span.from)) {
         found.push(Problem {
             site: site_at(table.number, span.from),
-            reason: ProblemReason::Refused(copy_reason(alloc, reason)?),
+            reason: ProblemReason::Refused(reason.copy(alloc)?),
             name: None,
             lost: Some(bytes_between(span.from, span.to)),
             scope: Some(scope_copy(alloc, range.around)?),
@@ -405,13 +348,18 @@ fn range_lost(code: &[u8], range: &ScopedSpan<'_>) -> LostRange
     bytes_between(span.from.saturating_add(kept), span.to)
 }
 
-// The name of which it isn't sure how many values follow it.
-fn unsure_name(alloc: Global, code: &[u8], fault: LostFault) -> Result<Option<Name>, AllocError>
-    ensures { IfOk result (λ n. n ≡ unsure_name code.now fault.place fault.reason) }
+/// The name of which it isn't sure how many values follow it.
+pub(crate) fn unsure_name(
+    alloc: Global,
+    code: &[u8],
+    place: usize,
+    reason: LostReason,
+) -> Result<Option<Name>, AllocError>
+    ensures { IfOk result (λ n. n ≡ unsure_name code.now place reason) }
 {
-    match fault.reason {
+    match reason {
         LostReason::Term(BodyReason::Unsure) => {
-            match name_front(code_behind(code, fault.place)) {
+            match name_front(code_behind(code, place)) {
                 Some((name, _)) => Ok(Some(name.own(alloc)?)),
                 None => Ok(None),
             }
@@ -435,7 +383,7 @@ fn put_lost(
         found.push(Problem {
             site: site_at(table.number, fault.place),
             reason: ProblemReason::Lost(fault),
-            name: unsure_name(alloc, code, fault)?,
+            name: unsure_name(alloc, code, fault.place, fault.reason)?,
             lost: Some(range_lost(code, range)),
             scope: Some(scope_copy(alloc, range.around)?),
         })?;

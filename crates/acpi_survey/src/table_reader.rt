@@ -8,6 +8,7 @@ ghost use Rattle.acpi_survey.specs.ProblemViews.{problem_view};
 ghost use Rattle.acpi_survey.specs.Found.{entered_in, notes_by, problems_in};
 ghost use Rattle.acpi_survey.specs.Notes.{Unknowns};
 ghost use Rattle.acpi_survey.specs.NoteViews.{note_view};
+ghost use Rattle.acpi_survey.specs.SurveyOrder.{IsInOrder};
 ghost use Rattle.acpi_survey.specs.Surveys.{AreTables, IsTable, behind_nodes, bytes_of, nodes_of_each};
 
 use crate::found::found_in;
@@ -70,6 +71,8 @@ pub fn survey(alloc: Global, tables: &[Bytes], depth: Depth) -> Result<Survey, A
     // What is known behind them is the survey of what their nodes do.
     ensures entries { IfOk result (λ s. IsSurveyed 0 first_reading s.reading
         (nodes_of_each s.tables.items)) }
+    // What is kept of them stands in the order of places.
+    ensures in_order { IfOk result IsInOrder }
     // What is lost or refused in them is told.
     ensures problems { IfOk result (λ s. map problem_view s.found.problems.items
         ≡ problems_in s.reading s.tables.items) }

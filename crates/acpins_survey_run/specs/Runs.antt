@@ -4,7 +4,6 @@ use Rattle.std.specs.Io.KnownBytes.{Appends}
 use Rattle.acpi_name.specs.Names.{Segment}
 use Rattle.acpi_name.specs.Text.{IsPathText, SpellsPathText}
 use Rattle.acpi_survey.specs.Predefined.{first_reading}
-use Rattle.acpi_survey.specs.SurveyOrder.{IsInOrder}
 use Rattle.acpi_survey.specs.Surveys.{AreTables, bytes_of}
 use Rattle.acpi_survey.specs.declared.machine_survey.Survey.{Survey}
 use Rattle.acpins_survey_output.specs.Listings.{IsListing}
@@ -32,16 +31,16 @@ pub record IsSurveyOfFiles (files : FileBytes) (folders : FolderNames) (asked : 
   pub some : tables ≢ []
   pub is : IsSurvey asked.depth tables s
 
--- What a command prints of a survey. Nothing is said of `map` and `json`, and of the others where the entries of a table stand in order.
+-- What a command prints of a survey. Nothing is said of `map` and `json`.
 abbrev pub IsTextOf : Command → Survey → List ℕ → Type 0
-IsTextOf listing s text = IsInOrder s → IsListing s text
-IsTextOf (showing word) s text = (path : List Segment) × SpellsPathText path word × (IsInOrder s → IsShownOrNone s path (Some text))
-IsTextOf telling_bodies s text = IsInOrder s → IsBodyListing s text
+IsTextOf listing s text = IsListing s text
+IsTextOf (showing word) s text = (path : List Segment) × SpellsPathText path word × IsShownOrNone s path (Some text)
+IsTextOf telling_bodies s text = IsBodyListing s text
 IsTextOf _ s text = Unit {0}
 
 -- the word of `show` spells a path at which no object may be
 abbrev pub HasNothingAt : Command → Survey → Type 0
-HasNothingAt (showing word) s = (path : List Segment) × SpellsPathText path word × (IsInOrder s → IsShownOrNone s path None)
+HasNothingAt (showing word) s = (path : List Segment) × SpellsPathText path word × IsShownOrNone s path None
 HasNothingAt _ s = ⊥
 
 -- the text and the status of a command over tables: 3 where something in them is lost or refused, and else 0

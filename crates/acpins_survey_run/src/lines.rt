@@ -44,7 +44,8 @@ fn cause_word(cause: ReadCause) -> &'static str
 }
 
 fn put_failure<E, P: PartWriter<E>>(parts: &mut P, err: &mut E, failure: &Failure)
-    ensures { Tells (failure_text failure.now) (P.failed parts.old) (P.contents err.old) (P.failed parts.new) (P.contents err.new) }
+    ensures { Tells (failure_text failure.now) (P.failed parts.old) (P.contents err.old)
+        (P.failed parts.new) (P.contents err.new) }
 {
     match failure {
         Failure::WrongWords => put_text(parts, err, "wrong words (see --help)"),
@@ -67,7 +68,8 @@ fn put_failure<E, P: PartWriter<E>>(parts: &mut P, err: &mut E, failure: &Failur
 
 /// Writes the line that says why a run failed. It takes no memory.
 pub fn put_line<E, P: PartWriter<E>>(parts: &mut P, err: &mut E, failure: &Failure)
-    ensures { Tells (failure_line failure.now) (P.failed parts.old) (P.contents err.old) (P.failed parts.new) (P.contents err.new) }
+    ensures { Tells (failure_line failure.now) (P.failed parts.old) (P.contents err.old)
+        (P.failed parts.new) (P.contents err.new) }
 {
     put_text(parts, err, "acpins-survey: ");
     put_failure(parts, err, failure);

@@ -3,6 +3,7 @@
 ghost use Rattle.std.specs.Prelude.{◌≡◌, ◌≢◌, ◌≤◌, ◌⊎◌, [], IfOk, IfErr, OnOk, true};
 ghost use Rattle.std.specs.Io.KnownBytes.{Appends};
 ghost use Rattle.acpi_name.specs.Text.{SpellsPathText, IsPathText};
+ghost use Rattle.acpi_survey.specs.SurveyOrder.{IsInOrder};
 ghost use Rattle.acpins_io.specs.Told.{AppendsBeginning, Tells};
 ghost use Rattle.acpins_words.specs.Words.{texts};
 ghost use Rattle.acpins_survey_words.specs.Words.{Command as AskedCommand, asked_in, command_in};
@@ -53,7 +54,8 @@ fn tables_of<F: Files, D: Folders>(
     files: &mut F,
     folders: &mut D,
 ) -> Result<Vec<Bytes>, Failure>
-    ensures ok { IfOk result (λ v. AreTablesOf (F.bytes_of files.old) (D.names_in folders.old) request.now.hex (asked_in request.now).files v.items) }
+    ensures ok { IfOk result (λ v. AreTablesOf (F.bytes_of files.old)
+        (D.names_in folders.old) request.now.hex (asked_in request.now).files v.items) }
     ensures err { IfErr result (IsFilesFault (F.bytes_of files.old) request.now.hex) }
     ensures others { F.written_to files.new ≡ F.written_to files.old }
 {
@@ -71,8 +73,11 @@ fn survey_of<F: Files, D: Folders>(
     files: &mut F,
     folders: &mut D,
 ) -> Result<Survey, Failure>
-    ensures ok { IfOk result (IsSurveyOfFiles (F.bytes_of files.old) (D.names_in folders.old) (asked_in request.now)) }
-    ensures err { IfErr result (IsFailureOf (F.bytes_of files.old) (D.names_in folders.old) (asked_in request.now)) }
+    ensures ok { IfOk result (IsSurveyOfFiles (F.bytes_of files.old) (D.names_in folders.old)
+        (asked_in request.now)) }
+    ensures in_order { IfOk result IsInOrder }
+    ensures err { IfErr result (IsFailureOf (F.bytes_of files.old) (D.names_in folders.old)
+        (asked_in request.now)) }
     ensures others { F.written_to files.new ≡ F.written_to files.old }
 {
     let tables = tables_of(alloc, request, files, folders)?;
@@ -85,7 +90,8 @@ fn survey_of<F: Files, D: Folders>(
 // The path that the word spells.
 fn path_of(alloc: Global, word: &str) -> Result<Path, Failure>
     ensures ok { IfOk result (λ p. SpellsPathText p word.now) }
-    ensures err { IfErr result (λ f. ((f ≡ Failure.BadPath) × (IsPathText word.now → ⊥)) ⊎ (f ≡ Failure.Memory)) }
+    ensures err { IfErr result (λ f. ((f ≡ Failure.BadPath) × (IsPathText word.now → ⊥))
+        ⊎ (f ≡ Failure.Memory)) }
 {
     match Path::from_text(alloc, word) {
         Ok(path) => Ok(path),
@@ -120,8 +126,10 @@ fn print_of(alloc: Global, command: &Command<'_>) -> Result<Print, Failure>
 
 // The text that is printed of a survey.
 fn text_of(alloc: Global, print: &Print, survey: &Survey) -> Result<Vec<u8>, Failure>
-    ensures ok { IfOk result (λ text. (command : AskedCommand) → IsPrintOf command print.now → IsTextOf command survey.now text.items) }
-    ensures err { IfErr result (λ f. (command : AskedCommand) → IsPrintOf command print.now → IsUntold command survey.now f) }
+    ensures ok { IfOk result (λ text. (command : AskedCommand) → IsPrintOf command print.now
+        → IsInOrder survey.now → IsTextOf command survey.now text.items) }
+    ensures err { IfErr result (λ f. (command : AskedCommand) → IsPrintOf command print.now
+        → IsInOrder survey.now → IsUntold command survey.now f) }
 {
     match print {
         Print::List => Ok(list(alloc, survey)?),
@@ -142,8 +150,10 @@ fn surveyed<F: Files, D: Folders>(
     files: &mut F,
     folders: &mut D,
 ) -> Result<Output, Failure>
-    ensures ok { IfOk result (λ m. IsSurveyed (F.bytes_of files.old) (D.names_in folders.old) (asked_in request.now) m.status m.text.items) }
-    ensures err { IfErr result (IsFailureOf (F.bytes_of files.old) (D.names_in folders.old) (asked_in request.now)) }
+    ensures ok { IfOk result (λ m. IsSurveyed (F.bytes_of files.old) (D.names_in folders.old)
+        (asked_in request.now) m.status m.text.items) }
+    ensures err { IfErr result (IsFailureOf (F.bytes_of files.old) (D.names_in folders.old)
+        (asked_in request.now)) }
     ensures others { F.written_to files.new ≡ F.written_to files.old }
 {
     let print = print_of(alloc, &request.command)?;
@@ -171,8 +181,10 @@ pub fn made_in<'a, F: Files, D: Folders>(
     files: &mut F,
     folders: &mut D,
 ) -> Result<Output, Failure>
-    ensures ok { IfOk result (λ m. IsOutput (F.bytes_of files.old) (D.names_in folders.old) (texts words.now) m.status m.text.items) }
-    ensures err { IfErr result (λ f. IsRunFailure (F.bytes_of files.old) (D.names_in folders.old) (texts words.now) f × (f ≢ Failure.Output)) }
+    ensures ok { IfOk result (λ m. IsOutput (F.bytes_of files.old) (D.names_in folders.old)
+        (texts words.now) m.status m.text.items) }
+    ensures err { IfErr result (λ f. IsRunFailure (F.bytes_of files.old) (D.names_in folders.old)
+        (texts words.now) f × (f ≢ Failure.Output)) }
     ensures others { F.written_to files.new ≡ F.written_to files.old }
 {
     match read_words(alloc, words)? {
@@ -184,7 +196,8 @@ pub fn made_in<'a, F: Files, D: Folders>(
 
 // Writes the bytes, and brings those that the stream holds back to where it leads.
 fn write_out<O: Write>(out: &mut O, bytes: &[u8]) -> Written
-    ensures whole { result ≡ Written.Whole → Appends (O.contents out.old) (O.contents out.new) bytes.now }
+    ensures whole { result ≡ Written.Whole → Appends (O.contents out.old)
+        (O.contents out.new) bytes.now }
     ensures begins { AppendsBeginning bytes.now (O.contents out.old) (O.contents out.new) }
 {
     match write_bytes(out, bytes) {
@@ -208,13 +221,18 @@ fn ended<'a, F: Files, D: Folders, O: Write>(
     out: &mut O,
 ) -> Result<Ending, Failure>
     ensures ok { IfOk result (λ e. e.is_whole ≡ true
-        → GetsOutput (F.bytes_of files.old) (D.names_in folders.old) (texts words.now) e.status (O.contents out.old) (O.contents out.new)) }
-    ensures part { OnOk result (GetsBeginning (F.bytes_of files.old) (D.names_in folders.old) (texts words.now) (O.contents out.old) (O.contents out.new)) }
+        → GetsOutput (F.bytes_of files.old) (D.names_in folders.old) (texts words.now) e.status
+        (O.contents out.old) (O.contents out.new)) }
+    ensures part { OnOk result (GetsBeginning (F.bytes_of files.old) (D.names_in folders.old)
+        (texts words.now) (O.contents out.old) (O.contents out.new)) }
     ensures statuses { IfOk result (λ e. (e.status ≡ 0) ⊎ (e.status ≡ 3)) }
-    ensures err { IfErr result (IsRunFailure (F.bytes_of files.old) (D.names_in folders.old) (texts words.now)) }
-    ensures kept { IfErr result (λ f. f ≢ Failure.Output → O.contents out.new ≡ O.contents out.old) }
+    ensures err { IfErr result (IsRunFailure (F.bytes_of files.old) (D.names_in folders.old)
+        (texts words.now)) }
+    ensures kept { IfErr result (λ f. f ≢ Failure.Output → O.contents out.new
+        ≡ O.contents out.old) }
     ensures begun { IfErr result (λ f. f ≡ Failure.Output
-        → GetsBeginning (F.bytes_of files.old) (D.names_in folders.old) (texts words.now) (O.contents out.old) (O.contents out.new)) }
+        → GetsBeginning (F.bytes_of files.old) (D.names_in folders.old) (texts words.now)
+        (O.contents out.old) (O.contents out.new)) }
 {
     let Output { text, status } = made_in(alloc, words, files, folders)?;
     match write_out(out, &text) {
@@ -233,7 +251,8 @@ fn ended<'a, F: Files, D: Folders, O: Write>(
 /// Says why a run failed, as far as it can be said, and answers the status.
 pub fn told<E, P: PartWriter<E>>(failure: &Failure, err: &mut E, parts: &mut P) -> u8
     ensures status { result ≡ status_of failure.now }
-    ensures line { Tells (failure_line failure.now) (P.failed parts.old) (P.contents err.old) (P.failed parts.new) (P.contents err.new) }
+    ensures line { Tells (failure_line failure.now) (P.failed parts.old) (P.contents err.old)
+        (P.failed parts.new) (P.contents err.new) }
 {
     put_line(parts, err, failure);
     failure.status()
@@ -252,13 +271,16 @@ pub fn run<'a, F: Files, D: Folders, O: Write, E: Write>(
 ) -> Ending
     // All that the words ask for is printed, and nothing else; or a beginning of it, where nobody reads it.
     ensures done { result.status ≢ 1 → result.status ≢ 2 → result.is_whole ≡ true
-        → GetsOutput (F.bytes_of files.old) (D.names_in folders.old) (texts words.now) result.status (O.contents out.old) (O.contents out.new) }
+        → GetsOutput (F.bytes_of files.old) (D.names_in folders.old)
+        (texts words.now) result.status (O.contents out.old) (O.contents out.new) }
     ensures part { result.status ≢ 1 → result.status ≢ 2
-        → GetsBeginning (F.bytes_of files.old) (D.names_in folders.old) (texts words.now) (O.contents out.old) (O.contents out.new) }
+        → GetsBeginning (F.bytes_of files.old) (D.names_in folders.old) (texts words.now)
+        (O.contents out.old) (O.contents out.new) }
     ensures quiet { result.status ≢ 1 → result.status ≢ 2 → err.new ≡ err.old }
     // Something failed, and its line is said, or a beginning of it; nothing is printed, unless it was the printing.
     ensures failed { 1 ≤ result.status → result.status ≤ 2
-        → FailsWith (F.bytes_of files.old) (D.names_in folders.old) (texts words.now) result.status (O.contents out.old) (O.contents out.new)
+        → FailsWith (F.bytes_of files.old) (D.names_in folders.old) (texts words.now) result.status
+        (O.contents out.old) (O.contents out.new)
         (λ line. AppendsBeginning line (E.contents err.old) (E.contents err.new)) }
     ensures statuses { result.status ≤ 3 }
 {

@@ -39,7 +39,8 @@ fn unread_by(alloc: Global, name: &str, fault: FileFault) -> Failure
 
 // The bytes of a file, whole.
 fn read_file<F: Files>(alloc: Global, files: &mut F, name: &str) -> Result<Vec<u8>, FileFault>
-    ensures bytes { IfOk result (λ v. IfSome (F.bytes_of files.old name.now) (λ content. v.items ≡ content)) }
+    ensures bytes { IfOk result (λ v. IfSome (F.bytes_of files.old name.now)
+        (λ content. v.items ≡ content)) }
     ensures stays { F.bytes_of files.new ≡ F.bytes_of files.old }
     ensures others { F.written_to files.new ≡ F.written_to files.old }
 {
@@ -53,7 +54,8 @@ fn read_file<F: Files>(alloc: Global, files: &mut F, name: &str) -> Result<Vec<u
 
 // Adds the tables that stand one behind another in these bytes to others.
 fn add_pieces(alloc: Global, bytes: Vec<u8>, tables: &mut Vec<Bytes>) -> Result<(), AllocError>
-    ensures { OnOk result (Adds (λ added. ArePieces added bytes.items) tables.old.items tables.new.items) }
+    ensures { OnOk result (Adds (λ added. ArePieces added bytes.items) tables.old.items
+        tables.new.items) }
 {
     let bytes = Bytes::from_vec(bytes)?;
     let mut added = pieces(alloc, &bytes)?;
@@ -62,7 +64,8 @@ fn add_pieces(alloc: Global, bytes: Vec<u8>, tables: &mut Vec<Bytes>) -> Result<
 
 // .. in each of these byte strings.
 fn add_each(alloc: Global, sources: &[Vec<u8>], tables: &mut Vec<Bytes>) -> Result<(), AllocError>
-    ensures { OnOk result (Adds (ArePiecesOfEach (map (λ v. v.items) sources.now)) tables.old.items tables.new.items) }
+    ensures { OnOk result (Adds (ArePiecesOfEach (map (λ v. v.items) sources.now)) tables.old.items
+        tables.new.items) }
 {
     for source in sources {
         let bytes = Vec::from_slice(alloc, source.as_slice())?;
@@ -88,7 +91,8 @@ fn decoded(alloc: Global, name: &str, text: &[u8]) -> Result<Vec<u8>, Failure>
 
 // Adds the tables of the text that `acpidump` writes to others.
 fn add_dumped(alloc: Global, text: &[u8], tables: &mut Vec<Bytes>) -> Result<(), AllocError>
-    ensures { OnOk result (Adds (ArePiecesOfEach (tables_of_dump text.now)) tables.old.items tables.new.items) }
+    ensures { OnOk result (Adds (ArePiecesOfEach (tables_of_dump text.now)) tables.old.items
+        tables.new.items) }
 {
     let sources = tables_in_dump(alloc, text)?;
     add_each(alloc, &sources, tables)
@@ -102,7 +106,8 @@ fn add_content(
     content: Vec<u8>,
     tables: &mut Vec<Bytes>,
 ) -> Result<(), Failure>
-    ensures ok { OnOk result (Adds (AreTablesIn hex (Some content.items)) tables.old.items tables.new.items) }
+    ensures ok { OnOk result (Adds (AreTablesIn hex (Some content.items)) tables.old.items
+        tables.new.items) }
     ensures err { IfErr result (IsFileFault hex (Some content.items) name.now) }
 {
     if hex {
@@ -123,7 +128,8 @@ fn add_file<F: Files>(
     hex: bool,
     tables: &mut Vec<Bytes>,
 ) -> Result<(), Failure>
-    ensures ok { OnOk result (Adds (AreTablesIn hex (F.bytes_of files.old name.now)) tables.old.items tables.new.items) }
+    ensures ok { OnOk result (Adds (AreTablesIn hex (F.bytes_of files.old name.now))
+        tables.old.items tables.new.items) }
     ensures err { IfErr result (IsFileFault hex (F.bytes_of files.old name.now) name.now) }
     ensures stays { F.bytes_of files.new ≡ F.bytes_of files.old }
     ensures others { F.written_to files.new ≡ F.written_to files.old }
@@ -143,7 +149,8 @@ fn add_ssdts<F: Files>(
     hex: bool,
     tables: &mut Vec<Bytes>,
 ) -> Result<(), Failure>
-    ensures ok { OnOk result (Adds (AreOfSomeFiles (F.bytes_of files.old) hex) tables.old.items tables.new.items) }
+    ensures ok { OnOk result (Adds (AreOfSomeFiles (F.bytes_of files.old) hex) tables.old.items
+        tables.new.items) }
     ensures err { IfErr result (IsFilesFault (F.bytes_of files.old) hex) }
     ensures stays { F.bytes_of files.new ≡ F.bytes_of files.old }
     ensures others { F.written_to files.new ≡ F.written_to files.old }
@@ -165,7 +172,8 @@ fn add_dynamic<F: Files, D: Folders>(
     hex: bool,
     tables: &mut Vec<Bytes>,
 ) -> Result<(), Failure>
-    ensures ok { OnOk result (Adds (AreOfSomeFiles (F.bytes_of files.old) hex) tables.old.items tables.new.items) }
+    ensures ok { OnOk result (Adds (AreOfSomeFiles (F.bytes_of files.old) hex) tables.old.items
+        tables.new.items) }
     ensures err { IfErr result (IsFilesFault (F.bytes_of files.old) hex) }
     ensures stays { F.bytes_of files.new ≡ F.bytes_of files.old }
     ensures others { F.written_to files.new ≡ F.written_to files.old }
@@ -190,7 +198,8 @@ fn add_folder<F: Files, D: Folders>(
     hex: bool,
     tables: &mut Vec<Bytes>,
 ) -> Result<(), Failure>
-    ensures ok { OnOk result (Adds (AreOfFolder (F.bytes_of files.old) hex folder.now) tables.old.items tables.new.items) }
+    ensures ok { OnOk result (Adds (AreOfFolder (F.bytes_of files.old) hex folder.now)
+        tables.old.items tables.new.items) }
     ensures err { IfErr result (IsFilesFault (F.bytes_of files.old) hex) }
     ensures stays { F.bytes_of files.new ≡ F.bytes_of files.old }
     ensures others { F.written_to files.new ≡ F.written_to files.old }
@@ -214,7 +223,8 @@ pub fn add_tables<F: Files, D: Folders>(
     hex: bool,
     tables: &mut Vec<Bytes>,
 ) -> Result<(), Failure>
-    ensures ok { OnOk result (Adds (AreTablesAt (F.bytes_of files.old) (D.names_in folders.old) hex name.now) tables.old.items tables.new.items) }
+    ensures ok { OnOk result (Adds (AreTablesAt (F.bytes_of files.old)
+        (D.names_in folders.old) hex name.now) tables.old.items tables.new.items) }
     ensures err { IfErr result (IsFilesFault (F.bytes_of files.old) hex) }
     ensures stays { F.bytes_of files.new ≡ F.bytes_of files.old }
     ensures others { F.written_to files.new ≡ F.written_to files.old }

@@ -1,6 +1,7 @@
 use Rattle.std.proofs.Common.{◌≡◌, ◌∙◌, ℕ, ◌+◌, List, ◌∷◌, drop, sym, ap, arith}
 use Rattle.std.proofs.lemmas.List.{drop_more}
 use Rattle.acpi_survey.proofs.Surveys.{kept_next, all_kept, all_read, all_only, all_surveyed}
+use Rattle.acpi_survey.proofs.KeptOrder.{survey_in_order}
 use Rattle.acpi_survey.proofs.table_reader.survey.Goals as goal
 
 pub each-preserved : goal.each-preserved
@@ -23,3 +24,6 @@ returns-clause-entries c = all_surveyed c.args.depth c.each.bytes-index c.each.r
 
 pub returns-clause-only : goal.returns-clause-only
 returns-clause-only c = all_only c.args.depth c.each.bytes-index c.each.read.items c.each.reading c.args.tables.now (grind arith) c.each.invariant
+
+pub returns-clause-in_order : goal.returns-clause-in_order
+returns-clause-in_order c = survey_in_order c.args.depth _ (all_kept c.args.depth c.each.bytes-index c.each.read.items c.each.reading c.args.tables.now (grind arith) c.each.invariant)

@@ -8,7 +8,7 @@ use Rattle.acpins_survey_run.proofs.program.surveyed.Goals as goal
 pub returns-in_err-text-clause-err : goal.returns-in_err-text-clause-err
 returns-in_err-text-clause-err g c =
     let p = err_from_is_err_and c.from_residual-in_err-text.result c.from_residual-in_err-text.ensures.1 in
-    let untold = c.in_err-text.ensures.err (command_in c.args.request.now.command) c.in_ok-print.ensures.ok in
+    let untold = c.in_err-text.ensures.err (command_in c.args.request.now.command) c.in_ok-print.ensures.ok c.in_ok-survey.ensures.in_order in
     rw (p.1, p.2) (untold_of (g.F.Files.bytes_of c.args.files.now) (g.D.Folders.names_in c.args.folders.now) (asked_in c.args.request.now) c.in_ok-survey.survey
     c.in_err-text.field-0.0 c.in_ok-survey.ensures.ok untold)
 
@@ -16,7 +16,7 @@ pub returns-clause-ok : goal.returns-clause-ok
 returns-clause-ok g c = record {
   survey = c.in_ok-survey.survey;
   is = c.in_ok-survey.ensures.ok;
-  printed = c.in_ok-text.ensures.ok (command_in c.args.request.now.command) c.in_ok-print.ensures.ok;
+  printed = c.in_ok-text.ensures.ok (command_in c.args.request.now.command) c.in_ok-print.ensures.ok c.in_ok-survey.ensures.in_order;
   status_is = elim c.if-has_problem.branch [ then-has_problem w ↦ inr w.status-is | else-has_problem w ↦ inl w.status-is ];
   problems = elim c.if-has_problem.branch [
     | then-has_problem w ↦ with_problem c.has_problem.result c.if-has_problem.status (c.in_ok-survey.survey.found.problems.items ≡ []) c.has_problem.ensures

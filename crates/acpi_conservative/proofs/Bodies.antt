@@ -1,0 +1,165 @@
+-- The bodies of strict tables are read as the strict load reads them.
+use Rattle.std.proofs.Common.{◌≡◌, ◌+◌, ◌*◌, ◌^◌, ◌<◌, ◌≤◌, ℕ, suc, cond, List, [], ◌∷◌, ◌++◌, append_assoc, length, length-append, slice_get, inl, inr, Option, Some, None, refl, sym, ap, subst, ◌∙◌, arith}
+use Rattle.std.specs.List.{AllByRecursion}
+use Rattle.std.specs.Option.{option_and_then}
+use Rattle.std.specs.FinMap as finite
+use Rattle.std.proofs.Math.Arith.{digits_div, digits_mod}
+use Rattle.std.proofs.lemmas.Bool.{le-ltb}
+use Rattle.std.proofs.lemmas.List.{length-drop}
+use Rattle.acpi_space.specs.Lookups.{Lookup, union}
+use Rattle.acpi_space.specs.Spaces.{PathMap}
+use Rattle.acpi_space.specs.Laws.{Among}
+use Rattle.acpi_tree.specs.TermView.{terms_tree}
+use Rattle.acpi_declare.specs.Namespace.{Namespace}
+use Rattle.acpi_declare.specs.Predefined.{predefined}
+use Rattle.acpi_declare.specs.Listing.{Placement, objects_of}
+use Rattle.acpi_declare.specs.Loads.{AreListings, objects_after}
+use Rattle.acpi_declare.specs.Notes.{external_counts, Method, methods}
+use Rattle.acpi_declare.specs.Tables.{code_of}
+use Rattle.acpi_body.specs.Arguments.{Arguments, arguments}
+use Rattle.acpi_body.specs.Bodies as bodies
+use Rattle.acpi_body.specs.Bodies.{BodyTree, read, unread}
+use Rattle.acpi_outline.specs.Nodes as outline
+use Rattle.acpi_outline.specs.Nodes.{closed}
+use Rattle.acpi_outline.specs.View.{nodes_view}
+use Rattle.acpi_conditions.specs.Entries.{Path, Entry}
+use Rattle.acpi_conditions.proofs.Viewing.{get_behind}
+use Rattle.acpi_survey.specs.declared.body.BodyReading.{BodyReading}
+use Rattle.acpi_survey.specs.declared.body.BodyReading.TheVariants.{Terms, Opaque}
+use Rattle.acpi_survey.specs.declared.body.MethodBody.{MethodBody}
+use Rattle.acpi_survey.specs.declared.machine_survey.SurveyedTable.{SurveyedTable}
+use Rattle.acpi_survey.specs.Bodies.{entry_count}
+use Rattle.acpi_survey.specs.EntryParts.{table_at, byte_at, part_in, part_declaring}
+use Rattle.acpi_survey.specs.EntryBodies.{IsBodyReading, IsBodyIn, IsBodyOf}
+use Rattle.acpi_survey.specs.Lookup.{Found, node_found, part_at}
+use Rattle.acpi_survey.specs.Reading.{Reading}
+use Rattle.acpi_survey.specs.Predefined.{first_reading}
+use Rattle.acpi_survey.specs.Survey.{code_read, place_in, behind_table}
+use Rattle.acpi_survey.specs.Surveys.{AreTables, behind_nodes, bytes_of, nodes_of_each}
+use Rattle.acpi_survey.proofs.Surveys.{are_read}
+use Rattle.acpi_conservative.specs.Laws.{IsSameBody, HasBodyOf, HaveBodies, StrictBodies}
+use Rattle.acpi_conservative.proofs.WholeTables.{strict_table_is_read}
+use Rattle.acpi_conservative.proofs.TableCounts.{strict_counts}
+use Rattle.acpi_conservative.proofs.PartLookups.{part_within}
+use Rattle.acpi_conservative.proofs.Steps.{IsMethodAt}
+use Rattle.acpi_conservative.proofs.FollowedTables.{part_of, IsFollowed, AreFollowed, strict_tables_follow}
+
+-- ---- one code has one reading
+
+same_body : (counts : Arguments) (p : Path) (depth : ℕ) (code : List ℕ) (r : BodyReading) → IsBodyReading counts p depth code r → (tree : BodyTree) → bodies.IsBodyOf counts p depth code tree
+    → IsSameBody counts p depth code tree r
+same_body counts p depth code (Terms v) is (read ts) tree = (is ts).1 tree
+same_body counts p depth code (Terms v) is (unread bytes) tree = absurd (tree.1 (terms_tree v.items) ((is (terms_tree v.items)).0 refl))
+same_body counts p depth code (Opaque reason place name) is (read ts) tree = absurd (is.1 ts tree)
+same_body counts p depth code (Opaque reason place name) is (unread bytes) tree = (tree.0, is.0)
+
+-- ---- where an entry stands
+
+split_at : {X : Type 0} (xs : List X) (x : X) → Among xs x → (front : List X) × (back : List X) × (xs ≡ front ++ x ∷ back)
+split_at [] x m = absurd m
+split_at (y ∷ xs) x (inl same) = ([], xs, ap (λ y. y ∷ xs) same)
+split_at (y ∷ xs) x (inr m) = let r = split_at xs x m in (y ∷ r.0, r.1, ap (λ l. y ∷ l) r.2)
+
+numbered : {X : Type 0} (before xs later : List X) (x : X) → Among xs x → (n : ℕ) × (length before ≤ n) × (slice_get (before ++ (xs ++ later)) n ≡ Some x)
+numbered before xs later x m =
+    let r = split_at xs x m in (
+      length (before ++ r.0),
+      omega (arith, length-append before r.0),
+      ap (λ l. slice_get (before ++ l) (length (before ++ r.0))) (ap (λ l. l ++ later) r.2 ∙ append_assoc r.0 (x ∷ r.1) later)
+          ∙ ap (λ l. slice_get l (length (before ++ r.0))) (sym (append_assoc before r.0 (x ∷ (r.1 ++ later))))
+          ∙ get_behind (before ++ r.0) (r.1 ++ later) x,
+    )
+
+module _ (number place : ℕ) (short : place < 2 ^ 64) where
+  as_digits : place_in number 0 + place ≡ number * 2 ^ 64 + place
+  as_digits = omega arith
+
+  in_table : table_at (place_in number 0 + place) ≡ number
+  in_table = ap table_at as_digits ∙ digits_div number short
+
+  at_byte : byte_at (place_in number 0 + place) ≡ place
+  at_byte = ap byte_at as_digits ∙ digits_mod number short
+
+-- ---- the body of one entry
+
+module _ (depth number : ℕ) (kept : List SurveyedTable) (last : Reading) (k : SurveyedTable) (here : slice_get kept number ≡ Some k) (m : Method) (e : Entry)
+    (at : IsMethodAt (part_of k) (place_in number 0) m e) (short : at.place < 2 ^ 64) (n : ℕ) (is : slice_get last.walk.entries n ≡ Some e) (behind : 10 ≤ n) where
+  stands_in : table_at e.term.place ≡ number
+  stands_in = ap table_at at.stands ∙ in_table number at.place short
+
+  table_is : slice_get kept (table_at e.term.place) ≡ Some k
+  table_is = ap (slice_get kept) stands_in ∙ here
+
+  part_is : part_declaring kept last.walk.entries n ≡ Some (node_found at.to (closed (outline.method at.declared at.flags) m.code))
+  part_is =
+      ap (λ b. cond b None (option_and_then (λ (e : Entry). part_in kept e.term.place) (slice_get last.walk.entries n))) (le-ltb n 10 behind)
+      ∙ ap (option_and_then (λ (e : Entry). part_in kept e.term.place)) is
+      ∙ ap (option_and_then (λ (t : SurveyedTable). part_at (byte_at e.term.place) (length (code_read t.judged)) (nodes_view t.nodes))) table_is
+      ∙ ap (part_of k) (ap byte_at at.stands ∙ at_byte number at.place short)
+      ∙ at.found
+
+  body_in : (b : Option MethodBody) → IsBodyOf last.walk.entries last.counts kept depth n b
+      → IsBodyIn last.walk.entries last.counts depth (Some e) (Some k) (Some (node_found at.to (closed (outline.method at.declared at.flags) m.code))) b
+  body_in b h =
+      subst (λ (p : Option Found). IsBodyIn last.walk.entries last.counts depth (Some e) (Some k) p b) part_is
+      (subst (λ (t : Option SurveyedTable). IsBodyIn last.walk.entries last.counts depth (Some e) t (part_declaring kept last.walk.entries n) b) table_is
+      (subst (λ (o : Option Entry). IsBodyIn last.walk.entries last.counts depth o (option_and_then (λ (e : Entry). slice_get kept (table_at e.term.place)) o) (part_declaring kept last.walk.entries n) b) is h))
+
+  module _ (objects : Namespace) (externals : Lookup ℕ) (counted : entry_count last.walk.entries last.counts k.expected e ≡ arguments objects (finite.get k.expected) e.path)
+      (heard : finite.get k.expected ≡ externals) where
+    counts_are : entry_count last.walk.entries last.counts k.expected e ≡ arguments objects externals m.path
+    counts_are = counted ∙ ap (λ (x : Lookup ℕ). arguments objects x e.path) heard ∙ ap (arguments objects externals) at.path
+
+    has_body : HasBodyOf depth kept last objects externals m
+    has_body = record { number = n; entry = e; is_numbered = is; path = at.path; body = λ b h. by b (body_in b h) }
+      where
+        by : (b : Option MethodBody) → IsBodyIn last.walk.entries last.counts depth (Some e) (Some k) (Some (node_found at.to (closed (outline.method at.declared at.flags) m.code))) b
+            → (c : MethodBody) × (b ≡ Some c) × (c.code.now ≡ m.code)
+            × ((tree : BodyTree) → bodies.IsBodyOf (arguments objects externals m.path) m.path depth m.code tree → IsSameBody (arguments objects externals m.path) m.path depth m.code tree c.reading)
+        by None h = absurd h
+        by (Some c) h = (
+          c,
+          refl,
+          h.0,
+          same_body (arguments objects externals m.path) m.path depth m.code c.reading
+              (subst (λ (q : Path). IsBodyReading (arguments objects externals m.path) q depth m.code c.reading) at.path
+              (subst (λ (x : Arguments). IsBodyReading x e.path depth m.code c.reading) counts_are h.2)),
+        )
+
+-- ---- of each method of each table
+
+module _ (depth : ℕ) (kept : List SurveyedTable) (last : Reading) (objects : Namespace)
+    (counted : (e : Entry) (expected : PathMap ℕ) → entry_count last.walk.entries last.counts expected e ≡ arguments objects (finite.get expected) e.path) where
+  one_body : (number : ℕ) (t : List Placement) (k : SurveyedTable) → slice_get kept number ≡ Some k → IsFollowed last number t k → length (code_read k.judged) ≤ 2 ^ 64 → (m : Method) → Among (methods t) m
+      → HasBodyOf depth kept last objects (external_counts t) m
+  one_body number t k here f short m a =
+      let r = f.methods_there m a in
+      let at : IsMethodAt (part_of k) (place_in number 0) m r.0 = r.2 in
+      let within = part_within at.place (length (code_read k.judged)) 0 (length (code_read k.judged)) (nodes_view k.nodes) f.tiles (node_found at.to (closed (outline.method at.declared at.flags) m.code)) at.found in
+      let n = numbered f.before f.news f.later r.0 r.1 in
+      has_body depth number kept last k here m r.0 at (omega (arith, within.1, short)) n.0 (ap (λ l. slice_get l n.0) f.entries ∙ n.2) (omega (arith, n.1, f.is_behind))
+      objects (external_counts t) (counted r.0 k.expected) f.heard
+
+  all_bodies : (number : ℕ) (t : List Placement) (k : SurveyedTable) → slice_get kept number ≡ Some k → IsFollowed last number t k → length (code_read k.judged) ≤ 2 ^ 64
+      → (ms : List Method) → ((m : Method) → Among ms m → Among (methods t) m) → AllByRecursion (HasBodyOf depth kept last objects (external_counts t)) ms
+  all_bodies number t k here f short [] among = tt
+  all_bodies number t k here f short (m ∷ ms) among = (one_body number t k here f short m (among m (inl refl)), all_bodies number t k here f short ms (λ x a. among x (inr a)))
+
+  tables_bodies : (number : ℕ) (front rest : List SurveyedTable) → kept ≡ front ++ rest → number ≡ length front → (s : Reading) → AreTables depth number s rest last → (before : Namespace) (ts : List (List Placement))
+      → AreListings depth number before (bytes_of rest) ts → AreFollowed last number ts rest → AllByRecursion (HaveBodies depth kept last objects) ts
+  tables_bodies number front [] whole count s a before [] l f = tt
+  tables_bodies number front [] whole count s a before (t ∷ ts) l f = absurd f
+  tables_bodies number front (k ∷ rest) whole count s a before [] l f = absurd f
+  tables_bodies number front (k ∷ rest) whole count s a before (t ∷ ts) l f =
+      let here : slice_get kept number ≡ Some k = ap (λ l. slice_get l number) whole ∙ ap (slice_get (front ++ k ∷ rest)) count ∙ get_behind front rest k in
+      let code : length (code_read k.judged) ≡ length (code_of k.bytes) = ap length (ap code_read (strict_table_is_read depth number k.bytes l.0.0 l.0.1 k.judged a.0.judged)) in
+      let short : length (code_read k.judged) ≤ 2 ^ 64 = omega (arith, code, length-drop 36 k.bytes, l.0.1.numbered.table.within_limit) in (
+        all_bodies number t k here f.0 short (methods t) (λ m x. x),
+        tables_bodies (suc number) (front ++ k ∷ []) rest (whole ∙ sym (append_assoc front (k ∷ []) rest)) (omega (arith, count, length-append front (k ∷ []))) (behind_table (behind_nodes number s k)) a.1
+            (union before (objects_of t)) ts l.1 f.1,
+      )
+
+pub strict_bodies : StrictBodies
+strict_bodies depth kept last a ts l =
+    tables_bodies depth kept last (objects_after predefined ts) (strict_counts depth (bytes_of kept) ts l (nodes_of_each kept) last (are_read depth 0 first_reading last kept a))
+    0 [] kept refl refl first_reading a predefined ts l (strict_tables_follow depth kept last a ts l)

@@ -1,0 +1,174 @@
+-- One state of the reading behind another, as the placements between them say: what Externals say, and where methods stand.
+use Rattle.std.proofs.Common.{◌≡◌, ◌+◌, ℕ, false, List, [], ◌∷◌, ◌++◌, append_assoc, append-nil, Option, Some, inl, inr, ◌⊎◌, refl, sym, ap, subst, ◌∙◌}
+use Rattle.std.specs.FinMap as finite
+use Rattle.acpi_name.specs.Names.{NameParts}
+use Rattle.acpi_space.specs.Lookups.{Lookup, singleton, union}
+use Rattle.acpi_space.specs.Spaces.{PathMap}
+use Rattle.acpi_space.specs.Laws.{Among}
+use Rattle.acpi_tree.specs.Objects.{ObjectTree, opens_scope}
+use Rattle.acpi_declare.specs.Namespace.{Namespace}
+use Rattle.acpi_declare.specs.Sites.{declares, Step, step, Site, site_in}
+use Rattle.acpi_declare.specs.Placing.{IsDeclared, IsPlaced}
+use Rattle.acpi_declare.specs.Listing.{Placement, object_by, object_of, objects_of, IsJustified}
+use Rattle.acpi_declare.specs.Notes.{counts_by, external_counts, Method, methods_by, methods}
+use Rattle.acpi_declare.proofs.Unions.{union-nothing, union_assoc}
+use Rattle.acpi_outline.specs.Nodes as outline
+use Rattle.acpi_outline.specs.Nodes.{closed}
+use Rattle.acpi_conditions.specs.Nodes.{Term}
+use Rattle.acpi_conditions.specs.Entries.{Path, Entry}
+use Rattle.acpi_survey.specs.Nodes.{term_at}
+use Rattle.acpi_conditions.proofs.Basics.{among_left, among_right, among_append}
+use Rattle.acpi_survey.specs.Reading.{Reading, declaring}
+use Rattle.acpi_survey.specs.Lookup.{Found, node_found}
+use Rattle.acpi_conservative.proofs.Items.{Inside, inside_now}
+use Rattle.acpi_conservative.proofs.Standing.{StandsIn, made, stands_behind, entries_behind}
+
+-- ---- lists
+
+objects_both : (es fs : List Placement) → objects_of (es ++ fs) ≡ union (objects_of es) (objects_of fs)
+objects_both [] fs = refl
+objects_both (e ∷ es) fs = ap (union (object_of e)) (objects_both es fs) ∙ sym (union_assoc (object_of e) (objects_of es) (objects_of fs))
+
+counts_both : (es fs : List Placement) → external_counts (es ++ fs) ≡ union (external_counts es) (external_counts fs)
+counts_both [] fs = refl
+counts_both (e ∷ es) fs =
+    let c : Lookup ℕ = counts_by e.step.effect e.scope e.step.name in
+    ap (union c) (counts_both es fs) ∙ sym (union_assoc c (external_counts es) (external_counts fs))
+
+methods_both : (es fs : List Placement) → methods (es ++ fs) ≡ methods es ++ methods fs
+methods_both [] fs = refl
+methods_both (e ∷ es) fs =
+    ap (λ (ms : List Method). methods_by e.step.effect e.path ++ ms) (methods_both es fs) ∙ sym (append_assoc (methods_by e.step.effect e.path) (methods es) (methods fs))
+
+pub none_justified : (objects : Namespace) (before : List Path) (es : List Placement) → IsJustified objects before [] es → es ≡ []
+none_justified objects before [] j = refl
+none_justified objects before (e ∷ es) j = absurd j
+
+-- ---- one state behind another
+
+-- the entry stands where the search finds the method's code
+pub record IsMethodAt (look : ℕ → Option Found) (base : ℕ) (m : Method) (e : Entry) : Type 0 where
+  pub path : e.path ≡ m.path
+  pub place : ℕ
+  pub stands : e.term.place ≡ base + place
+  pub to : ℕ
+  pub declared : NameParts
+  pub flags : ℕ
+  pub found : look place ≡ Some (node_found to (closed (outline.method declared flags) m.code))
+
+abbrev pub HaveEntries : (look : ℕ → Option Found) → (base : ℕ) → List Method → List Entry → Type 0
+HaveEntries look base ms es = (m : Method) → Among ms m → (e : Entry) × Among es e × IsMethodAt look base m e
+
+-- The state follows another by these placements: where it stands, what the Externals so far say, and the entries behind those before,
+-- one for each method where its code is found.
+pub record Follows (look : ℕ → Option Found) (objects : Namespace) (around : Path) (s s' : Reading) (es : List Placement) : Type 0 where
+  pub stands : StandsIn (union objects (objects_of es)) around s'
+  pub heard : finite.get s'.expected ≡ union (finite.get s.expected) (external_counts es)
+  pub base : s'.base ≡ s.base
+  pub news : List Entry
+  pub entries : s'.walk.entries ≡ s.walk.entries ++ news
+  pub methods_there : HaveEntries look s.base (methods es) news
+
+-- what changes nothing of these
+pub stays : (look : ℕ → Option Found) (objects : Namespace) (around : Path) (s s' : Reading) → StandsIn objects around s' → s'.expected ≡ s.expected → s'.base ≡ s.base → s'.walk.entries ≡ s.walk.entries
+    → Follows look objects around s s' []
+stays look objects around s s' h expected base entries = record {
+  stands = subst (λ (m : Namespace). StandsIn m around s') (sym (union-nothing objects)) h;
+  heard = ap finite.get expected ∙ sym (union-nothing (finite.get s.expected));
+  base = base;
+  news = [];
+  entries = entries ∙ sym (append-nil s.walk.entries);
+  methods_there = λ m a. absurd a;
+}
+
+-- one after another
+pub both_follow : (look : ℕ → Option Found) (objects : Namespace) (around : Path) (s m s' : Reading) (es fs : List Placement) → Follows look objects around s m es
+    → Follows look (union objects (objects_of es)) around m s' fs → Follows look objects around s s' (es ++ fs)
+both_follow look objects around s m s' es fs f g = record {
+  stands = subst (λ (o : Namespace). StandsIn o around s') (union_assoc objects (objects_of es) (objects_of fs) ∙ ap (union objects) (sym (objects_both es fs))) g.stands;
+  heard =
+      g.heard
+      ∙ ap (λ (c : Lookup ℕ). union c (external_counts fs)) f.heard
+      ∙ union_assoc (finite.get s.expected) (external_counts es) (external_counts fs)
+      ∙ ap (union (finite.get s.expected)) (sym (counts_both es fs));
+  base = g.base ∙ f.base;
+  news = f.news ++ g.news;
+  entries = g.entries ∙ ap (λ (l : List Entry). l ++ g.news) f.entries ∙ append_assoc s.walk.entries f.news g.news;
+  methods_there = λ x a. by x (among_append (methods es) (methods fs) x (subst (λ (ms : List Method). Among ms x) (methods_both es fs) a));
+}
+  where
+    by : (x : Method) → Among (methods es) x ⊎ Among (methods fs) x → (e : Entry) × Among (f.news ++ g.news) e × IsMethodAt look s.base x e
+    by x (inl a) = let r = f.methods_there x a in (r.0, among_left f.news g.news r.0 r.1, r.2)
+    by x (inr a) = let r = g.methods_there x a in (r.0, among_right f.news g.news r.0 r.1, subst (λ (b : ℕ). IsMethodAt look b x r.0) f.base r.2)
+
+-- ---- one site
+
+abbrev pub placement : Step → Path → Path → Placement
+placement x s p = record { step = x; scope = s; path = p }
+
+-- its placement is in the scope
+pub by_site : (objects : Namespace) (before : List Path) (inside : Option ℕ) (around : Path) → Inside before inside around → (x : Step) (ys : List Site) (Goal : List Placement → Type 0)
+    → ((p : Path) → IsPlaced x.effect objects around x.name p → (es : List Placement) → IsJustified (union objects (object_by x.effect p)) (before ++ p ∷ []) ys es → Goal (placement x around p ∷ es))
+    → (es : List Placement) → IsJustified objects before (site_in inside x ∷ ys) es → Goal es
+by_site objects before inside around at x ys Goal f [] j = absurd j
+by_site objects before inside around at x ys Goal f (e ∷ es) j =
+    let in_scope : e.scope ≡ around = j.1 ∙ inside_now before inside around at in
+    let is : e ≡ placement x around e.path = λ i. record { step = j.0 i; scope = in_scope i; path = e.path } in
+    subst (λ (d : Placement). Goal (d ∷ es)) (sym is)
+    (f e.path (subst (λ (d : Placement). IsPlaced d.step.effect objects d.scope d.step.name d.path) is j.2) es
+    (subst (λ (d : Placement). IsJustified (union objects (object_of d)) (before ++ d.path ∷ []) ys es) is j.3))
+
+-- .. and nothing stands behind it
+pub by_one : (objects : Namespace) (before : List Path) (inside : Option ℕ) (around : Path) → Inside before inside around → (x : Step) (Goal : List Placement → Type 0)
+    → ((p : Path) → IsPlaced x.effect objects around x.name p → Goal (placement x around p ∷ []))
+    → (es : List Placement) → IsJustified objects before (site_in inside x ∷ []) es → Goal es
+by_one objects before inside around at x Goal f es j =
+    by_site objects before inside around at x [] Goal
+    (λ p placed fs k. subst (λ (l : List Placement). Goal (placement x around p ∷ l)) (sym (none_justified (union objects (object_by x.effect p)) (before ++ p ∷ []) fs k)) (f p placed)) es j
+
+-- ---- a term that declares
+
+module _ (look : ℕ → Option Found) (objects : Namespace) (around : Path) (s : Reading) (h : StandsIn objects around s) (place : ℕ) (n : NameParts) where
+  -- whose code, if it has one, is found at its place
+  pub term_follows : (o : ObjectTree) (links : List NameParts) (code : Option (List ℕ)) (t : Term) → t ≡ term_at (s.base + place) n false [] → opens_scope o ≡ false
+      → (c : Option ℕ) (p : Path) → IsDeclared objects around n p
+      → ((m : Method) → Among (methods_by (declares o links code) p ++ []) m → (e : Entry) → e.path ≡ p → e.term.place ≡ s.base + place → IsMethodAt look s.base m e)
+      → Follows look objects around s (declaring t c s) (placement (step n (declares o links code)) around p ∷ [])
+  term_follows o links code t t_is alone c p d there =
+      let u : Term = term_at (s.base + place) n false [] in
+      let en : Entry = made objects around s h o (s.base + place) n false alone p d in
+      subst (λ (t : Term). Follows look objects around s (declaring t c s) (placement (step n (declares o links code)) around p ∷ [])) (sym t_is) (record {
+        stands = subst (λ (m : Namespace). StandsIn m around (declaring u c s)) (ap (union objects) (sym (union-nothing (singleton p o)))) (stands_behind objects around s h o (s.base + place) n false alone p d c);
+        heard = sym (union-nothing (finite.get s.expected));
+        base = refl;
+        news = en ∷ [];
+        entries = entries_behind objects around s h o (s.base + place) n false alone p d c;
+        methods_there = λ m a. (en, inl refl, there m a en refl refl);
+      })
+
+pub no_names : (place : ℕ) (n : NameParts) (names : List NameParts) → names ≡ [] → term_at place n false names ≡ term_at place n false []
+no_names place n names none = ap (term_at place n false) none
+
+-- ---- other starts and ends
+
+module _ (look : ℕ → Option Found) (objects : Namespace) (around : Path) (es : List Placement) where
+  pub same_start : (s m s' : Reading) → m.expected ≡ s.expected → m.base ≡ s.base → m.walk.entries ≡ s.walk.entries → Follows look objects around m s' es → Follows look objects around s s' es
+  same_start s m s' expected base entries f = record {
+    stands = f.stands;
+    heard = f.heard ∙ ap (λ (x : PathMap ℕ). union (finite.get x) (external_counts es)) expected;
+    base = f.base ∙ base;
+    news = f.news;
+    entries = f.entries ∙ ap (λ (l : List Entry). l ++ f.news) entries;
+    methods_there = λ m a. let r = f.methods_there m a in (r.0, r.1, subst (λ (b : ℕ). IsMethodAt look b m r.0) base r.2);
+  }
+
+  pub same_end : (s m s' : Reading) → StandsIn (union objects (objects_of es)) around s' → s'.expected ≡ m.expected → s'.base ≡ m.base → s'.walk.entries ≡ m.walk.entries
+      → Follows look objects around s m es → Follows look objects around s s' es
+  same_end s m s' h expected base entries f = record {
+    stands = h;
+    heard = ap finite.get expected ∙ f.heard;
+    base = base ∙ f.base;
+    news = f.news;
+    entries = entries ∙ f.entries;
+    methods_there = f.methods_there;
+  }
