@@ -3,7 +3,7 @@ _acpins_survey() {
     local word=${COMP_WORDS[COMP_CWORD]} before=("${COMP_WORDS[@]:1:COMP_CWORD-1}") options='' option
     COMPREPLY=()
     if ((COMP_CWORD == 1)); then
-        mapfile -t COMPREPLY < <(compgen -W 'bodies json list map show --help --version' -- "$word")
+        mapfile -t COMPREPLY < <(compgen -W 'bodies html json list map report show --help --version' -- "$word")
         compopt +o default
         return
     fi
@@ -15,6 +15,7 @@ _acpins_survey() {
             ;;
     esac
     [[ $word == -* ]] || return
+    [[ ${before[0]} != report ]] || case " ${before[*]} " in *' -v '*) ;; *) options=' -v' ;; esac
     for option in --depth --hex; do
         case " ${before[*]} " in
             *" $option "*) ;;

@@ -81,6 +81,11 @@ class Row:
         held = {name: it.bytes() for name, it in self.files.items()}
         return held if self.before is None else {**held, OUT: self.before}
 
+    def right(self):
+        """The answer, where `out` stays as it was unless the row says more."""
+        it = self.answer
+        return Answer(it.status, it.out, it.err, it.written if it.written is not None else self.before)
+
     def is_in_order(self):
         """Whether the files stand in the words in the order in which the row has them."""
         named = [it for it in self.files if it in self.words]

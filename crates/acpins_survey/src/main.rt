@@ -9,13 +9,13 @@ ghost use Rattle.std.specs.Prelude.{◌≡◌, ◌≢◌, ◌≤◌, IfOk};
 ghost use Rattle.std.specs.IoError.{error_kind};
 ghost use Rattle.acpins_survey_run.specs.declared.failure.Failure.{Failure};
 
-use acpins_survey_run::{Failure, HostFiles, HostFolders, UntilFailure, run, told};
+use acpins_survey_run::{Failure, HostConsole, HostFiles, HostFolders, UntilFailure, run, told};
 use std::alloc::Global;
 use std::io::ErrorKind;
 use std::process::ExitCode;
 use std::{env, io};
 
-// What the host gives: its words, its files and folders, and its two streams.
+// What the host gives: its words, its files and folders, its terminal, and its two streams.
 fn started(rt: &HostRuntime, alloc: Global) -> io::Result<u8>
     ensures { IfOk result (λ status. status ≤ 3) }
 {
@@ -26,11 +26,13 @@ fn started(rt: &HostRuntime, alloc: Global) -> io::Result<u8>
     }
     let mut files = HostFiles::new(rt);
     let mut folders = HostFolders::new(rt);
+    let mut console = HostConsole::new(rt);
     let ending = run(
         alloc,
         words.as_slice(),
         &mut files,
         &mut folders,
+        &mut console,
         &mut rt.stdout(),
         &mut rt.stderr(),
     );

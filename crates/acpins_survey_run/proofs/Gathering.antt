@@ -4,7 +4,7 @@ use Rattle.std.specs.Borrow.{Bor}
 use Rattle.std.specs.Prelude.{IfSome, OnOk, is_ok, if◌then◌else◌}
 use Rattle.acpins_io.specs.Hexadecimal.{SpellsInHex}
 use Rattle.acpins_survey_run.specs.declared.failure.Failure.{Failure}
-use Rattle.acpins_survey_run.specs.declared.failure.Failure.TheVariants.{WrongWords, BadPath, NoSuchPath, NoTable, Read, BadHex, Output, Memory}
+use Rattle.acpins_survey_run.specs.declared.failure.Failure.TheVariants.{WrongWords, BadPath, NoSuchPath, NoTable, Read, BadHex, Out, Output, Memory}
 use Rattle.std.proofs.lemmas.List.{map-append, take_more}
 use Rattle.acpins_survey_run.specs.Input.{Adds, AreOfEach, AreOfFolder, AreOfSomeFiles, AreTablesAt, AreTablesIn, AreTablesOf, FileBytes, FolderNames, HoldsTables, IsFileFault, IsFilesFault, IsPathIn}
 
@@ -103,6 +103,7 @@ known_fault hex known items name (Read file cause) is h = h
 known_fault hex None items name (BadHex file) is h = (h.0, h.1, tt)
 known_fault hex (Some content) items name (BadHex file) is h =
     (h.0, h.1, subst (λ (c : List ℕ). (bytes : List ℕ) → SpellsInHex bytes c → ⊥) is h.2)
+known_fault hex known items name (Out file) is h = absurd h
 known_fault hex known items name Output is h = absurd h
 known_fault hex known items name Memory is h = tt
 
@@ -113,6 +114,7 @@ some_file bytes_of hex name NoSuchPath h = absurd h
 some_file bytes_of hex name NoTable h = absurd h
 some_file bytes_of hex name (Read file cause) h = (name, h)
 some_file bytes_of hex name (BadHex file) h = (name, h)
+some_file bytes_of hex name (Out file) h = absurd h
 some_file bytes_of hex name Output h = absurd h
 some_file bytes_of hex name Memory h = tt
 

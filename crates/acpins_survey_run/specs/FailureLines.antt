@@ -5,7 +5,7 @@ use Rattle.acpi_text.specs.Constants.{hex_digits}
 use Rattle.acpins_survey_run.specs.declared.failure.ReadCause.{ReadCause}
 use Rattle.acpins_survey_run.specs.declared.failure.ReadCause.TheVariants.{Missing, Denied, NoDsdt, Unknown}
 use Rattle.acpins_survey_run.specs.declared.failure.Failure.{Failure}
-use Rattle.acpins_survey_run.specs.declared.failure.Failure.TheVariants.{WrongWords, BadPath, NoSuchPath, NoTable, Read, BadHex, Output, Memory}
+use Rattle.acpins_survey_run.specs.declared.failure.Failure.TheVariants.{WrongWords, BadPath, NoSuchPath, NoTable, Read, BadHex, Out, Output, Memory}
 
 -- a control character
 abbrev pub is_control : ℕ → Bool
@@ -33,6 +33,7 @@ failure_text NoSuchPath = codes "no such path"
 failure_text NoTable = codes "no table"
 failure_text (Read file cause) = file.items ++ codes ": cannot be read" ++ cause_text cause
 failure_text (BadHex file) = file.items ++ codes ": bad hexadecimal text"
+failure_text (Out file) = file.items ++ codes ": cannot be written"
 failure_text Output = codes "standard output cannot be written"
 failure_text Memory = codes "M Memory"
 

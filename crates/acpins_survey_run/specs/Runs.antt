@@ -8,14 +8,17 @@ use Rattle.acpi_survey.specs.Surveys.{AreTables, bytes_of}
 use Rattle.acpi_survey.specs.declared.machine_survey.Survey.{Survey}
 use Rattle.acpins_survey_output.specs.Listings.{IsListing}
 use Rattle.acpins_survey_output.specs.Shown.{IsBodyListing, IsShownOrNone}
+use Rattle.acpins_report.specs.Page.{IsPage}
+use Rattle.acpins_report.specs.declared.style.TheConstants.{HEAD}
 use Rattle.acpins_io.specs.Told.{AppendsBeginning}
 use Rattle.acpins_words.specs.Words.{Text}
-use Rattle.acpins_survey_words.specs.Words.{Asked, Command, Wish, listing, showing, telling_bodies, help, version, survey, wish_of}
+use Rattle.acpins_survey_words.specs.Words.{Asked, Command, Wish, listing, showing, telling_bodies, paging, help, version, survey, wish_of}
 use Rattle.acpins_survey_run.specs.FailureLines.{failure_line}
 use Rattle.acpins_survey_run.specs.Failures.{status_of}
+use Rattle.acpins_survey_run.specs.Stored.{Holds, IsUnwritten}
 use Rattle.acpins_survey_run.specs.Input.{FileBytes, FolderNames, AreTablesOf, IsFilesFault}
 use Rattle.acpins_survey_run.specs.declared.failure.Failure.{Failure}
-use Rattle.acpins_survey_run.specs.declared.failure.Failure.TheVariants.{WrongWords, BadPath, NoSuchPath, NoTable, Read, BadHex, Output, Memory}
+use Rattle.acpins_survey_run.specs.declared.failure.Failure.TheVariants.{WrongWords, BadPath, NoSuchPath, NoTable, Read, BadHex, Out, Output, Memory}
 
 -- ---- what is printed
 
@@ -31,11 +34,13 @@ pub record IsSurveyOfFiles (files : FileBytes) (folders : FolderNames) (asked : 
   pub some : tables ≢ []
   pub is : IsSurvey asked.depth tables s
 
--- What a command prints of a survey. Nothing is said of `map` and `json`.
+-- The text that a command makes of a survey. Nothing is said of `map`, `report` and `json`; of `html`, what its page is made of, in which all that
+-- comes from tables is escaped.
 abbrev pub IsTextOf : Command → Survey → List ℕ → Type 0
 IsTextOf listing s text = IsListing s text
 IsTextOf (showing word) s text = (path : List Segment) × SpellsPathText path word × IsShownOrNone s path (Some text)
 IsTextOf telling_bodies s text = IsBodyListing s text
+IsTextOf (paging out) s text = IsPage HEAD.now text
 IsTextOf _ s text = Unit {0}
 
 -- the word of `show` spells a path at which no object may be
@@ -43,11 +48,28 @@ abbrev pub HasNothingAt : Command → Survey → Type 0
 HasNothingAt (showing word) s = (path : List Segment) × SpellsPathText path word × IsShownOrNone s path None
 HasNothingAt _ s = ⊥
 
--- the text and the status of a command over tables: 3 where something in them is lost or refused, and else 0
+-- the text that a command makes of the tables in the files
+pub record IsMadeOf (files : FileBytes) (folders : FolderNames) (asked : Asked) (text : List ℕ) : Type 0 where
+  pub survey : Survey
+  pub is : IsSurveyOfFiles files folders asked survey
+  pub made : IsTextOf asked.command survey text
+
+-- the file to which a command writes its text, which is then not printed: that of `html`
+abbrev pub page_file : Command → Option Text
+page_file (paging out) = Some out
+page_file _ = None
+
+abbrev pub printed_of : Option Text → List ℕ → List ℕ
+printed_of (Some out) text = []
+printed_of None text = text
+
+-- what a command over tables prints, and its status: 3 where something in them is lost or refused, and else 0
 pub record IsSurveyed (files : FileBytes) (folders : FolderNames) (asked : Asked) (status : ℕ) (text : List ℕ) : Type 0 where
   pub survey : Survey
   pub is : IsSurveyOfFiles files folders asked survey
-  pub printed : IsTextOf asked.command survey text
+  pub made : List ℕ
+  pub of_survey : IsTextOf asked.command survey made
+  pub printed : text ≡ printed_of (page_file asked.command) made
   pub status_is : (status ≡ 0) ⊎ (status ≡ 3)
   pub problems : (status ≡ 0) ↔ (survey.found.problems.items ≡ [])
 
@@ -69,7 +91,34 @@ GetsOutput files folders words status old new = (text : List ℕ) × IsOutput fi
 abbrev pub GetsBeginning : FileBytes → FolderNames → List Text → Option (List ℕ) → Option (List ℕ) → Type 0
 GetsBeginning files folders words old new = (status : ℕ) × (text : List ℕ) × IsOutput files folders words status text × AppendsBeginning text old new
 
+-- ---- what is written to files
+
+-- The file to which a command writes its text holds it, and all other files are as they were.
+-- `old` and `new` are what was written to each file, where it is known.
+abbrev pub IsHeldIn : Option Text → List ℕ → FileBytes → FileBytes → Type 0
+IsHeldIn (Some out) text old new = Holds (old out) (new out) text × ((other : List ℕ) → other ≢ out → new other ≡ old other)
+IsHeldIn None text old new = new ≡ old
+
+abbrev pub IsStoredFor : FileBytes → FolderNames → Wish → FileBytes → FileBytes → Type 0
+IsStoredFor files folders (survey asked) old new =
+    (text : List ℕ) × IsMadeOf files folders asked text × IsHeldIn (page_file asked.command) text old new
+IsStoredFor files folders _ old new = new ≡ old
+
+abbrev pub StoresOutput : FileBytes → FolderNames → List Text → FileBytes → FileBytes → Type 0
+StoresOutput files folders words old new =
+    (wish : Wish) × (wish_of words ≡ Some wish) × IsStoredFor files folders wish old new
+
+-- a failure leaves all files as they were; where standard output can't be written, all else is done
+abbrev pub LeavesFiles : FileBytes → FolderNames → List Text → Failure → FileBytes → FileBytes → Type 0
+LeavesFiles files folders words Output old new = StoresOutput files folders words old new
+LeavesFiles files folders words failure old new = new ≡ old
+
 -- ---- why nothing is
+
+-- the text is made, and its file is said not to be written
+abbrev pub IsUnwrittenIn : Option Text → Failure → Type 0
+IsUnwrittenIn (Some out) failure = IsUnwritten out failure
+IsUnwrittenIn None failure = ⊥
 
 -- the word of `show` spells no path
 abbrev pub IsBadPath : Command → Type 0
@@ -80,6 +129,8 @@ IsBadPath _ = ⊥
 abbrev pub IsFailureOf : FileBytes → FolderNames → Asked → Failure → Type 0
 IsFailureOf files folders asked (Read file cause) = IsFilesFault files asked.hex (Read file cause)
 IsFailureOf files folders asked (BadHex file) = IsFilesFault files asked.hex (BadHex file)
+IsFailureOf files folders asked (Out file) =
+    (text : List ℕ) × IsMadeOf files folders asked text × IsUnwrittenIn (page_file asked.command) (Out file)
 IsFailureOf files folders asked BadPath = IsBadPath asked.command
 IsFailureOf files folders asked NoSuchPath = (s : Survey) × IsSurveyOfFiles files folders asked s × HasNothingAt asked.command s
 IsFailureOf files folders asked NoTable = AreTablesOf files folders asked.hex asked.files []
@@ -94,11 +145,13 @@ IsRunFailure files folders words Output = (status : ℕ) × (text : List ℕ) ×
 IsRunFailure files folders words failure = (asked : Asked) × (wish_of words ≡ Some (survey asked)) × IsFailureOf files folders asked failure
 
 -- A run ends with the status of such a failure, and its line is said. Standard output is as it was; if it was that which
--- could not be written, it got a beginning of what the words ask for.
-pub record FailsWith (files : FileBytes) (folders : FolderNames) (words : List Text) (status : ℕ) (old new : Option (List ℕ)) (is_said : List ℕ → Type 0) : Type 0 where
+-- could not be written, it got a beginning of what the words ask for. What was written to files is as `LeavesFiles` has it.
+pub record FailsWith (files : FileBytes) (folders : FolderNames) (words : List Text) (status : ℕ) (old new : Option (List ℕ)) (before after : FileBytes)
+    (is_said : List ℕ → Type 0) : Type 0 where
   pub failure : Failure
   pub true_of : IsRunFailure files folders words failure
   pub status_is : status ≡ status_of failure
   pub kept : failure ≢ Output → new ≡ old
   pub begun : failure ≡ Output → GetsBeginning files folders words old new
+  pub left : LeavesFiles files folders words failure before after
   pub said : is_said (failure_line failure)

@@ -35,6 +35,8 @@ pub enum Failure {
     Read(Vec<u8>, ReadCause),
     /// This file is no hexadecimal text.
     BadHex(Vec<u8>),
+    /// This file could not be made or written.
+    Out(Vec<u8>),
     /// Standard output could not be written.
     Output,
     /// A growth of memory was refused.

@@ -1,9 +1,11 @@
-//! The folders of the host.
+//! The folders and the terminal of the host.
 
+use crate::console::Console;
 use crate::folders::Folders;
 use acpins_io::FileFault;
-use std::fs;
-use std::io::ErrorKind;
+use std::env::VarError;
+use std::io::{ErrorKind, IsTerminal};
+use std::{env, fs};
 
 /// The folders of the host, by the paths that it knows.
 #[derive(Drop)]
@@ -35,5 +37,43 @@ impl<'a> Folders for HostFolders<'a> {
             }
         }
         Ok(Some(names))
+    }
+}
+
+/// So many bytes of tables are told before work over them begins: it may take longer than a second.
+const MANY_BYTES: usize = 1 << 20;
+
+/// The terminal of the host: a report has colours where standard output is one and the environment has no `NO_COLOR`;
+/// long work is told where standard error is one.
+#[derive(Drop)]
+pub struct HostConsole<'a> {
+    rt: &'a HostRuntime,
+}
+
+impl<'a> HostConsole<'a> {
+    /// The host's terminal.
+    pub fn new(rt: &'a HostRuntime) -> HostConsole<'a> {
+        HostConsole { rt }
+    }
+}
+
+// Whether the environment asks for no colours: `NO_COLOR` is there and not empty.
+fn asks_no_colours(rt: &HostRuntime) -> bool {
+    match env::var(rt, "NO_COLOR") {
+        Ok(value) => !value.is_empty(),
+        Err(VarError::NotPresent) => false,
+        Err(_) => true,
+    }
+}
+
+impl<'a> Console for HostConsole<'a> {
+    fn shows_colours(&self) -> bool {
+        self.rt.stdout().is_terminal() && !asks_no_colours(self.rt)
+    }
+
+    fn work_begins(&mut self, bytes: usize) {
+        if bytes >= MANY_BYTES && self.rt.stderr().is_terminal() {
+            let _ = eprintln!(self.rt; "acpins-survey: reading {bytes} bytes of tables ..");
+        }
     }
 }

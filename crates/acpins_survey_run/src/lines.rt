@@ -61,6 +61,10 @@ fn put_failure<E, P: PartWriter<E>>(parts: &mut P, err: &mut E, failure: &Failur
             parts.write_part(err, file.as_slice());
             put_text(parts, err, ": bad hexadecimal text")
         }
+        Failure::Out(file) => {
+            parts.write_part(err, file.as_slice());
+            put_text(parts, err, ": cannot be written")
+        }
         Failure::Output => put_text(parts, err, "standard output cannot be written"),
         Failure::Memory => put_text(parts, err, "M Memory"),
     }

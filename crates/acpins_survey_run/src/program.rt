@@ -1,27 +1,31 @@
 //! One run of the program.
 
-ghost use Rattle.std.specs.Prelude.{◌≡◌, ◌≢◌, ◌≤◌, ◌⊎◌, [], IfOk, IfErr, OnOk, true};
+ghost use Rattle.std.specs.Prelude.{◌≡◌, ◌≢◌, ◌≤◌, ◌⊎◌, [], IfOk, IfErr, OnOk, OnErr, option_map, true};
 ghost use Rattle.std.specs.Io.KnownBytes.{Appends};
-ghost use Rattle.acpi_name.specs.Text.{SpellsPathText, IsPathText};
 ghost use Rattle.acpi_survey.specs.SurveyOrder.{IsInOrder};
 ghost use Rattle.acpins_io.specs.Told.{AppendsBeginning, Tells};
 ghost use Rattle.acpins_words.specs.Words.{texts};
-ghost use Rattle.acpins_survey_words.specs.Words.{Command as AskedCommand, asked_in, command_in};
+ghost use Rattle.acpins_survey_words.specs.Words.{asked_in, command_in};
 ghost use Rattle.acpins_survey_run.specs.FailureLines.{failure_line};
 ghost use Rattle.acpins_survey_run.specs.Failures.{status_of};
 ghost use Rattle.acpins_survey_run.specs.Input.{AreTablesOf, IsFilesFault};
-ghost use Rattle.acpins_survey_run.specs.Runs.{IsFailureOf, IsOutput, GetsOutput, GetsBeginning, IsRunFailure, IsSurveyOfFiles, IsSurveyed, IsTextOf, FailsWith};
-ghost use Rattle.acpins_survey_run.specs.steps.Prints.{IsPrintOf, IsUnprinted, IsUntold};
+ghost use Rattle.acpins_survey_run.specs.Runs.{FailsWith, GetsBeginning, GetsOutput, IsFailureOf};
+ghost use Rattle.acpins_survey_run.specs.Runs.{IsHeldIn, IsOutput, IsRunFailure, IsStoredFor, IsSurveyed};
+ghost use Rattle.acpins_survey_run.specs.Runs.{IsSurveyOfFiles, IsUnwrittenIn, LeavesFiles};
+ghost use Rattle.acpins_survey_run.specs.Runs.{StoresOutput, page_file, printed_of};
+ghost use Rattle.acpins_survey_words.specs.Words.{survey as surveying};
 ghost use Rattle.acpins_survey_run.specs.declared.failure.Failure.{Failure};
 
+use crate::console::Console;
 use crate::failure::Failure;
 use crate::folders::Folders;
 use crate::lines::put_line;
-use crate::tables::add_tables;
-use acpi_name::{Path, PathFault};
-use acpi_survey::{Survey, survey};
+use crate::printing::{SurveyedFiles, print_of, text_of};
+use crate::tables::{FoundTables, add_tables};
+use crate::writing::put_file;
+use acpi_survey::survey;
 use acpins_io::{Files, PartWriter, UntilFailure, Written, write_bytes};
-use acpins_survey_output::{bodies, has_problem, json, list, map, show};
+use acpins_survey_output::has_problem;
 use acpins_survey_words::{Command, Request, VERSION, Wish, help_of, read_words};
 use bytes::Bytes;
 use std::alloc::Global;
@@ -53,116 +57,112 @@ fn tables_of<F: Files, D: Folders>(
     request: &Request<'_>,
     files: &mut F,
     folders: &mut D,
-) -> Result<Vec<Bytes>, Failure>
-    ensures ok { IfOk result (λ v. AreTablesOf (F.bytes_of files.old)
-        (D.names_in folders.old) request.now.hex (asked_in request.now).files v.items) }
+) -> Result<FoundTables, Failure>
+    ensures ok { IfOk result (λ found. AreTablesOf (F.bytes_of files.old)
+        (D.names_in folders.old) request.now.hex (asked_in request.now).files found.tables.items) }
     ensures err { IfErr result (IsFilesFault (F.bytes_of files.old) request.now.hex) }
     ensures others { F.written_to files.new ≡ F.written_to files.old }
 {
-    let mut tables = Vec::new(alloc);
+    let mut found = FoundTables::new(alloc);
     for name in request.files.iter() {
-        add_tables(alloc, files, folders, *name, request.hex, &mut tables)?;
+        add_tables(alloc, files, folders, *name, request.hex, &mut found)?;
     }
-    Ok(tables)
+    Ok(found)
+}
+
+// Tells that work over these tables begins.
+fn tell_work<C: Console>(console: &mut C, tables: &[Bytes]) {
+    let mut bytes: usize = 0;
+    for table in tables {
+        bytes = bytes.saturating_add(table.len());
+    }
+    console.work_begins(bytes);
 }
 
 // The survey of the tables in the files.
-fn survey_of<F: Files, D: Folders>(
+fn survey_of<F: Files, D: Folders, C: Console>(
     alloc: Global,
     request: &Request<'_>,
     files: &mut F,
     folders: &mut D,
-) -> Result<Survey, Failure>
-    ensures ok { IfOk result (IsSurveyOfFiles (F.bytes_of files.old) (D.names_in folders.old)
-        (asked_in request.now)) }
-    ensures in_order { IfOk result IsInOrder }
-    ensures err { IfErr result (IsFailureOf (F.bytes_of files.old) (D.names_in folders.old)
-        (asked_in request.now)) }
+    console: &mut C,
+) -> Result<SurveyedFiles, Failure>
+    ensures ok { IfOk result (λ found. IsSurveyOfFiles (F.bytes_of files.old)
+        (D.names_in folders.old) (asked_in request.now) found.survey) }
+    ensures in_order { IfOk result (λ found. IsInOrder found.survey) }
+    ensures err { IfErr result
+        (IsFailureOf (F.bytes_of files.old) (D.names_in folders.old) (asked_in request.now)) }
     ensures others { F.written_to files.new ≡ F.written_to files.old }
 {
-    let tables = tables_of(alloc, request, files, folders)?;
+    let FoundTables { tables, sources } = tables_of(alloc, request, files, folders)?;
     if tables.is_empty() {
         return Err(Failure::NoTable);
     }
-    Ok(survey(alloc, &tables, request.depth)?)
+    tell_work(console, &tables);
+    let survey = survey(alloc, &tables, request.depth)?;
+    Ok(SurveyedFiles { survey, sources })
 }
 
-// The path that the word spells.
-fn path_of(alloc: Global, word: &str) -> Result<Path, Failure>
-    ensures ok { IfOk result (λ p. SpellsPathText p word.now) }
-    ensures err { IfErr result (λ f. ((f ≡ Failure.BadPath) × (IsPathText word.now → ⊥))
-        ⊎ (f ≡ Failure.Memory)) }
-{
-    match Path::from_text(alloc, word) {
-        Ok(path) => Ok(path),
-        Err(PathFault::BadText) => Err(Failure::BadPath),
-        Err(PathFault::Memory) => Err(Failure::Memory),
-    }
-}
-
-// What is printed of a survey.
-#[derive(Drop)]
-enum Print {
-    List,
-    Show(Path),
-    Map,
-    Bodies,
-    Json,
-}
-
-// The same as the command, with the path that its word spells.
-fn print_of(alloc: Global, command: &Command<'_>) -> Result<Print, Failure>
-    ensures ok { IfOk result (IsPrintOf (command_in command.now)) }
-    ensures err { IfErr result (IsUnprinted (command_in command.now)) }
+// The file to which a command writes its text.
+fn page_file<'a>(command: &Command<'a>) -> Option<&'a str>
+    ensures { option_map (λ name. name.now) result ≡ page_file (command_in command.now) }
 {
     match command {
-        Command::List => Ok(Print::List),
-        Command::Show(word) => Ok(Print::Show(path_of(alloc, word)?)),
-        Command::Map => Ok(Print::Map),
-        Command::Bodies => Ok(Print::Bodies),
-        Command::Json => Ok(Print::Json),
+        Command::Html(out) => Some(*out),
+        _ => None,
     }
 }
 
-// The text that is printed of a survey.
-fn text_of(alloc: Global, print: &Print, survey: &Survey) -> Result<Vec<u8>, Failure>
-    ensures ok { IfOk result (λ text. (command : AskedCommand) → IsPrintOf command print.now
-        → IsInOrder survey.now → IsTextOf command survey.now text.items) }
-    ensures err { IfErr result (λ f. (command : AskedCommand) → IsPrintOf command print.now
-        → IsInOrder survey.now → IsUntold command survey.now f) }
+// What is printed of a text that was made: all of it, or nothing where it is written to a file.
+fn delivered<F: Files>(
+    alloc: Global,
+    text: Vec<u8>,
+    out: Option<&str>,
+    files: &mut F,
+) -> Result<Vec<u8>, Failure>
+    ensures printed { IfOk result (λ printed.
+        printed.items ≡ printed_of (option_map (λ name. name.now) out.entry) text.items) }
+    ensures held { OnOk result (IsHeldIn (option_map (λ name. name.now) out.entry) text.items
+        (F.written_to files.old) (F.written_to files.new)) }
+    ensures err { IfErr result (IsUnwrittenIn (option_map (λ name. name.now) out.entry)) }
+    ensures left { OnErr result (F.written_to files.new ≡ F.written_to files.old) }
 {
-    match print {
-        Print::List => Ok(list(alloc, survey)?),
-        Print::Show(path) => match show(alloc, survey, path)? {
-            Some(text) => Ok(text),
-            None => Err(Failure::NoSuchPath),
-        },
-        Print::Map => Ok(map(alloc, survey)?),
-        Print::Bodies => Ok(bodies(alloc, survey)?),
-        Print::Json => Ok(json(alloc, survey)?),
+    match out {
+        Some(name) => {
+            put_file(alloc, files, name, &text)?;
+            Ok(Vec::new(alloc))
+        }
+        None => Ok(text),
     }
 }
 
 // What a command over tables prints.
-fn surveyed<F: Files, D: Folders>(
+fn surveyed<F: Files, D: Folders, C: Console>(
     alloc: Global,
     request: &Request<'_>,
     files: &mut F,
     folders: &mut D,
+    console: &mut C,
 ) -> Result<Output, Failure>
     ensures ok { IfOk result (λ m. IsSurveyed (F.bytes_of files.old) (D.names_in folders.old)
         (asked_in request.now) m.status m.text.items) }
-    ensures err { IfErr result (IsFailureOf (F.bytes_of files.old) (D.names_in folders.old)
-        (asked_in request.now)) }
-    ensures others { F.written_to files.new ≡ F.written_to files.old }
+    ensures err { IfErr result
+        (IsFailureOf (F.bytes_of files.old) (D.names_in folders.old) (asked_in request.now)) }
+    ensures stored { OnOk result (IsStoredFor (F.bytes_of files.old) (D.names_in folders.old)
+        (surveying (asked_in request.now)) (F.written_to files.old) (F.written_to files.new)) }
+    ensures left { OnErr result (F.written_to files.new ≡ F.written_to files.old) }
 {
     let print = print_of(alloc, &request.command)?;
-    let survey = survey_of(alloc, request, files, folders)?;
-    let text = text_of(alloc, &print, &survey)?;
-    let status = if has_problem(&survey) { 3 } else { 0 };
+    let found = survey_of(alloc, request, files, folders, console)?;
+    let text = text_of(alloc, &print, &found, console.shows_colours())?;
+    let status = if has_problem(&found.survey) { 3 } else { 0 };
+    let printed = delivered(alloc, text, page_file(&request.command), files)?;
     // The process ends soon and gives all memory back at once; to take the survey apart first costs time.
-    mem::forget(survey);
-    Ok(Output { text, status })
+    mem::forget(found);
+    Ok(Output {
+        text: printed,
+        status,
+    })
 }
 
 // A text that is printed whatever the tables are.
@@ -174,30 +174,33 @@ fn said(alloc: Global, text: &str) -> Result<Output, Failure>
     Ok(Output { text, status: 0 })
 }
 
-/// What a run prints, whole.
-pub fn made_in<'a, F: Files, D: Folders>(
+/// What a run prints, whole. A page stands in its file then.
+pub fn made_in<'a, F: Files, D: Folders, C: Console>(
     alloc: Global,
     words: &'a [&'a str],
     files: &mut F,
     folders: &mut D,
+    console: &mut C,
 ) -> Result<Output, Failure>
     ensures ok { IfOk result (λ m. IsOutput (F.bytes_of files.old) (D.names_in folders.old)
         (texts words.now) m.status m.text.items) }
     ensures err { IfErr result (λ f. IsRunFailure (F.bytes_of files.old) (D.names_in folders.old)
         (texts words.now) f × (f ≢ Failure.Output)) }
-    ensures others { F.written_to files.new ≡ F.written_to files.old }
+    ensures stored { OnOk result (StoresOutput (F.bytes_of files.old) (D.names_in folders.old)
+        (texts words.now) (F.written_to files.old) (F.written_to files.new)) }
+    ensures left { OnErr result (F.written_to files.new ≡ F.written_to files.old) }
 {
     match read_words(alloc, words)? {
         Wish::Help(topic) => said(alloc, help_of(topic)),
         Wish::Version => said(alloc, VERSION),
-        Wish::Survey(request) => surveyed(alloc, &request, files, folders),
+        Wish::Survey(request) => surveyed(alloc, &request, files, folders, console),
     }
 }
 
 // Writes the bytes, and brings those that the stream holds back to where it leads.
 fn write_out<O: Write>(out: &mut O, bytes: &[u8]) -> Written
-    ensures whole { result ≡ Written.Whole → Appends (O.contents out.old)
-        (O.contents out.new) bytes.now }
+    ensures whole { result ≡ Written.Whole
+        → Appends (O.contents out.old) (O.contents out.new) bytes.now }
     ensures begins { AppendsBeginning bytes.now (O.contents out.old) (O.contents out.new) }
 {
     match write_bytes(out, bytes) {
@@ -213,28 +216,33 @@ fn write_out<O: Write>(out: &mut O, bytes: &[u8]) -> Written
 
 // Makes what the words ask for, prints it, and answers the status. Where anything but printing fails, nothing was
 // printed.
-fn ended<'a, F: Files, D: Folders, O: Write>(
+fn ended<'a, F: Files, D: Folders, C: Console, O: Write>(
     alloc: Global,
     words: &'a [&'a str],
     files: &mut F,
     folders: &mut D,
+    console: &mut C,
     out: &mut O,
 ) -> Result<Ending, Failure>
     ensures ok { IfOk result (λ e. e.is_whole ≡ true
-        → GetsOutput (F.bytes_of files.old) (D.names_in folders.old) (texts words.now) e.status
-        (O.contents out.old) (O.contents out.new)) }
+        → GetsOutput (F.bytes_of files.old) (D.names_in folders.old)
+        (texts words.now) e.status (O.contents out.old) (O.contents out.new)) }
     ensures part { OnOk result (GetsBeginning (F.bytes_of files.old) (D.names_in folders.old)
         (texts words.now) (O.contents out.old) (O.contents out.new)) }
     ensures statuses { IfOk result (λ e. (e.status ≡ 0) ⊎ (e.status ≡ 3)) }
-    ensures err { IfErr result (IsRunFailure (F.bytes_of files.old) (D.names_in folders.old)
-        (texts words.now)) }
-    ensures kept { IfErr result (λ f. f ≢ Failure.Output → O.contents out.new
-        ≡ O.contents out.old) }
+    ensures err { IfErr result
+        (IsRunFailure (F.bytes_of files.old) (D.names_in folders.old) (texts words.now)) }
+    ensures kept { IfErr result (λ f.
+        f ≢ Failure.Output → O.contents out.new ≡ O.contents out.old) }
     ensures begun { IfErr result (λ f. f ≡ Failure.Output
-        → GetsBeginning (F.bytes_of files.old) (D.names_in folders.old) (texts words.now)
-        (O.contents out.old) (O.contents out.new)) }
+        → GetsBeginning (F.bytes_of files.old) (D.names_in folders.old)
+        (texts words.now) (O.contents out.old) (O.contents out.new)) }
+    ensures stored { OnOk result (StoresOutput (F.bytes_of files.old) (D.names_in folders.old)
+        (texts words.now) (F.written_to files.old) (F.written_to files.new)) }
+    ensures left { IfErr result (λ f. LeavesFiles (F.bytes_of files.old) (D.names_in folders.old)
+        (texts words.now) f (F.written_to files.old) (F.written_to files.new)) }
 {
-    let Output { text, status } = made_in(alloc, words, files, folders)?;
+    let Output { text, status } = made_in(alloc, words, files, folders, console)?;
     match write_out(out, &text) {
         Written::Whole => Ok(Ending {
             status,
@@ -261,11 +269,12 @@ pub fn told<E, P: PartWriter<E>>(failure: &Failure, err: &mut E, parts: &mut P) 
 /// Runs the command that the words say, and answers how it ended. The words leave out the program's name.
 /// Nothing is written to `out` before all of the output is made, and nothing to `err` but one line where the
 /// status is 1 or 2.
-pub fn run<'a, F: Files, D: Folders, O: Write, E: Write>(
+pub fn run<'a, F: Files, D: Folders, C: Console, O: Write, E: Write>(
     alloc: Global,
     words: &'a [&'a str],
     files: &mut F,
     folders: &mut D,
+    console: &mut C,
     out: &mut O,
     err: &mut E,
 ) -> Ending
@@ -274,17 +283,22 @@ pub fn run<'a, F: Files, D: Folders, O: Write, E: Write>(
         → GetsOutput (F.bytes_of files.old) (D.names_in folders.old)
         (texts words.now) result.status (O.contents out.old) (O.contents out.new) }
     ensures part { result.status ≢ 1 → result.status ≢ 2
-        → GetsBeginning (F.bytes_of files.old) (D.names_in folders.old) (texts words.now)
-        (O.contents out.old) (O.contents out.new) }
+        → GetsBeginning (F.bytes_of files.old) (D.names_in folders.old)
+        (texts words.now) (O.contents out.old) (O.contents out.new) }
     ensures quiet { result.status ≢ 1 → result.status ≢ 2 → err.new ≡ err.old }
+    // The page that the words ask for stands in its file, whole, and no other file is written.
+    ensures stored { result.status ≢ 1 → result.status ≢ 2
+        → StoresOutput (F.bytes_of files.old) (D.names_in folders.old)
+        (texts words.now) (F.written_to files.old) (F.written_to files.new) }
     // Something failed, and its line is said, or a beginning of it; nothing is printed, unless it was the printing.
     ensures failed { 1 ≤ result.status → result.status ≤ 2
-        → FailsWith (F.bytes_of files.old) (D.names_in folders.old) (texts words.now) result.status
-        (O.contents out.old) (O.contents out.new)
+        → FailsWith (F.bytes_of files.old) (D.names_in folders.old)
+        (texts words.now) result.status (O.contents out.old) (O.contents out.new)
+        (F.written_to files.old) (F.written_to files.new)
         (λ line. AppendsBeginning line (E.contents err.old) (E.contents err.new)) }
     ensures statuses { result.status ≤ 3 }
 {
-    match ended(alloc, words, files, folders, out) {
+    match ended(alloc, words, files, folders, console, out) {
         Ok(ending) => ending,
         Err(failure) => Ending {
             status: told(&failure, err, &mut UntilFailure::new()),

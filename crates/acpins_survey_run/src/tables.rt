@@ -1,6 +1,6 @@
 //! Files and folders into tables.
 
-ghost use Rattle.std.specs.Prelude.{◌≡◌, ◌++◌, ℕ, List, Bool, true, Option, Some, IfOk, IfErr, OnOk, IfSome, map};
+ghost use Rattle.std.specs.Prelude.{◌≡◌, ◌++◌, [], ℕ, List, Bool, true, Option, Some, IfOk, IfErr, OnOk, IfSome, map};
 ghost use Rattle.acpi_survey.specs.Pieces.{ArePieces};
 ghost use Rattle.acpins_io.specs.Dump.{tables_of_dump};
 ghost use Rattle.acpins_io.specs.Hexadecimal.{SpellsInHex};
@@ -14,6 +14,60 @@ use acpins_io::{FileFault, Files, HexFault, from_hex, is_header, tables_in_dump}
 use bytes::Bytes;
 use std::alloc::{AllocError, Global};
 use std::io::Read;
+
+/// A file that holds tables.
+#[derive(Debug, Drop)]
+pub struct Source {
+    /// Its name.
+    pub name: String,
+    /// How many tables stand in it and in the files before it.
+    pub end: usize,
+}
+
+/// Tables, and the files that hold them, both in order.
+#[derive(Debug, Drop)]
+pub struct FoundTables {
+    /// The tables.
+    pub tables: Vec<Bytes>,
+    /// The files.
+    pub sources: Vec<Source>,
+}
+
+impl FoundTables {
+    /// No tables.
+    pub fn new(alloc: Global) -> FoundTables
+        ensures { result.tables.items ≡ [] }
+    {
+        FoundTables {
+            tables: Vec::new(alloc),
+            sources: Vec::new(alloc),
+        }
+    }
+
+    // Notes that the tables behind those of earlier files stand in the file of that name.
+    fn end_source(&mut self, alloc: Global, name: &str) -> Result<(), AllocError>
+        ensures { OnOk result (self.new.tables.items ≡ self.old.tables.items) }
+    {
+        let name = String::from_str(alloc, name)?;
+        let end = self.tables.len();
+        self.sources.push(Source { name, end })?;
+        Ok(())
+    }
+}
+
+/// For each table the name of the file that holds it.
+pub fn names_of_tables<'a>(
+    alloc: Global,
+    sources: &'a [Source],
+) -> Result<Vec<&'a str>, AllocError> {
+    let mut names = Vec::new(alloc);
+    for source in sources {
+        for _ in names.len()..source.end {
+            names.push(source.name.as_str())?;
+        }
+    }
+    Ok(names)
+}
 
 // The failure to read the file of that name for that cause.
 fn unread(alloc: Global, name: &str, cause: ReadCause) -> Failure
@@ -54,8 +108,8 @@ fn read_file<F: Files>(alloc: Global, files: &mut F, name: &str) -> Result<Vec<u
 
 // Adds the tables that stand one behind another in these bytes to others.
 fn add_pieces(alloc: Global, bytes: Vec<u8>, tables: &mut Vec<Bytes>) -> Result<(), AllocError>
-    ensures { OnOk result (Adds (λ added. ArePieces added bytes.items) tables.old.items
-        tables.new.items) }
+    ensures { OnOk result (Adds (λ added. ArePieces added bytes.items)
+        tables.old.items tables.new.items) }
 {
     let bytes = Bytes::from_vec(bytes)?;
     let mut added = pieces(alloc, &bytes)?;
@@ -64,8 +118,8 @@ fn add_pieces(alloc: Global, bytes: Vec<u8>, tables: &mut Vec<Bytes>) -> Result<
 
 // .. in each of these byte strings.
 fn add_each(alloc: Global, sources: &[Vec<u8>], tables: &mut Vec<Bytes>) -> Result<(), AllocError>
-    ensures { OnOk result (Adds (ArePiecesOfEach (map (λ v. v.items) sources.now)) tables.old.items
-        tables.new.items) }
+    ensures { OnOk result (Adds (ArePiecesOfEach (map (λ v. v.items) sources.now))
+        tables.old.items tables.new.items) }
 {
     for source in sources {
         let bytes = Vec::from_slice(alloc, source.as_slice())?;
@@ -91,8 +145,8 @@ fn decoded(alloc: Global, name: &str, text: &[u8]) -> Result<Vec<u8>, Failure>
 
 // Adds the tables of the text that `acpidump` writes to others.
 fn add_dumped(alloc: Global, text: &[u8], tables: &mut Vec<Bytes>) -> Result<(), AllocError>
-    ensures { OnOk result (Adds (ArePiecesOfEach (tables_of_dump text.now)) tables.old.items
-        tables.new.items) }
+    ensures { OnOk result (Adds (ArePiecesOfEach (tables_of_dump text.now))
+        tables.old.items tables.new.items) }
 {
     let sources = tables_in_dump(alloc, text)?;
     add_each(alloc, &sources, tables)
@@ -106,8 +160,8 @@ fn add_content(
     content: Vec<u8>,
     tables: &mut Vec<Bytes>,
 ) -> Result<(), Failure>
-    ensures ok { OnOk result (Adds (AreTablesIn hex (Some content.items)) tables.old.items
-        tables.new.items) }
+    ensures ok { OnOk result (Adds (AreTablesIn hex (Some content.items))
+        tables.old.items tables.new.items) }
     ensures err { IfErr result (IsFileFault hex (Some content.items) name.now) }
 {
     if hex {
@@ -126,16 +180,19 @@ fn add_file<F: Files>(
     files: &mut F,
     name: &str,
     hex: bool,
-    tables: &mut Vec<Bytes>,
+    found: &mut FoundTables,
 ) -> Result<(), Failure>
     ensures ok { OnOk result (Adds (AreTablesIn hex (F.bytes_of files.old name.now))
-        tables.old.items tables.new.items) }
+        found.old.tables.items found.new.tables.items) }
     ensures err { IfErr result (IsFileFault hex (F.bytes_of files.old name.now) name.now) }
     ensures stays { F.bytes_of files.new ≡ F.bytes_of files.old }
     ensures others { F.written_to files.new ≡ F.written_to files.old }
 {
     match read_file(alloc, files, name) {
-        Ok(content) => add_content(alloc, name, hex, content, tables),
+        Ok(content) => {
+            add_content(alloc, name, hex, content, &mut found.tables)?;
+            Ok(found.end_source(alloc, name)?)
+        }
         Err(fault) => Err(unread_by(alloc, name, fault)),
     }
 }
@@ -147,10 +204,10 @@ fn add_ssdts<F: Files>(
     folder: &str,
     names: Vec<String>,
     hex: bool,
-    tables: &mut Vec<Bytes>,
+    found: &mut FoundTables,
 ) -> Result<(), Failure>
-    ensures ok { OnOk result (Adds (AreOfSomeFiles (F.bytes_of files.old) hex) tables.old.items
-        tables.new.items) }
+    ensures ok { OnOk result (Adds (AreOfSomeFiles (F.bytes_of files.old) hex)
+        found.old.tables.items found.new.tables.items) }
     ensures err { IfErr result (IsFilesFault (F.bytes_of files.old) hex) }
     ensures stays { F.bytes_of files.new ≡ F.bytes_of files.old }
     ensures others { F.written_to files.new ≡ F.written_to files.old }
@@ -158,7 +215,7 @@ fn add_ssdts<F: Files>(
     let ssdts = ssdts_among(alloc, names)?;
     for name in &ssdts {
         let path = path_in(alloc, folder, name.as_str())?;
-        add_file(alloc, files, path.as_str(), hex, tables)?;
+        add_file(alloc, files, path.as_str(), hex, found)?;
     }
     Ok(())
 }
@@ -170,10 +227,10 @@ fn add_dynamic<F: Files, D: Folders>(
     folders: &mut D,
     folder: &str,
     hex: bool,
-    tables: &mut Vec<Bytes>,
+    found: &mut FoundTables,
 ) -> Result<(), Failure>
-    ensures ok { OnOk result (Adds (AreOfSomeFiles (F.bytes_of files.old) hex) tables.old.items
-        tables.new.items) }
+    ensures ok { OnOk result (Adds (AreOfSomeFiles (F.bytes_of files.old) hex)
+        found.old.tables.items found.new.tables.items) }
     ensures err { IfErr result (IsFilesFault (F.bytes_of files.old) hex) }
     ensures stays { F.bytes_of files.new ≡ F.bytes_of files.old }
     ensures others { F.written_to files.new ≡ F.written_to files.old }
@@ -181,7 +238,7 @@ fn add_dynamic<F: Files, D: Folders>(
 {
     let dynamic = path_in(alloc, folder, "dynamic")?;
     match folders.names(dynamic.as_str()) {
-        Ok(Some(names)) => add_ssdts(alloc, files, dynamic.as_str(), names, hex, tables),
+        Ok(Some(names)) => add_ssdts(alloc, files, dynamic.as_str(), names, hex, found),
         Ok(None) | Err(FileFault::Missing) => Ok(()),
         Err(fault) => Err(unread_by(alloc, dynamic.as_str(), fault)),
     }
@@ -196,10 +253,10 @@ fn add_folder<F: Files, D: Folders>(
     folder: &str,
     names: Vec<String>,
     hex: bool,
-    tables: &mut Vec<Bytes>,
+    found: &mut FoundTables,
 ) -> Result<(), Failure>
     ensures ok { OnOk result (Adds (AreOfFolder (F.bytes_of files.old) hex folder.now)
-        tables.old.items tables.new.items) }
+        found.old.tables.items found.new.tables.items) }
     ensures err { IfErr result (IsFilesFault (F.bytes_of files.old) hex) }
     ensures stays { F.bytes_of files.new ≡ F.bytes_of files.old }
     ensures others { F.written_to files.new ≡ F.written_to files.old }
@@ -209,9 +266,9 @@ fn add_folder<F: Files, D: Folders>(
         return Err(unread(alloc, folder, ReadCause::NoDsdt));
     }
     let dsdt = path_in(alloc, folder, "DSDT")?;
-    add_file(alloc, files, dsdt.as_str(), hex, tables)?;
-    add_ssdts(alloc, files, folder, names, hex, tables)?;
-    add_dynamic(alloc, files, folders, folder, hex, tables)
+    add_file(alloc, files, dsdt.as_str(), hex, found)?;
+    add_ssdts(alloc, files, folder, names, hex, found)?;
+    add_dynamic(alloc, files, folders, folder, hex, found)
 }
 
 /// Adds the tables of one file, or of the files in one folder, to others.
@@ -221,18 +278,19 @@ pub fn add_tables<F: Files, D: Folders>(
     folders: &mut D,
     name: &str,
     hex: bool,
-    tables: &mut Vec<Bytes>,
+    found: &mut FoundTables,
 ) -> Result<(), Failure>
-    ensures ok { OnOk result (Adds (AreTablesAt (F.bytes_of files.old)
-        (D.names_in folders.old) hex name.now) tables.old.items tables.new.items) }
+    ensures ok { OnOk result (Adds
+        (AreTablesAt (F.bytes_of files.old) (D.names_in folders.old) hex name.now)
+        found.old.tables.items found.new.tables.items) }
     ensures err { IfErr result (IsFilesFault (F.bytes_of files.old) hex) }
     ensures stays { F.bytes_of files.new ≡ F.bytes_of files.old }
     ensures others { F.written_to files.new ≡ F.written_to files.old }
     ensures folders { D.names_in folders.new ≡ D.names_in folders.old }
 {
     match folders.names(name) {
-        Ok(Some(names)) => add_folder(alloc, files, folders, name, names, hex, tables),
-        Ok(None) => add_file(alloc, files, name, hex, tables),
+        Ok(Some(names)) => add_folder(alloc, files, folders, name, names, hex, found),
+        Ok(None) => add_file(alloc, files, name, hex, found),
         Err(fault) => Err(unread_by(alloc, name, fault)),
     }
 }

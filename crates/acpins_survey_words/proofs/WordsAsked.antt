@@ -10,7 +10,7 @@ use Rattle.clap.specs.Walk.{Row, Text, all_of, first_of, is_empty}
 use Rattle.clap.specs.declared.error.kind.ErrorKind.{ErrorKind}
 use Rattle.clap.proofs.OnLiterals.{clap_on_literals}
 use Rattle.acpins_words.specs.Words.{depth_or_usual}
-use Rattle.acpins_survey_words.specs.Words.{Asked, Command, survey_app, asked_by, asked_of, command_by, showing}
+use Rattle.acpins_survey_words.specs.Words.{Asked, Command, survey_app, asked_by, asked_of, command_by, showing, paging}
 
 pub app_is_simple : is_simple survey_app ≡ true
 unfolding clap_on_literals
@@ -23,6 +23,10 @@ app_is_free = refl
 -- `show` has its PATH
 pub show_is : (name : Text) (rows : List Row) (path : Option Text) → name ≡ codes "show" → path ≡ first_of (codes "path") rows → option_map showing path ≡ command_by name rows
 show_is name rows path is at = ap (option_map showing) at ∙ ap (λ n. command_by n rows) (sym is)
+
+-- .. and `html` its OUT
+pub html_is : (name : Text) (rows : List Row) (out : Option Text) → name ≡ codes "html" → out ≡ first_of (codes "out") rows → option_map paging out ≡ command_by name rows
+html_is name rows out is at = ap (option_map paging) at ∙ ap (λ n. command_by n rows) (sym is)
 
 pub asked_by_parts : (name : Text) (rows : List Row) (command : Option Command) (hex : Bool) (depth : Option ℕ) (files : Option (List Text))
     → command ≡ command_by name rows → hex ≡ is_given (codes "hex") rows → depth ≡ depth_or_usual (first_of (codes "depth") rows) → files ≡ all_of (codes "file") rows

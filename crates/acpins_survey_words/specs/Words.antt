@@ -1,11 +1,12 @@
 -- The words that follow the program's name, and what they ask for.
-use Rattle.std.specs.Prelude.{◌≡◌, ℕ, Bool, List, [], ◌∷◌, Option, Some, None, codes, if◌then◌else◌, option_and_then, option_map}
+use Rattle.std.specs.Prelude.{◌≡◌, ℕ, Bool, List, [], ◌∷◌, ◌++◌, Option, Some, None, codes, if◌then◌else◌, option_and_then, option_map}
 use Rattle.std.specs.Str.{bytes_eq}
 use Rattle.clap.specs.Faults.{fault_of}
-use Rattle.clap.specs.Simple.{App, subcommand_of, with_subcommand}
+use Rattle.clap.specs.Simple.{App, Shape, new_rule, subcommand_of, with_subcommand}
 use Rattle.clap.specs.Takes.{is_given}
-use Rattle.clap.specs.Walk.{Row, all_of, first_of, is_empty}
-use Rattle.acpins_words.specs.Words.{Text, texts, alone, depth_or_usual, files_shape, path_shape, program_shape}
+use Rattle.clap.specs.Walk.{Row, Rule, all_of, first_of, is_empty}
+use Rattle.clap.specs.declared.builder.ArgAction.TheVariants.{SetTrue}
+use Rattle.acpins_words.specs.Words.{Text, texts, alone, depth_or_usual, files_shape, out_shape, path_shape, program_shape}
 use Rattle.acpins_survey_words.specs.declared.words.Command.{Command as CommandWords}
 use Rattle.acpins_survey_words.specs.declared.words.Command.TheVariants as read
 use Rattle.acpins_survey_words.specs.declared.words.Request.{Request}
@@ -14,6 +15,16 @@ use Rattle.acpins_survey_words.specs.declared.words.Topic.TheVariants as topics
 use Rattle.acpins_survey_words.specs.declared.words.Wish.{Wish as WishWords}
 use Rattle.acpins_survey_words.specs.declared.words.Wish.TheVariants as wishes
 
+-- `-v`
+abbrev pub verbose_rule : Rule
+verbose_rule = record (new_rule (codes "verbose")) { short = Some 118; action = Some SetTrue }
+
+-- a command over files, with `-v`
+abbrev pub report_shape : Shape
+report_shape =
+    let files = files_shape (codes "report") in
+    record files { rules = files.rules ++ verbose_rule ∷ [] }
+
 -- the command, as clap reads it
 abbrev pub survey_app : App
 survey_app =
@@ -21,15 +32,20 @@ survey_app =
     let show = with_subcommand list (path_shape (codes "show")) in
     let map = with_subcommand show (files_shape (codes "map")) in
     let bodies = with_subcommand map (files_shape (codes "bodies")) in
-    with_subcommand bodies (files_shape (codes "json"))
+    let report = with_subcommand bodies report_shape in
+    let json = with_subcommand report (files_shape (codes "json")) in
+    with_subcommand json (out_shape (codes "html"))
 
--- what is made of the survey of tables: the listing; the objects at the path that a text spells; the map of the bytes; the methods; JSON
+-- what is made of the survey of tables: the listing; the objects at the path that a text spells; the map of the bytes; the methods;
+-- the report, unfolded or not; JSON; a page, in the file of a name
 pub data Command : Type 0 where
   listing : Command
   showing : Text → Command
   mapping : Command
   telling_bodies : Command
+  reporting : Bool → Command
   json : Command
+  paging : Text → Command
 
 -- a command over a list of tables: whether their files are hexadecimal text, how many levels terms may have, and the files
 pub record Asked : Type 0 where
@@ -53,8 +69,10 @@ topic_of name =
     else (if bytes_eq name (codes "show") then Some topics.Show
     else (if bytes_eq name (codes "map") then Some topics.Map
     else (if bytes_eq name (codes "bodies") then Some topics.Bodies
+    else (if bytes_eq name (codes "report") then Some topics.Report
     else (if bytes_eq name (codes "json") then Some topics.Json
-    else None))))
+    else (if bytes_eq name (codes "html") then Some topics.Html
+    else None))))))
 
 abbrev pub lone_wish : Text → Option Wish
 lone_wish word =
@@ -69,15 +87,17 @@ help_in _ = None
 
 -- ---- a survey
 
--- the command of this name; for `show` the text that stands as PATH
+-- the command of this name; for `show` the text that stands as PATH, for `html` that which stands as OUT
 abbrev pub command_by : Text → List Row → Option Command
 command_by name rows =
     if bytes_eq name (codes "list") then Some listing
     else (if bytes_eq name (codes "show") then option_map showing (first_of (codes "path") rows)
     else (if bytes_eq name (codes "map") then Some mapping
     else (if bytes_eq name (codes "bodies") then Some telling_bodies
+    else (if bytes_eq name (codes "report") then Some (reporting (is_given (codes "verbose") rows))
     else (if bytes_eq name (codes "json") then Some json
-    else None))))
+    else (if bytes_eq name (codes "html") then option_map paging (first_of (codes "out") rows)
+    else None))))))
 
 -- what clap found: the command, `--hex`, the value of `--depth`, and the files
 abbrev pub asked_by : Text → List Row → Option Asked
@@ -112,7 +132,9 @@ command_in read.List = listing
 command_in (read.Show path) = showing path.now
 command_in read.Map = mapping
 command_in read.Bodies = telling_bodies
+command_in (read.Report is_verbose) = reporting is_verbose
 command_in read.Json = json
+command_in (read.Html out) = paging out.now
 
 -- a request, as what it asks for
 abbrev pub asked_in : Request → Asked

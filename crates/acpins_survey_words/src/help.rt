@@ -12,7 +12,9 @@ acpins-survey: what the tables DSDT and SSDT of a machine declare or may declare
   acpins-survey show PATH FILE..  the objects at PATH, with the bodies of methods
   acpins-survey map FILE..        what each byte of each table is
   acpins-survey bodies FILE..     every method: read, or why not
+  acpins-survey report FILE..     an overview for people
   acpins-survey json FILE..       all of it, for programs
+  acpins-survey html OUT FILE..   the overview as one page
 
   acpins-survey COMMAND --help    what COMMAND prints
   acpins-survey --version         the version, and the kit that built it
@@ -23,6 +25,7 @@ files in it: DSDT, then SSDT1, SSDT2 and so on, then the SSDTs in its folder dyn
 
   --hex      the files are hexadecimal text
   --depth N  the greatest level that a term may have, 1 to 4096; 1024 without it
+  -v         report tells all of it: nothing is folded or cut short
   --         ends the options
 
 The status is 0 where all is read, 3 where a table has a problem, 1 where a file or the output
@@ -57,10 +60,27 @@ acpins-survey bodies [--hex] [--depth N] FILE..
 prints a line for each method of a table: that its terms are read, or why not, and where.
 ";
 
+const REPORT: &str = "\
+acpins-survey report [-v] [--hex] [--depth N] FILE..
+
+prints an overview: problems and notes; the address spaces that the tables touch; the devices with
+their ids, addresses, resources and wake; power and thermal objects; what an operating system runs
+unasked; and what looks wrong. With -v siblings that are alike have a line each, and no list is cut
+short. It has colours where standard output is a terminal and NO_COLOR is not set.
+";
+
 const JSON: &str = "\
 acpins-survey json [--hex] [--depth N] FILE..
 
 prints one object of JSON with all that list, show, bodies and the headers of the tables say.
+";
+
+const HTML: &str = "\
+acpins-survey html [--hex] [--depth N] OUT FILE..
+
+writes the report to the file OUT as one page of HTML, which needs no other file and no script: with
+a map of the addresses, the tree of the devices, and the bytes of each table beside what they are. It
+prints nothing. What stood in OUT stays until the page is whole.
 ";
 
 /// What `--help` prints on the topic.
@@ -71,6 +91,8 @@ pub fn help_of(topic: Topic) -> &'static str {
         Topic::Show => SHOW,
         Topic::Map => MAP,
         Topic::Bodies => BODIES,
+        Topic::Report => REPORT,
         Topic::Json => JSON,
+        Topic::Html => HTML,
     }
 }

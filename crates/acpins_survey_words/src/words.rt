@@ -1,15 +1,23 @@
 //! The words of the command.
 
-ghost use Rattle.std.specs.Prelude.{◌≡◌, ◌∷◌, [], IfOk, None, option_map};
+ghost use Rattle.std.specs.Prelude.{◌≡◌, ◌∷◌, [], false, IfOk, None, codes, option_map};
 ghost use Rattle.clap.specs.Matches.{found_of};
 ghost use Rattle.clap.specs.Simple.{app_of};
-ghost use Rattle.clap.specs.Walk.{rows_of, texts};
-ghost use Rattle.acpins_survey_words.specs.Words.{asked_by, asked_in, asked_of, command_by, command_in, help_in, lone_wish, survey_app, topic_of, wish_in, wish_of};
+ghost use Rattle.clap.specs.Takes.{is_given};
+ghost use Rattle.clap.specs.Walk.{rows_of, rule_of, texts};
+ghost use Rattle.clap.specs.declared.builder.command.Command.TheViews.{out-Command as fields_of};
+ghost use Rattle.acpins_words.specs.Words.{alone};
+ghost use Rattle.acpins_survey_words.specs.Words.{asked_by, asked_in, asked_of, command_by};
+ghost use Rattle.acpins_survey_words.specs.Words.{command_in, help_in, lone_wish, report_shape};
+ghost use Rattle.acpins_survey_words.specs.Words.{survey_app, topic_of, verbose_rule, wish_in, wish_of};
 
 use acpi_code::Depth;
 use acpins_words::WordsFault;
-use acpins_words::arguments::{depth_in, fault_of, has_hex, over_files, over_path, program, with};
-use clap::ArgMatches;
+use acpins_words::arguments::{
+    depth_in, fault_of, has_hex, over_files, over_out, over_path, program, with,
+};
+use clap::parser::ValueSource;
+use clap::{Arg, ArgAction, ArgMatches};
 use std::alloc::{AllocError, Global};
 
 /// What is made of the survey of the tables.
@@ -23,8 +31,15 @@ pub enum Command<'a> {
     Map,
     /// Every method: read, or why not.
     Bodies,
+    /// An overview for people.
+    Report {
+        /// Whether siblings that are alike have a line each, and long lists are told whole.
+        is_verbose: bool,
+    },
     /// All of it, as JSON.
     Json,
+    /// The overview as a page of HTML, which is written to this file.
+    Html(&'a str),
 }
 
 /// A survey that the words ask for: a command over the tables in these files.
@@ -53,8 +68,12 @@ pub enum Topic {
     Map,
     /// `bodies`
     Bodies,
+    /// `report`
+    Report,
     /// `json`
     Json,
+    /// `html`
+    Html,
 }
 
 /// What the words ask for.
@@ -77,7 +96,9 @@ fn topic_of(name: &str) -> Option<Topic>
         "show" => Some(Topic::Show),
         "map" => Some(Topic::Map),
         "bodies" => Some(Topic::Bodies),
+        "report" => Some(Topic::Report),
         "json" => Some(Topic::Json),
+        "html" => Some(Topic::Html),
         _ => None,
     }
 }
@@ -114,6 +135,23 @@ fn help_in<'a>(words: &[&str]) -> Option<Wish<'a>>
     }
 }
 
+fn verbose<'a>(alloc: Global) -> Arg<'a>
+    ensures rule { rule_of result ≡ verbose_rule }
+    ensures local { result.global ≡ false }
+{
+    Arg::new(alloc, "verbose")
+        .short('v')
+        .action(ArgAction::SetTrue)
+}
+
+// The report's form: a command over files with `-v`.
+fn report_form<'a>(alloc: Global) -> Result<clap::Command<'a>, AllocError>
+    ensures app { IfOk result (λ command. app_of command ≡ alone report_shape) }
+    ensures local { IfOk result (λ command. (fields_of command).has_globals ≡ false) }
+{
+    over_files(alloc, "report")?.arg(verbose(alloc))
+}
+
 fn forms<'a>(alloc: Global) -> Result<clap::Command<'a>, AllocError>
     ensures { IfOk result (λ command. app_of command ≡ survey_app) }
 {
@@ -121,7 +159,20 @@ fn forms<'a>(alloc: Global) -> Result<clap::Command<'a>, AllocError>
     let command = with(command, over_path(alloc, "show"))?;
     let command = with(command, over_files(alloc, "map"))?;
     let command = with(command, over_files(alloc, "bodies"))?;
-    with(command, over_files(alloc, "json"))
+    let command = with(command, report_form(alloc))?;
+    let command = with(command, over_files(alloc, "json"))?;
+    with(command, over_out(alloc, "html"))
+}
+
+// Whether `-v` is one of a command's words. The flag has a value even where it isn't.
+fn has_verbose(found: &ArgMatches<'_>) -> bool
+    ensures { result ≡ is_given (codes "verbose") (rows_of (found_of found.now)) }
+{
+    match found.value_source("verbose") {
+        Some(ValueSource::CommandLine) => true,
+        Some(ValueSource::DefaultValue) => false,
+        None => found.contains_id("verbose"),
+    }
 }
 
 // The command of this name, with what was found for it.
@@ -133,7 +184,11 @@ fn command_in<'a>(name: &str, found: &ArgMatches<'a>) -> Option<Command<'a>>
         "show" => Some(Command::Show(found.get_str("path")?)),
         "map" => Some(Command::Map),
         "bodies" => Some(Command::Bodies),
+        "report" => Some(Command::Report {
+            is_verbose: has_verbose(found),
+        }),
         "json" => Some(Command::Json),
+        "html" => Some(Command::Html(found.get_str("out")?)),
         _ => None,
     }
 }

@@ -13,12 +13,12 @@ pub returns-clause-ok : goal.returns-clause-ok
 returns-clause-ok g c =
     let bytes_of = g.F.Files.bytes_of c.args.files.now in
     let hex = c.args.hex in
-    let first = c.add_file.new.tables.items in
-    let second = c.add_ssdts.new.tables.items in
-    let third = c.add_dynamic.new.tables.items in
+    let first = c.add_file.new.found.tables.items in
+    let second = c.add_ssdts.new.found.tables.items in
+    let third = c.add_dynamic.new.found.tables.items in
     let path : IsPathIn c.args.folder.now (codes "DSDT") c.as_str.result.now =
     subst (IsPathIn c.args.folder.now (codes "DSDT")) (sym c.as_str.ensures.value) c.in_ok-dsdt.ensures in
     let ssdts = subst (λ (b : FileBytes). Adds (AreOfSomeFiles b hex) first second) c.in_ok-add_file.ensures.stays c.in_ok-add_ssdts.ensures.ok in
     let same = c.in_ok-add_ssdts.ensures.stays ∙ c.in_ok-add_file.ensures.stays in
-    on_ok_weaker c.add_dynamic.result (λ h. folder_more bytes_of hex c.args.folder.now c.as_str.result.now c.args.tables.now.items first second third
+    on_ok_weaker c.add_dynamic.result (λ h. folder_more bytes_of hex c.args.folder.now c.as_str.result.now c.args.found.now.tables.items first second third
     path c.in_ok-add_file.ensures.ok ssdts (subst (λ (b : FileBytes). Adds (AreOfSomeFiles b hex) second third) same h)) c.add_dynamic.ensures.ok

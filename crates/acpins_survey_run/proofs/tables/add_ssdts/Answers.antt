@@ -14,10 +14,10 @@ returns-in_err-add_file-clause-err g c =
 pub loop-name-preserved : goal.loop-name-preserved
 loop-name-preserved g c =
     let path = c.as_str-in-loop-name.result.now in
-    let old = c.loop-name.tables.items in
-    let new = c.add_file.new.tables.items in
+    let old = c.loop-name.found.tables.items in
+    let new = c.add_file.new.found.tables.items in
     record {
-      added = some_more (g.F.Files.bytes_of c.args.files.now) c.args.hex path c.args.tables.now.items old new c.loop-name.invariant.added
+      added = some_more (g.F.Files.bytes_of c.args.files.now) c.args.hex path c.args.found.now.tables.items old new c.loop-name.invariant.added
           (subst (λ (b : FileBytes). Adds (AreTablesIn c.args.hex (b path)) old new) c.loop-name.invariant.stays c.in_ok-add_file.ensures.ok);
       stays = c.in_ok-add_file.ensures.stays ∙ c.loop-name.invariant.stays;
       others = c.in_ok-add_file.ensures.others ∙ c.loop-name.invariant.others;

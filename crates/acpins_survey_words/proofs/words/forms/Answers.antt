@@ -1,8 +1,9 @@
 use Rattle.std.proofs.Common.{codes}
 use Rattle.std.proofs.lemmas.Result.{IfOk-weaker}
 use Rattle.clap.specs.Simple.{with_subcommand}
-use Rattle.acpins_words.specs.Words.{alone, files_shape, path_shape, program_shape}
+use Rattle.acpins_words.specs.Words.{alone, files_shape, out_shape, path_shape, program_shape}
 use Rattle.acpins_words.proofs.Adding.{subcommand_added}
+use Rattle.acpins_survey_words.specs.Words.{report_shape}
 use Rattle.acpins_survey_words.proofs.words.forms.Goals as goal
 
 pub returns : goal.returns
@@ -16,9 +17,14 @@ returns c =
     let showing = with_subcommand listing show in
     let mapping = with_subcommand showing map in
     let telling = with_subcommand mapping bodies in
+    let json = files_shape (codes "json") in
+    let reporting = with_subcommand telling report_shape in
+    let spelling = with_subcommand reporting json in
     let with_list = subcommand_added c.over_files.result _ _ begun list c.in_ok-command.ensures c.program.ensures c.over_files.ensures.app c.over_files.ensures.local in
     let with_show = subcommand_added c.over_path.result _ _ listing show c.in_ok-command-2.ensures with_list c.over_path.ensures.app c.over_path.ensures.local in
     let with_map = subcommand_added c.over_files-2.result _ _ showing map c.in_ok-command-3.ensures with_show c.over_files-2.ensures.app c.over_files-2.ensures.local in
     let with_bodies = subcommand_added c.over_files-3.result _ _ mapping bodies c.in_ok-command-4.ensures with_map c.over_files-3.ensures.app c.over_files-3.ensures.local in
-    IfOk-weaker c.with-5.result _ _
-    (λ command added. subcommand_added c.over_files-4.result _ command telling (files_shape (codes "json")) added with_bodies c.over_files-4.ensures.app c.over_files-4.ensures.local) c.with-5.ensures
+    let with_report = subcommand_added c.report_form.result _ _ telling report_shape c.in_ok-command-5.ensures with_bodies c.report_form.ensures.app c.report_form.ensures.local in
+    let with_json = subcommand_added c.over_files-4.result _ _ reporting json c.in_ok-command-6.ensures with_report c.over_files-4.ensures.app c.over_files-4.ensures.local in
+    IfOk-weaker c.with-7.result _ _
+    (λ command added. subcommand_added c.over_out.result _ command spelling (out_shape (codes "html")) added with_json c.over_out.ensures.app c.over_out.ensures.local) c.with-7.ensures

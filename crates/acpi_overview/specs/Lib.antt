@@ -1,0 +1,5 @@
+pub mod Paths
+pub mod Numbers
+pub mod OspmMethods
+pub mod Regions
+pub mod Tables

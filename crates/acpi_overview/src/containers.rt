@@ -1,0 +1,285 @@
+//! The objects below which others stand: scopes, devices, processors, power resources and thermal zones.
+
+ghost use Rattle.std.specs.Prelude.{◌≡◌, length, IfOk};
+ghost use Rattle.acpi_overview.specs.Paths.{is_directly_in, is_within, last_name};
+
+use crate::addresses::{Address, set_addresses};
+use crate::objects::{Object, has_own_condition};
+use crate::value::Value;
+use acpi_name::Path;
+use acpi_survey::Survey;
+use acpins_survey_output::Declared;
+use std::alloc::{AllocError, Global};
+
+/// What is known of the objects of a device by which an operating system finds it (ACPI 6.5, 6.1 to 6.3 and 7.3).
+#[derive(Debug, Clone, Copy)]
+pub struct DeviceValues<'a> {
+    /// `_HID`, the hardware id.
+    pub hid: Value<'a>,
+    /// `_CID`, the ids of devices with which it is compatible.
+    pub cid: Value<'a>,
+    /// `_UID`, which tells devices of one hardware id apart.
+    pub uid: Value<'a>,
+    /// `_ADR`, the address on the parent's bus.
+    pub adr: Value<'a>,
+    /// `_BBN`, the number of a host bridge's bus.
+    pub bbn: Value<'a>,
+    /// `_STA`, whether it is there.
+    pub sta: Value<'a>,
+    /// `_CRS`, its resources.
+    pub crs: Value<'a>,
+    /// `_PRW`, by which event it wakes the machine.
+    pub prw: Value<'a>,
+}
+
+/// How many objects stand directly below another.
+#[derive(Debug, Clone, Copy)]
+pub struct Counts {
+    /// Methods.
+    pub methods: usize,
+    /// Field units.
+    pub units: usize,
+}
+
+/// An object below which others stand.
+#[derive(Debug, Clone, Copy)]
+pub struct Container<'a> {
+    /// The object; the first of several at its path.
+    pub object: Object<'a>,
+    /// The number of the container around.
+    pub parent: Option<usize>,
+    /// How many containers are around.
+    pub depth: usize,
+    /// How many objects have its path.
+    pub count: usize,
+    /// Where its object stands among all.
+    pub place: usize,
+    /// What is known of the device.
+    pub values: DeviceValues<'a>,
+    /// What stands directly below it.
+    pub counts: Counts,
+    /// Where it stands on its parent's bus.
+    pub address: Address,
+}
+
+/// The containers in the order of their paths, so that each stands behind those around, and for each object the container below
+/// which it stands.
+#[derive(Drop)]
+pub struct Tree<'a> {
+    /// The containers.
+    pub containers: Vec<Container<'a>>,
+    /// By the place of an object among all, the number of the container around.
+    pub around: Vec<Option<usize>>,
+}
+
+const NOTHING: DeviceValues<'static> = DeviceValues {
+    hid: Value::Missing,
+    cid: Value::Missing,
+    uid: Value::Missing,
+    adr: Value::Missing,
+    bbn: Value::Missing,
+    sta: Value::Missing,
+    crs: Value::Missing,
+    prw: Value::Missing,
+};
+
+fn is_container(declared: Declared<'_>) -> bool {
+    matches!(
+        declared,
+        Declared::Root
+            | Declared::Scope
+            | Declared::Device
+            | Declared::Processor { .. }
+            | Declared::Power { .. }
+            | Declared::Thermal
+    )
+}
+
+/// Whether a path is that of a scope, or stands below it.
+pub fn is_within(path: &Path, scope: &Path) -> bool
+    ensures { result ≡ is_within path.now scope.now }
+{
+    path.segs().starts_with(scope.segs())
+}
+
+/// Whether a path stands directly below that of a scope.
+pub fn is_directly_in(path: &Path, scope: &Path) -> bool
+    ensures { result ≡ is_directly_in path.now scope.now }
+{
+    path.len() == scope.len() + 1 && is_within(path, scope)
+}
+
+/// The last segment of a path; four blanks for the root.
+pub fn last_segment(path: &Path) -> [u8; 4]
+    ensures { result ≡ last_name path.now }
+{
+    match path.segs().last() {
+        Some(segment) => segment.bytes(),
+        None => *b"    ",
+    }
+}
+
+fn set<'a>(fact: &mut Value<'a>, value: Value<'a>) {
+    *fact = if fact.is_missing() {
+        value
+    } else {
+        Value::Unknown
+    };
+}
+
+impl<'a> DeviceValues<'a> {
+    // Hears of an object of the device, by its last segment.
+    fn hear(&mut self, segment: &[u8], value: Value<'a>) {
+        match segment {
+            b"_HID" => set(&mut self.hid, value),
+            b"_CID" => set(&mut self.cid, value),
+            b"_UID" => set(&mut self.uid, value),
+            b"_ADR" => set(&mut self.adr, value),
+            b"_BBN" => set(&mut self.bbn, value),
+            b"_STA" => set(&mut self.sta, value),
+            b"_CRS" => set(&mut self.crs, value),
+            b"_PRW" => set(&mut self.prw, value),
+            _ => {}
+        }
+    }
+}
+
+impl Counts {
+    fn hear(&mut self, declared: Declared<'_>) {
+        match declared {
+            Declared::Method(_) => self.methods = self.methods.saturating_add(1),
+            Declared::Field { .. } => self.units = self.units.saturating_add(1),
+            _ => {}
+        }
+    }
+}
+
+impl<'a> Container<'a> {
+    // Hears of an object that stands below it.
+    fn hear(&mut self, survey: &Survey, object: &Object<'a>) -> Result<(), AllocError> {
+        if !is_directly_in(object.path, self.object.path) {
+            return Ok(());
+        }
+        let value = if has_own_condition(survey, &self.object, object)? {
+            Value::Unknown
+        } else {
+            Value::of_declared(object.declared, object.code)
+        };
+        self.values.hear(&last_segment(object.path), value);
+        self.counts.hear(object.declared);
+        Ok(())
+    }
+}
+
+/// The containers while the objects are gone through.
+#[derive(Drop)]
+struct Building<'a> {
+    survey: &'a Survey,
+    containers: Vec<Container<'a>>,
+    open: Vec<usize>,
+}
+
+impl<'a> Building<'a> {
+    // The innermost container around a path; those that are not around it are left.
+    fn come_to(&mut self, path: &Path) -> Option<usize> {
+        for _ in 0..self.open.len() {
+            let number = *self.open.last()?;
+            let container = self.containers.get(number)?;
+            if is_within(path, container.object.path) {
+                return Some(number);
+            }
+            self.open.pop();
+        }
+        None
+    }
+
+    // Puts a container behind the others, whose parent has that number.
+    fn put(
+        &mut self,
+        object: &Object<'a>,
+        place: usize,
+        parent: Option<usize>,
+    ) -> Result<(), AllocError> {
+        let number = self.containers.len();
+        self.containers.push(Container {
+            object: *object,
+            parent,
+            depth: self.open.len(),
+            count: 1,
+            place,
+            values: NOTHING,
+            counts: Counts {
+                methods: 0,
+                units: 0,
+            },
+            address: Address::Unknown,
+        })?;
+        self.open.push(number)?;
+        Ok(())
+    }
+
+    // Tells the container of that number of an object below it.
+    fn tell(&mut self, number: usize, object: &Object<'a>) -> Result<(), AllocError> {
+        match self.containers.get_mut(number) {
+            Some(container) => container.hear(self.survey, object),
+            None => Ok(()),
+        }
+    }
+
+    // Whether the container of that number has the path; then it counts one more object at it.
+    fn count_again(&mut self, number: usize, path: &Path) -> bool {
+        match self.containers.get_mut(number) {
+            Some(container) => {
+                let is_same = container.object.path.len() == path.len();
+                if is_same {
+                    container.count = container.count.saturating_add(1);
+                }
+                is_same
+            }
+            None => false,
+        }
+    }
+
+    // Comes to the next object; the number of the container around it.
+    fn next(&mut self, object: &Object<'a>, place: usize) -> Result<Option<usize>, AllocError> {
+        let around = self.come_to(object.path);
+        if !is_container(object.declared) {
+            if let Some(number) = around {
+                self.tell(number, object)?;
+            }
+            return Ok(around);
+        }
+        if let Some(number) = around {
+            if self.count_again(number, object.path) {
+                return Ok(self.containers.get(number).and_then(|h| h.parent));
+            }
+        }
+        self.put(object, place, around)?;
+        Ok(around)
+    }
+}
+
+impl<'a> Tree<'a> {
+    /// The tree of the objects, which stand in the order of their paths.
+    pub fn new(
+        alloc: Global,
+        survey: &'a Survey,
+        objects: &[Object<'a>],
+    ) -> Result<Tree<'a>, AllocError>
+        ensures { IfOk result (λ t. length t.around.items ≡ length objects.now) }
+    {
+        let mut building = Building {
+            survey,
+            containers: Vec::new(alloc),
+            open: Vec::new(alloc),
+        };
+        let mut around = Vec::new(alloc);
+        'each: for place in 0..objects.len() {
+            let container = building.next(&objects[place], place)?;
+            around.push(container)?;
+        }
+        let mut containers = building.containers;
+        set_addresses(&mut containers);
+        Ok(Tree { containers, around })
+    }
+}

@@ -1,0 +1,142 @@
+//! The objects that tables may declare, by path.
+
+use acpi_conditions::{Entry, Turn, Way};
+use acpi_name::Path;
+use acpi_outline::{Fixed, Node};
+use acpi_survey::{Site, Span, Survey, What};
+use acpi_table::HEADER_BYTES;
+use acpins_survey_output::{Declared, declared_by, predefined};
+use std::alloc::{AllocError, Global};
+
+/// An object that a table may declare, or that is there before all tables (ACPI 6.5, 5.3).
+#[derive(Debug, Clone, Copy)]
+pub struct Object<'a> {
+    /// The number of its entry.
+    pub number: usize,
+    /// The path.
+    pub path: &'a Path,
+    /// What its term declares.
+    pub declared: Declared<'a>,
+    /// Where its term begins; nowhere for what is there before all tables.
+    pub site: Option<Site>,
+    /// The number of bytes of a method's code.
+    pub code: usize,
+    /// Whether it has a condition.
+    pub is_conditional: bool,
+    /// Whether its term asks something of the namespace.
+    pub asks: bool,
+    /// The way to its term.
+    pub way: Way,
+}
+
+// The number of bytes of the code of a method.
+fn code_of(part: &Span<'_>) -> usize {
+    match part.what {
+        What::Node(node) => match node {
+            Node::Closed(fixed, code) => match fixed {
+                Fixed::Method(_, _) => code.len(),
+                _ => 0,
+            },
+            _ => 0,
+        },
+        _ => 0,
+    }
+}
+
+/// Where a term at a place stands: in which table, and at which offset from its first byte.
+fn site_of(place: u128) -> Site {
+    let offset = (place % (1 << 64)) as usize;
+    Site {
+        table: (place / (1 << 64)) as usize,
+        offset: offset.saturating_add(HEADER_BYTES),
+    }
+}
+
+fn asks_something(entry: &Entry) -> bool {
+    let asks = &entry.asks;
+    asks.has || asks.no || !asks.needs.is_empty()
+}
+
+// What the entry of that number declares; what no table declares is there before all tables.
+fn object_of<'a>(survey: &'a Survey, entry: &'a Entry, number: usize) -> Object<'a> {
+    let asks = asks_something(entry);
+    match survey.part_of(number) {
+        Some(part) => Object {
+            number,
+            path: &entry.path,
+            declared: match declared_by(&part) {
+                Some(declared) => declared,
+                None => Declared::Predefined,
+            },
+            site: Some(site_of(entry.term.place)),
+            code: code_of(&part),
+            is_conditional: asks || !survey.entries().ways.is_empty(entry.way),
+            asks,
+            way: entry.way,
+        },
+        None => Object {
+            number,
+            path: &entry.path,
+            declared: predefined(number),
+            site: None,
+            code: 0,
+            is_conditional: false,
+            asks: false,
+            way: entry.way,
+        },
+    }
+}
+
+// Whether turns end with the one into the term at a place, and begin with the others.
+fn is_inside(turns: &[Turn], around: &[Turn], place: u128) -> bool {
+    match turns.split_last() {
+        Some((last, before)) => *last == Turn::Within(place) && before == around,
+        None => false,
+    }
+}
+
+/// Whether an object has a condition that the object around it doesn't have: its term asks something, or control comes to
+/// it by another way than to what stands around.
+pub(crate) fn has_own_condition(
+    survey: &Survey,
+    around: &Object<'_>,
+    object: &Object<'_>,
+) -> Result<bool, AllocError> {
+    if object.asks {
+        return Ok(true);
+    }
+    if object.way == around.way || !object.is_conditional {
+        return Ok(false);
+    }
+    let entries = survey.entries();
+    let Some(entry) = entries.paths.entries().get(around.number) else {
+        return Ok(true);
+    };
+    let turns = entries.ways.turns(object.way)?;
+    let turns_around = entries.ways.turns(around.way)?;
+    Ok(!is_inside(&turns, &turns_around, entry.term.place))
+}
+
+/// The objects in the order of their paths, those of one path in the order of their places.
+pub fn objects_of(alloc: Global, survey: &Survey) -> Result<Vec<Object<'_>>, AllocError> {
+    let entries = survey.entries().paths.entries();
+    let mut order: Vec<(&Path, usize)> = Vec::new(alloc);
+    for number in 0..entries.len() {
+        order.push((&entries[number].path, number))?;
+    }
+    order.sort()?;
+    let mut objects = Vec::new(alloc);
+    'each: for (_, number) in &order {
+        if let Some(entry) = entries.get(*number) {
+            objects.push(object_of(survey, entry, *number))?;
+        }
+    }
+    Ok(objects)
+}
+
+/// The objects at a path.
+pub fn objects_at<'a, 'b>(objects: &'b [Object<'a>], path: &Path) -> &'b [Object<'a>] {
+    let from = objects.partition_point(|o| *o.path < *path);
+    let to = objects.partition_point(|o| *o.path <= *path);
+    if from <= to { &objects[from..to] } else { &[] }
+}

@@ -1,0 +1,90 @@
+//! What is known of an object's value without running code.
+
+ghost use Rattle.std.specs.Prelude.{◌≡◌, ℕ};
+ghost use Rattle.acpi_overview.specs.Numbers.{constant_number, is_missing, term_number, value_number};
+ghost use Rattle.acpins_survey_output.specs.declared.objects.Declared.TheVariants as objects;
+ghost use Rattle.acpi_overview.specs.declared.value.Value.TheVariants as known;
+
+use acpi_tree::{Int, Term};
+use acpins_survey_output::Declared;
+
+/// What is known of an object's value without running code (ACPI 6.5, 19.6).
+#[derive(Debug, Clone, Copy)]
+pub enum Value<'a> {
+    /// Nothing declares it.
+    Missing,
+    /// A constant integer.
+    Number(u64),
+    /// A string, without the 00 that ends it.
+    Text(&'a [u8]),
+    /// A buffer: the bytes that are given.
+    Buffer(&'a [u8]),
+    /// A package: the elements that are given.
+    Package(&'a [Term]),
+    /// A method, by the number of bytes of its code. Only running it gives the value.
+    Method(usize),
+    /// Something else, several objects, or one that has a condition of its own.
+    Unknown,
+}
+
+/// The number of a constant; Revision has none before a program runs.
+pub fn number_of(int: Int) -> Option<u64>
+    ensures { result ≡ constant_number int }
+{
+    match int {
+        Int::Zero => Some(0),
+        Int::One => Some(1),
+        Int::Ones => Some(u64::MAX),
+        Int::Revision => None,
+        Int::Byte(n) => Some(u64::from(n)),
+        Int::Word(n) => Some(u64::from(n)),
+        Int::DWord(n) => Some(u64::from(n)),
+        Int::QWord(n) => Some(n),
+    }
+}
+
+impl<'a> Value<'a> {
+    /// What is known of a term's value.
+    pub fn of_term(term: &'a Term) -> Value<'a>
+        ensures { value_number result ≡ term_number term.now }
+    {
+        match term {
+            Term::Int(int) => match number_of(*int) {
+                Some(number) => Value::Number(number),
+                None => Value::Unknown,
+            },
+            Term::Str(bytes) => Value::Text(bytes),
+            Term::Buffer(_, bytes) => Value::Buffer(bytes),
+            Term::Package(_, elements) => Value::Package(elements),
+            _ => Value::Unknown,
+        }
+    }
+
+    /// What is known of the value of what a term declares; a method has `code` bytes.
+    pub fn of_declared(declared: Declared<'a>, code: usize) -> Value<'a>
+        ensures { (flags : ℕ) → declared.entry ≡ objects.Method flags → result ≡ known.Method code }
+    {
+        match declared {
+            Declared::Name(Some(term)) => Value::of_term(term),
+            Declared::Method(_) => Value::Method(code),
+            _ => Value::Unknown,
+        }
+    }
+
+    /// Whether nothing declares it.
+    pub fn is_missing(&self) -> bool
+        ensures { result ≡ is_missing self.now }
+    {
+        matches!(self, Value::Missing)
+    }
+
+    /// The number, where it is a constant integer.
+    pub fn number(&self) -> Option<u64>
+        ensures { result ≡ value_number self.now }
+    {
+        match self {
+            Value::Number(number) => Some(*number),
+            _ => None,
+        }
+    }
+}

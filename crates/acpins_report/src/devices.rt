@@ -1,0 +1,290 @@
+//! The tree of devices, as text.
+
+use crate::folding::group_cells;
+use crate::rows::{Order, Row, alike_of, row_of};
+use crate::sheet::Sheet;
+use acpi_overview::{Container, Overview};
+use acpins_survey_output::Declared;
+use std::alloc::{AllocError, Global};
+
+/// The columns of the tree.
+#[derive(Debug, Clone, Copy)]
+struct Columns {
+    ids: usize,
+    what: usize,
+    place: usize,
+    status: usize,
+    has: usize,
+    resources: usize,
+}
+
+// The columns in lines of a width of 80 to 120.
+fn columns_of(width: usize) -> Columns {
+    let spare = width.saturating_sub(80).min(40);
+    let ids = 18 + spare / 10;
+    let what = ids + 9;
+    let place = what + 12 + spare / 6 + spare / 5;
+    let status = place + 9 + spare / 10;
+    let has = status + 10;
+    Columns {
+        ids,
+        what,
+        place,
+        status,
+        has,
+        resources: has + 9,
+    }
+}
+
+/// The rows of the tree, and which of them are alike.
+#[derive(Drop)]
+pub(crate) struct Rows {
+    /// By the number of a container, its row.
+    pub rows: Vec<Row>,
+    /// The order of siblings.
+    pub order: Order,
+    /// By the number of a container, the first of its siblings that are like it.
+    alike: Vec<usize>,
+    /// The first of siblings that are alike, the place in their order, and the number of each container, in this order.
+    groups: Vec<(usize, usize, usize)>,
+}
+
+fn groups_of(
+    alloc: Global,
+    order: &Order,
+    alike: &[usize],
+) -> Result<Vec<(usize, usize, usize)>, AllocError> {
+    let mut groups = Vec::new(alloc);
+    let mut place = 0usize;
+    for number in order.numbers() {
+        if let Some(first) = alike.get(number.2) {
+            groups.push((*first, place, number.2))?;
+        }
+        place = place.saturating_add(1);
+    }
+    groups.sort_unstable();
+    Ok(groups)
+}
+
+impl Rows {
+    /// The rows of the containers of an overview.
+    pub(crate) fn new(alloc: Global, overview: &Overview<'_>) -> Result<Rows, AllocError> {
+        let containers = &overview.tree.containers;
+        let mut rows = Vec::new(alloc);
+        for number in 0..containers.len() {
+            rows.push(row_of(alloc, overview, &containers[number], number)?)?;
+        }
+        let order = Order::new(alloc, containers)?;
+        let alike = alike_of(alloc, overview, &order, &rows)?;
+        let groups = groups_of(alloc, &order, &alike)?;
+        Ok(Rows {
+            rows,
+            order,
+            alike,
+            groups,
+        })
+    }
+
+    // Those that are like the first of them.
+    fn group_of(&self, first: usize) -> &[(usize, usize, usize)] {
+        let from = self.groups.partition_point(|g| g.0 < first);
+        let to = self.groups.partition_point(|g| g.0 <= first);
+        if from <= to {
+            &self.groups[from..to]
+        } else {
+            &[]
+        }
+    }
+
+    /// The first of the siblings that are like a container.
+    pub(crate) fn first_of(&self, number: usize) -> usize {
+        match self.alike.get(number) {
+            Some(first) => *first,
+            None => number,
+        }
+    }
+}
+
+// How many characters of a text come before a column: whole words, if the first of them fits.
+fn fitting(cell: &[u8], room: usize) -> usize {
+    if cell.len() <= room || cell.get(room) == Some(&b' ') {
+        return room.min(cell.len());
+    }
+    let mut blank = 0;
+    for i in 0..room.min(cell.len()) {
+        if cell[i] == b' ' {
+            blank = i;
+        }
+    }
+    blank
+}
+
+// Puts a text up to a column; what is longer ends with a dot.
+fn put_cell(sheet: &mut Sheet, cell: &[u8], end: usize) -> Result<(), AllocError> {
+    let room = end.saturating_sub(sheet.line.len()).saturating_sub(1);
+    if cell.len() <= room {
+        return sheet.put_bytes(cell);
+    }
+    let count = room.saturating_sub(1).min(cell.len());
+    sheet.put_bytes(&cell[..count])?;
+    sheet.put(".")
+}
+
+// Puts the words of a text that come before a column; where not even the first fits, it ends with a dot.
+fn put_words(sheet: &mut Sheet, words: &[u8], end: usize) -> Result<(), AllocError> {
+    let room = end.saturating_sub(sheet.line.len()).saturating_sub(1);
+    let count = fitting(words, room).min(words.len());
+    if count > 0 {
+        return sheet.put_bytes(&words[..count]);
+    }
+    put_cell(sheet, words, end)
+}
+
+// The same, where two dots tell that words are left out.
+fn put_some_words(sheet: &mut Sheet, words: &[u8], end: usize) -> Result<(), AllocError> {
+    let room = end.saturating_sub(sheet.line.len()).saturating_sub(1);
+    if words.len() <= room {
+        return sheet.put_bytes(words);
+    }
+    let count = fitting(words, room.saturating_sub(3)).min(words.len());
+    if count == 0 {
+        return put_cell(sheet, words, end);
+    }
+    sheet.put_bytes(&words[..count])?;
+    sheet.put(" ..")
+}
+
+fn put_cells(
+    sheet: &mut Sheet,
+    row: &Row,
+    names: &[u8],
+    place: &[u8],
+    at: Columns,
+) -> Result<(), AllocError> {
+    for _ in 1..row.depth.min(12) {
+        sheet.put(" ")?;
+    }
+    sheet.put_bytes(names)?;
+    if !row.ids.is_empty() || !row.what.is_empty() {
+        sheet.tab(at.ids)?;
+        put_words(sheet, &row.ids, at.what)?;
+        sheet.tab(at.what)?;
+        put_cell(sheet, row.what.as_bytes(), at.place)?;
+    }
+    sheet.tab(at.place)?;
+    put_some_words(sheet, place, at.status)?;
+    sheet.tab(at.status)?;
+    put_cell(sheet, &row.status, at.has)?;
+    sheet.tab(at.has)?;
+    sheet.put_bytes(&row.has)?;
+    sheet.tab(at.resources)?;
+    sheet.put_bytes(&row.resources)
+}
+
+fn put_row(
+    alloc: Global,
+    sheet: &mut Sheet,
+    row: &Row,
+    alike: &[&Container<'_>],
+    at: Columns,
+    is_verbose: bool,
+) -> Result<(), AllocError> {
+    if alike.len() > 1 {
+        let cells = group_cells(alloc, alike, at.ids.saturating_sub(row.depth))?;
+        put_cells(sheet, row, &cells.names, &cells.place, at)?;
+    } else {
+        put_cells(sheet, row, &row.names, &row.place, at)?;
+    }
+    if is_verbose {
+        sheet.end()
+    } else {
+        sheet.end_cut()
+    }
+}
+
+// Whether a container is shown: a scope is only where something stands in it.
+fn is_shown(rows: &Rows, container: &Container<'_>, number: usize) -> bool {
+    match container.object.declared {
+        Declared::Root => false,
+        Declared::Scope => !rows.order.below(number).is_empty(),
+        _ => true,
+    }
+}
+
+/// The containers that are like the first of them.
+fn members<'a, 'b>(
+    alloc: Global,
+    overview: &'b Overview<'a>,
+    rows: &Rows,
+    first: usize,
+) -> Result<Vec<&'b Container<'a>>, AllocError> {
+    let mut found = Vec::new(alloc);
+    for (_, _, number) in rows.group_of(first) {
+        if let Some(container) = overview.tree.containers.get(*number) {
+            found.push(container)?;
+        }
+    }
+    Ok(found)
+}
+
+// Puts those below a container on the stack, the first on top.
+fn put_below(stack: &mut Vec<usize>, rows: &Rows, number: usize) -> Result<(), AllocError> {
+    for (_, _, below) in rows.order.below(number).iter().rev() {
+        stack.push(*below)?;
+    }
+    Ok(())
+}
+
+// The line that names the columns.
+fn put_head(sheet: &mut Sheet, at: Columns) -> Result<(), AllocError> {
+    sheet.put("DEVICES")?;
+    sheet.tab(at.ids)?;
+    sheet.put("id")?;
+    sheet.tab(at.what)?;
+    sheet.put("what")?;
+    sheet.tab(at.place)?;
+    sheet.put("where")?;
+    sheet.tab(at.status)?;
+    sheet.put("there")?;
+    sheet.tab(at.has)?;
+    sheet.put("has")?;
+    sheet.tab(at.resources)?;
+    sheet.head("resources")
+}
+
+/// Puts the tree of devices; without `is_verbose` siblings that are alike stand in one row.
+pub(crate) fn put_devices(
+    alloc: Global,
+    sheet: &mut Sheet,
+    overview: &Overview<'_>,
+    rows: &Rows,
+    is_verbose: bool,
+) -> Result<(), AllocError> {
+    let at = columns_of(sheet.width());
+    put_head(sheet, at)?;
+    let containers = &overview.tree.containers;
+    let mut stack = Vec::new(alloc);
+    stack.push(0usize)?;
+    for _ in 0..containers.len() {
+        let Some(number) = stack.pop() else {
+            return Ok(());
+        };
+        let (Some(container), Some(row)) = (containers.get(number), rows.rows.get(number)) else {
+            return Ok(());
+        };
+        let is_folded = !is_verbose && rows.first_of(number) != number;
+        if is_folded {
+            continue;
+        }
+        if is_shown(rows, container, number) {
+            if is_verbose {
+                put_row(alloc, sheet, row, &[], at, true)?;
+            } else {
+                let alike = members(alloc, overview, rows, number)?;
+                put_row(alloc, sheet, row, &alike, at, false)?;
+            }
+        }
+        put_below(&mut stack, rows, number)?;
+    }
+    Ok(())
+}

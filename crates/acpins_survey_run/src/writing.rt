@@ -1,0 +1,59 @@
+//! A file that is written.
+
+ghost use Rattle.std.specs.Prelude.{◌≡◌, ◌≢◌, ℕ, List, IfErr, OnOk, OnErr};
+ghost use Rattle.acpins_survey_run.specs.Stored.{Holds, IsUnwritten};
+
+use crate::failure::Failure;
+use crate::lines::printed_name;
+use acpins_io::{FileFault, Files};
+use std::alloc::Global;
+use std::io::Write;
+
+// The failure to write the file of that name.
+fn unwritten(alloc: Global, name: &str) -> Failure
+    ensures { IsUnwritten name.now result }
+{
+    match printed_name(alloc, name) {
+        Ok(file) => Failure::Out(file),
+        Err(_) => Failure::Memory,
+    }
+}
+
+// Why the file of that name isn't written.
+fn unwritten_by(alloc: Global, name: &str, fault: FileFault) -> Failure
+    ensures { IsUnwritten name.now result }
+{
+    match fault {
+        FileFault::Memory => Failure::Memory,
+        _ => unwritten(alloc, name),
+    }
+}
+
+/// Makes the file of that name, and writes the bytes to it. Where that fails, what stands under the name stays.
+pub fn put_file<F: Files>(
+    alloc: Global,
+    files: &mut F,
+    name: &str,
+    bytes: &[u8],
+) -> Result<(), Failure>
+    ensures held { OnOk result
+        (Holds (F.written_to files.old name.now) (F.written_to files.new name.now) bytes.now) }
+    ensures others { (other : List ℕ) → other ≢ name.now
+        → F.written_to files.new other ≡ F.written_to files.old other }
+    ensures err { IfErr result (IsUnwritten name.now) }
+    ensures left { OnErr result (F.written_to files.new ≡ F.written_to files.old) }
+{
+    let mut file = match files.create(name) {
+        Ok(file) => file,
+        Err(fault) => return Err(unwritten_by(alloc, name, fault)),
+    };
+    let written = file.write_all(bytes).is_ok() && file.flush().is_ok();
+    if !written {
+        files.abandon(file);
+        return Err(unwritten(alloc, name));
+    }
+    match files.close(file) {
+        Ok(()) => Ok(()),
+        Err(fault) => Err(unwritten_by(alloc, name, fault)),
+    }
+}
