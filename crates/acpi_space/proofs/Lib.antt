@@ -10,7 +10,6 @@ pub mod LongestAnswer
 pub mod Nearest
 pub mod Tree
 pub mod NodeWrites
-pub mod InBlocks
 pub mod Growth
 pub mod Walks
 pub mod Trails

@@ -225,9 +225,10 @@ none_left done before walk given whole h e is = sym (append-nil done) ∙ ap (λ
 
 -- all pairs were shown
 pub shown_all : {V T : Type 0} (Shown : T → List (List Segment × V) → T → Type 0) (first before walk : Walk V)
-    (start visitor : T) (given : Option (Bor V)) (m : PathMap V) (nodes : List (Node V))
-    → Showing Shown first before start visitor → left_of before ≡ with_given (option_copied given) walk → given ≡ None → left_of first ≡ pairs_below (length nodes) nodes 0
+    (start visitor : T) (given : Option (Bor V)) (m : PathMap V) (lent nodes : List (Node V))
+    → Showing Shown first before start visitor → left_of before ≡ with_given (option_copied given) walk → given ≡ None → left_of first ≡ pairs_below (length lent) lent 0
+    → lent ≡ nodes
     → IsTree nodes → tree_map nodes ≡ m → (earliest : T) (pairs : List (List Segment × V)) → Shown earliest pairs start → Shown earliest (pairs ++ entries m) visitor
-shown_all Shown first before walk start visitor given m nodes so e is all tree view earliest pairs s =
+shown_all Shown first before walk start visitor given m lent nodes so e is all same tree view earliest pairs s =
     subst (λ l. Shown earliest (pairs ++ l) visitor)
-    (listed_tree nodes m so.done tree view (none_left so.done before walk given (left_of first) so.whole e is ∙ all)) (so.shown earliest pairs s)
+    (listed_tree nodes m so.done tree view (none_left so.done before walk given (left_of first) so.whole e is ∙ all ∙ ap (λ l. pairs_below (length l) l 0) same)) (so.shown earliest pairs s)

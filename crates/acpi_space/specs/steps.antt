@@ -4,5 +4,3 @@ pub mod Trail
 pub mod Walk
 pub mod Layers
 pub mod Within
-pub mod Blocks
-pub mod Lends

@@ -22,7 +22,6 @@
 //! standard says of a search, and when its answer stays, are contracts in `laws`.
 #![tactic(auto)]
 
-mod blocks;
 mod children;
 mod grown;
 pub mod laws;

@@ -4,7 +4,6 @@ ghost use Rattle.std.specs.Option.{option_copied, option_map};
 ghost use Rattle.acpi_space.specs.Search.{beginnings};
 ghost use Rattle.acpi_space.specs.steps.Tree.{child_at, node_value, value_below};
 
-use crate::blocks::Blocks;
 use crate::children::Children;
 use acpi_name::Seg;
 
@@ -18,7 +17,7 @@ pub struct Node<V> {
 }
 
 /// The number of a node's child at a segment.
-pub(crate) fn child<V>(nodes: &Blocks<Node<V>>, number: usize, seg: Seg) -> Option<usize>
+pub(crate) fn child<V>(nodes: &[Node<V>], number: usize, seg: Seg) -> Option<usize>
     ensures { result ≡ child_at nodes.now number seg }
 {
     match nodes.get(number) {
@@ -28,7 +27,7 @@ pub(crate) fn child<V>(nodes: &Blocks<Node<V>>, number: usize, seg: Seg) -> Opti
 }
 
 /// A node's value.
-pub(crate) fn value<V>(nodes: &Blocks<Node<V>>, number: usize) -> Option<&V>
+pub(crate) fn value<V>(nodes: &[Node<V>], number: usize) -> Option<&V>
     ensures { option_copied result ≡ node_value (slice_get nodes.now number) }
 {
     match nodes.get(number) {
@@ -38,11 +37,7 @@ pub(crate) fn value<V>(nodes: &Blocks<Node<V>>, number: usize) -> Option<&V>
 }
 
 /// The value at a path from a node.
-pub(crate) fn value_at<'a, V>(
-    nodes: &'a Blocks<Node<V>>,
-    from: usize,
-    path: &[Seg],
-) -> Option<&'a V>
+pub(crate) fn value_at<'a, V>(nodes: &'a [Node<V>], from: usize, path: &[Seg]) -> Option<&'a V>
     ensures { option_copied result ≡ value_below nodes.now from path.now }
 {
     let mut number = from;
@@ -57,7 +52,7 @@ pub(crate) fn value_at<'a, V>(
 
 // `depth`, where a node has a child at the segment with a value, else what was found above it.
 fn nearer<V>(
-    nodes: &Blocks<Node<V>>,
+    nodes: &[Node<V>],
     number: usize,
     seg: Seg,
     depth: usize,
@@ -73,7 +68,7 @@ fn nearer<V>(
 }
 
 /// The length of the longest beginning of the scope below which the segment has a value.
-pub(crate) fn nearest_to<V>(nodes: &Blocks<Node<V>>, scope: &[Seg], seg: Seg) -> Option<usize>
+pub(crate) fn nearest_to<V>(nodes: &[Node<V>], scope: &[Seg], seg: Seg) -> Option<usize>
     ensures { result ≡ option_map length (find
         (λ q. is_some (value_below nodes.now 0 (q ++ seg ∷ []))) (beginnings scope.now)) }
 {

@@ -4,7 +4,6 @@ ghost use Rattle.std.specs.Option.{option_map};
 ghost use Rattle.acpi_space.specs.Search.{nearest_scope};
 ghost use Rattle.acpi_space.specs.Spaces.{is_defined};
 
-use crate::blocks::Blocks;
 use crate::grown::{put, reach};
 use crate::nodes::{Node, nearest_to, value_at};
 use crate::space::{Refused, Space, Visitor};
@@ -22,7 +21,7 @@ use std::marker::Model;
 #[derive(Drop)]
 pub struct TreeSpace<V> {
     alloc: Global,
-    nodes: Blocks<Node<V>>,
+    nodes: Vec<Node<V>>,
     trail: Vec<Mark>,
 }
 
@@ -36,9 +35,9 @@ impl<V> Model for TreeSpace<V> {
 
     ghost coded = { finite.code coded_path V.code };
 
-    ghost view = { λ t. tree_map t.nodes };
+    ghost view = { λ t. tree_map t.nodes.items };
 
-    ghost invariant = { λ t. IsTree t.nodes × IsTrail t.nodes 0 t.trail.items };
+    ghost invariant = { λ t. IsTree t.nodes.items × IsTrail t.nodes.items 0 t.trail.items };
 }
 
 impl<V: Drop> Space<V> for TreeSpace<V> {
@@ -47,7 +46,7 @@ impl<V: Drop> Space<V> for TreeSpace<V> {
     fn new(alloc: Global) -> Self {
         TreeSpace {
             alloc,
-            nodes: Blocks::new(alloc),
+            nodes: Vec::new(alloc),
             trail: Vec::new(alloc),
         }
     }

@@ -4,7 +4,6 @@ ghost use Rattle.std.specs.Option.{option_copied};
 ghost use Rattle.acpi_space.specs.steps.Tree.{IsTree, node_children, pairs_below};
 ghost use Rattle.acpi_space.specs.steps.Walk.{enter, next_ahead, ahead};
 
-use crate::blocks::Blocks;
 use crate::nodes::{Node, value};
 use acpi_name::{Path, Seg};
 use std::alloc::{AllocError, Global};
@@ -22,7 +21,7 @@ pub enum Step {
 /// tree needs no deep stack.
 #[derive(Drop)]
 pub struct Walk<'a, V> {
-    nodes: &'a Blocks<Node<V>>,
+    nodes: &'a [Node<V>],
     // The node that was entered and has not been visited.
     entered: Option<usize>,
     path: Path,
@@ -33,7 +32,7 @@ impl<'a, V> Walk<'a, V> {
     ghost use Rattle.acpi_space.specs.steps.Walk.{left_of, places_of, with_given};
 
     /// A walk from the root on.
-    pub(crate) fn through(alloc: Global, nodes: &'a Blocks<Node<V>>) -> Walk<'a, V>
+    pub(crate) fn through(alloc: Global, nodes: &'a [Node<V>]) -> Walk<'a, V>
         requires { IsTree nodes.now }
         ensures all { left_of result ≡ pairs_below (length nodes.now) nodes.now 0 }
         ensures tree { IsTree result.nodes.now }
@@ -88,7 +87,7 @@ impl<'a, V> Walk<'a, V> {
 
 // Puts a step into each child of a node, so that the first child is entered first.
 fn push_children<V>(
-    nodes: &Blocks<Node<V>>,
+    nodes: &[Node<V>],
     number: usize,
     steps: &mut Vec<Step>,
 ) -> Result<(), AllocError>

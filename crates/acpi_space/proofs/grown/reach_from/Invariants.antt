@@ -6,8 +6,8 @@ use Rattle.acpi_space.proofs.grown.reach_from.Given as goal
 
 abbrev pub invariant-loop-seg : goal.invariant-loop-seg
 invariant-loop-seg g l = record {
-  grown : IsGrown l.fn.nodes l.nodes;
-  reached : reached l.nodes l.from (take l.seg-index l.path) ≡ Some l.number;
-  within : l.number < length l.nodes;
-  trail : IsTrail l.nodes 0 l.trail.items;
+  grown : IsGrown l.fn.nodes.items l.nodes.items;
+  reached : reached l.nodes.items l.from (take l.seg-index l.path) ≡ Some l.number;
+  within : l.number < length l.nodes.items;
+  trail : IsTrail l.nodes.items 0 l.trail.items;
 }

@@ -9,8 +9,8 @@ loop-walk-preserved g c =
 
 pub returns : goal.returns
 returns g c =
-    shown_all g.T.Visitor.was_shown _ c.loop-walk.walk c.next.new.self _ c.loop-walk.visitor c.in_ok-value.field-0 c.args.self.now c.self.inside.nodes
-    c.loop-walk.invariant c.in_ok-value.ensures.given c.in_default.is c.through-walk.ensures.all c.self.invariant.0 c.self.view_is
+    shown_all g.T.Visitor.was_shown _ c.loop-walk.walk c.next.new.self _ c.loop-walk.visitor c.in_ok-value.field-0 c.args.self.now c.deref.result.now c.self.inside.nodes.items
+    c.loop-walk.invariant c.in_ok-value.ensures.given c.in_default.is c.through-walk.ensures.all c.deref.ensures.value c.self.invariant.0 c.self.view_is
 
 -- What a wrong body leaves open is named too: its refusal then names it, and needs no second search.
 pub loop-walk-smaller : goal.loop-walk-smaller
