@@ -159,6 +159,10 @@ some_any test [] x m is = absurd m
 some_any test (y ∷ xs) x (inl e) is = or_left (test y) (list_any test xs) (ap test e ∙ is)
 some_any test (y ∷ xs) x (inr m) is = or_right (test y) (list_any test xs) (some_any test xs x m is)
 
+-- where one test implies the other
+pub any_weaker : {X : Type 0} (test other : X → Bool) (xs : List X) → ((x : X) → test x ≡ true → other x ≡ true) → list_any test xs ≡ true → list_any other xs ≡ true
+any_weaker test other xs weaker e = let x = any_some test xs e in some_any other xs x.0 x.1 (weaker x.0 x.2)
+
 pub some_found : {X : Type 0} (test : X → Bool) (xs : List X) (x : X) → Among xs x → test x ≡ true → (y : X) × (find test xs ≡ Some y)
 some_found test [] x m is = absurd m
 some_found test (z ∷ xs) x m is = by (test z) refl m (some_found test xs x)

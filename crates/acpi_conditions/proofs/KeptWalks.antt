@@ -105,16 +105,16 @@ module _ (w : Inside) (h : IsWalk w) (ways : List (List Turn)) (v : Way) (turn :
       ∙ ap (λ (l : List Turn). record (walk_of w) { around = record { scope = w.scope; way = l } })
       (ap (λ (n : ℕ). way_of (w.ways ++ (way_of w.ways w.way ++ turn ∷ []) ∷ []) (record { number = n })) number ∙ get_or-append_seam w.ways (way_of w.ways w.way ++ turn ∷ []) [] [])
 
--- something is certain
-module _ (w : Inside) (h : IsWalk w) (k : KnownLists) (c : Certain) (is : k ≡ record w.paths { certain = c ∷ w.paths.certain }) where
-  certain_extends : Extends w.paths (record w.paths { certain = c ∷ w.paths.certain })
-  certain_extends = record { entries = ([], sym (append-nil w.paths.entries)); certain = (c ∷ [], refl); hidden = ([], sym (append-nil w.paths.hidden)) }
+-- more is certain
+module _ (w : Inside) (h : IsWalk w) (k : KnownLists) (cs : List Certain) (is : k ≡ record w.paths { certain = cs ++ w.paths.certain }) where
+  certain_extends : Extends w.paths (record w.paths { certain = cs ++ w.paths.certain })
+  certain_extends = record { entries = ([], sym (append-nil w.paths.entries)); certain = (cs, refl); hidden = ([], sym (append-nil w.paths.hidden)) }
 
   pub certain_kept : IsWalk (record w { paths = k })
-  certain_kept = subst (λ (k : KnownLists). IsWalk (record w { paths = k })) (sym is) (lists_kept w h (record w.paths { certain = c ∷ w.paths.certain }) certain_extends h.entries h.ranges)
+  certain_kept = subst (λ (k : KnownLists). IsWalk (record w { paths = k })) (sym is) (lists_kept w h (record w.paths { certain = cs ++ w.paths.certain }) certain_extends h.entries h.ranges)
 
-  pub certain_same : walk_of (record w { paths = k }) ≡ with_certain (c ∷ w.paths.certain) (walk_of w)
-  certain_same = ap (λ (k : KnownLists). walk_of (record w { paths = k })) is ∙ lists_same w h (record w.paths { certain = c ∷ w.paths.certain }) certain_extends h.entries h.ranges
+  pub certain_same : walk_of (record w { paths = k }) ≡ with_certain (cs ++ w.paths.certain) (walk_of w)
+  certain_same = ap (λ (k : KnownLists). walk_of (record w { paths = k })) is ∙ lists_same w h (record w.paths { certain = cs ++ w.paths.certain }) certain_extends h.entries h.ranges
 
 -- a While
 module _ (w : Inside) (h : IsWalk w) (k : KnownLists) (is : k ≡ record w.paths { in_loop = true }) where

@@ -31,3 +31,4 @@ pub mod KeptWalks
 pub mod StopLists
 pub mod WalkPackages
 pub mod WalkSteps
+pub mod SettledEntries

@@ -16,7 +16,7 @@ use Rattle.acpi_conditions.specs.declared.met.Met.TheInside.{Inside}
 use Rattle.acpi_conditions.specs.steps.Facts.{sights_beyond}
 use Rattle.acpi_conditions.specs.steps.Views.{passes, passes_if}
 use Rattle.acpi_conditions.specs.steps.Meetings.{meeting_of}
-use Rattle.acpi_conditions.proofs.Viewing.{get_behind, possible_any, possible_scope_any}
+use Rattle.acpi_conditions.proofs.Viewing.{get_behind, any_at_path, possible_any, possible_scope_any}
 
 -- ---- the tests
 
@@ -27,11 +27,15 @@ module _ (k : Inside) (m : Meeting) (p : Path) (turns : List TurnForm) (b : Bool
       is ∙ ap (λ (ts : List TurnForm). list_any (λ f. is_same_path f.path p && passes test (map turn_of ts) f) (map (entry_view k.ways.now) k.paths.now.entries)) t
       ∙ ap (λ (u : Meeting). list_any (λ f. is_same_path f.path p && passes test u.way f) u.entries) view
 
-  pub possible_met : b ≡ list_any (λ f. is_same_path f.path p && passes Possible (map turn_of turns) f) (map (entry_view k.ways.now) k.paths.now.entries) → b ≡ is_possible (met_by m) p
-  possible_met is = test_met Possible is ∙ possible_any m.way p m.entries
+  module _ (entries : List EntryForm) (sights : List Sight) (e : entries ≡ k.paths.now.entries) (at : sights ≡ sights_beyond p 0 (map (entry_view []) k.paths.now.entries)) where
+    test_at : (test : Test) → b ≡ list_any (λ x. passes_if test k.ways.now (map turn_of turns) (slice_get entries x.number)) sights → b ≡ list_any (λ f. is_same_path f.path p && passes test m.way f) m.entries
+    test_at test is = test_met test (any_at_path test k.ways.now (map turn_of turns) p k.paths.now.entries entries sights b e at is)
 
-  pub possible_scope_met : b ≡ list_any (λ f. is_same_path f.path p && passes PossibleScope (map turn_of turns) f) (map (entry_view k.ways.now) k.paths.now.entries) → b ≡ is_possible_scope (met_by m) p
-  possible_scope_met is = test_met PossibleScope is ∙ possible_scope_any m.way p m.entries
+    pub possible_met : b ≡ list_any (λ x. passes_if Possible k.ways.now (map turn_of turns) (slice_get entries x.number)) sights → b ≡ is_possible (met_by m) p
+    possible_met is = test_at Possible is ∙ possible_any m.way p m.entries
+
+    pub possible_scope_met : b ≡ list_any (λ x. passes_if PossibleScope k.ways.now (map turn_of turns) (slice_get entries x.number)) sights → b ≡ is_possible_scope (met_by m) p
+    possible_scope_met is = test_at PossibleScope is ∙ possible_scope_any m.way p m.entries
 
 -- ---- the numbers
 

@@ -1,5 +1,5 @@
 -- What is seen from an entry, by the entries at each path.
-use Rattle.std.proofs.Common.{◌≡◌, ℕ, suc, ◌&&◌, ◌||◌, Bool, true, false, cond, not, List, [], ◌∷◌, ◌++◌, map, length, Some, slice_get, refl, sym, ap, ap₂, ◌∙◌, arith, append_assoc, append-nil, length-append}
+use Rattle.std.proofs.Common.{◌≡◌, ℕ, suc, ◌&&◌, ◌||◌, Bool, true, false, cond, not, List, [], ◌∷◌, ◌++◌, map, length, Option, Some, None, slice_get, refl, sym, ap, ap₂, ◌∙◌, arith, append_assoc, append-nil, length-append}
 use Rattle.std.specs.List.{list_any, filter, flat_map}
 use Rattle.std.proofs.lemmas.List.Folds.{list_any-append}
 use Rattle.acpi_space.specs.Lookups.{is_same_path}
@@ -16,7 +16,8 @@ use Rattle.acpi_conditions.specs.declared.seen.Test.{Test}
 use Rattle.acpi_conditions.specs.declared.seen.Test.TheVariants.{Certain, CertainScope, Possible, PossibleScope}
 use Rattle.acpi_conditions.specs.declared.seen.Seen.TheInside.{Inside}
 use Rattle.acpi_conditions.specs.steps.Facts.{sights_beyond}
-use Rattle.acpi_conditions.specs.steps.Views.{passes, passes_if, view_of, HasWay}
+use Rattle.acpi_conditions.specs.steps.Views.{is_settled, passes, passes_if, view_of, HasWay}
+use Rattle.acpi_conditions.proofs.Basics.{and_left, any_weaker}
 use Rattle.acpi_conditions.proofs.WayTests.{any_map}
 
 -- ---- tests of lists
@@ -87,12 +88,33 @@ any_at_path test ways way p all entries sights b e k is =
     ∙ by_sights test ways way p all 0 [] all refl refl
     ∙ sym (any_map (entry_view ways) (λ f. is_same_path f.path p && passes test way f) all)
 
-pub any_here : (test : Test) (s : Inside) (v : View) (p : Path) (turns : List TurnForm) (b : Bool) → view_of s ≡ v → HasWay s → turns ≡ s.turns.items
-    → b ≡ list_any (λ f. is_same_path f.path p && passes test (map turn_of turns) f) (map (entry_view s.ways.now) s.paths.now.entries)
+pub any_here : (test : Test) (s : Inside) (v : View) (p : Path) (turns : List TurnForm) (entries : List EntryForm) (sights : List Sight) (b : Bool) → view_of s ≡ v → HasWay s → turns ≡ s.turns.items → entries ≡ s.paths.now.entries
+    → sights ≡ sights_beyond p 0 (map (entry_view []) s.paths.now.entries) → b ≡ list_any (λ x. passes_if test s.ways.now (map turn_of turns) (slice_get entries x.number)) sights
     → b ≡ list_any (λ f. is_same_path f.path p && passes test v.entry.way f) v.entries
-any_here test s v p turns b view way t is =
-    is ∙ ap (λ (w : List Turn). list_any (λ f. is_same_path f.path p && passes test w f) (map (entry_view s.ways.now) s.paths.now.entries)) (ap (map turn_of) t ∙ way)
+any_here test s v p turns entries sights b view way t e at is =
+    any_at_path test s.ways.now (map turn_of turns) p s.paths.now.entries entries sights b e at is
+    ∙ ap (λ (w : List Turn). list_any (λ f. is_same_path f.path p && passes test w f) (map (entry_view s.ways.now) s.paths.now.entries)) (ap (map turn_of) t ∙ way)
     ∙ ap (λ (u : View). list_any (λ f. is_same_path f.path p && passes test u.entry.way f) u.entries) view
+
+-- ---- a scope is something
+
+module _ (ways : List (List Turn)) (way : List Turn) (all : List EntryForm) (sights : List Sight) where
+  abbrev any_passes : Test → Bool
+  any_passes test = list_any (λ (x : Sight). passes_if test ways way (slice_get all x.number)) sights
+
+  pub scope_is_possible : any_passes PossibleScope ≡ true → any_passes Possible ≡ true
+  scope_is_possible e = any_weaker (λ (x : Sight). passes_if PossibleScope ways way (slice_get all x.number)) (λ (x : Sight). passes_if Possible ways way (slice_get all x.number)) sights (λ x is. by (slice_get all x.number) is) e
+    where
+      by : (o : Option EntryForm) → passes_if PossibleScope ways way o ≡ true → passes_if Possible ways way o ≡ true
+      by None is = cc
+      by (Some f) is = and_left (not (are_exclusive (entry_view ways f).way way)) f.term.is_scope is
+
+  pub scope_is_certain : any_passes CertainScope ≡ true → any_passes Certain ≡ true
+  scope_is_certain e = any_weaker (λ (x : Sight). passes_if CertainScope ways way (slice_get all x.number)) (λ (x : Sight). passes_if Certain ways way (slice_get all x.number)) sights (λ x is. by (slice_get all x.number) is) e
+    where
+      by : (o : Option EntryForm) → passes_if CertainScope ways way o ≡ true → passes_if Certain ways way o ≡ true
+      by None is = cc
+      by (Some f) is = and_left (is_settled way (entry_view ways f)) (f.term.is_scope && not f.asks.no) is
 
 -- ---- the four tests
 

@@ -5,9 +5,10 @@ use Rattle.std.proofs.lemmas.List.Folds.{list_all-append}
 use Rattle.std.proofs.lemmas.Bool.Decides.{nat_tests}
 use Rattle.std.proofs.lemmas.List.{take_all}
 use Rattle.std.proofs.lemmas.Option.{none-some, cond_some}
-use Rattle.acpi_conditions.specs.Entries.{Turn}
+use Rattle.acpi_conditions.specs.Entries.{Turn, then_branch, else_branch, in_round, within, past}
 use Rattle.acpi_conditions.specs.Links.{is_same_turn, is_opposite, is_round, outside_loops, is_part_of, are_exclusive}
 use Rattle.acpi_conditions.specs.Turns.{turn_of}
+use Rattle.acpi_conditions.specs.steps.Branches.{is_branch}
 use Rattle.acpi_conditions.specs.declared.turns.Turn.{Turn as TurnForm}
 
 -- ---- turns by the code's
@@ -90,3 +91,16 @@ exclusive_more full w v u us t b now m h e is = (
 
 pub exclusive_all : (full w us : List Turn) (b : Bool) → IsSoFarExclusive full w (outside_loops us) b → w ≡ [] → b ≡ are_exclusive full us
 exclusive_all full w us b h e = h.2 ∙ ap (λ (x : List Turn). are_exclusive x us) (sym (h.1 ∙ ap (λ (x : List Turn). x ++ h.0) e))
+
+-- ---- the other branch
+
+not_opposite : (t u : Turn) → is_branch t ≡ false → is_opposite t u ≡ false
+not_opposite (then_branch p) u e = cc
+not_opposite (else_branch p) u e = cc
+not_opposite (in_round p) u e = refl
+not_opposite (within p) u e = refl
+not_opposite (past p) u e = refl
+
+pub no_opposite : (t : Turn) (ts : List TurnForm) → is_branch t ≡ false → list_any (λ x. is_opposite t (turn_of x)) ts ≡ false
+no_opposite t [] e = refl
+no_opposite t (x ∷ xs) e = ap (λ b. b || list_any (λ x. is_opposite t (turn_of x)) xs) (not_opposite t (turn_of x) e) ∙ no_opposite t xs e

@@ -1,6 +1,7 @@
 pub mod Nodes
 pub mod Entries
 pub mod Known
+pub mod Presences
 pub mod Survey
 pub mod Walk
 pub mod Runs

@@ -3,6 +3,7 @@ pub mod Tries
 pub mod Faults
 pub mod Facts
 pub mod KeptPaths
+pub mod Branches
 pub mod Ways
 pub mod Views
 pub mod Meetings

@@ -1,22 +1,24 @@
 //! What is certain, and which entries are hidden.
 
-ghost use Rattle.std.specs.Prelude.{◌≡◌, ◌∷◌, ◌-◌, length, map, reverse, take, OnOk, OnErr};
+ghost use Rattle.std.specs.Prelude.{◌≡◌, ◌<◌, ◌∷◌, ◌-◌, length, take, OnOk, OnErr};
 ghost use Rattle.acpi_conditions.specs.KnownLists.{is_hidden};
-ghost use Rattle.acpi_conditions.specs.steps.Facts.{certain_of, IsCertainBy, is_scope_certain, is_scope_seen, is_seen, is_something, kept_in, raised, SameSights};
+ghost use Rattle.acpi_conditions.specs.Presences.{is_a_scope, is_something};
+ghost use Rattle.acpi_conditions.specs.steps.Facts.{certain_by, IsCertainBy, is_scope_seen, is_seen, paths_in, raised, SameSights};
+ghost use Rattle.acpi_conditions.specs.steps.Slots.{path_in};
 
-use crate::slots::{Certainty, Sight, Slots};
-use acpi_name::Path;
+use crate::slots::{Sight, Slots};
+use crate::statuses::Presence;
 use std::alloc::AllocError;
 
-/// Something stands at a path for certain.
-#[derive(Drop)]
+/// Something stands at the path of a slot for certain.
+#[derive(Debug, Clone, Copy)]
 pub struct Fact {
-    /// The path.
-    pub path: Path,
+    /// The number of the slot.
+    pub slot: usize,
     /// Whether it is a scope.
     pub is_scope: bool,
     /// What was certain at the path before.
-    pub before: Certainty,
+    pub before: Presence,
 }
 
 /// The entries from one number to another, which an Else hides: those of the first branch.
@@ -42,57 +44,35 @@ pub struct Mark {
 }
 
 /// What is certain at a path by one fact more.
-pub(crate) fn raised(is_scope: bool, certain: Certainty) -> Certainty
+pub(crate) fn raised(is_scope: bool, certain: Presence) -> Presence
     ensures { result ≡ raised is_scope certain }
 {
     if is_scope {
-        return Certainty::Scope;
+        return Presence::Scope;
     }
     match certain {
-        Certainty::Nothing => Certainty::Object,
-        Certainty::Object => Certainty::Object,
-        Certainty::Scope => Certainty::Scope,
+        Presence::Nothing => Presence::Object,
+        Presence::Object => Presence::Object,
+        Presence::Scope => Presence::Scope,
     }
 }
 
-/// Whether something is certain.
-pub(crate) fn is_something(certain: Certainty) -> bool
-    ensures { result ≡ is_something certain }
-{
-    match certain {
-        Certainty::Nothing => false,
-        Certainty::Object => true,
-        Certainty::Scope => true,
-    }
-}
-
-/// Whether a scope is certain.
-pub(crate) fn is_scope_certain(certain: Certainty) -> bool
-    ensures { result ≡ is_scope_certain certain }
-{
-    match certain {
-        Certainty::Nothing => false,
-        Certainty::Object => false,
-        Certainty::Scope => true,
-    }
-}
-
-/// Whether one of the ranges has the number.
-pub(crate) fn is_hidden(ranges: &[Hidden], number: usize) -> bool
+// Whether one of the ranges has the number.
+fn is_hidden(ranges: &[Hidden], number: usize) -> bool
     ensures { result ≡ is_hidden ranges.now number }
 {
     ranges.iter().any(|r| r.from <= number && number < r.to)
 }
 
-/// Whether one of the entries is seen.
-pub(crate) fn is_seen(ranges: &[Hidden], sights: &[Sight]) -> bool
+// Whether one of the entries is seen.
+fn is_seen(ranges: &[Hidden], sights: &[Sight]) -> bool
     ensures { result ≡ is_seen ranges.now sights.now }
 {
     sights.iter().any(|x| !is_hidden(ranges, x.number))
 }
 
-/// Whether one of the entries is seen whose object is a scope.
-pub(crate) fn is_scope_seen(ranges: &[Hidden], sights: &[Sight]) -> bool
+// Whether one of the entries is seen whose object is a scope.
+fn is_scope_seen(ranges: &[Hidden], sights: &[Sight]) -> bool
     ensures { result ≡ is_scope_seen ranges.now sights.now }
 {
     sights
@@ -100,45 +80,46 @@ pub(crate) fn is_scope_seen(ranges: &[Hidden], sights: &[Sight]) -> bool
         .any(|x| x.is_scope && !is_hidden(ranges, x.number))
 }
 
-/// What is certain at a path.
-pub(crate) fn certainty(slots: &Slots, path: &Path) -> Certainty
-    ensures { result ≡ (kept_in slots.now path.now).certain }
+/// What is seen of the entries at a path.
+pub(crate) fn seen_of(ranges: &[Hidden], sights: &[Sight]) -> Presence
+    ensures something { is_something result ≡ is_seen ranges.now sights.now }
+    ensures scope { is_a_scope result ≡ is_scope_seen ranges.now sights.now }
 {
-    match slots.get(path) {
-        Some(slot) => slot.certain,
-        None => Certainty::Nothing,
+    if is_scope_seen(ranges, sights) {
+        return Presence::Scope;
     }
+    if is_seen(ranges, sights) {
+        return Presence::Object;
+    }
+    Presence::Nothing
 }
 
-/// Puts a fact behind the others. Where an allocation fails nothing changes.
+/// Puts a fact about the path of a slot behind the others. Where an allocation fails nothing changes.
 pub(crate) fn put_fact(
     slots: &mut Slots,
     facts: &mut Vec<Fact>,
-    path: &Path,
+    slot: usize,
     is_scope: bool,
 ) -> Result<(), AllocError>
-    requires { IsCertainBy slots.old facts.old.items }
+    requires certain { IsCertainBy slots.old facts.old.items }
+    requires within { slot < length slots.old.slots.items }
     ensures kept { IsCertainBy slots.new facts.new.items }
     ensures same { SameSights slots.old slots.new }
-    ensures ok { OnOk result (map certain_of (reverse facts.new.items)
-        ≡ record { path = path.now; is_scope = is_scope } ∷ map certain_of (reverse facts.old.items)) }
-    ensures err { OnErr result (facts.new.items ≡ facts.old.items) }
+    ensures paths { paths_in slots.new ≡ paths_in slots.old }
+    ensures ok { OnOk result (certain_by slots.new facts.new.items
+        ≡ record { path = path_in (paths_in slots.old) slot; is_scope = is_scope }
+        ∷ certain_by slots.old facts.old.items) }
+    ensures err { OnErr result (certain_by slots.new facts.new.items
+        ≡ certain_by slots.old facts.old.items) }
 {
-    let before = certainty(slots, path);
-    let fact = Fact {
-        path: path.copy()?,
+    let before = slots.certain(slot);
+    facts.push(Fact {
+        slot,
         is_scope,
         before,
-    };
-    let count = facts.len();
-    facts.push(fact)?;
-    match slots.set_certain(path, raised(is_scope, before)) {
-        Ok(()) => Ok(()),
-        Err(_) => {
-            facts.truncate(count);
-            Err(AllocError)
-        }
-    }
+    })?;
+    slots.set_certain(slot, raised(is_scope, before));
+    Ok(())
 }
 
 // Takes back the newest fact.
@@ -146,10 +127,11 @@ fn pop_fact(slots: &mut Slots, facts: &mut Vec<Fact>)
     requires { IsCertainBy slots.old facts.old.items }
     ensures kept { IsCertainBy slots.new facts.new.items }
     ensures same { SameSights slots.old slots.new }
+    ensures paths { paths_in slots.new ≡ paths_in slots.old }
     ensures facts { facts.new.items ≡ take (length facts.old.items - 1) facts.old.items }
 {
     if let Some(fact) = facts.pop() {
-        slots.reset_certain(&fact.path, fact.before);
+        slots.set_certain(fact.slot, fact.before);
     }
 }
 
@@ -158,29 +140,10 @@ pub(crate) fn take_back(slots: &mut Slots, facts: &mut Vec<Fact>, mark: usize)
     requires { IsCertainBy slots.old facts.old.items }
     ensures kept { IsCertainBy slots.new facts.new.items }
     ensures same { SameSights slots.old slots.new }
+    ensures paths { paths_in slots.new ≡ paths_in slots.old }
     ensures facts { facts.new.items ≡ take mark facts.old.items }
 {
     while facts.len() > mark {
         pop_fact(slots, facts);
-    }
-}
-
-/// Whether an entry at the path is seen.
-pub(crate) fn seen_at(slots: &Slots, ranges: &[Hidden], path: &Path) -> bool
-    ensures { result ≡ is_seen ranges.now (kept_in slots.now path.now).sights }
-{
-    match slots.get(path) {
-        Some(slot) => is_seen(ranges, &slot.sights),
-        None => false,
-    }
-}
-
-/// Whether an entry at the path is seen whose object is a scope.
-pub(crate) fn scope_seen_at(slots: &Slots, ranges: &[Hidden], path: &Path) -> bool
-    ensures { result ≡ is_scope_seen ranges.now (kept_in slots.now path.now).sights }
-{
-    match slots.get(path) {
-        Some(slot) => is_scope_seen(ranges, &slot.sights),
-        None => false,
     }
 }

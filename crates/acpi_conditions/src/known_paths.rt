@@ -1,16 +1,20 @@
 //! What is known of the paths, kept by path.
 
-ghost use Rattle.std.specs.Prelude.{◌≡◌, ◌++◌, ◌∷◌, [], true, length, map, IfOk, OnOk, OnErr};
+ghost use Rattle.std.specs.Prelude.{◌≡◌, ◌++◌, ◌∷◌, [], length, map, slice_get, true, Some, IfOk, OnOk, OnErr};
+ghost use Rattle.std.specs.Option.{option_map};
+ghost use Rattle.acpi_conditions.specs.Entries.{Path as PathParts};
 ghost use Rattle.acpi_conditions.specs.EntryForms.{entry_view};
+ghost use Rattle.acpi_conditions.specs.Known.{is_certain, is_certain_scope};
+ghost use Rattle.acpi_conditions.specs.Presences.{is_a_scope, is_something};
 ghost use Rattle.acpi_conditions.specs.KnownLists.{known_by, lists_behind, nothing_listed};
+ghost use Rattle.acpi_conditions.specs.steps.Slots.{IsNumbered, kept_over, with_sight};
+ghost use Rattle.acpi_conditions.specs.steps.Facts.{kept_in, paths_in};
+ghost use Rattle.acpi_conditions.specs.steps.Settled.{certain_there};
 
 use crate::entry::Entry;
-use crate::facts::{
-    Fact, Hidden, Mark, certainty, is_scope_certain, is_something, put_fact, scope_seen_at,
-    seen_at, take_back,
-};
-use crate::slots::{Sight, Slots};
-use crate::statuses::Statuses;
+use crate::facts::{Fact, Hidden, Mark, put_fact, seen_of, take_back};
+use crate::slots::{Here, Sight, Slots};
+use crate::statuses::{Presence, Status, Statuses};
 use acpi_name::Path;
 use std::alloc::{AllocError, Global};
 use std::marker::Model;
@@ -21,6 +25,8 @@ use std::marker::Model;
 pub struct KnownPaths {
     slots: Slots,
     entries: Vec<Entry>,
+    // The number of the slot of each entry's path.
+    entry_slots: Vec<usize>,
     facts: Vec<Fact>,
     hidden: Vec<Hidden>,
     in_loop: bool,
@@ -42,26 +48,17 @@ impl Model for KnownPaths {
 impl Statuses for KnownPaths {
     ghost known = { known_by [] };
 
-    fn is_certain(&self, path: &Path) -> bool {
-        is_something(certainty(&self.slots, path))
-    }
-
-    fn is_certain_scope(&self, path: &Path) -> bool {
-        is_scope_certain(certainty(&self.slots, path))
-    }
-
-    fn is_possible(&self, path: &Path) -> bool {
+    fn status(&self, path: &Path) -> Status {
+        let here = self.at(path);
+        let certain = here.certain;
         if self.in_loop {
-            return true;
+            return Status {
+                certain,
+                possible: Presence::Scope,
+            };
         }
-        seen_at(&self.slots, &self.hidden, path)
-    }
-
-    fn is_possible_scope(&self, path: &Path) -> bool {
-        if self.in_loop {
-            return true;
-        }
-        scope_seen_at(&self.slots, &self.hidden, path)
+        let possible = seen_of(&self.hidden, here.sights);
+        Status { certain, possible }
     }
 }
 
@@ -75,6 +72,7 @@ impl KnownPaths {
         KnownPaths {
             slots: Slots::new(alloc),
             entries: Vec::new(alloc),
+            entry_slots: Vec::new(alloc),
             facts: Vec::new(alloc),
             hidden: Vec::new(alloc),
             in_loop: false,
@@ -88,14 +86,15 @@ impl KnownPaths {
         &self.entries
     }
 
-    /// The entries at a path, in their order.
-    pub(crate) fn sights(&self, path: &Path) -> &[Sight]
-        ensures { result.now ≡ sights_beyond path.now 0 (map (entry_view []) self.now.entries) }
+    /// What is kept at a path.
+    pub(crate) fn at(&self, path: &Path) -> Here<'_>
+        ensures sights { result.sights.now
+            ≡ sights_beyond path.now 0 (map (entry_view []) self.now.entries) }
+        ensures certain { is_something result.certain ≡ is_certain (known_by [] self.now) path.now }
+        ensures certain_scope { is_a_scope result.certain
+            ≡ is_certain_scope (known_by [] self.now) path.now }
     {
-        match self.slots.get(path) {
-            Some(slot) => &slot.sights,
-            None => &[],
-        }
+        self.slots.at(path)
     }
 
     /// Puts an entry behind the others; its number. Where an allocation fails nothing changes.
@@ -106,13 +105,12 @@ impl KnownPaths {
         ensures err { OnErr result (self.new ≡ self.old) }
     {
         let number = self.entries.len();
-        let is_scope = entry.term.is_scope;
-        self.entries.push(entry)?;
-        let path = &self.entries[number].path;
-        match self.slots.put_sight(path, Sight { number, is_scope }) {
+        let slot = self.slots.reach(&entry.path)?;
+        self.entry_slots.push(slot)?;
+        match put_entry(&mut self.slots, &mut self.entries, slot, entry) {
             Ok(()) => Ok(number),
             Err(_) => {
-                self.entries.truncate(number);
+                self.entry_slots.truncate(number);
                 Err(AllocError)
             }
         }
@@ -125,7 +123,38 @@ impl KnownPaths {
         }) }
         ensures err { OnErr result (self.new ≡ self.old) }
     {
-        put_fact(&mut self.slots, &mut self.facts, path, is_scope)
+        let slot = self.slots.reach(path)?;
+        put_fact(&mut self.slots, &mut self.facts, slot, is_scope)
+    }
+
+    /// Says that this stands for certain at the path of the entry of a number, if there is one. Where an allocation fails
+    /// nothing changes.
+    pub(crate) fn certify_entry(
+        &mut self,
+        number: usize,
+        presence: Presence,
+    ) -> Result<(), AllocError>
+        ensures ok { OnOk result (self.new ≡ record self.old {
+          certain = certain_there presence (option_map (λ e. e.path)
+              (slice_get self.old.entries number)) ++ self.old.certain;
+        }) }
+        ensures err { OnErr result (self.new ≡ self.old) }
+    {
+        if !presence.is_something() {
+            return Ok(());
+        }
+        match self.entry_slots.get(number) {
+            Some(slot) => {
+                let slot = *slot;
+                put_fact(
+                    &mut self.slots,
+                    &mut self.facts,
+                    slot,
+                    presence.is_a_scope(),
+                )
+            }
+            None => Ok(()),
+        }
     }
 
     /// This moment.
@@ -173,5 +202,36 @@ impl KnownPaths {
             return;
         }
         take_back(&mut self.slots, &mut self.facts, mark.certain);
+    }
+}
+
+// Puts an entry behind the others, and its number behind those at its path, whose slot has this number. Where an allocation
+// fails nothing changes.
+fn put_entry(
+    slots: &mut Slots,
+    entries: &mut Vec<Entry>,
+    slot: usize,
+    entry: Entry,
+) -> Result<(), AllocError>
+    requires numbered { IsNumbered slots.old.numbers (paths_in slots.old) }
+    requires slot { slice_get (paths_in slots.old) slot ≡ Some entry.path }
+    ensures numbered { IsNumbered slots.new.numbers (paths_in slots.new) }
+    ensures paths { paths_in slots.new ≡ paths_in slots.old }
+    ensures ok { OnOk result ((p : PathParts) → kept_in slots.new p ≡ kept_over entry.path
+        (with_sight (record { number = length entries.old.items; is_scope = entry.term.is_scope }))
+        (kept_in slots.old) p) }
+    ensures entries { OnOk result (entries.new.items ≡ entries.old.items ++ entry ∷ []) }
+    ensures err { OnErr result ((p : PathParts) → kept_in slots.new p ≡ kept_in slots.old p) }
+    ensures err_entries { OnErr result (entries.new.items ≡ entries.old.items) }
+{
+    let number = entries.len();
+    let is_scope = entry.term.is_scope;
+    entries.push(entry)?;
+    match slots.put_sight(slot, Sight { number, is_scope }) {
+        Ok(()) => Ok(()),
+        Err(_) => {
+            entries.truncate(number);
+            Err(AllocError)
+        }
     }
 }

@@ -40,7 +40,8 @@
 //! let entries = walk.entries();
 //! ```
 //!
-//! The code asks what is known by these four tests alone (`Statuses`), of a walk or of what is seen from an entry:
+//! The code asks what is known of one path after another (`Statuses`), which answers these four tests at once, of a walk
+//! or of what is seen from an entry:
 //!
 //! ```text
 //! let found = find(alloc, &known, &scope, name)?;             // the candidates, and whether the last is certain
@@ -83,7 +84,7 @@ pub use packages::Refusal;
 pub use placing::{Placing, PlacingFault, Reason, declare_at, open_at, uncertain_names};
 pub use searches::{Candidates, find};
 pub use seen::{Seen, links_of};
-pub use statuses::Statuses;
+pub use statuses::{Presence, Status, Statuses};
 pub use stops::{Stop, StopAt};
 pub use turns::{Turn, Way, Ways};
 pub use walk::{Entries, Walk};

@@ -13,9 +13,9 @@ ghost use Rattle.acpi_conditions.specs.declared.seen.Test.TheVariants.{Possible}
 use crate::entry::Entry;
 use crate::known_paths::KnownPaths;
 use crate::searches::{Candidates, find};
-use crate::seen::{Test, any_at, passes_at};
+use crate::seen::{Test, passes_at, possible_of};
 use crate::slots::Sight;
-use crate::statuses::Statuses;
+use crate::statuses::{Status, Statuses};
 use crate::turns::{Turn, Way, Ways};
 use acpi_name::{NameRef, Path};
 use std::alloc::{AllocError, Global};
@@ -91,7 +91,7 @@ impl<'a> Met<'a> {
     pub fn numbers_at(&self, alloc: Global, path: &Path) -> Result<Vec<usize>, AllocError>
         ensures { IfOk result (λ v. v.items ≡ numbers_met self.now path.now) }
     {
-        let sights = self.paths.sights(path);
+        let sights = self.paths.at(path).sights;
         possible_numbers(alloc, self.ways, &self.turns, self.paths.entries(), sights)
     }
 }
@@ -99,25 +99,12 @@ impl<'a> Met<'a> {
 impl<'a> Statuses for Met<'a> {
     ghost known = { met_by };
 
-    fn is_certain(&self, path: &Path) -> bool {
-        self.paths.is_certain(path)
-    }
-
-    fn is_certain_scope(&self, path: &Path) -> bool {
-        self.paths.is_certain_scope(path)
-    }
-
-    fn is_possible(&self, path: &Path) -> bool {
-        any_at(Test::Possible, self.paths, self.ways, &self.turns, path)
-    }
-
-    fn is_possible_scope(&self, path: &Path) -> bool {
-        any_at(
-            Test::PossibleScope,
-            self.paths,
-            self.ways,
-            &self.turns,
-            path,
-        )
+    fn status(&self, path: &Path) -> Status {
+        let here = self.paths.at(path);
+        let entries = self.paths.entries();
+        Status {
+            certain: here.certain,
+            possible: possible_of(self.ways, &self.turns, entries, here.sights),
+        }
     }
 }

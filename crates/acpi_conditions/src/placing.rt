@@ -97,18 +97,20 @@ fn free_below<S: Statuses>(known: &S, path: Path) -> Result<Placing, PlacingFaul
 {
     let mut path = path;
     let last = path.pop();
-    if !known.is_possible(&path) {
+    let parent = known.status(&path);
+    if !parent.possible.is_something() {
         return Err(PlacingFault::Refused(Reason::NoParent(path)));
     }
-    if !known.is_possible_scope(&path) {
+    if !parent.possible.is_a_scope() {
         return Err(PlacingFault::Refused(Reason::NotAScope(path)));
     }
-    let has = !known.is_certain_scope(&path);
+    let has = !parent.certain.is_a_scope();
     let path = rejoined(path, last)?;
-    if known.is_certain(&path) {
+    let here = known.status(&path);
+    if here.certain.is_something() {
         return Err(PlacingFault::Refused(Reason::Taken(path)));
     }
-    let no = known.is_possible(&path);
+    let no = here.possible.is_something();
     Ok(Placing { path, has, no })
 }
 
@@ -189,7 +191,7 @@ pub fn open_at<S: Statuses>(
                 paths.push(path)?;
                 return Err(PlacingFault::Refused(Reason::Unsure(paths)));
             }
-            if known.is_possible_scope(&path) {
+            if known.status(&path).possible.is_a_scope() {
                 Ok(path)
             } else {
                 Err(PlacingFault::Refused(Reason::NotAScope(path)))

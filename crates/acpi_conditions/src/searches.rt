@@ -82,13 +82,13 @@ fn try_path<S: Statuses>(known: &S, path: &Path, paths: &mut Vec<Path>) -> Resul
     ensures paths { OnOk result (paths.new.items
         ≡ paths.old.items ++ candidate_at (S.known known.now) path.now) }
 {
-    if known.is_certain(path) {
+    let status = known.status(path);
+    if status.certain.is_something() {
         paths.push(path.copy()?)?;
         return Ok(true);
     }
-    if known.is_possible(path) {
+    if status.possible.is_something() {
         paths.push(path.copy()?)?;
-        return Ok(false);
     }
     Ok(false)
 }

@@ -1,20 +1,21 @@
 //! What is seen from an entry, behind all tables.
 
-ghost use Rattle.std.specs.Prelude.{◌≡◌, ◌&&◌, map, slice_get, IfOk};
+ghost use Rattle.std.specs.Prelude.{◌≡◌, map, slice_get, IfOk};
 ghost use Rattle.std.specs.List.{list_any};
 ghost use Rattle.acpi_name.specs.NameRefs.{name_parts};
-ghost use Rattle.acpi_space.specs.Lookups.{is_same_path};
 ghost use Rattle.acpi_conditions.specs.Known.{candidates, is_certain_name};
+ghost use Rattle.acpi_conditions.specs.Presences.{is_a_scope, is_something};
 ghost use Rattle.acpi_conditions.specs.Turns.{turn_of};
 ghost use Rattle.acpi_conditions.specs.EntryForms.{entry_view};
 ghost use Rattle.acpi_conditions.specs.Views.{links_by, seen_by};
 ghost use Rattle.acpi_conditions.specs.steps.Views.{passes, passes_if};
+ghost use Rattle.acpi_conditions.specs.declared.seen.Test.TheVariants.{Certain, CertainScope, Possible, PossibleScope};
 
 use crate::entry::Entry;
 use crate::known_paths::KnownPaths;
 use crate::searches::{Candidates, find};
 use crate::slots::Sight;
-use crate::statuses::Statuses;
+use crate::statuses::{Presence, Status, Statuses};
 use crate::turns::{Turn, Ways};
 use acpi_name::{Name, NameRef, Path};
 use std::alloc::{AllocError, Global};
@@ -99,19 +100,41 @@ fn any_passes(test: Test, ways: &Ways, turns: &[Turn], entries: &[Entry], sights
         .any(|s| passes_at(test, ways, turns, entries, s.number))
 }
 
-/// Whether an entry at the path makes the test hold, from a way of these turns.
-pub(crate) fn any_at(
-    test: Test,
-    paths: &KnownPaths,
+/// What may stand where these entries do, from a way of these turns.
+pub(crate) fn possible_of(
     ways: &Ways,
     turns: &[Turn],
-    path: &Path,
-) -> bool
-    ensures { result ≡ list_any (λ f. is_same_path f.path path.now
-        && passes test (map turn_of turns.now) f) (map (entry_view ways.now) paths.now.entries) }
+    entries: &[Entry],
+    sights: &[Sight],
+) -> Presence
+    ensures something { is_something result ≡ list_any (λ x. passes_if Possible ways.now
+        (map turn_of turns.now) (slice_get entries.now x.number)) sights.now }
+    ensures scope { is_a_scope result ≡ list_any (λ x. passes_if PossibleScope ways.now
+        (map turn_of turns.now) (slice_get entries.now x.number)) sights.now }
 {
-    let sights = paths.sights(path);
-    any_passes(test, ways, turns, paths.entries(), sights)
+    if any_passes(Test::PossibleScope, ways, turns, entries, sights) {
+        return Presence::Scope;
+    }
+    if any_passes(Test::Possible, ways, turns, entries, sights) {
+        return Presence::Object;
+    }
+    Presence::Nothing
+}
+
+// What stands for certain where these entries do, from a way of these turns.
+fn certain_of(ways: &Ways, turns: &[Turn], entries: &[Entry], sights: &[Sight]) -> Presence
+    ensures something { is_something result ≡ list_any (λ x. passes_if Certain ways.now
+        (map turn_of turns.now) (slice_get entries.now x.number)) sights.now }
+    ensures scope { is_a_scope result ≡ list_any (λ x. passes_if CertainScope ways.now
+        (map turn_of turns.now) (slice_get entries.now x.number)) sights.now }
+{
+    if any_passes(Test::CertainScope, ways, turns, entries, sights) {
+        return Presence::Scope;
+    }
+    if any_passes(Test::Certain, ways, turns, entries, sights) {
+        return Presence::Object;
+    }
+    Presence::Nothing
 }
 
 impl<'a> Seen<'a> {
@@ -144,33 +167,18 @@ impl<'a> Seen<'a> {
         let scope = &self.entry.scope;
         find(alloc, self, scope, name)
     }
-
-    // Whether an entry at the path makes the test hold.
-    fn any(&self, test: Test, path: &Path) -> bool
-        ensures { result ≡ list_any (λ f. is_same_path f.path path.now
-            && passes test self.now.entry.way f) self.now.entries }
-    {
-        any_at(test, self.paths, self.ways, &self.turns, path)
-    }
 }
 
 impl<'a> Statuses for Seen<'a> {
     ghost known = { seen_by };
 
-    fn is_certain(&self, path: &Path) -> bool {
-        self.any(Test::Certain, path)
-    }
-
-    fn is_certain_scope(&self, path: &Path) -> bool {
-        self.any(Test::CertainScope, path)
-    }
-
-    fn is_possible(&self, path: &Path) -> bool {
-        self.any(Test::Possible, path)
-    }
-
-    fn is_possible_scope(&self, path: &Path) -> bool {
-        self.any(Test::PossibleScope, path)
+    fn status(&self, path: &Path) -> Status {
+        let entries = self.paths.entries();
+        let sights = self.paths.at(path).sights;
+        Status {
+            certain: certain_of(self.ways, &self.turns, entries, sights),
+            possible: possible_of(self.ways, &self.turns, entries, sights),
+        }
     }
 }
 

@@ -1,24 +1,13 @@
 //! What is kept at each path.
 
-ghost use Rattle.std.specs.Prelude.{◌≡◌, ◌<◌, length, cond, Some, IfOk, OnOk, OnErr, slice_get, IsSome, IsTrue};
+ghost use Rattle.std.specs.Prelude.{◌≡◌, ◌<◌, ◌++◌, [], length, Some, IfOk, OnOk, OnErr, slice_get};
 ghost use Rattle.std.specs.Option.{option_copied};
-ghost use Rattle.std.specs.FinMap as finite;
 ghost use Rattle.acpi_conditions.specs.Entries.{Path as PathParts};
 
+use crate::statuses::Presence;
 use acpi_name::Path;
 use acpi_space::{Refused, Space, TreeSpace};
 use std::alloc::{AllocError, Global};
-
-/// What is certain at a path.
-#[derive(Debug, Clone, Copy, PartialEq, Eq)]
-pub enum Certainty {
-    /// Nothing is certain.
-    Nothing,
-    /// Some object is there.
-    Object,
-    /// An object is there below which others may be declared.
-    Scope,
-}
 
 /// An entry at a path.
 #[derive(Debug, Clone, Copy)]
@@ -29,13 +18,24 @@ pub struct Sight {
     pub is_scope: bool,
 }
 
-/// The entries at a path, in their order, and what is certain there.
+/// A path, the entries there, in their order, and what is certain there.
 #[derive(Drop)]
 pub struct Slot {
+    /// The path.
+    pub path: Path,
     /// The entries.
     pub sights: Vec<Sight>,
     /// What is certain.
-    pub certain: Certainty,
+    pub certain: Presence,
+}
+
+/// What is kept at a path.
+#[derive(Clone, Copy)]
+pub(crate) struct Here<'a> {
+    /// The entries there, in their order.
+    pub sights: &'a [Sight],
+    /// What is certain.
+    pub certain: Presence,
 }
 
 /// A slot for each path at which something was declared or certain.
@@ -47,14 +47,14 @@ pub struct Slots {
 }
 
 impl Slots {
-    ghost use Rattle.acpi_conditions.specs.steps.Facts.{is_something};
-    ghost use Rattle.acpi_conditions.specs.steps.Slots.{IsNumbered, kept_at, kept_over, nothing_here, slot_of, with_certain, with_sight};
+    ghost use Rattle.acpi_conditions.specs.steps.Slots.{HasMore, IsNumbered, kept_at, kept_over, nothing_here, path_in, paths_of, slot_of, with_certain, with_sight};
 
     /// No slots.
     pub(crate) fn new(alloc: Global) -> Slots
         ensures empty { (p : PathParts) → kept_at result.numbers result.slots.items p
             ≡ nothing_here }
-        ensures numbered { IsNumbered result.numbers (length result.slots.items) }
+        ensures numbered { IsNumbered result.numbers (paths_of result.slots.items) }
+        ensures none { result.slots.items ≡ [] }
     {
         Slots {
             alloc,
@@ -63,8 +63,27 @@ impl Slots {
         }
     }
 
-    /// The slot of a path.
-    pub(crate) fn get(&self, path: &Path) -> Option<&Slot>
+    /// What is kept at a path.
+    pub(crate) fn at(&self, path: &Path) -> Here<'_>
+        ensures sights { result.sights.now
+            ≡ (kept_at self.now.numbers self.now.slots.items path.now).sights }
+        ensures certain { result.certain
+            ≡ (kept_at self.now.numbers self.now.slots.items path.now).certain }
+    {
+        match self.get(path) {
+            Some(slot) => Here {
+                sights: &slot.sights,
+                certain: slot.certain,
+            },
+            None => Here {
+                sights: &[],
+                certain: Presence::Nothing,
+            },
+        }
+    }
+
+    // The slot of a path.
+    fn get(&self, path: &Path) -> Option<&Slot>
         ensures { option_copied result ≡ slot_of self.now.numbers self.now.slots.items path.now }
     {
         match self.numbers.get(path) {
@@ -73,75 +92,74 @@ impl Slots {
         }
     }
 
-    /// Puts an entry at the end of those at its path. Where an allocation fails nothing changes.
-    pub(crate) fn put_sight(&mut self, path: &Path, sight: Sight) -> Result<(), AllocError>
-        requires { IsNumbered self.old.numbers (length self.old.slots.items) }
-        ensures numbered { IsNumbered self.new.numbers (length self.new.slots.items) }
-        ensures ok { OnOk result ((p : PathParts) → kept_at self.new.numbers self.new.slots.items p
-            ≡ kept_over path.now (with_sight sight)
-            (kept_at self.old.numbers self.old.slots.items) p) }
-        ensures err { OnErr result ((p : PathParts) → kept_at self.new.numbers self.new.slots.items p
-            ≡ kept_at self.old.numbers self.old.slots.items p) }
-    {
-        let number = self.reach(path)?;
-        let slot = &mut self.slots[number];
-        slot.sights.push(sight)?;
-        Ok(())
-    }
-
-    /// Says what is certain at a path. Where an allocation fails nothing changes.
-    pub(crate) fn set_certain(&mut self, path: &Path, certain: Certainty) -> Result<(), AllocError>
-        requires { IsNumbered self.old.numbers (length self.old.slots.items) }
-        ensures numbered { IsNumbered self.new.numbers (length self.new.slots.items) }
-        ensures ok { OnOk result ((p : PathParts) → kept_at self.new.numbers self.new.slots.items p
-            ≡ kept_over path.now (with_certain certain)
-            (kept_at self.old.numbers self.old.slots.items) p) }
-        ensures err { OnErr result ((p : PathParts) → kept_at self.new.numbers self.new.slots.items p
-            ≡ kept_at self.old.numbers self.old.slots.items p) }
-    {
-        let number = self.reach(path)?;
-        let slot = &mut self.slots[number];
-        slot.certain = certain;
-        Ok(())
-    }
-
-    /// Says anew what is certain at a path where something is certain.
-    pub(crate) fn reset_certain(&mut self, path: &Path, certain: Certainty)
-        requires numbered { IsNumbered self.old.numbers (length self.old.slots.items) }
-        requires certain { IsTrue (is_something
-            (kept_at self.old.numbers self.old.slots.items path.now).certain) }
-        ensures numbered { IsNumbered self.new.numbers (length self.new.slots.items) }
-        ensures certain { (p : PathParts) → kept_at self.new.numbers self.new.slots.items p
-            ≡ kept_over path.now (with_certain certain)
-            (kept_at self.old.numbers self.old.slots.items) p }
-    {
-        if let Some(number) = self.numbers.get(path) {
-            let number = *number;
-            let slot = &mut self.slots[number];
-            slot.certain = certain;
-        }
-    }
-
-    // The number of a path, which has a slot by then.
-    fn reach(&mut self, path: &Path) -> Result<usize, AllocError>
-        requires { IsNumbered self.old.numbers (length self.old.slots.items) }
-        ensures numbered { IsNumbered self.new.numbers (length self.new.slots.items) }
+    /// The number of a path's slot; where it has none it gets one. Where an allocation fails nothing changes.
+    pub(crate) fn reach(&mut self, path: &Path) -> Result<usize, AllocError>
+        requires { IsNumbered self.old.numbers (paths_of self.old.slots.items) }
+        ensures numbered { IsNumbered self.new.numbers (paths_of self.new.slots.items) }
         ensures same { (p : PathParts) → kept_at self.new.numbers self.new.slots.items p
             ≡ kept_at self.old.numbers self.old.slots.items p }
-        ensures number { IfOk result (λ n. finite.get self.new.numbers path.now ≡ Some n) }
+        ensures paths { HasMore (paths_of self.old.slots.items) (paths_of self.new.slots.items) }
+        ensures number { IfOk result (λ n.
+            slice_get (paths_of self.new.slots.items) n ≡ Some path.now) }
     {
         if let Some(number) = self.numbers.get(path) {
             return Ok(*number);
         }
-        let path = path.copy()?;
         let number = self.slots.len();
+        let key = path.copy()?;
         self.slots.push(Slot {
+            path: path.copy()?,
             sights: Vec::new(self.alloc),
-            certain: Certainty::Nothing,
+            certain: Presence::Nothing,
         })?;
-        match self.numbers.insert(path, number) {
+        match self.numbers.insert(key, number) {
             Ok(()) => Ok(number),
-            Err(_) => Err(AllocError),
+            Err(_) => {
+                self.slots.truncate(number);
+                Err(AllocError)
+            }
         }
+    }
+
+    /// What is certain at the path of a slot.
+    pub(crate) fn certain(&self, number: usize) -> Presence
+        requires numbered { IsNumbered self.now.numbers (paths_of self.now.slots.items) }
+        requires within { number < length self.now.slots.items }
+        ensures { result ≡ (kept_at self.now.numbers self.now.slots.items
+            (path_in (paths_of self.now.slots.items) number)).certain }
+    {
+        let slot = &self.slots[number];
+        slot.certain
+    }
+
+    /// Says what is certain at the path of a slot.
+    pub(crate) fn set_certain(&mut self, number: usize, certain: Presence)
+        requires numbered { IsNumbered self.old.numbers (paths_of self.old.slots.items) }
+        requires within { number < length self.old.slots.items }
+        ensures numbered { IsNumbered self.new.numbers (paths_of self.new.slots.items) }
+        ensures paths { paths_of self.new.slots.items ≡ paths_of self.old.slots.items }
+        ensures certain { (p : PathParts) → kept_at self.new.numbers self.new.slots.items p
+            ≡ kept_over (path_in (paths_of self.old.slots.items) number) (with_certain certain)
+            (kept_at self.old.numbers self.old.slots.items) p }
+    {
+        let slot = &mut self.slots[number];
+        slot.certain = certain;
+    }
+
+    /// Puts an entry at the end of those at the path of a slot. Where an allocation fails nothing changes.
+    pub(crate) fn put_sight(&mut self, number: usize, sight: Sight) -> Result<(), AllocError>
+        requires numbered { IsNumbered self.old.numbers (paths_of self.old.slots.items) }
+        requires within { number < length self.old.slots.items }
+        ensures numbered { IsNumbered self.new.numbers (paths_of self.new.slots.items) }
+        ensures paths { paths_of self.new.slots.items ≡ paths_of self.old.slots.items }
+        ensures ok { OnOk result ((p : PathParts) → kept_at self.new.numbers self.new.slots.items p
+            ≡ kept_over (path_in (paths_of self.old.slots.items) number) (with_sight sight)
+            (kept_at self.old.numbers self.old.slots.items) p) }
+        ensures err { OnErr result ((p : PathParts) → kept_at self.new.numbers self.new.slots.items p
+            ≡ kept_at self.old.numbers self.old.slots.items p) }
+    {
+        let slot = &mut self.slots[number];
+        slot.sights.push(sight)?;
+        Ok(())
     }
 }

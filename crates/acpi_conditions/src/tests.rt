@@ -82,6 +82,7 @@ fn walk_of_a_worked_table(rt: HostRuntime) {
     expect_way(&rt, &walk, 4, &[Turn::Within(6)]);
     expect_way(&rt, &walk, 5, &[Turn::Past(9)]);
     let path = Path::from_text(alloc, "\\CCCC").expect(&rt, "a path");
-    assert!(&rt; walk.is_possible(&path));
-    assert!(&rt; !walk.is_certain(&path));
+    let status = walk.status(&path);
+    assert!(&rt; status.possible.is_something());
+    assert!(&rt; !status.certain.is_something());
 }

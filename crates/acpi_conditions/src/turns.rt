@@ -5,6 +5,7 @@ ghost use Rattle.std.specs.List.{list_any};
 ghost use Rattle.acpi_conditions.specs.Entries.{is_empty};
 ghost use Rattle.acpi_conditions.specs.Links.{are_exclusive, is_opposite, is_part_of, is_round, is_same_turn, outside_loops};
 ghost use Rattle.acpi_conditions.specs.Turns.{turn_of, way_of};
+ghost use Rattle.acpi_conditions.specs.steps.Branches.{is_branch};
 
 use std::alloc::{AllocError, Global};
 use std::marker::Model;
@@ -92,11 +93,19 @@ fn has_turn(turns: &[Turn], turn: Turn) -> bool
     turns.iter().any(|t| is_same_turn(turn, *t))
 }
 
-// Whether one of the turns goes into the other branch of the If at which this one turns.
+// Whether a turn goes into a branch of an If.
+fn is_branch(turn: Turn) -> bool
+    ensures { result ≡ is_branch (turn_of turn) }
+{
+    matches!(turn, Turn::Then(_) | Turn::Else(_))
+}
+
+// Whether one of the turns goes into the other branch of the If at which this one turns. One that goes into no branch is
+// not compared with them.
 fn has_opposite(turns: &[Turn], turn: Turn) -> bool
     ensures { result ≡ list_any (λ t. is_opposite (turn_of turn) (turn_of t)) turns.now }
 {
-    turns.iter().any(|t| is_opposite(turn, *t))
+    is_branch(turn) && turns.iter().any(|t| is_opposite(turn, *t))
 }
 
 // The turns before the first that goes into a round of a While.

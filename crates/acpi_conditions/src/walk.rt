@@ -7,11 +7,12 @@ ghost use Rattle.acpi_conditions.specs.Here.{meeting, scopes_around};
 ghost use Rattle.std.specs.Option.{option_map};
 ghost use Rattle.acpi_conditions.specs.EntryForms.{entry_view, refusal_of, term_view, why_of};
 ghost use Rattle.acpi_conditions.specs.Turns.{stop_of, turn_of};
+ghost use Rattle.acpi_conditions.specs.Known.{settled};
 ghost use Rattle.acpi_conditions.specs.Survey.{lasting, refusing};
 ghost use Rattle.acpi_conditions.specs.Walk.{first_walk, lost_if, package_at, pass, passed, started};
 ghost use Rattle.acpi_conditions.specs.steps.Moves.{at_start, entry_here, gone_back, gone_out, innermost, IsBehindTerm, left_term, with_certain, with_entry, with_loop, with_other, with_package, with_returns, with_scope, with_turn, with_turns};
 ghost use Rattle.acpi_conditions.specs.steps.Packages.{if_directly_before, kind_of};
-ghost use Rattle.acpi_conditions.specs.steps.Settled.{certain_list};
+ghost use Rattle.acpi_conditions.specs.steps.Settled.{certain_there};
 ghost use Rattle.acpi_conditions.specs.declared.packages.Kind.TheVariants.{Other};
 
 use crate::entry::{Entry, Term};
@@ -20,9 +21,9 @@ use crate::known_paths::KnownPaths;
 use crate::met::Met;
 use crate::packages::{Kind, Package, Refusal};
 use crate::placing::Reason;
-use crate::settled::{Behind, Certain, certain_behind, lasting_by};
+use crate::settled::{Behind, certain_behind, lasting_by, settled_by};
 use crate::sites::Site;
-use crate::statuses::Statuses;
+use crate::statuses::{Presence, Status, Statuses};
 use crate::stops::{Stop, StopAt, keep_returns, way_past};
 use crate::turns::{Turn, Way, Ways};
 use acpi_name::Path;
@@ -71,20 +72,8 @@ impl Statuses for Walk {
 
     ghost known = { λ (w : WalkParts). w.known };
 
-    fn is_certain(&self, path: &Path) -> bool {
-        self.paths.is_certain(path)
-    }
-
-    fn is_certain_scope(&self, path: &Path) -> bool {
-        self.paths.is_certain_scope(path)
-    }
-
-    fn is_possible(&self, path: &Path) -> bool {
-        self.paths.is_possible(path)
-    }
-
-    fn is_possible_scope(&self, path: &Path) -> bool {
-        self.paths.is_possible_scope(path)
+    fn status(&self, path: &Path) -> Status {
+        self.paths.status(path)
     }
 }
 
@@ -189,9 +178,25 @@ impl Walk {
         Ok(())
     }
 
-    /// Puts the entry of a term that stands here behind the others. What it settles isn't certain yet.
-    pub(crate) fn put(&mut self, term: Term, site: Site) -> Result<(), AllocError>
-        ensures { OnOk result (self.new
+    /// Says that this stands for certain at the path of the entry of a number, if there is one.
+    pub(crate) fn certify_entry(
+        &mut self,
+        number: usize,
+        presence: Presence,
+    ) -> Result<(), AllocError>
+        ensures { OnOk result (self.new ≡ with_certain
+            (certain_there presence (option_map (λ e. e.path) (slice_get self.old.entries number))
+            ++ self.old.known.certain)
+            self.old) }
+    {
+        self.paths.certify_entry(number, presence)?;
+        Ok(())
+    }
+
+    /// Puts the entry of a term that stands here behind the others; its number. What it settles isn't certain yet.
+    pub(crate) fn put(&mut self, term: Term, site: Site) -> Result<usize, AllocError>
+        ensures number { IfOk result (λ n. n ≡ length self.old.entries) }
+        ensures walk { OnOk result (self.new
             ≡ with_entry (entry_here self.old (term_view term) site) self.old) }
     {
         let entry = Entry {
@@ -201,8 +206,8 @@ impl Walk {
             way: self.way,
             asks: site.asks,
         };
-        self.paths.put(entry)?;
-        Ok(())
+        let number = self.paths.put(entry)?;
+        Ok(number)
     }
 
     /// Refuses the term or Scope that stands at a place.
@@ -322,58 +327,51 @@ impl Walk {
     }
 
     /// Behind the term whose package is the innermost: whether what is certain inside stays certain, and what else is.
-    pub(crate) fn behind_term(&self) -> Result<Behind, AllocError>
-        ensures { IfOk result (λ b. IsBehindTerm self.now.packages self.now b.keeps
-            (certain_list b.settled)) }
+    pub(crate) fn behind_term(&self) -> Behind
+        ensures { IsBehindTerm self.now.packages self.now result.keeps (certain_there result.settled
+            (option_map (λ e. e.path) (slice_get self.now.entries result.number))) }
     {
         let number = match self.packages.last() {
             Some(inner) => inner.mark.entries,
-            None => return Ok(Behind::nothing()),
+            None => return Behind::nothing(),
         };
         match self.paths.entries().get(number) {
-            Some(entry) => certain_behind(entry),
-            None => Ok(Behind::nothing()),
+            Some(entry) => certain_behind(number, entry),
+            None => Behind::nothing(),
         }
     }
 
-    /// What the entry of a number settles for good.
-    pub(crate) fn lasting_at(&self, number: usize) -> Result<Option<Certain>, AllocError>
-        ensures { IfOk result (λ o. certain_list o
-            ≡ flat_map lasting (option_to_list (slice_get self.now.entries number))) }
+    // What the entry of a number settles.
+    fn settled_at(&self, number: usize) -> Presence
+        ensures { certain_there result (option_map (λ e. e.path) (slice_get self.now.entries number))
+            ≡ flat_map settled (option_to_list (slice_get self.now.entries number)) }
+    {
+        match self.paths.entries().get(number) {
+            Some(entry) => settled_by(entry),
+            None => Presence::Nothing,
+        }
+    }
+
+    // What the entry of a number settles for good.
+    fn lasting_at(&self, number: usize) -> Presence
+        ensures { certain_there result (option_map (λ e. e.path) (slice_get self.now.entries number))
+            ≡ flat_map lasting (option_to_list (slice_get self.now.entries number)) }
     {
         match self.paths.entries().get(number) {
             Some(entry) => lasting_by(&self.ways, entry),
-            None => Ok(None),
+            None => Presence::Nothing,
         }
     }
 
-    /// Says that something stands at a path for certain, where it is settled.
-    pub(crate) fn settle(
-        &mut self,
-        settles: bool,
-        path: &Path,
-        is_scope: bool,
-    ) -> Result<(), AllocError>
+    /// Makes certain what the entry of a number settles.
+    pub(crate) fn settle(&mut self, number: usize) -> Result<(), AllocError>
         ensures { OnOk result (self.new ≡ with_certain
-            (cond settles (record { path = path.now; is_scope = is_scope } ∷ []) []
+            (flat_map settled (option_to_list (slice_get self.old.entries number))
             ++ self.old.known.certain)
             self.old) }
     {
-        if !settles {
-            return Ok(());
-        }
-        self.certify(path, is_scope)
-    }
-
-    /// Makes certain what is settled.
-    fn certify_settled(&mut self, settled: &Option<Certain>) -> Result<(), AllocError>
-        ensures { OnOk result (self.new
-            ≡ with_certain (certain_list settled.now ++ self.old.known.certain) self.old) }
-    {
-        match settled {
-            Some(certain) => self.certify(&certain.path, certain.is_scope),
-            None => Ok(()),
-        }
+        let presence = self.settled_at(number);
+        self.certify_entry(number, presence)
     }
 
     /// Makes certain what the entry of a number settles for good.
@@ -383,17 +381,17 @@ impl Walk {
             ++ self.old.known.certain)
             self.old) }
     {
-        let settled = self.lasting_at(number)?;
-        self.certify_settled(&settled)
+        let presence = self.lasting_at(number);
+        self.certify_entry(number, presence)
     }
 
     /// Goes out of a term's package.
     pub(crate) fn leave_term(&mut self) -> Result<(), AllocError>
         ensures { OnOk result (self.new ≡ left_term self.old.packages self.old) }
     {
-        let behind = self.behind_term()?;
+        let behind = self.behind_term();
         self.go_out(behind.keeps)?;
-        self.certify_settled(&behind.settled)
+        self.certify_entry(behind.number, behind.settled)
     }
 
     /// Where memory comes from.

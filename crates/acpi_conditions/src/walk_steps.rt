@@ -10,11 +10,12 @@ ghost use Rattle.acpi_conditions.specs.Walk.{declare, end_table, enter_body, ent
 ghost use Rattle.acpi_conditions.specs.steps.Moves.{entry_here, with_certain, with_entry};
 
 use crate::entry::{Asks, Term};
+use crate::facts::raised;
 use crate::packages::Kind;
 use crate::placing::{PlacingFault, declare_at, open_at};
-use crate::settled::{asks_nothing, settles};
+use crate::settled::asks_nothing;
 use crate::sites::{Site, site_of};
-use crate::statuses::Statuses;
+use crate::statuses::{Presence, Statuses};
 use crate::stops::Stop;
 use crate::turns::Turn;
 use crate::walk::Walk;
@@ -22,18 +23,38 @@ use acpi_name::{NameRef, Path};
 use std::alloc::AllocError;
 
 impl Walk {
+    // Puts the entry of a term that stands here behind the others. Its object is certain.
+    fn put_certain(&mut self, term: Term, site: Site) -> Result<(), AllocError>
+        ensures { OnOk result (self.new ≡ with_certain
+            (record { path = site.path; is_scope = term.is_scope } ∷ self.old.known.certain)
+            (with_entry (entry_here self.old (term_view term) site) self.old)) }
+    {
+        let presence = raised(term.is_scope, Presence::Nothing);
+        let number = self.put(term, site)?;
+        self.certify_entry(number, presence)
+    }
+
+    // Puts the entry of a term that stands here behind the others, and makes certain what it settles.
+    fn put_settled(&mut self, term: Term, site: Site) -> Result<(), AllocError>
+        ensures { OnOk result (self.new ≡ with_certain
+            (settled (entry_here self.old (term_view term) site) ++ self.old.known.certain)
+            (with_entry (entry_here self.old (term_view term) site) self.old)) }
+    {
+        let number = self.put(term, site)?;
+        self.settle(number)
+    }
+
     /// Puts an object that is there before all tables, at a path, and stands at the start of a table.
     pub fn predefine(&mut self, term: Term, path: Path) -> Result<(), AllocError>
         ensures { OnOk result (self.new ≡ predefine (term_view term) path self.old) }
     {
         self.start_table();
-        self.certify(&path, term.is_scope)?;
         let asks = Asks {
             has: false,
             no: false,
             needs: Vec::new(self.alloc()),
         };
-        self.put(term, Site { path, asks })?;
+        self.put_certain(term, Site { path, asks })?;
         self.start_table();
         Ok(())
     }
@@ -90,11 +111,7 @@ impl Walk {
             (settled (entry_here self.old (term_view term) site) ++ self.old.known.certain)
             (with_entry (entry_here self.old (term_view term) site) self.old))) }
     {
-        let path = site.path.copy()?;
-        let is_scope = term.is_scope && !site.asks.no;
-        let settles = settles(&site.asks);
-        self.put(term, site)?;
-        self.settle(settles, &path, is_scope)?;
+        self.put_settled(term, site)?;
         self.pass();
         Ok(())
     }
@@ -126,12 +143,10 @@ impl Walk {
             ≡ into_term (entry_here self.old (term_view term) site) self.old) }
     {
         let place = term.place;
-        let is_scope = term.is_scope;
         let free = asks_nothing(&site.asks);
         let path = site.path.copy()?;
         self.enter(Kind::Term, place)?;
-        self.put(term, site)?;
-        self.certify(&path, is_scope)?;
+        self.put_certain(term, site)?;
         self.turn_unless(free, Turn::Within(place))?;
         self.set_scope(path);
         Ok(())
@@ -147,7 +162,7 @@ impl Walk {
         let scope = self.scope().copy()?;
         match open_at(self.alloc(), self, &scope, name) {
             Ok(path) => {
-                let is_certain = self.is_certain_scope(&path);
+                let is_certain = self.status(&path).certain.is_a_scope();
                 self.enter(Kind::Scope(is_certain), place)?;
                 self.turn_unless(is_certain, Turn::Within(place))?;
                 self.certify(&path, true)?;

@@ -1,6 +1,0 @@
-use Rattle.std.proofs.Common.{◌∙◌}
-use Rattle.acpi_conditions.proofs.Viewing.{certain_scope_seen}
-use Rattle.acpi_conditions.proofs.seen.SeenStatuses.is_certain_scope.Goals as goal
-
-pub returns : goal.returns
-returns c = c.any.ensures ∙ certain_scope_seen c.args.self.now c.args.path.now
