@@ -6,7 +6,6 @@ pub mod Fields
 pub mod Blocks
 pub mod Items
 pub mod Leaves
-pub mod Yielded
 pub mod Refusals
 pub mod Opened
 pub mod Holders

@@ -24,32 +24,6 @@ use acpi_tree::{Item, Op};
 use bytes::Bytes;
 use std::alloc::{AllocError, Global};
 
-/// The longest list that grows by half where it is full.
-const FEW: usize = 16;
-
-/// The shortest list that grows to twice its length.
-const MANY: usize = 1024;
-
-// Makes room for one more item. A list grows by half, a long one by an eighth: the lists of scopes inside one another
-// all wait until the innermost has been read, and would be half empty. Of a very long one the system gives no memory
-// before it is used. Room is made before the item is read, so that a list does not move behind those inside it.
-fn make_room(items: &mut Vec<Item>) -> Result<(), AllocError>
-    ensures { items.new.items ≡ items.old.items }
-{
-    let len = items.len();
-    if len == items.capacity() {
-        let more = if len < FEW {
-            (len / 2).max(1)
-        } else if len < MANY {
-            len / 8
-        } else {
-            len
-        };
-        items.reserve_exact(more)?;
-    }
-    Ok(())
-}
-
 // Why an operator is no item.
 fn operator_reason(op: Op) -> ItemReason
     ensures { result ≡ operator_reason op }
@@ -148,7 +122,6 @@ fn next<'a>(
     ensures { ReadsNext level code.old code.new (items_view found.old.items)
         (items_view found.new.items) result }
 {
-    make_room(found)?;
     match next_item(alloc, level, code)? {
         NextItem::Holder(holder) => Ok(Some(holder)),
         NextItem::Leaf(item) => {
