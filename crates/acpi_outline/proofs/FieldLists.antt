@@ -24,7 +24,7 @@ use Rattle.acpi_outline.specs.declared.fault.LostReason.TheVariants.{Term}
 use Rattle.acpi_outline.specs.declared.fault.LostFault.{LostFault}
 use Rattle.acpi_outline.specs.Nodes.{FixedTree, units, form_of, form_bytes, has_fields, FieldNodes, no_more_fields, fields_lost, field_node, fields_with_reason}
 use Rattle.acpi_outline.specs.Rules.{Rules}
-use Rattle.acpi_outline.specs.Outline.{IsFixed, BeginsField, AreFields}
+use Rattle.acpi_outline.specs.Outline.{IsFixed, BeginsField, bits_behind, AreFields}
 use Rattle.acpi_outline.specs.Tiling.{TilesFields}
 use Rattle.acpi_outline.specs.Faults.{no_constant, element_fault, BeginsFields, IsFieldElement, ShowsLost, FieldsHaveTrueFaults}
 use Rattle.acpi_outline.specs.steps.Reading.{then_fields, fields_with, fields_at}
@@ -116,76 +116,76 @@ no_field end bytes f e b =
     not_field f (b.tree, b.rest) (sym read ∙ e)
 
 module _ {S : Type 0} (s : Source) (r : Rules S) (known : S) (level start end : ℕ) (list : BeginsFields r known s.code start) where
-  abbrev Stand : FieldNodes → List ℕ → Type 0
-  Stand es bytes = AreFields end es bytes × FieldsHaveTrueFaults r known s.depth s.code es
+  abbrev Stand : ℕ → FieldNodes → List ℕ → Type 0
+  Stand offset es bytes = AreFields end offset es bytes × FieldsHaveTrueFaults r known s.depth s.code es
 
-  fields_sound_with : (n : ℕ) (bytes : List ℕ) → length bytes ≤ n → Position s.depth level s.code end bytes → IsElementOf s.code start (end - length bytes)
-      → Stand (fields_with n end bytes) bytes
+  fields_sound_with : (n offset : ℕ) (bytes : List ℕ) → length bytes ≤ n → Position s.depth level s.code end bytes → IsElementOf s.code start (end - length bytes)
+      → Stand offset (fields_with n end offset bytes) bytes
   unfolding fields_with
-  fields_sound_with zero [] le h e = (refl, tt)
-  fields_sound_with zero (b ∷ rest) le h e = absurd (omega arith)
-  fields_sound_with (suc n) [] le h e = (refl, tt)
-  fields_sound_with (suc n) (b ∷ rest) le h e =
-      by_read (field_at end (b ∷ rest)) refl (field_sound s level end (b ∷ rest) h) (λ bytes. fields_sound_with n bytes)
+  fields_sound_with zero offset [] le h e = (refl, tt)
+  fields_sound_with zero offset (b ∷ rest) le h e = absurd (omega arith)
+  fields_sound_with (suc n) offset [] le h e = (refl, tt)
+  fields_sound_with (suc n) offset (b ∷ rest) le h e =
+      by_read (field_at end (b ∷ rest)) refl (field_sound s level end (b ∷ rest) h) (λ offset bytes. fields_sound_with n offset bytes)
     where
       by_read : (q : Reading ConstantFault FieldTree) → field_at end (b ∷ rest) ≡ q
           → Judge (Read s level end SpellsField (b ∷ rest)) (ElementBad s (end - length (b ∷ rest))) q
-          → ((bytes : List ℕ) → length bytes ≤ n → Position s.depth level s.code end bytes → IsElementOf s.code start (end - length bytes) → Stand (fields_with n end bytes) bytes)
-          → Stand (then_fields (end - length (b ∷ rest)) q (λ x. fields_with n end x.1)) (b ∷ rest)
+          → ((offset : ℕ) (bytes : List ℕ) → length bytes ≤ n → Position s.depth level s.code end bytes → IsElementOf s.code start (end - length bytes) → Stand offset (fields_with n end offset bytes) bytes)
+          → Stand offset (then_fields (end - length (b ∷ rest)) offset q (λ x. fields_with n end (bits_behind offset x.0) x.1)) (b ∷ rest)
       by_read (Ok x) same g go_on =
           let sizes : suc (length rest) ≡ length g.0.front + length x.1 = ap length g.0.whole ∙ length-append g.0.front x.1 in
-          let behind = go_on x.1 (omega (arith, field_long x.0 g.0.front g.0.spells)) g.1 (next_element s level start end (b ∷ rest) x h e g.0) in
-          ((g.0.front, x.1, refl, g.0.spells, behind.0, g.0.whole), behind.1)
+          let behind = go_on (bits_behind offset x.0) x.1 (omega (arith, field_long x.0 g.0.front g.0.spells)) g.1 (next_element s level start end (b ∷ rest) x h e g.0) in
+          ((g.0.front, x.1, refl, refl, g.0.spells, behind.0, g.0.whole), behind.1)
       by_read (Err f) same bad go_on =
           let place = end - length (b ∷ rest) in
           let there = shown_at (λ k. k ≡ place) (IsFieldElement r known s.code) (λ k at. (start, list, subst (IsElementOf s.code start) (sym at) e)) s.code f bad in
           ((refl, omega arith, no_field end (b ∷ rest) f same), element_bad s r known f there)
 
 pub fields_sound : {S : Type 0} (s : Source) (r : Rules S) (known : S) (level end : ℕ) (bytes : List ℕ) → BeginsFields r known s.code (end - length bytes) → Position s.depth level s.code end bytes
-    → AreFields end (fields_at end bytes) bytes × FieldsHaveTrueFaults r known s.depth s.code (fields_at end bytes)
+    → AreFields end 0 (fields_at end bytes) bytes × FieldsHaveTrueFaults r known s.depth s.code (fields_at end bytes)
 fields_sound s r known level end bytes list h =
-    fields_sound_with s r known level (end - length bytes) end list (length bytes) bytes (omega arith) h (first_element s.code (end - length bytes))
+    fields_sound_with s r known level (end - length bytes) end list (length bytes) 0 bytes (omega arith) h (first_element s.code (end - length bytes))
 
-pub no_fields_left : (n end : ℕ) → fields_with n end [] ≡ no_more_fields
+pub no_fields_left : (n end offset : ℕ) → fields_with n end offset [] ≡ no_more_fields
 unfolding fields_with
-no_fields_left zero end = refl
-no_fields_left (suc n) end = refl
+no_fields_left zero end offset = refl
+no_fields_left (suc n) end offset = refl
 
-pub field_turn : (n end : ℕ) (bytes : List ℕ) (q : Reading ConstantFault FieldTree) → 0 < length bytes → length bytes ≤ n → field_at end bytes ≡ q
-    → fields_with n end bytes ≡ then_fields (end - length bytes) q (λ x. fields_with (n - 1) end x.1)
+pub field_turn : (n end offset : ℕ) (bytes : List ℕ) (q : Reading ConstantFault FieldTree) → 0 < length bytes → length bytes ≤ n → field_at end bytes ≡ q
+    → fields_with n end offset bytes ≡ then_fields (end - length bytes) offset q (λ x. fields_with (n - 1) end (bits_behind offset x.0) x.1)
 unfolding fields_with
-field_turn n end [] q some le e = absurd (omega arith)
-field_turn zero end (b ∷ rest) q some le e = absurd (omega arith)
-field_turn (suc n) end (b ∷ rest) q some le e = let less : suc n - 1 ≡ n = omega arith in rw (e, less) refl
+field_turn n end offset [] q some le e = absurd (omega arith)
+field_turn zero end offset (b ∷ rest) q some le e = absurd (omega arith)
+field_turn (suc n) end offset (b ∷ rest) q some le e = let less : suc n - 1 ≡ n = omega arith in rw (e, less) refl
 
-same_fields : (why : LostFault) (place place2 : ℕ) (e : FieldTree) (es fs all : FieldNodes) → all ≡ field_node place2 e fs → place ≡ place2 → fields_with_reason why es ≡ fields_with_reason why fs
-    → fields_with_reason why (field_node place e es) ≡ fields_with_reason why all
-same_fields why place place2 e es fs all is at behind = rw (is, at, behind) refl
+same_fields : (why : LostFault) (place place2 at offset : ℕ) (e : FieldTree) (es fs all : FieldNodes) → all ≡ field_node place2 offset e fs → place ≡ place2 → at ≡ offset → fields_with_reason why es ≡ fields_with_reason why fs
+    → fields_with_reason why (field_node place at e es) ≡ fields_with_reason why all
+same_fields why place place2 at offset e es fs all is there starts behind = rw (is, there, starts, behind) refl
 
 -- an element that was read begins there
 field_begins : (s : Source) (level at end : ℕ) (bytes : List ℕ) (x : FieldTree × List ℕ) (q : Reading ConstantFault FieldTree) → Judge (Read s level end SpellsField bytes) (ElementBad s at) q → q ≡ Ok x → BeginsField bytes
 field_begins s level at end bytes x (Ok y) g e = record { tree = y.0; front = g.0.front; rest = y.1; spells = g.0.spells; whole = g.0.whole }
 field_begins s level at end bytes x (Err f) g e = absurd (not_field f x (sym e))
 
-pub fields_again : (level : ℕ) (why : LostFault) (es : FieldNodes) (end : ℕ) (bytes : List ℕ) → ((bytes : List ℕ) → length bytes ≤ end → (Place : Source) × Position Place.depth level Place.code end bytes)
-    → length bytes ≤ end → AreFields end es bytes → (n : ℕ) → length bytes ≤ n → fields_with_reason why es ≡ fields_with_reason why (fields_with n end bytes)
-fields_again level why no_more_fields end bytes here fits h n le = rw (h, no_fields_left n end) refl
-fields_again level why (fields_lost place w) end bytes here fits (at, some, none) n le = by_field (field_at end bytes) refl
+pub fields_again : (level : ℕ) (why : LostFault) (es : FieldNodes) (end offset : ℕ) (bytes : List ℕ) → ((bytes : List ℕ) → length bytes ≤ end → (Place : Source) × Position Place.depth level Place.code end bytes)
+    → length bytes ≤ end → AreFields end offset es bytes → (n : ℕ) → length bytes ≤ n → fields_with_reason why es ≡ fields_with_reason why (fields_with n end offset bytes)
+fields_again level why no_more_fields end offset bytes here fits h n le = rw (h, no_fields_left n end offset) refl
+fields_again level why (fields_lost place w) end offset bytes here fits (at, some, none) n le = by_field (field_at end bytes) refl
   where
-    by_field : (q : Reading ConstantFault FieldTree) → field_at end bytes ≡ q → fields_with_reason why (fields_lost place w) ≡ fields_with_reason why (fields_with n end bytes)
+    by_field : (q : Reading ConstantFault FieldTree) → field_at end bytes ≡ q → fields_with_reason why (fields_lost place w) ≡ fields_with_reason why (fields_with n end offset bytes)
     by_field (Ok x) e = let p = here bytes fits in absurd (none (field_begins p.0 level (end - length bytes) end bytes x (field_at end bytes) (field_sound p.0 level end bytes p.1) e))
-    by_field (Err f) e = rw (field_turn n end bytes (Err f) some le e, at) refl
-fields_again level why (field_node place e es) end bytes here fits (a, b, at, spells, are, whole) n le =
+    by_field (Err f) e = rw (field_turn n end offset bytes (Err f) some le e, at) refl
+fields_again level why (field_node place o e es) end offset bytes here fits (a, b, at, starts, spells, are, whole) n le =
     let sizes : length bytes ≡ length a + length b = ap length whole ∙ length-append a b in
     let some = field_long e a spells in
     let read : field_at end bytes ≡ found_field (e, b) = ap (field_at end) whole ∙ field_complete end e a b spells in
-    let step = field_turn n end bytes (Ok (e, b)) (omega arith) le read in
-    same_fields why place (end - length bytes) e es _ _ step at (fields_again level why es end b here (omega arith) are (n - 1) (omega arith))
+    let step = field_turn n end offset bytes (Ok (e, b)) (omega arith) le read in
+    same_fields why place (end - length bytes) o offset e es _ _ step at starts (fields_again level why es end (bits_behind offset e) b here (omega arith) are (n - 1) (omega arith))
 
-pub fields_tile : (es : FieldNodes) (end : ℕ) (bytes : List ℕ) → length bytes ≤ end → AreFields end es bytes → TilesFields (end - length bytes) end es
-fields_tile no_more_fields end bytes fits h = let none : length bytes ≡ 0 = ap length h in omega arith
-fields_tile (fields_lost place why) end bytes fits h = (h.0, omega (arith, h.1))
-fields_tile (field_node place e es) end bytes fits (a, b, at, spells, are, whole) =
+pub fields_tile : (es : FieldNodes) (end offset : ℕ) (bytes : List ℕ) → length bytes ≤ end → AreFields end offset es bytes → TilesFields (end - length bytes) end es
+fields_tile no_more_fields end offset bytes fits h = let none : length bytes ≡ 0 = ap length h in omega arith
+fields_tile (fields_lost place why) end offset bytes fits h = (h.0, omega (arith, h.1))
+fields_tile (field_node place o e es) end offset bytes fits (a, b, at, starts, spells, are, whole) =
     let sizes : length bytes ≡ length a + length b = ap length whole ∙ length-append a b in
     let some = field_long e a spells in
-    (end - length b, at, omega arith, omega arith, fields_tile es end b (omega arith) are)
+    (end - length b, at, omega arith, omega arith, fields_tile es end (bits_behind offset e) b (omega arith) are)

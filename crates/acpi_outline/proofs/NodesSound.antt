@@ -129,7 +129,7 @@ module _ {S : Type 0} (s : Source) (r : Rules S) where
         → Stands place end bytes (unentered f inner_end content u)
     unentered_sound place end inner_end front bytes content f true has ends goes is_fixed packs h list =
         let us = fields_sound s r known level inner_end content (list has) h in
-        let are = subst (λ e. AreFields e (fields_at inner_end content) content) ends us.0 in
+        let are = subst (λ e. AreFields e 0 (fields_at inner_end content) content) ends us.0 in
         ((front, content, is_fixed, goes, are, packs, has), us.1)
     unentered_sound place end inner_end front bytes content f false has ends goes is_fixed packs h list = ((front, is_fixed, goes, packs, has), tt)
 

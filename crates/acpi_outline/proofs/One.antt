@@ -98,7 +98,7 @@ node_begins r level place end known (name_lost n form why) bytes a b is h = (ome
 after_fields_with_reason : {S : Type 0} (r : Rules S) (why : LostFault) (f : FixedTree) (es : FieldNodes) (known : S) → after_fields r known f (fields_with_reason why es) ≡ after_fields r known f es
 after_fields_with_reason r why f no_more_fields known = refl
 after_fields_with_reason r why f (fields_lost place w) known = refl
-after_fields_with_reason r why f (field_node place e es) known = after_fields_with_reason r why f es (r.after_field known place f e)
+after_fields_with_reason r why f (field_node place offset e es) known = after_fields_with_reason r why f es (r.after_field known place f e)
 
 mutual
   after_with_reason : {S : Type 0} (r : Rules S) (why : LostFault) (n : NodeTree) (place : ℕ) (known : S) → after r place known (with_reason why n) ≡ after r place known n
@@ -233,7 +233,7 @@ mutual
       let inner_end = end - length rest in
       let size = pack_longer (form_of f) (x ++ y) a packs in
       let inner : fields_with_reason why es ≡ fields_with_reason why (fields_at inner_end y) =
-      fields_again level why es inner_end y (λ bytes fits. (record { depth = 0; code = replicate (inner_end - length bytes) 0 ++ bytes }, here level inner_end bytes fits)) (omega (arith, length-append a rest, length-append x y)) are (length y) (omega arith) in
+      fields_again level why es inner_end 0 y (λ bytes fits. (record { depth = 0; code = replicate (inner_end - length bytes) 0 ++ bytes }, here level inner_end bytes fits)) (omega (arith, length-append a rest, length-append x y)) are (length y) (omega arith) in
       let made : packed r level place inner_end known (form_of f) (x ++ y) ≡ holds_fields f (fields_at inner_end y) = rw (fixed_complete r level known inner_end f x y is_fixed, goes, has) refl in
       (packed r level place inner_end known (form_of f) (x ++ y), packed_complete r level known end (form_of f) (x ++ y) a rest packs, ap (holds_fields f) inner ∙ ap (with_reason why) (sym made))
   node_again r why (closed f content) level known end a rest fits (x, is_fixed, goes, packs, has) =
@@ -289,7 +289,7 @@ mutual
       (end - length y, omega (arith, length-append x y), nodes_tile r ns level end (r.enter known place f) y (omega (arith, length-append x y)) are)
   node_tiles r (holds_fields f es) level place end known a fits (x, y, is_fixed, goes, are, packs, has) =
       let size = pack_longer (form_of f) (x ++ y) a packs in
-      (end - length y, omega (arith, length-append x y), fields_tile es end y (omega (arith, length-append x y)) are)
+      (end - length y, omega (arith, length-append x y), fields_tile es end 0 y (omega (arith, length-append x y)) are)
   node_tiles r (closed f content) level place end known a fits h = tt
   node_tiles r (package_lost form why) level place end known a fits h = tt
   node_tiles r (data_lost form why) level place end known a fits h = tt

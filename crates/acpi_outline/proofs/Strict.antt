@@ -21,7 +21,7 @@ use Rattle.acpi_outline.specs.Nodes as nodes
 use Rattle.acpi_outline.specs.Nodes.{PlainTree, FixedTree, container, if_so, units, FieldNodes, no_more_fields, fields_lost, field_node, fields_with_reason, form_of, form_bytes, has_fields}
 use Rattle.acpi_outline.specs.Nodes.{NodeTree, plain, holds, holds_fields, closed, package_lost, data_lost, name_lost, NodeTrees, no_more, lost, node, with_reason, all_with_reason}
 use Rattle.acpi_outline.specs.Rules.{Rules, grammar_at, goes_into, after}
-use Rattle.acpi_outline.specs.Outline.{IsPlain, IsFixed, AreFields, IsNode, AreNodes}
+use Rattle.acpi_outline.specs.Outline.{IsPlain, IsFixed, bits_behind, AreFields, IsNode, AreNodes}
 use Rattle.acpi_outline.specs.Strict.{data_term, elem_term, elem_terms, declares, AreExternals, AreFieldsOf, Holds, HoldsFields, IsItem, AreItems, StrictIsKept}
 use Rattle.acpi_outline.proofs.One.{any_fault, at_most_one}
 
@@ -98,12 +98,12 @@ item_high : (i : ItemTree) → 0 < item_height i
 item_high (external_block xs) = block_some xs
 item_high _ = omega arith
 
-fields_nodes : (es : List FieldTree) (end : ℕ) (b : List ℕ) → SpellsEach SpellsField es b → (us : FieldNodes) × AreFields end us b × AreFieldsOf es us
-fields_nodes [] end b h = (no_more_fields, h, refl)
-fields_nodes (e ∷ es) end b (a, c, he, hs, whole) =
+fields_nodes : (es : List FieldTree) (end offset : ℕ) (b : List ℕ) → SpellsEach SpellsField es b → (us : FieldNodes) × AreFields end offset us b × AreFieldsOf es us
+fields_nodes [] end offset b h = (no_more_fields, h, refl)
+fields_nodes (e ∷ es) end offset b (a, c, he, hs, whole) =
     let place = end - length b in
-    let rest = fields_nodes es end c hs in
-    (field_node place e rest.0, (a, c, refl, he, rest.1, whole), (place, rest.0, refl, rest.2))
+    let rest = fields_nodes es end (bits_behind offset e) c hs in
+    (field_node place offset e rest.0, (a, c, refl, refl, he, rest.1, whole), (place, offset, rest.0, refl, rest.2))
 
 module _ {S : Type 0} (r : Rules S) where
   externals_nodes : (xs : List ExternalParts) (left : ℕ) (known : S) (end : ℕ) (b : List ℕ) → SpellsEach SpellsExternal xs b → block_height xs ≤ suc left
@@ -128,7 +128,7 @@ module _ {S : Type 0} (r : Rules S) where
       → goes_into r known f ≡ false → IsFixed r inside known f q → Packs (form_bytes (form_of f)) (q ++ b) a
       → (m : NodeTree) × IsNode r inside place end known m a × HoldsFields f es m
   fields_node f es inside known place end a q b hs has goes fixed packs =
-      let us = fields_nodes es end b hs in
+      let us = fields_nodes es end 0 b hs in
       (holds_fields f us.0, (q, b, fixed, goes, us.1, packs, has), (us.0, refl, us.2))
 
   mutual
@@ -304,26 +304,27 @@ fields_held_told why (name_lost n form w) f us e = absurd cc
 no_fields_told : (why : LostFault) (us : FieldNodes) → fields_with_reason why us ≡ no_more_fields → us ≡ no_more_fields
 no_fields_told why no_more_fields e = refl
 no_fields_told why (fields_lost place w) e = absurd cc
-no_fields_told why (field_node place x us) e = absurd cc
+no_fields_told why (field_node place offset x us) e = absurd cc
 
-field_reason : (why : LostFault) (us : FieldNodes) (place : ℕ) (x : FieldTree) (rest : FieldNodes) → fields_with_reason why us ≡ field_node place x rest
-    → (vs : FieldNodes) × (us ≡ field_node place x vs) × (fields_with_reason why vs ≡ rest)
-field_reason why (field_node p y vs) place x rest e =
+field_reason : (why : LostFault) (us : FieldNodes) (place offset : ℕ) (x : FieldTree) (rest : FieldNodes) → fields_with_reason why us ≡ field_node place offset x rest
+    → (vs : FieldNodes) × (us ≡ field_node place offset x vs) × (fields_with_reason why vs ≡ rest)
+field_reason why (field_node p o y vs) place offset x rest e =
     let at : p ≡ place = cc in
+    let starts : o ≡ offset = cc in
     let same : y ≡ x = cc in
-    (vs, ap (λ q. field_node q y vs) at ∙ ap (λ z. field_node place z vs) same, cc)
-field_reason why no_more_fields place x rest e = absurd cc
-field_reason why (fields_lost p w) place x rest e = absurd cc
+    (vs, ap (λ q. field_node q o y vs) at ∙ ap (λ q. field_node place q y vs) starts ∙ ap (λ z. field_node place offset z vs) same, cc)
+field_reason why no_more_fields place offset x rest e = absurd cc
+field_reason why (fields_lost p w) place offset x rest e = absurd cc
 
 fields_told : (why : LostFault) (es : List FieldTree) (us : FieldNodes) → AreFieldsOf es (fields_with_reason why us) → AreFieldsOf es us
 fields_told why [] us h = no_fields_told why us h
-fields_told why (x ∷ es) us (place, rest, e, h) =
-    let t = field_reason why us place x rest e in
-    (place, t.0, t.1, fields_told why es t.0 (subst (AreFieldsOf es) (sym t.2) h))
+fields_told why (x ∷ es) us (place, offset, rest, e, h) =
+    let t = field_reason why us place offset x rest e in
+    (place, offset, t.0, t.1, fields_told why es t.0 (subst (AreFieldsOf es) (sym t.2) h))
 
 fields_of_with_reason : (why : LostFault) (es : List FieldTree) (us : FieldNodes) → AreFieldsOf es us → AreFieldsOf es (fields_with_reason why us)
 fields_of_with_reason why [] us h = ap (fields_with_reason why) h
-fields_of_with_reason why (x ∷ es) us (place, rest, e, h) = (place, fields_with_reason why rest, ap (fields_with_reason why) e, fields_of_with_reason why es rest h)
+fields_of_with_reason why (x ∷ es) us (place, offset, rest, e, h) = (place, offset, fields_with_reason why rest, ap (fields_with_reason why) e, fields_of_with_reason why es rest h)
 
 node_told : (why : LostFault) (ms : NodeTrees) (place : ℕ) (n : NodeTree) (ns : NodeTrees) → all_with_reason why ms ≡ node place n ns
     → (m : NodeTree) × (rest : NodeTrees) × (ms ≡ node place m rest) × (with_reason why m ≡ n) × (all_with_reason why rest ≡ ns)

@@ -89,7 +89,7 @@ ShowsLost r known depth code Computed place = IsConnectionSize code place × Beg
 abbrev pub FieldsHaveTrueFaults : {S : Type 0} → Rules S → S → ℕ → List ℕ → FieldNodes → Type 0
 FieldsHaveTrueFaults r known depth code no_more_fields = Unit {0}
 FieldsHaveTrueFaults r known depth code (fields_lost place why) = ShowsLost r known depth code why.reason why.place
-FieldsHaveTrueFaults r known depth code (field_node place e es) = FieldsHaveTrueFaults r known depth code es
+FieldsHaveTrueFaults r known depth code (field_node place offset e es) = FieldsHaveTrueFaults r known depth code es
 
 abbrev mutual
   pub HasTrueFaults : {S : Type 0} → Rules S → S → ℕ → List ℕ → ℕ → NodeTree → Type 0

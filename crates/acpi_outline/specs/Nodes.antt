@@ -36,11 +36,12 @@ pub data FixedTree : Type 0 where
   while_so : TermTree → FixedTree
   units : UnitsForm → List NameParts → (operands : TermTrees) → FixedTree
 
--- the elements of a field list (20.2.5.2), each with its place, to the end or to where the rest is lost
+-- The elements of a field list (20.2.5.2), each with its place and the number of bits before it in the list, to the end or to
+-- where the rest is lost.
 pub data FieldNodes : Type 0 where
   no_more_fields : FieldNodes
   fields_lost : (place : ℕ) → LostFault → FieldNodes
-  field_node : (place : ℕ) → FieldTree → FieldNodes → FieldNodes
+  field_node : (place offset : ℕ) → FieldTree → FieldNodes → FieldNodes
 
 -- A node is plain, or a package: one that holds nodes or the elements of a field list, one that is not gone into, or one
 -- whose fixed arguments can't be read, and why. Or it is a statement that is data in a package, or a Name with such data, where
@@ -110,7 +111,7 @@ data_bytes form = opcode_bytes (data_opcode form)
 abbrev pub fields_with_reason : LostFault → FieldNodes → FieldNodes
 fields_with_reason why no_more_fields = no_more_fields
 fields_with_reason why (fields_lost place w) = fields_lost place why
-fields_with_reason why (field_node place e es) = field_node place e (fields_with_reason why es)
+fields_with_reason why (field_node place offset e es) = field_node place offset e (fields_with_reason why es)
 
 abbrev mutual
   pub with_reason : LostFault → NodeTree → NodeTree

@@ -1,5 +1,5 @@
 -- Which nodes stand for bytes, under a state: the outline of a table's code (ACPI 6.5, 20.2.5).
-use Rattle.std.specs.Prelude.{◌≡◌, ◌⊎◌, ◌-◌, ◌<◌, ◌≤◌, ℕ, suc, max, true, false, Bool, List, [], ◌∷◌, ◌++◌, length}
+use Rattle.std.specs.Prelude.{◌≡◌, ◌⊎◌, ◌+◌, ◌-◌, ◌^◌, ◌<◌, ◌≤◌, ℕ, suc, min, max, true, false, Bool, List, [], ◌∷◌, ◌++◌, length}
 use Rattle.acpi_name.specs.Names.{NameParts}
 use Rattle.acpi_name.specs.Spelling.{SpellsName}
 use Rattle.acpi_tree.specs.declared.tree.Int.TheVariants.{Zero}
@@ -11,6 +11,7 @@ use Rattle.acpi_tree.specs.declared.place.NamedForm.TheVariants as named
 use Rattle.acpi_tree.specs.declared.place.UnitsForm.{UnitsForm}
 use Rattle.acpi_tree.specs.Tree.{FieldTree}
 use Rattle.acpi_tree.specs.Terms.{TermTree, TermTrees, int, str, local, arg, debug, ref, declare, no_terms, more}
+use Rattle.acpi_tree.specs.Offsets.{element_bits}
 use Rattle.acpi_tree.specs.Operators.{operands_behind, names_of_units, operands_of_units}
 use Rattle.acpi_code.specs.Opcodes.{opcode_bytes}
 use Rattle.acpi_code.specs.Spelling.{SpellsEach, Packs}
@@ -193,10 +194,16 @@ pub record BeginsField (bytes : List ℕ) : Type 0 where
   pub spells : SpellsField tree front
   pub whole : bytes ≡ front ++ rest
 
-abbrev pub AreFields : ℕ → FieldNodes → List ℕ → Type 0
-AreFields end no_more_fields bytes = bytes ≡ []
-AreFields end (fields_lost place why) bytes = (place ≡ end - length bytes) × (0 < length bytes) × ¬ BeginsField bytes
-AreFields end (field_node place e es) bytes = (a : List ℕ) × (b : List ℕ) × (place ≡ end - length bytes) × SpellsField e a × AreFields end es b × (bytes ≡ a ++ b)
+-- the number of bits before the next element, a number of 64 bits
+abbrev pub bits_behind : (offset : ℕ) → FieldTree → ℕ
+bits_behind offset e = min (offset + element_bits e) (2 ^ 64 - 1)
+
+-- the elements stand for the bytes, so many bits standing before them in their list
+abbrev pub AreFields : (end offset : ℕ) → FieldNodes → List ℕ → Type 0
+AreFields end offset no_more_fields bytes = bytes ≡ []
+AreFields end offset (fields_lost place why) bytes = (place ≡ end - length bytes) × (0 < length bytes) × ¬ BeginsField bytes
+AreFields end offset (field_node place at e es) bytes = (a : List ℕ) × (b : List ℕ) × (place ≡ end - length bytes) × (at ≡ offset) × SpellsField e a
+    × AreFields end (bits_behind offset e) es b × (bytes ≡ a ++ b)
 
 -- ---- outlines
 
@@ -210,7 +217,7 @@ abbrev mutual
   IsNode r level place end known (holds f ns) bytes = (a : List ℕ) × (b : List ℕ) × IsFixed r level known f a × (goes_into r known f ≡ true)
       × AreNodes r level end (r.enter known place f) ns b × Packs (form_bytes (form_of f)) (a ++ b) bytes
   IsNode r level place end known (holds_fields f es) bytes = (a : List ℕ) × (b : List ℕ) × IsFixed r level known f a × (goes_into r known f ≡ false)
-      × AreFields end es b × Packs (form_bytes (form_of f)) (a ++ b) bytes × (has_fields f ≡ true)
+      × AreFields end 0 es b × Packs (form_bytes (form_of f)) (a ++ b) bytes × (has_fields f ≡ true)
   IsNode r level place end known (closed f content) bytes = (a : List ℕ) × IsFixed r level known f a × (goes_into r known f ≡ false)
       × Packs (form_bytes (form_of f)) (a ++ content) bytes × (has_fields f ≡ false)
   IsNode r level place end known (package_lost form why) bytes = (b : List ℕ) × ¬ BeginsFixed r level known form b × Packs (form_bytes form) b bytes

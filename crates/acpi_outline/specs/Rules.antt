@@ -39,7 +39,7 @@ goes_into r known f = r.opens known f
 abbrev pub after_fields : {S : Type 0} → Rules S → S → FixedTree → FieldNodes → S
 after_fields r known f no_more_fields = known
 after_fields r known f (fields_lost place why) = known
-after_fields r known f (field_node place e es) = after_fields r (r.after_field known place f e) f es
+after_fields r known f (field_node place offset e es) = after_fields r (r.after_field known place f e) f es
 
 abbrev mutual
   pub after : {S : Type 0} → Rules S → ℕ → S → NodeTree → S

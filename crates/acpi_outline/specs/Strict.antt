@@ -49,7 +49,7 @@ AreExternals (x ∷ xs) ms = (place : ℕ) × (ns : NodeTrees) × (ms ≡ node p
 -- elements of a field list, one after another
 abbrev pub AreFieldsOf : List FieldTree → FieldNodes → Type 0
 AreFieldsOf [] us = us ≡ no_more_fields
-AreFieldsOf (e ∷ es) us = (place : ℕ) × (rest : FieldNodes) × (us ≡ field_node place e rest) × AreFieldsOf es rest
+AreFieldsOf (e ∷ es) us = (place : ℕ) × (offset : ℕ) × (rest : FieldNodes) × (us ≡ field_node place offset e rest) × AreFieldsOf es rest
 
 -- The node is a package with these fixed arguments, and holds such nodes; where the state doesn't open it, it is closed, and its
 -- content fills it so.

@@ -5,7 +5,7 @@ use Rattle.acpi_outline.specs.Nodes.{NodeTree, holds, NodeTrees, no_more, lost, 
 abbrev pub TilesFields : ℕ → ℕ → FieldNodes → Type 0
 TilesFields start end no_more_fields = start ≡ end
 TilesFields start end (fields_lost place why) = (place ≡ start) × (start < end)
-TilesFields start end (field_node place e es) = (next : ℕ) × (place ≡ start) × (start < next) × (next ≤ end) × TilesFields next end es
+TilesFields start end (field_node place offset e es) = (next : ℕ) × (place ≡ start) × (start < next) × (next ≤ end) × TilesFields next end es
 
 abbrev mutual
   -- what stands in the node ends at the place `end`, where the node ends, and begins behind its first byte

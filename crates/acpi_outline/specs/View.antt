@@ -38,12 +38,12 @@ fixed_view (fixeds.Field n flags) = units fields.Field (n ∷ []) (more (raw 1 f
 fixed_view (fixeds.IndexField n m flags) = units fields.IndexField (n ∷ m ∷ []) (more (raw 1 flags) no_terms)
 fixed_view (fixeds.BankField n m b flags) = units fields.BankField (n ∷ m ∷ []) (more (term_view (box_value b)) (more (raw 1 flags) no_terms))
 
--- an element with its place
+-- an element with its place and the number of bits before it
 abbrev pub PlacedElement : Type 0
-PlacedElement = ℕ × FieldTree
+PlacedElement = ℕ × ℕ × FieldTree
 
 abbrev pub placed_field : PlacedField → PlacedElement
-placed_field u = (u.place, field_view u.element)
+placed_field u = (u.place, u.offset, field_view u.element)
 
 abbrev pub placed_fields : List PlacedField → List PlacedElement
 placed_fields us = map placed_field us
@@ -51,7 +51,7 @@ placed_fields us = map placed_field us
 -- elements before others
 abbrev pub fields_before : List PlacedElement → FieldNodes → FieldNodes
 fields_before [] es = es
-fields_before (u ∷ us) es = field_node u.0 u.1 (fields_before us es)
+fields_before (u ∷ us) es = field_node u.0 u.1 u.2 (fields_before us es)
 
 abbrev pub fields_end : Option Lost → FieldNodes
 fields_end None = no_more_fields

@@ -78,11 +78,13 @@ pub struct PlacedNode {
     pub node: Node,
 }
 
-/// An element of a field list, and the place of its first byte in the code.
+/// An element of a field list, and where it stands.
 #[derive(Debug, Drop)]
 pub struct PlacedField {
-    /// The place.
+    /// The place of its first byte in the code.
     pub place: usize,
+    /// The number of bits before it in the list, at most 2^64 - 1.
+    pub offset: u64,
     /// The element.
     pub element: FieldElem,
 }

@@ -37,7 +37,7 @@ use Rattle.acpi_outline.specs.Faults.{term_fault, part_fault, element_fault}
 use Rattle.acpi_outline.specs.Nodes.{PlainTree, term, external, alias, table_region, FixedTree, scope, container, method, if_so, otherwise, while_so, units, FieldNodes, no_more_fields, fields_lost, field_node}
 use Rattle.acpi_outline.specs.Nodes.{NodeTree, plain, holds, holds_fields, closed, package_lost, data_lost, name_lost, NodeTrees, no_more, lost, node, has_fields}
 use Rattle.acpi_outline.specs.Rules.{Rules, grammar_at, goes_into, after}
-use Rattle.acpi_outline.specs.Outline.{operands_after, container_operands}
+use Rattle.acpi_outline.specs.Outline.{operands_after, container_operands, bits_behind}
 
 -- ---- faults
 
@@ -198,19 +198,20 @@ fixed_in r level known form end bytes = fixed_by r level known form end bytes
 abbrev pub Nodes : Type 0 → Type 0
 Nodes S = S → ℕ → List ℕ → NodeTrees
 
--- the elements behind what was read at a place, or nothing but what is lost from there on
-abbrev pub then_fields : ℕ → Reading ConstantFault FieldTree → (FieldTree × List ℕ → FieldNodes) → FieldNodes
-then_fields place (Ok x) next = field_node place x.0 (next x)
-then_fields place (Err f) next = fields_lost place (element_fault f)
+-- the elements behind what was read at a place, so many bits standing before it, or nothing but what is lost from there on
+abbrev pub then_fields : (place offset : ℕ) → Reading ConstantFault FieldTree → (FieldTree × List ℕ → FieldNodes) → FieldNodes
+then_fields place offset (Ok x) next = field_node place offset x.0 (next x)
+then_fields place offset (Err f) next = fields_lost place (element_fault f)
 
--- the elements of a field list; the number bounds the turns, and the length is enough
-unfoldable pub fields_with : ℕ → ℕ → List ℕ → FieldNodes
-fields_with zero end bytes = no_more_fields
-fields_with (suc n) end [] = no_more_fields
-fields_with (suc n) end (b ∷ rest) = then_fields (end - length (b ∷ rest)) (field_at end (b ∷ rest)) (λ x. fields_with n end x.1)
+-- the elements of a field list behind so many bits of it; the first number bounds the turns, and the length is enough
+unfoldable pub fields_with : (turns end offset : ℕ) → List ℕ → FieldNodes
+fields_with zero end offset bytes = no_more_fields
+fields_with (suc n) end offset [] = no_more_fields
+fields_with (suc n) end offset (b ∷ rest) =
+    then_fields (end - length (b ∷ rest)) offset (field_at end (b ∷ rest)) (λ x. fields_with n end (bits_behind offset x.0) x.1)
 
 abbrev pub fields_at : ℕ → List ℕ → FieldNodes
-fields_at end bytes = fields_with (length bytes) end bytes
+fields_at end bytes = fields_with (length bytes) end 0 bytes
 
 -- what fills a package that isn't gone into
 abbrev pub unentered : FixedTree → ℕ → List ℕ → Bool → NodeTree
