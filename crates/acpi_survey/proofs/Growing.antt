@@ -93,7 +93,7 @@ grow_fields : (base start next last : ℕ) (vs : TermTrees) (es : FieldNodes) (r
     → Grow (base + start) last (places (fields_at base vs es rest))
 grow_fields base start next last vs no_more_fields rest t h = grow_from (base + start) (base + next) last (places rest) (omega (arith, t)) h
 grow_fields base start next last vs (fields_lost place why) rest t h = grow_from (base + start) (base + next) last (places rest) (omega (arith, t.1)) h
-grow_fields base start next last vs (field_node place e es) rest t h =
+grow_fields base start next last vs (field_node place offset e es) rest t h =
     grow_element (base + start) (base + place) (base + t.0) last (omega (arith, t.1)) (omega (arith, t.1, t.2))
     (fields_at base vs es rest) (grow_fields base t.0 next last vs es rest t.4 h) vs e
 

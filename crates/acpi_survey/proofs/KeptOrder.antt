@@ -61,7 +61,7 @@ grow_added here place last ps qs from before (inr more) h = subst (Grow 0 last) 
 fields_same : (kept : Reading → List ℕ) → AddsOwn kept → (f : FixedTree) (es : FieldNodes) (s : Reading) → kept (after_fields survey_rules s f es) ≡ kept s
 fields_same kept own f no_more_fields s = refl
 fields_same kept own f (fields_lost place why) s = refl
-fields_same kept own f (field_node place e es) s = fields_same kept own f es (after_field s place f e) ∙ own.on_field place f e s
+fields_same kept own f (field_node place offset e es) s = fields_same kept own f es (after_field s place f e) ∙ own.on_field place f e s
 
 -- up to a place of the code, whose first byte stands at the base
 abbrev GrowTo : (kept : Reading → List ℕ) (base end : ℕ) → Reading → Type 0

@@ -1,23 +1,22 @@
 -- What a search for a place finds.
-use Rattle.std.proofs.Common.{◌≡◌, ◌+◌, ◌-◌, ◌<◌, ◌≤◌, ◌==◌, ℕ, zero, suc, true, false, Bool, cond, List, [], ◌∷◌, ◌++◌, length, length-append, drop, slice_get, slice_index_or, Option, Some, None, option_map, unwrap_or, refl, sym, ap, subst, ◌∙◌, arith, rules, nat_le}
+use Rattle.std.proofs.Common.{◌≡◌, ◌-◌, ◌<◌, ◌≤◌, ◌==◌, ℕ, zero, suc, true, false, Bool, cond, List, [], ◌∷◌, ◌++◌, length, length-append, slice_get, slice_index_or, Option, Some, None, option_map, unwrap_or, refl, sym, ap, subst, ◌∙◌, arith, rules, nat_le, nat_lt}
 use Rattle.std.specs.Option.{option_or}
 use Rattle.std.specs.List.{AllWithin}
 use Rattle.std.specs.List.Sorted.{IsNonDecreasingBy, IsPartitionPoint}
-use Rattle.std.proofs.lemmas.Bool.{ne_eqb, eq-eqb, leb-true, leb-false}
+use Rattle.std.proofs.lemmas.Bool.{ne_eqb, eq-eqb, leb-true, leb-false, ltb-true, ltb-false}
 use Rattle.std.proofs.lemmas.Option.{get_or_from_slice_get, slice_get-get_or, slice_get_within, slice_get-map}
 use Rattle.acpi_outline.specs.Nodes.{NodeTree, plain, holds, holds_fields, closed, package_lost, data_lost, name_lost, NodeTrees, no_more, lost, node, FixedTree, FieldNodes, no_more_fields, fields_lost, field_node}
 use Rattle.acpi_outline.specs.Tiling.{TilesFields, TilesInside, Tiles}
-use Rattle.acpi_outline.specs.View.{Placed, node_view, node_step, nodes_step, placed_step, placed_view, placed_views, put_before, end_view, placed_fields, fields_before, fields_end}
+use Rattle.acpi_outline.specs.View.{Placed, node_view, node_step, nodes_step, placed_step, placed_view, placed_views, put_before, end_view}
 use Rattle.acpi_outline.specs.declared.node.Lost.{Lost}
 use Rattle.acpi_outline.specs.declared.node.PlacedNode.{PlacedNode, fold_out-PlacedNode}
 use Rattle.acpi_survey.specs.Spans.{inner_parts, parts_of}
-use Rattle.acpi_survey.specs.Lookup.{Found, node_found, element_found, first_field, bits_behind, element_at, first_node, inside_at, part_at}
-use Rattle.std.proofs.lemmas.List.{drop_all, drop_more}
+use Rattle.acpi_survey.specs.Lookup.{Found, node_found, element_found, first_field, element_at, first_node, inside_at, part_at}
 use Rattle.acpi_survey.proofs.PlacedLists.{ordered_mapped}
 use Rattle.acpi_tree.specs.View.{field_view}
 use Rattle.acpi_outline.specs.declared.node.PlacedField.{PlacedField}
 use Rattle.acpi_survey.specs.declared.lookup.NodeRange.{NodeRange}
-use Rattle.acpi_survey.specs.steps.Lookups.{end_behind, nodes_before, IsBefore}
+use Rattle.acpi_survey.specs.steps.Lookups.{end_behind, nodes_before, elements_before, IsBefore}
 
 same_eqb : (a b : ℕ) → a ≡ b → (a == b) ≡ true
 same_eqb a b e = eq-eqb a b e
@@ -37,21 +36,21 @@ or_none (Some x) = refl
 
 -- ---- where nothing begins at a place
 
-fields_later : (place end : ℕ) (f : FixedTree) (offset start stop : ℕ) (es : FieldNodes) → TilesFields start stop es → place < start → element_at place end f offset es ≡ None
-fields_later place end f offset start stop no_more_fields t lt = refl
-fields_later place end f offset start stop (fields_lost p why) t lt = refl
-fields_later place end f offset start stop (field_node p e es) t lt =
+fields_later : (place end : ℕ) (f : FixedTree) (start stop : ℕ) (es : FieldNodes) → TilesFields start stop es → place < start → element_at place end f es ≡ None
+fields_later place end f start stop no_more_fields t lt = refl
+fields_later place end f start stop (fields_lost p why) t lt = refl
+fields_later place end f start stop (field_node p offset e es) t lt =
     let here : (p == place) ≡ false = other place p (omega (arith, lt, t.1)) in
-    ap (λ b. cond b (Some (element_found (first_field end es) f offset e)) (element_at place end f (bits_behind offset e) es)) here
-    ∙ fields_later place end f (bits_behind offset e) t.0 stop es t.4 (omega (arith, lt, t.2))
+    ap (λ b. cond b (Some (element_found (first_field end es) f offset e)) (element_at place end f es)) here
+    ∙ fields_later place end f t.0 stop es t.4 (omega (arith, lt, t.2))
 
-fields_earlier : (place end : ℕ) (f : FixedTree) (offset start stop : ℕ) (es : FieldNodes) → TilesFields start stop es → stop ≤ place → element_at place end f offset es ≡ None
-fields_earlier place end f offset start stop no_more_fields t le = refl
-fields_earlier place end f offset start stop (fields_lost p why) t le = refl
-fields_earlier place end f offset start stop (field_node p e es) t le =
+fields_earlier : (place end : ℕ) (f : FixedTree) (start stop : ℕ) (es : FieldNodes) → TilesFields start stop es → stop ≤ place → element_at place end f es ≡ None
+fields_earlier place end f start stop no_more_fields t le = refl
+fields_earlier place end f start stop (fields_lost p why) t le = refl
+fields_earlier place end f start stop (field_node p offset e es) t le =
     let here : (p == place) ≡ false = before p place (omega (arith, le, t.1, t.2, t.3)) in
-    ap (λ b. cond b (Some (element_found (first_field end es) f offset e)) (element_at place end f (bits_behind offset e) es)) here
-    ∙ fields_earlier place end f (bits_behind offset e) t.0 stop es t.4 le
+    ap (λ b. cond b (Some (element_found (first_field end es) f offset e)) (element_at place end f es)) here
+    ∙ fields_earlier place end f t.0 stop es t.4 le
 
 skipped : (place end p : ℕ) (n : NodeTree) (ns : NodeTrees) → (p == place) ≡ false → inside_at place (first_node end ns) n ≡ None
     → part_at place end (node p n ns) ≡ part_at place end ns
@@ -62,7 +61,7 @@ skipped place end p n ns other inside =
 mutual
   inside_later : (place end start stop : ℕ) (n : NodeTree) → TilesInside start stop n → place ≤ start → inside_at place end n ≡ None
   inside_later place end start stop (holds f ns) t le = later place end t.0 stop ns t.2 (omega (arith, le, t.1))
-  inside_later place end start stop (holds_fields f es) t le = fields_later place end f 0 t.0 stop es t.2 (omega (arith, le, t.1))
+  inside_later place end start stop (holds_fields f es) t le = fields_later place end f t.0 stop es t.2 (omega (arith, le, t.1))
   inside_later place end start stop n t le = refl
 
   later : (place end start stop : ℕ) (ns : NodeTrees) → Tiles start stop ns → place < start → part_at place end ns ≡ None
@@ -75,7 +74,7 @@ mutual
 mutual
   inside_earlier : (place end start stop : ℕ) (n : NodeTree) → TilesInside start stop n → stop ≤ place → inside_at place end n ≡ None
   inside_earlier place end start stop (holds f ns) t le = earlier place end t.0 stop ns t.2 le
-  inside_earlier place end start stop (holds_fields f es) t le = fields_earlier place end f 0 t.0 stop es t.2 le
+  inside_earlier place end start stop (holds_fields f es) t le = fields_earlier place end f t.0 stop es t.2 le
   inside_earlier place end start stop n t le = refl
 
   earlier : (place end start stop : ℕ) (ns : NodeTrees) → Tiles start stop ns → stop ≤ place → part_at place end ns ≡ None
@@ -266,48 +265,82 @@ fewer_inside ns l k m e =
 
 -- ---- elements
 
-get_dropped : {X : Type 0} (xs : List X) (k : ℕ) → slice_get (drop k xs) 0 ≡ slice_get xs k
-get_dropped xs zero = refl
-get_dropped [] (suc k) = refl
-get_dropped (x ∷ xs) (suc k) = get_dropped xs k
+-- so many elements begin before the place
+abbrev pub AreBefore : ℕ → ℕ → List PlacedField → Type 0
+AreBefore place k fs = (i : ℕ) (u : PlacedField) → i < k → slice_get fs i ≡ Some u → u.place < place
 
-first_field_is : (end : ℕ) (l : Option Lost) (fs : List PlacedField) → first_field end (fields_before (placed_fields fs) (fields_end l)) ≡ end_behind (option_map (λ f. f.place) (slice_get fs 0)) l end
+-- an element that begins before the place
+passed : (place end : ℕ) (f : FixedTree) (l : Option Lost) (u : PlacedField) (fs : List PlacedField) → u.place < place
+    → element_at place end f (elements_before (u ∷ fs) l) ≡ element_at place end f (elements_before fs l)
+passed place end f l u fs lt =
+    ap (λ b. cond b (Some (element_found (first_field end (elements_before fs l)) f u.offset (field_view u.element))) (element_at place end f (elements_before fs l)))
+    (before u.place place lt)
+
+-- the next one begins behind it, if there is one
+pub no_element : (place end k start stop : ℕ) (f : FixedTree) (l : Option Lost) (fs : List PlacedField) → TilesFields start stop (elements_before fs l) → AreBefore place k fs
+    → ((u : PlacedField) → slice_get fs k ≡ Some u → place < u.place) → element_at place end f (elements_before fs l) ≡ None
+no_element place end k start stop f None [] t are after = refl
+no_element place end k start stop f (Some l) [] t are after = refl
+no_element place end zero start stop f l (u ∷ fs) t are after =
+    fields_later place end f start stop (elements_before (u ∷ fs) l) t (omega (arith, t.1, after u refl))
+no_element place end (suc k) start stop f l (u ∷ fs) t are after =
+    passed place end f l u fs (are 0 u (omega arith) refl)
+    ∙ no_element place end k t.0 stop f l fs t.4 (λ i v lt e. are (suc i) v (omega (arith, lt)) e) after
+
+first_field_is : (end : ℕ) (l : Option Lost) (fs : List PlacedField) → first_field end (elements_before fs l) ≡ end_behind (option_map (λ (u : PlacedField). u.place) (slice_get fs 0)) l end
 first_field_is end None [] = refl
 first_field_is end (Some l) [] = refl
-first_field_is end l (f ∷ fs) = refl
+first_field_is end l (u ∷ fs) = refl
 
-abbrev fields_left : List PlacedField → Option Lost → FieldNodes
-fields_left fs l = fields_before (placed_fields fs) (fields_end l)
+-- the next one begins there
+pub element_there : (place end k : ℕ) (f : FixedTree) (l : Option Lost) (fs : List PlacedField) (u : PlacedField) → AreBefore place k fs → slice_get fs k ≡ Some u → u.place ≡ place
+    → element_at place end f (elements_before fs l)
+    ≡ Some (element_found (end_behind (option_map (λ (u : PlacedField). u.place) (slice_get fs (suc k))) l end) f u.offset (field_view u.element))
+element_there place end k f l [] u are e same = absurd (cc e)
+element_there place end zero f l (v ∷ fs) u are e same =
+    let is : v ≡ u = some_same e in
+    let to = end_behind (option_map (λ (u : PlacedField). u.place) (slice_get fs 0)) l end in
+    ap (λ b. cond b (Some (element_found (first_field end (elements_before fs l)) f v.offset (field_view v.element))) (element_at place end f (elements_before fs l)))
+    (same_eqb v.place place (ap (λ (u : PlacedField). u.place) is ∙ same))
+    ∙ ap (λ to. Some (element_found to f v.offset (field_view v.element))) (first_field_is end l fs)
+    ∙ ap (λ (u : PlacedField). Some (element_found to f u.offset (field_view u.element))) is
+element_there place end (suc k) f l (v ∷ fs) u are e same =
+    passed place end f l v fs (are 0 v (omega arith) refl)
+    ∙ element_there place end k f l fs u (λ i w lt e. are (suc i) w (omega (arith, lt)) e) e same
 
-pub no_element : (place end offset i : ℕ) (f : FixedTree) (l : Option Lost) (fs : List PlacedField) → length fs ≤ i → element_at place end f offset (fields_left (drop i fs) l) ≡ None
-no_element place end offset i f l fs le =
-    ap (λ fs. element_at place end f offset (fields_left fs l)) (drop_all i fs le) ∙ at_end l
+-- ---- elements are in order
+
+fields_from : (start stop : ℕ) (l : Option Lost) (fs : List PlacedField) (k : ℕ) (u : PlacedField) → TilesFields start stop (elements_before fs l) → slice_get fs k ≡ Some u → start ≤ u.place
+fields_from start stop l [] k u t e = absurd (cc e)
+fields_from start stop l (v ∷ fs) zero u t e = let same : v ≡ u = some_same e in omega (arith, t.1, ap (λ (u : PlacedField). u.place) same)
+fields_from start stop l (v ∷ fs) (suc k) u t e = omega (arith, t.2, fields_from t.0 stop l fs k u t.4 e)
+
+sorted_fields : (start stop : ℕ) (l : Option Lost) (fs : List PlacedField) → TilesFields start stop (elements_before fs l) → IsNonDecreasingBy (λ (f : PlacedField). f.place) fs
+sorted_fields start stop l [] t i j d le lt = absurd (omega (arith, lt))
+sorted_fields start stop l (u ∷ fs) t zero zero d le lt = omega arith
+sorted_fields start stop l (u ∷ fs) t zero (suc j) d le lt =
+    omega (arith, t.1, t.2, fields_from t.0 stop l fs j (slice_index_or fs j d) t.4 (slice_get-get_or fs j d (omega (arith, lt))))
+sorted_fields start stop l (u ∷ fs) t (suc i) zero d le lt = absurd (omega (arith, le))
+sorted_fields start stop l (u ∷ fs) t (suc i) (suc j) d le lt = sorted_fields t.0 stop l fs t.4 i j d (omega (arith, le)) (omega (arith, lt))
+
+abbrev IsFieldCount : ℕ → List PlacedField → ℕ → Type 0
+IsFieldCount place fs count = IsNonDecreasingBy (λ (f : PlacedField). f.place) fs
+    → IsPartitionPoint (λ (f : PlacedField). nat_lt f.place place ≡ true) (λ (f : PlacedField). nat_lt f.place place ≡ false) fs count
+
+pub are_before : (place start stop count : ℕ) (l : Option Lost) (fs : List PlacedField) → TilesFields start stop (elements_before fs l) → IsFieldCount place fs count → AreBefore place count fs
+are_before place start stop count l fs t is i u lt e =
+    let at : nat_lt (slice_index_or fs i u).place place ≡ true = (is (sorted_fields start stop l fs t)).0 i u (omega arith) lt in
+    ltb-true u.place place (subst (λ (u : PlacedField). nat_lt u.place place ≡ true) (get_or_from_slice_get fs i u u e) at)
+
+pub is_behind : (place start stop count : ℕ) (l : Option Lost) (fs : List PlacedField) (u : PlacedField) → TilesFields start stop (elements_before fs l) → IsFieldCount place fs count
+    → slice_get fs count ≡ Some u → (u.place ≡ place → ⊥) → place < u.place
+is_behind place start stop count l fs u t is e differs =
+    let at : nat_lt (slice_index_or fs count u).place place ≡ false = (is (sorted_fields start stop l fs t)).1 count u (omega arith) (slice_get_within fs count u e) in
+    let le : place ≤ u.place = ltb-false u.place place (subst (λ (u : PlacedField). nat_lt u.place place ≡ false) (get_or_from_slice_get fs count u u e) at) in
+    strictly place u.place le differs
   where
-    at_end : (l : Option Lost) → element_at place end f offset (fields_end l) ≡ None
-    at_end None = refl
-    at_end (Some l) = refl
-
-pub element_skipped : (place end offset next i : ℕ) (f : FixedTree) (l : Option Lost) (fs : List PlacedField) (u : PlacedField) → i < length fs → u ≡ slice_index_or fs i u → (u.place ≡ place → ⊥)
-    → next ≡ bits_behind offset (field_view u.element)
-    → element_at place end f offset (fields_left (drop i fs) l) ≡ element_at place end f next (fields_left (drop (i + 1) fs) l)
-element_skipped place end offset next i f l fs u lt is other bits =
-    let rest : FieldNodes = fields_left (drop (i + 1) fs) l in
-    let here : drop i fs ≡ u ∷ drop (i + 1) fs = drop_more fs i u lt ∙ ap (λ (u : PlacedField). u ∷ drop (i + 1) fs) (sym is) in
-    ap (λ fs. element_at place end f offset (fields_left fs l)) here
-    ∙ ap (λ b. cond b (Some (element_found (first_field end rest) f offset (field_view u.element))) (element_at place end f (bits_behind offset (field_view u.element)) rest)) (ne_eqb u.place place other)
-    ∙ ap (λ n. element_at place end f n rest) (sym bits)
-
-pub element_here : (place end offset i : ℕ) (f : FixedTree) (l : Option Lost) (fs : List PlacedField) (u : PlacedField) (next : Option ℕ) → i < length fs → u ≡ slice_index_or fs i u → u.place ≡ place
-    → next ≡ option_map (λ u. u.place) (slice_get fs (i + 1))
-    → element_at place end f offset (fields_left (drop i fs) l) ≡ Some (element_found (end_behind next l end) f offset (field_view u.element))
-element_here place end offset i f l fs u next lt is same next_is =
-    let rest : FieldNodes = fields_left (drop (i + 1) fs) l in
-    let here : drop i fs ≡ u ∷ drop (i + 1) fs = drop_more fs i u lt ∙ ap (λ (u : PlacedField). u ∷ drop (i + 1) fs) (sym is) in
-    let to : first_field end rest ≡ end_behind next l end =
-    first_field_is end l (drop (i + 1) fs) ∙ ap (λ o. end_behind (option_map (λ u. u.place) o) l end) (get_dropped fs (i + 1)) ∙ ap (λ o. end_behind o l end) (sym next_is) in
-    ap (λ fs. element_at place end f offset (fields_left fs l)) here
-    ∙ ap (λ b. cond b (Some (element_found (first_field end rest) f offset (field_view u.element))) (element_at place end f (bits_behind offset (field_view u.element)) rest)) (same_eqb u.place place same)
-    ∙ ap (λ to. Some (element_found to f offset (field_view u.element))) to
+    strictly : (a b : ℕ) → a ≤ b → (b ≡ a → ⊥) → a < b
+    strictly a b le ne = omega (arith, le, ne)
 
 -- ---- the node before a place
 

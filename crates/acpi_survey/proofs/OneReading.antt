@@ -15,7 +15,7 @@ use Rattle.acpi_survey.proofs.Judgements.{judged, one_code}
 behind_fields : (why : LostFault) (f : FixedTree) (es : FieldNodes) (s : Reading) → after_fields survey_rules s f (fields_with_reason why es) ≡ after_fields survey_rules s f es
 behind_fields why f no_more_fields s = refl
 behind_fields why f (fields_lost place w) s = refl
-behind_fields why f (field_node place e es) s = behind_fields why f es (after_field s place f e)
+behind_fields why f (field_node place offset e es) s = behind_fields why f es (after_field s place f e)
 
 mutual
   behind_node : (why : LostFault) (n : NodeTree) (place : ℕ) (s : Reading) → after survey_rules place s (with_reason why n) ≡ after survey_rules place s n

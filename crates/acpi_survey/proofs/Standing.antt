@@ -97,7 +97,7 @@ stand_fields : (base : ℕ) (s : Path) (end : ℕ) (vs : TermTrees) (es : FieldN
     → AllStand base (element_ranges s end es ++ behind) (places (fields_at base vs es rest))
 stand_fields base s end vs no_more_fields rest behind h = h
 stand_fields base s end vs (fields_lost place why) rest behind h = λ p m. stand_more base behind (range place end s false (of_lost why) ∷ []) p (h p m)
-stand_fields base s end vs (field_node place e es) rest behind h =
+stand_fields base s end vs (field_node place offset e es) rest behind h =
     stand_element base place (range place (first_field_place end es) s false (of_element e)) refl (element_ranges s end es ++ behind) (fields_at base vs es rest)
     (stand_fields base s end vs es rest behind h) vs e
 

@@ -144,7 +144,7 @@ element_step place f e s = passing_step s (passing s) refl refl
 fields_step : (f : FixedTree) (es : FieldNodes) (base : ℕ) (s : Reading) → s.walk.last_if ≡ None → s.base ≡ base → IsStep s (after_fields survey_rules s f es) (fields_at base (operands_of f) es)
 fields_step f no_more_fields base s fresh is = record { fresh = fresh; base = refl; on = λ rest. refl }
 fields_step f (fields_lost place why) base s fresh is = record { fresh = fresh; base = refl; on = λ rest. refl }
-fields_step f (field_node place e es) base s fresh is =
+fields_step f (field_node place offset e es) base s fresh is =
     let m : Reading = after_field s place f e in
     let here : IsStep s m (element_at (s.base + place) (operands_of f) e) = element_step place f e s in
     two_steps s m (after_fields survey_rules m f es) (element_at (base + place) (operands_of f) e) (fields_at base (operands_of f) es)

@@ -14,6 +14,8 @@ pub mod Spans
 pub mod Lookup
 pub mod Ranges
 pub mod SpanViews
+pub mod NestedRanges
+pub mod NestedViews
 pub mod Problems
 pub mod ProblemViews
 pub mod Marks

@@ -1,7 +1,7 @@
 -- What begins at a place of a table's code (ACPI 6.5, 20.2.5).
-use Rattle.std.specs.Prelude.{◌+◌, ◌-◌, ◌^◌, ◌==◌, min, ℕ, cond, Option, Some, None}
+use Rattle.std.specs.Prelude.{◌==◌, ℕ, cond, Option, Some, None}
 use Rattle.std.specs.Option.{option_or}
-use Rattle.acpi_tree.specs.Tree.{FieldTree, unit, reserved}
+use Rattle.acpi_tree.specs.Tree.{FieldTree}
 use Rattle.acpi_tree.specs.View.{field_view}
 use Rattle.acpi_outline.specs.View.{node_view, fixed_view}
 use Rattle.acpi_survey.specs.declared.spans.What.{What}
@@ -21,21 +21,12 @@ pub data Found : Type 0 where
 abbrev pub first_field : ℕ → FieldNodes → ℕ
 first_field end no_more_fields = end
 first_field end (fields_lost place why) = place
-first_field end (field_node place e es) = place
+first_field end (field_node place offset e es) = place
 
-abbrev pub width : FieldTree → ℕ
-width (unit g bits) = bits
-width (reserved bits) = bits
-width _ = 0
-
--- the number of bits before the next element, a number of 64 bits
-abbrev pub bits_behind : ℕ → FieldTree → ℕ
-bits_behind offset e = min (offset + width e) (2 ^ 64 - 1)
-
-abbrev pub element_at : ℕ → ℕ → FixedTree → ℕ → FieldNodes → Option Found
-element_at place end f offset no_more_fields = None
-element_at place end f offset (fields_lost p why) = None
-element_at place end f offset (field_node p e es) = cond (p == place) (Some (element_found (first_field end es) f offset e)) (element_at place end f (bits_behind offset e) es)
+abbrev pub element_at : ℕ → ℕ → FixedTree → FieldNodes → Option Found
+element_at place end f no_more_fields = None
+element_at place end f (fields_lost p why) = None
+element_at place end f (field_node p offset e es) = cond (p == place) (Some (element_found (first_field end es) f offset e)) (element_at place end f es)
 
 -- ---- nodes
 
@@ -47,7 +38,7 @@ first_node end (node place n ns) = place
 abbrev mutual
   pub inside_at : ℕ → ℕ → NodeTree → Option Found
   inside_at place end (holds f ns) = part_at place end ns
-  inside_at place end (holds_fields f es) = element_at place end f 0 es
+  inside_at place end (holds_fields f es) = element_at place end f es
   inside_at place end _ = None
 
   -- what begins at the place, of nodes that end there

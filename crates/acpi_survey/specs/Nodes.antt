@@ -68,7 +68,7 @@ operands_of _ = TermTrees.no_terms
 abbrev pub fields_at : ℕ → TermTrees → FieldNodes → Nodes → Nodes
 fields_at base vs no_more_fields rest = rest
 fields_at base vs (fields_lost place why) rest = rest
-fields_at base vs (field_node place e es) rest = element_at (base + place) vs e (fields_at base vs es rest)
+fields_at base vs (field_node place offset e es) rest = element_at (base + place) vs e (fields_at base vs es rest)
 
 -- ---- lists
 

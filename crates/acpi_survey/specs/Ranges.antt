@@ -49,13 +49,13 @@ first_place end (node place n ns) = place
 abbrev pub first_field_place : (end : ℕ) → FieldNodes → ℕ
 first_field_place end no_more_fields = end
 first_field_place end (fields_lost place why) = place
-first_field_place end (field_node place e es) = place
+first_field_place end (field_node place offset e es) = place
 
 -- a field list in a scope, up to its end
 abbrev pub element_ranges : Path → (end : ℕ) → FieldNodes → List Range
 element_ranges s end no_more_fields = []
 element_ranges s end (fields_lost place why) = range place end s false (of_lost why) ∷ []
-element_ranges s end (field_node place e es) = range place (first_field_place end es) s false (of_element e) ∷ element_ranges s end es
+element_ranges s end (field_node place offset e es) = range place (first_field_place end es) s false (of_element e) ∷ element_ranges s end es
 
 -- nodes in a scope, up to their end; whether an If stands directly before them. Behind each node come the ranges inside it.
 abbrev mutual

@@ -67,7 +67,7 @@ placed_range r = part_at r.from r.part
 
 abbrev pub items_left : Entered → Path → ℕ → Bool → Items → Option Lost → List Range
 items_left entered s end behind_if (items.Nodes ns) l = ranges_of entered s end behind_if (put_before (placed_views ns.now) (end_view l))
-items_left entered s end behind_if (items.Fields fixed es offset) l = element_ranges s end (fields_before (placed_fields es.now) (fields_end l))
+items_left entered s end behind_if (items.Fields fixed es) l = element_ranges s end (fields_before (placed_fields es.now) (fields_end l))
 
 abbrev pub left_in : Entered → Remainder → List Range
 left_in entered r = items_left entered (scope_of r.around) r.end r.is_behind_if r.items r.lost

@@ -21,7 +21,7 @@ part_at place part = record { place = place; part = part }
 abbrev pub element_parts : FieldNodes → List PlacedPart
 element_parts no_more_fields = []
 element_parts (fields_lost place why) = part_at place (of_lost why) ∷ []
-element_parts (field_node place e es) = part_at place (of_element e) ∷ element_parts es
+element_parts (field_node place offset e es) = part_at place (of_element e) ∷ element_parts es
 
 -- a node, those that stand in it, and what is behind it
 abbrev mutual

@@ -29,9 +29,12 @@ pub(crate) struct Found {
     pub notes: Vec<Note>,
 }
 
-// What the reading of all tables gave, by place.
+/// What the reading of all tables gave, by place.
 #[tactic(auto, using(crate::proofs::Finding::entry_pairs, crate::proofs::Finding::last_refused))]
-fn index_of<'a>(alloc: Global, reading: &'a Reading) -> Result<PlaceIndex<'a>, AllocError>
+pub(crate) fn index_of<'a>(
+    alloc: Global,
+    reading: &'a Reading,
+) -> Result<PlaceIndex<'a>, AllocError>
     ensures paths { IfOk result (λ x. (q : ℕ) → kept_at x.paths q
         ≡ last_at (entered_pairs reading.now) q) }
     ensures refused { IfOk result (λ x. (q : ℕ) → option_map why_of (kept_at x.refused q)

@@ -1,11 +1,16 @@
 //! What the reading of tables gave, by place.
 
 ghost use Rattle.std.specs.Prelude.{◌≡◌, ◌++◌, ℕ, map, IfOk, OnOk};
+ghost use Rattle.std.specs.Option.{option_copied, option_map};
+ghost use Rattle.acpi_conditions.specs.EntryForms.{why_of};
 ghost use Rattle.acpi_survey.specs.Places.{last_at, last_or};
+ghost use Rattle.acpi_survey.specs.Survey.{place_in};
+ghost use Rattle.acpi_survey.specs.steps.Indexes.{index_entered, index_refusals};
 ghost use Rattle.acpi_survey.specs.steps.ByPlace.{kept_at};
 
 use crate::by_place::ByPlace;
 use crate::notes::Unknown;
+use crate::reading::place_in;
 use crate::remarks::Remarks;
 use crate::scopes::entered_paths;
 use acpi_conditions::{Entry, Reason, Refusal};
@@ -14,13 +19,13 @@ use std::alloc::{AllocError, Global};
 
 /// What the reading of tables gave, by place.
 #[derive(Drop)]
-pub(crate) struct PlaceIndex<'a> {
+pub struct PlaceIndex<'a> {
     /// The paths of entries and of the targets of Scopes.
-    pub paths: ByPlace<'a, Path>,
+    pub(crate) paths: ByPlace<'a, Path>,
     /// The reasons of refusals.
-    pub refused: ByPlace<'a, Reason>,
+    pub(crate) refused: ByPlace<'a, Reason>,
     /// The names of which nothing is known in a node.
-    pub unknown: ByPlace<'a, Vec<Name>>,
+    pub(crate) unknown: ByPlace<'a, Vec<Name>>,
 }
 
 // Puts the reasons of refusals.
@@ -76,5 +81,21 @@ impl<'a> PlaceIndex<'a> {
             refused: reasons,
             unknown: names,
         })
+    }
+
+    /// The path of the entry whose term begins at a place of a table's code, or of the target of the Scope that does. The
+    /// predefined objects have the place 0 of table 0.
+    pub fn path_at(&self, table: usize, place: usize) -> Option<&'a Path>
+        ensures { option_copied result ≡ index_entered self.now table place }
+    {
+        self.paths.at(place_in(table, place))
+    }
+
+    /// Why what begins at a place of a table's code is refused.
+    pub fn refusal_at(&self, table: usize, place: usize) -> Option<&'a Reason>
+        ensures { option_map (λ r. why_of r.now) result
+            ≡ index_refusals self.now (place_in table place) }
+    {
+        self.refused.at(place_in(table, place))
     }
 }

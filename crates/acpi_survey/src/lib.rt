@@ -55,6 +55,7 @@ mod reading_nodes;
 mod remarks;
 mod scopes;
 mod spans;
+mod table_parts;
 mod table_reader;
 mod tables;
 #[cfg(test)]
@@ -65,6 +66,7 @@ mod tests_of_entries;
 pub use body::{BodyReading, MethodBody};
 pub use condition::{Literal, PlacedLiteral};
 pub use file::{pieces, pieces_make_the_file};
+pub use index::PlaceIndex;
 pub use links::Link;
 pub use lookup::node_at;
 pub use machine_survey::{Survey, SurveyedTable};

@@ -1,10 +1,11 @@
 //! What is known behind the declarations of a method body.
 
-ghost use Rattle.std.specs.Prelude.{◌≡◌, IsSome};
+ghost use Rattle.std.specs.Prelude.{◌≡◌, ◌||◌, IsSome};
+ghost use Rattle.acpi_conditions.specs.Presences.{is_a_scope, is_something};
 ghost use Rattle.acpi_space.specs.Spaces.{is_defined};
 ghost use Rattle.acpi_survey.specs.Bodies.{known_behind};
 
-use acpi_conditions::Statuses;
+use acpi_conditions::{Presence, Status, Statuses};
 use acpi_name::Path;
 use acpi_space::{Space, TreeSpace};
 
@@ -22,22 +23,26 @@ pub(crate) fn is_local(locals: &TreeSpace<()>, path: &Path) -> bool
     locals.get(path).is_some()
 }
 
+// What is certain at a path, where a body may have declared it.
+fn certain_behind(is_local: bool, certain: Presence) -> Presence
+    ensures something { is_something result ≡ (is_local || is_something certain) }
+    ensures scope { is_a_scope result ≡ is_a_scope certain }
+{
+    if is_local && !certain.is_something() {
+        return Presence::Object;
+    }
+    certain
+}
+
 impl<'a, S: Statuses> Statuses for Behind<'a, S> {
     ghost known = { λ b. known_behind b.locals.now (S.known b.known.now) };
 
-    fn is_certain(&self, path: &Path) -> bool {
-        is_local(self.locals, path) || self.known.is_certain(path)
-    }
-
-    fn is_certain_scope(&self, path: &Path) -> bool {
-        self.known.is_certain_scope(path)
-    }
-
-    fn is_possible(&self, path: &Path) -> bool {
-        self.known.is_possible(path)
-    }
-
-    fn is_possible_scope(&self, path: &Path) -> bool {
-        self.known.is_possible_scope(path)
+    fn status(&self, path: &Path) -> Status {
+        let status = self.known.status(path);
+        let certain = certain_behind(is_local(self.locals, path), status.certain);
+        Status {
+            certain,
+            possible: status.possible,
+        }
     }
 }

@@ -1,21 +1,19 @@
 //! The part of a table's code at a place.
 
-ghost use Rattle.std.specs.Prelude.{◌≡◌, ◌≤◌, ◌<◌, ◌==◌, ℕ, true, false, length, IfSome, Some, nat_le, slice_get};
+ghost use Rattle.std.specs.Prelude.{◌≡◌, ◌≤◌, ◌<◌, ◌==◌, ℕ, true, false, length, IfSome, Some, nat_le, nat_lt, slice_get};
 ghost use Rattle.std.specs.Option.{option_map};
 ghost use Rattle.std.specs.List.Sorted.{IsNonDecreasingBy, IsPartitionPoint};
-ghost use Rattle.acpi_outline.specs.Tiling.{Tiles};
-ghost use Rattle.acpi_outline.specs.View.{node_view, nodes_view, fixed_view, placed_fields, fields_before, fields_end};
-ghost use Rattle.acpi_tree.specs.View.{field_view};
+ghost use Rattle.acpi_outline.specs.Tiling.{Tiles, TilesFields};
+ghost use Rattle.acpi_outline.specs.View.{node_view, nodes_view, fixed_view};
 ghost use Rattle.acpi_outline.specs.declared.node.PlacedNode.{PlacedNode as PlacedForm};
 ghost use Rattle.acpi_outline.specs.declared.node.PlacedField.{PlacedField as FieldForm};
-ghost use Rattle.acpi_survey.specs.Lookup.{bits_behind, element_at, found_of, part_at};
+ghost use Rattle.acpi_survey.specs.Lookup.{element_at, found_of, part_at};
 ghost use Rattle.acpi_survey.specs.Spans.{inner_parts, parts_of};
-ghost use Rattle.acpi_survey.specs.steps.Lookups.{end_behind, nodes_before, IsBefore};
+ghost use Rattle.acpi_survey.specs.steps.Lookups.{end_behind, nodes_before, elements_before, IsBefore};
 
 use crate::placed::item;
-use crate::spans::{Span, What, width};
+use crate::spans::{Span, What};
 use acpi_outline::{Fixed, Lost, Node, Nodes, PlacedField, PlacedNode};
-use acpi_tree::FieldElem;
 
 /// A node and its range, in bytes from the code's first.
 #[derive(Debug, Clone, Copy)]
@@ -100,11 +98,13 @@ fn field_place(fields: &[PlacedField], number: usize) -> Option<usize>
     }
 }
 
-// The number of bits before the next element.
-fn bits_behind(offset: u64, element: &FieldElem) -> u64
-    ensures { result ≡ bits_behind offset (field_view element.now) }
+// How many of the elements begin before the place.
+fn fields_before(fields: &[PlacedField], place: usize) -> usize
+    ensures { IsNonDecreasingBy (λ (f : FieldForm). f.place) fields.now
+        → IsPartitionPoint (λ f. nat_lt f.place place ≡ true) (λ f. nat_lt f.place place ≡ false)
+        fields.now result }
 {
-    offset.saturating_add(width(element))
+    fields.partition_point(|f| f.place < place)
 }
 
 // The element that begins at the place, of a list that stands in so many nodes.
@@ -117,23 +117,21 @@ fn element_at<'a>(
     place: usize,
 ) -> Option<Span<'a>>
     ensures from { IfSome result (λ s. s.from ≡ place) }
-    ensures found { option_map found_of result ≡ option_map Some (element_at place end
-        (fixed_view fixed.now) 0 (fields_before (placed_fields fields.now) (fields_end lost))) }
+    ensures found { (start : ℕ) → TilesFields start end (elements_before fields.now lost)
+        → option_map found_of result ≡ option_map Some (element_at place end
+        (fixed_view fixed.now) (elements_before fields.now lost)) }
 {
-    let mut offset = 0u64;
-    'each: for i in 0..fields.len() {
-        let field = &fields[i];
-        if field.place == place {
-            return Some(Span {
-                depth,
-                from: place,
-                to: end_behind(field_place(fields, i + 1), lost, end),
-                what: What::Element(fixed, &field.element, offset),
-            });
-        }
-        offset = bits_behind(offset, &field.element);
+    let number = fields_before(fields, place);
+    let field = item(fields, number)?;
+    if field.place != place {
+        return None;
     }
-    None
+    Some(Span {
+        depth,
+        from: place,
+        to: end_behind(field_place(fields, number + 1), lost, end),
+        what: What::Element(fixed, &field.element, field.offset),
+    })
 }
 
 /// The node or the element that begins at the place, in bytes from the code's first, of nodes that end there.

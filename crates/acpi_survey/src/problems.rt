@@ -338,9 +338,9 @@ fn front_kept(bytes: &[u8], what: What<'_>) -> usize
     }
 }
 
-// The bytes of a range that are lost.
+/// The bytes of a range that are lost.
 #[tactic(auto, using(crate::proofs::Codes::offset_behind))]
-fn range_lost(code: &[u8], range: &ScopedSpan<'_>) -> LostRange
+pub(crate) fn range_lost(code: &[u8], range: &ScopedSpan<'_>) -> LostRange
     ensures { result ≡ range_lost code.now (range_of range.now) }
 {
     let span = &range.span;

@@ -1,12 +1,13 @@
 //! What each byte of a table's code belongs to.
 
-ghost use Rattle.std.specs.Prelude.{◌≡◌, ◌<◌, ◌++◌, false, [], length, map, IfOk, IfSome, OnOk, None};
-ghost use Rattle.acpi_tree.specs.View.{field_view};
+ghost use Rattle.std.specs.Prelude.{◌≡◌, ◌<◌, ◌+◌, ◌^◌, ◌++◌, ℕ, suc, false, [], length, map, IfOk, IfSome, OnOk, None};
+ghost use Rattle.std.specs.Option.{option_map};
 ghost use Rattle.acpi_outline.specs.View.{node_view, nodes_view, fixed_view, placed_views, put_before, end_view, placed_fields, fields_before, fields_end};
-ghost use Rattle.acpi_survey.specs.Lookup.{width};
 ghost use Rattle.acpi_survey.specs.Ranges.{Entered, first_place, first_field_place, inner_ranges, is_if, ranges_of, scope_inside};
 ghost use Rattle.acpi_survey.specs.SpanViews.{entered_by, left_in, part_of, parts_left, placed_range, ranges_left, scope_of, with_first_range, with_first_span};
-ghost use Rattle.acpi_survey.specs.steps.Remainders.{HasNoItems, behind_if_in, inside_span, left_in_some, with_first_item};
+ghost use Rattle.acpi_survey.specs.NestedRanges.{nested_inside, nested_nodes};
+ghost use Rattle.acpi_survey.specs.NestedViews.{nested_in, nested_left, with_first_nested};
+ghost use Rattle.acpi_survey.specs.steps.Remainders.{HasNoItems, behind_if_in, inside_span, left_in_some, nested_in_part, nested_in_some, with_first_inside, with_first_item};
 ghost use Rattle.acpi_survey.specs.declared.spans.Items.TheVariants as items;
 
 use crate::scopes::Places;
@@ -54,7 +55,7 @@ pub(crate) struct ScopedSpan<'a> {
 #[derive(Debug, Clone, Copy)]
 enum Items<'a> {
     Nodes(&'a [PlacedNode]),
-    Fields(&'a Fixed, &'a [PlacedField], u64),
+    Fields(&'a Fixed, &'a [PlacedField]),
 }
 
 /// A list that is gone through: what is left of it, what is lost behind that, where the list ends, the scope around, if it
@@ -72,17 +73,6 @@ struct Remainder<'a> {
 #[derive(Drop)]
 pub struct Spans<'a> {
     lists: Vec<Remainder<'a>>,
-}
-
-/// The number of bits that an element takes.
-pub(crate) fn width(element: &FieldElem) -> u64
-    ensures { result ≡ width (field_view element.now) }
-{
-    match element {
-        FieldElem::Unit(_, bits) => u64::from(*bits),
-        FieldElem::Reserved(bits) => u64::from(*bits),
-        _ => 0,
-    }
 }
 
 // Whether a node is an If.
@@ -136,7 +126,7 @@ impl<'a> Remainder<'a> {
     {
         match self.items {
             Items::Nodes(_) => self.is_behind_if,
-            Items::Fields(_, _, _) => false,
+            Items::Fields(_, _) => false,
         }
     }
 
@@ -145,10 +135,13 @@ impl<'a> Remainder<'a> {
         ensures left { (entered : Entered) → left_in entered self.old
             ≡ with_first_item entered (scope_of self.old.around) (behind_if_in self.old) result
             (left_in entered self.new) }
+        ensures nested { nested_in depth self.old
+            ≡ with_first_inside result (nested_in depth self.new) }
+        ensures depth { IfSome result (λ x. x.depth ≡ depth) }
     {
         match self.items {
             Items::Nodes(nodes) => self.next_node(depth, nodes),
-            Items::Fields(fixed, fields, offset) => self.next_field(depth, fixed, fields, offset),
+            Items::Fields(fixed, fields) => self.next_field(depth, fixed, fields),
         }
     }
 
@@ -157,6 +150,9 @@ impl<'a> Remainder<'a> {
         ensures left { (entered : Entered) → left_in entered self.old
             ≡ with_first_item entered (scope_of self.old.around) (behind_if_in self.old) result
             (left_in entered self.new) }
+        ensures nested { nested_in depth self.old
+            ≡ with_first_inside result (nested_in depth self.new) }
+        ensures depth { IfSome result (λ x. x.depth ≡ depth) }
     {
         let [first, rest @ ..] = nodes else {
             return self.rest(depth);
@@ -176,23 +172,24 @@ impl<'a> Remainder<'a> {
         depth: usize,
         fixed: &'a Fixed,
         fields: &'a [PlacedField],
-        offset: u64,
     ) -> Option<Span<'a>>
-        requires items { self.old.items ≡ items.Fields fixed fields offset }
+        requires items { self.old.items ≡ items.Fields fixed fields }
         ensures left { (entered : Entered) → left_in entered self.old
             ≡ with_first_item entered (scope_of self.old.around) (behind_if_in self.old) result
             (left_in entered self.new) }
+        ensures nested { nested_in depth self.old
+            ≡ with_first_inside result (nested_in depth self.new) }
+        ensures depth { IfSome result (λ x. x.depth ≡ depth) }
     {
         let [first, rest @ ..] = fields else {
             return self.rest(depth);
         };
-        let behind = offset.saturating_add(width(&first.element));
-        self.items = Items::Fields(fixed, rest, behind);
+        self.items = Items::Fields(fixed, rest);
         Some(Span {
             depth,
             from: first.place,
             to: self.field_end(rest),
-            what: What::Element(fixed, &first.element, offset),
+            what: What::Element(fixed, &first.element, first.offset),
         })
     }
 
@@ -202,6 +199,9 @@ impl<'a> Remainder<'a> {
         ensures left { (entered : Entered) → left_in entered self.old
             ≡ with_first_item entered (scope_of self.old.around) (behind_if_in self.old) result
             (left_in entered self.new) }
+        ensures nested { nested_in depth self.old
+            ≡ with_first_inside result (nested_in depth self.new) }
+        ensures depth { IfSome result (λ x. x.depth ≡ depth) }
     {
         let lost = self.lost.take()?;
         Some(Span {
@@ -215,8 +215,10 @@ impl<'a> Remainder<'a> {
 
 // The list of nodes that ends there and stands in a scope.
 fn list_of<'a>(nodes: &'a Nodes, end: usize, around: Option<&'a Path>) -> Remainder<'a>
-    ensures { (entered : Entered) → left_in entered result
+    ensures ranges { (entered : Entered) → left_in entered result
         ≡ ranges_of entered (scope_of around.entry) end false (nodes_view nodes.now) }
+    ensures nested { (depth : ℕ) → nested_in depth result
+        ≡ nested_nodes depth end (nodes_view nodes.now) }
 {
     Remainder {
         items: Items::Nodes(&nodes.read),
@@ -249,9 +251,11 @@ fn scope_inside<'a>(
 impl<'a> ScopedSpan<'a> {
     // The list in a node that stands in the range.
     fn in_node(&self, places: Option<Places<'_, 'a>>, node: &'a Node) -> Option<Remainder<'a>>
-        ensures { left_in_some (entered_by places.entry) result
+        ensures ranges { left_in_some (entered_by places.entry) result
             ≡ inner_ranges (entered_by places.entry) self.now.span.from
             (scope_of self.now.around) self.now.span.to (node_view node.now) }
+        ensures nested { (depth : ℕ) → nested_in_some depth result
+            ≡ nested_inside depth self.now.span.to (node_view node.now) }
     {
         let end = self.span.to;
         match node {
@@ -261,7 +265,7 @@ impl<'a> ScopedSpan<'a> {
                 scope_inside(places, fixed, self.span.from, self.around),
             )),
             Node::Fields(fixed, fields, lost) => Some(Remainder {
-                items: Items::Fields(fixed, fields, 0),
+                items: Items::Fields(fixed, fields),
                 lost: *lost,
                 end,
                 around: self.around,
@@ -273,8 +277,10 @@ impl<'a> ScopedSpan<'a> {
 
     // The list in what stands in the range.
     fn inside(&self, places: Option<Places<'_, 'a>>) -> Option<Remainder<'a>>
-        ensures { left_in_some (entered_by places.entry) result
+        ensures ranges { left_in_some (entered_by places.entry) result
             ≡ inside_span (entered_by places.entry) (scope_of self.now.around) self.now.span }
+        ensures nested { (depth : ℕ) → nested_in_some depth result
+            ≡ nested_in_part depth self.now.span.to (part_of self.now.span.what) }
     {
         match self.span.what {
             What::Node(node) => self.in_node(places, node),
@@ -288,6 +294,8 @@ impl<'a> Spans<'a> {
     pub fn new(alloc: Global, nodes: &'a Nodes, end: usize) -> Result<Spans<'a>, AllocError>
         ensures ranges { IfOk result (λ s. (entered : Entered) → ranges_left entered s
             ≡ ranges_of entered [] end false (nodes_view nodes.now)) }
+        ensures nested { IfOk result (λ s. nested_left s
+            ≡ nested_nodes 0 end (nodes_view nodes.now)) }
     {
         let mut lists = Vec::new(alloc);
         lists.push(list_of(nodes, end, None))?;
@@ -295,10 +303,15 @@ impl<'a> Spans<'a> {
     }
 
     // Puts a list behind others.
-    #[tactic(auto, using(crate::proofs::Parts::left_behind))]
+    #[tactic(auto, using(crate::proofs::Parts::left_behind, crate::proofs::Parts::nested_behind))]
     fn put(&mut self, list: Remainder<'a>) -> Result<(), AllocError>
-        ensures { OnOk result ((entered : Entered) → ranges_left entered self.new
+        ensures ranges { OnOk result ((entered : Entered) → ranges_left entered self.new
             ≡ left_in entered list.entry ++ ranges_left entered self.old) }
+        ensures nested { OnOk result (nested_left self.new
+            ≡ nested_in (length self.old.lists.items) list.entry ++ nested_left self.old) }
+        ensures more { OnOk result (length self.new.lists.items
+            ≡ suc (length self.old.lists.items)) }
+        ensures room { OnOk result (length self.old.lists.items + 1 < 2 ^ 64) }
     {
         self.lists.push(list)?;
         Ok(())
@@ -306,8 +319,10 @@ impl<'a> Spans<'a> {
 
     // Puts the list in a range behind the others, if there is one.
     fn put_inside(&mut self, list: Option<Remainder<'a>>) -> Result<(), AllocError>
-        ensures { OnOk result ((entered : Entered) → ranges_left entered self.new
+        ensures ranges { OnOk result ((entered : Entered) → ranges_left entered self.new
             ≡ left_in_some entered list.entry ++ ranges_left entered self.old) }
+        ensures nested { OnOk result (nested_left self.new
+            ≡ nested_in_some (length self.old.lists.items) list.entry ++ nested_left self.old) }
     {
         match list {
             Some(list) => self.put(list),
@@ -316,12 +331,15 @@ impl<'a> Spans<'a> {
     }
 
     // The last of the lists, which is taken.
-    #[tactic(auto, using(crate::proofs::Parts::left_behind))]
+    #[tactic(auto, using(crate::proofs::Parts::left_behind, crate::proofs::Parts::nested_behind))]
     fn take(&mut self) -> Option<Remainder<'a>>
         ensures left { (entered : Entered) → ranges_left entered self.old
             ≡ left_in_some entered result ++ ranges_left entered self.new }
+        ensures nested { nested_left self.old
+            ≡ nested_in_some (length self.new.lists.items) result ++ nested_left self.new }
         ensures fewer { IfSome result (λ _. length self.new.lists.items < length self.old.lists.items) }
         ensures none { result ≡ None → (entered : Entered) → ranges_left entered self.old ≡ [] }
+        ensures none_nested { result ≡ None → nested_left self.old ≡ [] }
     {
         self.lists.pop()
     }
@@ -331,8 +349,11 @@ impl<'a> Spans<'a> {
         &mut self,
         places: Option<Places<'_, 'a>>,
     ) -> Result<Option<ScopedSpan<'a>>, AllocError>
-        ensures { IfOk result (λ range. ranges_left (entered_by places.entry) self.old
+        ensures ranges { IfOk result (λ range. ranges_left (entered_by places.entry) self.old
             ≡ with_first_range range (ranges_left (entered_by places.entry) self.new)) }
+        ensures nested { IfOk result (λ range. nested_left self.old
+            ≡ with_first_nested (option_map (λ x. x.span) range) (nested_left self.new)) }
+        ensures depth { IfOk result (λ range. IfSome range (λ x. x.span.depth + 1 < 2 ^ 64)) }
     {
         while let Some(taken) = self.take() {
             let mut list = taken;
@@ -355,8 +376,11 @@ impl<'a> Spans<'a> {
 
     /// The next range.
     pub fn next(&mut self) -> Result<Option<Span<'a>>, AllocError>
-        ensures { IfOk result (λ span. parts_left self.old
+        ensures parts { IfOk result (λ span. parts_left self.old
             ≡ with_first_span span (parts_left self.new)) }
+        ensures nested { IfOk result (λ span. nested_left self.old
+            ≡ with_first_nested span (nested_left self.new)) }
+        ensures depth { IfOk result (λ span. IfSome span (λ s. s.depth + 1 < 2 ^ 64)) }
     {
         match self.next_scoped(None)? {
             Some(range) => Ok(Some(range.span)),

@@ -1,11 +1,12 @@
 -- How the code goes through the lists of nodes.
-use Rattle.std.specs.Prelude.{◌≡◌, ℕ, Bool, false, List, [], ◌∷◌, ◌++◌, Option, Some, None}
+use Rattle.std.specs.Prelude.{◌≡◌, ℕ, suc, Bool, false, List, [], ◌∷◌, ◌++◌, Option, Some, None}
 use Rattle.acpi_conditions.specs.Entries.{Path}
 use Rattle.acpi_survey.specs.Spans.{Part, of_node, of_element, of_lost}
 use Rattle.acpi_survey.specs.Ranges.{Range, Entered, inner_ranges}
-use Rattle.acpi_survey.specs.SpanViews.{part_of, scope_of, span_range, left_in}
+use Rattle.acpi_survey.specs.SpanViews.{part_of, span_range, left_in}
+use Rattle.acpi_survey.specs.NestedRanges.{NestedRange, nested_inside}
+use Rattle.acpi_survey.specs.NestedViews.{nested_view, nested_in}
 use Rattle.acpi_survey.specs.declared.spans.Span.{Span}
-use Rattle.acpi_survey.specs.declared.spans.ScopedSpan.{ScopedSpan}
 use Rattle.acpi_survey.specs.declared.spans.Items.{Items}
 use Rattle.acpi_survey.specs.declared.spans.Items.TheVariants as items
 use Rattle.acpi_survey.specs.declared.spans.Remainder.{Remainder}
@@ -29,12 +30,28 @@ with_first_item entered s behind_if (Some x) rest = span_range s behind_if x ∷
 
 abbrev pub HasNoItems : Items → Type 0
 HasNoItems (items.Nodes ns) = ns.now ≡ []
-HasNoItems (items.Fields fixed es offset) = es.now ≡ []
+HasNoItems (items.Fields fixed es) = es.now ≡ []
 
 -- whether an If stands directly before the next item: none does in a field list
 abbrev pub items_behind_if : Bool → Items → Bool
 items_behind_if behind_if (items.Nodes ns) = behind_if
-items_behind_if behind_if (items.Fields fixed es offset) = false
+items_behind_if behind_if (items.Fields fixed es) = false
 
 abbrev pub behind_if_in : Remainder → Bool
 behind_if_in r = items_behind_if r.is_behind_if r.items
+
+-- ---- by the number of nodes around
+
+abbrev pub nested_in_some : (depth : ℕ) → Option Remainder → List NestedRange
+nested_in_some depth None = []
+nested_in_some depth (Some r) = nested_in depth r
+
+abbrev pub nested_in_part : (depth end : ℕ) → Part → List NestedRange
+nested_in_part depth end (of_node n) = nested_inside depth end n
+nested_in_part depth end (of_element e) = []
+nested_in_part depth end (of_lost why) = []
+
+-- the first of a list, what stands inside it, and the list's rest
+abbrev pub with_first_inside : Option Span → List NestedRange → List NestedRange
+with_first_inside None rest = []
+with_first_inside (Some x) rest = nested_view x ∷ nested_in_part (suc x.depth) x.to (part_of x.what) ++ rest

@@ -1,10 +1,13 @@
 use Rattle.std.proofs.Common.{◌≡◌, length}
 use Rattle.acpi_survey.specs.SpanViews.{entered_by, ranges_left}
+use Rattle.acpi_survey.specs.NestedViews.{nested_left}
 use Rattle.acpi_survey.proofs.spans.Spans.next_scoped.Given as goal
 
 -- no range is gone past
 abbrev pub invariant-loop-taken : goal.invariant-loop-taken
-invariant-loop-taken l = ranges_left (entered_by l.places) l.self ≡ ranges_left (entered_by l.places) l.initial.self
+invariant-loop-taken l =
+    (ranges_left (entered_by l.places) l.self ≡ ranges_left (entered_by l.places) l.initial.self)
+    × (nested_left l.self ≡ nested_left l.initial.self)
 
 abbrev pub decreases-loop-taken : goal.decreases-loop-taken
 decreases-loop-taken l = length l.self.lists.items
