@@ -14,10 +14,6 @@ pub mod CodeFaults
 pub mod TableListings
 pub mod TableLists
 pub mod KeptNotes
-pub mod MissedPaths
-pub mod AnswersAgain
-pub mod NotedAgain
-pub mod WalkedAgain
 pub mod OverOne
 pub mod Refusals
 pub mod LinkMisses

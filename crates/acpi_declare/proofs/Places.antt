@@ -72,7 +72,7 @@ unit_is objects s g p e =
     ap (λ b. optional b (place (take (length s - 0) s ++ g ∷ [])) None) within ∙ ap (λ (l : List Segment). place (l ++ g ∷ [])) (take_all (length s - 0) s (omega arith)) in
     (below_ok objects (s ++ g ∷ []) p (objects (parent_of (s ++ g ∷ []))) (sym (ap (declared_in objects s (g ∷ [])) here) ∙ e)).1
 
-pub declared_ok : (objects : Namespace) (s : List Segment) (n : NameParts) (p : List Segment) → declared_path objects s n ≡ Ok p → IsDeclared objects s n p
+declared_ok : (objects : Namespace) (s : List Segment) (n : NameParts) (p : List Segment) → declared_path objects s n ≡ Ok p → IsDeclared objects s n p
 declared_ok objects s n p e = by n.segments refl (place_of s n) refl e
   where
     by : (gs : List Segment) → n.segments ≡ gs → (o : Place) → place_of s n ≡ o → declared_in objects s gs o ≡ Ok p → IsDeclared objects s n p
@@ -104,7 +104,7 @@ declared_again objects s n p h = ap (declared_in objects s n.segments) h.placed 
 
 -- ---- Scope terms
 
-pub opened_ok : (objects : Namespace) (s : List Segment) (n : NameParts) (t : List Segment) → opened_path objects s n ≡ Ok t → IsOpened objects s n t
+opened_ok : (objects : Namespace) (s : List Segment) (n : NameParts) (t : List Segment) → opened_path objects s n ≡ Ok t → IsOpened objects s n t
 opened_ok objects s n t e = by (place_of s n) (answer (is_defined_in objects) s n) refl e
   where
     by : (o a : Place) → answer (is_defined_in objects) s n ≡ a → opened_in objects s o a ≡ Ok t → IsOpened objects s n t

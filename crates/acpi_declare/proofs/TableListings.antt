@@ -36,7 +36,7 @@ after_links : (t : Pass) (es : List Placement) → (after_all t es).links ≡ t.
 after_links t [] = sym (append-nil t.links)
 after_links t (e ∷ es) = after_links (after t e) es ∙ append_assoc t.links (pending_by e.step.effect e.scope e.path) (pending_links es)
 
-pub after_notes : (t : Pass) (es : List Placement) → (after_all t es).notes ≡ all_notes t.notes (notes_on t.objects es)
+after_notes : (t : Pass) (es : List Placement) → (after_all t es).notes ≡ all_notes t.notes (notes_on t.objects es)
 after_notes t [] = sym (nothing_joined t.notes)
 after_notes t (e ∷ es) = after_notes (after t e) es ∙ joined_assoc t.notes (note_of t.objects e) (notes_on (union t.objects (object_of e)) es)
 

@@ -2,9 +2,9 @@
 use Rattle.std.specs.Prelude.{◌≡◌, ℕ, List, [], ◌∷◌, ◌++◌}
 use Rattle.std.specs.List.{filter}
 use Rattle.acpi_name.specs.Names.{Segment}
-use Rattle.acpi_space.specs.Lookups.{is_same_path, nothing}
+use Rattle.acpi_space.specs.Lookups.{is_same_path}
 use Rattle.acpi_declare.specs.declared.keep.Keep.{Keep}
-use Rattle.acpi_declare.specs.declared.keep.Keep.TheVariants.{All, MethodAt, Missed, Nothing}
+use Rattle.acpi_declare.specs.declared.keep.Keep.TheVariants.{All, MethodAt, Nothing}
 use Rattle.acpi_declare.specs.Listing.{Placement}
 use Rattle.acpi_declare.specs.Loads.{AreListings}
 use Rattle.acpi_declare.specs.Notes.{Method, Notes, all_notes}
@@ -18,16 +18,10 @@ abbrev pub with_methods : Notes → List Method → List Notes
 with_methods n [] = []
 with_methods n (m ∷ ms) = record { counts = n.counts; methods = m ∷ ms; missed = n.missed } ∷ []
 
--- missed paths alone; nothing where there are none
-abbrev pub missed_alone : List (List Segment) → List Notes
-missed_alone [] = []
-missed_alone (p ∷ ps) = record { counts = nothing; methods = []; missed = p ∷ ps } ∷ []
-
 -- what is kept of a table's notes
 abbrev pub kept_of : Keep → Notes → List Notes
 kept_of All n = n ∷ []
 kept_of (MethodAt p) n = with_methods n (methods_at p.now n.methods)
-kept_of Missed n = missed_alone n.missed
 kept_of Nothing n = []
 
 -- .. and of those of several tables

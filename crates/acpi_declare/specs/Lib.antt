@@ -6,7 +6,6 @@ pub mod Listing
 pub mod Links
 pub mod Notes
 pub mod Keeping
-pub mod Misses
 pub mod Tables
 pub mod Loads
 pub mod Refusals

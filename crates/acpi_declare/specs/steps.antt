@@ -4,5 +4,3 @@ pub mod Entering
 pub mod Outcomes
 pub mod Adding
 pub mod Missing
-pub mod Again
-pub mod Walking

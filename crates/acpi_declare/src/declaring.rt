@@ -44,7 +44,7 @@ impl<S: Space<Object>> Declaring<S> {
         ensures err { (later : List (List ℕ))
             → IfErr result (λ e. IsLoadFault depth (dsdt.now ∷ later) e) }
     {
-        add_table(alloc, start(alloc, 1)?, 0, dsdt, Keep::All, depth)
+        add_table(alloc, start(alloc)?, 0, dsdt, Keep::All, depth)
     }
 
     /// With what one SSDT declares over it.
@@ -88,7 +88,7 @@ impl<S: Space<Object>> Declaring<S> {
         let layer = Declaring {
             objects: Overlay::over(alloc, &self.objects),
             links: Vec::new(alloc),
-            notes: Vec::with_capacity(alloc, 1)?,
+            notes: Vec::new(alloc),
         };
         add_table(alloc, layer, self.notes.len(), ssdt, Keep::All, depth)
     }

@@ -22,29 +22,10 @@ use acpi_space::{SearchFault, Space, misses};
 use acpi_terms::{Item, Object};
 use std::alloc::AllocError;
 
-/// The longest list that keeps its memory until half of it has been taken.
-const FEW: usize = 16;
-
-/// Gives back the memory of a list of which half has been taken, or more than an eighth of a long one. So the items,
-/// field elements, paths or methods that wait and what is made of them are never all there at once.
-pub fn give_back<T: Drop>(left: &mut Vec<T>)
-    ensures { left.new.items ≡ left.old.items }
-{
-    let room = left.capacity();
-    let least = if room > FEW {
-        room / 8 * 7
-    } else {
-        room / 2 + 1
-    };
-    if left.len() < least {
-        left.shrink_to_fit();
-    }
-}
-
 // Goes on from a path to one that is a segment longer; any other is given back. So scopes inside one another, of which
 // each is open while those inside it are read, have one path.
 #[tactic(auto, using(crate::proofs::Searches::rejoined_parts))]
-pub(crate) fn go_below(path: &mut Path, inside: Path) -> Result<Option<Path>, AllocError>
+fn go_below(path: &mut Path, inside: Path) -> Result<Option<Path>, AllocError>
     ensures below { IfOk result (λ other. IfNone other
         ((path.new ≡ inside) × (parent_of path.new ≡ path.old))) }
     ensures other { IfOk result (λ other. IfSome other
@@ -217,7 +198,6 @@ impl<S: Space<Object>> Pass<S> {
         let Some(item) = left.pop() else {
             unreachable!()
         };
-        give_back(left);
         match self.enter(scope, item)? {
             None => Ok(Entered::Nothing),
             Some((inside, items)) => match go_below(scope, inside)? {

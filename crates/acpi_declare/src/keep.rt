@@ -8,7 +8,7 @@ ghost use Rattle.acpi_declare.specs.Notes.{notes_of};
 
 use crate::notes::{Method, TableNotes};
 use acpi_name::Path;
-use std::alloc::{AllocError, Global};
+use std::alloc::AllocError;
 
 /// What a load keeps of what its tables note. Where tables are many and small, their notes take as much memory as their
 /// objects.
@@ -19,18 +19,8 @@ pub enum Keep<'a> {
     /// What the body of the method at a path needs: of each table that declares one there, its notes without its other
     /// methods.
     MethodAt(&'a Path),
-    /// The paths that Scope terms missed: of each table with some, these alone.
-    Missed,
     /// Nothing.
     Nothing,
-}
-
-// For how many tables' notes room is made before a DSDT and so many SSDTs are declared.
-pub(crate) fn most_kept(ssdts: usize, keep: Keep<'_>) -> usize {
-    match keep {
-        Keep::All => ssdts.saturating_add(1),
-        _ => 0,
-    }
 }
 
 // Keeps those of the methods that stand at the path.
@@ -42,7 +32,6 @@ fn retain_at(methods: &mut Vec<Method>, path: &Path)
 
 /// Puts what is kept of a table's notes behind those of the tables before it.
 pub(crate) fn put_kept(
-    alloc: Global,
     kept: &mut Vec<TableNotes>,
     notes: TableNotes,
     keep: Keep<'_>,
@@ -59,11 +48,6 @@ pub(crate) fn put_kept(
             retain_at(&mut notes.methods, path);
             if !notes.methods.is_empty() {
                 kept.push(notes)?;
-            }
-        }
-        Keep::Missed => {
-            if !notes.missed.is_empty() {
-                kept.push(notes.missed_alone(alloc))?;
             }
         }
         Keep::Nothing => {}

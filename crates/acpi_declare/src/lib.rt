@@ -16,19 +16,10 @@
 //!
 //! A caller that reads no bodies, or one alone, keeps less of what tables note (`declare_keeping`).
 //!
-//! A caller that reads the bodies of many tables keeps only what it can't do without, and makes the notes of one table
-//! at a time once more:
-//!
-//! ```text
-//! let (objects, missed): (TreeSpace<Object>, Vec<Path>) = declare_with_misses(alloc, dsdt, ssdts, depth)?;
-//! let (notes, missed) = notes_again(alloc, dsdt, depth, &missed)?;
-//! ```
-//!
 //! Tables can be declared one after another (`Declaring`), and an SSDT over tables that are only borrowed
 //! (`Declaring::ssdt_over`): so many SSDTs are each declared over one DSDT, which is read once.
 #![tactic(auto)]
 
-mod again;
 mod declaring;
 mod fault;
 mod field_list;
@@ -38,19 +29,15 @@ pub mod laws;
 mod link_map;
 mod links;
 mod load;
-mod misses;
 mod notes;
 mod pass;
 mod placing;
 mod predefined;
 
-pub use again::notes_again;
 pub use declaring::Declaring;
 pub use fault::{LoadFault, LoadReason, Refusal};
-pub use items::give_back;
 pub use keep::Keep;
 pub use link_map::LinkMap;
 pub use links::copy_answers;
 pub use load::{Declared, declare, declare_keeping, declare_shared, shared_tables};
-pub use misses::declare_with_misses;
 pub use notes::{Method, TableNotes};

@@ -13,7 +13,6 @@ ghost use Rattle.acpi_declare.specs.steps.View.{links_with};
 ghost use Rattle.acpi_declare.specs.steps.Missing.{misses_from};
 
 use crate::fault::LoadFault;
-use crate::items::give_back;
 use crate::link_map::LinkMap;
 use crate::pass::{LinkedPaths, PendingLinks};
 use crate::placing::unit_path;
@@ -90,7 +89,6 @@ fn put_unit_links(
 {
     let mut left = segs;
     while let Some(seg) = left.pop() {
-        give_back(&mut left);
         links.share(unit_path(scope, seg)?, answers)?;
     }
     Ok(())
@@ -148,7 +146,6 @@ pub(crate) fn linked<S: Space<Object>>(
     let mut links = LinkMap::new(alloc);
     let mut left = pending;
     while let Some(link) = left.pop() {
-        give_back(&mut left);
         put_pending(alloc, objects, &mut links, link)?;
     }
     Ok(links)

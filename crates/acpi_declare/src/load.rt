@@ -18,7 +18,7 @@ ghost use Rattle.acpi_declare.specs.steps.Outcomes.{IsCodeOf, IsTableFault};
 
 use crate::declaring::Declaring;
 use crate::fault::{LoadFault, LoadReason, Stop};
-use crate::keep::{Keep, most_kept, put_kept};
+use crate::keep::{Keep, put_kept};
 use crate::link_map::LinkMap;
 use crate::notes::TableNotes;
 use crate::pass::Pass;
@@ -190,12 +190,16 @@ pub(crate) fn add_table<S: Space<Object>>(
         )),
         Err(Stop::Memory) => return Err(LoadFault::Memory),
     }
-    let mut noted = pass.notes;
-    noted.shrink();
-    put_kept(alloc, &mut notes, noted, keep)?;
+    let Pass {
+        objects,
+        links,
+        notes: noted,
+        ..
+    } = pass;
+    put_kept(&mut notes, noted, keep)?;
     Ok(Declaring {
-        objects: pass.objects,
-        links: pass.links,
+        objects,
+        links,
         notes,
     })
 }
@@ -270,18 +274,15 @@ pub fn declare<S: Space<Object>>(
     declare_shared(alloc, &dsdt, &ssdts, depth)
 }
 
-/// The predefined objects, and nothing else; with room for the notes of so many tables.
-pub(crate) fn start<S: Space<Object>>(
-    alloc: Global,
-    tables: usize,
-) -> Result<Declaring<S>, LoadFault>
+/// The predefined objects, and nothing else.
+pub(crate) fn start<S: Space<Object>>(alloc: Global) -> Result<Declaring<S>, LoadFault>
     ensures ok { IfOk result (λ r. HasTables 0 [] (state_of (S.contents r.objects) r)) }
     ensures memory { IfErr result (λ e. e ≡ LoadFault.Memory) }
 {
     Ok(Declaring {
         objects: predefined_space(alloc)?,
         links: Vec::new(alloc),
-        notes: Vec::with_capacity(alloc, tables)?,
+        notes: Vec::new(alloc),
     })
 }
 
@@ -297,8 +298,7 @@ pub(crate) fn declare_all<S: Space<Object>>(
         (state_of (S.contents r.objects) r)) }
     ensures err { IfErr result (λ e. IsLoadFault depth (dsdt.now ∷ ssdts.now) e) }
 {
-    let begun = start(alloc, most_kept(ssdts.len(), keep))?;
-    let mut loaded = add_table(alloc, begun, 0, dsdt, keep, depth)?;
+    let mut loaded = add_table(alloc, start(alloc)?, 0, dsdt, keep, depth)?;
     for (i, ssdt) in ssdts.iter().enumerate() {
         loaded = add_table(alloc, loaded, i + 1, ssdt, keep, depth)?;
     }

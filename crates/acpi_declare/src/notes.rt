@@ -6,7 +6,7 @@ ghost use Rattle.acpi_tree.specs.Fits.{external_fits};
 ghost use Rattle.acpi_tree.specs.View.{external_view, externals_view};
 ghost use Rattle.acpi_declare.specs.Notes.{notes_of};
 ghost use Rattle.acpi_declare.specs.steps.Pass.{no_notes};
-ghost use Rattle.acpi_declare.specs.steps.View.{count_said, counts_said, with_count, with_counts, with_method, with_missed, with_no_missed};
+ghost use Rattle.acpi_declare.specs.steps.View.{count_said, counts_said, with_count, with_counts, with_method, with_missed};
 
 use acpi_counts::Counts;
 use acpi_name::{Path, PlaceFault, place};
@@ -114,40 +114,5 @@ impl TableNotes {
         let mut paths = paths;
         self.missed.append(&mut paths)?;
         Ok(())
-    }
-
-    // The missed paths alone.
-    pub(crate) fn missed_alone(self, alloc: Global) -> TableNotes
-        ensures { notes_of result ≡ with_missed no_notes self.missed.items }
-    {
-        let TableNotes { missed, .. } = self;
-        TableNotes {
-            counts: Counts::new(alloc),
-            methods: Vec::new(alloc),
-            missed,
-        }
-    }
-
-    // The counts and the methods alone.
-    pub(crate) fn without_missed(self, alloc: Global) -> TableNotes
-        ensures { notes_of result ≡ with_no_missed (notes_of self) }
-    {
-        let TableNotes {
-            counts,
-            methods,
-            ..
-        } = self;
-        TableNotes {
-            counts,
-            methods,
-            missed: Vec::new(alloc),
-        }
-    }
-
-    // The same, in no more room than the methods take: most tables are small, and a load may keep the notes of all.
-    pub(crate) fn shrink(&mut self)
-        ensures { notes_of self.new ≡ notes_of self.old }
-    {
-        self.methods.shrink_to_fit();
     }
 }

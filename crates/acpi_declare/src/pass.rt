@@ -18,7 +18,6 @@ ghost use Rattle.acpi_declare.specs.steps.Outcomes.{IsStopOf};
 
 use crate::fault::Stop;
 use crate::field_list::{FieldList, behind, one, two};
-use crate::items::give_back;
 use crate::notes::TableNotes;
 use crate::placing::{declared, declared_unit, put};
 use acpi_name::{Name, Path, Seg};
@@ -340,7 +339,6 @@ impl<S: Space<Object>> Pass<S> {
         let mut left = elems;
         left.reverse();
         while let Some(elem) = left.pop() {
-            give_back(&mut left);
             offset = self.declare_elem(scope, fields, segs, offset, &elem)?;
         }
         Ok(())

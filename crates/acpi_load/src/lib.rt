@@ -47,7 +47,7 @@ pub use acpi_declare::{
 pub use acpi_machine::{
     Machine, explain, explain_shared, load, load_objects, load_shared, load_with_body_at,
 };
-pub use acpi_rewrite::{rewrite, rewrite_joined, rewrite_shared};
+pub use acpi_rewrite::{rewrite, rewrite_shared};
 pub use acpi_verdict::{
     Awaited, Checked, Satisfied, Single, Verdict, check_shared, join, satisfied, satisfied_shared,
     single, single_shared, verdict, verdict_shared,

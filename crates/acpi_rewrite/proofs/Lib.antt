@@ -1,9 +1,7 @@
 pub mod Recoded
-pub mod Recodes
-pub mod NextWritten
 pub mod Relisted
 pub mod Rewritten
-pub mod NewCodes
+pub mod Recoding
 pub mod SpelledCodes
 pub mod Shortened
 pub mod OneRewriting

@@ -37,7 +37,7 @@ use Rattle.acpi_write.specs.Shortest.{HasWithin}
 use Rattle.acpi_write.proofs.Shorter.{items_are_shortest, items_are_typed}
 use Rattle.acpi_write.proofs.TermsShorter.{read_terms_are_written}
 use Rattle.acpi_write.proofs.Written.{items_written}
-use Rattle.acpi_rewrite.specs.Rewriting.{codes, without_code, body_bytes, IsNewCode, IsRewritten, AreEachRewritten, AreRewritten, AreRewrittenIn, AreTablesOfBytes, LoadToJoin, HoldsJoin}
+use Rattle.acpi_rewrite.specs.Rewriting.{codes, without_code, body_bytes, IsNewCode, IsRewritten, AreEachRewritten, AreRewritten, AreTablesOfBytes, LoadToJoin}
 use Rattle.acpi_rewrite.proofs.Recoded.{alike_height, alike_fit, alike_typed}
 use Rattle.acpi_rewrite.proofs.Shortened.{AreNoLonger, alike_shortened}
 use Rattle.acpi_rewrite.proofs.SpelledCodes.{codes_in_bytes}
@@ -291,8 +291,3 @@ module _ {T : Type 0} (depth : ℕ) (dsdt : List ℕ) (given : List (List ℕ)) 
   tells_join new ok below =
       told_of_join (λ Part v. LoadToJoin Part depth (new v)) (λ v. (m : Machine) → IsMachine depth (dsdt ∷ given) m ↔ IsMachine depth (new v) m) depth dsdt given r
       (λ Part m v loads joins alike. (m, (alike m).0 loads, joins)) (told_alike r new depth (dsdt ∷ given) ok below) none
-
-  pub tells_join_in : (bytes : T → List ℕ) → IfOk r (λ v. AreRewrittenIn depth (dsdt ∷ given) (bytes v)) → TellsOfJoin (λ Part v. HoldsJoin Part depth (bytes v)) depth dsdt given r
-  tells_join_in bytes ok =
-      told_of_join (λ Part v. HoldsJoin Part depth (bytes v)) (λ v. AreRewrittenIn depth (dsdt ∷ given) (bytes v)) depth dsdt given r
-      (λ Part m v loads joins is. (is.new, is.joined, (m, (load_alike depth (dsdt ∷ given) is.new is.old_bytes is.rewritten m).0 loads, joins))) ok none

@@ -6,10 +6,27 @@ use Rattle.std.proofs.lemmas.List.{drop_at}
 use Rattle.acpi_tree.specs.Tree.{ItemTree, scope, method, device, processor, power, thermal, ItemTrees, no_items, item}
 use Rattle.acpi_write.specs.Shortest.{IsShortened, AreShortened}
 use Rattle.acpi_rewrite.specs.Rewriting.{item_codes, codes, item_without_code, without_code}
-use Rattle.acpi_rewrite.specs.steps.Recoding.{first_or, item_with, items_with}
 use Rattle.acpi_rewrite.proofs.Recoded.{count_bare}
 
 -- ---- items with the next codes in their methods
+
+abbrev first_or : List ℕ → List (List ℕ) → List ℕ
+first_or code [] = code
+first_or code (c ∷ cs) = c
+
+abbrev mutual
+  item_with : List (List ℕ) → ItemTree → ItemTree
+  item_with cs (method n flags code) = method n flags (first_or code cs)
+  item_with cs (scope n is) = scope n (items_with cs is)
+  item_with cs (device n is) = device n (items_with cs is)
+  item_with cs (processor n id block len is) = processor n id block len (items_with cs is)
+  item_with cs (power n level order is) = power n level order (items_with cs is)
+  item_with cs (thermal n is) = thermal n (items_with cs is)
+  item_with cs i = i
+
+  items_with : List (List ℕ) → ItemTrees → ItemTrees
+  items_with cs no_items = no_items
+  items_with cs (item i is) = item (item_with cs i) (items_with (drop (length (item_codes i)) cs) is)
 
 mutual
   item_remade : (i : ItemTree) (rest : List (List ℕ)) → item_with (item_codes i ++ rest) (item_without_code i) ≡ i

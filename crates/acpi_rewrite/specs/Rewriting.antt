@@ -1,6 +1,6 @@
 -- Rewritten tables: what tables say in its shortest spelling (ACPI 6.5, 5.2.6 and 20.2).
 use Rattle.std.specs.Prelude.{◌≡◌, ◌<◌, ℕ, List, [], ◌∷◌, ◌++◌, Option, Some, All, ⊤}
-use Rattle.std.specs.List.{AllByRecursion, AllZip, flat_map}
+use Rattle.std.specs.List.{AllByRecursion, AllZip}
 use Rattle.acpi_table.specs.Tables.{IsTable, header_of}
 use Rattle.acpi_tree.specs.Tree.{ItemTree, scope, method, device, processor, power, thermal, ItemTrees, no_items, item}
 use Rattle.acpi_terms.specs.Spelling.{SpellsItems}
@@ -95,20 +95,8 @@ pub record AreRewritten (depth : ℕ) (tables new : List (List ℕ)) : Type 0 wh
   pub listings : AreListings depth 0 predefined tables placements
   pub each : AreEachRewritten depth (objects_after predefined placements) placements tables new
 
--- .. and these bytes hold them, one after another
-pub record AreRewrittenIn (depth : ℕ) (tables : List (List ℕ)) (bytes : List ℕ) : Type 0 where
-  pub new : List (List ℕ)
-  pub rewritten : AreRewritten depth tables new
-  pub joined : bytes ≡ flat_map (λ b. b) new
-  pub old_bytes : AreTablesOfBytes tables
-  pub new_bytes : AreTablesOfBytes new
-
 -- ---- independent SSDTs
 
 -- these tables load to the join of the parts
 abbrev pub LoadToJoin : (Machine → Type 0) → ℕ → List (List ℕ) → Type 0
 LoadToJoin Part depth tables = (m : Machine) × IsMachine depth tables m × IsJoin Part m
-
--- .. which the bytes hold, one after another
-abbrev pub HoldsJoin : (Machine → Type 0) → ℕ → List ℕ → Type 0
-HoldsJoin Part depth bytes = (tables : List (List ℕ)) × (bytes ≡ flat_map (λ b. b) tables) × LoadToJoin Part depth tables

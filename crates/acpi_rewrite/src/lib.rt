@@ -1,9 +1,9 @@
 //! Tables in their shortest spelling (ACPI 6.5, 5.2.6 and 20.2).
 //!
 //! ```text
-//! bytes of tables ──► acpi_declare ──► namespace ─┐
-//! one table ────────► acpi_declare ──► notes ─────┴► acpi_body ──► bodies ──┐
-//!           ────────► acpi_terms ────► items, one after another ────────────┴─► acpi_write ──► bytes of the table
+//! bytes of tables ──► acpi_declare ──► namespace, notes ─┐
+//!                 ──► acpi_terms ────► items ────────────┼─► acpi_write ──► bytes of tables
+//!                     acpi_body ─────► bodies ◄──────────┘
 //! ```
 //!
 //! What comes out says the same: it has the same objects, links and bodies (`rewritten_load_alike`), no table is
@@ -14,8 +14,7 @@
 //! ```
 #![tactic(auto)]
 
-mod recoding;
 mod rewriting;
 pub mod rewriting_laws;
 
-pub use rewriting::{rewrite, rewrite_joined, rewrite_shared};
+pub use rewriting::{rewrite, rewrite_shared};

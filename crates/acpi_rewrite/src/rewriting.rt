@@ -1,53 +1,41 @@
 //! Tables in their shortest spelling.
 
-ghost use Rattle.std.specs.Prelude.{◌≡◌, ◌≢◌, ◌↔◌, ◌<◌, ◌≤◌, ◌∷◌, ℕ, List, length, map, All, IfOk, IfErr};
+ghost use Rattle.std.specs.Prelude.{◌≡◌, ◌≢◌, ◌↔◌, ◌<◌, ◌≤◌, ◌++◌, ◌∷◌, ℕ, List, length, get_or, map, All, IfOk, IfErr, true};
 ghost use Rattle.std.specs.FinMap.{get};
 ghost use Rattle.std.specs.List.{AllZip};
-ghost use Rattle.acpi_name.specs.Names.{Segment};
+ghost use Rattle.std.specs.Vec.Iter.{into_iter_items};
+ghost use Rattle.acpi_tree.specs.Fits.{items_fit};
+ghost use Rattle.acpi_tree.specs.Tree.{ItemTrees};
+ghost use Rattle.acpi_tree.specs.View.{item_view, items_tree};
 ghost use Rattle.acpi_declare.specs.Listing.{Placement};
 ghost use Rattle.acpi_declare.specs.Loads.{HasNoLoad};
-ghost use Rattle.acpi_declare.specs.Misses.{IsNotedAgain};
-ghost use Rattle.acpi_declare.specs.Namespace.{Namespace, namespace_of};
+ghost use Rattle.acpi_declare.specs.Namespace.{namespace_of};
 ghost use Rattle.acpi_declare.specs.Notes.{method_of, notes_of};
 ghost use Rattle.acpi_declare.specs.Refusals.{IsLoadFault};
+ghost use Rattle.acpi_declare.specs.Tables.{IsTableOf};
 ghost use Rattle.acpi_order.specs.Bodies.{with_counts};
 ghost use Rattle.acpi_order.specs.Machines.{Machine, IsMachine};
 ghost use Rattle.acpi_order.specs.Orders.{TellsOfJoin};
-ghost use Rattle.acpi_rewrite.specs.Rewriting.{AreTablesOfBytes, IsNewCode, IsRewritten, AreRewritten, AreRewrittenIn, LoadToJoin, HoldsJoin};
+ghost use Rattle.acpi_rewrite.specs.Rewriting.{AreTablesOfBytes, item_codes, codes, item_without_code, without_code, IsNewCode, IsRewritten, AreRewritten, LoadToJoin};
 ghost use Rattle.acpi_machine.specs.steps.Adding.{noted};
-ghost use Rattle.acpi_rewrite.specs.steps.Recoding.{HasNewCodes};
+ghost use Rattle.acpi_rewrite.specs.steps.Recoding.{IsNoted};
 
-use crate::recoding::recoded;
 use crate::rewriting_laws::{none_grows, one_rewriting, rewritten_load_alike, rewritten_stay};
 use acpi_body::{Body, read_body};
 use acpi_counts::Counts;
-use acpi_declare::{
-    LoadFault, Method, TableNotes, declare_with_misses, give_back, notes_again, shared_tables,
-};
-use acpi_name::Path;
+use acpi_declare::{Declared, LoadFault, Method, TableNotes, declare_shared, shared_tables};
 use acpi_space::Space;
 use acpi_table::{HEADER_BYTES, split_table};
-use acpi_terms::{Depth, Object};
-use acpi_write::{WriteFault, table_of_code, write_terms};
+use acpi_terms::{Depth, Item, ItemFault, Object, read_items_shared};
+use acpi_write::{WriteFault, write_table, write_terms};
 use bytes::Bytes;
 use std::alloc::{AllocError, Global};
+use std::vec::IntoIter;
 
 // The items of a slice are bytes.
 fn has_bytes(bytes: &[u8])
     ensures { All (λ b. b < 256) bytes.now }
 {}
-
-// These bytes, as the method's own code where they are the same: most code is in its shortest spelling already, and
-// stays shared with its table.
-fn shared_or_new(code: &Bytes, bytes: Vec<u8>) -> Result<Bytes, AllocError>
-    ensures { IfOk result (λ b. b ≡ bytes.items) }
-{
-    if code.as_slice() == bytes.as_slice() {
-        code.clone()
-    } else {
-        Ok(Bytes::from_vec(bytes)?)
-    }
-}
 
 // What is written in the place of a method's code: the terms of its body in their shortest spelling, or the same
 // bytes where it isn't read.
@@ -55,17 +43,17 @@ fn new_code<S: Space<Object>>(
     alloc: Global,
     objects: &S,
     counts: &Counts,
-    method: Method,
+    method: &Method,
     depth: Depth,
 ) -> Result<Bytes, AllocError>
     ensures { IfOk result (λ c. IsNewCode depth (namespace_of (S.contents objects.now))
-        (with_counts (get counts.now) (method_of method)) c) }
+        (with_counts (get counts.now) (method_of method.now)) c) }
 {
     let code = method.code.as_slice();
     has_bytes(code);
     match read_body(alloc, objects, &method.path, code, depth, counts)? {
         Body::Terms(terms) => match write_terms(alloc, &terms) {
-            Ok(bytes) => shared_or_new(&method.code, bytes),
+            Ok(bytes) => Ok(Bytes::from_vec(bytes)?),
             Err(WriteFault::TooLong) => unreachable!(),
             Err(WriteFault::Memory) => Err(AllocError),
         },
@@ -77,49 +65,93 @@ fn new_code<S: Space<Object>>(
 fn new_codes<S: Space<Object>>(
     alloc: Global,
     objects: &S,
-    notes: TableNotes,
+    notes: &TableNotes,
     depth: Depth,
 ) -> Result<Vec<Bytes>, AllocError>
     ensures { IfOk result (λ v. AllZip (IsNewCode depth (namespace_of (S.contents objects.now)))
-        (noted (notes_of notes)) v.items) }
+        (noted (notes_of notes.now)) v.items) }
 {
-    let TableNotes {
-        counts,
-        methods,
-        ..
-    } = notes;
-    let mut codes = Vec::with_capacity(alloc, methods.len())?;
-    let mut left = methods;
-    left.reverse();
-    while let Some(method) = left.pop() {
-        give_back(&mut left);
-        codes.push(new_code(alloc, objects, &counts, method, depth)?)?;
+    let mut codes = Vec::new(alloc);
+    for method in &notes.methods {
+        codes.push(new_code(alloc, objects, &notes.counts, method, depth)?)?;
     }
     Ok(codes)
 }
 
-// One table of a load, rewritten with these codes in its methods.
-fn rewritten_table(
+// Puts the next of these codes into the methods of an item, in byte order.
+#[cycle(recode)]
+fn recode_item(item: &mut Item, fresh: &mut IntoIter<Bytes>)
+    requires { length (item_codes (item_view item.old)) ≤ length (into_iter_items fresh.old) }
+    ensures alike { item_without_code (item_view item.new)
+        ≡ item_without_code (item_view item.old) }
+    ensures codes { item_codes (item_view item.new) ++ into_iter_items fresh.new
+        ≡ into_iter_items fresh.old }
+{
+    match item {
+        Item::Method { code, .. } => match fresh.next() {
+            Some(next) => *code = next,
+            None => unreachable!(),
+        },
+        Item::Scope(_, items) => recode_items(items, fresh),
+        Item::Device(_, items) => recode_items(items, fresh),
+        Item::Processor { items, .. } => recode_items(items, fresh),
+        Item::Power { items, .. } => recode_items(items, fresh),
+        Item::Thermal(_, items) => recode_items(items, fresh),
+        _ => {}
+    }
+}
+
+// .. of the items of a list, in order.
+#[cycle(recode)]
+fn recode_items(items: &mut [Item], fresh: &mut IntoIter<Bytes>)
+    requires { length (codes (items_tree items.old)) ≤ length (into_iter_items fresh.old) }
+    ensures alike { without_code (items_tree items.new) ≡ without_code (items_tree items.old) }
+    ensures codes { codes (items_tree items.new) ++ into_iter_items fresh.new
+        ≡ into_iter_items fresh.old }
+{
+    for item in items.iter_mut() {
+        recode_item(item, fresh);
+    }
+}
+
+// The items of a table that has some.
+fn table_items(alloc: Global, table: &Bytes, depth: Depth) -> Result<Vec<Item>, AllocError>
+    requires { (number : ℕ) × (is : ItemTrees) × IsTableOf depth number table.now is }
+    ensures same { (number : ℕ) (is : ItemTrees) → IsTableOf depth number table.now is
+        → IfOk result (λ v. items_tree v.items ≡ is) }
+    ensures fits { IfOk result (λ v. items_fit (items_tree v.items) ≡ true) }
+{
+    let code = table.slice(HEADER_BYTES..)?;
+    match read_items_shared(alloc, &code, depth) {
+        Ok(items) => Ok(items),
+        Err(ItemFault::At { .. }) => unreachable!(),
+        Err(ItemFault::Memory) => Err(AllocError),
+    }
+}
+
+// One table of a load, rewritten over the objects of all.
+fn rewritten_table<S: Space<Object>>(
     alloc: Global,
-    codes: Vec<Bytes>,
+    objects: &S,
+    notes: &TableNotes,
     table: &Bytes,
     depth: Depth,
 ) -> Result<Vec<u8>, AllocError>
-    requires { (objects : Namespace) × (t : List Placement)
-        × HasNewCodes depth objects table.now t codes.items }
+    requires { (t : List Placement) × IsNoted depth table.now t (notes_of notes.now) }
     ensures bytes { IfOk result (λ b. All (λ n. n < 256) table.now × All (λ n. n < 256) b.items) }
-    ensures rewritten { (objects : Namespace) (t : List Placement)
-        → HasNewCodes depth objects table.now t codes.items
-        → IfOk result (λ b. IsRewritten depth objects t table.now b.items) }
+    ensures rewritten { (t : List Placement) → IsNoted depth table.now t (notes_of notes.now)
+        → IfOk result (λ b. IsRewritten depth (namespace_of (S.contents objects.now)) t table.now
+        b.items) }
 {
+    let mut items = table_items(alloc, table, depth)?;
+    let mut fresh = new_codes(alloc, objects, notes, depth)?.into_iter();
+    recode_items(&mut items, &mut fresh);
     let bytes = table.as_slice();
     has_bytes(bytes);
     let Ok((old, _)) = split_table(bytes) else {
         unreachable!()
     };
-    let code = table.slice(HEADER_BYTES..)?;
-    let rewritten = recoded(alloc, &code, codes, depth)?;
-    match table_of_code(alloc, &old.header(), rewritten) {
+    match write_table(alloc, &old.header(), &items) {
         Ok(bytes) => {
             has_bytes(&bytes);
             Ok(bytes)
@@ -129,35 +161,18 @@ fn rewritten_table(
     }
 }
 
-// The next table of a load, rewritten, and the paths that the Scope terms of later ones missed.
-fn rewrite_next<'a, S: Space<Object>>(
-    alloc: Global,
-    objects: &S,
-    table: &Bytes,
-    depth: Depth,
-    missed: &'a [Path],
-) -> Result<(Vec<u8>, &'a [Path]), AllocError>
-    requires { (number : ℕ) × (before : Namespace) × (t : List Placement)
-        × (later : List (List Segment)) × IsNotedAgain depth number before table.now t missed.now
-        later }
-    ensures bytes { IfOk result (λ r. All (λ n. n < 256) table.now × All (λ n. n < 256) r.0.items) }
-    ensures rewritten { (number : ℕ) (before : Namespace) (t : List Placement)
-        (later : List (List Segment)) → IsNotedAgain depth number before table.now t missed.now
-        later
-        → IfOk result (λ r. IsRewritten depth
-        (namespace_of (S.contents objects.now)) t table.now r.0.items) }
-    ensures later { (number : ℕ) (before : Namespace) (t : List Placement)
-        (later : List (List Segment)) → IsNotedAgain depth number before table.now t missed.now
-        later
-        → IfOk result (λ r. r.1.now ≡ later) }
+// The table of this number.
+fn table_at<'a>(dsdt: &'a Bytes, ssdts: &'a [Bytes], number: usize) -> &'a Bytes
+    requires { number ≤ length ssdts.now }
+    ensures { result.now ≡ get_or (dsdt.now ∷ ssdts.now) number result.now }
 {
-    let (notes, later) = notes_again(alloc, table, depth, missed)?;
-    let codes = new_codes(alloc, objects, notes, depth)?;
-    Ok((rewritten_table(alloc, codes, table, depth)?, later))
+    match number.checked_sub(1) {
+        None => dsdt,
+        Some(i) => &ssdts[i],
+    }
 }
 
-// The tables of a load, rewritten one after another. Bodies are read over the objects of all tables, so these are declared
-// first; but of what a table notes only the paths that its Scope terms missed are kept meanwhile.
+// The tables of a load, rewritten one after another.
 fn rewrite_tables<S: Space<Object>>(
     alloc: Global,
     dsdt: &Bytes,
@@ -172,15 +187,13 @@ fn rewrite_tables<S: Space<Object>>(
     ensures none { IfErr result (λ e. e ≢ LoadFault.Memory
         → HasNoLoad depth (dsdt.now ∷ ssdts.now)) }
 {
-    let (objects, missed) = declare_with_misses::<S>(alloc, dsdt, ssdts, depth)?;
+    let declared: Declared<S> = declare_shared(alloc, dsdt, ssdts, depth)?;
+    let objects = declared.objects();
+    let notes = declared.notes();
     let mut rewritten = Vec::new(alloc);
-    let (first, later) = rewrite_next(alloc, &objects, dsdt, depth, &missed)?;
-    rewritten.push(first)?;
-    let mut missed_later = later;
-    for ssdt in ssdts {
-        let (next, later) = rewrite_next(alloc, &objects, ssdt, depth, missed_later)?;
-        rewritten.push(next)?;
-        missed_later = later;
+    for (i, noted) in notes.iter().enumerate() {
+        let table = table_at(dsdt, ssdts, i);
+        rewritten.push(rewritten_table(alloc, objects, noted, table, depth)?)?;
     }
     Ok(rewritten)
 }
@@ -222,48 +235,6 @@ pub fn rewrite_shared<S: Space<Object>>(
     rewritten_stay();
     one_rewriting();
     rewrite_tables::<S>(alloc, dsdt, ssdts, depth)
-}
-
-// The same, one after another in one list of bytes.
-fn joined_tables<S: Space<Object>>(
-    alloc: Global,
-    dsdt: &Bytes,
-    ssdts: &[Bytes],
-    depth: Depth,
-) -> Result<Vec<u8>, LoadFault>
-    ensures ok { IfOk result (λ v. AreRewrittenIn depth (dsdt.now ∷ ssdts.now) v.items) }
-    ensures err { IfErr result (λ e. IsLoadFault depth (dsdt.now ∷ ssdts.now) e) }
-    ensures none { IfErr result (λ e. e ≢ LoadFault.Memory
-        → HasNoLoad depth (dsdt.now ∷ ssdts.now)) }
-{
-    let (objects, missed) = declare_with_misses::<S>(alloc, dsdt, ssdts, depth)?;
-    let (first, later) = rewrite_next(alloc, &objects, dsdt, depth, &missed)?;
-    let mut joined = first;
-    let mut missed_later = later;
-    for ssdt in ssdts {
-        let (next, later) = rewrite_next(alloc, &objects, ssdt, depth, missed_later)?;
-        joined.extend_from_slice(&next)?;
-        missed_later = later;
-    }
-    Ok(joined)
-}
-
-/// The same as `rewrite_shared`, but one list of bytes holds the tables, one after another: where they are many and small,
-/// lists of their own take as much memory as they do.
-pub fn rewrite_joined<S: Space<Object>>(
-    alloc: Global,
-    dsdt: &Bytes,
-    ssdts: &[Bytes],
-    depth: Depth,
-) -> Result<Vec<u8>, LoadFault>
-    ensures ok { IfOk result (λ v. AreRewrittenIn depth (dsdt.now ∷ ssdts.now) v.items) }
-    ensures any_order { TellsOfJoin (λ Part v. HoldsJoin Part depth v.items) depth dsdt.now
-        ssdts.now result }
-    ensures err { IfErr result (λ e. IsLoadFault depth (dsdt.now ∷ ssdts.now) e) }
-    ensures none { IfErr result (λ e. e ≢ LoadFault.Memory
-        → HasNoLoad depth (dsdt.now ∷ ssdts.now)) }
-{
-    joined_tables::<S>(alloc, dsdt, ssdts, depth)
 }
 
 /// The same as `rewrite_shared`, over one copy of each table.

@@ -35,10 +35,6 @@ pub nothing_behind : (a : Bytes) → option_append a (Some []) ≡ a
 nothing_behind None = refl
 nothing_behind (Some a) = ap Some (append-nil a)
 
-pub nothing_ahead : (a : Bytes) → option_append (Some []) a ≡ a
-nothing_ahead None = refl
-nothing_ahead (Some a) = refl
-
 none_before : (a : Bytes) (b : List ℕ) → option_append a (Some b) ≡ None → a ≡ None
 none_before None b e = refl
 none_before (Some a) b e = absurd cc

@@ -6,4 +6,3 @@ pub mod TermsWritten
 pub mod Shorter
 pub mod TermsShorter
 pub mod Seen
-pub mod Holders

@@ -1,6 +1,5 @@
 pub mod Canonical
 pub mod CanonicalTerms
-pub mod Appending
 pub mod Tables
 pub mod Laws
 pub mod TermLaws

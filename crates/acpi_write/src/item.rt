@@ -43,7 +43,7 @@ impl Writer {
     }
 
     #[cycle(items)]
-    pub(crate) fn item(&mut self, item: &Item) -> Result<(), WriteFault>
+    fn item(&mut self, item: &Item) -> Result<(), WriteFault>
         ensures put { Puts result (item_bytes (item_view item.now)) self.old self.new }
         ensures typed { OnOk result (IsItemTyped (item_view item.now)) }
     {

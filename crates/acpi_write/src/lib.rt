@@ -1,7 +1,6 @@
 //! Trees as bytes: the one spelling that is the shortest (ACPI 6.5, 20.2).
 #![tactic(auto)]
 
-mod appending;
 mod data;
 mod declaration;
 mod fault;
@@ -12,6 +11,5 @@ mod term;
 mod writer;
 mod writing;
 
-pub use appending::{append_item, enclose_items, table_of_code};
 pub use fault::WriteFault;
 pub use writing::{write_items, write_table, write_terms};

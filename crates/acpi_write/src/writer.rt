@@ -147,7 +147,7 @@ impl Writer {
     }
 
     /// The package length of so many bytes behind it (ACPI 6.5, 20.2.4).
-    pub(crate) fn package_length(&mut self, payload: usize) -> Result<(), WriteFault>
+    fn package_length(&mut self, payload: usize) -> Result<(), WriteFault>
         ensures { Puts result (length_bytes payload) self.old self.new }
     {
         if payload > PAYLOAD_LIMIT {

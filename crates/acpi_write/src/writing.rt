@@ -1,6 +1,6 @@
 //! Items and tables as bytes.
 
-ghost use Rattle.std.specs.Prelude.{◌≡◌, ◌+◌, ◌<◌, ◌≤◌, ℕ, List, IfOk, IsTrue, Some, None, Err, drop, length};
+ghost use Rattle.std.specs.Prelude.{◌≡◌, ◌+◌, ◌<◌, ◌≤◌, ◌++◌, ℕ, List, IfOk, OnOk, IsTrue, Some, None, Err, drop, length};
 ghost use Rattle.std.specs.FinMap as finite;
 ghost use Rattle.acpi_name.specs.Names.{Segment};
 ghost use Rattle.acpi_table.specs.Tables.{IsTable, header_of};
@@ -16,13 +16,13 @@ ghost use Rattle.acpi_write.specs.Canonical.{items_bytes};
 ghost use Rattle.acpi_write.specs.CanonicalTerms.{terms_bytes};
 ghost use Rattle.acpi_write.specs.TermLaws.{AllMayStandIn};
 ghost use Rattle.acpi_write.specs.Tables.{header_for};
+ghost use Rattle.acpi_write.specs.steps.Writing.{header_bytes, HasWidths};
 
-use crate::appending::table_of_code;
 use crate::fault::WriteFault;
 use crate::writer::Writer;
-use acpi_table::Header;
+use acpi_table::{HEADER_BYTES, Header, TABLE_LIMIT, checksum_for};
 use acpi_tree::{Item, Term};
-use std::alloc::Global;
+use std::alloc::{AllocError, Global};
 
 /// The shortest spelling of items (ACPI 6.5, 20.2.5), which have one but for the lengths of their packages.
 /// `TooLong` exactly where a package would have more than 268,435,455 bytes.
@@ -71,6 +71,32 @@ pub fn write_table(alloc: Global, header: &Header, items: &[Item]) -> Result<Vec
     ensures long { result ≡ Err WriteFault.TooLong → (code : List ℕ)
         → items_bytes (items_tree items.now) ≡ Some code → 16777216 < 36 + length code }
 {
-    let code = write_items(alloc, items)?;
-    table_of_code(alloc, header, code)
+    let mut writer = Writer::new(alloc);
+    writer.items(items)?;
+    if writer.len() > TABLE_LIMIT - HEADER_BYTES {
+        return Err(WriteFault::TooLong);
+    }
+    let length = HEADER_BYTES + writer.len();
+    writer.header(header, length as u32)?;
+    let mut bytes = writer.into_bytes();
+    bytes[9] = checksum_for(&bytes);
+    Ok(bytes)
+}
+
+impl Writer {
+    /// A header with this Length, and 0 for Checksum.
+    fn header(&mut self, header: &Header, length: u32) -> Result<(), AllocError>
+        ensures put { OnOk result (self.new ≡ header_bytes header.now length 0 ++ self.old) }
+        ensures widths { OnOk result (HasWidths header.now) }
+    {
+        self.bytes(&header.creator_revision.to_le_bytes())?;
+        self.bytes(&header.creator_id)?;
+        self.bytes(&header.oem_revision.to_le_bytes())?;
+        self.bytes(&header.oem_table_id)?;
+        self.bytes(&header.oem_id)?;
+        self.byte(0)?;
+        self.byte(header.revision)?;
+        self.bytes(&length.to_le_bytes())?;
+        self.bytes(&header.signature)
+    }
 }

@@ -1,12 +1,12 @@
 //! Tables that are written to a file.
 
-ghost use Rattle.std.specs.Prelude.{◌≡◌, ◌≢◌, ◌∷◌, ◌++◌, ℕ, List, true, IfErr, IfOk, OnOk, OnErr, map};
+ghost use Rattle.std.specs.Prelude.{◌≡◌, ◌≢◌, ◌∷◌, ◌++◌, ℕ, List, IfErr, IfOk, OnOk, OnErr, map};
 ghost use Rattle.acpi_declare.specs.Loads.{HasNoLoad};
 ghost use Rattle.acpi_declare.specs.Refusals.{IsLoadFault};
 ghost use Rattle.acpins_run.specs.Rewritten.{file_text, table_text, IsFileOf, IsUnwritten, Holds};
 
 use crate::failure::Failure;
-use acpi_load::{LoadFault, rewrite_joined, rewrite_shared};
+use acpi_load::{LoadFault, rewrite_shared};
 use acpi_space::Space;
 use acpi_terms::{Depth, Object};
 use acpins_io::{FileFault, Files};
@@ -14,22 +14,25 @@ use bytes::Bytes;
 use std::alloc::{AllocError, Global};
 use std::io::Write;
 
-// Puts a line of the table's lower-case hexadecimal digits behind the text.
-fn put_digits(alloc: Global, text: &mut Vec<u8>, table: &[u8]) -> Result<(), AllocError>
-    ensures { OnOk result (text.new.items ≡ text.old.items ++ table_text true table.now) }
+// Puts a table behind the text: its bytes, or a line of their lower-case hexadecimal digits.
+fn put_table(alloc: Global, text: &mut Vec<u8>, hex: bool, table: &[u8]) -> Result<(), AllocError>
+    ensures { OnOk result (text.new.items ≡ text.old.items ++ table_text hex table.now) }
 {
+    if !hex {
+        return text.extend_from_slice(table);
+    }
     let digits = hex::encode(alloc, table)?;
     text.extend_from_slice(digits.as_bytes())?;
     text.extend_from_slice(b"\n")
 }
 
-// .. for each table.
-fn digits_of(alloc: Global, tables: &[Vec<u8>]) -> Result<Vec<u8>, AllocError>
-    ensures { IfOk result (λ text. text.items ≡ file_text true (map (λ t. t.items) tables.now)) }
+// .. each table.
+fn file_text(alloc: Global, hex: bool, tables: &[Vec<u8>]) -> Result<Vec<u8>, AllocError>
+    ensures { IfOk result (λ text. text.items ≡ file_text hex (map (λ t. t.items) tables.now)) }
 {
     let mut text = Vec::new(alloc);
     for table in tables {
-        put_digits(alloc, &mut text, table)?;
+        put_table(alloc, &mut text, hex, table)?;
     }
     Ok(text)
 }
@@ -48,11 +51,8 @@ pub fn rewritten_text<S: Space<Object>>(
     ensures none { IfErr result (λ e. e ≢ LoadFault.Memory
         → HasNoLoad depth (dsdt.now ∷ ssdts.now)) }
 {
-    if !hex {
-        return rewrite_joined::<S>(alloc, dsdt, ssdts, depth);
-    }
     let rewritten = rewrite_shared::<S>(alloc, dsdt, ssdts, depth)?;
-    Ok(digits_of(alloc, &rewritten)?)
+    Ok(file_text(alloc, hex, &rewritten)?)
 }
 
 // Why a file of that name isn't written.

@@ -6,14 +6,8 @@ use Rattle.acpi_space.specs.Lookups.{is_defined_in}
 use Rattle.acpi_space.specs.Search.{missed}
 use Rattle.acpi_space.specs.Wanted.{Wants}
 use Rattle.acpi_declare.specs.Namespace.{Namespace}
-use Rattle.acpi_declare.specs.Notes.{Notes}
 
 -- what the searches of some names miss, of the paths that are asked for
 abbrev pub misses_from : Wants → Namespace → List Segment → List NameParts → List (List Segment)
 misses_from w objects scope [] = []
 misses_from w objects scope (n ∷ ns) = filter w (missed (is_defined_in objects) scope n) ++ misses_from w objects scope ns
-
--- the paths that some notes say were missed, in one list
-abbrev pub all_missed : List Notes → List (List Segment)
-all_missed [] = []
-all_missed (n ∷ ns) = n.missed ++ all_missed ns

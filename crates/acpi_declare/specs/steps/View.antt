@@ -34,9 +34,6 @@ with_method n m = record { counts = n.counts; methods = n.methods ++ m ∷ []; m
 abbrev pub with_missed : Notes → List (List Segment) → Notes
 with_missed n paths = record { counts = n.counts; methods = n.methods; missed = n.missed ++ paths }
 
-abbrev pub with_no_missed : Notes → Notes
-with_no_missed n = record { counts = n.counts; methods = n.methods; missed = [] }
-
 -- ---- counts
 
 -- what an External gives in a scope, and what several give

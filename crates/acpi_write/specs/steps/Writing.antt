@@ -1,7 +1,6 @@
 -- What the writer puts in front of what it has.
 use Rattle.std.specs.Prelude.{◌≡◌, ◌<◌, length, ℕ, List, [], ◌∷◌, ◌++◌, take, nat_le, if◌then◌else◌, Option, Some, None, Result, Ok, Err}
 use Rattle.std.specs.Fmt.{option_append}
-use Rattle.std.specs.Global.{Vec}
 use Rattle.std.specs.List.{AllByRecursion}
 use Rattle.acpi_table.specs.declared.tables.Header.{Header}
 use Rattle.acpi_table.specs.PkgLength.{shortest_pkg_length, package_number}
@@ -46,12 +45,6 @@ abbrev pub Puts : {A : Type 0} → Result A WriteFault → Option (List ℕ) →
 Puts (Ok _) bytes old new = option_append bytes (Some old) ≡ Some new
 Puts (Err TooLong) bytes old new = bytes ≡ None
 Puts (Err Memory) bytes old new = Unit {0}
-
--- what a call that gives what stands before some content tells of the whole
-abbrev pub Heads : Result (Vec ℕ) WriteFault → Option (List ℕ) → List ℕ → Type 0
-Heads (Ok head) whole content = whole ≡ Some (head.items ++ content)
-Heads (Err TooLong) whole content = whole ≡ None
-Heads (Err Memory) whole content = Unit {0}
 
 -- a list of which all from the i-th element on is written
 abbrev pub Ahead : {A : Type 0} → (A → Option (List ℕ)) → List A → ℕ → List ℕ → List ℕ → Type 0

@@ -19,8 +19,7 @@ loop-link-preserved g c =
     let before = links_at c.loop-link.links in
     let w = c.in-Some.link in
     let later = c.pop.new.self.items in
-    ap (λ (ws : List PendingLinks). union (links_at c.put_pending.new.links) (links_of objects (all_pending_of ws))) c.give_back.ensures
-    ∙ ap (λ m. union m (links_of objects (all_pending_of later))) c.in_ok-put_pending.ensures.ok
+    ap (λ m. union m (links_of objects (all_pending_of later))) c.in_ok-put_pending.ensures.ok
     ∙ links_move objects w later before
     ∙ ap (λ (ws : List PendingLinks). union before (links_of objects (all_pending_of ws))) (sym c.in-Some.ensures.items)
     ∙ c.loop-link.invariant

@@ -18,8 +18,7 @@ loop-seg-preserved c =
     let later = unit_paths s c.pop.new.self.items in
     let all : unit_paths s c.loop-seg.left.items ≡ later ++ p ∷ [] =
     ap (unit_paths s) c.in-Some.ensures.items ∙ map-append (λ g. s ++ g ∷ []) c.pop.new.self.items (c.in-Some.seg ∷ []) in
-    ap (λ (segs : List Segment). union (links_at c.share.new.self) (links_with found (unit_paths s segs))) c.give_back.ensures
-    ∙ ap (λ m. union m (links_with found later)) (c.in_ok-share.ensures.ok ∙ ap (λ (q : List Segment). union before (singleton q found)) c.in_ok-unit_path.ensures)
+    ap (λ m. union m (links_with found later)) (c.in_ok-share.ensures.ok ∙ ap (λ (q : List Segment). union before (singleton q found)) c.in_ok-unit_path.ensures)
     ∙ path_moves found p later before
     ∙ ap (λ (ps : List (List Segment)). union before (links_with found ps)) (sym all)
     ∙ c.loop-seg.invariant

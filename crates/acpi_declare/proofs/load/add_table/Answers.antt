@@ -27,7 +27,7 @@ returns-in-Err-Refused-clause-err g c =
     subst (λ f. IsStopOf f (pass_items t c.root.result is)) c.in-Err-Refused.field-0-is c.in-Err-Refused.ensures.refused in
     let stopped : pass_items t [] is ≡ Err (c.in-Err-Refused.refusal, c.in-Err-Refused.path) = ap (λ (s : List Segment). pass_items t s is) (sym c.root.ensures) ∙ told in
     subst (IsTableFault c.args.depth c.args.number objects c.args.bytes.now) (sym c.refused.ensures)
-    (refl, (is, c.in_ok-items.ensures.ok, rw c.in-Err-Refused.field-0-is (pass_refused t is (c.in-Err-Refused.refusal, c.in-Err-Refused.path) stopped)))
+    (refl, (is, c.in_ok-items.ensures.ok, pass_refused t is (c.in-Err-Refused.refusal, c.in-Err-Refused.path) stopped))
 
 pub returns-clause-ok : goal.returns-clause-ok
 returns-clause-ok g c =
@@ -38,6 +38,6 @@ returns-clause-ok g c =
     let ran : pass_items t [] is ≡ Ok u = ap (λ (s : List Segment). pass_items t s is) (sym c.root.ensures) ∙ c.in-Ok.ensures.ok in
     let notes = map notes_of c.args.loaded.notes.items in
     let kept : map notes_of c.put_kept.new.kept.items ≡ notes ++ kept_of c.args.keep u.notes =
-    c.in_ok-put_kept.ensures ∙ ap (λ (n : Notes). notes ++ kept_of c.args.keep n) c.shrink.ensures in
+    c.in_ok-put_kept.ensures in
     subst (λ (l : List Notes). AddsTable c.args.keep c.args.depth c.args.number c.args.bytes.now before (record { objects = u.objects; links = u.links; notes = l })) (sym kept)
     (pass_adds c.args.keep c.args.depth c.args.number c.args.bytes.now is t u notes c.in_ok-items.ensures.ok ran c.new.ensures)

@@ -9,16 +9,16 @@ use Rattle.acpi_declare.proofs.load.declare_all.Goals as goal
 pub returns-in_err-loaded-clause-err : goal.returns-in_err-loaded-clause-err
 returns-in_err-loaded-clause-err g c =
     let p = err_from_is_err_and c.from_residual-in_err-loaded.result c.from_residual-in_err-loaded.ensures.1 in
-    let s = c.in_ok-begun.begun in
-    let begun = no_tables c.args.depth 0 (state_of (g.S.Space.contents s.objects) s) c.in_ok-begun.ensures.ok in
+    let s = c.in_ok-start.field-0 in
+    let begun = no_tables c.args.depth 0 (state_of (g.S.Space.contents s.objects) s) c.in_ok-start.ensures.ok in
     rw (p.1, p.2) (next_fault c.args.depth 0 [] c.args.ssdts.now (c.args.dsdt.now ∷ c.args.ssdts.now) c.args.dsdt.now
     (state_of (g.S.Space.contents s.objects) s) c.in_err-loaded.field-0.0 refl refl begun c.in_err-loaded.ensures.err)
 
 pub loop-i-init : goal.loop-i-init
 loop-i-init g c =
-    let s = c.in_ok-begun.begun in
+    let s = c.in_ok-start.field-0 in
     let r = c.in_ok-loaded.loaded in
-    let begun = no_tables c.args.depth 0 (state_of (g.S.Space.contents s.objects) s) c.in_ok-begun.ensures.ok in
+    let begun = no_tables c.args.depth 0 (state_of (g.S.Space.contents s.objects) s) c.in_ok-start.ensures.ok in
     let before = state_of (g.S.Space.contents s.objects) s in
     one_more_kept c.args.keep c.args.depth 0 [] c.args.dsdt.now before (state_of (g.S.Space.contents r.objects) r) refl
     (no_tables_kept c.args.keep c.args.depth before begun (no_notes_yet c.args.depth before begun)) c.in_ok-loaded.ensures.ok

@@ -1,62 +1,81 @@
-use Rattle.std.proofs.Common.{◌≡◌, ◌+◌, [], ◌∷◌, ◌++◌, ℕ, List, map, take_all, refl, sym, ap, subst, ◌∙◌, arith, rules}
-use Rattle.std.proofs.lemmas.List.{map-append}
+use Rattle.std.proofs.Common.{◌≡◌, ◌<◌, ℕ, List, [], ◌∷◌, ◌++◌, length, map, get_or, take_all, sym, ap, subst, arith, rules}
+use Rattle.acpi_declare.specs.Links.{links_at}
+use Rattle.acpi_declare.specs.Loads.{IsLoad, AreNotes}
 use Rattle.acpi_declare.specs.Namespace.{namespace_of}
+use Rattle.acpi_declare.specs.Notes.{notes_of}
+use Rattle.acpi_declare.specs.DeclaredView.{links_in}
 use Rattle.acpi_rewrite.specs.Rewriting.{AreTablesOfBytes}
 use Rattle.acpi_rewrite.specs.steps.Recoding.{IsRewrittenTo}
-use Rattle.acpi_rewrite.proofs.NewCodes.{all_rewritten, first_table, later_table, behind_first, more_old, more_new}
+use Rattle.acpi_rewrite.proofs.Recoding.{none_rewritten, as_many_notes, all_rewritten, next_noted, next_rewritten, more_old, more_new}
 use Rattle.acpi_rewrite.proofs.rewriting.rewrite_tables.Goals as goal
 
-pub rewrite_next-requires : goal.rewrite_next-requires
-rewrite_next-requires g c =
-    let N = namespace_of (g.S.Space.contents c.in_ok-objects.objects) in
-    let n = first_table c.args.depth c.args.dsdt.now c.args.ssdts.now N c.in_ok-objects.missed.items c.deref.result.now c.in_ok-objects.ensures.ok c.deref.ensures.value in
-    (n.number, n.objects_before, n.listed, n.missed_later, n.noted)
-
-pub loop-ssdt-init : goal.loop-ssdt-init
-loop-ssdt-init g c =
+pub loop-i-init : goal.loop-i-init
+loop-i-init g c =
     let tables = c.args.dsdt.now ∷ c.args.ssdts.now in
-    let N = namespace_of (g.S.Space.contents c.in_ok-objects.objects) in
-    let n = first_table c.args.depth c.args.dsdt.now c.args.ssdts.now N c.in_ok-objects.missed.items c.deref.result.now c.in_ok-objects.ensures.ok c.deref.ensures.value in
-    let one = c.in_ok-first in
-    let rewritten = one.ensures.rewritten n.number n.objects_before n.listed n.missed_later n.noted in
-    let left = one.ensures.later n.number n.objects_before n.listed n.missed_later n.noted in
-    let pushed : c.push.new.self.items ≡ [] ++ one.first ∷ [] = search rules in (
-      subst (λ (now : List (List ℕ)). IsRewrittenTo c.args.depth tables 1 now N one.later.now) (sym (ap (map (λ b. b.items)) pushed)) (n.then one.first.items one.later.now left rewritten),
-      more_old tables 0 c.args.dsdt.now (omega arith) refl tt one.ensures.bytes.0,
-      more_new [] c.push.new.self.items one.first pushed tt one.ensures.bytes.1,
+    let d = c.in_ok-declared.declared in
+    let objects = sym (ap (λ s. namespace_of (g.S.Space.contents s)) c.objects-objects.ensures) in
+    let notes = sym (ap (map notes_of) c.notes-notes.ensures) in
+    let load = subst (λ N. IsLoad c.args.depth tables N (links_at (links_in d))) objects c.in_ok-declared.ensures.ok in
+    let noted = subst (AreNotes c.args.depth tables) notes c.in_ok-declared.ensures.notes in
+    let ns = map notes_of c.notes-notes.result.now in
+    let N = namespace_of (g.S.Space.contents c.objects-objects.result.now) in
+    let empty : c.new-rewritten.result.items ≡ [] = search rules in
+    let none = sym (ap (map (λ b. b.items)) empty) in (
+      subst (λ (now : List (List ℕ)). IsRewrittenTo c.args.depth tables ns N 0 now) none (none_rewritten c.args.depth tables ns N (links_at (links_in d)) load noted),
+      tt,
+      subst AreTablesOfBytes none tt,
     )
 
-pub rewrite_next-requires-in-loop-ssdt : goal.rewrite_next-requires-in-loop-ssdt
-rewrite_next-requires-in-loop-ssdt g c =
-    let N = namespace_of (g.S.Space.contents c.in_ok-objects.objects) in
-    let n = later_table c.args.depth c.args.dsdt.now c.args.ssdts.now c.loop-ssdt.ssdt-index (map (λ b. b.items) c.loop-ssdt.rewritten.items) N c.loop-ssdt.missed_later.now c.ssdt-item.result c.loop-ssdt.invariant.0 c.loop-ssdt-test.true c.ssdt-item.is in
-    (n.number, n.objects_before, n.listed, n.missed_later, n.noted)
-
-pub loop-ssdt-preserved : goal.loop-ssdt-preserved
-loop-ssdt-preserved g c =
+pub table_at-table-requires : goal.table_at-table-requires
+table_at-table-requires g c =
     let tables = c.args.dsdt.now ∷ c.args.ssdts.now in
-    let i = c.loop-ssdt.ssdt-index in
-    let there = behind_first c.args.dsdt.now c.ssdt-item.result c.args.ssdts.now i c.loop-ssdt-test.true c.ssdt-item.is in
-    let N = namespace_of (g.S.Space.contents c.in_ok-objects.objects) in
-    let n = later_table c.args.depth c.args.dsdt.now c.args.ssdts.now c.loop-ssdt.ssdt-index (map (λ b. b.items) c.loop-ssdt.rewritten.items) N c.loop-ssdt.missed_later.now c.ssdt-item.result c.loop-ssdt.invariant.0 c.loop-ssdt-test.true c.ssdt-item.is in
-    let one = c.in_ok-next in
-    let rewritten = one.ensures.rewritten n.number n.objects_before n.listed n.missed_later n.noted in
-    let left = one.ensures.later n.number n.objects_before n.listed n.missed_later n.noted in
-    let now = c.push-in-loop-ssdt.new.self.items in
-    let pushed : now ≡ c.loop-ssdt.rewritten.items ++ one.next ∷ [] = search rules in (
-      subst (λ (now : List (List ℕ)). IsRewrittenTo c.args.depth tables (i + 1 + 1) now N one.later.now)
-          (sym (ap (map (λ b. b.items)) pushed ∙ map-append (λ b. b.items) c.loop-ssdt.rewritten.items (one.next ∷ []))) (n.then one.next.items one.later.now left rewritten),
-      more_old tables (i + 1) c.ssdt-item.result (omega (arith, c.loop-ssdt-test.true)) there c.loop-ssdt.invariant.1 one.ensures.bytes.0,
-      more_new c.loop-ssdt.rewritten.items now one.next pushed c.loop-ssdt.invariant.2 one.ensures.bytes.1,
+    let r = c.loop-i.invariant.0 in
+    let many = as_many_notes c.args.depth tables c.notes-notes.result.now (namespace_of (g.S.Space.contents c.objects-objects.result.now)) c.loop-i.i c.loop-i.rewritten.items r in
+    omega (arith, many, c.loop-i-test.true)
+
+pub rewritten_table-requires : goal.rewritten_table-requires
+rewritten_table-requires g c =
+    let tables = c.args.dsdt.now ∷ c.args.ssdts.now in
+    let ns = c.notes-notes.result.now in
+    let N = namespace_of (g.S.Space.contents c.objects-objects.result.now) in
+    let r = c.loop-i.invariant.0 in
+    let b = c.table_at-table.result.now in
+    let n = c.index-notes-i.result in (
+      get_or r.placements c.loop-i.i [],
+      next_noted c.args.depth tables ns N c.loop-i.i c.loop-i.rewritten.items r b n c.loop-i-test.true c.table_at-table.ensures c.index-notes-i.is,
+    )
+
+pub loop-i-preserved : goal.loop-i-preserved
+loop-i-preserved g c =
+    let tables = c.args.dsdt.now ∷ c.args.ssdts.now in
+    let ns = c.notes-notes.result.now in
+    let N = namespace_of (g.S.Space.contents c.objects-objects.result.now) in
+    let i = c.loop-i.i in
+    let done = c.loop-i.rewritten.items in
+    let r = c.loop-i.invariant.0 in
+    let b = c.table_at-table.result.now in
+    let n = c.index-notes-i.result in
+    let below = c.loop-i-test.true in
+    let there = c.table_at-table.ensures in
+    let one = c.in_ok-rewritten_table in
+    let now = c.push.new.self.items in
+    let pushed : now ≡ done ++ one.field-0 ∷ [] = search rules in
+    let listed = get_or r.placements i [] in
+    let noted = next_noted c.args.depth tables ns N i done r b n below there c.index-notes-i.is in
+    let within : i < length tables = omega (arith, below, as_many_notes c.args.depth tables ns N i done r) in (
+      next_rewritten c.args.depth tables ns N i done r b n below there c.index-notes-i.is now one.field-0 pushed (one.ensures.rewritten listed noted),
+      more_old tables i b within there c.loop-i.invariant.1 one.ensures.bytes.0,
+      more_new done now one.field-0 pushed c.loop-i.invariant.2 one.ensures.bytes.1,
     )
 
 pub returns-clause-bytes : goal.returns-clause-bytes
 returns-clause-bytes g c =
     let tables = c.args.dsdt.now ∷ c.args.ssdts.now in
-    (subst AreTablesOfBytes (take_all (c.loop-ssdt.ssdt-index + 1) tables (omega (arith, c.loop-ssdt-test.false))) c.loop-ssdt.invariant.1, c.loop-ssdt.invariant.2)
+    let many = as_many_notes c.args.depth tables c.notes-notes.result.now (namespace_of (g.S.Space.contents c.objects-objects.result.now)) c.loop-i.i c.loop-i.rewritten.items c.loop-i.invariant.0 in
+    (subst AreTablesOfBytes (take_all c.loop-i.i tables (omega (arith, many, c.loop-i-test.false))) c.loop-i.invariant.1, c.loop-i.invariant.2)
 
 pub returns-clause-ok : goal.returns-clause-ok
 returns-clause-ok g c =
-    let N = namespace_of (g.S.Space.contents c.in_ok-objects.objects) in
-    all_rewritten c.args.depth (c.args.dsdt.now ∷ c.args.ssdts.now) (c.loop-ssdt.ssdt-index + 1) (map (λ b. b.items) c.loop-ssdt.rewritten.items) N c.loop-ssdt.missed_later.now
-    c.loop-ssdt.invariant.0 (omega (arith, c.loop-ssdt-test.false))
+    let tables = c.args.dsdt.now ∷ c.args.ssdts.now in
+    all_rewritten c.args.depth tables c.notes-notes.result.now (namespace_of (g.S.Space.contents c.objects-objects.result.now)) c.loop-i.i c.loop-i.rewritten.items c.loop-i.invariant.0
+    c.loop-i-test.false

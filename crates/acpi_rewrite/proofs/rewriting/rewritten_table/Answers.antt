@@ -1,54 +1,87 @@
-use Rattle.std.proofs.Common.{◌≡◌, ◌≤◌, ◌<◌, All, [], List, ℕ, length, Err, Some, append-nil, sym, ap, subst, ◌∙◌, arith}
+use Rattle.std.proofs.Common.{◌≡◌, ◌<◌, All, [], List, length, true, Err, append-nil, sym, ap, subst, ◌∙◌, arith, rules}
+use Rattle.std.specs.Vec.Iter.{into_iter_items}
 use Rattle.acpi_table.specs.Tables.{header_of}
 use Rattle.acpi_table.specs.declared.tables.Header.{Header}
-use Rattle.acpi_terms.specs.Spelling.{SpellsItems}
-use Rattle.acpi_declare.specs.Tables.{code_of}
-use Rattle.acpi_declare.proofs.Ranges.{range_to_end}
+use Rattle.acpi_tree.specs.Fits.{items_fit}
+use Rattle.acpi_tree.specs.Tree.{ItemTrees}
+use Rattle.acpi_tree.specs.View.{items_tree}
+use Rattle.acpi_tree.specs.declared.tree.Item.{Item}
+use Rattle.acpi_declare.specs.Namespace.{namespace_of}
+use Rattle.acpi_declare.specs.Notes.{notes_of}
+use Rattle.acpi_write.specs.Canonical.{items_bytes}
 use Rattle.acpi_write.specs.Tables.{header_for}
 use Rattle.acpi_write.specs.declared.fault.WriteFault.{WriteFault}
 use Rattle.acpi_write.specs.declared.fault.WriteFault.TheVariants.{TooLong}
-use Rattle.acpi_rewrite.specs.Rewriting.{codes}
-use Rattle.acpi_rewrite.proofs.NewCodes.{as_many_codes, is_written, has_room, is_rewritten}
+use Rattle.acpi_rewrite.specs.Rewriting.{codes, without_code}
+use Rattle.acpi_rewrite.proofs.Recoded.{alike_fit}
+use Rattle.acpi_rewrite.proofs.Recoding.{written_over, as_many_codes, has_room, is_rewritten}
 use Rattle.acpi_rewrite.proofs.rewriting.rewritten_table.Goals as goal
 
+pub recode_items-requires : goal.recode_items-requires
+recode_items-requires g c =
+    let n = c.requires.1 in
+    let objects = namespace_of (g.S.Space.contents c.args.objects.now) in
+    let given : c.deref_mut.result.now ≡ c.in_ok-items.items.items = search rules in
+    let same : items_tree c.in_ok-items.items.items ≡ n.items = c.in_ok-items.ensures.same n.number n.items n.table in
+    let many = as_many_codes c.args.depth objects c.args.table.now c.requires.0 (notes_of c.args.notes.now) n c.in_ok-new_codes.field-0.items c.in_ok-new_codes.ensures in
+    omega (arith, ap (λ (is : List Item). length (codes (items_tree is))) given, ap (λ (is : ItemTrees). length (codes is)) same, many, ap length c.into_iter-fresh.ensures.rest)
+
 pub unreachable-requires : goal.unreachable-requires
-unreachable-requires c =
-    let whole = c.in_default.ensures.only c.args.table.now [] c.requires.2.table.numbered.table (c.as_slice-bytes.ensures ∙ sym (append-nil c.args.table.now)) in
+unreachable-requires g c =
+    let whole = c.in_default.ensures.only c.args.table.now [] c.requires.1.table.numbered.table (c.as_slice-bytes.ensures ∙ sym (append-nil c.args.table.now)) in
     absurd whole
 
-pub recoded-requires : goal.recoded-requires
-recoded-requires c =
-    let n = c.requires.2 in
+pub write_table-requires : goal.write_table-requires
+write_table-requires g c =
+    let given : c.deref_mut.result.now ≡ c.in_ok-items.items.items = search rules in
+    let now : c.deref.result.now ≡ c.recode_items.new.items =
+    c.deref.ensures.value ∙ written_over c.in_ok-items.items.len c.recode_items.new.items c.in_ok-items.items.items (search rules) (search rules) in
+    let alike : without_code (items_tree c.recode_items.new.items) ≡ without_code (items_tree c.in_ok-items.items.items) =
+    c.recode_items.ensures.alike ∙ ap (λ (is : List Item). without_code (items_tree is)) given in
+    record {
+      fit = subst (λ (is : List Item). items_fit (items_tree is) ≡ true) (sym now)
+          (alike_fit (items_tree c.in_ok-items.items.items) (items_tree c.recode_items.new.items) alike ∙ c.in_ok-items.ensures.fits);
+    }
+
+pub returns-in-Ok-write_table : goal.returns-in-Ok-write_table
+returns-in-Ok-write_table g c =
+    let objects = namespace_of (g.S.Space.contents c.args.objects.now) in
+    let given : c.deref_mut.result.now ≡ c.in_ok-items.items.items = search rules in
+    let now : c.deref.result.now ≡ c.recode_items.new.items =
+    c.deref.ensures.value ∙ written_over c.in_ok-items.items.len c.recode_items.new.items c.in_ok-items.items.items (search rules) (search rules) in
+    let js = items_tree c.recode_items.new.items in
+    let bytes = c.in-Ok-write_table.bytes.items in
     let below : All (λ b. b < 256) c.args.table.now = subst (All (λ b. b < 256)) c.as_slice-bytes.ensures c.has_bytes.ensures in
-    let code : c.in_ok-code.code ≡ code_of c.args.table.now = c.in_ok-code.ensures.ok ∙ range_to_end c.args.table.now 36 in
-    let many = as_many_codes c.args.depth c.requires.0 c.args.table.now c.requires.1 c.args.codes.items n in
-    (n.items, subst (SpellsItems n.items) (sym code) n.table.spelled, n.table.height, omega (arith, many), is_written c.args.depth c.requires.0 c.args.table.now c.requires.1 c.args.codes.items n below)
+    let below_now : All (λ b. b < 256) bytes = subst (All (λ b. b < 256)) c.deref-in-Ok-write_table.ensures.value c.has_bytes-in-Ok-write_table.ensures in
+    record {
+      bytes = (below, below_now);
+      rewritten = λ t n.
+          let alike : without_code js ≡ without_code n.items =
+          c.recode_items.ensures.alike ∙ ap (λ (is : List Item). without_code (items_tree is)) given ∙ ap without_code (c.in_ok-items.ensures.same n.number n.items n.table) in
+          let whole : c.in-Ok.old ≡ c.args.table.now = (c.in-Ok.ensures.only c.args.table.now [] n.table.numbered.table (c.as_slice-bytes.ensures ∙ sym (append-nil c.args.table.now))).0 in
+          is_rewritten c.args.depth objects c.args.table.now t (notes_of c.args.notes.now) n c.in_ok-new_codes.field-0.items c.in_ok-new_codes.ensures js
+          (into_iter_items c.recode_items.new.fresh) bytes alike
+          (c.recode_items.ensures.codes ∙ c.into_iter-fresh.ensures.rest)
+          record {
+            table = c.in-Ok-write_table.ensures.table;
+            header = c.in-Ok-write_table.ensures.header ∙ ap (λ (h : Header). header_for h bytes) (c.header.ensures ∙ ap header_of whole);
+            spelling = sym (ap (λ (is : List Item). items_bytes (items_tree is)) now) ∙ c.in-Ok-write_table.ensures.code;
+          };
+    }
 
 pub unreachable-requires-in-Err-TooLong : goal.unreachable-requires-in-Err-TooLong
-unreachable-requires-in-Err-TooLong c =
-    let n = c.requires.2 in
+unreachable-requires-in-Err-TooLong g c =
+    let n = c.requires.1 in
+    let objects = namespace_of (g.S.Space.contents c.args.objects.now) in
+    let given : c.deref_mut.result.now ≡ c.in_ok-items.items.items = search rules in
+    let now : c.deref.result.now ≡ c.recode_items.new.items =
+    c.deref.ensures.value ∙ written_over c.in_ok-items.items.len c.recode_items.new.items c.in_ok-items.items.items (search rules) (search rules) in
+    let js = items_tree c.recode_items.new.items in
+    let alike : without_code js ≡ without_code n.items =
+    c.recode_items.ensures.alike ∙ ap (λ (is : List Item). without_code (items_tree is)) given ∙ ap without_code (c.in_ok-items.ensures.same n.number n.items n.table) in
     let below : All (λ b. b < 256) c.args.table.now = subst (All (λ b. b < 256)) c.as_slice-bytes.ensures c.has_bytes.ensures in
-    let code : c.in_ok-code.code ≡ code_of c.args.table.now = c.in_ok-code.ensures.ok ∙ range_to_end c.args.table.now 36 in
-    let many : length (codes n.items) ≤ length c.args.codes.items = omega (arith, as_many_codes c.args.depth c.requires.0 c.args.table.now c.requires.1 c.args.codes.items n) in
-    let e = c.in_ok-rewritten.ensures n.items (subst (SpellsItems n.items) (sym code) n.table.spelled) n.table.height many in
-    let told : c.table_of_code.result ≡ Err TooLong = c.in-Err-TooLong.is ∙ ap (λ (f : WriteFault). Err f) c.in-Err-TooLong.field-0-is in
-    has_room c.args.depth c.requires.0 c.args.table.now c.requires.1 c.args.codes.items n below c.in_ok-rewritten.rewritten.items e (c.table_of_code.ensures.long told)
-
-pub returns-in-Ok-table_of_code-clause-bytes : goal.returns-in-Ok-table_of_code-clause-bytes
-returns-in-Ok-table_of_code-clause-bytes c =
-    let below : All (λ b. b < 256) c.args.table.now = subst (All (λ b. b < 256)) c.as_slice-bytes.ensures c.has_bytes.ensures in
-    let below_now : All (λ b. b < 256) c.in-Ok-table_of_code.bytes.items = subst (All (λ b. b < 256)) c.deref.ensures.value c.has_bytes-in-Ok-table_of_code.ensures in
-    (below, below_now)
-
-pub returns-in-Ok-table_of_code-clause-rewritten : goal.returns-in-Ok-table_of_code-clause-rewritten
-returns-in-Ok-table_of_code-clause-rewritten c = λ objects t n.
-    let new = c.in-Ok-table_of_code.bytes.items in
-    let code : c.in_ok-code.code ≡ code_of c.args.table.now = c.in_ok-code.ensures.ok ∙ range_to_end c.args.table.now 36 in
-    let many : length (codes n.items) ≤ length c.args.codes.items = omega (arith, as_many_codes c.args.depth objects c.args.table.now t c.args.codes.items n) in
-    let e = c.in_ok-rewritten.ensures n.items (subst (SpellsItems n.items) (sym code) n.table.spelled) n.table.height many in
-    let whole : c.in-Ok.old ≡ c.args.table.now = (c.in-Ok.ensures.only c.args.table.now [] n.table.numbered.table (c.as_slice-bytes.ensures ∙ sym (append-nil c.args.table.now))).0 in
-    is_rewritten c.args.depth objects c.args.table.now t c.args.codes.items n new record {
-      table = c.in-Ok-table_of_code.ensures.table;
-      header = c.in-Ok-table_of_code.ensures.header ∙ ap (λ (h : Header). header_for h new) (c.header.ensures ∙ ap header_of whole);
-      spelling = e ∙ ap (λ (b : List ℕ). Some b) (sym c.in-Ok-table_of_code.ensures.code);
-    }
+    let told : c.write_table.result ≡ Err TooLong = c.in-Err-TooLong.is ∙ ap (λ (f : WriteFault). Err f) c.in-Err-TooLong.field-0-is in
+    has_room c.args.depth objects c.args.table.now c.requires.0 (notes_of c.args.notes.now) n c.in_ok-new_codes.field-0.items c.in_ok-new_codes.ensures js
+    (into_iter_items c.recode_items.new.fresh) below alike
+    (c.recode_items.ensures.codes ∙ c.into_iter-fresh.ensures.rest)
+    (λ code e. c.write_table.ensures.long told code (ap (λ (is : List Item). items_bytes (items_tree is)) now ∙ e))
