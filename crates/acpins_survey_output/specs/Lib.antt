@@ -9,3 +9,13 @@ pub mod Entries
 pub mod Bodies
 pub mod Listings
 pub mod Shown
+pub mod Maps
+pub mod Json
+pub mod JsonValues
+pub mod JsonObjects
+pub mod JsonFound
+pub mod JsonEntries
+pub mod JsonBodies
+pub mod JsonTables
+pub mod JsonFrame
+pub mod steps

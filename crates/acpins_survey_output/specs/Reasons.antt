@@ -8,8 +8,8 @@ use Rattle.acpi_body.specs.declared.fault.BodyReason.{BodyReason}
 use Rattle.acpi_body.specs.declared.fault.BodyReason.TheVariants as terms
 use Rattle.acpi_outline.specs.declared.fault.LostReason.{LostReason}
 use Rattle.acpi_outline.specs.declared.fault.LostReason.TheVariants as losses
-use Rattle.acpi_conditions.specs.declared.placing.Reason.{Reason}
-use Rattle.acpi_conditions.specs.declared.placing.Reason.TheVariants as refusals
+use Rattle.acpi_conditions.specs.Entries.{Why, empty_name, above_root, missing, no_parent, not_a_scope, taken, unsure}
+use Rattle.acpi_conditions.specs.EntryForms.{why_of}
 use Rattle.acpi_survey.specs.declared.tables.TableReason.{TableReason}
 use Rattle.acpi_survey.specs.declared.tables.TableReason.TheVariants as tables
 use Rattle.acpi_survey.specs.declared.problems.ProblemReason.{ProblemReason}
@@ -76,14 +76,14 @@ body_reason_text terms.BadPlace = codes "B13 BadPlace"
 body_reason_text terms.Unsure = codes "S5 UnsureCount"
 
 -- of a term that declares nothing, or a Scope that isn't entered
-abbrev pub refusal_text : Reason → List ℕ
-refusal_text (refusals.EmptyName p) = codes "E1 EmptyName"
-refusal_text (refusals.AboveRoot p) = codes "E2 AboveRoot"
-refusal_text (refusals.Missing p) = codes "E3 Missing"
-refusal_text (refusals.NoParent p) = codes "E4 NoParent"
-refusal_text (refusals.NotAScope p) = codes "E5 NotAScope"
-refusal_text (refusals.Taken p) = codes "E6 Taken"
-refusal_text (refusals.Unsure ps) = codes "S1 Unsure"
+abbrev pub why_name : Why → List ℕ
+why_name (empty_name p) = codes "E1 EmptyName"
+why_name (above_root p) = codes "E2 AboveRoot"
+why_name (missing p) = codes "E3 Missing"
+why_name (no_parent p) = codes "E4 NoParent"
+why_name (not_a_scope p) = codes "E5 NotAScope"
+why_name (taken p) = codes "E6 Taken"
+why_name (unsure ps) = codes "S1 Unsure"
 
 -- of a problem
 abbrev pub problem_name : ProblemReason → List ℕ
@@ -91,7 +91,7 @@ problem_name (problems.Unread reason) = table_reason_text reason
 problem_name problems.Cut = codes "T4 Cut"
 problem_name problems.Trailing = codes "L3 Trailing"
 problem_name (problems.Lost fault) = lost_reason_text fault.reason
-problem_name (problems.Refused reason) = refusal_text reason
+problem_name (problems.Refused reason) = why_name (why_of reason)
 
 -- of a note
 abbrev pub note_name : NoteReason → List ℕ
@@ -106,17 +106,17 @@ note_name notes.Loads = codes "S6 Loads"
 -- ---- what a reason names
 
 -- the paths that a refusal names
-abbrev pub refused_paths : Reason → List (List Segment)
-refused_paths (refusals.EmptyName p) = p ∷ []
-refused_paths (refusals.AboveRoot p) = p ∷ []
-refused_paths (refusals.Missing p) = p ∷ []
-refused_paths (refusals.NoParent p) = p ∷ []
-refused_paths (refusals.NotAScope p) = p ∷ []
-refused_paths (refusals.Taken p) = p ∷ []
-refused_paths (refusals.Unsure ps) = ps.items
+abbrev pub why_paths : Why → List (List Segment)
+why_paths (empty_name p) = p ∷ []
+why_paths (above_root p) = p ∷ []
+why_paths (missing p) = p ∷ []
+why_paths (no_parent p) = p ∷ []
+why_paths (not_a_scope p) = p ∷ []
+why_paths (taken p) = p ∷ []
+why_paths (unsure ps) = ps
 
 abbrev pub problem_paths : ProblemReason → List (List Segment)
-problem_paths (problems.Refused reason) = refused_paths reason
+problem_paths (problems.Refused reason) = why_paths (why_of reason)
 problem_paths _ = []
 
 -- a blank and a name; nothing where there is none
@@ -133,6 +133,10 @@ paths_behind (p ∷ ps) = codes " " ++ separated (codes ", ") path_text (p ∷ p
 abbrev pub noted_name : NoteReason → Option NameParts
 noted_name (notes.Unknown n) = Some n
 noted_name _ = None
+
+-- why a term declares nothing or a Scope isn't entered, with the paths that it names
+abbrev pub why_text : Why → List ℕ
+why_text why = why_name why ++ paths_behind (why_paths why)
 
 -- why something is lost or refused, with what the reason names
 abbrev pub problem_reason_text : ProblemReason → Option NameParts → List ℕ

@@ -9,8 +9,8 @@ use Rattle.acpi_survey.specs.declared.machine_survey.Survey.{Survey}
 use Rattle.acpins_survey_output.specs.Bodies.{body_text, method_line}
 use Rattle.acpins_survey_output.specs.Listings.{AreByPath, entries_of, numbered_line}
 
--- the texts of pairs, one after another
-abbrev pub zip_text : {X Y : Type 0} → (X → Y → List ℕ) → List X → List Y → List ℕ
+-- the texts of pairs, or other lists, one after another
+abbrev pub zip_text : {X Y Z : Type 0} → (X → Y → List Z) → List X → List Y → List Z
 zip_text text [] ys = []
 zip_text text (x ∷ xs) [] = []
 zip_text text (x ∷ xs) (y ∷ ys) = text x y ++ zip_text text xs ys

@@ -13,7 +13,9 @@ use std::alloc::AllocError;
 
 // A word and a parenthesis, a test, which may be lost, and a parenthesis.
 fn put_test(text: &mut Vec<u8>, word: &str, test: Option<&Term>) -> Result<(), AllocError>
-    ensures { OnOk result (text.new.items ≡ text.old.items ++ (word.now ++ test_text (option_map (λ t. term_view t.now) test.entry) ++ codes ")")) }
+    ensures { OnOk result (text.new.items
+        ≡ text.old.items ++ (word.now ++ test_text (option_map (λ t. term_view t.now) test.entry)
+        ++ codes ")")) }
 {
     put(text, word)?;
     match test {
@@ -24,7 +26,9 @@ fn put_test(text: &mut Vec<u8>, word: &str, test: Option<&Term>) -> Result<(), A
 }
 
 fn put_past(text: &mut Vec<u8>, site: Site) -> Result<(), AllocError>
-    ensures { OnOk result (text.new.items ≡ text.old.items ++ (codes "past(" ++ decimal site.table ++ codes ":" ++ decimal site.offset ++ codes ")")) }
+    ensures { OnOk result (text.new.items
+        ≡ text.old.items ++ (codes "past(" ++ decimal site.table ++ codes ":" ++ decimal site.offset
+        ++ codes ")")) }
 {
     put(text, "past(")?;
     put_decimal(text, site.table as u64)?;
@@ -35,7 +39,8 @@ fn put_past(text: &mut Vec<u8>, site: Site) -> Result<(), AllocError>
 
 /// Puts a literal of a condition.
 pub fn put_literal(text: &mut Vec<u8>, placed: &PlacedLiteral<'_>) -> Result<(), AllocError>
-    ensures { OnOk result (text.new.items ≡ text.old.items ++ literal_text (placed_view placed.now)) }
+    ensures { OnOk result (text.new.items
+        ≡ text.old.items ++ literal_text (placed_view placed.now)) }
 {
     match &placed.literal {
         Literal::If(test) => put_test(text, "if(", *test),
@@ -62,7 +67,8 @@ pub fn put_literal(text: &mut Vec<u8>, placed: &PlacedLiteral<'_>) -> Result<(),
 
 /// Puts a condition: ` ?` and the literals, each behind a blank; nothing where there are none.
 pub fn put_condition(text: &mut Vec<u8>, condition: &[PlacedLiteral<'_>]) -> Result<(), AllocError>
-    ensures { OnOk result (text.new.items ≡ text.old.items ++ condition_text (placed_views condition.now)) }
+    ensures { OnOk result (text.new.items
+        ≡ text.old.items ++ condition_text (placed_views condition.now)) }
 {
     if condition.is_empty() {
         return Ok(());

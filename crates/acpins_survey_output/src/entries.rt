@@ -4,14 +4,13 @@ ghost use Rattle.std.specs.Prelude.{◌≡◌, ◌++◌, OnOk};
 ghost use Rattle.acpi_survey.specs.ConditionViews.{link_views, placed_views};
 ghost use Rattle.acpins_survey_output.specs.Entries.{entry_line};
 ghost use Rattle.acpins_survey_output.specs.ObjectViews.{declared_view};
-ghost use Rattle.acpi_survey.specs.EntryParts.{AllTile};
+ghost use Rattle.acpi_survey.specs.EntryParts.{AllTile, site_of};
 ghost use Rattle.acpi_survey.specs.SurveyOrder.{IsInOrder};
 ghost use Rattle.acpins_survey_output.specs.Listings.{object_of, part_of, numbered_line};
 
 use crate::condition::put_condition;
 use crate::links::put_links;
 use crate::objects::{Declared, declared_by, predefined, put_declared};
-use acpi_conditions::Entry;
 use acpi_name::Path;
 use acpi_survey::{Link, PlacedLiteral, Site, Survey};
 use acpi_table::HEADER_BYTES;
@@ -40,7 +39,9 @@ pub fn put_entry(
     links: &[Link<'_>],
     condition: &[PlacedLiteral<'_>],
 ) -> Result<(), AllocError>
-    ensures { OnOk result (text.new.items ≡ text.old.items ++ entry_line path.now (declared_view declared.now) (link_views links.now) (placed_views condition.now)) }
+    ensures { OnOk result (text.new.items
+        ≡ text.old.items ++ entry_line path.now (declared_view declared.now) (link_views links.now)
+        (placed_views condition.now)) }
 {
     put_path(text, path)?;
     put(text, " ")?;
@@ -66,9 +67,10 @@ pub(crate) fn put_numbered(
     put_entry(text, path, &declared, &links, &condition)
 }
 
-/// Where the term of an entry of a table stands.
-pub(crate) fn site_of(entry: &Entry) -> Site {
-    let place = entry.term.place;
+/// The site of what stands at a place.
+pub(crate) fn site_of_place(place: u128) -> Site
+    ensures { result ≡ site_of place }
+{
     Site {
         table: (place / (1 << 64)) as usize,
         offset: ((place % (1 << 64)) as usize).saturating_add(HEADER_BYTES),

@@ -104,7 +104,8 @@ fn put_notes_before<'a>(
     notes: &'a [Note],
     problem: &Problem,
 ) -> Result<&'a [Note], AllocError>
-    ensures text { OnOk result (text.new.items ≡ text.old.items ++ notes_before problem.now notes.now) }
+    ensures text { OnOk result (text.new.items
+        ≡ text.old.items ++ notes_before problem.now notes.now) }
     ensures rest { IfOk result (λ rest. rest.now ≡ notes_behind problem.now notes.now) }
 {
     let mut rest = notes;

@@ -1,42 +1,101 @@
 //! Bodies of methods in JSON.
 
-use crate::entries::site_of;
-use crate::json_values::{
-    put_escaped, put_line_start, put_list_end, put_number, put_path_text, put_site, put_text,
-};
+ghost use Rattle.std.specs.Prelude.{◌≡◌, ◌++◌, ◌∷◌, [], ℕ, List, Option, IfOk, OnOk, codes, map};
+ghost use Rattle.std.specs.List.{AllZip};
+ghost use Rattle.acpi_tree.specs.TermView.{terms_tree};
+ghost use Rattle.acpi_text.specs.Constants.{hex_digits, separated};
+ghost use Rattle.acpi_text.specs.Terms.{statements_text};
+ghost use Rattle.acpi_survey.specs.SurveyOrder.{IsInOrder};
+ghost use Rattle.acpi_survey.specs.declared.body.MethodBody.{MethodBody as MethodBodyForm};
+ghost use Rattle.acpins_survey_output.specs.Json.{Members, Value, array_lines, elements, lines_behind, member, more_members_text, no_members, null, object, string, value_text, values_behind, values_of};
+ghost use Rattle.acpins_survey_output.specs.JsonBodies.{body_value, body_values, lines_from, lines_value, number_site, opaque_value, reading_members};
+ghost use Rattle.acpins_survey_output.specs.Reasons.{body_fault_text};
+ghost use Rattle.acpins_survey_output.specs.Listings.{lent_pair};
+ghost use Rattle.acpins_survey_output.specs.Shown.{IsBodyAt, zip_text};
+ghost use Rattle.acpins_survey_output.specs.steps.JsonPuts.{PutsMembers};
+
+use crate::entries::site_of_place;
+use crate::json_entries::place_at;
+use crate::json_found::put_site;
+use crate::json_members::{put_member, put_number_member, put_path_member, put_text_member};
+use crate::json_values::{put_element_start, put_line_start, put_lines_end, put_text};
 use crate::method_lines::put_body_reason;
 use acpi_body::BodyReason;
-use acpi_conditions::Entry;
 use acpi_name::{Name, Path};
-use acpi_survey::{BodyReading, MethodBody, Survey};
+use acpi_survey::{BodyReading, MethodBody, Site, Survey};
 use acpi_text::{put, put_spaced, put_terms};
 use acpi_tree::Term;
 use std::alloc::AllocError;
 
-// Lines, each with an end, as a list of texts.
-fn put_lines(text: &mut Vec<u8>, lines: &[u8]) -> Result<(), AllocError> {
+// Puts what a character of lines adds to an array of them, behind the beginning of a line; and whether the next element
+// still is the first.
+fn put_line_character(
+    text: &mut Vec<u8>,
+    line: &mut Vec<u8>,
+    is_first: bool,
+    character: u8,
+) -> Result<bool, AllocError>
+    ensures { IfOk result (λ next. (cs : List ℕ) → text.new.items
+        ++ values_behind next (values_of string (lines_from line.new.items cs))
+        ≡ text.old.items ++ values_behind is_first
+        (values_of string (lines_from line.old.items (character ∷ cs)))) }
+{
+    if character != b'\n' {
+        line.push(character)?;
+        return Ok(is_first);
+    }
+    put_element_start(text, is_first)?;
+    put_text(text, line)?;
+    line.clear();
+    Ok(false)
+}
+
+// Lines, each with an end, as an array of texts.
+fn put_lines(text: &mut Vec<u8>, lines: &[u8]) -> Result<(), AllocError>
+    ensures { OnOk result (text.new.items
+        ≡ text.old.items ++ value_text (lines_value lines.now)) }
+{
     put(text, "[")?;
+    let mut line = Vec::new(*text.allocator());
     let mut is_first = true;
-    let mut is_start = true;
     for character in lines {
-        if is_start {
-            put(text, if is_first { "\"" } else { ",\"" })?;
-            is_first = false;
-        }
-        is_start = *character == b'\n';
-        if is_start {
-            put(text, "\"")?;
-        } else {
-            put_escaped(text, *character)?;
-        }
+        is_first = put_line_character(text, &mut line, is_first, *character)?;
     }
     put(text, "]")
 }
 
-fn put_statements(text: &mut Vec<u8>, terms: &[Term]) -> Result<(), AllocError> {
+fn put_statements(text: &mut Vec<u8>, terms: &[Term]) -> Result<(), AllocError>
+    ensures { OnOk result (text.new.items ≡ text.old.items
+        ++ value_text (lines_value (statements_text [] (terms_tree terms.now)))) }
+{
     let mut lines = Vec::new(*text.allocator());
     put_terms(&mut lines, terms)?;
     put_lines(text, &lines)
+}
+
+// The bytes of a code, two digits each.
+fn put_bytes_member(text: &mut Vec<u8>, code: &[u8]) -> Result<(), AllocError>
+    ensures { OnOk result (PutsMembers (member (codes "bytes")
+        (string (separated (codes " ") (hex_digits 2) code.now)))
+        text.old.items text.new.items) }
+{
+    let mut form = Vec::new(*text.allocator());
+    put_spaced(&mut form, code)?;
+    put_text_member(text, ",", "bytes", &form)
+}
+
+fn put_reason_member(
+    text: &mut Vec<u8>,
+    reason: BodyReason,
+    name: &Option<Name>,
+) -> Result<(), AllocError>
+    ensures { OnOk result ((ms : Members) → text.new.items ++ more_members_text ms
+        ≡ text.old.items ++ value_text (object (member (codes "reason")
+        (string (body_fault_text reason name.now)) ms))) }
+{
+    let mut form = Vec::new(*text.allocator());
+    put_body_reason(&mut form, reason, name)?;
+    put_text_member(text, "{", "reason", &form)
 }
 
 fn put_opaque(
@@ -45,65 +104,121 @@ fn put_opaque(
     reason: BodyReason,
     place: usize,
     name: &Option<Name>,
-) -> Result<(), AllocError> {
-    let mut form = Vec::new(*text.allocator());
-    put_body_reason(&mut form, reason, name)?;
-    put(text, "{\"reason\":")?;
-    put_text(text, &form)?;
-    put(text, ",\"at\":")?;
-    put_number(text, place as u64)?;
-    put(text, ",\"bytes\":\"")?;
-    put_spaced(text, code)?;
-    put(text, "\"}")
+) -> Result<(), AllocError>
+    ensures { OnOk result (text.new.items ≡ text.old.items
+        ++ value_text (opaque_value code.now reason place name.now)) }
+{
+    put_reason_member(text, reason, name)?;
+    put_number_member(text, ",", "at", place as u64)?;
+    put_bytes_member(text, code)?;
+    put(text, "}")
 }
 
-fn put_reading(text: &mut Vec<u8>, body: &MethodBody<'_>) -> Result<(), AllocError> {
-    put(text, ",\"statements\":")?;
+// Puts the members of statements that are read, behind others, and a brace.
+fn put_read(text: &mut Vec<u8>, terms: &[Term]) -> Result<(), AllocError>
+    ensures { OnOk result (text.new.items ≡ text.old.items ++ more_members_text
+        (member (codes "statements") (lines_value (statements_text [] (terms_tree terms.now)))
+        (member (codes "opaque") null no_members))) }
+{
+    put_member(text, ",", "statements")?;
+    put_statements(text, terms)?;
+    put(text, ",\"opaque\":null}")
+}
+
+// Puts the members of a code that can't be read, behind others, and a brace.
+fn put_unread(
+    text: &mut Vec<u8>,
+    code: &[u8],
+    reason: BodyReason,
+    place: usize,
+    name: &Option<Name>,
+) -> Result<(), AllocError>
+    ensures { OnOk result (text.new.items ≡ text.old.items ++ more_members_text
+        (member (codes "statements") null
+        (member (codes "opaque") (opaque_value code.now reason place name.now) no_members))) }
+{
+    put(text, ",\"statements\":null")?;
+    put_member(text, ",", "opaque")?;
+    put_opaque(text, code, reason, place, name)?;
+    put(text, "}")
+}
+
+fn put_reading(text: &mut Vec<u8>, body: &MethodBody<'_>) -> Result<(), AllocError>
+    ensures { OnOk result (text.new.items ≡ text.old.items
+        ++ more_members_text (reading_members body.now.code.now body.now.reading)) }
+{
     match &body.reading {
-        BodyReading::Terms(terms) => {
-            put_statements(text, terms)?;
-            put(text, ",\"opaque\":null")
-        }
+        BodyReading::Terms(terms) => put_read(text, terms),
         BodyReading::Opaque {
             reason,
             place,
             name,
-        } => {
-            put(text, "null,\"opaque\":")?;
-            put_opaque(text, body.code, *reason, *place, name)
-        }
+        } => put_unread(text, body.code, *reason, *place, name),
     }
 }
 
-fn put_body(text: &mut Vec<u8>, entry: &Entry, body: &MethodBody<'_>) -> Result<(), AllocError> {
-    put(text, "{\"path\":")?;
-    put_path_text(text, &entry.path)?;
-    put_site(text, site_of(entry))?;
-    put(text, ",\"code_offset\":")?;
-    put_number(text, body.offset as u64)?;
-    put(text, ",\"code_length\":")?;
-    put_number(text, body.code.len() as u64)?;
-    put_reading(text, body)?;
-    put(text, "}")
+// Where the term of the entry of that number stands.
+fn site_at(survey: &Survey, number: usize) -> Site
+    ensures { result ≡ number_site survey.now number }
+{
+    site_of_place(place_at(survey, number).unwrap_or(0))
 }
 
-/// Puts the member that has the bodies of methods, in the order of these entries.
+fn put_body(
+    text: &mut Vec<u8>,
+    survey: &Survey,
+    numbered: (&Path, usize),
+    body: &MethodBody<'_>,
+) -> Result<(), AllocError>
+    ensures { OnOk result (text.new.items ≡ text.old.items
+        ++ value_text (body_value survey.now (lent_pair numbered.entry) body.now)) }
+{
+    put_path_member(text, "{", "path", numbered.0)?;
+    put_site(text, site_at(survey, numbered.1))?;
+    put_number_member(text, ",", "code_offset", body.offset as u64)?;
+    put_number_member(text, ",", "code_length", body.code.len() as u64)?;
+    put_reading(text, body)
+}
+
+// Puts the body of an entry on a line, if there is one; and whether it still is the first.
+fn put_some_body(
+    text: &mut Vec<u8>,
+    survey: &Survey,
+    numbered: (&Path, usize),
+    body: &Option<MethodBody<'_>>,
+    is_first: bool,
+) -> Result<bool, AllocError>
+    ensures { IfOk result (λ next. (vs : List Value)
+        → text.new.items ++ lines_behind next (elements vs)
+        ≡ text.old.items ++ lines_behind is_first
+        (elements (body_values survey.now (lent_pair numbered.entry) body.now ++ vs))) }
+{
+    match body {
+        Some(body) => {
+            put_line_start(text, is_first)?;
+            put_body(text, survey, numbered, body)?;
+            Ok(false)
+        }
+        None => Ok(is_first),
+    }
+}
+
+/// Puts an array of the bodies of methods, in the order of these entries, each on a line.
 pub(crate) fn put_bodies(
     text: &mut Vec<u8>,
     survey: &Survey,
     order: &[(&Path, usize)],
-) -> Result<(), AllocError> {
-    put(text, "\"bodies\":[")?;
+) -> Result<(), AllocError>
+    ensures { IsInOrder survey.now → OnOk result ((bs : List (Option MethodBodyForm))
+        × AllZip (λ x b. IsBodyAt survey.now x.1 b) (map lent_pair order.now) bs
+        × (text.new.items ≡ text.old.items ++ array_lines
+        (elements (zip_text (body_values survey.now) (map lent_pair order.now) bs)))) }
+{
+    put(text, "[")?;
     let mut is_first = true;
-    for (_, number) in order {
-        let Some(entry) = survey.entries().paths.entries().get(*number) else {
-            continue;
-        };
-        if let Some(body) = survey.body(*number)? {
-            put_line_start(text, is_first)?;
-            is_first = false;
-            put_body(text, entry, &body)?;
-        }
+    for numbered in order {
+        let body = survey.body(numbered.1)?;
+        is_first = put_some_body(text, survey, *numbered, &body, is_first)?;
     }
-    put_list_end(text, is_first)
+    put_lines_end(text, is_first)
 }

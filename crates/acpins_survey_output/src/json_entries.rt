@@ -1,134 +1,219 @@
 //! Entries in JSON.
 
-use crate::entries::{declared_at, site_of};
-use crate::json_objects::put_declared;
-use crate::json_values::{
-    put_line_start, put_list_end, put_name_text, put_number, put_path_text, put_path_texts,
-    put_site, put_term_text,
+ghost use Rattle.std.specs.Prelude.{◌≡◌, ◌++◌, ℕ, Option, Some, None, OnOk, codes};
+ghost use Rattle.std.specs.Option.{option_map};
+ghost use Rattle.acpi_tree.specs.TermView.{term_view};
+ghost use Rattle.acpi_survey.specs.ConditionViews.{link_view, link_views, literal_view, placed_view, placed_views};
+ghost use Rattle.acpi_survey.specs.EntryParts.{AllTile};
+ghost use Rattle.acpi_survey.specs.Lookup.{Found, found_of};
+ghost use Rattle.acpi_survey.specs.SurveyOrder.{IsInOrder};
+ghost use Rattle.acpins_survey_output.specs.Json.{Members, array, array_lines, member, more_members_text, object, value_text, values_of};
+ghost use Rattle.acpins_survey_output.specs.JsonEntries.{entry_value, link_value, literal_members, literal_value, named_members, place_of, term_members, test_members};
+ghost use Rattle.acpins_survey_output.specs.JsonValues.{name_value, path_value};
+ghost use Rattle.acpins_survey_output.specs.Listings.{condition_of, links_of, part_of};
+
+use crate::entries::{declared_at, site_of_place};
+use crate::json_found::put_site;
+use crate::json_members::{
+    put_boolean_member, put_member, put_name_member, put_number_member, put_path_member,
+    put_paths_member, put_some_term_member, put_word_member,
 };
-use acpi_conditions::Entry;
-use acpi_name::Path;
-use acpi_survey::{Link, Literal, PlacedLiteral, Survey};
+use crate::json_objects::put_declared;
+use crate::json_values::{put_element_start, put_line_start, put_lines_end};
+use acpi_name::{Name, Path};
+use acpi_survey::{Link, Literal, PlacedLiteral, Span, Survey};
 use acpi_text::put;
 use acpi_tree::Term;
 use std::alloc::AllocError;
 
-fn put_link(text: &mut Vec<u8>, link: &Link<'_>) -> Result<(), AllocError> {
-    put(text, "{\"name\":")?;
-    put_name_text(text, link.name)?;
-    put(text, ",\"candidates\":")?;
-    put_path_texts(text, &link.paths)?;
-    put(text, ",\"certain\":")?;
-    put(text, if link.is_certain { "true" } else { "false" })?;
+// ---- links
+
+fn put_link(text: &mut Vec<u8>, link: &Link<'_>) -> Result<(), AllocError>
+    ensures { OnOk result (text.new.items
+        ≡ text.old.items ++ value_text (link_value (link_view link.now))) }
+{
+    put_name_member(text, "{", "name", link.name)?;
+    put_paths_member(text, ",", "candidates", &link.paths)?;
+    put_boolean_member(text, ",", "certain", link.is_certain)?;
     put(text, "}")
 }
 
-fn put_links(text: &mut Vec<u8>, links: &[Link<'_>]) -> Result<(), AllocError> {
-    put(text, ",\"links\":[")?;
+fn put_links(text: &mut Vec<u8>, links: &[Link<'_>]) -> Result<(), AllocError>
+    ensures { OnOk result (text.new.items
+        ≡ text.old.items ++ value_text (array (values_of link_value (link_views links.now)))) }
+{
+    put(text, "[")?;
     let mut is_first = true;
     for link in links {
-        if !is_first {
-            put(text, ",")?;
-        }
-        is_first = false;
+        put_element_start(text, is_first)?;
         put_link(text, link)?;
+        is_first = false;
     }
     put(text, "]")
 }
 
-// What stands before a test, and the test, which may be lost.
-fn put_test(text: &mut Vec<u8>, before: &str, test: Option<&Term>) -> Result<(), AllocError> {
-    put(text, before)?;
-    put(text, "\",\"test\":")?;
-    match test {
-        Some(term) => put_term_text(text, term),
-        None => put(text, "null"),
+// ---- conditions
+
+// Puts a brace, the word of a literal, and a predicate, which may be lost.
+fn put_test(text: &mut Vec<u8>, literal: &str, test: Option<&Term>) -> Result<(), AllocError>
+    ensures { OnOk result ((ms : Members) → text.new.items ++ more_members_text ms
+        ≡ text.old.items ++ value_text (object (test_members literal.now
+        (option_map (λ t. term_view t.now) test.entry) ms))) }
+{
+    put_word_member(text, "{", "literal", literal)?;
+    put_some_term_member(text, ",", "test", test)
+}
+
+// Puts a brace, the word of a literal, and a path.
+fn put_pathed(text: &mut Vec<u8>, literal: &str, path: &Path) -> Result<(), AllocError>
+    ensures { OnOk result ((ms : Members) → text.new.items ++ more_members_text ms
+        ≡ text.old.items ++ value_text (object (named_members literal.now (codes "path")
+        (path_value path.now) ms))) }
+{
+    put_word_member(text, "{", "literal", literal)?;
+    put_path_member(text, ",", "path", path)
+}
+
+// Puts a brace, the word of a literal, and a name.
+fn put_needs(text: &mut Vec<u8>, name: &Name) -> Result<(), AllocError>
+    ensures { OnOk result ((ms : Members) → text.new.items ++ more_members_text ms
+        ≡ text.old.items ++ value_text (object (named_members (codes "needs") (codes "name")
+        (name_value name.now) ms))) }
+{
+    put_word_member(text, "{", "literal", "needs")?;
+    put_name_member(text, ",", "name", name)
+}
+
+// Puts a brace, and what a literal says.
+fn put_said(text: &mut Vec<u8>, literal: &Literal<'_>) -> Result<(), AllocError>
+    ensures { OnOk result ((ms : Members) → text.new.items ++ more_members_text ms
+        ≡ text.old.items ++ value_text (object (literal_members (literal_view literal.now) ms))) }
+{
+    match literal {
+        Literal::If(test) => put_test(text, "if", *test),
+        Literal::Not(test) => put_test(text, "not", *test),
+        Literal::While(test) => put_test(text, "while", *test),
+        Literal::Past => put_word_member(text, "{", "literal", "past"),
+        Literal::Has(path) => put_pathed(text, "has", path),
+        Literal::No(path) => put_pathed(text, "no", path),
+        Literal::Needs(name) => put_needs(text, name),
     }
 }
 
-fn put_literal(text: &mut Vec<u8>, placed: &PlacedLiteral<'_>) -> Result<(), AllocError> {
-    put(text, "{\"literal\":\"")?;
-    match &placed.literal {
-        Literal::If(test) => put_test(text, "if", *test)?,
-        Literal::Not(test) => put_test(text, "not", *test)?,
-        Literal::While(test) => put_test(text, "while", *test)?,
-        Literal::Past => put(text, "past\"")?,
-        Literal::Has(path) => {
-            put(text, "has\",\"path\":")?;
-            put_path_text(text, path)?
-        }
-        Literal::No(path) => {
-            put(text, "no\",\"path\":")?;
-            put_path_text(text, path)?
-        }
-        Literal::Needs(name) => {
-            put(text, "needs\",\"name\":")?;
-            put_name_text(text, name)?
-        }
-    }
+fn put_literal(text: &mut Vec<u8>, placed: &PlacedLiteral<'_>) -> Result<(), AllocError>
+    ensures { OnOk result (text.new.items
+        ≡ text.old.items ++ value_text (literal_value (placed_view placed.now))) }
+{
+    put_said(text, &placed.literal)?;
     put_site(text, placed.site)?;
     put(text, "}")
 }
 
-fn put_condition(text: &mut Vec<u8>, condition: &[PlacedLiteral<'_>]) -> Result<(), AllocError> {
-    put(text, ",\"condition\":[")?;
+fn put_condition(text: &mut Vec<u8>, condition: &[PlacedLiteral<'_>]) -> Result<(), AllocError>
+    ensures { OnOk result (text.new.items ≡ text.old.items
+        ++ value_text (array (values_of literal_value (placed_views condition.now)))) }
+{
+    put(text, "[")?;
     let mut is_first = true;
     for literal in condition {
-        if !is_first {
-            put(text, ",")?;
-        }
-        is_first = false;
+        put_element_start(text, is_first)?;
         put_literal(text, literal)?;
+        is_first = false;
     }
     put(text, "]")
 }
 
-// The members that say where the term of an entry stands.
-fn put_place(
-    text: &mut Vec<u8>,
-    survey: &Survey,
-    number: usize,
-    entry: &Entry,
-) -> Result<(), AllocError> {
-    match survey.part_of(number) {
-        Some(part) => {
-            put_site(text, site_of(entry))?;
-            put(text, ",\"length\":")?;
-            put_number(text, part.to.saturating_sub(part.from) as u64)
-        }
-        None => put(text, ",\"table\":null,\"offset\":null,\"length\":null"),
+// ---- entries
+
+/// Where the term of the entry of that number stands, as one number.
+pub(crate) fn place_at(survey: &Survey, number: usize) -> Option<u128>
+    ensures { result ≡ place_of survey.now number }
+{
+    let entry = survey.entry(number)?;
+    Some(entry.term.place)
+}
+
+// Puts the members of where a term stands that is this part, behind others, and a brace.
+fn put_part(text: &mut Vec<u8>, part: &Span<'_>, place: u128) -> Result<(), AllocError>
+    ensures { (found : Found) → found_of part.now ≡ Some found → OnOk result (text.new.items
+        ≡ text.old.items ++ more_members_text (term_members (Some found) (Some place))) }
+{
+    put_site(text, site_of_place(place))?;
+    let length = part.to.saturating_sub((place % (1 << 64)) as usize);
+    put_number_member(text, ",", "length", length as u64)?;
+    put(text, "}")
+}
+
+// Puts the members of a term that stands nowhere, behind others, and a brace.
+fn put_nowhere(text: &mut Vec<u8>) -> Result<(), AllocError>
+    ensures { (place : Option ℕ) → OnOk result (text.new.items
+        ≡ text.old.items ++ more_members_text (term_members None place)) }
+{
+    put(text, ",\"table\":null,\"offset\":null,\"length\":null}")
+}
+
+// Puts the members that say where the term of an entry stands, behind others, and a brace.
+fn put_term_place(text: &mut Vec<u8>, survey: &Survey, number: usize) -> Result<(), AllocError>
+    ensures { AllTile survey.now.tables.items → OnOk result (text.new.items ≡ text.old.items
+        ++ more_members_text (term_members (part_of survey.now number)
+        (place_of survey.now number))) }
+{
+    let Some(part) = survey.part_of(number) else {
+        return put_nowhere(text);
+    };
+    match place_at(survey, number) {
+        Some(place) => put_part(text, &part, place),
+        None => put_nowhere(text),
     }
+}
+
+// Puts the members of the links and the condition of the entry of that number, behind others.
+fn put_lists(text: &mut Vec<u8>, survey: &Survey, number: usize) -> Result<(), AllocError>
+    ensures { IsInOrder survey.now → OnOk result ((ms : Members) → text.new.items
+        ++ more_members_text ms ≡ text.old.items ++ more_members_text
+        (member (codes "links") (array (values_of link_value (links_of survey.now number)))
+        (member (codes "condition")
+        (array (values_of literal_value (condition_of survey.now number))) ms))) }
+{
+    let links = survey.links(number)?;
+    let condition = survey.condition(number)?;
+    put_member(text, ",", "links")?;
+    put_links(text, &links)?;
+    put_member(text, ",", "condition")?;
+    put_condition(text, &condition)
 }
 
 fn put_entry(
     text: &mut Vec<u8>,
     survey: &Survey,
+    path: &Path,
     number: usize,
-    entry: &Entry,
-) -> Result<(), AllocError> {
-    put(text, "{\"path\":")?;
-    put_path_text(text, &entry.path)?;
-    put_declared(text, &declared_at(survey, number))?;
-    put_links(text, &survey.links(number)?)?;
-    put_condition(text, &survey.condition(number)?)?;
-    put_place(text, survey, number, entry)?;
-    put(text, "}")
+) -> Result<(), AllocError>
+    ensures { IsInOrder survey.now → OnOk result (text.new.items
+        ≡ text.old.items ++ value_text (entry_value survey.now path.now number)) }
+{
+    let declared = declared_at(survey, number);
+    put_path_member(text, "{", "path", path)?;
+    put_declared(text, &declared)?;
+    put_lists(text, survey, number)?;
+    put_term_place(text, survey, number)
 }
 
-/// Puts the member that has the entries, in that order.
+/// Puts an array of the entries, in that order, each on a line.
 pub(crate) fn put_entries(
     text: &mut Vec<u8>,
     survey: &Survey,
     order: &[(&Path, usize)],
-) -> Result<(), AllocError> {
-    put(text, "\"entries\":[")?;
+) -> Result<(), AllocError>
+    ensures { IsInOrder survey.now → OnOk result (text.new.items ≡ text.old.items ++ array_lines
+        (values_of (λ x. entry_value survey.now x.0.now x.1) order.now)) }
+{
+    put(text, "[")?;
     let mut is_first = true;
-    for (_, number) in order {
-        if let Some(entry) = survey.entries().paths.entries().get(*number) {
-            put_line_start(text, is_first)?;
-            is_first = false;
-            put_entry(text, survey, *number, entry)?;
-        }
+    for numbered in order {
+        put_line_start(text, is_first)?;
+        put_entry(text, survey, numbered.0, numbered.1)?;
+        is_first = false;
     }
-    put_list_end(text, is_first)
+    put_lines_end(text, is_first)
 }

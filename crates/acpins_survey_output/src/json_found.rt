@@ -1,100 +1,135 @@
 //! Problems and notes in JSON.
 
-use crate::json_values::{
-    put_line_start, put_list_end, put_name_text, put_number, put_path_text, put_path_texts,
-    put_site,
+ghost use Rattle.std.specs.Prelude.{◌≡◌, ◌++◌, OnOk, None, codes};
+ghost use Rattle.std.specs.Option.{option_map};
+ghost use Rattle.acpins_survey_output.specs.Json.{Members, array_lines, member, more_members_text, object, value_text, values_of};
+ghost use Rattle.acpins_survey_output.specs.JsonFound.{note_value, problem_value, range_value, reason_members, rest_members, site_members};
+ghost use Rattle.acpins_survey_output.specs.JsonValues.{value_or_null};
+ghost use Rattle.acpins_survey_output.specs.steps.JsonPuts.{PutsMembers};
+
+use crate::json_members::{
+    put_member, put_number_member, put_paths_member, put_some_name_member, put_some_path_member,
+    put_word_member,
 };
-use crate::reasons::{note_name, problem_name, problem_paths};
+use crate::json_values::{put_line_start, put_lines_end};
+use crate::reasons::{note_name, noted_name, problem_name, problem_paths};
 use acpi_name::{Name, Path};
-use acpi_survey::{LostRange, Note, NoteReason, Problem};
+use acpi_survey::{LostRange, Note, Problem, Site};
 use acpi_text::put;
 use std::alloc::AllocError;
 
-// The member of the reason, and those of the paths and the name that it names.
+/// Puts the members that say where something stands, behind others.
+pub(crate) fn put_site(text: &mut Vec<u8>, site: Site) -> Result<(), AllocError>
+    ensures { OnOk result (PutsMembers (site_members site) text.old.items text.new.items) }
+{
+    put_number_member(text, ",", "table", site.table as u64)?;
+    put_number_member(text, ",", "offset", site.offset as u64)
+}
+
+// Puts a brace, the member of the reason, and those of the paths and the name that it names.
 fn put_reason(
     text: &mut Vec<u8>,
     reason: &str,
     paths: &[Path],
     name: Option<&Name>,
-) -> Result<(), AllocError> {
-    put(text, "{\"reason\":\"")?;
-    put(text, reason)?;
-    put(text, "\",\"paths\":")?;
-    put_path_texts(text, paths)?;
-    put(text, ",\"name\":")?;
-    match name {
-        Some(name) => put_name_text(text, name),
+) -> Result<(), AllocError>
+    ensures { OnOk result ((ms : Members) → text.new.items ++ more_members_text ms
+        ≡ text.old.items ++ value_text (object (reason_members reason.now paths.now
+        (option_map (λ n. n.now) name.entry) ms))) }
+{
+    put_word_member(text, "{", "reason", reason)?;
+    put_paths_member(text, ",", "paths", paths)?;
+    put_some_name_member(text, ",", "name", name)
+}
+
+fn put_range(text: &mut Vec<u8>, range: LostRange) -> Result<(), AllocError>
+    ensures { OnOk result (text.new.items ≡ text.old.items ++ value_text (range_value range)) }
+{
+    put_number_member(text, "{", "from", range.from as u64)?;
+    put_number_member(text, ",", "to", range.to as u64)?;
+    put(text, "}")
+}
+
+fn put_lost(text: &mut Vec<u8>, lost: Option<LostRange>) -> Result<(), AllocError>
+    ensures { OnOk result (text.new.items
+        ≡ text.old.items ++ value_text (value_or_null range_value lost)) }
+{
+    match lost {
+        Some(range) => put_range(text, range),
         None => put(text, "null"),
     }
 }
 
-// The members of the bytes that are lost, and of the scope.
+// Puts the member of the bytes that are lost, behind others.
+fn put_lost_member(text: &mut Vec<u8>, lost: Option<LostRange>) -> Result<(), AllocError>
+    ensures { OnOk result (PutsMembers (member (codes "lost") (value_or_null range_value lost))
+        text.old.items text.new.items) }
+{
+    put_member(text, ",", "lost")?;
+    put_lost(text, lost)
+}
+
+// Puts the members of the bytes that are lost, and of the scope, behind others, and a brace.
 fn put_rest(
     text: &mut Vec<u8>,
     lost: Option<LostRange>,
     scope: &Option<Path>,
-) -> Result<(), AllocError> {
-    put(text, ",\"lost\":")?;
-    match lost {
-        Some(range) => {
-            put(text, "{\"from\":")?;
-            put_number(text, range.from as u64)?;
-            put(text, ",\"to\":")?;
-            put_number(text, range.to as u64)?;
-            put(text, "}")?
-        }
-        None => put(text, "null")?,
-    }
-    put(text, ",\"scope\":")?;
-    match scope {
-        Some(path) => put_path_text(text, path)?,
-        None => put(text, "null")?,
-    }
+) -> Result<(), AllocError>
+    ensures { OnOk result (text.new.items
+        ≡ text.old.items ++ more_members_text (rest_members lost scope.now)) }
+{
+    put_lost_member(text, lost)?;
+    put_some_path_member(text, ",", "scope", scope)?;
     put(text, "}")
 }
 
-fn put_problem(text: &mut Vec<u8>, problem: &Problem) -> Result<(), AllocError> {
+fn put_problem(text: &mut Vec<u8>, problem: &Problem) -> Result<(), AllocError>
+    ensures { OnOk result (text.new.items
+        ≡ text.old.items ++ value_text (problem_value problem.now)) }
+{
     let reason = &problem.reason;
-    put_reason(
-        text,
-        problem_name(reason),
-        problem_paths(reason),
-        problem.name.as_ref(),
-    )?;
+    let name = problem.name.as_ref();
+    put_reason(text, problem_name(reason), problem_paths(reason), name)?;
     put_site(text, problem.site)?;
     put_rest(text, problem.lost, &problem.scope)
 }
 
-fn put_note(text: &mut Vec<u8>, note: &Note) -> Result<(), AllocError> {
-    let name = match &note.reason {
-        NoteReason::Unknown(name) => Some(name),
-        _ => None,
-    };
+fn put_note(text: &mut Vec<u8>, note: &Note) -> Result<(), AllocError>
+    ensures { OnOk result (text.new.items
+        ≡ text.old.items ++ value_text (note_value note.now)) }
+{
+    let name = noted_name(&note.reason);
     put_reason(text, note_name(&note.reason), &[], name)?;
     put_site(text, note.site)?;
     put_rest(text, None, &note.scope)
 }
 
-/// Puts the member that has the problems.
-pub(crate) fn put_problems(text: &mut Vec<u8>, problems: &[Problem]) -> Result<(), AllocError> {
-    put(text, "\"problems\":[")?;
+/// Puts an array of the problems, each on a line.
+pub(crate) fn put_problems(text: &mut Vec<u8>, problems: &[Problem]) -> Result<(), AllocError>
+    ensures { OnOk result (text.new.items ≡ text.old.items
+        ++ array_lines (values_of problem_value problems.now)) }
+{
+    put(text, "[")?;
     let mut is_first = true;
     for problem in problems {
         put_line_start(text, is_first)?;
-        is_first = false;
         put_problem(text, problem)?;
+        is_first = false;
     }
-    put_list_end(text, is_first)
+    put_lines_end(text, is_first)
 }
 
-/// Puts the member that has the notes.
-pub(crate) fn put_notes(text: &mut Vec<u8>, notes: &[Note]) -> Result<(), AllocError> {
-    put(text, "\"notes\":[")?;
+/// Puts an array of the notes, each on a line.
+pub(crate) fn put_notes(text: &mut Vec<u8>, notes: &[Note]) -> Result<(), AllocError>
+    ensures { OnOk result (text.new.items ≡ text.old.items
+        ++ array_lines (values_of note_value notes.now)) }
+{
+    put(text, "[")?;
     let mut is_first = true;
     for note in notes {
         put_line_start(text, is_first)?;
-        is_first = false;
         put_note(text, note)?;
+        is_first = false;
     }
-    put_list_end(text, is_first)
+    put_lines_end(text, is_first)
 }

@@ -1,20 +1,30 @@
 //! What terms declare, in JSON.
 
-use crate::json_values::{put_number, put_some_value, put_value};
-use crate::objects::{Declared, UnitForm, computed_source};
+ghost use Rattle.std.specs.Prelude.{◌≡◌, ◌++◌, OnOk, codes};
+ghost use Rattle.std.specs.Option.{option_map};
+ghost use Rattle.acpi_tree.specs.Objects.{mutex_object};
+ghost use Rattle.acpi_tree.specs.TermView.{term_view};
+ghost use Rattle.acpins_survey_output.specs.Json.{Members, member, more_members_text, no_members, object, value_text};
+ghost use Rattle.acpins_survey_output.specs.JsonObjects.{create_members, declared_members, fields_value, kind_of, method_members, power_members, processor_members, region_members, table_members, unit_members, width_kind};
+ghost use Rattle.acpins_survey_output.specs.JsonValues.{term_value};
+ghost use Rattle.acpins_survey_output.specs.ObjectViews.{declared_view, lent_view, unit_view};
+ghost use Rattle.acpins_survey_output.specs.Objects.{constant, named};
+ghost use Rattle.acpins_survey_output.specs.steps.JsonPuts.{PutsMembers};
+
+use crate::json_members::{
+    put_boolean_member, put_member, put_number_member, put_some_value_member, put_value_member,
+    put_word_member,
+};
+use crate::objects::{Declared, UnitForm};
 use acpi_text::put;
 use acpi_tree::{Term, Width};
 use std::alloc::AllocError;
 
-fn unit_kind(form: UnitForm<'_>) -> &'static str {
-    match form {
-        UnitForm::Field => "field",
-        UnitForm::Index => "index_field",
-        UnitForm::Bank(_) => "bank_field",
-    }
-}
+// ---- kinds
 
-fn create_kind(width: Width) -> &'static str {
+fn create_kind(width: Width) -> &'static str
+    ensures { result.now ≡ width_kind width }
+{
     match width {
         Width::DWord => "create_dword_field",
         Width::Word => "create_word_field",
@@ -24,7 +34,19 @@ fn create_kind(width: Width) -> &'static str {
     }
 }
 
-fn kind_of(declared: &Declared<'_>) -> &'static str {
+fn unit_kind(form: UnitForm<'_>) -> &'static str
+    ensures { result.now ≡ kind_of (unit_view form.entry 0 0 0) }
+{
+    match form {
+        UnitForm::Field => "field",
+        UnitForm::Index => "index_field",
+        UnitForm::Bank(_) => "bank_field",
+    }
+}
+
+fn declared_kind(declared: &Declared<'_>) -> &'static str
+    ensures { result.now ≡ kind_of (declared_view declared.now) }
+{
     match *declared {
         Declared::Root => "root",
         Declared::Scope => "scope",
@@ -46,46 +68,53 @@ fn kind_of(declared: &Declared<'_>) -> &'static str {
     }
 }
 
-// What stands before a number, and the number.
-fn put_counted(text: &mut Vec<u8>, before: &str, n: u64) -> Result<(), AllocError> {
-    put(text, before)?;
-    put_number(text, n)
+// ---- what is known of an object
+
+fn put_method(text: &mut Vec<u8>, flags: u8) -> Result<(), AllocError>
+    ensures { OnOk result (text.new.items
+        ≡ text.old.items ++ value_text (object (method_members flags))) }
+{
+    put_number_member(text, "{", "arguments", u64::from(flags % 8))?;
+    put_boolean_member(text, ",", "serialized", flags / 8 % 2 == 1)?;
+    put_number_member(text, ",", "sync_level", u64::from(flags / 16))?;
+    put(text, "}")
 }
 
-// What stands before a value, and the value.
-fn put_valued(text: &mut Vec<u8>, before: &str, term: &Term) -> Result<(), AllocError> {
-    put(text, before)?;
-    put_value(text, term)
+fn put_processor(text: &mut Vec<u8>, id: u8, block: u32, length: u8) -> Result<(), AllocError>
+    ensures { OnOk result (text.new.items
+        ≡ text.old.items ++ value_text (object (processor_members id block length))) }
+{
+    put_number_member(text, "{", "id", u64::from(id))?;
+    put_number_member(text, ",", "block", u64::from(block))?;
+    put_number_member(text, ",", "length", u64::from(length))?;
+    put(text, "}")
 }
 
-fn put_method(text: &mut Vec<u8>, flags: u8) -> Result<(), AllocError> {
-    put_counted(text, "\"arguments\":", u64::from(flags % 8))?;
-    let serialized = flags / 8 % 2 == 1;
-    put(text, ",\"serialized\":")?;
-    put(text, if serialized { "true" } else { "false" })?;
-    put_counted(text, ",\"sync_level\":", u64::from(flags / 16))
+fn put_power(text: &mut Vec<u8>, level: u8, order: u16) -> Result<(), AllocError>
+    ensures { OnOk result (text.new.items
+        ≡ text.old.items ++ value_text (object (power_members level order))) }
+{
+    put_number_member(text, "{", "level", u64::from(level))?;
+    put_number_member(text, ",", "order", u64::from(order))?;
+    put(text, "}")
 }
 
-fn put_processor(text: &mut Vec<u8>, id: u8, block: u32, length: u8) -> Result<(), AllocError> {
-    put_counted(text, "\"id\":", u64::from(id))?;
-    put_counted(text, ",\"block\":", u64::from(block))?;
-    put_counted(text, ",\"length\":", u64::from(length))
+fn put_mutex(text: &mut Vec<u8>, flags: u8) -> Result<(), AllocError>
+    ensures { OnOk result (text.new.items ≡ text.old.items
+        ++ value_text (fields_value (constant (mutex_object flags)))) }
+{
+    put_number_member(text, "{", "flags", u64::from(flags))?;
+    put(text, "}")
 }
 
-fn put_power(text: &mut Vec<u8>, level: u8, order: u16) -> Result<(), AllocError> {
-    put_counted(text, "\"level\":", u64::from(level))?;
-    put_counted(text, ",\"order\":", u64::from(order))
-}
-
-fn put_region(
-    text: &mut Vec<u8>,
-    space: u8,
-    offset: &Term,
-    length: &Term,
-) -> Result<(), AllocError> {
-    put_counted(text, "\"space\":", u64::from(space))?;
-    put_valued(text, ",\"offset\":", offset)?;
-    put_valued(text, ",\"length\":", length)
+fn put_region(text: &mut Vec<u8>, space: u8, offset: &Term, length: &Term) -> Result<(), AllocError>
+    ensures { OnOk result (text.new.items ≡ text.old.items ++ value_text (object
+        (region_members space (term_view offset.now) (term_view length.now)))) }
+{
+    put_number_member(text, "{", "space", u64::from(space))?;
+    put_value_member(text, ",", "offset", offset)?;
+    put_value_member(text, ",", "length", length)?;
+    put(text, "}")
 }
 
 fn put_table_region(
@@ -93,10 +122,48 @@ fn put_table_region(
     signature: &Term,
     oem_id: &Term,
     oem_table_id: &Term,
-) -> Result<(), AllocError> {
-    put_valued(text, "\"signature\":", signature)?;
-    put_valued(text, ",\"oem_id\":", oem_id)?;
-    put_valued(text, ",\"oem_table_id\":", oem_table_id)
+) -> Result<(), AllocError>
+    ensures { OnOk result (text.new.items ≡ text.old.items ++ value_text (object (table_members
+        (term_view signature.now) (term_view oem_id.now) (term_view oem_table_id.now)))) }
+{
+    put_value_member(text, "{", "signature", signature)?;
+    put_value_member(text, ",", "oem_id", oem_id)?;
+    put_value_member(text, ",", "oem_table_id", oem_table_id)?;
+    put(text, "}")
+}
+
+// The offset, the width and the flags of a field element, behind a brace.
+fn put_unit(text: &mut Vec<u8>, flags: u8, offset: u64, bits: u32) -> Result<(), AllocError>
+    ensures { OnOk result ((ms : Members) → text.new.items ++ more_members_text ms
+        ≡ text.old.items ++ value_text (object (unit_members flags offset bits ms))) }
+{
+    put_number_member(text, "{", "offset", offset)?;
+    put_number_member(text, ",", "bits", u64::from(bits))?;
+    put_number_member(text, ",", "flags", u64::from(flags))
+}
+
+fn put_plain_field(text: &mut Vec<u8>, flags: u8, offset: u64, bits: u32) -> Result<(), AllocError>
+    ensures { OnOk result (text.new.items ≡ text.old.items
+        ++ value_text (object (unit_members flags offset bits no_members))) }
+{
+    put_unit(text, flags, offset, bits)?;
+    put(text, "}")
+}
+
+fn put_bank_field(
+    text: &mut Vec<u8>,
+    value: &Term,
+    flags: u8,
+    offset: u64,
+    bits: u32,
+) -> Result<(), AllocError>
+    ensures { OnOk result (text.new.items ≡ text.old.items ++ value_text (object (unit_members
+        flags offset bits
+        (member (codes "value") (term_value (term_view value.now)) no_members)))) }
+{
+    put_unit(text, flags, offset, bits)?;
+    put_value_member(text, ",", "value", value)?;
+    put(text, "}")
 }
 
 fn put_field(
@@ -105,31 +172,71 @@ fn put_field(
     flags: u8,
     offset: u64,
     bits: u32,
-) -> Result<(), AllocError> {
-    put_counted(text, "\"offset\":", offset)?;
-    put_counted(text, ",\"bits\":", u64::from(bits))?;
-    put_counted(text, ",\"flags\":", u64::from(flags))?;
+) -> Result<(), AllocError>
+    ensures { OnOk result (text.new.items ≡ text.old.items
+        ++ value_text (fields_value (unit_view form.entry flags offset bits))) }
+{
     match form {
-        UnitForm::Bank(value) => put_valued(text, ",\"value\":", value),
-        _ => Ok(()),
+        UnitForm::Field => put_plain_field(text, flags, offset, bits),
+        UnitForm::Index => put_plain_field(text, flags, offset, bits),
+        UnitForm::Bank(value) => put_bank_field(text, value, flags, offset, bits),
     }
 }
 
-fn put_create(text: &mut Vec<u8>, declared: &Declared<'_>, index: &Term) -> Result<(), AllocError> {
-    put(text, "\"source\":")?;
-    put_some_value(text, computed_source(declared))?;
-    put_valued(text, ",\"index\":", index)
+// The source and the index of a Create field, behind a brace.
+fn put_create(text: &mut Vec<u8>, source: Option<&Term>, index: &Term) -> Result<(), AllocError>
+    ensures { OnOk result ((ms : Members) → text.new.items ++ more_members_text ms
+        ≡ text.old.items ++ value_text (object (create_members
+        (option_map lent_view source.entry) (term_view index.now) ms))) }
+{
+    put_some_value_member(text, "{", "source", source)?;
+    put_value_member(text, ",", "index", index)
 }
 
-// The members that say what is known of an object.
-fn put_fields(text: &mut Vec<u8>, declared: &Declared<'_>) -> Result<(), AllocError> {
+fn put_create_fixed(
+    text: &mut Vec<u8>,
+    source: Option<&Term>,
+    index: &Term,
+) -> Result<(), AllocError>
+    ensures { OnOk result (text.new.items ≡ text.old.items ++ value_text (object (create_members
+        (option_map lent_view source.entry) (term_view index.now) no_members))) }
+{
+    put_create(text, source, index)?;
+    put(text, "}")
+}
+
+fn put_create_field(
+    text: &mut Vec<u8>,
+    source: Option<&Term>,
+    index: &Term,
+    bits: &Term,
+) -> Result<(), AllocError>
+    ensures { OnOk result (text.new.items ≡ text.old.items ++ value_text (object (create_members
+        (option_map lent_view source.entry) (term_view index.now)
+        (member (codes "bits") (term_value (term_view bits.now)) no_members)))) }
+{
+    put_create(text, source, index)?;
+    put_value_member(text, ",", "bits", bits)?;
+    put(text, "}")
+}
+
+fn put_name(text: &mut Vec<u8>, value: Option<&Term>) -> Result<(), AllocError>
+    ensures { OnOk result (text.new.items ≡ text.old.items
+        ++ value_text (fields_value (named (option_map lent_view value.entry)))) }
+{
+    put_some_value_member(text, "{", "value", value)?;
+    put(text, "}")
+}
+
+// What is known of an object.
+fn put_fields(text: &mut Vec<u8>, declared: &Declared<'_>) -> Result<(), AllocError>
+    ensures { OnOk result (text.new.items ≡ text.old.items
+        ++ value_text (fields_value (declared_view declared.now))) }
+{
     match *declared {
         Declared::Processor { id, block, length } => put_processor(text, id, block, length),
         Declared::Power { level, order } => put_power(text, level, order),
-        Declared::Name(value) => {
-            put(text, "\"value\":")?;
-            put_some_value(text, value)
-        }
+        Declared::Name(value) => put_name(text, value),
         Declared::Method(flags) => put_method(text, flags),
         Declared::Region {
             space,
@@ -141,27 +248,29 @@ fn put_fields(text: &mut Vec<u8>, declared: &Declared<'_>) -> Result<(), AllocEr
             oem_id,
             oem_table_id,
         } => put_table_region(text, signature, oem_id, oem_table_id),
-        Declared::Mutex(flags) => put_counted(text, "\"flags\":", u64::from(flags)),
+        Declared::Mutex(flags) => put_mutex(text, flags),
         Declared::Field {
             form,
             flags,
             offset,
             bits,
         } => put_field(text, form, flags, offset, bits),
-        Declared::Create { index, .. } => put_create(text, declared, index),
-        Declared::CreateField { index, bits, .. } => {
-            put_create(text, declared, index)?;
-            put_valued(text, ",\"bits\":", bits)
-        }
-        _ => Ok(()),
+        Declared::Create { source, index, .. } => put_create_fixed(text, source, index),
+        Declared::CreateField {
+            source,
+            index,
+            bits,
+        } => put_create_field(text, source, index, bits),
+        _ => put(text, "{}"),
     }
 }
 
-/// Puts the members that say what a term declares.
-pub(crate) fn put_declared(text: &mut Vec<u8>, declared: &Declared<'_>) -> Result<(), AllocError> {
-    put(text, ",\"kind\":\"")?;
-    put(text, kind_of(declared))?;
-    put(text, "\",\"fields\":{")?;
-    put_fields(text, declared)?;
-    put(text, "}")
+/// Puts the members that say what a term declares, behind others.
+pub(crate) fn put_declared(text: &mut Vec<u8>, declared: &Declared<'_>) -> Result<(), AllocError>
+    ensures { OnOk result (PutsMembers (declared_members (declared_view declared.now))
+        text.old.items text.new.items) }
+{
+    put_word_member(text, ",", "kind", declared_kind(declared))?;
+    put_member(text, ",", "fields")?;
+    put_fields(text, declared)
 }

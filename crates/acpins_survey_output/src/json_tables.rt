@@ -1,99 +1,148 @@
 //! Tables in JSON.
 
-ghost use Rattle.std.specs.Prelude.{◌≤◌, length};
+ghost use Rattle.std.specs.Prelude.{◌≡◌, ◌++◌, ◌+◌, ◌-◌, ◌≤◌, OnOk, drop, length, take};
+ghost use Rattle.std.specs.List.{flat_map};
+ghost use Rattle.acpi_text.specs.Constants.{char_text};
+ghost use Rattle.acpi_table.specs.Tables.{header_of, table_at};
+ghost use Rattle.byteorder.specs.Endian.{little_number};
+ghost use Rattle.acpins_survey_output.specs.Json.{array_lines, member, value_text};
+ghost use Rattle.acpins_survey_output.specs.JsonTables.{front_members, header_members, label_value, null_members, sum_value, table_value, table_values, without_zeros};
+ghost use Rattle.acpins_survey_output.specs.JsonValues.{number_value};
+ghost use Rattle.acpins_survey_output.specs.steps.JsonPuts.{PutsMembers};
 
-use crate::json_values::{put_line_start, put_list_end, put_number, put_text};
+use crate::json_members::{put_member, put_number_member, put_text_member};
+use crate::json_values::{put_boolean, put_line_start, put_lines_end};
 use acpi_survey::SurveyedTable;
 use acpi_table::{HEADER_BYTES, TableFault, split_table};
 use acpi_text::{put, put_char};
 use byteorder::{ByteOrder, LittleEndian};
 use std::alloc::AllocError;
 
+// ---- the header
+
 // Bytes of a header, without those that are 0 at their end.
-fn without_end(bytes: &[u8]) -> &[u8] {
+fn without_end(bytes: &[u8]) -> &[u8]
+    ensures { result.now ≡ without_zeros bytes.now }
+{
     let mut rest = bytes;
-    while let [front @ .., 0] = rest {
+    while let [front @ .., last] = rest {
+        if *last != 0 {
+            return rest;
+        }
         rest = front;
     }
     rest
 }
 
-// What stands before a text of the header, and the text.
-fn put_label(text: &mut Vec<u8>, before: &str, bytes: &[u8]) -> Result<(), AllocError> {
-    put(text, before)?;
-    let mut form = Vec::new(*text.allocator());
-    for b in without_end(bytes) {
-        put_char(&mut form, *b)?;
+fn put_characters(text: &mut Vec<u8>, bytes: &[u8]) -> Result<(), AllocError>
+    ensures { OnOk result (text.new.items ≡ text.old.items ++ flat_map char_text bytes.now) }
+{
+    for b in bytes {
+        put_char(text, *b)?;
     }
-    put_text(text, &form)
+    Ok(())
 }
 
-// What stands before a number of four bytes at the front, and the number.
-fn put_dword(text: &mut Vec<u8>, before: &str, bytes: &[u8]) -> Result<(), AllocError>
-    requires { 4 ≤ length bytes.now }
+// A text of a header, these bytes of it, behind other members.
+fn put_label(
+    text: &mut Vec<u8>,
+    name: &str,
+    bytes: &[u8],
+    from: usize,
+    to: usize,
+) -> Result<(), AllocError>
+    requires { (from ≤ to) × (to ≤ length bytes.now) }
+    ensures { OnOk result (PutsMembers (member name.now
+        (label_value (take (to - from) (drop from bytes.now)))) text.old.items text.new.items) }
 {
-    put(text, before)?;
-    put_number(text, u64::from(LittleEndian::read_u32(bytes)))
+    let mut form = Vec::new(*text.allocator());
+    put_characters(&mut form, without_end(&bytes[from..to]))?;
+    put_text_member(text, ",", name, &form)
+}
+
+// A number of a header, four bytes of it, behind other members.
+fn put_dword(text: &mut Vec<u8>, name: &str, bytes: &[u8], from: usize) -> Result<(), AllocError>
+    requires { from + 4 ≤ length bytes.now }
+    ensures { OnOk result (PutsMembers (member name.now
+        (number_value (little_number 4 (drop from bytes.now)))) text.old.items text.new.items) }
+{
+    let n = LittleEndian::read_u32(&bytes[from..]);
+    put_number_member(text, ",", name, u64::from(n))
 }
 
 // The members of a header (ACPI 6.5, table 5.4).
 fn put_header(text: &mut Vec<u8>, bytes: &[u8]) -> Result<(), AllocError>
     requires { 36 ≤ length bytes.now }
+    ensures { OnOk result (PutsMembers (header_members (header_of bytes.now))
+        text.old.items text.new.items) }
 {
-    put_label(text, ",\"signature\":", &bytes[..4])?;
-    put_dword(text, ",\"length\":", &bytes[4..8])?;
-    put(text, ",\"revision\":")?;
-    put_number(text, u64::from(bytes[8]))?;
-    put_label(text, ",\"oem_id\":", &bytes[10..16])?;
-    put_label(text, ",\"oem_table_id\":", &bytes[16..24])?;
-    put_dword(text, ",\"oem_revision\":", &bytes[24..28])?;
-    put_label(text, ",\"creator_id\":", &bytes[28..32])?;
-    put_dword(text, ",\"creator_revision\":", &bytes[32..36])
+    put_label(text, "signature", bytes, 0, 4)?;
+    put_dword(text, "length", bytes, 4)?;
+    put_number_member(text, ",", "revision", u64::from(bytes[8]))?;
+    put_label(text, "oem_id", bytes, 10, 16)?;
+    put_label(text, "oem_table_id", bytes, 16, 24)?;
+    put_dword(text, "oem_revision", bytes, 24)?;
+    put_label(text, "creator_id", bytes, 28, 32)?;
+    put_dword(text, "creator_revision", bytes, 32)
 }
 
 // The members of a header that isn't there.
-fn put_no_header(text: &mut Vec<u8>) -> Result<(), AllocError> {
+fn put_no_header(text: &mut Vec<u8>) -> Result<(), AllocError>
+    ensures { OnOk result (PutsMembers null_members text.old.items text.new.items) }
+{
     put(
         text,
-        ",\"signature\":null,\"length\":null,\"revision\":null",
-    )?;
-    put(
-        text,
-        ",\"oem_id\":null,\"oem_table_id\":null,\"oem_revision\":null",
-    )?;
-    put(text, ",\"creator_id\":null,\"creator_revision\":null")
+        ",\"signature\":null,\"length\":null,\"revision\":null,\"oem_id\":null,\
+        \"oem_table_id\":null,\"oem_revision\":null,\"creator_id\":null,\"creator_revision\":null",
+    )
 }
+
+fn put_front(text: &mut Vec<u8>, bytes: &[u8]) -> Result<(), AllocError>
+    ensures { OnOk result (PutsMembers (front_members bytes.now) text.old.items text.new.items) }
+{
+    if bytes.len() < HEADER_BYTES {
+        return put_no_header(text);
+    }
+    put_header(text, bytes)
+}
+
+// ---- tables
 
 // Whether the bytes of a table sum to 0, where all of it is there.
-fn sum_word(bytes: &[u8]) -> &'static str {
+fn put_sum(text: &mut Vec<u8>, bytes: &[u8]) -> Result<(), AllocError>
+    ensures { OnOk result (text.new.items
+        ≡ text.old.items ++ value_text (sum_value (table_at bytes.now))) }
+{
     match split_table(bytes) {
-        Ok(_) => "true",
-        Err(TableFault::BadSum) => "false",
-        Err(_) => "null",
+        Ok(_) => put_boolean(text, true),
+        Err(TableFault::BadSum) => put_boolean(text, false),
+        Err(_) => put(text, "null"),
     }
 }
 
-fn put_table(text: &mut Vec<u8>, number: usize, bytes: &[u8]) -> Result<(), AllocError> {
-    put(text, "{\"table\":")?;
-    put_number(text, number as u64)?;
-    if bytes.len() < HEADER_BYTES {
-        put_no_header(text)?;
-    } else {
-        put_header(text, bytes)?;
-    }
-    put(text, ",\"bytes\":")?;
-    put_number(text, bytes.len() as u64)?;
-    put(text, ",\"checksum_good\":")?;
-    put(text, sum_word(bytes))?;
+fn put_table(text: &mut Vec<u8>, number: usize, bytes: &[u8]) -> Result<(), AllocError>
+    ensures { OnOk result (text.new.items
+        ≡ text.old.items ++ value_text (table_value number bytes.now)) }
+{
+    put_number_member(text, "{", "table", number as u64)?;
+    put_front(text, bytes)?;
+    put_number_member(text, ",", "bytes", bytes.len() as u64)?;
+    put_member(text, ",", "checksum_good")?;
+    put_sum(text, bytes)?;
     put(text, "}")
 }
 
-/// Puts the member that has the tables.
-pub(crate) fn put_tables(text: &mut Vec<u8>, tables: &[SurveyedTable]) -> Result<(), AllocError> {
-    put(text, "\"tables\":[")?;
+/// Puts an array of the tables, each on a line.
+pub(crate) fn put_tables(text: &mut Vec<u8>, tables: &[SurveyedTable]) -> Result<(), AllocError>
+    ensures { OnOk result (text.new.items
+        ≡ text.old.items ++ array_lines (table_values 0 tables.now)) }
+{
+    put(text, "[")?;
+    let mut is_first = true;
     for number in 0..tables.len() {
-        put_line_start(text, number == 0)?;
+        put_line_start(text, is_first)?;
         put_table(text, number, &tables[number].bytes)?;
+        is_first = false;
     }
-    put_list_end(text, tables.is_empty())
+    put_lines_end(text, is_first)
 }

@@ -19,6 +19,7 @@ mod json_bodies;
 mod json_entries;
 mod json_found;
 mod json_frame;
+mod json_members;
 mod json_objects;
 mod json_tables;
 mod json_values;

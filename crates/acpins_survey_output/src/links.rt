@@ -19,7 +19,8 @@ use std::alloc::AllocError;
 
 /// Puts paths with something between each two.
 pub(crate) fn put_paths(text: &mut Vec<u8>, between: &str, paths: &[Path]) -> Result<(), AllocError>
-    ensures { OnOk result (text.new.items ≡ text.old.items ++ separated between.now path_text paths.now) }
+    ensures { OnOk result (text.new.items
+        ≡ text.old.items ++ separated between.now path_text paths.now) }
 {
     match paths {
         [] => Ok(()),
@@ -69,7 +70,8 @@ fn put_found(text: &mut Vec<u8>, links: &[Link<'_>]) -> Result<(), AllocError>
 
 // An arrow, and the source of a Create field.
 fn put_source(text: &mut Vec<u8>, source: &Term) -> Result<(), AllocError>
-    ensures { OnOk result (text.new.items ≡ text.old.items ++ (codes " -> (" ++ term_text (term_view source.now) ++ codes ")")) }
+    ensures { OnOk result (text.new.items
+        ≡ text.old.items ++ (codes " -> (" ++ term_text (term_view source.now) ++ codes ")")) }
 {
     put(text, " -> (")?;
     put_term(text, source)?;
@@ -82,7 +84,9 @@ pub fn put_links(
     declared: &Declared<'_>,
     links: &[Link<'_>],
 ) -> Result<(), AllocError>
-    ensures { OnOk result (text.new.items ≡ text.old.items ++ sourced_text (source_of (declared_view declared.now)) (link_views links.now)) }
+    ensures { OnOk result (text.new.items
+        ≡ text.old.items ++ sourced_text (source_of (declared_view declared.now))
+        (link_views links.now)) }
 {
     match computed_source(declared) {
         Some(source) => put_source(text, source),

@@ -281,14 +281,16 @@ pub fn predefined(number: usize) -> Declared<'static>
 
 // What stands before a term, and the term.
 fn put_behind(text: &mut Vec<u8>, before: &str, term: &Term) -> Result<(), AllocError>
-    ensures { OnOk result (text.new.items ≡ text.old.items ++ (before.now ++ term_text (term_view term.now))) }
+    ensures { OnOk result (text.new.items
+        ≡ text.old.items ++ (before.now ++ term_text (term_view term.now))) }
 {
     put(text, before)?;
     put_term(text, term)
 }
 
 fn put_name(text: &mut Vec<u8>, value: Option<&Term>) -> Result<(), AllocError>
-    ensures { OnOk result (text.new.items ≡ text.old.items ++ named_text (option_map lent_view value.entry)) }
+    ensures { OnOk result (text.new.items
+        ≡ text.old.items ++ named_text (option_map lent_view value.entry)) }
 {
     match value {
         Some(term) => put_behind(text, "Name ", term),
@@ -297,7 +299,9 @@ fn put_name(text: &mut Vec<u8>, value: Option<&Term>) -> Result<(), AllocError>
 }
 
 fn put_region(text: &mut Vec<u8>, space: u8, offset: &Term, length: &Term) -> Result<(), AllocError>
-    ensures { OnOk result (text.new.items ≡ text.old.items ++ parts_text (region space (term_view offset.now) (term_view length.now))) }
+    ensures { OnOk result (text.new.items
+        ≡ text.old.items ++ parts_text (region space (term_view offset.now)
+        (term_view length.now))) }
 {
     put(text, "OperationRegion space=")?;
     put_byte(text, space)?;
@@ -311,7 +315,9 @@ fn put_table_region(
     oem_id: &Term,
     oem_table_id: &Term,
 ) -> Result<(), AllocError>
-    ensures { OnOk result (text.new.items ≡ text.old.items ++ parts_text (table_region (term_view signature.now) (term_view oem_id.now) (term_view oem_table_id.now))) }
+    ensures { OnOk result (text.new.items
+        ≡ text.old.items ++ parts_text (table_region (term_view signature.now)
+        (term_view oem_id.now) (term_view oem_table_id.now))) }
 {
     put_behind(text, "DataTableRegion signature=", signature)?;
     put_behind(text, " oem=", oem_id)?;
@@ -325,7 +331,8 @@ fn put_bank_field(
     offset: u64,
     bits: u32,
 ) -> Result<(), AllocError>
-    ensures { OnOk result (text.new.items ≡ text.old.items ++ parts_text (bank_unit (term_view value.now) flags offset bits)) }
+    ensures { OnOk result (text.new.items
+        ≡ text.old.items ++ parts_text (bank_unit (term_view value.now) flags offset bits)) }
 {
     put(text, "BankField offset=")?;
     put_decimal(text, offset)?;
@@ -343,7 +350,8 @@ fn put_field(
     offset: u64,
     bits: u32,
 ) -> Result<(), AllocError>
-    ensures { OnOk result (text.new.items ≡ text.old.items ++ parts_text (unit_view form.entry flags offset bits)) }
+    ensures { OnOk result (text.new.items
+        ≡ text.old.items ++ parts_text (unit_view form.entry flags offset bits)) }
 {
     let form = match form {
         UnitForm::Field => FieldForm::Field,
@@ -375,14 +383,18 @@ fn create_name(width: Width) -> &'static str
 }
 
 fn put_create(text: &mut Vec<u8>, width: Width, index: &Term) -> Result<(), AllocError>
-    ensures { OnOk result (text.new.items ≡ text.old.items ++ (codes "Create" ++ width_text width ++ codes "Field index=" ++ term_text (term_view index.now))) }
+    ensures { OnOk result (text.new.items
+        ≡ text.old.items ++ (codes "Create" ++ width_text width ++ codes "Field index=" ++ term_text
+        (term_view index.now))) }
 {
     put(text, create_name(width))?;
     put_behind(text, " index=", index)
 }
 
 fn put_create_field(text: &mut Vec<u8>, index: &Term, bits: &Term) -> Result<(), AllocError>
-    ensures { OnOk result (text.new.items ≡ text.old.items ++ (codes "CreateField index=" ++ term_text (term_view index.now) ++ codes " bits=" ++ term_text (term_view bits.now))) }
+    ensures { OnOk result (text.new.items
+        ≡ text.old.items ++ (codes "CreateField index=" ++ term_text (term_view index.now)
+        ++ codes " bits=" ++ term_text (term_view bits.now))) }
 {
     put_behind(text, "CreateField index=", index)?;
     put_behind(text, " bits=", bits)
@@ -391,7 +403,8 @@ fn put_create_field(text: &mut Vec<u8>, index: &Term, bits: &Term) -> Result<(),
 /// Puts what a term declares, without its links: its kind, and what is known of it. Offsets and widths of field elements
 /// are in bits.
 pub fn put_declared(text: &mut Vec<u8>, declared: &Declared<'_>) -> Result<(), AllocError>
-    ensures { OnOk result (text.new.items ≡ text.old.items ++ parts_text (declared_view declared.now)) }
+    ensures { OnOk result (text.new.items
+        ≡ text.old.items ++ parts_text (declared_view declared.now)) }
 {
     match *declared {
         Declared::Root => put_object(text, &Object::Root),

@@ -1,356 +1,436 @@
 //! What each byte of tables belongs to.
 
-use crate::found::{is_before, put_range};
-use crate::reasons::put_problem_reason;
-use acpi_conditions::Entry;
-use acpi_name::Path;
+ghost use Rattle.std.specs.Prelude.{◌≡◌, ◌<◌, ◌+◌, ◌^◌, ◌++◌, suc, OnOk, IfOk, codes, length};
+ghost use Rattle.std.specs.List.{flat_map};
+ghost use Rattle.acpi_outline.specs.View.{fixed_view, node_view, nodes_view, plain_view};
+ghost use Rattle.acpi_survey.specs.NestedRanges.{nested_nodes};
+ghost use Rattle.acpi_survey.specs.NestedViews.{nested_view};
+ghost use Rattle.acpi_survey.specs.SpanViews.{part_of};
+ghost use Rattle.acpi_survey.specs.Survey.{code_read};
+ghost use Rattle.acpi_survey.specs.steps.Indexes.{index_entered, index_refusals};
+ghost use Rattle.acpi_tree.specs.TermView.{decl_view, term_view};
+ghost use Rattle.acpi_tree.specs.View.{field_view};
+ghost use Rattle.acpins_survey_output.specs.Maps.{indent, start_text, declaring_text, term_in_map, plain_in_map, package_in_map, node_in_map, element_in_map, part_in_map, kept_line, lost_line, lost_in_map, node_lines, range_lines, code_lines, table_lines, map_by, map_text};
+ghost use Rattle.acpins_survey_output.specs.steps.MapViews.{places_view};
+
+use crate::found::put_range;
+use crate::reasons::{lost_reason_name, put_named, put_refusal, table_reason_name};
 use acpi_outline::{Fixed, LostFault, Node, PackedForm, Plain};
-use acpi_survey::{
-    Judged, LostRange, Opened, Problem, ProblemReason, Site, Span, Spans, Survey, SurveyedTable,
-    What,
-};
+use acpi_survey::{Judged, LostRange, PlaceIndex, Span, Spans, Survey, SurveyedTable, What};
 use acpi_table::HEADER_BYTES;
 use acpi_text::{put, put_decimal, put_path, put_term};
-use acpi_tree::{FieldElem, Term};
+use acpi_tree::{Decl, FieldElem, Term};
 use std::alloc::{AllocError, Global};
 
-/// What is known of the places of a table: its number, and entries, entered Scopes and problems in the order of their
-/// places.
+/// A table's number, and what begins at the places of tables.
 #[derive(Clone, Copy)]
-struct Places<'a> {
-    table: usize,
-    entries: &'a [Entry],
-    opened: &'a [Opened],
-    problems: &'a [Problem],
+pub(crate) struct TablePlaces<'b, 'a> {
+    /// The number.
+    pub number: usize,
+    /// What begins at the places of all tables.
+    pub index: &'b PlaceIndex<'a>,
 }
 
-// ---- what stands at a place
+// ---- what stands in a range
 
-// The path of the entry at a place: of the last, since what is there before all tables has the place 0.
-fn entry_path(entries: &[Entry], place: u128) -> Option<&Path> {
-    let count = entries.partition_point(|e| e.term.place <= place);
-    let last = entries.get(count.checked_sub(1)?)?;
-    if last.term.place == place {
-        Some(&last.path)
-    } else {
-        None
-    }
-}
-
-fn opened_path(opened: &[Opened], place: u128) -> Option<&Path> {
-    let count = opened.partition_point(|o| o.place < place);
-    let first = opened.get(count)?;
-    if first.place == place {
-        Some(&first.path)
-    } else {
-        None
-    }
-}
-
-// Whether a problem is that of a term that is refused.
-fn is_refused(problem: &Problem) -> bool {
-    matches!(problem.reason, ProblemReason::Refused(_))
-}
-
-// Whether a problem is that of bytes that are lost for that reason, and end there.
-fn is_lost(problem: &Problem, fault: LostFault, end: usize) -> bool {
-    let Some(range) = problem.lost else {
-        return false;
-    };
-    match problem.reason {
-        ProblemReason::Lost(lost) => lost == fault && range.to == end,
-        _ => false,
-    }
-}
-
-// The problems from a site on.
-fn problems_from(problems: &[Problem], site: Site) -> &[Problem] {
-    let count = problems.partition_point(|p| is_before(p.site, site));
-    &problems[count..]
-}
-
-impl<'a> Places<'a> {
-    fn place(self, offset: usize) -> u128 {
-        self.table as u128 * (1 << 64) + offset as u128
-    }
-
-    fn site(self, offset: usize) -> Site {
-        Site {
-            table: self.table,
-            offset: offset.saturating_add(HEADER_BYTES),
-        }
-    }
-
-    // The problem of the term that is refused at an offset of the code.
-    fn refused(self, offset: usize) -> Option<&'a Problem> {
-        let site = self.site(offset);
-        for problem in problems_from(self.problems, site) {
-            if problem.site != site {
-                return None;
-            }
-            if is_refused(problem) {
-                return Some(problem);
-            }
-        }
-        None
-    }
-
-    // The problem of what is lost of a span for that reason.
-    fn lost(self, span: &Span<'_>, fault: LostFault) -> Option<&'a Problem> {
-        let site = self.site(fault.place);
-        let end = self.site(span.to).offset;
-        for problem in problems_from(self.problems, site) {
-            if problem.site != site {
-                return None;
-            }
-            if is_lost(problem, fault, end) {
-                return Some(problem);
-            }
-        }
-        None
-    }
-}
-
-// ---- lines
-
-// What stands before the text of a range.
-fn put_start(
+// Why what begins at a place is refused, or a word and the path that it declares or enters.
+fn put_declaring(
     text: &mut Vec<u8>,
-    depth: usize,
-    table: usize,
-    range: LostRange,
-) -> Result<(), AllocError> {
-    for _ in 0..depth {
-        put(text, "  ")?;
-    }
-    put_decimal(text, table as u64)?;
-    put(text, " ")?;
-    put_range(text, range.from, range.to)?;
-    put(text, " ")
-}
-
-// The word of what is done at a place, and a path.
-fn put_worded(text: &mut Vec<u8>, word: &str, path: &Path) -> Result<(), AllocError> {
-    put(text, word)?;
-    put_path(text, path)
-}
-
-// What the term or the Scope at an offset of the code does.
-fn put_declaring(text: &mut Vec<u8>, places: Places<'_>, offset: usize) -> Result<(), AllocError> {
-    let place = places.place(offset);
-    if let Some(path) = opened_path(places.opened, place) {
-        return put_worded(text, "Scope ", path);
-    }
-    if let Some(problem) = places.refused(offset) {
+    places: TablePlaces<'_, '_>,
+    word: &str,
+    place: usize,
+) -> Result<(), AllocError>
+    ensures { OnOk result (text.new.items
+        ≡ text.old.items ++ declaring_text (places_view places.entry) word.now place) }
+{
+    if let Some(reason) = places.index.refusal_at(places.number, place) {
         put(text, "Refused ")?;
-        return put_problem_reason(text, &problem.reason, problem.name.as_ref());
+        return put_refusal(text, reason);
     }
-    match entry_path(places.entries, place) {
-        Some(path) => put_worded(text, "Declares ", path),
+    match places.index.path_at(places.number, place) {
+        Some(path) => {
+            put(text, word)?;
+            put_path(text, path)
+        }
         None => Ok(()),
+    }
+}
+
+// What a declaration declares; whatever its form is, its place tells.
+fn put_decl(
+    text: &mut Vec<u8>,
+    places: TablePlaces<'_, '_>,
+    place: usize,
+    decl: &Decl,
+) -> Result<(), AllocError>
+    ensures { OnOk result (text.new.items
+        ≡ text.old.items ++ term_in_map (places_view places.entry) place (decl_view decl.now)) }
+{
+    match decl {
+        Decl::Name(_, _) => put_declaring(text, places, "Declares ", place),
+        Decl::Create { .. } => put_declaring(text, places, "Declares ", place),
+        Decl::CreateField { .. } => put_declaring(text, places, "Declares ", place),
+        Decl::Mutex(_, _) => put_declaring(text, places, "Declares ", place),
+        Decl::Event(_) => put_declaring(text, places, "Declares ", place),
+        Decl::Region { .. } => put_declaring(text, places, "Declares ", place),
+        Decl::Field { .. } => put_declaring(text, places, "Declares ", place),
+        Decl::IndexField { .. } => put_declaring(text, places, "Declares ", place),
+        Decl::BankField { .. } => put_declaring(text, places, "Declares ", place),
+    }
+}
+
+fn put_term_part(
+    text: &mut Vec<u8>,
+    places: TablePlaces<'_, '_>,
+    place: usize,
+    term: &Term,
+) -> Result<(), AllocError>
+    ensures { OnOk result (text.new.items
+        ≡ text.old.items ++ term_in_map (places_view places.entry) place (term_view term.now)) }
+{
+    match term {
+        Term::Declare(decl) => put_decl(text, places, place, decl),
+        _ => {
+            put(text, "Statement ")?;
+            put_term(text, term)
+        }
     }
 }
 
 fn put_plain(
     text: &mut Vec<u8>,
-    places: Places<'_>,
-    offset: usize,
+    places: TablePlaces<'_, '_>,
+    place: usize,
     plain: &Plain,
-) -> Result<(), AllocError> {
+) -> Result<(), AllocError>
+    ensures { OnOk result (text.new.items
+        ≡ text.old.items ++ plain_in_map (places_view places.entry) place (plain_view plain.now)) }
+{
     match plain {
+        Plain::Term(term) => put_term_part(text, places, place, term),
         Plain::External(_) => put(text, "External"),
-        Plain::Term(term) => match term {
-            Term::Declare(_) => put_declaring(text, places, offset),
-            _ => {
-                put(text, "Statement ")?;
-                put_term(text, term)
-            }
-        },
-        _ => put_declaring(text, places, offset),
+        _ => put_declaring(text, places, "Declares ", place),
     }
 }
 
 fn put_package(
     text: &mut Vec<u8>,
-    places: Places<'_>,
-    offset: usize,
+    places: TablePlaces<'_, '_>,
+    place: usize,
     fixed: &Fixed,
-) -> Result<(), AllocError> {
+) -> Result<(), AllocError>
+    ensures { OnOk result (text.new.items
+        ≡ text.old.items ++ package_in_map (places_view places.entry) place
+        (fixed_view fixed.now)) }
+{
     match fixed {
+        Fixed::Scope(_) => put_declaring(text, places, "Scope ", place),
         Fixed::If(_) => put(text, "If"),
         Fixed::Else => put(text, "Else"),
         Fixed::While(_) => put(text, "While"),
-        _ => put_declaring(text, places, offset),
+        _ => put_declaring(text, places, "Declares ", place),
     }
 }
 
 fn put_node(
     text: &mut Vec<u8>,
-    places: Places<'_>,
-    offset: usize,
+    places: TablePlaces<'_, '_>,
+    place: usize,
     node: &Node,
-) -> Result<(), AllocError> {
+) -> Result<(), AllocError>
+    ensures { OnOk result (text.new.items
+        ≡ text.old.items ++ node_in_map (places_view places.entry) place (node_view node.now)) }
+{
     match node {
-        Node::Plain(plain) => put_plain(text, places, offset, plain),
-        Node::Holds(fixed, _) => put_package(text, places, offset, fixed),
-        Node::Closed(fixed, _) => put_package(text, places, offset, fixed),
+        Node::Plain(plain) => put_plain(text, places, place, plain),
+        Node::Holds(fixed, _) => put_package(text, places, place, fixed),
+        Node::Closed(fixed, _) => put_package(text, places, place, fixed),
         Node::Fields(_, _, _) => put(text, "Fields"),
         Node::PackageLost(PackedForm::While, _) => put(text, "While"),
         Node::PackageLost(_, _) => put(text, "If"),
-        _ => put_declaring(text, places, offset),
+        Node::DataLost(_, _) => Ok(()),
+        Node::NameLost(_, _, _) => put_declaring(text, places, "Declares ", place),
+    }
+}
+
+fn put_element(
+    text: &mut Vec<u8>,
+    places: TablePlaces<'_, '_>,
+    place: usize,
+    element: &FieldElem,
+) -> Result<(), AllocError>
+    ensures { OnOk result (text.new.items
+        ≡ text.old.items ++ element_in_map (places_view places.entry) place
+        (field_view element.now)) }
+{
+    match element {
+        FieldElem::Unit(_, _) => put_declaring(text, places, "Declares ", place),
+        _ => put(text, "Layout"),
     }
 }
 
 // What stands in a range of which not all is lost.
-fn put_what(text: &mut Vec<u8>, places: Places<'_>, span: &Span<'_>) -> Result<(), AllocError> {
-    match span.what {
-        What::Node(node) => put_node(text, places, span.from, node),
-        What::Element(_, element, _) => match element {
-            FieldElem::Unit(_, _) => put_declaring(text, places, span.from),
-            _ => put(text, "Layout"),
-        },
+fn put_part(
+    text: &mut Vec<u8>,
+    places: TablePlaces<'_, '_>,
+    place: usize,
+    what: What<'_>,
+) -> Result<(), AllocError>
+    ensures { OnOk result (text.new.items
+        ≡ text.old.items ++ part_in_map (places_view places.entry) place (part_of what.entry)) }
+{
+    match what {
+        What::Node(node) => put_node(text, places, place, node),
+        What::Element(_, element, _) => put_element(text, places, place, element),
         What::Lost(_) => Ok(()),
     }
 }
 
-// The line of a range of which not all is lost.
-fn put_kept(text: &mut Vec<u8>, places: Places<'_>, span: &Span<'_>) -> Result<(), AllocError> {
-    let range = LostRange {
-        from: places.site(span.from).offset,
-        to: places.site(span.to).offset,
-    };
-    put_start(text, span.depth, places.table, range)?;
-    put_what(text, places, span)?;
-    put(text, "\n")
+// ---- lines
+
+// Two blanks for each range around.
+fn put_indent(text: &mut Vec<u8>, depth: usize) -> Result<(), AllocError>
+    ensures { OnOk result (text.new.items ≡ text.old.items ++ indent depth) }
+{
+    for _ in 0..depth {
+        put(text, "  ")?;
+    }
+    Ok(())
 }
 
-// The line of the bytes that are lost by a problem, unless there are none.
-fn put_problem_range(
+// What stands before the text of a range.
+fn put_start(
     text: &mut Vec<u8>,
     depth: usize,
-    problem: &Problem,
-) -> Result<(), AllocError> {
-    let Some(range) = problem.lost else {
-        return Ok(());
+    number: usize,
+    range: LostRange,
+) -> Result<(), AllocError>
+    ensures { OnOk result (text.new.items
+        ≡ text.old.items ++ start_text depth number range.from range.to) }
+{
+    put_indent(text, depth)?;
+    put_decimal(text, number as u64)?;
+    put(text, " ")?;
+    put_range(text, range.from, range.to)?;
+    put(text, " ")
+}
+
+// The line of a range of which not all is lost.
+fn put_kept(
+    text: &mut Vec<u8>,
+    places: TablePlaces<'_, '_>,
+    span: &Span<'_>,
+) -> Result<(), AllocError>
+    ensures { OnOk result (text.new.items
+        ≡ text.old.items ++ kept_line (places_view places.entry) (nested_view span.now)) }
+{
+    let range = LostRange {
+        from: span.from.saturating_add(HEADER_BYTES),
+        to: span.to.saturating_add(HEADER_BYTES),
     };
-    if range.from == range.to {
-        return Ok(());
-    }
-    put_start(text, depth, problem.site.table, range)?;
-    put(text, "Lost ")?;
-    put_problem_reason(text, &problem.reason, problem.name.as_ref())?;
+    put_start(text, span.depth, places.number, range)?;
+    put_part(text, places, span.from, span.what)?;
     put(text, "\n")
 }
 
-// The line of what is lost of a span.
+// The line of bytes that are lost; none where there are none.
+fn put_lost_bytes(
+    text: &mut Vec<u8>,
+    depth: usize,
+    number: usize,
+    lost: LostRange,
+    reason: &[u8],
+) -> Result<(), AllocError>
+    ensures { OnOk result (text.new.items
+        ≡ text.old.items ++ lost_line depth number lost reason.now) }
+{
+    if lost.from == lost.to {
+        return Ok(());
+    }
+    put_start(text, depth, number, lost)?;
+    put(text, "Lost ")?;
+    text.extend_from_slice(reason)?;
+    put(text, "\n")
+}
+
+// The line of what is lost of a range of the code of the table of that number.
 fn put_lost(
     text: &mut Vec<u8>,
-    places: Places<'_>,
-    span: &Span<'_>,
-    fault: LostFault,
+    number: usize,
+    table: &SurveyedTable,
     depth: usize,
-) -> Result<(), AllocError> {
-    match places.lost(span, fault) {
-        Some(problem) => put_problem_range(text, depth, problem),
-        None => Ok(()),
-    }
-}
-
-// The lines of a package whose fixed arguments can't be read.
-fn put_package_lost(
-    text: &mut Vec<u8>,
-    places: Places<'_>,
     span: &Span<'_>,
-    form: PackedForm,
     fault: LostFault,
-) -> Result<(), AllocError> {
-    match form {
-        PackedForm::If | PackedForm::While => {
-            put_kept(text, places, span)?;
-            put_lost(text, places, span, fault, span.depth.saturating_add(1))
+) -> Result<(), AllocError>
+    ensures { OnOk result (text.new.items ≡ text.old.items
+        ++ lost_in_map number (code_read table.now.judged) depth (nested_view span.now) fault) }
+{
+    let name = table.unsure_name(*text.allocator(), fault)?;
+    let mut reason = Vec::new(*text.allocator());
+    put(&mut reason, lost_reason_name(fault.reason))?;
+    put_named(&mut reason, name.as_ref())?;
+    put_lost_bytes(text, depth, number, table.lost_range(span), &reason)
+}
+
+// The line of an If or While of which a part is lost, and that of the part.
+fn put_branch(
+    text: &mut Vec<u8>,
+    places: TablePlaces<'_, '_>,
+    table: &SurveyedTable,
+    span: &Span<'_>,
+    fault: LostFault,
+) -> Result<(), AllocError>
+    requires { span.now.depth + 1 < 2 ^ 64 }
+    ensures { OnOk result (text.new.items ≡ text.old.items
+        ++ (kept_line (places_view places.entry) (nested_view span.now)
+        ++ lost_in_map places.entry.number (code_read table.now.judged)
+        (suc span.now.depth) (nested_view span.now) fault)) }
+{
+    put_kept(text, places, span)?;
+    let depth = span.depth + 1;
+    put_lost(text, places.number, table, depth, span, fault)
+}
+
+// The lines of a node.
+fn put_node_lines(
+    text: &mut Vec<u8>,
+    places: TablePlaces<'_, '_>,
+    table: &SurveyedTable,
+    span: &Span<'_>,
+    node: &Node,
+) -> Result<(), AllocError>
+    requires { span.now.depth + 1 < 2 ^ 64 }
+    ensures { OnOk result (text.new.items ≡ text.old.items
+        ++ node_lines (places_view places.entry) (code_read table.now.judged)
+        (nested_view span.now) (node_view node.now)) }
+{
+    match node {
+        Node::PackageLost(PackedForm::If, fault) => {
+            put_branch(text, places, table, span, *fault)
         }
-        _ => put_lost(text, places, span, fault, span.depth),
+        Node::PackageLost(PackedForm::While, fault) => {
+            put_branch(text, places, table, span, *fault)
+        }
+        Node::PackageLost(_, fault) => {
+            put_lost(text, places.number, table, span.depth, span, *fault)
+        }
+        Node::DataLost(_, fault) => {
+            put_lost(text, places.number, table, span.depth, span, *fault)
+        }
+        _ => put_kept(text, places, span),
     }
 }
 
-fn put_span(text: &mut Vec<u8>, places: Places<'_>, span: &Span<'_>) -> Result<(), AllocError> {
+// The lines of a range.
+fn put_span(
+    text: &mut Vec<u8>,
+    places: TablePlaces<'_, '_>,
+    table: &SurveyedTable,
+    span: &Span<'_>,
+) -> Result<(), AllocError>
+    requires { span.now.depth + 1 < 2 ^ 64 }
+    ensures { OnOk result (text.new.items ≡ text.old.items
+        ++ range_lines (places_view places.entry) (code_read table.now.judged)
+        (nested_view span.now)) }
+{
     match span.what {
-        What::Lost(fault) => put_lost(text, places, span, fault, span.depth),
-        What::Node(node) => match node {
-            Node::PackageLost(form, fault) => {
-                put_package_lost(text, places, span, *form, *fault)
-            }
-            Node::DataLost(_, fault) => put_lost(text, places, span, *fault, span.depth),
-            _ => put_kept(text, places, span),
-        },
+        What::Node(node) => put_node_lines(text, places, table, span, node),
         What::Element(_, _, _) => put_kept(text, places, span),
+        What::Lost(fault) => put_lost(text, places.number, table, span.depth, span, fault),
     }
 }
 
 // ---- tables
 
-// The lines of the problem of a table as a whole that loses bytes, if it has one.
-fn put_whole(text: &mut Vec<u8>, problems: &[Problem]) -> Result<(), AllocError> {
-    for problem in problems {
-        match problem.reason {
-            ProblemReason::Unread(_) => put_problem_range(text, 0, problem)?,
-            ProblemReason::Trailing => put_problem_range(text, 0, problem)?,
-            _ => {}
-        }
+// The lines of the ranges of a table's code.
+fn put_spans(
+    alloc: Global,
+    text: &mut Vec<u8>,
+    places: TablePlaces<'_, '_>,
+    table: &SurveyedTable,
+) -> Result<(), AllocError>
+    ensures { OnOk result (text.new.items ≡ text.old.items
+        ++ flat_map (range_lines (places_view places.entry) (code_read table.now.judged))
+        (nested_nodes 0 (length (code_read table.now.judged)) (nodes_view table.now.nodes))) }
+{
+    let mut spans = Spans::new(alloc, &table.nodes, table.code().len())?;
+    while let Some(span) = spans.next()? {
+        put_span(text, places, table, &span)?;
     }
     Ok(())
 }
 
+// The lines of a table's header and code.
 fn put_code(
     alloc: Global,
     text: &mut Vec<u8>,
-    places: Places<'_>,
+    places: TablePlaces<'_, '_>,
     table: &SurveyedTable,
-    end: usize,
-) -> Result<(), AllocError> {
+) -> Result<(), AllocError>
+    ensures { OnOk result (text.new.items ≡ text.old.items
+        ++ code_lines (places_view places.entry) (code_read table.now.judged)
+        (nodes_view table.now.nodes)) }
+{
     let header = LostRange {
         from: 0,
         to: HEADER_BYTES,
     };
-    put_start(text, 0, places.table, header)?;
+    put_start(text, 0, places.number, header)?;
     put(text, "Header\n")?;
-    let mut spans = Spans::new(alloc, &table.nodes, end)?;
-    while let Some(span) = spans.next()? {
-        put_span(text, places, &span)?;
+    put_spans(alloc, text, places, table)
+}
+
+// The lines of a table.
+fn put_table(
+    alloc: Global,
+    text: &mut Vec<u8>,
+    places: TablePlaces<'_, '_>,
+    table: &SurveyedTable,
+) -> Result<(), AllocError>
+    ensures { OnOk result (text.new.items ≡ text.old.items
+        ++ table_lines (places_view places.entry) table.now.bytes table.now.judged
+        (nodes_view table.now.nodes)) }
+{
+    let to = table.bytes.len();
+    match &table.judged {
+        Judged::Unread(reason) => {
+            let lost = LostRange { from: 0, to };
+            let reason = table_reason_name(*reason);
+            put_lost_bytes(text, 0, places.number, lost, reason.as_bytes())
+        }
+        Judged::Read { trailing, .. } => {
+            put_code(alloc, text, places, table)?;
+            let from = to.saturating_sub(*trailing);
+            let lost = LostRange { from, to };
+            put_lost_bytes(text, 0, places.number, lost, b"L3 Trailing")
+        }
+    }
+}
+
+// The lines of tables.
+fn put_tables(
+    alloc: Global,
+    text: &mut Vec<u8>,
+    index: &PlaceIndex<'_>,
+    tables: &[SurveyedTable],
+) -> Result<(), AllocError>
+    ensures { OnOk result (text.new.items ≡ text.old.items
+        ++ map_by (index_entered index.now) (index_refusals index.now) 0 tables.now) }
+{
+    for number in 0..tables.len() {
+        let places = TablePlaces { number, index };
+        put_table(alloc, text, places, &tables[number])?;
     }
     Ok(())
 }
 
-// The problems of the table of that number.
-fn problems_in(problems: &[Problem], table: usize) -> &[Problem] {
-    let rest = &problems[problems.partition_point(|p| p.site.table < table)..];
-    &rest[..rest.partition_point(|p| p.site.table == table)]
-}
-
-fn put_table(
-    alloc: Global,
-    text: &mut Vec<u8>,
-    places: Places<'_>,
-    table: &SurveyedTable,
-) -> Result<(), AllocError> {
-    if let Judged::Read { code, .. } = &table.judged {
-        put_code(alloc, text, places, table, code.len())?;
-    }
-    put_whole(text, places.problems)
-}
-
 /// What each byte of each table belongs to, in byte order, a line for each range: the number of the table, the first byte
 /// and the first behind, and what stands there. Two blanks stand before a line for each range around.
-pub fn map(alloc: Global, survey: &Survey) -> Result<Vec<u8>, AllocError> {
+pub fn map(alloc: Global, survey: &Survey) -> Result<Vec<u8>, AllocError>
+    ensures { IfOk result (λ text. text.items ≡ map_text survey.now) }
+{
+    let index = survey.places()?;
     let mut text = Vec::new(alloc);
-    for table in 0..survey.tables.len() {
-        let places = Places {
-            table,
-            entries: survey.entries().paths.entries(),
-            opened: survey.opened(),
-            problems: problems_in(survey.problems(), table),
-        };
-        put_table(alloc, &mut text, places, &survey.tables[table])?;
-    }
+    put_tables(alloc, &mut text, &index, &survey.tables)?;
     Ok(text)
 }

@@ -2,7 +2,8 @@
 
 ghost use Rattle.std.specs.Prelude.{◌≡◌, ◌++◌, OnOk};
 ghost use Rattle.std.specs.Option.{option_map};
-ghost use Rattle.acpins_survey_output.specs.Reasons.{table_fault_text, table_reason_text, term_reason_text, lost_reason_text, body_reason_text, refusal_text, problem_name as problem_name_text, note_name as note_name_text, refused_paths as paths_refused, problem_paths as paths_of, named_text, paths_behind, problem_reason_text, note_reason_text};
+ghost use Rattle.acpi_conditions.specs.EntryForms.{why_of};
+ghost use Rattle.acpins_survey_output.specs.Reasons.{table_fault_text, table_reason_text, term_reason_text, lost_reason_text, body_reason_text, why_name, problem_name as problem_name_text, note_name as note_name_text, why_paths, problem_paths as paths_of, named_text, noted_name as name_noted, paths_behind, why_text, problem_reason_text, note_reason_text};
 
 use crate::links::put_paths;
 use acpi_body::BodyReason;
@@ -29,7 +30,8 @@ fn table_fault_name(fault: TableFault) -> &'static str
     }
 }
 
-fn table_reason_name(reason: TableReason) -> &'static str
+/// The number and the name of a reason why none of a table is read.
+pub(crate) fn table_reason_name(reason: TableReason) -> &'static str
     ensures { result.now ≡ table_reason_text reason }
 {
     match reason {
@@ -61,7 +63,8 @@ fn term_reason_name(reason: BodyReason) -> &'static str
     }
 }
 
-fn lost_reason_name(reason: LostReason) -> &'static str
+/// The number and the name of a reason why a part of a table's code is lost.
+pub(crate) fn lost_reason_name(reason: LostReason) -> &'static str
     ensures { result.now ≡ lost_reason_text reason }
 {
     match reason {
@@ -95,7 +98,7 @@ pub(crate) fn body_reason_name(reason: BodyReason) -> &'static str
 }
 
 fn refusal_name(reason: &Reason) -> &'static str
-    ensures { result.now ≡ refusal_text reason.now }
+    ensures { result.now ≡ why_name (why_of reason.now) }
 {
     match reason {
         Reason::EmptyName(_) => "E1 EmptyName",
@@ -140,7 +143,7 @@ pub(crate) fn note_name(reason: &NoteReason) -> &'static str
 
 /// The paths that a refusal names.
 pub(crate) fn refused_paths(reason: &Reason) -> &[Path]
-    ensures { result.now ≡ paths_refused reason.now }
+    ensures { result.now ≡ why_paths (why_of reason.now) }
 {
     match reason {
         Reason::EmptyName(path) => from_ref(path),
@@ -163,6 +166,16 @@ pub(crate) fn problem_paths(reason: &ProblemReason) -> &[Path]
     }
 }
 
+/// The name that a note names.
+pub(crate) fn noted_name(reason: &NoteReason) -> Option<&Name>
+    ensures { option_map (λ n. n.now) result ≡ name_noted reason.now }
+{
+    match reason {
+        NoteReason::Unknown(name) => Some(name),
+        _ => None,
+    }
+}
+
 // A blank and paths, with a comma between each two; nothing where there are none.
 fn put_paths_behind(text: &mut Vec<u8>, paths: &[Path]) -> Result<(), AllocError>
     ensures { OnOk result (text.new.items ≡ text.old.items ++ paths_behind paths.now) }
@@ -176,7 +189,8 @@ fn put_paths_behind(text: &mut Vec<u8>, paths: &[Path]) -> Result<(), AllocError
 
 /// Puts a blank and a name, if there is one.
 pub(crate) fn put_named(text: &mut Vec<u8>, name: Option<&Name>) -> Result<(), AllocError>
-    ensures { OnOk result (text.new.items ≡ text.old.items ++ named_text (option_map (λ n. n.now) name.entry)) }
+    ensures { OnOk result (text.new.items
+        ≡ text.old.items ++ named_text (option_map (λ n. n.now) name.entry)) }
 {
     match name {
         Some(name) => {
@@ -187,6 +201,14 @@ pub(crate) fn put_named(text: &mut Vec<u8>, name: Option<&Name>) -> Result<(), A
     }
 }
 
+/// Puts why a term declares nothing or a Scope isn't entered: the number and name of the reason, and its paths.
+pub(crate) fn put_refusal(text: &mut Vec<u8>, reason: &Reason) -> Result<(), AllocError>
+    ensures { OnOk result (text.new.items ≡ text.old.items ++ why_text (why_of reason.now)) }
+{
+    put(text, refusal_name(reason))?;
+    put_paths_behind(text, refused_paths(reason))
+}
+
 /// Puts the reason of a problem: its number and name, and the paths of a refusal or the name of which it isn't sure how
 /// many values follow it.
 pub fn put_problem_reason(
@@ -194,7 +216,8 @@ pub fn put_problem_reason(
     reason: &ProblemReason,
     name: Option<&Name>,
 ) -> Result<(), AllocError>
-    ensures { OnOk result (text.new.items ≡ text.old.items ++ problem_reason_text reason.now (option_map (λ n. n.now) name.entry)) }
+    ensures { OnOk result (text.new.items
+        ≡ text.old.items ++ problem_reason_text reason.now (option_map (λ n. n.now) name.entry)) }
 {
     put(text, problem_name(reason))?;
     put_paths_behind(text, problem_paths(reason))?;
@@ -206,8 +229,5 @@ pub fn put_note_reason(text: &mut Vec<u8>, reason: &NoteReason) -> Result<(), Al
     ensures { OnOk result (text.new.items ≡ text.old.items ++ note_reason_text reason.now) }
 {
     put(text, note_name(reason))?;
-    match reason {
-        NoteReason::Unknown(name) => put_named(text, Some(name)),
-        _ => Ok(()),
-    }
+    put_named(text, noted_name(reason))
 }

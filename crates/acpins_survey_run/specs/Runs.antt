@@ -6,13 +6,15 @@ use Rattle.acpi_name.specs.Text.{IsPathText, SpellsPathText}
 use Rattle.acpi_survey.specs.Predefined.{first_reading}
 use Rattle.acpi_survey.specs.Surveys.{AreTables, bytes_of}
 use Rattle.acpi_survey.specs.declared.machine_survey.Survey.{Survey}
+use Rattle.acpins_survey_output.specs.JsonFrame.{IsJson}
 use Rattle.acpins_survey_output.specs.Listings.{IsListing}
+use Rattle.acpins_survey_output.specs.Maps.{map_text}
 use Rattle.acpins_survey_output.specs.Shown.{IsBodyListing, IsShownOrNone}
 use Rattle.acpins_report.specs.Page.{IsPage}
 use Rattle.acpins_report.specs.declared.style.TheConstants.{HEAD}
 use Rattle.acpins_io.specs.Told.{AppendsBeginning}
 use Rattle.acpins_words.specs.Words.{Text}
-use Rattle.acpins_survey_words.specs.Words.{Asked, Command, Wish, listing, showing, telling_bodies, paging, help, version, survey, wish_of}
+use Rattle.acpins_survey_words.specs.Words.{Asked, Command, Wish, listing, showing, mapping, telling_bodies, json, paging, help, version, survey, wish_of}
 use Rattle.acpins_survey_run.specs.FailureLines.{failure_line}
 use Rattle.acpins_survey_run.specs.Failures.{status_of}
 use Rattle.acpins_survey_run.specs.Stored.{Holds, IsUnwritten}
@@ -34,12 +36,14 @@ pub record IsSurveyOfFiles (files : FileBytes) (folders : FolderNames) (asked : 
   pub some : tables ≢ []
   pub is : IsSurvey asked.depth tables s
 
--- The text that a command makes of a survey. Nothing is said of `map`, `report` and `json`; of `html`, what its page is made of, in which all that
+-- The text that a command makes of a survey. Nothing is said of `report`; of `html`, what its page is made of, in which all that
 -- comes from tables is escaped.
 abbrev pub IsTextOf : Command → Survey → List ℕ → Type 0
 IsTextOf listing s text = IsListing s text
 IsTextOf (showing word) s text = (path : List Segment) × SpellsPathText path word × IsShownOrNone s path (Some text)
+IsTextOf mapping s text = text ≡ map_text s
 IsTextOf telling_bodies s text = IsBodyListing s text
+IsTextOf json s text = IsJson s text
 IsTextOf (paging out) s text = IsPage HEAD.now text
 IsTextOf _ s text = Unit {0}
 

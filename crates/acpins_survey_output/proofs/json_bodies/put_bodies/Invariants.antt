@@ -1,0 +1,11 @@
+use Rattle.std.proofs.Common.{map, take}
+use Rattle.acpi_survey.specs.SurveyOrder.{IsInOrder}
+use Rattle.acpins_survey_output.specs.JsonBodies.{body_values}
+use Rattle.acpins_survey_output.specs.Listings.{lent_pair}
+use Rattle.acpins_survey_output.specs.Shown.{IsBodyAt}
+use Rattle.acpins_survey_output.proofs.Zipping.{AreLinesOf}
+use Rattle.acpins_survey_output.proofs.json_bodies.put_bodies.Given as goal
+
+abbrev pub invariant-loop-numbered : goal.invariant-loop-numbered
+invariant-loop-numbered l = IsInOrder l.survey
+    → AreLinesOf (λ x b. IsBodyAt l.survey x.1 b) (body_values l.survey) (take l.numbered-index (map lent_pair l.order)) l.is_first l.initial.text.items l.text.items

@@ -1,0 +1,21 @@
+use Rattle.std.proofs.Common.{◌∙◌, codes, subst}
+use Rattle.acpins_survey_output.specs.Json.{array, member, more_members_text, values_of}
+use Rattle.acpins_survey_output.specs.JsonEntries.{link_value, literal_value, place_of, term_members}
+use Rattle.acpins_survey_output.specs.JsonObjects.{declared_members}
+use Rattle.acpins_survey_output.specs.Listings.{condition_of, links_of, object_of, part_of}
+use Rattle.acpins_survey_output.specs.Objects.{ObjectParts}
+use Rattle.acpins_survey_output.specs.steps.JsonPuts.{PutsMembers}
+use Rattle.acpins_survey_output.proofs.JsonPutting.{closed_put}
+use Rattle.acpins_survey_output.proofs.json_entries.put_entry.Goals as goal
+
+pub returns : goal.returns
+returns c = λ o.
+    let s = c.args.survey.now in
+    let n = c.args.number in
+    let place = term_members (part_of s n) (place_of s n) in
+    let lists = member (codes "links") (array (values_of link_value (links_of s n))) (member (codes "condition") (array (values_of literal_value (condition_of s n))) place) in
+    let object = object_of (part_of s n) n in
+    let said = subst (λ (x : ObjectParts). PutsMembers (declared_members x) c.put_path_member.new.text.items c.put_declared.new.text.items) (c.declared_at-declared.ensures o.tile)
+    c.in_ok-put_declared.ensures in
+    closed_put c.put_term_place.result c.args.text.now.items _ _ (more_members_text place) _
+    (c.in_ok-put_lists.ensures o place ∙ said lists ∙ c.in_ok-put_path_member.ensures (declared_members object lists)) (c.put_term_place.ensures o.tile)

@@ -1,0 +1,2 @@
+pub mod JsonPuts
+pub mod MapViews
