@@ -1,5 +1,5 @@
 -- Where no entry has a condition, each is seen from each, and stands at its path for certain.
-use Rattle.std.proofs.Common.{◌≡◌, ◌||◌, ◌&&◌, Bool, true, false, true≢false, not, cond, List, [], ◌∷◌, ◌++◌, find, append-nil, Some, refl, sym, ap, ◌∙◌}
+use Rattle.std.proofs.Common.{◌≡◌, ◌||◌, ◌&&◌, Bool, true, false, true≢false, not, cond, List, [], ◌∷◌, ◌++◌, find, append-nil, is_some, Some, refl, sym, ap, ◌∙◌}
 use Rattle.std.specs.Prelude.{option_to_list, IsTrue}
 use Rattle.std.specs.List.{AllByRecursion, filter, flat_map, list_any}
 use Rattle.acpi_name.specs.Names.{NameParts}
@@ -68,3 +68,12 @@ one_candidate k there certain possible (p ∷ ps) = by (there p) refl (one_candi
         ∙ ap (λ b. cond b (p ∷ up_to_certain k ps) (up_to_certain k ps)) (is_false (is_possible k p) (λ y. true≢false (sym (possible p y) ∙ is)))
         ∙ rest
         ∙ sym (ap (λ b. option_to_list (cond b (Some p) (find there ps))) is)
+
+-- .. and where there is one, it is certain
+pub one_certain : (k : Known) (there : Path → Bool) → ((p : Path) → is_certain k p ≡ there p) → (ps : List Path) → list_any (is_certain k) ps ≡ is_some (find there ps)
+one_certain k there certain [] = refl
+one_certain k there certain (p ∷ ps) = ap (λ b. b || list_any (is_certain k) ps) (certain p) ∙ by (there p) (one_certain k there certain ps)
+  where
+    by : (b : Bool) → list_any (is_certain k) ps ≡ is_some (find there ps) → (b || list_any (is_certain k) ps) ≡ is_some (cond b (Some p) (find there ps))
+    by true rest = refl
+    by false rest = rest

@@ -10,7 +10,7 @@ use Rattle.acpi_declare.specs.Predefined.{predefined}
 use Rattle.acpi_declare.specs.Sites.{sites}
 use Rattle.acpi_declare.specs.Listing.{Placement, objects_of, IsListing}
 use Rattle.acpi_declare.specs.Loads.{AreListings}
-use Rattle.acpi_declare.specs.Notes.{external_counts, methods}
+use Rattle.acpi_declare.specs.Notes.{external_counts}
 use Rattle.acpi_declare.specs.Tables.{IsTableOf}
 use Rattle.acpi_declare.proofs.Unions.{counts-empty}
 use Rattle.acpi_outline.specs.Nodes.{NodeTrees}
@@ -36,6 +36,7 @@ use Rattle.acpi_survey.proofs.Surveys.{are_read}
 use Rattle.acpi_survey.proofs.TableWalks.{read_is_survey}
 use Rattle.acpi_survey.proofs.Walking.{nodes_walked}
 use Rattle.acpi_conservative.specs.Strict.{predefined_terms}
+use Rattle.acpi_conservative.specs.Parts.{declared}
 use Rattle.acpi_conservative.specs.Laws.{HearsAlike, StrictExternals}
 use Rattle.acpi_conservative.proofs.First.{predefined_agrees, predefined_is_known}
 use Rattle.acpi_conservative.proofs.WholeTables.{strict_table_is_read}
@@ -101,22 +102,22 @@ entries_kept depth number s last kept at_start a =
     let r : IsSurveyed number s last (nodes_of_each kept) = read_is_survey depth number s last (bytes_of kept) (nodes_of_each kept) at_start (are_read depth number s last kept a) in
     (all_entries (surveys s.walk.known (all_nodes number (nodes_of_each kept))), r.entries)
 
--- Of a table: what its Externals say; and behind as many entries as there are predefined ones an entry for each method.
-pub record IsFollowed (last : Reading) (number : ℕ) (t : List Placement) (k : SurveyedTable) : Type 0 where
+-- Of a table behind these entries: what its Externals say; and an entry for each object that it declares, in order.
+pub record IsFollowed (last : Reading) (number : ℕ) (before : List Entry) (t : List Placement) (k : SurveyedTable) : Type 0 where
   pub heard : HearsAlike t k
   pub tiles : Tiles 0 (length (code_read k.judged)) (nodes_view k.nodes)
-  pub before : List Entry
   pub news : List Entry
   pub later : List Entry
   pub entries : last.walk.entries ≡ before ++ (news ++ later)
   pub is_behind : 10 ≤ length before
-  pub methods_there : HaveEntries (part_of k) (place_in number 0) (methods t) news
+  pub objects_there : HaveEntries (part_of k) (place_in number 0) (declared t) news
 
-abbrev pub AreFollowed : Reading → ℕ → List (List Placement) → List SurveyedTable → Type 0
-AreFollowed last number [] [] = Unit {0}
-AreFollowed last number (t ∷ ts) (k ∷ kept) = IsFollowed last number t k × AreFollowed last (suc number) ts kept
-AreFollowed last number [] (k ∷ kept) = ⊥
-AreFollowed last number (t ∷ ts) [] = ⊥
+-- so is each table, behind those before it
+abbrev pub AreFollowed : Reading → ℕ → List Entry → List (List Placement) → List SurveyedTable → Type 0
+AreFollowed last number before [] [] = last.walk.entries ≡ before
+AreFollowed last number before (t ∷ ts) (k ∷ kept) = (f : IsFollowed last number before t k) × AreFollowed last (suc number) (before ++ f.news) ts kept
+AreFollowed last number before [] (k ∷ kept) = ⊥
+AreFollowed last number before (t ∷ ts) [] = ⊥
 
 module _ (depth number : ℕ) (s last : Reading) (k : SurveyedTable) (kept : List SurveyedTable) (table : IsTable depth number s k) (is : ItemTrees) (i : IsTableOf depth number k.bytes is)
     (objects : Namespace) (h : StandsIn objects [] s) (empty : s.expected ≡ finite.empty) (enough : 10 ≤ length s.walk.entries)
@@ -130,20 +131,23 @@ module _ (depth number : ℕ) (s last : Reading) (k : SurveyedTable) (kept : Lis
   more : (later : List Entry) × (last.walk.entries ≡ end.walk.entries ++ later)
   more = entries_kept depth (suc number) (behind_table end) last kept refl a
 
-  pub is_followed : IsFollowed last number t k
+  pub is_followed : IsFollowed last number s.walk.entries t k
   is_followed = record {
     heard =
         ap finite.get table.expected
         ∙ f.heard
         ∙ ap (λ (m : Lookup ℕ). union m (external_counts t)) (ap finite.get empty ∙ counts-empty);
     tiles = code_tiles depth number s k table is i;
-    before = s.walk.entries;
     news = f.news;
     later = more.0;
     entries = more.1 ∙ ap (λ (es : List Entry). es ++ more.0) f.entries ∙ append_assoc s.walk.entries f.news more.0;
     is_behind = enough;
-    methods_there = f.methods_there;
+    objects_there = f.objects_there;
   }
+
+  entries_behind : (behind_table end).walk.entries ≡ s.walk.entries ++ is_followed.news
+  unfolding is_followed
+  entries_behind = f.entries
 
   pub enough_behind : 10 ≤ length (behind_table end).walk.entries
   enough_behind = omega (arith, enough, ap length f.entries, length-append s.walk.entries f.news)
@@ -154,15 +158,16 @@ module _ (depth number : ℕ) (s last : Reading) (k : SurveyedTable) (kept : Lis
       (all_first HasNoCondition end.walk.entries more.0 (subst (AllByRecursion HasNoCondition) more.1 free))
 
 tables_follow : (depth number : ℕ) (s last : Reading) (kept : List SurveyedTable) → IsAtStart s.walk → AreTables depth number s kept last → (objects : Namespace) → StandsIn objects [] s → s.expected ≡ finite.empty
-    → 10 ≤ length s.walk.entries → AllByRecursion HasNoCondition last.walk.entries → (ts : List (List Placement)) → AreListings depth number objects (bytes_of kept) ts → AreFollowed last number ts kept
-tables_follow depth number s last [] at_start a objects h empty enough free [] l = tt
+    → 10 ≤ length s.walk.entries → AllByRecursion HasNoCondition last.walk.entries → (ts : List (List Placement)) → AreListings depth number objects (bytes_of kept) ts → AreFollowed last number s.walk.entries ts kept
+tables_follow depth number s last [] at_start a objects h empty enough free [] l = ap (λ (r : Reading). r.walk.entries) a
 tables_follow depth number s last [] at_start a objects h empty enough free (t ∷ ts) l = absurd l
 tables_follow depth number s last (k ∷ kept) at_start a objects h empty enough free [] l = absurd l
 tables_follow depth number s last (k ∷ kept) at_start a objects h empty enough free (t ∷ ts) l = (
   is_followed depth number s last k kept a.0 l.0.0 l.0.1 objects h empty enough a.1 t l.0.2,
-  tables_follow depth (suc number) (behind_table (behind_nodes number s k)) last kept refl a.1 (union objects (objects_of t))
+  subst (λ (es : List Entry). AreFollowed last (suc number) es ts kept) (entries_behind depth number s last k kept a.0 l.0.0 l.0.1 objects h empty enough a.1 t l.0.2)
+      (tables_follow depth (suc number) (behind_table (behind_nodes number s k)) last kept refl a.1 (union objects (objects_of t))
       (stands_later depth number s last k kept a.0 l.0.0 l.0.1 objects h empty enough a.1 t l.0.2 at_start free) refl
-      (enough_behind depth number s last k kept a.0 l.0.0 l.0.1 objects h empty enough a.1 t l.0.2) free ts l.1,
+      (enough_behind depth number s last k kept a.0 l.0.0 l.0.1 objects h empty enough a.1 t l.0.2) free ts l.1),
 )
 
 first_stands : StandsIn predefined [] first_reading
@@ -182,16 +187,16 @@ unfolding first_reading with_object
 first_enough = let ten : length first_reading.walk.entries ≡ 10 = refl in omega (arith, ten)
 
 pub strict_tables_follow : (depth : ℕ) (kept : List SurveyedTable) (last : Reading) → AreTables depth 0 first_reading kept last
-    → (ts : List (List Placement)) → AreListings depth 0 predefined (bytes_of kept) ts → AreFollowed last 0 ts kept
+    → (ts : List (List Placement)) → AreListings depth 0 predefined (bytes_of kept) ts → AreFollowed last 0 first_reading.walk.entries ts kept
 strict_tables_follow depth kept last a ts l =
     tables_follow depth 0 first_reading last kept first_at_start a predefined first_stands first_hears_none first_enough
     (is_all_there depth (bytes_of kept) ts l (nodes_of_each kept) last (are_read depth 0 first_reading last kept a)).no_condition ts l
 
-all_heard : (last : Reading) (number : ℕ) (ts : List (List Placement)) (kept : List SurveyedTable) → AreFollowed last number ts kept → AllZip HearsAlike ts kept
-all_heard last number [] [] h = tt
-all_heard last number [] (k ∷ kept) h = absurd h
-all_heard last number (t ∷ ts) [] h = absurd h
-all_heard last number (t ∷ ts) (k ∷ kept) h = (h.0.heard, all_heard last (suc number) ts kept h.1)
+all_heard : (last : Reading) (number : ℕ) (before : List Entry) (ts : List (List Placement)) (kept : List SurveyedTable) → AreFollowed last number before ts kept → AllZip HearsAlike ts kept
+all_heard last number before [] [] h = tt
+all_heard last number before [] (k ∷ kept) h = absurd h
+all_heard last number before (t ∷ ts) [] h = absurd h
+all_heard last number before (t ∷ ts) (k ∷ kept) h = (h.0.heard, all_heard last (suc number) (before ++ h.0.news) ts kept h.1)
 
 pub strict_externals : StrictExternals
-strict_externals depth kept last a ts l = all_heard last 0 ts kept (strict_tables_follow depth kept last a ts l)
+strict_externals depth kept last a ts l = all_heard last 0 first_reading.walk.entries ts kept (strict_tables_follow depth kept last a ts l)

@@ -1,19 +1,20 @@
--- The reading of strict items follows their listing: what their Externals say, and where their methods stand.
-use Rattle.std.proofs.Common.{◌≡◌, ◌==◌, ◌&&◌, ◌+◌, ◌-◌, ◌%◌, ◌≤◌, ℕ, suc, nat_le, Bool, true, false, true≢false, cond, List, [], ◌∷◌, ◌++◌, append_assoc, append-nil, map, length, length-append, Option, Some, None, is_ok, inl, inr, refl, sym, ap, subst, ◌∙◌, arith}
+-- The reading of strict items follows their listing: what their Externals say, and where their objects stand.
+use Rattle.std.proofs.Common.{◌≡◌, ◌==◌, ◌&&◌, ◌+◌, ◌-◌, ◌^◌, ◌%◌, ◌≤◌, min, ℕ, suc, nat_le, Bool, true, false, true≢false, cond, List, [], ◌∷◌, ◌++◌, append_assoc, append-nil, map, length, length-append, Option, Some, None, is_ok, inl, inr, refl, sym, ap, subst, ◌∙◌, arith}
 use Rattle.std.specs.FinMap as finite
-use Rattle.std.proofs.lemmas.Bool.{le-leb}
+use Rattle.std.proofs.Math.Nat.{min-eq_left, min-eq_right, zero-min}
+use Rattle.std.proofs.lemmas.Bool.{le-leb, eq-eqb, ne_eqb}
+use Rattle.std.proofs.lemmas.Bool.Decides.{leb_tells}
 use Rattle.std.proofs.lemmas.List.{drop_all, map-append}
 use Rattle.acpi_name.specs.Names.{Segment, NameParts}
 use Rattle.acpi_name.specs.Paths.{place_of}
 use Rattle.acpi_space.specs.Lookups.{nothing, singleton, union}
 use Rattle.acpi_space.specs.Spaces.{PathMap}
-use Rattle.acpi_space.specs.Laws.{Among}
 use Rattle.acpi_tree.specs.declared.object.FieldForm.{FieldForm}
 use Rattle.acpi_tree.specs.declared.tree.Int.TheVariants.{Zero}
 use Rattle.acpi_tree.specs.declared.place.NamedForm.{NamedForm}
 use Rattle.acpi_tree.specs.declared.place.NamedForm.TheVariants as named
 use Rattle.acpi_tree.specs.declared.place.UnitsForm.TheVariants as fields
-use Rattle.acpi_tree.specs.Tree.{ExternalParts, FieldTree, unit}
+use Rattle.acpi_tree.specs.Tree.{ExternalParts, FieldTree, unit, reserved, access, connect_name, connect_buffer, extended}
 use Rattle.acpi_tree.specs.Tree.{ItemTree, name, scope, method, external, external_block, create, create_field, mutex, event, region, field, index_field, bank_field, device, processor, power, thermal, ItemTrees, no_items, item}
 use Rattle.acpi_tree.specs.Offsets.{element_bits}
 use Rattle.acpi_tree.specs.Objects.{ObjectTree, opens_scope, name_object, method_object, device_object, processor_object, power_object, thermal_object, region_object, mutex_object, event_object, field_object, create_object, create_field_object}
@@ -24,15 +25,15 @@ use Rattle.acpi_declare.specs.Namespace.{Namespace}
 use Rattle.acpi_declare.specs.Sites.{declares, opens, expects, declares_alone, Step, step, unit_name, unit_steps, external_step, external_steps, Site, site_in, item_sites, items_sites}
 use Rattle.acpi_declare.specs.Placing.{IsDeclared, IsOpened}
 use Rattle.acpi_declare.specs.Listing.{Placement, objects_of, IsJustified, paths_of}
-use Rattle.acpi_declare.specs.Notes.{count_at, Method}
+use Rattle.acpi_declare.specs.Notes.{count_at}
 use Rattle.acpi_declare.proofs.Unions.{union-nothing, union_assoc, counts_with_first}
 use Rattle.acpi_outline.specs.declared.form.ContainerForm.{ContainerForm}
 use Rattle.acpi_outline.specs.declared.form.ContainerForm.TheVariants as containers
 use Rattle.acpi_outline.specs.Nodes as outline
 use Rattle.acpi_outline.specs.Nodes.{FixedTree, container, if_so, units, FieldNodes, field_node, NodeTree, plain, holds, holds_fields, closed, NodeTrees, no_more, node}
 use Rattle.acpi_outline.specs.Rules.{after, after_all, after_fields}
-use Rattle.acpi_outline.specs.Outline.{IsNode, AreNodes}
-use Rattle.acpi_outline.specs.Tiling.{TilesInside, Tiles}
+use Rattle.acpi_outline.specs.Outline.{bits_behind, AreFields, IsNode, AreNodes}
+use Rattle.acpi_outline.specs.Tiling.{TilesFields, TilesInside, Tiles}
 use Rattle.acpi_outline.specs.Strict.{data_term, AreExternals, AreFieldsOf, IsItem, AreItems}
 use Rattle.acpi_conditions.specs.Entries.{Path, Entry}
 use Rattle.acpi_conditions.specs.Walk as walks
@@ -40,49 +41,95 @@ use Rattle.acpi_conditions.specs.Walk.{Walk, enter_first}
 use Rattle.acpi_survey.specs.Needs.{names_in_all, names_before}
 use Rattle.acpi_survey.specs.Nodes.{term_at, unit_at, operands_of}
 use Rattle.acpi_survey.specs.Reading.{Reading, survey_rules, with_expected, passing, expecting, after_field, enter, leave}
-use Rattle.acpi_survey.specs.Lookup.{Found, first_node}
+use Rattle.acpi_survey.specs.Lookup.{Found, node_found, element_found, first_field, element_at, first_node}
+use Rattle.acpi_conservative.specs.Parts.{IsTerm, IsPackage, before_fields, IsPartOf}
 use Rattle.acpi_conservative.proofs.Items.{Inside, inside_later, inside_newest, length_paths, length_justified, Parts, parts}
 use Rattle.acpi_conservative.proofs.TableNodes.{data_none, externals_walked}
-use Rattle.acpi_conservative.proofs.PartLookups.{FindsParts, FindsNode, finds_node, finds_rest}
+use Rattle.acpi_conservative.proofs.PartLookups.{element_within, FindsParts, FindsNode, finds_node, finds_rest}
 use Rattle.acpi_conservative.proofs.Standing.{StandsIn, stands_on, entries_left, made, allowed, stands_inside, entries_inside, stands_left, opened, stands_in_scope, entries_in_scope, stands_out_of_scope}
-use Rattle.acpi_conservative.proofs.Steps.{IsMethodAt, Follows, none_justified, stays, both_follow, placement, by_site, by_one, term_follows, no_names, same_start, same_end}
+use Rattle.acpi_conservative.proofs.Steps.{Follows, none_justified, stays, both_follow, placement, by_site, by_one, term_follows, no_names, same_start, same_end}
 
 -- ---- field lists
+
+-- the elements are found at their places
+abbrev FindsFields : (look : ℕ → Option Found) → (end : ℕ) → FixedTree → FieldNodes → Type 0
+FindsFields look end f us = (p : ℕ) (x : Found) → element_at p end f us ≡ Some x → look p ≡ Some x
+
+module _ (look : ℕ → Option Found) (end start stop : ℕ) (f : FixedTree) (place first_bit : ℕ) (e : FieldTree) (us : FieldNodes) (t : TilesFields start stop (field_node place first_bit e us))
+    (finds : FindsFields look end f (field_node place first_bit e us)) where
+  abbrev element : Bool → ℕ → Option Found
+  element b p = cond b (Some (element_found (first_field end us) f first_bit e)) (element_at p end f us)
+
+  finds_field : look place ≡ Some (element_found (first_field end us) f first_bit e)
+  finds_field = finds place (element_found (first_field end us) f first_bit e) (ap (λ b. element b place) (eq-eqb place place refl))
+
+  finds_fields : FindsFields look end f us
+  finds_fields p x is =
+      let r = element_within p end f t.0 stop us t.4 x is in
+      finds p x (ap (λ b. element b p) (ne_eqb place p (λ same. omega (arith, same, r.0, t.1, t.2))) ∙ is)
+
+-- the offset as the survey counts it
+abbrev counted : ℕ → ℕ
+counted offset = min offset (2 ^ 64 - 1)
+
+two_mins : (a w m : ℕ) → min (min a m + w) m ≡ min (a + w) m
+two_mins a w m = elim (leb_tells a m) [
+  | inl t ↦ ap (λ k. min (k + w) m) (min-eq_left t.1)
+  | inr f ↦ ap (λ k. min (k + w) m) (min-eq_right (omega (arith, f.1))) ∙ min-eq_right (omega arith) ∙ sym (min-eq_right (omega (arith, f.1)))
+]
+
+counted_behind : (offset : ℕ) (e : FieldTree) → bits_behind (counted offset) e ≡ counted (offset + element_bits e)
+counted_behind offset (unit g bits) = two_mins offset bits (2 ^ 64 - 1)
+counted_behind offset (reserved bits) = two_mins offset bits (2 ^ 64 - 1)
+counted_behind offset (access kind attribute) = two_mins offset 0 (2 ^ 64 - 1)
+counted_behind offset (connect_name n) = two_mins offset 0 (2 ^ 64 - 1)
+counted_behind offset (connect_buffer size bytes) = two_mins offset 0 (2 ^ 64 - 1)
+counted_behind offset (extended kind attribute count) = two_mins offset 0 (2 ^ 64 - 1)
 
 -- wherever they are read, the states follow by their placements
 abbrev FieldsFollow : (look : ℕ → Option Found) → FixedTree → FieldForm → (flags : ℕ) → List NameParts → (offset : ℕ) → List FieldTree → FieldNodes → Type 0
 FieldsFollow look f form flags links offset es us = (objects : Namespace) (before : List Path) (inside : Option ℕ) (around : Path) → Inside before inside around → (ps : List Placement)
-    → IsJustified objects before (map (site_in inside) (unit_steps form flags links offset es)) ps → (s : Reading) → StandsIn objects around s
-    → Follows look objects around s (after_fields survey_rules s f us) ps
+    → IsJustified objects before (map (site_in inside) (unit_steps form flags links offset es)) ps → (end start stop last : ℕ) → TilesFields start stop us → FindsFields look end f us
+    → (bytes : List ℕ) → AreFields last (counted offset) us bytes → (s : Reading) → StandsIn objects around s → Follows look objects around s (after_fields survey_rules s f us) ps
 
-fields_follow : (look : ℕ → Option Found) (f : FixedTree) → names_in_all (operands_of f) ≡ [] → (form : FieldForm) (flags : ℕ) (links : List NameParts) (offset : ℕ) (es : List FieldTree) (us : FieldNodes) → AreFieldsOf es us
-    → FieldsFollow look f form flags links offset es us
-fields_follow look f none form flags links offset [] us is objects before inside around at ps j s h =
+fields_follow : (look : ℕ → Option Found) (f : FixedTree) → names_in_all (operands_of f) ≡ [] → (form : FieldForm) (flags : ℕ) (links : List NameParts) → f ≡ before_fields form flags links
+    → (offset : ℕ) (es : List FieldTree) (us : FieldNodes) → AreFieldsOf es us → FieldsFollow look f form flags links offset es us
+fields_follow look f none form flags links same offset [] us is objects before inside around at ps j end start stop last tiles finds bytes are s h =
     subst (λ (us : FieldNodes). Follows look objects around s (after_fields survey_rules s f us) ps) (sym is)
     (subst (Follows look objects around s s) (sym (none_justified objects before ps j)) (stays look objects around s s h refl refl refl))
-fields_follow look f none form flags links offset (e ∷ es) us (place, rest, is, hs) objects before inside around at ps j s h =
+fields_follow look f none form flags links same offset (e ∷ es) us (place, first_bit, rest, is, hs) objects before inside around at ps j end start stop last tiles finds bytes are s h =
     subst (λ (us : FieldNodes). Follows look objects around s (after_fields survey_rules s f us) ps) (sym is)
-    (one_field e j (λ next objects before inside around at ps j s h. fields_follow look f none form flags links next es rest hs objects before inside around at ps j s h))
+    (one_field e j (subst (λ (us : FieldNodes). TilesFields start stop us) is tiles) (subst (λ (us : FieldNodes). FindsFields look end f us) is finds)
+    (subst (λ (us : FieldNodes). AreFields last (counted offset) us bytes) is are)
+    (λ next objects before inside around at ps j end start stop last tiles finds bytes are s h.
+    fields_follow look f none form flags links same next es rest hs objects before inside around at ps j end start stop last tiles finds bytes are s h))
   where
-    one_field : (e : FieldTree) → IsJustified objects before (map (site_in inside) (unit_steps form flags links offset (e ∷ es))) ps → ((next : ℕ) → FieldsFollow look f form flags links next es rest)
-        → Follows look objects around s (after_fields survey_rules s f (field_node place e rest)) ps
-    one_field (unit g bits) j behind =
+    one_field : (e : FieldTree) → IsJustified objects before (map (site_in inside) (unit_steps form flags links offset (e ∷ es))) ps → TilesFields start stop (field_node place first_bit e rest)
+        → FindsFields look end f (field_node place first_bit e rest) → AreFields last (counted offset) (field_node place first_bit e rest) bytes → ((next : ℕ) → FieldsFollow look f form flags links next es rest)
+        → Follows look objects around s (after_fields survey_rules s f (field_node place first_bit e rest)) ps
+    one_field (unit g bits) j tiles finds are behind =
         let o : ObjectTree = field_object form flags offset bits in
         let m : Reading = after_field s place f (unit g bits) in
         let next : ℕ = offset + element_bits (unit g bits) in
         let x : Step = step (unit_name g) (declares o links None) in
+        let part : Found = element_found (first_field end rest) f first_bit (unit g bits) in
+        let later : AreFields last (counted next) rest are.1 = subst (λ (k : ℕ). AreFields last k rest are.1) (counted_behind offset (unit g bits)) are.5 in
         by_site objects before inside around at x (map (site_in inside) (unit_steps form flags links next es)) (Follows look objects around s (after_fields survey_rules m f rest))
         (λ p d fs k.
         let here : Follows look objects around s m (placement x around p ∷ []) =
-        term_follows look objects around s h place (unit_name g) o links None (unit_at (s.base + place) g (operands_of f)) (no_names (s.base + place) (unit_name g) (names_in_all (operands_of f)) none) refl (Some 0) p d (λ m a. absurd a) in
+        term_follows look objects around s h place (unit_name g) o links None (unit_at (s.base + place) g (operands_of f)) (no_names (s.base + place) (unit_name g) (names_in_all (operands_of f)) none) refl (Some 0) p d
+        part (finds_field look end start stop f place first_bit (unit g bits) rest tiles finds) (first_field end rest, g, (λ i. element_found (first_field end rest) (same i) (are.3 i) (unit g bits))) in
         both_follow look objects around s m (after_fields survey_rules m f rest) (placement x around p ∷ []) fs here
         (behind next (union objects (objects_of (placement x around p ∷ []))) (before ++ p ∷ []) inside around (inside_later before (p ∷ []) inside around at) fs
-        (subst (λ (l : Namespace). IsJustified (union objects l) (before ++ p ∷ []) (map (site_in inside) (unit_steps form flags links next es)) fs) (sym (union-nothing (singleton p o))) k) m here.stands))
+        (subst (λ (l : Namespace). IsJustified (union objects l) (before ++ p ∷ []) (map (site_in inside) (unit_steps form flags links next es)) fs) (sym (union-nothing (singleton p o))) k)
+        end tiles.0 stop last tiles.4 (finds_fields look end start stop f place first_bit (unit g bits) rest tiles finds) are.1 later m here.stands))
         ps j
-    one_field e j behind =
+    one_field e j tiles finds are behind =
         let m : Reading = after_field s place f e in
+        let next : ℕ = offset + element_bits e in
+        let later : AreFields last (counted next) rest are.1 = subst (λ (k : ℕ). AreFields last k rest are.1) (counted_behind offset e) are.5 in
         same_start look objects around ps s m (after_fields survey_rules m f rest) refl refl refl
-        (behind (offset + element_bits e) objects before inside around at ps j m (stands_on objects around s m refl refl h))
+        (behind next objects before inside around at ps j end tiles.0 stop last tiles.4 (finds_fields look end start stop f place first_bit e rest tiles finds) are.1 later m (stands_on objects around s m refl refl h))
 
 -- ---- Externals
 
@@ -121,7 +168,7 @@ external_follows look objects before inside around at x small es j s h = by (x.k
           base = refl;
           news = [];
           entries = sym (append-nil s.walk.entries);
-          methods_there = λ m a. absurd a;
+          objects_there = tt;
         }) es j
 
 externals_follow : (look : ℕ → Option Found) (xs : List ExternalParts) (ms : NodeTrees) → AreExternals xs ms
@@ -172,31 +219,26 @@ AllFollow is ns = (look : ℕ → Option Found) (objects : Namespace) (before : 
     → StandsIn objects around s → Follows look objects around s (after_all survey_rules s ns) es
 
 declaration_follows : (i : ItemTree) (form : NamedForm) (bs : TermTrees) (n : NameParts) (vs : TermTrees) → names_before bs ++ names_in_all vs ≡ [] → (o : ObjectTree) → opens_scope o ≡ false → (links : List NameParts)
+    → ((part : Found) → IsTerm form bs vs part → IsPartOf o links None part)
     → ((k : ℕ) (inside : Option ℕ) → item_sites k inside i ≡ site_in inside (step n (declares o links None)) ∷ []) → ItemFollows i (plain (outline.term (declare form bs n vs)))
-declaration_follows i form bs n vs none o alone links sites_are look objects before inside around at es j level place end to stop s bytes is_node tiles finds h =
+declaration_follows i form bs n vs none o alone links is_part sites_are look objects before inside around at es j level place end to stop s bytes is_node tiles finds h =
     by_one objects before inside around at (step n (declares o links None)) (Follows look objects around s (after survey_rules place s (plain (outline.term (declare form bs n vs)))))
     (λ p d. term_follows look objects around s h place n o links None (term_at (s.base + place) n false (names_before bs ++ names_in_all vs)) (no_names (s.base + place) n (names_before bs ++ names_in_all vs) none) alone
-    (Some 0) p d (λ m a. absurd a))
+    (Some 0) p d (node_found to (plain (outline.term (declare form bs n vs)))) finds.itself (is_part (node_found to (plain (outline.term (declare form bs n vs)))) (to, n, refl)))
     es (subst (λ (xs : List Site). IsJustified objects before xs es) (sites_are (length before) inside) j)
 
 method_follows : (n : NameParts) (flags : ℕ) (code : List ℕ) → ItemFollows (method n flags code) (closed (outline.method n flags) code)
 method_follows n flags code look objects before inside around at es j level place end to stop s bytes is_node tiles finds h =
     by_one objects before inside around at (step n (declares (method_object flags) [] (Some code))) (Follows look objects around s (after survey_rules place s (closed (outline.method n flags) code)))
     (λ p d. term_follows look objects around s h place n (method_object flags) [] (Some code) (term_at (s.base + place) n false []) refl refl (Some (flags % 8)) p d
-    (λ m a e path stands. by p m a e path stands)) es j
-  where
-    by : (p : Path) (m : Method) → Among (record { path = p; code = code } ∷ []) m → (e : Entry) → e.path ≡ p → e.term.place ≡ s.base + place → IsMethodAt look s.base m e
-    by p m (inl same) e path stands =
-        subst (λ (m : Method). IsMethodAt look s.base m e) same
-        (record { path = path; place = place; stands = stands; to = to; declared = n; flags = flags; found = finds.itself })
-    by p m (inr a) e path stands = absurd a
+    (node_found to (closed (outline.method n flags) code)) finds.itself (flags, refl, refl, (to, n, refl))) es j
 
-list_follows : (i : ItemTree) (f : FixedTree) → names_in_all (operands_of f) ≡ [] → (form : FieldForm) (flags : ℕ) (links : List NameParts) (fs : List FieldTree) (us : FieldNodes) → AreFieldsOf fs us
+list_follows : (i : ItemTree) (f : FixedTree) → names_in_all (operands_of f) ≡ [] → (form : FieldForm) (flags : ℕ) (links : List NameParts) → f ≡ before_fields form flags links → (fs : List FieldTree) (us : FieldNodes) → AreFieldsOf fs us
     → ((k : ℕ) (inside : Option ℕ) → item_sites k inside i ≡ map (site_in inside) (unit_steps form flags links 0 fs)) → ItemFollows i (holds_fields f us)
-list_follows i f none form flags links fs us is sites_are look objects before inside around at es j level place end to stop s bytes is_node tiles finds h =
+list_follows i f none form flags links same fs us is sites_are look objects before inside around at es j level place end to stop s bytes is_node tiles finds h =
     same_start look objects around es s (passing s) (after_fields survey_rules (passing s) f us) refl refl refl
-    (fields_follow look f none form flags links 0 fs us is objects before inside around at es (subst (λ (xs : List Site). IsJustified objects before xs es) (sites_are (length before) inside) j)
-    (passing s) (stands_on objects around s (passing s) refl refl h))
+    (fields_follow look f none form flags links same 0 fs us is objects before inside around at es (subst (λ (xs : List Site). IsJustified objects before xs es) (sites_are (length before) inside) j)
+    to tiles.0 stop end tiles.2 finds.inside is_node.1 (subst (λ (k : ℕ). AreFields end k us is_node.1) (sym (zero-min (2 ^ 64 - 1))) is_node.4) (passing s) (stands_on objects around s (passing s) refl refl h))
 
 block_follows : (xs : List ExternalParts) (ms : NodeTrees) → AreExternals xs ms → ItemFollows (external_block xs) (holds (if_so (terms.int Zero)) ms)
 block_follows xs ms are look objects before inside around at es j level place end to stop s bytes is_node tiles finds h =
@@ -211,9 +253,10 @@ block_follows xs ms are look objects before inside around at es j level place en
     (same_end look objects around es s1 s2 (leave s2) (stands_on (union objects (objects_of es)) around s2 (leave s2) known scope_same f.stands) refl refl (entries_left s2) f)
 
 container_follows : (i : ItemTree) (form : ContainerForm) (n : NameParts) (vs : TermTrees) (o : ObjectTree) → opens_scope o ≡ true → (is : ItemTrees)
+    → ((part : Found) → IsPackage form vs part → IsPartOf o [] None part)
     → ((k : ℕ) (inside : Option ℕ) → item_sites k inside i ≡ site_in inside (step n (declares_alone o)) ∷ items_sites (suc k) (Some k) is)
     → (ms : NodeTrees) → AllFollow is ms → ItemFollows i (holds (container form n vs) ms)
-container_follows i form n vs o scoped is sites_are ms all look objects before inside around at es j level place end to stop s bytes is_node tiles finds h =
+container_follows i form n vs o scoped is is_part sites_are ms all look objects before inside around at es j level place end to stop s bytes is_node tiles finds h =
     by_site objects before inside around at (step n (declares_alone o)) (items_sites (suc (length before)) (Some (length before)) is)
     (Follows look objects around s (after survey_rules place s (holds (container form n vs) ms))) (λ p d fs k. within p d fs k) es (subst (λ (xs : List Site). IsJustified objects before xs es) (sites_are (length before) inside) j)
   where
@@ -240,7 +283,18 @@ container_follows i form n vs o scoped is sites_are ms all look objects before i
               ∙ f.entries
               ∙ ap (λ (l : List Entry). l ++ f.news) (entries_inside objects around s h o q n true scoped p d)
               ∙ append_assoc s.walk.entries (en ∷ []) f.news;
-          methods_there = λ m a. let r = f.methods_there m a in (r.0, inr r.1, r.2);
+          objects_there = (
+            record {
+              scope = h.scope_is;
+              path = refl;
+              place = place;
+              stands = refl;
+              part = node_found to (holds (container form n vs) ms);
+              found = finds.itself;
+              is_part = is_part (node_found to (holds (container form n vs) ms)) (to, n, ms, refl);
+            },
+            f.objects_there,
+          );
         }
 
 container_closed : (i : ItemTree) (form : ContainerForm) (n : NameParts) (vs : TermTrees) (o : ObjectTree) → opens_scope o ≡ true → (is : ItemTrees)
@@ -275,7 +329,7 @@ scope_follows n is ms all look objects before inside around at es j level place 
           base = f.base;
           news = f.news;
           entries = entries_left s2 ∙ f.entries ∙ ap (λ (l : List Entry). l ++ f.news) (entries_in_scope objects around s h place n p d);
-          methods_there = f.methods_there;
+          objects_there = f.objects_there;
         }
 
 scope_closed : (n : NameParts) (is : ItemTrees) (content : List ℕ) → ItemFollows (scope n is) (closed (outline.scope n) content)
@@ -308,26 +362,26 @@ none_more look objects before inside around at es j level end to start stop s by
 
 mutual
   item_follows : (i : ItemTree) (m : NodeTree) → IsItem i m → ItemFollows i m
-  item_follows (name n d) m h = subst (ItemFollows (name n d)) (sym h) (declaration_follows (name n d) named.Name no_terms n (more (data_term d) no_terms) (data_none d) (name_object d) refl [] (λ k inside. refl))
+  item_follows (name n d) m h = subst (ItemFollows (name n d)) (sym h) (declaration_follows (name n d) named.Name no_terms n (more (data_term d) no_terms) (data_none d) (name_object d) refl [] (λ part h. (refl, h)) (λ k inside. refl))
   item_follows (scope n is) m (inl (ms, e, h)) = subst (ItemFollows (scope n is)) (sym e) (scope_follows n is ms (items_follow is ms h))
   item_follows (scope n is) m (inr (b, e, h)) = subst (ItemFollows (scope n is)) (sym e) (scope_closed n is b)
   item_follows (device n is) m (inl (ms, e, h)) =
-      subst (ItemFollows (device n is)) (sym e) (container_follows (device n is) containers.Device n no_terms device_object refl is (λ k inside. refl) ms (items_follow is ms h))
+      subst (ItemFollows (device n is)) (sym e) (container_follows (device n is) containers.Device n no_terms device_object refl is (λ part h. (refl, h)) (λ k inside. refl) ms (items_follow is ms h))
   item_follows (device n is) m (inr (b, e, h)) = subst (ItemFollows (device n is)) (sym e) (container_closed (device n is) containers.Device n no_terms device_object refl is (λ k inside. refl) b)
   item_follows (processor n id block len is) m (inl (ms, e, h)) =
       subst (ItemFollows (processor n id block len is)) (sym e)
-      (container_follows (processor n id block len is) containers.Processor n (more (raw 1 id) (more (raw 4 block) (more (raw 1 len) no_terms))) (processor_object id block len) refl is (λ k inside. refl) ms (items_follow is ms h))
+      (container_follows (processor n id block len is) containers.Processor n (more (raw 1 id) (more (raw 4 block) (more (raw 1 len) no_terms))) (processor_object id block len) refl is (λ part h. (refl, h)) (λ k inside. refl) ms (items_follow is ms h))
   item_follows (processor n id block len is) m (inr (b, e, h)) =
       subst (ItemFollows (processor n id block len is)) (sym e)
       (container_closed (processor n id block len is) containers.Processor n (more (raw 1 id) (more (raw 4 block) (more (raw 1 len) no_terms))) (processor_object id block len) refl is (λ k inside. refl) b)
   item_follows (power n deepest order is) m (inl (ms, e, h)) =
       subst (ItemFollows (power n deepest order is)) (sym e)
-      (container_follows (power n deepest order is) containers.Power n (more (raw 1 deepest) (more (raw 2 order) no_terms)) (power_object deepest order) refl is (λ k inside. refl) ms (items_follow is ms h))
+      (container_follows (power n deepest order is) containers.Power n (more (raw 1 deepest) (more (raw 2 order) no_terms)) (power_object deepest order) refl is (λ part h. (refl, h)) (λ k inside. refl) ms (items_follow is ms h))
   item_follows (power n deepest order is) m (inr (b, e, h)) =
       subst (ItemFollows (power n deepest order is)) (sym e)
       (container_closed (power n deepest order is) containers.Power n (more (raw 1 deepest) (more (raw 2 order) no_terms)) (power_object deepest order) refl is (λ k inside. refl) b)
   item_follows (thermal n is) m (inl (ms, e, h)) =
-      subst (ItemFollows (thermal n is)) (sym e) (container_follows (thermal n is) containers.Thermal n no_terms thermal_object refl is (λ k inside. refl) ms (items_follow is ms h))
+      subst (ItemFollows (thermal n is)) (sym e) (container_follows (thermal n is) containers.Thermal n no_terms thermal_object refl is (λ part h. (refl, h)) (λ k inside. refl) ms (items_follow is ms h))
   item_follows (thermal n is) m (inr (b, e, h)) = subst (ItemFollows (thermal n is)) (sym e) (container_closed (thermal n is) containers.Thermal n no_terms thermal_object refl is (λ k inside. refl) b)
   item_follows (method n flags code) m h = subst (ItemFollows (method n flags code)) (sym h) (method_follows n flags code)
   item_follows (external x) m h =
@@ -337,25 +391,25 @@ mutual
   item_follows (external_block xs) m (inr (b, e, h)) =
       subst (ItemFollows (external_block xs)) (sym e) (λ look objects before inside around at es j level place end to stop s bytes is_node tiles finds stands. absurd (true≢false is_node.2))
   item_follows (mutex n flags) m h =
-      subst (ItemFollows (mutex n flags)) (sym h) (declaration_follows (mutex n flags) named.Mutex no_terms n (more (raw 1 flags) no_terms) refl (mutex_object flags) refl [] (λ k inside. refl))
-  item_follows (event n) m h = subst (ItemFollows (event n)) (sym h) (declaration_follows (event n) named.Event no_terms n no_terms refl event_object refl [] (λ k inside. refl))
+      subst (ItemFollows (mutex n flags)) (sym h) (declaration_follows (mutex n flags) named.Mutex no_terms n (more (raw 1 flags) no_terms) refl (mutex_object flags) refl [] (λ part h. (refl, h)) (λ k inside. refl))
+  item_follows (event n) m h = subst (ItemFollows (event n)) (sym h) (declaration_follows (event n) named.Event no_terms n no_terms refl event_object refl [] (λ part h. (refl, h)) (λ k inside. refl))
   item_follows (region n space offset len) m h =
       subst (ItemFollows (region n space offset len)) (sym h)
-      (declaration_follows (region n space offset len) named.Region no_terms n (more (raw 1 space) (more (terms.int offset) (more (terms.int len) no_terms))) refl (region_object space offset len) refl [] (λ k inside. refl))
+      (declaration_follows (region n space offset len) named.Region no_terms n (more (raw 1 space) (more (terms.int offset) (more (terms.int len) no_terms))) refl (region_object space offset len) refl [] (λ part h. (refl, h)) (λ k inside. refl))
   item_follows (field n flags es) m (us, e, h) =
-      subst (ItemFollows (field n flags es)) (sym e) (list_follows (field n flags es) (units fields.Field (n ∷ []) (more (raw 1 flags) no_terms)) refl FieldForm.Field flags (n ∷ []) es us h (λ k inside. refl))
+      subst (ItemFollows (field n flags es)) (sym e) (list_follows (field n flags es) (units fields.Field (n ∷ []) (more (raw 1 flags) no_terms)) refl FieldForm.Field flags (n ∷ []) refl es us h (λ k inside. refl))
   item_follows (index_field i k flags es) m (us, e, h) =
       subst (ItemFollows (index_field i k flags es)) (sym e)
-      (list_follows (index_field i k flags es) (units fields.IndexField (i ∷ k ∷ []) (more (raw 1 flags) no_terms)) refl FieldForm.Index flags (i ∷ k ∷ []) es us h (λ k inside. refl))
+      (list_follows (index_field i k flags es) (units fields.IndexField (i ∷ k ∷ []) (more (raw 1 flags) no_terms)) refl FieldForm.Index flags (i ∷ k ∷ []) refl es us h (λ k inside. refl))
   item_follows (bank_field n bank value flags es) m (us, e, h) =
       subst (ItemFollows (bank_field n bank value flags es)) (sym e)
-      (list_follows (bank_field n bank value flags es) (units fields.BankField (n ∷ bank ∷ []) (more (terms.int value) (more (raw 1 flags) no_terms))) refl (FieldForm.Bank value) flags (n ∷ bank ∷ []) es us h (λ k inside. refl))
+      (list_follows (bank_field n bank value flags es) (units fields.BankField (n ∷ bank ∷ []) (more (terms.int value) (more (raw 1 flags) no_terms))) refl (FieldForm.Bank value) flags (n ∷ bank ∷ []) refl es us h (λ k inside. refl))
   item_follows (create w source index n) m h =
       subst (ItemFollows (create w source index n)) (sym h)
-      (declaration_follows (create w source index n) (named.Create w) (more (terms.ref source) (more (terms.int index) no_terms)) n no_terms refl (create_object w index) refl (source ∷ []) (λ k inside. refl))
+      (declaration_follows (create w source index n) (named.Create w) (more (terms.ref source) (more (terms.int index) no_terms)) n no_terms refl (create_object w index) refl (source ∷ []) (λ part h. (source, refl, h)) (λ k inside. refl))
   item_follows (create_field source index bits n) m h =
       subst (ItemFollows (create_field source index bits n)) (sym h)
-      (declaration_follows (create_field source index bits n) named.CreateField (more (terms.ref source) (more (terms.int index) (more (terms.int bits) no_terms))) n no_terms refl (create_field_object index bits) refl (source ∷ []) (λ k inside. refl))
+      (declaration_follows (create_field source index bits n) named.CreateField (more (terms.ref source) (more (terms.int index) (more (terms.int bits) no_terms))) n no_terms refl (create_field_object index bits) refl (source ∷ []) (λ part h. (source, refl, h)) (λ k inside. refl))
 
   pub items_follow : (is : ItemTrees) (ms : NodeTrees) → AreItems is ms → AllFollow is ms
   items_follow no_items ms h = subst (AllFollow no_items) (sym h) none_more

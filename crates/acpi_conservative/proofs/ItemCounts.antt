@@ -133,10 +133,10 @@ closed_scope place n s = by (opened_at s.walk.known s.walk.around.scope n)
 counts_fields : (f : FixedTree) (form : FieldForm) (flags : ℕ) (links : List NameParts) (offset : ℕ) (es : List FieldTree) (us : FieldNodes) → AreFieldsOf es us
     → (s : Reading) → Counts s (after_fields survey_rules s f us) (counted (unit_steps form flags links offset es))
 counts_fields f form flags links offset [] us h s = subst (λ (us : FieldNodes). Counts s (after_fields survey_rules s f us) []) (sym h) (counts_none s s refl refl)
-counts_fields f form flags links offset (e ∷ es) us (place, rest, is, h) s =
+counts_fields f form flags links offset (e ∷ es) us (place, first_bit, rest, is, h) s =
     subst (λ (us : FieldNodes). Counts s (after_fields survey_rules s f us) (counted (unit_steps form flags links offset (e ∷ es)))) (sym is) (one_field e (λ next m. counts_fields f form flags links next es rest h m))
   where
-    one_field : (e : FieldTree) → ((next : ℕ) (m : Reading) → Counts m (after_fields survey_rules m f rest) (counted (unit_steps form flags links next es))) → Counts s (after_fields survey_rules s f (field_node place e rest)) (counted (unit_steps form flags links offset (e ∷ es)))
+    one_field : (e : FieldTree) → ((next : ℕ) (m : Reading) → Counts m (after_fields survey_rules m f rest) (counted (unit_steps form flags links next es))) → Counts s (after_fields survey_rules s f (field_node place first_bit e rest)) (counted (unit_steps form flags links offset (e ∷ es)))
     one_field (unit g bits) behind =
         let m : Reading = after_field s place f (unit g bits) in
         two_counts s m (after_fields survey_rules m f rest) (Some 0 ∷ []) (counted (unit_steps form flags links (offset + element_bits (unit g bits)) es))

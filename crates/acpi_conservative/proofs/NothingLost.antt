@@ -62,7 +62,7 @@ externals_kept (x ∷ xs) ms (place, ns, e, h) entered s end b =
 
 fields_kept : (es : List FieldTree) (us : FieldNodes) → AreFieldsOf es us → (s : Path) (end : ℕ) → AreKept (element_ranges s end us)
 fields_kept [] us h s end = subst (λ (us : FieldNodes). AreKept (element_ranges s end us)) (sym h) tt
-fields_kept (e ∷ es) us (place, rest, is, h) s end = subst (λ (us : FieldNodes). AreKept (element_ranges s end us)) (sym is) ((refl, λ unknown b. refl), fields_kept es rest h s end)
+fields_kept (e ∷ es) us (place, offset, rest, is, h) s end = subst (λ (us : FieldNodes). AreKept (element_ranges s end us)) (sym is) ((refl, λ unknown b. refl), fields_kept es rest h s end)
 
 -- neither the node nor anything in it
 abbrev IsNodeKept : Entered → ℕ → Path → ℕ → NodeTree → Type 0

@@ -4,25 +4,25 @@ use Rattle.std.specs.Option.{option_or}
 use Rattle.std.proofs.lemmas.Bool.{eqb-true, eq-eqb, ne_eqb}
 use Rattle.acpi_outline.specs.Nodes.{FixedTree, FieldNodes, no_more_fields, fields_lost, field_node, NodeTree, holds, holds_fields, NodeTrees, no_more, lost, node}
 use Rattle.acpi_outline.specs.Tiling.{TilesFields, TilesInside, Tiles}
-use Rattle.acpi_survey.specs.Lookup.{Found, node_found, element_found, first_field, bits_behind, element_at, first_node, inside_at, part_at}
+use Rattle.acpi_survey.specs.Lookup.{Found, node_found, element_found, first_field, element_at, first_node, inside_at, part_at}
 
 -- ---- what is found stands within the nodes
 
-element_within : (p end : ℕ) (f : FixedTree) (offset start stop : ℕ) (es : FieldNodes) → TilesFields start stop es → (x : Found) → element_at p end f offset es ≡ Some x → (start ≤ p) × (p < stop)
-element_within p end f offset start stop no_more_fields t x e = let h : ⊥ = cc in absurd h
-element_within p end f offset start stop (fields_lost q why) t x e = let h : ⊥ = cc in absurd h
-element_within p end f offset start stop (field_node q u es) t x e =
-    by (q == p) refl e (λ h. element_within p end f (bits_behind offset u) t.0 stop es t.4 x h)
+pub element_within : (p end : ℕ) (f : FixedTree) (start stop : ℕ) (es : FieldNodes) → TilesFields start stop es → (x : Found) → element_at p end f es ≡ Some x → (start ≤ p) × (p < stop)
+element_within p end f start stop no_more_fields t x e = let h : ⊥ = cc in absurd h
+element_within p end f start stop (fields_lost q why) t x e = let h : ⊥ = cc in absurd h
+element_within p end f start stop (field_node q offset u es) t x e =
+    by (q == p) refl e (λ h. element_within p end f t.0 stop es t.4 x h)
   where
-    by : (b : Bool) → (q == p) ≡ b → cond b (Some (element_found (first_field end es) f offset u)) (element_at p end f (bits_behind offset u) es) ≡ Some x
-        → (element_at p end f (bits_behind offset u) es ≡ Some x → (t.0 ≤ p) × (p < stop)) → (start ≤ p) × (p < stop)
+    by : (b : Bool) → (q == p) ≡ b → cond b (Some (element_found (first_field end es) f offset u)) (element_at p end f es) ≡ Some x
+        → (element_at p end f es ≡ Some x → (t.0 ≤ p) × (p < stop)) → (start ≤ p) × (p < stop)
     by true is e later = let same : q ≡ p = eqb-true q p is in (omega (arith, same, t.1), omega (arith, same, t.1, t.2, t.3))
     by false is e later = let r = later e in (omega (arith, r.0, t.2), r.1)
 
 mutual
   inside_within : (p end place stop : ℕ) (n : NodeTree) → TilesInside place stop n → (x : Found) → inside_at p end n ≡ Some x → (place < p) × (p < stop)
   inside_within p end place stop (holds f ns) t x e = let r = part_within p end t.0 stop ns t.2 x e in (omega (arith, r.0, t.1), r.1)
-  inside_within p end place stop (holds_fields f es) t x e = let r = element_within p end f 0 t.0 stop es t.2 x e in (omega (arith, r.0, t.1), r.1)
+  inside_within p end place stop (holds_fields f es) t x e = let r = element_within p end f t.0 stop es t.2 x e in (omega (arith, r.0, t.1), r.1)
   inside_within p end place stop n t x e = let h : ⊥ = cc in absurd h
 
   pub part_within : (p end start stop : ℕ) (ns : NodeTrees) → Tiles start stop ns → (x : Found) → part_at p end ns ≡ Some x → (start ≤ p) × (p < stop)

@@ -1,25 +1,23 @@
--- One state of the reading behind another, as the placements between them say: what Externals say, and where methods stand.
-use Rattle.std.proofs.Common.{◌≡◌, ◌+◌, ℕ, false, List, [], ◌∷◌, ◌++◌, append_assoc, append-nil, Option, Some, inl, inr, ◌⊎◌, refl, sym, ap, subst, ◌∙◌}
+-- One state of the reading behind another, as the placements between them say: what Externals say, and where objects stand.
+use Rattle.std.proofs.Common.{◌≡◌, ◌+◌, ℕ, false, List, [], ◌∷◌, ◌++◌, append_assoc, append-nil, Option, Some, refl, sym, ap, subst, ◌∙◌}
 use Rattle.std.specs.FinMap as finite
+use Rattle.std.specs.List.{AllZip}
 use Rattle.acpi_name.specs.Names.{NameParts}
 use Rattle.acpi_space.specs.Lookups.{Lookup, singleton, union}
 use Rattle.acpi_space.specs.Spaces.{PathMap}
-use Rattle.acpi_space.specs.Laws.{Among}
 use Rattle.acpi_tree.specs.Objects.{ObjectTree, opens_scope}
 use Rattle.acpi_declare.specs.Namespace.{Namespace}
 use Rattle.acpi_declare.specs.Sites.{declares, Step, step, Site, site_in}
 use Rattle.acpi_declare.specs.Placing.{IsDeclared, IsPlaced}
 use Rattle.acpi_declare.specs.Listing.{Placement, object_by, object_of, objects_of, IsJustified}
-use Rattle.acpi_declare.specs.Notes.{counts_by, external_counts, Method, methods_by, methods}
+use Rattle.acpi_declare.specs.Notes.{counts_by, external_counts}
 use Rattle.acpi_declare.proofs.Unions.{union-nothing, union_assoc}
-use Rattle.acpi_outline.specs.Nodes as outline
-use Rattle.acpi_outline.specs.Nodes.{closed}
 use Rattle.acpi_conditions.specs.Nodes.{Term}
 use Rattle.acpi_conditions.specs.Entries.{Path, Entry}
 use Rattle.acpi_survey.specs.Nodes.{term_at}
-use Rattle.acpi_conditions.proofs.Basics.{among_left, among_right, among_append}
 use Rattle.acpi_survey.specs.Reading.{Reading, declaring}
-use Rattle.acpi_survey.specs.Lookup.{Found, node_found}
+use Rattle.acpi_survey.specs.Lookup.{Found}
+use Rattle.acpi_conservative.specs.Parts.{Declared, declared_by, declared, IsPartOf}
 use Rattle.acpi_conservative.proofs.Items.{Inside, inside_now}
 use Rattle.acpi_conservative.proofs.Standing.{StandsIn, made, stands_behind, entries_behind}
 
@@ -35,10 +33,17 @@ counts_both (e ∷ es) fs =
     let c : Lookup ℕ = counts_by e.step.effect e.scope e.step.name in
     ap (union c) (counts_both es fs) ∙ sym (union_assoc c (external_counts es) (external_counts fs))
 
-methods_both : (es fs : List Placement) → methods (es ++ fs) ≡ methods es ++ methods fs
-methods_both [] fs = refl
-methods_both (e ∷ es) fs =
-    ap (λ (ms : List Method). methods_by e.step.effect e.path ++ ms) (methods_both es fs) ∙ sym (append_assoc (methods_by e.step.effect e.path) (methods es) (methods fs))
+declared_both : (es fs : List Placement) → declared (es ++ fs) ≡ declared es ++ declared fs
+declared_both [] fs = refl
+declared_both (e ∷ es) fs =
+    let ds : List Declared = declared_by e.step.effect e.scope e.path in
+    ap (λ (l : List Declared). ds ++ l) (declared_both es fs) ∙ sym (append_assoc ds (declared es) (declared fs))
+
+pub both_zip : {X Y : Type 0} (R : X → Y → Type 0) (xs us : List X) (ys vs : List Y) → AllZip R xs ys → AllZip R us vs → AllZip R (xs ++ us) (ys ++ vs)
+both_zip R [] us [] vs h k = k
+both_zip R [] us (y ∷ ys) vs h k = absurd h
+both_zip R (x ∷ xs) us [] vs h k = absurd h
+both_zip R (x ∷ xs) us (y ∷ ys) vs h k = (h.0, both_zip R xs us ys vs h.1 k)
 
 pub none_justified : (objects : Namespace) (before : List Path) (es : List Placement) → IsJustified objects before [] es → es ≡ []
 none_justified objects before [] j = refl
@@ -46,28 +51,28 @@ none_justified objects before (e ∷ es) j = absurd j
 
 -- ---- one state behind another
 
--- the entry stands where the search finds the method's code
-pub record IsMethodAt (look : ℕ → Option Found) (base : ℕ) (m : Method) (e : Entry) : Type 0 where
-  pub path : e.path ≡ m.path
+-- the entry is the object's, and stands where the search finds its part
+pub record IsObjectAt (look : ℕ → Option Found) (base : ℕ) (d : Declared) (e : Entry) : Type 0 where
+  pub scope : e.scope ≡ d.scope
+  pub path : e.path ≡ d.path
   pub place : ℕ
   pub stands : e.term.place ≡ base + place
-  pub to : ℕ
-  pub declared : NameParts
-  pub flags : ℕ
-  pub found : look place ≡ Some (node_found to (closed (outline.method declared flags) m.code))
+  pub part : Found
+  pub found : look place ≡ Some part
+  pub is_part : IsPartOf d.object d.links d.code part
 
-abbrev pub HaveEntries : (look : ℕ → Option Found) → (base : ℕ) → List Method → List Entry → Type 0
-HaveEntries look base ms es = (m : Method) → Among ms m → (e : Entry) × Among es e × IsMethodAt look base m e
+abbrev pub HaveEntries : (look : ℕ → Option Found) → (base : ℕ) → List Declared → List Entry → Type 0
+HaveEntries look base = AllZip (IsObjectAt look base)
 
 -- The state follows another by these placements: where it stands, what the Externals so far say, and the entries behind those before,
--- one for each method where its code is found.
+-- one for each object, in their order.
 pub record Follows (look : ℕ → Option Found) (objects : Namespace) (around : Path) (s s' : Reading) (es : List Placement) : Type 0 where
   pub stands : StandsIn (union objects (objects_of es)) around s'
   pub heard : finite.get s'.expected ≡ union (finite.get s.expected) (external_counts es)
   pub base : s'.base ≡ s.base
   pub news : List Entry
   pub entries : s'.walk.entries ≡ s.walk.entries ++ news
-  pub methods_there : HaveEntries look s.base (methods es) news
+  pub objects_there : HaveEntries look s.base (declared es) news
 
 -- what changes nothing of these
 pub stays : (look : ℕ → Option Found) (objects : Namespace) (around : Path) (s s' : Reading) → StandsIn objects around s' → s'.expected ≡ s.expected → s'.base ≡ s.base → s'.walk.entries ≡ s.walk.entries
@@ -78,7 +83,7 @@ stays look objects around s s' h expected base entries = record {
   base = base;
   news = [];
   entries = entries ∙ sym (append-nil s.walk.entries);
-  methods_there = λ m a. absurd a;
+  objects_there = tt;
 }
 
 -- one after another
@@ -94,12 +99,9 @@ both_follow look objects around s m s' es fs f g = record {
   base = g.base ∙ f.base;
   news = f.news ++ g.news;
   entries = g.entries ∙ ap (λ (l : List Entry). l ++ g.news) f.entries ∙ append_assoc s.walk.entries f.news g.news;
-  methods_there = λ x a. by x (among_append (methods es) (methods fs) x (subst (λ (ms : List Method). Among ms x) (methods_both es fs) a));
+  objects_there = subst (λ (ds : List Declared). HaveEntries look s.base ds (f.news ++ g.news)) (sym (declared_both es fs))
+      (both_zip (IsObjectAt look s.base) (declared es) (declared fs) f.news g.news f.objects_there (subst (λ (b : ℕ). HaveEntries look b (declared fs) g.news) f.base g.objects_there));
 }
-  where
-    by : (x : Method) → Among (methods es) x ⊎ Among (methods fs) x → (e : Entry) × Among (f.news ++ g.news) e × IsMethodAt look s.base x e
-    by x (inl a) = let r = f.methods_there x a in (r.0, among_left f.news g.news r.0 r.1, r.2)
-    by x (inr a) = let r = g.methods_there x a in (r.0, among_right f.news g.news r.0 r.1, subst (λ (b : ℕ). IsMethodAt look b x r.0) f.base r.2)
 
 -- ---- one site
 
@@ -129,12 +131,12 @@ by_one objects before inside around at x Goal f es j =
 -- ---- a term that declares
 
 module _ (look : ℕ → Option Found) (objects : Namespace) (around : Path) (s : Reading) (h : StandsIn objects around s) (place : ℕ) (n : NameParts) where
-  -- whose code, if it has one, is found at its place
+  -- whose part is found at its place
   pub term_follows : (o : ObjectTree) (links : List NameParts) (code : Option (List ℕ)) (t : Term) → t ≡ term_at (s.base + place) n false [] → opens_scope o ≡ false
       → (c : Option ℕ) (p : Path) → IsDeclared objects around n p
-      → ((m : Method) → Among (methods_by (declares o links code) p ++ []) m → (e : Entry) → e.path ≡ p → e.term.place ≡ s.base + place → IsMethodAt look s.base m e)
+      → (part : Found) → look place ≡ Some part → IsPartOf o links code part
       → Follows look objects around s (declaring t c s) (placement (step n (declares o links code)) around p ∷ [])
-  term_follows o links code t t_is alone c p d there =
+  term_follows o links code t t_is alone c p d part found is_part =
       let u : Term = term_at (s.base + place) n false [] in
       let en : Entry = made objects around s h o (s.base + place) n false alone p d in
       subst (λ (t : Term). Follows look objects around s (declaring t c s) (placement (step n (declares o links code)) around p ∷ [])) (sym t_is) (record {
@@ -143,7 +145,7 @@ module _ (look : ℕ → Option Found) (objects : Namespace) (around : Path) (s 
         base = refl;
         news = en ∷ [];
         entries = entries_behind objects around s h o (s.base + place) n false alone p d c;
-        methods_there = λ m a. (en, inl refl, there m a en refl refl);
+        objects_there = (record { scope = h.scope_is; path = refl; place = place; stands = refl; part = part; found = found; is_part = is_part }, tt);
       })
 
 pub no_names : (place : ℕ) (n : NameParts) (names : List NameParts) → names ≡ [] → term_at place n false names ≡ term_at place n false []
@@ -159,7 +161,7 @@ module _ (look : ℕ → Option Found) (objects : Namespace) (around : Path) (es
     base = f.base ∙ base;
     news = f.news;
     entries = f.entries ∙ ap (λ (l : List Entry). l ++ f.news) entries;
-    methods_there = λ m a. let r = f.methods_there m a in (r.0, r.1, subst (λ (b : ℕ). IsMethodAt look b m r.0) base r.2);
+    objects_there = subst (λ (b : ℕ). HaveEntries look b (declared es) f.news) base f.objects_there;
   }
 
   pub same_end : (s m s' : Reading) → StandsIn (union objects (objects_of es)) around s' → s'.expected ≡ m.expected → s'.base ≡ m.base → s'.walk.entries ≡ m.walk.entries
@@ -170,5 +172,5 @@ module _ (look : ℕ → Option Found) (objects : Namespace) (around : Path) (es
     base = base ∙ f.base;
     news = f.news;
     entries = entries ∙ f.entries;
-    methods_there = f.methods_there;
+    objects_there = f.objects_there;
   }

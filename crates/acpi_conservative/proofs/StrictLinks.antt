@@ -1,5 +1,5 @@
 -- The links of an entry are what the strict load finds.
-use Rattle.std.proofs.Common.{◌≡◌, ℕ, List, [], ◌∷◌, map, refl, sym, subst, ◌∙◌}
+use Rattle.std.proofs.Common.{◌≡◌, ℕ, List, [], ◌∷◌, map, is_some, refl, sym, subst, ◌∙◌}
 use Rattle.std.specs.Prelude.{option_to_list}
 use Rattle.std.specs.List.{AllByRecursion, AllZip, flat_map}
 use Rattle.acpi_name.specs.Names.{NameParts}
@@ -12,15 +12,15 @@ use Rattle.acpi_declare.specs.Loads.{AreListings, objects_after}
 use Rattle.acpi_declare.specs.Predefined.{predefined}
 use Rattle.acpi_outline.specs.Nodes.{NodeTrees}
 use Rattle.acpi_conditions.specs.Entries.{Path, Entry, HasNoCondition}
-use Rattle.acpi_conditions.specs.Known.{candidates}
+use Rattle.acpi_conditions.specs.Known.{candidates, is_certain_name}
 use Rattle.acpi_conditions.specs.Views.{seen_by}
 use Rattle.acpi_conditions.proofs.Basics.{all_append}
 use Rattle.acpi_survey.specs.Reading.{Reading}
 use Rattle.acpi_survey.specs.Predefined.{first_reading}
 use Rattle.acpi_survey.specs.Survey.{AreRead}
 use Rattle.acpi_conservative.specs.Strict.{all_placed}
-use Rattle.acpi_conservative.specs.Laws.{IsEntryOf, StrictLinks}
-use Rattle.acpi_conservative.proofs.AllSeen.{is_there, seen_certain, seen_possible, one_candidate}
+use Rattle.acpi_conservative.specs.Laws.{IsEntryOf, StrictLinks, StrictCertain}
+use Rattle.acpi_conservative.proofs.AllSeen.{is_there, seen_certain, seen_possible, one_candidate, one_certain}
 use Rattle.acpi_conservative.proofs.ObjectsThere.{predefined_unconditional, unconditional, all_there}
 use Rattle.acpi_conservative.proofs.ReadTables.{strict_read_is_survey}
 
@@ -39,12 +39,18 @@ is_all_there depth tables ts l nss last r =
       there = λ p. all_there ts s.0 p placed;
     })
 
-one_link : (objects : Namespace) (es : List Entry) → IsAllThere objects es → (e : Entry) (s : Path) (n : NameParts)
+pub one_link : (objects : Namespace) (es : List Entry) → IsAllThere objects es → (e : Entry) (s : Path) (n : NameParts)
     → candidates (seen_by (record { entries = es; entry = e })) s n ≡ option_to_list (answer (is_defined_in objects) s n)
 one_link objects es all e s n =
     one_candidate (seen_by (record { entries = es; entry = e })) (is_defined_in objects)
     (λ p. seen_certain es e all.no_condition p ∙ sym (all.there p))
     (λ p y. all.there p ∙ sym (seen_possible es e all.no_condition p) ∙ y) (tries s n)
+
+-- the name is found for certain, where it is found
+pub certain_link : (objects : Namespace) (es : List Entry) → IsAllThere objects es → (e : Entry) (s : Path) (n : NameParts)
+    → is_certain_name (seen_by (record { entries = es; entry = e })) s n ≡ is_some (answer (is_defined_in objects) s n)
+certain_link objects es all e s n =
+    one_certain (seen_by (record { entries = es; entry = e })) (is_defined_in objects) (λ p. seen_certain es e all.no_condition p ∙ sym (all.there p)) (tries s n)
 
 all_links : (objects : Namespace) (es : List Entry) → IsAllThere objects es → (e : Entry) (s : Path) (names : List NameParts)
     → map (candidates (seen_by (record { entries = es; entry = e })) s) names ≡ map option_to_list (answers objects s names)
@@ -53,3 +59,6 @@ all_links objects es all e s (n ∷ ns) = λ i. one_link objects es all e s n i 
 
 pub strict_links : StrictLinks
 strict_links depth tables ts l nss last r e names = all_links (objects_after predefined ts) last.walk.entries (is_all_there depth tables ts l nss last r) e e.scope names
+
+pub strict_certain : StrictCertain
+strict_certain depth tables ts l nss last r e n = certain_link (objects_after predefined ts) last.walk.entries (is_all_there depth tables ts l nss last r) e e.scope n

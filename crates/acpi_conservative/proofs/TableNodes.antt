@@ -271,19 +271,19 @@ module _ (base place : ℕ) (i : ItemTree) (form : ContainerForm) (n : NameParts
 
 module _ (base : ℕ) (vs : TermTrees) (none : names_in_all vs ≡ []) (form : FieldForm) (flags : ℕ) (links : List NameParts) (rest : Nodes) where
   -- an element, and those behind it
-  field_without : (offset : ℕ) (e : FieldTree) (es : List FieldTree) (place : ℕ) (us : FieldNodes)
+  field_without : (offset : ℕ) (e : FieldTree) (es : List FieldTree) (place first_bit : ℕ) (us : FieldNodes)
       → ((next : ℕ) → without_places (fields_at base vs us rest) ≡ steps_nodes (unit_steps form flags links next es) (without_places rest))
-      → without_places (fields_at base vs (field_node place e us) rest) ≡ steps_nodes (unit_steps form flags links offset (e ∷ es)) (without_places rest)
-  field_without offset (unit g bits) es place us later =
+      → without_places (fields_at base vs (field_node place first_bit e us) rest) ≡ steps_nodes (unit_steps form flags links offset (e ∷ es)) (without_places rest)
+  field_without offset (unit g bits) es place first_bit us later =
       term_without (read.name_of g) (names_in_all vs) (without_places (fields_at base vs us rest)) none
       ∙ ap (declares (term_of (read.name_of g) false) no_nodes) (later (offset + element_bits (unit g bits)))
-  field_without offset e es place us later = later (offset + element_bits e)
+  field_without offset e es place first_bit us later = later (offset + element_bits e)
 
   fields_without : (es : List FieldTree) (us : FieldNodes) → AreFieldsOf es us → (offset : ℕ)
       → without_places (fields_at base vs us rest) ≡ steps_nodes (unit_steps form flags links offset es) (without_places rest)
   fields_without [] us h offset = ap (λ (us : FieldNodes). without_places (fields_at base vs us rest)) h
-  fields_without (e ∷ es) us (place, more_us, is, h) offset =
-      ap (λ (us : FieldNodes). without_places (fields_at base vs us rest)) is ∙ field_without offset e es place more_us (λ next. fields_without es more_us h next)
+  fields_without (e ∷ es) us (place, first_bit, more_us, is, h) offset =
+      ap (λ (us : FieldNodes). without_places (fields_at base vs us rest)) is ∙ field_without offset e es place first_bit more_us (λ next. fields_without es more_us h next)
 
 field_goes_on : (place : ℕ) (f : FixedTree) (e : FieldTree) (s : Reading) → GoesOn s (after_field s place f e) (read.element_at (s.base + place) (operands_of f) e) (read.element_at (s.base + place) (operands_of f) e)
 field_goes_on place f (unit g bits) s = term_goes_on (read.unit_at (s.base + place) g (operands_of f)) (Some 0) s
@@ -296,12 +296,12 @@ field_base place f e s = refl
 fields_base : (f : FixedTree) (us : FieldNodes) (s : Reading) → (after_fields survey_rules s f us).base ≡ s.base
 fields_base f no_more_fields s = refl
 fields_base f (fields_lost place why) s = refl
-fields_base f (field_node place e us) s = fields_base f us (after_field s place f e) ∙ field_base place f e s
+fields_base f (field_node place offset e us) s = fields_base f us (after_field s place f e) ∙ field_base place f e s
 
 fields_go_on : (f : FixedTree) (us : FieldNodes) (base : ℕ) (s : Reading) → s.base ≡ base → GoesOn s (after_fields survey_rules s f us) (fields_at base (operands_of f) us) (fields_at base (operands_of f) us)
 fields_go_on f no_more_fields base s is = stays s s refl refl
 fields_go_on f (fields_lost place why) base s is = stays s s refl refl
-fields_go_on f (field_node place e us) base s is =
+fields_go_on f (field_node place offset e us) base s is =
     let m : Reading = after_field s place f e in
     let put : Nodes → Nodes = read.element_at (base + place) (operands_of f) e in
     let rest : Nodes → Nodes = fields_at base (operands_of f) us in

@@ -1,10 +1,12 @@
 -- Where the strict load lists tables, the survey lists the same, without conditions (ACPI 6.5, 5.3).
-use Rattle.std.specs.Prelude.{◌≡◌, ℕ, false, List, [], ◌++◌, map, option_to_list, Option, Some, slice_get}
-use Rattle.std.specs.List.{AllByRecursion, AllZip, flat_map}
+use Rattle.std.specs.Prelude.{◌≡◌, ℕ, false, List, [], ◌++◌, map, option_to_list, is_some, Option, Some, slice_get}
+use Rattle.std.specs.List.{All, AllByRecursion, AllZip, concat, flat_map}
 use Rattle.std.specs.FinMap as finite
+use Rattle.acpi_table.specs.Tables.{IsTable}
 use Rattle.acpi_name.specs.Names.{NameParts}
 use Rattle.acpi_space.specs.Spaces.{PathMap}
-use Rattle.acpi_space.specs.Lookups.{Lookup}
+use Rattle.acpi_space.specs.Lookups.{Lookup, is_defined_in}
+use Rattle.acpi_space.specs.Search.{answer}
 use Rattle.acpi_tree.specs.Tree.{ItemTrees}
 use Rattle.acpi_tree.specs.TermView.{terms_tree}
 use Rattle.acpi_declare.specs.Namespace.{Namespace}
@@ -24,11 +26,11 @@ use Rattle.acpi_outline.specs.Nodes.{NodeTrees}
 use Rattle.acpi_outline.specs.Strict.{AreItems}
 use Rattle.acpi_conditions.specs.Entries as entries
 use Rattle.acpi_conditions.specs.Entries.{Path, Entry, HasNoCondition}
-use Rattle.acpi_conditions.specs.Known.{Known}
+use Rattle.acpi_conditions.specs.Known.{Known, is_certain_name}
 use Rattle.acpi_conditions.specs.Survey.{surveys}
 use Rattle.acpi_conditions.specs.Laws.{IsAllOf, IsStrict}
 use Rattle.acpi_conditions.specs.Listings as conditions
-use Rattle.acpi_conditions.specs.Views.{links_by}
+use Rattle.acpi_conditions.specs.Views.{seen_by, links_by}
 use Rattle.acpi_survey.specs.declared.tables.Judged.{Judged}
 use Rattle.acpi_survey.specs.declared.tables.Judged.TheVariants.{Read}
 use Rattle.acpi_survey.specs.declared.machine_survey.SurveyedTable.{SurveyedTable}
@@ -39,6 +41,7 @@ use Rattle.acpi_survey.specs.Bodies.{entry_count}
 use Rattle.acpi_survey.specs.EntryBodies.{IsBodyOf}
 use Rattle.acpi_survey.specs.Found.{problems_in, notes_by}
 use Rattle.acpi_survey.specs.Notes.{Unknowns}
+use Rattle.acpi_survey.specs.Pieces.{ArePieces}
 use Rattle.acpi_survey.specs.Ranges.{Entered}
 use Rattle.acpi_survey.specs.Surveys.{AreTables, bytes_of}
 use Rattle.acpi_survey.specs.Tables.{IsJudged}
@@ -70,6 +73,10 @@ abbrev pub PredefinedIsKnown : Type 0
 PredefinedIsKnown = IsAllOf predefined_terms predefined_known
 
 -- ---- as the survey reads the bytes
+
+-- a file that holds whole tables, one behind another, is cut into these
+abbrev pub StrictFileIsCut : Type 0
+StrictFileIsCut = (tables : List (List ℕ)) → All IsTable tables → (pieces : List (List ℕ)) → ArePieces pieces (concat tables) → pieces ≡ tables
 
 -- nothing is wrong with a table of the strict load: it isn't cut, its bytes sum to 0, it is in place, and nothing stands behind it
 abbrev pub StrictTableIsRead : Type 0
@@ -119,6 +126,13 @@ StrictLinks = (depth : ℕ) (tables : List (List ℕ)) (ts : List (List Placemen
     → (nss : List NodeTrees) (last : Reading) → AreRead depth 0 first_reading tables nss last
     → (e : Entry) (names : List NameParts)
     → links_by (record { entries = last.walk.entries; entry = e }) names ≡ map option_to_list (answers (objects_after predefined ts) e.scope names)
+
+-- A name is found for certain, where it is found.
+abbrev pub StrictCertain : Type 0
+StrictCertain = (depth : ℕ) (tables : List (List ℕ)) (ts : List (List Placement)) → AreListings depth 0 predefined tables ts
+    → (nss : List NodeTrees) (last : Reading) → AreRead depth 0 first_reading tables nss last
+    → (e : Entry) (n : NameParts)
+    → is_certain_name (seen_by (record { entries = last.walk.entries; entry = e })) e.scope n ≡ is_some (answer (is_defined_in (objects_after predefined ts)) e.scope n)
 
 -- as many values follow a name in the body of a method, whatever Externals say and the body has declared
 abbrev pub StrictCounts : Type 0

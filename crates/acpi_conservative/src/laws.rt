@@ -1,5 +1,6 @@
 //! The law that the survey extends the strict load: the functions do nothing, and their contracts state the law.
-ghost use Rattle.acpi_conservative.specs.Laws.{StrictIsListing, StrictLoadIsSurvey, StrictTablesAreSurvey, PredefinedAgrees, PredefinedIsKnown, StrictTableIsRead, StrictReadIsSurvey, StrictReadIsItems, StrictHasNoProblem, StrictHasNoNote, StrictLinks, StrictCounts, StrictExternals, StrictBodies, StrictMachineBodies};
+ghost use Rattle.acpi_conservative.specs.Parts.{StrictReadIsDeclared};
+ghost use Rattle.acpi_conservative.specs.Laws.{StrictIsListing, StrictLoadIsSurvey, StrictTablesAreSurvey, PredefinedAgrees, PredefinedIsKnown, StrictFileIsCut, StrictTableIsRead, StrictReadIsSurvey, StrictReadIsItems, StrictHasNoProblem, StrictHasNoNote, StrictLinks, StrictCertain, StrictCounts, StrictExternals, StrictBodies, StrictMachineBodies};
 
 /// Where item trees of tables have strict listings, their nodes have these listings, and the surveys are these: no entry
 /// has a condition, and nothing is refused. So it is where a list of byte strings has strict listings, as `load` needs.
@@ -13,6 +14,11 @@ pub fn strict_load_is_survey()
 pub fn predefined_is_known()
     ensures agrees { PredefinedAgrees }
     ensures known { PredefinedIsKnown }
+{}
+
+/// A file that holds whole tables, one behind another, is cut into these: the survey reads the tables that the strict load does.
+pub fn strict_file_is_cut_alike()
+    ensures { StrictFileIsCut }
 {}
 
 /// Of a table of the strict load all of its code is read, and nothing is wrong with it. Where a list of tables has strict
@@ -30,10 +36,17 @@ pub fn strict_read_is_whole()
     ensures notes { StrictHasNoNote }
 {}
 
-/// Behind them the links of each entry are what the strict load finds over all objects, and as many values follow a name
-/// in a method's body, whatever the Externals say.
+/// So the entries that the survey reads are those of the objects that the listings declare, in their order: each stands at the
+/// object's path, is declared in its scope, and the part of the tables that declares it is the object's.
+pub fn strict_objects_have_parts()
+    ensures { StrictReadIsDeclared }
+{}
+
+/// Behind them the links of each entry are what the strict load finds over all objects, each found for certain, and as many
+/// values follow a name in a method's body, whatever the Externals say.
 pub fn strict_links_and_counts()
     ensures links { StrictLinks }
+    ensures certain { StrictCertain }
     ensures counts { StrictCounts }
 {}
 
