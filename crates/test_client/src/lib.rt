@@ -1,6 +1,6 @@
 //! A client of the libraries: each public call of what they promise is made once in the way in which a program makes it, and
 //! each public type is taken apart by its variants and fields. So a change of a name or a signature shows here. What the
-//! calls answer is told by contracts and by `worked_examples`; nothing here is called from elsewhere.
+//! calls answer is told by contracts and by `test_libraries`; nothing here is called from elsewhere.
 #![tactic(auto)]
 
 #[cfg(test)]

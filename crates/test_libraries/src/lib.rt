@@ -1,7 +1,7 @@
 //! Worked examples of the libraries: each public call is made here, or by a call that is made here, over both kinds of
-//! space, and has an answer where memory is there; but for `rewrite_joined` and the calls of `acpi_text`, which runs of
-//! the program make, and `terms_fit`, which `nesting` makes. Rows stand here for what no contract states: which of several true
-//! faults of items is told, and texts that are printed. Nothing here is called from elsewhere.
+//! space, and has an answer where memory is there; but for the calls of `acpi_text`, which runs of the program make, and
+//! `terms_fit`, which `test_depth` makes. Rows stand here for what no contract states: which of several true faults of items is
+//! told, and texts that are printed. Nothing here is called from elsewhere.
 #![tactic(auto)]
 
 #[cfg(test)]
