@@ -2,8 +2,8 @@
 
 use crate::words::Topic;
 
-/// What `--version` prints: the version, and the kit that builds it.
-pub const VERSION: &str = "acpins-survey 0.3.0 (rattle-kit-13f)\n";
+/// What `--version` prints: the version, and the logic of the kit that proves it, as `rt version` tells it.
+pub const VERSION: &str = "acpins-survey 0.3.0 (rattle-kit logic dac8208d650f15bf)\n";
 
 const PROGRAM: &str = "\
 acpins-survey: what the tables DSDT and SSDT of a machine declare or may declare, and under which condition
