@@ -1,2 +1,3 @@
 pub mod Small
 pub mod OnePath
+pub mod Listed

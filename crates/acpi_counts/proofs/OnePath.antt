@@ -1,18 +1,15 @@
 -- The search of a name where one path alone is defined.
-use Rattle.std.proofs.Common.{◌≡◌, ◌↔◌, ℕ, Bool, true, false, cond, true≢false, List, [], ◌∷◌, ◌++◌, drop, length, Option, Some, None, is_some, Result, Ok, Err, IfOk, refl, sym, ap, ◌∙◌}
+use Rattle.std.proofs.Common.{◌≡◌, ◌↔◌, Bool, true, false, cond, true≢false, List, [], ◌∷◌, ◌++◌, drop, length, Option, Some, None, Result, Ok, Err, IfOk, refl, sym, ap, ◌∙◌}
 use Rattle.std.specs.Prelude.{IsTrue, nat_eq}
 use Rattle.std.specs.Cmp.Lexicographic.{pointwise, bytes_decides}
-use Rattle.std.specs.FinMap.{empty, get, get-empty, insert, get-insert}
 use Rattle.std.specs.List.{starts_with}
 use Rattle.std.proofs.lemmas.List.{same_from_push}
 use Rattle.std.proofs.lemmas.Slice.Eq.{starts_is}
 use Rattle.acpi_name.specs.Names.{Segment, NameParts, plain_segment}
-use Rattle.acpi_name.specs.Paths.{path_cmp, place_of}
-use Rattle.acpi_name.specs.steps.PathOrder.{path_cmp_total}
+use Rattle.acpi_name.specs.Paths.{place_of}
 use Rattle.acpi_space.specs.Laws.{IsBelow, IsLongestAnswer, IsPlaceAnswer, OtherIsAtPlace, PlainIsLongest}
 use Rattle.acpi_space.specs.Lookups.{is_same_path}
 use Rattle.acpi_space.specs.Search.{answer}
-use Rattle.acpi_space.specs.Spaces.{PathMap, is_defined}
 use Rattle.acpi_space.proofs.Comparisons.{path_itself, same_path}
 
 -- the path ends in a segment, behind a beginning of the scope
@@ -54,28 +51,3 @@ pub other_of : {E : Type 0} → OtherIsAtPlace → (s p : List Segment) (n : Nam
     → IfOk r (λ b. answer (λ q. is_same_path q p) s n ≡ cond b (Some p) None)
 other_of law s p n (Ok b) e iff = other_is law s p n b e iff
 other_of law s p n (Err x) e iff = tt
-
--- ---- the map of one path
-
-abbrev one : List Segment → ℕ → PathMap ℕ
-one p n = insert empty p n
-
-get-one : (p q : List Segment) (n : ℕ) → get (one p n) q ≡ cond (is_same_path q p) (Some n) None
-get-one p q n = get-insert path_cmp_total empty p n q ∙ ap (cond (is_same_path q p) (Some n)) (get-empty path_cmp q)
-
-pub one_there : (p q : List Segment) (n : ℕ) → p ≡ q → Some n ≡ get (one p n) q
-one_there p q n e = sym (get-one p q n ∙ ap (λ b. cond b (Some n) None) (ap (λ x. is_same_path x p) (sym e) ∙ path_itself p))
-
-pub one_elsewhere : (p q : List Segment) (n : ℕ) (b : Bool) → b ≡ is_same_path p q → b ≡ false → None ≡ get (one p n) q
-one_elsewhere p q n b e f = sym (get-one p q n ∙ by (is_same_path q p) refl)
-  where
-    by : (c : Bool) → is_same_path q p ≡ c → cond c (Some n) None ≡ None
-    by true is = absurd (true≢false (sym (path_itself p) ∙ ap (is_same_path p) (sym (same_path q p is)) ∙ sym e ∙ f))
-    by false is = refl
-
-either_defined : (b : Bool) (n : ℕ) → is_some (cond b (Some n) None) ≡ b
-either_defined true n = refl
-either_defined false n = refl
-
-pub one_answer : (p : List Segment) (n : ℕ) (s : List Segment) (name : NameParts) → answer (λ q. is_same_path q p) s name ≡ answer (is_defined (one p n)) s name
-one_answer p n s name = λ i. answer (λ q. sym (ap is_some (get-one p q n) ∙ either_defined (is_same_path q p) n) i) s name

@@ -15,37 +15,41 @@ ghost use Rattle.acpi_space.specs.Spaces.{is_defined};
 ghost use Rattle.acpi_space.specs.Search.{answer};
 ghost use Rattle.acpi_counts.specs.Counts.{AreSmall, with_first};
 
-mod kept;
 mod only;
 
+use crate::only::{find_only, longer};
 use acpi_name::{NameRef, Path};
-use kept::Kept;
+use acpi_space::{Found, SearchFault, Space, TreeSpace, search};
 use std::alloc::{AllocError, Global};
 use std::marker::Model;
+
+// How many counts stand in the list at most: most tables have no more, and a tree takes more memory than they do.
+const MOST_LISTED: usize = 4;
 
 /// The argument counts of methods, by the paths of the methods: numbers 0 to 7.
 #[derive(Drop)]
 pub struct Counts {
-    alloc: Global,
-    // None where no path has a count, as in most tables.
-    kept: Option<Box<Kept>>,
+    // The first counts.
+    listed: Vec<(Path, u8)>,
+    // All others.
+    others: TreeSpace<u8>,
 }
 
 impl Model for Counts {
     ghost use Rattle.std.specs.Prelude.{ℕ};
     ghost use Rattle.std.specs.FinMap as finite;
     ghost use Rattle.acpi_counts.specs.Counts.{AreSmall};
-    ghost use Rattle.acpi_counts.specs.steps.Kept.{counts_in};
     ghost use Rattle.std.specs.Coded.{coded_ℕ};
+    ghost use Rattle.acpi_space.specs.Overlays.{both};
     ghost use Rattle.acpi_space.specs.Spaces.{PathMap, coded_path};
 
     ghost Value = { PathMap ℕ };
 
     ghost coded = { finite.code coded_path coded_ℕ };
 
-    ghost view = { λ c. counts_in c.kept };
+    ghost view = { λ c. both (finite.from_entries c.listed.items) c.others };
 
-    ghost invariant = { λ c. AreSmall (counts_in c.kept) };
+    ghost invariant = { λ c. AreSmall (both (finite.from_entries c.listed.items) c.others) };
 }
 
 impl Counts {
@@ -53,7 +57,10 @@ impl Counts {
     pub fn new(alloc: Global) -> Counts
         ensures { result ≡ finite.empty }
     {
-        Counts { alloc, kept: None }
+        Counts {
+            listed: Vec::new(alloc),
+            others: TreeSpace::new(alloc),
+        }
     }
 
     /// The count at a path. Takes no memory.
@@ -61,10 +68,12 @@ impl Counts {
         ensures found { result ≡ finite.get self.now path.now }
         ensures small { AreSmall self.now }
     {
-        match &self.kept {
-            Some(kept) => kept.get(path),
-            None => None,
+        for (listed, count) in &self.listed {
+            if path == listed {
+                return Some(*count);
+            }
         }
+        self.others.get(path).copied()
     }
 
     /// Adds a count of at most 7. A path that has a count keeps it. Where memory is refused no count changes.
@@ -73,12 +82,16 @@ impl Counts {
         ensures ok { OnOk result (self.new ≡ with_first self.old path count) }
         ensures err { OnErr result (self.new ≡ self.old) }
     {
-        match &mut self.kept {
-            Some(kept) => kept.add(self.alloc, path, count),
-            None => {
-                self.kept = Some(Box::new(self.alloc, Kept::One(path, count))?);
-                Ok(())
-            }
+        if self.get(&path).is_some() {
+            return Ok(());
+        }
+        if self.listed.len() < MOST_LISTED {
+            self.listed.push((path, count))?;
+            return Ok(());
+        }
+        match self.others.insert(path, count) {
+            Ok(()) => Ok(()),
+            Err(_) => Err(AllocError),
         }
     }
 
@@ -93,9 +106,27 @@ impl Counts {
         ensures { IfOk result (λ p. p ≡ answer (is_defined self.now) scope.now
             (name_parts name.entry)) }
     {
-        match &self.kept {
-            Some(kept) => kept.find(alloc, scope, name),
-            None => Ok(None),
+        let mut found = find_in(alloc, &self.others, scope, name)?;
+        for (path, _) in &self.listed {
+            found = longer(find_only(alloc, path, scope, name)?, found);
         }
+        Ok(found)
+    }
+}
+
+// The path that a name means among those of a tree of counts.
+fn find_in(
+    alloc: Global,
+    tree: &TreeSpace<u8>,
+    scope: &Path,
+    name: NameRef<'_>,
+) -> Result<Option<Path>, AllocError>
+    ensures { IfOk result (λ p. p ≡ answer (is_defined tree.now) scope.now (name_parts name.entry)) }
+{
+    match search(alloc, tree, scope, name) {
+        Ok(Found::At(path)) => Ok(Some(path)),
+        Ok(Found::Missing) => Ok(None),
+        Err(SearchFault::AboveRoot) => Ok(None),
+        Err(SearchFault::Memory) => Err(AllocError),
     }
 }

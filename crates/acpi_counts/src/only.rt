@@ -6,6 +6,7 @@ ghost use Rattle.acpi_name.specs.Paths.{place_of};
 ghost use Rattle.acpi_space.specs.Laws.{IsBelow};
 ghost use Rattle.acpi_space.specs.Lookups.{is_same_path};
 ghost use Rattle.acpi_space.specs.Search.{answer};
+ghost use Rattle.acpi_counts.specs.steps.Longer.{longer_path};
 
 use acpi_name::{NameRef, Path, PlaceFault, Seg, place};
 use acpi_space::laws::search_is_longest;
@@ -59,5 +60,20 @@ pub(crate) fn find_only(
         Ok(Some(path.copy()?))
     } else {
         Ok(None)
+    }
+}
+
+/// The longer of two paths, where both are there; of paths of one length the first.
+pub(crate) fn longer(first: Option<Path>, second: Option<Path>) -> Option<Path>
+    ensures { result ≡ longer_path first second }
+{
+    match (first, second) {
+        (Some(first), Some(second)) => Some(if first.len() < second.len() {
+            second
+        } else {
+            first
+        }),
+        (Some(first), None) => Some(first),
+        (None, second) => second,
     }
 }

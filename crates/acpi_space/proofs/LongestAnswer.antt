@@ -2,9 +2,9 @@
 use Rattle.std.proofs.Common.{◌≡◌, ◌<◌, ◌⊎◌, ◌↔◌, inl, inr, Bool, true, false, cond, List, [], ◌∷◌, ◌++◌, map, find, length, option_to_list, Option, Some, None, true≢false, refl, sym, ap, ◌∙◌, subst, arith, length-append}
 use Rattle.std.specs.Option.{option_map}
 use Rattle.std.specs.List.{AllByRecursion}
-use Rattle.acpi_name.specs.Names.{Segment}
+use Rattle.acpi_name.specs.Names.{Segment, NameParts, plain_segment}
 use Rattle.acpi_name.specs.Paths.{place_of}
-use Rattle.acpi_space.specs.Search.{beginnings, skipped, tries_of}
+use Rattle.acpi_space.specs.Search.{beginnings, skipped, tries, tries_of}
 use Rattle.acpi_space.specs.Laws.{Among, IsBelow, IsLongestAnswer, IsPast, IsPlaceAnswer, MissedArePast, MissedIsPlace, OtherIsAtPlace, PlainIsLongest}
 use Rattle.acpi_space.proofs.Beginnings.{FoundAs, find_longest, find_map}
 
@@ -32,7 +32,8 @@ other_is_at_place defined s n e = subst (IsPlaceAnswer defined (place_of s n)) (
 
 -- ---- what is missed
 
-abbrev Decreasing : {A : Type 0} → List (List A) → Type 0
+-- the lists get shorter
+abbrev pub Decreasing : {A : Type 0} → List (List A) → Type 0
 Decreasing [] = Unit {0}
 Decreasing (y ∷ ys) = AllByRecursion (λ z. length z < length y) ys × Decreasing ys
 
@@ -95,6 +96,18 @@ decreasing_below {A} g (y ∷ l) d = (shorter l d.0, decreasing_below g l d.1)
     shorter : (l : List (List A)) → AllByRecursion (λ z. length z < length y) l → AllByRecursion (λ z. length z < length (y ++ g ∷ [])) (map (λ q. q ++ g ∷ []) l)
     shorter [] a = tt
     shorter (z ∷ l) a = let lt : length z < length y = a.0 in (omega (arith, lt, length-append z (g ∷ []), length-append y (g ∷ [])), shorter l a.1)
+
+-- what a search tries gets shorter
+pub tries_decrease : (s : List Segment) (n : NameParts) → Decreasing (tries s n)
+tries_decrease s n = by (plain_segment n)
+  where
+    place : (o : Option (List Segment)) → Decreasing (option_to_list o)
+    place None = tt
+    place (Some p) = (tt, tt)
+
+    by : (o : Option Segment) → Decreasing (tries_of s n o)
+    by None = place (place_of s n)
+    by (Some g) = decreasing_below g (beginnings s) (beginnings_decrease s)
 
 among_map : {A B : Type 0} (f : A → B) (l : List A) (y : B) → Among (map f l) y ↔ ((x : A) × Among l x × (y ≡ f x))
 among_map f [] y = (λ m. absurd m, λ m. m.1)
