@@ -1,5 +1,5 @@
 -- Codes and items of one table, one after another; and the rewritten table.
-use Rattle.std.proofs.Common.{◌≡◌, ℕ, zero, suc, ◌+◌, ◌<◌, ◌≤◌, List, [], ◌∷◌, ◌++◌, map, length, get_or, take, drop, set, refl, sym, ap, subst, ◌∙◌, append_assoc, append-nil, All, Option, Some, None, arith}
+use Rattle.std.proofs.Common.{◌≡◌, ℕ, zero, suc, ◌+◌, ◌-◌, ◌<◌, ◌≤◌, List, [], ◌∷◌, ◌++◌, map, length, get_or, take, drop, set, refl, sym, ap, subst, ◌∙◌, append_assoc, append-nil, All, Option, Some, None, arith}
 use Rattle.std.specs.Global.{Vec}
 use Rattle.std.specs.List.{AllZip}
 use Rattle.std.proofs.lemmas.List.{length-append, length-map, nil_from_length, length-drop, map-append, get_or-map, take_more, take_all, at_drop_more, drop-set-lt}
@@ -180,6 +180,19 @@ at_place : {X : Type 0} (xs : List X) (i : ℕ) (x y : X) → i < length xs → 
 at_place [] i x y below e = absurd (omega arith)
 at_place (z ∷ xs) zero x y below e = e
 at_place (z ∷ xs) (suc i) x y below e = at_place xs i x y (omega arith) e
+
+-- the next of a list, by what is left of it
+pub next_left : {X : Type 0} (xs : List X) (i : ℕ) (x : X) (rest : List X) → drop i xs ≡ x ∷ rest → (i < length xs) × (x ≡ get_or xs i x) × (rest ≡ drop (i + 1) xs)
+next_left [] zero x rest e = cc
+next_left [] (suc i) x rest e = cc
+next_left (y ∷ xs) zero x rest e = (omega arith, cc, cc)
+next_left (y ∷ xs) (suc i) x rest e =
+    let ih : (i < length xs) × (x ≡ get_or xs i x) × (rest ≡ drop (i + 1) xs) = next_left xs i x rest e in
+    let one_more : suc (i + 1) ≡ suc i + 1 = omega arith in
+    (omega (arith, ih.0), ih.1, ih.2 ∙ ap (λ k. drop k (y ∷ xs)) one_more)
+
+pub none_left : {X : Type 0} (xs : List X) (i : ℕ) → drop i xs ≡ [] → length xs ≤ i
+none_left xs i e = let none : length xs - i ≡ 0 = sym (length-drop i xs) ∙ ap length e in omega (arith, none)
 
 -- no table of a load is rewritten yet
 pub none_rewritten : (depth : ℕ) (bs : List (List ℕ)) (ns : List Notes) (objects : Namespace) (links : _) → IsLoad depth bs objects links → AreNotes depth bs ns

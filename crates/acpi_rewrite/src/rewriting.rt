@@ -172,7 +172,7 @@ fn table_at<'a>(dsdt: &'a Bytes, ssdts: &'a [Bytes], number: usize) -> &'a Bytes
     }
 }
 
-// The tables of a load, rewritten one after another.
+// The tables of a load, rewritten one after another. What a table noted is dropped with it.
 fn rewrite_tables<S: Space<Object>>(
     alloc: Global,
     dsdt: &Bytes,
@@ -188,12 +188,11 @@ fn rewrite_tables<S: Space<Object>>(
         → HasNoLoad depth (dsdt.now ∷ ssdts.now)) }
 {
     let declared: Declared<S> = declare_shared(alloc, dsdt, ssdts, depth)?;
-    let objects = declared.objects();
-    let notes = declared.notes();
+    let (objects, _, notes) = declared.into_parts();
     let mut rewritten = Vec::new(alloc);
-    for (i, noted) in notes.iter().enumerate() {
-        let table = table_at(dsdt, ssdts, i);
-        rewritten.push(rewritten_table(alloc, objects, noted, table, depth)?)?;
+    for noted in notes {
+        let table = table_at(dsdt, ssdts, rewritten.len());
+        rewritten.push(rewritten_table(alloc, &objects, &noted, table, depth)?)?;
     }
     Ok(rewritten)
 }
