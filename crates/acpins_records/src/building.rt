@@ -36,8 +36,6 @@ pub(crate) struct Records {
     pub text: Vec<u8>,
     /// The constant data of Names, and its bytes.
     pub data: Parts,
-    // The first record makes room for so many.
-    expected: usize,
 }
 
 // An object with what its record says of it, whatever stands round it.
@@ -148,8 +146,8 @@ fn put_data(data: &mut Parts, object: &Object) -> Result<(), AllocError>
 }
 
 impl Records {
-    // Nothing yet, and how many objects there will be.
-    fn new(alloc: Global, expected: usize) -> Records
+    // Nothing yet.
+    fn new(alloc: Global) -> Records
         ensures objects { result.objects.items ≡ [] }
         ensures targets { result.targets.items ≡ [] }
         ensures text { result.text.items ≡ [] }
@@ -161,7 +159,6 @@ impl Records {
             targets: Vec::new(alloc),
             text: Vec::new(alloc),
             data: Parts::new(alloc),
-            expected,
         }
     }
 
@@ -173,9 +170,6 @@ impl Records {
         let part = part_of(entry.object, self.data.parts.len());
         let path_length = put_line(&mut self.text, entry.path, entry.object, entry.links)?;
         put_data(&mut self.data, entry.object)?;
-        if self.objects.is_empty() {
-            self.objects.reserve_exact(self.expected)?;
-        }
         self.objects.push(ObjectRecord {
             kind: kind_of(entry.object),
             line: line as u64,
@@ -239,29 +233,6 @@ impl Visitor<Object> for Seen<'_> {
     }
 }
 
-// How many objects were seen.
-#[derive(Drop)]
-struct ObjectCount {
-    objects: usize,
-}
-
-impl Visitor<Object> for ObjectCount {
-    ghost was_shown = { λ _ _ _. Unit {0} };
-
-    fn visit(&mut self, _path: &Path, _object: &Object) -> Result<(), AllocError> {
-        self.objects = self.objects.saturating_add(1);
-        Ok(())
-    }
-}
-
-// How many objects there are. It is asked for, since a list of records that grows as it is filled is copied, and half of it
-// is never used.
-fn count_objects(objects: &TreeSpace<Object>) -> Result<usize, AllocError> {
-    let mut count = ObjectCount { objects: 0 };
-    objects.visit_pairs(&mut count)?;
-    Ok(count.objects)
-}
-
 // Sets the places of an object among the others.
 fn set_place(object: &mut ObjectRecord, parent: u64, below: u64)
     ensures { object.new ≡ placed parent below object.old }
@@ -294,9 +265,8 @@ pub(crate) fn build_records<'a>(
         (get codes.now) r) }
 {
     let in_order = InOrder::of(codes)?;
-    let expected = count_objects(objects)?;
     let mut seen = Seen {
-        records: Records::new(alloc, expected),
+        records: Records::new(alloc),
         paths: Paths::new(alloc),
         wanted: Vec::new(alloc),
         links,

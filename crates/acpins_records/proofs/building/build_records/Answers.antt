@@ -56,7 +56,6 @@ returns c suits =
       targets = c.put_targets.new.targets;
       text = c.visit_pairs.new.visitor.records.text;
       «data» = c.visit_pairs.new.visitor.records.«data»;
-      expected = c.visit_pairs.new.visitor.records.expected;
     } in
     records_whole c.args.objects.now (links_at c.args.links.now) (get c.args.codes.now) c.visit_pairs.new.visitor parents belows made seen.paths_are c.in_ok-tree.ensures.parents
     c.in_ok-tree.ensures.ends (with_items_is objects c.set_places.new.objects (ap length placed ∙ length-placed parents belows 0 objects.items ∙ sym objects.ok.0) ∙ placed)
