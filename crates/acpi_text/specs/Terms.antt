@@ -3,11 +3,11 @@ use Rattle.std.specs.Prelude.{ℕ, ◌*◌, List, [], ◌∷◌, ◌++◌, map, 
 use Rattle.std.specs.List.{flat_map}
 use Rattle.acpi_name.specs.Text.{name_text}
 use Rattle.acpi_tree.specs.declared.op.Op.{Op}
-use Rattle.acpi_tree.specs.declared.op.Op.TheVariants as ops
 use Rattle.acpi_tree.specs.declared.place.NamedForm.{NamedForm}
 use Rattle.acpi_tree.specs.declared.place.NamedForm.TheVariants as named
 use Rattle.acpi_tree.specs.declared.place.UnitsForm.{UnitsForm}
 use Rattle.acpi_tree.specs.declared.place.UnitsForm.TheVariants as units
+use Rattle.acpi_tree.specs.Operators.{row_of}
 use Rattle.acpi_tree.specs.Tree.{FieldTree, unit, reserved, access, connect_name, connect_buffer, extended}
 use Rattle.acpi_tree.specs.Terms.{TermTree, TermTrees, int, str, buffer, pkg, var_pkg, local, arg, debug, no_target, raw, ref, call, apply, ElseTree, if_do, no_else, else_do, while_do, declare, declare_units, no_terms, more}
 use Rattle.acpi_text.specs.Constants.{hex_digits, int_text, string_text, separated, bytes_text}
@@ -17,66 +17,7 @@ use Rattle.acpi_text.specs.Objects.{width_text}
 
 -- an operator, by its name in the standard
 abbrev pub op_text : Op → List ℕ
-op_text ops.Store = codes "Store"
-op_text ops.RefOf = codes "RefOf"
-op_text ops.Add = codes "Add"
-op_text ops.Concat = codes "Concat"
-op_text ops.Subtract = codes "Subtract"
-op_text ops.Increment = codes "Increment"
-op_text ops.Decrement = codes "Decrement"
-op_text ops.Multiply = codes "Multiply"
-op_text ops.Divide = codes "Divide"
-op_text ops.ShiftLeft = codes "ShiftLeft"
-op_text ops.ShiftRight = codes "ShiftRight"
-op_text ops.And = codes "And"
-op_text ops.NAnd = codes "NAnd"
-op_text ops.Or = codes "Or"
-op_text ops.NOr = codes "NOr"
-op_text ops.XOr = codes "XOr"
-op_text ops.Not = codes "Not"
-op_text ops.FindSetLeftBit = codes "FindSetLeftBit"
-op_text ops.FindSetRightBit = codes "FindSetRightBit"
-op_text ops.DerefOf = codes "DerefOf"
-op_text ops.ConcatRes = codes "ConcatRes"
-op_text ops.Mod = codes "Mod"
-op_text ops.Notify = codes "Notify"
-op_text ops.SizeOf = codes "SizeOf"
-op_text ops.Index = codes "Index"
-op_text ops.Match = codes "Match"
-op_text ops.ObjectType = codes "ObjectType"
-op_text ops.LAnd = codes "LAnd"
-op_text ops.LOr = codes "LOr"
-op_text ops.LNot = codes "LNot"
-op_text ops.LEqual = codes "LEqual"
-op_text ops.LGreater = codes "LGreater"
-op_text ops.LLess = codes "LLess"
-op_text ops.ToBuffer = codes "ToBuffer"
-op_text ops.ToDecimalString = codes "ToDecimalString"
-op_text ops.ToHexString = codes "ToHexString"
-op_text ops.ToInteger = codes "ToInteger"
-op_text ops.ToString = codes "ToString"
-op_text ops.CopyObject = codes "CopyObject"
-op_text ops.Mid = codes "Mid"
-op_text ops.Continue = codes "Continue"
-op_text ops.Noop = codes "Noop"
-op_text ops.Return = codes "Return"
-op_text ops.Break = codes "Break"
-op_text ops.BreakPoint = codes "BreakPoint"
-op_text ops.CondRefOf = codes "CondRefOf"
-op_text ops.Stall = codes "Stall"
-op_text ops.Sleep = codes "Sleep"
-op_text ops.Acquire = codes "Acquire"
-op_text ops.Signal = codes "Signal"
-op_text ops.Wait = codes "Wait"
-op_text ops.Reset = codes "Reset"
-op_text ops.Release = codes "Release"
-op_text ops.FromBCD = codes "FromBCD"
-op_text ops.ToBCD = codes "ToBCD"
-op_text ops.Fatal = codes "Fatal"
-op_text ops.Timer = codes "Timer"
-op_text ops.LoadTable = codes "LoadTable"
-op_text ops.Load = codes "Load"
-op_text ops.Unload = codes "Unload"
+op_text op = (row_of op).word
 
 -- a declaration of one name
 abbrev pub named_form_text : NamedForm → List ℕ

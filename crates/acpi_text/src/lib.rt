@@ -22,7 +22,6 @@ mod lines;
 mod names;
 mod numbers;
 mod objects;
-mod operators;
 mod statements;
 mod terms;
 

@@ -10,7 +10,6 @@ use crate::data::put_count;
 use crate::declarations::put_decl;
 use crate::names::put_name;
 use crate::numbers::{put, put_int, put_number};
-use crate::operators::op_name;
 use acpi_tree::{Int, Operand, Term};
 use std::alloc::AllocError;
 
@@ -44,7 +43,7 @@ pub fn put_term(text: &mut Vec<u8>, term: &Term) -> Result<(), AllocError>
             put_args(text, args)
         }
         Term::Op(op, operands) => {
-            put(text, op_name(*op))?;
+            put(text, op.row().word)?;
             put_operands(text, operands)
         }
         Term::If(test, _, _) => put_of(text, "If ", test),

@@ -23,7 +23,7 @@ mod tree;
 
 pub use fits::items_fit;
 pub use object::{FieldForm, Object};
-pub use op::Op;
+pub use op::{Op, OpClass, OpRow};
 pub use place::{NamedForm, OperandKind, Place, UnitsForm};
 pub use standing::terms_fit;
 pub use term::{Decl, Operand, Term};

@@ -1,9 +1,10 @@
 //! The operators.
 
 ghost use Rattle.std.specs.Prelude.{◌≡◌};
-ghost use Rattle.acpi_tree.specs.Operators.{operands_of, is_expression, is_reference, is_load};
+ghost use Rattle.acpi_tree.specs.Operators.{row_of, operands_of, is_expression, is_reference, is_load};
 
 use crate::place::{OperandKind, Place};
+use OpClass::{Expression, Reference, Statement, TableLoad};
 
 /// An operator (ACPI 6.5, 20.2.5.3 and 20.2.5.4), by its name there without `Def` or `Op`. Unload is that of ACPI 6.4
 /// and earlier. Method bodies have no LoadTable, Load or Unload.
@@ -71,140 +72,188 @@ pub enum Op {
     Unload,
 }
 
+/// What an operator is for (ACPI 6.5, 20.2.5.3 and 20.2.5.4).
+#[derive(Clone, Copy, Debug, PartialEq, Eq)]
+pub enum OpClass {
+    /// A statement alone: it has no value (StatementOpcode).
+    Statement,
+    /// It has a value, so that it may stand where a value does (ExpressionOpcode).
+    Expression,
+    /// An expression that tells of a place, so that it may stand where a super name does (ReferenceTypeOpcode).
+    Reference,
+    /// An expression that loads or unloads a table. Method bodies have none.
+    TableLoad,
+}
+
+/// What the standard says of an operator.
+#[derive(Clone, Copy, Debug)]
+pub struct OpRow {
+    /// The bytes of its opcode (ACPI 6.5, 20.3).
+    pub opcode: &'static [u8],
+    /// Its name, without `Def` or `Op`.
+    pub word: &'static str,
+    /// What its operands are, in order.
+    pub operands: &'static [OperandKind],
+    /// What it is for.
+    pub class: OpClass,
+}
+
+const VALUE: OperandKind = OperandKind::At(Place::Value);
+
+const SUPER_NAME: OperandKind = OperandKind::At(Place::SuperName);
+
+const SIMPLE_NAME: OperandKind = OperandKind::At(Place::SimpleName);
+
+const TARGET: OperandKind = OperandKind::Target;
+
+const BYTE: OperandKind = OperandKind::Byte;
+
+const WORD: OperandKind = OperandKind::Word;
+
+const DWORD: OperandKind = OperandKind::DWord;
+
+#[inline(always)]
+fn row(
+    opcode: &'static [u8],
+    word: &'static str,
+    operands: &'static [OperandKind],
+    class: OpClass,
+) -> OpRow
+    ensures opcode { result.opcode.now ≡ opcode.now }
+    ensures word { result.word.now ≡ word.now }
+    ensures operands { result.operands.now ≡ operands.now }
+    ensures class { result.class ≡ class }
+{
+    OpRow {
+        opcode,
+        word,
+        operands,
+        class,
+    }
+}
+
 impl Op {
+    /// What the standard says of it (ACPI 6.5, 20.2.5.3, 20.2.5.4 and 20.3).
+    #[inline(always)]
+    pub fn row(self) -> OpRow
+        ensures opcode { result.opcode.now ≡ (row_of self).opcode }
+        ensures word { result.word.now ≡ (row_of self).word }
+        ensures operands { result.operands.now ≡ (row_of self).operands }
+        ensures class { result.class ≡ (row_of self).class }
+    {
+        match self {
+            Op::Store => row(&[0x70], "Store", &[VALUE, SUPER_NAME], Expression),
+            Op::RefOf => row(&[0x71], "RefOf", &[SUPER_NAME], Reference),
+            Op::Add => row(&[0x72], "Add", &[VALUE, VALUE, TARGET], Expression),
+            Op::Concat => row(&[0x73], "Concat", &[VALUE, VALUE, TARGET], Expression),
+            Op::Subtract => row(&[0x74], "Subtract", &[VALUE, VALUE, TARGET], Expression),
+            Op::Increment => row(&[0x75], "Increment", &[SUPER_NAME], Expression),
+            Op::Decrement => row(&[0x76], "Decrement", &[SUPER_NAME], Expression),
+            Op::Multiply => row(&[0x77], "Multiply", &[VALUE, VALUE, TARGET], Expression),
+            Op::Divide => row(
+                &[0x78],
+                "Divide",
+                &[VALUE, VALUE, TARGET, TARGET],
+                Expression,
+            ),
+            Op::ShiftLeft => row(&[0x79], "ShiftLeft", &[VALUE, VALUE, TARGET], Expression),
+            Op::ShiftRight => row(&[0x7A], "ShiftRight", &[VALUE, VALUE, TARGET], Expression),
+            Op::And => row(&[0x7B], "And", &[VALUE, VALUE, TARGET], Expression),
+            Op::NAnd => row(&[0x7C], "NAnd", &[VALUE, VALUE, TARGET], Expression),
+            Op::Or => row(&[0x7D], "Or", &[VALUE, VALUE, TARGET], Expression),
+            Op::NOr => row(&[0x7E], "NOr", &[VALUE, VALUE, TARGET], Expression),
+            Op::XOr => row(&[0x7F], "XOr", &[VALUE, VALUE, TARGET], Expression),
+            Op::Not => row(&[0x80], "Not", &[VALUE, TARGET], Expression),
+            Op::FindSetLeftBit => row(&[0x81], "FindSetLeftBit", &[VALUE, TARGET], Expression),
+            Op::FindSetRightBit => row(&[0x82], "FindSetRightBit", &[VALUE, TARGET], Expression),
+            Op::DerefOf => row(&[0x83], "DerefOf", &[VALUE], Reference),
+            Op::ConcatRes => row(&[0x84], "ConcatRes", &[VALUE, VALUE, TARGET], Expression),
+            Op::Mod => row(&[0x85], "Mod", &[VALUE, VALUE, TARGET], Expression),
+            Op::Notify => row(&[0x86], "Notify", &[SUPER_NAME, VALUE], Statement),
+            Op::SizeOf => row(&[0x87], "SizeOf", &[SUPER_NAME], Expression),
+            Op::Index => row(&[0x88], "Index", &[VALUE, VALUE, TARGET], Reference),
+            Op::Match => row(
+                &[0x89],
+                "Match",
+                &[VALUE, BYTE, VALUE, BYTE, VALUE, VALUE],
+                Expression,
+            ),
+            Op::ObjectType => row(&[0x8E], "ObjectType", &[SUPER_NAME], Expression),
+            Op::LAnd => row(&[0x90], "LAnd", &[VALUE, VALUE], Expression),
+            Op::LOr => row(&[0x91], "LOr", &[VALUE, VALUE], Expression),
+            Op::LNot => row(&[0x92], "LNot", &[VALUE], Expression),
+            Op::LEqual => row(&[0x93], "LEqual", &[VALUE, VALUE], Expression),
+            Op::LGreater => row(&[0x94], "LGreater", &[VALUE, VALUE], Expression),
+            Op::LLess => row(&[0x95], "LLess", &[VALUE, VALUE], Expression),
+            Op::ToBuffer => row(&[0x96], "ToBuffer", &[VALUE, TARGET], Expression),
+            Op::ToDecimalString => row(&[0x97], "ToDecimalString", &[VALUE, TARGET], Expression),
+            Op::ToHexString => row(&[0x98], "ToHexString", &[VALUE, TARGET], Expression),
+            Op::ToInteger => row(&[0x99], "ToInteger", &[VALUE, TARGET], Expression),
+            Op::ToString => row(&[0x9C], "ToString", &[VALUE, VALUE, TARGET], Expression),
+            Op::CopyObject => row(&[0x9D], "CopyObject", &[VALUE, SIMPLE_NAME], Expression),
+            Op::Mid => row(&[0x9E], "Mid", &[VALUE, VALUE, VALUE, TARGET], Expression),
+            Op::Continue => row(&[0x9F], "Continue", &[], Statement),
+            Op::Noop => row(&[0xA3], "Noop", &[], Statement),
+            Op::Return => row(&[0xA4], "Return", &[VALUE], Statement),
+            Op::Break => row(&[0xA5], "Break", &[], Statement),
+            Op::BreakPoint => row(&[0xCC], "BreakPoint", &[], Statement),
+            Op::CondRefOf => row(
+                &[0x5B, 0x12],
+                "CondRefOf",
+                &[SUPER_NAME, TARGET],
+                Expression,
+            ),
+            Op::Stall => row(&[0x5B, 0x21], "Stall", &[VALUE], Statement),
+            Op::Sleep => row(&[0x5B, 0x22], "Sleep", &[VALUE], Statement),
+            Op::Acquire => row(&[0x5B, 0x23], "Acquire", &[SUPER_NAME, WORD], Expression),
+            Op::Signal => row(&[0x5B, 0x24], "Signal", &[SUPER_NAME], Statement),
+            Op::Wait => row(&[0x5B, 0x25], "Wait", &[SUPER_NAME, VALUE], Expression),
+            Op::Reset => row(&[0x5B, 0x26], "Reset", &[SUPER_NAME], Statement),
+            Op::Release => row(&[0x5B, 0x27], "Release", &[SUPER_NAME], Statement),
+            Op::FromBCD => row(&[0x5B, 0x28], "FromBCD", &[VALUE, TARGET], Expression),
+            Op::ToBCD => row(&[0x5B, 0x29], "ToBCD", &[VALUE, TARGET], Expression),
+            Op::Fatal => row(&[0x5B, 0x32], "Fatal", &[BYTE, DWORD, VALUE], Statement),
+            Op::Timer => row(&[0x5B, 0x33], "Timer", &[], Expression),
+            Op::LoadTable => row(
+                &[0x5B, 0x1F],
+                "LoadTable",
+                &[VALUE, VALUE, VALUE, VALUE, VALUE, VALUE],
+                TableLoad,
+            ),
+            Op::Load => row(&[0x5B, 0x20], "Load", &[SIMPLE_NAME, TARGET], TableLoad),
+            Op::Unload => row(&[0x5B, 0x2A], "Unload", &[SUPER_NAME], TableLoad),
+        }
+    }
+
     /// What its operands are, in order (ACPI 6.5, 20.2.5.3 and 20.2.5.4).
+    #[inline]
     pub fn operands(self) -> &'static [OperandKind]
         ensures { result.now ≡ operands_of self }
     {
-        match self {
-            Op::Store => &[
-                OperandKind::At(Place::Value),
-                OperandKind::At(Place::SuperName),
-            ],
-            Op::RefOf
-            | Op::Increment
-            | Op::Decrement
-            | Op::SizeOf
-            | Op::ObjectType
-            | Op::Signal
-            | Op::Reset
-            | Op::Release
-            | Op::Unload => &[OperandKind::At(Place::SuperName)],
-            Op::Add
-            | Op::Concat
-            | Op::Subtract
-            | Op::Multiply
-            | Op::ShiftLeft
-            | Op::ShiftRight
-            | Op::And
-            | Op::NAnd
-            | Op::Or
-            | Op::NOr
-            | Op::XOr
-            | Op::ConcatRes
-            | Op::Mod
-            | Op::Index
-            | Op::ToString => &[
-                OperandKind::At(Place::Value),
-                OperandKind::At(Place::Value),
-                OperandKind::Target,
-            ],
-            Op::Divide => &[
-                OperandKind::At(Place::Value),
-                OperandKind::At(Place::Value),
-                OperandKind::Target,
-                OperandKind::Target,
-            ],
-            Op::Not
-            | Op::FindSetLeftBit
-            | Op::FindSetRightBit
-            | Op::ToBuffer
-            | Op::ToDecimalString
-            | Op::ToHexString
-            | Op::ToInteger
-            | Op::FromBCD
-            | Op::ToBCD => &[OperandKind::At(Place::Value), OperandKind::Target],
-            Op::DerefOf | Op::LNot | Op::Return | Op::Stall | Op::Sleep => &[OperandKind::At(
-                Place::Value,
-            )],
-            Op::Notify | Op::Wait => &[
-                OperandKind::At(Place::SuperName),
-                OperandKind::At(Place::Value),
-            ],
-            Op::Match => &[
-                OperandKind::At(Place::Value),
-                OperandKind::Byte,
-                OperandKind::At(Place::Value),
-                OperandKind::Byte,
-                OperandKind::At(Place::Value),
-                OperandKind::At(Place::Value),
-            ],
-            Op::LAnd | Op::LOr | Op::LEqual | Op::LGreater | Op::LLess => &[
-                OperandKind::At(Place::Value),
-                OperandKind::At(Place::Value),
-            ],
-            Op::CopyObject => &[
-                OperandKind::At(Place::Value),
-                OperandKind::At(Place::SimpleName),
-            ],
-            Op::Mid => &[
-                OperandKind::At(Place::Value),
-                OperandKind::At(Place::Value),
-                OperandKind::At(Place::Value),
-                OperandKind::Target,
-            ],
-            Op::Continue | Op::Noop | Op::Break | Op::BreakPoint | Op::Timer => &[],
-            Op::CondRefOf => &[OperandKind::At(Place::SuperName), OperandKind::Target],
-            Op::Acquire => &[OperandKind::At(Place::SuperName), OperandKind::Word],
-            Op::Fatal => &[
-                OperandKind::Byte,
-                OperandKind::DWord,
-                OperandKind::At(Place::Value),
-            ],
-            Op::LoadTable => &[
-                OperandKind::At(Place::Value),
-                OperandKind::At(Place::Value),
-                OperandKind::At(Place::Value),
-                OperandKind::At(Place::Value),
-                OperandKind::At(Place::Value),
-                OperandKind::At(Place::Value),
-            ],
-            Op::Load => &[OperandKind::At(Place::SimpleName), OperandKind::Target],
-        }
+        self.row().operands
     }
 
     /// Whether it has a value, so that it may stand where a value does. The others are statements alone.
+    #[inline]
     pub fn is_expression(self) -> bool
         ensures { result ≡ is_expression self }
     {
-        match self {
-            Op::Notify
-            | Op::Continue
-            | Op::Noop
-            | Op::Return
-            | Op::Break
-            | Op::BreakPoint
-            | Op::Stall
-            | Op::Sleep
-            | Op::Signal
-            | Op::Reset
-            | Op::Release
-            | Op::Fatal => false,
-            _ => true,
-        }
+        self.row().class != Statement
     }
 
     /// Whether it tells of a place, so that it may stand where a super name does: RefOf, DerefOf and Index.
+    #[inline]
     pub fn is_reference(self) -> bool
         ensures { result ≡ is_reference self }
     {
-        matches!(self, Op::RefOf | Op::DerefOf | Op::Index)
+        self.row().class == Reference
     }
 
     /// Whether it loads or unloads a table: LoadTable, Load and Unload.
+    #[inline]
     pub fn is_load(self) -> bool
         ensures { result ≡ is_load self }
     {
-        matches!(self, Op::LoadTable | Op::Load | Op::Unload)
+        self.row().class == TableLoad
     }
 }

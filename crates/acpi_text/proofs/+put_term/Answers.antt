@@ -61,8 +61,8 @@ terms::put_term-returns-in_ok-put_name-in-Call t c =
 
 pub terms::put_term-returns-in_ok-put-in-Op : goal.terms::put_term-returns-in_ok-put-in-Op
 terms::put_term-returns-in_ok-put-in-Op t c =
-    op_put c.put_operands.result c.args.text.now.items c.args.term.now c.in-Op.op c.op_name.result.now c.in-Op.operands c.deref-in-Op.result.now _ _
-    c.in-Op.is c.op_name.ensures c.deref-in-Op.ensures.value c.in_ok-put-in-Op.ensures c.put_operands.ensures
+    op_put c.put_operands.result c.args.text.now.items c.args.term.now c.in-Op.op c.row.result.word.now c.in-Op.operands c.deref-in-Op.result.now _ _
+    c.in-Op.is c.row.ensures.word c.deref-in-Op.ensures.value c.in_ok-put-in-Op.ensures c.put_operands.ensures
 
 pub terms::put_term-returns-in-If : goal.terms::put_term-returns-in-If
 terms::put_term-returns-in-If t c =
