@@ -1,6 +1,7 @@
 -- What begins with which bytes.
 use Rattle.std.proofs.Common.{◌≡◌, ℕ, zero, suc, ◌+◌, ◌-◌, ◌<◌, Bool, true, false, cond, eqb, ltb, ◌&&◌, Option, Some, List, [], ◌∷◌, ◌++◌, length, slice_index, Ok, refl, sym, ap, subst, ◌∙◌, arith}
 use Rattle.std.proofs.lemmas.Bool.{eqb-true, ltb-true, lt-ltb}
+use Rattle.std.specs.List.{list_all}
 use Rattle.acpi_name.proofs.NameAgain.{and_true, neq}
 use Rattle.acpi_tree.specs.declared.op.Op.{Op}
 use Rattle.acpi_tree.specs.declared.op.Op.TheVariants as operators
@@ -9,7 +10,7 @@ use Rattle.acpi_tree.specs.declared.tree.Width.TheVariants as widths
 use Rattle.acpi_code.specs.declared.opcode.ConstantForm.TheVariants as forms
 use Rattle.acpi_code.specs.declared.opcode.Opcode.{Opcode}
 use Rattle.acpi_code.specs.declared.opcode.Opcode.TheVariants as opcodes
-use Rattle.acpi_code.specs.Opcodes.{Opening, looked_up, plain_opcodes, extended_opcodes, is_name_start, plain_opcode_of, extended_opcode_of, extended_opcode, first_opcode, width_bytes, operator_bytes, opcode_bytes, is_spelled}
+use Rattle.acpi_code.specs.Opcodes.{fixed_opcodes, are_same, opcode_with, is_name_start, plain_opcode_of, extended_opcode_of, extended_opcode, first_opcode, width_bytes, operator_bytes, opcode_bytes, is_spelled}
 use Rattle.acpi_code.specs.Faults.{Begins}
 use Rattle.acpi_code.specs.steps.Reading.{byte_at, extended_opcode_at, opcode_at}
 use Rattle.acpi_code.proofs.Readings.{Judge, judge_if, Position, Source, Shown, Bare, bare_shown, stands_at, cut_bare}
@@ -19,65 +20,7 @@ use Rattle.acpi_code.proofs.Readings.{Judge, judge_if, Position, Source, Shown, 
 operator_opens : (end : ℕ) (op : Op) (more : List ℕ) → opcode_at end (operator_bytes op ++ more) ≡ Ok (opcodes.Operator op, more)
 unfolding opcode_at byte_at
 operator_opens end operators.Store more = refl
-operator_opens end operators.RefOf more = refl
-operator_opens end operators.Add more = refl
-operator_opens end operators.Concat more = refl
-operator_opens end operators.Subtract more = refl
-operator_opens end operators.Increment more = refl
-operator_opens end operators.Decrement more = refl
-operator_opens end operators.Multiply more = refl
-operator_opens end operators.Divide more = refl
-operator_opens end operators.ShiftLeft more = refl
-operator_opens end operators.ShiftRight more = refl
-operator_opens end operators.And more = refl
-operator_opens end operators.NAnd more = refl
-operator_opens end operators.Or more = refl
-operator_opens end operators.NOr more = refl
-operator_opens end operators.XOr more = refl
-operator_opens end operators.Not more = refl
-operator_opens end operators.FindSetLeftBit more = refl
-operator_opens end operators.FindSetRightBit more = refl
-operator_opens end operators.DerefOf more = refl
-operator_opens end operators.ConcatRes more = refl
-operator_opens end operators.Mod more = refl
-operator_opens end operators.Notify more = refl
-operator_opens end operators.SizeOf more = refl
-operator_opens end operators.Index more = refl
-operator_opens end operators.Match more = refl
-operator_opens end operators.ObjectType more = refl
-operator_opens end operators.LAnd more = refl
-operator_opens end operators.LOr more = refl
-operator_opens end operators.LNot more = refl
-operator_opens end operators.LEqual more = refl
-operator_opens end operators.LGreater more = refl
-operator_opens end operators.LLess more = refl
-operator_opens end operators.ToBuffer more = refl
-operator_opens end operators.ToDecimalString more = refl
-operator_opens end operators.ToHexString more = refl
-operator_opens end operators.ToInteger more = refl
-operator_opens end operators.ToString more = refl
-operator_opens end operators.CopyObject more = refl
-operator_opens end operators.Mid more = refl
-operator_opens end operators.Continue more = refl
-operator_opens end operators.Noop more = refl
-operator_opens end operators.Return more = refl
-operator_opens end operators.Break more = refl
-operator_opens end operators.BreakPoint more = refl
-operator_opens end operators.CondRefOf more = refl
-operator_opens end operators.Stall more = refl
-operator_opens end operators.Sleep more = refl
-operator_opens end operators.Acquire more = refl
-operator_opens end operators.Signal more = refl
-operator_opens end operators.Wait more = refl
-operator_opens end operators.Reset more = refl
-operator_opens end operators.Release more = refl
-operator_opens end operators.FromBCD more = refl
-operator_opens end operators.ToBCD more = refl
-operator_opens end operators.Fatal more = refl
-operator_opens end operators.Timer more = refl
-operator_opens end operators.LoadTable more = refl
-operator_opens end operators.Load more = refl
-operator_opens end operators.Unload more = refl
+operator_opens end _ more = refl
 
 width_opens : (end : ℕ) (w : Width) (more : List ℕ) → opcode_at end (width_bytes w ++ more) ≡ Ok (opcodes.Create w, more)
 unfolding opcode_at byte_at
@@ -112,45 +55,15 @@ arg_opens end (suc (suc (suc (suc (suc (suc (suc n))))))) more h = let le : suc 
 
 pub opens : (end : ℕ) (opcode : Opcode) (more : List ℕ) → is_spelled opcode ≡ true → opcode_at end (opcode_bytes opcode ++ more) ≡ Ok (opcode, more)
 unfolding opcode_at byte_at
-opens end (opcodes.Constant forms.Zero) more h = refl
-opens end (opcodes.Constant forms.One) more h = refl
-opens end (opcodes.Constant forms.Ones) more h = refl
-opens end (opcodes.Constant forms.Byte) more h = refl
-opens end (opcodes.Constant forms.Word) more h = refl
-opens end (opcodes.Constant forms.DWord) more h = refl
-opens end (opcodes.Constant forms.QWord) more h = refl
-opens end opcodes.Str more h = refl
-opens end opcodes.Buffer more h = refl
-opens end opcodes.Package more h = refl
-opens end opcodes.VarPackage more h = refl
-opens end opcodes.DeclareName more h = refl
-opens end opcodes.Scope more h = refl
-opens end opcodes.Method more h = refl
-opens end opcodes.External more h = refl
-opens end opcodes.If more h = refl
-opens end opcodes.Else more h = refl
-opens end opcodes.While more h = refl
-opens end opcodes.Alias more h = refl
-opens end (opcodes.Constant forms.Revision) more h = refl
-opens end opcodes.Debug more h = refl
-opens end opcodes.Mutex more h = refl
-opens end opcodes.Event more h = refl
-opens end opcodes.CreateField more h = refl
-opens end opcodes.Region more h = refl
-opens end opcodes.Field more h = refl
-opens end opcodes.Device more h = refl
-opens end opcodes.Processor more h = refl
-opens end opcodes.Power more h = refl
-opens end opcodes.Thermal more h = refl
-opens end opcodes.IndexField more h = refl
-opens end opcodes.BankField more h = refl
-opens end opcodes.DataRegion more h = refl
 opens end opcodes.Name more h = absurd cc
 opens end opcodes.Nothing more h = absurd cc
 opens end (opcodes.Create w) more h = width_opens end w more
 opens end (opcodes.Operator op) more h = operator_opens end op more
 opens end (opcodes.Local n) more h = local_opens end n more h
 opens end (opcodes.Arg n) more h = arg_opens end n more h
+opens end (opcodes.Constant forms.Zero) more h = refl
+opens end (opcodes.Constant _) more h = refl
+opens end _ more h = refl
 
 -- a name in the place of a term
 pub opens_name : (end b : ℕ) (more : List ℕ) → is_name_start b ≡ true → opcode_at end (b ∷ more) ≡ Ok (opcodes.Name, more)
@@ -162,46 +75,13 @@ opens_name end b more h = rw (plain, h) refl
 
 -- ---- what is read is spelled
 
-abbrev same : List ℕ → List ℕ → Bool
-same [] [] = true
-same (a ∷ as') (b ∷ bs) = eqb a b && same as' bs
-same as' bs = false
-
-same_is : (as' bs : List ℕ) → same as' bs ≡ true → as' ≡ bs
+same_is : (bs cs : List ℕ) → are_same bs cs ≡ true → bs ≡ cs
 same_is [] [] h = refl
-same_is (a ∷ as') (b ∷ bs) h =
-    let both = and_true (eqb a b) (same as' bs) h in
-    rw (eqb-true a b both.0) (ap (λ (t : List ℕ). b ∷ t) (same_is as' bs both.1))
-same_is [] (b ∷ bs) h = absurd cc
-same_is (a ∷ as') [] h = absurd cc
-
--- a row is no name, and has the bytes of its opcode
-abbrev row_good : Opcode → List ℕ → Bool
-row_good opcodes.Name front = false
-row_good (opcodes.Local n) front = false
-row_good (opcodes.Arg n) front = false
-row_good opcodes.Nothing front = true
-row_good opcode front = same (opcode_bytes opcode) front
-
-abbrev all_good : List Opening → (ℕ → List ℕ) → Bool
-all_good [] written = true
-all_good (r ∷ rs) written = row_good r.1 (written r.0) && all_good rs written
-
-good_row : (rows : List Opening) (written : ℕ → List ℕ) (b : ℕ) → all_good rows written ≡ true → row_good (looked_up rows b) (written b) ≡ true
-good_row [] written b h = refl
-good_row (r ∷ rs) written b h =
-    let both = and_true (row_good r.1 (written r.0)) (all_good rs written) h in
-    by_test both.0 (good_row rs written b both.1) (eqb b r.0) refl
-  where
-    by_test : row_good r.1 (written r.0) ≡ true → row_good (looked_up rs b) (written b) ≡ true → (t : Bool) → eqb b r.0 ≡ t → row_good (cond t r.1 (looked_up rs b)) (written b) ≡ true
-    by_test one more true e = rw (eqb-true b r.0 e) one
-    by_test one more false e = more
-
-plain_good : all_good plain_opcodes (λ b. b ∷ []) ≡ true
-plain_good = refl
-
-extended_good : all_good extended_opcodes (λ b. 0x5B ∷ b ∷ []) ≡ true
-extended_good = refl
+same_is (b ∷ bs) (c ∷ cs) h =
+    let both = and_true (are_same bs cs) (eqb b c) h in
+    rw (eqb-true b c both.1) (ap (λ (t : List ℕ). c ∷ t) (same_is bs cs both.0))
+same_is [] (c ∷ cs) h = absurd cc
+same_is (b ∷ bs) [] h = absurd cc
 
 -- what the bytes of what begins there are
 abbrev pub Told : Opcode → List ℕ → Type 0
@@ -209,18 +89,29 @@ Told opcodes.Name front = is_name_start (slice_index front 0) ≡ true
 Told opcodes.Nothing front = Unit {0}
 Told opcode front = (is_spelled opcode ≡ true) × (front ≡ opcode_bytes opcode)
 
-told_row : (opcode : Opcode) (front : List ℕ) → row_good opcode front ≡ true → Told opcode front
-told_row opcodes.Name front h = absurd cc
-told_row (opcodes.Local n) front h = absurd cc
-told_row (opcodes.Arg n) front h = absurd cc
-told_row opcodes.Nothing front h = tt
-told_row opcode front h = (refl, sym (same_is (opcode_bytes opcode) front h))
+told_of : (opcode : Opcode) (front : List ℕ) → is_spelled opcode ≡ true → front ≡ opcode_bytes opcode → Told opcode front
+told_of opcodes.Name front spelled is = absurd cc
+told_of opcodes.Nothing front spelled is = tt
+told_of opcode front spelled is = (spelled, is)
+
+told_with : (os : List Opcode) (front : List ℕ) → list_all is_spelled os ≡ true → Told (opcode_with front os) front
+told_with [] front all = tt
+told_with (o ∷ os) front all =
+    let both = and_true (is_spelled o) (list_all is_spelled os) all in
+    by_test both.0 (told_with os front both.1) (are_same front (opcode_bytes o)) refl
+  where
+    by_test : is_spelled o ≡ true → Told (opcode_with front os) front → (t : Bool) → are_same front (opcode_bytes o) ≡ t → Told (cond t o (opcode_with front os)) front
+    by_test spelled more true e = told_of o front spelled (same_is front (opcode_bytes o) e)
+    by_test spelled more false e = more
+
+all_spelled : list_all is_spelled fixed_opcodes ≡ true
+all_spelled = refl
 
 plain_told : (b : ℕ) → Told (plain_opcode_of b) (b ∷ [])
 plain_told b = by_tests (is_name_start b) refl (ltb 0x5F b && ltb b 0x68) (ltb 0x67 b && ltb b 0x6F) refl refl
   where
     by_tests : (n : Bool) → is_name_start b ≡ n → (l a : Bool) → (ltb 0x5F b && ltb b 0x68) ≡ l → (ltb 0x67 b && ltb b 0x6F) ≡ a
-        → Told (cond n opcodes.Name (cond l (opcodes.Local (b - 0x60)) (cond a (opcodes.Arg (b - 0x68)) (looked_up plain_opcodes b)))) (b ∷ [])
+        → Told (cond n opcodes.Name (cond l (opcodes.Local (b - 0x60)) (cond a (opcodes.Arg (b - 0x68)) (opcode_with (b ∷ []) fixed_opcodes)))) (b ∷ [])
     by_tests true e l a d f = e
     by_tests false e true a d f =
         let both = and_true (ltb 0x5F b) (ltb b 0x68) d in
@@ -234,10 +125,10 @@ plain_told b = by_tests (is_name_start b) refl (ltb 0x5F b && ltb b 0x68) (ltb 0
         let high : b < 0x6F = ltb-true _ _ both.1 in
         let is : b ≡ (b - 0x68) + 0x68 = omega arith in
         (lt-ltb _ _ (omega arith), ap (λ n. n ∷ []) is)
-    by_tests false e false false d f = told_row (looked_up plain_opcodes b) (b ∷ []) (good_row plain_opcodes (λ b. b ∷ []) b plain_good)
+    by_tests false e false false d f = told_with fixed_opcodes (b ∷ []) all_spelled
 
 extended_told : (b : ℕ) → Told (extended_opcode_of b) (0x5B ∷ b ∷ [])
-extended_told b = told_row (looked_up extended_opcodes b) (0x5B ∷ b ∷ []) (good_row extended_opcodes (λ b. 0x5B ∷ b ∷ []) b extended_good)
+extended_told b = told_with fixed_opcodes (0x5B ∷ b ∷ []) all_spelled
 
 -- ---- what begins there
 

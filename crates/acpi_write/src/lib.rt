@@ -6,7 +6,6 @@ mod declaration;
 mod fault;
 mod item;
 pub mod laws;
-mod operator;
 mod term;
 mod writer;
 mod writing;

@@ -14,7 +14,6 @@ ghost use Rattle.acpi_write.specs.Laws.{IsIntTyped};
 ghost use Rattle.acpi_write.specs.TermLaws.{IsTermTyped, AreTermsTyped};
 
 use crate::fault::WriteFault;
-use crate::operator::operator_bytes;
 use crate::writer::{Argument, Writer};
 use acpi_name::Name;
 use acpi_tree::{Int, Op, Operand, Term};
@@ -149,7 +148,7 @@ impl Writer {
         ensures typed { OnOk result (AreTermsTyped (terms_of (operands_view operands.now))) }
     {
         self.operands(operands)?;
-        self.fixed(operator_bytes(op))
+        self.fixed(op.row().opcode)
     }
 
     #[cycle(terms)]

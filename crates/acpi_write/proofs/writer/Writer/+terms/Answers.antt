@@ -206,7 +206,7 @@ call-returns-clause-put t c = puts_onto c.reference.result (Some (name_bytes c.a
 pub operation-returns-clause-put : goal.operation-returns-clause-put
 operation-returns-clause-put t c =
     let operator : Puts c.fixed.result (Some (operator_bytes c.args.op)) c.operands.new.self c.fixed.new.self =
-    subst (λ w. Puts c.fixed.result (Some w) c.operands.new.self c.fixed.new.self) c.operator_bytes.ensures c.fixed.ensures in
+    subst (λ w. Puts c.fixed.result (Some w) c.operands.new.self c.fixed.new.self) c.row.ensures.opcode c.fixed.ensures in
     puts_onto c.fixed.result (Some (operator_bytes c.args.op)) (terms_bytes (terms_of (operands_view c.args.operands.now))) c.args.self.now
     c.operands.new.self c.fixed.new.self c.in_ok-operands.ensures.put operator
 
