@@ -11,7 +11,7 @@ use Rattle.acpi_verdict.specs.declared.definers.Definers.{Definers}
 use Rattle.acpi_verdict.specs.steps.Clashing.{IsAt, Offers}
 use Rattle.acpi_verdict.specs.steps.Defining.{IsNoted, AddsDefiner}
 use Rattle.acpi_verdict.specs.steps.Declaring.{with_args, args_in, IsNewAt, IsSameAt, AddsSsdt}
-use Rattle.acpi_verdict.specs.steps.Telling.{LaidTree}
+use Rattle.acpi_verdict.specs.steps.Overlays.{OverlayTree}
 use Rattle.acpi_verdict.proofs.Offers.{offers_none, offers_same, offers_both}
 
 pub same_definer : (x y : Definer) → x.number ≡ y.number → x.args ≡ y.args → x ≡ y
@@ -200,19 +200,19 @@ module _ (number : ℕ) (args : List Segment → Option ℕ) (p : List Segment) 
 
 -- ---- paths with the arguments of their objects
 
-abbrev pub IsWithArgs : LaidTree → List Segment × Option ℕ → Type 0
+abbrev pub IsWithArgs : OverlayTree → List Segment × Option ℕ → Type 0
 IsWithArgs l e = args_in l e.0 ≡ e.1
 
-pub paths_with_args : (l : LaidTree) (ps : List (List Segment)) → map (λ e. e.0) (map (with_args l) ps) ≡ ps
+pub paths_with_args : (l : OverlayTree) (ps : List (List Segment)) → map (λ e. e.0) (map (with_args l) ps) ≡ ps
 paths_with_args l [] = refl
 paths_with_args l (p ∷ ps) = ap (λ (qs : List (List Segment)). p ∷ qs) (paths_with_args l ps)
 
-pub all_with_args : (l : LaidTree) (ps : List (List Segment)) → AllByRecursion (IsWithArgs l) (map (with_args l) ps)
+pub all_with_args : (l : OverlayTree) (ps : List (List Segment)) → AllByRecursion (IsWithArgs l) (map (with_args l) ps)
 all_with_args l [] = tt
 all_with_args l (p ∷ ps) = (refl, all_with_args l ps)
 
 -- one path more with its arguments
-pub one_with_args : (l : LaidTree) (p : List Segment) (a : Option ℕ) (found now all : List (List Segment × Option ℕ)) (ps later : List (List Segment))
+pub one_with_args : (l : OverlayTree) (p : List Segment) (a : Option ℕ) (found now all : List (List Segment × Option ℕ)) (ps later : List (List Segment))
     → now ≡ found ++ (p, a) ∷ [] → a ≡ args_in l p → ps ≡ p ∷ later → found ++ map (with_args l) ps ≡ all → now ++ map (with_args l) later ≡ all
 one_with_args l p a found now all ps later put same front before =
     ap (λ (xs : List (List Segment × Option ℕ)). xs ++ map (with_args l) later) put

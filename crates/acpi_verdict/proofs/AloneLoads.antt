@@ -18,7 +18,7 @@ use Rattle.acpi_order.specs.Misses.{Listing, objects_of_first, objects_of_both}
 use Rattle.acpi_order.specs.Verdicts.{IsSsdt, DsdtLoads, AllAlone}
 use Rattle.acpi_order.proofs.Singles.{taken_back}
 use Rattle.acpi_verdict.specs.VerdictView.{IsSinglesFault}
-use Rattle.acpi_verdict.specs.steps.Telling.{told_of}
+use Rattle.acpi_verdict.specs.steps.Overlays.{renumbered}
 
 -- ---- the SSDT of a number
 
@@ -116,7 +116,7 @@ at_ssdt depth dsdt b number reason loads h =
 -- SSDT number i + 1, where those up to number i load alone
 pub refused_so : (depth : ℕ) (dsdt : List ℕ) (bs : List (List ℕ)) (i : ℕ) (b : List ℕ) (fault : LoadFault) → DsdtLoads depth dsdt
     → ((k : ℕ) (c : List ℕ) → k ≤ i → IsSsdt bs k c → LoadsAlone depth dsdt c) → IsSsdt bs (i + 1) b
-    → IsLoadFault depth (dsdt ∷ b ∷ []) fault → IsSinglesFault depth dsdt bs (told_of (i + 1) fault)
+    → IsLoadFault depth (dsdt ∷ b ∷ []) fault → IsSinglesFault depth dsdt bs (renumbered (i + 1) fault)
 refused_so depth dsdt bs i b (At number reason) loads alone at refused = record {
   loads = loads;
   earlier = λ k c less is. alone k c (omega arith) is;

@@ -14,7 +14,7 @@ use Rattle.acpi_space.proofs.Keys.{keys_ascend}
 use Rattle.acpi_order.specs.Misses.{Listing, objects_of_both}
 use Rattle.acpi_order.specs.Singles.{awaited_cmp, IsAwaitedInTable, IsAwaitedBy}
 use Rattle.acpi_order.proofs.Lists.{among_append, appended}
-use Rattle.acpi_verdict.specs.steps.Searching.{tagged}
+use Rattle.acpi_verdict.specs.steps.SingleMisses.{tagged}
 use Rattle.acpi_verdict.proofs.PathSets.{pair_is}
 
 abbrev Entry : Type 0

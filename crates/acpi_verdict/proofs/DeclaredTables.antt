@@ -20,7 +20,7 @@ use Rattle.acpi_verdict.specs.declared.definers.Definer.{Definer}
 use Rattle.acpi_verdict.specs.steps.Clashing.{IsLeastOf}
 use Rattle.acpi_verdict.specs.steps.Defining.{method_args, args_at, IsNoted}
 use Rattle.acpi_verdict.specs.steps.Declaring.{args_in, IsNewAt, IsSameAt, AddsSsdt, IsDefiner, AreFirst, AreDeclaredTo, AreDeclared}
-use Rattle.acpi_verdict.specs.steps.Telling.{LaidTree, IsLaid}
+use Rattle.acpi_verdict.specs.steps.Overlays.{OverlayTree, IsOverlay}
 use Rattle.acpi_verdict.proofs.AloneLoads.{one_ssdt, ssdt_within, declared_there}
 use Rattle.acpi_verdict.proofs.Offers.{IsUpTo, least_covers, least_offered}
 
@@ -59,19 +59,19 @@ up_to : (k n : ℕ) → k ≤ n + 1 → (k ≤ n) ⊎ (k ≡ n + 1)
 up_to k n h = grind arith
 
 module _ (depth : ℕ) (dsdt : List ℕ) (ssdts : List (List ℕ)) (n : ℕ) (d now : Declared) (before : AreDeclaredTo depth dsdt ssdts n d) (b : List ℕ) (is_ssdt : IsSsdt ssdts (n + 1) b)
-    (l : LaidTree) (laid : IsLaid depth dsdt b l) (added : AddsSsdt (n + 1) l.defined (args_in l) d now) where
+    (l : OverlayTree) (overlay : IsOverlay depth dsdt b l) (added : AddsSsdt (n + 1) l.defined (args_in l) d now) where
   abbrev first : Listing
-  first = laid.over.first
+  first = overlay.over.first
 
   abbrev t : Listing
-  t = laid.over.t
+  t = overlay.over.t
 
   abbrev IsNew : List Segment → Definer → Type 0
   IsNew = IsNewAt (n + 1) l.defined (args_in l)
 
   -- the object at a path that it declares
   args_are : (p : List Segment) (o : ObjectTree) → objects_of t p ≡ Some o → args_in l p ≡ method_args o
-  args_are p o e = ap (λ (N : Namespace). args_at (N p)) laid.over.objects_are ∙ ap args_at (declared_there depth dsdt b first t laid.over.listings p o e)
+  args_are p o e = ap (λ (N : Namespace). args_at (N p)) overlay.over.objects_are ∙ ap args_at (declared_there depth dsdt b first t overlay.over.listings p o e)
 
   -- ---- they load alone
 
@@ -82,19 +82,19 @@ module _ (depth : ℕ) (dsdt : List ℕ) (ssdts : List (List ℕ)) (n : ℕ) (d 
       by (inl less) = before.alone k c less at
       by (inr is) =
           let same : c ≡ b = one_ssdt ssdts (n + 1) c b (subst (λ (i : ℕ). IsSsdt ssdts i c) is at) is_ssdt in
-          subst (LoadsAlone depth dsdt) (sym same) (first, t, laid.over.listings)
+          subst (LoadsAlone depth dsdt) (sym same) (first, t, overlay.over.listings)
 
   -- ---- they are noted
 
   definer_new : (p : List Segment) (x : Definer) → IsNew p x → IsDefiner depth dsdt ssdts p x
   definer_new p x (m, number, args) =
-      let o = (laid.defined_are p).0 m in
+      let o = (overlay.defined_are p).0 m in
       record {
         ssdt = b;
         is_ssdt = subst (λ (i : ℕ). IsSsdt ssdts i b) number is_ssdt;
         first = first;
         t = t;
-        listings = laid.over.listings;
+        listings = overlay.over.listings;
         object = o.0;
         declares = o.1;
         args_are = sym (args_are p o.0 o.1) ∙ args;
@@ -104,10 +104,10 @@ module _ (depth : ℕ) (dsdt : List ℕ) (ssdts : List (List ℕ)) (n : ℕ) (d 
   new_definer p x h is =
       let same : h.ssdt ≡ b = one_ssdt ssdts (n + 1) h.ssdt b (subst (λ (i : ℕ). IsSsdt ssdts i h.ssdt) is h.is_ssdt) is_ssdt in
       let of_b : AreSingleListings depth dsdt b h.first h.t = subst (λ (c : List ℕ). AreSingleListings depth dsdt c h.first h.t) same h.listings in
-      let one_first : h.first ≡ first = same_first depth dsdt b b h.first first h.t t of_b laid.over.listings in
-      let one_t : h.t ≡ t = same_second depth dsdt b first h.t t (subst (λ (f : Listing). AreSingleListings depth dsdt b f h.t) one_first of_b) laid.over.listings in
+      let one_first : h.first ≡ first = same_first depth dsdt b b h.first first h.t t of_b overlay.over.listings in
+      let one_t : h.t ≡ t = same_second depth dsdt b first h.t t (subst (λ (f : Listing). AreSingleListings depth dsdt b f h.t) one_first of_b) overlay.over.listings in
       let declares : objects_of t p ≡ Some h.object = subst (λ (u : Listing). objects_of u p ≡ Some h.object) one_t h.declares in
-      ((laid.defined_are p).1 (h.object, declares), sym is, args_are p h.object declares ∙ h.args_are)
+      ((overlay.defined_are p).1 (h.object, declares), sym is, args_are p h.object declares ∙ h.args_are)
 
   noted_to : (p : List Segment) (x : Definer) → IsNoted now.definers p x → IsDefiner depth dsdt ssdts p x × (x.number ≤ n + 1)
   noted_to p x k = by ((added.noted p x).0 k)
@@ -152,8 +152,8 @@ module _ (depth : ℕ) (dsdt : List ℕ) (ssdts : List (List ℕ)) (n : ℕ) (d 
   same_to i j p (inl h) = let within = h.1 in (h.0, omega arith)
   same_to i j p (inr (number, less, m, x, is, k)) =
       let earlier = ((before.noted p x).0 (inl is)).0 in
-      let o = (laid.defined_are p).0 m in
-      let one_first : earlier.first ≡ first = same_first depth dsdt earlier.ssdt b earlier.first first earlier.t t earlier.listings laid.over.listings in (
+      let o = (overlay.defined_are p).0 m in
+      let one_first : earlier.first ≡ first = same_first depth dsdt earlier.ssdt b earlier.first first earlier.t t earlier.listings overlay.over.listings in (
         record {
           below = less;
           this = earlier.ssdt;
@@ -164,7 +164,7 @@ module _ (depth : ℕ) (dsdt : List ℕ) (ssdts : List (List ℕ)) (n : ℕ) (d 
           t = earlier.t;
           u = t;
           listings = earlier.listings;
-          other_listings = subst (λ (f : Listing). AreSingleListings depth dsdt b f t) (sym one_first) laid.over.listings;
+          other_listings = subst (λ (f : Listing). AreSingleListings depth dsdt b f t) (sym one_first) overlay.over.listings;
           object = earlier.object;
           other_object = o.0;
           declares = earlier.declares;

@@ -22,16 +22,17 @@ use Rattle.acpi_order.proofs.Once.{same_first, same_second}
 use Rattle.acpi_verdict.specs.declared.clashes.Clash.{Clash}
 use Rattle.acpi_verdict.specs.declared.definers.Definer.{Definer}
 use Rattle.acpi_verdict.specs.declared.definers.Definers.{Definers}
-use Rattle.acpi_verdict.specs.declared.finding.Found.{Found}
+use Rattle.acpi_verdict.specs.declared.findings.Findings.{Findings}
 use Rattle.acpi_verdict.specs.declared.verdicts.Satisfied.{Satisfied}
 use Rattle.acpi_verdict.specs.SatisfiedView.{satisfied_cmp}
 use Rattle.acpi_verdict.specs.steps.Clashing.{Clashes, IsLeastOf}
 use Rattle.acpi_verdict.specs.steps.Defining.{method_args, are_args, takes, IsNoted}
 use Rattle.acpi_verdict.specs.steps.Declaring.{IsDefiner, AreFirst, AreDefiners}
-use Rattle.acpi_verdict.specs.steps.Finding.{IsUnmetOf, IsUnmetBy, IsUnmetAt, PutsMet, IsMetFor, AreMet, FindsTold, FindsSsdt, AreFoundTo, AreFound}
-use Rattle.acpi_verdict.specs.steps.Telling.{IsOver, ToldTree, IsMissedIn, IsAwaitedIn, IsToldTree, AreAwaitsAlone}
-use Rattle.acpi_verdict.specs.steps.Touching.{is_tried, AreTouching}
-use Rattle.acpi_verdict.specs.steps.Trying.{TriedTree}
+use Rattle.acpi_verdict.specs.steps.Finding.{IsUnmetOf, IsUnmetBy, IsUnmetAt, PutsSatisfied, IsSatisfiedFor, IsSatisfiedOf, FindsPair, FindsSsdt, AreFoundTo, AreFound}
+use Rattle.acpi_verdict.specs.steps.Overlays.{IsOver}
+use Rattle.acpi_verdict.specs.steps.PairMisses.{PairTree, IsMissedIn, IsAwaitedIn, AreLoadMisses, AreAwaitsAlone}
+use Rattle.acpi_verdict.specs.steps.AffectedSsdts.{is_miss, AreAffected}
+use Rattle.acpi_verdict.specs.declared.misses.Misses.{Misses}
 use Rattle.acpi_verdict.proofs.AloneLoads.{one_ssdt, ssdt_within}
 use Rattle.acpi_verdict.proofs.Offers.{least_same, least_offered, offers_same}
 use Rattle.acpi_verdict.proofs.PathSets.{pair_is}
@@ -55,50 +56,50 @@ definer_takes depth dsdt ssdts p x h n = ap (λ a. are_args a n) (sym h.args_are
 noted_wanted : (d : Definers) → AreFirst d → (p : List Segment) (x : Definer) → IsNoted d p x → IsTrue (is_defined d.first p)
 noted_wanted d firsts p x k = ap is_some (firsts p x k).1
 
-module _ (depth : ℕ) (dsdt b : List ℕ) (d : Definers) (firsts : AreFirst d) (number : ℕ) (told : ToldTree) (tells : IsToldTree (is_defined d.first) depth dsdt b told) (old new : Found)
-    (finds : FindsTold d number told old new) where
+module _ (depth : ℕ) (dsdt b : List ℕ) (d : Definers) (firsts : AreFirst d) (number : ℕ) (pair : PairTree) (tells : AreLoadMisses (is_defined d.first) depth dsdt b pair) (old new : Findings)
+    (finds : FindsPair d number pair old new) where
   abbrev first : Listing
   first = tells.first
 
   abbrev t : Listing
   t = tells.t
 
-  clash_to : (i j : ℕ) (p : List Segment) → IsUnmetOf d.first number told.own i j p ⊎ IsUnmetOf d.first number told.under i j p → IsUnmetBy depth d.first number first t i j p
+  clash_to : (i j : ℕ) (p : List Segment) → IsUnmetOf d.first number pair.own i j p ⊎ IsUnmetOf d.first number pair.under i j p → IsUnmetBy depth d.first number first t i j p
   clash_to i j p (inl (e, x, is, at, ne, inl m)) = (e, x, is, at, ne, inl ((tells.missed_are p).0 (inl m)).0)
   clash_to i j p (inl (e, x, is, at, ne, inr (n, m, fails))) = (e, x, is, at, ne, inr (n, ((tells.awaited_are p n).0 (inl m)).0, fails))
   clash_to i j p (inr (e, x, is, at, ne, inl m)) = (e, x, is, at, ne, inl ((tells.missed_are p).0 (inr m)).0)
   clash_to i j p (inr (e, x, is, at, ne, inr (n, m, fails))) = (e, x, is, at, ne, inr (n, ((tells.awaited_are p n).0 (inr m)).0, fails))
 
-  clash_from : (i j : ℕ) (p : List Segment) → IsUnmetBy depth d.first number first t i j p → IsUnmetOf d.first number told.own i j p ⊎ IsUnmetOf d.first number told.under i j p
+  clash_from : (i j : ℕ) (p : List Segment) → IsUnmetBy depth d.first number first t i j p → IsUnmetOf d.first number pair.own i j p ⊎ IsUnmetOf d.first number pair.under i j p
   clash_from i j p (e, x, is, at, ne, inl miss) = by ((tells.missed_are p).1 (miss, ap is_some is))
     where
-      by : IsMissedIn told p → IsUnmetOf d.first number told.own i j p ⊎ IsUnmetOf d.first number told.under i j p
+      by : IsMissedIn pair p → IsUnmetOf d.first number pair.own i j p ⊎ IsUnmetOf d.first number pair.under i j p
       by (inl m) = inl (e, x, is, at, ne, inl m)
       by (inr m) = inr (e, x, is, at, ne, inl m)
   clash_from i j p (e, x, is, at, ne, inr (n, awaited, fails)) = by ((tells.awaited_are p n).1 (awaited, ap is_some is))
     where
-      by : IsAwaitedIn told p n → IsUnmetOf d.first number told.own i j p ⊎ IsUnmetOf d.first number told.under i j p
+      by : IsAwaitedIn pair p n → IsUnmetOf d.first number pair.own i j p ⊎ IsUnmetOf d.first number pair.under i j p
       by (inl m) = inl (e, x, is, at, ne, inr (n, m, fails))
       by (inr m) = inr (e, x, is, at, ne, inr (n, m, fails))
 
   abbrev IsMetHere : Satisfied → Type 0
-  IsMetHere = IsMetFor number (IsAwaitedInTable depth (objects_of_both first t) t) (IsNoted d)
+  IsMetHere = IsSatisfiedFor number (IsAwaitedInTable depth (objects_of_both first t) t) (IsNoted d)
 
-  met_to : (s : Satisfied) → AreMet d number (entries told.own.awaited) s → IsMetHere s
-  met_to s (e, x, noted, at, ne, n, m, met) = (e, x, noted, at, ne, n, ((tells.own_awaited s.path n).0 ((pair_is told.own.awaited s.path n).0 m)).0, met)
+  met_to : (s : Satisfied) → IsSatisfiedOf d number (entries pair.own.awaited) s → IsMetHere s
+  met_to s (e, x, noted, at, ne, n, m, met) = (e, x, noted, at, ne, n, ((tells.own_awaited s.path n).0 ((pair_is pair.own.awaited s.path n).0 m)).0, met)
 
-  met_from : (s : Satisfied) → IsMetHere s → AreMet d number (entries told.own.awaited) s
+  met_from : (s : Satisfied) → IsMetHere s → IsSatisfiedOf d number (entries pair.own.awaited) s
   met_from s (e, x, noted, at, ne, n, awaits, met) =
-      (e, x, noted, at, ne, n, (pair_is told.own.awaited s.path n).1 ((tells.own_awaited s.path n).1 (awaits, noted_wanted d firsts s.path x noted)), met)
+      (e, x, noted, at, ne, n, (pair_is pair.own.awaited s.path n).1 ((tells.own_awaited s.path n).1 (awaits, noted_wanted d firsts s.path x noted)), met)
 
   pub finds_ssdt : FindsSsdt depth dsdt b d number old new
   finds_ssdt = record {
     first = first;
     t = t;
     listings = tells.listings;
-    clash = offers_same (λ i j p. IsUnmetOf d.first number told.own i j p ⊎ IsUnmetOf d.first number told.under i j p) (IsUnmetBy depth d.first number first t) old.clash new.clash
+    clash = offers_same (λ i j p. IsUnmetOf d.first number pair.own i j p ⊎ IsUnmetOf d.first number pair.under i j p) (IsUnmetBy depth d.first number first t) old.clash new.clash
         clash_to clash_from finds.clash;
-    satisfied = puts_same old.satisfied.items new.satisfied.items (AreMet d number (entries told.own.awaited)) finds.satisfied IsMetHere met_to met_from;
+    satisfied = puts_same old.satisfied.items new.satisfied.items (IsSatisfiedOf d number (entries pair.own.awaited)) finds.satisfied IsMetHere met_to met_from;
   }
 
 -- ---- what is satisfied
@@ -106,7 +107,7 @@ module _ (depth : ℕ) (dsdt b : List ℕ) (d : Definers) (firsts : AreFirst d) 
 module _ (depth : ℕ) (dsdt : List ℕ) (ssdts : List (List ℕ)) (d : Definers) (definers : AreDefiners depth dsdt ssdts d) where
   -- a method that the user awaits, and another SSDT declares
   satisfied_of : (user : ℕ) (Awaits : List Segment → ℕ → Type 0) (s : Satisfied) → ((p : List Segment) (n : ℕ) → Awaits p n → IsAwaitedOf depth dsdt ssdts user p n)
-      → IsMetFor user Awaits (IsNoted d) s → IsSatisfied depth dsdt ssdts s.user s.definer s.path
+      → IsSatisfiedFor user Awaits (IsNoted d) s → IsSatisfied depth dsdt ssdts s.user s.definer s.path
   satisfied_of user Awaits s awaits (e, x, noted, at, ne, n, m, met) =
       let h = (definers.noted s.path x).0 noted in
       let found : IsSatisfied depth dsdt ssdts user x.number s.path = record {
@@ -125,7 +126,7 @@ module _ (depth : ℕ) (dsdt : List ℕ) (ssdts : List (List ℕ)) (d : Definers
       subst (λ (k : ℕ). IsSatisfied depth dsdt ssdts k s.definer s.path) e (subst (λ (k : ℕ). IsSatisfied depth dsdt ssdts user k s.path) at found)
 
   of_satisfied : (user : ℕ) (Awaits : List Segment → ℕ → Type 0) (s : Satisfied) → s.user ≡ user → ((p : List Segment) (n : ℕ) → IsAwaitedOf depth dsdt ssdts user p n → Awaits p n)
-      → IsSatisfied depth dsdt ssdts s.user s.definer s.path → IsMetFor user Awaits (IsNoted d) s
+      → IsSatisfied depth dsdt ssdts s.user s.definer s.path → IsSatisfiedFor user Awaits (IsNoted d) s
   of_satisfied user Awaits s e awaits h =
       let x : Definer = record { number = s.definer; args = method_args h.object } in
       let definer : IsDefiner depth dsdt ssdts s.path x =
@@ -140,15 +141,15 @@ module _ (depth : ℕ) (dsdt : List ℕ) (ssdts : List (List ℕ)) (d : Definers
         takes_as h.object h.args ∙ h.method,
       )
 
-  -- what an SSDT of them declares is wanted, and where it isn't marked the DSDT tried none of it
-  pub quiet_there : (number : ℕ) (b : List ℕ) → IsSsdt ssdts number b → (l : State) (over : IsOver depth dsdt b l) (alone : TriedTree) (flags : List Bool) → AreTouching d alone flags
-      → get_or flags number true ≡ false → (p : List Segment) (o : ObjectTree) → objects_of over.t p ≡ Some o → IsTrue (is_defined d.first p) × (is_tried alone p ≡ true → ⊥)
-  quiet_there number b at l over alone flags touching unmarked p o declares =
+  -- what an SSDT of them declares is wanted, and where it isn't marked the DSDT missed and awaits none of it
+  pub quiet_there : (number : ℕ) (b : List ℕ) → IsSsdt ssdts number b → (l : State) (over : IsOver depth dsdt b l) (alone : Misses) (flags : List Bool) → AreAffected d alone flags
+      → get_or flags number true ≡ false → (p : List Segment) (o : ObjectTree) → objects_of over.t p ≡ Some o → IsTrue (is_defined d.first p) × (is_miss alone p ≡ true → ⊥)
+  quiet_there number b at l over alone flags affected unmarked p o declares =
       let x : Definer = record { number = number; args = method_args o } in
       let h : IsDefiner depth dsdt ssdts p x =
       record { ssdt = b; is_ssdt = at; first = over.first; t = over.t; listings = over.listings; object = o; declares = declares; args_are = refl } in
       let noted = (definers.noted p x).1 h in
-      (noted_wanted d definers.firsts p x noted, λ tried. true≢false (sym (touching p x tried noted) ∙ unmarked))
+      (noted_wanted d definers.firsts p x noted, λ misses. true≢false (sym (affected p x misses noted) ∙ unmarked))
 
   -- ---- none yet, but for the DSDT
 
@@ -167,31 +168,31 @@ module _ (depth : ℕ) (dsdt : List ℕ) (ssdts : List (List ℕ)) (d : Definers
         let same : first ≡ awaits.first = one_dsdt first awaits.first listings awaits.listings in
         (pair_is alone p n).1 ((awaits.awaits_are p n).1 (subst (λ (f : Listing). IsAwaitedInTable depth (objects_of_first f) f p n) same h, wanted))
 
-    module _ (start now : List Satisfied) (none : start ≡ []) (puts : PutsMet start now (AreMet d 0 (entries alone))) where
-      first_among : (s : Satisfied) → Among now s ↔ (Among start s ⊎ AreMet d 0 (entries alone) s)
-      first_among = puts_among start now (AreMet d 0 (entries alone)) puts
+    module _ (start now : List Satisfied) (none : start ≡ []) (puts : PutsSatisfied start now (IsSatisfiedOf d 0 (entries alone))) where
+      first_among : (s : Satisfied) → Among now s ↔ (Among start s ⊎ IsSatisfiedOf d 0 (entries alone) s)
+      first_among = puts_among start now (IsSatisfiedOf d 0 (entries alone)) puts
 
       first_to : (s : Satisfied) → Among now s → IsSatisfied depth dsdt ssdts s.user s.definer s.path × (s.user ≤ 0)
       first_to s m = by ((first_among s).0 m)
         where
-          by : Among start s ⊎ AreMet d 0 (entries alone) s → IsSatisfied depth dsdt ssdts s.user s.definer s.path × (s.user ≤ 0)
+          by : Among start s ⊎ IsSatisfiedOf d 0 (entries alone) s → IsSatisfied depth dsdt ssdts s.user s.definer s.path × (s.user ≤ 0)
           by (inl k) = absurd (subst (λ (ks : List Satisfied). Among ks s) none k)
           by (inr h) = let e = h.0 in (satisfied_of 0 (λ p n. Among (entries alone) (p, n)) s dsdt_awaits h, omega arith)
 
       first_from : (s : Satisfied) → IsSatisfied depth dsdt ssdts s.user s.definer s.path × (s.user ≤ 0) → Among now s
       first_from s (h, within) =
           let is_dsdt : s.user ≡ 0 = omega arith in
-          let met : IsMetFor 0 (IsAwaitedOf depth dsdt ssdts 0) (IsNoted d) s = of_satisfied 0 (IsAwaitedOf depth dsdt ssdts 0) s is_dsdt (λ p n k. k) h in
+          let met : IsSatisfiedFor 0 (IsAwaitedOf depth dsdt ssdts 0) (IsNoted d) s = of_satisfied 0 (IsAwaitedOf depth dsdt ssdts 0) s is_dsdt (λ p n k. k) h in
           let wanted = noted_wanted d definers.firsts s.path met.1 met.2 in
           (first_among s).1 (inr (met.0, met.1, met.2, met.3, met.4, met.5, awaits_dsdt s.path met.5 wanted met.6, met.7))
 
       first_ascend : IsStrictlySortedBy satisfied_cmp now
       unfolding IsStrictlySortedBy
       first_ascend =
-          puts_ascend start now (AreMet d 0 (entries alone)) puts (subst (IsStrictlySortedBy satisfied_cmp) (sym none) tt)
+          puts_ascend start now (IsSatisfiedOf d 0 (entries alone)) puts (subst (IsStrictlySortedBy satisfied_cmp) (sym none) tt)
           (λ a b m h. absurd (subst (λ (l : List Satisfied). Among l a) none m))
 
-      pub none_found : (f : Found) → f.clash ≡ None → f.satisfied.items ≡ now → AreFoundTo depth dsdt ssdts d 0 f
+      pub none_found : (f : Findings) → f.clash ≡ None → f.satisfied.items ≡ now → AreFoundTo depth dsdt ssdts d 0 f
       none_found f no_clash is_now = record {
         clash = subst (λ (o : Option Clash). IsLeastOf (λ i j p. IsUnmetAt depth dsdt ssdts d.first i j p × (i ≤ 0)) o) (sym no_clash) (λ i j p h. none_yet i j p h.0 h.1);
         ascend = subst (IsStrictlySortedBy satisfied_cmp) (sym is_now) first_ascend;
@@ -207,7 +208,7 @@ module _ (depth : ℕ) (dsdt : List ℕ) (ssdts : List (List ℕ)) (d : Definers
   up_to : (k n : ℕ) → k ≤ n + 1 → (k ≤ n) ⊎ (k ≡ n + 1)
   up_to k n h = grind arith
 
-  module _ (n : ℕ) (b : List ℕ) (is_ssdt : IsSsdt ssdts (n + 1) b) (f now : Found) (before : AreFoundTo depth dsdt ssdts d n f) (finds : FindsSsdt depth dsdt b d (n + 1) f now) where
+  module _ (n : ℕ) (b : List ℕ) (is_ssdt : IsSsdt ssdts (n + 1) b) (f now : Findings) (before : AreFoundTo depth dsdt ssdts d n f) (finds : FindsSsdt depth dsdt b d (n + 1) f now) where
     abbrev this : Listing
     this = finds.first
 
@@ -274,7 +275,7 @@ module _ (depth : ℕ) (dsdt : List ℕ) (ssdts : List (List ℕ)) (d : Definers
             (subst (λ (l : Listing). IsAwaitedInTable depth (objects_of_both l two) two p k) (first_is c one two at listings) awaits)
 
     abbrev IsOwn : Satisfied → Type 0
-    IsOwn = IsMetFor (n + 1) (IsAwaitedInTable depth (objects_of_both this u) u) (IsNoted d)
+    IsOwn = IsSatisfiedFor (n + 1) (IsAwaitedInTable depth (objects_of_both this u) u) (IsNoted d)
 
     among : (s : Satisfied) → Among now.satisfied.items s ↔ (Among f.satisfied.items s ⊎ IsOwn s)
     among = puts_among f.satisfied.items now.satisfied.items IsOwn finds.satisfied
@@ -312,7 +313,7 @@ module _ (depth : ℕ) (dsdt : List ℕ) (ssdts : List (List ℕ)) (d : Definers
       by zero a = omega arith
       by (suc i) a = ssdt_within ssdts (suc i) a.0 a.3
 
-  pub all_found : (n : ℕ) (f : Found) → length ssdts ≤ n → AreFoundTo depth dsdt ssdts d n f → AreFound depth dsdt ssdts d f
+  pub all_found : (n : ℕ) (f : Findings) → length ssdts ≤ n → AreFoundTo depth dsdt ssdts d n f → AreFound depth dsdt ssdts d f
   all_found n f all h = record {
     clash = least_same (λ i j p. IsUnmetAt depth dsdt ssdts d.first i j p × (i ≤ n)) (IsUnmetAt depth dsdt ssdts d.first) (λ i j p k. k.0)
         (λ i j p k. (k, let within = ssdt_within ssdts i k.0 k.3 in omega arith)) f.clash h.clash;

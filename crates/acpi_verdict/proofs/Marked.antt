@@ -12,8 +12,8 @@ use Rattle.acpi_space.specs.Spaces.{PathMap, is_defined}
 use Rattle.acpi_verdict.specs.declared.definers.Definer.{Definer}
 use Rattle.acpi_verdict.specs.declared.definers.Definers.{Definers}
 use Rattle.acpi_verdict.specs.steps.Defining.{IsNoted, IsOther}
-use Rattle.acpi_verdict.specs.steps.Touching.{IsFirst, IsMarked, Marks, IsNotedAtAny, AreTouching}
-use Rattle.acpi_verdict.specs.steps.Trying.{TriedTree}
+use Rattle.acpi_verdict.specs.steps.AffectedSsdts.{IsFirst, IsMarked, Marks, IsNotedAtAny, AreAffected}
+use Rattle.acpi_verdict.specs.declared.misses.Misses.{Misses}
 use Rattle.acpi_verdict.proofs.PathSets.{pair_is}
 
 kept : (flags : List Bool) (i k : ℕ) → IsMarked flags k → IsMarked (set flags i true) k
@@ -93,7 +93,7 @@ more_paths_marked {V} d p v es old one two new first others rest =
     parts x (q, w, inl e, noted) = here q x (ap (λ (z : List Segment × V). z.0) e) noted
     parts x (q, w, inr m, noted) = inr (inr (q, w, m, noted))
 
--- ---- of what the DSDT tried
+-- ---- of what the DSDT missed and awaits
 
 value_there : {V : Type 0} (o : Option V) → is_some o ≡ true → (v : V) × (o ≡ Some v)
 value_there None e = absurd (true≢false (sym e))
@@ -106,9 +106,9 @@ either false b e = inr e
 noted_at_any : {V : Type 0} (d : Definers) (m : PathMap V) (p : List Segment) (x : Definer) → is_defined m p ≡ true → IsNoted d p x → IsNotedAtAny d (entries m) x
 noted_at_any d m p x e noted = let r = value_there (get m p) e in (p, r.0, (pair_is m p r.0).1 r.1, noted)
 
-pub all_touching : (d : Definers) (t : TriedTree) (old mid new : List Bool) → Marks old mid (IsNotedAtAny d (entries t.missed)) → Marks mid new (IsNotedAtAny d (entries t.awaited))
-    → AreTouching d t new
-all_touching d t old mid new missed awaited p x tried noted = by (either (is_defined t.missed p) (is_defined t.awaited p) tried)
+pub all_affected : (d : Definers) (t : Misses) (old mid new : List Bool) → Marks old mid (IsNotedAtAny d (entries t.missed)) → Marks mid new (IsNotedAtAny d (entries t.awaited))
+    → AreAffected d t new
+all_affected d t old mid new missed awaited p x misses noted = by (either (is_defined t.missed p) (is_defined t.awaited p) misses)
   where
     by : (is_defined t.missed p ≡ true) ⊎ (is_defined t.awaited p ≡ true) → IsMarked new x.number
     by (inl e) = awaited.keeps x.number (missed.adds x (noted_at_any d t.missed p x e noted))

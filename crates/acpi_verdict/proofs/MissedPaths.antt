@@ -14,7 +14,7 @@ use Rattle.acpi_body.proofs.Listed.{paths_among}
 use Rattle.acpi_order.specs.Bodies.{Method, methods_of}
 use Rattle.acpi_order.specs.Misses.{Listing, objects_of_first, objects_of_both, IsBodyMiss, IsMiss}
 use Rattle.acpi_order.proofs.Sharing.{of_two, first_of, second_of}
-use Rattle.acpi_verdict.specs.steps.Trying.{IsMissedByAny}
+use Rattle.acpi_verdict.specs.steps.Misses.{IsMissedByAny}
 
 module _ (depth : ℕ) (first t : Listing) where
   -- missed by links or Scope terms; by a body of the first table too; by a body of one of the two

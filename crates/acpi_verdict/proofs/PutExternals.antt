@@ -17,7 +17,7 @@ use Rattle.acpi_space.specs.Laws.{Among}
 use Rattle.acpi_order.proofs.Lists.{all_among, among_all, among_append, appended}
 use Rattle.acpi_verdict.specs.declared.verdicts.Satisfied.{Satisfied}
 use Rattle.acpi_verdict.specs.SatisfiedView.{satisfied_cmp}
-use Rattle.acpi_verdict.specs.steps.Finding.{AddsMet, PutsMet}
+use Rattle.acpi_verdict.specs.steps.Finding.{AddsSatisfied, PutsSatisfied}
 
 -- ---- their order
 
@@ -109,7 +109,7 @@ ascend_behind (x ∷ old) own up rest earlier = (all_among (λ s. satisfied_cmp 
         by (inl k) = among_all (λ y. satisfied_cmp x y ≡ Less) old up.0 s k
         by (inr k) = less x s (earlier x s (inl refl) k)
 
-module _ (old new : List Satisfied) (P : Satisfied → Type 0) (puts : PutsMet old new P) where
+module _ (old new : List Satisfied) (P : Satisfied → Type 0) (puts : PutsSatisfied old new P) where
   pub puts_among : (s : Satisfied) → Among new s ↔ (Among old s ⊎ P s)
   puts_among s = subst (λ (l : List Satisfied). Among l s ↔ (Among old s ⊎ P s)) (sym puts.behind) (to, from)
     where
@@ -128,7 +128,7 @@ module _ (old new : List Satisfied) (P : Satisfied → Type 0) (puts : PutsMet o
   puts_ascend up earlier =
       subst (IsStrictlySortedBy satisfied_cmp) (sym puts.behind) (ascend_behind old puts.own up puts.ascend (λ a b m k. earlier a b m ((puts.are b).0 k)))
 
-  pub puts_same : (Q : Satisfied → Type 0) → ((s : Satisfied) → P s → Q s) → ((s : Satisfied) → Q s → P s) → PutsMet old new Q
+  pub puts_same : (Q : Satisfied → Type 0) → ((s : Satisfied) → P s → Q s) → ((s : Satisfied) → Q s → P s) → PutsSatisfied old new Q
   puts_same Q to from = record {
     own = puts.own;
     behind = puts.behind;
@@ -137,10 +137,10 @@ module _ (old new : List Satisfied) (P : Satisfied → Type 0) (puts : PutsMet o
   }
 
 -- what was put in order, of a list that was empty and to which those are added of which P holds
-pub puts_own : (P : Satisfied → Type 0) (none found own : List Satisfied) → none ≡ [] → AddsMet none found P → IsStrictlySortedBy satisfied_cmp own
+pub puts_own : (P : Satisfied → Type 0) (none found own : List Satisfied) → none ≡ [] → AddsSatisfied none found P → IsStrictlySortedBy satisfied_cmp own
     → ((s : Satisfied) → Among own s ↔ Among found s)
     → (old new : List Satisfied)
-    → new ≡ old ++ own → PutsMet old new P
+    → new ≡ old ++ own → PutsSatisfied old new P
 puts_own P none found own empty adds up same old new behind =
     record { own = own; behind = behind; ascend = up; are = λ s. ((λ m. to s ((adds s).0 ((same s).0 m))), (λ h. (same s).1 ((adds s).1 (inr h)))) }
   where

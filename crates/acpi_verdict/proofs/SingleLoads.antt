@@ -1,10 +1,10 @@
 -- The load of two tables, with all that it tells.
-use Rattle.std.proofs.Common.{◌≡◌, ◌↔◌, ℕ, List, [], ◌∷◌, ◌++◌, map, not, filter, length, refl, sym, ap, subst, ◌∙◌}
+use Rattle.std.proofs.Common.{◌≡◌, ◌↔◌, ℕ, List, [], ◌∷◌, map, not, filter, length, refl, sym, ap, subst, ◌∙◌}
 use Rattle.std.proofs.lemmas.List.{length-map}
 use Rattle.std.specs.FinMap.{empty, keys}
 use Rattle.acpi_name.specs.Names.{Segment}
 use Rattle.acpi_space.specs.Laws.{Among}
-use Rattle.acpi_space.specs.Lookups.{Lookup, nothing}
+use Rattle.acpi_space.specs.Lookups.{Lookup}
 use Rattle.acpi_space.specs.Spaces.{PathMap, is_defined}
 use Rattle.acpi_tree.specs.declared.object.Object.{Object}
 use Rattle.acpi_declare.specs.declared.notes.TableNotes.{TableNotes}
@@ -17,7 +17,6 @@ use Rattle.acpi_declare.specs.Notes as notes
 use Rattle.acpi_declare.specs.Predefined.{predefined}
 use Rattle.acpi_declare.proofs.Refusals.{same_listings}
 use Rattle.acpi_declare.proofs.TableLists.{count_tables}
-use Rattle.acpi_body.specs.Bodies.{BodyTree}
 use Rattle.acpi_body.specs.steps.Gathering.{Paths, Grows}
 use Rattle.acpi_order.specs.Bodies.{Method, methods_of}
 use Rattle.acpi_order.specs.Independent.{AreSingleListings}
@@ -26,16 +25,17 @@ use Rattle.acpi_order.specs.Misses.{Listing, objects_of_first, objects_of_both}
 use Rattle.acpi_order.specs.Singles.{IsSingle}
 use Rattle.acpi_machine.specs.MachineView.{bodies_of}
 use Rattle.acpi_verdict.specs.SingleView.{awaited_view}
-use Rattle.acpi_verdict.specs.declared.searches.Told.{Told}
-use Rattle.acpi_machine.specs.steps.Adding.{noted, all_noted, AddsBodies}
-use Rattle.acpi_verdict.specs.steps.Trying.{IsMissedByAny}
-use Rattle.acpi_verdict.specs.steps.Searching.{Searches, SearchesAll, SearchesTables}
-use Rattle.acpi_machine.proofs.AddedBodies.{adds_both}
+use Rattle.acpi_verdict.specs.declared.misses.Misses.{Misses}
+use Rattle.acpi_verdict.specs.declared.single_misses.SingleMisses.{SingleMisses}
+use Rattle.acpi_machine.specs.steps.Adding.{noted}
+use Rattle.acpi_verdict.specs.steps.Misses.{all_paths, IsMissedByAny, AddsMethods}
+use Rattle.acpi_verdict.specs.steps.SingleMisses.{AreSingleMisses}
 use Rattle.acpi_verdict.proofs.AwaitedMethods.{awaited_ascend, awaited_by}
 use Rattle.acpi_verdict.proofs.DefinedPaths.{defined_are, defined_ascend}
 use Rattle.acpi_machine.proofs.Machines.{has_machine}
 use Rattle.acpi_verdict.proofs.MissedPaths.{missed_are}
-use Rattle.acpi_verdict.proofs.Searched.{alike, adds_bodies, misses_grow, awaited_are}
+use Rattle.acpi_verdict.proofs.AwaitedCounts.{alike}
+use Rattle.acpi_verdict.proofs.TableMisses.{all_missed, all_awaited}
 use Rattle.acpi_body.proofs.Listed.{paths_ascend}
 
 -- as many notes as tables
@@ -59,7 +59,7 @@ both_same a b c d e = (cc, cc)
 
 module _ (depth : ℕ) (dsdt ssdt : List ℕ) (one two : State) (h1 : HasTables depth (dsdt ∷ []) one) (h2 : HasTables depth (dsdt ∷ ssdt ∷ []) two) (before now : PathMap Object)
     (one_is : namespace_of before ≡ one.objects) (two_is : namespace_of now ≡ two.objects) (links : Lookup Links) (load : IsLoad depth (dsdt ∷ ssdt ∷ []) (namespace_of now) links)
-    (noted_of : List Notes) (notes_are : noted_of ≡ two.notes) (linked : Paths) (t : Told) (told : SearchesTables depth (namespace_of now) noted_of linked t) where
+    (noted_of : List Notes) (notes_are : noted_of ≡ two.notes) (linked : Paths) (t : SingleMisses) (told : AreSingleMisses depth (namespace_of now) noted_of linked t) where
   pair : Pair depth dsdt ssdt h2.placements
   pair = pair_of depth dsdt ssdt h2.placements h2.listings
 
@@ -84,33 +84,24 @@ module _ (depth : ℕ) (dsdt ssdt : List ℕ) (one two : State) (h1 : HasTables 
   noted_both : (told.first ≡ notes_on predefined first) × (told.second ≡ notes_on (objects_of_first first) second)
   noted_both = both_same told.first told.second _ _ (sym told.both ∙ notes_are ∙ h2.notes_are ∙ ap (all_notes predefined) pair.are)
 
-  abbrev start_first : Searches
-  start_first = record { bodies = nothing; missed = told.scopes; awaited = empty }
+  abbrev start_first : Misses
+  start_first = record { missed = told.scopes; awaited = empty }
 
-  abbrev start_second : Searches
-  start_second = record { bodies = told.of_first.bodies; missed = told.of_first.missed; awaited = empty }
+  abbrev start_second : Misses
+  start_second = record { missed = told.of_first.missed; awaited = empty }
 
-  search_first : SearchesAll depth N (methods_of first) start_first told.of_first
-  search_first =
-      subst (λ (ms : List Method). SearchesAll depth N ms start_first told.of_first) (ap noted noted_both.0)
-      (subst (λ (M : Namespace). SearchesAll depth M (noted told.first) start_first told.of_first) objects_both told.search_first)
+  of_first : AddsMethods all_paths depth N (methods_of first) start_first told.of_first
+  of_first =
+      subst (λ (ms : List Method). AddsMethods all_paths depth N ms start_first told.of_first) (ap noted noted_both.0)
+      (subst (λ (M : Namespace). AddsMethods all_paths depth M (noted told.first) start_first told.of_first) objects_both told.first_are)
 
-  search_second : SearchesAll depth N (methods_of second) start_second told.of_second
-  search_second =
-      subst (λ (ms : List Method). SearchesAll depth N ms start_second told.of_second) (ap noted noted_both.1)
-      (subst (λ (M : Namespace). SearchesAll depth M (noted told.second) start_second told.of_second) objects_both told.search_second)
-
-  bodies : AddsBodies depth (namespace_of now) (all_noted noted_of) nothing (bodies_of t.bodies)
-  bodies =
-      subst (λ (b : Lookup BodyTree). AddsBodies depth (namespace_of now) (all_noted noted_of) nothing b) (sym told.bodies_are)
-      (subst (λ (ns : List Notes). AddsBodies depth (namespace_of now) (all_noted ns) nothing told.of_second.bodies) (sym told.both)
-      (adds_both depth (namespace_of now) (noted told.first) (noted told.second ++ []) nothing told.of_first.bodies told.of_second.bodies
-      (adds_bodies depth (namespace_of now) (noted told.first) start_first told.of_first told.search_first)
-      (adds_both depth (namespace_of now) (noted told.second) [] told.of_first.bodies told.of_second.bodies told.of_second.bodies
-      (adds_bodies depth (namespace_of now) (noted told.second) start_second told.of_second told.search_second) refl)))
+  of_second : AddsMethods all_paths depth N (methods_of second) start_second told.of_second
+  of_second =
+      subst (λ (ms : List Method). AddsMethods all_paths depth N ms start_second told.of_second) (ap noted noted_both.1)
+      (subst (λ (M : Namespace). AddsMethods all_paths depth M (noted told.second) start_second told.of_second) objects_both told.second_are)
 
   machine : IsMachine depth (dsdt ∷ ssdt ∷ []) (record { objects = namespace_of now; links = links; bodies = bodies_of t.bodies })
-  machine = has_machine depth (dsdt ∷ ssdt ∷ []) (namespace_of now) links noted_of (bodies_of t.bodies) load are_notes bodies
+  machine = has_machine depth (dsdt ∷ ssdt ∷ []) (namespace_of now) links noted_of (bodies_of t.bodies) load are_notes told.bodies_are
 
   scopes : Grows linked told.scopes (Among (scope_misses (objects_of_first first) second))
   scopes = subst (λ (n : Notes). Grows linked told.scopes (Among n.missed)) noted_both.1 told.scopes_are
@@ -118,7 +109,7 @@ module _ (depth : ℕ) (dsdt ssdt : List ℕ) (one two : State) (h1 : HasTables 
   by_second : Grows told.of_first.missed t.missed (IsMissedByAny depth N (methods_of second))
   by_second =
       subst (λ (m : Paths). Grows told.of_first.missed m (IsMissedByAny depth N (methods_of second))) (sym told.missed_are)
-      (misses_grow depth N (methods_of second) start_second told.of_second search_second)
+      (all_missed depth N (methods_of second) start_second told.of_second of_second)
 
   module _ (none known : Paths) (is_none : none ≡ empty) (grown : Grows none known (Among (keys before))) (defined : List (List Segment))
       (kept : defined ≡ filter (λ p. not (is_defined known p)) (keys now)) (none_missed : Paths) (is_none_missed : none_missed ≡ empty) (link_misses : List (List Segment))
@@ -139,9 +130,9 @@ module _ (depth : ℕ) (dsdt ssdt : List ℕ) (one two : State) (h1 : HasTables 
       defined_are = defined_are depth dsdt ssdt first second pair.alone before now objects_first objects_both none known is_none grown defined kept;
       missed_ascend = paths_ascend t.missed missed listed;
       missed_are = missed_are depth first second none_missed linked told.scopes told.of_first.missed t.missed link_misses is_none_missed with_links links_are scopes
-          (misses_grow depth N (methods_of first) start_first told.of_first search_first) by_second missed listed;
+          (all_missed depth N (methods_of first) start_first told.of_first of_first) by_second missed listed;
       awaited_ascend = awaited_ascend depth first second told.of_first.awaited told.of_second.awaited (map awaited_view t.awaited.items) told.awaited_are;
       awaited_are = awaited_by depth first second told.of_first.awaited told.of_second.awaited (map awaited_view t.awaited.items) told.awaited_are
-          (awaited_are depth N (external_counts first) (methods_of first) start_first told.of_first (alike (external_counts first) (notes.methods first)) search_first refl)
-          (awaited_are depth N (external_counts second) (methods_of second) start_second told.of_second (alike (external_counts second) (notes.methods second)) search_second refl);
+          (all_awaited depth N (methods_of first) start_first told.of_first of_first (external_counts first) (alike (external_counts first) (notes.methods first)) refl)
+          (all_awaited depth N (methods_of second) start_second told.of_second of_second (external_counts second) (alike (external_counts second) (notes.methods second)) refl);
     }

@@ -13,7 +13,7 @@ use Rattle.acpi_verdict.specs.declared.definers.Definer.{Definer}
 use Rattle.acpi_verdict.specs.steps.Clashing.{IsAt, Offers}
 use Rattle.acpi_verdict.specs.steps.Defining.{takes}
 use Rattle.acpi_verdict.specs.steps.Finding.{IsFirstOther, IsMissedOf, IsAwaitedOf, IsUnmetOf}
-use Rattle.acpi_verdict.specs.steps.Trying.{TriedTree}
+use Rattle.acpi_verdict.specs.declared.misses.Misses.{Misses}
 use Rattle.acpi_verdict.proofs.Offers.{offers_none, offers_same, offers_both}
 use Rattle.acpi_verdict.proofs.PathSets.{pair_is}
 
@@ -126,12 +126,12 @@ module _ (firsts : PathMap Definer) (number : ℕ) where
       from q x (n, inl f, fails) = inl (n, inl f, fails)
       from q x (n, inr m, fails) = inr (n, m, fails)
 
-  -- ---- what was tried
+  -- ---- what was missed and is awaited
 
-  abbrev IsTried : TriedTree → List Segment → Definer → Type 0
+  abbrev IsTried : Misses → List Segment → Definer → Type 0
   IsTried t q x = IsTrue (is_defined t.missed q) ⊎ ((n : ℕ) × (get t.awaited q ≡ Some n) × (takes x n ≡ false))
 
-  pub unmet_both : (t : TriedTree) (old mid new : Option Clash) → Offers old mid (IsMissedOf firsts number (keys t.missed)) → Offers mid new (IsAwaitedOf firsts number (entries t.awaited))
+  pub unmet_both : (t : Misses) (old mid new : Option Clash) → Offers old mid (IsMissedOf firsts number (keys t.missed)) → Offers mid new (IsAwaitedOf firsts number (entries t.awaited))
       → Offers old new (IsUnmetOf firsts number t)
   unmet_both t = first_both (λ q x. Among (keys t.missed) q) (IsOther (entries t.awaited)) (IsTried t) (λ q x is m. to q x m) (λ q x is m. from q x m)
     where

@@ -1,9 +1,11 @@
-pub mod Searching
-pub mod Trying
-pub mod Telling
+pub mod Tables
+pub mod Misses
+pub mod SingleMisses
+pub mod Overlays
+pub mod PairMisses
 pub mod Clashing
 pub mod Defining
-pub mod Touching
+pub mod AffectedSsdts
 pub mod Declaring
 pub mod Finding
 pub mod Joining

@@ -1,7 +1,7 @@
 //! Whether SSDTs commute over a DSDT, and which Externals of one another they satisfy.
 
 ghost use Rattle.std.specs.Prelude.{◌≡◌, ◌≢◌, ◌↔◌, ◌∷◌, [], ℕ, List, map, IfOk, IfErr};
-ghost use Rattle.acpi_declare.specs.Declaring.{HasTables, objects_so_far, state_of};
+ghost use Rattle.acpi_declare.specs.Declaring.{HasTables};
 ghost use Rattle.acpi_declare.specs.Loads.{HasNoLoad};
 ghost use Rattle.acpi_declare.specs.Refusals.{IsLoadFault};
 ghost use Rattle.acpi_order.specs.Independent.{IsIndependent};
@@ -11,10 +11,11 @@ ghost use Rattle.acpi_verdict.specs.SatisfiedView.{AreSatisfied};
 ghost use Rattle.acpi_verdict.specs.VerdictView.{verdict_view, IsFaultOf, IsSinglesFault};
 ghost use Rattle.acpi_verdict.specs.steps.Checking.{IsChecked, verdict_from};
 ghost use Rattle.acpi_verdict.specs.steps.Declaring.{AreDeclared};
+ghost use Rattle.acpi_verdict.specs.steps.Tables.{tables_in};
 
 use crate::clashes::Clash;
-use crate::declared::{Declared, declare_all};
-use crate::finding::{Found, find_all};
+use crate::declared::{Declared, lay_all_overlays};
+use crate::findings::{Findings, find_all};
 use crate::verdicts::{Checked, Verdict};
 use acpi_declare::{Declaring, LoadFault};
 use acpi_order::laws::one_verdict;
@@ -68,16 +69,14 @@ fn checked_declared<S: Space<Object>>(
     depth: Depth,
     declared: Declared,
 ) -> Result<Checked, LoadFault>
-    ensures ok { (bytes : List ℕ) → HasTables depth (bytes ∷ [])
-        (state_of (S.contents (objects_so_far dsdt.now)) dsdt.now)
+    ensures ok { (bytes : List ℕ) → HasTables depth (bytes ∷ []) (tables_in S.contents dsdt.now)
         → AreDeclared depth bytes ssdts.now declared
         → IfOk result (λ c. IsChecked depth bytes ssdts.now c) }
-    ensures memory { (bytes : List ℕ) → HasTables depth (bytes ∷ [])
-        (state_of (S.contents (objects_so_far dsdt.now)) dsdt.now)
+    ensures memory { (bytes : List ℕ) → HasTables depth (bytes ∷ []) (tables_in S.contents dsdt.now)
         → AreDeclared depth bytes ssdts.now declared → IfErr result (λ e. e ≡ LoadFault.Memory) }
 {
     let Declared { definers, same } = declared;
-    let Found { clash, satisfied } = find_all(alloc, dsdt, ssdts, depth, &definers)?;
+    let Findings { clash, satisfied } = find_all(alloc, dsdt, ssdts, depth, &definers)?;
     let verdict = verdict_of(same, clash);
     Ok(Checked { verdict, satisfied })
 }
@@ -89,14 +88,12 @@ fn checked_over<S: Space<Object>>(
     ssdts: &[Bytes],
     depth: Depth,
 ) -> Result<Checked, LoadFault>
-    ensures ok { (bytes : List ℕ) → HasTables depth (bytes ∷ [])
-        (state_of (S.contents (objects_so_far dsdt.now)) dsdt.now)
+    ensures ok { (bytes : List ℕ) → HasTables depth (bytes ∷ []) (tables_in S.contents dsdt.now)
         → IfOk result (λ c. IsChecked depth bytes ssdts.now c) }
-    ensures memory { (bytes : List ℕ) → HasTables depth (bytes ∷ [])
-        (state_of (S.contents (objects_so_far dsdt.now)) dsdt.now)
+    ensures memory { (bytes : List ℕ) → HasTables depth (bytes ∷ []) (tables_in S.contents dsdt.now)
         → IfErr result (λ e. e ≡ LoadFault.Memory) }
 {
-    match declare_all(alloc, dsdt, ssdts, depth) {
+    match lay_all_overlays(alloc, dsdt, ssdts, depth) {
         Ok(declared) => checked_declared(alloc, dsdt, ssdts, depth, declared),
         Err(fault) => refused(alloc, fault),
     }

@@ -1,16 +1,16 @@
 //! What SSDTs declare over a DSDT, one after another.
 
 ghost use Rattle.std.specs.Prelude.{◌≡◌, ◌∷◌, [], ℕ, List, map, IfOk, IfErr, OnOk};
-ghost use Rattle.acpi_declare.specs.Declaring.{HasTables, objects_so_far, state_of};
+ghost use Rattle.acpi_declare.specs.Declaring.{HasTables};
 ghost use Rattle.acpi_verdict.specs.VerdictView.{IsSinglesFault};
 ghost use Rattle.acpi_verdict.specs.steps.Clashing.{Offers};
 ghost use Rattle.acpi_verdict.specs.steps.Declaring.{args_in, with_args, IsSameAt, AddsSsdt, AreDeclared};
-ghost use Rattle.acpi_verdict.specs.steps.Telling.{laid_tree};
+ghost use Rattle.acpi_verdict.specs.steps.Overlays.{overlay_view};
+ghost use Rattle.acpi_verdict.specs.steps.Tables.{tables_in};
 
-use crate::alone::{lay, renumbered};
 use crate::clashes::{Clash, offer};
 use crate::definers::{Definer, Definers, method_args};
-use crate::told::Laid;
+use crate::overlay::{SsdtOverlay, overlay_ssdt, renumbered};
 use acpi_declare::{Declaring, LoadFault};
 use acpi_name::Path;
 use acpi_space::Space;
@@ -65,15 +65,15 @@ fn add_path(
 // The paths that an SSDT declares, and how many arguments the objects there take. All else of it is let go.
 fn signatures<O: Space<Object>>(
     alloc: Global,
-    laid: Laid<O>,
+    overlay: SsdtOverlay<O>,
 ) -> Result<Vec<(Path, Option<u8>)>, AllocError>
     ensures { IfOk result (λ v. v.items ≡ map
-        (with_args (laid_tree O.contents laid)) laid.defined.items) }
+        (with_args (overlay_view O.contents overlay)) overlay.defined.items) }
 {
-    let Laid {
+    let SsdtOverlay {
         declared: tables,
         defined,
-    } = laid;
+    } = overlay;
     let mut found = Vec::with_capacity(alloc, defined.len())?;
     for path in defined {
         let args = method_args(tables.objects().get(&path));
@@ -87,12 +87,12 @@ fn add_ssdt<O: Space<Object>>(
     alloc: Global,
     declared: &mut Declared,
     number: usize,
-    laid: Laid<O>,
+    overlay: SsdtOverlay<O>,
 ) -> Result<(), AllocError>
-    ensures { OnOk result (AddsSsdt number laid.defined.items
-        (args_in (laid_tree O.contents laid)) declared.old declared.new) }
+    ensures { OnOk result (AddsSsdt number overlay.defined.items
+        (args_in (overlay_view O.contents overlay)) declared.old declared.new) }
 {
-    for (path, args) in signatures(alloc, laid)? {
+    for (path, args) in signatures(alloc, overlay)? {
         add_path(alloc, declared, path, Definer { number, args })?;
     }
     Ok(())
@@ -100,17 +100,15 @@ fn add_ssdt<O: Space<Object>>(
 
 /// What SSDTs declare, each over the DSDT alone; or why the first one that doesn't load alone is refused, under its
 /// number from 1.
-pub(crate) fn declare_all<S: Space<Object>>(
+pub(crate) fn lay_all_overlays<S: Space<Object>>(
     alloc: Global,
     dsdt: &Declaring<S>,
     ssdts: &[Bytes],
     depth: Depth,
 ) -> Result<Declared, LoadFault>
-    ensures ok { (bytes : List ℕ) → HasTables depth (bytes ∷ [])
-        (state_of (S.contents (objects_so_far dsdt.now)) dsdt.now)
+    ensures ok { (bytes : List ℕ) → HasTables depth (bytes ∷ []) (tables_in S.contents dsdt.now)
         → IfOk result (λ d. AreDeclared depth bytes ssdts.now d) }
-    ensures err { (bytes : List ℕ) → HasTables depth (bytes ∷ [])
-        (state_of (S.contents (objects_so_far dsdt.now)) dsdt.now)
+    ensures err { (bytes : List ℕ) → HasTables depth (bytes ∷ []) (tables_in S.contents dsdt.now)
         → IfErr result (λ e. IsSinglesFault depth bytes ssdts.now e) }
 {
     let mut declared = Declared {
@@ -118,8 +116,8 @@ pub(crate) fn declare_all<S: Space<Object>>(
         same: None,
     };
     for (i, ssdt) in ssdts.iter().enumerate() {
-        match lay(alloc, dsdt, ssdt, depth) {
-            Ok(laid) => add_ssdt(alloc, &mut declared, i + 1, laid)?,
+        match overlay_ssdt(alloc, dsdt, ssdt, depth) {
+            Ok(overlay) => add_ssdt(alloc, &mut declared, i + 1, overlay)?,
             Err(fault) => return Err(renumbered(fault, i + 1)),
         }
     }

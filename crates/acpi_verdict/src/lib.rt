@@ -26,25 +26,25 @@
 //! ```
 #![tactic(auto)]
 
-mod alone;
+mod affected_ssdts;
 mod checking;
 mod clashes;
 mod commuting;
 mod declared;
 mod definers;
-mod finding;
+mod findings;
 mod joining;
-mod meeting;
+mod miss_clashes;
+mod misses;
+mod overlay;
 mod pair;
+mod pair_misses;
 mod paths;
+mod satisfied_externals;
 mod satisfying;
-mod searches;
+mod single_misses;
 mod singles;
-mod telling;
-mod told;
-mod touching;
-mod trying;
-mod unmet;
+mod table_misses;
 mod verdicts;
 
 pub use checking::check_shared;

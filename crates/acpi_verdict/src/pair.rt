@@ -8,7 +8,7 @@ ghost use Rattle.acpi_machine.specs.MachineView.{objects_in, machine_of};
 ghost use Rattle.acpi_verdict.specs.SingleView.{machine_in, defined_in, missed_in, awaits_in};
 
 use crate::paths::{add_paths, keep_new, paths_of};
-use crate::searches::{Told, search_tables};
+use crate::single_misses::{SingleMisses, search_tables};
 use crate::singles::Single;
 use acpi_declare::{Declaring, LoadFault};
 use acpi_machine::Machine;
@@ -41,7 +41,7 @@ pub fn single_shared<S: Space<Object>>(
     let mut missed = MapSpace::new(alloc);
     add_paths(&mut missed, both.link_misses(alloc)?)?;
     let (objects, links, notes) = both.finish(alloc)?.into_parts();
-    let Told {
+    let SingleMisses {
         bodies,
         missed,
         awaited,

@@ -13,16 +13,16 @@ use Rattle.acpi_verdict.specs.declared.definers.Definer.{Definer}
 use Rattle.acpi_verdict.specs.declared.definers.Definers.{Definers}
 use Rattle.acpi_verdict.specs.steps.Clashing.{IsLeastOf, Offers}
 use Rattle.acpi_verdict.specs.steps.Defining.{method_args, args_at, IsNoted}
-use Rattle.acpi_verdict.specs.steps.Telling.{LaidTree}
+use Rattle.acpi_verdict.specs.steps.Overlays.{OverlayTree}
 
 -- ---- an SSDT that is laid
 
 -- how many arguments its object at a path takes
-abbrev pub args_in : LaidTree → List Segment → Option ℕ
+abbrev pub args_in : OverlayTree → List Segment → Option ℕ
 args_in l p = args_at (l.state.objects p)
 
 -- a path, and how many arguments the object there takes
-abbrev pub with_args : LaidTree → List Segment → List Segment × Option ℕ
+abbrev pub with_args : OverlayTree → List Segment → List Segment × Option ℕ
 with_args l p = (p, args_in l p)
 
 -- the SSDT of that number is one that declares the path, which is one of those

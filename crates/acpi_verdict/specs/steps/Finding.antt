@@ -11,13 +11,13 @@ use Rattle.acpi_order.specs.Singles.{IsAwaitedInTable, IsSatisfied}
 use Rattle.acpi_order.specs.Verdicts.{IsSsdt}
 use Rattle.acpi_verdict.specs.declared.definers.Definer.{Definer}
 use Rattle.acpi_verdict.specs.declared.definers.Definers.{Definers}
-use Rattle.acpi_verdict.specs.declared.finding.Found.{Found}
+use Rattle.acpi_verdict.specs.declared.findings.Findings.{Findings}
 use Rattle.acpi_verdict.specs.declared.verdicts.Satisfied.{Satisfied}
 use Rattle.acpi_verdict.specs.SatisfiedView.{satisfied_cmp, AreSatisfied}
 use Rattle.acpi_verdict.specs.steps.Clashing.{Clashes, IsLeastOf, Offers}
 use Rattle.acpi_verdict.specs.steps.Defining.{takes, IsNoted}
-use Rattle.acpi_verdict.specs.steps.Telling.{ToldTree}
-use Rattle.acpi_verdict.specs.steps.Trying.{TriedTree}
+use Rattle.acpi_verdict.specs.steps.PairMisses.{PairTree}
+use Rattle.acpi_verdict.specs.declared.misses.Misses.{Misses}
 
 -- ---- clashes of a searcher
 
@@ -33,7 +33,7 @@ IsMissedOf firsts number ps = IsFirstOther firsts number (λ p x. Among ps p)
 abbrev pub IsAwaitedOf : PathMap Definer → ℕ → List (List Segment × ℕ) → Clashes
 IsAwaitedOf firsts number es = IsFirstOther firsts number (λ p x. (n : ℕ) × Among es (p, n) × (takes x n ≡ false))
 
-abbrev pub IsUnmetOf : PathMap Definer → ℕ → TriedTree → Clashes
+abbrev pub IsUnmetOf : PathMap Definer → ℕ → Misses → Clashes
 IsUnmetOf firsts number t =
     IsFirstOther firsts number (λ p x. IsTrue (is_defined t.missed p) ⊎ ((n : ℕ) × (get t.awaited p ≡ Some n) × (takes x n ≡ false)))
 
@@ -50,56 +50,56 @@ IsUnmetAt depth dsdt ssdts firsts i j p =
 -- ---- satisfied Externals
 
 -- those of which P holds are added
-abbrev pub AddsMet : List Satisfied → List Satisfied → (Satisfied → Type 0) → Type 0
-AddsMet old new P = (s : Satisfied) → Among new s ↔ (Among old s ⊎ P s)
+abbrev pub AddsSatisfied : List Satisfied → List Satisfied → (Satisfied → Type 0) → Type 0
+AddsSatisfied old new P = (s : Satisfied) → Among new s ↔ (Among old s ⊎ P s)
 
 -- those of which P holds are put behind the list, in their order
-pub record PutsMet (old new : List Satisfied) (P : Satisfied → Type 0) : Type 0 where
+pub record PutsSatisfied (old new : List Satisfied) (P : Satisfied → Type 0) : Type 0 where
   pub own : List Satisfied
   pub behind : new ≡ old ++ own
   pub ascend : IsStrictlySortedBy satisfied_cmp own
   pub are : (s : Satisfied) → Among own s ↔ P s
 
 -- the user awaits it, and another SSDT of which P holds declares such a method there
-abbrev pub IsMetFor : ℕ → (List Segment → ℕ → Type 0) → (List Segment → Definer → Type 0) → Satisfied → Type 0
-IsMetFor user Awaits P s =
+abbrev pub IsSatisfiedFor : ℕ → (List Segment → ℕ → Type 0) → (List Segment → Definer → Type 0) → Satisfied → Type 0
+IsSatisfiedFor user Awaits P s =
     (user ≡ s.user) × (x : Definer) × P s.path x × (x.number ≡ s.definer) × (x.number ≢ user) × (n : ℕ) × Awaits s.path n × (takes x n ≡ true)
 
 -- .. at that path
-abbrev pub IsMetAt : ℕ → List Segment → ℕ → (List Segment → Definer → Type 0) → Satisfied → Type 0
-IsMetAt user p n = IsMetFor user (λ q k. (p ≡ q) × (n ≡ k))
+abbrev pub IsSatisfiedAt : ℕ → List Segment → ℕ → (List Segment → Definer → Type 0) → Satisfied → Type 0
+IsSatisfiedAt user p n = IsSatisfiedFor user (λ q k. (p ≡ q) × (n ≡ k))
 
 -- .. by one of these
-abbrev pub IsMetByAny : ℕ → List Segment → ℕ → List Definer → Satisfied → Type 0
-IsMetByAny user p n xs = IsMetAt user p n (λ q x. Among xs x)
+abbrev pub IsSatisfiedByAny : ℕ → List Segment → ℕ → List Definer → Satisfied → Type 0
+IsSatisfiedByAny user p n xs = IsSatisfiedAt user p n (λ q x. Among xs x)
 
 -- .. of those that are noted
-abbrev pub AreMet : Definers → ℕ → List (List Segment × ℕ) → Satisfied → Type 0
-AreMet d user es = IsMetFor user (λ p n. Among es (p, n)) (IsNoted d)
+abbrev pub IsSatisfiedOf : Definers → ℕ → List (List Segment × ℕ) → Satisfied → Type 0
+IsSatisfiedOf d user es = IsSatisfiedFor user (λ p n. Among es (p, n)) (IsNoted d)
 
 -- ---- one SSDT
 
--- what is told of it, over what was found before
-pub record FindsTold (d : Definers) (number : ℕ) (told : ToldTree) (old new : Found) : Type 0 where
-  pub clash : Offers old.clash new.clash (λ i j p. IsUnmetOf d.first number told.own i j p ⊎ IsUnmetOf d.first number told.under i j p)
-  pub satisfied : PutsMet old.satisfied.items new.satisfied.items (AreMet d number (entries told.own.awaited))
+-- what its misses say, over what was found before
+pub record FindsPair (d : Definers) (number : ℕ) (pair : PairTree) (old new : Findings) : Type 0 where
+  pub clash : Offers old.clash new.clash (λ i j p. IsUnmetOf d.first number pair.own i j p ⊎ IsUnmetOf d.first number pair.under i j p)
+  pub satisfied : PutsSatisfied old.satisfied.items new.satisfied.items (IsSatisfiedOf d number (entries pair.own.awaited))
 
 -- .. of its single load
-pub record FindsSsdt (depth : ℕ) (dsdt ssdt : List ℕ) (d : Definers) (number : ℕ) (old new : Found) : Type 0 where
+pub record FindsSsdt (depth : ℕ) (dsdt ssdt : List ℕ) (d : Definers) (number : ℕ) (old new : Findings) : Type 0 where
   pub first : Listing
   pub t : Listing
   pub listings : AreSingleListings depth dsdt ssdt first t
   pub clash : Offers old.clash new.clash (IsUnmetBy depth d.first number first t)
-  pub satisfied : PutsMet old.satisfied.items new.satisfied.items (IsMetFor number (IsAwaitedInTable depth (objects_of_both first t) t) (IsNoted d))
+  pub satisfied : PutsSatisfied old.satisfied.items new.satisfied.items (IsSatisfiedFor number (IsAwaitedInTable depth (objects_of_both first t) t) (IsNoted d))
 
 -- ---- all of them
 
 -- what is found of the SSDTs up to that number
-pub record AreFoundTo (depth : ℕ) (dsdt : List ℕ) (ssdts : List (List ℕ)) (d : Definers) (n : ℕ) (f : Found) : Type 0 where
+pub record AreFoundTo (depth : ℕ) (dsdt : List ℕ) (ssdts : List (List ℕ)) (d : Definers) (n : ℕ) (f : Findings) : Type 0 where
   pub clash : IsLeastOf (λ i j p. IsUnmetAt depth dsdt ssdts d.first i j p × (i ≤ n)) f.clash
   pub ascend : IsStrictlySortedBy satisfied_cmp f.satisfied.items
   pub satisfied : (s : Satisfied) → Among f.satisfied.items s ↔ (IsSatisfied depth dsdt ssdts s.user s.definer s.path × (s.user ≤ n))
 
-pub record AreFound (depth : ℕ) (dsdt : List ℕ) (ssdts : List (List ℕ)) (d : Definers) (f : Found) : Type 0 where
+pub record AreFound (depth : ℕ) (dsdt : List ℕ) (ssdts : List (List ℕ)) (d : Definers) (f : Findings) : Type 0 where
   pub clash : IsLeastOf (IsUnmetAt depth dsdt ssdts d.first) f.clash
   pub satisfied : AreSatisfied depth dsdt ssdts f.satisfied.items

@@ -4,13 +4,13 @@ use Rattle.std.specs.List.{AllByRecursion}
 use Rattle.std.specs.Vec.Iter.{into_iter_items}
 use Rattle.acpi_name.specs.Names.{Segment}
 use Rattle.acpi_verdict.specs.steps.Declaring.{args_in, with_args, AddsSsdt}
-use Rattle.acpi_verdict.specs.steps.Telling.{laid_tree}
+use Rattle.acpi_verdict.specs.steps.Overlays.{overlay_view}
 use Rattle.acpi_verdict.proofs.AddedPaths.{IsWithArgs, paths_with_args, all_with_args, none_added, more_added}
 use Rattle.acpi_verdict.proofs.declared.add_ssdt.Goals as goal
 
 pub loop-path-init : goal.loop-path-init
 loop-path-init g c =
-    let tree = laid_tree g.O.Space.contents c.args.laid in
+    let tree = overlay_view g.O.Space.contents c.args.overlay in
     let all : into_iter_items c.into_iter-path-iterator.result ≡ map (with_args tree) tree.defined = search rules in (
       subst (AllByRecursion (IsWithArgs tree)) (sym all) (all_with_args tree tree.defined),
       λ now h. subst (λ (ps : List (List Segment)). AddsSsdt c.args.number ps (args_in tree) c.args.declared.now now) (ap (map (λ e. e.0)) all ∙ paths_with_args tree tree.defined) h,
@@ -18,7 +18,7 @@ loop-path-init g c =
 
 pub loop-path-preserved : goal.loop-path-preserved
 loop-path-preserved g c =
-    let tree = laid_tree g.O.Space.contents c.args.laid in
+    let tree = overlay_view g.O.Space.contents c.args.overlay in
     let args = args_in tree in
     let number = c.args.number in
     let path = c.in-Some.path in
@@ -35,7 +35,7 @@ loop-path-preserved g c =
 
 pub returns : goal.returns
 returns g c =
-    let args = args_in (laid_tree g.O.Space.contents c.args.laid) in
+    let args = args_in (overlay_view g.O.Space.contents c.args.overlay) in
     let number = c.args.number in
     let now = c.loop-path.declared in
     let none : length (into_iter_items c.loop-path.path-iterator) ≡ 0 = sym c.loop-path.path-iterator.rest.ok.0 ∙ c.in-None.ensures.steps.0 in

@@ -6,14 +6,14 @@ use Rattle.acpi_tree.specs.Objects.{object_view}
 use Rattle.acpi_tree.specs.declared.object.Object.{Object}
 use Rattle.acpi_verdict.specs.steps.Declaring.{args_in}
 use Rattle.acpi_verdict.specs.steps.Defining.{args_at}
-use Rattle.acpi_verdict.specs.steps.Telling.{laid_tree}
+use Rattle.acpi_verdict.specs.steps.Overlays.{overlay_view}
 use Rattle.acpi_verdict.proofs.AddedPaths.{one_with_args}
 use Rattle.acpi_verdict.proofs.declared.signatures.Goals as goal
 
 pub loop-path-preserved : goal.loop-path-preserved
 loop-path-preserved g c =
     let contents = g.O.Space.contents in
-    let tree = laid_tree contents c.args.laid in
+    let tree = overlay_view contents c.args.overlay in
     let path = c.in-Some.path in
     let front : into_iter_items c.loop-path.path-iterator ≡ path ∷ into_iter_items c.next.new.self = search rules in
     let same : c.method_args-args.result ≡ args_in tree path =

@@ -1,9 +1,0 @@
-use Rattle.std.proofs.Common.{List, Bool, drop}
-use Rattle.acpi_space.specs.Laws.{Among}
-use Rattle.acpi_verdict.specs.steps.Touching.{Marks}
-use Rattle.acpi_verdict.proofs.touching.mark_all.Given as goal
-
--- with the marks of the SSDTs that are left, all of them are marked
-abbrev pub invariant-loop-definer : goal.invariant-loop-definer
-invariant-loop-definer l =
-    (now : List Bool) → Marks l.touching.items now (Among (drop l.definer-index l.definers)) → Marks l.initial.touching.items now (Among l.definers)
