@@ -1,5 +1,5 @@
 -- What begins with which bytes.
-use Rattle.std.proofs.Common.{◌≡◌, ℕ, zero, suc, ◌+◌, ◌-◌, ◌<◌, Bool, true, false, cond, eqb, ltb, ◌&&◌, Option, Some, List, [], ◌∷◌, ◌++◌, length, slice_index, Ok, refl, sym, ap, subst, ◌∙◌, arith}
+use Rattle.std.proofs.Common.{◌≡◌, ℕ, zero, suc, ◌+◌, ◌-◌, ◌<◌, Bool, true, false, cond, eqb, ltb, ◌&&◌, Option, Some, List, [], ◌∷◌, ◌++◌, length, slice_index, Ok, refl, ap, subst, ◌∙◌, arith}
 use Rattle.std.proofs.lemmas.Bool.{eqb-true, ltb-true, lt-ltb}
 use Rattle.std.specs.List.{list_all}
 use Rattle.acpi_name.proofs.NameAgain.{and_true, neq}
