@@ -1,6 +1,6 @@
 //! Where the names of an entry's term may be found.
 
-ghost use Rattle.std.specs.Prelude.{◌≡◌, ◌++◌, ◌∷◌, [], map, slice_get, IfOk, OnOk};
+ghost use Rattle.std.specs.Prelude.{◌≡◌, ◌++◌, ◌∷◌, [], Option, map, slice_get, Some, IfOk, OnOk};
 ghost use Rattle.std.specs.Option.{option_map, option_to_list, option_and_then};
 ghost use Rattle.acpi_tree.specs.TermView.{term_view, decl_view};
 ghost use Rattle.acpi_tree.specs.Terms.{more, no_terms};
@@ -9,7 +9,7 @@ ghost use Rattle.acpi_conditions.specs.EntryForms.{entry_view};
 ghost use Rattle.acpi_survey.specs.EntryParts.{part_declaring};
 ghost use Rattle.acpi_survey.specs.EntryLinks.{alias_links, alias_name, create_names, field_names, links_of_part, node_names, plain_names, searched, seen_link, seen_links, source_names};
 ghost use Rattle.acpi_survey.specs.ConditionViews.{link_views};
-ghost use Rattle.acpi_survey.specs.Lookup.{found_of};
+ghost use Rattle.acpi_survey.specs.Lookup.{Found, found_of};
 ghost use Rattle.acpi_survey.specs.SurveyOrder.{IsInOrder};
 
 use crate::entry_parts::entry_numbered;
@@ -198,26 +198,41 @@ impl Survey {
         Ok(links)
     }
 
-    /// Where the names of the term of the entry of that number may be found: of a field element those of its region, index
-    /// and data, or region and bank, and of a Create field that of its source, behind all tables; of an Alias its source,
-    /// where the Alias is read.
-    pub fn links(&self, number: usize) -> Result<Vec<Link<'_>>, AllocError>
-        ensures { IsInOrder self.now → IfOk result (λ v. link_views v.items
+    /// Where the names of the term of the entry of that number may be found, which is this part of a table's code: of a field
+    /// element those of its region, index and data, or region and bank, and of a Create field that of its source, behind all
+    /// tables; of an Alias its source, where the Alias is read.
+    pub fn links_in<'a>(
+        &'a self,
+        number: usize,
+        part: Option<Span<'a>>,
+    ) -> Result<Vec<Link<'a>>, AllocError>
+        ensures { IsInOrder self.now → (found : Option Found)
+            → option_map found_of part.entry ≡ option_map Some found
+            → IfOk result (λ v. link_views v.items
             ≡ links_of_part self.now.reading.walk.entries self.now.reading.sources
-            (slice_get self.now.reading.walk.entries number)
-            (part_declaring self.now.tables.items self.now.reading.walk.entries number)) }
+            (slice_get self.now.reading.walk.entries number) found) }
     {
         let alloc = self.reading.memory();
         let entries = self.entries();
         let Some(entry) = entry_numbered(entries, number) else {
             return Ok(Vec::new(alloc));
         };
-        let Some(part) = self.part_of(number) else {
+        let Some(part) = part else {
             return Ok(Vec::new(alloc));
         };
         match alias_source(&part) {
             Some(source) => self.alias_links(entry.term.place, source),
             None => seen_links(alloc, entries, entry, &searched_names(alloc, &part)?),
         }
+    }
+
+    /// Where the names of the term of the entry of that number may be found.
+    pub fn links(&self, number: usize) -> Result<Vec<Link<'_>>, AllocError>
+        ensures { IsInOrder self.now → IfOk result (λ v. link_views v.items
+            ≡ links_of_part self.now.reading.walk.entries self.now.reading.sources
+            (slice_get self.now.reading.walk.entries number)
+            (part_declaring self.now.tables.items self.now.reading.walk.entries number)) }
+    {
+        self.links_in(number, self.part_of(number))
     }
 }

@@ -1,28 +1,30 @@
 //! The lines of entries.
 
-ghost use Rattle.std.specs.Prelude.{◌≡◌, ◌++◌, OnOk};
+ghost use Rattle.std.specs.Prelude.{◌≡◌, ◌++◌, Option, Some, OnOk};
+ghost use Rattle.std.specs.Option.{option_map};
 ghost use Rattle.acpi_survey.specs.ConditionViews.{link_views, placed_views};
 ghost use Rattle.acpins_survey_output.specs.Entries.{entry_line};
 ghost use Rattle.acpins_survey_output.specs.ObjectViews.{declared_view};
-ghost use Rattle.acpi_survey.specs.EntryParts.{AllTile, site_of};
+ghost use Rattle.acpi_survey.specs.EntryParts.{site_of};
+ghost use Rattle.acpi_survey.specs.Lookup.{Found, found_of};
 ghost use Rattle.acpi_survey.specs.SurveyOrder.{IsInOrder};
-ghost use Rattle.acpins_survey_output.specs.Listings.{object_of, part_of, numbered_line};
+ghost use Rattle.acpins_survey_output.specs.Listings.{object_of, numbered_line};
 
 use crate::condition::put_condition;
 use crate::links::put_links;
 use crate::objects::{Declared, declared_by, predefined, put_declared};
 use acpi_name::Path;
-use acpi_survey::{Link, PlacedLiteral, Site, Survey};
+use acpi_survey::{Link, PlacedLiteral, Site, Span, Survey};
 use acpi_table::HEADER_BYTES;
 use acpi_text::{put, put_path};
 use std::alloc::AllocError;
 
-/// What the entry of that number declares.
-pub(crate) fn declared_at(survey: &Survey, number: usize) -> Declared<'_>
-    ensures { AllTile survey.now.tables.items → declared_view result
-        ≡ object_of (part_of survey.now number) number }
+/// What the entry of that number declares, whose term is this part of a table's code.
+pub(crate) fn declared_in<'a>(part: Option<Span<'a>>, number: usize) -> Declared<'a>
+    ensures { (found : Option Found) → option_map found_of part.entry ≡ option_map Some found
+        → declared_view result ≡ object_of found number }
 {
-    match survey.part_of(number) {
+    match part {
         Some(part) => match declared_by(&part) {
             Some(declared) => declared,
             None => Declared::Predefined,
@@ -61,8 +63,9 @@ pub(crate) fn put_numbered(
     ensures { IsInOrder survey.now → OnOk result (text.new.items
         ≡ text.old.items ++ numbered_line survey.now path.now number) }
 {
-    let declared = declared_at(survey, number);
-    let links = survey.links(number)?;
+    let part = survey.part_of(number);
+    let declared = declared_in(part, number);
+    let links = survey.links_in(number, part)?;
     let condition = survey.condition(number)?;
     put_entry(text, path, &declared, &links, &condition)
 }

@@ -12,7 +12,7 @@ ghost use Rattle.acpins_survey_output.specs.JsonEntries.{entry_value, link_value
 ghost use Rattle.acpins_survey_output.specs.JsonValues.{name_value, path_value};
 ghost use Rattle.acpins_survey_output.specs.Listings.{condition_of, links_of, part_of};
 
-use crate::entries::{declared_at, site_of_place};
+use crate::entries::{declared_in, site_of_place};
 use crate::json_found::put_site;
 use crate::json_members::{
     put_boolean_member, put_member, put_name_member, put_number_member, put_path_member,
@@ -152,13 +152,18 @@ fn put_nowhere(text: &mut Vec<u8>) -> Result<(), AllocError>
     put(text, ",\"table\":null,\"offset\":null,\"length\":null}")
 }
 
-// Puts the members that say where the term of an entry stands, behind others, and a brace.
-fn put_term_place(text: &mut Vec<u8>, survey: &Survey, number: usize) -> Result<(), AllocError>
-    ensures { AllTile survey.now.tables.items → OnOk result (text.new.items ≡ text.old.items
-        ++ more_members_text (term_members (part_of survey.now number)
-        (place_of survey.now number))) }
+// Puts the members that say where the term of an entry stands, which is this part, behind others, and a brace.
+fn put_term_place(
+    text: &mut Vec<u8>,
+    survey: &Survey,
+    number: usize,
+    part: Option<Span<'_>>,
+) -> Result<(), AllocError>
+    ensures { (found : Option Found) → option_map found_of part.entry ≡ option_map Some found
+        → OnOk result (text.new.items ≡ text.old.items
+        ++ more_members_text (term_members found (place_of survey.now number))) }
 {
-    let Some(part) = survey.part_of(number) else {
+    let Some(part) = part else {
         return put_nowhere(text);
     };
     match place_at(survey, number) {
@@ -167,15 +172,22 @@ fn put_term_place(text: &mut Vec<u8>, survey: &Survey, number: usize) -> Result<
     }
 }
 
-// Puts the members of the links and the condition of the entry of that number, behind others.
-fn put_lists(text: &mut Vec<u8>, survey: &Survey, number: usize) -> Result<(), AllocError>
-    ensures { IsInOrder survey.now → OnOk result ((ms : Members) → text.new.items
+// Puts the members of the links and the condition of the entry of that number, whose term is this part, behind others.
+fn put_lists(
+    text: &mut Vec<u8>,
+    survey: &Survey,
+    number: usize,
+    part: Option<Span<'_>>,
+) -> Result<(), AllocError>
+    ensures { IsInOrder survey.now → option_map found_of part.entry
+        ≡ option_map Some (part_of survey.now number)
+        → OnOk result ((ms : Members) → text.new.items
         ++ more_members_text ms ≡ text.old.items ++ more_members_text
         (member (codes "links") (array (values_of link_value (links_of survey.now number)))
         (member (codes "condition")
         (array (values_of literal_value (condition_of survey.now number))) ms))) }
 {
-    let links = survey.links(number)?;
+    let links = survey.links_in(number, part)?;
     let condition = survey.condition(number)?;
     put_member(text, ",", "links")?;
     put_links(text, &links)?;
@@ -192,11 +204,12 @@ fn put_entry(
     ensures { IsInOrder survey.now → OnOk result (text.new.items
         ≡ text.old.items ++ value_text (entry_value survey.now path.now number)) }
 {
-    let declared = declared_at(survey, number);
+    let part = survey.part_of(number);
+    let declared = declared_in(part, number);
     put_path_member(text, "{", "path", path)?;
     put_declared(text, &declared)?;
-    put_lists(text, survey, number)?;
-    put_term_place(text, survey, number)
+    put_lists(text, survey, number, part)?;
+    put_term_place(text, survey, number, part)
 }
 
 /// Puts an array of the entries, in that order, each on a line.

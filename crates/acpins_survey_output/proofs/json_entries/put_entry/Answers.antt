@@ -12,10 +12,11 @@ pub returns : goal.returns
 returns c = λ o.
     let s = c.args.survey.now in
     let n = c.args.number in
+    let is = c.part_of-part.ensures o.tile in
     let place = term_members (part_of s n) (place_of s n) in
     let lists = member (codes "links") (array (values_of link_value (links_of s n))) (member (codes "condition") (array (values_of literal_value (condition_of s n))) place) in
     let object = object_of (part_of s n) n in
-    let said = subst (λ (x : ObjectParts). PutsMembers (declared_members x) c.put_path_member.new.text.items c.put_declared.new.text.items) (c.declared_at-declared.ensures o.tile)
+    let said = subst (λ (x : ObjectParts). PutsMembers (declared_members x) c.put_path_member.new.text.items c.put_declared.new.text.items) (c.declared_in-declared.ensures (part_of s n) is)
     c.in_ok-put_declared.ensures in
     closed_put c.put_term_place.result c.args.text.now.items _ _ (more_members_text place) _
-    (c.in_ok-put_lists.ensures o place ∙ said lists ∙ c.in_ok-put_path_member.ensures (declared_members object lists)) (c.put_term_place.ensures o.tile)
+    (c.in_ok-put_lists.ensures o is place ∙ said lists ∙ c.in_ok-put_path_member.ensures (declared_members object lists)) (c.put_term_place.ensures (part_of s n) is)
