@@ -20,6 +20,7 @@ pub mod Taken
 pub mod Opposed
 pub mod SeenIsTrue
 pub mod KeptSlots
+pub mod ByPath
 pub mod Tries
 pub mod Placings
 pub mod FactLists

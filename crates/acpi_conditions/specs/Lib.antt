@@ -7,6 +7,7 @@ pub mod Walk
 pub mod Runs
 pub mod Listings
 pub mod KnownLists
+pub mod ByPath
 pub mod Laws
 pub mod Links
 pub mod Turns

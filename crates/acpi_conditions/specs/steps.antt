@@ -1,4 +1,5 @@
 pub mod Slots
+pub mod SlotPairs
 pub mod Tries
 pub mod Faults
 pub mod Facts

@@ -2,6 +2,7 @@
 
 ghost use Rattle.std.specs.Prelude.{◌≡◌, ◌++◌, ◌∷◌, [], length, map, slice_get, true, Some, IfOk, OnOk, OnErr};
 ghost use Rattle.std.specs.Option.{option_map};
+ghost use Rattle.acpi_conditions.specs.ByPath.{AreByPath, lent_pair};
 ghost use Rattle.acpi_conditions.specs.Entries.{Path as PathParts};
 ghost use Rattle.acpi_conditions.specs.EntryForms.{entry_view};
 ghost use Rattle.acpi_conditions.specs.Known.{is_certain, is_certain_scope};
@@ -84,6 +85,17 @@ impl KnownPaths {
         ensures { result.now ≡ self.now.entries }
     {
         &self.entries
+    }
+
+    /// The paths and numbers of the entries in the order of the paths, those of one path in the order of their numbers.
+    pub fn by_path(&self) -> Result<Vec<(&Path, usize)>, AllocError>
+        ensures { IfOk result (λ v. AreByPath (map (λ e. e.path) self.now.entries)
+            (map lent_pair v.items)) }
+    {
+        // They stand in that order already, so that the sort only goes through them.
+        let mut order = self.slots.numbered()?;
+        order.sort()?;
+        Ok(order)
     }
 
     /// What is kept at a path.

@@ -55,6 +55,7 @@
 //! ```
 #![tactic(auto)]
 
+mod by_path;
 mod entry;
 mod facts;
 mod known_paths;

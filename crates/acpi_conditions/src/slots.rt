@@ -1,9 +1,14 @@
 //! What is kept at each path.
 
-ghost use Rattle.std.specs.Prelude.{◌≡◌, ◌<◌, ◌++◌, [], length, Some, IfOk, OnOk, OnErr, slice_get};
+ghost use Rattle.std.specs.Prelude.{◌≡◌, ◌<◌, ◌++◌, [], length, map, Some, IfOk, OnOk, OnErr, slice_get};
+ghost use Rattle.std.specs.FinMap as finite;
+ghost use Rattle.std.specs.List.{flat_map};
 ghost use Rattle.std.specs.Option.{option_copied};
+ghost use Rattle.acpi_conditions.specs.ByPath.{lent_pair};
 ghost use Rattle.acpi_conditions.specs.Entries.{Path as PathParts};
+ghost use Rattle.acpi_conditions.specs.steps.SlotPairs.{slot_pairs};
 
+use crate::by_path::Numbered;
 use crate::statuses::Presence;
 use acpi_name::Path;
 use acpi_space::{Refused, Space, TreeSpace};
@@ -90,6 +95,20 @@ impl Slots {
             Some(number) => self.slots.get(*number),
             None => None,
         }
+    }
+
+    /// The paths and numbers of the entries, in the order of the paths.
+    pub(crate) fn numbered(&self) -> Result<Vec<(&Path, usize)>, AllocError>
+        ensures { IfOk result (λ v. map lent_pair v.items
+            ≡ flat_map (λ x. slot_pairs self.now.slots.items x.1)
+            (finite.entries self.now.numbers)) }
+    {
+        let mut numbered = Numbered {
+            slots: &self.slots,
+            order: Vec::new(self.alloc),
+        };
+        self.numbers.visit_pairs(&mut numbered)?;
+        Ok(numbered.order)
     }
 
     /// The number of a path's slot; where it has none it gets one. Where an allocation fails nothing changes.

@@ -15,7 +15,7 @@ use Rattle.acpi_name.specs.Names.{Segment}
 use Rattle.acpi_name.specs.Paths.{path_cmp}
 use Rattle.acpi_name.specs.steps.PathOrder.{path_cmp_total, path_cmp-IsAntisymmetric}
 use Rattle.acpi_space.specs.Lookups.{is_same_path}
-use Rattle.acpins_survey_output.specs.Listings.{numbered_from, numbered_cmp}
+use Rattle.acpi_conditions.specs.ByPath.{numbered_from, numbered_cmp}
 
 abbrev Path : Type 0
 Path = List Segment

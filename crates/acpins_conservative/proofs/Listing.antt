@@ -27,7 +27,8 @@ use Rattle.acpi_conservative.proofs.BehindTables.{all_last}
 use Rattle.acpi_conservative.proofs.ObjectParts.{strict_read_is_declared}
 use Rattle.acpi_conservative.proofs.StrictLinks.{IsAllThere, is_all_there}
 use Rattle.acpins_output.specs.Listings.{Prints}
-use Rattle.acpins_survey_output.specs.Listings.{entries_of, numbered_line, numbered_from, AreByPath}
+use Rattle.acpi_conditions.specs.ByPath.{numbered_from, AreByPath}
+use Rattle.acpins_survey_output.specs.Listings.{entries_of, numbered_line}
 use Rattle.acpins_conservative.proofs.ByPath.{keys, AreApart, moved_apart, found_alike, is_ascending, strictly_sorted, value_at, value_seam, with_value, values_are}
 use Rattle.acpins_conservative.proofs.Declared.{everything, everything_after, everything_fresh, everything_pending, pairs, fresh_apart, found_there, each_links}
 use Rattle.acpins_conservative.proofs.EntryLines.{HaveLines, predefined_line, lines_behind}

@@ -11,7 +11,8 @@ use Rattle.acpi_survey.specs.declared.notes.Note.{Note}
 use Rattle.acpi_survey.specs.declared.problems.Problem.{Problem}
 use Rattle.acpins_survey_output.specs.Declaring.{object_in, predefined}
 use Rattle.acpins_survey_output.specs.Found.{found_text}
-use Rattle.acpins_survey_output.specs.Listings.{lent_pair, numbered_line, object_of}
+use Rattle.acpi_conditions.specs.ByPath.{lent_pair}
+use Rattle.acpins_survey_output.specs.Listings.{numbered_line, object_of}
 use Rattle.acpins_survey_output.specs.Objects.{ObjectParts, constant}
 use Rattle.acpins_survey_output.proofs.Separating.{flat_mapped}
 

@@ -8,7 +8,7 @@ use Rattle.acpi_survey.specs.declared.machine_survey.Survey.{Survey}
 use Rattle.acpins_survey_output.specs.Json.{number, string, value_text, value_lines, array_lines, elements}
 use Rattle.acpins_survey_output.specs.JsonBodies.{body_values}
 use Rattle.acpins_survey_output.specs.JsonValues.{number_value}
-use Rattle.acpins_survey_output.specs.Listings.{lent_pair}
+use Rattle.acpi_conditions.specs.ByPath.{lent_pair}
 use Rattle.acpins_survey_output.specs.Shown.{IsBodyAt, zip_text}
 
 -- a piece behind another, before a rest

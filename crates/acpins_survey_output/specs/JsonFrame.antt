@@ -10,7 +10,8 @@ use Rattle.acpins_survey_output.specs.JsonEntries.{entry_value}
 use Rattle.acpins_survey_output.specs.JsonFound.{note_value, problem_value}
 use Rattle.acpins_survey_output.specs.JsonTables.{table_values}
 use Rattle.acpins_survey_output.specs.JsonValues.{number_value}
-use Rattle.acpins_survey_output.specs.Listings.{AreByPath, entries_of}
+use Rattle.acpi_conditions.specs.ByPath.{AreByPath}
+use Rattle.acpins_survey_output.specs.Listings.{entries_of}
 use Rattle.acpins_survey_output.specs.Shown.{IsBodyAt, zip_text}
 
 -- all that a survey says: entries in an order, and the bodies of those that have one

@@ -1,13 +1,9 @@
 -- What `list` prints of a survey (ACPI 6.5, 5.3).
-use Rattle.std.specs.Prelude.{◌≡◌, ℕ, suc, List, [], ◌∷◌, ◌++◌, Option, Some, None, map, slice_get, unwrap_or}
-use Rattle.std.specs.Borrow.{Bor}
+use Rattle.std.specs.Prelude.{◌≡◌, ℕ, List, [], ◌++◌, Option, Some, None, map, slice_get, unwrap_or}
 use Rattle.std.specs.Option.{option_map}
 use Rattle.std.specs.List.{flat_map}
-use Rattle.std.specs.List.Sorted.{IsPermutation, IsSorted}
-use Rattle.std.specs.Ordering.{ordering_then, nat_cmp}
-use Rattle.std.specs.declared.cmp.Ordering.{Ordering}
-use Rattle.acpi_name.specs.Paths.{path_cmp}
 use Rattle.acpi_tree.specs.Objects.{predefined_object}
+use Rattle.acpi_conditions.specs.ByPath.{AreByPath}
 use Rattle.acpi_conditions.specs.Entries.{Path, Entry}
 use Rattle.acpi_survey.specs.Condition.{condition, PlacedParts}
 use Rattle.acpi_survey.specs.EntryLinks.{LinkParts, links_of_part}
@@ -44,26 +40,9 @@ numbered_line s p n = entry_line p (object_of (part_of s n) n) (links_of s n) (c
 
 -- ---- all of them
 
--- paths and numbers, in the order of the paths, those of one path in the order of the numbers
-abbrev pub numbered_from : ℕ → List Path → List (Path × ℕ)
-numbered_from n [] = []
-numbered_from n (p ∷ ps) = (p, n) ∷ numbered_from (suc n) ps
-
-abbrev pub numbered_cmp : Path × ℕ → Path × ℕ → Ordering
-numbered_cmp x y = ordering_then (path_cmp x.0 y.0) (nat_cmp x.1 y.1)
-
--- each of the paths is there once, with its number
-pub record AreByPath (paths : List Path) (order : List (Path × ℕ)) : Type 0 where
-  pub each : IsPermutation (numbered_from 0 paths) order
-  pub ascending : IsSorted numbered_cmp order
-
 -- The text is a line for each entry, in the order of the paths, those of one path in the order of their places; and then a line for each
 -- problem and note.
 pub record IsListing (s : Survey) (text : List ℕ) : Type 0 where
   pub order : List (Path × ℕ)
   pub by_path : AreByPath (map (λ (e : Entry). e.path) (entries_of s)) order
   pub text_is : text ≡ flat_map (λ (x : Path × ℕ). numbered_line s x.0 x.1) order ++ found_text s.found.problems.items s.found.notes.items
-
--- a path that is lent, and a number
-abbrev pub lent_pair : Bor Path × ℕ → Path × ℕ
-lent_pair x = (x.0.now, x.1)

@@ -7,7 +7,8 @@ use Rattle.acpi_survey.specs.Surveys.{numbers_at}
 use Rattle.acpi_survey.specs.declared.body.MethodBody.{MethodBody}
 use Rattle.acpi_survey.specs.declared.machine_survey.Survey.{Survey}
 use Rattle.acpins_survey_output.specs.Bodies.{body_text, method_line}
-use Rattle.acpins_survey_output.specs.Listings.{AreByPath, entries_of, numbered_line}
+use Rattle.acpi_conditions.specs.ByPath.{AreByPath}
+use Rattle.acpins_survey_output.specs.Listings.{entries_of, numbered_line}
 
 -- the texts of pairs, or other lists, one after another
 abbrev pub zip_text : {X Y Z : Type 0} → (X → Y → List Z) → List X → List Y → List Z

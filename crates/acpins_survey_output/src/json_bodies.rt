@@ -10,7 +10,7 @@ ghost use Rattle.acpi_survey.specs.declared.body.MethodBody.{MethodBody as Metho
 ghost use Rattle.acpins_survey_output.specs.Json.{Members, Value, array_lines, elements, lines_behind, member, more_members_text, no_members, null, object, string, value_text, values_behind, values_of};
 ghost use Rattle.acpins_survey_output.specs.JsonBodies.{body_value, body_values, lines_from, lines_value, number_site, opaque_value, reading_members};
 ghost use Rattle.acpins_survey_output.specs.Reasons.{body_fault_text};
-ghost use Rattle.acpins_survey_output.specs.Listings.{lent_pair};
+ghost use Rattle.acpi_conditions.specs.ByPath.{lent_pair};
 ghost use Rattle.acpins_survey_output.specs.Shown.{IsBodyAt, zip_text};
 ghost use Rattle.acpins_survey_output.specs.steps.JsonPuts.{PutsMembers};
 

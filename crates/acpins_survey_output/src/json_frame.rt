@@ -9,7 +9,6 @@ use crate::json_entries::put_entries;
 use crate::json_found::{put_notes, put_problems};
 use crate::json_tables::put_tables;
 use crate::json_values::put_number;
-use crate::order::by_path;
 use acpi_survey::Survey;
 use acpi_text::put;
 use std::alloc::{AllocError, Global};
@@ -19,7 +18,7 @@ use std::alloc::{AllocError, Global};
 pub fn json(alloc: Global, survey: &Survey) -> Result<Vec<u8>, AllocError>
     ensures { IsInOrder survey.now → IfOk result (λ text. IsJson survey.now text.items) }
 {
-    let order = by_path(alloc, survey.entries().paths.entries())?;
+    let order = survey.entries().paths.by_path()?;
     let mut text = Vec::new(alloc);
     put(&mut text, "{\n\"format\":\"acpins-survey 1\",\n\"depth\":")?;
     put_number(&mut text, u64::from(survey.depth.get()))?;

@@ -27,7 +27,6 @@ mod links;
 mod listing;
 mod method_lines;
 mod objects;
-mod order;
 mod ranges;
 mod reasons;
 mod showing;

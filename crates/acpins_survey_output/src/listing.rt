@@ -7,7 +7,6 @@ ghost use Rattle.acpins_survey_output.specs.Listings.{IsListing, numbered_line};
 
 use crate::entries::put_numbered;
 use crate::found::put_found;
-use crate::order::by_path;
 use acpi_name::Path;
 use acpi_survey::Survey;
 use std::alloc::{AllocError, Global};
@@ -32,7 +31,7 @@ fn put_entries(
 pub fn list(alloc: Global, survey: &Survey) -> Result<Vec<u8>, AllocError>
     ensures { IsInOrder survey.now → IfOk result (λ text. IsListing survey.now text.items) }
 {
-    let order = by_path(alloc, survey.entries().paths.entries())?;
+    let order = survey.entries().paths.by_path()?;
     let mut text = Vec::new(alloc);
     put_entries(&mut text, survey, &order)?;
     put_found(&mut text, survey.problems(), survey.notes())?;

@@ -4,12 +4,11 @@ ghost use Rattle.std.specs.Prelude.{◌≡◌, ◌++◌, List, Option, map, IfOk
 ghost use Rattle.std.specs.List.{AllZip};
 ghost use Rattle.acpi_survey.specs.SurveyOrder.{IsInOrder};
 ghost use Rattle.acpi_survey.specs.declared.body.MethodBody.{MethodBody as MethodBodyForm};
-ghost use Rattle.acpins_survey_output.specs.Listings.{lent_pair};
+ghost use Rattle.acpi_conditions.specs.ByPath.{lent_pair};
 ghost use Rattle.acpins_survey_output.specs.Shown.{IsBodyAt, IsBodyListing, body_lines, verdict_line, zip_text};
 ghost use Rattle.acpins_survey_output.specs.Reasons.{body_fault_text};
 ghost use Rattle.acpins_survey_output.specs.Bodies.{body_text, method_line};
 
-use crate::order::by_path;
 use crate::reasons::{body_reason_name, put_named};
 use acpi_body::BodyReason;
 use acpi_name::{Name, Path};
@@ -122,7 +121,7 @@ fn put_methods(
 pub fn bodies(alloc: Global, survey: &Survey) -> Result<Vec<u8>, AllocError>
     ensures { IsInOrder survey.now → IfOk result (λ text. IsBodyListing survey.now text.items) }
 {
-    let order = by_path(alloc, survey.entries().paths.entries())?;
+    let order = survey.entries().paths.by_path()?;
     let mut text = Vec::new(alloc);
     put_methods(&mut text, survey, &order)?;
     Ok(text)

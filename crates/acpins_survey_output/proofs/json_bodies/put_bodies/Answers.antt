@@ -3,7 +3,7 @@ use Rattle.std.proofs.lemmas.List.{get_or-map}
 use Rattle.acpi_conditions.specs.Entries.{Path}
 use Rattle.acpi_survey.specs.declared.body.MethodBody.{MethodBody}
 use Rattle.acpins_survey_output.specs.JsonBodies.{body_values}
-use Rattle.acpins_survey_output.specs.Listings.{lent_pair}
+use Rattle.acpi_conditions.specs.ByPath.{lent_pair}
 use Rattle.acpins_survey_output.specs.Shown.{IsBodyAt}
 use Rattle.acpins_survey_output.proofs.Ordering.{length_mapped}
 use Rattle.acpins_survey_output.proofs.Zipping.{lines_all_put, lines_more, no_lines}

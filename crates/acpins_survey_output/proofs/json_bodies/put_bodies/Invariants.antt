@@ -1,7 +1,7 @@
 use Rattle.std.proofs.Common.{map, take}
 use Rattle.acpi_survey.specs.SurveyOrder.{IsInOrder}
 use Rattle.acpins_survey_output.specs.JsonBodies.{body_values}
-use Rattle.acpins_survey_output.specs.Listings.{lent_pair}
+use Rattle.acpi_conditions.specs.ByPath.{lent_pair}
 use Rattle.acpins_survey_output.specs.Shown.{IsBodyAt}
 use Rattle.acpins_survey_output.proofs.Zipping.{AreLinesOf}
 use Rattle.acpins_survey_output.proofs.json_bodies.put_bodies.Given as goal

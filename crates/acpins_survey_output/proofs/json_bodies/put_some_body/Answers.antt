@@ -2,7 +2,7 @@ use Rattle.std.proofs.Common.{◌∙◌, ◌++◌, Option, ap, sym}
 use Rattle.acpi_survey.specs.declared.body.MethodBody.{MethodBody}
 use Rattle.acpins_survey_output.specs.Json.{elements, lines_behind}
 use Rattle.acpins_survey_output.specs.JsonBodies.{body_value, body_values}
-use Rattle.acpins_survey_output.specs.Listings.{lent_pair}
+use Rattle.acpi_conditions.specs.ByPath.{lent_pair}
 use Rattle.acpins_survey_output.proofs.JsonPutting.{line_put}
 use Rattle.acpins_survey_output.proofs.json_bodies.put_some_body.Goals as goal
 

@@ -10,11 +10,11 @@ use Rattle.acpins_survey_output.specs.JsonEntries.{entry_value}
 use Rattle.acpins_survey_output.specs.JsonFound.{note_value, problem_value}
 use Rattle.acpins_survey_output.specs.JsonTables.{table_values}
 use Rattle.acpins_survey_output.specs.JsonValues.{number_value}
-use Rattle.acpins_survey_output.specs.Listings.{AreByPath, lent_pair}
+use Rattle.acpi_conditions.specs.ByPath.{AreByPath, lent_pair}
 use Rattle.acpins_survey_output.specs.Shown.{zip_text}
 use Rattle.acpins_survey_output.proofs.JsonFraming.{PutsBodies, number_lines, piece_put}
 use Rattle.acpins_survey_output.proofs.JsonPutting.{values_mapped}
-use Rattle.acpins_survey_output.proofs.Ordering.{path_of, same_paths}
+use Rattle.acpins_survey_output.proofs.Ordering.{same_paths}
 use Rattle.acpins_survey_output.proofs.json_frame.json.Goals as goal
 
 pub returns : goal.returns
@@ -22,7 +22,7 @@ returns c = λ o.
     let s = c.args.survey.now in
     let order = c.in_ok-order.order.items in
     let pairs = map lent_pair order in
-    let paths = ap (map path_of) c.entries-2.ensures ∙ same_paths _ _ _ c.entries.ensures in
+    let paths = same_paths _ _ _ c.entries.ensures in
     let value_of = λ (x : Path × ℕ). entry_value s x.0 x.1 in
     let put_all = subst (λ (xs : List (Bor Path × ℕ)). PutsBodies s xs c.put-4.new.text.items c.put_bodies.new.text.items) c.deref-3.ensures.value (c.in_ok-put_bodies.ensures o) in
     let notes = array_lines (values_of note_value s.found.notes.items) in

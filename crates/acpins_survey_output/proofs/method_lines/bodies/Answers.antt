@@ -1,16 +1,16 @@
-use Rattle.std.proofs.Common.{◌∙◌, ℕ, List, Option, ap, map, subst}
+use Rattle.std.proofs.Common.{ℕ, List, Option, map, subst}
 use Rattle.acpi_conditions.specs.Entries.{Path}
 use Rattle.acpi_survey.specs.declared.body.MethodBody.{MethodBody}
-use Rattle.acpins_survey_output.specs.Listings.{AreByPath, lent_pair}
+use Rattle.acpi_conditions.specs.ByPath.{AreByPath, lent_pair}
 use Rattle.acpins_survey_output.specs.Shown.{IsBodyAt, verdict_line}
-use Rattle.acpins_survey_output.proofs.Ordering.{path_of, same_paths}
+use Rattle.acpins_survey_output.proofs.Ordering.{same_paths}
 use Rattle.acpins_survey_output.proofs.Zipping.{AreZipped}
 use Rattle.acpins_survey_output.proofs.method_lines.bodies.Goals as goal
 
 pub returns : goal.returns
 returns c = λ o.
     let order = c.in_ok-order.order.items in
-    let paths = ap (map path_of) c.entries-2.ensures ∙ same_paths _ _ _ c.entries.ensures in
+    let paths = same_paths _ _ _ c.entries.ensures in
     let new = c.put_methods.new.text.items in
     let is_body = λ (x : Path × ℕ) (b : Option MethodBody). IsBodyAt c.args.survey.now x.1 b in
     let lent = subst (λ xs. AreZipped {X = Path × ℕ} {Y = Option MethodBody} is_body verdict_line (map lent_pair xs) c.new-text.result.items new) c.deref.ensures.value

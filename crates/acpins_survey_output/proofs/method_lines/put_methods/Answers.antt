@@ -1,7 +1,7 @@
 use Rattle.std.proofs.Common.{ℕ, Option}
 use Rattle.acpi_conditions.specs.Entries.{Path}
 use Rattle.acpi_survey.specs.declared.body.MethodBody.{MethodBody}
-use Rattle.acpins_survey_output.specs.Listings.{lent_pair}
+use Rattle.acpi_conditions.specs.ByPath.{lent_pair}
 use Rattle.acpins_survey_output.specs.Shown.{IsBodyAt, verdict_line}
 use Rattle.acpins_survey_output.proofs.Zipping.{zip_more_viewed}
 use Rattle.acpins_survey_output.proofs.method_lines.put_methods.Goals as goal

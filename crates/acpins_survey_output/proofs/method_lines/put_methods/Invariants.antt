@@ -1,6 +1,6 @@
 use Rattle.std.proofs.Common.{map, take}
 use Rattle.acpi_survey.specs.SurveyOrder.{IsInOrder}
-use Rattle.acpins_survey_output.specs.Listings.{lent_pair}
+use Rattle.acpi_conditions.specs.ByPath.{lent_pair}
 use Rattle.acpins_survey_output.specs.Shown.{IsBodyAt, verdict_line}
 use Rattle.acpins_survey_output.proofs.Zipping.{AreZipped}
 use Rattle.acpins_survey_output.proofs.method_lines.put_methods.Given as goal
