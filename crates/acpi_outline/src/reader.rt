@@ -102,11 +102,14 @@ fn pass<K: Known>(
     Ok(Node::Closed(fixed, content))
 }
 
+// A field list, which takes no more memory than its elements.
 fn filled(fixed: Fixed, read: Vec<PlacedField>, lost: Option<Lost>) -> Node
     ensures { node_view result
         ≡ holds_fields (fixed_view fixed)
         (fields_before (placed_fields read.items) (fields_end lost)) }
 {
+    let mut read = read;
+    read.shrink_to_fit();
     Node::Fields(fixed, read, lost)
 }
 
@@ -204,10 +207,12 @@ fn put_holding(
     put(read, place, Node::Holds(fixed, nodes))
 }
 
-// All of a list.
+// All of a list, which takes no more memory than its nodes.
 fn all_read(read: Vec<PlacedNode>, lost: Option<Lost>) -> Nodes
     ensures { nodes_view result ≡ put_before (placed_views read.items) (end_view lost) }
 {
+    let mut read = read;
+    read.shrink_to_fit();
     Nodes { read, lost }
 }
 
