@@ -49,6 +49,23 @@ no_condition : (ts : List SurveyedTable) (opened : List (ℕ × Path)) (es : Lis
 no_condition ts opened es e h =
     ap (λ (w : List Turn). flat_map (turn_literals ts opened es) w ++ asked e) h.0 ∙ nothing_asked e h
 
+-- this holds of each of some objects, which are numbered through
+abbrev pub HaveEach : (ℕ → Declared → Type 0) → ℕ → List Declared → Type 0
+HaveEach Holds n [] = Unit {0}
+HaveEach Holds n (d ∷ ds) = Holds n d × HaveEach Holds (suc n) ds
+
+-- ---- the part that declares an entry
+
+module _ (s : Survey) (n : ℕ) where
+  pub no_part : nat_lt n 10 ≡ true → part_of s n ≡ None
+  no_part low = ap (λ b. cond b None (option_and_then (λ (e : Entry). part_in s.tables.items e.term.place) (slice_get (entries_of s) n))) low
+
+  pub part_there : (e : Entry) → slice_get (entries_of s) n ≡ Some e → 10 ≤ n → (d : Declared) (at : IsDeclaredAt s.tables.items d e) → part_of s n ≡ Some at.part
+  part_there e is behind d at =
+      ap (λ b. cond b None (option_and_then (λ (e : Entry). part_in s.tables.items e.term.place) (slice_get (entries_of s) n))) (le-ltb n 10 behind)
+      ∙ ap (option_and_then (λ (e : Entry). part_in s.tables.items e.term.place)) is
+      ∙ at.stands
+
 -- ---- one line
 
 module _ (s : Survey) (objects : Namespace) where
@@ -73,17 +90,14 @@ module _ (s : Survey) (objects : Namespace) where
     -- of an object that is there before all tables
     pub predefined_line : (p : Path) (o : ObjectTree) → nat_lt n 10 ≡ true → predefined n ≡ constant o → numbered_line s p n ≡ line_text p o []
     predefined_line p o low known =
-        let none : part_of s n ≡ None = ap (λ b. cond b None (option_and_then (λ (e : Entry). part_in s.tables.items e.term.place) (slice_get (entries_of s) n))) low in
+        let none : part_of s n ≡ None = no_part s n low in
         line_by p o (constant o) [] [] (ap (λ (f : Option Found). object_of f n) none ∙ known) refl refl
         ((λ i. links_of_part (entries_of s) s.reading.sources (is i) (none i))) refl
 
     -- of an object of a table
     module _ (behind : 10 ≤ n) (all : IsAllThere objects (entries_of s)) (d : Declared) (at : IsDeclaredAt s.tables.items d e) (fits : DeclaredFits d) where
       part_is : part_of s n ≡ Some at.part
-      part_is =
-          ap (λ b. cond b None (option_and_then (λ (e : Entry). part_in s.tables.items e.term.place) (slice_get (entries_of s) n))) (le-ltb n 10 behind)
-          ∙ ap (option_and_then (λ (e : Entry). part_in s.tables.items e.term.place)) is
-          ∙ at.stands
+      part_is = part_there s n e is behind d at
 
       printed : IsPrintedAs d.object at.part
       printed = part_printed d.object d.links d.code at.part at.is_part fits
@@ -113,8 +127,7 @@ module _ (s : Survey) (objects : Namespace) where
   -- ---- all lines, by their numbers
 
   abbrev pub HaveLines : ℕ → List Declared → Type 0
-  HaveLines n [] = Unit {0}
-  HaveLines n (d ∷ ds) = IsLineOf n d × HaveLines (suc n) ds
+  HaveLines = HaveEach IsLineOf
 
   pub lines_behind : IsAllThere objects (entries_of s) → (before es : List Entry) → entries_of s ≡ before ++ es → AllByRecursion HasNoCondition es → (n : ℕ) → n ≡ length before → 10 ≤ n
       → (ds : List Declared) → AllZip (IsDeclaredAt s.tables.items) ds es → AllByRecursion DeclaredFits ds → HaveLines n ds

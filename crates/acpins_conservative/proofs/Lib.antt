@@ -5,3 +5,8 @@ pub mod Texts
 pub mod EntryLines
 pub mod Listing
 pub mod Printed
+pub mod EntryBodies
+pub mod Shown
+pub mod BodyLines
+pub mod SameTables
+pub mod Runs

@@ -1,6 +1,7 @@
 -- The listing of a survey of strict tables is that of the machine.
-use Rattle.std.proofs.Common.{◌≡◌, ◌∙◌, ℕ, zero, suc, List, [], ◌∷◌, ◌++◌, append_assoc, length, length-append, map, slice_get, Option, Some, unwrap_or, refl, sym, ap, subst, arith}
+use Rattle.std.proofs.Common.{◌≡◌, ◌∙◌, ℕ, zero, suc, true, List, [], ◌∷◌, ◌++◌, append_assoc, length, length-append, map, slice_get, Option, Some, unwrap_or, refl, sym, ap, subst, arith}
 use Rattle.std.specs.Prelude.{codes}
+use Rattle.std.specs.FinMap.Entries.{find, is_sorted}
 use Rattle.std.specs.List.{AllByRecursion, AllZip, IsDistinct, flat_map}
 use Rattle.std.specs.List.Sorted.{IsPermutation, IsStrictlySortedBy}
 use Rattle.std.proofs.lemmas.List.Elements.{All-from_recursion, recursion_from_All}
@@ -95,7 +96,7 @@ module _ (depth : ℕ) (s : Survey) (read : AreTables depth 0 first_reading s.ta
   early : (n : ℕ) (e : Entry) → slice_get first_reading.walk.entries n ≡ Some e → slice_get (entries_of s) n ≡ Some e
   early n e is = ap (λ (es : List Entry). slice_get es n) parts.1 ∙ front_there first_reading.walk.entries parts.0 n e is
 
-  all_lines : HaveLines s objects 0 all
+  pub all_lines : HaveLines s objects 0 all
   unfolding first_reading with_object
   all_lines =
       let later = lines_behind s objects there first_reading.walk.entries parts.0 parts.1
@@ -129,19 +130,19 @@ module _ (depth : ℕ) (s : Survey) (read : AreTables depth 0 first_reading s.ta
         ),
       )
 
-  paths_are : map (λ (e : Entry). e.path) (entries_of s) ≡ keys (pairs all)
+  pub paths_are : map (λ (e : Entry). e.path) (entries_of s) ≡ keys (pairs all)
   unfolding first_reading with_object
   paths_are =
       ap (λ (es : List Entry). map (λ (e : Entry). e.path) es) parts.1
       ∙ ap (λ (ps : List Path). map (λ (e : Entry). e.path) first_reading.walk.entries ++ ps) (paths_alike s.tables.items (all_declared ts) parts.0 parts.2)
 
-  apart : AreApart (pairs all)
+  pub apart : AreApart (pairs all)
   apart = fresh_apart nothing all (everything_fresh depth (bytes_of s.tables.items) ts l)
 
   abbrev values : List ObjectTree
   values = map (λ (e : Path × ObjectTree). e.1) (pairs all)
 
-  links_are : AllByRecursion (λ (d : Declared). unwrap_or (links d.path) [] ≡ answers objects d.scope d.links) all
+  pub links_are : AllByRecursion (λ (d : Declared). unwrap_or (links d.path) [] ≡ answers objects d.scope d.links) all
   links_are = subst (λ ws. AllByRecursion (λ (d : Declared). unwrap_or (links_of objects ws d.path) [] ≡ answers objects d.scope d.links) all) (sym (everything_pending ts)) (each_links objects all apart)
 
   numbered_lines : AllByRecursion (λ (x : Path × ℕ). numbered_line s x.0 x.1 ≡ line_of s objects links values x) (numbered_from 0 (keys (pairs all)))
@@ -151,7 +152,7 @@ module _ (depth : ℕ) (s : Survey) (read : AreTables depth 0 first_reading s.ta
     each : IsPermutation (numbered_from 0 (keys (pairs all))) order
     each = subst (λ (ps : List Path). IsPermutation (numbered_from 0 ps) order) paths_are by_path.each
 
-    abbrev lines : List (Path × ObjectTree)
+    abbrev pub lines : List (Path × ObjectTree)
     lines = map (with_value root_object values) order
 
     moved : IsPermutation (pairs all) lines
@@ -170,12 +171,18 @@ module _ (depth : ℕ) (s : Survey) (read : AreTables depth 0 first_reading s.ta
         let IsAlike = λ (x : Path × ℕ). numbered_line s x.0 x.1 ≡ line_of s objects links values x in
         recursion_from_All IsAlike order (All-permutation IsAlike (numbered_from 0 (keys (pairs all))) order each (All-from_recursion IsAlike (numbered_from 0 (keys (pairs all))) numbered_lines))
 
+    pub in_order : is_sorted path_cmp lines ≡ true
+    in_order = is_ascending lines sorted
+
+    pub all_found : (p : Path) → find path_cmp p lines ≡ objects p
+    all_found p = found_alike (pairs all) lines moved apart p ∙ sym (found_there all p) ∙ sym (ap (λ (o : Namespace). o p) (everything_after ts))
+
     -- the lines of entries are those of the objects
     pub lines_are : Prints objects links (flat_map (λ (x : Path × ℕ). numbered_line s x.0 x.1) order)
     lines_are = record {
       lines = lines;
-      ascending = is_ascending lines sorted;
-      objects_are = λ p. found_alike (pairs all) lines moved apart p ∙ sym (found_there all p) ∙ sym (ap (λ (o : Namespace). o p) (everything_after ts));
+      ascending = in_order;
+      objects_are = all_found;
       text_is =
           flat_alike (λ (x : Path × ℕ). numbered_line s x.0 x.1) (line_of s objects links values) order lines_alike
           ∙ sym (flat_map-map (λ (e : Path × ObjectTree). line_text e.0 e.1 (unwrap_or (links e.0) [])) (with_value root_object values) order);

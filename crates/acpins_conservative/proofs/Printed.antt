@@ -24,7 +24,8 @@ use Rattle.acpi_conservative.proofs.NoProblem.{strict_has_no_problem, strict_has
 use Rattle.acpins_output.specs.Listings.{Prints}
 use Rattle.acpins_survey_output.specs.Found.{found_text}
 use Rattle.acpins_survey_output.specs.Listings.{IsListing, numbered_line}
-use Rattle.acpins_conservative.specs.Laws.{IsSurveyOf, AreBytes, StrictListingPrints, OneTextPrints}
+use Rattle.acpins_survey_run.specs.Runs.{IsSurvey}
+use Rattle.acpins_conservative.specs.Laws.{AreBytes, StrictListingPrints, OneTextPrints}
 use Rattle.acpins_conservative.proofs.Listing.{lines_are}
 
 none_viewed : {X Y : Type 0} (f : X → Y) (xs : List X) → map f xs ≡ [] → xs ≡ []
@@ -32,17 +33,11 @@ none_viewed f [] e = refl
 none_viewed f (x ∷ xs) e = let g : ⊥ = cc in absurd g
 
 module _ (depth : ℕ) (tables : List (List ℕ)) (bytes : AllByRecursion AreBytes tables) (objects : Namespace) (links : Lookup Links) (loaded : IsLoad depth tables objects links)
-    (s : Survey) (surveyed : IsSurveyOf depth tables s) (text : List ℕ) (listing : IsListing s text) where
+    (s : Survey) (surveyed : IsSurvey depth tables s) where
   here : IsLoad depth (bytes_of s.tables.items) objects links
   here = subst (λ (bs : List (List ℕ)). IsLoad depth bs objects links) (sym surveyed.kept) loaded
 
-  lines : Prints (objects_after predefined here.placements) (links_of (objects_after predefined here.placements) (all_pending here.placements))
-      (flat_map (λ (x : Path × ℕ). numbered_line s x.0 x.1) listing.order)
-  lines =
-      lines_are depth s surveyed.read (subst (λ (bs : List (List ℕ)). AllByRecursion AreBytes bs) (sym surveyed.kept) bytes) here.placements here.listings
-      listing.order listing.by_path
-
-  no_problem : s.found.problems.items ≡ []
+  pub no_problem : s.found.problems.items ≡ []
   no_problem =
       none_viewed problem_view s.found.problems.items
       (surveyed.problems ∙ strict_has_no_problem depth s.tables.items s.reading surveyed.read here.placements here.listings)
@@ -55,21 +50,28 @@ module _ (depth : ℕ) (tables : List (List ℕ)) (bytes : AllByRecursion AreByt
   links_same : links_of (objects_after predefined here.placements) (all_pending here.placements) ≡ links
   links_same = sym (here.links_are ∙ ap (λ (o : Namespace). links_of o (all_pending here.placements)) here.objects_are)
 
-  listing_prints : Prints objects links text
-  listing_prints =
-      let entries : List ℕ = flat_map (λ (x : Path × ℕ). numbered_line s x.0 x.1) listing.order in
-      record {
-        lines = lines.lines;
-        ascending = lines.ascending;
-        objects_are = λ p. lines.objects_are p ∙ sym (ap (λ (o : Namespace). o p) here.objects_are);
-        text_is =
-            listing.text_is
-            ∙ ap (λ (ps : List Problem). entries ++ found_text ps s.found.notes.items) no_problem
-            ∙ ap (λ (ns : List Note). entries ++ found_text [] ns) no_note
-            ∙ append-nil entries
-            ∙ lines.text_is
-            ∙ ap (λ (l : Lookup Links). listing_text lines.lines l) links_same;
-      }
+  module _ (text : List ℕ) (listing : IsListing s text) where
+    lines : Prints (objects_after predefined here.placements) (links_of (objects_after predefined here.placements) (all_pending here.placements))
+        (flat_map (λ (x : Path × ℕ). numbered_line s x.0 x.1) listing.order)
+    lines =
+        lines_are depth s surveyed.read (subst (λ (bs : List (List ℕ)). AllByRecursion AreBytes bs) (sym surveyed.kept) bytes) here.placements here.listings
+        listing.order listing.by_path
+
+    listing_prints : Prints objects links text
+    listing_prints =
+        let entries : List ℕ = flat_map (λ (x : Path × ℕ). numbered_line s x.0 x.1) listing.order in
+        record {
+          lines = lines.lines;
+          ascending = lines.ascending;
+          objects_are = λ p. lines.objects_are p ∙ sym (ap (λ (o : Namespace). o p) here.objects_are);
+          text_is =
+              listing.text_is
+              ∙ ap (λ (ps : List Problem). entries ++ found_text ps s.found.notes.items) no_problem
+              ∙ ap (λ (ns : List Note). entries ++ found_text [] ns) no_note
+              ∙ append-nil entries
+              ∙ lines.text_is
+              ∙ ap (λ (l : Lookup Links). listing_text lines.lines l) links_same;
+        }
 
 pub strict_listing_prints : StrictListingPrints
 strict_listing_prints depth tables bytes objects links loaded s surveyed text listing = listing_prints depth tables bytes objects links loaded s surveyed text listing

@@ -1,5 +1,5 @@
-//! Where tables load, `list` of the survey's program prints what `list` of the strict one does (ACPI 6.5, 5.3): definitions
-//! and laws.
+//! Where tables load, `list` and `show` of the survey's program print what those of the strict one do (ACPI 6.5, 5.3):
+//! definitions and laws.
 //!
 //! ```text
 //! strict listings ──► objects, each with its links ──► a line for each path

@@ -1,9 +1,13 @@
 -- What a run prints and says, and why it prints nothing.
-use Rattle.std.specs.Prelude.{◌≡◌, ◌≢◌, ◌⊎◌, ◌↔◌, ℕ, List, [], Option, Some, None}
+use Rattle.std.specs.Prelude.{◌≡◌, ◌≢◌, ◌⊎◌, ◌↔◌, ℕ, List, [], map, Option, Some, None}
 use Rattle.std.specs.Io.KnownBytes.{Appends}
 use Rattle.acpi_name.specs.Names.{Segment}
 use Rattle.acpi_name.specs.Text.{IsPathText, SpellsPathText}
+use Rattle.acpi_survey.specs.Found.{entered_in, problems_in, notes_by}
+use Rattle.acpi_survey.specs.Notes.{Unknowns}
+use Rattle.acpi_survey.specs.NoteViews.{note_view}
 use Rattle.acpi_survey.specs.Predefined.{first_reading}
+use Rattle.acpi_survey.specs.ProblemViews.{problem_view}
 use Rattle.acpi_survey.specs.Surveys.{AreTables, bytes_of}
 use Rattle.acpi_survey.specs.declared.machine_survey.Survey.{Survey}
 use Rattle.acpins_survey_output.specs.JsonFrame.{IsJson}
@@ -24,10 +28,13 @@ use Rattle.acpins_survey_run.specs.declared.failure.Failure.TheVariants.{WrongWo
 
 -- ---- what is printed
 
--- the survey of these tables
+-- The survey of these tables, with this limit, tells what is lost, refused and noticed in them.
 pub record IsSurvey (depth : ℕ) (tables : List (List ℕ)) (s : Survey) : Type 0 where
   pub kept : bytes_of s.tables.items ≡ tables
+  pub limit : s.depth ≡ depth
   pub read : AreTables depth 0 first_reading s.tables.items s.reading
+  pub problems : map problem_view s.found.problems.items ≡ problems_in s.reading s.tables.items
+  pub notes : (unknowns : Unknowns) × (map note_view s.found.notes.items ≡ notes_by (entered_in s.reading) unknowns 0 s.tables.items)
 
 -- the survey of the tables in the files, one at least
 pub record IsSurveyOfFiles (files : FileBytes) (folders : FolderNames) (asked : Asked) (s : Survey) : Type 0 where
