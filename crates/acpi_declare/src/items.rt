@@ -12,11 +12,11 @@ ghost use Rattle.acpi_declare.specs.Placing.{declared_path, opened_path};
 ghost use Rattle.acpi_declare.specs.steps.Entering.{Enters, EntersNext, IsLeftBehind, IsScopeOf};
 ghost use Rattle.acpi_declare.specs.steps.Pass.{after, placement, pass_item, pass_items};
 ghost use Rattle.acpi_declare.specs.steps.View.{pass_of};
-ghost use Rattle.acpi_declare.specs.steps.Outcomes.{IsStopOf};
+ghost use Rattle.acpi_declare.specs.steps.Outcomes.{Ends, IsStopOf};
 
 use crate::fault::Stop;
 use crate::pass::Pass;
-use crate::placing::{declared, opened, rejoined};
+use crate::placing::{opened, rejoined};
 use acpi_name::{Name, Path};
 use acpi_space::{SearchFault, Space, misses};
 use acpi_terms::{Item, Object};
@@ -56,15 +56,14 @@ impl<S: Space<Object>> Pass<S> {
     // Declares an object inside which others stand, and gives its path.
     fn declare_scope(&mut self, scope: &Path, name: &Name, object: Object) -> Result<Path, Stop>
         ensures path { IfOk result (λ p. declared_path
-            (namespace_of (S.contents self.old.objects)) scope.now name.now ≡ Ok p) }
-        ensures ok { IfOk result (λ p. pass_of (S.contents self.new.objects) self.new
-            ≡ after (pass_of (S.contents self.old.objects) self.old)
+            (namespace_of self.old.objects) scope.now name.now ≡ Ok p) }
+        ensures ok { IfOk result (λ p. pass_of self.new ≡ after (pass_of self.old)
             (placement scope.now (step name.now (declares_alone (object_view object))) p)) }
         ensures refused { IfErr result (λ f. IsStopOf f
-            (declared_path (namespace_of (S.contents self.old.objects)) scope.now name.now)) }
-        ensures lower { OnOk result (S.lower self.new.objects ≡ S.lower self.old.objects) }
+            (declared_path (namespace_of self.old.objects) scope.now name.now)) }
+        ensures lower { OnOk result (self.new.lower ≡ self.old.lower) }
     {
-        let path = declared(self.alloc, &self.objects, scope, name)?;
+        let path = self.free_path(scope, name)?;
         let inside = path.copy()?;
         self.put(path, object)?;
         Ok(inside)
@@ -73,13 +72,12 @@ impl<S: Space<Object>> Pass<S> {
     // Opens a scope, and gives its path.
     fn open_scope(&mut self, scope: &Path, name: &Name) -> Result<Path, Stop>
         ensures path { IfOk result (λ p. opened_path
-            (namespace_of (S.contents self.old.objects)) scope.now name.now ≡ Ok p) }
-        ensures ok { IfOk result (λ p. pass_of (S.contents self.new.objects) self.new
-            ≡ after (pass_of (S.contents self.old.objects) self.old)
+            (namespace_of self.old.objects) scope.now name.now ≡ Ok p) }
+        ensures ok { IfOk result (λ p. pass_of self.new ≡ after (pass_of self.old)
             (placement scope.now (step name.now opens) p)) }
         ensures refused { IfErr result (λ f. IsStopOf f
-            (opened_path (namespace_of (S.contents self.old.objects)) scope.now name.now)) }
-        ensures lower { OnOk result (S.lower self.new.objects ≡ S.lower self.old.objects) }
+            (opened_path (namespace_of self.old.objects) scope.now name.now)) }
+        ensures lower { OnOk result (self.new.lower ≡ self.old.lower) }
     {
         let target = opened(self.alloc, &self.objects, scope, name)?;
         match misses(self.alloc, &self.objects, scope, name.view()) {
@@ -101,14 +99,13 @@ impl<S: Space<Object>> Pass<S> {
         items: Vec<Item>,
     ) -> Result<(Path, Vec<Item>), Stop>
         ensures path { IfOk result (λ left. declared_path
-            (namespace_of (S.contents self.old.objects)) scope.now name ≡ Ok left.0) }
+            (namespace_of self.old.objects) scope.now name ≡ Ok left.0) }
         ensures items { IfOk result (λ left. left.1 ≡ items) }
-        ensures ok { IfOk result (λ left. pass_of (S.contents self.new.objects) self.new
-            ≡ after (pass_of (S.contents self.old.objects) self.old)
+        ensures ok { IfOk result (λ left. pass_of self.new ≡ after (pass_of self.old)
             (placement scope.now (step name (declares_alone (object_view object))) left.0)) }
         ensures refused { IfErr result (λ f. IsStopOf f
-            (declared_path (namespace_of (S.contents self.old.objects)) scope.now name)) }
-        ensures lower { OnOk result (S.lower self.new.objects ≡ S.lower self.old.objects) }
+            (declared_path (namespace_of self.old.objects) scope.now name)) }
+        ensures lower { OnOk result (self.new.lower ≡ self.old.lower) }
     {
         let inside = self.declare_scope(scope, &name, object)?;
         Ok((inside, items))
@@ -122,14 +119,13 @@ impl<S: Space<Object>> Pass<S> {
         items: Vec<Item>,
     ) -> Result<(Path, Vec<Item>), Stop>
         ensures path { IfOk result (λ left. opened_path
-            (namespace_of (S.contents self.old.objects)) scope.now name ≡ Ok left.0) }
+            (namespace_of self.old.objects) scope.now name ≡ Ok left.0) }
         ensures items { IfOk result (λ left. left.1 ≡ items) }
-        ensures ok { IfOk result (λ left. pass_of (S.contents self.new.objects) self.new
-            ≡ after (pass_of (S.contents self.old.objects) self.old)
+        ensures ok { IfOk result (λ left. pass_of self.new ≡ after (pass_of self.old)
             (placement scope.now (step name opens) left.0)) }
         ensures refused { IfErr result (λ f. IsStopOf f
-            (opened_path (namespace_of (S.contents self.old.objects)) scope.now name)) }
-        ensures lower { OnOk result (S.lower self.new.objects ≡ S.lower self.old.objects) }
+            (opened_path (namespace_of self.old.objects) scope.now name)) }
+        ensures lower { OnOk result (self.new.lower ≡ self.old.lower) }
     {
         let inside = self.open_scope(scope, &name)?;
         Ok((inside, items))
@@ -141,14 +137,11 @@ impl<S: Space<Object>> Pass<S> {
     fn enter(&mut self, scope: &Path, item: Item) -> Result<Option<(Path, Vec<Item>)>, Stop>
         requires room { OffsetFits (item_view item) }
         requires fits { item_fits (item_view item) ≡ true }
-        ensures ok { IfOk result
-            (λ left. Enters (item_view item) (pass_item
-            (pass_of (S.contents self.old.objects) self.old) scope.now (item_view item))
-            (pass_of (S.contents self.new.objects) self.new) left) }
+        ensures ok { IfOk result (λ left. Enters (item_view item)
+            (pass_item (pass_of self.old) scope.now (item_view item)) (pass_of self.new) left) }
         ensures refused { IfErr result (λ f. IsStopOf f
-            (pass_item (pass_of (S.contents self.old.objects) self.old) scope.now
-            (item_view item))) }
-        ensures lower { OnOk result (S.lower self.new.objects ≡ S.lower self.old.objects) }
+            (pass_item (pass_of self.old) scope.now (item_view item))) }
+        ensures lower { OnOk result (self.new.lower ≡ self.old.lower) }
     {
         let left = match item {
             Item::Scope(name, items) => self.enter_scope(scope, name, items),
@@ -183,17 +176,15 @@ impl<S: Space<Object>> Pass<S> {
         requires room { OffsetsFit (items_tree (reverse left.old.items)) }
         requires fits { items_fit (items_tree (reverse left.old.items)) ≡ true }
         ensures ok { IfOk result (λ e. EntersNext
-            (pass_items (pass_of (S.contents self.old.objects) self.old) scope.old
-            (items_tree (reverse left.old.items)))
+            (pass_items (pass_of self.old) scope.old (items_tree (reverse left.old.items)))
             (λ t. pass_items t scope.old (items_tree (reverse left.new.items)))
-            (pass_of (S.contents self.new.objects) self.new) scope.new e) }
+            (pass_of self.new) scope.new e) }
         ensures left { IfOk result (λ e. IsLeftBehind (items_tree (reverse left.old.items))
             (items_tree (reverse left.new.items)) e) }
         ensures scope { IfOk result (λ e. IsScopeOf scope.old scope.new e) }
         ensures refused { IfErr result (λ f. IsStopOf f
-            (pass_items (pass_of (S.contents self.old.objects) self.old) scope.old
-            (items_tree (reverse left.old.items)))) }
-        ensures lower { OnOk result (S.lower self.new.objects ≡ S.lower self.old.objects) }
+            (pass_items (pass_of self.old) scope.old (items_tree (reverse left.old.items)))) }
+        ensures lower { OnOk result (self.new.lower ≡ self.old.lower) }
     {
         let Some(item) = left.pop() else {
             unreachable!()
@@ -213,13 +204,9 @@ impl<S: Space<Object>> Pass<S> {
     fn declare_elsewhere(&mut self, scope: Path, items: Vec<Item>) -> Result<(), Stop>
         requires room { OffsetsFit (items_tree items.items) }
         requires fits { items_fit (items_tree items.items) ≡ true }
-        ensures ok { OnOk result (pass_items (pass_of (S.contents self.old.objects) self.old) scope
-            (items_tree items.items)
-            ≡ Ok (pass_of (S.contents self.new.objects) self.new)) }
-        ensures refused { IfErr result (λ f. IsStopOf f
-            (pass_items (pass_of (S.contents self.old.objects) self.old) scope
-            (items_tree items.items))) }
-        ensures lower { OnOk result (S.lower self.new.objects ≡ S.lower self.old.objects) }
+        ensures steps { Ends result (pass_items (pass_of self.old) scope (items_tree items.items))
+            (pass_of self.new) }
+        ensures lower { OnOk result (self.new.lower ≡ self.old.lower) }
     {
         let mut scope = scope;
         self.declare_items(&mut scope, items)
@@ -230,13 +217,9 @@ impl<S: Space<Object>> Pass<S> {
     pub(crate) fn declare_items(&mut self, scope: &mut Path, items: Vec<Item>) -> Result<(), Stop>
         requires room { OffsetsFit (items_tree items.items) }
         requires fits { items_fit (items_tree items.items) ≡ true }
-        ensures ok { OnOk result (pass_items (pass_of (S.contents self.old.objects) self.old)
-            scope.old (items_tree items.items)
-            ≡ Ok (pass_of (S.contents self.new.objects) self.new)) }
-        ensures refused { IfErr result (λ f. IsStopOf f
-            (pass_items (pass_of (S.contents self.old.objects) self.old) scope.old
-            (items_tree items.items))) }
-        ensures lower { OnOk result (S.lower self.new.objects ≡ S.lower self.old.objects) }
+        ensures steps { Ends result (pass_items (pass_of self.old) scope.old
+            (items_tree items.items)) (pass_of self.new) }
+        ensures lower { OnOk result (self.new.lower ≡ self.old.lower) }
         ensures scope { OnOk result (scope.new ≡ scope.old) }
     {
         let mut left = items;

@@ -8,13 +8,14 @@ ghost use Rattle.acpi_tree.specs.Objects.{object_view, field_object, method_obje
 ghost use Rattle.acpi_tree.specs.Fits.{external_fits, item_fits};
 ghost use Rattle.acpi_tree.specs.Offsets.{element_bits, list_bits, OffsetFits};
 ghost use Rattle.acpi_tree.specs.View.{item_view, external_view, externals_view, field_view, fields_view};
-ghost use Rattle.acpi_declare.specs.Declaring.{all_pending_of, linked_paths, pending_from, pending_for, unit_paths};
+ghost use Rattle.acpi_declare.specs.Declaring.{all_pending_of, linked_paths, pending_from, pending_for};
 ghost use Rattle.acpi_declare.specs.Namespace.{namespace_of};
 ghost use Rattle.acpi_declare.specs.Sites.{step, declares_alone, declares, is_leaf, own_steps, external_step, external_steps, unit_step, unit_name, unit_steps};
 ghost use Rattle.acpi_declare.specs.Notes.{notes_of};
+ghost use Rattle.acpi_declare.specs.Placing.{declared_path};
 ghost use Rattle.acpi_declare.specs.steps.Pass.{take_step, take_steps};
-ghost use Rattle.acpi_declare.specs.steps.View.{pass_of, pass_with, with_method};
-ghost use Rattle.acpi_declare.specs.steps.Outcomes.{IsStopOf};
+ghost use Rattle.acpi_declare.specs.steps.View.{pass_of, pass_with_units, with_method};
+ghost use Rattle.acpi_declare.specs.steps.Outcomes.{Ends, IsStopOf};
 
 use crate::fault::Stop;
 use crate::field_list::{FieldList, behind, one, two};
@@ -25,6 +26,7 @@ use acpi_space::Space;
 use acpi_terms::{External, FieldElem, FieldForm, Item, Object};
 use bytes::Bytes;
 use std::alloc::{AllocError, Global};
+use std::marker::Model;
 
 // Declared paths that have the same links.
 #[derive(Debug, Drop)]
@@ -57,11 +59,27 @@ pub(crate) struct PendingLinks {
 
 // What the pass has so far: the namespace, the links to search, and what the table notes.
 #[derive(Drop)]
-pub(crate) struct Pass<S> {
+pub(crate) struct Pass<S: Space<Object>> {
     pub(crate) alloc: Global,
     pub(crate) objects: S,
     pub(crate) links: Vec<PendingLinks>,
     pub(crate) notes: TableNotes,
+}
+
+impl<S: Space<Object>> Model for Pass<S> {
+    ghost use Rattle.acpi_declare.specs.Declaring.{all_pending_of};
+    ghost use Rattle.acpi_declare.specs.steps.View.{PassState, pass_code};
+
+    ghost Value = { PassState };
+
+    ghost coded = { pass_code };
+
+    ghost view = { λ p. record {
+      objects = S.contents p.objects;
+      lower = S.lower p.objects;
+      links = all_pending_of p.links.items;
+      notes = p.notes;
+    } };
 }
 
 // Adds the links of some paths.
@@ -97,15 +115,34 @@ fn add_links_of(
 }
 
 impl<S: Space<Object>> Pass<S> {
+    // Where a declaration of the name puts its object.
+    pub(crate) fn free_path(&self, scope: &Path, name: &Name) -> Result<Path, Stop>
+        ensures ok { IfOk result (λ p. declared_path
+            (namespace_of self.now.objects) scope.now name.now ≡ Ok p) }
+        ensures refused { IfErr result (λ f. IsStopOf f
+            (declared_path (namespace_of self.now.objects) scope.now name.now)) }
+    {
+        declared(self.alloc, &self.objects, scope, name)
+    }
+
+    // Where a field unit is declared.
+    fn free_unit_path(&self, scope: &Path, seg: Seg) -> Result<Path, Stop>
+        ensures ok { IfOk result (λ p. declared_path (namespace_of self.now.objects) scope.now
+            (unit_name seg) ≡ Ok p) }
+        ensures refused { IfErr result (λ f. IsStopOf f
+            (declared_path (namespace_of self.now.objects) scope.now (unit_name seg))) }
+    {
+        declared_unit(&self.objects, scope, seg)
+    }
+
     // Puts an object at a path that is free.
     pub(crate) fn put(&mut self, path: Path, object: Object) -> Result<(), AllocError>
-        requires { namespace_of (S.contents self.old.objects) path ≡ None }
-        ensures objects { OnOk result (namespace_of (S.contents self.new.objects)
-            ≡ union (namespace_of (S.contents self.old.objects))
-            (singleton path (object_view object))) }
+        requires { namespace_of self.old.objects path ≡ None }
+        ensures objects { OnOk result (namespace_of self.new.objects ≡ union
+            (namespace_of self.old.objects) (singleton path (object_view object))) }
         ensures links { self.new.links ≡ self.old.links }
         ensures notes { self.new.notes ≡ self.old.notes }
-        ensures lower { OnOk result (S.lower self.new.objects ≡ S.lower self.old.objects) }
+        ensures lower { OnOk result (self.new.lower ≡ self.old.lower) }
     {
         put(&mut self.objects, path, object)?;
         Ok(())
@@ -113,29 +150,24 @@ impl<S: Space<Object>> Pass<S> {
 
     // Declares an object that has no links.
     fn declare(&mut self, scope: &Path, name: &Name, object: Object) -> Result<(), Stop>
-        ensures ok { OnOk result (take_step (pass_of (S.contents self.old.objects) self.old)
-            scope.now (step name.now (declares_alone (object_view object)))
-            ≡ Ok (pass_of (S.contents self.new.objects) self.new)) }
-        ensures refused { IfErr result (λ f. IsStopOf f
-            (take_step (pass_of (S.contents self.old.objects) self.old) scope.now
-            (step name.now (declares_alone (object_view object))))) }
-        ensures lower { OnOk result (S.lower self.new.objects ≡ S.lower self.old.objects) }
+        ensures steps { Ends result (take_step (pass_of self.old) scope.now
+            (step name.now (declares_alone (object_view object)))) (pass_of self.new) }
+        ensures lower { OnOk result (self.new.lower ≡ self.old.lower) }
     {
-        let path = declared(self.alloc, &self.objects, scope, name)?;
+        let path = self.free_path(scope, name)?;
         self.put(path, object)?;
         Ok(())
     }
 
     // Puts a method at a path that is free, and notes it.
     fn put_method(&mut self, path: Path, flags: u8, code: Bytes) -> Result<(), AllocError>
-        requires { namespace_of (S.contents self.old.objects) path ≡ None }
-        ensures objects { OnOk result (namespace_of (S.contents self.new.objects)
-            ≡ union (namespace_of (S.contents self.old.objects))
-            (singleton path (method_object flags))) }
+        requires { namespace_of self.old.objects path ≡ None }
+        ensures objects { OnOk result (namespace_of self.new.objects ≡ union
+            (namespace_of self.old.objects) (singleton path (method_object flags))) }
         ensures links { self.new.links ≡ self.old.links }
-        ensures notes { OnOk result (notes_of self.new.notes
-            ≡ with_method (notes_of self.old.notes) (record { path = path; code = code })) }
-        ensures lower { OnOk result (S.lower self.new.objects ≡ S.lower self.old.objects) }
+        ensures notes { OnOk result (notes_of self.new.notes ≡ with_method (notes_of self.old.notes)
+            (record { path = path; code = code })) }
+        ensures lower { OnOk result (self.new.lower ≡ self.old.lower) }
     {
         self.notes.add_method(path.copy()?, code)?;
         self.put(path, Object::Method(flags))?;
@@ -150,15 +182,11 @@ impl<S: Space<Object>> Pass<S> {
         flags: u8,
         code: Bytes,
     ) -> Result<(), Stop>
-        ensures ok { OnOk result (take_step (pass_of (S.contents self.old.objects) self.old)
-            scope.now (step name.now (declares (method_object flags) [] (Some code)))
-            ≡ Ok (pass_of (S.contents self.new.objects) self.new)) }
-        ensures refused { IfErr result (λ f. IsStopOf f
-            (take_step (pass_of (S.contents self.old.objects) self.old) scope.now
-            (step name.now (declares (method_object flags) [] (Some code))))) }
-        ensures lower { OnOk result (S.lower self.new.objects ≡ S.lower self.old.objects) }
+        ensures steps { Ends result (take_step (pass_of self.old) scope.now
+            (step name.now (declares (method_object flags) [] (Some code)))) (pass_of self.new) }
+        ensures lower { OnOk result (self.new.lower ≡ self.old.lower) }
     {
-        let path = declared(self.alloc, &self.objects, scope, name)?;
+        let path = self.free_path(scope, name)?;
         self.put_method(path, flags, code)?;
         Ok(())
     }
@@ -171,14 +199,13 @@ impl<S: Space<Object>> Pass<S> {
         object: Object,
         names: Vec<Name>,
     ) -> Result<(), AllocError>
-        requires { namespace_of (S.contents self.old.objects) path ≡ None }
-        ensures objects { OnOk result (namespace_of (S.contents self.new.objects)
-            ≡ union (namespace_of (S.contents self.old.objects))
-            (singleton path (object_view object))) }
-        ensures links { OnOk result (all_pending_of self.new.links.items
-            ≡ all_pending_of self.old.links.items ++ pending_for path scope.now names.items ∷ []) }
+        requires { namespace_of self.old.objects path ≡ None }
+        ensures objects { OnOk result (namespace_of self.new.objects ≡ union
+            (namespace_of self.old.objects) (singleton path (object_view object))) }
+        ensures links { OnOk result (self.new.links ≡ self.old.links
+            ++ pending_for path scope.now names.items ∷ []) }
         ensures notes { self.new.notes ≡ self.old.notes }
-        ensures lower { OnOk result (S.lower self.new.objects ≡ S.lower self.old.objects) }
+        ensures lower { OnOk result (self.new.lower ≡ self.old.lower) }
     {
         add_links_of(&mut self.links, &path, scope, names)?;
         self.put(path, object)?;
@@ -194,15 +221,11 @@ impl<S: Space<Object>> Pass<S> {
         names: Vec<Name>,
     ) -> Result<(), Stop>
         requires { names.items ≢ [] }
-        ensures ok { OnOk result (take_step (pass_of (S.contents self.old.objects) self.old)
-            scope.now (step name.now (declares (object_view object) names.items None))
-            ≡ Ok (pass_of (S.contents self.new.objects) self.new)) }
-        ensures refused { IfErr result (λ f. IsStopOf f
-            (take_step (pass_of (S.contents self.old.objects) self.old) scope.now
-            (step name.now (declares (object_view object) names.items None)))) }
-        ensures lower { OnOk result (S.lower self.new.objects ≡ S.lower self.old.objects) }
+        ensures steps { Ends result (take_step (pass_of self.old) scope.now
+            (step name.now (declares (object_view object) names.items None))) (pass_of self.new) }
+        ensures lower { OnOk result (self.new.lower ≡ self.old.lower) }
     {
-        let path = declared(self.alloc, &self.objects, scope, name)?;
+        let path = self.free_path(scope, name)?;
         self.put_linked(path, scope, object, names)?;
         Ok(())
     }
@@ -218,24 +241,14 @@ impl<S: Space<Object>> Pass<S> {
         bits: u32,
     ) -> Result<(), Stop>
         requires { fields.now.names.now ≢ [] }
-        ensures ok { OnOk result (take_step (pass_with (S.contents self.old.objects) self.old
-            (pending_from scope.now fields.now.names.now (unit_paths scope.now segs.old.items)))
-            scope.now
-            (step (unit_name seg)
+        ensures steps { Ends result (take_step (pass_with_units self.old fields.now.names.now
+            scope.now segs.old.items) scope.now (step (unit_name seg)
             (declares (field_object fields.now.form fields.now.flags offset bits)
-            fields.now.names.now None))
-            ≡ Ok (pass_with (S.contents self.new.objects) self.new
-            (pending_from scope.now fields.now.names.now (unit_paths scope.now segs.new.items)))) }
-        ensures refused { IfErr result (λ f. IsStopOf f
-            (take_step (pass_with (S.contents self.old.objects) self.old
-            (pending_from scope.now fields.now.names.now (unit_paths scope.now segs.old.items)))
-            scope.now
-            (step (unit_name seg)
-            (declares (field_object fields.now.form fields.now.flags offset bits)
-            fields.now.names.now None)))) }
-        ensures lower { OnOk result (S.lower self.new.objects ≡ S.lower self.old.objects) }
+            fields.now.names.now None))) (pass_with_units self.new fields.now.names.now scope.now
+            segs.new.items) }
+        ensures lower { OnOk result (self.new.lower ≡ self.old.lower) }
     {
-        let path = declared_unit(&self.objects, scope, seg)?;
+        let path = self.free_unit_path(scope, seg)?;
         segs.push(seg)?;
         let unit = Object::Field {
             form: fields.form,
@@ -250,11 +263,10 @@ impl<S: Space<Object>> Pass<S> {
     // Keeps what an External says.
     fn expect(&mut self, scope: &Path, external: &External) -> Result<(), Stop>
         requires { external_fits (external_view external.now) ≡ true }
-        ensures ok { OnOk result (take_steps (pass_of (S.contents self.old.objects) self.old)
-            scope.now (external_step (external_view external.now))
-            ≡ Ok (pass_of (S.contents self.new.objects) self.new)) }
+        ensures steps { Ends result (take_steps (pass_of self.old) scope.now
+            (external_step (external_view external.now))) (pass_of self.new) }
         ensures memory { IfErr result (λ f. f ≡ Stop.Memory) }
-        ensures lower { OnOk result (S.lower self.new.objects ≡ S.lower self.old.objects) }
+        ensures lower { OnOk result (self.new.lower ≡ self.old.lower) }
     {
         self.notes.expect(self.alloc, scope, external)?;
         Ok(())
@@ -263,11 +275,10 @@ impl<S: Space<Object>> Pass<S> {
     // Keeps what the Externals of a block say.
     fn expect_all(&mut self, scope: &Path, externals: &[External]) -> Result<(), Stop>
         requires { list_all external_fits (externals_view externals.now) ≡ true }
-        ensures ok { OnOk result (take_steps (pass_of (S.contents self.old.objects) self.old)
-            scope.now (external_steps (externals_view externals.now))
-            ≡ Ok (pass_of (S.contents self.new.objects) self.new)) }
+        ensures steps { Ends result (take_steps (pass_of self.old) scope.now
+            (external_steps (externals_view externals.now))) (pass_of self.new) }
         ensures memory { IfErr result (λ f. f ≡ Stop.Memory) }
-        ensures lower { OnOk result (S.lower self.new.objects ≡ S.lower self.old.objects) }
+        ensures lower { OnOk result (self.new.lower ≡ self.old.lower) }
     {
         self.notes.expect_all(self.alloc, scope, externals)?;
         Ok(())
@@ -284,21 +295,12 @@ impl<S: Space<Object>> Pass<S> {
     ) -> Result<u64, Stop>
         requires some { fields.now.names.now ≢ [] }
         requires room { offset + element_bits (field_view elem.now) < 2 ^ 64 }
-        ensures ok { OnOk result (take_steps (pass_with (S.contents self.old.objects) self.old
-            (pending_from scope.now fields.now.names.now (unit_paths scope.now segs.old.items)))
-            scope.now
-            (unit_step fields.now.form fields.now.flags fields.now.names.now offset
-            (field_view elem.now))
-            ≡ Ok (pass_with (S.contents self.new.objects) self.new
-            (pending_from scope.now fields.now.names.now (unit_paths scope.now segs.new.items)))) }
+        ensures steps { Ends result (take_steps (pass_with_units self.old fields.now.names.now
+            scope.now segs.old.items) scope.now (unit_step fields.now.form fields.now.flags
+            fields.now.names.now offset (field_view elem.now)))
+            (pass_with_units self.new fields.now.names.now scope.now segs.new.items) }
         ensures behind { IfOk result (λ n. n ≡ offset + element_bits (field_view elem.now)) }
-        ensures refused { IfErr result (λ f. IsStopOf f
-            (take_steps (pass_with (S.contents self.old.objects) self.old
-            (pending_from scope.now fields.now.names.now (unit_paths scope.now segs.old.items)))
-            scope.now
-            (unit_step fields.now.form fields.now.flags fields.now.names.now offset
-            (field_view elem.now)))) }
-        ensures lower { OnOk result (S.lower self.new.objects ≡ S.lower self.old.objects) }
+        ensures lower { OnOk result (self.new.lower ≡ self.old.lower) }
     {
         match elem {
             FieldElem::Unit(seg, bits) => {
@@ -320,20 +322,11 @@ impl<S: Space<Object>> Pass<S> {
     ) -> Result<(), Stop>
         requires some { fields.now.names.now ≢ [] }
         requires room { list_bits (fields_view elems.items) < 2 ^ 64 }
-        ensures ok { OnOk result (take_steps (pass_with (S.contents self.old.objects) self.old
-            (pending_from scope.now fields.now.names.now (unit_paths scope.now segs.old.items)))
-            scope.now
-            (unit_steps fields.now.form fields.now.flags fields.now.names.now 0
-            (fields_view elems.items))
-            ≡ Ok (pass_with (S.contents self.new.objects) self.new
-            (pending_from scope.now fields.now.names.now (unit_paths scope.now segs.new.items)))) }
-        ensures refused { IfErr result (λ f. IsStopOf f
-            (take_steps (pass_with (S.contents self.old.objects) self.old
-            (pending_from scope.now fields.now.names.now (unit_paths scope.now segs.old.items)))
-            scope.now
-            (unit_steps fields.now.form fields.now.flags fields.now.names.now 0
-            (fields_view elems.items)))) }
-        ensures lower { OnOk result (S.lower self.new.objects ≡ S.lower self.old.objects) }
+        ensures steps { Ends result (take_steps (pass_with_units self.old fields.now.names.now
+            scope.now segs.old.items) scope.now (unit_steps fields.now.form fields.now.flags
+            fields.now.names.now 0 (fields_view elems.items)))
+            (pass_with_units self.new fields.now.names.now scope.now segs.new.items) }
+        ensures lower { OnOk result (self.new.lower ≡ self.old.lower) }
     {
         let mut offset = 0;
         let mut left = elems;
@@ -349,13 +342,9 @@ impl<S: Space<Object>> Pass<S> {
         requires leaf { IsTrue (is_leaf (item_view item)) }
         requires room { OffsetFits (item_view item) }
         requires fits { item_fits (item_view item) ≡ true }
-        ensures ok { OnOk result (take_steps (pass_of (S.contents self.old.objects) self.old)
-            scope.now (own_steps (item_view item))
-            ≡ Ok (pass_of (S.contents self.new.objects) self.new)) }
-        ensures refused { IfErr result (λ f. IsStopOf f
-            (take_steps (pass_of (S.contents self.old.objects) self.old) scope.now
-            (own_steps (item_view item)))) }
-        ensures lower { OnOk result (S.lower self.new.objects ≡ S.lower self.old.objects) }
+        ensures steps { Ends result (take_steps (pass_of self.old) scope.now
+            (own_steps (item_view item))) (pass_of self.new) }
+        ensures lower { OnOk result (self.new.lower ≡ self.old.lower) }
     {
         match item {
             Item::Name(name, data) => self.declare(scope, &name, Object::Name(data)),
@@ -429,13 +418,9 @@ impl<S: Space<Object>> Pass<S> {
         object: Object,
         source: Name,
     ) -> Result<(), Stop>
-        ensures ok { OnOk result (take_step (pass_of (S.contents self.old.objects) self.old)
-            scope.now (step name.now (declares (object_view object) (source ∷ []) None))
-            ≡ Ok (pass_of (S.contents self.new.objects) self.new)) }
-        ensures refused { IfErr result (λ f. IsStopOf f
-            (take_step (pass_of (S.contents self.old.objects) self.old) scope.now
-            (step name.now (declares (object_view object) (source ∷ []) None)))) }
-        ensures lower { OnOk result (S.lower self.new.objects ≡ S.lower self.old.objects) }
+        ensures steps { Ends result (take_step (pass_of self.old) scope.now
+            (step name.now (declares (object_view object) (source ∷ []) None))) (pass_of self.new) }
+        ensures lower { OnOk result (self.new.lower ≡ self.old.lower) }
     {
         let names = one(self.alloc, source)?;
         self.declare_linked(scope, name, object, names)
@@ -450,13 +435,10 @@ impl<S: Space<Object>> Pass<S> {
         elems: Vec<FieldElem>,
     ) -> Result<(), Stop>
         requires room { list_bits (fields_view elems.items) < 2 ^ 64 }
-        ensures ok { OnOk result (take_steps (pass_of (S.contents self.old.objects) self.old)
-            scope.now (unit_steps FieldForm.Field flags (region ∷ []) 0 (fields_view elems.items))
-            ≡ Ok (pass_of (S.contents self.new.objects) self.new)) }
-        ensures refused { IfErr result (λ f. IsStopOf f
-            (take_steps (pass_of (S.contents self.old.objects) self.old) scope.now
-            (unit_steps FieldForm.Field flags (region ∷ []) 0 (fields_view elems.items)))) }
-        ensures lower { OnOk result (S.lower self.new.objects ≡ S.lower self.old.objects) }
+        ensures steps { Ends result (take_steps (pass_of self.old) scope.now
+            (unit_steps FieldForm.Field flags (region ∷ []) 0 (fields_view elems.items)))
+            (pass_of self.new) }
+        ensures lower { OnOk result (self.new.lower ≡ self.old.lower) }
     {
         let names = one(self.alloc, region)?;
         self.declare_fields(scope, FieldForm::Field, flags, names, elems)
@@ -473,16 +455,28 @@ impl<S: Space<Object>> Pass<S> {
         elems: Vec<FieldElem>,
     ) -> Result<(), Stop>
         requires room { list_bits (fields_view elems.items) < 2 ^ 64 }
-        ensures ok { OnOk result (take_steps (pass_of (S.contents self.old.objects) self.old)
-            scope.now (unit_steps form flags (first ∷ second ∷ []) 0 (fields_view elems.items))
-            ≡ Ok (pass_of (S.contents self.new.objects) self.new)) }
-        ensures refused { IfErr result (λ f. IsStopOf f
-            (take_steps (pass_of (S.contents self.old.objects) self.old) scope.now
-            (unit_steps form flags (first ∷ second ∷ []) 0 (fields_view elems.items)))) }
-        ensures lower { OnOk result (S.lower self.new.objects ≡ S.lower self.old.objects) }
+        ensures steps { Ends result (take_steps (pass_of self.old) scope.now
+            (unit_steps form flags (first ∷ second ∷ []) 0 (fields_view elems.items)))
+            (pass_of self.new) }
+        ensures lower { OnOk result (self.new.lower ≡ self.old.lower) }
     {
         let names = two(self.alloc, first, second)?;
         self.declare_fields(scope, form, flags, names, elems)
+    }
+
+    // Adds the links of the units of a field list.
+    fn add_units(
+        &mut self,
+        scope: &Path,
+        names: Vec<Name>,
+        segs: Vec<Seg>,
+    ) -> Result<(), AllocError>
+        ensures units { OnOk result (pass_of self.new
+            ≡ pass_with_units self.old names.items scope.now segs.items) }
+        ensures lower { OnOk result (self.new.lower ≡ self.old.lower) }
+    {
+        add_links(&mut self.links, LinkedPaths::Units(segs), scope, names)?;
+        Ok(())
     }
 
     // Declares the units of a field list whose links search these names.
@@ -496,13 +490,9 @@ impl<S: Space<Object>> Pass<S> {
     ) -> Result<(), Stop>
         requires some { names.items ≢ [] }
         requires room { list_bits (fields_view elems.items) < 2 ^ 64 }
-        ensures ok { OnOk result (take_steps (pass_of (S.contents self.old.objects) self.old)
-            scope.now (unit_steps form flags names.items 0 (fields_view elems.items))
-            ≡ Ok (pass_of (S.contents self.new.objects) self.new)) }
-        ensures refused { IfErr result (λ f. IsStopOf f
-            (take_steps (pass_of (S.contents self.old.objects) self.old) scope.now
-            (unit_steps form flags names.items 0 (fields_view elems.items)))) }
-        ensures lower { OnOk result (S.lower self.new.objects ≡ S.lower self.old.objects) }
+        ensures steps { Ends result (take_steps (pass_of self.old) scope.now
+            (unit_steps form flags names.items 0 (fields_view elems.items))) (pass_of self.new) }
+        ensures lower { OnOk result (self.new.lower ≡ self.old.lower) }
     {
         let mut segs = Vec::new(self.alloc);
         let fields = FieldList {
@@ -511,7 +501,7 @@ impl<S: Space<Object>> Pass<S> {
             names: &names,
         };
         self.declare_units(scope, &fields, &mut segs, elems)?;
-        add_links(&mut self.links, LinkedPaths::Units(segs), scope, names)?;
+        self.add_units(scope, names, segs)?;
         Ok(())
     }
 }

@@ -1,5 +1,6 @@
 -- What the end of a pass or of a table tells.
-use Rattle.std.specs.Prelude.{◌≡◌, ℕ, List, Result, Err}
+use Rattle.std.specs.Prelude.{◌≡◌, ℕ, List, Result, Ok, Err}
+use Rattle.std.specs.Result.{MatchResult}
 use Rattle.acpi_declare.specs.declared.fault.Stop.{Stop}
 use Rattle.acpi_declare.specs.declared.fault.Stop.TheVariants.{Refused, Memory}
 use Rattle.acpi_declare.specs.declared.fault.LoadFault.{LoadFault}
@@ -8,11 +9,16 @@ use Rattle.acpi_declare.specs.Namespace.{Namespace}
 use Rattle.acpi_declare.specs.Placing.{RefusedAt}
 use Rattle.acpi_declare.specs.Tables.{IsNumbered, code_of}
 use Rattle.acpi_declare.specs.Refusals.{IsLoadReason}
+use Rattle.acpi_declare.specs.steps.Pass.{Pass, Passing}
 
 -- a refusal is the outcome's; want of memory tells nothing
 abbrev pub IsStopOf : {A : Type 0} → Stop → Result A RefusedAt → Type 0
 IsStopOf (Refused r p) outcome = outcome ≡ Err (r, p)
 IsStopOf Memory outcome = Unit {0}
+
+-- steps that succeed end in the outcome's state; steps that are refused tell its refusal
+abbrev pub Ends : {A : Type 0} → Result A Stop → Passing → Pass → Type 0
+Ends result outcome now = MatchResult result (λ _. outcome ≡ Ok now) (λ f. IsStopOf f outcome)
 
 -- the table of that number is refused over those objects
 abbrev pub IsTableFault : ℕ → ℕ → Namespace → List ℕ → LoadFault → Type 0

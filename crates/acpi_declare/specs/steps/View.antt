@@ -1,24 +1,48 @@
--- The state of the declaration pass, as the definitions see it.
-use Rattle.std.specs.Prelude.{ℕ, ◌==◌, cond, List, [], ◌∷◌, ◌++◌}
-use Rattle.acpi_name.specs.Names.{Segment}
+-- The state of the declaration pass: what contracts see of the code's, and as the definitions see it.
+use Rattle.std.specs.Prelude.{ℕ, ◌==◌, cond, List, [], ◌∷◌, ◌++◌, refl}
+use Rattle.std.specs.Coded.{Coded, code_by, coded×, coded_list}
+use Rattle.std.specs.FinMap as finite
+use Rattle.acpi_name.specs.Names.{Segment, NameParts}
 use Rattle.acpi_name.specs.Paths.{place_of}
-use Rattle.acpi_space.specs.Spaces.{PathMap}
+use Rattle.acpi_name.specs.contracts.name.Name as name
+use Rattle.acpi_space.specs.Spaces.{PathMap, coded_path}
 use Rattle.acpi_space.specs.Lookups.{Lookup, nothing, singleton, union}
 use Rattle.acpi_tree.specs.Tree.{ExternalParts}
 use Rattle.acpi_tree.specs.declared.object.Object.{Object}
-use Rattle.acpi_declare.specs.declared.pass.Pass as code
+use Rattle.acpi_tree.specs.contracts.object.Object as object
+use Rattle.acpi_declare.specs.declared.notes.TableNotes.{TableNotes}
+use Rattle.acpi_declare.specs.contracts.notes.TableNotes as notes
+use Rattle.acpi_declare.specs.Declaring.{pending_from, unit_paths}
 use Rattle.acpi_declare.specs.Namespace.{namespace_of}
-use Rattle.acpi_declare.specs.Declaring.{all_pending_of}
 use Rattle.acpi_declare.specs.Links.{PendingLink, Links}
 use Rattle.acpi_declare.specs.Notes.{Method, Notes, count_at, notes_of}
 use Rattle.acpi_declare.specs.steps.Pass.{Pass}
 
-abbrev pub pass_of : {S : Type 0} → PathMap Object → code.Pass S → Pass
-pass_of objects t = record { objects = namespace_of objects; links = all_pending_of t.links.items; notes = notes_of t.notes }
+-- what contracts see of a pass: the objects, those of a space below, the links to search, and what the table notes
+pub record PassState : Type 0 where
+  pub objects : PathMap Object
+  pub lower : PathMap Object
+  pub links : List PendingLink
+  pub notes : TableNotes
 
--- .. with some links more
-abbrev pub pass_with : {S : Type 0} → PathMap Object → code.Pass S → List PendingLink → Pass
-pass_with objects t more = record { objects = namespace_of objects; links = all_pending_of t.links.items ++ more; notes = notes_of t.notes }
+abbrev coded_objects : Coded (PathMap Object)
+coded_objects = finite.code coded_path object.the_row.coded
+
+abbrev coded_link : Coded PendingLink
+coded_link = code_by (List Segment × (List Segment × List NameParts)) (coded× coded_path (coded× coded_path (coded_list name.the_row.coded)))
+    (λ w. (w.path, (w.scope, w.names))) (λ p. record { path = p.0; scope = p.1.0; names = p.1.1 }) (λ _. refl)
+
+abbrev pub pass_code : Coded PassState
+pass_code = code_by (PathMap Object × (PathMap Object × (List PendingLink × TableNotes)))
+    (coded× coded_objects (coded× coded_objects (coded× (coded_list coded_link) notes.the_row.coded)))
+    (λ t. (t.objects, (t.lower, (t.links, t.notes)))) (λ p. record { objects = p.0; lower = p.1.0; links = p.1.1.0; notes = p.1.1.1 }) (λ _. refl)
+
+abbrev pub pass_of : PassState → Pass
+pass_of t = record { objects = namespace_of t.objects; links = t.links; notes = notes_of t.notes }
+
+-- .. and with the links of the units that a field list has so far
+abbrev pub pass_with_units : PassState → List NameParts → List Segment → List Segment → Pass
+pass_with_units t names s segs = record { objects = namespace_of t.objects; links = t.links ++ pending_from s names (unit_paths s segs); notes = notes_of t.notes }
 
 -- ---- notes with one more
 

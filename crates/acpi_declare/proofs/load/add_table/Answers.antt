@@ -2,14 +2,15 @@ use Rattle.std.proofs.Common.{◌≡◌, ◌∙◌, ◌++◌, [], List, map, ap,
 use Rattle.std.proofs.lemmas.Result.{err_from_is_err_and}
 use Rattle.acpi_name.specs.Names.{Segment}
 use Rattle.acpi_tree.specs.View.{items_tree}
-use Rattle.acpi_declare.specs.Declaring.{state_of}
+use Rattle.acpi_declare.specs.Declaring.{all_pending_of, state_of}
 use Rattle.acpi_declare.specs.Keeping.{kept_of}
 use Rattle.acpi_declare.specs.Namespace.{namespace_of}
 use Rattle.acpi_declare.specs.Notes.{Notes, notes_of}
 use Rattle.acpi_declare.specs.steps.Adding.{AddsTable}
 use Rattle.acpi_declare.specs.steps.Pass.{pass_items}
 use Rattle.acpi_declare.specs.steps.Outcomes.{IsTableFault, IsStopOf}
-use Rattle.acpi_declare.specs.steps.View.{pass_of}
+use Rattle.acpi_declare.specs.steps.View.{PassState, pass_of}
+use Rattle.acpi_declare.proofs.PassSteps.{passed}
 use Rattle.acpi_declare.proofs.TableListings.{pass_refused, pass_adds}
 use Rattle.acpi_declare.proofs.load.add_table.Goals as goal
 
@@ -21,21 +22,21 @@ returns-in_err-items-clause-err g c =
 pub returns-in-Err-Refused-clause-err : goal.returns-in-Err-Refused-clause-err
 returns-in-Err-Refused-clause-err g c =
     let objects = namespace_of (g.S.Space.contents c.args.loaded.objects) in
-    let t = pass_of (g.S.Space.contents c.args.loaded.objects) (record { alloc = c.args.alloc; objects = c.args.loaded.objects; links = c.args.loaded.links; notes = c.new.result }) in
+    let t = pass_of (record { objects = g.S.Space.contents c.args.loaded.objects; lower = g.S.Space.lower c.args.loaded.objects; links = all_pending_of c.args.loaded.links.items; notes = c.new.result }) in
     let is = items_tree c.in_ok-items.items.items in
     let told : pass_items t c.root.result is ≡ Err (c.in-Err-Refused.refusal, c.in-Err-Refused.path) =
-    subst (λ f. IsStopOf f (pass_items t c.root.result is)) c.in-Err-Refused.field-0-is c.in-Err-Refused.ensures.refused in
+    subst (λ f. IsStopOf f (pass_items t c.root.result is)) c.in-Err-Refused.field-0-is c.in-Err-Refused.ensures.steps in
     let stopped : pass_items t [] is ≡ Err (c.in-Err-Refused.refusal, c.in-Err-Refused.path) = ap (λ (s : List Segment). pass_items t s is) (sym c.root.ensures) ∙ told in
     subst (IsTableFault c.args.depth c.args.number objects c.args.bytes.now) (sym c.refused.ensures)
     (refl, (is, c.in_ok-items.ensures.ok, pass_refused t is (c.in-Err-Refused.refusal, c.in-Err-Refused.path) stopped))
 
 pub returns-clause-ok : goal.returns-clause-ok
 returns-clause-ok g c =
-    let t = pass_of (g.S.Space.contents c.args.loaded.objects) (record { alloc = c.args.alloc; objects = c.args.loaded.objects; links = c.args.loaded.links; notes = c.new.result }) in
-    let u = pass_of (g.S.Space.contents c.declare_items.new.self.objects) c.declare_items.new.self in
+    let t = pass_of (record { objects = g.S.Space.contents c.args.loaded.objects; lower = g.S.Space.lower c.args.loaded.objects; links = all_pending_of c.args.loaded.links.items; notes = c.new.result }) in
+    let u = pass_of (record { objects = g.S.Space.contents c.pass.inside.objects; lower = g.S.Space.lower c.pass.inside.objects; links = all_pending_of c.pass.inside.links.items; notes = c.pass.inside.notes }) in
     let is = items_tree c.in_ok-items.items.items in
     let before = state_of (g.S.Space.contents c.args.loaded.objects) c.args.loaded in
-    let ran : pass_items t [] is ≡ Ok u = ap (λ (s : List Segment). pass_items t s is) (sym c.root.ensures) ∙ c.in-Ok.ensures.ok in
+    let ran : pass_items t [] is ≡ Ok u = ap (λ (s : List Segment). pass_items t s is) (sym c.root.ensures) ∙ c.in-Ok.ensures.steps ∙ ap (λ (s : PassState). passed (pass_of s)) (sym c.pass.view_is) in
     let notes = map notes_of c.args.loaded.notes.items in
     let kept : map notes_of c.put_kept.new.kept.items ≡ notes ++ kept_of c.args.keep u.notes =
     c.in_ok-put_kept.ensures in

@@ -15,11 +15,11 @@ decreases-declare_elsewhere g l = 2 * weights (items_tree l.items.items) + 1
 
 abbrev pub invariant-declare_items-loop-self : goal.invariant-declare_items-loop-self
 invariant-declare_items-loop-self g l =
-    (pass_items (pass_of (g.S.Space.contents l.self.objects) l.self) l.scope (items_tree (reverse l.left.items))
-    ≡ pass_items (pass_of (g.S.Space.contents l.initial.self.objects) l.initial.self) l.initial.scope (items_tree (reverse l.initial.left.items)))
+    (pass_items (pass_of l.self) l.scope (items_tree (reverse l.left.items))
+    ≡ pass_items (pass_of l.initial.self) l.initial.scope (items_tree (reverse l.initial.left.items)))
     × OffsetsFit (items_tree (reverse l.left.items)) × (items_fit (items_tree (reverse l.left.items)) ≡ true)
     × (weights (items_tree (reverse l.left.items)) ≤ weights (items_tree (reverse l.initial.left.items)))
-    × (g.S.Space.lower l.self.objects ≡ g.S.Space.lower l.initial.self.objects) × (l.scope ≡ l.initial.scope)
+    × (l.self.lower ≡ l.initial.self.lower) × (l.scope ≡ l.initial.scope)
 
 abbrev pub decreases-declare_items-loop-self : goal.decreases-declare_items-loop-self
 decreases-declare_items-loop-self g l = weights (items_tree (reverse l.left.items))

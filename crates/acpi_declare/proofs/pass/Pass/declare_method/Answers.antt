@@ -1,12 +1,10 @@
-use Rattle.std.proofs.Common.{ap}
 use Rattle.acpi_tree.specs.Objects.{method_object}
-use Rattle.acpi_declare.specs.Declaring.{all_pending_of}
 use Rattle.acpi_declare.specs.steps.View.{pass_of}
 use Rattle.acpi_declare.proofs.PassSteps.{declared_method}
 use Rattle.acpi_declare.proofs.pass.Pass.declare_method.Goals as goal
 
-pub returns-clause-ok : goal.returns-clause-ok
-returns-clause-ok g c =
-    let before = pass_of (g.S.Space.contents c.args.self.now.objects) c.args.self.now in
+pub returns-clause-steps : goal.returns-clause-steps
+returns-clause-steps g c =
+    let before = pass_of c.args.self.now in
     declared_method before _ _ _ c.args.scope.now _ c.args.name.now (method_object c.args.flags) c.args.code c.in_ok-path.ensures.ok c.in_ok-put_method.ensures.objects
-    (ap (λ v. all_pending_of v.items) c.in_ok-put_method.ensures.links) c.in_ok-put_method.ensures.notes
+    c.in_ok-put_method.ensures.links c.in_ok-put_method.ensures.notes
