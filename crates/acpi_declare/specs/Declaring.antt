@@ -72,6 +72,6 @@ objects_so_far t = t.objects
 abbrev pub notes_so_far : {S : Type 0} → code.Declaring S → List TableNotes
 notes_so_far t = t.notes.items
 
--- what is declared so far, where the space holds these objects
-abbrev pub state_of : {S : Type 0} → PathMap Object → code.Declaring S → State
-state_of objects t = record { objects = namespace_of objects; links = all_pending_of t.links.items; notes = map notes_of t.notes.items }
+-- what is declared so far, by what a space holds
+abbrev pub state_of : {S : Type 0} → (S → PathMap Object) → code.Declaring S → State
+state_of contents t = record { objects = namespace_of (contents t.objects); links = all_pending_of t.links.items; notes = map notes_of t.notes.items }

@@ -40,7 +40,7 @@ impl<S: Space<Object>> Declaring<S> {
     /// What a DSDT declares.
     pub fn dsdt(alloc: Global, dsdt: &Bytes, depth: Depth) -> Result<Declaring<S>, LoadFault>
         ensures ok { IfOk result (λ d. HasTables depth (dsdt.now ∷ [])
-            (state_of (S.contents (objects_so_far d)) d)) }
+            (state_of S.contents d)) }
         ensures err { (later : List (List ℕ))
             → IfErr result (λ e. IsLoadFault depth (dsdt.now ∷ later) e) }
     {
@@ -55,11 +55,11 @@ impl<S: Space<Object>> Declaring<S> {
         depth: Depth,
     ) -> Result<Declaring<S>, LoadFault>
         ensures ok { (tables : List (List ℕ))
-            → HasTables depth tables (state_of (S.contents (objects_so_far self)) self)
+            → HasTables depth tables (state_of S.contents self)
             → IfOk result (λ d. HasTables depth (tables ++ ssdt.now ∷ [])
-            (state_of (S.contents (objects_so_far d)) d)) }
+            (state_of S.contents d)) }
         ensures err { (tables later : List (List ℕ))
-            → HasTables depth tables (state_of (S.contents (objects_so_far self)) self)
+            → HasTables depth tables (state_of S.contents self)
             → IfErr result (λ e. IsLoadFault depth (tables ++ ssdt.now ∷ later) e) }
     {
         let number = self.notes.len();
@@ -75,14 +75,13 @@ impl<S: Space<Object>> Declaring<S> {
         depth: Depth,
     ) -> Result<Declaring<Overlay<'_, S>>, LoadFault>
         ensures ok { (tables : List (List ℕ))
-            → (so : HasTables depth tables (state_of
-            (S.contents (objects_so_far self.now)) self.now))
+            → (so : HasTables depth tables (state_of S.contents self.now))
             → IfOk result (λ d. HasTableOver depth tables so.placements ssdt.now
-            (state_of (contents_over S.contents (objects_so_far d)) d)) }
+            (state_of (contents_over S.contents) d)) }
         ensures lower { IfOk result (λ d. lower_of S.contents (objects_so_far d)
             ≡ S.contents (objects_so_far self.now)) }
         ensures err { (tables later : List (List ℕ))
-            → HasTables depth tables (state_of (S.contents (objects_so_far self.now)) self.now)
+            → HasTables depth tables (state_of S.contents self.now)
             → IfErr result (λ e. IsLoadFault depth (tables ++ ssdt.now ∷ later) e) }
     {
         let layer = Declaring {
@@ -111,8 +110,8 @@ impl<S: Space<Object>> Declaring<S> {
     /// and one may be there several times.
     pub fn link_misses(&self, alloc: Global) -> Result<Vec<Path>, AllocError>
         ensures { IfOk result (λ v. (p : List Segment) → Among v.items p
-            ↔ IsMissedLink (state_of (S.contents (objects_so_far self.now)) self.now).objects
-            (state_of (S.contents (objects_so_far self.now)) self.now).links p) }
+            ↔ IsMissedLink (state_of S.contents self.now).objects
+            (state_of S.contents self.now).links p) }
     {
         misses_of_links(alloc, &self.objects, &self.links, &AllPaths)
     }
@@ -126,7 +125,7 @@ impl<S: Space<Object>> Declaring<S> {
     ) -> Result<Vec<Path>, AllocError>
         ensures { IfOk result (λ v. (p : List Segment) → Among v.items p
             ↔ (IsMissedLink (namespace_of (O.contents objects.now))
-            (state_of (S.contents (objects_so_far self.now)) self.now).links p
+            (state_of S.contents self.now).links p
             × IsTrue (is_defined (T.contents among.now) p))) }
     {
         misses_of_links(alloc, objects, &self.links, &PathsOf::new(among))
@@ -135,14 +134,14 @@ impl<S: Space<Object>> Declaring<S> {
     /// The namespace, the links, searched over it, and the notes.
     pub fn finish(self, alloc: Global) -> Result<Declared<S>, LoadFault>
         ensures found { IfOk result (λ d. links_at (links_in d)
-            ≡ links_of (state_of (S.contents (objects_so_far self)) self).objects
-            (state_of (S.contents (objects_so_far self)) self).links) }
+            ≡ links_of (state_of S.contents self).objects
+            (state_of S.contents self).links) }
         ensures load { IfOk result (λ d. (depth : ℕ) (tables : List (List ℕ))
-            → HasTables depth tables (state_of (S.contents (objects_so_far self)) self)
+            → HasTables depth tables (state_of S.contents self)
             → IsLoad depth tables (namespace_of (S.contents (objects_in d)))
             (links_at (links_in d))) }
         ensures notes { IfOk result (λ d. (depth : ℕ) (tables : List (List ℕ))
-            → HasTables depth tables (state_of (S.contents (objects_so_far self)) self)
+            → HasTables depth tables (state_of S.contents self)
             → AreNotes depth tables (map notes_of (notes_in d))) }
         ensures objects { IfOk result (λ d. objects_in d ≡ objects_so_far self) }
         ensures same_notes { IfOk result (λ d. notes_in d ≡ notes_so_far self) }

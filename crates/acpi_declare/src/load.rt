@@ -164,7 +164,7 @@ pub(crate) fn add_table<S: Space<Object>>(
     depth: Depth,
 ) -> Result<Declaring<S>, LoadFault>
     ensures ok { IfOk result (λ r. AddsTable keep.entry depth number bytes.now
-        (state_of (S.contents loaded.objects) loaded) (state_of (S.contents r.objects) r)) }
+        (state_of S.contents loaded) (state_of S.contents r)) }
     ensures lower { IfOk result (λ r. S.lower r.objects ≡ S.lower loaded.objects) }
     ensures err { IfErr result (λ e. IsTableFault depth number
         (namespace_of (S.contents loaded.objects)) bytes.now e) }
@@ -276,7 +276,7 @@ pub fn declare<S: Space<Object>>(
 
 /// The predefined objects, and nothing else.
 pub(crate) fn start<S: Space<Object>>(alloc: Global) -> Result<Declaring<S>, LoadFault>
-    ensures ok { IfOk result (λ r. HasTables 0 [] (state_of (S.contents r.objects) r)) }
+    ensures ok { IfOk result (λ r. HasTables 0 [] (state_of S.contents r)) }
     ensures memory { IfErr result (λ e. e ≡ LoadFault.Memory) }
 {
     Ok(Declaring {
@@ -295,7 +295,7 @@ pub(crate) fn declare_all<S: Space<Object>>(
     depth: Depth,
 ) -> Result<Declaring<S>, LoadFault>
     ensures ok { IfOk result (λ r. HasKept keep.entry depth (dsdt.now ∷ ssdts.now)
-        (state_of (S.contents r.objects) r)) }
+        (state_of S.contents r)) }
     ensures err { IfErr result (λ e. IsLoadFault depth (dsdt.now ∷ ssdts.now) e) }
 {
     let mut loaded = add_table(alloc, start(alloc)?, 0, dsdt, keep, depth)?;

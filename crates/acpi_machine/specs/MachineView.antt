@@ -31,9 +31,9 @@ body_map m = from_entries (map (λ e. (e.0, body_view e.1)) m.entries)
 abbrev pub bodies_of : BTreeMap (List Segment) Body → Lookup BodyTree
 bodies_of m = get (body_map m)
 
--- the machine, whose space holds these objects
-abbrev pub machine_of : {S : Type 0} → PathMap Object → code.Machine S → Machine
-machine_of objects m = record { objects = namespace_of objects; links = links_at m.links; bodies = bodies_of m.bodies }
+-- the machine, by what a space holds
+abbrev pub machine_of : {S : Type 0} → (S → PathMap Object) → code.Machine S → Machine
+machine_of contents m = record { objects = namespace_of (contents m.objects); links = links_at m.links; bodies = bodies_of m.bodies }
 
 -- a machine of these objects and links, to which the tables load
 abbrev pub HasMachine : ℕ → List (List ℕ) → Namespace → Lookup Links → Type 0

@@ -72,7 +72,7 @@ fn load_keeping<S: Space<Object>>(
     depth: Depth,
 ) -> Result<Machine<S>, LoadFault>
     ensures ok { IfOk result (λ m. HasBodies keep.entry depth (dsdt.now ∷ ssdts.now)
-        (machine_of (S.contents (objects_in m)) m)) }
+        (machine_of S.contents m)) }
     ensures err { IfErr result (λ e. IsLoadFault depth (dsdt.now ∷ ssdts.now) e) }
     ensures none { IfErr result (λ e. e ≢ LoadFault.Memory
         → HasNoLoad depth (dsdt.now ∷ ssdts.now)) }
@@ -94,7 +94,7 @@ fn load_in_order<S: Space<Object>>(
     depth: Depth,
 ) -> Result<Machine<S>, LoadFault>
     ensures ok { IfOk result (λ m. IsMachine depth (dsdt.now ∷ ssdts.now)
-        (machine_of (S.contents (objects_in m)) m)) }
+        (machine_of S.contents m)) }
     ensures err { IfErr result (λ e. IsLoadFault depth (dsdt.now ∷ ssdts.now) e) }
     ensures none { IfErr result (λ e. e ≢ LoadFault.Memory
         → HasNoLoad depth (dsdt.now ∷ ssdts.now)) }
@@ -136,12 +136,12 @@ pub fn load_with_body_at<S: Space<Object>>(
     depth: Depth,
 ) -> Result<Machine<S>, LoadFault>
     ensures ok { IfOk result (λ m. IsMachineAt depth (dsdt.now ∷ ssdts.now) path.now
-        (machine_of (S.contents (objects_in m)) m)) }
+        (machine_of S.contents m)) }
     ensures err { IfErr result (λ e. IsLoadFault depth (dsdt.now ∷ ssdts.now) e) }
     ensures none { IfErr result (λ e. e ≢ LoadFault.Memory
         → HasNoLoad depth (dsdt.now ∷ ssdts.now)) }
     ensures any_order { TellsOfJoin (λ Part m. IsJoinAt Part path.now
-        (machine_of (S.contents (objects_in m)) m)) depth dsdt.now ssdts.now result }
+        (machine_of S.contents m)) depth dsdt.now ssdts.now result }
 {
     load_keeping(alloc, dsdt, ssdts, Keep::MethodAt(path), depth)
 }
@@ -160,13 +160,13 @@ pub fn load_shared<S: Space<Object>>(
     depth: Depth,
 ) -> Result<Machine<S>, LoadFault>
     ensures ok { IfOk result (λ m. IsMachine depth (dsdt.now ∷ ssdts.now)
-        (machine_of (S.contents (objects_in m)) m)) }
+        (machine_of S.contents m)) }
     ensures err { IfErr result (λ e. IsLoadFault depth (dsdt.now ∷ ssdts.now) e) }
     ensures none { IfErr result (λ e. e ≢ LoadFault.Memory
         → HasNoLoad depth (dsdt.now ∷ ssdts.now)) }
     // Independent SSDTs load in any order to the join of their single loads, or memory is refused.
     ensures any_order { TellsOfJoin (λ Part m. IsJoin Part
-        (machine_of (S.contents (objects_in m)) m)) depth dsdt.now ssdts.now result }
+        (machine_of S.contents m)) depth dsdt.now ssdts.now result }
 {
     load_in_order(alloc, dsdt, ssdts, depth)
 }
@@ -179,12 +179,12 @@ pub fn load<S: Space<Object>>(
     depth: Depth,
 ) -> Result<Machine<S>, LoadFault>
     ensures ok { IfOk result (λ m. IsMachine depth (dsdt.now ∷ map (λ b. b.now) ssdts.now)
-        (machine_of (S.contents (objects_in m)) m)) }
+        (machine_of S.contents m)) }
     ensures err { IfErr result (λ e. IsLoadFault depth (dsdt.now ∷ map (λ b. b.now) ssdts.now) e) }
     ensures none { IfErr result (λ e. e ≢ LoadFault.Memory
         → HasNoLoad depth (dsdt.now ∷ map (λ b. b.now) ssdts.now)) }
     ensures any_order { TellsOfJoin (λ Part m. IsJoin Part
-        (machine_of (S.contents (objects_in m)) m)) depth dsdt.now
+        (machine_of S.contents m)) depth dsdt.now
         (map (λ b. b.now) ssdts.now) result }
 {
     let dsdt = Bytes::copy_from_slice(alloc, dsdt)?;

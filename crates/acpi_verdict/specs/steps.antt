@@ -1,4 +1,3 @@
-pub mod Tables
 pub mod Misses
 pub mod SingleMisses
 pub mod Overlays

@@ -1,7 +1,7 @@
 //! Whether SSDTs commute over a DSDT, and which Externals of one another they satisfy.
 
 ghost use Rattle.std.specs.Prelude.{◌≡◌, ◌≢◌, ◌↔◌, ◌∷◌, [], ℕ, List, map, IfOk, IfErr};
-ghost use Rattle.acpi_declare.specs.Declaring.{HasTables};
+ghost use Rattle.acpi_declare.specs.Declaring.{HasTables, state_of};
 ghost use Rattle.acpi_declare.specs.Loads.{HasNoLoad};
 ghost use Rattle.acpi_declare.specs.Refusals.{IsLoadFault};
 ghost use Rattle.acpi_order.specs.Independent.{IsIndependent};
@@ -11,7 +11,6 @@ ghost use Rattle.acpi_verdict.specs.SatisfiedView.{AreSatisfied};
 ghost use Rattle.acpi_verdict.specs.VerdictView.{verdict_view, IsFaultOf, IsSinglesFault};
 ghost use Rattle.acpi_verdict.specs.steps.Checking.{IsChecked, verdict_from};
 ghost use Rattle.acpi_verdict.specs.steps.Declaring.{AreDeclared};
-ghost use Rattle.acpi_verdict.specs.steps.Tables.{tables_in};
 
 use crate::clashes::Clash;
 use crate::declared::{Declared, lay_all_overlays};
@@ -69,10 +68,10 @@ fn checked_declared<S: Space<Object>>(
     depth: Depth,
     declared: Declared,
 ) -> Result<Checked, LoadFault>
-    ensures ok { (bytes : List ℕ) → HasTables depth (bytes ∷ []) (tables_in S.contents dsdt.now)
+    ensures ok { (bytes : List ℕ) → HasTables depth (bytes ∷ []) (state_of S.contents dsdt.now)
         → AreDeclared depth bytes ssdts.now declared
         → IfOk result (λ c. IsChecked depth bytes ssdts.now c) }
-    ensures memory { (bytes : List ℕ) → HasTables depth (bytes ∷ []) (tables_in S.contents dsdt.now)
+    ensures memory { (bytes : List ℕ) → HasTables depth (bytes ∷ []) (state_of S.contents dsdt.now)
         → AreDeclared depth bytes ssdts.now declared → IfErr result (λ e. e ≡ LoadFault.Memory) }
 {
     let Declared { definers, same } = declared;
@@ -88,9 +87,9 @@ fn checked_over<S: Space<Object>>(
     ssdts: &[Bytes],
     depth: Depth,
 ) -> Result<Checked, LoadFault>
-    ensures ok { (bytes : List ℕ) → HasTables depth (bytes ∷ []) (tables_in S.contents dsdt.now)
+    ensures ok { (bytes : List ℕ) → HasTables depth (bytes ∷ []) (state_of S.contents dsdt.now)
         → IfOk result (λ c. IsChecked depth bytes ssdts.now c) }
-    ensures memory { (bytes : List ℕ) → HasTables depth (bytes ∷ []) (tables_in S.contents dsdt.now)
+    ensures memory { (bytes : List ℕ) → HasTables depth (bytes ∷ []) (state_of S.contents dsdt.now)
         → IfErr result (λ e. e ≡ LoadFault.Memory) }
 {
     match lay_all_overlays(alloc, dsdt, ssdts, depth) {

@@ -1,12 +1,11 @@
 //! What SSDTs declare over a DSDT, one after another.
 
 ghost use Rattle.std.specs.Prelude.{◌≡◌, ◌∷◌, [], ℕ, List, map, IfOk, IfErr, OnOk};
-ghost use Rattle.acpi_declare.specs.Declaring.{HasTables};
+ghost use Rattle.acpi_declare.specs.Declaring.{HasTables, state_of};
 ghost use Rattle.acpi_verdict.specs.VerdictView.{IsSinglesFault};
 ghost use Rattle.acpi_verdict.specs.steps.Clashing.{Offers};
 ghost use Rattle.acpi_verdict.specs.steps.Declaring.{args_in, with_args, IsSameAt, AddsSsdt, AreDeclared};
 ghost use Rattle.acpi_verdict.specs.steps.Overlays.{overlay_view};
-ghost use Rattle.acpi_verdict.specs.steps.Tables.{tables_in};
 
 use crate::clashes::{Clash, offer};
 use crate::definers::{Definer, Definers, method_args};
@@ -106,9 +105,9 @@ pub(crate) fn lay_all_overlays<S: Space<Object>>(
     ssdts: &[Bytes],
     depth: Depth,
 ) -> Result<Declared, LoadFault>
-    ensures ok { (bytes : List ℕ) → HasTables depth (bytes ∷ []) (tables_in S.contents dsdt.now)
+    ensures ok { (bytes : List ℕ) → HasTables depth (bytes ∷ []) (state_of S.contents dsdt.now)
         → IfOk result (λ d. AreDeclared depth bytes ssdts.now d) }
-    ensures err { (bytes : List ℕ) → HasTables depth (bytes ∷ []) (tables_in S.contents dsdt.now)
+    ensures err { (bytes : List ℕ) → HasTables depth (bytes ∷ []) (state_of S.contents dsdt.now)
         → IfErr result (λ e. IsSinglesFault depth bytes ssdts.now e) }
 {
     let mut declared = Declared {

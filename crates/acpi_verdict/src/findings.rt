@@ -2,7 +2,7 @@
 
 ghost use Rattle.std.specs.Prelude.{◌≡◌, ◌∷◌, [], ℕ, List, IfOk, IfErr, OnOk};
 ghost use Rattle.std.specs.FinMap as finite;
-ghost use Rattle.acpi_declare.specs.Declaring.{HasTables};
+ghost use Rattle.acpi_declare.specs.Declaring.{HasTables, state_of};
 ghost use Rattle.acpi_order.specs.Independent.{LoadsAlone};
 ghost use Rattle.acpi_order.specs.Verdicts.{IsSsdt, AllAlone};
 ghost use Rattle.acpi_space.specs.Spaces.{is_defined};
@@ -11,7 +11,6 @@ ghost use Rattle.acpi_verdict.specs.steps.Finding.{FindsPair, FindsSsdt, AreFoun
 ghost use Rattle.acpi_verdict.specs.steps.PairMisses.{pair_view};
 ghost use Rattle.acpi_verdict.specs.steps.AffectedSsdts.{AreAffected};
 ghost use Rattle.acpi_verdict.specs.steps.Misses.{AreMisses};
-ghost use Rattle.acpi_verdict.specs.steps.Tables.{tables_in};
 
 use crate::affected_ssdts::{DsdtMisses, affected_ssdts};
 use crate::clashes::Clash;
@@ -73,13 +72,13 @@ fn add_ssdt<S: Space<Object>>(
     definers: &Definers,
 ) -> Result<(), LoadFault>
     ensures ok { (bytes : List ℕ) (ssdts : List (List ℕ))
-        → HasTables depth (bytes ∷ []) (tables_in S.contents dsdt.now)
-        → AreMisses (is_defined definers.now.first) depth (tables_in S.contents dsdt.now).objects
-        (tables_in S.contents dsdt.now) finite.empty alone.now.misses
+        → HasTables depth (bytes ∷ []) (state_of S.contents dsdt.now)
+        → AreMisses (is_defined definers.now.first) depth (state_of S.contents dsdt.now).objects
+        (state_of S.contents dsdt.now) finite.empty alone.now.misses
         → AreAffected definers.now alone.now.misses alone.now.affected.items
         → AreDefiners depth bytes ssdts definers.now → IsSsdt ssdts number ssdt.now
         → OnOk result (FindsSsdt depth bytes ssdt.now definers.now number found.old found.new) }
-    ensures err { (bytes : List ℕ) → HasTables depth (bytes ∷ []) (tables_in S.contents dsdt.now)
+    ensures err { (bytes : List ℕ) → HasTables depth (bytes ∷ []) (state_of S.contents dsdt.now)
         → LoadsAlone depth bytes ssdt.now → IfErr result (λ e. e ≡ LoadFault.Memory) }
 {
     let declared = dsdt.ssdt_over(alloc, ssdt, depth)?;
@@ -105,10 +104,10 @@ pub(crate) fn find_all<S: Space<Object>>(
     depth: Depth,
     definers: &Definers,
 ) -> Result<Findings, LoadFault>
-    ensures ok { (bytes : List ℕ) → HasTables depth (bytes ∷ []) (tables_in S.contents dsdt.now)
+    ensures ok { (bytes : List ℕ) → HasTables depth (bytes ∷ []) (state_of S.contents dsdt.now)
         → AreDefiners depth bytes ssdts.now definers.now
         → IfOk result (λ f. AreFound depth bytes ssdts.now definers.now f) }
-    ensures err { (bytes : List ℕ) → HasTables depth (bytes ∷ []) (tables_in S.contents dsdt.now)
+    ensures err { (bytes : List ℕ) → HasTables depth (bytes ∷ []) (state_of S.contents dsdt.now)
         → AllAlone depth bytes ssdts.now → IfErr result (λ e. e ≡ LoadFault.Memory) }
 {
     let misses = dsdt_misses(alloc, dsdt, depth, &definers.first)?;

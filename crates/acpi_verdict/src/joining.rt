@@ -7,7 +7,7 @@ ghost use Rattle.acpi_declare.specs.Links.{links_at};
 ghost use Rattle.acpi_declare.specs.Namespace.{namespace_of};
 ghost use Rattle.acpi_body.specs.Bodies.{body_view};
 ghost use Rattle.acpi_order.specs.Joins.{AllAgree, IsJoin};
-ghost use Rattle.acpi_machine.specs.MachineView.{objects_in, machine_of, bodies_of};
+ghost use Rattle.acpi_machine.specs.MachineView.{machine_of, bodies_of};
 ghost use Rattle.acpi_verdict.specs.SingleView.{machine_in};
 ghost use Rattle.acpi_verdict.specs.steps.Joining.{JoinsValue, JoinsPart, JoinsMachine};
 
@@ -136,10 +136,9 @@ fn add_machine<S: Space<Object>>(
     joined: &mut Machine<S>,
     part: &Machine<S>,
 ) -> Result<bool, AllocError>
-    ensures { IfOk result (λ b. JoinsMachine (machine_of
-        (S.contents (objects_in joined.old)) joined.old)
-        (machine_of (S.contents (objects_in joined.new)) joined.new)
-        (machine_of (S.contents (objects_in part.now)) part.now) b) }
+    ensures { IfOk result (λ b. JoinsMachine (machine_of S.contents joined.old)
+        (machine_of S.contents joined.new)
+        (machine_of S.contents part.now) b) }
 {
     if !add_objects(alloc, &mut joined.objects, &part.objects)? {
         return Ok(false);
@@ -160,12 +159,12 @@ pub fn join<S: Space<Object>>(
     ensures join { IfOk result
         (λ r. IfSome r
         (λ m. IsJoin
-        (Among (map (λ s. machine_of (S.contents (objects_in (machine_in s))) (machine_in s))
-        singles.now)) (machine_of (S.contents (objects_in m)) m))) }
+        (Among (map (λ s. machine_of S.contents (machine_in s))
+        singles.now)) (machine_of S.contents m))) }
     // It is there exactly where there are machines, and no two of them disagree.
     ensures none { IfOk result (λ r. (r ≡ None)
         ↔ ((singles.now ≡ [])
-        ⊎ (AllAgree (map (λ s. machine_of (S.contents (objects_in (machine_in s))) (machine_in s))
+        ⊎ (AllAgree (map (λ s. machine_of S.contents (machine_in s))
         singles.now) → ⊥))) }
 {
     if singles.is_empty() {

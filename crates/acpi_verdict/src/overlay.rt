@@ -1,11 +1,10 @@
 //! An SSDT that is declared over a DSDT.
 
 ghost use Rattle.std.specs.Prelude.{◌≡◌, ◌∷◌, [], ℕ, List, IfOk, IfErr};
-ghost use Rattle.acpi_declare.specs.Declaring.{HasTables};
+ghost use Rattle.acpi_declare.specs.Declaring.{HasTables, state_of};
 ghost use Rattle.acpi_declare.specs.Refusals.{IsLoadFault};
 ghost use Rattle.acpi_space.specs.Overlays.{contents_over};
 ghost use Rattle.acpi_verdict.specs.steps.Overlays.{renumbered, overlay_view, IsOverlay};
-ghost use Rattle.acpi_verdict.specs.steps.Tables.{tables_in};
 
 use acpi_declare::{Declaring, LoadFault};
 use acpi_name::Path;
@@ -40,10 +39,10 @@ pub(crate) fn overlay_ssdt<'a, S: Space<Object>>(
     ssdt: &Bytes,
     depth: Depth,
 ) -> Result<SsdtOverlay<Overlay<'a, S>>, LoadFault>
-    ensures ok { (bytes : List ℕ) → HasTables depth (bytes ∷ []) (tables_in S.contents dsdt.now)
+    ensures ok { (bytes : List ℕ) → HasTables depth (bytes ∷ []) (state_of S.contents dsdt.now)
         → IfOk result (λ l. IsOverlay depth bytes ssdt.now
         (overlay_view (contents_over S.contents) l)) }
-    ensures err { (bytes : List ℕ) → HasTables depth (bytes ∷ []) (tables_in S.contents dsdt.now)
+    ensures err { (bytes : List ℕ) → HasTables depth (bytes ∷ []) (state_of S.contents dsdt.now)
         → IfErr result (λ e. IsLoadFault depth (bytes ∷ ssdt.now ∷ []) e) }
 {
     let declared = dsdt.ssdt_over(alloc, ssdt, depth)?;

@@ -4,7 +4,7 @@ ghost use Rattle.std.specs.Prelude.{◌≡◌, ◌≢◌, ◌∷◌, [], IfOk, I
 ghost use Rattle.acpi_declare.specs.Loads.{HasNoLoad};
 ghost use Rattle.acpi_declare.specs.Refusals.{IsLoadFault};
 ghost use Rattle.acpi_order.specs.Singles.{IsSingle};
-ghost use Rattle.acpi_machine.specs.MachineView.{objects_in, machine_of};
+ghost use Rattle.acpi_machine.specs.MachineView.{machine_of};
 ghost use Rattle.acpi_verdict.specs.SingleView.{machine_in, defined_in, missed_in, awaits_in};
 
 use crate::paths::{add_paths, keep_new, paths_of};
@@ -26,7 +26,7 @@ pub fn single_shared<S: Space<Object>>(
     depth: Depth,
 ) -> Result<Single<S>, LoadFault>
     ensures ok { IfOk result (λ s. IsSingle depth dsdt.now ssdt.now
-        (machine_of (S.contents (objects_in (machine_in s))) (machine_in s)) (defined_in s)
+        (machine_of S.contents (machine_in s)) (defined_in s)
         (missed_in s) (awaits_in s)) }
     ensures err { IfErr result (λ e. IsLoadFault depth (dsdt.now ∷ ssdt.now ∷ []) e) }
     ensures none { IfErr result (λ e. e ≢ LoadFault.Memory
@@ -68,7 +68,7 @@ pub fn single<S: Space<Object>>(
     depth: Depth,
 ) -> Result<Single<S>, LoadFault>
     ensures ok { IfOk result (λ s. IsSingle depth dsdt.now ssdt.now
-        (machine_of (S.contents (objects_in (machine_in s))) (machine_in s)) (defined_in s)
+        (machine_of S.contents (machine_in s)) (defined_in s)
         (missed_in s) (awaits_in s)) }
     ensures err { IfErr result (λ e. IsLoadFault depth (dsdt.now ∷ ssdt.now ∷ []) e) }
     ensures none { IfErr result (λ e. e ≢ LoadFault.Memory

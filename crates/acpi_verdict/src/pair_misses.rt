@@ -6,7 +6,7 @@ ghost use Rattle.acpi_declare.specs.Namespace.{namespace_of};
 ghost use Rattle.acpi_space.specs.Spaces.{is_defined};
 ghost use Rattle.acpi_verdict.specs.steps.PairMisses.{pair_view, part_misses, ArePairMisses};
 ghost use Rattle.acpi_verdict.specs.steps.Misses.{AreMisses};
-ghost use Rattle.acpi_verdict.specs.steps.Tables.{tables_in};
+ghost use Rattle.acpi_declare.specs.Declaring.{state_of};
 
 use crate::misses::Misses;
 use crate::table_misses::{missed_scopes, table_misses};
@@ -53,7 +53,7 @@ pub(crate) fn dsdt_misses<S: Space<Object>, W, T: Space<W>>(
     among: &T,
 ) -> Result<Misses, AllocError>
     ensures { IfOk result (λ t. AreMisses (is_defined (T.contents among.now)) depth
-        (tables_in S.contents dsdt.now).objects (tables_in S.contents dsdt.now) finite.empty t) }
+        (state_of S.contents dsdt.now).objects (state_of S.contents dsdt.now) finite.empty t) }
 {
     table_misses(
         alloc,
@@ -78,7 +78,7 @@ fn dsdt_part<'a, S: Space<Object>, O: Space<Object>, W, T: Space<W>>(
 ) -> Result<DsdtPart<'a>, AllocError>
     ensures { IfOk result (λ u. ((affected ≡ false) × (part_misses u ≡ alone.now))
         ⊎ AreMisses (is_defined (T.contents among.now)) depth (namespace_of
-        (O.contents objects.now)) (tables_in S.contents dsdt.now) finite.empty (part_misses u)) }
+        (O.contents objects.now)) (state_of S.contents dsdt.now) finite.empty (part_misses u)) }
 {
     if affected {
         let misses = table_misses(alloc, dsdt, objects, depth, among, MapSpace::new(alloc))?;
@@ -99,7 +99,7 @@ pub(crate) fn pair_misses<'a, S: Space<Object>, O: Space<Object>, W, T: Space<W>
     among: &T,
 ) -> Result<PairMisses<'a>, AllocError>
     ensures { IfOk result (λ t. ArePairMisses (is_defined (T.contents among.now)) depth
-        (tables_in S.contents dsdt.now) alone.now affected (tables_in O.contents declared.now)
+        (state_of S.contents dsdt.now) alone.now affected (state_of O.contents declared.now)
         (pair_view t)) }
 {
     let scopes = missed_scopes(alloc, declared.notes(), among)?;

@@ -3,13 +3,12 @@
 ghost use Rattle.std.specs.Prelude.{◌≡◌, ◌↔◌, ◌⊎◌, ◌∷◌, [], ℕ, List, map, IfOk, IfErr, OnOk};
 ghost use Rattle.std.specs.List.Sorted.{IsStrictlySortedBy};
 ghost use Rattle.acpi_space.specs.Laws.{Among};
-ghost use Rattle.acpi_declare.specs.Declaring.{HasTables};
+ghost use Rattle.acpi_declare.specs.Declaring.{HasTables, state_of};
 ghost use Rattle.acpi_declare.specs.Refusals.{IsLoadFault};
 ghost use Rattle.acpi_order.specs.Singles.{IsSatisfied};
 ghost use Rattle.acpi_order.specs.Verdicts.{DsdtLoads, AllAlone};
 ghost use Rattle.acpi_verdict.specs.SatisfiedView.{satisfied_cmp, AreSatisfied};
 ghost use Rattle.acpi_verdict.specs.VerdictView.{IsSinglesFault};
-ghost use Rattle.acpi_verdict.specs.steps.Tables.{tables_in};
 
 use crate::declared::lay_all_overlays;
 use crate::findings::find_all;
@@ -27,11 +26,11 @@ fn satisfied_over<S: Space<Object>>(
     ssdts: &[Bytes],
     depth: Depth,
 ) -> Result<Vec<Satisfied>, LoadFault>
-    ensures ok { (bytes : List ℕ) → HasTables depth (bytes ∷ []) (tables_in S.contents dsdt.now)
+    ensures ok { (bytes : List ℕ) → HasTables depth (bytes ∷ []) (state_of S.contents dsdt.now)
         → IfOk result (λ v. AreSatisfied depth bytes ssdts.now v.items) }
-    ensures loads { (bytes : List ℕ) → HasTables depth (bytes ∷ []) (tables_in S.contents dsdt.now)
+    ensures loads { (bytes : List ℕ) → HasTables depth (bytes ∷ []) (state_of S.contents dsdt.now)
         → OnOk result (AllAlone depth bytes ssdts.now) }
-    ensures err { (bytes : List ℕ) → HasTables depth (bytes ∷ []) (tables_in S.contents dsdt.now)
+    ensures err { (bytes : List ℕ) → HasTables depth (bytes ∷ []) (state_of S.contents dsdt.now)
         → IfErr result (λ e. IsSinglesFault depth bytes ssdts.now e) }
 {
     let declared = lay_all_overlays(alloc, dsdt, ssdts, depth)?;

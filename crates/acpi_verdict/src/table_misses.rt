@@ -10,7 +10,7 @@ ghost use Rattle.acpi_machine.specs.steps.Adding.{noted};
 ghost use Rattle.acpi_space.specs.Laws.{Among};
 ghost use Rattle.acpi_space.specs.Spaces.{is_defined};
 ghost use Rattle.acpi_verdict.specs.steps.Misses.{AddsMethod, AddsMethods, AreMisses, IsMissedScope};
-ghost use Rattle.acpi_verdict.specs.steps.Tables.{tables_in};
+ghost use Rattle.acpi_declare.specs.Declaring.{state_of};
 
 use crate::misses::Misses;
 use crate::paths::{add_path, add_paths};
@@ -71,7 +71,7 @@ pub(crate) fn table_misses<S: Space<Object>, O: Space<Object>, W, T: Space<W>>(
     missed: MapSpace<()>,
 ) -> Result<Misses, AllocError>
     ensures { IfOk result (λ m. AreMisses (is_defined (T.contents among.now)) depth (namespace_of
-        (O.contents objects.now)) (tables_in S.contents tables.now) missed m) }
+        (O.contents objects.now)) (state_of S.contents tables.now) missed m) }
 {
     let mut misses = Misses {
         missed,

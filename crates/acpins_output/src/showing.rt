@@ -4,7 +4,7 @@ ghost use Rattle.std.specs.Prelude.{◌≡◌, ◌∷◌, ◌++◌, ℕ, List, I
 ghost use Rattle.std.specs.Option.{option_map, option_copied};
 ghost use Rattle.acpi_body.specs.Bodies.{body_view};
 ghost use Rattle.acpi_declare.specs.Refusals.{IsLoadFault};
-ghost use Rattle.acpi_machine.specs.MachineView.{objects_in, bodies_of, machine_of};
+ghost use Rattle.acpi_machine.specs.MachineView.{bodies_of, machine_of};
 ghost use Rattle.acpins_output.specs.Shown.{body_reason_text, reason_text, IsBodyText, ShowsOrNone, ShowsLoaded};
 
 use crate::listing::links_of;
@@ -98,7 +98,7 @@ fn shown_of<S: Space<Object>>(
     path: &Path,
 ) -> Result<Option<Vec<u8>>, LoadFault>
     ensures ok { IfOk result (λ text. ShowsOrNone depth (dsdt.now ∷ ssdts.now)
-        (machine_of (S.contents (objects_in machine.now)) machine.now) path.now
+        (machine_of S.contents machine.now) path.now
         (option_map (λ v. v.items) text)) }
     ensures err { IfErr result (λ e. IsLoadFault depth (dsdt.now ∷ ssdts.now) e) }
 {

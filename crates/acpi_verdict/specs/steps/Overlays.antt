@@ -7,13 +7,12 @@ use Rattle.acpi_tree.specs.Objects.{ObjectTree}
 use Rattle.acpi_tree.specs.declared.object.Object.{Object}
 use Rattle.acpi_declare.specs.declared.fault.LoadFault.{LoadFault}
 use Rattle.acpi_declare.specs.declared.fault.LoadFault.TheVariants.{At, Memory}
-use Rattle.acpi_declare.specs.Declaring.{State}
+use Rattle.acpi_declare.specs.Declaring.{State, state_of}
 use Rattle.acpi_declare.specs.Links.{pending_links}
 use Rattle.acpi_declare.specs.Listing.{objects_of}
 use Rattle.acpi_declare.specs.Notes.{notes_on}
 use Rattle.acpi_order.specs.Independent.{AreSingleListings}
 use Rattle.acpi_order.specs.Misses.{Listing, objects_of_first, objects_of_both}
-use Rattle.acpi_verdict.specs.steps.Tables.{tables_in}
 use Rattle.acpi_verdict.specs.declared.overlay.SsdtOverlay.{SsdtOverlay}
 
 -- a refusal, of the table of that number
@@ -27,7 +26,7 @@ pub record OverlayTree : Type 0 where
   pub defined : List (List Segment)
 
 abbrev pub overlay_view : {O : Type 0} → (O → PathMap Object) → SsdtOverlay O → OverlayTree
-overlay_view contents l = record { state = tables_in contents l.declared; defined = l.defined.items }
+overlay_view contents l = record { state = state_of contents l.declared; defined = l.defined.items }
 
 -- the objects of both tables, and the links and notes of the SSDT
 pub record IsOver (depth : ℕ) (dsdt ssdt : List ℕ) (s : State) : Type 0 where

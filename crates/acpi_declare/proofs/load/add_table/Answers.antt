@@ -35,7 +35,7 @@ returns-clause-ok g c =
     let t = pass_of (record { objects = g.S.Space.contents c.args.loaded.objects; lower = g.S.Space.lower c.args.loaded.objects; links = all_pending_of c.args.loaded.links.items; notes = c.new.result }) in
     let u = pass_of (record { objects = g.S.Space.contents c.pass.inside.objects; lower = g.S.Space.lower c.pass.inside.objects; links = all_pending_of c.pass.inside.links.items; notes = c.pass.inside.notes }) in
     let is = items_tree c.in_ok-items.items.items in
-    let before = state_of (g.S.Space.contents c.args.loaded.objects) c.args.loaded in
+    let before = state_of g.S.Space.contents c.args.loaded in
     let ran : pass_items t [] is ≡ Ok u = ap (λ (s : List Segment). pass_items t s is) (sym c.root.ensures) ∙ c.in-Ok.ensures.steps ∙ ap (λ (s : PassState). passed (pass_of s)) (sym c.pass.view_is) in
     let notes = map notes_of c.args.loaded.notes.items in
     let kept : map notes_of c.put_kept.new.kept.items ≡ notes ++ kept_of c.args.keep u.notes =

@@ -4,4 +4,4 @@ use Rattle.acpi_declare.specs.steps.Adding.{HasKept}
 use Rattle.acpi_declare.proofs.load.declare_all.Given as goal
 
 abbrev pub invariant-loop-i : goal.invariant-loop-i
-invariant-loop-i g l = HasKept l.keep l.depth (l.dsdt ∷ take l.i l.ssdts) (state_of (g.S.Space.contents l.loaded.objects) l.loaded)
+invariant-loop-i g l = HasKept l.keep l.depth (l.dsdt ∷ take l.i l.ssdts) (state_of g.S.Space.contents l.loaded)

@@ -1,5 +1,5 @@
 use Rattle.std.proofs.lemmas.Result.{err_from_is_err_and}
-use Rattle.acpi_verdict.specs.steps.Tables.{tables_in}
+use Rattle.acpi_declare.specs.Declaring.{state_of}
 use Rattle.acpi_verdict.proofs.AloneLoads.{dsdt_loads}
 use Rattle.acpi_verdict.proofs.CheckedTables.{all_checked}
 use Rattle.acpi_verdict.proofs.checking.checked_declared.Goals as goal
@@ -11,6 +11,6 @@ returns-in_err-clash-clause-memory g c = λ bytes loads declared.
 
 pub returns-clause-ok : goal.returns-clause-ok
 returns-clause-ok g c = λ bytes loads declared.
-    let one = tables_in g.S.Space.contents c.args.dsdt.now in
+    let one = state_of g.S.Space.contents c.args.dsdt.now in
     all_checked c.args.depth bytes c.args.ssdts.now (dsdt_loads c.args.depth bytes one loads) c.args.declared declared c.in_ok-clash.field-0
     (c.in_ok-clash.ensures.ok bytes loads declared.definers) c.verdict_of-verdict.result c.verdict_of-verdict.ensures

@@ -1,6 +1,6 @@
 use Rattle.std.proofs.Common.{None, refl, sym, subst}
 use Rattle.acpi_space.specs.Overlays.{contents_over}
-use Rattle.acpi_verdict.specs.steps.Tables.{tables_in}
+use Rattle.acpi_declare.specs.Declaring.{state_of}
 use Rattle.acpi_verdict.specs.VerdictView.{IsSinglesFault}
 use Rattle.acpi_verdict.specs.steps.Overlays.{overlay_view}
 use Rattle.acpi_verdict.proofs.AloneLoads.{dsdt_loads, ssdt_at, refused_so}
@@ -12,7 +12,7 @@ loop-i-init g c = λ bytes loads. none_declared c.args.depth bytes c.args.ssdts.
 
 pub returns-in-Err-clause-err : goal.returns-in-Err-clause-err
 returns-in-Err-clause-err g c = λ bytes loads.
-    let one = tables_in g.S.Space.contents c.args.dsdt.now in
+    let one = state_of g.S.Space.contents c.args.dsdt.now in
     let ssdts = c.args.ssdts.now in
     let i = c.loop-i.i in
     let b = c.index-ssdts-i.result in

@@ -1,7 +1,7 @@
 use Rattle.std.proofs.Common.{◌+◌, None, refl}
 use Rattle.std.proofs.lemmas.Result.{err_from_is_err_and}
 use Rattle.acpi_space.specs.Spaces.{is_defined}
-use Rattle.acpi_verdict.specs.steps.Tables.{tables_in}
+use Rattle.acpi_declare.specs.Declaring.{state_of}
 use Rattle.acpi_verdict.proofs.AloneLoads.{ssdt_at, alone_at}
 use Rattle.acpi_verdict.proofs.FoundTables.{none_found, one_found, all_found}
 use Rattle.acpi_verdict.proofs.PairMisses.{alone_awaits}
@@ -9,7 +9,7 @@ use Rattle.acpi_verdict.proofs.findings.find_all.Goals as goal
 
 pub loop-i-init : goal.loop-i-init
 loop-i-init g c = λ bytes loads definers.
-    let one = tables_in g.S.Space.contents c.args.dsdt.now in
+    let one = state_of g.S.Space.contents c.args.dsdt.now in
     let d = c.args.definers.now in
     let alone = c.in_ok-misses.misses in
     none_found c.args.depth bytes c.args.ssdts.now d definers alone.awaited (alone_awaits (is_defined d.first) c.args.depth bytes one loads alone c.in_ok-misses.ensures) c.new-satisfied.result.items

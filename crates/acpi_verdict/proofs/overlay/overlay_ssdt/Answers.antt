@@ -26,7 +26,7 @@ returns-clause-ok g c = λ bytes loads.
     subst (λ (m : PathMap Object). (p : List Segment) → Among items p ↔ (IsTrue (is_defined both p) × (is_defined m p ≡ false))) c.in_ok-declared.ensures.lower
     (subst (λ (o : _). (p : List Segment) → Among items p ↔ (IsTrue (is_defined (contents_over contents o) p) × (is_defined (lower_of contents o) p ≡ false))) c.objects.ensures
     c.in_ok-defined.ensures.are) in
-    let one = state_of below c.args.dsdt.now in
-    let now = state_of both d in
+    let one = state_of contents c.args.dsdt.now in
+    let now = state_of (contents_over contents) d in
     let over = is_over c.args.depth bytes c.args.ssdt.now one now loads (c.in_ok-declared.ensures.ok (bytes ∷ []) loads) in
     is_overlay c.args.depth bytes c.args.ssdt.now one now loads over below both refl refl items are

@@ -5,13 +5,12 @@ use Rattle.acpi_name.specs.Names.{Segment}
 use Rattle.acpi_space.specs.Laws.{Among}
 use Rattle.acpi_space.specs.Spaces.{is_defined}
 use Rattle.acpi_body.specs.steps.Gathering.{Grows}
-use Rattle.acpi_declare.specs.Declaring.{objects_so_far}
+use Rattle.acpi_declare.specs.Declaring.{objects_so_far, state_of}
 use Rattle.acpi_declare.specs.Links.{links_at}
 use Rattle.acpi_declare.specs.Loads.{IsLoad}
 use Rattle.acpi_declare.specs.Namespace.{namespace_of}
 use Rattle.acpi_declare.specs.Notes.{notes_of}
 use Rattle.acpi_declare.proofs.Refusals.{refused_has_no_load}
-use Rattle.acpi_verdict.specs.steps.Tables.{tables_in}
 use Rattle.acpi_verdict.proofs.SingleLoads.{two_notes, is_single}
 use Rattle.acpi_verdict.proofs.pair.single_shared.Goals as goal
 
@@ -40,7 +39,7 @@ returns-in_err-both-clause-none g c =
 pub search_tables-requires : goal.search_tables-requires
 search_tables-requires g c =
     let both = c.in_ok-both.both in
-    let two = tables_in g.S.Space.contents both in
+    let two = state_of g.S.Space.contents both in
     let has = c.in_ok-both.ensures.ok (c.args.dsdt.now ∷ []) c.in_ok-first.ensures.ok in
     two_notes c.args.depth c.args.dsdt.now c.args.ssdt.now two c.into_parts-objects.result.2.items has
     (ap (map notes_of) (c.into_parts-objects.ensures.notes ∙ c.in_ok-finish.ensures.same_notes))
@@ -50,8 +49,8 @@ returns-clause-ok g c =
     let first = c.in_ok-first.first in
     let both = c.in_ok-both.both in
     let parts = c.into_parts-objects in
-    let one = tables_in g.S.Space.contents first in
-    let two = tables_in g.S.Space.contents both in
+    let one = state_of g.S.Space.contents first in
+    let two = state_of g.S.Space.contents both in
     let has = c.in_ok-both.ensures.ok (c.args.dsdt.now ∷ []) c.in_ok-first.ensures.ok in
     let before = g.S.Space.contents (objects_so_far first) in
     let now = g.S.Space.contents parts.result.0 in

@@ -7,7 +7,7 @@ use Rattle.acpi_declare.specs.Namespace.{namespace_of}
 use Rattle.acpi_declare.specs.Notes.{notes_of}
 use Rattle.acpi_space.specs.Spaces.{is_defined}
 use Rattle.acpi_body.specs.steps.Gathering.{Grows}
-use Rattle.acpi_verdict.specs.steps.Tables.{tables_in}
+use Rattle.acpi_declare.specs.Declaring.{state_of}
 use Rattle.acpi_verdict.specs.steps.PairMisses.{part_misses}
 use Rattle.acpi_verdict.specs.steps.Misses.{AreMisses, IsMissedScope}
 use Rattle.acpi_verdict.proofs.pair_misses.pair_misses.Goals as goal
@@ -16,8 +16,8 @@ pub returns : goal.returns
 returns g c =
     let wanted = is_defined (g.T.Space.contents c.args.among.now) in
     let contents = g.O.Space.contents in
-    let l = tables_in contents c.args.declared.now in
-    let one = tables_in g.S.Space.contents c.args.dsdt.now in
+    let l = state_of contents c.args.declared.now in
+    let one = state_of g.S.Space.contents c.args.dsdt.now in
     record {
       scopes = c.in_ok-scopes.scopes;
       scopes_are = subst (λ (ns : List TableNotes). Grows empty c.in_ok-scopes.scopes (λ (p : List Segment). IsMissedScope (map notes_of ns) p × IsTrue (wanted p))) c.notes.ensures

@@ -3,14 +3,13 @@ use Rattle.std.specs.Prelude.{IsTrue}
 use Rattle.std.proofs.lemmas.List.{drop_more, drop_all}
 use Rattle.std.specs.FinMap.{empty}
 use Rattle.acpi_declare.specs.declared.notes.TableNotes.{TableNotes}
-use Rattle.acpi_declare.specs.Declaring.{IsMissedLink}
+use Rattle.acpi_declare.specs.Declaring.{IsMissedLink, state_of}
 use Rattle.acpi_declare.specs.Namespace.{namespace_of}
 use Rattle.acpi_declare.specs.Notes.{notes_of}
 use Rattle.acpi_space.specs.Laws.{Among}
 use Rattle.acpi_space.specs.Spaces.{PathMap, is_defined}
 use Rattle.acpi_body.proofs.Grown.{grows_as}
 use Rattle.acpi_machine.specs.steps.Adding.{noted, all_noted}
-use Rattle.acpi_verdict.specs.steps.Tables.{tables_in}
 use Rattle.acpi_verdict.specs.declared.misses.Misses.{Misses}
 use Rattle.acpi_verdict.specs.steps.Misses.{AddsMethods}
 use Rattle.acpi_verdict.proofs.TableMisses.{adds_methods_both}
@@ -36,7 +35,7 @@ pub returns : goal.returns
 returns g c =
     let objects = namespace_of (g.O.Space.contents c.args.objects.now) in
     let wanted = is_defined (g.T.Space.contents c.args.among.now) in
-    let state = tables_in g.S.Space.contents c.args.tables.now in
+    let state = state_of g.S.Space.contents c.args.tables.now in
     let notes = c.notes-notes-items.result.now in
     let start : Misses = record { missed = c.add_paths.new.paths; awaited = c.new.result } in
     let none : drop c.loop-notes.notes-index notes ≡ [] = drop_all _ _ c.loop-notes-test.false in
