@@ -86,10 +86,13 @@ pub(crate) fn is_same_turn(one: Turn, other: Turn) -> bool
     one == other
 }
 
-// Whether one of the turns is this one.
-fn has_turn(turns: &[Turn], turn: Turn) -> bool
+// Whether one of the turns is this one. The turn of that number is looked at first: ways that begin alike have it there.
+fn has_turn(turns: &[Turn], turn: Turn, first: usize) -> bool
     ensures { result ≡ list_any (λ t. is_same_turn (turn_of turn) (turn_of t)) turns.now }
 {
+    if first < turns.len() && is_same_turn(turn, turns[first]) {
+        return true;
+    }
     turns.iter().any(|t| is_same_turn(turn, *t))
 }
 
@@ -187,13 +190,28 @@ impl Ways {
         last_turns.get(at).copied()
     }
 
+    // The number of turns of a way.
+    fn length(&self, way: Way) -> usize
+        ensures { result ≡ length (way_of self.now way) }
+    {
+        let mut way = way;
+        let mut count = 0usize;
+        while let Some(last) = self.last_turn(way) {
+            count += 1;
+            way = last.before;
+        }
+        count
+    }
+
     /// Whether each turn of a way is one of these.
     pub fn is_part_of(&self, way: Way, turns: &[Turn]) -> bool
         ensures { result ≡ is_part_of (way_of self.now way) (map turn_of turns.now) }
     {
         let mut way = way;
+        let mut number = self.length(way);
         while let Some(last) = self.last_turn(way) {
-            if !has_turn(turns, last.turn) {
+            number = number.saturating_sub(1);
+            if !has_turn(turns, last.turn, number) {
                 return false;
             }
             way = last.before;
