@@ -1,6 +1,6 @@
 //! The places of the code of methods, table after table.
 
-ghost use Rattle.std.specs.Prelude.{◌≡◌, ◌∷◌, map, IfOk, OnOk};
+ghost use Rattle.std.specs.Prelude.{◌≡◌, ◌<◌, ◌∷◌, length, map, slice_get, IfOk, OnOk, Some};
 ghost use Rattle.std.specs.FinMap.{get};
 ghost use Rattle.acpi_space.specs.Lookups.{singleton, union};
 ghost use Rattle.acpi_tree.specs.Tree.{ItemTrees};
@@ -82,6 +82,14 @@ fn add_table(
     put_all(places, &notes.methods, &found)
 }
 
+// The notes of the table of that number.
+fn notes_at(notes: &[TableNotes], number: usize) -> &TableNotes
+    requires { number < length notes.now }
+    ensures { slice_get notes.now number ≡ Some result.now }
+{
+    &notes[number]
+}
+
 /// Where the code of each method stands that a DSDT and SSDTs declare (ACPI 6.5, 20.2.5.2), by the method's path. The notes
 /// are all notes of their load (`declare_shared`), and `depth` is that of the load. The predefined method `_OSI` has no code.
 /// The error is want of memory.
@@ -98,7 +106,14 @@ pub fn code_places(
     let mut places = TreeSpace::new(alloc);
     add_table(alloc, &mut places, 0, dsdt, &notes[0], depth)?;
     for (i, ssdt) in ssdts.iter().enumerate() {
-        add_table(alloc, &mut places, i + 1, ssdt, &notes[i + 1], depth)?;
+        add_table(
+            alloc,
+            &mut places,
+            i + 1,
+            ssdt,
+            notes_at(notes, i + 1),
+            depth,
+        )?;
     }
     Ok(places)
 }
