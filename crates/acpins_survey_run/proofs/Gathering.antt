@@ -1,12 +1,13 @@
 -- Tables of several sources, one source after another.
-use Rattle.std.proofs.Common.{◌≡◌, ◌+◌, ◌<◌, ℕ, Bool, List, [], ◌∷◌, ◌++◌, map, take, get_or, length, Option, Some, None, refl, sym, ap, subst, ◌∙◌, append_assoc, append-nil, codes, Result, Ok, Err}
+use Rattle.std.proofs.Common.{◌≡◌, ◌+◌, ◌<◌, ◌≤◌, take_all, ℕ, Bool, List, [], ◌∷◌, ◌++◌, map, take, get_or, length, Option, Some, None, refl, sym, ap, subst, ◌∙◌, append_assoc, append-nil, codes, Result, Ok, Err}
 use Rattle.std.specs.Borrow.{Bor}
 use Rattle.std.specs.Prelude.{IfSome, OnOk, is_ok, if◌then◌else◌}
 use Rattle.acpins_io.specs.Hexadecimal.{SpellsInHex}
 use Rattle.acpins_survey_run.specs.declared.failure.Failure.{Failure}
 use Rattle.acpins_survey_run.specs.declared.failure.Failure.TheVariants.{WrongWords, BadPath, NoSuchPath, NoTable, Read, BadHex, Out, Output, Memory}
 use Rattle.std.proofs.lemmas.List.{map-append, take_more}
-use Rattle.acpins_survey_run.specs.Input.{Adds, AreOfEach, AreOfFolder, AreOfSomeFiles, AreTablesAt, AreTablesIn, AreTablesOf, FileBytes, FolderNames, HoldsTables, IsFileFault, IsFilesFault, IsPathIn}
+use Rattle.std.proofs.lemmas.Simd.{map-map}
+use Rattle.acpins_survey_run.specs.Input.{Adds, AreOfDynamic, AreOfEach, AreOfFolder, AreOfSsdts, AreOfSsdtsBy, AreSsdtsAmong, AreTablesAt, AreTablesIn, AreTablesOf, AreTablesOfFiles, FileBytes, FolderNames, HoldsTables, IsFileFault, IsFilesFault, path_in}
 
 module _ {A : Type 0} (AreOf : A → List (List ℕ) → Type 0) where
   pub of_both : (xs ys : List A) (a b : List (List ℕ)) → AreOfEach AreOf xs a → AreOfEach AreOf ys b → AreOfEach AreOf (xs ++ ys) (a ++ b)
@@ -43,31 +44,62 @@ module _ {A : Type 0} (AreOf : A → List (List ℕ) → Type 0) where
 
 -- ---- the files of a folder
 
-module _ (bytes_of : FileBytes) (hex : Bool) where
-  pub none_more : (old : List (List ℕ)) → Adds (AreOfSomeFiles bytes_of hex) old old
-  none_more old = ([], sym (append-nil old), ([], refl))
+-- what is found is what is known
+of_known : (known : Option (Option (List (List ℕ)))) (found : Option (List (List ℕ))) (P : Option (List (List ℕ)) → Type 0) → IfSome known (λ k. found ≡ k) → P found
+    → IfSome known P
+of_known None found P is h = tt
+of_known (Some k) found P is h = subst P is h
 
-  pub some_more : (name : List ℕ) (old now new : List (List ℕ)) → Adds (AreOfSomeFiles bytes_of hex) old now → Adds (AreTablesIn hex (bytes_of name)) now new
-      → Adds (AreOfSomeFiles bytes_of hex) old new
-  some_more name old now new h k =
-      let all = adds_more (λ n. AreTablesIn hex (bytes_of n)) h.2.0 name old now new (h.0, h.1, h.2.1) k in
-      (all.0, all.1, (h.2.0 ++ name ∷ [], all.2))
+-- the path of a name that is lent
+abbrev pub lent_path : List ℕ → Bor (List ℕ) → List ℕ
+lent_path folder name = path_in folder name.now
 
-  -- a DSDT's file, and those of two lists of others
-  pub folder_more : (folder dsdt : List ℕ) (a b c d : List (List ℕ)) → IsPathIn folder (codes "DSDT") dsdt → Adds (AreTablesIn hex (bytes_of dsdt)) a b
-      → Adds (AreOfSomeFiles bytes_of hex) b c → Adds (AreOfSomeFiles bytes_of hex) c d → Adds (AreOfFolder bytes_of hex folder) a d
-  folder_more folder dsdt a b c d path h k l =
-      let AreOf : List ℕ → List (List ℕ) → Type 0 = λ n. AreTablesIn hex (bytes_of n) in
-      let rest = of_both AreOf k.2.0 l.2.0 k.0 l.0 k.2.1 l.2.1 in
+module _ (bytes_of : FileBytes) (hex : Bool) (folder : List ℕ) where
+  pub no_ssdt_yet : (ssdts : List (Bor (List ℕ))) (old : List (List ℕ)) → Adds (AreTablesOfFiles bytes_of hex (map (lent_path folder) (take 0 ssdts))) old old
+  no_ssdt_yet ssdts old = ([], sym (append-nil old), refl)
+
+  -- the tables of one file more
+  pub ssdt_added : (ssdts : List (Bor (List ℕ))) (i : ℕ) (d : Bor (List ℕ)) (path : List ℕ) (old now new : List (List ℕ)) → i < length ssdts
+      → path ≡ lent_path folder (get_or ssdts i d) → Adds (AreTablesOfFiles bytes_of hex (map (lent_path folder) (take i ssdts))) old now
+      → Adds (AreTablesIn hex (bytes_of path)) now new → Adds (AreTablesOfFiles bytes_of hex (map (lent_path folder) (take (i + 1) ssdts))) old new
+  ssdt_added ssdts i d path old now new below is h k =
+      adds_next (λ name. AreTablesIn hex (bytes_of name)) (lent_path folder) ssdts i d old now new below h
+      (subst (λ (p : List ℕ). Adds (AreTablesIn hex (bytes_of p)) now new) is k)
+
+  -- those of all files
+  pub ssdts_added : (names : List (List ℕ)) (ssdts : List (Bor (List ℕ))) (i : ℕ) (old new : List (List ℕ)) → length ssdts ≤ i
+      → AreSsdtsAmong names (map (λ (s : Bor (List ℕ)). s.now) ssdts) → Adds (AreTablesOfFiles bytes_of hex (map (lent_path folder) (take i ssdts))) old new
+      → Adds (AreOfSsdts bytes_of hex folder names) old new
+  ssdts_added names ssdts i old new past among h =
+      let now : Bor (List ℕ) → List ℕ = λ s. s.now in
+      let paths = ap (map (lent_path folder)) (take_all i ssdts past) ∙ sym (map-map (path_in folder) now ssdts) in
+      (h.0, h.1, (map now ssdts, among, subst (λ (files : List (List ℕ)). AreTablesOfFiles bytes_of hex files h.0) paths h.2))
+
+  -- those of the folder `dynamic`
+  pub dynamic_added : (names_in : FolderNames) (dynamic : List ℕ) (found : Option (List (List ℕ))) (old new : List (List ℕ)) → dynamic ≡ path_in folder (codes "dynamic")
+      → IfSome (names_in dynamic) (λ known. found ≡ known) → Adds (AreOfSsdtsBy bytes_of hex dynamic found) old new
+      → Adds (AreOfDynamic bytes_of names_in hex folder) old new
+  dynamic_added names_in dynamic found old new is known h =
+      let P : List ℕ → Type 0 = λ d. IfSome (names_in d) (λ f. AreOfSsdtsBy bytes_of hex d f h.0) in
+      (h.0, h.1, subst P is (of_known (names_in dynamic) found (λ f. AreOfSsdtsBy bytes_of hex dynamic f h.0) known h.2))
+
+  -- the tables of the DSDT's file, of the SSDTs' files, and of those in `dynamic`
+  pub folder_added : (names_in : FolderNames) (names : List (List ℕ)) (dsdt : List ℕ) (a b c d : List (List ℕ)) → dsdt ≡ path_in folder (codes "DSDT")
+      → Adds (AreTablesIn hex (bytes_of dsdt)) a b → Adds (AreOfSsdts bytes_of hex folder names) b c → Adds (AreOfDynamic bytes_of names_in hex folder) c d
+      → Adds (AreOfFolder bytes_of names_in hex folder names) a d
+  folder_added names_in names dsdt a b c d is h k l =
       let whole : d ≡ a ++ (h.0 ++ (k.0 ++ l.0)) =
       l.1 ∙ ap (λ x. x ++ l.0) k.1 ∙ append_assoc b k.0 l.0 ∙ ap (λ x. x ++ (k.0 ++ l.0)) h.1 ∙ append_assoc a h.0 (k.0 ++ l.0) in (
         h.0 ++ (k.0 ++ l.0),
         whole,
         record {
-          dsdt = dsdt;
-          rest = k.2.0 ++ l.2.0;
-          dsdt_is = path;
-          are = of_both AreOf (dsdt ∷ []) (k.2.0 ++ l.2.0) h.0 (k.0 ++ l.0) (of_one AreOf dsdt h.0 h.2) rest;
+          dsdt = h.0;
+          ssdts = k.0;
+          dynamic = l.0;
+          are = sym (append_assoc h.0 k.0 l.0);
+          of_dsdt = subst (λ (p : List ℕ). AreTablesIn hex (bytes_of p) h.0) is h.2;
+          of_ssdts = k.2;
+          of_dynamic = l.2;
         },
       )
 

@@ -1,10 +1,11 @@
 //! Files and folders into tables.
 
-ghost use Rattle.std.specs.Prelude.{◌≡◌, ◌++◌, [], ℕ, List, Bool, true, Option, Some, IfOk, IfErr, OnOk, IfSome, map};
+ghost use Rattle.std.specs.Prelude.{◌≡◌, ◌++◌, [], ℕ, List, Bool, true, Option, Some, IfOk, IfErr, OnOk, IfSome, map, string_bytes};
 ghost use Rattle.acpi_survey.specs.Pieces.{ArePieces};
 ghost use Rattle.acpins_io.specs.Dump.{tables_of_dump};
 ghost use Rattle.acpins_io.specs.Hexadecimal.{SpellsInHex};
-ghost use Rattle.acpins_survey_run.specs.Input.{Adds, AreOfFolder, AreOfSomeFiles, ArePiecesOfEach, AreTablesAt, AreTablesIn, IsFileFault, IsFilesFault};
+ghost use Rattle.acpins_survey_run.specs.Input.{Adds, AreOfDynamic, AreOfFolder, AreOfSsdts, ArePiecesOfEach};
+ghost use Rattle.acpins_survey_run.specs.Input.{AreTablesAt, AreTablesIn, IsFileFault, IsFilesFault};
 
 use crate::failure::{Failure, ReadCause};
 use crate::folders::{Folders, has_dsdt, path_in, ssdts_among};
@@ -202,19 +203,19 @@ fn add_ssdts<F: Files>(
     alloc: Global,
     files: &mut F,
     folder: &str,
-    names: Vec<String>,
+    names: &[String],
     hex: bool,
     found: &mut FoundTables,
 ) -> Result<(), Failure>
-    ensures ok { OnOk result (Adds (AreOfSomeFiles (F.bytes_of files.old) hex)
-        found.old.tables.items found.new.tables.items) }
+    ensures ok { OnOk result (Adds (AreOfSsdts (F.bytes_of files.old) hex folder.now
+        (map string_bytes names.now)) found.old.tables.items found.new.tables.items) }
     ensures err { IfErr result (IsFilesFault (F.bytes_of files.old) hex) }
     ensures stays { F.bytes_of files.new ≡ F.bytes_of files.old }
     ensures others { F.written_to files.new ≡ F.written_to files.old }
 {
     let ssdts = ssdts_among(alloc, names)?;
     for name in &ssdts {
-        let path = path_in(alloc, folder, name.as_str())?;
+        let path = path_in(alloc, folder, *name)?;
         add_file(alloc, files, path.as_str(), hex, found)?;
     }
     Ok(())
@@ -229,7 +230,8 @@ fn add_dynamic<F: Files, D: Folders>(
     hex: bool,
     found: &mut FoundTables,
 ) -> Result<(), Failure>
-    ensures ok { OnOk result (Adds (AreOfSomeFiles (F.bytes_of files.old) hex)
+    ensures ok { OnOk result (Adds
+        (AreOfDynamic (F.bytes_of files.old) (D.names_in folders.old) hex folder.now)
         found.old.tables.items found.new.tables.items) }
     ensures err { IfErr result (IsFilesFault (F.bytes_of files.old) hex) }
     ensures stays { F.bytes_of files.new ≡ F.bytes_of files.old }
@@ -238,7 +240,7 @@ fn add_dynamic<F: Files, D: Folders>(
 {
     let dynamic = path_in(alloc, folder, "dynamic")?;
     match folders.names(dynamic.as_str()) {
-        Ok(Some(names)) => add_ssdts(alloc, files, dynamic.as_str(), names, hex, found),
+        Ok(Some(names)) => add_ssdts(alloc, files, dynamic.as_str(), &names, hex, found),
         Ok(None) | Err(FileFault::Missing) => Ok(()),
         Err(fault) => Err(unread_by(alloc, dynamic.as_str(), fault)),
     }
@@ -251,18 +253,18 @@ fn add_folder<F: Files, D: Folders>(
     files: &mut F,
     folders: &mut D,
     folder: &str,
-    names: Vec<String>,
+    names: &[String],
     hex: bool,
     found: &mut FoundTables,
 ) -> Result<(), Failure>
-    ensures ok { OnOk result (Adds (AreOfFolder (F.bytes_of files.old) hex folder.now)
-        found.old.tables.items found.new.tables.items) }
+    ensures ok { OnOk result (Adds (AreOfFolder (F.bytes_of files.old) (D.names_in folders.old) hex
+        folder.now (map string_bytes names.now)) found.old.tables.items found.new.tables.items) }
     ensures err { IfErr result (IsFilesFault (F.bytes_of files.old) hex) }
     ensures stays { F.bytes_of files.new ≡ F.bytes_of files.old }
     ensures others { F.written_to files.new ≡ F.written_to files.old }
     ensures folders { D.names_in folders.new ≡ D.names_in folders.old }
 {
-    if !has_dsdt(&names) {
+    if !has_dsdt(names) {
         return Err(unread(alloc, folder, ReadCause::NoDsdt));
     }
     let dsdt = path_in(alloc, folder, "DSDT")?;
@@ -289,7 +291,7 @@ pub fn add_tables<F: Files, D: Folders>(
     ensures folders { D.names_in folders.new ≡ D.names_in folders.old }
 {
     match folders.names(name) {
-        Ok(Some(names)) => add_folder(alloc, files, folders, name, names, hex, found),
+        Ok(Some(names)) => add_folder(alloc, files, folders, name, &names, hex, found),
         Ok(None) => add_file(alloc, files, name, hex, found),
         Err(fault) => Err(unread_by(alloc, name, fault)),
     }
