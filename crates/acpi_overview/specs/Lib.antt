@@ -3,3 +3,4 @@ pub mod Numbers
 pub mod OspmMethods
 pub mod Regions
 pub mod Tables
+pub mod Containers

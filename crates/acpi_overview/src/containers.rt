@@ -1,6 +1,7 @@
 //! The objects below which others stand: scopes, devices, processors, power resources and thermal zones.
 
 ghost use Rattle.std.specs.Prelude.{◌≡◌, length, IfOk};
+ghost use Rattle.acpi_overview.specs.Containers.{is_container};
 ghost use Rattle.acpi_overview.specs.Paths.{is_directly_in, is_within, last_name};
 
 use crate::addresses::{Address, set_addresses};
@@ -83,7 +84,10 @@ const NOTHING: DeviceValues<'static> = DeviceValues {
     prw: Value::Missing,
 };
 
-fn is_container(declared: Declared<'_>) -> bool {
+/// Whether others may stand below what a term declares.
+pub fn is_container(declared: Declared<'_>) -> bool
+    ensures { result ≡ is_container declared.entry }
+{
     matches!(
         declared,
         Declared::Root

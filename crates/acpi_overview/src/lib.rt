@@ -28,7 +28,7 @@ mod value;
 
 pub use addresses::Address;
 pub use containers::{
-    Container, Counts, DeviceValues, Tree, is_directly_in, is_within, last_segment,
+    Container, Counts, DeviceValues, Tree, is_container, is_directly_in, is_within, last_segment,
 };
 pub use headers::{TableHeader, header_of, is_sum_good};
 pub use lints::Lint;
