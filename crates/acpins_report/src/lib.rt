@@ -24,6 +24,7 @@ mod page_map;
 mod page_parts;
 mod page_regions;
 mod page_writer;
+mod power;
 mod region_words;
 mod rows;
 mod sections;

@@ -7,7 +7,7 @@ use crate::page_parts::with_value;
 use crate::page_writer::Page;
 use crate::rows::Row;
 use crate::words::put_short_path;
-use acpi_overview::{Container, Overview};
+use acpi_overview::{Container, Overview, is_container, objects_at};
 use acpins_survey_output::{Declared, put_condition};
 use std::alloc::{AllocError, Global};
 
@@ -28,21 +28,22 @@ fn put_ids(alloc: Global, page: &mut Page, container: &Container<'_>) -> Result<
     put_badge(page, "c", &id)
 }
 
-fn put_condition_badge(
+// The conditions of all that declare the container.
+fn put_condition_badges(
     alloc: Global,
     page: &mut Page,
     overview: &Overview<'_>,
     container: &Container<'_>,
 ) -> Result<(), AllocError> {
-    if !container.object.is_conditional {
-        return Ok(());
-    }
     let mut condition = Vec::new(alloc);
-    put_condition(
-        &mut condition,
-        &overview.survey.condition(container.object.number)?,
-    )?;
-    put_badge(page, "f", &condition)
+    for object in objects_at(&overview.objects, container.object.path) {
+        if object.is_conditional && is_container(object.declared) {
+            condition.clear();
+            put_condition(&mut condition, &overview.survey.condition(object.number)?)?;
+            put_badge(page, "f", &condition)?;
+        }
+    }
+    Ok(())
 }
 
 fn put_status_badge(
@@ -87,7 +88,7 @@ fn put_container(
     put_ids(alloc, page, container)?;
     put_badge(page, "a", &row.place)?;
     put_status_badge(alloc, page, container)?;
-    put_condition_badge(alloc, page, overview, container)?;
+    put_condition_badges(alloc, page, overview, container)?;
     put_small(page, "dim", row.what.as_bytes())?;
     put_small(page, "r", &row.resources)?;
     put_small(page, "dim m", &row.has)

@@ -6,6 +6,7 @@ use crate::device_words::{
 };
 use crate::words::{put_last, put_short_path};
 use acpi_overview::{Address, Container, Overview};
+use acpi_text::{put, put_decimal};
 use acpins_survey_output::Declared;
 use std::alloc::{AllocError, Global};
 use std::collections::BTreeMap;
@@ -128,6 +129,18 @@ fn status_of(alloc: Global, container: &Container<'_>) -> Result<Vec<u8>, AllocE
     Ok(status)
 }
 
+// In how many ways a container may be declared, where there are several.
+fn put_ways(has: &mut Vec<u8>, container: &Container<'_>) -> Result<(), AllocError> {
+    if container.count < 2 {
+        return Ok(());
+    }
+    if !has.is_empty() {
+        has.push(b' ')?;
+    }
+    put_decimal(has, container.count as u64)?;
+    put(has, " ways")
+}
+
 fn has_of(alloc: Global, container: &Container<'_>) -> Result<Vec<u8>, AllocError> {
     let mut has = Vec::new(alloc);
     put_counts(&mut has, container)?;
@@ -138,6 +151,7 @@ fn has_of(alloc: Global, container: &Container<'_>) -> Result<Vec<u8>, AllocErro
         }
         has.extend_from_slice(b"(if)")?;
     }
+    put_ways(&mut has, container)?;
     Ok(has)
 }
 

@@ -3,19 +3,17 @@
 use crate::devices::{Rows, put_devices};
 use crate::heads::{put_first, put_table, put_totals};
 use crate::lint_words::{put_lint, put_site, site_of};
+use crate::power::put_powers;
 use crate::region_words::{
     by_address, mark_of, put_addresses, put_length, put_origin, put_region_path, put_units,
     space_word,
 };
 use crate::sheet::{Sheet, Style};
-use crate::words::{put_count, put_counted, put_short_path, put_short_segment};
-use acpi_overview::{
-    Container, OSPM_KINDS, Object, OspmKind, OspmMethod, Overview, Value, is_directly_in,
-    is_within, overview_of,
-};
+use crate::words::{put_count, put_counted, put_short_path};
+use acpi_overview::{OSPM_KINDS, Object, OspmKind, OspmMethod, Overview, overview_of};
 use acpi_survey::Survey;
 use acpi_text::{put, put_decimal};
-use acpins_survey_output::{Declared, put_condition, put_note, put_problem};
+use acpins_survey_output::{put_condition, put_note, put_problem};
 use std::alloc::{AllocError, Global};
 
 /// How a report looks.
@@ -248,82 +246,6 @@ fn put_ospm_methods(
     Ok(())
 }
 
-// ---- power and thermal objects
-
-fn is_power(container: &Container<'_>) -> bool {
-    matches!(
-        container.object.declared,
-        Declared::Power { .. } | Declared::Thermal
-    )
-}
-
-// An object directly below a power resource or a thermal zone, with its value or its size.
-fn put_member(sheet: &mut Sheet, object: &Object<'_>) -> Result<(), AllocError> {
-    let Some(segment) = object.path.segs().last() else {
-        return Ok(());
-    };
-    let mut word = Vec::new(*sheet.line.allocator());
-    put_short_segment(&mut word, *segment)?;
-    match Value::of_declared(object.declared, object.code) {
-        Value::Number(number) => {
-            put(&mut word, " ")?;
-            put_decimal(&mut word, number)?;
-        }
-        Value::Method(code) => {
-            put(&mut word, " ")?;
-            put_decimal(&mut word, code as u64)?;
-            put(&mut word, " B")?;
-        }
-        Value::Package(elements) => {
-            put(&mut word, " of ")?;
-            put_decimal(&mut word, elements.len() as u64)?;
-        }
-        _ => {}
-    }
-    sheet.put_word(&word, 24)
-}
-
-fn put_power(
-    sheet: &mut Sheet,
-    overview: &Overview<'_>,
-    container: &Container<'_>,
-) -> Result<(), AllocError> {
-    sheet.put("  ")?;
-    put_short_path(&mut sheet.line, container.object.path)?;
-    sheet.tab(24)?;
-    if let Declared::Power { level, order } = container.object.declared {
-        sheet.put("level ")?;
-        put_decimal(&mut sheet.line, u64::from(level))?;
-        sheet.put(" order ")?;
-        put_decimal(&mut sheet.line, u64::from(order))?;
-    }
-    let from = container.place.min(overview.objects.len());
-    for object in &overview.objects[from..] {
-        if !is_within(object.path, container.object.path) {
-            break;
-        }
-        if is_directly_in(object.path, container.object.path) {
-            put_member(sheet, object)?;
-        }
-    }
-    sheet.end()
-}
-
-fn put_powers(sheet: &mut Sheet, overview: &Overview<'_>) -> Result<(), AllocError> {
-    let containers = &overview.tree.containers;
-    if !containers.iter().any(|h| is_power(h)) {
-        return Ok(());
-    }
-    sheet.end()?;
-    sheet.head("POWER AND THERMAL  (values of constants, sizes of methods)")?;
-    for container in containers {
-        if is_power(container) {
-            put_power(sheet, overview, container)?;
-        }
-    }
-    Ok(())
-}
-
 // ---- regions
 
 fn put_regions(
@@ -447,7 +369,7 @@ pub fn report(
     let rows = Rows::new(alloc, &overview)?;
     sheet.end()?;
     put_devices(alloc, &mut sheet, &overview, &rows, options.is_verbose)?;
-    put_powers(&mut sheet, &overview)?;
+    put_powers(alloc, &mut sheet, &overview)?;
     put_regions(alloc, &mut sheet, &overview)?;
     put_lints(&mut sheet, &overview, options.is_verbose)?;
     Ok(sheet.into_bytes())
