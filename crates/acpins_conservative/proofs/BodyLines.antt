@@ -11,12 +11,13 @@ use Rattle.acpi_tree.specs.Objects.{ObjectTree, root_object}
 use Rattle.acpi_code.proofs.Fitting.{AreBytes}
 use Rattle.acpi_declare.specs.Namespace.{Namespace}
 use Rattle.acpi_order.specs.Machines.{Machine, IsMachine}
+use Rattle.acpi_conditions.specs.ByPath.{numbered_from}
 use Rattle.acpi_conditions.proofs.Viewing.{get_behind}
 use Rattle.acpi_survey.specs.declared.body.MethodBody.{MethodBody}
 use Rattle.acpi_survey.specs.declared.machine_survey.Survey.{Survey}
 use Rattle.acpi_survey.specs.Predefined.{first_reading}
 use Rattle.acpi_survey.specs.Surveys.{AreTables, bytes_of}
-use Rattle.acpins_survey_output.specs.Listings.{entries_of, numbered_from}
+use Rattle.acpins_survey_output.specs.Listings.{entries_of}
 use Rattle.acpins_survey_output.specs.Shown.{zip_text, IsBodyAt, verdict_line, IsBodyListing}
 use Rattle.acpins_conservative.specs.Alike.{IsBodyLine, ListsBodies}
 use Rattle.acpins_conservative.proofs.ByPath.{keys, path_itself, with_value}

@@ -70,7 +70,7 @@ module _ (loaded surveyed : FileBytes) (folders : FolderNames) (hex : Bool) wher
       → survey.AreTablesOf surveyed folders hex names us → us ≡ ts
   same_tables [] h ts us l k = k ∙ sym l
   same_tables (name ∷ names) h ts us l k =
-      let at : survey.AreTablesBy surveyed hex name None k.0 = subst (λ (o : Option (Option (List (List ℕ)))). IfSome o (λ found. AreTablesBy surveyed hex name found k.0)) h.0.no_folder k.3 in
+      let at : survey.AreTablesBy surveyed folders hex name None k.0 = subst (λ (o : Option (Option (List (List ℕ)))). IfSome o (λ found. AreTablesBy surveyed folders hex name found k.0)) h.0.no_folder k.3 in
       let first : k.0 ≡ l.0 =
       file_tables hex h.0.content l.0 k.0 (subst (λ (o : Option (List ℕ)). load.AreTablesIn hex o l.0) h.0.is_loaded l.3)
       (subst (λ (o : Option (List ℕ)). survey.AreTablesIn hex o k.0) h.0.is_surveyed at) in
