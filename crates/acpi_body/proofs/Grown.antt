@@ -206,7 +206,7 @@ one_count externals m P q k there h = by (get m q) refl
             back (inl x) f = (h p n).1 (x, f)
             back (inr k) f = absurd (true≢false (sym ((path_eq_Decides p q).1 (sym k)) ∙ s))
 
-found_passes : {A : Type 0} (test : A → Bool) (xs : List A) (x : A) → find test xs ≡ Some x → test x ≡ true
+pub found_passes : {A : Type 0} (test : A → Bool) (xs : List A) (x : A) → find test xs ≡ Some x → test x ≡ true
 found_passes test [] x e = cc
 found_passes {A} test (y ∷ xs) x e = by (test y) refl e (found_passes test xs x)
   where
@@ -215,7 +215,7 @@ found_passes {A} test (y ∷ xs) x e = by (test y) refl e (found_passes test xs 
     by false t f more = more f
 
 -- what is awaited has a count
-awaited_counts : (externals : Lookup ℕ) (s : List Segment) (n : NameParts) (o : Option (List Segment)) (q : List Segment)
+pub awaited_counts : (externals : Lookup ℕ) (s : List Segment) (n : NameParts) (o : Option (List Segment)) (q : List Segment)
     → unless_found o (expected_place externals s n) ≡ Some q → (k : ℕ) × (externals q ≡ Some k)
 awaited_counts externals s n (Some p) q e = cc
 awaited_counts externals s n None q e = by (externals q) refl (found_passes (is_defined_in externals) (tries s n) q e)

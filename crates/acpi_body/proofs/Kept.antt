@@ -2,6 +2,7 @@
 use Rattle.std.proofs.Common.{◌≡◌, ℕ, List, [], ◌∷◌, ◌++◌, sym, ap, ◌∙◌, append_assoc}
 use Rattle.std.specs.List.{AllByRecursion}
 use Rattle.acpi_name.specs.Names.{Segment, NameParts}
+use Rattle.acpi_space.proofs.Elements.{all_append, all_map}
 use Rattle.acpi_tree.specs.declared.place.OperandKind.{OperandKind}
 use Rattle.acpi_tree.specs.Terms.{TermTree, TermTrees, buffer, pkg, var_pkg, call, apply, ElseTree, if_do, no_else, else_do, while_do, declare, declare_units, no_terms, more}
 use Rattle.acpi_tree.specs.Operators.{operands_of, operands_before, operands_behind, operands_of_units}
@@ -16,21 +17,13 @@ use Rattle.acpi_body.specs.Laws.{AgreeAt}
 
 -- ---- all of a list
 
-all_left : {A : Type 0} (P : A → Type 0) (xs ys : List A) → AllByRecursion P (xs ++ ys) → AllByRecursion P xs
+pub all_left : {A : Type 0} (P : A → Type 0) (xs ys : List A) → AllByRecursion P (xs ++ ys) → AllByRecursion P xs
 all_left P [] ys h = tt
 all_left P (x ∷ xs) ys h = (h.0, all_left P xs ys h.1)
 
-all_right : {A : Type 0} (P : A → Type 0) (xs ys : List A) → AllByRecursion P (xs ++ ys) → AllByRecursion P ys
+pub all_right : {A : Type 0} (P : A → Type 0) (xs ys : List A) → AllByRecursion P (xs ++ ys) → AllByRecursion P ys
 all_right P [] ys h = h
 all_right P (x ∷ xs) ys h = all_right P xs ys h.1
-
-all_both : {A : Type 0} (P : A → Type 0) (xs ys : List A) → AllByRecursion P xs → AllByRecursion P ys → AllByRecursion P (xs ++ ys)
-all_both P [] ys h k = k
-all_both P (x ∷ xs) ys h k = (h.0, all_both P xs ys h.1 k)
-
-all_weaker : {A : Type 0} (P Q : A → Type 0) → ((x : A) → P x → Q x) → (xs : List A) → AllByRecursion P xs → AllByRecursion Q xs
-all_weaker P Q f [] h = tt
-all_weaker P Q f (x ∷ xs) h = (f x h.0, all_weaker P Q f xs h.1)
 
 -- ---- kept
 
@@ -154,10 +147,10 @@ last_within n a x b is h = record {
 
 -- what is spelled in a part is spelled in the whole
 part_of : (a x c b : List ℕ) (es : List Searched) → b ≡ a ++ (x ++ c) → AllByRecursion (Spelled x) es → AllByRecursion (Spelled b) es
-part_of a x c b es is = all_weaker (Spelled x) (Spelled b) (λ e. within e.1 a x c b is) es
+part_of a x c b es is = all_map (Spelled x) (Spelled b) (λ e. within e.1 a x c b is) es
 
 end_of : (a x b : List ℕ) (es : List Searched) → b ≡ a ++ x → AllByRecursion (Spelled x) es → AllByRecursion (Spelled b) es
-end_of a x b es is = all_weaker (Spelled x) (Spelled b) (λ e. last_within e.1 a x b is) es
+end_of a x b es is = all_map (Spelled x) (Spelled b) (λ e. last_within e.1 a x b is) es
 
 -- in the front and at the end of a package
 pack_front : (op x y b : List ℕ) (es : List Searched) → Packs op (x ++ y) b → AllByRecursion (Spelled x) es → AllByRecursion (Spelled b) es
@@ -171,7 +164,7 @@ mutual
   spelled_term grammar locals (buffer size content) b (s, here, hs, packs) = pack_front (0x11 ∷ []) s content b (term_searches locals size) packs (spelled_term grammar locals size s hs)
   spelled_term grammar locals (pkg count es) b (x, hs, packs) = pack_end (0x12 ∷ []) (count ∷ []) x b (terms_searches locals es) packs (spelled_elements grammar locals es x hs)
   spelled_term grammar locals (var_pkg count es) b (s, x, here, hc, hs, packs) =
-      all_both (Spelled b) (term_searches locals count) (terms_searches locals es)
+      all_append (Spelled b) (term_searches locals count) (terms_searches locals es)
       (pack_front (0x13 ∷ []) s x b (term_searches locals count) packs (spelled_term grammar locals count s hc))
       (pack_end (0x13 ∷ []) s x b (terms_searches locals es) packs (spelled_elements grammar locals es x hs))
   spelled_term grammar locals (call n vs) b (count, w, x, sure, spells, hs, whole) =
@@ -183,14 +176,14 @@ mutual
   spelled_operands grammar locals ks no_terms b h = tt
   spelled_operands grammar locals [] (more t ts) b h = absurd h
   spelled_operands grammar locals (k ∷ ks) (more t ts) b (x, y, st, ht, hs, whole) =
-      all_both (Spelled b) (term_searches locals t) (terms_searches locals ts)
+      all_append (Spelled b) (term_searches locals t) (terms_searches locals ts)
       (part_of [] x y b (term_searches locals t) whole (spelled_term grammar locals t x ht))
       (end_of x y b (terms_searches locals ts) whole (spelled_operands grammar locals ks ts y hs))
 
   spelled_elements : (grammar : Grammar) (locals : Locals) (ts : TermTrees) (b : List ℕ) → AreElements grammar ts b → AllByRecursion (Spelled b) (terms_searches locals ts)
   spelled_elements grammar locals no_terms b h = tt
   spelled_elements grammar locals (more t ts) b (x, y, st, ht, hs, whole) =
-      all_both (Spelled b) (term_searches locals t) (terms_searches locals ts)
+      all_append (Spelled b) (term_searches locals t) (terms_searches locals ts)
       (part_of [] x y b (term_searches locals t) whole (spelled_term grammar locals t x ht))
       (end_of x y b (terms_searches locals ts) whole (spelled_elements grammar locals ts y hs))
 
@@ -198,18 +191,18 @@ mutual
   spelled_statement : (args : Arguments) (s : List Segment) (locals : Locals) (t : TermTree) (b : List ℕ) → IsStatement args s locals t b → AllByRecursion (Spelled b) (searches s locals t)
   spelled_statement args s locals (if_do v ts e) b (x, y, p, q, here, hv, hs, packs, other, whole) =
       let after = locals_after_all s locals ts in
-      all_both (Spelled b) (term_searches locals v) (all_searches s locals ts ++ else_searches s after e)
+      all_append (Spelled b) (term_searches locals v) (all_searches s locals ts ++ else_searches s after e)
       (part_of [] p q b (term_searches locals v) whole (pack_front (0xA0 ∷ []) x y p (term_searches locals v) packs (spelled_term (body_grammar (args locals)) locals v x hv)))
-      (all_both (Spelled b) (all_searches s locals ts) (else_searches s after e)
+      (all_append (Spelled b) (all_searches s locals ts) (else_searches s after e)
       (part_of [] p q b (all_searches s locals ts) whole (pack_end (0xA0 ∷ []) x y p (all_searches s locals ts) packs (spelled_statements args s locals ts y hs)))
       (end_of p q b (else_searches s after e) whole (spelled_else args s after e q other)))
   spelled_statement args s locals (while_do v ts) b (x, y, here, hv, hs, packs) =
-      all_both (Spelled b) (term_searches locals v) (all_searches s locals ts)
+      all_append (Spelled b) (term_searches locals v) (all_searches s locals ts)
       (pack_front (0xA2 ∷ []) x y b (term_searches locals v) packs (spelled_term (body_grammar (args locals)) locals v x hv))
       (pack_end (0xA2 ∷ []) x y b (all_searches s locals ts) packs (spelled_statements args s locals ts y hs))
   spelled_statement args s locals (declare form before n behind) b (x, y, z, hb, may, hn, ha, whole) =
       let op = opcode_bytes (named_opcode form) in
-      all_both (Spelled b) (terms_searches locals before) (terms_searches locals behind)
+      all_append (Spelled b) (terms_searches locals before) (terms_searches locals behind)
       (part_of op x (y ++ z) b (terms_searches locals before) whole (spelled_operands (body_grammar (args locals)) locals (operands_before form) before x hb))
       (end_of (op ++ (x ++ y)) z b (terms_searches locals behind) (whole ∙ simp append_assoc) (spelled_operands (body_grammar (args locals)) locals (operands_behind form) behind z ha))
   spelled_statement args s locals (declare_units form ns vs es) b (x, y, z, count, hn, hv, he, packs) =
@@ -225,7 +218,7 @@ mutual
       → AllByRecursion (Spelled b) (all_searches s locals ts)
   spelled_statements args s locals no_terms b h = tt
   spelled_statements args s locals (more t ts) b (x, y, ht, hs, whole) =
-      all_both (Spelled b) (searches s locals t) (all_searches s (locals_after s locals t) ts)
+      all_append (Spelled b) (searches s locals t) (all_searches s (locals_after s locals t) ts)
       (part_of [] x y b (searches s locals t) whole (spelled_statement args s locals t x ht))
       (end_of x y b (all_searches s (locals_after s locals t) ts) whole (spelled_statements args s (locals_after s locals t) ts y hs))
 
@@ -233,4 +226,4 @@ pub same_readings : (c d : Arguments) (s : List Segment) (locals : Locals) (ts :
     → ((n : NameParts) → IsSpelledIn b n → (locals : Locals) → c locals n ≡ d locals n) → AreStatements c s locals ts b
     → AreStatements d s locals ts b
 same_readings c d s locals ts b same h = kept_statements c d s locals ts b
-    (all_weaker (Spelled b) (AgreeAt c d) (λ e spelled. same e.1 spelled e.0) (all_searches s locals ts) (spelled_statements c s locals ts b h)) h
+    (all_map (Spelled b) (AgreeAt c d) (λ e spelled. same e.1 spelled e.0) (all_searches s locals ts) (spelled_statements c s locals ts b h)) h

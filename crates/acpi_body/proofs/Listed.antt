@@ -1,61 +1,21 @@
 -- The entries of a map as a list in path order, each once.
-use Rattle.std.proofs.Common.{◌≡◌, ◌⊎◌, ◌↔◌, inl, inr, ℕ, Bool, true, false, cond, ◌&&◌, List, [], ◌∷◌, map, is_some, Some, true≢false, refl, sym, ap, subst, ◌∙◌}
-use lib.Dec.{T}
+use Rattle.std.proofs.Common.{◌≡◌, ◌⊎◌, ◌↔◌, inl, inr, ℕ, Bool, true, false, cond, List, [], ◌∷◌, map, is_some, Some, true≢false, refl, sym, ap, subst, ◌∙◌}
 use Rattle.std.specs.Prelude.{IsTrue}
-use Rattle.std.specs.declared.cmp.Ordering.{Ordering}
-use Rattle.std.specs.declared.cmp.Ordering.TheVariants.{Less, Equal, Greater}
-use Rattle.std.specs.Ordering.{is_lt, is_eq}
+use Rattle.std.specs.declared.cmp.Ordering.TheVariants.{Less}
+use Rattle.std.specs.Ordering.{is_eq}
 use Rattle.std.specs.List.{AllByRecursion}
 use Rattle.std.specs.List.Sorted.{IsStrictlySortedBy}
-use Rattle.std.specs.FinMap.{get, entries, entries_sorted, get-entries, find, is_sorted}
-use Rattle.std.specs.FinMap.Entries.{below_all}
+use Rattle.std.specs.FinMap.{get, entries, get-entries, find}
 use Rattle.acpi_name.specs.Names.{Segment}
 use Rattle.acpi_name.specs.Paths.{path_cmp}
 use Rattle.acpi_name.proofs.EqualPaths.{path_eq_Decides}
 use Rattle.acpi_space.specs.Spaces.{PathMap, is_defined}
 use Rattle.acpi_space.specs.Lookups.{is_same_path}
 use Rattle.acpi_space.specs.Laws.{Among}
+use Rattle.acpi_space.proofs.Keys.{key_found, keys_ascend}
 use Rattle.acpi_body.specs.declared.misses.OpenMiss.{OpenMiss}
 
-less : (o : Ordering) → IsTrue (is_lt o) → o ≡ Less
-less Less h = refl
-less Equal h = absurd (true≢false (sym h))
-less Greater h = absurd (true≢false (sym h))
-
-both : (a b : Bool) → IsTrue (a && b) → IsTrue a × IsTrue b
-both true b h = (refl, h)
-both false b h = absurd (true≢false (sym h))
-
-all_above : {V : Type 0} (k : List Segment) (es : List (List Segment × V)) → IsTrue (below_all path_cmp k es) → AllByRecursion (λ q. path_cmp k q ≡ Less) (map (λ e. e.0) es)
-all_above k [] h = tt
-all_above k (e ∷ es) h = let r = both (is_lt (path_cmp k e.0)) (below_all path_cmp k es) h in (less (path_cmp k e.0) r.0, all_above k es r.1)
-
-ascend : {V : Type 0} (es : List (List Segment × V)) → IsTrue (is_sorted path_cmp es) → IsStrictlySortedBy path_cmp (map (λ e. e.0) es)
-unfolding IsStrictlySortedBy
-ascend [] h = tt
-ascend (e ∷ es) h = let r = both (below_all path_cmp e.0 es) (is_sorted path_cmp es) h in (all_above e.0 es r.0, ascend es r.1)
-
-true_of : (b : Bool) → T b → IsTrue b
-true_of true h = refl
-true_of false h = absurd h
-
-pub rising : {V : Type 0} (m : PathMap V) → IsStrictlySortedBy path_cmp (map (λ e. e.0) (entries m))
-rising m = ascend (entries m) (true_of (is_sorted path_cmp (entries m)) (entries_sorted m))
-
 -- ---- what stands in them
-
-pub key_found : {V : Type 0} (es : List (List Segment × V)) (p : List Segment) → Among (map (λ e. e.0) es) p ↔ IsTrue (is_some (find path_cmp p es))
-key_found [] p = (λ h. absurd h, λ h. absurd (true≢false (sym h)))
-key_found (e ∷ es) p = by (is_same_path p e.0) refl (key_found es p)
-  where
-    by : (b : Bool) → is_same_path p e.0 ≡ b → Among (map (λ e. e.0) es) p ↔ IsTrue (is_some (find path_cmp p es))
-        → ((e.0 ≡ p) ⊎ Among (map (λ e. e.0) es) p) ↔ IsTrue (is_some (cond b (Some e.1) (find path_cmp p es)))
-    by true s more = (λ h. refl, λ h. inl (sym ((path_eq_Decides p e.0).0 s)))
-    by false s more = (to, λ h. inr (more.1 h))
-      where
-        to : (e.0 ≡ p) ⊎ Among (map (λ e. e.0) es) p → IsTrue (is_some (find path_cmp p es))
-        to (inl h) = absurd (true≢false (sym ((path_eq_Decides p e.0).1 (sym h)) ∙ s))
-        to (inr h) = more.0 h
 
 above_all : {V : Type 0} (k : List Segment) (es : List (List Segment × V)) (p : List Segment) (v : V)
     → AllByRecursion (λ q. path_cmp k q ≡ Less) (map (λ e. e.0) es) → Among es (p, v) → path_cmp k p ≡ Less
@@ -100,7 +60,7 @@ paths_among m P items e h p =
     )
 
 pub paths_ascend : {V : Type 0} (m : PathMap V) (items : List (List Segment)) → items ≡ map (λ e. e.0) (entries m) → IsStrictlySortedBy path_cmp items
-paths_ascend m items e = subst (IsStrictlySortedBy path_cmp) (sym e) (rising m)
+paths_ascend m items e = subst (IsStrictlySortedBy path_cmp) (sym e) (keys_ascend m)
 
 abbrev pub pair_of : OpenMiss → List Segment × ℕ
 pair_of o = (o.path, o.count)
@@ -123,7 +83,7 @@ pair_among (o ∷ items) p n = (to (pair_among items p n).0, from (pair_among it
 pub counts_among : (m : PathMap ℕ) (P : List Segment → ℕ → Type 0) (items : List OpenMiss) → map pair_of items ≡ entries m → ((p : List Segment) (n : ℕ) → (get m p ≡ Some n) ↔ P p n)
     → (p : List Segment) (n : ℕ) → Among items (record { path = p; count = n }) ↔ P p n
 counts_among m P items e h p n =
-    let k = pair_found (entries m) p n (rising m) in
+    let k = pair_found (entries m) p n (keys_ascend m) in
     let a = pair_among items p n in
     let In : List (List Segment × ℕ) → Type 0 = λ l. Among l (p, n) in
     (λ x. (h p n).0 (get-entries m p ∙ k.0 (subst In e (a.0 x))), λ x. a.1 (subst In (sym e) (k.1 (sym (get-entries m p) ∙ (h p n).1 x))))

@@ -1,5 +1,5 @@
 -- The search of a plain name with the locals of a body laid over the namespace.
-use Rattle.std.proofs.Common.{◌≡◌, ℕ, suc, ◌<◌, ◌≤◌, Bool, true, false, cond, ltb, ◌||◌, List, [], ◌∷◌, ◌++◌, map, find, length, take, is_some, Option, Some, None, refl, sym, ap, ap₂, ◌∙◌, arith}
+use Rattle.std.proofs.Common.{◌≡◌, ℕ, suc, ◌<◌, ◌≤◌, Bool, true, false, cond, ltb, ◌||◌, List, [], ◌∷◌, ◌++◌, map, find, length, take, Option, Some, None, refl, sym, ap, ap₂, ◌∙◌, arith}
 use Rattle.std.proofs.lemmas.Bool.{lt-ltb, le-ltb}
 use Rattle.std.specs.Option.{option_map}
 use Rattle.std.specs.FinMap.{get}
@@ -9,6 +9,7 @@ use Rattle.acpi_space.specs.Spaces.{PathMap, is_defined}
 use Rattle.acpi_space.specs.Lookups.{Lookup, is_defined_in}
 use Rattle.acpi_space.specs.Search.{beginnings, tries_of, answer, nearest_scope}
 use Rattle.acpi_space.proofs.Beginnings.{find_map, found_within, found_there, not_found}
+use Rattle.acpi_space.proofs.Laid.{is_some-map}
 use Rattle.acpi_tree.specs.declared.object.Object.{Object}
 use Rattle.acpi_tree.specs.Objects.{object_view}
 use Rattle.acpi_body.specs.Arguments.{Namespace, namespace_of, Locals, defined_with, args_there, args_at, expected_at, expected_place, count_behind}
@@ -100,13 +101,9 @@ plain_missed objects externals s locals n g plain e =
 
 -- ---- as the code finds them
 
-is_some-view : (o : Option Object) → is_some (option_map object_view o) ≡ is_some o
-is_some-view None = refl
-is_some-view (Some o) = refl
-
 -- the same paths are defined in a map and in the namespace that it holds
 pub is_defined-namespace : (m : PathMap Object) → is_defined m ≡ is_defined_in (namespace_of m)
-is_defined-namespace m = sym (λ i p. is_some-view (get m p) i)
+is_defined-namespace m = sym (λ i p. is_some-map object_view (get m p) i)
 
 pub nearest_of : (objects : Namespace) (locals : Locals) (s : List Segment) (g : Segment) (a b r : Option ℕ)
     → r ≡ deeper a b → a ≡ option_map length (nearest_scope (is_defined locals) s g) → b ≡ option_map length (nearest_scope (is_defined_in objects) s g)

@@ -45,7 +45,7 @@ judged args s depth bytes =
     } in
     statements_sound s source args depth finite.empty (length bytes) bytes here
 
-good_of : {A F : Type 0} (Good : A → Type 0) (Bad : F → Type 0) (r : Result A F) (x : A) → Judge Good Bad r → r ≡ Ok x → Good x
+pub good_of : {A F : Type 0} (Good : A → Type 0) (Bad : F → Type 0) (r : Result A F) (x : A) → Judge Good Bad r → r ≡ Ok x → Good x
 good_of Good Bad r x h e = subst (Judge Good Bad) e h
 
 bad_of : {A F : Type 0} (Good : A → Type 0) (Bad : F → Type 0) (r : Result A F) (f : F) → Judge Good Bad r → r ≡ Err f → Bad f

@@ -34,7 +34,7 @@ use Rattle.acpi_body.specs.Refusals.{refusal_at}
 use Rattle.acpi_body.specs.Statements.{named_opcode, units_opcode, MayDeclare, locals_after, locals_after_all, IsStatement, IsElse, AreStatements}
 use Rattle.acpi_body.specs.steps.Reading.{Reader, Statements, part, fault_at, operands_at, placed_by, term_at, declared_if, declared_at, named_form, names_at, fields_in, units_form, statements_with, else_at, if_form, while_form, statement_by, statement_at, statements_at}
 use Rattle.acpi_body.proofs.Places.{Bad, part_bad, part_sound, fields_sound}
-use Rattle.acpi_body.proofs.StatementComplete.{statement_starts}
+use Rattle.acpi_body.proofs.StatementComplete.{statement_starts, units_long}
 use Rattle.acpi_body.proofs.TermSound.{is_block, are_inner, Within, Operands, Inner, operands_sound, placed_sound, term_sound}
 
 -- ---- what was read
@@ -73,12 +73,7 @@ units_packed : (form : UnitsForm) → has_package (units_opcode form) ≡ true
 units_packed units.BankField = refl
 units_packed _ = refl
 
-units_long : (form : UnitsForm) → 0 < length (opcode_bytes (units_opcode form))
-units_long units.Field = omega arith
-units_long units.IndexField = omega arith
-units_long units.BankField = omega arith
-
-units_inner : (form : UnitsForm) → are_inner (operands_of_units form) ≡ true
+pub units_inner : (form : UnitsForm) → are_inner (operands_of_units form) ≡ true
 units_inner units.BankField = refl
 units_inner _ = refl
 

@@ -3,7 +3,7 @@ use Rattle.std.proofs.Common.{◌≡◌, ℕ, zero, suc, ◌-◌, ◌≤◌, ◌
 use Rattle.std.specs.Prelude.{is_none}
 use Rattle.std.proofs.lemmas.Bool.{eqb-true, ltb-true}
 use Rattle.acpi_name.specs.Names.{Segment, NameParts}
-use Rattle.acpi_name.proofs.NameAgain.{name_long}
+use Rattle.acpi_name.proofs.NameAgain.{name_long, and_true}
 use Rattle.acpi_tree.specs.declared.op.Op.{Op}
 use Rattle.acpi_tree.specs.declared.op.Op.TheVariants as ops
 use Rattle.acpi_tree.specs.declared.place.Place.{Place}
@@ -90,10 +90,6 @@ operator_inner _ = refl
 values_inner : (n : ℕ) → are_inner (values n) ≡ true
 values_inner zero = refl
 values_inner (suc n) = values_inner n
-
-both : (a b : Bool) → (a && b) ≡ true → (a ≡ true) × (b ≡ true)
-both true b h = (refl, h)
-both false b h = absurd cc
 
 -- ---- what was read
 
@@ -207,7 +203,7 @@ module _ (args : Arguments) (m : List Segment) (s : Source) (locals : Locals) (l
   unfolding operands_at
   operands_sound level inner i [] end bytes ok h = (record { front = []; spells = record { are = refl; within = omega arith }; whole = refl }, h)
   operands_sound level inner i (k ∷ ks) end bytes ok h =
-      let oks = both (is_inner_kind k) (are_inner ks) ok in
+      let oks = and_true (is_inner_kind k) (are_inner ks) ok in
       let Good = Read s level end (Operands grammar level (k ∷ ks)) bytes in
       then_read args m s level end (Operand grammar level k) Good bytes (operand_at inner k end bytes) _ (operand_sound level inner i k end bytes oks.0 h) (λ v f.
       then_read args m s level end (Operands grammar level ks) Good v.1 (operands_at inner ks end v.1) _ (operands_sound level inner i ks end v.1 oks.1 f.1) (λ vs r. (

@@ -1,7 +1,6 @@
 -- A search none of whose tries is asked for gathers nothing.
 use Rattle.std.proofs.Common.{◌≡◌, Bool, true, false, cond, List, [], ◌∷◌, ◌++◌, map, find, Option, Some, None, is_some, refl, sym, ap, ◌∙◌}
 use Rattle.std.specs.List.{filter}
-use Rattle.std.specs.Option.{option_map}
 use Rattle.std.specs.FinMap.{get}
 use Rattle.acpi_name.specs.Names.{Segment}
 use Rattle.acpi_space.specs.Lookups.{is_defined_in}
@@ -9,6 +8,7 @@ use Rattle.acpi_space.specs.Search.{answer, beginnings, missed, skipped, tries}
 use Rattle.acpi_space.specs.Wanted.{Wants}
 use Rattle.acpi_space.proofs.Beginnings.{find_map}
 use Rattle.acpi_space.proofs.Maps.{none_of_not_some}
+use Rattle.acpi_space.proofs.Laid.{is_some-map}
 use Rattle.acpi_body.specs.declared.gathered.Gathered.{Gathered}
 use Rattle.acpi_body.specs.Arguments.{namespace_of, defined_with, expected_place}
 use Rattle.acpi_body.specs.Searches.{Searched}
@@ -17,12 +17,8 @@ use Rattle.acpi_body.specs.steps.Setting.{Setting}
 use Rattle.acpi_body.specs.steps.Gathering.{if_wanted, with_awaited, with_misses, with_search}
 
 -- whether a plain name is asked for, and a name at its place
-is_some_map : {A B : Type 0} (f : A → B) (o : Option A) → is_some (option_map f o) ≡ is_some o
-is_some_map f None = refl
-is_some_map f (Some x) = refl
-
 pub asked_below : (w : Wants) (g : Segment) (s : List Segment) → is_some (find (λ q. w (q ++ g ∷ [])) (beginnings s)) ≡ is_some (find w (map (λ q. q ++ g ∷ []) (beginnings s)))
-asked_below w g s = sym (ap is_some (find_map w (λ q. q ++ g ∷ []) (beginnings s)) ∙ is_some_map (λ q. q ++ g ∷ []) (find (λ q. w (q ++ g ∷ [])) (beginnings s)))
+asked_below w g s = sym (ap is_some (find_map w (λ q. q ++ g ∷ []) (beginnings s)) ∙ is_some-map (λ q. q ++ g ∷ []) (find (λ q. w (q ++ g ∷ [])) (beginnings s)))
 
 pub asked_there : (w : Wants) (p : List Segment) → w p ≡ is_some (find w (p ∷ []))
 asked_there w p = elim (w p) as (λ b. b ≡ is_some (cond b (Some p) None)) [ true ↦ refl | false ↦ refl ]

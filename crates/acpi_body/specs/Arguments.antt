@@ -53,7 +53,9 @@ args_at objects locals otherwise (Some p) = args_there objects locals p
 
 -- the arguments of what the search of the name finds from the scope; where it finds nothing, what the Externals say
 abbrev pub count_behind : Namespace → Lookup ℕ → List Segment → Locals → NameParts → ℕ
-count_behind objects externals s locals n = args_at objects locals (expected_at externals (expected_place externals s n)) (answer (defined_with objects locals) s n)
+count_behind objects externals s locals n = args_at objects locals
+    (expected_at externals (expected_place externals s n))
+    (answer (defined_with objects locals) s n)
 
 -- so for the strict loader, which is always sure
 abbrev pub arguments : Namespace → Lookup ℕ → List Segment → Arguments

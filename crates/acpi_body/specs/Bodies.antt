@@ -20,7 +20,8 @@ body_view (Opaque v) = unread v.items
 -- what the bytes are: their one reading, or the bytes themselves where they have none
 abbrev pub IsBodyOf : Arguments → List Segment → ℕ → List ℕ → BodyTree → Type 0
 IsBodyOf args s depth bytes (read ts) = ReadsBody args s depth bytes ts
-IsBodyOf args s depth bytes (unread kept) = (kept ≡ bytes) × ((ts : TermTrees) → ¬ ReadsBody args s depth bytes ts)
+IsBodyOf args s depth bytes (unread kept) =
+    (kept ≡ bytes) × ((ts : TermTrees) → ¬ ReadsBody args s depth bytes ts)
 
 -- its terms have a spelling, but for the lengths of packages
 abbrev pub body_fits : BodyTree → Bool

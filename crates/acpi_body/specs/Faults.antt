@@ -72,8 +72,8 @@ pub record IsUnsure (args : Arguments) (bytes : List ℕ) : Type 0 where
   pub locals : Locals
   pub unsure : args locals name ≡ None
 
--- A field list begins at the place: behind the opcode of a form with one, its package length, its names, and its operands, where
--- each name is followed by some number of values (20.2.5.2).
+-- A field list begins at the place: behind the opcode of a form with one, its package length, its names, and its
+-- operands, where each name is followed by some number of values (20.2.5.2).
 pub record BeginsFieldList (code : List ℕ) (start : ℕ) : Type 0 where
   pub form : UnitsForm
   pub grammar : Grammar
@@ -90,7 +90,8 @@ pub record BeginsFieldList (code : List ℕ) (start : ℕ) : Type 0 where
   pub all_names : length names ≡ names_of_units form
   pub are_names : SpellsEach SpellsName names a
   pub are_values : AreOperands grammar (operands_of_units form) values b
-  pub starts : start ≡ at + (length (opcode_bytes (units_opcode form)) + (length len + (length a + length b)))
+  pub starts : start
+      ≡ at + (length (opcode_bytes (units_opcode form)) + (length len + (length a + length b)))
 
 -- a field element must begin at the place: behind others, in the field list of a form
 abbrev pub IsBodyElement : List ℕ → ℕ → Type 0
@@ -104,21 +105,23 @@ is_other_data opcodes.Package = true
 is_other_data opcodes.VarPackage = true
 is_other_data _ = false
 
--- What the reason says is true of the body's bytes at that place; `args` says how many values follow its names, `s` is the
--- method's path, and `depth` the number of levels that are allowed. BadName: no name begins there, or no segment where a
--- field element must begin. NotData: no data begins there, or no constant where the size of a connection's buffer must.
--- BadPlace: a name stands there that can't be declared. Unsure: a name stands there of which it isn't sure, behind some
--- declarations, how many values follow it.
+-- What the reason says is true of the body's bytes at that place; `args` says how many values follow its names, `s` is
+-- the method's path, and `depth` the number of levels that are allowed. BadName: no name begins there, or no segment
+-- where a field element must begin. NotData: no data begins there, or no constant where the size of a connection's
+-- buffer must. BadPlace: a name stands there that can't be declared. Unsure: a name stands there of which it isn't
+-- sure, behind some declarations, how many values follow it.
 abbrev pub ShowsBody : Arguments → List Segment → ℕ → List ℕ → BodyReason → ℕ → Type 0
 ShowsBody args s depth code Cut place = ShowsPart depth code codes.Cut place
 ShowsBody args s depth code ReservedBits place = ShowsPart depth code codes.ReservedBits place
-ShowsBody args s depth code BadName place = ShowsElementPart (IsBodyElement code) code codes.BadName place
+ShowsBody args s depth code BadName place =
+    ShowsElementPart (IsBodyElement code) code codes.BadName place
 ShowsBody args s depth code Overrun place = ShowsPart depth code codes.Overrun place
 ShowsBody args s depth code BadString place = ShowsPart depth code codes.BadString place
 ShowsBody args s depth code TooDeep place = ShowsPart depth code codes.TooDeep place
 ShowsBody args s depth code BadPlace place = CantDeclare s (drop place code)
 ShowsBody args s depth code Unsure place = IsUnsure args (drop place code)
-ShowsBody args s depth code NotData place = IsMisplaced NotData (drop place code) ⊎ (IsConnectionSize code place × Begins is_other_data code place)
+ShowsBody args s depth code NotData place = IsMisplaced NotData (drop place code)
+    ⊎ (IsConnectionSize code place × Begins is_other_data code place)
 ShowsBody args s depth code why place = IsMisplaced why (drop place code)
 
 -- what begins there is refused as a statement, whatever stands before it

@@ -4,8 +4,8 @@ use Rattle.acpi_name.specs.Names.{NameParts}
 use Rattle.acpi_tree.specs.declared.op.Op.{Op}
 use Rattle.acpi_tree.specs.Operators.{is_load}
 
--- how many values follow a name where it calls, or None where that isn't sure; and whether LoadTable, Load and Unload may
--- stand (20.2.5.4)
+-- how many values follow a name where it calls, or None where that isn't sure; and whether LoadTable, Load and Unload
+-- may stand (20.2.5.4)
 pub record Grammar : Type 0 where
   pub args : NameParts → Option ℕ
   pub loads : Bool

@@ -9,27 +9,36 @@ use Rattle.acpi_body.specs.Searches.{all_searches, IsSpelledIn}
 
 -- Bytes have at most one reading.
 abbrev pub AtMostOneReading : Type 0
-AtMostOneReading = (args : Arguments) (s : List Segment) (depth : ℕ) (bytes : List ℕ) (ts us : TermTrees)
+AtMostOneReading =
+    (args : Arguments) (s : List Segment) (depth : ℕ) (bytes : List ℕ) (ts us : TermTrees)
     → ReadsBody args s depth bytes ts → ReadsBody args s depth bytes us → ts ≡ us
 
 -- Bytes are read, or have no reading.
 abbrev pub ReadOrNot : Type 0
-ReadOrNot = (args : Arguments) (s : List Segment) (depth : ℕ) (bytes : List ℕ) → ((ts : TermTrees) × ReadsBody args s depth bytes ts) ⊎ ((ts : TermTrees) → ¬ ReadsBody args s depth bytes ts)
+ReadOrNot = (args : Arguments) (s : List Segment) (depth : ℕ) (bytes : List ℕ)
+    → ((ts : TermTrees) × ReadsBody args s depth bytes ts)
+    ⊎ ((ts : TermTrees) → ¬ ReadsBody args s depth bytes ts)
 
 abbrev pub AgreeAt : Arguments → Arguments → Locals × NameParts → Type 0
 AgreeAt a b e = a e.0 e.1 ≡ b e.0 e.1
 
 -- A reading stays one under arguments that agree at each name that it searches.
 abbrev pub ReadingIsKept : Type 0
-ReadingIsKept = (a b : Arguments) (s : List Segment) (locals : Locals) (ts : TermTrees) (bytes : List ℕ)
-    → AllByRecursion (AgreeAt a b) (all_searches s locals ts) → AreStatements a s locals ts bytes → AreStatements b s locals ts bytes
+ReadingIsKept =
+    (a b : Arguments) (s : List Segment) (locals : Locals) (ts : TermTrees) (bytes : List ℕ)
+    → AllByRecursion (AgreeAt a b) (all_searches s locals ts) → AreStatements a s locals ts bytes
+    → AreStatements b s locals ts bytes
 
 -- Each name that a reading searches is spelled in its bytes.
 abbrev pub SearchesAreSpelled : Type 0
-SearchesAreSpelled = (a : Arguments) (s : List Segment) (locals : Locals) (ts : TermTrees) (bytes : List ℕ)
-    → AreStatements a s locals ts bytes → AllByRecursion (λ e. IsSpelledIn bytes e.1) (all_searches s locals ts)
+SearchesAreSpelled =
+    (a : Arguments) (s : List Segment) (locals : Locals) (ts : TermTrees) (bytes : List ℕ)
+    → AreStatements a s locals ts bytes
+    → AllByRecursion (λ e. IsSpelledIn bytes e.1) (all_searches s locals ts)
 
 -- Under arguments that agree at every name that is spelled in the bytes, with any locals, they have the same readings.
 abbrev pub ReadingsAreSame : Type 0
-ReadingsAreSame = (a b : Arguments) (s : List Segment) (locals : Locals) (ts : TermTrees) (bytes : List ℕ)
-    → ((n : NameParts) → IsSpelledIn bytes n → (locals : Locals) → a locals n ≡ b locals n) → AreStatements a s locals ts bytes → AreStatements b s locals ts bytes
+ReadingsAreSame =
+    (a b : Arguments) (s : List Segment) (locals : Locals) (ts : TermTrees) (bytes : List ℕ)
+    → ((n : NameParts) → IsSpelledIn bytes n → (locals : Locals) → a locals n ≡ b locals n)
+    → AreStatements a s locals ts bytes → AreStatements b s locals ts bytes

@@ -1,4 +1,5 @@
--- The paths that a method body searches in vain: a declaration at one of them may change what the body means (ACPI 6.5, 5.3).
+-- The paths that a method body searches in vain: a declaration at one of them may change what the body means (ACPI 6.5,
+-- 5.3).
 use Rattle.std.specs.Prelude.{◌≡◌, ◌≢◌, ℕ, List, Option, Some, None}
 use Rattle.std.specs.FinMap as finite
 use Rattle.acpi_name.specs.Names.{Segment, NameParts}
@@ -15,13 +16,16 @@ unless_found None place = place
 unless_found (Some p) place = None
 
 -- the path whose External gave the count of a name that the search, with the locals laid over, does not find
-abbrev pub awaited_place : Namespace → Lookup ℕ → List Segment → Locals → NameParts → Option (List Segment)
-awaited_place objects externals s locals n = unless_found (answer (defined_with objects locals) s n) (expected_place externals s n)
+abbrev pub awaited_place : Namespace → Lookup ℕ → List Segment → Locals → NameParts
+    → Option (List Segment)
+awaited_place objects externals s locals n =
+    unless_found (answer (defined_with objects locals) s n) (expected_place externals s n)
 
 -- ---- firm misses
 
 -- a search of the statements missed the path, and no External of the path gave the name's count
-pub record IsMissedIn (objects : Namespace) (externals : Lookup ℕ) (s : List Segment) (ts : TermTrees) (p : List Segment) : Type 0 where
+pub record IsMissedIn (objects : Namespace) (externals : Lookup ℕ) (s : List Segment)
+    (ts : TermTrees) (p : List Segment) : Type 0 where
   pub locals : Locals
   pub name : NameParts
   pub searched : Among (all_searches s finite.empty ts) (locals, name)
@@ -29,7 +33,8 @@ pub record IsMissedIn (objects : Namespace) (externals : Lookup ℕ) (s : List S
   pub firm : awaited_place objects externals s locals name ≢ Some p
 
 -- the search of a name that is spelled at some place of the bytes misses the path
-pub record IsMissedBy (objects : Namespace) (s : List Segment) (bytes : List ℕ) (p : List Segment) : Type 0 where
+pub record IsMissedBy (objects : Namespace) (s : List Segment) (bytes : List ℕ)
+    (p : List Segment) : Type 0 where
   pub name : NameParts
   pub spelled : IsSpelledIn bytes name
   pub misses : Among (missed (is_defined_in objects) s name) p
@@ -42,7 +47,8 @@ IsFirmMiss objects externals s (unread bytes) p = IsMissedBy objects s bytes p
 -- ---- open misses
 
 -- a search of the statements found nothing, and the External of the path gave the name's count
-pub record IsAwaitedIn (objects : Namespace) (externals : Lookup ℕ) (s : List Segment) (ts : TermTrees) (p : List Segment) (count : ℕ) : Type 0 where
+pub record IsAwaitedIn (objects : Namespace) (externals : Lookup ℕ) (s : List Segment)
+    (ts : TermTrees) (p : List Segment) (count : ℕ) : Type 0 where
   pub locals : Locals
   pub name : NameParts
   pub searched : Among (all_searches s finite.empty ts) (locals, name)

@@ -12,10 +12,12 @@ use Rattle.acpi_body.specs.Faults.{ShowsBody, IsNoStatement}
 
 -- What may be told of the body's bytes: nothing exactly where they have a reading; else a fault that is true of them,
 -- and behind statements, what can't begin one, at its place.
-pub record IsReason (args : Arguments) (s : List Segment) (depth : ℕ) (bytes : List ℕ) (w : Option BodyFault) : Type 0 where
+pub record IsReason (args : Arguments) (s : List Segment) (depth : ℕ) (bytes : List ℕ)
+    (w : Option BodyFault) : Type 0 where
   pub read : (w ≡ None) ↔ ((ts : TermTrees) × ReadsBody args s depth bytes ts)
   pub shown : IfSome w (λ f. ShowsBody args s depth bytes f.reason f.place)
-  pub next : (u v : List ℕ) (ts : TermTrees) (reason : BodyReason) → bytes ≡ u ++ v → ReadsBody args s depth u ts → IsNoStatement reason v
+  pub next : (u v : List ℕ) (ts : TermTrees) (reason : BodyReason) → bytes ≡ u ++ v
+      → ReadsBody args s depth u ts → IsNoStatement reason v
       → w ≡ Some (record { reason = reason; place = length u })
 
 -- if a reading stopped by a fault and not for memory, this holds of the fault

@@ -23,7 +23,8 @@ value_refusal loads opcodes.VarPackage = None
 value_refusal loads opcodes.Name = None
 value_refusal loads (opcodes.Local n) = None
 value_refusal loads (opcodes.Arg n) = None
-value_refusal loads (opcodes.Operator op) = if is_expression op then load_refusal loads op else Some NotValue
+value_refusal loads (opcodes.Operator op) =
+    if is_expression op then load_refusal loads op else Some NotValue
 value_refusal loads opcodes.Debug = Some NotValue
 value_refusal loads opcodes.If = Some NotValue
 value_refusal loads opcodes.Else = Some NotValue

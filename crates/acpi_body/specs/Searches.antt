@@ -1,5 +1,5 @@
--- The names that a method body searches: those where a value or a statement stands, each with the paths that the body has
--- declared before it (ACPI 6.5, 5.3).
+-- The names that a method body searches: those where a value or a statement stands, each with the paths that the body
+-- has declared before it (ACPI 6.5, 5.3).
 use Rattle.std.specs.Prelude.{◌≡◌, ℕ, List, [], ◌∷◌, ◌++◌}
 use Rattle.acpi_name.specs.Names.{Segment, NameParts}
 use Rattle.acpi_name.specs.Spelling.{SpellsName}
@@ -25,9 +25,11 @@ abbrev mutual
 
 abbrev mutual
   pub searches : List Segment → Locals → TermTree → List Searched
-  searches s locals (if_do v ts e) = term_searches locals v ++ (all_searches s locals ts ++ else_searches s (locals_after_all s locals ts) e)
+  searches s locals (if_do v ts e) = term_searches locals v
+      ++ (all_searches s locals ts ++ else_searches s (locals_after_all s locals ts) e)
   searches s locals (while_do v ts) = term_searches locals v ++ all_searches s locals ts
-  searches s locals (declare form before n behind) = terms_searches locals before ++ terms_searches locals behind
+  searches s locals (declare form before n behind) =
+      terms_searches locals before ++ terms_searches locals behind
   searches s locals (declare_units form ns vs es) = terms_searches locals vs
   searches s locals t = term_searches locals t
 
@@ -37,7 +39,8 @@ abbrev mutual
 
   pub all_searches : List Segment → Locals → TermTrees → List Searched
   all_searches s locals no_terms = []
-  all_searches s locals (more t ts) = searches s locals t ++ all_searches s (locals_after s locals t) ts
+  all_searches s locals (more t ts) =
+      searches s locals t ++ all_searches s (locals_after s locals t) ts
 
 -- a name is spelled at some place of the bytes
 pub record IsSpelledIn (bytes : List ℕ) (n : NameParts) : Type 0 where

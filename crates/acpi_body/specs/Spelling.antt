@@ -29,31 +29,49 @@ values (suc n) = At Value ∷ values n
 abbrev mutual
   pub Spells : Grammar → TermTree → List ℕ → Type 0
   Spells g (int i) bytes = SpellsInt i bytes
+  -- String := StringPrefix AsciiCharList NullChar, where StringPrefix := 0x0D (20.2.3)
   Spells g (str text) bytes = (b : List ℕ) × SpellsText text b × (bytes ≡ 0x0D ∷ b)
-  Spells g (buffer size content) bytes = (s : List ℕ) × Stands Value size × Spells g size s × Packs (0x11 ∷ []) (s ++ content) bytes
-  Spells g (pkg count es) bytes = (b : List ℕ) × AreElements g es b × Packs (0x12 ∷ []) (count ∷ b) bytes
-  Spells g (var_pkg count es) bytes = (s : List ℕ) × (b : List ℕ) × Stands Value count × Spells g count s × AreElements g es b × Packs (0x13 ∷ []) (s ++ b) bytes
+  -- DefBuffer := BufferOp PkgLength BufferSize ByteList, where BufferOp := 0x11 (20.2.5.4)
+  Spells g (buffer size content) bytes =
+      (s : List ℕ) × Stands Value size × Spells g size s × Packs (0x11 ∷ []) (s ++ content) bytes
+  -- DefPackage := PackageOp PkgLength NumElements PackageElementList, where PackageOp := 0x12 (20.2.5.4)
+  Spells g (pkg count es) bytes =
+      (b : List ℕ) × AreElements g es b × Packs (0x12 ∷ []) (count ∷ b) bytes
+  -- DefVarPackage := VarPackageOp PkgLength VarNumElements PackageElementList, where VarPackageOp := 0x13 (20.2.5.4)
+  Spells g (var_pkg count es) bytes = (s : List ℕ) × (b : List ℕ) × Stands Value count
+      × Spells g count s × AreElements g es b × Packs (0x13 ∷ []) (s ++ b) bytes
+  -- LocalObj := Local0Op | .. | Local7Op, 0x60 to 0x67 (20.2.6.2)
   Spells g (local n) bytes = (bytes ≡ (n + 0x60) ∷ []) × (n ≤ 7)
+  -- ArgObj := Arg0Op | .. | Arg6Op, 0x68 to 0x6E (20.2.6.1)
   Spells g (arg n) bytes = (bytes ≡ (n + 0x68) ∷ []) × (n ≤ 6)
+  -- DebugObj := DebugOp, where DebugOp := ExtOpPrefix 0x31 (20.2.6.3)
   Spells g debug bytes = bytes ≡ 0x5B ∷ 0x31 ∷ []
+  -- NullName := 0x00 (20.2.2)
   Spells g no_target bytes = bytes ≡ 0x00 ∷ []
   Spells g (raw k n) bytes = SpellsNumber k n bytes
   Spells g (ref n) bytes = SpellsTermName n bytes
+  -- MethodInvocation := NameString TermArgList (20.2.5)
   Spells g (call n vs) bytes = (count : ℕ) × (w : List ℕ) × (x : List ℕ)
-      × (g.args n ≡ Some count) × SpellsTermName n w × AreOperands g (values count) vs x × (bytes ≡ w ++ x)
-  Spells g (apply op vs) bytes = (x : List ℕ) × (is_allowed g.loads op ≡ true) × AreOperands g (operands_of op) vs x × (bytes ≡ operator_bytes op ++ x)
+      × (g.args n ≡ Some count) × SpellsTermName n w × AreOperands g (values count) vs x
+      × (bytes ≡ w ++ x)
+  -- the rules of operators stand above the lines of `row_of`
+  Spells g (apply op vs) bytes = (x : List ℕ) × (is_allowed g.loads op ≡ true)
+      × AreOperands g (operands_of op) vs x × (bytes ≡ operator_bytes op ++ x)
   Spells g _ bytes = ⊥
 
   -- they are operands of these kinds, in order
   pub AreOperands : Grammar → List OperandKind → TermTrees → List ℕ → Type 0
   AreOperands g [] no_terms bytes = bytes ≡ []
-  AreOperands g (k ∷ ks) (more t ts) bytes = (a : List ℕ) × (b : List ℕ) × StandsFor k t × Spells g t a × AreOperands g ks ts b × (bytes ≡ a ++ b)
+  AreOperands g (k ∷ ks) (more t ts) bytes = (a : List ℕ) × (b : List ℕ) × StandsFor k t
+      × Spells g t a × AreOperands g ks ts b × (bytes ≡ a ++ b)
   AreOperands g _ _ bytes = ⊥
 
   -- the elements of a package
+  -- PackageElementList := Nothing | <PackageElement PackageElementList> (20.2.5.4)
   pub AreElements : Grammar → TermTrees → List ℕ → Type 0
   AreElements g no_terms bytes = bytes ≡ []
-  AreElements g (more t ts) bytes = (a : List ℕ) × (b : List ℕ) × Stands Element t × Spells g t a × AreElements g ts b × (bytes ≡ a ++ b)
+  AreElements g (more t ts) bytes = (a : List ℕ) × (b : List ℕ) × Stands Element t × Spells g t a
+      × AreElements g ts b × (bytes ≡ a ++ b)
 
 -- ---- heights
 -- A term has a level more than the highest term in it. Raw operands, the byte 00 for no target, names and field

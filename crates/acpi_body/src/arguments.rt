@@ -19,7 +19,8 @@ use acpi_tree::Object;
 use std::alloc::{AllocError, Global};
 use std::marker::Model;
 
-/// What a body of the strict loader is read against: a namespace, what the table's Externals say, and the method's path.
+/// What a body of the strict loader is read against: a namespace, what the table's Externals say, and the method's
+/// path.
 #[derive(Drop)]
 pub(crate) struct Context<'a, S: Space<Object>> {
     alloc: Global,
@@ -211,8 +212,8 @@ fn placed_count<S: Space<Object>>(
     expected(context, name)
 }
 
-/// How many values follow the name, which is always sure. It has a frame of its own, so that a level of calls costs less
-/// stack.
+/// How many values follow the name, which is always sure. It has a frame of its own, so that a level of calls costs
+/// less stack.
 #[tactic(auto, unfolding(crate::specs::steps::Setting::count_in))]
 #[inline(never)]
 fn count<S: Space<Object>>(

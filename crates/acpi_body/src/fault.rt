@@ -64,7 +64,7 @@ pub enum BodyReason {
 #[derive(Clone, Copy, Debug, PartialEq, Eq, Error)]
 #[error("{reason}")]
 pub struct BodyFault {
-    /// What is wrong.
+    /// What is wrong at the place.
     pub reason: BodyReason,
     /// Where, in bytes from the body's first byte.
     pub place: usize,

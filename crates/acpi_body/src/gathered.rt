@@ -24,15 +24,16 @@ pub(crate) struct Gathered {
     pub(crate) awaited: TreeSpace<u8>,
 }
 
-/// What a search tried in vain of the paths that are asked for, the innermost first, and whether it found something then.
+/// What a search tried in vain of the paths that are asked for, the innermost first, and whether it found something
+/// then.
 #[derive(Drop)]
 struct Tried {
     missed: Vec<Path>,
     found: bool,
 }
 
-/// The paths that the search of a name in the namespace tries in vain, the innermost first, of those that are asked for.
-/// Locals are not laid over.
+/// The paths that the search of a name in the namespace tries in vain, the innermost first, of those that are asked
+/// for. Locals are not laid over.
 pub(crate) fn missed<S: Space<Object>, Q: Wanted>(
     context: &Context<'_, S>,
     wanted: &Q,
@@ -234,8 +235,8 @@ fn is_asked<S: Space<Object>, Q: Wanted>(
     }
 }
 
-/// Gathers what the search of a name in a read body misses of the paths that are asked for, with the locals laid over. Where
-/// none of its tries is asked for, neither the namespace nor the Externals are searched.
+/// Gathers what the search of a name in a read body misses of the paths that are asked for, with the locals laid over.
+/// Where none of its tries is asked for, neither the namespace nor the Externals are searched.
 #[inline(never)]
 #[tactic(auto, unfolding(crate::specs::steps::Gathering::with_search))]
 pub(crate) fn gather_search<S: Space<Object>, Q: Wanted>(

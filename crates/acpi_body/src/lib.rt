@@ -7,8 +7,8 @@
 //!                                             ─►  the bytes themselves        where nothing is known of MTH2
 //! ```
 //!
-//! `read_terms` reads a body against whatever counts the values behind a name, a `MethodCounting`; where that isn't sure of
-//! a name, the reading stops there.
+//! `read_terms` reads a body against whatever counts the values behind a name, a `MethodCounting`; where that isn't
+//! sure of a name, the reading stops there.
 //!
 //! A contract sees a body as terms of `acpi_tree`, and says of which bytes they are the reading by the relation of
 //! `specs/Statements.antt`, and of a fault what it shows of them by `specs/Faults.antt`.
@@ -19,9 +19,9 @@ mod body;
 mod counting;
 mod declare;
 mod fault;
-mod field;
 mod gathered;
 pub mod laws;
+mod locals;
 mod misses;
 mod refusal;
 mod register;

@@ -134,7 +134,8 @@ fn open_misses_of(alloc: Global, counts: &TreeSpace<u8>) -> Result<Vec<OpenMiss>
 }
 
 /// What the body of a method searches in vain. In a read body each name is searched that stands for a value or a
-/// statement, with the locals before it laid over; in an opaque body each name that is spelled at any place of its bytes.
+/// statement, with the locals before it laid over; in an opaque body each name that is spelled at any place of its
+/// bytes.
 ///
 /// A name of a read body that is found nowhere, and whose argument count an External gave, awaits a method: the path of
 /// that External is an open miss. Every other path that was tried is firm; one may be both, by two names.

@@ -1,16 +1,14 @@
 //! The searches of a read body, term after term.
 
 ghost use Rattle.std.specs.Prelude.{◌≡◌, OnOk};
-ghost use Rattle.acpi_name.specs.Paths.{place_of};
 ghost use Rattle.acpi_tree.specs.Terms.{terms_of};
 ghost use Rattle.acpi_tree.specs.TermView.{term_view, terms_tree, else_view, operands_view, decl_view};
-ghost use Rattle.acpi_body.specs.Statements.{with_place, locals_after, locals_after_else, locals_after_all};
+ghost use Rattle.acpi_body.specs.Statements.{locals_after, locals_after_else, locals_after_all};
 ghost use Rattle.acpi_body.specs.steps.Gathering.{after_value, after_values, after_statement, after_else, after_statements};
 
-use crate::arguments::{Context, add};
-use crate::field::add_units;
+use crate::arguments::Context;
 use crate::gathered::{Gathered, gather_search};
-use acpi_name::{Name, PlaceFault, place};
+use crate::locals::declare;
 use acpi_space::{Space, TreeSpace, Wanted};
 use acpi_tree::{Decl, Object, Operand, Term};
 use std::alloc::AllocError;
@@ -80,97 +78,43 @@ fn operand_values<S: Space<Object>, Q: Wanted>(
     Ok(())
 }
 
-// Adds the place of a declared name, if it has one.
-fn declare<S: Space<Object>>(
-    context: &Context<'_, S>,
-    locals: &mut TreeSpace<()>,
-    name: &Name,
-) -> Result<(), AllocError>
-    ensures { OnOk result (locals.new ≡ with_place locals.old
-        (place_of context.now.method name.now)) }
-{
-    match place(context.alloc(), context.method(), name.view()) {
-        Ok(path) => add(locals, path),
-        Err(PlaceFault::AboveRoot) => Ok(()),
-        Err(PlaceFault::Memory) => Err(AllocError),
-    }
-}
-
-// Two values, and the place of the name that is declared behind them.
-fn declare_behind<S: Space<Object>, Q: Wanted>(
-    context: &Context<'_, S>,
-    locals: &mut TreeSpace<()>,
-    wanted: &Q,
-    gathered: &mut Gathered,
-    first: &Term,
-    second: &Term,
-    name: &Name,
-) -> Result<(), AllocError>
-    ensures gathered { OnOk result (gathered.new
-        ≡ after_value (Q.wanted wanted.now) context.now locals.old
-        (after_value (Q.wanted wanted.now) context.now locals.old gathered.old
-        (term_view first.now)) (term_view second.now)) }
-    ensures locals { OnOk result (locals.new ≡ with_place locals.old
-        (place_of context.now.method name.now)) }
-{
-    value(context, locals, wanted, gathered, first)?;
-    value(context, locals, wanted, gathered, second)?;
-    declare(context, locals, name)
-}
-
-// The operands of a declaration see the locals before it.
+// What the names in the operands of a declaration search.
 #[inline(never)]
 fn declaration<S: Space<Object>, Q: Wanted>(
     context: &Context<'_, S>,
-    locals: &mut TreeSpace<()>,
+    locals: &TreeSpace<()>,
     wanted: &Q,
     gathered: &mut Gathered,
     decl: &Decl,
 ) -> Result<(), AllocError>
-    ensures gathered { OnOk result (gathered.new
-        ≡ after_statement (Q.wanted wanted.now) context.now locals.old gathered.old
-        (decl_view decl.now)) }
-    ensures locals { OnOk result (locals.new ≡ locals_after context.now.method locals.old
-        (decl_view decl.now)) }
+    ensures { OnOk result (gathered.new ≡ after_statement
+        (Q.wanted wanted.now) context.now locals.now gathered.old (decl_view decl.now)) }
 {
     match decl {
-        Decl::Name(name, data) => {
-            value(context, locals, wanted, gathered, data)?;
-            declare(context, locals, name)
+        Decl::Name(_, data) => value(context, locals, wanted, gathered, data),
+        Decl::Create { source, index, .. } => {
+            value(context, locals, wanted, gathered, source)?;
+            value(context, locals, wanted, gathered, index)
         }
-        Decl::Create {
-            source,
-            index,
-            name,
-            ..
-        } => declare_behind(context, locals, wanted, gathered, source, index, name),
         Decl::CreateField {
             source,
             index,
             bits,
-            name,
+            ..
         } => {
             value(context, locals, wanted, gathered, source)?;
-            declare_behind(context, locals, wanted, gathered, index, bits, name)
+            value(context, locals, wanted, gathered, index)?;
+            value(context, locals, wanted, gathered, bits)
         }
-        Decl::Mutex(name, _) => declare(context, locals, name),
-        Decl::Event(name) => declare(context, locals, name),
-        Decl::Region {
-            name,
-            offset,
-            length,
-            ..
-        } => declare_behind(context, locals, wanted, gathered, offset, length, name),
-        Decl::Field { elems, .. } => add_units(locals, context.method(), elems),
-        Decl::IndexField { elems, .. } => add_units(locals, context.method(), elems),
-        Decl::BankField {
-            value: bank,
-            elems,
-            ..
-        } => {
-            value(context, locals, wanted, gathered, bank)?;
-            add_units(locals, context.method(), elems)
+        Decl::Mutex(_, _) => Ok(()),
+        Decl::Event(_) => Ok(()),
+        Decl::Region { offset, length, .. } => {
+            value(context, locals, wanted, gathered, offset)?;
+            value(context, locals, wanted, gathered, length)
         }
+        Decl::Field { .. } => Ok(()),
+        Decl::IndexField { .. } => Ok(()),
+        Decl::BankField { value: bank, .. } => value(context, locals, wanted, gathered, bank),
     }
 }
 
@@ -199,7 +143,10 @@ fn statement<S: Space<Object>, Q: Wanted>(
             value(context, locals, wanted, gathered, test)?;
             statements(context, locals, wanted, gathered, then)
         }
-        Term::Declare(decl) => declaration(context, locals, wanted, gathered, decl),
+        Term::Declare(decl) => {
+            declaration(context, locals, wanted, gathered, decl)?;
+            declare(context.alloc(), locals, context.method(), decl)
+        }
         _ => value(context, locals, wanted, gathered, term),
     }
 }

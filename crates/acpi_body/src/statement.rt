@@ -11,15 +11,12 @@ ghost use Rattle.acpi_body.specs.steps.Reading.{term_at, else_at, if_form, while
 ghost use Rattle.acpi_body.specs.steps.Cursor.{Gives, Reads, ReadsOn, ReadsAll};
 
 use crate::counting::{Here, MethodCounting};
-use crate::declare::{
-    bank_field_declared, create_declared, create_field_declared, event_declared, field_declared,
-    index_field_declared, mutex_declared, name_declared, region_declared, value,
-};
+use crate::declare::{named_declaration, term_apart, units_declaration};
 use crate::fault::Stop;
 use crate::term::{buffer, package, placed, var_package};
 use acpi_code::{Code, Opcode};
 use acpi_space::{Space, TreeSpace};
-use acpi_tree::{Place, Term};
+use acpi_tree::{NamedForm, Place, Term, UnitsForm};
 
 fn with_else(predicate: Box<Term>, then: Vec<Term>, other: Vec<Term>) -> Term
     ensures { term_view result ≡ if_do (term_view (box_value predicate)) (terms_tree then.items)
@@ -56,7 +53,7 @@ fn if_statement<M: MethodCounting>(
         ≡ locals_after (M.method counting.now) locals.old (term_view t)) }
 {
     let mut inner = code.package()?;
-    let predicate = value(counting, locals, level, &mut inner)?;
+    let predicate = term_apart(counting, locals, level, Place::Value, &mut inner)?;
     let then = statements(counting, locals, level, &mut inner)?;
     let other = else_statements(counting, locals, level, code)?;
     Ok(branch(predicate, then, other))
@@ -101,7 +98,7 @@ fn while_statement<M: MethodCounting>(
         ≡ locals_after (M.method counting.now) locals.old (term_view t)) }
 {
     let mut inner = code.package()?;
-    let predicate = value(counting, locals, level, &mut inner)?;
+    let predicate = term_apart(counting, locals, level, Place::Value, &mut inner)?;
     let then = statements(counting, locals, level, &mut inner)?;
     Ok(Term::While(predicate, then))
 }
@@ -158,15 +155,23 @@ fn form<'a, M: MethodCounting>(
     match opcode {
         Opcode::If => if_statement(counting, locals, level, code),
         Opcode::While => while_statement(counting, locals, level, code),
-        Opcode::DeclareName => name_declared(counting, locals, level, code),
-        Opcode::Create(width) => create_declared(counting, locals, level, width, code),
-        Opcode::CreateField => create_field_declared(counting, locals, level, code),
-        Opcode::Region => region_declared(counting, locals, level, code),
-        Opcode::Mutex => mutex_declared(counting, locals, level, code),
-        Opcode::Event => event_declared(counting, locals, level, code),
-        Opcode::Field => field_declared(counting, locals, level, code),
-        Opcode::IndexField => index_field_declared(counting, locals, level, code),
-        Opcode::BankField => bank_field_declared(counting, locals, level, code),
+        Opcode::DeclareName => named_declaration(counting, locals, level, NamedForm::Name, code),
+        Opcode::Create(width) => {
+            named_declaration(counting, locals, level, NamedForm::Create(width), code)
+        }
+        Opcode::CreateField => {
+            named_declaration(counting, locals, level, NamedForm::CreateField, code)
+        }
+        Opcode::Region => named_declaration(counting, locals, level, NamedForm::Region, code),
+        Opcode::Mutex => named_declaration(counting, locals, level, NamedForm::Mutex, code),
+        Opcode::Event => named_declaration(counting, locals, level, NamedForm::Event, code),
+        Opcode::Field => units_declaration(counting, locals, level, UnitsForm::Field, code),
+        Opcode::IndexField => {
+            units_declaration(counting, locals, level, UnitsForm::IndexField, code)
+        }
+        Opcode::BankField => {
+            units_declaration(counting, locals, level, UnitsForm::BankField, code)
+        }
         Opcode::Buffer => buffer(
             &Here {
                 counting: &*counting,

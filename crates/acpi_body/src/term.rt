@@ -346,8 +346,8 @@ pub(crate) fn term<C: Counting>(
     placed(counting, level - 1, place, &front, opcode, code)
 }
 
-/// The term at the front, at a place, `level` levels being left for it: a value, a super name, an element, data, or what
-/// stands as a statement and is no block and no declaration. Behind a name where it calls stand as many values as
+/// The term at the front, at a place, `level` levels being left for it: a value, a super name, an element, data, or
+/// what stands as a statement and is no block and no declaration. Behind a name where it calls stand as many values as
 /// `counting` says, and a name of which it isn't sure is refused as `Unsure`; LoadTable, Load and Unload stand where it
 /// allows them, and are refused as `LeftOut` where it doesn't.
 pub fn read_term<C: Counting>(

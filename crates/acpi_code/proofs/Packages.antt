@@ -1,6 +1,6 @@
 -- Packages: what is spelled is read, what is read is spelled, or the fault is true.
 use Rattle.std.proofs.Common.{◌≡◌, ℕ, suc, ◌-◌, ◌+◌, ◌≤◌, ◌<◌, Bool, true, false, ltb, ◌||◌, ◌⊎◌, List, [], ◌∷◌, ◌++◌, length, take, drop, Ok, refl, sym, ap, subst, ◌∙◌, append_assoc, arith, inl, inr}
-use Rattle.std.proofs.lemmas.Bool.{le-ltb, ltb-false, ltb-true}
+use Rattle.std.proofs.lemmas.Bool.{le-ltb, ltb-false, ltb-true, or_parts}
 use Rattle.std.proofs.lemmas.List.{length-append, length-take, take-append-drop, take_at, drop_at}
 use Rattle.acpi_table.specs.PkgLength.{SpellsPkgLength}
 use Rattle.acpi_code.specs.declared.opcode.Opcode.{Opcode}
@@ -133,10 +133,6 @@ or_true : (a b : Bool) → (a || b) ≡ true → (a ≡ true) ⊎ (b ≡ true)
 or_true true b e = inl refl
 or_true false b e = inr e
 
-or_false : (a b : Bool) → (a || b) ≡ false → (a ≡ false) × (b ≡ false)
-or_false true b e = absurd cc
-or_false false b e = (refl, e)
-
 pub package_bare : (s : Source) (level end : ℕ) (bytes : List ℕ) → AtPackage s.depth level s.code end bytes → Judge (GoodPackage s level end bytes) (Bare s) (package_at end bytes)
 unfolding package_at
 package_bare s level end bytes there =
@@ -171,7 +167,7 @@ package_bare s level end bytes there =
       bad = bad;
     })
     (λ good.
-    let both = or_false (ltb n.0 used) (ltb (length bytes) n.0) good in
+    let both = or_parts (ltb n.0 used) (ltb (length bytes) n.0) good in
     let low : length bytes - length n.1 ≤ n.0 = ltb-false _ _ both.0 in
     let high : n.0 ≤ length bytes = ltb-false _ _ both.1 in
     let k = n.0 - used in

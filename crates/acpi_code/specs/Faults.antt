@@ -23,7 +23,8 @@ ByteAt Is code place = (b : ℕ) × (rest : List ℕ) × (drop place code ≡ b 
 
 -- what begins at the place passes the test (20.3)
 abbrev pub Begins : (Opcode → Bool) → List ℕ → ℕ → Type 0
-Begins test code place = (opcode : Opcode) × (first_opcode (drop place code) ≡ Some opcode) × (test opcode ≡ true)
+Begins test code place =
+    (opcode : Opcode) × (first_opcode (drop place code) ≡ Some opcode) × (test opcode ≡ true)
 
 -- directly before the place stands an opcode that passes the test (20.3)
 pub record FollowsOpcode (test : Opcode → Bool) (code : List ℕ) (place : ℕ) : Type 0 where
@@ -62,8 +63,9 @@ has_package opcodes.Power = true
 has_package opcodes.Thermal = true
 has_package _ = false
 
--- What a package holds, from `start` to `end`. It stands in a list that goes from `outer` to `outer_end`: directly behind the
--- opcode of a form that has a package stands its length, which counts its own bytes too and ends within that list.
+-- What a package holds, from `start` to `end`. It stands in a list that goes from `outer` to `outer_end`: directly
+-- behind the opcode of a form that has a package stands its length, which counts its own bytes too and ends within that
+-- list.
 pub record IsPackage (code : List ℕ) (outer outer_end start end : ℕ) : Type 0 where
   pub place : ℕ
   pub n : ℕ
@@ -78,13 +80,15 @@ pub record IsPackage (code : List ℕ) (outer outer_end start end : ℕ) : Type 
 -- a list of terms from `start` to `end` with so many packages round it: all of the code, or what a package holds
 abbrev pub IsListWithin : ℕ → List ℕ → ℕ → ℕ → Type 0
 IsListWithin zero code start end = (start ≡ 0) × (end ≡ length code)
-IsListWithin (suc n) code start end = (outer : ℕ) × (outer_end : ℕ) × IsListWithin n code outer outer_end × IsPackage code outer outer_end start end
+IsListWithin (suc n) code start end = (outer : ℕ) × (outer_end : ℕ)
+    × IsListWithin n code outer outer_end × IsPackage code outer outer_end start end
 
 -- a list of terms from `start` to `end`
 abbrev pub IsList : List ℕ → ℕ → ℕ → Type 0
 IsList code start end = (n : ℕ) × IsListWithin n code start end
 
--- a package length in a list, directly behind an opcode, that is less than its own number of bytes or goes past the end of the list
+-- a package length in a list, directly behind an opcode, that is less than its own number of bytes or goes past the end
+-- of the list
 pub record IsOverrun (code : List ℕ) (place : ℕ) : Type 0 where
   pub n : ℕ
   pub stands : HasLength code place n
@@ -138,7 +142,8 @@ is_no_constant _ = true
 -- The same of a constant. NotConstant: this opcode begins there, and is no constant's.
 abbrev pub ShowsConstant : ℕ → List ℕ → ConstantFault → Type 0
 ShowsConstant depth code (Part f) = ShowsPart depth code f.reason f.place
-ShowsConstant depth code (NotConstant opcode place) = (first_opcode (drop place code) ≡ Some opcode) × (is_no_constant opcode ≡ true)
+ShowsConstant depth code (NotConstant opcode place) =
+    (first_opcode (drop place code) ≡ Some opcode) × (is_no_constant opcode ≡ true)
 
 -- ---- what the fault of a field element shows
 
@@ -151,7 +156,8 @@ pub record IsElementOf (code : List ℕ) (start place : ℕ) : Type 0 where
   pub spells : SpellsFields elements front
   pub behind : place ≡ start + length front
 
--- the size of a connection's buffer must begin at the place: directly behind 02, BufferOp and a package length (20.2.5.2)
+-- the size of a connection's buffer must begin at the place: directly behind 02, BufferOp and a package length
+-- (20.2.5.2)
 pub record IsConnectionSize (code : List ℕ) (place : ℕ) : Type 0 where
   pub at : ℕ
   pub n : ℕ
@@ -167,7 +173,8 @@ HasNoSegment IsElement code place = IsElement place × (is_segment_front (drop p
 
 -- What a reason says of a part of a field element, which has no level and no string.
 abbrev pub ShowsElementPart : (ℕ → Type 0) → List ℕ → CodeReason → ℕ → Type 0
-ShowsElementPart IsElement code BadName place = ShowsPart 0 code BadName place ⊎ HasNoSegment IsElement code place
+ShowsElementPart IsElement code BadName place =
+    ShowsPart 0 code BadName place ⊎ HasNoSegment IsElement code place
 ShowsElementPart IsElement code BadString place = ⊥
 ShowsElementPart IsElement code TooDeep place = ⊥
 ShowsElementPart IsElement code why place = ShowsPart 0 code why place
@@ -175,4 +182,5 @@ ShowsElementPart IsElement code why place = ShowsPart 0 code why place
 -- The same of a field element. NotConstant: the size of a connection's buffer is no constant.
 abbrev pub ShowsElement : (ℕ → Type 0) → List ℕ → ConstantFault → Type 0
 ShowsElement IsElement code (Part f) = ShowsElementPart IsElement code f.reason f.place
-ShowsElement IsElement code (NotConstant opcode place) = ShowsConstant 0 code (NotConstant opcode place) × IsConnectionSize code place
+ShowsElement IsElement code (NotConstant opcode place) =
+    ShowsConstant 0 code (NotConstant opcode place) × IsConnectionSize code place

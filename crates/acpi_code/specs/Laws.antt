@@ -5,4 +5,5 @@ use Rattle.acpi_code.specs.Opcodes.{first_opcode, opcode_bytes, is_spelled}
 
 -- the bytes of each opcode that has some begin it
 abbrev pub BytesBeginOpcodes : Type 0
-BytesBeginOpcodes = (o : Opcode) (rest : List ℕ) → is_spelled o ≡ true → first_opcode (opcode_bytes o ++ rest) ≡ Some o
+BytesBeginOpcodes = (o : Opcode) (rest : List ℕ) → is_spelled o ≡ true
+    → first_opcode (opcode_bytes o ++ rest) ≡ Some o

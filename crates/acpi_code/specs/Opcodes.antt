@@ -11,7 +11,8 @@ use Rattle.acpi_tree.specs.Operators.{row_of, operators}
 
 -- ---- the bytes of each opcode
 
--- CreateDWordFieldOp and the like (20.2.5.2)
+-- CreateDWordFieldOp := 0x8A, CreateWordFieldOp := 0x8B, CreateByteFieldOp := 0x8C, CreateBitFieldOp := 0x8D,
+-- CreateQWordFieldOp := 0x8F (20.2.5.2)
 abbrev pub width_bytes : Width → List ℕ
 width_bytes widths.DWord = 0x8A ∷ []
 width_bytes widths.Word = 0x8B ∷ []
@@ -23,7 +24,8 @@ width_bytes widths.QWord = 0x8F ∷ []
 abbrev pub operator_bytes : Op → List ℕ
 operator_bytes op = (row_of op).opcode
 
--- The bytes of an opcode (20.3). Names begin in many ways, and what is no opcode has none.
+-- The bytes of an opcode (20.3), of which those of two bytes begin with ExtOpPrefix := 0x5B. Names begin in many ways,
+-- and what is no opcode has none.
 abbrev pub opcode_bytes : Opcode → List ℕ
 opcode_bytes (opcodes.Constant forms.Zero) = 0x00 ∷ []
 opcode_bytes (opcodes.Constant forms.One) = 0x01 ∷ []

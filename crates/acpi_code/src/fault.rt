@@ -35,7 +35,7 @@ pub enum CodeReason {
 #[derive(Clone, Copy, Debug, PartialEq, Eq, Error)]
 #[error("{reason}")]
 pub struct CodeFault {
-    /// What is wrong.
+    /// What is wrong at the place.
     pub reason: CodeReason,
     /// Where, in bytes from the first byte of the code.
     pub place: usize,

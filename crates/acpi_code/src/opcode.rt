@@ -13,21 +13,21 @@ use acpi_tree::{Op, Width};
 /// How a constant integer is written (ACPI 6.5, 20.2.3 ComputationalData).
 #[derive(Clone, Copy, Debug, PartialEq, Eq)]
 pub enum ConstantForm {
-    /// ZeroOp
+    /// ZeroOp, 00.
     Zero,
-    /// OneOp
+    /// OneOp, 01.
     One,
-    /// OnesOp
+    /// OnesOp, FF.
     Ones,
-    /// RevisionOp
+    /// RevisionOp, 5B 30.
     Revision,
-    /// BytePrefix
+    /// BytePrefix, 0A, behind which one byte stands.
     Byte,
-    /// WordPrefix
+    /// WordPrefix, 0B, behind which two bytes stand.
     Word,
-    /// DWordPrefix
+    /// DWordPrefix, 0C, behind which four bytes stand.
     DWord,
-    /// QWordPrefix
+    /// QWordPrefix, 0E, behind which eight bytes stand.
     QWord,
 }
 
@@ -36,65 +36,65 @@ pub enum ConstantForm {
 pub enum Opcode {
     /// A constant integer.
     Constant(ConstantForm),
-    /// StringPrefix
+    /// StringPrefix, 0D.
     Str,
-    /// BufferOp
+    /// BufferOp, 11.
     Buffer,
-    /// PackageOp
+    /// PackageOp, 12.
     Package,
-    /// VarPackageOp
+    /// VarPackageOp, 13.
     VarPackage,
     /// A NameString whose first byte is not 00.
     Name,
-    /// Local0Op to Local7Op
+    /// Local0Op to Local7Op, 60 to 67: the number of the local.
     Local(u8),
-    /// Arg0Op to Arg6Op
+    /// Arg0Op to Arg6Op, 68 to 6E: the number of the argument.
     Arg(u8),
-    /// DebugOp
+    /// DebugOp, 5B 31.
     Debug,
-    /// An operator (20.2.5.3, 20.2.5.4), or Unload of older editions
+    /// An operator (20.2.5.3, 20.2.5.4), or Unload of older editions.
     Operator(Op),
-    /// IfOp
+    /// IfOp, A0.
     If,
-    /// ElseOp
+    /// ElseOp, A1.
     Else,
-    /// WhileOp
+    /// WhileOp, A2.
     While,
-    /// NameOp
+    /// NameOp, 08.
     DeclareName,
-    /// ScopeOp
+    /// ScopeOp, 10.
     Scope,
-    /// MethodOp
+    /// MethodOp, 14.
     Method,
-    /// ExternalOp
+    /// ExternalOp, 15.
     External,
-    /// CreateDWordFieldOp and the like
+    /// CreateDWordFieldOp and the like, 8A to 8D and 8F: the width of the field.
     Create(Width),
-    /// CreateFieldOp
+    /// CreateFieldOp, 5B 13.
     CreateField,
-    /// MutexOp
+    /// MutexOp, 5B 01.
     Mutex,
-    /// EventOp
+    /// EventOp, 5B 02.
     Event,
-    /// OpRegionOp
+    /// OpRegionOp, 5B 80.
     Region,
-    /// FieldOp
+    /// FieldOp, 5B 81.
     Field,
-    /// DeviceOp
+    /// DeviceOp, 5B 82.
     Device,
-    /// ProcessorOp, as ACPI 6.3 and earlier have it
+    /// ProcessorOp, 5B 83, as ACPI 6.3 and earlier have it.
     Processor,
-    /// PowerResOp
+    /// PowerResOp, 5B 84.
     Power,
-    /// ThermalZoneOp
+    /// ThermalZoneOp, 5B 85.
     Thermal,
-    /// IndexFieldOp
+    /// IndexFieldOp, 5B 86.
     IndexField,
-    /// BankFieldOp
+    /// BankFieldOp, 5B 87.
     BankField,
-    /// AliasOp
+    /// AliasOp, 06.
     Alias,
-    /// DataRegionOp
+    /// DataRegionOp, 5B 88.
     DataRegion,
     /// No opcode that is read here.
     Nothing,

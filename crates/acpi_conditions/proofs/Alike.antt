@@ -70,10 +70,6 @@ alike_followed here rest bh br a k q h =
     alike_joined k q x y (rest (passing a x) (behind k x)) (rest (passing a y) (behind q y)) o
     (subst (λ (b : Around). AreAlike (behind k x) (behind q y) (rest (passing a x) (behind k x)) (rest b (behind q y))) same (br (passing a x) (behind k x) (behind q y) o.behind_them))
 
-none_more : {X : Type 0} (xs : List X) → xs ++ [] ≡ xs
-none_more [] = refl
-none_more (x ∷ xs) = ap (λ ys. x ∷ ys) (none_more xs)
-
 -- where nothing is declared and nothing new is certain
 alike_idle : (k q : Known) (rs : List Refusal) (ms : List StopAt) → AnswerAlike k q
     → AreAlike k q (record { entries = []; refused = rs; stops = ms; certain = k.certain }) (record { entries = []; refused = rs; stops = ms; certain = q.certain })

@@ -3,6 +3,7 @@ use Rattle.std.proofs.Common.{◌≡◌, Bool, true, false, cond, not, ◌&&◌,
 use Rattle.std.specs.List.{filter, flat_map, list_any}
 use Rattle.std.specs.Prelude.{IsTrue}
 use Rattle.std.proofs.lemmas.List.Folds.{list_any-append}
+use Rattle.std.proofs.Math.Bool.{and-true}
 use Rattle.acpi_name.specs.Names.{NameParts}
 use Rattle.acpi_space.specs.Search.{tries}
 use Rattle.acpi_space.specs.Lookups.{is_same_path}
@@ -41,16 +42,12 @@ nothing_asked false true found e = cc
 nothing_asked false false true e = (refl, refl, refl)
 nothing_asked false false false e = cc
 
-and_true : (b : Bool) → (b && true) ≡ b
-and_true true = refl
-and_true false = refl
-
 settled_once : (f : Entry) → IsTrue (asks_nothing f.asks) → settled f ≡ made f ∷ []
 settled_once f h =
     let n = nothing_asked f.asks.has f.asks.no (is_empty f.asks.needs) h in
     ap₂ (λ has found. cond (has || not found) [] (record { path = f.path; is_scope = f.term.is_scope && not f.asks.no } ∷ [])) n.0 n.2
     ∙ ap (λ free. record { path = f.path; is_scope = f.term.is_scope && not free } ∷ []) n.1
-    ∙ ap (λ b. record { path = f.path; is_scope = b } ∷ []) (and_true f.term.is_scope)
+    ∙ ap (λ b. record { path = f.path; is_scope = b } ∷ []) (and-true f.term.is_scope)
 
 module _ (k : Known) (f : Entry) (es : List Entry) (e : Entry) (h : HasNoCondition f) where
   open_entries : k.entries ++ filter (λ x. not (are_exclusive x.way e.way)) (f ∷ es) ≡ (k.entries ++ f ∷ []) ++ filter (λ x. not (are_exclusive x.way e.way)) es

@@ -1,26 +1,16 @@
 -- Tests and lists.
-use Rattle.std.proofs.Common.{◌≡◌, Bool, true, false, cond, not, ◌&&◌, ◌||◌, List, [], ◌∷◌, ◌++◌, map, find, is_some, ◌⊎◌, inl, inr, Option, Some, None, Result, Ok, Err, IfOk, refl, sym, ap, ◌∙◌}
+use Rattle.std.proofs.Common.{◌≡◌, Bool, true, false, cond, ◌&&◌, ◌||◌, List, [], ◌∷◌, ◌++◌, map, find, ◌⊎◌, inl, inr, Option, Some, None, Result, Ok, Err, IfOk, refl, sym, ap, ◌∙◌}
 use Rattle.std.specs.List.{AllByRecursion, filter, flat_map, list_any}
 use Rattle.std.specs.Option.{option_or}
+use Rattle.std.proofs.lemmas.Bool.{or_left, or_right}
 use Rattle.acpi_name.proofs.EqualPaths.{path_eq_Decides}
 use Rattle.acpi_space.specs.Lookups.{is_same_path, singleton, union}
 use Rattle.acpi_space.specs.Laws.{Among}
+use Rattle.acpi_space.proofs.Elements.{among_append, one_some}
 use Rattle.acpi_conditions.specs.Nodes.{Term}
 use Rattle.acpi_conditions.specs.Entries.{Path, Namespace}
 
 -- ---- tests
-
-pub or_left : (a b : Bool) → a ≡ true → (a || b) ≡ true
-or_left true b e = refl
-or_left false b e = cc
-
-pub or_right : (a b : Bool) → b ≡ true → (a || b) ≡ true
-or_right true b e = refl
-or_right false b e = e
-
-pub or_falses : (a b : Bool) → (a || b) ≡ false → (a ≡ false) × (b ≡ false)
-or_falses true b e = cc
-or_falses false b e = (refl, e)
 
 pub and_left : (a b : Bool) → (a && b) ≡ true → a ≡ true
 and_left true b e = refl
@@ -30,72 +20,10 @@ pub and_right : (a b : Bool) → (a && b) ≡ true → b ≡ true
 and_right true b e = e
 and_right false b e = cc
 
-pub and_both : (a b : Bool) → a ≡ true → b ≡ true → (a && b) ≡ true
-and_both true b e f = f
-and_both false b e f = cc
-
-pub not_is : (a : Bool) → not a ≡ true → a ≡ false
-not_is true e = cc
-not_is false e = refl
-
-pub not_not : (a : Bool) → not a ≡ false → a ≡ true
-not_not true e = refl
-not_not false e = cc
-
 pub never : (a : Bool) → a ≡ true → a ≡ false → ⊥
 never a e f = cc
 
-pub is_false : (a : Bool) → (a ≡ true → ⊥) → a ≡ false
-is_false true f = absurd (f refl)
-is_false false f = refl
-
--- ---- options
-
-pub none_of : {V : Type 0} (a : Option V) → ((o : V) → a ≡ Some o → ⊥) → a ≡ None
-none_of None f = refl
-none_of (Some o) f = absurd (f o refl)
-
-pub one_some : {V : Type 0} (a b : V) → Some a ≡ Some b → a ≡ b
-one_some a b e = cc
-
-pub not_both : {V : Type 0} (a : Option V) (o : V) → a ≡ Some o → a ≡ None → ⊥
-not_both a o e f = cc
-
-pub some_is : {V : Type 0} (a : Option V) → is_some a ≡ true → (o : V) × (a ≡ Some o)
-some_is None e = cc
-some_is (Some o) e = (o, refl)
-
-pub none_is : {V : Type 0} (a : Option V) → is_some a ≡ false → a ≡ None
-none_is None e = refl
-none_is (Some o) e = cc
-
 -- ---- elements
-
-pub among_left : {X : Type 0} (xs ys : List X) (x : X) → Among xs x → Among (xs ++ ys) x
-among_left [] ys x m = absurd m
-among_left (y ∷ xs) ys x (inl e) = inl e
-among_left (y ∷ xs) ys x (inr m) = inr (among_left xs ys x m)
-
-pub among_right : {X : Type 0} (xs ys : List X) (x : X) → Among ys x → Among (xs ++ ys) x
-among_right [] ys x m = m
-among_right (y ∷ xs) ys x m = inr (among_right xs ys x m)
-
-pub among_append : {X : Type 0} (xs ys : List X) (x : X) → Among (xs ++ ys) x → Among xs x ⊎ Among ys x
-among_append [] ys x m = inr m
-among_append (y ∷ xs) ys x (inl e) = inl (inl e)
-among_append (y ∷ xs) ys x (inr m) = by (among_append xs ys x m)
-  where
-    by : Among xs x ⊎ Among ys x → Among (y ∷ xs) x ⊎ Among ys x
-    by (inl m) = inl (inr m)
-    by (inr m) = inr m
-
-pub all_append : {X : Type 0} (P : X → Type 0) (xs ys : List X) → AllByRecursion P xs → AllByRecursion P ys → AllByRecursion P (xs ++ ys)
-all_append P [] ys a b = b
-all_append P (x ∷ xs) ys a b = (a.0, all_append P xs ys a.1 b)
-
-pub all_map : {X : Type 0} (P Q : X → Type 0) → ((x : X) → P x → Q x) → (xs : List X) → AllByRecursion P xs → AllByRecursion Q xs
-all_map P Q f [] h = tt
-all_map P Q f (x ∷ xs) h = (f x h.0, all_map P Q f xs h.1)
 
 pub append_nothing : {X : Type 0} (xs ys : List X) → xs ++ ys ≡ [] → (xs ≡ []) × (ys ≡ [])
 append_nothing [] ys e = (refl, e)

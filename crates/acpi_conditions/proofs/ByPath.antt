@@ -12,10 +12,13 @@ use Rattle.std.proofs.lemmas.List.Sorted.{IsPermutation-refl, IsPermutation-map,
 use Rattle.std.proofs.lemmas.Option.{slice_get-map}
 use Rattle.std.proofs.lemmas.Grind.{flat_map-append}
 use Rattle.std.proofs.lemmas.Simd.{map-map}
+use Rattle.std.proofs.lemmas.Bool.{false_from_ne_true}
 use Rattle.acpi_name.specs.Paths.{path_cmp}
 use Rattle.acpi_space.specs.Laws.{Among}
 use Rattle.acpi_space.specs.Lookups.{is_same_path}
 use Rattle.acpi_space.proofs.Keys.{keys_ascend}
+use Rattle.acpi_space.proofs.Filters.{filter_all}
+use Rattle.acpi_space.proofs.Elements.{one_some}
 use Rattle.acpi_conditions.specs.ByPath.{AreByPath, lent_pair, numbered_cmp, numbered_from}
 use Rattle.acpi_conditions.specs.Entries.{Path, Entry}
 use Rattle.acpi_conditions.specs.EntryForms.{entry_view}
@@ -26,7 +29,8 @@ use Rattle.acpi_conditions.specs.declared.slots.Slots.{Slots}
 use Rattle.acpi_conditions.specs.steps.Facts.{kept_in, paths_in, sights_beyond}
 use Rattle.acpi_conditions.specs.steps.SlotPairs.{pairs_in, slot_pairs}
 use Rattle.acpi_conditions.specs.steps.Slots.{Here, here_of, IsNumbered}
-use Rattle.acpi_conditions.proofs.Basics.{is_false, never, one_some, path_itself, same_path}
+use Rattle.acpi_conditions.proofs.Basics.{never, path_itself, same_path}
+use Rattle.acpi_conditions.proofs.Strict.{none_pass}
 
 abbrev paths_of : List Entry → List Path
 paths_of es = map (λ (e : Entry). e.path) es
@@ -61,14 +65,6 @@ numbered_at p n (e ∷ es) = by (is_same_path e.path p) refl (numbered_at p (suc
     by false same more = more
 
 -- ---- pairs by their paths
-
-all_pass : {X : Type 0} (xs : List X) → filter (λ x. true) xs ≡ xs
-all_pass [] = refl
-all_pass (x ∷ xs) = ap (λ ys. x ∷ ys) (all_pass xs)
-
-none_passes : {X : Type 0} (test : X → Bool) (xs : List X) → AllByRecursion (λ x. test x ≡ false) xs → filter test xs ≡ []
-none_passes test [] h = refl
-none_passes test (x ∷ xs) h = ap (λ b. cond b (x ∷ filter test xs) (filter test xs)) h.0 ∙ none_passes test xs h.1
 
 both_pass : {X : Type 0} (p q r : X → Bool) → ((x : X) → cond (q x) (p x) false ≡ r x) → (xs : List X) → filter p (filter q xs) ≡ filter r xs
 both_pass p q r same [] = refl
@@ -106,7 +102,7 @@ apart_and_elsewhere k ks x = by (is_same_path x.0 k)
 -- the pairs of each path, and those of no path that is told
 parted : (ks : List Path) (xs : List (Path × ℕ)) → IsStrictlySortedBy path_cmp ks → IsPermutation xs (flat_map (λ k. filter (at k) xs) ks ++ filter (elsewhere ks) xs)
 unfolding IsStrictlySortedBy
-parted [] xs s = subst (λ ys. IsPermutation xs ys) (sym (all_pass xs)) (IsPermutation-refl xs)
+parted [] xs s = subst (λ ys. IsPermutation xs ys) (sym (filter_all xs)) (IsPermutation-refl xs)
 parted (k ∷ ks) xs s =
     let ys : List (Path × ℕ) = filter (apart k) xs in
     let later : List (Path × ℕ) = flat_map (λ j. filter (at j) xs) ks in
@@ -134,7 +130,7 @@ found_each : (f : Path → Option ℕ) (xs : List (Path × ℕ)) → IsStrictlyS
 unfolding IsStrictlySortedBy
 found_each f [] s h = tt
 found_each f (x ∷ xs) s h =
-    let other = λ (p : Path) (m : Among (firsts xs) p). is_false (is_same_path p x.0) (λ same. not_below_itself x.0 p (among_above x.0 (firsts xs) p s.0 m) (sym (same_path p x.0 same))) in (
+    let other = λ (p : Path) (m : Among (firsts xs) p). false_from_ne_true (is_same_path p x.0) (λ same. not_below_itself x.0 p (among_above x.0 (firsts xs) p s.0 m) (sym (same_path p x.0 same))) in (
       h x.0 (inl refl) ∙ ap (λ b. cond b (Some x.1) (find path_cmp x.0 xs)) (path_itself x.0 x.0 refl),
       found_each f xs s.1 (λ p m. h p (inr m) ∙ ap (λ b. cond b (Some x.1) (find path_cmp p xs)) (other p m)),
     )
@@ -216,7 +212,7 @@ module _ (slots : Slots) (es : List Entry) (numbered : IsNumbered slots.numbers 
   all_numbered order is =
       let each = found_each (get slots.numbers) (entries slots.numbers) (keys_ascend slots.numbers) (λ p m. get-entries slots.numbers p) in
       let none : filter (elsewhere (keys slots.numbers)) (numbered_from 0 (paths_of es)) ≡ [] =
-      none_passes (elsewhere (keys slots.numbers)) (numbered_from 0 (paths_of es))
+      none_pass (elsewhere (keys slots.numbers)) (numbered_from 0 (paths_of es))
       (all_seen (λ p. not (list_any (λ k. is_same_path p k) (keys slots.numbers)) ≡ false) 0 es among_keys) in
       let told : List (Path × ℕ) = flat_map (λ k. filter (at k) (numbered_from 0 (paths_of es))) (keys slots.numbers) in
       subst (λ ys. IsPermutation (numbered_from 0 (paths_of es)) ys)

@@ -5,10 +5,11 @@ use Rattle.acpi_name.specs.Names.{Segment, NameParts}
 use Rattle.acpi_name.specs.Paths.{place_of, parent_of}
 use Rattle.acpi_space.specs.Lookups.{is_defined_in}
 use Rattle.acpi_space.specs.Search.{answer}
+use Rattle.acpi_space.proofs.Elements.{one_some, not_both}
 use Rattle.acpi_conditions.specs.Nodes.{Place, Term, Nodes, no_nodes, declares, opens, branch, loop, stop}
 use Rattle.acpi_conditions.specs.Entries.{Path, Namespace, IsScopeIn, IsFoundIn, Turn, then_branch, within}
 use Rattle.acpi_conditions.specs.Runs.{Makes, State, state_inside, state_past, Ending, goes_on, stops, Running, IsFollowed, IsDeclaring, Finds, with_turn, with_stop, IsOpening, IsBranching, IsLooping, IsStopping, IsRun, AreRuns}
-use Rattle.acpi_conditions.proofs.Basics.{one_some, not_both, never}
+use Rattle.acpi_conditions.proofs.Basics.{never}
 
 -- ---- what can be decided
 

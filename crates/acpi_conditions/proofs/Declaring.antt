@@ -2,17 +2,19 @@
 use Rattle.std.proofs.Common.{◌≡◌, ◌≢◌, Bool, true, false, cond, not, ◌&&◌, ◌||◌, List, [], ◌∷◌, ◌++◌, ◌⊎◌, inl, inr, Option, Some, None, refl, sym, ap, subst, Ok, Err}
 use Rattle.std.specs.List.{AllByRecursion}
 use Rattle.std.specs.Prelude.{IsTrue}
+use Rattle.std.proofs.lemmas.Bool.{or_parts, not-true, not-false}
 use Rattle.acpi_name.specs.Names.{Segment, NameParts}
 use Rattle.acpi_name.specs.Paths.{place_of, parent_of}
 use Rattle.acpi_space.specs.Lookups.{singleton, union}
 use Rattle.acpi_space.specs.Laws.{Among}
+use Rattle.acpi_space.proofs.Elements.{among_left, among_right}
 use Rattle.acpi_conditions.specs.Nodes.{Term}
 use Rattle.acpi_conditions.specs.Entries.{Path, Namespace, IsScopeIn, IsFoundIn, is_empty, asks_nothing, Entry, Holds, Why, no_parent, not_a_scope, taken, unsure}
 use Rattle.acpi_conditions.specs.Known.{Certain, Known, is_certain, is_certain_scope, is_possible, is_possible_scope, candidates, is_certain_name, declared_in, declared_at, settled, why_missing, opened_in, opened_at, IsTrueOf}
 use Rattle.acpi_conditions.specs.Survey.{Around, entry_at, known_inside, known_in_scope}
 use Rattle.acpi_conditions.specs.Runs.{Makes, Finds}
 use Rattle.acpi_conditions.specs.Laws.{IsSure}
-use Rattle.acpi_conditions.proofs.Basics.{or_falses, and_left, and_right, not_is, not_not, never, all_filter, all_both, among_left, among_right, union_grows, union_new, union_cases}
+use Rattle.acpi_conditions.proofs.Basics.{and_left, and_right, never, all_filter, all_both, union_grows, union_new, union_cases}
 use Rattle.acpi_conditions.proofs.Knowing.{certain_scope_made, free_uncertain, made_possible, made_possible_scope, impossible_free, certain_found, found_candidate, one_found}
 
 -- ---- where a term is not refused
@@ -41,8 +43,8 @@ below_allowed k q p false b c x y z = cc
 
 asks_no_more : (e : Entry) → asks_nothing e.asks ≡ true → (e.asks.has ≡ false) × (e.asks.no ≡ false) × (is_empty e.asks.needs ≡ true)
 asks_no_more e q = (
-  not_is e.asks.has (and_left (not e.asks.has) (not e.asks.no) (and_left (not e.asks.has && not e.asks.no) (is_empty e.asks.needs) q)),
-  not_is e.asks.no (and_right (not e.asks.has) (not e.asks.no) (and_left (not e.asks.has && not e.asks.no) (is_empty e.asks.needs) q)),
+  not-true e.asks.has (and_left (not e.asks.has) (not e.asks.no) (and_left (not e.asks.has && not e.asks.no) (is_empty e.asks.needs) q)),
+  not-true e.asks.no (and_right (not e.asks.has) (not e.asks.no) (and_left (not e.asks.has && not e.asks.no) (is_empty e.asks.needs) q)),
   and_right (not e.asks.has && not e.asks.no) (is_empty e.asks.needs) q,
 )
 
@@ -77,7 +79,7 @@ module _ (objects : Namespace) (k : Known) (h : IsTrueOf objects k) where
     placed = (declared_is k a.scope t.name p ok).1;
     parent = parent (is_certain_scope k (parent_of p)) refl;
     free = free (is_possible k p) refl;
-    needs = all_both (IsFoundIn objects a.scope) (λ n. not (is_certain_name k a.scope n)) (λ n e. certain_found objects k h a.scope n (not_not (is_certain_name k a.scope n) e)) t.needs so.needs;
+    needs = all_both (IsFoundIn objects a.scope) (λ n. not (is_certain_name k a.scope n)) (λ n e. certain_found objects k h a.scope n (not-false (is_certain_name k a.scope n) e)) t.needs so.needs;
   }
     where
       parent : (b : Bool) → is_certain_scope k (parent_of p) ≡ b → IsScopeIn objects (parent_of p)
@@ -123,16 +125,16 @@ module _ (objects : Namespace) (k : Known) (h : IsTrueOf objects k) (a : Around)
   there_at : (b : Bool) → (e.asks.has || not (is_empty e.asks.needs)) ≡ b → (o : Option Term) → objects p ≡ o → AreCertain objects (cond b [] (record { path = p; is_scope = t.is_scope && not e.asks.no } ∷ []))
   there_at true x o y = λ c f. absurd f
   there_at false x None y =
-      let n = or_falses e.asks.has (not (is_empty e.asks.needs)) x in
+      let n = or_parts e.asks.has (not (is_empty e.asks.needs)) x in
       let so : Holds objects e = record {
         has = λ t. absurd (never e.asks.has t n.0);
         no = λ t. y;
-        needs = all_empty (IsFoundIn objects a.scope) e.asks.needs (not_not (is_empty e.asks.needs) n.1);
+        needs = all_empty (IsFoundIn objects a.scope) e.asks.needs (not-false (is_empty e.asks.needs) n.1);
       } in
       absurd (none p (holds_makes objects k h a t p ok so))
   there_at false x (Some u) y =
       let asked : e.asks.no ≡ true = made_possible objects k h p u y in
-      settled_at objects e u y (λ b. absurd (never e.asks.no asked (not_is e.asks.no (and_right t.is_scope (not e.asks.no) b)))) false
+      settled_at objects e u y (λ b. absurd (never e.asks.no asked (not-true e.asks.no (and_right t.is_scope (not e.asks.no) b)))) false
 
   -- .. and behind one that didn't
   pub settled_unmade : AreCertain objects (settled e)

@@ -12,7 +12,7 @@ use Rattle.acpi_conditions.specs.declared.slots.Sight.{Sight}
 use Rattle.acpi_conditions.specs.declared.slots.Slot.{Slot}
 use Rattle.acpi_conditions.specs.declared.slots.Slots.{Slots}
 use Rattle.acpi_conditions.specs.declared.facts.Fact.{Fact}
-use Rattle.acpi_conditions.specs.declared.facts.Hidden.{Hidden}
+use Rattle.acpi_conditions.specs.declared.facts.HiddenRange.{HiddenRange}
 use Rattle.acpi_conditions.specs.steps.Slots.{Here, with_certain, kept_over, path_in, HasMore, IsNumbered}
 use Rattle.acpi_conditions.specs.Presences.{is_something, is_a_scope}
 use Rattle.acpi_conditions.specs.steps.Facts.{raised, certain_of, certainty_at, AreFacts, sights_beyond, is_seen, is_scope_seen, kept_in, paths_in, certain_by, IsCertainBy, SameSights}
@@ -76,14 +76,14 @@ one_more_scope true false false l r e = e
 one_more_scope false b true l r e = e
 one_more_scope false b false l r e = e
 
-pub possible_is : (ranges : List Hidden) (p : Path) (n : ℕ) (es : List Entry) → list_any (λ e. is_same_path e.path p) (seen_beyond ranges n es) ≡ is_seen ranges (sights_beyond p n es)
+pub possible_is : (ranges : List HiddenRange) (p : Path) (n : ℕ) (es : List Entry) → list_any (λ e. is_same_path e.path p) (seen_beyond ranges n es) ≡ is_seen ranges (sights_beyond p n es)
 possible_is ranges p n [] = refl
 possible_is ranges p n (e ∷ es) =
     any_cond (λ e. is_same_path e.path p) (is_hidden ranges n) e (seen_beyond ranges (suc n) es)
     ∙ one_more (is_same_path e.path p) (is_hidden ranges n) _ _ (possible_is ranges p (suc n) es)
     ∙ sym (any_cond_more (λ x. not (is_hidden ranges x.number)) (is_same_path e.path p) (record { number = n; is_scope = e.term.is_scope }) (sights_beyond p (suc n) es))
 
-pub possible_scope_is : (ranges : List Hidden) (p : Path) (n : ℕ) (es : List Entry)
+pub possible_scope_is : (ranges : List HiddenRange) (p : Path) (n : ℕ) (es : List Entry)
     → list_any (λ e. is_same_path e.path p && e.term.is_scope) (seen_beyond ranges n es) ≡ is_scope_seen ranges (sights_beyond p n es)
 possible_scope_is ranges p n [] = refl
 possible_scope_is ranges p n (e ∷ es) =
@@ -91,7 +91,7 @@ possible_scope_is ranges p n (e ∷ es) =
     ∙ one_more_scope (is_same_path e.path p) e.term.is_scope (is_hidden ranges n) _ _ (possible_scope_is ranges p (suc n) es)
     ∙ sym (any_cond_more (λ x. x.is_scope && not (is_hidden ranges x.number)) (is_same_path e.path p) (record { number = n; is_scope = e.term.is_scope }) (sights_beyond p (suc n) es))
 
-pub scope_is_seen : (ranges : List Hidden) (xs : List Sight) → is_scope_seen ranges xs ≡ true → is_seen ranges xs ≡ true
+pub scope_is_seen : (ranges : List HiddenRange) (xs : List Sight) → is_scope_seen ranges xs ≡ true → is_seen ranges xs ≡ true
 scope_is_seen ranges xs e = any_weaker (λ (x : Sight). x.is_scope && not (is_hidden ranges x.number)) (λ (x : Sight). not (is_hidden ranges x.number)) xs (λ x is. and_right x.is_scope (not (is_hidden ranges x.number)) is) e
 
 -- ---- more paths

@@ -5,6 +5,7 @@ use Rattle.std.specs.Option.{option_map}
 use Rattle.std.proofs.lemmas.Option.{slice_get-map, slice_get_within}
 use Rattle.std.proofs.Math.Seq.{take-append_seam}
 use Rattle.acpi_space.specs.Lookups.{is_same_path}
+use Rattle.acpi_space.proofs.Elements.{one_some}
 use Rattle.acpi_conditions.specs.Entries.{Path, Turn, Entry}
 use Rattle.acpi_conditions.specs.Known.{Certain, is_certain, is_certain_scope, is_possible, is_possible_scope}
 use Rattle.std.specs.List.{list_any}
@@ -15,7 +16,7 @@ use Rattle.acpi_conditions.specs.declared.statuses.Presence.TheVariants.{Nothing
 use Rattle.acpi_conditions.specs.declared.slots.Sight.{Sight}
 use Rattle.acpi_conditions.specs.declared.slots.Slots.{Slots}
 use Rattle.acpi_conditions.specs.declared.facts.Fact.{Fact}
-use Rattle.acpi_conditions.specs.declared.facts.Hidden.{Hidden}
+use Rattle.acpi_conditions.specs.declared.facts.HiddenRange.{HiddenRange}
 use Rattle.acpi_conditions.specs.declared.entry.Entry.{Entry as EntryForm}
 use Rattle.acpi_conditions.specs.declared.known_paths.KnownPaths.TheInside.{Inside}
 use Rattle.acpi_conditions.specs.steps.Slots.{Here, nothing_here, with_sight, kept_over, path_in, HasMore, IsNumbered}
@@ -23,7 +24,7 @@ use Rattle.acpi_conditions.specs.steps.Settled.{certain_at, certain_there}
 use Rattle.acpi_conditions.specs.Presences.{is_something, is_a_scope}
 use Rattle.acpi_conditions.specs.steps.Facts.{certain_of, certainty_at, AreFacts, sights_beyond, is_seen, is_scope_seen, kept_in, paths_in, certain_by, IsCertainBy, SameSights}
 use Rattle.acpi_conditions.specs.steps.KeptPaths.{lists_of, IsKept}
-use Rattle.acpi_conditions.proofs.Basics.{one_some, same_path}
+use Rattle.acpi_conditions.proofs.Basics.{same_path}
 use Rattle.acpi_conditions.proofs.KeptSlots.{get_first, path_got}
 use Rattle.acpi_conditions.proofs.FactLists.{certain_is, certain_scope_is, possible_is, possible_scope_is, same_either_way, certain_reached, listed_reached, same_certain}
 
@@ -43,7 +44,7 @@ module _ (k : KnownLists) (p : Path) where
   pub possible_scope_in_loop : k.in_loop ≡ true → true ≡ is_possible_scope (known_by [] k) p
   possible_scope_in_loop l = ap (λ b. b || list_any (λ e. is_same_path e.path p && e.term.is_scope) (seen_beyond k.hidden 0 (map (entry_view []) k.entries))) (sym l)
 
-  module _ (ranges : List Hidden) (sights : List Sight) (r : ranges ≡ k.hidden) (s : sights ≡ sights_beyond p 0 (map (entry_view []) k.entries)) (l : k.in_loop ≡ false) where
+  module _ (ranges : List HiddenRange) (sights : List Sight) (r : ranges ≡ k.hidden) (s : sights ≡ sights_beyond p 0 (map (entry_view []) k.entries)) (l : k.in_loop ≡ false) where
     pub possible_outside : is_seen ranges sights ≡ is_possible (known_by [] k) p
     possible_outside =
         ap₂ is_seen r s ∙ sym (possible_is k.hidden p 0 (map (entry_view []) k.entries))
@@ -75,7 +76,7 @@ sights_push p n (x ∷ es) e =
     (sights_push p (suc n) es e ∙ ap (λ m. sights_beyond p (suc n) es ++ cond (is_same_path e.path p) (record { number = m; is_scope = e.term.is_scope } ∷ []) []) (omega_suc n (length es)))
 
 -- the lists, by their parts
-abbrev lists : List EntryForm → List Certain → List Hidden → Bool → KnownLists
+abbrev lists : List EntryForm → List Certain → List HiddenRange → Bool → KnownLists
 lists es cs hs b = record { entries = es; certain = cs; hidden = hs; in_loop = b }
 
 -- ---- the slots of the entries
@@ -209,7 +210,7 @@ pub same_kept : (k new : Inside) → IsKept k → IsNumbered new.slots.numbers (
 same_kept k new h n same paths f e m =
     fact_kept k new h (same_certain k.slots new.slots k.facts.items new.facts.items h.certain n paths (λ p. ap (λ (x : Here). x.certain) (same p)) f) (λ p. ap (λ (x : Here). x.sights) (same p)) paths e m
 
-pub lists_are : (k new : Inside) (es : List EntryForm) (cs : List Certain) (hs : List Hidden) (b : Bool) → new.entries.items ≡ es → certain_by new.slots new.facts.items ≡ cs → new.hidden.items ≡ hs → new.in_loop ≡ b → lists_of new ≡ lists es cs hs b
+pub lists_are : (k new : Inside) (es : List EntryForm) (cs : List Certain) (hs : List HiddenRange) (b : Bool) → new.entries.items ≡ es → certain_by new.slots new.facts.items ≡ cs → new.hidden.items ≡ hs → new.in_loop ≡ b → lists_of new ≡ lists es cs hs b
 lists_are k new es cs hs b e f g h = λ i. lists (e i) (f i) (g i) (h i)
 
 pub same_lists : (k new : Inside) → paths_in new.slots ≡ paths_in k.slots → new.facts.items ≡ k.facts.items → new.entries.items ≡ k.entries.items → new.hidden.items ≡ k.hidden.items → new.in_loop ≡ k.in_loop → lists_of new ≡ lists_of k

@@ -1,5 +1,5 @@
 -- Slots of paths.
-use Rattle.std.proofs.Common.{◌≡◌, ◌≢◌, ℕ, zero, suc, ◌<◌, Bool, true, false, cond, List, [], ◌∷◌, ◌++◌, map, length, ◌⊎◌, inl, inr, Option, Some, None, slice_get, slice_set, slice_index_or, Result, Ok, Err, OnErr, refl, sym, ap, ap₂, subst, ◌∙◌, arith}
+use Rattle.std.proofs.Common.{◌≡◌, ℕ, zero, suc, ◌<◌, Bool, true, false, cond, List, [], ◌∷◌, ◌++◌, map, length, ◌⊎◌, inl, inr, Option, Some, None, slice_get, slice_set, slice_index_or, Result, Ok, Err, OnErr, refl, sym, ap, ap₂, subst, ◌∙◌, arith}
 use Rattle.std.specs.Option.{option_and_then}
 use Rattle.std.specs.FinMap.{get, insert, empty, get-empty, get-insert}
 use Rattle.std.proofs.lemmas.Option.{slice_get-get_or, slice_get_within, get_or_from_slice_get}
@@ -9,13 +9,15 @@ use Rattle.acpi_name.specs.Paths.{path_cmp}
 use Rattle.acpi_name.specs.steps.PathOrder.{path_cmp_total}
 use Rattle.acpi_space.specs.Lookups.{is_same_path}
 use Rattle.acpi_space.specs.Spaces.{PathMap}
+use Rattle.acpi_space.proofs.NodeWrites.{get_set, get_set_other}
+use Rattle.acpi_space.proofs.Elements.{one_some, not_both}
 use Rattle.acpi_conditions.specs.Entries.{Path}
 use Rattle.acpi_conditions.specs.declared.slots.Slot.{Slot}
 use Rattle.acpi_conditions.specs.declared.statuses.Presence.{Presence}
 use Rattle.acpi_conditions.specs.declared.statuses.Presence.TheVariants.{Nothing}
 use Rattle.acpi_conditions.specs.declared.slots.Sight.{Sight}
 use Rattle.acpi_conditions.specs.steps.Slots.{Here, nothing_here, with_sight, here_of, kept_at, kept_over, paths_of, path_in, HasMore, IsNumbered}
-use Rattle.acpi_conditions.proofs.Basics.{not_both, one_some, same_path, path_itself}
+use Rattle.acpi_conditions.proofs.Basics.{same_path, path_itself}
 
 -- ---- lists
 
@@ -27,18 +29,6 @@ get_first (x ∷ xs) ys (suc n) h = get_first xs ys n (omega arith)
 get_last : {X : Type 0} (xs : List X) (y : X) → slice_get (xs ++ y ∷ []) (length xs) ≡ Some y
 get_last [] y = refl
 get_last (x ∷ xs) y = get_last xs y
-
-get_set : {X : Type 0} (xs : List X) (n : ℕ) (y : X) → n < length xs → slice_get (slice_set xs n y) n ≡ Some y
-get_set [] n y h = absurd (omega arith)
-get_set (x ∷ xs) zero y h = refl
-get_set (x ∷ xs) (suc n) y h = get_set xs n y (omega arith)
-
-get_set_other : {X : Type 0} (xs : List X) (k n : ℕ) (y : X) → n ≢ k → slice_get (slice_set xs k y) n ≡ slice_get xs n
-get_set_other [] k n y h = refl
-get_set_other (x ∷ xs) zero zero y h = absurd (h refl)
-get_set_other (x ∷ xs) zero (suc n) y h = refl
-get_set_other (x ∷ xs) (suc k) zero y h = refl
-get_set_other (x ∷ xs) (suc k) (suc n) y h = get_set_other xs k n y (λ e. h (ap suc e))
 
 -- what an index gives
 pub found_at : {X : Type 0} (xs : List X) (n : ℕ) (x : X) → n < length xs → x ≡ slice_index_or xs n x → slice_get xs n ≡ Some x

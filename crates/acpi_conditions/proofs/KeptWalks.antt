@@ -4,6 +4,7 @@ use Rattle.std.specs.List.{AllByRecursion}
 use Rattle.std.specs.Option.{option_map}
 use Rattle.std.proofs.lemmas.List.{length-append, length-map, map_push}
 use Rattle.std.proofs.Math.Seq.{get_or-append_seam}
+use Rattle.acpi_space.proofs.Elements.{all_append}
 use Rattle.acpi_conditions.specs.Entries.{Turn, Entry}
 use Rattle.acpi_conditions.specs.Known.{Certain}
 use Rattle.acpi_conditions.specs.Turns.{way_of}
@@ -17,7 +18,6 @@ use Rattle.acpi_conditions.specs.declared.walk.Walk.TheInside.{Inside}
 use Rattle.acpi_conditions.specs.steps.Stops.{IsWayOf}
 use Rattle.acpi_conditions.specs.steps.Moves.{with_turn, with_certain, with_entry, with_loop}
 use Rattle.acpi_conditions.specs.steps.Walks.{AreBefore, AreMarksOf, open_packages, marks_of, package_of, walk_of, IsWalk}
-use Rattle.acpi_conditions.proofs.Basics.{all_append}
 use Rattle.acpi_conditions.proofs.SeenLists.{before_more, seen_more}
 use Rattle.acpi_conditions.proofs.Marks.{Extends, AreSameAt, marks_outer, still_ways, still_entry_ways, entries_grown, known_grown, packages_grown, same_extended, all_take}
 

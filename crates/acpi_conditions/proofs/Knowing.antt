@@ -1,14 +1,16 @@
 -- What the statuses of paths say of what is made.
 use Rattle.std.proofs.Common.{◌≡◌, Bool, true, false, cond, not, ◌&&◌, ◌||◌, List, [], ◌∷◌, find, is_some, inl, inr, Option, Some, None, refl, sym, ap, subst, ◌∙◌}
 use Rattle.std.specs.List.{list_any}
+use Rattle.std.proofs.lemmas.Bool.{and_from, false_from_ne_true}
 use Rattle.acpi_name.specs.Names.{NameParts}
 use Rattle.acpi_space.specs.Lookups.{is_same_path, is_defined_in}
 use Rattle.acpi_space.specs.Search.{answer, tries}
 use Rattle.acpi_space.specs.Laws.{Among}
+use Rattle.acpi_space.proofs.Elements.{one_some, not_both, none_of, some_is}
 use Rattle.acpi_conditions.specs.Nodes.{Term}
 use Rattle.acpi_conditions.specs.Entries.{Path, Namespace, HasObject, IsScopeIn, IsFoundIn}
 use Rattle.acpi_conditions.specs.Known.{Known, is_certain, is_certain_scope, is_possible, is_possible_scope, up_to_certain, candidates, is_certain_name, IsTrueOf}
-use Rattle.acpi_conditions.proofs.Basics.{and_left, and_right, and_both, never, is_false, none_of, one_some, not_both, some_is, any_some, some_any, some_found, same_path, path_itself}
+use Rattle.acpi_conditions.proofs.Basics.{and_left, and_right, never, any_some, some_any, some_found, same_path, path_itself}
 
 module _ (objects : Namespace) (k : Known) (h : IsTrueOf objects k) where
   pub certain_made : (p : Path) → is_certain k p ≡ true → HasObject objects p
@@ -26,7 +28,7 @@ module _ (objects : Namespace) (k : Known) (h : IsTrueOf objects k) where
       (m.0, ap objects (sym same) ∙ m.1, m.2 (and_right (is_same_path c.0.path p) c.0.is_scope c.2))
 
   pub free_uncertain : (p : Path) → objects p ≡ None → is_certain k p ≡ false
-  free_uncertain p e = is_false (is_certain k p) (λ c. let m = certain_made p c in not_both (objects p) m.0 m.1 e)
+  free_uncertain p e = false_from_ne_true (is_certain k p) (λ c. let m = certain_made p c in not_both (objects p) m.0 m.1 e)
 
   pub made_possible : (p : Path) (t : Term) → objects p ≡ Some t → is_possible k p ≡ true
   made_possible p t e = by k.in_loop refl
@@ -45,7 +47,7 @@ module _ (objects : Namespace) (k : Known) (h : IsTrueOf objects k) where
       by false is =
           let n = h.possible (ap not is) p s.0 s.1 in
           some_any (λ e. is_same_path e.path p && e.term.is_scope) k.entries n.0 n.1
-          (and_both (is_same_path n.0.path p) n.0.term.is_scope (path_itself n.0.path p n.2) (ap (λ (t : Term). t.is_scope) n.3 ∙ s.2))
+          (and_from (is_same_path n.0.path p) n.0.term.is_scope (path_itself n.0.path p n.2) (ap (λ (t : Term). t.is_scope) n.3 ∙ s.2))
 
   pub impossible_free : (p : Path) → is_possible k p ≡ false → objects p ≡ None
   impossible_free p e = none_of (objects p) (λ t m. never (is_possible k p) (made_possible p t m) e)

@@ -4,10 +4,11 @@ use Rattle.std.specs.List.{flat_map}
 use Rattle.acpi_name.specs.Names.{NameParts}
 use Rattle.acpi_space.specs.Lookups.{singleton}
 use Rattle.acpi_space.specs.Laws.{Among}
+use Rattle.acpi_space.proofs.Elements.{among_left, among_right}
 use Rattle.acpi_conditions.specs.Nodes.{Place, Term, Stop, returns, breaks, continues, Nodes, no_nodes, declares, opens, branch, loop, stop, places}
 use Rattle.acpi_conditions.specs.Entries.{Path, Turn, then_branch, else_branch, in_round, within, past}
 use Rattle.acpi_conditions.specs.Runs.{Event, State, with_turn, state_inside, state_past, Ending, goes_on, stops, Going, Running, Continues, IsFollowed, IsDeclaring, IsOpening, IsBranching, NextRound, AreRounds, IsRound, IsLooping, IsStopping, IsRun, AreRuns}
-use Rattle.acpi_conditions.proofs.Basics.{among_left, among_right, union_grows, union_cases}
+use Rattle.acpi_conditions.proofs.Basics.{union_grows, union_cases}
 
 abbrev pub turn_place : Turn → Place
 turn_place (then_branch p) = p

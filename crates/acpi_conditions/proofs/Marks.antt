@@ -2,6 +2,7 @@
 use Rattle.std.proofs.Common.{◌≡◌, ℕ, zero, suc, ◌<◌, ◌≤◌, Bool, true, false, cond, List, [], ◌∷◌, ◌++◌, map, reverse, length, take, drop, refl, sym, ap, ap₂, subst, ◌∙◌, arith, append-nil}
 use Rattle.std.specs.List.{AllByRecursion}
 use Rattle.std.proofs.lemmas.List.{take-append-drop, take-append-le, take_all, length-append, length-reverse, reverse-append, reverse-reverse, length-take-le, get_or_append_left}
+use Rattle.acpi_space.proofs.Elements.{all_map}
 use Rattle.acpi_conditions.specs.Entries.{Turn, Entry}
 use Rattle.acpi_conditions.specs.Known.{Certain}
 use Rattle.acpi_conditions.specs.Turns.{way_of}
@@ -11,18 +12,17 @@ use Rattle.acpi_conditions.specs.Walk.{Package}
 use Rattle.acpi_conditions.specs.declared.turns.Way.{Way}
 use Rattle.acpi_conditions.specs.declared.entry.Entry.{Entry as EntryForm}
 use Rattle.acpi_conditions.specs.declared.facts.Mark.{Mark}
-use Rattle.acpi_conditions.specs.declared.facts.Hidden.{Hidden}
+use Rattle.acpi_conditions.specs.declared.facts.HiddenRange.{HiddenRange}
 use Rattle.acpi_conditions.specs.declared.packages.Package.{Package as PackageForm}
 use Rattle.acpi_conditions.specs.steps.Stops.{IsWayOf}
 use Rattle.acpi_conditions.specs.steps.Walks.{AreBefore, IsMarkOf, AreMarksOf, marks_of, package_of}
-use Rattle.acpi_conditions.proofs.Basics.{all_map}
 
 -- ---- lists that grow
 
 pub record Extends (j k : KnownLists) : Type 0 where
   pub entries : (es : List EntryForm) × (k.entries ≡ j.entries ++ es)
   pub certain : (cs : List Certain) × (k.certain ≡ cs ++ j.certain)
-  pub hidden : (hs : List Hidden) × (k.hidden ≡ j.hidden ++ hs)
+  pub hidden : (hs : List HiddenRange) × (k.hidden ≡ j.hidden ++ hs)
 
 oldest_kept : (n : ℕ) (xs cs : List Certain) → n ≤ length xs → oldest n (cs ++ xs) ≡ oldest n xs
 oldest_kept n xs cs h =
@@ -220,7 +220,7 @@ behind_extends k m keeps = record {
     by false = ([], refl)
 
 -- with one range more that is hidden
-pub back_extends : (k : KnownLists) (m : Mark) (r : Hidden) → Extends (lists_at m k) (record (lists_behind m false k) { hidden = take m.hidden k.hidden ++ r ∷ [] })
+pub back_extends : (k : KnownLists) (m : Mark) (r : HiddenRange) → Extends (lists_at m k) (record (lists_behind m false k) { hidden = take m.hidden k.hidden ++ r ∷ [] })
 back_extends k m r = record {
   entries = (drop m.entries k.entries, sym (take-append-drop m.entries k.entries));
   certain = ([], refl);

@@ -3,13 +3,14 @@ use Rattle.std.proofs.Common.{◌≡◌, not, List, [], ◌∷◌, ◌++◌, map
 use Rattle.std.specs.List.{AllByRecursion}
 use Rattle.std.specs.Prelude.{IsTrue}
 use Rattle.acpi_space.specs.Laws.{Among}
+use Rattle.acpi_space.proofs.Elements.{among_left, among_right, among_append, all_append}
 use Rattle.acpi_conditions.specs.Nodes.{Term, Stop}
 use Rattle.acpi_conditions.specs.Entries.{Path, Namespace, Turn, past, asks_nothing, Entry, Refusal, StopAt}
 use Rattle.acpi_conditions.specs.Known.{Certain, Known, settled, IsTrueOf}
 use Rattle.acpi_conditions.specs.Survey.{Around, Survey, Surveying, behind, passing, joined, followed_by}
 use Rattle.acpi_conditions.specs.Runs.{State, Ending, goes_on, stops, Running, Continues, IsFollowed}
 use Rattle.acpi_conditions.specs.Laws.{HasTurn, IsMatched}
-use Rattle.acpi_conditions.proofs.Basics.{among_left, among_right, among_append, all_append, append_nothing, map_nothing, among_nothing}
+use Rattle.acpi_conditions.proofs.Basics.{append_nothing, map_nothing, among_nothing}
 use Rattle.acpi_conditions.proofs.Declaring.{AreCertain}
 
 abbrev pub IsEntryAt : List Entry → Path → Term → Type 0

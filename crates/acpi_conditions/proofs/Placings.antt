@@ -4,6 +4,7 @@ use Rattle.std.specs.List.{last_or, filter}
 use Rattle.std.proofs.lemmas.List.{drop_more}
 use Rattle.acpi_name.specs.Names.{NameParts}
 use Rattle.acpi_name.specs.Paths.{place_of, parent_of}
+use Rattle.acpi_space.proofs.Maps.{no_length}
 use Rattle.acpi_conditions.specs.Entries.{Path, Why, not_a_scope, unsure}
 use Rattle.acpi_conditions.specs.Known.{Known, is_possible_scope, candidates, why_missing, opened_in, opened_at}
 
@@ -50,12 +51,8 @@ ask_more test names asked more i x l is h e =
     ap (λ q. q ++ rest) e ∙ append_assoc asked (cond (test x) [] (x ∷ [])) rest ∙ ap (λ q. asked ++ q) (asked_cases (test x) x rest)
     ∙ ap (λ q. asked ++ filter (λ n. not (test n)) q) (sym (drop_next names i x l is)) ∙ h
 
-nil_of : {A : Type 0} (xs : List A) → length xs ≡ 0 → xs ≡ []
-nil_of [] e = refl
-nil_of (x ∷ xs) e = absurd (omega arith)
-
 drop_past : {A : Type 0} (xs : List A) (i : ℕ) → length xs ≤ i → drop i xs ≡ []
-drop_past xs zero l = nil_of xs (omega arith)
+drop_past xs zero l = no_length xs (omega arith)
 drop_past [] (suc i) l = refl
 drop_past (x ∷ xs) (suc i) l = drop_past xs i (omega arith)
 

@@ -3,13 +3,14 @@ use Rattle.std.proofs.Common.{◌≡◌, Bool, true, false, cond, List, [], ◌�
 use Rattle.std.specs.List.{AllByRecursion, flat_map}
 use Rattle.acpi_name.specs.Names.{NameParts}
 use Rattle.acpi_space.specs.Laws.{Among}
+use Rattle.acpi_space.proofs.Elements.{among_left, among_right, among_append, all_append}
 use Rattle.acpi_conditions.specs.Nodes.{Place, Term, Stop, Nodes, no_nodes, declares, opens, branch, loop, stop, places}
 use Rattle.acpi_conditions.specs.Entries.{Path, Turn, then_branch, else_branch, in_round, within, past, asks_nothing, Entry, Why, Refusal, StopAt}
 use Rattle.acpi_conditions.specs.Known.{Known, is_certain_scope, declared_at, candidates, opened_at, IsTrueOf}
 use Rattle.acpi_conditions.specs.Survey.{Around, turning, at_root, Survey, Surveying, behind, passing, followed_by, entry_at, inside_of, known_inside, declaring_as, declaring, inside_scope, known_in_scope, opening_as, opening, branching, known_in_loop, looping, stopping, behind_table, table_survey, surveys, all_entries, all_refused, survey}
 use Rattle.acpi_conditions.specs.Runs.{Makes, State, with_turn, state_inside, state_past, Ending, goes_on, stops, Running, Continues, IsFollowed, IsDeclaring, Finds, IsOpening, IsBranching, IsLooping, IsStopping, IsRun, AreRuns}
 use Rattle.acpi_conditions.specs.Laws.{HasTurn, AreSure, IsRunOf, AreDistinct, IsReached, IsMissed}
-use Rattle.acpi_conditions.proofs.Basics.{among_left, among_right, among_append, among_nothing, all_append, union_new}
+use Rattle.acpi_conditions.proofs.Basics.{among_nothing, union_new}
 use Rattle.acpi_conditions.proofs.Knowing.{certain_scope_made, one_found, one_finds}
 use Rattle.acpi_conditions.proofs.Declaring.{makes_allowed, nothing_makes, true_inside, true_in_scope, opened_is, settled_made, settled_unmade}
 use Rattle.acpi_conditions.proofs.Outcomes.{Outcome, IsCovered, IsSound, covered_here, covered_rest, past_turns, true_behind, Lasts, lasts_grow}

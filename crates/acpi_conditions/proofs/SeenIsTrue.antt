@@ -1,12 +1,13 @@
 -- What is seen from an entry is true at the end.
 use Rattle.std.proofs.Common.{◌≡◌, Bool, true, false, cond, not, List, [], ◌∷◌, ◌++◌, ◌⊎◌, inl, inr, Some, refl, sym, ap, subst, ◌∙◌}
-use Rattle.std.specs.List.{AllByRecursion, filter, flat_map, list_any, list_all}
+use Rattle.std.specs.List.{filter, flat_map, list_any, list_all}
 use Rattle.std.specs.Prelude.{IsTrue}
-use Rattle.std.proofs.lemmas.Bool.{eqb-true}
+use Rattle.std.proofs.lemmas.Bool.{eqb-true, not-true, false_from_ne_true}
 use Rattle.acpi_name.specs.Names.{NameParts}
 use Rattle.acpi_space.specs.Lookups.{is_defined_in}
 use Rattle.acpi_space.specs.Search.{answer, skipped}
 use Rattle.acpi_space.specs.Laws.{Among}
+use Rattle.acpi_space.proofs.Elements.{among_left, among_right, among_append, not_both, among_all}
 use Rattle.acpi_conditions.specs.Nodes.{Place, Term, Nodes, places}
 use Rattle.acpi_conditions.specs.Entries.{Path, Namespace, IsFoundIn, Turn, then_branch, else_branch, in_round, within, past, Entry, Refusal}
 use Rattle.acpi_conditions.specs.Known.{Certain, Known, candidates, is_certain_name, settled, IsTrueOf}
@@ -14,7 +15,7 @@ use Rattle.acpi_conditions.specs.Survey.{surveys, all_entries, all_refused}
 use Rattle.acpi_conditions.specs.Runs.{Event, State}
 use Rattle.acpi_conditions.specs.Links.{is_same_turn, is_opposite, are_exclusive, is_part_of, is_round, outside_loops, seen_from}
 use Rattle.acpi_conditions.specs.Laws.{HasTurn, MatchesEntry, IsMatched, IsRunOf, AreDistinct, IsReached, IsMissed, IsTaken}
-use Rattle.acpi_conditions.proofs.Basics.{among_left, among_right, among_append, among_nothing, among_flat, among_filter, any_some, some_any, and_left, and_right, not_is, never, is_false, not_both}
+use Rattle.acpi_conditions.proofs.Basics.{among_nothing, among_flat, among_filter, any_some, some_any, and_left, and_right, never}
 use Rattle.acpi_conditions.proofs.Knowing.{found_candidate, certain_found}
 use Rattle.acpi_conditions.proofs.Outcomes.{Lasts, certain_grow}
 use Rattle.acpi_conditions.proofs.Tables.{survey_is_exact}
@@ -75,11 +76,6 @@ all_is test [] x e m = absurd m
 all_is test (y ∷ xs) x e (inl same) = ap test (sym same) ∙ and_left (test y) (list_all test xs) e
 all_is test (y ∷ xs) x e (inr m) = all_is test xs x (and_right (test y) (list_all test xs) e) m
 
-among_all : {X : Type 0} (P : X → Type 0) (xs : List X) → AllByRecursion P xs → (x : X) → Among xs x → P x
-among_all P [] all x m = absurd m
-among_all P (y ∷ ys) all x (inl e) = subst P e all.0
-among_all P (y ∷ ys) all x (inr m) = among_all P ys all.1 x m
-
 part_has : (v w : List Turn) → is_part_of v w ≡ true → (t : Turn) → Among v t → Among w t
 part_has v w e t m =
     let u = any_some (is_same_turn t) w (all_is (λ t. list_any (is_same_turn t) w) v t e m) in
@@ -93,7 +89,7 @@ taken_not_missed S (within p) k m = m k
 taken_not_missed S (past p) k m = k m
 
 outside_round : (w : List Turn) → not (list_any is_round w) ≡ true → (p : Place) → Among w (in_round p) → ⊥
-outside_round w e p m = never (list_any is_round w) (some_any is_round w (in_round p) m refl) (not_is (list_any is_round w) e)
+outside_round w e p m = never (list_any is_round w) (some_any is_round w (in_round p) m refl) (not-true (list_any is_round w) e)
 
 among_skipped : {X : Type 0} (test : X → Bool) (xs : List X) (x : X) → Among (skipped test xs) x → Among xs x
 among_skipped test [] x m = absurd m
@@ -137,7 +133,7 @@ module _ (k : Known) (ts : List Nodes) (S S' : State) (r : IsRunOf k ts S S') (d
         by (inr (inr l)) = absurd (outside_round e.way outside l.0 (part_has f.way e.way part (in_round l.0) l.1))
 
     not_exclusive : (ev : Event) → Among S'.events ev → (f : Entry) → MatchesEntry ev f → are_exclusive f.way e.way ≡ false
-    not_exclusive ev n f matches = is_false (are_exclusive f.way e.way) (λ x.
+    not_exclusive ev n f matches = false_from_ne_true (are_exclusive f.way e.way) (λ x.
         let t = any_some (λ t. list_any (is_opposite t) (outside_loops e.way)) (outside_loops f.way) x in
         let u = any_some (is_opposite t.0) (outside_loops e.way) t.2 in
         let in_f : Among f.way t.0 = among_skipped is_round f.way t.0 t.1 in

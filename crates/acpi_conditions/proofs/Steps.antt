@@ -5,13 +5,14 @@ use Rattle.std.specs.Prelude.{IsTrue}
 use Rattle.acpi_name.specs.Names.{NameParts}
 use Rattle.acpi_space.specs.Lookups.{singleton}
 use Rattle.acpi_space.specs.Laws.{Among}
+use Rattle.acpi_space.proofs.Elements.{among_left, among_right, among_append, all_append, all_map, one_some}
 use Rattle.acpi_conditions.specs.Nodes.{Place, Term, Stop, returns, breaks, continues, Nodes, no_nodes, declares, opens, branch, loop, stop}
 use Rattle.acpi_conditions.specs.Entries.{Path, Turn, then_branch, else_branch, in_round, within, past, asks_nothing, Entry, Why, Refusal, StopAt}
 use Rattle.acpi_conditions.specs.Known.{Certain, Known, is_certain_scope, declared_at, settled, candidates, opened_at, IsTrueOf}
 use Rattle.acpi_conditions.specs.Survey.{Around, turning, Survey, Surveying, empty_survey, refusing, entry_at, inside_of, known_inside, with_inside, declaring_as, declaring, inside_scope, known_in_scope, with_scope, opening_as, opening, either, branching, leaves_table, known_in_loop, left_loop, looping, stopping, survey}
 use Rattle.acpi_conditions.specs.Runs.{Makes, Event, State, state_inside, state_past, Ending, goes_on, stops, Going, Running, Staying, IsDeclaring, Finds, IsOpening, with_turn, with_stop, IsBranching, NextRound, AreRounds, IsRound, IsLooping, IsStopping, IsRun}
 use Rattle.acpi_conditions.specs.Laws.{HasTurn, MatchesEntry, IsMatched, AreSure}
-use Rattle.acpi_conditions.proofs.Basics.{one_some, among_left, among_right, among_append, all_append, all_map, append_nothing, among_filter, union_grows, union_new, union_cases}
+use Rattle.acpi_conditions.proofs.Basics.{append_nothing, among_filter, union_grows, union_new, union_cases}
 use Rattle.acpi_conditions.proofs.Knowing.{certain_scope_made, one_found, one_finds}
 use Rattle.acpi_conditions.proofs.Declaring.{declared_is, makes_allowed, makes_holds, holds_makes, nothing_makes, AreCertain, settled_made, settled_unmade, true_inside, true_in_scope, opened_is, refused_finds_none}
 use Rattle.acpi_conditions.proofs.Outcomes.{IsEntryAt, certain_grow, Lasts, Outcome, IsCovered, IsSound, IsRooted, rooted_followed, sound_followed}
@@ -78,7 +79,7 @@ pub maybe_turned : (w way : List Turn) (place : Place) (b : Bool) → AllByRecur
 maybe_turned w way place true h = all_append (HasTurn (within place ∷ w)) way [] (all_farther w way (within place) h) tt
 maybe_turned w way place false h = all_append (HasTurn (within place ∷ w)) way (within place ∷ []) (all_farther w way (within place) h) (inl refl, tt)
 
-no_more : {A : Type 0} (kind : Stop) → goes_on ≡ stops kind → A
+pub no_more : {A : Type 0} (kind : Stop) → goes_on ≡ stops kind → A
 no_more kind e = let f : ⊥ = cc in absurd f
 
 still_on : {A : Type 0} (kind : Stop) → stops kind ≡ goes_on → A

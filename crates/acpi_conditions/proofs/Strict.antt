@@ -1,12 +1,16 @@
 -- Strict listings are surveys.
-use Rattle.std.proofs.Common.{◌≡◌, Bool, true, false, cond, not, ◌&&◌, ◌||◌, List, [], ◌∷◌, ◌++◌, map, find, append_assoc, ◌⊎◌, inl, inr, Option, Some, None, refl, sym, ap, subst, ◌∙◌, Result, Ok, Err}
+use Rattle.std.proofs.Common.{◌≡◌, Bool, true, false, cond, not, ◌&&◌, List, [], ◌∷◌, ◌++◌, map, find, append_assoc, ◌⊎◌, inl, inr, Option, Some, None, refl, sym, ap, subst, ◌∙◌, Result, Ok, Err, append-nil}
 use Rattle.std.specs.List.{AllByRecursion, AllZip, filter, flat_map, list_any}
 use Rattle.std.specs.Prelude.{IsTrue}
+use Rattle.std.proofs.Math.Bool.{and-true}
+use Rattle.std.proofs.lemmas.Bool.{or_from, and_from, false_from_ne_true}
 use Rattle.acpi_name.specs.Names.{NameParts}
 use Rattle.acpi_name.specs.Paths.{place_of, parent_of}
 use Rattle.acpi_space.specs.Lookups.{is_same_path, is_defined_in, singleton}
 use Rattle.acpi_space.specs.Search.{tries}
 use Rattle.acpi_space.specs.Laws.{Among}
+use Rattle.acpi_space.proofs.Maps.{none_of_not_some}
+use Rattle.acpi_space.proofs.Elements.{among_left, among_right, among_append, one_some, not_both, some_is}
 use Rattle.acpi_conditions.specs.Nodes.{Term, Nodes, no_nodes, declares, opens, branch, loop, stop}
 use Rattle.acpi_conditions.specs.Entries.{Path, Namespace, IsScopeIn, IsFoundIn, Turn, within, past, Asks, is_empty, asks_nothing, Entry, Why, not_a_scope, StopAt}
 use Rattle.acpi_conditions.specs.Known.{Certain, Known, is_certain, is_certain_scope, is_possible, up_to_certain, is_certain_name, asks_of, settled, why_missing, opened_in, opened_at}
@@ -14,17 +18,9 @@ use Rattle.acpi_conditions.specs.Survey.{Around, Survey, Surveying, behind, pass
 use Rattle.acpi_conditions.specs.Runs.{Makes, Finds}
 use Rattle.acpi_conditions.specs.Listings.{Placement, with_object, made_behind, IsListing, AreListings, nothing_asked, entry_of}
 use Rattle.acpi_conditions.specs.Laws.{IsAllOf, IsStrict}
-use Rattle.acpi_conditions.proofs.Basics.{is_false, not_both, one_some, some_is, none_is, among_left, among_right, among_append, among_flat, any_some, some_any, same_path, path_itself, and_both, union_grows, union_new, union_cases}
+use Rattle.acpi_conditions.proofs.Basics.{among_flat, any_some, some_any, same_path, path_itself, union_grows, union_new, union_cases}
 use Rattle.acpi_conditions.proofs.Knowing.{free_uncertain, made_possible_scope}
 use Rattle.acpi_conditions.proofs.Declaring.{makes_allowed, settled_made, true_inside, true_in_scope}
-
-or_false : (a b : Bool) → a ≡ false → b ≡ false → (a || b) ≡ false
-or_false false b e f = f
-or_false true b e f = cc
-
-and_true : (b : Bool) → (b && true) ≡ b
-and_true true = refl
-and_true false = refl
 
 found_is : {X : Type 0} (test : X → Bool) (xs : List X) (x : X) → find test xs ≡ Some x → Among xs x × (test x ≡ true)
 found_is test [] x e = cc
@@ -34,16 +30,16 @@ found_is test (y ∷ xs) x e = by (test y) refl e (found_is test xs x)
     by true is e ih = let same : y ≡ x = one_some y x e in (inl same, ap test (sym same) ∙ is)
     by false is e ih = let r = ih e in (inr r.0, r.1)
 
-none_pass : {X : Type 0} (test : X → Bool) (xs : List X) → AllByRecursion (λ x. test x ≡ false) xs → filter test xs ≡ []
+pub none_pass : {X : Type 0} (test : X → Bool) (xs : List X) → AllByRecursion (λ x. test x ≡ false) xs → filter test xs ≡ []
 none_pass test [] h = refl
 none_pass test (x ∷ xs) h = ap (λ b. cond b (x ∷ filter test xs) (filter test xs)) h.0 ∙ none_pass test xs h.1
 
-flat_among : {X Y : Type 0} (f : X → List Y) (xs : List X) (x : X) (y : Y) → Among xs x → Among (f x) y → Among (flat_map f xs) y
+pub flat_among : {X Y : Type 0} (f : X → List Y) (xs : List X) (x : X) (y : Y) → Among xs x → Among (f x) y → Among (flat_map f xs) y
 flat_among f [] x y m n = absurd m
 flat_among f (z ∷ xs) x y (inl same) n = among_left (f z) (flat_map f xs) y (subst (λ (z : _). Among (f z) y) (sym same) n)
 flat_among f (z ∷ xs) x y (inr m) n = among_right (f z) (flat_map f xs) y (flat_among f xs x y m n)
 
-among_map : {X Y : Type 0} (f : X → Y) (xs : List X) (y : Y) → Among (map f xs) y → (x : X) × (f x ≡ y)
+pub among_map : {X Y : Type 0} (f : X → Y) (xs : List X) (y : Y) → Among (map f xs) y → (x : X) × (f x ≡ y)
 among_map f [] y m = absurd m
 among_map f (x ∷ xs) y (inl same) = (x, same)
 among_map f (x ∷ xs) y (inr m) = among_map f xs y m
@@ -69,10 +65,10 @@ module _ (objects : Namespace) (k : Known) (all : IsAllOf objects k) where
   all_certain_scope : (p : Path) → IsScopeIn objects p → is_certain_scope k p ≡ true
   all_certain_scope p s =
       some_any (λ c. is_same_path c.path p && c.is_scope) k.certain (record { path = p; is_scope = s.0.is_scope }) (all.made_are_certain p s.0 s.1)
-      (and_both (is_same_path p p) s.0.is_scope (path_itself p p refl) s.2)
+      (and_from (is_same_path p p) s.0.is_scope (path_itself p p refl) s.2)
 
   free_impossible : (p : Path) → objects p ≡ None → is_possible k p ≡ false
-  free_impossible p free = or_false k.in_loop (list_any (λ e. is_same_path e.path p) k.entries) all.not_in_loop (is_false _ (λ is.
+  free_impossible p free = or_from k.in_loop (list_any (λ e. is_same_path e.path p) k.entries) all.not_in_loop (false_from_ne_true _ (λ is.
       let e = any_some (λ e. is_same_path e.path p) k.entries is in
       not_both (objects p) e.0.term (ap objects (sym (same_path e.0.path p e.2)) ∙ all.entries_are_made e.0 e.1) free))
 
@@ -100,7 +96,7 @@ module _ (objects : Namespace) (k : Known) (all : IsAllOf objects k) where
       let same : q ≡ p = one_some q p e in
       ap (λ b. cond b (q ∷ []) (cond (is_possible k q) (q ∷ more) more)) (all_certain q t.0 t.1) ∙ ap (λ (q : Path). q ∷ []) same
   one_at q p rest more ih false is e =
-      let free : objects q ≡ None = none_is (objects q) is in
+      let free : objects q ≡ None = none_of_not_some (objects q) is in
       ap (λ b. cond b (q ∷ []) (cond (is_possible k q) (q ∷ more) more)) (free_uncertain objects k all.is_true q free)
       ∙ ap (λ b. cond b (q ∷ more) more) (free_impossible q free) ∙ ih e
 
@@ -169,10 +165,6 @@ strict_joined ds es objects k x y h n = record {
     same = let e : (k.entries ++ x.entries) ++ y.entries ≡ k.entries ++ (x.entries ++ y.entries) = append_assoc k.entries x.entries y.entries in
         λ i. record { entries = e i; certain = y.certain; in_loop = k.in_loop }
 
-append_none : {X : Type 0} (xs : List X) → xs ++ [] ≡ xs
-append_none [] = refl
-append_none (x ∷ xs) = ap (λ ys. x ∷ ys) (append_none xs)
-
 strict_empty : (a : Around) (objects : Namespace) (k : Known) → IsAllOf objects k → Strictly [] objects k (empty_survey a k)
 strict_empty a objects k all = record {
   entries = refl;
@@ -182,7 +174,7 @@ strict_empty a objects k all = record {
 }
   where
     same : k ≡ behind k (empty_survey a k)
-    same = let e : k.entries ≡ k.entries ++ [] = sym (append_none k.entries) in λ i. record { entries = e i; certain = k.certain; in_loop = k.in_loop }
+    same = let e : k.entries ≡ k.entries ++ [] = sym (append-nil k.entries) in λ i. record { entries = e i; certain = k.certain; in_loop = k.in_loop }
 
 no_stops : (w : List Turn) (ms : List StopAt) → w ≡ [] → ms ≡ [] → w ++ map (λ s. past s.place) ms ≡ []
 no_stops w ms e f = ap (λ v. v ++ map (λ s. past s.place) ms) e ∙ ap (λ (ms : List StopAt). map (λ s. past s.place) ms) f
@@ -290,7 +282,7 @@ all_behind_table ds objects k x all h = record {
     new_certain : (p : Path) (t : Term) (e : Entry) → e.path ≡ p → e.term ≡ t → Among x.entries e → Among (flat_map lasting x.entries ++ k.certain) (record { path = p; is_scope = t.is_scope })
     new_certain p t e f g m =
         let d = among_map entry_of ds e (subst (λ (es : List Entry). Among es e) h.entries m) in
-        let scope : (d.0.term.is_scope && true) ≡ t.is_scope = and_true d.0.term.is_scope ∙ ap (λ (e : Entry). e.term.is_scope) d.1 ∙ ap (λ (t : Term). t.is_scope) g in
+        let scope : (d.0.term.is_scope && true) ≡ t.is_scope = and-true d.0.term.is_scope ∙ ap (λ (e : Entry). e.term.is_scope) d.1 ∙ ap (λ (t : Term). t.is_scope) g in
         let path : d.0.path ≡ p = ap (λ (e : Entry). e.path) d.1 ∙ f in
         let mine : Among (lasting (entry_of d.0)) (record { path = p; is_scope = t.is_scope }) = inl (λ i. record { path = path i; is_scope = scope i }) in
         among_left (flat_map lasting x.entries) k.certain (record { path = p; is_scope = t.is_scope })

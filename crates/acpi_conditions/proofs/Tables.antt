@@ -3,13 +3,14 @@ use Rattle.std.proofs.Common.{◌≡◌, Bool, true, false, cond, not, List, [],
 use Rattle.std.specs.List.{AllByRecursion, flat_map}
 use Rattle.std.specs.Prelude.{IsTrue}
 use Rattle.acpi_space.specs.Laws.{Among}
+use Rattle.acpi_space.proofs.Elements.{among_left, among_right, among_append}
 use Rattle.acpi_conditions.specs.Nodes.{Term, Nodes}
 use Rattle.acpi_conditions.specs.Entries.{Path, Namespace, is_empty, Entry, HasNoCondition, Refusal}
 use Rattle.acpi_conditions.specs.Known.{Certain, Known, settled, IsTrueOf}
 use Rattle.acpi_conditions.specs.Survey.{at_root, Survey, lasting, behind_table, table_survey, known_behind, surveys, all_entries, all_refused}
 use Rattle.acpi_conditions.specs.Runs.{Event, State, Ending, IsRun, AreRuns}
 use Rattle.acpi_conditions.specs.Laws.{IsMatched, AreSure, IsRunOf}
-use Rattle.acpi_conditions.proofs.Basics.{among_left, among_right, among_append, among_flat}
+use Rattle.acpi_conditions.proofs.Basics.{among_flat}
 use Rattle.acpi_conditions.proofs.Declaring.{AreCertain}
 use Rattle.acpi_conditions.proofs.Outcomes.{IsEntryAt, Grows, certain_grow, Lasts, lasts_grow, Outcome, IsCovered}
 use Rattle.acpi_conditions.proofs.Steps.{sound_nodes}

@@ -3,17 +3,17 @@ use Rattle.std.proofs.Common.{◌≡◌, ℕ, zero, suc, Bool, true, false, cond
 use Rattle.std.specs.List.{AllByRecursion, filter, flat_map}
 use Rattle.acpi_name.specs.Names.{NameParts}
 use Rattle.acpi_space.specs.Laws.{Among}
+use Rattle.acpi_space.proofs.Elements.{among_left, among_right, among_append, all_append}
 use Rattle.acpi_conditions.specs.Nodes.{Place, Term, Stop, returns, breaks, continues, Nodes, no_nodes, declares, opens, branch, loop, stop, places}
 use Rattle.acpi_conditions.specs.Entries.{Path, Turn, then_branch, else_branch, in_round, within, past, asks_nothing, Entry, Why, Refusal, StopAt}
 use Rattle.acpi_conditions.specs.Known.{Known, is_certain_scope, declared_at, opened_at, IsTrueOf}
 use Rattle.acpi_conditions.specs.Survey.{Around, turning, at_root, Survey, Surveying, behind, passing, followed_by, entry_at, inside_of, known_inside, declaring_as, declaring, inside_scope, known_in_scope, opening_as, opening, branching, leaves_table, known_in_loop, looping, stopping, behind_table, table_survey, surveys, all_entries, all_refused, survey}
 use Rattle.acpi_conditions.specs.Runs.{Makes, Event, State, with_turn, state_inside, state_past, Ending, goes_on, stops, Running, Continues, IsFollowed, IsDeclaring, Finds, IsOpening, IsBranching, NextRound, AreRounds, IsRound, IsLooping, IsStopping, IsRun, AreRuns}
 use Rattle.acpi_conditions.specs.Laws.{HasTurn, AreSure, AreDistinct, IsTaken}
-use Rattle.acpi_conditions.proofs.Basics.{among_left, among_right, among_append, all_append}
 use Rattle.acpi_conditions.proofs.Knowing.{one_found}
 use Rattle.acpi_conditions.proofs.Declaring.{AreCertain, makes_allowed, true_inside, true_in_scope, opened_is}
 use Rattle.acpi_conditions.proofs.Outcomes.{Outcome, IsCovered, certain_grow, covered_here, covered_rest, past_turns, true_behind}
-use Rattle.acpi_conditions.proofs.Steps.{maybe_turned}
+use Rattle.acpi_conditions.proofs.Steps.{maybe_turned, no_more}
 use Rattle.acpi_conditions.proofs.Tables.{true_behind_table, table_outcome}
 use Rattle.acpi_conditions.proofs.Logs.{turn_place, Logged, IsLogged, logged_turn, logged_making, logged_nodes, logged_tables}
 use Rattle.acpi_conditions.proofs.EntryWays.{unfiltered, passing_way}
@@ -56,9 +56,6 @@ leaves returns e = refl
 leaves breaks e = cc
 leaves continues e = cc
 
-on_not_stopped : {A : Type 0} (kind : Stop) → goes_on ≡ stops kind → A
-on_not_stopped kind e = let f : ⊥ = cc in absurd f
-
 module _ (F : List Entry) (R : List Refusal) where
   -- where control was stopped by one of the stops, it goes no further
   abbrev pub IsEnding : List Place → Surveying → Running → Type 0
@@ -83,7 +80,7 @@ module _ (F : List Entry) (R : List Refusal) where
       by goes_on M r next (inl n) = at ((Q.logged a.scope w M e S' next).new_stops m.place there)
         where
           at : Among M.stop_places m.place ⊎ Among qs m.place → e ≡ stops m.kind
-          at (inl old) = on_not_stopped m.kind (eh a k w S goes_on M h way c_here (distinct_left ps qs d) r m n out old)
+          at (inl old) = no_more m.kind (eh a k w S goes_on M h way c_here (distinct_left ps qs d) r m n out old)
           at (inr q) = absurd (apart ps qs d m.place (P.stopping a k m n) q)
       by goes_on M r next (inr n) =
           let o : Outcome F R (here a k) S goes_on M = P.sound a k w S goes_on M h way c_here r in
@@ -172,7 +169,7 @@ module _ (F : List Entry) (R : List Refusal) where
 
         by : (x : Ending) (M : State) → IsRound place rb a.scope w S x M → NextRound x (AreRounds count (IsRound place rb a.scope w)) M e S'
             → ((T : State) → AreCertain T.objects k.certain → AreRounds count (IsRound place rb a.scope w) T e S' → (Among T.stop_places m.place → ⊥) → Among S'.stop_places m.place → e ≡ stops m.kind) → e ≡ stops m.kind
-        by goes_on M r next more = more M (later goes_on M r) next (λ is. on_not_stopped m.kind (round_ends S goes_on M certain r out is)) there
+        by goes_on M r next more = more M (later goes_on M r) next (λ is. no_more m.kind (round_ends S goes_on M certain r out is)) there
         by (stops continues) M r next more = more M (later (stops continues) M r) next (λ is. let f : stops continues ≡ stops returns = round_ends S (stops continues) M certain r out is ∙ ap stops kind in cc) there
         by (stops breaks) M r next more =
             let f : stops breaks ≡ stops returns = round_ends S (stops breaks) M certain r out (subst (λ (T : State). Among T.stop_places m.place) next.1 there) ∙ ap stops kind in
@@ -269,7 +266,7 @@ module _ (F : List Entry) (R : List Refusal) where
           at : Among a.way turn ⊎ ((m : StopAt) × Among (here a k).stops m × (past m.place ≡ turn) × Among ps m.place) → IsTaken M turn × (Among qs (turn_place turn) → ⊥)
           at (inl o) = (taken_grows ps S M l turn (λ p. (around turn o).1 (among_left ps qs (turn_place turn) p)) (around turn o).0, λ q. (around turn o).1 (among_right ps qs (turn_place turn) q))
           at (inr s) = subst (λ (turn : Turn). IsTaken M turn × (Among qs (turn_place turn) → ⊥)) s.2 (
-            (λ stopped. on_not_stopped s.0.kind (uh a k w S goes_on M h way c_here (distinct_left ps qs d) r s.0 s.1 (λ o. clean.stops s.0.place o (among_left ps qs s.0.place s.3)) stopped)),
+            (λ stopped. no_more s.0.kind (uh a k w S goes_on M h way c_here (distinct_left ps qs d) r s.0 s.1 (λ o. clean.stops s.0.place o (among_left ps qs s.0.place s.3)) stopped)),
             (λ q. apart ps qs d s.0.place s.3 q),
           )
 

@@ -1,11 +1,12 @@
 -- The candidates of a name, by the tries of its search.
 use Rattle.std.proofs.Common.{◌≡◌, ◌≤◌, suc, Bool, true, false, not, cond, ◌||◌, List, [], ◌∷◌, ◌++◌, map, length, is_some, option_to_list, Option, Some, None, true≢false, refl, sym, ap, ◌∙◌, arith, append_assoc, length-append}
 use Rattle.std.specs.List.{list_any, last_or}
+use Rattle.std.proofs.Math.Bool.{or-false}
 use Rattle.acpi_name.specs.Names.{Segment, NameParts, plain_segment}
 use Rattle.acpi_name.specs.Paths.{place_of, parent_of}
 use Rattle.acpi_name.proofs.Parents.{parent_of-push, parent_of_last}
 use Rattle.acpi_space.specs.Search.{beginnings, tries, tries_of}
-use Rattle.acpi_space.proofs.Beginnings.{beginnings_push}
+use Rattle.acpi_space.proofs.Beginnings.{beginnings_push, beginnings_whole}
 use Rattle.acpi_space.proofs.Climbing.{no_last}
 use Rattle.acpi_conditions.specs.Entries.{Path}
 use Rattle.acpi_conditions.specs.Known.{Known, is_certain, is_possible, up_to_certain}
@@ -60,12 +61,8 @@ only_try k p = by (is_certain k p) (is_possible k p)
     by true b = refl
     by false b = refl
 
-or_nothing : (b : Bool) → (b || false) ≡ b
-or_nothing true = refl
-or_nothing false = refl
-
 pub only_certain : (k : Known) (p : Path) → list_any (is_certain k) (p ∷ []) ≡ is_certain k p
-only_certain k p = or_nothing (is_certain k p)
+only_certain k p = or-false (is_certain k p)
 
 -- ---- the tries of a name
 
@@ -80,13 +77,8 @@ no_tries s n e f = ap (tries_of s n) e ∙ ap option_to_list f
 
 -- ---- the walk from a scope to the root
 
-begins_with_all : {A : Type 0} (xs : List A) → (rest : List (List A)) × (beginnings xs ≡ xs ∷ rest)
-begins_with_all [] = ([], refl)
-begins_with_all (x ∷ xs) = let t : (rest : _) × (beginnings xs ≡ xs ∷ rest) = begins_with_all xs in
-    (map (λ q. x ∷ q) t.0 ++ [] ∷ [], ap (λ l. map (λ q. x ∷ q) l ++ [] ∷ []) t.1)
-
 below_all : (p : Path) (g : Segment) → (rest : List Path) × (below p g ≡ (p ++ g ∷ []) ∷ rest)
-below_all p g = let t : (rest : _) × (beginnings p ≡ p ∷ rest) = begins_with_all p in (map (λ q. q ++ g ∷ []) t.0, ap (map (λ q. q ++ g ∷ [])) t.1)
+below_all p g = let t : (rest : _) × (beginnings p ≡ p ∷ rest) = beginnings_whole p in (map (λ q. q ++ g ∷ []) t.0, ap (map (λ q. q ++ g ∷ [])) t.1)
 
 below_push : (p : Path) (x g : Segment) → below (p ++ x ∷ []) g ≡ ((p ++ x ∷ []) ++ g ∷ []) ∷ below p g
 below_push p x g = ap (map (λ q. q ++ g ∷ [])) (beginnings_push p x)

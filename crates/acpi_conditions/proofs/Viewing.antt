@@ -2,6 +2,7 @@
 use Rattle.std.proofs.Common.{◌≡◌, ℕ, suc, ◌&&◌, ◌||◌, Bool, true, false, cond, not, List, [], ◌∷◌, ◌++◌, map, length, Option, Some, None, slice_get, refl, sym, ap, ap₂, ◌∙◌, arith, append_assoc, append-nil, length-append}
 use Rattle.std.specs.List.{list_any, filter, flat_map}
 use Rattle.std.proofs.lemmas.List.Folds.{list_any-append}
+use Rattle.std.proofs.Math.Bool.{or-false}
 use Rattle.acpi_space.specs.Lookups.{is_same_path}
 use Rattle.acpi_conditions.specs.Entries.{Path, Turn, is_empty, Entry}
 use Rattle.acpi_conditions.specs.Known.{Certain as CertainPath, is_certain, is_certain_scope, is_possible, is_possible_scope, settled}
@@ -55,10 +56,6 @@ and_inside : (a b c d : Bool) → ((a && (b && c)) && d) ≡ (a && ((b && d) && 
 and_inside true true c d = and_comm c d
 and_inside true false c d = refl
 and_inside false b c d = refl
-
-or_false : (a : Bool) → (a || false) ≡ a
-or_false true = refl
-or_false false = refl
 
 -- ---- the entries at a path
 
@@ -137,7 +134,7 @@ module _ (v : View) (p : Path) where
     where
       by : (a : Bool) → list_any (λ (c : CertainPath). is_same_path c.path p) (cond a [] (record { path = e.path; is_scope = e.term.is_scope && not e.asks.no } ∷ [])) ≡ (is_same_path e.path p && not a)
       by true = sym (and_comm (is_same_path e.path p) false)
-      by false = or_false (is_same_path e.path p) ∙ sym (and_comm (is_same_path e.path p) true)
+      by false = or-false (is_same_path e.path p) ∙ sym (and_comm (is_same_path e.path p) true)
 
   settled_any_scope : (es : List Entry) → list_any (λ c. is_same_path c.path p && c.is_scope) (flat_map settled es)
       ≡ list_any (λ e. is_same_path e.path p && (not (e.asks.has || not (is_empty e.asks.needs)) && (e.term.is_scope && not e.asks.no))) es
@@ -149,7 +146,7 @@ module _ (v : View) (p : Path) where
       by : (a : Bool) → list_any (λ (c : CertainPath). is_same_path c.path p && c.is_scope) (cond a [] (record { path = e.path; is_scope = e.term.is_scope && not e.asks.no } ∷ []))
           ≡ (is_same_path e.path p && (not a && (e.term.is_scope && not e.asks.no)))
       by true = sym (and_comm (is_same_path e.path p) false)
-      by false = or_false (is_same_path e.path p && (e.term.is_scope && not e.asks.no))
+      by false = or-false (is_same_path e.path p && (e.term.is_scope && not e.asks.no))
 
   pub certain_seen : list_any (λ f. is_same_path f.path p && passes Certain v.entry.way f) v.entries ≡ is_certain (seen_by v) p
   certain_seen =

@@ -6,16 +6,17 @@ use Rattle.std.proofs.lemmas.Option.{slice_get-map}
 use Rattle.std.proofs.Math.ListN.{drop_of_length-le}
 use Rattle.std.proofs.lemmas.List.{map-append, length-map, reverse-append, take-map, take-append-drop}
 use Rattle.std.specs.List.{drop-map}
+use Rattle.acpi_space.proofs.Elements.{all_append, one_some}
 use Rattle.acpi_conditions.specs.Entries.{Path, Turn, past, asks_nothing, Entry, StopAt}
 use Rattle.acpi_conditions.specs.Known.{Certain, settled}
 use Rattle.acpi_conditions.specs.Survey.{leaves_table, lasting}
 use Rattle.acpi_conditions.specs.Turns.{way_of}
 use Rattle.acpi_conditions.specs.EntryForms.{entry_view}
 use Rattle.acpi_conditions.specs.KnownLists.{KnownLists, oldest, lists_behind, lists_at, known_by, seen_beyond}
-use Rattle.acpi_conditions.specs.Walk.{Package, Walk, package_at, if_of, certain_behind}
+use Rattle.acpi_conditions.specs.Walk.{Package, Walk, package_at, if_of, certain_after}
 use Rattle.acpi_conditions.specs.declared.turns.Way.{Way}
 use Rattle.acpi_conditions.specs.declared.entry.Entry.{Entry as EntryForm}
-use Rattle.acpi_conditions.specs.declared.facts.Hidden.{Hidden}
+use Rattle.acpi_conditions.specs.declared.facts.HiddenRange.{HiddenRange}
 use Rattle.acpi_conditions.specs.declared.stops.StopAt.{StopAt as StopAtForm}
 use Rattle.acpi_conditions.specs.declared.packages.Kind.{Kind as KindForm}
 use Rattle.acpi_conditions.specs.declared.packages.Kind.TheVariants.{Term, Scope, First, Other, Body}
@@ -25,7 +26,6 @@ use Rattle.acpi_conditions.specs.steps.Stops.{IsWayOf, Grows, pasts, is_return, 
 use Rattle.acpi_conditions.specs.steps.Packages.{kind_of, if_directly_before}
 use Rattle.acpi_conditions.specs.steps.Moves.{with_package, with_other, gone_back, gone_out, at_start, with_returns, IsBehindTerm}
 use Rattle.acpi_conditions.specs.steps.Walks.{AreBefore, AreMarksOf, open_packages, marks_of, package_of, walk_of, IsWalk}
-use Rattle.acpi_conditions.proofs.Basics.{all_append, one_some}
 use Rattle.acpi_conditions.proofs.SeenLists.{before_more, seen_hidden, seen_since}
 use Rattle.acpi_conditions.proofs.Marks.{Extends, AreSameAt, IsNow, marks_outer, marks_now, lists_now, same_again, marks_again, at_again, marks_start, behind_extends, back_extends, still_way}
 use Rattle.acpi_conditions.proofs.KeptWalks.{no_if, ways_kept, ways_same}
@@ -150,7 +150,7 @@ module _ (w : Inside) (h : IsWalk w) (p : PackageForm) (ps : List PackageForm) (
   back = record (lists_behind p.mark false w.paths) { hidden = take p.mark.hidden w.paths.hidden ++ record { from = p.mark.entries; to = length w.paths.entries } ∷ [] }
 
   back_ranges : AreBefore (length w.paths.entries) back.hidden
-  back_ranges = all_append (λ (r : Hidden). r.to ≤ length w.paths.entries) (take p.mark.hidden w.paths.hidden) (record { from = p.mark.entries; to = length w.paths.entries } ∷ []) ranges_before (omega arith, tt)
+  back_ranges = all_append (λ (r : HiddenRange). r.to ≤ length w.paths.entries) (take p.mark.hidden w.paths.hidden) (record { from = p.mark.entries; to = length w.paths.entries } ∷ []) ranges_before (omega arith, tt)
 
   back_known : known_by w.ways back ≡ known_by w.ways (lists_at p.mark w.paths)
   back_known = λ i. record {
@@ -354,7 +354,7 @@ module _ (w : Inside) (p : PackageForm) (ps : List PackageForm) (top : reverse w
       → IsBehindTerm (walk_of w).packages (walk_of w) b cs
   entry_behind e b cs at kind is =
       subst (λ (qs : List PackageForm). IsBehindTerm (map (package_of w.ways w.paths) qs) (walk_of w) b cs) (sym top)
-      (ap (λ (es : List Entry). certain_behind (known_by w.ways (lists_at p.mark w.paths)) es w.paths.certain) (drop_there (map (entry_view w.ways) w.paths.entries) p.mark.entries (entry_view w.ways e) (slice_get-map (entry_view w.ways) w.paths.entries p.mark.entries ∙ ap (option_map (entry_view w.ways)) at))
+      (ap (λ (es : List Entry). certain_after (known_by w.ways (lists_at p.mark w.paths)) es w.paths.certain) (drop_there (map (entry_view w.ways) w.paths.entries) p.mark.entries (entry_view w.ways e) (slice_get-map (entry_view w.ways) w.paths.entries p.mark.entries ∙ ap (option_map (entry_view w.ways)) at))
       ∙ ap (λ (d : Bool). cond d w.paths.certain (settled (entry_view w.ways e) ++ oldest p.mark.certain w.paths.certain)) (sym kind)
       ∙ by b
       ∙ ap (λ (l : List Certain). l ++ cond b w.paths.certain (oldest p.mark.certain w.paths.certain)) (sym is))
@@ -366,7 +366,7 @@ module _ (w : Inside) (p : PackageForm) (ps : List PackageForm) (top : reverse w
   pub nothing_behind : (b : Bool) (cs : List Certain) → slice_get w.paths.entries p.mark.entries ≡ None → b ≡ false → cs ≡ [] → IsBehindTerm (walk_of w).packages (walk_of w) b cs
   nothing_behind b cs at kind is =
       subst (λ (qs : List PackageForm). IsBehindTerm (map (package_of w.ways w.paths) qs) (walk_of w) b cs) (sym top)
-      (ap (λ (es : List Entry). certain_behind (known_by w.ways (lists_at p.mark w.paths)) es w.paths.certain) (drop_of_length-le (map (entry_view w.ways) w.paths.entries) (none_past (map (entry_view w.ways) w.paths.entries) p.mark.entries (slice_get-map (entry_view w.ways) w.paths.entries p.mark.entries ∙ ap (option_map (entry_view w.ways)) at)))
+      (ap (λ (es : List Entry). certain_after (known_by w.ways (lists_at p.mark w.paths)) es w.paths.certain) (drop_of_length-le (map (entry_view w.ways) w.paths.entries) (none_past (map (entry_view w.ways) w.paths.entries) p.mark.entries (slice_get-map (entry_view w.ways) w.paths.entries p.mark.entries ∙ ap (option_map (entry_view w.ways)) at)))
       ∙ ap₂ (λ (l : List Certain) (d : Bool). l ++ cond d w.paths.certain (oldest p.mark.certain w.paths.certain)) (sym is) (sym kind))
 
 pub none_behind : (w : Inside) (b : Bool) (cs : List Certain) → w.packages.items ≡ [] → cs ≡ [] → IsBehindTerm (walk_of w).packages (walk_of w) b cs

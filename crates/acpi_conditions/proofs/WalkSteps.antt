@@ -3,13 +3,13 @@ use Rattle.std.proofs.Common.{◌≡◌, ℕ, zero, suc, ◌+◌, ◌≤◌, Boo
 use Rattle.std.specs.List.{filter, flat_map}
 use Rattle.std.specs.Option.{option_map, option_to_list}
 use Rattle.std.proofs.Math.ListN.{drop_of_length-le}
+use Rattle.acpi_space.proofs.Elements.{one_some}
 use Rattle.acpi_conditions.specs.Nodes.{Place}
 use Rattle.acpi_conditions.specs.Entries.{Entry, Why, Refusal, StopAt}
 use Rattle.acpi_conditions.specs.Known.{Certain}
 use Rattle.acpi_conditions.specs.Survey.{passing, leaves_table, lasting, refusing}
 use Rattle.acpi_conditions.specs.Walk.{Kind, of_body, Package, Walk, passed, pass, given_inside, out_of, leave_from, leave, started, end_table}
 use Rattle.acpi_conditions.specs.steps.Moves.{with_certain, gone_out, with_returns, innermost, IsBehindTerm, left_term, at_start}
-use Rattle.acpi_conditions.proofs.Basics.{one_some}
 
 pub on_ok_map : {X E : Type 0} (r : Result X E) (P Q : Type 0) → (P → Q) → OnOk r P → OnOk r Q
 on_ok_map (Ok x) P Q f h = f h

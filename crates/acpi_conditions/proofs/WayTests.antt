@@ -5,6 +5,7 @@ use Rattle.std.proofs.lemmas.List.Folds.{list_all-append}
 use Rattle.std.proofs.lemmas.Bool.Decides.{nat_tests}
 use Rattle.std.proofs.lemmas.List.{take_all}
 use Rattle.std.proofs.lemmas.Option.{none-some, cond_some}
+use Rattle.std.proofs.Math.Bool.{and-true, and-false}
 use Rattle.acpi_conditions.specs.Entries.{Turn, then_branch, else_branch, in_round, within, past}
 use Rattle.acpi_conditions.specs.Links.{is_same_turn, is_opposite, is_round, outside_loops, is_part_of, are_exclusive}
 use Rattle.acpi_conditions.specs.Turns.{turn_of}
@@ -19,23 +20,15 @@ any_map f test (x ∷ xs) = ap (λ b. test (f x) || b) (any_map f test xs)
 
 -- ---- a part
 
-and_true : (b : Bool) → (b && true) ≡ b
-and_true true = refl
-and_true false = refl
-
-and_false : (b : Bool) → (b && false) ≡ false
-and_false true = refl
-and_false false = refl
-
 pub part_more : (w v : List Turn) (us : List TurnForm) (t : TurnForm) → w ≡ v ++ turn_of t ∷ [] → list_any (λ u. is_same_turn (turn_of t) (turn_of u)) us ≡ true → is_part_of w (map turn_of us) ≡ is_part_of v (map turn_of us)
 part_more w v us t e is =
     ap (λ (x : List Turn). is_part_of x (map turn_of us)) e ∙ list_all-append (λ x. list_any (is_same_turn x) (map turn_of us)) v (turn_of t ∷ [])
-    ∙ ap (λ b. is_part_of v (map turn_of us) && (b && true)) (any_map turn_of (is_same_turn (turn_of t)) us ∙ is) ∙ and_true (is_part_of v (map turn_of us))
+    ∙ ap (λ b. is_part_of v (map turn_of us) && (b && true)) (any_map turn_of (is_same_turn (turn_of t)) us ∙ is) ∙ and-true (is_part_of v (map turn_of us))
 
 pub no_part : (w v : List Turn) (us : List TurnForm) (t : TurnForm) → w ≡ v ++ turn_of t ∷ [] → list_any (λ u. is_same_turn (turn_of t) (turn_of u)) us ≡ false → is_part_of w (map turn_of us) ≡ false
 no_part w v us t e is =
     ap (λ (x : List Turn). is_part_of x (map turn_of us)) e ∙ list_all-append (λ x. list_any (is_same_turn x) (map turn_of us)) v (turn_of t ∷ [])
-    ∙ ap (λ b. is_part_of v (map turn_of us) && (b && true)) (any_map turn_of (is_same_turn (turn_of t)) us ∙ is) ∙ and_false (is_part_of v (map turn_of us))
+    ∙ ap (λ b. is_part_of v (map turn_of us) && (b && true)) (any_map turn_of (is_same_turn (turn_of t)) us ∙ is) ∙ and-false (is_part_of v (map turn_of us))
 
 -- ---- the turns outside of Whiles
 

@@ -29,8 +29,8 @@ IsFoundIn objects s n = (p : Path) × (answer (is_defined_in objects) s n ≡ So
 
 -- ---- conditions
 
--- A turn of control on its way to a term: into the first branch of the If there, or not; into a round of the While there; into the
--- term or Scope there, which asks something; past the stop there.
+-- A turn of control on its way to a term: into the first branch of the If there, or not; into a round of the While
+-- there; into the term or Scope there, which asks something; past the stop there.
 pub data Turn : Type 0 where
   then_branch : Place → Turn
   else_branch : Place → Turn
@@ -38,8 +38,8 @@ pub data Turn : Type 0 where
   within : Place → Turn
   past : Place → Turn
 
--- What a term asks of the namespace when control comes to it: `has`, that a scope stands at the parent of its path; `no`, that
--- nothing stands at its path; `needs`, that these names are found.
+-- What a term asks of the namespace when control comes to it: `has`, that a scope stands at the parent of its path;
+-- `no`, that nothing stands at its path; `needs`, that these names are found.
 pub record Asks : Type 0 where
   pub has : Bool
   pub no : Bool

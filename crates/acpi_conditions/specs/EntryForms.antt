@@ -11,14 +11,22 @@ use Rattle.acpi_conditions.specs.declared.placing.Reason.{Reason}
 use Rattle.acpi_conditions.specs.declared.placing.Reason.TheVariants.{EmptyName, AboveRoot, Missing, NoParent, NotAScope, Taken, Unsure}
 
 abbrev pub term_view : TermForm → Term
-term_view t = record { place = t.place; name = t.name; is_scope = t.is_scope; needs = t.needs.items }
+term_view t =
+    record { place = t.place; name = t.name; is_scope = t.is_scope; needs = t.needs.items }
 
 abbrev pub asks_view : AsksForm → Asks
 asks_view a = record { has = a.has; no = a.no; needs = a.needs.items }
 
 -- the entry, by the ways
 abbrev pub entry_view : List (List Turn) → EntryForm → Entry
-entry_view ways e = record { term = term_view e.term; scope = e.scope; path = e.path; way = way_of ways e.way; asks = asks_view e.asks }
+entry_view ways e =
+    record {
+      term = term_view e.term;
+      scope = e.scope;
+      path = e.path;
+      way = way_of ways e.way;
+      asks = asks_view e.asks;
+    }
 
 -- ---- refusals
 

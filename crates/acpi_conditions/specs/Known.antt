@@ -1,5 +1,5 @@
--- What is known of the namespace when control comes to a term: certain, possible and impossible paths, the search over these, what a
--- term declares and what it asks (ACPI 6.5, 5.3).
+-- What is known of the namespace when control comes to a term: certain, possible and impossible paths, the search over
+-- these, what a term declares and what it asks (ACPI 6.5, 5.3).
 use Rattle.std.specs.Prelude.{◌≡◌, Bool, not, cond, ◌&&◌, ◌||◌, List, [], ◌∷◌, Option, Some, None, Result, Ok, Err, IsTrue}
 use Rattle.std.specs.List.{filter, list_any}
 use Rattle.acpi_name.specs.Names.{Segment, NameParts}
@@ -15,8 +15,8 @@ pub record Certain : Type 0 where
   pub path : Path
   pub is_scope : Bool
 
--- The entries that control may have come by, and what is certain. In the body of a While nothing is impossible, since an earlier
--- round may have declared it.
+-- The entries that control may have come by, and what is certain. In the body of a While nothing is impossible, since
+-- an earlier round may have declared it.
 pub record Known : Type 0 where
   pub entries : List Entry
   pub certain : List Certain
@@ -34,14 +34,16 @@ abbrev pub is_possible : Known → Path → Bool
 is_possible k p = k.in_loop || list_any (λ e. is_same_path e.path p) k.entries
 
 abbrev pub is_possible_scope : Known → Path → Bool
-is_possible_scope k p = k.in_loop || list_any (λ e. is_same_path e.path p && e.term.is_scope) k.entries
+is_possible_scope k p =
+    k.in_loop || list_any (λ e. is_same_path e.path p && e.term.is_scope) k.entries
 
 -- ---- search
 
 -- the possible paths up to and with the first that is certain
 abbrev pub up_to_certain : Known → List Path → List Path
 up_to_certain k [] = []
-up_to_certain k (p ∷ ps) = cond (is_certain k p) (p ∷ []) (cond (is_possible k p) (p ∷ up_to_certain k ps) (up_to_certain k ps))
+up_to_certain k (p ∷ ps) = cond (is_certain k p) (p ∷ [])
+    (cond (is_possible k p) (p ∷ up_to_certain k ps) (up_to_certain k ps))
 
 -- where the name may be found
 abbrev pub candidates : Known → Path → NameParts → List Path
@@ -58,7 +60,8 @@ abbrev pub if_free : Known → Path → Result Path Why
 if_free k p = cond (is_certain k p) (Err (taken p)) (Ok p)
 
 abbrev pub if_below : Known → Path → Path → Result Path Why
-if_below k q p = cond (is_possible k q) (cond (is_possible_scope k q) (if_free k p) (Err (not_a_scope q))) (Err (no_parent q))
+if_below k q p = cond (is_possible k q)
+    (cond (is_possible_scope k q) (if_free k p) (Err (not_a_scope q))) (Err (no_parent q))
 
 abbrev pub declared_in : Known → Path → List Segment → Option Path → Result Path Why
 declared_in k s [] place = Err (empty_name s)
@@ -76,10 +79,11 @@ asks_of k s t p = record {
   needs = filter (λ n. not (is_certain_name k s n)) t.needs;
 }
 
--- What an entry settles, whether its term declares its object or not: where it asks neither `has` nor `needs`, something stands at
--- its path; a scope, where it asks nothing and its object is one.
+-- What an entry settles, whether its term declares its object or not: where it asks neither `has` nor `needs`,
+-- something stands at its path; a scope, where it asks nothing and its object is one.
 abbrev pub settled : Entry → List Certain
-settled e = cond (e.asks.has || not (is_empty e.asks.needs)) [] (record { path = e.path; is_scope = e.term.is_scope && not e.asks.no } ∷ [])
+settled e = cond (e.asks.has || not (is_empty e.asks.needs)) []
+    (record { path = e.path; is_scope = e.term.is_scope && not e.asks.no } ∷ [])
 
 -- ---- a Scope
 
@@ -100,5 +104,7 @@ opened_at k s n = opened_in k (why_missing s (place_of s n)) (candidates k s n)
 
 -- what is known is true of this namespace
 pub record IsTrueOf (objects : Namespace) (k : Known) : Type 0 where
-  pub certain : (c : Certain) → Among k.certain c → (t : Term) × (objects c.path ≡ Some t) × (IsTrue c.is_scope → IsTrue t.is_scope)
-  pub possible : IsTrue (not k.in_loop) → (p : Path) (t : Term) → objects p ≡ Some t → (e : Entry) × Among k.entries e × (e.path ≡ p) × (e.term ≡ t)
+  pub certain : (c : Certain) → Among k.certain c
+      → (t : Term) × (objects c.path ≡ Some t) × (IsTrue c.is_scope → IsTrue t.is_scope)
+  pub possible : IsTrue (not k.in_loop) → (p : Path) (t : Term) → objects p ≡ Some t
+      → (e : Entry) × Among k.entries e × (e.path ≡ p) × (e.term ≡ t)

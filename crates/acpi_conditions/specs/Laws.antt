@@ -26,8 +26,8 @@ HasTurn w (in_round place) = Among w (in_round place)
 HasTurn w (within place) = Among w (within place)
 HasTurn w (past place) = Unit {0}
 
--- The entry of an event: it has the term, the scope and the path of that moment; control came by each turn of its way; and the term
--- declared its object exactly where what the entry asks was so.
+-- The entry of an event: it has the term, the scope and the path of that moment; control came by each turn of its way;
+-- and the term declared its object exactly where what the entry asks was so.
 pub record MatchesEntry (ev : Event) (e : Entry) : Type 0 where
   pub term : e.term ≡ ev.term
   pub scope : e.scope ≡ ev.scope
@@ -41,7 +41,8 @@ pub record MatchesRefusal (ev : Event) (r : Refusal) : Type 0 where
   pub no_object : ev.object_path ≡ None
 
 abbrev pub IsMatched : List Entry → List Refusal → Event → Type 0
-IsMatched es rs ev = ((e : Entry) × Among es e × MatchesEntry ev e) ⊎ ((r : Refusal) × Among rs r × MatchesRefusal ev r)
+IsMatched es rs ev = ((e : Entry) × Among es e × MatchesEntry ev e)
+    ⊎ ((r : Refusal) × Among rs r × MatchesRefusal ev r)
 
 -- it is known at which path each Scope is opened, if it is
 abbrev pub IsSure : Why → Type 0
@@ -63,21 +64,25 @@ pub record IsRunOf (k : Known) (tables : List Nodes) (S S' : State) : Type 0 whe
   pub nothing_yet : (S.events ≡ []) × (S.turns ≡ []) × (S.stop_places ≡ [])
   pub run : AreRuns tables S S'
 
--- each time control comes to a term in a run, the term has an entry, and declares its object exactly where what the entry asks is so at
--- that moment; or it is refused, and declares none
+-- each time control comes to a term in a run, the term has an entry, and declares its object exactly where what the
+-- entry asks is so at that moment; or it is refused, and declares none
 abbrev pub SurveyIsExact : Type 0
 SurveyIsExact = (k : Known) (tables : List Nodes) (S S' : State) → IsRunOf k tables S S'
-    → AllByRecursion (IsMatched (all_entries (surveys k tables)) (all_refused (surveys k tables))) S'.events
+    → AllByRecursion
+    (IsMatched (all_entries (surveys k tables)) (all_refused (surveys k tables))) S'.events
 
 -- so whatever is declared is an entry
 abbrev pub MadeIsEntry : Type 0
 MadeIsEntry = (k : Known) (tables : List Nodes) (S S' : State) → IsRunOf k tables S S'
-    → (p : Path) (t : Term) → S'.objects p ≡ Some t → (S.objects p ≡ Some t) ⊎ ((e : Entry) × Among (all_entries (surveys k tables)) e × (e.path ≡ p) × (e.term ≡ t))
+    → (p : Path) (t : Term) → S'.objects p ≡ Some t
+    → (S.objects p ≡ Some t)
+    ⊎ ((e : Entry) × Among (all_entries (surveys k tables)) e × (e.path ≡ p) × (e.term ≡ t))
 
 -- and an entry without a condition is declared in every run
 abbrev pub UnconditionalIsMade : Type 0
 UnconditionalIsMade = (k : Known) (tables : List Nodes) (S S' : State) → IsRunOf k tables S S'
-    → (e : Entry) → Among (all_entries (surveys k tables)) e → HasNoCondition e → S'.objects e.path ≡ Some e.term
+    → (e : Entry) → Among (all_entries (surveys k tables)) e → HasNoCondition e
+    → S'.objects e.path ≡ Some e.term
 
 -- no two of them are the same
 abbrev pub AreDistinct : List Place → Type 0
@@ -96,12 +101,14 @@ IsMissed S (in_round place) = Among S.turns (in_round place) → ⊥
 IsMissed S (within place) = Among S.turns (within place) → ⊥
 IsMissed S (past place) = Among S.stop_places place
 
--- Control comes to the term of each entry, unless it misses a turn of the entry's way. (Of entries inside a While, where one round
--- may miss one turn and another round another, nothing is said.)
+-- Control comes to the term of each entry, unless it misses a turn of the entry's way. (Of entries inside a While,
+-- where one round may miss one turn and another round another, nothing is said.)
 abbrev pub ComesByWay : Type 0
-ComesByWay = (k : Known) (tables : List Nodes) (S S' : State) → IsRunOf k tables S S' → AreDistinct (flat_map places tables)
+ComesByWay = (k : Known) (tables : List Nodes) (S S' : State) → IsRunOf k tables S S'
+    → AreDistinct (flat_map places tables)
     → (e : Entry) → Among (all_entries (surveys k tables)) e
-    → IsReached S' e ⊎ ((turn : Turn) × Among e.way turn × IsMissed S' turn) ⊎ ((place : Place) × Among e.way (in_round place))
+    → IsReached S' e ⊎ ((turn : Turn) × Among e.way turn × IsMissed S' turn)
+    ⊎ ((place : Place) × Among e.way (in_round place))
 
 -- control has taken the turn; past a stop, it was not stopped there
 abbrev pub IsTaken : State → Turn → Type 0
@@ -113,36 +120,48 @@ IsTaken S (past place) = Among S.stop_places place → ⊥
 
 -- .. and where it comes to the term, it has taken each turn of the way
 abbrev pub TakesTheWay : Type 0
-TakesTheWay = (k : Known) (tables : List Nodes) (S S' : State) → IsRunOf k tables S S' → AreDistinct (flat_map places tables)
+TakesTheWay = (k : Known) (tables : List Nodes) (S S' : State) → IsRunOf k tables S S'
+    → AreDistinct (flat_map places tables)
     → (e : Entry) → Among (all_entries (surveys k tables)) e → IsReached S' e
-    → ((turn : Turn) → Among e.way turn → IsTaken S' turn) ⊎ ((place : Place) × Among e.way (in_round place))
+    → ((turn : Turn) → Among e.way turn → IsTaken S' turn)
+    ⊎ ((place : Place) × Among e.way (in_round place))
 
 -- ---- links
 
 -- a name is found at one of its candidates, if it is; and where one is certain, it is found
 abbrev pub CandidatesCover : Type 0
-CandidatesCover = (objects : Namespace) (k : Known) → IsTrueOf objects k → (s : Path) (n : NameParts)
-    → ((p : Path) → answer (is_defined_in objects) s n ≡ Some p → Among (candidates k s n) p) × (IsTrue (is_certain_name k s n) → IsFoundIn objects s n)
+CandidatesCover =
+    (objects : Namespace) (k : Known) → IsTrueOf objects k → (s : Path) (n : NameParts)
+    → ((p : Path) → answer (is_defined_in objects) s n ≡ Some p → Among (candidates k s n) p)
+    × (IsTrue (is_certain_name k s n) → IsFoundIn objects s n)
 
--- where control came to the term of an entry outside of Whiles, what is seen from the entry is true of the namespace at the end
+-- where control came to the term of an entry outside of Whiles, what is seen from the entry is true of the namespace at
+-- the end
 abbrev pub SeenIsTrue : Type 0
-SeenIsTrue = (k : Known) (tables : List Nodes) (S S' : State) → IsRunOf k tables S S' → AreDistinct (flat_map places tables)
-    → (e : Entry) → Among (all_entries (surveys k tables)) e → IsTrue (not (list_any is_round e.way)) → IsReached S' e
+SeenIsTrue = (k : Known) (tables : List Nodes) (S S' : State) → IsRunOf k tables S S'
+    → AreDistinct (flat_map places tables)
+    → (e : Entry) → Among (all_entries (surveys k tables)) e
+    → IsTrue (not (list_any is_round e.way)) → IsReached S' e
     → IsTrueOf S'.objects (seen_from k (all_entries (surveys k tables)) e)
 
--- so a name that is searched from the entry's scope at the end is found at one of its candidates, if it is; and it is found where one
--- is certain
+-- so a name that is searched from the entry's scope at the end is found at one of its candidates, if it is; and it is
+-- found where one is certain
 abbrev pub LinksCover : Type 0
-LinksCover = (k : Known) (tables : List Nodes) (S S' : State) → IsRunOf k tables S S' → AreDistinct (flat_map places tables)
-    → (e : Entry) → Among (all_entries (surveys k tables)) e → IsTrue (not (list_any is_round e.way)) → IsReached S' e → (n : NameParts)
-    → ((p : Path) → answer (is_defined_in S'.objects) e.scope n ≡ Some p → Among (candidates (seen_from k (all_entries (surveys k tables)) e) e.scope n) p)
-    × (IsTrue (is_certain_name (seen_from k (all_entries (surveys k tables)) e) e.scope n) → IsFoundIn S'.objects e.scope n)
+LinksCover = (k : Known) (tables : List Nodes) (S S' : State) → IsRunOf k tables S S'
+    → AreDistinct (flat_map places tables)
+    → (e : Entry) → Among (all_entries (surveys k tables)) e
+    → IsTrue (not (list_any is_round e.way)) → IsReached S' e → (n : NameParts)
+    → ((p : Path) → answer (is_defined_in S'.objects) e.scope n ≡ Some p
+    → Among (candidates (seen_from k (all_entries (surveys k tables)) e) e.scope n) p)
+    × (IsTrue (is_certain_name (seen_from k (all_entries (surveys k tables)) e) e.scope n)
+    → IsFoundIn S'.objects e.scope n)
 
 -- ---- behind tables
 
 -- behind the tables what is known is true of the namespace
 abbrev pub KnownStaysTrue : Type 0
-KnownStaysTrue = (k : Known) (tables : List Nodes) (S S' : State) → IsRunOf k tables S S' → IsTrueOf S'.objects (known_behind k tables)
+KnownStaysTrue = (k : Known) (tables : List Nodes) (S S' : State) → IsRunOf k tables S S'
+    → IsTrueOf S'.objects (known_behind k tables)
 
 -- there are runs
 abbrev pub RunsExist : Type 0
@@ -154,7 +173,8 @@ RunsExist = (tables : List Nodes) (S : State) → (S' : State) × AreRuns tables
 pub record IsAllOf (objects : Namespace) (k : Known) : Type 0 where
   pub is_true : IsTrueOf objects k
   pub not_in_loop : k.in_loop ≡ false
-  pub made_are_certain : (p : Path) (t : Term) → objects p ≡ Some t → Among k.certain (record { path = p; is_scope = t.is_scope })
+  pub made_are_certain : (p : Path) (t : Term) → objects p ≡ Some t
+      → Among k.certain (record { path = p; is_scope = t.is_scope })
   pub entries_are_made : (e : Entry) → Among k.entries e → objects e.path ≡ Some e.term
 
 abbrev pub IsStrict : List Placement → Survey → Type 0
@@ -162,7 +182,8 @@ IsStrict ds x = (x.entries ≡ map entry_of ds) × (x.refused ≡ []) × (x.stop
 
 -- where tables have strict listings, these are the surveys: no entry has a condition, and nothing is refused
 abbrev pub StrictIsSurvey : Type 0
-StrictIsSurvey = (k : Known) (objects : Namespace) (tables : List Nodes) (dss : List (List Placement)) → IsAllOf objects k → AreListings tables objects dss
+StrictIsSurvey = (k : Known) (objects : Namespace) (tables : List Nodes)
+    (dss : List (List Placement)) → IsAllOf objects k → AreListings tables objects dss
     → AllZip IsStrict dss (surveys k tables)
 
 -- ---- by four tests
@@ -182,13 +203,15 @@ pub record AreAlike (k q : Known) (x y : Survey) : Type 0 where
 
 -- what nodes give depends on four tests of what is known, and not on how it is kept
 abbrev pub TestsDecide : Type 0
-TestsDecide = (ns : Nodes) (a : Around) (k q : Known) → AnswerAlike k q → AreAlike k q (survey ns a k) (survey ns a q)
+TestsDecide = (ns : Nodes) (a : Around) (k q : Known) → AnswerAlike k q
+    → AreAlike k q (survey ns a k) (survey ns a q)
 
 -- ---- of more tables
 
 -- the surveys of a longer list begin with those of a shorter one
 abbrev pub LongerBegins : Type 0
-LongerBegins = (k : Known) (ts us : List Nodes) → surveys k (ts ++ us) ≡ surveys k ts ++ surveys (known_behind k ts) us
+LongerBegins = (k : Known) (ts us : List Nodes)
+    → surveys k (ts ++ us) ≡ surveys k ts ++ surveys (known_behind k ts) us
 
 -- ---- one step after another
 
@@ -198,32 +221,40 @@ WalkIsSurvey = (ns : Nodes) (w : Walk) → pass (walked ns w) ≡ passed (survey
 
 -- the innermost package is the first branch of an If
 abbrev pub IsInFirst : Walk → Type 0
-IsInFirst w = (p : Package) × (outer : List Package) × (w.packages ≡ p ∷ outer) × (p.kind ≡ of_first)
+IsInFirst w =
+    (p : Package) × (outer : List Package) × (w.packages ≡ p ∷ outer) × (p.kind ≡ of_first)
 
 -- so an If without an Else is one whose Else has nothing inside
 abbrev pub EmptyElseIsNone : Type 0
-EmptyElseIsNone = (place : Place) (w : Walk) → IsInFirst w → pass (leave (enter_other place (leave w))) ≡ pass (leave w)
+EmptyElseIsNone = (place : Place) (w : Walk) → IsInFirst w
+    → pass (leave (enter_other place (leave w))) ≡ pass (leave w)
 
 -- through tables it gives their surveys, and behind them the same is known
 abbrev pub TableWalkIsSurveys : Type 0
-TableWalkIsSurveys = (tables : List Nodes) (w : Walk) → walked_tables tables (started w) ≡ started (record w {
-  known = known_behind w.known tables;
-  entries = w.entries ++ all_entries (surveys w.known tables);
-  refused = w.refused ++ all_refused (surveys w.known tables);
-})
+TableWalkIsSurveys =
+    (tables : List Nodes) (w : Walk) → walked_tables tables (started w) ≡ started (record w {
+      known = known_behind w.known tables;
+      entries = w.entries ++ all_entries (surveys w.known tables);
+      refused = w.refused ++ all_refused (surveys w.known tables);
+    })
 
 -- ---- seen from an entry
 
 -- entries without a condition, whose objects are there before all tables, may be counted among those of the tables
 abbrev pub SeenAmongAll : Type 0
-SeenAmongAll = (k : Known) (before es : List Entry) (e : Entry) → AllByRecursion HasNoCondition before
+SeenAmongAll =
+    (k : Known) (before es : List Entry) (e : Entry) → AllByRecursion HasNoCondition before
     → AnswerAlike (seen_from (known_with k before) es e) (seen_from k (before ++ es) e)
 
 abbrev pub NamesAmongAll : Type 0
-NamesAmongAll = (k : Known) (before es : List Entry) (e : Entry) (s : Path) (n : NameParts) → AllByRecursion HasNoCondition before
-    → (candidates (seen_from (known_with k before) es e) s n ≡ candidates (seen_from k (before ++ es) e) s n)
-    × (is_certain_name (seen_from (known_with k before) es e) s n ≡ is_certain_name (seen_from k (before ++ es) e) s n)
+NamesAmongAll = (k : Known) (before es : List Entry) (e : Entry) (s : Path) (n : NameParts)
+    → AllByRecursion HasNoCondition before
+    → (candidates (seen_from (known_with k before) es e) s n
+    ≡ candidates (seen_from k (before ++ es) e) s n)
+    × (is_certain_name (seen_from (known_with k before) es e) s n
+    ≡ is_certain_name (seen_from k (before ++ es) e) s n)
 
 abbrev pub LinksAmongAll : Type 0
-LinksAmongAll = (k : Known) (before es : List Entry) (e : Entry) (names : List NameParts) → AllByRecursion HasNoCondition before
+LinksAmongAll = (k : Known) (before es : List Entry) (e : Entry) (names : List NameParts)
+    → AllByRecursion HasNoCondition before
     → links (known_with k before) es e names ≡ links k (before ++ es) e names

@@ -1,5 +1,5 @@
--- What is known, behind all tables, where control came to an entry's term: the links of the entry, and the names in its body, are
--- searched over this (ACPI 6.5, 20.2.5.2).
+-- What is known, behind all tables, where control came to an entry's term: the links of the entry, and the names in its
+-- body, are searched over this (ACPI 6.5, 20.2.5.2).
 use Rattle.std.specs.Prelude.{Bool, true, false, not, nat_eq, List, ◌++◌, map}
 use Rattle.acpi_name.specs.Names.{NameParts}
 use Rattle.acpi_space.specs.Search.{skipped}
@@ -37,13 +37,15 @@ are_exclusive v w = list_any (λ t. list_any (is_opposite t) (outside_loops w)) 
 abbrev pub is_part_of : List Turn → List Turn → Bool
 is_part_of v w = list_all (λ t. list_any (is_same_turn t) w) v
 
--- Possible are the entries whose way isn't exclusive with that of the entry; certain is what those settle whose way is a part of it.
+-- Possible are the entries whose way isn't exclusive with that of the entry; certain is what those settle whose way is
+-- a part of it.
 abbrev pub seen_from : Known → List Entry → Entry → Known
 seen_from k es e = record k {
   entries = k.entries ++ filter (λ f. not (are_exclusive f.way e.way)) es;
   certain = flat_map settled (filter (λ f. is_part_of f.way e.way) es) ++ k.certain;
 }
 
--- where the names may be found from the entry's scope: the links of a field element, by its region, index, data or bank names
+-- where the names may be found from the entry's scope: the links of a field element, by its region, index, data or bank
+-- names
 abbrev pub links : Known → List Entry → Entry → List NameParts → List (List Path)
 links k es e names = map (candidates (seen_from k es e) e.scope) names

@@ -1,5 +1,5 @@
--- Strict listings: each term declares its path and each Scope opens one, in the namespace of its moment. Only nodes without If,
--- While and stops have one (ACPI 6.5, 5.3).
+-- Strict listings: each term declares its path and each Scope opens one, in the namespace of its moment. Only nodes
+-- without If, While and stops have one (ACPI 6.5, 5.3).
 use Rattle.std.specs.Prelude.{◌≡◌, false, List, [], ◌∷◌, ◌++◌, ⊤}
 use Rattle.acpi_space.specs.Lookups.{singleton, union}
 use Rattle.acpi_conditions.specs.Nodes.{Term, Nodes, no_nodes, declares, opens, branch, loop, stop}
@@ -22,10 +22,13 @@ made_behind objects (d ∷ ds) = made_behind (with_object objects d.path d.term)
 
 abbrev pub IsListing : Nodes → Path → Namespace → List Placement → Type 0
 IsListing no_nodes s objects ds = ds ≡ []
-IsListing (declares t inside rest) s objects ds = (p : Path) × (xs : List Placement) × (ys : List Placement) × Makes objects s t p
-    × IsListing inside p (with_object objects p t) xs × IsListing rest s (made_behind (with_object objects p t) xs) ys
+IsListing (declares t inside rest) s objects ds =
+    (p : Path) × (xs : List Placement) × (ys : List Placement) × Makes objects s t p
+    × IsListing inside p (with_object objects p t) xs
+    × IsListing rest s (made_behind (with_object objects p t) xs) ys
     × (ds ≡ record { term = t; scope = s; path = p } ∷ (xs ++ ys))
-IsListing (opens place n inside rest) s objects ds = (p : Path) × (xs : List Placement) × (ys : List Placement) × Finds objects s n p
+IsListing (opens place n inside rest) s objects ds =
+    (p : Path) × (xs : List Placement) × (ys : List Placement) × Finds objects s n p
     × IsListing inside p objects xs × IsListing rest s (made_behind objects xs) ys
     × (ds ≡ xs ++ ys)
 IsListing (branch place first other rest) s objects ds = ⊥
@@ -35,7 +38,8 @@ IsListing (stop place kind rest) s objects ds = ⊥
 -- .. of tables, one after another
 abbrev pub AreListings : List Nodes → Namespace → List (List Placement) → Type 0
 AreListings [] objects [] = ⊤
-AreListings (t ∷ ts) objects (ds ∷ dss) = IsListing t [] objects ds × AreListings ts (made_behind objects ds) dss
+AreListings (t ∷ ts) objects (ds ∷ dss) =
+    IsListing t [] objects ds × AreListings ts (made_behind objects ds) dss
 AreListings [] objects (ds ∷ dss) = ⊥
 AreListings (t ∷ ts) objects [] = ⊥
 
@@ -44,4 +48,5 @@ nothing_asked = record { has = false; no = false; needs = [] }
 
 -- the entry without a condition
 abbrev pub entry_of : Placement → Entry
-entry_of d = record { term = d.term; scope = d.scope; path = d.path; way = []; asks = nothing_asked }
+entry_of d =
+    record { term = d.term; scope = d.scope; path = d.path; way = []; asks = nothing_asked }

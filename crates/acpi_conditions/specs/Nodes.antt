@@ -6,7 +6,8 @@ use Rattle.acpi_name.specs.Names.{NameParts}
 abbrev pub Place : Type 0
 Place = ℕ
 
--- A term that declares a name: whether others may be declared below the object, and the names in its operands that have to be found
+-- A term that declares a name: whether others may be declared below the object, and the names in its operands that have
+-- to be found
 pub record Term : Type 0 where
   pub place : Place
   pub name : NameParts
@@ -19,8 +20,9 @@ pub data Stop : Type 0 where
   breaks : Stop
   continues : Stop
 
--- A list of nodes, each with those behind it: a term, what stands inside it and the rest; a Scope; an If with what it does where
--- its test holds and where it doesn't; a While; and a stop. What has no effect on what is declared is left out.
+-- A list of nodes, each with those behind it: a term, what stands inside it and the rest; a Scope; an If with what it
+-- does where its test holds and where it doesn't; a While; and a stop. What has no effect on what is declared is left
+-- out.
 pub data Nodes : Type 0 where
   no_nodes : Nodes
   declares : Term → (inside rest : Nodes) → Nodes

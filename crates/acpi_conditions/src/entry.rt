@@ -6,9 +6,9 @@ use acpi_name::{Name, Path};
 /// A term that declares a name (ACPI 6.5, 5.3 and 20.2.5).
 #[derive(Drop)]
 pub struct Term {
-    /// Where it stands.
+    /// Where it stands, by the number that the reader gives to the place.
     pub place: u128,
-    /// The name.
+    /// The declared name, not resolved.
     pub name: Name,
     /// Whether others may be declared below its object.
     pub is_scope: bool,
@@ -34,7 +34,7 @@ pub struct Entry {
     pub term: Term,
     /// The scope in which it stands.
     pub scope: Path,
-    /// The path.
+    /// The path at which it declares its object.
     pub path: Path,
     /// The way to it.
     pub way: Way,

@@ -23,7 +23,7 @@ pub struct Fact {
 
 /// The entries from one number to another, which an Else hides: those of the first branch.
 #[derive(Debug, Clone, Copy)]
-pub struct Hidden {
+pub struct HiddenRange {
     /// The first.
     pub from: usize,
     /// The first behind them.
@@ -58,21 +58,21 @@ pub(crate) fn raised(is_scope: bool, certain: Presence) -> Presence
 }
 
 // Whether one of the ranges has the number.
-fn is_hidden(ranges: &[Hidden], number: usize) -> bool
+fn is_hidden(ranges: &[HiddenRange], number: usize) -> bool
     ensures { result ≡ is_hidden ranges.now number }
 {
     ranges.iter().any(|r| r.from <= number && number < r.to)
 }
 
 // Whether one of the entries is seen.
-fn is_seen(ranges: &[Hidden], sights: &[Sight]) -> bool
+fn is_seen(ranges: &[HiddenRange], sights: &[Sight]) -> bool
     ensures { result ≡ is_seen ranges.now sights.now }
 {
     sights.iter().any(|x| !is_hidden(ranges, x.number))
 }
 
 // Whether one of the entries is seen whose object is a scope.
-fn is_scope_seen(ranges: &[Hidden], sights: &[Sight]) -> bool
+fn is_scope_seen(ranges: &[HiddenRange], sights: &[Sight]) -> bool
     ensures { result ≡ is_scope_seen ranges.now sights.now }
 {
     sights
@@ -81,7 +81,7 @@ fn is_scope_seen(ranges: &[Hidden], sights: &[Sight]) -> bool
 }
 
 /// What is seen of the entries at a path.
-pub(crate) fn seen_of(ranges: &[Hidden], sights: &[Sight]) -> Presence
+pub(crate) fn seen_of(ranges: &[HiddenRange], sights: &[Sight]) -> Presence
     ensures something { is_something result ≡ is_seen ranges.now sights.now }
     ensures scope { is_a_scope result ≡ is_scope_seen ranges.now sights.now }
 {

@@ -13,15 +13,15 @@ ghost use Rattle.acpi_conditions.specs.steps.Facts.{kept_in, paths_in};
 ghost use Rattle.acpi_conditions.specs.steps.Settled.{certain_there};
 
 use crate::entry::Entry;
-use crate::facts::{Fact, Hidden, Mark, put_fact, seen_of, take_back};
+use crate::facts::{Fact, HiddenRange, Mark, put_fact, seen_of, take_back};
 use crate::slots::{Here, Sight, Slots};
 use crate::statuses::{Presence, Status, Statuses};
 use acpi_name::Path;
 use std::alloc::{AllocError, Global};
 use std::marker::Model;
 
-/// What is known of the paths when control comes to a term (ACPI 6.5, 5.3): the entries, in byte order, what is certain,
-/// which entries an Else around hides, and whether a While is around. Each test looks at one path alone.
+/// What is known of the paths when control comes to a term (ACPI 6.5, 5.3): the entries, in byte order, what is
+/// certain, which entries an Else around hides, and whether a While is around. Each test looks at one path alone.
 #[derive(Drop)]
 pub struct KnownPaths {
     slots: Slots,
@@ -29,7 +29,7 @@ pub struct KnownPaths {
     // The number of the slot of each entry's path.
     entry_slots: Vec<usize>,
     facts: Vec<Fact>,
-    hidden: Vec<Hidden>,
+    hidden: Vec<HiddenRange>,
     in_loop: bool,
 }
 
@@ -139,8 +139,8 @@ impl KnownPaths {
         put_fact(&mut self.slots, &mut self.facts, slot, is_scope)
     }
 
-    /// Says that this stands for certain at the path of the entry of a number, if there is one. Where an allocation fails
-    /// nothing changes.
+    /// Says that this stands for certain at the path of the entry of a number, if there is one. Where an allocation
+    /// fails nothing changes.
     pub(crate) fn certify_entry(
         &mut self,
         number: usize,
@@ -199,12 +199,12 @@ impl KnownPaths {
         ensures err { OnErr result (self.new ≡ self.old) }
     {
         let to = self.entries.len();
-        self.hidden.push(Hidden { from, to })?;
+        self.hidden.push(HiddenRange { from, to })?;
         Ok(())
     }
 
-    /// Comes out of a package: what was hidden since its mark is shown again, and a While is around where one was at the
-    /// mark. What is certain stays, or is what was at the mark.
+    /// Comes out of a package: what was hidden since its mark is shown again, and a While is around where one was at
+    /// the mark. What is certain stays, or is what was at the mark.
     pub fn come_out(&mut self, mark: Mark, keeps: bool)
         ensures { self.new ≡ lists_behind mark keeps self.old }
     {
@@ -217,8 +217,8 @@ impl KnownPaths {
     }
 }
 
-// Puts an entry behind the others, and its number behind those at its path, whose slot has this number. Where an allocation
-// fails nothing changes.
+// Puts an entry behind the others, and its number behind those at its path, whose slot has this number. Where an
+// allocation fails nothing changes.
 fn put_entry(
     slots: &mut Slots,
     entries: &mut Vec<Entry>,

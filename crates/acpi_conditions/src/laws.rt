@@ -2,10 +2,10 @@
 ghost use Rattle.acpi_conditions.specs.Laws.{SurveyIsExact, MadeIsEntry, UnconditionalIsMade, KnownStaysTrue, RunsExist, ComesByWay, TakesTheWay, CandidatesCover, SeenIsTrue, LinksCover, StrictIsSurvey, TestsDecide, LongerBegins, WalkIsSurvey, EmptyElseIsNone, TableWalkIsSurveys, SeenAmongAll, NamesAmongAll, LinksAmongAll};
 ghost use Rattle.acpi_conditions.specs.Examples.{InBothBranches, ScopeBehindBoth, NameThrice, ThirdIsRefused, NeedsLater, NeedsEarlier, BreakInWhile, ReturnInIf, MadeBetween, SecondRound, BranchesInWhile, ElseAlone, ElseOfLostIf, FieldSeesItsBranch, RoundsSeeBothBranches};
 
-/// In every run of tables whose survey refuses no Scope as unsure, with any choice at each If and any number of rounds at
-/// each While, a term to which control comes declares its object exactly where what its entry asks is so at that moment.
-/// A refused term declares none. So all that is declared is an entry, and an entry without a condition is declared in
-/// every run.
+/// In every run of tables whose survey refuses no Scope as unsure, with any choice at each If and any number of rounds
+/// at each While, a term to which control comes declares its object exactly where what its entry asks is so at that
+/// moment. A refused term declares none. So all that is declared is an entry, and an entry without a condition is
+/// declared in every run.
 pub fn survey_is_sound()
     ensures exact { SurveyIsExact }
     ensures entries { MadeIsEntry }
@@ -22,8 +22,9 @@ pub fn control_comes_by_the_way()
     ensures taken { TakesTheWay }
 {}
 
-/// A name is found at one of its candidates, if it is found, and it is found where one of them is certain. Where control
-/// came to the term of an entry outside of Whiles, that holds at the end of all tables of what is seen from the entry.
+/// A name is found at one of its candidates, if it is found, and it is found where one of them is certain. Where
+/// control came to the term of an entry outside of Whiles, that holds at the end of all tables of what is seen from the
+/// entry.
 pub fn links_are_sound()
     ensures candidates { CandidatesCover }
     ensures seen { SeenIsTrue }
@@ -43,8 +44,8 @@ pub fn strict_is_survey()
     ensures { StrictIsSurvey }
 {}
 
-/// What nodes give depends on what is known by four tests alone: whether something is certain at a path, or a scope, and
-/// whether something is possible there, or a scope.
+/// What nodes give depends on what is known by four tests alone: whether something is certain at a path, or a scope,
+/// and whether something is possible there, or a scope.
 pub fn tests_decide()
     ensures { TestsDecide }
 {}

@@ -40,8 +40,8 @@
 //! let entries = walk.entries();
 //! ```
 //!
-//! The code asks what is known of one path after another (`Statuses`), which answers these four tests at once, of a walk
-//! or of what is seen from an entry:
+//! The code asks what is known of one path after another (`Statuses`), which answers these four tests at once, of a
+//! walk or of what is seen from an entry:
 //!
 //! ```text
 //! let found = find(alloc, &known, &scope, name)?;             // the candidates, and whether the last is certain
@@ -71,8 +71,6 @@ mod sites;
 mod slots;
 mod statuses;
 mod stops;
-#[cfg(test)]
-mod tests;
 mod turns;
 mod walk;
 mod walk_steps;
@@ -83,6 +81,7 @@ pub use known_paths::KnownPaths;
 pub use met::Met;
 pub use packages::Refusal;
 pub use placing::{Placing, PlacingFault, Reason, declare_at, open_at, uncertain_names};
+pub use reasons::copy_paths;
 pub use searches::{Candidates, find};
 pub use seen::{Seen, links_of};
 pub use statuses::{Presence, Status, Statuses};

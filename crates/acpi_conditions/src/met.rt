@@ -22,8 +22,8 @@ use std::alloc::{AllocError, Global};
 use std::marker::Model;
 
 /// Which of the entries so far control may have met on its way to a place in a table (ACPI 6.5, 5.3 and 20.2.5): those
-/// whose way isn't exclusive with its own. Nothing else is possible, in the body of a While either. Each test looks at the
-/// entries at one path alone.
+/// whose way isn't exclusive with its own. Nothing else is possible, in the body of a While either. Each test looks at
+/// the entries at one path alone.
 #[derive(Drop)]
 pub struct Met<'a> {
     paths: &'a KnownPaths,

@@ -66,7 +66,7 @@ impl<T: Drop> From<AllocFailed<T>> for PlacingFault {
 /// Where a term declares its object, and what that asks of the paths.
 #[derive(Debug, Drop)]
 pub struct Placing {
-    /// The path.
+    /// The path at which the object would stand.
     pub path: Path,
     /// Whether it asks that a scope stand at the parent.
     pub has: bool,

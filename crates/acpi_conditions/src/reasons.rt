@@ -11,7 +11,8 @@ use crate::placing::Reason;
 use acpi_name::Path;
 use std::alloc::{AllocError, Global};
 
-fn copies(alloc: Global, paths: &[Path]) -> Result<Vec<Path>, AllocError>
+/// The same paths, with memory of their own.
+pub fn copy_paths(alloc: Global, paths: &[Path]) -> Result<Vec<Path>, AllocError>
     ensures { IfOk result (λ v. v.items ≡ paths.now) }
 {
     let mut copies = Vec::new(alloc);
@@ -33,7 +34,7 @@ impl Reason {
             Reason::NoParent(path) => Reason::NoParent(path.copy()?),
             Reason::NotAScope(path) => Reason::NotAScope(path.copy()?),
             Reason::Taken(path) => Reason::Taken(path.copy()?),
-            Reason::Unsure(paths) => Reason::Unsure(copies(alloc, paths)?),
+            Reason::Unsure(paths) => Reason::Unsure(copy_paths(alloc, paths)?),
         })
     }
 }

@@ -34,9 +34,9 @@ pub(crate) enum Test {
     PossibleScope,
 }
 
-/// What is known of the paths, behind all tables, where control came to an entry's term (ACPI 6.5, 20.2.5.2): possible are
-/// the entries whose way isn't exclusive with that of the entry, and certain is what those settle whose way is a part of
-/// it. Each test looks at the entries at one path alone.
+/// What is known of the paths, behind all tables, where control came to an entry's term (ACPI 6.5, 20.2.5.2): possible
+/// are the entries whose way isn't exclusive with that of the entry, and certain is what those settle whose way is a
+/// part of it. Each test looks at the entries at one path alone.
 #[derive(Drop)]
 pub struct Seen<'a> {
     paths: &'a KnownPaths,
@@ -182,8 +182,8 @@ impl<'a> Statuses for Seen<'a> {
     }
 }
 
-/// Where each of some names may be found from the entry's scope (ACPI 6.5, 20.2.5.2): the links of a field element, by the
-/// names of its region, index, data or bank.
+/// Where each of some names may be found from the entry's scope (ACPI 6.5, 20.2.5.2): the links of a field element, by
+/// the names of its region, index, data or bank.
 pub fn links_of(
     alloc: Global,
     seen: &Seen<'_>,

@@ -14,7 +14,7 @@ use crate::turns::Ways;
 
 /// What is certain behind a term: whether all that was inside, and what its entry settles otherwise.
 #[derive(Debug, Clone, Copy)]
-pub(crate) struct Behind {
+pub(crate) struct AfterTerm {
     /// Whether what is certain inside stays certain.
     pub keeps: bool,
     /// The number of the term's entry.
@@ -23,13 +23,13 @@ pub(crate) struct Behind {
     pub settled: Presence,
 }
 
-impl Behind {
+impl AfterTerm {
     /// Nothing more than what was certain before the term.
-    pub(crate) fn nothing() -> Behind
+    pub(crate) fn nothing() -> AfterTerm
         ensures keeps { result.keeps ≡ false }
         ensures settled { result.settled ≡ Nothing }
     {
-        Behind {
+        AfterTerm {
             keeps: false,
             number: 0,
             settled: Presence::Nothing,
@@ -37,11 +37,13 @@ impl Behind {
     }
 }
 
-/// Whether nothing is asked.
-pub(crate) fn asks_nothing(asks: &Asks) -> bool
-    ensures { result ≡ asks_nothing (asks_view asks.now) }
-{
-    !asks.has && !asks.no && asks.needs.is_empty()
+impl Asks {
+    /// Whether nothing is asked.
+    pub fn is_empty(&self) -> bool
+        ensures { result ≡ asks_nothing (asks_view self.now) }
+    {
+        !self.has && !self.no && self.needs.is_empty()
+    }
 }
 
 // Whether something is certain where this is asked, whether the term declares its object or not.
@@ -76,20 +78,20 @@ pub(crate) fn lasting_by(ways: &Ways, entry: &Entry) -> Presence
 }
 
 /// What is certain behind the term of an entry, which has this number.
-pub(crate) fn certain_behind(number: usize, entry: &Entry) -> Behind
+pub(crate) fn certain_after(number: usize, entry: &Entry) -> AfterTerm
     ensures keeps { result.keeps ≡ asks_nothing (asks_view entry.now.asks) }
     ensures number { result.number ≡ number }
     ensures settled { (ways : List (List TurnParts)) → certain_at entry.now.path result.settled
         ≡ cond result.keeps [] (settled (entry_view ways entry.now)) }
 {
-    if asks_nothing(&entry.asks) {
-        return Behind {
+    if entry.asks.is_empty() {
+        return AfterTerm {
             keeps: true,
             number,
             settled: Presence::Nothing,
         };
     }
-    Behind {
+    AfterTerm {
         keeps: false,
         number,
         settled: settled_by(entry),

@@ -14,7 +14,7 @@ use std::alloc::Global;
 /// Where a term declares its object, and what it asks.
 #[derive(Drop)]
 pub(crate) struct Site {
-    /// The path.
+    /// The path at which the object would stand.
     pub path: Path,
     /// What it asks.
     pub asks: Asks,

@@ -26,11 +26,11 @@ pub struct Sight {
 /// A path, the entries there, in their order, and what is certain there.
 #[derive(Drop)]
 pub struct Slot {
-    /// The path.
+    /// The path that the entries declare.
     pub path: Path,
-    /// The entries.
+    /// The entries there, in their order.
     pub sights: Vec<Sight>,
-    /// What is certain.
+    /// What is certain there.
     pub certain: Presence,
 }
 
@@ -174,7 +174,8 @@ impl Slots {
         ensures ok { OnOk result ((p : PathParts) → kept_at self.new.numbers self.new.slots.items p
             ≡ kept_over (path_in (paths_of self.old.slots.items) number) (with_sight sight)
             (kept_at self.old.numbers self.old.slots.items) p) }
-        ensures err { OnErr result ((p : PathParts) → kept_at self.new.numbers self.new.slots.items p
+        ensures err { OnErr result ((p : PathParts)
+            → kept_at self.new.numbers self.new.slots.items p
             ≡ kept_at self.old.numbers self.old.slots.items p) }
     {
         let slot = &mut self.slots[number];

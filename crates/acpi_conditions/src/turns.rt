@@ -86,7 +86,8 @@ pub(crate) fn is_same_turn(one: Turn, other: Turn) -> bool
     one == other
 }
 
-// Whether one of the turns is this one. The turn of that number is looked at first: ways that begin alike have it there.
+// Whether one of the turns is this one. The turn of that number is looked at first: ways that begin alike have it
+// there.
 fn has_turn(turns: &[Turn], turn: Turn, first: usize) -> bool
     ensures { result ≡ list_any (λ t. is_same_turn (turn_of turn) (turn_of t)) turns.now }
 {
@@ -103,8 +104,8 @@ fn is_branch(turn: Turn) -> bool
     matches!(turn, Turn::Then(_) | Turn::Else(_))
 }
 
-// Whether one of the turns goes into the other branch of the If at which this one turns. One that goes into no branch is
-// not compared with them.
+// Whether one of the turns goes into the other branch of the If at which this one turns. One that goes into no branch
+// is not compared with them.
 fn has_opposite(turns: &[Turn], turn: Turn) -> bool
     ensures { result ≡ list_any (λ t. is_opposite (turn_of turn) (turn_of t)) turns.now }
 {

@@ -21,7 +21,7 @@ use crate::known_paths::KnownPaths;
 use crate::met::Met;
 use crate::packages::{Kind, Package, Refusal};
 use crate::placing::Reason;
-use crate::settled::{Behind, certain_behind, lasting_by, settled_by};
+use crate::settled::{AfterTerm, certain_after, lasting_by, settled_by};
 use crate::sites::Site;
 use crate::statuses::{Presence, Status, Statuses};
 use crate::stops::{Stop, StopAt, keep_returns, way_past};
@@ -267,8 +267,8 @@ impl Walk {
         Ok(())
     }
 
-    /// Goes into the other branch of the If directly before, whose place it says. Where it stands and what is known isn't
-    /// that inside yet.
+    /// Goes into the other branch of the If directly before, whose place it says. Where it stands and what is known
+    /// isn't that inside yet.
     pub(crate) fn take_if(&mut self) -> Result<Option<u128>, AllocError>
         ensures place { IfOk result (λ o. o ≡ option_map (λ p. p.place) self.old.last_if) }
         ensures walk { OnOk result (self.new ≡ with_other self.old.last_if self.old) }
@@ -327,23 +327,24 @@ impl Walk {
     }
 
     /// Behind the term whose package is the innermost: whether what is certain inside stays certain, and what else is.
-    pub(crate) fn behind_term(&self) -> Behind
+    pub(crate) fn behind_term(&self) -> AfterTerm
         ensures { IsBehindTerm self.now.packages self.now result.keeps (certain_there result.settled
             (option_map (λ e. e.path) (slice_get self.now.entries result.number))) }
     {
         let number = match self.packages.last() {
             Some(inner) => inner.mark.entries,
-            None => return Behind::nothing(),
+            None => return AfterTerm::nothing(),
         };
         match self.paths.entries().get(number) {
-            Some(entry) => certain_behind(number, entry),
-            None => Behind::nothing(),
+            Some(entry) => certain_after(number, entry),
+            None => AfterTerm::nothing(),
         }
     }
 
     // What the entry of a number settles.
     fn settled_at(&self, number: usize) -> Presence
-        ensures { certain_there result (option_map (λ e. e.path) (slice_get self.now.entries number))
+        ensures { certain_there result
+            (option_map (λ e. e.path) (slice_get self.now.entries number))
             ≡ flat_map settled (option_to_list (slice_get self.now.entries number)) }
     {
         match self.paths.entries().get(number) {
@@ -354,7 +355,8 @@ impl Walk {
 
     // What the entry of a number settles for good.
     fn lasting_at(&self, number: usize) -> Presence
-        ensures { certain_there result (option_map (λ e. e.path) (slice_get self.now.entries number))
+        ensures { certain_there result
+            (option_map (λ e. e.path) (slice_get self.now.entries number))
             ≡ flat_map lasting (option_to_list (slice_get self.now.entries number)) }
     {
         match self.paths.entries().get(number) {

@@ -13,7 +13,6 @@ use crate::entry::{Asks, Term};
 use crate::facts::raised;
 use crate::packages::Kind;
 use crate::placing::{PlacingFault, declare_at, open_at};
-use crate::settled::asks_nothing;
 use crate::sites::{Site, site_of};
 use crate::statuses::{Presence, Statuses};
 use crate::stops::Stop;
@@ -143,7 +142,7 @@ impl Walk {
             ≡ into_term (entry_here self.old (term_view term) site) self.old) }
     {
         let place = term.place;
-        let free = asks_nothing(&site.asks);
+        let free = site.asks.is_empty();
         let path = site.path.copy()?;
         self.enter(Kind::Term, place)?;
         self.put_certain(term, site)?;
@@ -185,8 +184,8 @@ impl Walk {
         self.turn(Turn::Then(place))
     }
 
-    /// Goes into an Else: the other branch of the If directly before, which knows nothing of the first. With no If before
-    /// it the Else is as that of an If at its place whose first branch is empty.
+    /// Goes into an Else: the other branch of the If directly before, which knows nothing of the first. With no If
+    /// before it the Else is as that of an If at its place whose first branch is empty.
     pub fn enter_other(&mut self, place: u128) -> Result<(), AllocError>
         ensures { OnOk result (self.new ≡ enter_other place self.old) }
     {
@@ -239,8 +238,8 @@ impl Walk {
         Ok(())
     }
 
-    /// Ends a table, wherever the walk stands in it: what is known then is what was known before the table, and its entries;
-    /// certain is also what its entries settle that have no turn on their way.
+    /// Ends a table, wherever the walk stands in it: what is known then is what was known before the table, and its
+    /// entries; certain is also what its entries settle that have no turn on their way.
     pub fn end_table(&mut self) -> Result<(), AllocError>
         ensures { OnOk result (self.new ≡ end_table self.old) }
     {

@@ -2,13 +2,13 @@
 use Rattle.std.proofs.Common.{◌≡◌, ◌||◌, ◌&&◌, Bool, true, false, true≢false, not, cond, List, [], ◌∷◌, ◌++◌, find, append-nil, is_some, Some, refl, sym, ap, ◌∙◌}
 use Rattle.std.specs.Prelude.{option_to_list, IsTrue}
 use Rattle.std.specs.List.{AllByRecursion, filter, flat_map, list_any}
+use Rattle.std.proofs.lemmas.Bool.{false_from_ne_true}
 use Rattle.acpi_name.specs.Names.{NameParts}
 use Rattle.acpi_space.specs.Lookups.{is_same_path}
 use Rattle.acpi_conditions.specs.Entries.{Path, Turn, is_empty, Entry, HasNoCondition}
 use Rattle.acpi_conditions.specs.Known.{Certain, Known, is_certain, is_possible, up_to_certain, settled}
 use Rattle.acpi_conditions.specs.Links.{are_exclusive, is_part_of}
 use Rattle.acpi_conditions.specs.Views.{seen_by}
-use Rattle.acpi_conditions.proofs.Basics.{is_false}
 
 -- an entry stands at the path
 abbrev pub is_there : List Entry → Path → Bool
@@ -65,7 +65,7 @@ one_candidate k there certain possible (p ∷ ps) = by (there p) refl (one_candi
         ∙ sym (ap (λ b. option_to_list (cond b (Some p) (find there ps))) is)
     by false is rest =
         ap (λ b. cond b (p ∷ []) (cond (is_possible k p) (p ∷ up_to_certain k ps) (up_to_certain k ps))) (certain p ∙ is)
-        ∙ ap (λ b. cond b (p ∷ up_to_certain k ps) (up_to_certain k ps)) (is_false (is_possible k p) (λ y. true≢false (sym (possible p y) ∙ is)))
+        ∙ ap (λ b. cond b (p ∷ up_to_certain k ps) (up_to_certain k ps)) (false_from_ne_true (is_possible k p) (λ y. true≢false (sym (possible p y) ∙ is)))
         ∙ rest
         ∙ sym (ap (λ b. option_to_list (cond b (Some p) (find there ps))) is)
 

@@ -5,6 +5,7 @@ use Rattle.std.specs.Prelude.{IsTrue}
 use Rattle.std.proofs.Math.Seq.{drop-append_seam}
 use Rattle.acpi_name.specs.Names.{NameParts}
 use Rattle.acpi_space.specs.Laws.{Among}
+use Rattle.acpi_space.proofs.Elements.{among_left, among_right, among_append, among_all}
 use Rattle.acpi_conditions.specs.Nodes.{Term}
 use Rattle.acpi_conditions.specs.Entries as entries
 use Rattle.acpi_conditions.specs.Entries.{Path, Turn, is_empty, Entry, HasNoCondition}
@@ -12,26 +13,9 @@ use Rattle.acpi_conditions.specs.Known.{Certain, Known, settled}
 use Rattle.acpi_conditions.specs.Survey.{Survey, lasting, behind_table}
 use Rattle.acpi_conditions.specs.Laws.{IsAllOf}
 use Rattle.acpi_conditions.specs.Walk.{Walk, passed, pass, given_since, started, end_table}
-use Rattle.acpi_conditions.proofs.Basics.{among_left, among_right, among_append, among_flat}
+use Rattle.acpi_conditions.proofs.Basics.{among_flat}
 use Rattle.acpi_conditions.proofs.Declaring.{AreCertain, settled_made}
-
-pub all_first : {X : Type 0} (P : X → Type 0) (xs ys : List X) → AllByRecursion P (xs ++ ys) → AllByRecursion P xs
-all_first P [] ys h = tt
-all_first P (x ∷ xs) ys h = (h.0, all_first P xs ys h.1)
-
-pub all_last : {X : Type 0} (P : X → Type 0) (xs ys : List X) → AllByRecursion P (xs ++ ys) → AllByRecursion P ys
-all_last P [] ys h = h
-all_last P (x ∷ xs) ys h = all_last P xs ys h.1
-
-one_of_all : {X : Type 0} (P : X → Type 0) (xs : List X) → AllByRecursion P xs → (x : X) → Among xs x → P x
-one_of_all P [] h x m = absurd m
-one_of_all P (y ∷ xs) h x (inl same) = subst P same h.0
-one_of_all P (y ∷ xs) h x (inr m) = one_of_all P xs h.1 x m
-
-among_each : {X Y : Type 0} (f : X → List Y) (xs : List X) (x : X) (y : Y) → Among xs x → Among (f x) y → Among (flat_map f xs) y
-among_each f [] x y m n = absurd m
-among_each f (z ∷ xs) x y (inl same) n = among_left (f z) (flat_map f xs) y (subst (λ (z : _). Among (f z) y) (sym same) n)
-among_each f (z ∷ xs) x y (inr m) n = among_right (f z) (flat_map f xs) y (among_each f xs x y m n)
+use Rattle.acpi_conditions.proofs.Strict.{flat_among}
 
 -- ---- an entry without a condition lasts
 
@@ -88,8 +72,8 @@ module _ (before : entries.Namespace) (k : Known) (first : IsAllOf before k) (te
           (first.made_are_certain p t (ap before (sym path) ∙ first.entries_are_made e m ∙ ap Some term))
       by e path term (inr m) =
           among_left (flat_map lasting es) k.certain (record { path = p; is_scope = t.is_scope })
-          (among_each lasting es e (record { path = p; is_scope = t.is_scope }) m
-          (subst (λ (c : Certain). Among (lasting e) c) (λ i. record { path = path i; is_scope = (term i).is_scope }) (lasting_has e (one_of_all HasNoCondition es free e m))))
+          (flat_among lasting es e (record { path = p; is_scope = t.is_scope }) m
+          (subst (λ (c : Certain). Among (lasting e) c) (λ i. record { path = path i; is_scope = (term i).is_scope }) (lasting_has e (among_all HasNoCondition es free e m))))
 
   pub all_behind : IsAllOf terms after_table
   all_behind = record {

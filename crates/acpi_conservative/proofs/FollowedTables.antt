@@ -5,6 +5,7 @@ use Rattle.std.specs.FinMap as finite
 use Rattle.acpi_space.specs.Lookups.{Lookup, union}
 use Rattle.acpi_tree.specs.Tree.{ItemTrees}
 use Rattle.acpi_terms.specs.Spelling.{SpellsItems}
+use Rattle.acpi_body.proofs.Kept.{all_left, all_right}
 use Rattle.acpi_declare.specs.Namespace.{Namespace}
 use Rattle.acpi_declare.specs.Predefined.{predefined}
 use Rattle.acpi_declare.specs.Sites.{sites}
@@ -32,7 +33,7 @@ use Rattle.acpi_survey.specs.Reading.{Reading, survey_rules}
 use Rattle.acpi_survey.specs.Predefined.{first_reading, with_object}
 use Rattle.acpi_survey.specs.Survey.{code_read, place_in, at_table, behind_table, all_nodes}
 use Rattle.acpi_survey.specs.Surveys.{IsTable, AreTables, behind_nodes, bytes_of, nodes_of_each}
-use Rattle.acpi_survey.proofs.Surveys.{are_read}
+use Rattle.acpi_survey.proofs.Surveys.{are_read, first_at_start}
 use Rattle.acpi_survey.proofs.TableWalks.{read_is_survey}
 use Rattle.acpi_survey.proofs.Walking.{nodes_walked}
 use Rattle.acpi_conservative.specs.Strict.{predefined_terms}
@@ -44,7 +45,7 @@ use Rattle.acpi_conservative.proofs.StrictLinks.{is_all_there}
 use Rattle.acpi_conservative.proofs.Standing.{StandsIn, stands_on}
 use Rattle.acpi_conservative.proofs.Steps.{HaveEntries, Follows}
 use Rattle.acpi_conservative.proofs.Following.{items_follow}
-use Rattle.acpi_conservative.proofs.BehindTables.{all_first, all_last, all_behind, known_behind_table}
+use Rattle.acpi_conservative.proofs.BehindTables.{all_behind, known_behind_table}
 
 -- ---- one table
 
@@ -90,7 +91,7 @@ module _ (depth number : ℕ) (s : Reading) (k : SurveyedTable) (table : IsTable
       agrees = i.agrees;
       known = subst (IsAllOf i.terms) (sym (known_behind_table s.walk read.walk given at_start walked))
           (all_behind h.terms s.walk.known h.known i.terms read.walk.known given.entries i.known (ap (λ (w : Walk). w.known.entries) walked)
-          (all_last HasNoCondition s.walk.entries given.entries (subst (AllByRecursion HasNoCondition) (ap (λ (w : Walk). w.entries) walked) free)));
+          (all_right HasNoCondition s.walk.entries given.entries (subst (AllByRecursion HasNoCondition) (ap (λ (w : Walk). w.entries) walked) free)));
       scope_is = refl;
     }
 
@@ -155,7 +156,7 @@ module _ (depth number : ℕ) (s last : Reading) (k : SurveyedTable) (kept : Lis
   pub stands_later : IsAtStart s.walk → AllByRecursion HasNoCondition last.walk.entries → StandsIn (union objects (objects_of t)) [] (behind_table end)
   stands_later at_start free =
       stands_behind_table depth number s k table is i at_start objects (union objects (objects_of t)) h f.stands
-      (all_first HasNoCondition end.walk.entries more.0 (subst (AllByRecursion HasNoCondition) more.1 free))
+      (all_left HasNoCondition end.walk.entries more.0 (subst (AllByRecursion HasNoCondition) more.1 free))
 
 tables_follow : (depth number : ℕ) (s last : Reading) (kept : List SurveyedTable) → IsAtStart s.walk → AreTables depth number s kept last → (objects : Namespace) → StandsIn objects [] s → s.expected ≡ finite.empty
     → 10 ≤ length s.walk.entries → AllByRecursion HasNoCondition last.walk.entries → (ts : List (List Placement)) → AreListings depth number objects (bytes_of kept) ts → AreFollowed last number s.walk.entries ts kept
@@ -173,10 +174,6 @@ tables_follow depth number s last (k ∷ kept) at_start a objects h empty enough
 first_stands : StandsIn predefined [] first_reading
 unfolding first_reading with_object
 first_stands = record { terms = predefined_terms; agrees = predefined_agrees; known = predefined_is_known; scope_is = refl }
-
-first_at_start : IsAtStart first_reading.walk
-unfolding first_reading with_object
-first_at_start = refl
 
 first_hears_none : first_reading.expected ≡ finite.empty
 unfolding first_reading with_object

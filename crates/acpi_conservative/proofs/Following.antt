@@ -15,7 +15,8 @@ use Rattle.acpi_tree.specs.declared.place.NamedForm.{NamedForm}
 use Rattle.acpi_tree.specs.declared.place.NamedForm.TheVariants as named
 use Rattle.acpi_tree.specs.declared.place.UnitsForm.TheVariants as fields
 use Rattle.acpi_tree.specs.Tree.{ExternalParts, FieldTree, unit, reserved, access, connect_name, connect_buffer, extended}
-use Rattle.acpi_tree.specs.Tree.{ItemTree, name, scope, method, external, external_block, create, create_field, mutex, event, region, field, index_field, bank_field, device, processor, power, thermal, ItemTrees, no_items, item}
+use Rattle.acpi_tree.specs.declared.tree.ScopeKind.TheVariants as kinds
+use Rattle.acpi_tree.specs.Tree.{ItemTree, name, scope, method, external, external_block, create, create_field, mutex, event, region, field, index_field, bank_field, ItemTrees, no_items, item}
 use Rattle.acpi_tree.specs.Offsets.{element_bits}
 use Rattle.acpi_tree.specs.Objects.{ObjectTree, opens_scope, name_object, method_object, device_object, processor_object, power_object, thermal_object, region_object, mutex_object, event_object, field_object, create_object, create_field_object}
 use Rattle.acpi_tree.specs.Terms as terms
@@ -27,6 +28,7 @@ use Rattle.acpi_declare.specs.Placing.{IsDeclared, IsOpened}
 use Rattle.acpi_declare.specs.Listing.{Placement, objects_of, IsJustified, paths_of}
 use Rattle.acpi_declare.specs.Notes.{count_at}
 use Rattle.acpi_declare.proofs.Unions.{union-nothing, union_assoc, counts_with_first}
+use Rattle.acpi_declare.proofs.Listings.{Inside, length-paths, length-justified, inside_later, inside_newest}
 use Rattle.acpi_outline.specs.declared.form.ContainerForm.{ContainerForm}
 use Rattle.acpi_outline.specs.declared.form.ContainerForm.TheVariants as containers
 use Rattle.acpi_outline.specs.Nodes as outline
@@ -43,7 +45,7 @@ use Rattle.acpi_survey.specs.Nodes.{term_at, unit_at, operands_of}
 use Rattle.acpi_survey.specs.Reading.{Reading, survey_rules, with_expected, passing, expecting, after_field, enter, leave}
 use Rattle.acpi_survey.specs.Lookup.{Found, node_found, element_found, first_field, element_at, first_node}
 use Rattle.acpi_conservative.specs.Parts.{IsTerm, IsPackage, before_fields, IsPartOf}
-use Rattle.acpi_conservative.proofs.Items.{Inside, inside_later, inside_newest, length_paths, length_justified, Parts, parts}
+use Rattle.acpi_conservative.proofs.Items.{Parts, parts}
 use Rattle.acpi_conservative.proofs.TableNodes.{data_none, externals_walked}
 use Rattle.acpi_conservative.proofs.PartLookups.{element_within, FindsParts, FindsNode, finds_node, finds_rest}
 use Rattle.acpi_conservative.proofs.Standing.{StandsIn, stands_on, entries_left, made, allowed, stands_inside, entries_inside, stands_left, opened, stands_in_scope, entries_in_scope, stands_out_of_scope}
@@ -306,7 +308,7 @@ container_closed i form n vs o scoped is sites_are content look objects before i
     (λ p d fs k. absurd (true≢false (sym (ap is_ok (allowed objects around s h o (s.base + place) n true scoped p d)) ∙ is_node.2)))
     es (subst (λ (xs : List Site). IsJustified objects before xs es) (sites_are (length before) inside) j)
 
-scope_follows : (n : NameParts) (is : ItemTrees) (ms : NodeTrees) → AllFollow is ms → ItemFollows (scope n is) (holds (outline.scope n) ms)
+scope_follows : (n : NameParts) (is : ItemTrees) (ms : NodeTrees) → AllFollow is ms → ItemFollows (scope kinds.Scope n is) (holds (outline.scope n) ms)
 scope_follows n is ms all look objects before inside around at es j level place end to stop s bytes is_node tiles finds h =
     by_site objects before inside around at (step n opens) (items_sites (suc (length before)) (Some (length before)) is)
     (Follows look objects around s (after survey_rules place s (holds (outline.scope n) ms))) (λ p d fs k. within p d fs k) es j
@@ -332,7 +334,7 @@ scope_follows n is ms all look objects before inside around at es j level place 
           objects_there = f.objects_there;
         }
 
-scope_closed : (n : NameParts) (is : ItemTrees) (content : List ℕ) → ItemFollows (scope n is) (closed (outline.scope n) content)
+scope_closed : (n : NameParts) (is : ItemTrees) (content : List ℕ) → ItemFollows (scope kinds.Scope n is) (closed (outline.scope n) content)
 scope_closed n is content look objects before inside around at es j level place end to stop s bytes is_node tiles finds h =
     by_site objects before inside around at (step n opens) (items_sites (suc (length before)) (Some (length before)) is)
     (Follows look objects around s (after survey_rules place s (closed (outline.scope n) content)))
@@ -346,8 +348,8 @@ one_more i is place n ns here behind look objects before inside around at es j l
     let r : Parts objects before xs (items_sites (length before + length xs) inside is) es = parts objects before xs (items_sites (length before + length xs) inside is) es j in
     let m : Reading = after survey_rules place s n in
     let later : Namespace = union objects (objects_of r.front) in
-    let count : length r.front ≡ length xs = length_justified objects before xs r.front r.justified_front in
-    let long : length before + length xs ≡ length (before ++ paths_of r.front) = omega (arith, length-append before (paths_of r.front), length_paths r.front, count) in
+    let count : length r.front ≡ length xs = length-justified objects before xs r.front r.justified_front in
+    let long : length before + length xs ≡ length (before ++ paths_of r.front) = omega (arith, length-append before (paths_of r.front), length-paths r.front, count) in
     let f : Follows look objects around s m r.front =
     here look objects before inside around at r.front r.justified_front are.2 place (end - length are.1) (first_node to ns) tiles.0 s are.0 are.5 tiles.4 (finds_node look to start stop place n ns tiles finds) h in
     let g : Follows look later around m (after_all survey_rules m ns) r.back =
@@ -363,26 +365,26 @@ none_more look objects before inside around at es j level end to start stop s by
 mutual
   item_follows : (i : ItemTree) (m : NodeTree) → IsItem i m → ItemFollows i m
   item_follows (name n d) m h = subst (ItemFollows (name n d)) (sym h) (declaration_follows (name n d) named.Name no_terms n (more (data_term d) no_terms) (data_none d) (name_object d) refl [] (λ part h. (refl, h)) (λ k inside. refl))
-  item_follows (scope n is) m (inl (ms, e, h)) = subst (ItemFollows (scope n is)) (sym e) (scope_follows n is ms (items_follow is ms h))
-  item_follows (scope n is) m (inr (b, e, h)) = subst (ItemFollows (scope n is)) (sym e) (scope_closed n is b)
-  item_follows (device n is) m (inl (ms, e, h)) =
-      subst (ItemFollows (device n is)) (sym e) (container_follows (device n is) containers.Device n no_terms device_object refl is (λ part h. (refl, h)) (λ k inside. refl) ms (items_follow is ms h))
-  item_follows (device n is) m (inr (b, e, h)) = subst (ItemFollows (device n is)) (sym e) (container_closed (device n is) containers.Device n no_terms device_object refl is (λ k inside. refl) b)
-  item_follows (processor n id block len is) m (inl (ms, e, h)) =
-      subst (ItemFollows (processor n id block len is)) (sym e)
-      (container_follows (processor n id block len is) containers.Processor n (more (raw 1 id) (more (raw 4 block) (more (raw 1 len) no_terms))) (processor_object id block len) refl is (λ part h. (refl, h)) (λ k inside. refl) ms (items_follow is ms h))
-  item_follows (processor n id block len is) m (inr (b, e, h)) =
-      subst (ItemFollows (processor n id block len is)) (sym e)
-      (container_closed (processor n id block len is) containers.Processor n (more (raw 1 id) (more (raw 4 block) (more (raw 1 len) no_terms))) (processor_object id block len) refl is (λ k inside. refl) b)
-  item_follows (power n deepest order is) m (inl (ms, e, h)) =
-      subst (ItemFollows (power n deepest order is)) (sym e)
-      (container_follows (power n deepest order is) containers.Power n (more (raw 1 deepest) (more (raw 2 order) no_terms)) (power_object deepest order) refl is (λ part h. (refl, h)) (λ k inside. refl) ms (items_follow is ms h))
-  item_follows (power n deepest order is) m (inr (b, e, h)) =
-      subst (ItemFollows (power n deepest order is)) (sym e)
-      (container_closed (power n deepest order is) containers.Power n (more (raw 1 deepest) (more (raw 2 order) no_terms)) (power_object deepest order) refl is (λ k inside. refl) b)
-  item_follows (thermal n is) m (inl (ms, e, h)) =
-      subst (ItemFollows (thermal n is)) (sym e) (container_follows (thermal n is) containers.Thermal n no_terms thermal_object refl is (λ part h. (refl, h)) (λ k inside. refl) ms (items_follow is ms h))
-  item_follows (thermal n is) m (inr (b, e, h)) = subst (ItemFollows (thermal n is)) (sym e) (container_closed (thermal n is) containers.Thermal n no_terms thermal_object refl is (λ k inside. refl) b)
+  item_follows (scope kinds.Scope n is) m (inl (ms, e, h)) = subst (ItemFollows (scope kinds.Scope n is)) (sym e) (scope_follows n is ms (items_follow is ms h))
+  item_follows (scope kinds.Scope n is) m (inr (b, e, h)) = subst (ItemFollows (scope kinds.Scope n is)) (sym e) (scope_closed n is b)
+  item_follows (scope kinds.Device n is) m (inl (ms, e, h)) =
+      subst (ItemFollows (scope kinds.Device n is)) (sym e) (container_follows (scope kinds.Device n is) containers.Device n no_terms device_object refl is (λ part h. (refl, h)) (λ k inside. refl) ms (items_follow is ms h))
+  item_follows (scope kinds.Device n is) m (inr (b, e, h)) = subst (ItemFollows (scope kinds.Device n is)) (sym e) (container_closed (scope kinds.Device n is) containers.Device n no_terms device_object refl is (λ k inside. refl) b)
+  item_follows (scope (kinds.Processor id block len) n is) m (inl (ms, e, h)) =
+      subst (ItemFollows (scope (kinds.Processor id block len) n is)) (sym e)
+      (container_follows (scope (kinds.Processor id block len) n is) containers.Processor n (more (raw 1 id) (more (raw 4 block) (more (raw 1 len) no_terms))) (processor_object id block len) refl is (λ part h. (refl, h)) (λ k inside. refl) ms (items_follow is ms h))
+  item_follows (scope (kinds.Processor id block len) n is) m (inr (b, e, h)) =
+      subst (ItemFollows (scope (kinds.Processor id block len) n is)) (sym e)
+      (container_closed (scope (kinds.Processor id block len) n is) containers.Processor n (more (raw 1 id) (more (raw 4 block) (more (raw 1 len) no_terms))) (processor_object id block len) refl is (λ k inside. refl) b)
+  item_follows (scope (kinds.Power deepest order) n is) m (inl (ms, e, h)) =
+      subst (ItemFollows (scope (kinds.Power deepest order) n is)) (sym e)
+      (container_follows (scope (kinds.Power deepest order) n is) containers.Power n (more (raw 1 deepest) (more (raw 2 order) no_terms)) (power_object deepest order) refl is (λ part h. (refl, h)) (λ k inside. refl) ms (items_follow is ms h))
+  item_follows (scope (kinds.Power deepest order) n is) m (inr (b, e, h)) =
+      subst (ItemFollows (scope (kinds.Power deepest order) n is)) (sym e)
+      (container_closed (scope (kinds.Power deepest order) n is) containers.Power n (more (raw 1 deepest) (more (raw 2 order) no_terms)) (power_object deepest order) refl is (λ k inside. refl) b)
+  item_follows (scope kinds.Thermal n is) m (inl (ms, e, h)) =
+      subst (ItemFollows (scope kinds.Thermal n is)) (sym e) (container_follows (scope kinds.Thermal n is) containers.Thermal n no_terms thermal_object refl is (λ part h. (refl, h)) (λ k inside. refl) ms (items_follow is ms h))
+  item_follows (scope kinds.Thermal n is) m (inr (b, e, h)) = subst (ItemFollows (scope kinds.Thermal n is)) (sym e) (container_closed (scope kinds.Thermal n is) containers.Thermal n no_terms thermal_object refl is (λ k inside. refl) b)
   item_follows (method n flags code) m h = subst (ItemFollows (method n flags code)) (sym h) (method_follows n flags code)
   item_follows (external x) m h =
       subst (ItemFollows (external x)) (sym h)

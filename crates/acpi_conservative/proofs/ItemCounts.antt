@@ -4,7 +4,8 @@ use Rattle.std.specs.List.{flat_map}
 use Rattle.acpi_name.specs.Names.{NameParts}
 use Rattle.acpi_tree.specs.declared.object.FieldForm.{FieldForm}
 use Rattle.acpi_tree.specs.Tree.{ExternalParts, FieldTree, unit}
-use Rattle.acpi_tree.specs.Tree.{ItemTree, name, scope, method, external, external_block, create, create_field, mutex, event, region, field, index_field, bank_field, device, processor, power, thermal, ItemTrees, no_items, item}
+use Rattle.acpi_tree.specs.declared.tree.ScopeKind.TheVariants as kinds
+use Rattle.acpi_tree.specs.Tree.{ItemTree, name, scope, method, external, external_block, create, create_field, mutex, event, region, field, index_field, bank_field, ItemTrees, no_items, item}
 use Rattle.acpi_tree.specs.Offsets.{element_bits}
 use Rattle.acpi_tree.specs.Objects.{args_of}
 use Rattle.acpi_tree.specs.declared.tree.Int.TheVariants.{Zero}
@@ -13,7 +14,7 @@ use Rattle.acpi_tree.specs.Terms.{TermTree, TermTrees, declare, no_terms, more, 
 use Rattle.acpi_tree.specs.declared.place.NamedForm.{NamedForm}
 use Rattle.acpi_tree.specs.declared.place.NamedForm.TheVariants as named
 use Rattle.acpi_tree.specs.declared.place.UnitsForm.TheVariants as fields
-use Rattle.acpi_declare.specs.Sites.{Effect, declares, opens, expects, Step, step, own_steps, unit_steps, external_steps}
+use Rattle.acpi_declare.specs.Sites.{Effect, declares, opens, expects, Step, step, kind_object, scope_effect, own_steps, unit_steps, external_steps}
 use Rattle.acpi_outline.specs.declared.form.ContainerForm.{ContainerForm}
 use Rattle.acpi_outline.specs.declared.form.ContainerForm.TheVariants as containers
 use Rattle.acpi_outline.specs.Nodes as outline
@@ -44,11 +45,7 @@ counted xs = flat_map (λ (x : Step). counted_by x.effect) xs
 
 abbrev mutual
   pub counted_in : ItemTree → List (Option ℕ)
-  counted_in (scope n is) = all_counted is
-  counted_in (device n is) = Some 0 ∷ all_counted is
-  counted_in (processor n id block len is) = Some 0 ∷ all_counted is
-  counted_in (power n deepest order is) = Some 0 ∷ all_counted is
-  counted_in (thermal n is) = Some 0 ∷ all_counted is
+  counted_in (scope kind n is) = counted_by (scope_effect (kind_object kind)) ++ all_counted is
   counted_in i = counted (own_steps i)
 
   pub all_counted : ItemTrees → List (Option ℕ)
@@ -177,14 +174,14 @@ container_closed : (form : ContainerForm) (n : NameParts) (vs : TermTrees) (cont
     → Counts s (after survey_rules place s (closed (container form n vs) content)) cs
 container_closed form n vs content cs level place end s bytes is_node r = absurd (closed_term (term_at (s.base + place) n true []) s is_node.2 r)
 
-scope_counts : (n : NameParts) (is : ItemTrees) (ms : NodeTrees) → AllCounted is ms → ItemCounts (scope n is) (holds (outline.scope n) ms)
+scope_counts : (n : NameParts) (is : ItemTrees) (ms : NodeTrees) → AllCounted is ms → ItemCounts (scope kinds.Scope n is) (holds (outline.scope n) ms)
 scope_counts n is ms inside level place end s bytes (a, b, is_fixed, goes, are, packs) =
     let m : Reading = enter s place (outline.scope n) in
     let u : Reading = after_all survey_rules m ms in
     two_counts s m (leave u) [] (all_counted is) (enters_scope place n s)
     (no_more_counts m (leave u) (all_counted is) (two_counts m u (leave u) (all_counted is) [] (inside level end m b are) (leaves u)))
 
-scope_closed : (n : NameParts) (is : ItemTrees) (content : List ℕ) → ItemCounts (scope n is) (closed (outline.scope n) content)
+scope_closed : (n : NameParts) (is : ItemTrees) (content : List ℕ) → ItemCounts (scope kinds.Scope n is) (closed (outline.scope n) content)
 scope_closed n is content level place end s bytes is_node r = absurd (closed_scope place n s is_node.2 r)
 
 block_counts : (xs : List ExternalParts) (v : TermTree) (ms : NodeTrees) → AreExternals xs ms → (place : ℕ) (s : Reading) → Counts s (after survey_rules place s (holds (if_so v) ms)) []
@@ -228,16 +225,16 @@ one_more i is place n ns here behind level end s bytes (a, b, inside, levels, at
 mutual
   item_counts : (i : ItemTree) (m : NodeTree) → IsItem i m → ItemCounts i m
   item_counts (name n d) m h = subst (ItemCounts (name n d)) (sym h) (declaration_counts (name n d) named.Name no_terms n (more (data_term d) no_terms) refl)
-  item_counts (scope n is) m (inl (ms, e, h)) = subst (ItemCounts (scope n is)) (sym e) (scope_counts n is ms (items_counted is ms h))
-  item_counts (scope n is) m (inr (b, e, h)) = subst (ItemCounts (scope n is)) (sym e) (scope_closed n is b)
-  item_counts (device n is) m (inl (ms, e, h)) = subst (ItemCounts (device n is)) (sym e) (container_counts containers.Device n no_terms is ms (items_counted is ms h))
-  item_counts (device n is) m (inr (b, e, h)) = subst (ItemCounts (device n is)) (sym e) (container_closed containers.Device n no_terms b (Some 0 ∷ all_counted is))
-  item_counts (processor n id block len is) m (inl (ms, e, h)) = subst (ItemCounts (processor n id block len is)) (sym e) (container_counts containers.Processor n (more (raw 1 id) (more (raw 4 block) (more (raw 1 len) no_terms))) is ms (items_counted is ms h))
-  item_counts (processor n id block len is) m (inr (b, e, h)) = subst (ItemCounts (processor n id block len is)) (sym e) (container_closed containers.Processor n (more (raw 1 id) (more (raw 4 block) (more (raw 1 len) no_terms))) b (Some 0 ∷ all_counted is))
-  item_counts (power n deepest order is) m (inl (ms, e, h)) = subst (ItemCounts (power n deepest order is)) (sym e) (container_counts containers.Power n (more (raw 1 deepest) (more (raw 2 order) no_terms)) is ms (items_counted is ms h))
-  item_counts (power n deepest order is) m (inr (b, e, h)) = subst (ItemCounts (power n deepest order is)) (sym e) (container_closed containers.Power n (more (raw 1 deepest) (more (raw 2 order) no_terms)) b (Some 0 ∷ all_counted is))
-  item_counts (thermal n is) m (inl (ms, e, h)) = subst (ItemCounts (thermal n is)) (sym e) (container_counts containers.Thermal n no_terms is ms (items_counted is ms h))
-  item_counts (thermal n is) m (inr (b, e, h)) = subst (ItemCounts (thermal n is)) (sym e) (container_closed containers.Thermal n no_terms b (Some 0 ∷ all_counted is))
+  item_counts (scope kinds.Scope n is) m (inl (ms, e, h)) = subst (ItemCounts (scope kinds.Scope n is)) (sym e) (scope_counts n is ms (items_counted is ms h))
+  item_counts (scope kinds.Scope n is) m (inr (b, e, h)) = subst (ItemCounts (scope kinds.Scope n is)) (sym e) (scope_closed n is b)
+  item_counts (scope kinds.Device n is) m (inl (ms, e, h)) = subst (ItemCounts (scope kinds.Device n is)) (sym e) (container_counts containers.Device n no_terms is ms (items_counted is ms h))
+  item_counts (scope kinds.Device n is) m (inr (b, e, h)) = subst (ItemCounts (scope kinds.Device n is)) (sym e) (container_closed containers.Device n no_terms b (Some 0 ∷ all_counted is))
+  item_counts (scope (kinds.Processor id block len) n is) m (inl (ms, e, h)) = subst (ItemCounts (scope (kinds.Processor id block len) n is)) (sym e) (container_counts containers.Processor n (more (raw 1 id) (more (raw 4 block) (more (raw 1 len) no_terms))) is ms (items_counted is ms h))
+  item_counts (scope (kinds.Processor id block len) n is) m (inr (b, e, h)) = subst (ItemCounts (scope (kinds.Processor id block len) n is)) (sym e) (container_closed containers.Processor n (more (raw 1 id) (more (raw 4 block) (more (raw 1 len) no_terms))) b (Some 0 ∷ all_counted is))
+  item_counts (scope (kinds.Power deepest order) n is) m (inl (ms, e, h)) = subst (ItemCounts (scope (kinds.Power deepest order) n is)) (sym e) (container_counts containers.Power n (more (raw 1 deepest) (more (raw 2 order) no_terms)) is ms (items_counted is ms h))
+  item_counts (scope (kinds.Power deepest order) n is) m (inr (b, e, h)) = subst (ItemCounts (scope (kinds.Power deepest order) n is)) (sym e) (container_closed containers.Power n (more (raw 1 deepest) (more (raw 2 order) no_terms)) b (Some 0 ∷ all_counted is))
+  item_counts (scope kinds.Thermal n is) m (inl (ms, e, h)) = subst (ItemCounts (scope kinds.Thermal n is)) (sym e) (container_counts containers.Thermal n no_terms is ms (items_counted is ms h))
+  item_counts (scope kinds.Thermal n is) m (inr (b, e, h)) = subst (ItemCounts (scope kinds.Thermal n is)) (sym e) (container_closed containers.Thermal n no_terms b (Some 0 ∷ all_counted is))
   item_counts (method n flags code) m h = subst (ItemCounts (method n flags code)) (sym h) (λ level place end s bytes is_node. counts_term (term_at (s.base + place) n false []) (Some (flags % 8)) s)
   item_counts (external x) m h =
       subst (ItemCounts (external x)) (sym h) (λ level place end s bytes is_node. subst (Counts s (expecting x s)) (sym (external_counts_none x)) (counts_none s (expecting x s) refl refl))

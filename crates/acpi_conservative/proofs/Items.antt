@@ -3,13 +3,14 @@ use Rattle.std.proofs.Common.{◌≡◌, ℕ, suc, ◌+◌, List, [], ◌∷◌,
 use Rattle.std.specs.List.{AllZip}
 use Rattle.acpi_name.specs.Names.{Segment, NameParts}
 use Rattle.acpi_space.specs.Lookups.{union}
-use Rattle.acpi_tree.specs.Tree.{ItemTree, scope, device, processor, power, thermal, ItemTrees, no_items, item}
-use Rattle.acpi_tree.specs.Objects.{opens_scope, device_object, processor_object, power_object, thermal_object}
+use Rattle.acpi_tree.specs.Tree.{ItemTree, scope, ItemTrees, no_items, item}
+use Rattle.acpi_tree.specs.Objects.{ObjectTree, opens_scope}
 use Rattle.acpi_declare.specs.Namespace.{Namespace}
-use Rattle.acpi_declare.specs.Sites.{Effect, declares, opens, expects, declares_alone, Step, step, own_steps, Site, site_in, item_sites, items_sites, sites}
+use Rattle.acpi_declare.specs.Sites.{Effect, declares, opens, expects, Step, step, kind_object, scope_effect, own_steps, Site, site_in, item_sites, items_sites, sites}
 use Rattle.acpi_declare.specs.Placing.{IsPlaced}
-use Rattle.acpi_declare.specs.Listing.{Placement, object_of, objects_of, path_at, scope_within, IsJustified, IsListing, paths_of}
+use Rattle.acpi_declare.specs.Listing.{Placement, object_of, objects_of, scope_within, IsJustified, IsListing, paths_of}
 use Rattle.acpi_declare.proofs.Unions.{union-nothing, union_assoc}
+use Rattle.acpi_declare.proofs.Listings.{length-paths, length-justified, inside_later, inside_now, inside_newest, Inside}
 use Rattle.acpi_conditions.specs.Nodes.{Nodes, no_nodes}
 use Rattle.acpi_conditions.specs.Entries as entries
 use Rattle.acpi_conditions.specs.Known.{Known}
@@ -30,34 +31,6 @@ behind_both terms (d ∷ ds) es = behind_both (with_object terms d.path d.term) 
 placed_both : (es fs : List Placement) → all_placed (es ++ fs) ≡ all_placed es ++ all_placed fs
 placed_both [] fs = refl
 placed_both (e ∷ es) fs = ap (λ ds. placed e ++ ds) (placed_both es fs) ∙ sym (append_assoc (placed e) (all_placed es) (all_placed fs))
-
-pub length_paths : (es : List Placement) → length (paths_of es) ≡ length es
-length_paths [] = refl
-length_paths (e ∷ es) = ap suc (length_paths es)
-
-pub length_justified : (objects : Namespace) (before : List (List Segment)) (xs : List Site) (es : List Placement) → IsJustified objects before xs es → length es ≡ length xs
-length_justified objects before [] [] h = refl
-length_justified objects before (x ∷ xs) (e ∷ es) h = ap suc (length_justified (union objects (object_of e)) (before ++ e.path ∷ []) xs es h.3)
-length_justified objects before [] (e ∷ es) h = absurd h
-length_justified objects before (x ∷ xs) [] h = absurd h
-
--- ---- the current scope
-
-abbrev pub Inside : List (List Segment) → Option ℕ → List Segment → Type 0
-Inside before inside s = (more : List (List Segment)) → scope_within (before ++ more) inside ≡ s
-
-pub inside_later : (before new : List (List Segment)) (inside : Option ℕ) (s : List Segment) → Inside before inside s → Inside (before ++ new) inside s
-inside_later before new inside s h more = ap (λ ps. scope_within ps inside) (append_assoc before new more) ∙ h (new ++ more)
-
-pub inside_now : (before : List (List Segment)) (inside : Option ℕ) (s : List Segment) → Inside before inside s → scope_within before inside ≡ s
-inside_now before inside s h = ap (λ ps. scope_within ps inside) (sym (append-nil before)) ∙ h []
-
-path_at_seam : (ps qs : List (List Segment)) (p : List Segment) → path_at (ps ++ p ∷ qs) (length ps) ≡ p
-path_at_seam [] qs p = refl
-path_at_seam (x ∷ ps) qs p = path_at_seam ps qs p
-
-pub inside_newest : (before : List (List Segment)) (p : List Segment) → Inside (before ++ p ∷ []) (Some (length before)) p
-inside_newest before p more = ap (λ ps. path_at ps (length before)) (append_assoc before (p ∷ []) more) ∙ path_at_seam before more p
 
 -- ---- a listing in two parts
 
@@ -159,30 +132,17 @@ holder_listing objects terms h before inside s at x holds is (e ∷ es) j ih res
     (subst (λ (ds : List conditions.Placement). conditions.IsListing (items_nodes is no_nodes) e.path next ds) (append-nil (all_placed es)) deep)
     (subst (λ (m : entries.Namespace). conditions.IsListing rest s m ys) (behind_both terms (placed e) (all_placed es)) l))
 
-opens_holds : (count : ℕ) → opens ≡ expects count → ⊥
-opens_holds count e = cc
-
-alone_holds : (o : _) (count : ℕ) → declares_alone o ≡ expects count → ⊥
-alone_holds o count e = cc
+scope_holds : (o : Option ObjectTree) (count : ℕ) → scope_effect o ≡ expects count → ⊥
+scope_holds None count e = cc
+scope_holds (Some o) count e = cc
 
 mutual
   item_listing : (i : ItemTree) (objects : Namespace) (terms : entries.Namespace) → Agrees objects terms → (k : ℕ) (before : List (List Segment)) (inside : Option ℕ) (s : List Segment) → k ≡ length before → Inside before inside s
       → (es : List Placement) → IsJustified objects before (item_sites k inside i) es → (rest : Nodes) (ys : List conditions.Placement) → conditions.IsListing rest s (made_behind terms (all_placed es)) ys
       → conditions.IsListing (item_nodes i rest) s terms (all_placed es ++ ys)
-  item_listing (scope n is) objects terms h k before inside s e at es j rest ys l =
-      holder_listing objects terms h before inside s at (step n opens) opens_holds is es (subst (λ k. IsJustified objects before (item_sites k inside (scope n is)) es) e j) (items_listing is) rest ys l
-  item_listing (device n is) objects terms h k before inside s e at es j rest ys l =
-      holder_listing objects terms h before inside s at (step n (declares_alone device_object)) (alone_holds device_object) is es
-      (subst (λ k. IsJustified objects before (item_sites k inside (device n is)) es) e j) (items_listing is) rest ys l
-  item_listing (processor n id block len is) objects terms h k before inside s e at es j rest ys l =
-      holder_listing objects terms h before inside s at (step n (declares_alone (processor_object id block len))) (alone_holds (processor_object id block len)) is es
-      (subst (λ k. IsJustified objects before (item_sites k inside (processor n id block len is)) es) e j) (items_listing is) rest ys l
-  item_listing (power n level order is) objects terms h k before inside s e at es j rest ys l =
-      holder_listing objects terms h before inside s at (step n (declares_alone (power_object level order))) (alone_holds (power_object level order)) is es
-      (subst (λ k. IsJustified objects before (item_sites k inside (power n level order is)) es) e j) (items_listing is) rest ys l
-  item_listing (thermal n is) objects terms h k before inside s e at es j rest ys l =
-      holder_listing objects terms h before inside s at (step n (declares_alone thermal_object)) (alone_holds thermal_object) is es
-      (subst (λ k. IsJustified objects before (item_sites k inside (thermal n is)) es) e j) (items_listing is) rest ys l
+  item_listing (scope kind n is) objects terms h k before inside s e at es j rest ys l =
+      holder_listing objects terms h before inside s at (step n (scope_effect (kind_object kind))) (scope_holds (kind_object kind)) is es
+      (subst (λ k. IsJustified objects before (item_sites k inside (scope kind n is)) es) e j) (items_listing is) rest ys l
   item_listing i objects terms h k before inside s e at es j rest ys l = steps_listing objects terms h before inside s at (own_steps i) es j rest ys l
 
   items_listing : (is : ItemTrees) (objects : Namespace) (terms : entries.Namespace) → Agrees objects terms → (k : ℕ) (before : List (List Segment)) (inside : Option ℕ) (s : List Segment) → k ≡ length before → Inside before inside s
@@ -194,13 +154,13 @@ mutual
       let r : Parts objects before (item_sites k inside i) (items_sites (k + length (item_sites k inside i)) inside is) es = parts objects before (item_sites k inside i) (items_sites (k + length (item_sites k inside i)) inside is) es j in
       let front : List Placement = r.front in
       let back : List Placement = r.back in
-      let count : length front ≡ length (item_sites k inside i) = length_justified objects before (item_sites k inside i) front r.justified_front in
+      let count : length front ≡ length (item_sites k inside i) = length-justified objects before (item_sites k inside i) front r.justified_front in
       let split : all_placed es ≡ all_placed front ++ all_placed back = ap all_placed r.whole ∙ placed_both front back in
       let behind : conditions.IsListing rest s (made_behind (made_behind terms (all_placed front)) (all_placed back)) ys =
       subst (λ (m : entries.Namespace). conditions.IsListing rest s m ys) (ap (made_behind terms) split ∙ behind_both terms (all_placed front) (all_placed back)) l in
       let later : conditions.IsListing (items_nodes is rest) s (made_behind terms (all_placed front)) (all_placed back ++ ys) =
       items_listing is (union objects (objects_of front)) (made_behind terms (all_placed front)) (agrees_all objects terms h front) (k + length (item_sites k inside i)) (before ++ paths_of front) inside s
-      (omega (arith, length-append before (paths_of front), length_paths front)) (inside_later before (paths_of front) inside s at) back r.justified_back rest ys behind in
+      (omega (arith, length-append before (paths_of front), length-paths front)) (inside_later before (paths_of front) inside s at) back r.justified_back rest ys behind in
       subst (λ (ds : List conditions.Placement). conditions.IsListing (items_nodes (item i is) rest) s terms ds)
       (sym (append_assoc (all_placed front) (all_placed back) ys) ∙ ap (λ ds. ds ++ ys) (sym split))
       (item_listing i objects terms h k before inside s e at front r.justified_front (items_nodes is rest) (all_placed back ++ ys) later)

@@ -12,8 +12,8 @@ use Rattle.acpi_outline.specs.View.{nodes_view}
 use Rattle.acpi_conditions.specs.Entries.{Why, Refusal}
 use Rattle.acpi_survey.specs.declared.machine_survey.SurveyedTable.{SurveyedTable}
 use Rattle.acpi_survey.specs.declared.notes.NoteReason.{NoteReason}
-use Rattle.acpi_survey.specs.declared.tables.Judged.{Judged}
-use Rattle.acpi_survey.specs.declared.tables.Judged.TheVariants.{Read}
+use Rattle.acpi_survey.specs.declared.tables.TableContent.{TableContent}
+use Rattle.acpi_survey.specs.declared.tables.TableContent.TheVariants.{Read}
 use Rattle.acpi_survey.specs.Places.{last_at}
 use Rattle.acpi_survey.specs.Ranges.{Range, Entered, ranges_of}
 use Rattle.acpi_survey.specs.Problems.{ProblemParts, Refusals, why_lost, offset_of, lost_problem, refused_problem, range_problems, table_problems}
@@ -55,7 +55,7 @@ tables_without entered refusals none depth number s last (k ∷ kept) [] a t h =
 tables_without entered refusals none depth number s last (k ∷ kept) (is ∷ iss) a t h =
     let rest : List ProblemParts = problems_by entered refusals (number + 1) kept in
     let judged_is = strict_table_is_read depth number k.bytes is t.0 k.judged a.0.judged in
-    ap (λ (j : Judged). table_problems (entered number) refusals number k.bytes j (nodes_view k.nodes) ++ rest) judged_is
+    ap (λ (j : TableContent). table_problems (entered number) refusals number k.bytes j (nodes_view k.nodes) ++ rest) judged_is
     ∙ ap (λ (ps : List ProblemParts). ps ++ rest) (table_without (entered number) refusals none number k.bytes is (nodes_view k.nodes) h.0 _)
     ∙ ap (λ (n : ℕ). problems_by entered refusals n kept) (add-one number)
     ∙ tables_without entered refusals none depth (suc number) (behind_table (behind_nodes number s k)) last kept iss a.1 t.1 h.1
@@ -84,7 +84,7 @@ tables_unnoted entered unknowns depth number s last (k ∷ kept) [] a t h = absu
 tables_unnoted entered unknowns depth number s last (k ∷ kept) (is ∷ iss) a t h =
     let rest : List NoteParts = notes_by entered unknowns (number + 1) kept in
     let judged_is = strict_table_is_read depth number k.bytes is t.0 k.judged a.0.judged in
-    ap (λ (j : Judged). table_notes (entered number) unknowns number j (nodes_view k.nodes) ++ rest) judged_is
+    ap (λ (j : TableContent). table_notes (entered number) unknowns number j (nodes_view k.nodes) ++ rest) judged_is
     ∙ ap (λ (ns : List NoteParts). ns ++ rest)
     (ranges_unnoted unknowns number (ranges_of (entered number) [] (length (code_of k.bytes)) false (nodes_view k.nodes))
     (items_kept is (nodes_view k.nodes) h.0 (entered number) [] (length (code_of k.bytes)) false))

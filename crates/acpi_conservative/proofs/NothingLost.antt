@@ -3,7 +3,8 @@ use Rattle.std.proofs.Common.{◌≡◌, ◌∙◌, ℕ, suc, Bool, false, List,
 use Rattle.std.specs.List.{AllZip, AllByRecursion, flat_map}
 use Rattle.acpi_name.specs.Names.{NameParts}
 use Rattle.acpi_tree.specs.Tree.{DataTree, int, str, buffer, pkg, var_pkg, ElemTrees, no_elems, elem, of_data, of_name, ExternalParts, FieldTree}
-use Rattle.acpi_tree.specs.Tree.{ItemTree, name, scope, method, external, external_block, create, create_field, mutex, event, region, field, index_field, bank_field, device, processor, power, thermal, ItemTrees, no_items, item}
+use Rattle.acpi_tree.specs.declared.tree.ScopeKind.TheVariants as kinds
+use Rattle.acpi_tree.specs.Tree.{ItemTree, name, scope, method, external, external_block, create, create_field, mutex, event, region, field, index_field, bank_field, ItemTrees, no_items, item}
 use Rattle.acpi_terms.specs.Spelling.{SpellsItems}
 use Rattle.acpi_declare.specs.Predefined.{predefined}
 use Rattle.acpi_conditions.specs.Entries.{Path}
@@ -71,16 +72,16 @@ IsNodeKept entered place s end m = IsPartKept (of_node m) × AreKept (inner_rang
 mutual
   item_kept : (i : ItemTree) (m : NodeTree) → IsItem i m → (entered : Entered) (place : ℕ) (s : Path) (end : ℕ) → IsNodeKept entered place s end m
   item_kept (name n d) m h entered place s end = subst (IsNodeKept entered place s end) (sym h) ((refl, λ unknown b. ap (λ (ms : List MarkTree). flat_map (mark_reasons unknown) (ms ++ [])) (data_marks d)), tt)
-  item_kept (scope n is) m (inl (ms, e, h)) entered place s end = subst (IsNodeKept entered place s end) (sym e) ((refl, λ unknown b. refl), items_kept is ms h entered _ end false)
-  item_kept (scope n is) m (inr (b, e, h)) entered place s end = subst (IsNodeKept entered place s end) (sym e) ((refl, λ unknown b. refl), tt)
-  item_kept (device n is) m (inl (ms, e, h)) entered place s end = subst (IsNodeKept entered place s end) (sym e) ((refl, λ unknown b. refl), items_kept is ms h entered _ end false)
-  item_kept (device n is) m (inr (b, e, h)) entered place s end = subst (IsNodeKept entered place s end) (sym e) ((refl, λ unknown b. refl), tt)
-  item_kept (processor n id block len is) m (inl (ms, e, h)) entered place s end = subst (IsNodeKept entered place s end) (sym e) ((refl, λ unknown b. refl), items_kept is ms h entered _ end false)
-  item_kept (processor n id block len is) m (inr (b, e, h)) entered place s end = subst (IsNodeKept entered place s end) (sym e) ((refl, λ unknown b. refl), tt)
-  item_kept (power n deepest order is) m (inl (ms, e, h)) entered place s end = subst (IsNodeKept entered place s end) (sym e) ((refl, λ unknown b. refl), items_kept is ms h entered _ end false)
-  item_kept (power n deepest order is) m (inr (b, e, h)) entered place s end = subst (IsNodeKept entered place s end) (sym e) ((refl, λ unknown b. refl), tt)
-  item_kept (thermal n is) m (inl (ms, e, h)) entered place s end = subst (IsNodeKept entered place s end) (sym e) ((refl, λ unknown b. refl), items_kept is ms h entered _ end false)
-  item_kept (thermal n is) m (inr (b, e, h)) entered place s end = subst (IsNodeKept entered place s end) (sym e) ((refl, λ unknown b. refl), tt)
+  item_kept (scope kinds.Scope n is) m (inl (ms, e, h)) entered place s end = subst (IsNodeKept entered place s end) (sym e) ((refl, λ unknown b. refl), items_kept is ms h entered _ end false)
+  item_kept (scope kinds.Scope n is) m (inr (b, e, h)) entered place s end = subst (IsNodeKept entered place s end) (sym e) ((refl, λ unknown b. refl), tt)
+  item_kept (scope kinds.Device n is) m (inl (ms, e, h)) entered place s end = subst (IsNodeKept entered place s end) (sym e) ((refl, λ unknown b. refl), items_kept is ms h entered _ end false)
+  item_kept (scope kinds.Device n is) m (inr (b, e, h)) entered place s end = subst (IsNodeKept entered place s end) (sym e) ((refl, λ unknown b. refl), tt)
+  item_kept (scope (kinds.Processor id block len) n is) m (inl (ms, e, h)) entered place s end = subst (IsNodeKept entered place s end) (sym e) ((refl, λ unknown b. refl), items_kept is ms h entered _ end false)
+  item_kept (scope (kinds.Processor id block len) n is) m (inr (b, e, h)) entered place s end = subst (IsNodeKept entered place s end) (sym e) ((refl, λ unknown b. refl), tt)
+  item_kept (scope (kinds.Power deepest order) n is) m (inl (ms, e, h)) entered place s end = subst (IsNodeKept entered place s end) (sym e) ((refl, λ unknown b. refl), items_kept is ms h entered _ end false)
+  item_kept (scope (kinds.Power deepest order) n is) m (inr (b, e, h)) entered place s end = subst (IsNodeKept entered place s end) (sym e) ((refl, λ unknown b. refl), tt)
+  item_kept (scope kinds.Thermal n is) m (inl (ms, e, h)) entered place s end = subst (IsNodeKept entered place s end) (sym e) ((refl, λ unknown b. refl), items_kept is ms h entered _ end false)
+  item_kept (scope kinds.Thermal n is) m (inr (b, e, h)) entered place s end = subst (IsNodeKept entered place s end) (sym e) ((refl, λ unknown b. refl), tt)
   item_kept (method n flags code) m h entered place s end = subst (IsNodeKept entered place s end) (sym h) ((refl, λ unknown b. refl), tt)
   item_kept (external x) m h entered place s end = subst (IsNodeKept entered place s end) (sym h) ((refl, λ unknown b. refl), tt)
   item_kept (external_block xs) m (inl (ms, e, h)) entered place s end = subst (IsNodeKept entered place s end) (sym e) ((refl, λ unknown b. refl), externals_kept xs ms h entered _ end false)

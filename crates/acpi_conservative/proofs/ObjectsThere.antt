@@ -4,6 +4,7 @@ use Rattle.std.specs.List.{AllByRecursion, AllZip, flat_map, list_any}
 use Rattle.std.specs.Option.{option_or}
 use Rattle.std.specs.Cmp.{eq_by_cmp_equiv}
 use Rattle.std.proofs.lemmas.List.Folds.{list_any-append}
+use Rattle.std.proofs.Math.Bool.{or-false}
 use Rattle.acpi_name.specs.Names.{Segment, NameParts}
 use Rattle.acpi_name.specs.steps.PathOrder.{path_cmp_total}
 use Rattle.acpi_space.specs.Lookups.{is_same_path, is_defined_in, nothing, singleton, union}
@@ -28,10 +29,6 @@ some_one : (b : Bool) (o : ObjectTree) → is_some (cond b (Some o) None) ≡ b
 some_one true o = refl
 some_one false o = refl
 
-or_false : (b : Bool) → (b || false) ≡ b
-or_false true = refl
-or_false false = refl
-
 or_assoc : (a b c : Bool) → ((a || b) || c) ≡ (a || (b || c))
 or_assoc true b c = refl
 or_assoc false b c = refl
@@ -44,7 +41,7 @@ one_there : (p q : Path) (o : ObjectTree) → is_defined_in (singleton p o) q �
 one_there p q o = some_one (is_same_path q p) o ∙ (eq_by_cmp_equiv path_cmp_total).symm q p
 
 object_there : (d : Effect) (n : NameParts) (s p q : Path) → is_defined_in (object_by d p) q ≡ is_placed (placed_by d n s p) q
-object_there (declares o links code) n s p q = one_there p q o ∙ sym (or_false (is_same_path p q))
+object_there (declares o links code) n s p q = one_there p q o ∙ sym (or-false (is_same_path p q))
 object_there opens n s p q = refl
 object_there (expects count) n s p q = refl
 
@@ -56,7 +53,7 @@ table_there (e ∷ es) q =
     ∙ sym (list_any-append (λ (d : conditions.Placement). is_same_path d.path q) (placed e) (all_placed es))
 
 tables_there : (objects : Namespace) (ts : List (List Placement)) (q : Path) → is_defined_in (objects_after objects ts) q ≡ (is_defined_in objects q || is_placed (flat_map all_placed ts) q)
-tables_there objects [] q = sym (or_false (is_defined_in objects q))
+tables_there objects [] q = sym (or-false (is_defined_in objects q))
 tables_there objects (t ∷ ts) q =
     let more : Bool = is_placed (flat_map all_placed ts) q in
     tables_there (union objects (objects_of t)) ts q
@@ -70,7 +67,7 @@ abbrev is_listed : List (List Segment × ObjectTree) → Path → Bool
 is_listed os q = list_any (λ (e : List Segment × ObjectTree). is_same_path e.0 q) os
 
 with_there : (objects : Namespace) (os : List (List Segment × ObjectTree)) (q : Path) → is_defined_in (with_objects objects os) q ≡ (is_defined_in objects q || is_listed os q)
-with_there objects [] q = sym (or_false (is_defined_in objects q))
+with_there objects [] q = sym (or-false (is_defined_in objects q))
 with_there objects (e ∷ os) q =
     with_there (union objects (singleton e.0 e.1)) os q
     ∙ ap (λ b. b || is_listed os q) (either_some (objects q) (singleton e.0 e.1 q) ∙ ap (λ b. is_defined_in objects q || b) (one_there e.0 q e.1))
@@ -79,10 +76,6 @@ with_there objects (e ∷ os) q =
 predefined_there : (q : Path) → is_defined_in predefined q ≡ is_there first_reading.walk.entries q
 unfolding first_reading with_object
 predefined_there q = with_there nothing predefined_objects q
-
-pub predefined_unconditional : AllByRecursion HasNoCondition first_reading.walk.entries
-unfolding first_reading with_object
-predefined_unconditional = ((refl, refl), ((refl, refl), ((refl, refl), ((refl, refl), ((refl, refl), ((refl, refl), ((refl, refl), ((refl, refl), ((refl, refl), ((refl, refl), tt))))))))))
 
 -- ---- the entries of tables
 

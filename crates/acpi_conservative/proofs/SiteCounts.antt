@@ -3,9 +3,9 @@ use Rattle.std.proofs.Common.{◌≡◌, ◌+◌, ℕ, suc, List, [], ◌∷◌,
 use Rattle.std.specs.List.{flat_map}
 use Rattle.acpi_name.specs.Names.{Segment}
 use Rattle.acpi_space.specs.Lookups.{union}
-use Rattle.acpi_tree.specs.Tree.{ItemTree, scope, device, processor, power, thermal, ItemTrees, no_items, item}
+use Rattle.acpi_tree.specs.Tree.{ItemTree, scope, ItemTrees, no_items, item}
 use Rattle.acpi_declare.specs.Namespace.{Namespace}
-use Rattle.acpi_declare.specs.Sites.{Step, own_steps, Site, site_in, item_sites, items_sites, sites}
+use Rattle.acpi_declare.specs.Sites.{Step, kind_object, scope_effect, own_steps, Site, site_in, item_sites, items_sites, sites}
 use Rattle.acpi_declare.specs.Listing.{Placement, object_of, IsJustified, IsListing}
 use Rattle.acpi_conservative.proofs.ItemCounts.{counted_by, counted, counted_in, all_counted}
 
@@ -26,11 +26,7 @@ own_counted inside (x ∷ xs) = ap (λ (cs : List (Option ℕ)). counted_by x.ef
 
 mutual
   item_sites_counted : (i : ItemTree) (k : ℕ) (inside : Option ℕ) → at_sites (item_sites k inside i) ≡ counted_in i
-  item_sites_counted (scope n is) k inside = items_sites_counted is (suc k) (Some k)
-  item_sites_counted (device n is) k inside = ap (λ (cs : List (Option ℕ)). Some 0 ∷ cs) (items_sites_counted is (suc k) (Some k))
-  item_sites_counted (processor n id block len is) k inside = ap (λ (cs : List (Option ℕ)). Some 0 ∷ cs) (items_sites_counted is (suc k) (Some k))
-  item_sites_counted (power n level order is) k inside = ap (λ (cs : List (Option ℕ)). Some 0 ∷ cs) (items_sites_counted is (suc k) (Some k))
-  item_sites_counted (thermal n is) k inside = ap (λ (cs : List (Option ℕ)). Some 0 ∷ cs) (items_sites_counted is (suc k) (Some k))
+  item_sites_counted (scope kind n is) k inside = ap (λ (cs : List (Option ℕ)). counted_by (scope_effect (kind_object kind)) ++ cs) (items_sites_counted is (suc k) (Some k))
   item_sites_counted i k inside = own_counted inside (own_steps i)
 
   items_sites_counted : (is : ItemTrees) (k : ℕ) (inside : Option ℕ) → at_sites (items_sites k inside is) ≡ all_counted is

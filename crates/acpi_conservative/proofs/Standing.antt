@@ -2,10 +2,12 @@
 use Rattle.std.proofs.Common.{◌≡◌, ◌+◌, ℕ, Bool, true, false, not, ◌&&◌, ◌||◌, cond, List, [], ◌∷◌, ◌++◌, append_assoc, Option, Some, None, Result, Ok, Err, is_some, inr, refl, sym, ap, subst, ◌∙◌}
 use Rattle.std.specs.Prelude.{option_to_list}
 use Rattle.std.specs.List.{list_any}
+use Rattle.std.proofs.lemmas.Bool.{and_from, false_from_ne_true}
 use Rattle.acpi_name.specs.Names.{NameParts}
 use Rattle.acpi_name.specs.Paths.{place_of, parent_of}
 use Rattle.acpi_space.specs.Lookups.{is_same_path, is_defined_in, singleton, union}
 use Rattle.acpi_space.specs.Search.{tries}
+use Rattle.acpi_space.proofs.Elements.{not_both}
 use Rattle.acpi_tree.specs.Objects.{ObjectTree, opens_scope}
 use Rattle.acpi_declare.specs.Namespace.{Namespace}
 use Rattle.acpi_declare.specs.Placing.{IsDeclared, IsOpened}
@@ -23,7 +25,7 @@ use Rattle.acpi_conditions.specs.Listings.{with_object}
 use Rattle.acpi_conditions.specs.Laws.{IsAllOf}
 use Rattle.acpi_conditions.specs.Walk as walks
 use Rattle.acpi_conditions.specs.Walk.{of_term, of_scope, Package, Walk, passed, pass, package_at, enter_term_as, enter_scope_as, leave_from, through, walked}
-use Rattle.acpi_conditions.proofs.Basics.{is_false, not_both, any_some, some_any, same_path, path_itself, and_both}
+use Rattle.acpi_conditions.proofs.Basics.{any_some, some_any, same_path, path_itself}
 use Rattle.acpi_conditions.proofs.Knowing.{free_uncertain, made_possible_scope}
 use Rattle.acpi_conditions.proofs.Declaring.{makes_allowed, true_in_scope}
 use Rattle.acpi_conditions.proofs.Strict.{all_inside}
@@ -42,10 +44,10 @@ module _ (terms : entries.Namespace) (k : Known) (all : IsAllOf terms k) where
   made_certain_scope : (p : Path) → IsScopeIn terms p → is_certain_scope k p ≡ true
   made_certain_scope p s =
       some_any (λ c. is_same_path c.path p && c.is_scope) k.certain (record { path = p; is_scope = s.0.is_scope }) (all.made_are_certain p s.0 s.1)
-      (and_both (is_same_path p p) s.0.is_scope (path_itself p p refl) s.2)
+      (and_from (is_same_path p p) s.0.is_scope (path_itself p p refl) s.2)
 
   free_impossible : (p : Path) → terms p ≡ None → is_possible k p ≡ false
-  free_impossible p free = is_false (is_possible k p) (λ is.
+  free_impossible p free = false_from_ne_true (is_possible k p) (λ is.
       let e = any_some (λ e. is_same_path e.path p) k.entries (sym (ap (λ b. b || list_any (λ (e : Entry). is_same_path e.path p) k.entries) all.not_in_loop) ∙ is) in
       not_both (terms p) e.0.term (ap terms (sym (same_path e.0.path p e.2)) ∙ all.entries_are_made e.0 e.1) free)
 

@@ -3,8 +3,9 @@ use Rattle.std.proofs.Common.{◌≡◌, ◌||◌, ◌&&◌, ◌+◌, ◌<◌, �
 use Rattle.std.specs.Prelude.{option_to_list, slice_index_or, nat_eq}
 use Rattle.std.specs.List.{AllByRecursion, AllZip, list_all}
 use Rattle.std.specs.FinMap as finite
-use Rattle.std.proofs.lemmas.Bool.{and_parts, eqb-true, eq-eqb}
+use Rattle.std.proofs.lemmas.Bool.{and_parts, eqb-true, eq-eqb, or_right}
 use Rattle.std.proofs.lemmas.List.{drop_more, length-drop}
+use Rattle.std.proofs.Math.Bool.{and-true}
 use Rattle.acpi_name.specs.Names.{NameParts}
 use Rattle.acpi_space.specs.Lookups.{is_same_path, is_defined_in}
 use Rattle.acpi_space.specs.Search.{answer, tries}
@@ -18,9 +19,9 @@ use Rattle.acpi_conditions.specs.Met.{may_be_met, numbers_beyond}
 use Rattle.acpi_conditions.specs.Views.{seen_by}
 use Rattle.acpi_survey.specs.Bodies.{known_behind, counts_behind, entry_count}
 use Rattle.acpi_survey.specs.Counts.{is_count, agreed, counts_numbered, count_of}
-use Rattle.acpi_survey.proofs.LocalPaths.{certain_behind}
+use Rattle.acpi_survey.proofs.LocalPaths.{certain_with_locals}
 use Rattle.acpi_survey.proofs.SureCounts.{found_passes}
-use Rattle.acpi_conditions.proofs.Basics.{same_path, or_right}
+use Rattle.acpi_conditions.proofs.Basics.{same_path}
 use Rattle.acpi_conservative.proofs.AllSeen.{is_there, seen_certain, seen_possible, one_candidate}
 use Rattle.acpi_conservative.proofs.StrictLinks.{IsAllThere}
 
@@ -65,16 +66,12 @@ module _ (m : ℕ) (all : List (Option ℕ)) where
 met_by_all : (w : List Turn) (f : Entry) → HasNoCondition f → may_be_met w f ≡ true
 met_by_all w f h = ap (λ (v : List Turn). not (are_exclusive v w)) h.0
 
-and_true : (b : Bool) → (b && true) ≡ b
-and_true true = refl
-and_true false = refl
-
 -- the numbers of the entries at a path
 numbers_next : (w : List Turn) (p : Path) (n : ℕ) (f : Entry) (fs : List Entry) → HasNoCondition f
     → numbers_beyond w p n (f ∷ fs) ≡ cond (is_same_path f.path p) (n ∷ numbers_beyond w p (suc n) fs) (numbers_beyond w p (suc n) fs)
 numbers_next w p n f fs h =
     ap (λ b. cond (is_same_path f.path p && b) (n ∷ numbers_beyond w p (suc n) fs) (numbers_beyond w p (suc n) fs)) (met_by_all w f h)
-    ∙ ap (λ b. cond b (n ∷ numbers_beyond w p (suc n) fs) (numbers_beyond w p (suc n) fs)) (and_true (is_same_path f.path p))
+    ∙ ap (λ b. cond b (n ∷ numbers_beyond w p (suc n) fs) (numbers_beyond w p (suc n) fs)) (and-true (is_same_path f.path p))
 
 some_numbers : (w : List Turn) (p : Path) (n : ℕ) (fs : List Entry) → AllByRecursion HasNoCondition fs → is_there fs p ≡ true → numbers_beyond w p n fs ≡ [] → ⊥
 some_numbers w p n [] h there e = true≢false (sym there)
@@ -132,7 +129,7 @@ module _ (objects : Namespace) (es : List Entry) (counts : List (Option ℕ)) (a
   body_candidates : (n : NameParts) → candidates (known_behind locals seen) e.path n ≡ option_to_list (answer (defined_with objects locals) e.path n)
   body_candidates n =
       one_candidate (known_behind locals seen) (defined_with objects locals)
-      (λ p. certain_behind locals seen p ∙ ap (λ b. is_defined locals p || b) (seen_certain es e all.no_condition p ∙ sym (all.there p)))
+      (λ p. certain_with_locals locals seen p ∙ ap (λ b. is_defined locals p || b) (seen_certain es e all.no_condition p ∙ sym (all.there p)))
       (λ p y. or_right (is_defined locals p) (is_defined_in objects p) (all.there p ∙ sym (seen_possible es e all.no_condition p) ∙ y)) (tries e.path n)
 
   count_there : (p : Path) → defined_with objects locals p ≡ true → agreed (counts_behind locals at_path p ++ []) ≡ Some (args_there objects locals p)

@@ -5,6 +5,7 @@ use Rattle.std.specs.List.{AllByRecursion, AllZip, flat_map}
 use Rattle.acpi_name.specs.Names.{NameParts}
 use Rattle.acpi_space.specs.Lookups.{is_defined_in}
 use Rattle.acpi_space.specs.Search.{answer, tries}
+use Rattle.acpi_space.proofs.Elements.{all_append}
 use Rattle.acpi_declare.specs.Namespace.{Namespace}
 use Rattle.acpi_declare.specs.Listing.{Placement}
 use Rattle.acpi_declare.specs.Links.{answers}
@@ -14,14 +15,14 @@ use Rattle.acpi_outline.specs.Nodes.{NodeTrees}
 use Rattle.acpi_conditions.specs.Entries.{Path, Entry, HasNoCondition}
 use Rattle.acpi_conditions.specs.Known.{candidates, is_certain_name}
 use Rattle.acpi_conditions.specs.Views.{seen_by}
-use Rattle.acpi_conditions.proofs.Basics.{all_append}
 use Rattle.acpi_survey.specs.Reading.{Reading}
 use Rattle.acpi_survey.specs.Predefined.{first_reading}
 use Rattle.acpi_survey.specs.Survey.{AreRead}
+use Rattle.acpi_survey.proofs.SureCounts.{first_unconditional}
 use Rattle.acpi_conservative.specs.Strict.{all_placed}
 use Rattle.acpi_conservative.specs.Laws.{IsEntryOf, StrictLinks, StrictCertain}
 use Rattle.acpi_conservative.proofs.AllSeen.{is_there, seen_certain, seen_possible, one_candidate, one_certain}
-use Rattle.acpi_conservative.proofs.ObjectsThere.{predefined_unconditional, unconditional, all_there}
+use Rattle.acpi_conservative.proofs.ObjectsThere.{unconditional, all_there}
 use Rattle.acpi_conservative.proofs.ReadTables.{strict_read_is_survey}
 
 -- No entry has a condition, and objects stand where entries do.
@@ -35,7 +36,7 @@ is_all_there depth tables ts l nss last r =
     let s = strict_read_is_survey depth tables ts l nss last r in
     let placed : AllZip IsEntryOf (flat_map all_placed ts) s.0 = s.2 in
     subst (IsAllThere (objects_after predefined ts)) (sym s.1) (record {
-      no_condition = all_append HasNoCondition first_reading.walk.entries s.0 predefined_unconditional (unconditional (flat_map all_placed ts) s.0 placed);
+      no_condition = all_append HasNoCondition first_reading.walk.entries s.0 first_unconditional (unconditional (flat_map all_placed ts) s.0 placed);
       there = λ p. all_there ts s.0 p placed;
     })
 

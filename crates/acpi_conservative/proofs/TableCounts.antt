@@ -32,6 +32,7 @@ use Rattle.acpi_conservative.proofs.ItemCounts.{counted_by, all_counted, Counts,
 use Rattle.acpi_conservative.proofs.SiteCounts.{counted_of, listing_counted}
 use Rattle.acpi_conservative.proofs.StrictLinks.{is_all_there}
 use Rattle.acpi_conservative.proofs.StrictCounts.{IsCounted, counts_alike}
+use Rattle.acpi_conservative.proofs.Steps.{both_zip}
 
 -- ---- table after table
 
@@ -69,7 +70,7 @@ items_listed objects (is ∷ iss) (t ∷ ts) l = ap₂ (λ (cs ds : List (Option
 abbrev Extends : Namespace → Namespace → Type 0
 Extends objects all = (p : Path) (o : ObjectTree) → objects p ≡ Some o → all p ≡ Some o
 
-or_first : (a b : Option ObjectTree) (o : ObjectTree) → a ≡ Some o → option_or a b ≡ Some o
+pub or_first : (a b : Option ObjectTree) (o : ObjectTree) → a ≡ Some o → option_or a b ≡ Some o
 or_first None b o e = cc
 or_first (Some q) b o e = e
 
@@ -84,12 +85,6 @@ or_free (Some q) b e = cc
 after_extends : (objects : Namespace) (ts : List (List Placement)) → Extends objects (objects_after objects ts)
 after_extends objects [] p o e = e
 after_extends objects (t ∷ ts) p o e = after_extends (union objects (objects_of t)) ts p o (or_first (objects p) (objects_of t p) o e)
-
-both_zip : {X Y : Type 0} (P : X → Y → Type 0) (xs us : List X) (ys vs : List Y) → AllZip P xs ys → AllZip P us vs → AllZip P (xs ++ us) (ys ++ vs)
-both_zip P [] us [] vs h k = k
-both_zip P [] us (y ∷ ys) vs h k = absurd h
-both_zip P (x ∷ xs) us [] vs h k = absurd h
-both_zip P (x ∷ xs) us (y ∷ ys) vs h k = (h.0, both_zip P xs us ys vs h.1 k)
 
 -- the count is what the object at the placement's path takes
 abbrev IsTaken : Namespace → conditions.Placement → Option ℕ → Type 0

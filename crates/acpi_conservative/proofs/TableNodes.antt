@@ -8,11 +8,12 @@ use Rattle.acpi_tree.specs.declared.place.UnitsForm.{UnitsForm}
 use Rattle.acpi_tree.specs.declared.place.UnitsForm.TheVariants as fields
 use Rattle.acpi_tree.specs.declared.tree.Int.TheVariants.{Zero}
 use Rattle.acpi_tree.specs.Tree.{DataTree, int, str, buffer, pkg, var_pkg, of_data, of_name, ElemTrees, no_elems, elem, ExternalParts, FieldTree, unit}
-use Rattle.acpi_tree.specs.Tree.{ItemTree, name, scope, method, external, external_block, create, create_field, mutex, event, region, field, index_field, bank_field, device, processor, power, thermal, ItemTrees, no_items, item}
+use Rattle.acpi_tree.specs.declared.tree.ScopeKind.TheVariants as kinds
+use Rattle.acpi_tree.specs.Tree.{ItemTree, name, scope, method, external, external_block, create, create_field, mutex, event, region, field, index_field, bank_field, ItemTrees, no_items, item}
 use Rattle.acpi_tree.specs.Offsets.{element_bits}
 use Rattle.acpi_tree.specs.Terms as terms
 use Rattle.acpi_tree.specs.Terms.{TermTree, TermTrees, declare, no_terms, more}
-use Rattle.acpi_declare.specs.Sites.{Effect, Step, own_steps, unit_steps, external_step, external_steps}
+use Rattle.acpi_declare.specs.Sites.{Effect, Step, kind_object, scope_effect, own_steps, unit_steps, external_step, external_steps}
 use Rattle.acpi_declare.specs.Sites as sites
 use Rattle.acpi_outline.specs.declared.form.ContainerForm.{ContainerForm}
 use Rattle.acpi_outline.specs.declared.form.ContainerForm.TheVariants as containers
@@ -65,11 +66,9 @@ steps_without (x ∷ xs) rest = node_without x.effect x.name no_nodes (steps_nod
 
 mutual
   item_without : (i : ItemTree) (rest : Nodes) → without_places (item_nodes i rest) ≡ item_nodes i (without_places rest)
-  item_without (scope n is) rest = ap (λ m. opens 0 n m (without_places rest)) (items_without is no_nodes)
-  item_without (device n is) rest = ap (λ m. declares (term_of n true) m (without_places rest)) (items_without is no_nodes)
-  item_without (processor n id block len is) rest = ap (λ m. declares (term_of n true) m (without_places rest)) (items_without is no_nodes)
-  item_without (power n level order is) rest = ap (λ m. declares (term_of n true) m (without_places rest)) (items_without is no_nodes)
-  item_without (thermal n is) rest = ap (λ m. declares (term_of n true) m (without_places rest)) (items_without is no_nodes)
+  item_without (scope kind n is) rest =
+      let d = scope_effect (kind_object kind) in
+      node_without d n (nodes_of is) rest ∙ ap (λ m. node_of d n m (without_places rest)) (items_without is no_nodes)
   item_without i rest = steps_without (own_steps i) rest
 
   items_without : (is : ItemTrees) (rest : Nodes) → without_places (items_nodes is rest) ≡ items_nodes is (without_places rest)
@@ -213,7 +212,7 @@ closed_block base place xs content = record {
 
 -- ---- packages
 
-scope_node : (base place : ℕ) (n : NameParts) (is : ItemTrees) (ms : NodeTrees) → ItemNodes base is ms → ItemNode base place (scope n is) (holds (outline.scope n) ms)
+scope_node : (base place : ℕ) (n : NameParts) (is : ItemTrees) (ms : NodeTrees) → ItemNodes base is ms → ItemNode base place (scope kinds.Scope n is) (holds (outline.scope n) ms)
 scope_node base place n is ms t = record {
   put = opens (base + place) n (read.nodes_of base ms);
   whole = opens (base + place) n t.whole;
@@ -227,7 +226,7 @@ scope_node base place n is ms t = record {
       ∙ t.same level end (enter s place (outline.scope n)) is_node.1 e is_node.4 none));
 }
 
-scope_closed : (base place : ℕ) (n : NameParts) (is : ItemTrees) (content : List ℕ) → ItemNode base place (scope n is) (closed (outline.scope n) content)
+scope_closed : (base place : ℕ) (n : NameParts) (is : ItemTrees) (content : List ℕ) → ItemNode base place (scope kinds.Scope n is) (closed (outline.scope n) content)
 scope_closed base place n is content = record {
   put = opens (base + place) n no_nodes;
   whole = opens (base + place) n (nodes_of is);
@@ -331,22 +330,22 @@ mutual
   item_node : (base place : ℕ) (i : ItemTree) (n : NodeTree) → IsItem i n → ItemNode base place i n
   item_node base place (name n d) m h =
       subst (ItemNode base place (name n d)) (sym h) (declaration_node base place (name n d) named.Name no_terms n (more (data_term d) no_terms) (data_none d) (λ rest. refl))
-  item_node base place (scope n is) m (inl (ms, e, h)) = subst (ItemNode base place (scope n is)) (sym e) (scope_node base place n is ms (table_nodes base is ms h))
-  item_node base place (scope n is) m (inr (b, e, h)) = subst (ItemNode base place (scope n is)) (sym e) (scope_closed base place n is b)
-  item_node base place (device n is) m (inl (ms, e, h)) =
-      subst (ItemNode base place (device n is)) (sym e) (container_node base place (device n is) containers.Device n no_terms is (λ rest. refl) ms (table_nodes base is ms h))
-  item_node base place (device n is) m (inr (b, e, h)) = subst (ItemNode base place (device n is)) (sym e) (container_closed base place (device n is) containers.Device n no_terms is (λ rest. refl) b)
-  item_node base place (processor n id block len is) m (inl (ms, e, h)) =
-      subst (ItemNode base place (processor n id block len is)) (sym e) (container_node base place (processor n id block len is) containers.Processor n _ is (λ rest. refl) ms (table_nodes base is ms h))
-  item_node base place (processor n id block len is) m (inr (b, e, h)) =
-      subst (ItemNode base place (processor n id block len is)) (sym e) (container_closed base place (processor n id block len is) containers.Processor n _ is (λ rest. refl) b)
-  item_node base place (power n deepest order is) m (inl (ms, e, h)) =
-      subst (ItemNode base place (power n deepest order is)) (sym e) (container_node base place (power n deepest order is) containers.Power n _ is (λ rest. refl) ms (table_nodes base is ms h))
-  item_node base place (power n deepest order is) m (inr (b, e, h)) =
-      subst (ItemNode base place (power n deepest order is)) (sym e) (container_closed base place (power n deepest order is) containers.Power n _ is (λ rest. refl) b)
-  item_node base place (thermal n is) m (inl (ms, e, h)) =
-      subst (ItemNode base place (thermal n is)) (sym e) (container_node base place (thermal n is) containers.Thermal n no_terms is (λ rest. refl) ms (table_nodes base is ms h))
-  item_node base place (thermal n is) m (inr (b, e, h)) = subst (ItemNode base place (thermal n is)) (sym e) (container_closed base place (thermal n is) containers.Thermal n no_terms is (λ rest. refl) b)
+  item_node base place (scope kinds.Scope n is) m (inl (ms, e, h)) = subst (ItemNode base place (scope kinds.Scope n is)) (sym e) (scope_node base place n is ms (table_nodes base is ms h))
+  item_node base place (scope kinds.Scope n is) m (inr (b, e, h)) = subst (ItemNode base place (scope kinds.Scope n is)) (sym e) (scope_closed base place n is b)
+  item_node base place (scope kinds.Device n is) m (inl (ms, e, h)) =
+      subst (ItemNode base place (scope kinds.Device n is)) (sym e) (container_node base place (scope kinds.Device n is) containers.Device n no_terms is (λ rest. refl) ms (table_nodes base is ms h))
+  item_node base place (scope kinds.Device n is) m (inr (b, e, h)) = subst (ItemNode base place (scope kinds.Device n is)) (sym e) (container_closed base place (scope kinds.Device n is) containers.Device n no_terms is (λ rest. refl) b)
+  item_node base place (scope (kinds.Processor id block len) n is) m (inl (ms, e, h)) =
+      subst (ItemNode base place (scope (kinds.Processor id block len) n is)) (sym e) (container_node base place (scope (kinds.Processor id block len) n is) containers.Processor n _ is (λ rest. refl) ms (table_nodes base is ms h))
+  item_node base place (scope (kinds.Processor id block len) n is) m (inr (b, e, h)) =
+      subst (ItemNode base place (scope (kinds.Processor id block len) n is)) (sym e) (container_closed base place (scope (kinds.Processor id block len) n is) containers.Processor n _ is (λ rest. refl) b)
+  item_node base place (scope (kinds.Power deepest order) n is) m (inl (ms, e, h)) =
+      subst (ItemNode base place (scope (kinds.Power deepest order) n is)) (sym e) (container_node base place (scope (kinds.Power deepest order) n is) containers.Power n _ is (λ rest. refl) ms (table_nodes base is ms h))
+  item_node base place (scope (kinds.Power deepest order) n is) m (inr (b, e, h)) =
+      subst (ItemNode base place (scope (kinds.Power deepest order) n is)) (sym e) (container_closed base place (scope (kinds.Power deepest order) n is) containers.Power n _ is (λ rest. refl) b)
+  item_node base place (scope kinds.Thermal n is) m (inl (ms, e, h)) =
+      subst (ItemNode base place (scope kinds.Thermal n is)) (sym e) (container_node base place (scope kinds.Thermal n is) containers.Thermal n no_terms is (λ rest. refl) ms (table_nodes base is ms h))
+  item_node base place (scope kinds.Thermal n is) m (inr (b, e, h)) = subst (ItemNode base place (scope kinds.Thermal n is)) (sym e) (container_closed base place (scope kinds.Thermal n is) containers.Thermal n no_terms is (λ rest. refl) b)
   item_node base place (method n flags code) m h = subst (ItemNode base place (method n flags code)) (sym h) (method_node base place n flags code)
   item_node base place (external x) m h = subst (ItemNode base place (external x)) (sym h) (external_node base place x)
   item_node base place (external_block xs) m (inl (ms, e, h)) = subst (ItemNode base place (external_block xs)) (sym e) (block_node base place xs ms h)

@@ -1,13 +1,13 @@
 -- A strict table is read whole.
 use Rattle.std.proofs.Common.{◌≡◌, ℕ, zero, suc, false, List, take, drop, inl, inr, ap, ◌∙◌, arith}
 use Rattle.std.proofs.lemmas.List.{take_all}
+use Rattle.std.proofs.lemmas.Bool.{false_from_ne_true}
 use Rattle.acpi_table.specs.Tables.{length_field, sum_of, IsTable}
 use Rattle.acpi_table.specs.declared.tables.TableFault.TheVariants.{Short, BadLength, TooLong}
 use Rattle.acpi_declare.specs.Tables.{IsNumbered, code_of}
-use Rattle.acpi_conditions.proofs.Basics.{is_false}
 use Rattle.acpi_survey.specs.declared.tables.TableReason.TheVariants.{Table, NotDsdt, NotSsdt}
-use Rattle.acpi_survey.specs.declared.tables.Judged.{Judged}
-use Rattle.acpi_survey.specs.declared.tables.Judged.TheVariants.{Unread, Read}
+use Rattle.acpi_survey.specs.declared.tables.TableContent.{TableContent}
+use Rattle.acpi_survey.specs.declared.tables.TableContent.TheVariants.{Unread, Read}
 use Rattle.acpi_survey.specs.Tables.{IsDsdt, IsSsdt, IsOutOfPlace, IsJudged}
 use Rattle.acpi_conservative.specs.Laws.{StrictTableIsRead}
 
@@ -21,7 +21,7 @@ in_place zero bytes n (inr (is, no_ssdt)) = omega (arith, is)
 in_place (suc k) bytes n (inl (is, no_dsdt)) = omega (arith, is)
 in_place (suc k) bytes n (inr (is, no_ssdt)) = no_ssdt n.signed
 
-whole_table : (number : ℕ) (bytes : List ℕ) → IsNumbered number bytes → (j : Judged) → IsJudged number bytes j → j ≡ Read (code_of bytes) false false false 0
+whole_table : (number : ℕ) (bytes : List ℕ) → IsNumbered number bytes → (j : TableContent) → IsJudged number bytes j → j ≡ Read (code_of bytes) false false false 0
 whole_table number bytes n (Unread (Table Short)) h = absurd (omega (arith, h, n.table.has_header))
 whole_table number bytes n (Unread (Table BadLength)) h = absurd (omega (arith, h.1, n.table.has_header, n.table.has_length))
 whole_table number bytes n (Unread (Table TooLong)) h = absurd (omega (arith, h.1, n.table.within_limit, n.table.has_length))
@@ -32,9 +32,9 @@ whole_table number bytes n (Read code is_cut has_bad_sum is_out_of_place trailin
     let t : IsTable bytes = n.table in
     let all : take (length_field bytes) bytes ≡ bytes = take_all (length_field bytes) bytes (omega (arith, t.has_length)) in
     let is_code : code ≡ code_of bytes = h.2 ∙ ap (drop 36) all in
-    let whole : is_cut ≡ false = is_false is_cut (λ is. omega (arith, h.3.0 is, t.has_length)) in
-    let sum : has_bad_sum ≡ false = is_false has_bad_sum (λ is. (h.4.0 is).1 (ap sum_of all ∙ t.sums_to_zero)) in
-    let place : is_out_of_place ≡ false = is_false is_out_of_place (λ is. in_place number bytes n (h.5.0 is)) in
+    let whole : is_cut ≡ false = false_from_ne_true is_cut (λ is. omega (arith, h.3.0 is, t.has_length)) in
+    let sum : has_bad_sum ≡ false = false_from_ne_true has_bad_sum (λ is. (h.4.0 is).1 (ap sum_of all ∙ t.sums_to_zero)) in
+    let place : is_out_of_place ≡ false = false_from_ne_true is_out_of_place (λ is. in_place number bytes n (h.5.0 is)) in
     let none : trailing ≡ 0 = omega (arith, h.6, t.has_length) in
     λ i. Read (is_code i) (whole i) (sum i) (place i) (none i)
 

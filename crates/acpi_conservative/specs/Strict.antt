@@ -4,10 +4,10 @@ use Rattle.std.specs.List.{flat_map}
 use Rattle.std.specs.Option.{option_map}
 use Rattle.acpi_name.specs.Names.{Segment, NameParts}
 use Rattle.acpi_space.specs.Lookups.{union, nothing}
-use Rattle.acpi_tree.specs.Tree.{ItemTree, scope, device, processor, power, thermal, ItemTrees, no_items, item}
-use Rattle.acpi_tree.specs.Objects.{ObjectTree, opens_scope, root_object, scope_object, predefined_object, mutex_object, method_object, device_object, processor_object, power_object, thermal_object}
+use Rattle.acpi_tree.specs.Tree.{ItemTree, scope, ItemTrees, no_items, item}
+use Rattle.acpi_tree.specs.Objects.{ObjectTree, opens_scope, root_object, scope_object, predefined_object, mutex_object, method_object}
 use Rattle.acpi_declare.specs.Namespace.{Namespace}
-use Rattle.acpi_declare.specs.Sites.{Effect, declares, opens, expects, declares_alone, Step, own_steps, sites}
+use Rattle.acpi_declare.specs.Sites.{Effect, declares, opens, expects, kind_object, scope_effect, Step, own_steps, sites}
 use Rattle.acpi_declare.specs.Tables.{IsTableOf}
 use Rattle.acpi_declare.specs.Listing.{Placement, objects_of, IsListing}
 use Rattle.acpi_conditions.specs.Nodes as nodes
@@ -22,7 +22,8 @@ term_of n is_scope = record { place = 0; name = n; is_scope = is_scope; needs = 
 
 -- what a term does with a name, what stands inside it, and the rest; an External has no effect on what is declared
 abbrev pub node_of : Effect → NameParts → (inside rest : Nodes) → Nodes
-node_of (declares o links code) n inside rest = nodes.declares (term_of n (opens_scope o)) inside rest
+node_of (declares o links code) n inside rest =
+    nodes.declares (term_of n (opens_scope o)) inside rest
 node_of opens n inside rest = nodes.opens 0 n inside rest
 node_of (expects count) n inside rest = rest
 
@@ -32,11 +33,8 @@ steps_nodes (x ∷ xs) rest = node_of x.effect x.name no_nodes (steps_nodes xs r
 
 abbrev mutual
   pub item_nodes : ItemTree → Nodes → Nodes
-  item_nodes (scope n is) rest = node_of opens n (items_nodes is no_nodes) rest
-  item_nodes (device n is) rest = node_of (declares_alone device_object) n (items_nodes is no_nodes) rest
-  item_nodes (processor n id block length is) rest = node_of (declares_alone (processor_object id block length)) n (items_nodes is no_nodes) rest
-  item_nodes (power n level order is) rest = node_of (declares_alone (power_object level order)) n (items_nodes is no_nodes) rest
-  item_nodes (thermal n is) rest = node_of (declares_alone thermal_object) n (items_nodes is no_nodes) rest
+  item_nodes (scope kind n is) rest =
+      node_of (scope_effect (kind_object kind)) n (items_nodes is no_nodes) rest
   item_nodes i rest = steps_nodes (own_steps i) rest
 
   pub items_nodes : ItemTrees → Nodes → Nodes
@@ -50,7 +48,8 @@ nodes_of is = items_nodes is no_nodes
 -- ---- what is declared
 
 abbrev pub placed_by : Effect → NameParts → List Segment → List Segment → List conditions.Placement
-placed_by (declares o links code) n s p = record { term = term_of n (opens_scope o); scope = s; path = p } ∷ []
+placed_by (declares o links code) n s p =
+    record { term = term_of n (opens_scope o); scope = s; path = p } ∷ []
 placed_by opens n s p = []
 placed_by (expects count) n s p = []
 
@@ -63,19 +62,22 @@ all_placed = flat_map placed
 
 -- objects and terms stand at the same paths, and scopes at the same
 abbrev pub Agrees : Namespace → entries.Namespace → Type 0
-Agrees objects terms = (p : List Segment) → option_map opens_scope (objects p) ≡ option_map (λ (t : nodes.Term). t.is_scope) (terms p)
+Agrees objects terms = (p : List Segment)
+    → option_map opens_scope (objects p) ≡ option_map (λ (t : nodes.Term). t.is_scope) (terms p)
 
 -- the items of tables have strict listings, each over the objects of those before it
 abbrev pub AreItemListings : Namespace → List ItemTrees → List (List Placement) → Type 0
 AreItemListings objects [] [] = ⊤
-AreItemListings objects (is ∷ iss) (t ∷ ts) = IsListing objects (sites is) t × AreItemListings (union objects (objects_of t)) iss ts
+AreItemListings objects (is ∷ iss) (t ∷ ts) =
+    IsListing objects (sites is) t × AreItemListings (union objects (objects_of t)) iss ts
 AreItemListings objects [] (t ∷ ts) = ⊥
 AreItemListings objects (is ∷ iss) [] = ⊥
 
 -- the items of these tables
 abbrev pub AreTablesOf : ℕ → ℕ → List (List ℕ) → List ItemTrees → Type 0
 AreTablesOf depth number [] [] = ⊤
-AreTablesOf depth number (b ∷ bs) (is ∷ iss) = IsTableOf depth number b is × AreTablesOf depth (suc number) bs iss
+AreTablesOf depth number (b ∷ bs) (is ∷ iss) =
+    IsTableOf depth number b is × AreTablesOf depth (suc number) bs iss
 AreTablesOf depth number [] (is ∷ iss) = ⊥
 AreTablesOf depth number (b ∷ bs) [] = ⊥
 
@@ -98,7 +100,12 @@ predefined_objects =
 
 -- the term of each, as the survey has it
 abbrev pub placement_of : List Segment × ObjectTree → conditions.Placement
-placement_of e = record { term = predefined_term (record { path = e.0; is_scope = opens_scope e.1; args = 0 }); scope = []; path = e.0 }
+placement_of e =
+    record {
+      term = predefined_term (record { path = e.0; is_scope = opens_scope e.1; args = 0 });
+      scope = [];
+      path = e.0;
+    }
 
 abbrev pub predefined_terms : entries.Namespace
 predefined_terms = conditions.made_behind nothing (map placement_of predefined_objects)

@@ -2,8 +2,9 @@
 ghost use Rattle.acpi_conservative.specs.Parts.{StrictReadIsDeclared};
 ghost use Rattle.acpi_conservative.specs.Laws.{StrictIsListing, StrictLoadIsSurvey, StrictTablesAreSurvey, PredefinedAgrees, PredefinedIsKnown, StrictFileIsCut, StrictTableIsRead, StrictReadIsSurvey, StrictReadIsItems, StrictHasNoProblem, StrictHasNoNote, StrictLinks, StrictCertain, StrictCounts, StrictExternals, StrictBodies, StrictMachineBodies};
 
-/// Where item trees of tables have strict listings, their nodes have these listings, and the surveys are these: no entry
-/// has a condition, and nothing is refused. So it is where a list of byte strings has strict listings, as `load` needs.
+/// Where item trees of tables have strict listings, their nodes have these listings, and the surveys are these: no
+/// entry has a condition, and nothing is refused. So it is where a list of byte strings has strict listings, as `load`
+/// needs.
 pub fn strict_load_is_survey()
     ensures listing { StrictIsListing }
     ensures survey { StrictLoadIsSurvey }
@@ -16,14 +17,15 @@ pub fn predefined_is_known()
     ensures known { PredefinedIsKnown }
 {}
 
-/// A file that holds whole tables, one behind another, is cut into these: the survey reads the tables that the strict load does.
+/// A file that holds whole tables, one behind another, is cut into these: the survey reads the tables that the strict
+/// load does.
 pub fn strict_file_is_cut_alike()
     ensures { StrictFileIsCut }
 {}
 
-/// Of a table of the strict load all of its code is read, and nothing is wrong with it. Where a list of tables has strict
-/// listings, as `load` needs, the entries that the survey reads of the same bytes are these, in their order, without
-/// conditions, and nothing is refused.
+/// Of a table of the strict load all of its code is read, and nothing is wrong with it. Where a list of tables has
+/// strict listings, as `load` needs, the entries that the survey reads of the same bytes are these, in their order,
+/// without conditions, and nothing is refused.
 pub fn strict_read_is_survey()
     ensures tables { StrictTableIsRead }
     ensures entries { StrictReadIsSurvey }
@@ -36,23 +38,23 @@ pub fn strict_read_is_whole()
     ensures notes { StrictHasNoNote }
 {}
 
-/// So the entries that the survey reads are those of the objects that the listings declare, in their order: each stands at the
-/// object's path, is declared in its scope, and the part of the tables that declares it is the object's.
+/// So the entries that the survey reads are those of the objects that the listings declare, in their order: each stands
+/// at the object's path, is declared in its scope, and the part of the tables that declares it is the object's.
 pub fn strict_objects_have_parts()
     ensures { StrictReadIsDeclared }
 {}
 
-/// Behind them the links of each entry are what the strict load finds over all objects, each found for certain, and as many
-/// values follow a name in a method's body, whatever the Externals say.
+/// Behind them the links of each entry are what the strict load finds over all objects, each found for certain, and as
+/// many values follow a name in a method's body, whatever the Externals say.
 pub fn strict_links_and_counts()
     ensures links { StrictLinks }
     ensures certain { StrictCertain }
     ensures counts { StrictCounts }
 {}
 
-/// The Externals of each table say the same in the survey and in the strict load. So where the load has the terms of a method's
-/// code, the survey's body of that entry has the same, and where the load has none, neither has the survey. Where tables
-/// load to a machine, the bodies of its methods are these.
+/// The Externals of each table say the same in the survey and in the strict load. So where the load has the terms of a
+/// method's code, the survey's body of that entry has the same, and where the load has none, neither has the survey.
+/// Where tables load to a machine, the bodies of its methods are these.
 pub fn strict_bodies_are_read()
     ensures externals { StrictExternals }
     ensures bodies { StrictBodies }

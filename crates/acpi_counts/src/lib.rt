@@ -121,7 +121,8 @@ fn find_in(
     scope: &Path,
     name: NameRef<'_>,
 ) -> Result<Option<Path>, AllocError>
-    ensures { IfOk result (λ p. p ≡ answer (is_defined tree.now) scope.now (name_parts name.entry)) }
+    ensures { IfOk result (λ p. p
+        ≡ answer (is_defined tree.now) scope.now (name_parts name.entry)) }
 {
     match search(alloc, tree, scope, name) {
         Ok(Found::At(path)) => Ok(Some(path)),

@@ -1,9 +1,10 @@
 -- What is kept of the notes of a table, as the code keeps them.
-use Rattle.std.proofs.Common.{◌≡◌, ◌≢◌, List, [], ◌∷◌, map, Bool, true, false, cond, refl, sym, ap, ◌∙◌}
+use Rattle.std.proofs.Common.{◌≡◌, ◌≢◌, List, [], ◌∷◌, map, Bool, refl, sym, ap, ◌∙◌}
 use Rattle.std.specs.FinMap.{get}
 use Rattle.std.specs.List.{filter}
 use Rattle.acpi_name.specs.Names.{Segment}
 use Rattle.acpi_space.specs.Lookups.{is_same_path}
+use Rattle.acpi_space.proofs.AmongPaths.{filter_mapped}
 use Rattle.acpi_declare.specs.Keeping.{methods_at, with_methods}
 use Rattle.acpi_declare.specs.Notes.{method_of, notes_of}
 use Rattle.acpi_declare.specs.declared.notes.Method as code
@@ -11,15 +12,6 @@ use Rattle.acpi_declare.specs.declared.notes.TableNotes.{TableNotes}
 
 abbrev at_path : List Segment → code.Method → Bool
 at_path p m = is_same_path m.path p
-
-pub filter_mapped : {X Y : Type 0} (p : Y → Bool) (f : X → Y) (xs : List X) → filter p (map f xs) ≡ map f (filter (λ x. p (f x)) xs)
-filter_mapped p f [] = refl
-filter_mapped p f (x ∷ xs) = by (p (f x)) (filter_mapped p f xs)
-  where
-    by : (b : Bool) → filter p (map f xs) ≡ map f (filter (λ x. p (f x)) xs)
-        → cond b (f x ∷ filter p (map f xs)) (filter p (map f xs)) ≡ map f (cond b (x ∷ filter (λ x. p (f x)) xs) (filter (λ x. p (f x)) xs))
-    by true later = ap (λ l. f x ∷ l) later
-    by false later = later
 
 at_mapped : (p : List Segment) (ms : List code.Method) → methods_at p (map method_of ms) ≡ map method_of (filter (at_path p) ms)
 at_mapped p ms = filter_mapped (λ m. is_same_path m.path p) method_of ms

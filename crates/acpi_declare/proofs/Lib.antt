@@ -5,6 +5,7 @@ pub mod PassSteps
 pub mod StepLists
 pub mod Places
 pub mod Listings
+pub mod SiteCodes
 pub mod OneListing
 pub mod ValuesByPath
 pub mod PendingLinks

@@ -8,7 +8,8 @@ use Rattle.acpi_space.specs.Lookups.{is_defined_in}
 use Rattle.acpi_space.specs.Search.{missed}
 use Rattle.acpi_space.specs.Wanted.{Wants}
 use Rattle.acpi_space.proofs.Filters.{among_filter}
-use Rattle.acpi_declare.specs.declared.pass.PendingLinks.{PendingLinks}
+use Rattle.acpi_space.proofs.Elements.{among_append, among_both}
+use Rattle.acpi_declare.specs.declared.pending.PendingLinks.{PendingLinks}
 use Rattle.acpi_declare.specs.Declaring.{IsMissedLink, pending_from, pending_of, all_pending_of, linked_paths}
 use Rattle.acpi_declare.specs.Links.{PendingLink}
 use Rattle.acpi_declare.specs.Namespace.{Namespace}
@@ -16,22 +17,6 @@ use Rattle.acpi_declare.specs.steps.Missing.{misses_from}
 use Rattle.acpi_declare.proofs.PendingLinks.{one_more_pending}
 
 -- ---- one of two lists
-
-pub among_either : {X : Type 0} (xs ys : List X) (x : X) → Among (xs ++ ys) x → Among xs x ⊎ Among ys x
-among_either [] ys x i = inr i
-among_either (z ∷ xs) ys x (inl e) = inl (inl e)
-among_either (z ∷ xs) ys x (inr i) = by (among_either xs ys x i)
-  where
-    by : Among xs x ⊎ Among ys x → Among (z ∷ xs) x ⊎ Among ys x
-    by (inl j) = inl (inr j)
-    by (inr j) = inr j
-
-pub among_both : {X : Type 0} (xs ys : List X) (x : X) → Among xs x ⊎ Among ys x → Among (xs ++ ys) x
-among_both [] ys x (inl i) = absurd i
-among_both [] ys x (inr i) = i
-among_both (z ∷ xs) ys x (inl (inl e)) = inl e
-among_both (z ∷ xs) ys x (inl (inr i)) = inr (among_both xs ys x (inl i))
-among_both (z ∷ xs) ys x (inr i) = inr (among_both xs ys x (inr i))
 
 -- ---- the names of a link
 
@@ -41,7 +26,7 @@ module _ (w : Wants) (objects : Namespace) (s : List Segment) where
 
   pub some_name : (ns : List NameParts) (p : List Segment) → Among (misses_from w objects s ns) p → IsMissedName ns p
   some_name [] p i = absurd i
-  some_name (n ∷ ns) p i = by (some_name ns p) (among_either (filter w (missed (is_defined_in objects) s n)) (misses_from w objects s ns) p i)
+  some_name (n ∷ ns) p i = by (some_name ns p) (among_append (filter w (missed (is_defined_in objects) s n)) (misses_from w objects s ns) p i)
     where
       by : (Among (misses_from w objects s ns) p → IsMissedName ns p) → Among (filter w (missed (is_defined_in objects) s n)) p ⊎ Among (misses_from w objects s ns) p
           → IsMissedName (n ∷ ns) p
@@ -91,7 +76,7 @@ module _ (asked : Wants) (objects : Namespace) (ws : List PendingLinks) (w : Pen
   this p r = (r.0, among_both (all_pending_of ws) (pending_of w) r.0 (inr r.1), r.2, r.3, r.4)
 
   either : (p : List Segment) → IsMissedLink objects (all_pending_of ws ++ pending_of w) p → IsMissedLink objects (all_pending_of ws) p ⊎ IsMissedLink objects (pending_of w) p
-  either p r = by (among_either (all_pending_of ws) (pending_of w) r.0 r.1)
+  either p r = by (among_append (all_pending_of ws) (pending_of w) r.0 r.1)
     where
       by : Among (all_pending_of ws) r.0 ⊎ Among (pending_of w) r.0 → IsMissedLink objects (all_pending_of ws) p ⊎ IsMissedLink objects (pending_of w) p
       by (inl i) = inl (r.0, i, r.2, r.3, r.4)
@@ -104,7 +89,7 @@ module _ (asked : Wants) (objects : Namespace) (ws : List PendingLinks) (w : Pen
   with_paths after some e =
       subst (λ (l : List (List Segment)). AreMissed l (all_pending_of (ws ++ w ∷ []))) (sym e)
       (subst (AreMissed (before ++ misses_from asked objects w.scope w.names.items)) (sym (one_more_pending ws w)) (λ p. (
-        (λ i. to p (among_either before (misses_from asked objects w.scope w.names.items) p i)),
+        (λ i. to p (among_append before (misses_from asked objects w.scope w.names.items) p i)),
         (λ r. from p (either p r.0) r.1),
       )))
     where

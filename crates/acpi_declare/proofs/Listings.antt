@@ -1,13 +1,12 @@
 -- The pass over a tree makes a justified listing of its sites, or stops at the first that is refused.
 use Rattle.std.proofs.Common.{◌≡◌, ℕ, suc, ◌+◌, List, [], ◌∷◌, ◌++◌, map, length, Option, Some, Result, Ok, Err, refl, sym, ap, subst, ◌∙◌, append_assoc, append-nil, length-append, arith}
 use Rattle.acpi_name.specs.Names.{Segment}
-use Rattle.acpi_tree.specs.Tree.{ItemTree, scope, device, processor, power, thermal, ItemTrees, no_items, item}
-use Rattle.acpi_tree.specs.Objects.{device_object, processor_object, power_object, thermal_object}
+use Rattle.acpi_tree.specs.Tree.{ItemTree, scope, ItemTrees, no_items, item}
 use Rattle.acpi_space.specs.Lookups.{union}
 use Rattle.acpi_declare.specs.Listing.{Placement, object_of, objects_of, path_at, scope_within, IsJustified, paths_of}
 use Rattle.acpi_declare.specs.Namespace.{Namespace}
 use Rattle.acpi_declare.specs.Placing.{RefusedAt, placed_path}
-use Rattle.acpi_declare.specs.Sites.{opens, declares_alone, Step, step, own_steps, Site, site_in, item_sites, items_sites}
+use Rattle.acpi_declare.specs.Sites.{Step, step, kind_object, scope_effect, own_steps, Site, site_in, item_sites, items_sites}
 use Rattle.acpi_declare.specs.steps.Pass.{Pass, Passing, after, after_all, placement, ◌>>=◌, take_steps, enter, pass_item, pass_items}
 use Rattle.acpi_declare.proofs.Unions.{union-nothing, union_assoc}
 use Rattle.acpi_declare.proofs.Places.{placed_ok}
@@ -44,7 +43,7 @@ length-justified objects before (x ∷ xs) (e ∷ es) h = ap suc (length-justifi
 length-justified objects before [] (e ∷ es) h = absurd h
 length-justified objects before (x ∷ xs) [] h = absurd h
 
-length-paths : (es : List Placement) → length (paths_of es) ≡ length es
+pub length-paths : (es : List Placement) → length (paths_of es) ≡ length es
 length-paths [] = refl
 length-paths (e ∷ es) = ap suc (length-paths es)
 
@@ -54,10 +53,10 @@ length-paths (e ∷ es) = ap suc (length-paths es)
 abbrev pub Inside : List (List Segment) → Option ℕ → List Segment → Type 0
 Inside before inside s = (more : List (List Segment)) → scope_within (before ++ more) inside ≡ s
 
-inside_later : (before new : List (List Segment)) (inside : Option ℕ) (s : List Segment) → Inside before inside s → Inside (before ++ new) inside s
+pub inside_later : (before new : List (List Segment)) (inside : Option ℕ) (s : List Segment) → Inside before inside s → Inside (before ++ new) inside s
 inside_later before new inside s h more = ap (λ ps. scope_within ps inside) (append_assoc before new more) ∙ h (new ++ more)
 
-inside_now : (before : List (List Segment)) (inside : Option ℕ) (s : List Segment) → Inside before inside s → scope_within before inside ≡ s
+pub inside_now : (before : List (List Segment)) (inside : Option ℕ) (s : List Segment) → Inside before inside s → scope_within before inside ≡ s
 inside_now before inside s h = ap (λ ps. scope_within ps inside) (sym (append-nil before)) ∙ h []
 
 path_at_seam : (ps qs : List (List Segment)) (p : List Segment) → path_at (ps ++ p ∷ qs) (length ps) ≡ p
@@ -65,7 +64,7 @@ path_at_seam [] qs p = refl
 path_at_seam (x ∷ ps) qs p = path_at_seam ps qs p
 
 -- inside the newest site the scope is its path
-inside_newest : (before : List (List Segment)) (p : List Segment) → Inside (before ++ p ∷ []) (Some (length before)) p
+pub inside_newest : (before : List (List Segment)) (p : List Segment) → Inside (before ++ p ∷ []) (Some (length before)) p
 inside_newest before p more = ap (λ ps. path_at ps (length before)) (append_assoc before (p ∷ []) more) ∙ path_at_seam before more p
 
 -- ---- outcomes
@@ -190,25 +189,9 @@ newest t before p is ih = ih (suc (length before)) (Some (length before)) (omega
 mutual
   pub item_outcome : (i : ItemTree) (t : Pass) (before : List (List Segment)) (k : ℕ) (inside : Option ℕ) (s : List Segment) → k ≡ length before → Inside before inside s
       → Outcome t before (item_sites k inside i) (pass_item t s i)
-  item_outcome (scope n is) t before k inside s e h =
-      subst (λ k. Outcome t before (item_sites k inside (scope n is)) (pass_item t s (scope n is))) (sym e)
-      (enter_outcome t before inside s (step n opens) (items_sites (suc (length before)) (Some (length before)) is) (λ u p. pass_items u p is) h
-      (λ p. newest _ before p is (λ k inside e h. items_outcome is _ (before ++ p ∷ []) k inside p e h)))
-  item_outcome (device n is) t before k inside s e h =
-      subst (λ k. Outcome t before (item_sites k inside (device n is)) (pass_item t s (device n is))) (sym e)
-      (enter_outcome t before inside s (step n (declares_alone device_object)) (items_sites (suc (length before)) (Some (length before)) is) (λ u p. pass_items u p is) h
-      (λ p. newest _ before p is (λ k inside e h. items_outcome is _ (before ++ p ∷ []) k inside p e h)))
-  item_outcome (processor n id block len is) t before k inside s e h =
-      subst (λ k. Outcome t before (item_sites k inside (processor n id block len is)) (pass_item t s (processor n id block len is))) (sym e)
-      (enter_outcome t before inside s (step n (declares_alone (processor_object id block len))) (items_sites (suc (length before)) (Some (length before)) is) (λ u p. pass_items u p is) h
-      (λ p. newest _ before p is (λ k inside e h. items_outcome is _ (before ++ p ∷ []) k inside p e h)))
-  item_outcome (power n level order is) t before k inside s e h =
-      subst (λ k. Outcome t before (item_sites k inside (power n level order is)) (pass_item t s (power n level order is))) (sym e)
-      (enter_outcome t before inside s (step n (declares_alone (power_object level order))) (items_sites (suc (length before)) (Some (length before)) is) (λ u p. pass_items u p is) h
-      (λ p. newest _ before p is (λ k inside e h. items_outcome is _ (before ++ p ∷ []) k inside p e h)))
-  item_outcome (thermal n is) t before k inside s e h =
-      subst (λ k. Outcome t before (item_sites k inside (thermal n is)) (pass_item t s (thermal n is))) (sym e)
-      (enter_outcome t before inside s (step n (declares_alone thermal_object)) (items_sites (suc (length before)) (Some (length before)) is) (λ u p. pass_items u p is) h
+  item_outcome (scope kind n is) t before k inside s e h =
+      subst (λ k. Outcome t before (item_sites k inside (scope kind n is)) (pass_item t s (scope kind n is))) (sym e)
+      (enter_outcome t before inside s (step n (scope_effect (kind_object kind))) (items_sites (suc (length before)) (Some (length before)) is) (λ u p. pass_items u p is) h
       (λ p. newest _ before p is (λ k inside e h. items_outcome is _ (before ++ p ∷ []) k inside p e h)))
   item_outcome i t before k inside s e h = steps_outcome t before inside s (own_steps i) h
 

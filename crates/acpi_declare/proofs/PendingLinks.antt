@@ -4,7 +4,7 @@ use Rattle.std.proofs.lemmas.List.{map-append}
 use Rattle.acpi_name.specs.Names.{Segment, NameParts}
 use Rattle.acpi_space.specs.Lookups.{Lookup, singleton, union}
 use Rattle.acpi_declare.specs.Declaring.{pending_for, pending_from, pending_of, all_pending_of}
-use Rattle.acpi_declare.specs.declared.pass.PendingLinks.{PendingLinks}
+use Rattle.acpi_declare.specs.declared.pending.PendingLinks.{PendingLinks}
 use Rattle.acpi_declare.specs.Links.{PendingLink, Links, answers, one_link, links_of}
 use Rattle.acpi_declare.specs.Namespace.{Namespace}
 use Rattle.acpi_declare.specs.steps.View.{links_with}

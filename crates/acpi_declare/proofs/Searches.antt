@@ -7,19 +7,16 @@ use Rattle.acpi_name.specs.Names.{Segment, NameParts}
 use Rattle.acpi_name.specs.Paths.{place_of, parent_of}
 use Rattle.acpi_space.specs.Spaces.{PathMap, is_defined}
 use Rattle.acpi_space.specs.Search.{answer, tries}
+use Rattle.acpi_space.proofs.Laid.{is_some-map}
 use Rattle.acpi_tree.specs.declared.object.Object.{Object}
 use Rattle.acpi_tree.specs.Objects.{object_view}
 use Rattle.acpi_space.specs.Lookups.{is_defined_in}
 use Rattle.acpi_declare.specs.Namespace.{namespace_of}
 use Rattle.acpi_declare.specs.Placing.{if_open, opened_in, opened_path}
 
-is_some-view : (o : Option Object) → is_some (option_map object_view o) ≡ is_some o
-is_some-view None = refl
-is_some-view (Some o) = refl
-
 -- the same paths are defined in both
 pub is_defined-namespace : (m : PathMap Object) → is_defined_in (namespace_of m) ≡ is_defined m
-is_defined-namespace m = λ i p. is_some-view (get m p) i
+is_defined-namespace m = λ i p. is_some-map object_view (get m p) i
 
 pub opened_is : (m : PathMap Object) (s : List Segment) (n : NameParts) (a : Option (List Segment)) → answer (is_defined m) s n ≡ a
     → opened_path (namespace_of m) s n ≡ opened_in (namespace_of m) s (place_of s n) a

@@ -136,13 +136,13 @@ next_fault depth number bs later all b before (At k reason) splits e so h = reco
 
 -- ---- as many notes as tables
 
-count_listings : (depth k : ℕ) (objects : Namespace) (bs : List (List ℕ)) (ts : List (List Placement)) → AreListings depth k objects bs ts → length ts ≡ length bs
+pub count_listings : (depth k : ℕ) (objects : Namespace) (bs : List (List ℕ)) (ts : List (List Placement)) → AreListings depth k objects bs ts → length ts ≡ length bs
 count_listings depth k objects [] [] h = refl
 count_listings depth k objects (b ∷ bs) (t ∷ ts) h = ap suc (count_listings depth (suc k) (union objects (objects_of t)) bs ts h.1)
 count_listings depth k objects [] (t ∷ ts) h = absurd h
 count_listings depth k objects (b ∷ bs) [] h = absurd h
 
-count_notes : (objects : Namespace) (ts : List (List Placement)) → length (all_notes objects ts) ≡ length ts
+pub count_notes : (objects : Namespace) (ts : List (List Placement)) → length (all_notes objects ts) ≡ length ts
 count_notes objects [] = refl
 count_notes objects (t ∷ ts) = ap suc (count_notes (union objects (objects_of t)) ts)
 

@@ -8,6 +8,7 @@ use Rattle.acpi_name.specs.Paths.{path_cmp}
 use Rattle.acpi_name.specs.steps.PathOrder.{path_cmp_total, path_cmp-IsAntisymmetric}
 use Rattle.acpi_space.specs.Spaces.{PathMap}
 use Rattle.acpi_space.specs.Lookups.{Lookup, is_same_path, nothing, singleton, union}
+use Rattle.acpi_space.proofs.Tree.{or_none}
 use Rattle.acpi_counts.specs.Counts.{first_of, with_first}
 use Rattle.acpi_tree.specs.declared.object.Object.{Object}
 use Rattle.acpi_tree.specs.Objects.{ObjectTree, object_view}
@@ -15,14 +16,10 @@ use Rattle.acpi_declare.specs.Namespace.{Namespace, namespace_of}
 
 -- ---- unions
 
-or_none : {V : Type 0} (a : Option V) → option_or a None ≡ a
-or_none None = refl
-or_none (Some o) = refl
-
 pub union-nothing : {V : Type 0} (m : Lookup V) → union m nothing ≡ m
 union-nothing m = λ i q. or_none (m q) i
 
-or_assoc : {V : Type 0} (a b c : Option V) → option_or (option_or a b) c ≡ option_or a (option_or b c)
+pub or_assoc : {V : Type 0} (a b c : Option V) → option_or (option_or a b) c ≡ option_or a (option_or b c)
 or_assoc None b c = refl
 or_assoc (Some o) b c = refl
 

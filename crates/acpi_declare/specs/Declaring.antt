@@ -6,8 +6,8 @@ use Rattle.acpi_space.specs.Lookups.{is_defined_in, union}
 use Rattle.acpi_space.specs.Search.{missed}
 use Rattle.acpi_space.specs.Laws.{Among}
 use Rattle.acpi_tree.specs.declared.object.Object.{Object}
-use Rattle.acpi_declare.specs.declared.pass.LinkedPaths.{LinkedPaths}
-use Rattle.acpi_declare.specs.declared.pass.PendingLinks as code_links
+use Rattle.acpi_declare.specs.declared.pending.LinkedPaths.{LinkedPaths}
+use Rattle.acpi_declare.specs.declared.pending.PendingLinks as code_links
 use Rattle.acpi_declare.specs.declared.declaring.Declaring as code
 use Rattle.acpi_declare.specs.declared.notes.TableNotes.{TableNotes}
 use Rattle.acpi_declare.specs.Namespace.{Namespace, namespace_of}
@@ -30,8 +30,10 @@ pub record HasTables (depth : ℕ) (tables : List (List ℕ)) (now : State) : Ty
   pub links_are : now.links ≡ all_pending placements
   pub notes_are : now.notes ≡ all_notes predefined placements
 
--- what the listing of one more table gives over those of these tables: the objects of all, and the links and the notes of that table alone
-pub record HasTableOver (depth : ℕ) (tables : List (List ℕ)) (before : List (List Placement)) (bytes : List ℕ) (now : State) : Type 0 where
+-- what the listing of one more table gives over those of these tables: the objects of all, and the links and the notes
+-- of that table alone
+pub record HasTableOver (depth : ℕ) (tables : List (List ℕ)) (before : List (List Placement))
+    (bytes : List ℕ) (now : State) : Type 0 where
   pub placements : List Placement
   pub listings : AreListings depth 0 predefined (tables ++ bytes ∷ []) (before ++ placements ∷ [])
   pub objects_are : now.objects ≡ union (objects_after predefined before) (objects_of placements)
@@ -40,7 +42,8 @@ pub record HasTableOver (depth : ℕ) (tables : List (List ℕ)) (before : List 
 
 -- a search of one of the links misses the path
 abbrev pub IsMissedLink : Namespace → List PendingLink → List Segment → Type 0
-IsMissedLink objects ws p = (w : PendingLink) × Among ws w × (n : NameParts) × Among w.names n × Among (missed (is_defined_in objects) w.scope n) p
+IsMissedLink objects ws p = (w : PendingLink) × Among ws w × (n : NameParts) × Among w.names n
+    × Among (missed (is_defined_in objects) w.scope n) p
 
 -- ---- as the code keeps them
 
@@ -74,4 +77,9 @@ notes_so_far t = t.notes.items
 
 -- what is declared so far, by what a space holds
 abbrev pub state_of : {S : Type 0} → (S → PathMap Object) → code.Declaring S → State
-state_of contents t = record { objects = namespace_of (contents t.objects); links = all_pending_of t.links.items; notes = map notes_of t.notes.items }
+state_of contents t =
+    record {
+      objects = namespace_of (contents t.objects);
+      links = all_pending_of t.links.items;
+      notes = map notes_of t.notes.items;
+    }

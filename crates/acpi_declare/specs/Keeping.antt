@@ -30,7 +30,8 @@ all_kept keep [] = []
 all_kept keep (n ∷ ns) = kept_of keep n ++ all_kept keep ns
 
 -- the notes are what is kept of those of the tables
-pub record AreKeptNotes (depth : ℕ) (tables : List (List ℕ)) (keep : Keep) (notes : List Notes) : Type 0 where
+pub record AreKeptNotes (depth : ℕ) (tables : List (List ℕ)) (keep : Keep)
+    (notes : List Notes) : Type 0 where
   pub placements : List (List Placement)
   pub listings : AreListings depth 0 predefined tables placements
   pub notes_are : notes ≡ all_kept keep (all_notes predefined placements)

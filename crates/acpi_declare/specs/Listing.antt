@@ -40,7 +40,8 @@ scope_within paths (Some k) = path_at paths k
 abbrev pub IsJustified : Namespace → List (List Segment) → List Site → List Placement → Type 0
 IsJustified objects before [] [] = ⊤
 IsJustified objects before (x ∷ xs) (e ∷ es) =
-    (e.step ≡ x.step) × (e.scope ≡ scope_within before x.inside) × IsPlaced e.step.effect objects e.scope e.step.name e.path
+    (e.step ≡ x.step) × (e.scope ≡ scope_within before x.inside)
+    × IsPlaced e.step.effect objects e.scope e.step.name e.path
     × IsJustified (union objects (object_of e)) (before ++ e.path ∷ []) xs es
 IsJustified objects before [] (e ∷ es) = ⊥
 IsJustified objects before (x ∷ xs) [] = ⊥
@@ -60,4 +61,5 @@ pub record IsFirstRefusal (objects : Namespace) (xs : List Site) (f : RefusedAt)
   pub placements : List Placement
   pub splits : xs ≡ earlier ++ site ∷ later
   pub listing : IsListing objects earlier placements
-  pub refused : placed_path site.step.effect (union objects (objects_of placements)) (scope_within (paths_of placements) site.inside) site.step.name ≡ Err f
+  pub refused : placed_path site.step.effect (union objects (objects_of placements))
+      (scope_within (paths_of placements) site.inside) site.step.name ≡ Err f

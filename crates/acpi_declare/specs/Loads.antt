@@ -14,7 +14,8 @@ use Rattle.acpi_declare.specs.Tables.{IsTableOf}
 abbrev pub AreListings : ℕ → ℕ → Namespace → List (List ℕ) → List (List Placement) → Type 0
 AreListings depth number objects [] [] = ⊤
 AreListings depth number objects (b ∷ bs) (t ∷ ts) =
-    ((is : ItemTrees) × IsTableOf depth number b is × IsListing objects (sites is) t) × AreListings depth (suc number) (union objects (objects_of t)) bs ts
+    ((is : ItemTrees) × IsTableOf depth number b is × IsListing objects (sites is) t)
+    × AreListings depth (suc number) (union objects (objects_of t)) bs ts
 AreListings depth number objects [] (t ∷ ts) = ⊥
 AreListings depth number objects (b ∷ bs) [] = ⊥
 
@@ -24,7 +25,8 @@ objects_after objects [] = objects
 objects_after objects (t ∷ ts) = objects_after (union objects (objects_of t)) ts
 
 -- the objects and links of the tables, without bodies
-pub record IsLoad (depth : ℕ) (tables : List (List ℕ)) (objects : Namespace) (links : Lookup Links) : Type 0 where
+pub record IsLoad (depth : ℕ) (tables : List (List ℕ)) (objects : Namespace)
+    (links : Lookup Links) : Type 0 where
   pub placements : List (List Placement)
   pub listings : AreListings depth 0 predefined tables placements
   pub objects_are : objects ≡ objects_after predefined placements
@@ -37,4 +39,5 @@ pub record AreNotes (depth : ℕ) (tables : List (List ℕ)) (notes : List Notes
   pub notes_are : notes ≡ all_notes predefined placements
 
 abbrev pub HasNoLoad : ℕ → List (List ℕ) → Type 0
-HasNoLoad depth tables = (placements : List (List Placement)) → AreListings depth 0 predefined tables placements → ⊥
+HasNoLoad depth tables =
+    (placements : List (List Placement)) → AreListings depth 0 predefined tables placements → ⊥

@@ -57,7 +57,8 @@ missed_by (expects count) objects s n = []
 -- the paths that the searches of a table's Scope terms tried in vain, each in the namespace of its moment
 abbrev pub scope_misses : Namespace → List Placement → List (List Segment)
 scope_misses objects [] = []
-scope_misses objects (e ∷ es) = missed_by e.step.effect objects e.scope e.step.name ++ scope_misses (union objects (object_of e)) es
+scope_misses objects (e ∷ es) = missed_by e.step.effect objects e.scope e.step.name
+    ++ scope_misses (union objects (object_of e)) es
 
 -- ---- all of it
 
@@ -68,7 +69,8 @@ pub record Notes : Type 0 where
 
 -- the notes of a table that is listed over those objects
 abbrev pub notes_on : Namespace → List Placement → Notes
-notes_on objects es = record { counts = external_counts es; methods = methods es; missed = scope_misses objects es }
+notes_on objects es =
+    record { counts = external_counts es; methods = methods es; missed = scope_misses objects es }
 
 -- the notes of each of several tables
 abbrev pub all_notes : Namespace → List (List Placement) → List Notes
@@ -81,4 +83,9 @@ abbrev pub method_of : code.Method → Method
 method_of m = record { path = m.path; code = m.code }
 
 abbrev pub notes_of : code_notes.TableNotes → Notes
-notes_of t = record { counts = get t.counts; methods = map method_of t.methods.items; missed = t.missed.items }
+notes_of t =
+    record {
+      counts = get t.counts;
+      methods = map method_of t.methods.items;
+      missed = t.missed.items;
+    }

@@ -1,4 +1,5 @@
--- Where one term puts its object or which scope it opens, or the first refusal and the path that it names (ACPI 6.5, 5.3).
+-- Where one term puts its object or which scope it opens, or the first refusal and the path that it names (ACPI 6.5,
+-- 5.3).
 use Rattle.std.specs.Prelude.{◌≡◌, ◌≢◌, cond, List, [], ◌∷◌, Option, Some, None, Result, Ok, Err}
 use Rattle.acpi_name.specs.Names.{Segment, NameParts}
 use Rattle.acpi_name.specs.Paths.{place_of, parent_of}
@@ -13,14 +14,16 @@ use Rattle.acpi_declare.specs.Sites.{Effect, declares, opens, expects}
 -- ---- in plain facts
 
 -- in the scope, the name declares the path
-pub record IsDeclared (objects : Namespace) (scope : List Segment) (name : NameParts) (path : List Segment) : Type 0 where
+pub record IsDeclared (objects : Namespace) (scope : List Segment) (name : NameParts)
+    (path : List Segment) : Type 0 where
   pub has_segments : name.segments ≢ []
   pub placed : place_of scope name ≡ Some path
   pub parent : IsOpen objects (parent_of path)
   pub free : objects path ≡ None
 
 -- .. and the name opens the scope at the path
-pub record IsOpened (objects : Namespace) (scope : List Segment) (name : NameParts) (path : List Segment) : Type 0 where
+pub record IsOpened (objects : Namespace) (scope : List Segment) (name : NameParts)
+    (path : List Segment) : Type 0 where
   pub found : answer (is_defined_in objects) scope name ≡ Some path
   pub open_there : IsOpen objects path
 
@@ -60,7 +63,8 @@ declared_in objects s (g ∷ gs) (Some p) = below objects p (objects (parent_of 
 abbrev pub declared_path : Namespace → List Segment → NameParts → Placed
 declared_path objects s n = declared_in objects s n.segments (place_of s n)
 
-abbrev pub opened_in : Namespace → List Segment → Option (List Segment) → Option (List Segment) → Placed
+abbrev pub opened_in : Namespace → List Segment → Option (List Segment) → Option (List Segment)
+    → Placed
 opened_in objects s None found = Err (AboveRoot, s)
 opened_in objects s (Some p) None = Err (Missing, p)
 opened_in objects s (Some p) (Some t) = if_open t (objects t) (Ok t)

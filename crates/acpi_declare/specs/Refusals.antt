@@ -39,7 +39,8 @@ pub record HasMore (number : ℕ) (bytes : List ℕ) : Type 0 where
 pub record IsCodeFault (depth : ℕ) (code : List ℕ) (reason : ItemReason) (place : ℕ) : Type 0 where
   pub none : (is : ItemTrees) → SpellsItems is code → items_height is ≤ depth → ⊥
   pub shown : ShowsItems depth code reason place
-  pub next : (u w : List ℕ) (is : ItemTrees) (why : ItemReason) → code ≡ u ++ w → SpellsItems is u → items_height is ≤ depth → faults.Refused why w 0
+  pub next : (u w : List ℕ) (is : ItemTrees) (why : ItemReason) → code ≡ u ++ w → SpellsItems is u
+      → items_height is ≤ depth → faults.Refused why w 0
       → (reason ≡ why) × (place ≡ length u)
 
 -- why a table has no listing over the objects before it: the first of these that holds
@@ -48,11 +49,14 @@ IsLoadReason depth number objects bytes (Table fault) = tables.IsRefusedAs fault
 IsLoadReason depth number objects bytes NotDsdt = (number ≡ 0) × HasOtherSignature number bytes
 IsLoadReason depth number objects bytes NotSsdt = (0 < number) × HasOtherSignature number bytes
 IsLoadReason depth number objects bytes Trailing = HasMore number bytes
-IsLoadReason depth number objects bytes (Item reason place) = IsNumbered number bytes × IsCodeFault depth (code_of bytes) reason place
-IsLoadReason depth number objects bytes (Refused refusal path) = (is : ItemTrees) × IsTableOf depth number bytes is × IsFirstRefusal objects (sites is) (refusal, path)
+IsLoadReason depth number objects bytes (Item reason place) =
+    IsNumbered number bytes × IsCodeFault depth (code_of bytes) reason place
+IsLoadReason depth number objects bytes (Refused refusal path) = (is : ItemTrees)
+    × IsTableOf depth number bytes is × IsFirstRefusal objects (sites is) (refusal, path)
 
 -- the tables before that one have listings, and it has none
-pub record IsFirstWithout (depth : ℕ) (tables : List (List ℕ)) (number : ℕ) (reason : LoadReason) : Type 0 where
+pub record IsFirstWithout (depth : ℕ) (tables : List (List ℕ)) (number : ℕ)
+    (reason : LoadReason) : Type 0 where
   pub earlier : List (List ℕ)
   pub bytes : List ℕ
   pub later : List (List ℕ)

@@ -15,10 +15,10 @@ ghost use Rattle.acpi_declare.specs.Refusals.{IsLoadFault};
 
 use crate::fault::LoadFault;
 use crate::keep::Keep;
-use crate::links::{linked, misses_of_links};
+use crate::links::{misses_of_links, search_links};
 use crate::load::{Declared, add_table, start};
 use crate::notes::TableNotes;
-use crate::pass::PendingLinks;
+use crate::pending::PendingLinks;
 use acpi_name::Path;
 use acpi_space::{AllPaths, Overlay, PathsOf, Space};
 use acpi_terms::{Depth, Object};
@@ -152,7 +152,7 @@ impl<S: Space<Object>> Declaring<S> {
             links,
             notes,
         } = self;
-        let links = linked(alloc, &objects, links)?;
+        let links = search_links(alloc, &objects, links)?;
         Ok(Declared {
             objects,
             links,

@@ -1,22 +1,20 @@
 //! Items in which others stand, and lists of items.
 
-ghost use Rattle.std.specs.Prelude.{◌≡◌, ◌≢◌, [], reverse, true, IfOk, IfErr, IfNone, IfSome, OnOk, Ok};
+ghost use Rattle.std.specs.Prelude.{◌≡◌, ◌≢◌, [], reverse, true, IfOk, IfNone, IfSome, OnOk};
 ghost use Rattle.acpi_name.specs.Paths.{parent_of};
 ghost use Rattle.acpi_tree.specs.Objects.{object_view};
 ghost use Rattle.acpi_tree.specs.Fits.{item_fits, items_fit};
 ghost use Rattle.acpi_tree.specs.Offsets.{OffsetFits, OffsetsFit};
 ghost use Rattle.acpi_tree.specs.View.{item_view, items_tree};
-ghost use Rattle.acpi_declare.specs.Namespace.{namespace_of};
 ghost use Rattle.acpi_declare.specs.Sites.{step, declares_alone, opens};
-ghost use Rattle.acpi_declare.specs.Placing.{declared_path, opened_path};
-ghost use Rattle.acpi_declare.specs.steps.Entering.{Enters, EntersNext, IsLeftBehind, IsScopeOf};
-ghost use Rattle.acpi_declare.specs.steps.Pass.{after, placement, pass_item, pass_items};
+ghost use Rattle.acpi_declare.specs.steps.Entering.{Enters, EntersNext, IsLeftBehind, IsScopeOf, StepsInto};
+ghost use Rattle.acpi_declare.specs.steps.Pass.{pass_item, pass_items};
 ghost use Rattle.acpi_declare.specs.steps.View.{pass_of};
-ghost use Rattle.acpi_declare.specs.steps.Outcomes.{Ends, IsStopOf};
+ghost use Rattle.acpi_declare.specs.steps.Outcomes.{Ends};
 
 use crate::fault::Stop;
 use crate::pass::Pass;
-use crate::placing::{opened, rejoined};
+use crate::placing::{opened_path, rejoin};
 use acpi_name::{Name, Path};
 use acpi_space::{SearchFault, Space, misses};
 use acpi_terms::{Item, Object};
@@ -37,30 +35,26 @@ fn go_below(path: &mut Path, inside: Path) -> Result<Option<Path>, AllocError>
             path.push(seg)?;
             Ok(None)
         }
-        last => Ok(Some(rejoined(parent, last)?)),
+        last => Ok(Some(rejoin(parent, last)?)),
     }
 }
 
-// What is left of an item that is declared itself.
+/// What is left of an item that is declared itself.
 #[derive(Drop)]
 pub enum Entered {
-    // Nothing.
+    /// Nothing.
     Nothing,
-    // Items in its scope, to which the path of its list's scope leads now: it has one segment more.
+    /// Items in its scope, to which the path of its list's scope leads now: it has one segment more.
     Below(Vec<Item>),
-    // Items in another scope.
+    /// Items in another scope.
     Elsewhere(Path, Vec<Item>),
 }
 
 impl<S: Space<Object>> Pass<S> {
     // Declares an object inside which others stand, and gives its path.
     fn declare_scope(&mut self, scope: &Path, name: &Name, object: Object) -> Result<Path, Stop>
-        ensures path { IfOk result (λ p. declared_path
-            (namespace_of self.old.objects) scope.now name.now ≡ Ok p) }
-        ensures ok { IfOk result (λ p. pass_of self.new ≡ after (pass_of self.old)
-            (placement scope.now (step name.now (declares_alone (object_view object))) p)) }
-        ensures refused { IfErr result (λ f. IsStopOf f
-            (declared_path (namespace_of self.old.objects) scope.now name.now)) }
+        ensures steps { StepsInto result (λ p. p) (pass_of self.old) scope.now
+            (step name.now (declares_alone (object_view object))) (pass_of self.new) }
         ensures lower { OnOk result (self.new.lower ≡ self.old.lower) }
     {
         let path = self.free_path(scope, name)?;
@@ -71,15 +65,11 @@ impl<S: Space<Object>> Pass<S> {
 
     // Opens a scope, and gives its path.
     fn open_scope(&mut self, scope: &Path, name: &Name) -> Result<Path, Stop>
-        ensures path { IfOk result (λ p. opened_path
-            (namespace_of self.old.objects) scope.now name.now ≡ Ok p) }
-        ensures ok { IfOk result (λ p. pass_of self.new ≡ after (pass_of self.old)
-            (placement scope.now (step name.now opens) p)) }
-        ensures refused { IfErr result (λ f. IsStopOf f
-            (opened_path (namespace_of self.old.objects) scope.now name.now)) }
+        ensures steps { StepsInto result (λ p. p) (pass_of self.old) scope.now
+            (step name.now opens) (pass_of self.new) }
         ensures lower { OnOk result (self.new.lower ≡ self.old.lower) }
     {
-        let target = opened(self.alloc, &self.objects, scope, name)?;
+        let target = opened_path(self.alloc, &self.objects, scope, name)?;
         match misses(self.alloc, &self.objects, scope, name.view()) {
             Ok(paths) => {
                 self.notes.add_missed(paths)?;
@@ -98,13 +88,9 @@ impl<S: Space<Object>> Pass<S> {
         object: Object,
         items: Vec<Item>,
     ) -> Result<(Path, Vec<Item>), Stop>
-        ensures path { IfOk result (λ left. declared_path
-            (namespace_of self.old.objects) scope.now name ≡ Ok left.0) }
+        ensures steps { StepsInto result (λ left. left.0) (pass_of self.old) scope.now
+            (step name (declares_alone (object_view object))) (pass_of self.new) }
         ensures items { IfOk result (λ left. left.1 ≡ items) }
-        ensures ok { IfOk result (λ left. pass_of self.new ≡ after (pass_of self.old)
-            (placement scope.now (step name (declares_alone (object_view object))) left.0)) }
-        ensures refused { IfErr result (λ f. IsStopOf f
-            (declared_path (namespace_of self.old.objects) scope.now name)) }
         ensures lower { OnOk result (self.new.lower ≡ self.old.lower) }
     {
         let inside = self.declare_scope(scope, &name, object)?;
@@ -118,29 +104,23 @@ impl<S: Space<Object>> Pass<S> {
         name: Name,
         items: Vec<Item>,
     ) -> Result<(Path, Vec<Item>), Stop>
-        ensures path { IfOk result (λ left. opened_path
-            (namespace_of self.old.objects) scope.now name ≡ Ok left.0) }
+        ensures steps { StepsInto result (λ left. left.0) (pass_of self.old) scope.now
+            (step name opens) (pass_of self.new) }
         ensures items { IfOk result (λ left. left.1 ≡ items) }
-        ensures ok { IfOk result (λ left. pass_of self.new ≡ after (pass_of self.old)
-            (placement scope.now (step name opens) left.0)) }
-        ensures refused { IfErr result (λ f. IsStopOf f
-            (opened_path (namespace_of self.old.objects) scope.now name)) }
         ensures lower { OnOk result (self.new.lower ≡ self.old.lower) }
     {
         let inside = self.open_scope(scope, &name)?;
         Ok((inside, items))
     }
 
-    // Declares an item without what stands inside it, and gives that and its scope. None where nothing is left. It is no
-    // part of the recursion, which so holds no item on the stack.
+    // Declares an item without what stands inside it, and gives that and its scope. None where nothing is left. It is
+    // no part of the recursion, which so holds no item on the stack.
     #[inline(never)]
     fn enter(&mut self, scope: &Path, item: Item) -> Result<Option<(Path, Vec<Item>)>, Stop>
         requires room { OffsetFits (item_view item) }
         requires fits { item_fits (item_view item) ≡ true }
-        ensures ok { IfOk result (λ left. Enters (item_view item)
-            (pass_item (pass_of self.old) scope.now (item_view item)) (pass_of self.new) left) }
-        ensures refused { IfErr result (λ f. IsStopOf f
-            (pass_item (pass_of self.old) scope.now (item_view item))) }
+        ensures steps { Enters (item_view item) result
+            (pass_item (pass_of self.old) scope.now (item_view item)) (pass_of self.new) }
         ensures lower { OnOk result (self.new.lower ≡ self.old.lower) }
     {
         let left = match item {
@@ -168,22 +148,20 @@ impl<S: Space<Object>> Pass<S> {
         Ok(Some(left?))
     }
 
-    // Declares the next item of a list, the last of those that are left, without what stands inside it, and gives that. It
-    // is no part of the recursion, which so holds no item on the stack.
+    // Declares the next item of a list, the last of those that are left, without what stands inside it, and gives that.
+    // It is no part of the recursion, which so holds no item on the stack.
     #[inline(never)]
     fn enter_next(&mut self, scope: &mut Path, left: &mut Vec<Item>) -> Result<Entered, Stop>
         requires some { left.old.items ≢ [] }
         requires room { OffsetsFit (items_tree (reverse left.old.items)) }
         requires fits { items_fit (items_tree (reverse left.old.items)) ≡ true }
-        ensures ok { IfOk result (λ e. EntersNext
+        ensures steps { EntersNext result
             (pass_items (pass_of self.old) scope.old (items_tree (reverse left.old.items)))
             (λ t. pass_items t scope.old (items_tree (reverse left.new.items)))
-            (pass_of self.new) scope.new e) }
+            (pass_of self.new) scope.new }
         ensures left { IfOk result (λ e. IsLeftBehind (items_tree (reverse left.old.items))
             (items_tree (reverse left.new.items)) e) }
         ensures scope { IfOk result (λ e. IsScopeOf scope.old scope.new e) }
-        ensures refused { IfErr result (λ f. IsStopOf f
-            (pass_items (pass_of self.old) scope.old (items_tree (reverse left.old.items)))) }
         ensures lower { OnOk result (self.new.lower ≡ self.old.lower) }
     {
         let Some(item) = left.pop() else {

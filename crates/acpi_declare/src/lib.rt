@@ -31,6 +31,7 @@ mod links;
 mod load;
 mod notes;
 mod pass;
+mod pending;
 mod placing;
 mod predefined;
 

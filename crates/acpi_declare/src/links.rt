@@ -14,7 +14,7 @@ ghost use Rattle.acpi_declare.specs.steps.Missing.{misses_from};
 
 use crate::fault::LoadFault;
 use crate::link_map::LinkMap;
-use crate::pass::{LinkedPaths, PendingLinks};
+use crate::pending::{LinkedPaths, PendingLinks};
 use crate::placing::unit_path;
 use acpi_name::{Name, Path, Seg};
 use acpi_space::{Found, SearchFault, Space, Wanted, search, wanted_misses};
@@ -134,7 +134,7 @@ fn put_pending<S: Space<Object>>(
 }
 
 /// The answers of all links that are pending. Where a path is there several times, the last counts.
-pub(crate) fn linked<S: Space<Object>>(
+pub(crate) fn search_links<S: Space<Object>>(
     alloc: Global,
     objects: &S,
     pending: Vec<PendingLinks>,

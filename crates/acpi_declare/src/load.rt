@@ -80,7 +80,7 @@ impl<S> Declared<S> {
     }
 }
 
-fn refused(table: usize, reason: LoadReason) -> LoadFault
+fn table_fault(table: usize, reason: LoadReason) -> LoadFault
     ensures { result ≡ LoadFault.At table reason }
 {
     LoadFault::At { table, reason }
@@ -98,7 +98,7 @@ fn is_signed(number: usize, signature: [u8; 4]) -> bool
 }
 
 // Why table `number` is refused where it has another signature.
-fn unsigned(number: usize) -> LoadReason
+fn other_signature(number: usize) -> LoadReason
     ensures { (depth : ℕ) (objects : Namespace) (bytes : List ℕ) → HasOtherSignature number bytes
         → IsLoadReason depth number objects bytes result }
 {
@@ -119,14 +119,14 @@ fn table_code(number: usize, bytes: &Bytes) -> Result<Bytes, LoadFault>
     match split_table(bytes.as_slice()) {
         Ok((table, rest)) => {
             if !is_signed(number, table.header().signature) {
-                return Err(refused(number, unsigned(number)));
+                return Err(table_fault(number, other_signature(number)));
             }
             if rest.len() > 0 {
-                return Err(refused(number, LoadReason::Trailing));
+                return Err(table_fault(number, LoadReason::Trailing));
             }
             Ok(bytes.slice(HEADER_BYTES..)?)
         }
-        Err(fault) => Err(refused(number, LoadReason::Table(fault))),
+        Err(fault) => Err(table_fault(number, LoadReason::Table(fault))),
     }
 }
 
@@ -146,7 +146,7 @@ fn table_items(
     let code = table_code(number, bytes)?;
     match read_items_shared(alloc, &code, depth) {
         Ok(items) => Ok(items),
-        Err(ItemFault::At { reason, place }) => Err(refused(
+        Err(ItemFault::At { reason, place }) => Err(table_fault(
             number,
             LoadReason::Item { reason, place },
         )),
@@ -184,7 +184,7 @@ pub(crate) fn add_table<S: Space<Object>>(
     };
     match pass.declare_items(&mut Path::root(alloc), items) {
         Ok(()) => {}
-        Err(Stop::Refused(refusal, path)) => return Err(refused(
+        Err(Stop::Refused(refusal, path)) => return Err(table_fault(
             number,
             LoadReason::Refused { refusal, path },
         )),

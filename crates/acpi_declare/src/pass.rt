@@ -1,61 +1,32 @@
 //! The declaration pass over the items of one table.
 
-ghost use Rattle.std.specs.Prelude.{IsTrue, ◌≡◌, ◌≢◌, ◌↔◌, true, None, Some, List, ◌∷◌, [], ◌++◌, ◌+◌, ◌<◌, ◌^◌, IfOk, IfErr, OnOk, Ok};
+ghost use Rattle.std.specs.Prelude.{IsTrue, ◌≡◌, ◌≢◌, true, None, Some, List, ◌∷◌, [], ◌++◌, ◌+◌, ◌<◌, ◌^◌, IfOk, IfErr, OnOk};
 ghost use Rattle.std.specs.List.{list_all};
-ghost use Rattle.acpi_name.specs.Names.{Segment};
 ghost use Rattle.acpi_space.specs.Lookups.{singleton, union};
 ghost use Rattle.acpi_tree.specs.Objects.{object_view, field_object, method_object};
 ghost use Rattle.acpi_tree.specs.Fits.{external_fits, item_fits};
 ghost use Rattle.acpi_tree.specs.Offsets.{element_bits, list_bits, OffsetFits};
 ghost use Rattle.acpi_tree.specs.View.{item_view, external_view, externals_view, field_view, fields_view};
-ghost use Rattle.acpi_declare.specs.Declaring.{all_pending_of, linked_paths, pending_from, pending_for};
+ghost use Rattle.acpi_declare.specs.Declaring.{pending_for};
 ghost use Rattle.acpi_declare.specs.Namespace.{namespace_of};
 ghost use Rattle.acpi_declare.specs.Sites.{step, declares_alone, declares, is_leaf, own_steps, external_step, external_steps, unit_step, unit_name, unit_steps};
 ghost use Rattle.acpi_declare.specs.Notes.{notes_of};
 ghost use Rattle.acpi_declare.specs.Placing.{declared_path};
 ghost use Rattle.acpi_declare.specs.steps.Pass.{take_step, take_steps};
 ghost use Rattle.acpi_declare.specs.steps.View.{pass_of, pass_with_units, with_method};
-ghost use Rattle.acpi_declare.specs.steps.Outcomes.{Ends, IsStopOf};
+ghost use Rattle.acpi_declare.specs.steps.Outcomes.{Ends, IsOutcome};
 
 use crate::fault::Stop;
 use crate::field_list::{FieldList, behind, one, two};
 use crate::notes::TableNotes;
-use crate::placing::{declared, declared_unit, put};
+use crate::pending::{LinkedPaths, PendingLinks, add_links, add_links_of};
+use crate::placing::{declared_path, declared_unit_path, put};
 use acpi_name::{Name, Path, Seg};
 use acpi_space::Space;
 use acpi_terms::{External, FieldElem, FieldForm, Item, Object};
 use bytes::Bytes;
 use std::alloc::{AllocError, Global};
 use std::marker::Model;
-
-// Declared paths that have the same links.
-#[derive(Debug, Drop)]
-pub(crate) enum LinkedPaths {
-    // A buffer field.
-    One(Path),
-    // The units of a field list, by their segments below its scope.
-    Units(Vec<Seg>),
-}
-
-impl LinkedPaths {
-    // Whether there are none.
-    pub(crate) fn is_empty(&self) -> bool
-        ensures { (scope : List Segment) → IsTrue result ↔ (linked_paths scope self.now ≡ []) }
-    {
-        match self {
-            LinkedPaths::One(_) => false,
-            LinkedPaths::Units(segs) => segs.is_empty(),
-        }
-    }
-}
-
-// Declared paths whose links are searched when all tables are declared: the same names, from the same scope.
-#[derive(Debug, Drop)]
-pub(crate) struct PendingLinks {
-    pub(crate) paths: LinkedPaths,
-    pub(crate) scope: Path,
-    pub(crate) names: Vec<Name>,
-}
 
 // What the pass has so far: the namespace, the links to search, and what the table notes.
 #[derive(Drop)]
@@ -82,57 +53,21 @@ impl<S: Space<Object>> Model for Pass<S> {
     } };
 }
 
-// Adds the links of some paths.
-fn add_links(
-    links: &mut Vec<PendingLinks>,
-    paths: LinkedPaths,
-    scope: &Path,
-    names: Vec<Name>,
-) -> Result<(), AllocError>
-    ensures { OnOk result (all_pending_of links.new.items ≡ all_pending_of links.old.items
-        ++ pending_from scope.now names.items (linked_paths scope.now paths)) }
-{
-    links.push(PendingLinks {
-        paths,
-        scope: scope.copy()?,
-        names,
-    })?;
-    Ok(())
-}
-
-// Adds the links of one path.
-fn add_links_of(
-    links: &mut Vec<PendingLinks>,
-    path: &Path,
-    scope: &Path,
-    names: Vec<Name>,
-) -> Result<(), AllocError>
-    ensures { OnOk result (all_pending_of links.new.items ≡ all_pending_of links.old.items
-        ++ pending_for path.now scope.now names.items ∷ []) }
-{
-    add_links(links, LinkedPaths::One(path.copy()?), scope, names)?;
-    Ok(())
-}
-
 impl<S: Space<Object>> Pass<S> {
     // Where a declaration of the name puts its object.
     pub(crate) fn free_path(&self, scope: &Path, name: &Name) -> Result<Path, Stop>
-        ensures ok { IfOk result (λ p. declared_path
-            (namespace_of self.now.objects) scope.now name.now ≡ Ok p) }
-        ensures refused { IfErr result (λ f. IsStopOf f
-            (declared_path (namespace_of self.now.objects) scope.now name.now)) }
+        ensures { IsOutcome result
+            (declared_path (namespace_of self.now.objects) scope.now name.now) }
     {
-        declared(self.alloc, &self.objects, scope, name)
+        declared_path(self.alloc, &self.objects, scope, name)
     }
 
     // Where a field unit is declared.
     fn free_unit_path(&self, scope: &Path, seg: Seg) -> Result<Path, Stop>
-        ensures ok { IfOk result (λ p. declared_path (namespace_of self.now.objects) scope.now
-            (unit_name seg) ≡ Ok p) }
-        ensures refused { IfErr result (λ f. IsStopOf f
-            (declared_path (namespace_of self.now.objects) scope.now (unit_name seg))) }
+        ensures { IsOutcome result
+            (declared_path (namespace_of self.now.objects) scope.now (unit_name seg)) }
     {
-        declared_unit(&self.objects, scope, seg)
+        declared_unit_path(&self.objects, scope, seg)
     }
 
     // Puts an object at a path that is free.

@@ -1,13 +1,13 @@
 //! Where a term puts its object, and which scope it opens.
 
-ghost use Rattle.std.specs.Prelude.{◌≡◌, ◌≢◌, ◌∷◌, [], ◌++◌, option_to_list, None, IfOk, IfErr, OnOk};
+ghost use Rattle.std.specs.Prelude.{◌≡◌, ◌≢◌, ◌∷◌, [], ◌++◌, option_to_list, None, IfOk, OnOk};
 ghost use Rattle.acpi_name.specs.Paths.{parent_of, place_of};
 ghost use Rattle.acpi_tree.specs.Objects.{object_view};
 ghost use Rattle.acpi_space.specs.Lookups.{singleton, union};
 ghost use Rattle.acpi_declare.specs.Namespace.{Namespace, namespace_of};
 ghost use Rattle.acpi_declare.specs.Placing.{below, declared_path, opened_in, opened_path};
 ghost use Rattle.acpi_declare.specs.Sites.{unit_name};
-ghost use Rattle.acpi_declare.specs.steps.Outcomes.{IsStopOf};
+ghost use Rattle.acpi_declare.specs.steps.Outcomes.{IsOutcome, IsStopOf};
 
 use crate::fault::{Refusal, Stop};
 use acpi_name::{Name, Path, PlaceFault, Seg, place};
@@ -34,7 +34,7 @@ pub(crate) fn put<S: Space<Object>>(
 }
 
 // The path that has this parent and last segment.
-pub(crate) fn rejoined(parent: Path, last: Option<Seg>) -> Result<Path, AllocError>
+pub(crate) fn rejoin(parent: Path, last: Option<Seg>) -> Result<Path, AllocError>
     ensures { IfOk result (λ p. p ≡ parent ++ option_to_list last) }
 {
     let mut path = parent;
@@ -47,11 +47,8 @@ pub(crate) fn rejoined(parent: Path, last: Option<Seg>) -> Result<Path, AllocErr
 // The path, if an object may be declared there.
 #[tactic(auto, using(crate::proofs::Searches::rejoined_parts))]
 fn free_below<S: Space<Object>>(objects: &S, path: Path) -> Result<Path, Stop>
-    ensures ok { IfOk result (λ p. below (namespace_of (S.contents objects.now)) path
-        (namespace_of (S.contents objects.now) (parent_of path)) ≡ Ok p) }
-    ensures refused { IfErr result (λ f. IsStopOf f
-        (below (namespace_of (S.contents objects.now)) path
-        (namespace_of (S.contents objects.now) (parent_of path)))) }
+    ensures { IsOutcome result (below (namespace_of (S.contents objects.now)) path
+        (namespace_of (S.contents objects.now) (parent_of path))) }
 {
     let mut path = path;
     let last = path.pop();
@@ -61,7 +58,7 @@ fn free_below<S: Space<Object>>(objects: &S, path: Path) -> Result<Path, Stop>
             if !object.opens_scope() {
                 return Err(Stop::Refused(Refusal::NotAScope, path));
             }
-            let path = rejoined(path, last)?;
+            let path = rejoin(path, last)?;
             if objects.get(&path).is_some() {
                 return Err(Stop::Refused(Refusal::Taken, path));
             }
@@ -71,16 +68,14 @@ fn free_below<S: Space<Object>>(objects: &S, path: Path) -> Result<Path, Stop>
 }
 
 // Where a declaration of the name puts its object.
-pub(crate) fn declared<S: Space<Object>>(
+pub(crate) fn declared_path<S: Space<Object>>(
     alloc: Global,
     objects: &S,
     scope: &Path,
     name: &Name,
 ) -> Result<Path, Stop>
-    ensures ok { IfOk result (λ p. declared_path
-        (namespace_of (S.contents objects.now)) scope.now name.now ≡ Ok p) }
-    ensures refused { IfErr result (λ f. IsStopOf f
-        (declared_path (namespace_of (S.contents objects.now)) scope.now name.now)) }
+    ensures { IsOutcome result
+        (declared_path (namespace_of (S.contents objects.now)) scope.now name.now) }
 {
     if name.view().len() == 0 {
         return Err(Stop::Refused(Refusal::EmptyName, scope.copy()?));
@@ -102,35 +97,31 @@ pub(crate) fn unit_path(scope: &Path, seg: Seg) -> Result<Path, AllocError>
 }
 
 // Where a field unit is declared.
-pub(crate) fn declared_unit<S: Space<Object>>(
+pub(crate) fn declared_unit_path<S: Space<Object>>(
     objects: &S,
     scope: &Path,
     seg: Seg,
 ) -> Result<Path, Stop>
-    ensures ok { IfOk result (λ p. declared_path (namespace_of (S.contents objects.now)) scope.now
-        (unit_name seg) ≡ Ok p) }
-    ensures refused { IfErr result (λ f. IsStopOf f
-        (declared_path (namespace_of (S.contents objects.now)) scope.now (unit_name seg))) }
+    ensures { IsOutcome result
+        (declared_path (namespace_of (S.contents objects.now)) scope.now (unit_name seg)) }
 {
     free_below(objects, unit_path(scope, seg)?)
 }
 
 // The scope that a Scope term opens.
 #[tactic(auto, using(crate::proofs::Searches::opened_found))]
-pub(crate) fn opened<S: Space<Object>>(
+pub(crate) fn opened_path<S: Space<Object>>(
     alloc: Global,
     objects: &S,
     scope: &Path,
     name: &Name,
 ) -> Result<Path, Stop>
-    ensures ok { IfOk result (λ p. opened_path
-        (namespace_of (S.contents objects.now)) scope.now name.now ≡ Ok p) }
-    ensures refused { IfErr result (λ f. IsStopOf f
-        (opened_path (namespace_of (S.contents objects.now)) scope.now name.now)) }
+    ensures { IsOutcome result
+        (opened_path (namespace_of (S.contents objects.now)) scope.now name.now) }
 {
     let target = match search(alloc, objects, scope, name.view()) {
         Ok(Found::At(path)) => path,
-        Ok(Found::Missing) => return Err(missing(alloc, scope, name)),
+        Ok(Found::Missing) => return Err(refuse_missing(alloc, scope, name)),
         Err(SearchFault::AboveRoot) => return Err(Stop::Refused(Refusal::AboveRoot, scope.copy()?)),
         Err(SearchFault::Memory) => return Err(Stop::Memory),
     };
@@ -147,7 +138,7 @@ pub(crate) fn opened<S: Space<Object>>(
 }
 
 // The refusal of a Scope term without an answer: it names the name's place.
-fn missing(alloc: Global, scope: &Path, name: &Name) -> Stop
+fn refuse_missing(alloc: Global, scope: &Path, name: &Name) -> Stop
     requires { place_of scope.now name.now ≢ None }
     ensures { (objects : Namespace) → IsStopOf result
         (opened_in objects scope.now (place_of scope.now name.now) None) }

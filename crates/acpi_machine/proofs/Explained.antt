@@ -5,6 +5,7 @@ use Rattle.acpi_name.specs.Names.{Segment}
 use Rattle.acpi_space.specs.Laws.{Among}
 use Rattle.acpi_space.specs.Lookups.{Lookup, is_same_path}
 use Rattle.acpi_space.proofs.Comparisons.{path_itself}
+use Rattle.acpi_space.proofs.Elements.{among_left, among_right, among_append}
 use Rattle.acpi_tree.specs.Terms.{TermTrees}
 use Rattle.acpi_declare.specs.Links.{Links}
 use Rattle.acpi_declare.specs.declared.keep.Keep.{Keep}
@@ -66,24 +67,6 @@ none_among counts p (x ∷ ms) e m i = by (λ e i. none_among counts p ms e m i)
 
 -- ---- the methods of a table, and those of later ones
 
-among_front : {X : Type 0} (xs ys : List X) (x : X) → Among xs x → Among (xs ++ ys) x
-among_front [] ys x i = absurd i
-among_front (z ∷ xs) ys x (inl e) = inl e
-among_front (z ∷ xs) ys x (inr i) = inr (among_front xs ys x i)
-
-among_behind : {X : Type 0} (xs ys : List X) (x : X) → Among ys x → Among (xs ++ ys) x
-among_behind [] ys x i = i
-among_behind (z ∷ xs) ys x i = inr (among_behind xs ys x i)
-
-among_either : {X : Type 0} (xs ys : List X) (x : X) → Among (xs ++ ys) x → Among xs x ⊎ Among ys x
-among_either [] ys x i = inr i
-among_either (z ∷ xs) ys x (inl e) = inl (inl e)
-among_either (z ∷ xs) ys x (inr i) = by (among_either xs ys x i)
-  where
-    by : Among xs x ⊎ Among ys x → Among (z ∷ xs) x ⊎ Among ys x
-    by (inl j) = inl (inr j)
-    by (inr j) = inr j
-
 -- ---- what is told of the tables that are left
 
 -- what `why` answers
@@ -107,12 +90,12 @@ told_here depth objects t later p methods m bytes (Err e) same found code told =
 told_here depth objects t later p methods m bytes (Ok w) same found code told =
     let one = found_among (get t.counts) p t.methods.items m (ap (find (at_path p)) (sym same) ∙ found) in
     let it : Method = with_counts (get t.counts) (method_of m) in
-    inl (it, among_front (noted (notes_of t)) (all_noted (map notes_of later)) it one.0, one.1, subst (λ (b : List ℕ). IsReason (count objects it) m.path depth b w) code told)
+    inl (it, among_left (noted (notes_of t)) (all_noted (map notes_of later)) it one.0, one.1, subst (λ (b : List ℕ). IsReason (count objects it) m.path depth b w) code told)
 
 behind_none : (depth : ℕ) (objects : Namespace) (here behind : List Method) (p : List Segment) (w : Option BodyFault)
     → ((m : Method) → Among here m → m.path ≢ p) → IsReasonAt depth objects behind p w → IsReasonAt depth objects (here ++ behind) p w
-behind_none depth objects here behind p w none (inl r) = inl (r.0, among_behind here behind r.0 r.1, r.2, r.3)
-behind_none depth objects here behind p w none (inr r) = inr (λ m i. by m (among_either here behind m i), r.1)
+behind_none depth objects here behind p w none (inl r) = inl (r.0, among_right here behind r.0 r.1, r.2, r.3)
+behind_none depth objects here behind p w none (inr r) = inr (λ m i. by m (among_append here behind m i), r.1)
   where
     by : (m : Method) → Among here m ⊎ Among behind m → m.path ≢ p
     by m (inl i) = none m i

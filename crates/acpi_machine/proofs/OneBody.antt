@@ -7,6 +7,7 @@ use Rattle.acpi_name.specs.Names.{Segment}
 use Rattle.acpi_space.specs.Laws.{Among}
 use Rattle.acpi_space.specs.Lookups.{Lookup, is_same_path, nothing}
 use Rattle.acpi_space.proofs.Comparisons.{path_itself}
+use Rattle.acpi_space.proofs.AmongPaths.{filter_mapped}
 use Rattle.acpi_declare.specs.Keeping.{methods_at, with_methods, kept_of, all_kept, AreKeptNotes}
 use Rattle.acpi_declare.specs.declared.keep.Keep.{Keep}
 use Rattle.acpi_declare.specs.Loads.{IsLoad}
@@ -14,7 +15,6 @@ use Rattle.acpi_declare.specs.Namespace.{Namespace}
 use Rattle.acpi_declare.specs.Notes.{Notes, all_notes}
 use Rattle.acpi_declare.specs.Notes as notes
 use Rattle.acpi_declare.specs.Predefined.{predefined}
-use Rattle.acpi_declare.proofs.KeptNotes.{filter_mapped}
 use Rattle.acpi_declare.proofs.Unions.{path_same, union-nothing}
 use Rattle.acpi_body.specs.declared.fault.BodyFault.{BodyFault}
 use Rattle.acpi_body.specs.Bodies.{BodyTree}

@@ -13,10 +13,12 @@ use Rattle.acpi_order.specs.Bodies.{Method, all_methods, count}
 -- one of the methods stands at the path, and this is told of its body; or none does, and nothing is told
 abbrev pub IsReasonAt : ℕ → Namespace → List Method → List Segment → Option BodyFault → Type 0
 IsReasonAt depth objects ms p w =
-    ((m : Method) × Among ms m × (m.path ≡ p) × IsReason (count objects m) m.path depth m.code w) ⊎ (((m : Method) → Among ms m → m.path ≢ p) × (w ≡ None))
+    ((m : Method) × Among ms m × (m.path ≡ p) × IsReason (count objects m) m.path depth m.code w)
+    ⊎ (((m : Method) → Among ms m → m.path ≢ p) × (w ≡ None))
 
 -- what is told of the method that the tables declare at the path, over all their objects
-pub record IsExplained (depth : ℕ) (tables : List (List ℕ)) (p : List Segment) (w : Option BodyFault) : Type 0 where
+pub record IsExplained (depth : ℕ) (tables : List (List ℕ)) (p : List Segment)
+    (w : Option BodyFault) : Type 0 where
   pub placements : List (List Placement)
   pub listings : AreListings depth 0 predefined tables placements
   pub reason : IsReasonAt depth (objects_after predefined placements) (all_methods placements) p w

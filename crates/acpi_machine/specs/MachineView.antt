@@ -33,8 +33,14 @@ bodies_of m = get (body_map m)
 
 -- the machine, by what a space holds
 abbrev pub machine_of : {S : Type 0} → (S → PathMap Object) → code.Machine S → Machine
-machine_of contents m = record { objects = namespace_of (contents m.objects); links = links_at m.links; bodies = bodies_of m.bodies }
+machine_of contents m =
+    record {
+      objects = namespace_of (contents m.objects);
+      links = links_at m.links;
+      bodies = bodies_of m.bodies;
+    }
 
 -- a machine of these objects and links, to which the tables load
 abbrev pub HasMachine : ℕ → List (List ℕ) → Namespace → Lookup Links → Type 0
-HasMachine depth tables objects links = (m : Machine) × IsMachine depth tables m × (m.objects ≡ objects) × (m.links ≡ links)
+HasMachine depth tables objects links =
+    (m : Machine) × IsMachine depth tables m × (m.objects ≡ objects) × (m.links ≡ links)

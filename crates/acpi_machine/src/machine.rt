@@ -28,7 +28,7 @@ use std::collections::BTreeMap;
 /// What tables load to: the namespace, the links of its fields, and the bodies of its methods (ACPI 6.5, 5.3).
 #[derive(Drop)]
 pub struct Machine<S> {
-    /// The namespace.
+    /// The namespace: the object at each path.
     pub objects: S,
     /// What the search of each link answers, by the path of the field.
     pub links: LinkMap,

@@ -6,7 +6,8 @@ use Rattle.acpi_name.specs.Text.{path_text, SpellsPathText}
 
 -- no spelling begins another: bytes that begin with two spellings begin with one, of one name
 abbrev pub NoSpellingBeginsAnother : Type 0
-NoSpellingBeginsAnother = (m n : NameParts) (a b more rest : List ℕ) → SpellsName m a → SpellsName n b → a ++ more ≡ b ++ rest → (m ≡ n) × (a ≡ b)
+NoSpellingBeginsAnother = (m n : NameParts) (a b more rest : List ℕ) → SpellsName m a
+    → SpellsName n b → a ++ more ≡ b ++ rest → (m ≡ n) × (a ≡ b)
 
 -- each name's shortest spelling spells it
 abbrev pub ShortestSpells : Type 0

@@ -7,4 +7,5 @@ use Rattle.acpi_name.specs.Names.{NameParts}
 
 -- whether two names have the same parts
 abbrev pub name_eq : NameParts → NameParts → Bool
-name_eq m n = beq m.rooted n.rooted && nat_eq m.parents n.parents && pointwise (pointwise nat_eq) m.segments n.segments
+name_eq m n = beq m.rooted n.rooted && nat_eq m.parents n.parents
+    && pointwise (pointwise nat_eq) m.segments n.segments

@@ -6,17 +6,18 @@ use Rattle.std.specs.List.{list_all}
 abbrev pub Segment : Type 0
 Segment = List ℕ
 
--- LeadNameChar: A to Z or '_' (20.2.2)
+-- LeadNameChar := 'A'-'Z' | '_' (20.2.2)
 abbrev pub is_lead_char : ℕ → Bool
 is_lead_char b = (nat_le 0x41 b && nat_le b 0x5A) || nat_eq b 0x5F
 
--- NameChar: a LeadNameChar or 0 to 9 (20.2.2)
+-- NameChar := DigitChar | LeadNameChar, where DigitChar := '0'-'9' (20.2.2)
 abbrev pub is_name_char : ℕ → Bool
 is_name_char b = is_lead_char b || (nat_le 0x30 b && nat_le b 0x39)
 
--- NameSeg: four bytes, a LeadNameChar and three NameChars (20.2.2)
+-- NameSeg := <LeadNameChar NameChar NameChar NameChar>, four bytes (20.2.2)
 abbrev pub is_segment : List ℕ → Bool
-is_segment (a ∷ b ∷ c ∷ d ∷ []) = is_lead_char a && is_name_char b && is_name_char c && is_name_char d
+is_segment (a ∷ b ∷ c ∷ d ∷ []) =
+    is_lead_char a && is_name_char b && is_name_char c && is_name_char d
 is_segment _ = false
 
 -- whether what stands there, up to four bytes, may begin a NameSeg (20.2.2)
@@ -25,7 +26,8 @@ is_segment_front [] = true
 is_segment_front (a ∷ []) = is_lead_char a
 is_segment_front (a ∷ b ∷ []) = is_lead_char a && is_name_char b
 is_segment_front (a ∷ b ∷ c ∷ []) = is_lead_char a && is_name_char b && is_name_char c
-is_segment_front (a ∷ b ∷ c ∷ d ∷ rest) = is_lead_char a && is_name_char b && is_name_char c && is_name_char d
+is_segment_front (a ∷ b ∷ c ∷ d ∷ rest) =
+    is_lead_char a && is_name_char b && is_name_char c && is_name_char d
 
 -- a segment each
 abbrev pub AreSegments : List Segment → Type 0

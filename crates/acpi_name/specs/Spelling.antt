@@ -7,13 +7,16 @@ abbrev pub segment_bytes : List Segment → List ℕ
 segment_bytes [] = []
 segment_bytes (s ∷ ss) = s ++ segment_bytes ss
 
--- the bytes before a name's segments: RootChar 5C, or a PrefixPath of a 5E for each parent (20.2.2)
+-- the bytes before a name's segments: RootChar := 0x5C, or PrefixPath := Nothing | <'^' PrefixPath> with a 5E for each
+-- parent (20.2.2)
 abbrev pub prefix_of : Bool → ℕ → List ℕ
 prefix_of true parents = 0x5C ∷ []
 prefix_of false parents = replicate parents 0x5E
 
--- NamePath: NullName 00 for no segments, NameSeg for one, DualNamePath 2E and two, or MultiNamePath 2F,
--- their number and so many; one segment and two have two spellings (20.2.2)
+-- NamePath := NameSeg | DualNamePath | MultiNamePath | NullName, where NullName := 0x00,
+-- DualNamePath := DualNamePrefix NameSeg NameSeg, DualNamePrefix := 0x2E,
+-- MultiNamePath := MultiNamePrefix SegCount NameSeg(SegCount) and MultiNamePrefix := 0x2F;
+-- one segment and two have two spellings (20.2.2)
 abbrev pub SpellsPath : List Segment → List ℕ → Type 0
 SpellsPath ss bytes =
     ((length ss ≡ 0) × (bytes ≡ 0x00 ∷ []))
@@ -21,7 +24,7 @@ SpellsPath ss bytes =
     ⊎ ((length ss ≡ 2) × (bytes ≡ 0x2E ∷ segment_bytes ss))
     ⊎ ((0 < length ss) × (bytes ≡ 0x2F ∷ length ss ∷ segment_bytes ss))
 
--- NameString: the bytes spell the name (20.2.2)
+-- NameString := <RootChar NamePath> | <PrefixPath NamePath>: the bytes spell the name (20.2.2)
 pub record SpellsName (n : NameParts) (bytes : List ℕ) : Type 0 where
   pub is_name : IsName n
   pub path : List ℕ

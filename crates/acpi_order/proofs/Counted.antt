@@ -1,7 +1,7 @@
 -- Searches, counts and bodies that a larger namespace leaves as they were.
 use Rattle.std.proofs.Common.{◌≡◌, ◌≢◌, ℕ, Bool, true, false, cond, ◌||◌, List, [], ◌∷◌, find, is_some, Option, Some, None, IsTrue, inl, inr, refl, sym, ap, subst, ◌∙◌}
 use Rattle.std.specs.List.{AllByRecursion}
-use Rattle.std.proofs.lemmas.Bool.{eqb-true}
+use Rattle.std.proofs.lemmas.Bool.{eqb-true, or_right}
 use Rattle.std.specs.Option.{unwrap_or}
 use Rattle.acpi_name.specs.Names.{Segment, NameParts}
 use Rattle.acpi_space.specs.Search.{answer, missed, tries, skipped}
@@ -9,6 +9,8 @@ use Rattle.acpi_space.specs.Laws.{Among}
 use Rattle.acpi_space.specs.Lookups.{is_defined_in, is_same_path}
 use Rattle.acpi_space.specs.Spaces.{is_defined}
 use Rattle.acpi_space.proofs.KeptSearches.{kept_find, fewer_skipped}
+use Rattle.acpi_space.proofs.Elements.{among_all, all_map, not_both, one_some, some_is}
+use Rattle.acpi_space.proofs.Maps.{none_of_not_some}
 use Rattle.acpi_tree.specs.Objects.{ObjectTree, args_of, root_object, scope_object, predefined_object, device_object, processor_object, power_object, thermal_object, name_object, method_object, region_object, mutex_object, event_object, field_object, create_object, create_field_object}
 use Rattle.acpi_tree.specs.Terms.{TermTrees}
 use Rattle.acpi_declare.specs.Namespace.{Namespace}
@@ -19,8 +21,9 @@ use Rattle.acpi_body.specs.Bodies.{BodyTree, read, unread}
 use Rattle.acpi_order.specs.Bodies.{Method, count, IsReading, IsBody}
 use Rattle.acpi_order.specs.Misses.{IsBodyMiss, IsAwaiting}
 use Rattle.acpi_body.specs.Misses.{awaited_place, unless_found}
+use Rattle.acpi_body.proofs.Grown.{found_passes}
 use Rattle.acpi_order.specs.Independent.{is_method_of}
-use Rattle.acpi_order.proofs.Lists.{all_among, among_all, all_map, skipped_fail, found_passes, not_some, is_some_of, not_both, one_some}
+use Rattle.acpi_order.proofs.Lists.{all_among, skipped_fail}
 use Rattle.acpi_order.proofs.Listings.{other_path}
 use Rattle.acpi_order.proofs.Picked.{IsKept}
 use Rattle.acpi_order.proofs.ReadBodies.{kept_reads, spelled_reads, HasNoReading, body_of, body_is, one_body_there}
@@ -29,13 +32,9 @@ some_test : (a b : Option ObjectTree) → ((o : ObjectTree) → a ≡ Some o →
 some_test None b f e = cc
 some_test (Some o) b f e = ap (λ (x : Option ObjectTree). is_some x) (f o refl)
 
-not_either : (l : Bool) (a : Option ObjectTree) → (l || is_some a) ≡ false → a ≡ None
-not_either false a e = not_some a e
+pub not_either : (l : Bool) (a : Option ObjectTree) → (l || is_some a) ≡ false → a ≡ None
+not_either false a e = none_of_not_some a e
 not_either true a e = cc
-
-or_right : (l b : Bool) → b ≡ true → (l || b) ≡ true
-or_right true b e = refl
-or_right false b e = e
 
 pub unless_is : (found other : Option (List Segment)) (a : List Segment) → unless_found found other ≡ Some a → (found ≡ None) × (other ≡ Some a)
 unless_is None other a e = (refl, e)
@@ -65,7 +64,7 @@ module _ (N M : Namespace) (Miss : List Segment → Type 0) (Await : List Segmen
       → answer (is_defined_in M) s n ≡ answer (is_defined_in N) s n
   kept_answer s n missing = kept_find (is_defined_in N) (is_defined_in M) (λ p e. some_test (N p) (M p) (kept.up p) e) (tries s n)
       (all_among (λ p. is_defined_in M p ≡ false) _ (λ p m.
-      let none : N p ≡ None = not_some (N p) (among_all (λ q. is_defined_in N q ≡ false) _ (skipped_fail (is_defined_in N) (tries s n)) p m) in
+      let none : N p ≡ None = none_of_not_some (N p) (among_all (λ q. is_defined_in N q ≡ false) _ (skipped_fail (is_defined_in N) (tries s n)) p m) in
       ap (λ (a : Option ObjectTree). is_some a) (kept.free p none (missing p m))))
 
   pub kept_answers : (s : List Segment) (ns : List NameParts) → ((p : List Segment) (n : NameParts) → Among ns n → Among (missed (is_defined_in N) s n) p → Miss p)
@@ -138,7 +137,7 @@ module _ (N M : Namespace) (Miss : List Segment → Type 0) (Await : List Segmen
       by None is = kept_firm locals n (λ p k. missing p k (λ e. let never : ⊥ = not_both _ p e is in never))
       by (Some a) is =
           let both = unless_is (answer (defined_with N locals) m.path n) _ a is in
-          let r = is_some_of (m.counts a) (found_passes (λ q. is_some (m.counts q)) (tries m.path n) a both.1) in
+          let r = some_is (m.counts a) (found_passes (λ q. is_some (m.counts q)) (tries m.path n) a both.1) in
           let counted : count_behind N m.counts m.path locals n ≡ r.0 = ap (args_at N locals (expected m n)) both.0 ∙ ap (expected_at m.counts) both.1 ∙ ap (λ c. unwrap_or c 0) r.1 in
           ap Some (kept_count N M kept.up locals (expected m n) (tries m.path n)
           (all_among _ _ (λ p i. subst (λ k. IsHarmless M k p) (sym counted) (harmless a is r.0 r.1 p i (is_same_path p a) refl))))

@@ -5,6 +5,8 @@ use Rattle.acpi_space.specs.Search.{answer, tries, skipped}
 use Rattle.acpi_space.specs.Laws.{Among}
 use Rattle.acpi_space.specs.Lookups.{is_same_path}
 use Rattle.acpi_space.specs.Spaces.{is_defined}
+use Rattle.acpi_space.proofs.Elements.{among_all, one_some}
+use Rattle.acpi_space.proofs.LongestAnswer.{found_among}
 use Rattle.acpi_tree.specs.Objects.{ObjectTree}
 use Rattle.acpi_declare.specs.Namespace.{Namespace}
 use Rattle.acpi_declare.proofs.Unions.{path_same}
@@ -18,10 +20,10 @@ use Rattle.acpi_order.specs.Bodies.{Method, IsReading}
 use Rattle.acpi_order.specs.Misses.{IsBodyMiss, IsAwaiting, IsMiss, IsAwaited, objects_of_both}
 use Rattle.acpi_order.specs.Independent.{is_method_of}
 use Rattle.acpi_order.specs.Laws.{AwaitedIsFound}
-use Rattle.acpi_order.proofs.Lists.{among_all, skipped_fail, not_some, one_some}
+use Rattle.acpi_order.proofs.Lists.{skipped_fail}
 use Rattle.acpi_order.proofs.Listings.{other_path}
 use Rattle.acpi_order.proofs.Picked.{IsKept}
-use Rattle.acpi_order.proofs.Counted.{unless_is}
+use Rattle.acpi_order.proofs.Counted.{unless_is, not_either}
 use Rattle.acpi_order.proofs.Joined.{kept_in_load}
 
 missed_if_none : {X : Type 0} (test : X → Bool) (t : X) (ts : List X) (q : X) → (find test ts ≡ None → Among ts q → Among (skipped test ts) q) → (b : Bool) → test t ≡ b
@@ -38,10 +40,6 @@ all_missed test (t ∷ ts) q e m = missed_if_none test t ts q (all_missed test t
 found_there : {X : Type 0} (t a : X) (ts : List X) (rest : Option X) → (rest ≡ Some a → Among ts a) → (b : Bool) → cond b (Some t) rest ≡ Some a → Among (t ∷ ts) a
 found_there t a ts rest more true e = inl (one_some t a e)
 found_there t a ts rest more false e = inr (more e)
-
-found_among : {X : Type 0} (test : X → Bool) (ts : List X) (a : X) → find test ts ≡ Some a → Among ts a
-found_among test [] a e = cc
-found_among test (t ∷ ts) a e = found_there t a ts (find test ts) (found_among test ts a) (test t) e
 
 only_step : (test : List Segment → Bool) (p t : List Segment) (ts : List (List Segment)) → test p ≡ true → (t ≢ p → test t ≡ false) → (Among ts p → find test ts ≡ Some p)
     → Among (t ∷ ts) p
@@ -60,10 +58,6 @@ find_only test p passes (t ∷ ts) others m = only_step test p t ts passes (othe
 neither : (l : Bool) (a b : Option ObjectTree) → (l || is_some a) ≡ false → b ≡ None → (l || is_some b) ≡ false
 neither false a b e none = ap (λ (x : Option ObjectTree). is_some x) none
 neither true a b e none = e
-
-neither_first : (l : Bool) (a : Option ObjectTree) → (l || is_some a) ≡ false → a ≡ None
-neither_first false a e = not_some a e
-neither_first true a e = cc
 
 either : (l : Bool) (a : Option ObjectTree) (o : ObjectTree) → a ≡ Some o → (l || is_some a) ≡ true
 either true a o e = refl
@@ -85,11 +79,11 @@ module _ (depth : ℕ) (N M : Namespace) (Miss : List Segment → Type 0) (Await
             let here = all_missed (defined_with N locals) (tries w.path n) q both.0 i in
             let firm : awaited_place N w.counts w.path locals n ≢ Some q = λ e. ne (one_some q p (sym e ∙ awaited)) in
             let miss = missing q (read ts, h, record { locals = locals; name = n; searched = searched; misses = here; firm = firm }) in
-            neither (is_defined locals q) (N q) (M q) (fails q i) (kept.free q (neither_first (is_defined locals q) (N q) (fails q i)) miss))
+            neither (is_defined locals q) (N q) (M q) (fails q i) (kept.free q (not_either (is_defined locals q) (N q) (fails q i)) miss))
             among,
         (λ args c.
             let wait = awaits p args (read ts, h, record { locals = locals; name = n; searched = searched; awaits = awaited; expects = c }) in
-            kept.met p args o (neither_first (is_defined locals p) (N p) (fails p among)) wait at),
+            kept.met p args o (not_either (is_defined locals p) (N p) (fails p among)) wait at),
       )
 
 pub awaited_is_found : AwaitedIsFound

@@ -4,6 +4,7 @@ use Rattle.std.specs.Option.{option_or}
 use Rattle.acpi_name.specs.Names.{Segment}
 use Rattle.acpi_space.specs.Laws.{Among}
 use Rattle.acpi_space.specs.Lookups.{Lookup, is_same_path, nothing, singleton, union}
+use Rattle.acpi_space.proofs.Elements.{among_append, among_both, not_both, one_some}
 use Rattle.acpi_tree.specs.Objects.{ObjectTree}
 use Rattle.acpi_declare.specs.Namespace.{Namespace}
 use Rattle.acpi_declare.specs.Sites.{Site, sites}
@@ -11,9 +12,9 @@ use Rattle.acpi_declare.specs.Placing.{IsPlaced}
 use Rattle.acpi_declare.specs.Listing.{Placement, object_of, objects_of, IsJustified}
 use Rattle.acpi_declare.specs.Notes.{external_counts}
 use Rattle.acpi_declare.specs.Loads.{AreListings}
-use Rattle.acpi_declare.proofs.Unions.{path_same}
+use Rattle.acpi_declare.proofs.Unions.{path_same, or_assoc}
 use Rattle.acpi_order.specs.Misses.{Listing}
-use Rattle.acpi_order.proofs.Lists.{among_append, appended, or_assoc, or_nones, not_both, one_some}
+use Rattle.acpi_order.proofs.Lists.{or_nones}
 use Rattle.acpi_order.proofs.Listings.{path_itself}
 
 abbrev pub AreDistinct : {X : Type 0} → (X → List Segment) → List X → Type 0
@@ -139,8 +140,8 @@ module _ {X : Type 0} (S : Source X) where
 
   among_items : (ts : List Listing) (t : Listing) (w : X) → Among ts t → Among (items S t) w → Among (all_items S ts) w
   among_items [] t w m k = absurd m
-  among_items (u ∷ ts) t w (inl e) k = appended (items S u) (all_items S ts) w (inl (subst (λ (x : Listing). Among (items S x) w) (sym e) k))
-  among_items (u ∷ ts) t w (inr m) k = appended (items S u) (all_items S ts) w (inr (among_items ts t w m k))
+  among_items (u ∷ ts) t w (inl e) k = among_both (items S u) (all_items S ts) w (inl (subst (λ (x : Listing). Among (items S x) w) (sym e) k))
+  among_items (u ∷ ts) t w (inr m) k = among_both (items S u) (all_items S ts) w (inr (among_items ts t w m k))
 
 module _ {X V : Type 0} (S : Source X) (first t₀ : Listing) (ts : List Listing) (whole : X → V) (single : Listing → X → V)
     (kept : (t : Listing) → Among (t₀ ∷ ts) t → (x : X) → Among (all_items S (first ∷ t ∷ [])) x → whole x ≡ single t x)

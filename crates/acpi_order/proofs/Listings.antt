@@ -10,6 +10,8 @@ use Rattle.acpi_space.specs.Search.{answer, missed, tries}
 use Rattle.acpi_space.specs.Laws.{Among}
 use Rattle.acpi_space.specs.Lookups.{is_defined_in, is_same_path, union}
 use Rattle.acpi_space.proofs.KeptSearches.{kept_find}
+use Rattle.acpi_space.proofs.Elements.{among_both, among_all, none_of}
+use Rattle.acpi_space.proofs.Maps.{none_of_not_some}
 use Rattle.acpi_tree.specs.Objects.{ObjectTree}
 use Rattle.acpi_declare.specs.Namespace.{Namespace, IsOpen}
 use Rattle.acpi_declare.specs.Sites.{Effect, declares, opens, expects, Site, sites}
@@ -18,9 +20,10 @@ use Rattle.acpi_declare.specs.Listing.{Placement, object_by, object_of, objects_
 use Rattle.acpi_declare.specs.Notes.{missed_by, scope_misses}
 use Rattle.acpi_declare.specs.Loads.{AreListings}
 use Rattle.acpi_declare.specs.Predefined.{predefined}
+use Rattle.acpi_declare.proofs.Unions.{or_assoc}
 use Rattle.acpi_order.specs.Misses.{Listing, objects_of_first}
 use Rattle.acpi_order.specs.Independent.{AreSingleListings, IsApart}
-use Rattle.acpi_order.proofs.Lists.{all_among, among_all, appended, skipped_fail, or_assoc, or_none, none_of, not_some}
+use Rattle.acpi_order.proofs.Lists.{all_among, skipped_fail, or_none}
 
 pub path_itself : (p : List Segment) → is_same_path p p ≡ true
 path_itself p = (eq_by_cmp_equiv path_cmp_total).refl p
@@ -35,7 +38,7 @@ other_path p q e is =
 abbrev pub IsOver : Namespace → Namespace → Namespace → Type 0
 IsOver N X M = (q : List Segment) → M q ≡ union N X q
 
-some_up : (a x : Option ObjectTree) → is_some a ≡ true → is_some (option_or a x) ≡ true
+pub some_up : (a x : Option ObjectTree) → is_some a ≡ true → is_some (option_or a x) ≡ true
 some_up (Some o) x e = refl
 some_up None x e = cc
 
@@ -52,7 +55,7 @@ kept_search : (N X M : Namespace) → IsOver N X M → (s : List Segment) (n : N
     → answer (is_defined_in M) s n ≡ answer (is_defined_in N) s n
 kept_search N X M is s n free = kept_find (is_defined_in N) (is_defined_in M) (over_up N X M is) (tries s n)
     (all_among (λ p. is_defined_in M p ≡ false) _ (λ p m.
-    let none : N p ≡ None = not_some (N p) (among_all (λ q. is_defined_in N q ≡ false) _ (skipped_fail (is_defined_in N) (tries s n)) p m) in
+    let none : N p ≡ None = none_of_not_some (N p) (among_all (λ q. is_defined_in N q ≡ false) _ (skipped_fail (is_defined_in N) (tries s n)) p m) in
     ap (λ (a : Option ObjectTree). is_some a) (over_free N X M is p none (free p m))))
 
 kept_open : (N X M : Namespace) → IsOver N X M → (p : List Segment) → IsOpen N p → IsOpen M p
@@ -97,9 +100,9 @@ kept_listing N X M is before (x ∷ xs) (e ∷ es) quiet apart h =
     let later : List (List Segment) = scope_misses (union N (object_of e)) es in (
       h.0,
       h.1,
-      kept_placed N X M is e.step.effect e.scope e.step.name e.path (λ q m. quiet q (appended now later q (inl m))) (λ o g. here e.path o g) h.2,
+      kept_placed N X M is e.step.effect e.scope e.step.name e.path (λ q m. quiet q (among_both now later q (inl m))) (λ o g. here e.path o g) h.2,
       kept_listing (union N (object_of e)) X (union M (object_of e)) (kept_over N X M is (object_of e) here) (before ++ e.path ∷ []) xs es
-          (λ p m. quiet p (appended now later p (inr m))) (λ p. or_second (object_of e p) (objects_of es p) (X p ≡ None) (apart p)) h.3,
+          (λ p m. quiet p (among_both now later p (inr m))) (λ p. or_second (object_of e p) (objects_of es p) (X p ≡ None) (apart p)) h.3,
     )
 
 -- ---- listings over each other

@@ -6,10 +6,10 @@ use Rattle.std.proofs.lemmas.List.Sorted.{IsPermutation-keeps, IsPermutation-sym
 use Rattle.std.proofs.ByRecursion.{all_shuffled}
 use Rattle.acpi_space.specs.Lookups.{Lookup}
 use Rattle.acpi_space.specs.Laws.{Among}
+use Rattle.acpi_space.proofs.Elements.{among_all}
 use Rattle.acpi_order.specs.Machines.{Machine, IsMachine}
 use Rattle.acpi_order.specs.Joins.{IsUnion, IsJoin, IsSingleLoad}
 use Rattle.acpi_order.specs.Independent.{StandsAt, AllDifferent, LoadsAlone, AreApart, IsIndependent}
-use Rattle.acpi_order.proofs.Lists.{among_all}
 use Rattle.acpi_order.proofs.Joined.{load_joins}
 
 equal_or_not : (a b : ℕ) → (a ≡ b) ⊎ (a ≢ b)

@@ -5,13 +5,15 @@ use Rattle.std.specs.Option.{option_or}
 use Rattle.acpi_name.specs.Names.{Segment}
 use Rattle.acpi_space.specs.Laws.{Among}
 use Rattle.acpi_space.specs.Lookups.{union}
+use Rattle.acpi_space.proofs.Elements.{among_all, all_map, none_of}
 use Rattle.acpi_tree.specs.Objects.{ObjectTree}
 use Rattle.acpi_declare.specs.Namespace.{Namespace}
 use Rattle.acpi_declare.specs.Listing.{objects_of}
 use Rattle.acpi_declare.specs.Loads.{objects_after}
+use Rattle.acpi_declare.proofs.Unions.{or_assoc}
 use Rattle.acpi_order.specs.Misses.{Listing, objects_of_first, objects_of_both, IsMiss, IsAwaited}
 use Rattle.acpi_order.specs.Independent.{is_method_of, IsApart}
-use Rattle.acpi_order.proofs.Lists.{all_map, among_all, or_assoc, or_none, none_of, or_up, or_free, or_nones}
+use Rattle.acpi_order.proofs.Lists.{or_none, or_up, or_free, or_nones}
 use Rattle.acpi_order.proofs.Listings.{AreAllApart}
 
 -- what all the tables declare

@@ -2,13 +2,13 @@
 use Rattle.std.proofs.Common.{◌≡◌, ◌↔◌, ℕ, Bool, true, false, List, [], ◌++◌, ◌⊎◌, inl, inr, refl}
 use Rattle.acpi_name.specs.Names.{Segment}
 use Rattle.acpi_space.specs.Laws.{Among}
+use Rattle.acpi_space.proofs.Elements.{among_append, among_both}
 use Rattle.acpi_declare.specs.Listing.{objects_of}
 use Rattle.acpi_declare.specs.Links.{answers, PendingLink, pending_links}
 use Rattle.acpi_body.specs.Bodies.{BodyTree}
 use Rattle.acpi_order.specs.Bodies.{Method, methods_of, IsBody}
 use Rattle.acpi_order.specs.Misses.{Listing, objects_of_first, objects_of_both, IsLinkMiss, IsBodyMiss, IsAwaiting, IsMiss, IsAwaited}
 use Rattle.acpi_order.specs.Sharing.{objects_for, Keeping, IsMissKeeping, IsAwaitedKeeping}
-use Rattle.acpi_order.proofs.Lists.{among_append, appended}
 use Rattle.acpi_order.proofs.Stays.{links_stay, body_stays}
 
 -- what is of the two tables is of the first or of the second
@@ -24,10 +24,10 @@ of_two xs ys x m = by (among_append xs (ys ++ []) x m)
     by (inr k) = inr (of_one (among_append ys [] x k))
 
 pub first_of : {X : Type 0} (xs ys : List X) (x : X) → Among xs x → Among (xs ++ (ys ++ [])) x
-first_of xs ys x m = appended xs (ys ++ []) x (inl m)
+first_of xs ys x m = among_both xs (ys ++ []) x (inl m)
 
 pub second_of : {X : Type 0} (xs ys : List X) (x : X) → Among ys x → Among (xs ++ (ys ++ [])) x
-second_of xs ys x m = appended xs (ys ++ []) x (inr (appended ys [] x (inl m)))
+second_of xs ys x m = among_both xs (ys ++ []) x (inr (among_both ys [] x (inl m)))
 
 module _ (depth : ℕ) (first t : Listing) (k : Keeping depth first t) where
   link_for : (w : PendingLink) (p : List Segment) (b : Bool) → k.keeps_link w ≡ b → IsLinkMiss (objects_of_both first t) w p ↔ IsLinkMiss (objects_for b first t) w p

@@ -4,6 +4,7 @@ use Rattle.std.specs.Option.{option_or}
 use Rattle.acpi_name.specs.Names.{Segment, NameParts}
 use Rattle.acpi_space.specs.Laws.{Among}
 use Rattle.acpi_space.specs.Lookups.{is_same_path, union}
+use Rattle.acpi_space.proofs.Elements.{one_some}
 use Rattle.acpi_tree.specs.Objects.{ObjectTree}
 use Rattle.acpi_declare.specs.Namespace.{Namespace}
 use Rattle.acpi_declare.specs.Sites.{Effect, declares, opens, expects, Site, sites}
@@ -17,7 +18,7 @@ use Rattle.acpi_order.specs.Independent.{StandsAt, AreSingleListings, is_method_
 use Rattle.acpi_order.specs.Verdicts.{IsSsdt, IsSame, IsUnmet, IsMissed}
 use Rattle.acpi_order.specs.Singles.{IsUnmetBy, IsAwaitedBy, IsSingle}
 use Rattle.acpi_order.specs.Laws.{taken_away, TakenBack}
-use Rattle.acpi_order.proofs.Lists.{or_none, or_nones, one_some}
+use Rattle.acpi_order.proofs.Lists.{or_none, or_nones}
 use Rattle.acpi_order.proofs.Once.{same_first, same_second}
 use Rattle.acpi_order.proofs.Joined.{load_is}
 use Rattle.acpi_order.proofs.Sharing.{of_two, first_of, second_of}
@@ -44,7 +45,8 @@ declared_free N before (x ∷ xs) (f ∷ fs) h p o e = by (λ d. declared_free (
     by rest None at e = (or_nones (N p) (object_of f p) (rest e)).0
     by rest (Some a) at e = given_free f.step.effect N f.scope f.step.name f.path p a h.2 at
 
-declared_there : (depth : ℕ) (dsdt b : List ℕ) (first t : Listing) → AreSingleListings depth dsdt b first t → (p : List Segment) (o : ObjectTree) → objects_of t p ≡ Some o
+-- what an SSDT declares stands in the machine of its single load
+pub declared_there : (depth : ℕ) (dsdt b : List ℕ) (first t : Listing) → AreSingleListings depth dsdt b first t → (p : List Segment) (o : ObjectTree) → objects_of t p ≡ Some o
     → objects_of_both first t p ≡ Some o
 declared_there depth dsdt b first t h p o e =
     ap (λ a. option_or a (objects_of t p)) (declared_free (objects_of_first first) [] (sites h.1.0.0) t h.1.0.2 p o e) ∙ e
@@ -64,7 +66,7 @@ one_there [] i x y h k = absurd h
 one_there (z ∷ zs) zero x y h k = sym h ∙ k
 one_there (z ∷ zs) (suc i) x y h k = one_there zs i x y h k
 
-one_ssdt : (ssdts : List (List ℕ)) (i : ℕ) (b c : List ℕ) → IsSsdt ssdts i b → IsSsdt ssdts i c → b ≡ c
+pub one_ssdt : (ssdts : List (List ℕ)) (i : ℕ) (b c : List ℕ) → IsSsdt ssdts i b → IsSsdt ssdts i c → b ≡ c
 one_ssdt ssdts zero b c h k = absurd h
 one_ssdt ssdts (suc i) b c h k = one_there ssdts i b c h k
 

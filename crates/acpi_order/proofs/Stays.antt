@@ -3,12 +3,14 @@ use Rattle.std.proofs.Common.{◌≡◌, ◌≢◌, ◌↔◌, ℕ, Bool, true, 
 use Rattle.std.specs.List.{AllByRecursion}
 use Rattle.std.specs.Option.{option_or}
 use Rattle.std.specs.FinMap as finite
+use Rattle.std.proofs.lemmas.Bool.{or_right}
 use Rattle.acpi_name.specs.Names.{Segment, NameParts}
 use Rattle.acpi_space.specs.Search.{answer, missed, tries}
 use Rattle.acpi_space.specs.Laws.{Among}
-use Rattle.acpi_space.specs.Lookups.{Lookup, is_defined_in, is_same_path, union}
+use Rattle.acpi_space.specs.Lookups.{is_defined_in, is_same_path, union}
 use Rattle.acpi_space.specs.Spaces.{is_defined}
 use Rattle.acpi_space.proofs.KeptSearches.{kept_find, kept_skipped, fewer_skipped}
+use Rattle.acpi_space.proofs.Elements.{among_all, all_map, none_of, not_both, one_some}
 use Rattle.acpi_tree.specs.Objects.{ObjectTree}
 use Rattle.acpi_tree.specs.Terms.{TermTrees}
 use Rattle.acpi_declare.specs.Namespace.{Namespace}
@@ -20,16 +22,13 @@ use Rattle.acpi_body.specs.Searches.{all_searches, IsSpelledIn}
 use Rattle.acpi_order.specs.Bodies.{Method, count, IsReading, IsBody}
 use Rattle.acpi_order.specs.Misses.{IsLinkMiss, IsBodyMiss, IsAwaiting}
 use Rattle.acpi_body.specs.Misses.{awaited_place, unless_found}
-use Rattle.acpi_order.proofs.Lists.{all_among, among_all, all_map, skipped_fail, found_passes, is_some_of, none_of, some_or_none, not_both, one_some}
-use Rattle.acpi_order.proofs.Listings.{other_path}
+use Rattle.acpi_body.proofs.Grown.{found_passes, awaited_counts}
+use Rattle.acpi_order.proofs.Lists.{all_among, skipped_fail, some_or_none}
+use Rattle.acpi_order.proofs.Listings.{other_path, some_up}
 use Rattle.acpi_order.proofs.ReadBodies.{kept_reads, spelled_reads, HasNoReading, reading_or_none, one_reading_there}
 use Rattle.acpi_order.proofs.Counted.{expected}
 
 -- a search answers and misses as before where nothing comes at what it missed
-
-or_some : (a x : Option ObjectTree) → is_some a ≡ true → is_some (option_or a x) ≡ true
-or_some (Some o) x e = refl
-or_some None x e = cc
 
 or_free : (a x : Option ObjectTree) → is_some a ≡ false → x ≡ None → is_some (option_or a x) ≡ false
 or_free None x e free = ap (λ (y : Option ObjectTree). is_some y) free
@@ -48,10 +47,10 @@ module _ (objects more : Namespace) where
       (among_all (λ q. is_defined_in objects q ≡ false) _ (skipped_fail (is_defined_in objects) (tries s n)) p m) (quiet p m))
 
   answer_stays : (s : List Segment) (n : NameParts) → IsQuiet (is_defined_in objects) s n → answer (is_defined_in O) s n ≡ answer (is_defined_in objects) s n
-  answer_stays s n quiet = kept_find (is_defined_in objects) (is_defined_in O) (λ p e. or_some (objects p) (more p) e) (tries s n) (still_free s n quiet)
+  answer_stays s n quiet = kept_find (is_defined_in objects) (is_defined_in O) (λ p e. some_up (objects p) (more p) e) (tries s n) (still_free s n quiet)
 
   missed_stays : (s : List Segment) (n : NameParts) → IsQuiet (is_defined_in objects) s n → missed (is_defined_in O) s n ≡ missed (is_defined_in objects) s n
-  missed_stays s n quiet = kept_skipped (is_defined_in objects) (is_defined_in O) (λ p e. or_some (objects p) (more p) e) (tries s n) (still_free s n quiet)
+  missed_stays s n quiet = kept_skipped (is_defined_in objects) (is_defined_in O) (λ p e. some_up (objects p) (more p) e) (tries s n) (still_free s n quiet)
 
   answers_stay : (s : List Segment) (ns : List NameParts) → ((n : NameParts) → Among ns n → IsQuiet (is_defined_in objects) s n) → answers O s ns ≡ answers objects s ns
   answers_stay s [] quiet = refl
@@ -81,7 +80,7 @@ module _ (objects more : Namespace) (locals : Locals) where
 
   either_up : (l : Bool) (a x : Option ObjectTree) → (l || is_some a) ≡ true → (l || is_some (option_or a x)) ≡ true
   either_up true a x e = refl
-  either_up false a x e = or_some a x e
+  either_up false a x e = some_up a x e
 
   either_free : (l : Bool) (a x : Option ObjectTree) → (l || is_some a) ≡ false → x ≡ None → (l || is_some (option_or a x)) ≡ false
   either_free true a x e free = e
@@ -121,15 +120,6 @@ module _ (objects more : Namespace) (locals : Locals) where
       → awaited_place P m.counts m.path locals n ≡ awaited_place objects m.counts m.path locals n
   awaited_stays m n quiet = ap (λ a. unless_found a (expected_place m.counts m.path n)) (with_answer m.path n quiet)
 
-or_right : (l b : Bool) → b ≡ true → (l || b) ≡ true
-or_right true b e = refl
-or_right false b e = e
-
-awaited_at : (counts : Lookup ℕ) (s : List Segment) (n : NameParts) (found : Option (List Segment)) (p : List Segment)
-    → unless_found found (expected_place counts s n) ≡ Some p → (k : ℕ) × (counts p ≡ Some k)
-awaited_at counts s n None p e = is_some_of (counts p) (found_passes (λ q. is_some (counts q)) (tries s n) p e)
-awaited_at counts s n (Some q) p e = let f : expected_place counts s n ≡ Some p = cc in is_some_of (counts p) (found_passes (λ q. is_some (counts q)) (tries s n) p f)
-
 module _ (depth : ℕ) (objects more : Namespace) (m : Method)
     (apart : (p : List Segment) (o : ObjectTree) → more p ≡ Some o → (IsBodyMiss depth objects m p → ⊥) × ((args : ℕ) → IsAwaiting depth objects m p args → ⊥)) where
   abbrev W : Namespace
@@ -141,7 +131,7 @@ module _ (depth : ℕ) (objects more : Namespace) (m : Method)
       → (q : List Segment) → awaited_place objects m.counts m.path locals n ≡ Some q → (b : Bool) → is_same_path q p ≡ b → ⊥
   quiet_by ts h locals n i p k o e q at true same =
       let there : awaited_place objects m.counts m.path locals n ≡ Some p = at ∙ ap (λ (x : List Segment). Some x) (path_same q p same) in
-      let c = awaited_at m.counts m.path n (answer (defined_with objects locals) m.path n) p there in
+      let c = awaited_counts m.counts m.path n (answer (defined_with objects locals) m.path n) p there in
       (apart p o e).1 c.0 (read ts, h, record { locals = locals; name = n; searched = i; awaits = there; expects = c.1 })
   quiet_by ts h locals n i p k o e q at false same =
       let firm : awaited_place objects m.counts m.path locals n ≢ Some p = λ a. other_path q p same (one_some q p (sym at ∙ a)) in

@@ -4,13 +4,13 @@ use Rattle.std.specs.Option.{option_or}
 use Rattle.acpi_name.specs.Names.{Segment}
 use Rattle.acpi_space.specs.Lookups.{Lookup}
 use Rattle.acpi_space.specs.Laws.{Among}
+use Rattle.acpi_space.proofs.Elements.{one_some}
 use Rattle.acpi_declare.specs.Loads.{HasNoLoad}
 use Rattle.acpi_declare.specs.declared.fault.LoadFault.{LoadFault}
 use Rattle.acpi_declare.specs.declared.fault.LoadFault.TheVariants.{At, Memory}
 use Rattle.acpi_order.specs.Machines.{Machine, IsMachine}
 use Rattle.acpi_order.specs.Joins.{IsUnion, IsJoin, IsSingleLoad, Agree, AllAgree}
 use Rattle.acpi_order.specs.Orders.{AreReordered, LoadsToJoin, TellsOfJoin}
-use Rattle.acpi_order.proofs.Lists.{one_some}
 use Rattle.acpi_order.proofs.Joined.{load_exists, one_machine}
 use Rattle.acpi_order.proofs.Orders.{one_join, joins_in_any_order, some_in_any_order, independent_in_any_order}
 

@@ -7,6 +7,7 @@ use Rattle.std.specs.Ordering.{ordering_reverse}
 use Rattle.acpi_name.specs.Names.{Segment}
 use Rattle.acpi_name.specs.Paths.{path_cmp}
 use Rattle.acpi_name.specs.steps.PathOrder.{path_cmp_total, path_cmp-IsAntisymmetric}
+use Rattle.acpi_space.proofs.Elements.{none_of, not_both}
 use Rattle.acpi_tree.specs.Objects.{ObjectTree}
 use Rattle.acpi_declare.specs.Listing.{objects_of}
 use Rattle.acpi_declare.specs.declared.fault.LoadReason.{LoadReason}
@@ -15,7 +16,6 @@ use Rattle.acpi_declare.proofs.Refusals.{refused_has_no_load}
 use Rattle.acpi_order.specs.Misses.{Listing, IsMiss, IsAwaited}
 use Rattle.acpi_order.specs.Independent.{StandsAt, AreSingleListings, LoadsAlone, is_method_of, AreApart, IsIndependent}
 use Rattle.acpi_order.specs.Verdicts.{VerdictTree, commute, not_alone, same, missed, IsSsdt, DsdtLoads, AllAlone, IsFirstNotAlone, IsReasonAt, IsBefore, IsPairBefore, IsLeast, IsSame, NoneSame, IsUnmet, IsMissed, NoneMissed, IsVerdictOf, IsVerdict}
-use Rattle.acpi_order.proofs.Lists.{none_of, not_both}
 
 -- ---- the SSDT of a number
 

@@ -24,10 +24,12 @@ AllDifferent {X} R xs = (i j : ℕ) (x y : X) → i ≢ j → StandsAt xs i x �
 
 -- the listings of the DSDT and of the one SSDT over it
 abbrev pub AreSingleListings : ℕ → List ℕ → List ℕ → Listing → Listing → Type 0
-AreSingleListings depth dsdt ssdt first t = AreListings depth 0 predefined (dsdt ∷ ssdt ∷ []) (first ∷ t ∷ [])
+AreSingleListings depth dsdt ssdt first t =
+    AreListings depth 0 predefined (dsdt ∷ ssdt ∷ []) (first ∷ t ∷ [])
 
 abbrev pub LoadsAlone : ℕ → List ℕ → List ℕ → Type 0
-LoadsAlone depth dsdt ssdt = (first : Listing) × (t : Listing) × AreSingleListings depth dsdt ssdt first t
+LoadsAlone depth dsdt ssdt =
+    (first : Listing) × (t : Listing) × AreSingleListings depth dsdt ssdt first t
 
 -- ---- independence
 
@@ -40,10 +42,12 @@ is_method_of _ args = false
 -- awaits a method there, it is one of as many arguments.
 abbrev pub IsApart : ℕ → Listing → Listing → Listing → Type 0
 IsApart depth first this other = (p : List Segment) (o : ObjectTree) → objects_of other p ≡ Some o
-    → (objects_of this p ≡ None) × (IsMiss depth first this p → ⊥) × ((args : ℕ) → IsAwaited depth first this p args → IsTrue (is_method_of o args))
+    → (objects_of this p ≡ None) × (IsMiss depth first this p → ⊥)
+    × ((args : ℕ) → IsAwaited depth first this p args → IsTrue (is_method_of o args))
 
 abbrev pub AreApart : ℕ → List ℕ → List ℕ → List ℕ → Type 0
-AreApart depth dsdt this other = (first t u : Listing) → AreSingleListings depth dsdt this first t → AreSingleListings depth dsdt other first u → IsApart depth first t u
+AreApart depth dsdt this other = (first t u : Listing) → AreSingleListings depth dsdt this first t
+    → AreSingleListings depth dsdt other first u → IsApart depth first t u
 
 -- each SSDT loads alone over the DSDT, and any two are apart
 pub record IsIndependent (depth : ℕ) (dsdt : List ℕ) (ssdts : List (List ℕ)) : Type 0 where

@@ -26,24 +26,32 @@ objects_of_both first second = union (objects_of_first first) (objects_of second
 
 -- a path that the search of one of the link's names missed
 abbrev pub IsLinkMiss : Namespace → PendingLink → List Segment → Type 0
-IsLinkMiss objects w p = (n : NameParts) × Among w.names n × Among (missed (is_defined_in objects) w.scope n) p
+IsLinkMiss objects w p =
+    (n : NameParts) × Among w.names n × Among (missed (is_defined_in objects) w.scope n) p
 
 -- a path that the body of the method missed, and that it doesn't await
 abbrev pub IsBodyMiss : ℕ → Namespace → Method → List Segment → Type 0
-IsBodyMiss depth objects m p = (b : BodyTree) × IsBody depth objects m b × IsFirmMiss objects m.counts m.path b p
+IsBodyMiss depth objects m p =
+    (b : BodyTree) × IsBody depth objects m b × IsFirmMiss objects m.counts m.path b p
 
--- a path where the body awaits a method of so many arguments: its table's External gave a name's count, and the name isn't found
+-- a path where the body awaits a method of so many arguments: its table's External gave a name's count, and the name
+-- isn't found
 abbrev pub IsAwaiting : ℕ → Namespace → Method → List Segment → ℕ → Type 0
-IsAwaiting depth objects m p args = (b : BodyTree) × IsBody depth objects m b × IsOpenMiss objects m.counts m.path b p args
+IsAwaiting depth objects m p args =
+    (b : BodyTree) × IsBody depth objects m b × IsOpenMiss objects m.counts m.path b p args
 
--- A path that the load tried and missed: for a Scope term of the SSDT, in the namespace of its moment, or over the final
--- objects for a link or a body of one of the two. The Scope terms of the DSDT are opened before any SSDT is declared.
+-- A path that the load tried and missed: for a Scope term of the SSDT, in the namespace of its moment, or over the
+-- final objects for a link or a body of one of the two. The Scope terms of the DSDT are opened before any SSDT is
+-- declared.
 abbrev pub IsMiss : ℕ → Listing → Listing → List Segment → Type 0
 IsMiss depth first second p =
     Among (scope_misses (objects_of_first first) second) p
-    ⊎ ((w : PendingLink) × Among (all_pending (first ∷ second ∷ [])) w × IsLinkMiss (objects_of_both first second) w p)
-    ⊎ ((m : Method) × Among (all_methods (first ∷ second ∷ [])) m × IsBodyMiss depth (objects_of_both first second) m p)
+    ⊎ ((w : PendingLink) × Among (all_pending (first ∷ second ∷ [])) w
+    × IsLinkMiss (objects_of_both first second) w p)
+    ⊎ ((m : Method) × Among (all_methods (first ∷ second ∷ [])) m
+    × IsBodyMiss depth (objects_of_both first second) m p)
 
 -- a path where a body of one of the two awaits a method of so many arguments
 abbrev pub IsAwaited : ℕ → Listing → Listing → List Segment → ℕ → Type 0
-IsAwaited depth first second p args = (m : Method) × Among (all_methods (first ∷ second ∷ [])) m × IsAwaiting depth (objects_of_both first second) m p args
+IsAwaited depth first second p args = (m : Method) × Among (all_methods (first ∷ second ∷ [])) m
+    × IsAwaiting depth (objects_of_both first second) m p args

@@ -26,20 +26,25 @@ pub record LoadsToJoin (depth : ℕ) (dsdt : List ℕ) (ssdts given : List (List
 
 -- .. in each order
 abbrev pub EachOrderLoadsToJoin : ℕ → List ℕ → List (List ℕ) → Type 0
-EachOrderLoadsToJoin depth dsdt ssdts = (given : List (List ℕ)) → IsPermutation ssdts given → LoadsToJoin depth dsdt ssdts given
+EachOrderLoadsToJoin depth dsdt ssdts =
+    (given : List (List ℕ)) → IsPermutation ssdts given → LoadsToJoin depth dsdt ssdts given
 
 -- the objects and links are those of the join of the parts
-pub record AreJoined (Part : Machine → Type 0) (objects : Namespace) (links : Lookup Links) : Type 0 where
+pub record AreJoined (Part : Machine → Type 0) (objects : Namespace)
+    (links : Lookup Links) : Type 0 where
   pub objects_join : IsUnion Part (λ x. x.objects) objects
   pub links_join : IsUnion Part (λ x. x.links) links
 
 -- .. and the body at the path is the one that parts have there
 pub record IsJoinAt (Part : Machine → Type 0) (path : List Segment) (m : Machine) : Type 0 where
   pub joined : AreJoined Part m.objects m.links
-  pub body_joins : (b : BodyTree) → (m.bodies path ≡ Some b) ↔ ((x : Machine) × Part x × (x.bodies path ≡ Some b))
+  pub body_joins : (b : BodyTree)
+      → (m.bodies path ≡ Some b) ↔ ((x : Machine) × Part x × (x.bodies path ≡ Some b))
 
--- What a load of SSDTs in this order answers where they are independent: what is said of the join of their single loads, or
--- that memory is refused.
-abbrev pub TellsOfJoin : {V : Type 0} → ((Machine → Type 0) → V → Type 0) → ℕ → List ℕ → List (List ℕ) → Result V LoadFault → Type 0
-TellsOfJoin Says depth dsdt given result = (ssdts : List (List ℕ)) → AreReordered depth dsdt ssdts given
+-- What a load of SSDTs in this order answers where they are independent: what is said of the join of their single
+-- loads, or that memory is refused.
+abbrev pub TellsOfJoin : {V : Type 0} → ((Machine → Type 0) → V → Type 0) → ℕ → List ℕ
+    → List (List ℕ) → Result V LoadFault → Type 0
+TellsOfJoin Says depth dsdt given result =
+    (ssdts : List (List ℕ)) → AreReordered depth dsdt ssdts given
     → MatchResult result (Says (IsSingleLoad depth dsdt ssdts)) (λ e. e ≡ Memory)

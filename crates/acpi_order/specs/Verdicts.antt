@@ -38,7 +38,8 @@ abbrev pub AllAlone : ℕ → List ℕ → List (List ℕ) → Type 0
 AllAlone depth dsdt ssdts = AllByRecursion (LoadsAlone depth dsdt) ssdts
 
 -- the first SSDT that doesn't load alone
-pub record IsFirstNotAlone (depth : ℕ) (dsdt : List ℕ) (ssdts : List (List ℕ)) (i : ℕ) : Type 0 where
+pub record IsFirstNotAlone (depth : ℕ) (dsdt : List ℕ) (ssdts : List (List ℕ))
+    (i : ℕ) : Type 0 where
   pub ssdt : List ℕ
   pub is_ssdt : IsSsdt ssdts i ssdt
   pub refused : LoadsAlone depth dsdt ssdt → ⊥
@@ -46,7 +47,8 @@ pub record IsFirstNotAlone (depth : ℕ) (dsdt : List ℕ) (ssdts : List (List �
 
 -- the reason why SSDT i doesn't load alone
 abbrev pub IsReasonAt : ℕ → List ℕ → List (List ℕ) → ℕ → LoadReason → Type 0
-IsReasonAt depth dsdt ssdts i reason = (b : List ℕ) × IsSsdt ssdts i b × IsReasonOf depth dsdt b reason
+IsReasonAt depth dsdt ssdts i reason =
+    (b : List ℕ) × IsSsdt ssdts i b × IsReasonOf depth dsdt b reason
 
 -- ---- the first of several pairs and paths
 
@@ -57,13 +59,15 @@ abbrev pub IsPairBefore : (i j a b : ℕ) → Type 0
 IsPairBefore i j a b = (i < a) ⊎ ((i ≡ a) × (j < b))
 
 -- it holds there, and of no earlier pair and path
-pub record IsLeast (Holds : ℕ → ℕ → List Segment → Type 0) (i j : ℕ) (p : List Segment) : Type 0 where
+pub record IsLeast (Holds : ℕ → ℕ → List Segment → Type 0) (i j : ℕ)
+    (p : List Segment) : Type 0 where
   pub holds : Holds i j p
   pub none_before : (a b : ℕ) (q : List Segment) → Holds a b q → IsBefore a b q i j p → ⊥
 
 -- ---- two SSDTs declare one path
 
-pub record IsSame (depth : ℕ) (dsdt : List ℕ) (ssdts : List (List ℕ)) (i j : ℕ) (p : List Segment) : Type 0 where
+pub record IsSame (depth : ℕ) (dsdt : List ℕ) (ssdts : List (List ℕ)) (i j : ℕ)
+    (p : List Segment) : Type 0 where
   pub below : i < j
   pub this : List ℕ
   pub other : List ℕ
@@ -86,9 +90,11 @@ NoneSame depth dsdt ssdts = (i j : ℕ) (p : List Segment) → IsSame depth dsdt
 
 -- the load of DSDT and SSDT missed the path, or awaits another method there than that object
 abbrev pub IsUnmet : ℕ → Listing → Listing → List Segment → ObjectTree → Type 0
-IsUnmet depth first t p o = IsMiss depth first t p ⊎ ((args : ℕ) × IsAwaited depth first t p args × (is_method_of o args ≡ false))
+IsUnmet depth first t p o = IsMiss depth first t p
+    ⊎ ((args : ℕ) × IsAwaited depth first t p args × (is_method_of o args ≡ false))
 
-pub record IsMissed (depth : ℕ) (dsdt : List ℕ) (ssdts : List (List ℕ)) (i j : ℕ) (p : List Segment) : Type 0 where
+pub record IsMissed (depth : ℕ) (dsdt : List ℕ) (ssdts : List (List ℕ)) (i j : ℕ)
+    (p : List Segment) : Type 0 where
   pub different : i ≢ j
   pub searcher : List ℕ
   pub definer : List ℕ
@@ -107,10 +113,13 @@ abbrev pub NoneMissed : ℕ → List ℕ → List (List ℕ) → Type 0
 NoneMissed depth dsdt ssdts = (i j : ℕ) (p : List Segment) → IsMissed depth dsdt ssdts i j p → ⊥
 
 abbrev pub IsVerdictOf : ℕ → List ℕ → List (List ℕ) → VerdictTree → Type 0
-IsVerdictOf depth dsdt ssdts commute = AllAlone depth dsdt ssdts × NoneSame depth dsdt ssdts × NoneMissed depth dsdt ssdts
+IsVerdictOf depth dsdt ssdts commute =
+    AllAlone depth dsdt ssdts × NoneSame depth dsdt ssdts × NoneMissed depth dsdt ssdts
 IsVerdictOf depth dsdt ssdts (not_alone i) = IsFirstNotAlone depth dsdt ssdts i
-IsVerdictOf depth dsdt ssdts (same i j p) = AllAlone depth dsdt ssdts × IsLeast (IsSame depth dsdt ssdts) i j p
-IsVerdictOf depth dsdt ssdts (missed i j p) = AllAlone depth dsdt ssdts × NoneSame depth dsdt ssdts × IsLeast (IsMissed depth dsdt ssdts) i j p
+IsVerdictOf depth dsdt ssdts (same i j p) =
+    AllAlone depth dsdt ssdts × IsLeast (IsSame depth dsdt ssdts) i j p
+IsVerdictOf depth dsdt ssdts (missed i j p) = AllAlone depth dsdt ssdts × NoneSame depth dsdt ssdts
+    × IsLeast (IsMissed depth dsdt ssdts) i j p
 
 -- the DSDT loads, and the verdict is the first of the four that holds
 abbrev pub IsVerdict : ℕ → List ℕ → List (List ℕ) → VerdictTree → Type 0

@@ -3,6 +3,7 @@ use Rattle.std.proofs.Common.{◌≡◌, ◌⊎◌, ℕ, zero, suc, ◌-◌, ◌
 use Rattle.std.proofs.lemmas.Bool.{eqb-true, le-ltb}
 use Rattle.acpi_name.specs.Names.{NameParts}
 use Rattle.acpi_name.specs.Spelling.{SpellsName}
+use Rattle.acpi_name.proofs.NameAgain.{and_true}
 use Rattle.acpi_tree.specs.declared.tree.Int.TheVariants.{Zero}
 use Rattle.acpi_tree.specs.declared.place.Place.{Place}
 use Rattle.acpi_tree.specs.declared.place.Place.TheVariants.{Value, SuperName, Statement}
@@ -284,16 +285,12 @@ abbrev are_numbers : List OperandKind → Bool
 are_numbers [] = true
 are_numbers (k ∷ ks) = is_number k && are_numbers ks
 
-both : (a b : Bool) → (a && b) ≡ true → (a ≡ true) × (b ≡ true)
-both true b h = (refl, h)
-both false b h = absurd cc
-
 all_low : (grammar : Grammar) (ks : List OperandKind) (ts : TermTrees) (b : List ℕ) → are_numbers ks ≡ true → AreOperands grammar ks ts b → heights ts ≡ 0
 all_low grammar [] no_terms b ok h = refl
 all_low grammar (k ∷ ks) no_terms b ok h = absurd h
 all_low grammar [] (more t ts) b ok h = absurd h
 all_low grammar (k ∷ ks) (more t ts) b ok (x, y, st, ht, hs, whole) =
-    let oks = both (is_number k) (are_numbers ks) ok in
+    let oks = and_true (is_number k) (are_numbers ks) ok in
     rw (numbers_low grammar k t oks.0 st, all_low grammar ks ts y oks.1 hs) refl
 
 container_numbers : (form : ContainerForm) → are_numbers (container_operands form) ≡ true

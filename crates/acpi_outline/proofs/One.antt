@@ -1,15 +1,16 @@
 -- Bytes have one outline, but for why something is lost; and its nodes tile them.
-use Rattle.std.proofs.Common.{None, ◌≡◌, ℕ, zero, suc, ◌-◌, ◌+◌, ◌≤◌, ◌<◌, List, [], ◌∷◌, ◌++◌, length, Result, Ok, Err, refl, sym, ap, subst, ◌∙◌, arith, inl, inr, append_assoc}
+use Rattle.std.proofs.Common.{None, ◌≡◌, ℕ, zero, suc, ◌-◌, ◌+◌, ◌≤◌, ◌<◌, List, [], ◌∷◌, ◌++◌, length, Ok, Err, refl, sym, ap, subst, ◌∙◌, arith, inl, inr, append_assoc}
 use Rattle.std.specs.Prelude.{replicate}
 use Rattle.std.proofs.lemmas.List.{length-append, append-nil, length-replicate}
 use Rattle.acpi_code.specs.Spelling.{Packs}
 use Rattle.acpi_code.specs.steps.Reading.{Reading, opcode_at}
-use Rattle.acpi_code.proofs.Readings.{Judge, Source, Position, Read, Shown}
+use Rattle.acpi_code.proofs.Readings.{Source, Position, Read, Shown}
 use Rattle.acpi_name.specs.Names.{NameParts}
 use Rattle.acpi_code.specs.declared.opcode.Opcode.{Opcode}
 use Rattle.acpi_code.specs.declared.opcode.Opcode.TheVariants as opcodes
 use Rattle.acpi_code.proofs.Opcodes.{Opened, opcode_sound, opens}
 use Rattle.acpi_code.proofs.Packages.{front_is}
+use Rattle.acpi_body.proofs.ReadBodies.{good_of}
 use Rattle.acpi_outline.proofs.FieldLists.{fields_again, fields_tile}
 use Rattle.acpi_outline.proofs.Data.{data_none, data_begins, data_front, name_front, data_opened, name_opened, data_given, name_read}
 use Rattle.acpi_outline.specs.declared.form.DataForm.TheVariants as datas
@@ -48,9 +49,6 @@ here level end bytes fits =
       begun = omega arith;
       deep = omega arith;
     }
-
-good_of : {A F : Type 0} (Good : A → Type 0) (Bad : F → Type 0) (q : Result A F) (x : A) → Judge Good Bad q → q ≡ Ok x → Good x
-good_of Good Bad q x h e = subst (Judge Good Bad) e h
 
 pub node_of : {S : Type 0} (r : Rules S) (left : ℕ) (known : S) (end : ℕ) (bytes : List ℕ) (x : NodeTree × List ℕ) → length bytes ≤ end → node_at r left known end bytes ≡ Ok x
     → GoodNode (record { depth = 0; code = replicate (end - length bytes) 0 ++ bytes }) r left known end bytes x

@@ -7,7 +7,6 @@ use Rattle.std.proofs.lemmas.Bool.{eqb-true, ltb-true, ltb-false}
 use Rattle.acpi_name.specs.Names.{NameParts}
 use Rattle.acpi_name.specs.Spelling.{SpellsName}
 use Rattle.acpi_tree.specs.declared.tree.Int.TheVariants.{Zero}
-use Rattle.acpi_tree.specs.declared.tree.Width.{Width}
 use Rattle.acpi_tree.specs.declared.tree.Width.TheVariants as widths
 use Rattle.acpi_tree.specs.declared.place.Place.{Place}
 use Rattle.acpi_tree.specs.declared.place.Place.TheVariants.{Value, SuperName, Statement}
@@ -39,6 +38,8 @@ use Rattle.acpi_body.specs.steps.Reading.{operands_at, term_at}
 use Rattle.acpi_body.proofs.Allowed.{lead_of, Suits, allowed_at}
 use Rattle.acpi_body.proofs.TermComplete.{spelled_long, form_complete}
 use Rattle.acpi_body.proofs.TermSound.{is_block, are_inner, Within, Operands, placed_sound, term_sound}
+use Rattle.acpi_body.proofs.StatementSound.{units_inner}
+use Rattle.acpi_body.proofs.StatementComplete.{named_long}
 use Rattle.acpi_outline.specs.declared.form.ContainerForm.{ContainerForm}
 use Rattle.acpi_outline.specs.declared.form.ContainerForm.TheVariants as containers
 use Rattle.acpi_outline.specs.declared.form.PackedForm.{PackedForm}
@@ -82,22 +83,6 @@ container_inner containers.Processor = refl
 container_inner containers.Power = refl
 container_inner containers.Thermal = refl
 
-units_inner : (form : UnitsForm) → are_inner (operands_of_units form) ≡ true
-units_inner fields.BankField = refl
-units_inner _ = refl
-
-width_long : (w : Width) → 0 < length (opcode_bytes (opcodes.Create w))
-width_long widths.Bit = omega arith
-width_long _ = omega arith
-
-opcode_long : (form : NamedForm) → 0 < length (opcode_bytes (named_opcode form))
-opcode_long named.Name = omega arith
-opcode_long (named.Create w) = width_long w
-opcode_long named.CreateField = omega arith
-opcode_long named.Region = omega arith
-opcode_long named.Mutex = omega arith
-opcode_long named.Event = omega arith
-
 -- what has no effect begins with an opcode of its own
 abbrev is_stray_lead : Opcode → Bool
 is_stray_lead (opcodes.Constant form) = true
@@ -129,7 +114,7 @@ term_long grammar t b (inr st) h = stray_long grammar t b st h
 -- a spelling has a byte or more
 pub plain_long : {S : Type 0} (r : Rules S) (known : S) (p : PlainTree) (b : List ℕ) → SpellsPlain r known p b → 0 < length b
 plain_long r known (term (declare form before n behind)) b (x, a, c, hb, hn, ho, whole) =
-    omega (arith, ap length whole, length-append (opcode_bytes (named_opcode form)) (x ++ (a ++ c)), opcode_long form)
+    omega (arith, ap length whole, length-append (opcode_bytes (named_opcode form)) (x ++ (a ++ c)), named_long form)
 plain_long r known (term t) b h = term_long (grammar_at r known) t b h.0 h.1
 plain_long r known (external x) b h = rw h.2 (omega arith)
 plain_long r known (alias source n) b (x, y, hs, hn, whole) = rw whole (omega arith)
@@ -165,7 +150,7 @@ module _ {S : Type 0} (s : Source) (r : Rules S) (level : ℕ) (known : S) where
           spells = record {
             spells = (u.0.front, f.0.front, o.0.front, u.0.spells.are, f.0.spells, o.0.spells.are, refl);
             within = omega (arith, u.0.spells.within, o.0.spells.within);
-            long = omega (arith, opcode_long form, length-append op front);
+            long = omega (arith, named_long form, length-append op front);
           };
           whole = is ∙ ap (λ (l : List ℕ). op ++ l) back ∙ sym (append_assoc op front vs.1);
         },

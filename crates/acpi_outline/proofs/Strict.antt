@@ -1,18 +1,23 @@
 -- Where a code spells strict items, its outline is these.
 use Rattle.std.proofs.Common.{◌≡◌, ℕ, suc, ◌-◌, ◌≤◌, ◌<◌, Bool, true, false, List, [], ◌∷◌, ◌++◌, length, refl, sym, ap, subst, ◌∙◌, append_assoc, arith, inl, inr}
 use Rattle.std.proofs.lemmas.List.{append-nil}
+use Rattle.acpi_name.specs.Names.{NameParts}
 use Rattle.acpi_name.specs.Spelling.{SpellsName}
 use Rattle.acpi_tree.specs.declared.tree.Int.TheVariants.{Zero}
 use Rattle.acpi_tree.specs.declared.place.Place.TheVariants.{Value, Element}
 use Rattle.acpi_tree.specs.declared.place.NamedForm.TheVariants as named
 use Rattle.acpi_tree.specs.declared.place.UnitsForm.TheVariants as fields
 use Rattle.acpi_tree.specs.Tree.{DataTree, int, str, buffer, pkg, var_pkg, ElemTree, of_data, of_name, ElemTrees, no_elems, elem, ExternalParts, FieldTree}
-use Rattle.acpi_tree.specs.Tree.{ItemTree, name, scope, method, external, external_block, create, create_field, mutex, event, region, field, index_field, bank_field, device, processor, power, thermal, ItemTrees, no_items, item}
+use Rattle.acpi_tree.specs.Tree.{ItemTree, name, scope, method, external, external_block, create, create_field, mutex, event, region, field, index_field, bank_field, ItemTrees, no_items, item}
 use Rattle.acpi_tree.specs.Terms as terms
 use Rattle.acpi_tree.specs.Terms.{TermTree, TermTrees, no_terms, more}
+use Rattle.acpi_tree.specs.declared.tree.ScopeKind.{ScopeKind}
+use Rattle.acpi_tree.specs.declared.tree.ScopeKind.TheVariants as kinds
+use Rattle.acpi_code.specs.Opcodes.{opcode_bytes}
 use Rattle.acpi_code.specs.Spelling.{SpellsByte, SpellsNumber, SpellsEach, Packs}
 use Rattle.acpi_code.specs.Fields.{SpellsField}
-use Rattle.acpi_terms.specs.Spelling.{SpellsData, SpellsElem, SpellsElems, SpellsExternal, SpellsItem, SpellsItems, data_height, elem_height, elems_height, block_height, item_height, items_height}
+use Rattle.acpi_terms.specs.Forms.{fixed_arguments, kind_opcode, kind_arguments}
+use Rattle.acpi_terms.specs.Spelling.{SpellsArguments, SpellsData, SpellsElem, SpellsElems, SpellsExternal, SpellsItem, SpellsItems, data_height, elem_height, elems_height, block_height, item_height, items_height}
 use Rattle.acpi_body.specs.Grammars.{Grammar}
 use Rattle.acpi_body.specs.Spelling.{Stands, Spells, AreElements, height, heights}
 use Rattle.acpi_outline.specs.declared.form.ContainerForm.TheVariants as containers
@@ -22,7 +27,7 @@ use Rattle.acpi_outline.specs.Nodes.{PlainTree, FixedTree, container, if_so, uni
 use Rattle.acpi_outline.specs.Nodes.{NodeTree, plain, holds, holds_fields, closed, package_lost, data_lost, name_lost, NodeTrees, no_more, lost, node, with_reason, all_with_reason}
 use Rattle.acpi_outline.specs.Rules.{Rules, grammar_at, goes_into, after}
 use Rattle.acpi_outline.specs.Outline.{IsPlain, IsFixed, bits_behind, AreFields, IsNode, AreNodes}
-use Rattle.acpi_outline.specs.Strict.{data_term, elem_term, elem_terms, declares, AreExternals, AreFieldsOf, Holds, HoldsFields, IsItem, AreItems, StrictIsKept}
+use Rattle.acpi_outline.specs.Strict.{data_term, elem_term, elem_terms, declares, AreExternals, AreFieldsOf, Holds, HoldsFields, kind_fixed, IsItem, AreItems, StrictIsKept}
 use Rattle.acpi_outline.proofs.One.{any_fault, at_most_one}
 
 -- ---- constant data is a value
@@ -131,6 +136,22 @@ module _ {S : Type 0} (r : Rules S) where
       let us = fields_nodes es end 0 b hs in
       (holds_fields f us.0, (q, b, fixed, goes, us.1, packs, has), (us.0, refl, us.2))
 
+  -- what stands before the items of what opens a scope
+  record KindFront (kind : ScopeKind) (n : NameParts) (inside : ℕ) (known : S) (q : List ℕ) : Type 0 where
+    is_fixed : IsFixed r inside known (kind_fixed kind n) q
+    bytes : form_bytes (form_of (kind_fixed kind n)) ≡ opcode_bytes (kind_opcode kind)
+    no_fields : has_fields (kind_fixed kind n) ≡ false
+
+  kind_front : (kind : ScopeKind) (n : NameParts) (inside : ℕ) (known : S) (q : List ℕ) → SpellsArguments (fixed_arguments (kind_opcode kind)) (kind_arguments kind n) q
+      → KindFront kind n inside known q
+  kind_front kinds.Scope n inside known q (x, y, hn, none, split) = record { is_fixed = rw (only q x y none split) hn; bytes = refl; no_fields = refl }
+  kind_front kinds.Device n inside known q h = record { is_fixed = h; bytes = refl; no_fields = refl }
+  kind_front (kinds.Processor id block len) n inside known q (x, y, hn, (i, y2, hi, (c, y3, hc, (l, y4, hl, none, e4), e3), e2), e1) =
+      record { is_fixed = (x, y, hn, (i, y2, refl, byte_is id i hi, (c, y3, refl, hc, (l, y4, refl, byte_is len l hl, none, e4), e3), e2), e1); bytes = refl; no_fields = refl }
+  kind_front (kinds.Power deepest order) n inside known q (x, y, hn, (d, y2, hd, (o, y3, ho, none, e3), e2), e1) =
+      record { is_fixed = (x, y, hn, (d, y2, refl, byte_is deepest d hd, (o, y3, refl, ho, none, e3), e2), e1); bytes = refl; no_fields = refl }
+  kind_front kinds.Thermal n inside known q h = record { is_fixed = h; bytes = refl; no_fields = refl }
+
   mutual
     item_node : (i : ItemTree) (inside : ℕ) (known : S) (place end : ℕ) (a : List ℕ) → SpellsItem i a → item_height i ≤ suc inside
         → (m : NodeTree) × IsNode r inside place end known m a × IsItem i m
@@ -142,26 +163,11 @@ module _ {S : Type 0} (r : Rules S) where
       },
       refl,
     )
-    item_node (scope n is) inside known place end a (q, b, (x, y, hn, none, split), hs, packs) le =
-        let f = nodes.scope n in
-        let spelled : SpellsName n q = rw (only q x y none split) hn in
-        held_node f (λ ns. AreItems is ns) (λ b. SpellsItems is b) inside known place end a q b hs refl spelled packs (items_nodes is inside (r.enter known place f) end b hs (omega arith)) (goes_into r known f) refl
-    item_node (device n is) inside known place end a (q, b, spelled, hs, packs) le =
-        let f = container containers.Device n no_terms in
-        held_node f (λ ns. AreItems is ns) (λ b. SpellsItems is b) inside known place end a q b hs refl spelled packs (items_nodes is inside (r.enter known place f) end b hs (omega arith)) (goes_into r known f) refl
-    item_node (thermal n is) inside known place end a (q, b, spelled, hs, packs) le =
-        let f = container containers.Thermal n no_terms in
-        held_node f (λ ns. AreItems is ns) (λ b. SpellsItems is b) inside known place end a q b hs refl spelled packs (items_nodes is inside (r.enter known place f) end b hs (omega arith)) (goes_into r known f) refl
-    item_node (processor n id block len is) inside known place end a (q, b, (x, y, hn, (i, y2, hi, (c, y3, hc, (l, y4, hl, none, e4), e3), e2), e1), hs, packs) le =
-        let f = container containers.Processor n (more (terms.raw 1 id) (more (terms.raw 4 block) (more (terms.raw 1 len) no_terms))) in
-        held_node f (λ ns. AreItems is ns) (λ b. SpellsItems is b) inside known place end a q b hs refl
-        (x, y, hn, (i, y2, refl, byte_is id i hi, (c, y3, refl, hc, (l, y4, refl, byte_is len l hl, none, e4), e3), e2), e1)
-        packs (items_nodes is inside (r.enter known place f) end b hs (omega arith)) (goes_into r known f) refl
-    item_node (power n deepest order is) inside known place end a (q, b, (x, y, hn, (d, y2, hd, (o, y3, ho, none, e3), e2), e1), hs, packs) le =
-        let f = container containers.Power n (more (terms.raw 1 deepest) (more (terms.raw 2 order) no_terms)) in
-        held_node f (λ ns. AreItems is ns) (λ b. SpellsItems is b) inside known place end a q b hs refl
-        (x, y, hn, (d, y2, refl, byte_is deepest d hd, (o, y3, refl, ho, none, e3), e2), e1)
-        packs (items_nodes is inside (r.enter known place f) end b hs (omega arith)) (goes_into r known f) refl
+    item_node (scope kind n is) inside known place end a (q, b, spelled, hs, packs) le =
+        let f = kind_fixed kind n in
+        let k = kind_front kind n inside known q spelled in
+        held_node f (λ ns. AreItems is ns) (λ b. SpellsItems is b) inside known place end a q b hs k.no_fields k.is_fixed (subst (λ op. Packs op (q ++ b) a) (sym k.bytes) packs)
+        (items_nodes is inside (r.enter known place f) end b hs (omega arith)) (goes_into r known f) refl
     item_node (method n flags code) inside known place end a (q, b, (x, y, hn, (c, d, hc, none, split2), split), same, packs) le =
         let is : q ≡ x ++ flags ∷ [] = split ∙ ap (λ (l : List ℕ). x ++ l) (only y c d none split2 ∙ hc) in
         (closed (nodes.method n flags) code, (q, (x, hn, is), refl, subst (λ l. Packs (0x14 ∷ []) (q ++ l) a) same packs, refl), refl)
@@ -354,11 +360,7 @@ held_fields_told why f es m (us, e, h) = let t = fields_held_told why m f us e i
 mutual
   item_told : (why : LostFault) (i : ItemTree) (m : NodeTree) → IsItem i (with_reason why m) → IsItem i m
   item_told why (name n d) m h = plain_told why m _ h
-  item_told why (scope n is) m h = held_told why (nodes.scope n) (λ ns. AreItems is ns) (λ b. SpellsItems is b) m (λ ns k. items_told why is ns k) h
-  item_told why (device n is) m h = held_told why (container containers.Device n no_terms) (λ ns. AreItems is ns) (λ b. SpellsItems is b) m (λ ns k. items_told why is ns k) h
-  item_told why (processor n id block len is) m h = held_told why (container containers.Processor n (more (terms.raw 1 id) (more (terms.raw 4 block) (more (terms.raw 1 len) no_terms)))) (λ ns. AreItems is ns) (λ b. SpellsItems is b) m (λ ns k. items_told why is ns k) h
-  item_told why (power n deepest order is) m h = held_told why (container containers.Power n (more (terms.raw 1 deepest) (more (terms.raw 2 order) no_terms))) (λ ns. AreItems is ns) (λ b. SpellsItems is b) m (λ ns k. items_told why is ns k) h
-  item_told why (thermal n is) m h = held_told why (container containers.Thermal n no_terms) (λ ns. AreItems is ns) (λ b. SpellsItems is b) m (λ ns k. items_told why is ns k) h
+  item_told why (scope kind n is) m h = held_told why (kind_fixed kind n) (λ ns. AreItems is ns) (λ b. SpellsItems is b) m (λ ns k. items_told why is ns k) h
   item_told why (method n flags code) m h = closed_told why m (nodes.method n flags) code h
   item_told why (external x) m h = plain_told why m _ h
   item_told why (external_block xs) m h = held_told why (if_so (terms.int Zero)) (λ ns. AreExternals xs ns) (λ b. SpellsEach SpellsExternal xs b) m (λ ns k. externals_told why xs ns k) h
@@ -393,12 +395,7 @@ held_fields_with_reason why f es m (us, e, h) = (fields_with_reason why us, ap (
 mutual
   item_with_reason : (why : LostFault) (i : ItemTree) (m : NodeTree) → IsItem i m → IsItem i (with_reason why m)
   item_with_reason why (name n d) m h = ap (with_reason why) h
-  item_with_reason why (scope n is) m h = held_with_reason why (nodes.scope n) (λ ns. AreItems is ns) (λ b. SpellsItems is b) m (λ ns k. items_with_reason why is ns k) h
-  item_with_reason why (device n is) m h = held_with_reason why (container containers.Device n no_terms) (λ ns. AreItems is ns) (λ b. SpellsItems is b) m (λ ns k. items_with_reason why is ns k) h
-  item_with_reason why (processor n id block len is) m h =
-      held_with_reason why (container containers.Processor n (more (terms.raw 1 id) (more (terms.raw 4 block) (more (terms.raw 1 len) no_terms)))) (λ ns. AreItems is ns) (λ b. SpellsItems is b) m (λ ns k. items_with_reason why is ns k) h
-  item_with_reason why (power n deepest order is) m h = held_with_reason why (container containers.Power n (more (terms.raw 1 deepest) (more (terms.raw 2 order) no_terms))) (λ ns. AreItems is ns) (λ b. SpellsItems is b) m (λ ns k. items_with_reason why is ns k) h
-  item_with_reason why (thermal n is) m h = held_with_reason why (container containers.Thermal n no_terms) (λ ns. AreItems is ns) (λ b. SpellsItems is b) m (λ ns k. items_with_reason why is ns k) h
+  item_with_reason why (scope kind n is) m h = held_with_reason why (kind_fixed kind n) (λ ns. AreItems is ns) (λ b. SpellsItems is b) m (λ ns k. items_with_reason why is ns k) h
   item_with_reason why (method n flags code) m h = ap (with_reason why) h
   item_with_reason why (external x) m h = ap (with_reason why) h
   item_with_reason why (external_block xs) m h =

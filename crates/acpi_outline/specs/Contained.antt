@@ -29,18 +29,23 @@ is_package (data_lost form why) = false
 is_package (name_lost n form why) = false
 is_package _ = true
 
--- Where a node is a package, some bytes of the code are what it holds. With any others, as many, in their place it is another
--- node, and all that stand around it are the same, if what is known behind it is.
-pub record IsContained {S : Type 0} (r : Rules S) (known : S) (depth : ℕ) (code : List ℕ) (c : Around) (place : ℕ) (n : NodeTree) (ns : NodeTrees) : Type 0 where
+-- Where a node is a package, some bytes of the code are what it holds. With any others, as many, in their place it is
+-- another node, and all that stand around it are the same, if what is known behind it is.
+pub record IsContained {S : Type 0} (r : Rules S) (known : S) (depth : ℕ) (code : List ℕ)
+    (c : Around) (place : ℕ) (n : NodeTree) (ns : NodeTrees) : Type 0 where
   pub before : List ℕ
   pub content : List ℕ
   pub after_it : List ℕ
   pub whole : code ≡ before ++ (content ++ after_it)
   pub changed : (other : List ℕ) → length other ≡ length content → NodeTree
   pub stays : (other : List ℕ) (same : length other ≡ length content)
-      → after r place (known_at r known c) (changed other same) ≡ after r place (known_at r known c) n
-      → IsOutline r known depth (put_at c place (changed other same) ns) (before ++ (other ++ after_it))
+      → after r place (known_at r known c) (changed other same)
+      ≡ after r place (known_at r known c) n
+      → IsOutline r known depth (put_at c place (changed other same) ns)
+      (before ++ (other ++ after_it))
 
 abbrev pub PackagesContain : {S : Type 0} → Rules S → Type 0
-PackagesContain {S} r = (known : S) (depth : ℕ) (code : List ℕ) (c : Around) (place : ℕ) (n : NodeTree) (ns : NodeTrees)
-    → IsOutline r known depth (put_at c place n ns) code → is_package n ≡ true → IsContained r known depth code c place n ns
+PackagesContain {S} r =
+    (known : S) (depth : ℕ) (code : List ℕ) (c : Around) (place : ℕ) (n : NodeTree) (ns : NodeTrees)
+    → IsOutline r known depth (put_at c place n ns) code → is_package n ≡ true
+    → IsContained r known depth code c place n ns

@@ -50,7 +50,8 @@ begins_none _ = false
 
 -- A field list begins at the place: behind the opcode of a declaration of field units, its package length and its fixed
 -- arguments (20.2.5.2).
-pub record BeginsFields {S : Type 0} (r : Rules S) (known : S) (code : List ℕ) (start : ℕ) : Type 0 where
+pub record BeginsFields {S : Type 0} (r : Rules S) (known : S) (code : List ℕ)
+    (start : ℕ) : Type 0 where
   pub level : ℕ
   pub form : UnitsForm
   pub names : List NameParts
@@ -63,45 +64,60 @@ pub record BeginsFields {S : Type 0} (r : Rules S) (known : S) (code : List ℕ)
   pub here : drop at code ≡ opcode_bytes (units_opcode form) ++ (len ++ (front ++ rest))
   pub spells_len : SpellsPkgLength n len
   pub are_arguments : AreUnitArguments r level known form names operands front
-  pub starts : start ≡ at + (length (opcode_bytes (units_opcode form)) + (length len + length front))
+  pub starts : start
+      ≡ at + (length (opcode_bytes (units_opcode form)) + (length len + length front))
 
 -- a field element must begin at the place: behind others, in such a field list
 abbrev pub IsFieldElement : {S : Type 0} → Rules S → S → List ℕ → ℕ → Type 0
-IsFieldElement r known code place = (start : ℕ) × BeginsFields r known code start × IsElementOf code start place
+IsFieldElement r known code place =
+    (start : ℕ) × BeginsFields r known code start × IsElementOf code start place
 
 -- how many values follow a name there, whatever a method body declares
 abbrev pub args_at : {S : Type 0} → Rules S → S → Arguments
 args_at r known locals = r.args known
 
--- What the reason says is true of the code at that place; `depth` is the number of levels that are allowed, and `known` what is
--- known there. Term: what the fault of a term in a method body shows, by the counts that are known there and whatever method it
--- is; or no segment begins where a field element must. NoNode: no node begins so. ManyArguments: a byte above 7, where the
--- number of an External's arguments must stand. Computed: a term that is no constant, where the size of a connection's buffer
--- must stand.
+-- What the reason says is true of the code at that place; `depth` is the number of levels that are allowed, and `known`
+-- what is known there. Term: what the fault of a term in a method body shows, by the counts that are known there and
+-- whatever method it is; or no segment begins where a field element must. NoNode: no node begins so. ManyArguments: a
+-- byte above 7, where the number of an External's arguments must stand. Computed: a term that is no constant, where the
+-- size of a connection's buffer must stand.
 abbrev pub ShowsLost : {S : Type 0} → Rules S → S → ℕ → List ℕ → LostReason → ℕ → Type 0
-ShowsLost r known depth code (Term BadName) place = ShowsBody (args_at r known) [] depth code BadName place ⊎ HasNoSegment (IsFieldElement r known code) code place
+ShowsLost r known depth code (Term BadName) place = ShowsBody
+    (args_at r known) [] depth code BadName place
+    ⊎ HasNoSegment (IsFieldElement r known code) code place
 ShowsLost r known depth code (Term why) place = ShowsBody (args_at r known) [] depth code why place
 ShowsLost r known depth code NoNode place = Begins begins_none code place
-ShowsLost r known depth code ManyArguments place = MustBegin count_arg code place × ByteAt (λ b. 7 < b) code place
-ShowsLost r known depth code Computed place = IsConnectionSize code place × Begins is_computed code place
+ShowsLost r known depth code ManyArguments place =
+    MustBegin count_arg code place × ByteAt (λ b. 7 < b) code place
+ShowsLost r known depth code Computed place =
+    IsConnectionSize code place × Begins is_computed code place
 
 -- so it is of all that is lost, each with what is known there
 abbrev pub FieldsHaveTrueFaults : {S : Type 0} → Rules S → S → ℕ → List ℕ → FieldNodes → Type 0
 FieldsHaveTrueFaults r known depth code no_more_fields = Unit {0}
-FieldsHaveTrueFaults r known depth code (fields_lost place why) = ShowsLost r known depth code why.reason why.place
-FieldsHaveTrueFaults r known depth code (field_node place offset e es) = FieldsHaveTrueFaults r known depth code es
+FieldsHaveTrueFaults r known depth code (fields_lost place why) =
+    ShowsLost r known depth code why.reason why.place
+FieldsHaveTrueFaults r known depth code (field_node place offset e es) =
+    FieldsHaveTrueFaults r known depth code es
 
 abbrev mutual
   pub HasTrueFaults : {S : Type 0} → Rules S → S → ℕ → List ℕ → ℕ → NodeTree → Type 0
   HasTrueFaults r known depth code place (plain p) = Unit {0}
-  HasTrueFaults r known depth code place (holds f ns) = HaveTrueFaults r (r.enter known place f) depth code ns
-  HasTrueFaults r known depth code place (holds_fields f es) = FieldsHaveTrueFaults r known depth code es
+  HasTrueFaults r known depth code place (holds f ns) =
+      HaveTrueFaults r (r.enter known place f) depth code ns
+  HasTrueFaults r known depth code place (holds_fields f es) =
+      FieldsHaveTrueFaults r known depth code es
   HasTrueFaults r known depth code place (closed f content) = Unit {0}
-  HasTrueFaults r known depth code place (package_lost form why) = ShowsLost r known depth code why.reason why.place
-  HasTrueFaults r known depth code place (data_lost form why) = ShowsLost r known depth code why.reason why.place
-  HasTrueFaults r known depth code place (name_lost n form why) = ShowsLost r known depth code why.reason why.place
+  HasTrueFaults r known depth code place (package_lost form why) =
+      ShowsLost r known depth code why.reason why.place
+  HasTrueFaults r known depth code place (data_lost form why) =
+      ShowsLost r known depth code why.reason why.place
+  HasTrueFaults r known depth code place (name_lost n form why) =
+      ShowsLost r known depth code why.reason why.place
 
   pub HaveTrueFaults : {S : Type 0} → Rules S → S → ℕ → List ℕ → NodeTrees → Type 0
   HaveTrueFaults r known depth code no_more = Unit {0}
-  HaveTrueFaults r known depth code (lost place why) = ShowsLost r known depth code why.reason why.place
-  HaveTrueFaults r known depth code (node place n ns) = HasTrueFaults r known depth code place n × HaveTrueFaults r (after r place known n) depth code ns
+  HaveTrueFaults r known depth code (lost place why) =
+      ShowsLost r known depth code why.reason why.place
+  HaveTrueFaults r known depth code (node place n ns) = HasTrueFaults r known depth code place n
+      × HaveTrueFaults r (after r place known n) depth code ns

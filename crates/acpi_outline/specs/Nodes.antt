@@ -16,17 +16,17 @@ use Rattle.acpi_outline.specs.declared.form.DataForm.{DataForm}
 use Rattle.acpi_outline.specs.declared.form.DataForm.TheVariants as datas
 use Rattle.acpi_outline.specs.declared.fault.LostFault.{LostFault}
 
--- A term in which no nodes stand: a declaration, a statement, or what has no effect where a statement stands; a name that
--- another table defines; another name for an object; a region that is a table, and what finds the table.
+-- A term in which no nodes stand: a declaration, a statement, or what has no effect where a statement stands; a name
+-- that another table defines; another name for an object; a region that is a table, and what finds the table.
 pub data PlainTree : Type 0 where
   term : TermTree → PlainTree
   external : ExternalParts → PlainTree
   alias : (source : NameParts) → NameParts → PlainTree
   table_region : NameParts → (operands : TermTrees) → PlainTree
 
--- The fixed arguments of a package, which stand before the list in it: the name of a Scope; the name and the numbers of a
--- Device, Processor, PowerResource or ThermalZone; the name and flags of a Method; the predicate of an If or While; none of
--- an Else; the names and operands of a declaration of field units.
+-- The fixed arguments of a package, which stand before the list in it: the name of a Scope; the name and the numbers of
+-- a Device, Processor, PowerResource or ThermalZone; the name and flags of a Method; the predicate of an If or While;
+-- none of an Else; the names and operands of a declaration of field units.
 pub data FixedTree : Type 0 where
   scope : NameParts → FixedTree
   container : ContainerForm → NameParts → (numbers : TermTrees) → FixedTree
@@ -36,18 +36,18 @@ pub data FixedTree : Type 0 where
   while_so : TermTree → FixedTree
   units : UnitsForm → List NameParts → (operands : TermTrees) → FixedTree
 
--- The elements of a field list (20.2.5.2), each with its place and the number of bits before it in the list, to the end or to
--- where the rest is lost.
+-- The elements of a field list (20.2.5.2), each with its place and the number of bits before it in the list, to the end
+-- or to where the rest is lost.
 pub data FieldNodes : Type 0 where
   no_more_fields : FieldNodes
   fields_lost : (place : ℕ) → LostFault → FieldNodes
   field_node : (place offset : ℕ) → FieldTree → FieldNodes → FieldNodes
 
--- A node is plain, or a package: one that holds nodes or the elements of a field list, one that is not gone into, or one
--- whose fixed arguments can't be read, and why. Or it is a statement that is data in a package, or a Name with such data, where
--- the data can't be read, and why.
--- A list of nodes ends with its bytes, or where the rest of them is lost, and why. Each node and the rest that is lost have
--- the place of their first byte.
+-- A node is plain, or a package: one that holds nodes or the elements of a field list, one that is not gone into, or
+-- one whose fixed arguments can't be read, and why. Or it is a statement that is data in a package, or a Name with such
+-- data, where the data can't be read, and why.
+-- A list of nodes ends with its bytes, or where the rest of them is lost, and why. Each node and the rest that is lost
+-- have the place of their first byte.
 mutual
   pub data NodeTree : Type 0 where
     plain : PlainTree → NodeTree
@@ -111,7 +111,8 @@ data_bytes form = opcode_bytes (data_opcode form)
 abbrev pub fields_with_reason : LostFault → FieldNodes → FieldNodes
 fields_with_reason why no_more_fields = no_more_fields
 fields_with_reason why (fields_lost place w) = fields_lost place why
-fields_with_reason why (field_node place offset e es) = field_node place offset e (fields_with_reason why es)
+fields_with_reason why (field_node place offset e es) =
+    field_node place offset e (fields_with_reason why es)
 
 abbrev mutual
   pub with_reason : LostFault → NodeTree → NodeTree

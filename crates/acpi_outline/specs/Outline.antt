@@ -49,17 +49,24 @@ is_stray (arg n) = true
 is_stray debug = true
 is_stray _ = false
 
--- a declaration, of any name; what may stand as a statement in a method body, or has no effect there; an External; DefAlias
--- (20.2.5.1); DefDataRegion (20.2.5.2)
+-- a declaration, of any name; what may stand as a statement in a method body, or has no effect there; an External;
+-- DefAlias (20.2.5.1); DefDataRegion (20.2.5.2)
 abbrev pub SpellsPlain : {S : Type 0} → Rules S → S → PlainTree → List ℕ → Type 0
-SpellsPlain r known (term (declare form before n behind)) bytes = (a : List ℕ) × (b : List ℕ) × (c : List ℕ)
-    × AreOperands (grammar_at r known) (operands_first form) before a × SpellsName n b × AreOperands (grammar_at r known) (operands_after form) behind c
+SpellsPlain r known (term (declare form before n behind)) bytes =
+    (a : List ℕ) × (b : List ℕ) × (c : List ℕ)
+    × AreOperands (grammar_at r known) (operands_first form) before a × SpellsName n b
+    × AreOperands (grammar_at r known) (operands_after form) behind c
     × (bytes ≡ opcode_bytes (named_opcode form) ++ (a ++ (b ++ c)))
-SpellsPlain r known (term t) bytes = (Stands Statement t ⊎ (is_stray t ≡ true)) × Spells (grammar_at r known) t bytes
+SpellsPlain r known (term t) bytes =
+    (Stands Statement t ⊎ (is_stray t ≡ true)) × Spells (grammar_at r known) t bytes
 SpellsPlain r known (external x) bytes = SpellsExternal x bytes
-SpellsPlain r known (alias source n) bytes = (a : List ℕ) × (b : List ℕ) × SpellsName source a × SpellsName n b × (bytes ≡ 0x06 ∷ (a ++ b))
+-- DefAlias := AliasOp NameString NameString, where AliasOp := 0x06 (20.2.5.1)
+SpellsPlain r known (alias source n) bytes =
+    (a : List ℕ) × (b : List ℕ) × SpellsName source a × SpellsName n b × (bytes ≡ 0x06 ∷ (a ++ b))
+-- DefDataRegion := DataRegionOp NameString TermArg TermArg TermArg, where DataRegionOp := ExtOpPrefix 0x88 (20.2.5.2)
 SpellsPlain r known (table_region n vs) bytes = (a : List ℕ) × (b : List ℕ)
-    × SpellsName n a × AreOperands (grammar_at r known) (At Value ∷ At Value ∷ At Value ∷ []) vs b × (bytes ≡ 0x5B ∷ 0x88 ∷ (a ++ b))
+    × SpellsName n a × AreOperands (grammar_at r known) (At Value ∷ At Value ∷ At Value ∷ []) vs b
+    × (bytes ≡ 0x5B ∷ 0x88 ∷ (a ++ b))
 
 -- a source that is a name has no level
 abbrev pub source_height : TermTree → ℕ
@@ -72,14 +79,16 @@ first_heights no_terms = 0
 first_heights (more v vs) = max (source_height v) (heights vs)
 
 abbrev pub plain_height : PlainTree → ℕ
-plain_height (term (declare form before n behind)) = suc (max (first_heights before) (heights behind))
+plain_height (term (declare form before n behind)) =
+    suc (max (first_heights before) (heights behind))
 plain_height (term t) = height t
 plain_height (external x) = 1
 plain_height (alias source n) = 1
 plain_height (table_region n vs) = suc (heights vs)
 
 -- a plain node within the levels that are left
-pub record IsPlain {S : Type 0} (r : Rules S) (level : ℕ) (known : S) (p : PlainTree) (bytes : List ℕ) : Type 0 where
+pub record IsPlain {S : Type 0} (r : Rules S) (level : ℕ) (known : S) (p : PlainTree)
+    (bytes : List ℕ) : Type 0 where
   pub spells : SpellsPlain r known p bytes
   pub within : plain_height p ≤ level
 
@@ -91,20 +100,26 @@ test_height (int Zero) = 0
 test_height v = height v
 
 -- a predicate within the levels that are left: a value
-pub record IsTest {S : Type 0} (r : Rules S) (level : ℕ) (known : S) (v : TermTree) (bytes : List ℕ) : Type 0 where
+pub record IsTest {S : Type 0} (r : Rules S) (level : ℕ) (known : S) (v : TermTree)
+    (bytes : List ℕ) : Type 0 where
   pub stands : Stands Value v
   pub spells : Spells (grammar_at r known) v bytes
   pub within : test_height v ≤ level
 
 -- the numbers behind the name of a package with a scope of its own; of a Processor as ACPI 6.3 and earlier have them
 abbrev pub container_operands : ContainerForm → List OperandKind
+-- DefDevice := DeviceOp PkgLength NameString TermList (20.2.5.2)
 container_operands containers.Device = []
+-- DefProcessor := ProcessorOp PkgLength NameString ProcID PblkAddr PblkLen TermList (ACPI 6.3, 20.2.5.2)
 container_operands containers.Processor = Byte ∷ DWord ∷ Byte ∷ []
+-- DefPowerRes := PowerResOp PkgLength NameString SystemLevel ResourceOrder TermList (20.2.5.2)
 container_operands containers.Power = Byte ∷ Word ∷ []
+-- DefThermalZone := ThermalZoneOp PkgLength NameString TermList (20.2.5.2)
 container_operands containers.Thermal = []
 
 -- the names and operands of a declaration of field units
-pub record AreUnitArguments {S : Type 0} (r : Rules S) (level : ℕ) (known : S) (form : UnitsForm) (ns : List NameParts) (vs : TermTrees) (bytes : List ℕ) : Type 0 where
+pub record AreUnitArguments {S : Type 0} (r : Rules S) (level : ℕ) (known : S) (form : UnitsForm)
+    (ns : List NameParts) (vs : TermTrees) (bytes : List ℕ) : Type 0 where
   pub names : List ℕ
   pub operands : List ℕ
   pub all_names : length ns ≡ names_of_units form
@@ -115,18 +130,26 @@ pub record AreUnitArguments {S : Type 0} (r : Rules S) (level : ℕ) (known : S)
 
 -- `level` levels are left inside the package
 abbrev pub IsFixed : {S : Type 0} → Rules S → ℕ → S → FixedTree → List ℕ → Type 0
+-- DefScope := ScopeOp PkgLength NameString TermList (20.2.5.1)
 IsFixed r level known (scope n) bytes = SpellsName n bytes
 IsFixed r level known (container form n vs) bytes = (a : List ℕ) × (b : List ℕ)
-    × SpellsName n a × AreOperands (grammar_at r known) (container_operands form) vs b × (bytes ≡ a ++ b)
-IsFixed r level known (method n flags) bytes = (a : List ℕ) × SpellsName n a × (bytes ≡ a ++ flags ∷ [])
+    × SpellsName n a × AreOperands (grammar_at r known) (container_operands form) vs b
+    × (bytes ≡ a ++ b)
+-- DefMethod := MethodOp PkgLength NameString MethodFlags TermList (20.2.5.2)
+IsFixed r level known (method n flags) bytes =
+    (a : List ℕ) × SpellsName n a × (bytes ≡ a ++ flags ∷ [])
+-- DefIfElse := IfOp PkgLength Predicate TermList DefElse (20.2.5.3)
 IsFixed r level known (if_so v) bytes = IsTest r level known v bytes
+-- DefElse := Nothing | <ElseOp PkgLength TermList> (20.2.5.3)
 IsFixed r level known otherwise bytes = bytes ≡ []
+-- DefWhile := WhileOp PkgLength Predicate TermList (20.2.5.3)
 IsFixed r level known (while_so v) bytes = IsTest r level known v bytes
 IsFixed r level known (units form ns vs) bytes = AreUnitArguments r level known form ns vs bytes
 
 -- ---- what begins at the front of bytes
 
-pub record BeginsPlain {S : Type 0} (r : Rules S) (level : ℕ) (known : S) (bytes : List ℕ) : Type 0 where
+pub record BeginsPlain {S : Type 0} (r : Rules S) (level : ℕ) (known : S)
+    (bytes : List ℕ) : Type 0 where
   pub tree : PlainTree
   pub front : List ℕ
   pub rest : List ℕ
@@ -170,10 +193,13 @@ pub record BeginsName (bytes : List ℕ) : Type 0 where
 
 -- a node
 abbrev pub BeginsNode : {S : Type 0} → Rules S → ℕ → S → List ℕ → Type 0
-BeginsNode r level known bytes = (0 < level) × (BeginsPlain r level known bytes ⊎ (BeginsPackage bytes ⊎ (BeginsData bytes ⊎ ((1 < level) × BeginsName bytes))))
+BeginsNode r level known bytes = (0 < level)
+    × (BeginsPlain r level known bytes
+    ⊎ (BeginsPackage bytes ⊎ (BeginsData bytes ⊎ ((1 < level) × BeginsName bytes))))
 
 -- the fixed arguments of a package of that form
-pub record BeginsFixed {S : Type 0} (r : Rules S) (level : ℕ) (known : S) (form : PackedForm) (bytes : List ℕ) : Type 0 where
+pub record BeginsFixed {S : Type 0} (r : Rules S) (level : ℕ) (known : S) (form : PackedForm)
+    (bytes : List ℕ) : Type 0 where
   pub tree : FixedTree
   pub front : List ℕ
   pub rest : List ℕ
@@ -201,35 +227,47 @@ bits_behind offset e = min (offset + element_bits e) (2 ^ 64 - 1)
 -- the elements stand for the bytes, so many bits standing before them in their list
 abbrev pub AreFields : (end offset : ℕ) → FieldNodes → List ℕ → Type 0
 AreFields end offset no_more_fields bytes = bytes ≡ []
-AreFields end offset (fields_lost place why) bytes = (place ≡ end - length bytes) × (0 < length bytes) × ¬ BeginsField bytes
-AreFields end offset (field_node place at e es) bytes = (a : List ℕ) × (b : List ℕ) × (place ≡ end - length bytes) × (at ≡ offset) × SpellsField e a
+AreFields end offset (fields_lost place why) bytes =
+    (place ≡ end - length bytes) × (0 < length bytes) × ¬ BeginsField bytes
+AreFields end offset (field_node place at e es) bytes =
+    (a : List ℕ) × (b : List ℕ) × (place ≡ end - length bytes) × (at ≡ offset) × SpellsField e a
     × AreFields end (bits_behind offset e) es b × (bytes ≡ a ++ b)
 
 -- ---- outlines
 
--- The bytes end at the place `end`. A node is read wherever one begins; where none does, what is left of the list is lost.
--- A package that ends within its list holds its faults: where its fixed arguments can't be read it is lost alone, and the list
--- goes on behind it.
+-- The bytes end at the place `end`. A node is read wherever one begins; where none does, what is left of the list is
+-- lost. A package that ends within its list holds its faults: where its fixed arguments can't be read it is lost alone,
+-- and the list goes on behind it.
 abbrev mutual
   -- the node stands for the bytes from `place` to `end`, `level` levels being left inside it
   pub IsNode : {S : Type 0} → Rules S → ℕ → ℕ → ℕ → S → NodeTree → List ℕ → Type 0
   IsNode r level place end known (plain p) bytes = IsPlain r (suc level) known p bytes
-  IsNode r level place end known (holds f ns) bytes = (a : List ℕ) × (b : List ℕ) × IsFixed r level known f a × (goes_into r known f ≡ true)
-      × AreNodes r level end (r.enter known place f) ns b × Packs (form_bytes (form_of f)) (a ++ b) bytes
-  IsNode r level place end known (holds_fields f es) bytes = (a : List ℕ) × (b : List ℕ) × IsFixed r level known f a × (goes_into r known f ≡ false)
+  IsNode r level place end known (holds f ns) bytes =
+      (a : List ℕ) × (b : List ℕ) × IsFixed r level known f a × (goes_into r known f ≡ true)
+      × AreNodes r level end (r.enter known place f) ns b
+      × Packs (form_bytes (form_of f)) (a ++ b) bytes
+  IsNode r level place end known (holds_fields f es) bytes =
+      (a : List ℕ) × (b : List ℕ) × IsFixed r level known f a × (goes_into r known f ≡ false)
       × AreFields end 0 es b × Packs (form_bytes (form_of f)) (a ++ b) bytes × (has_fields f ≡ true)
-  IsNode r level place end known (closed f content) bytes = (a : List ℕ) × IsFixed r level known f a × (goes_into r known f ≡ false)
+  IsNode r level place end known (closed f content) bytes =
+      (a : List ℕ) × IsFixed r level known f a × (goes_into r known f ≡ false)
       × Packs (form_bytes (form_of f)) (a ++ content) bytes × (has_fields f ≡ false)
-  IsNode r level place end known (package_lost form why) bytes = (b : List ℕ) × ¬ BeginsFixed r level known form b × Packs (form_bytes form) b bytes
-  IsNode r level place end known (data_lost form why) bytes = (b : List ℕ) × Packs (data_bytes form) b bytes × ¬ ArePlain r (suc level) known bytes
-  IsNode r level place end known (name_lost n form why) bytes = (0 < level) × IsNameOf n form bytes × ¬ ArePlain r (suc level) known bytes
+  IsNode r level place end known (package_lost form why) bytes =
+      (b : List ℕ) × ¬ BeginsFixed r level known form b × Packs (form_bytes form) b bytes
+  IsNode r level place end known (data_lost form why) bytes =
+      (b : List ℕ) × Packs (data_bytes form) b bytes × ¬ ArePlain r (suc level) known bytes
+  IsNode r level place end known (name_lost n form why) bytes =
+      (0 < level) × IsNameOf n form bytes × ¬ ArePlain r (suc level) known bytes
 
   -- the nodes stand for all of the bytes, `level` levels being left for each
   pub AreNodes : {S : Type 0} → Rules S → ℕ → ℕ → S → NodeTrees → List ℕ → Type 0
   AreNodes r level end known no_more bytes = bytes ≡ []
-  AreNodes r level end known (lost place why) bytes = (place ≡ end - length bytes) × (0 < length bytes) × ¬ BeginsNode r level known bytes
-  AreNodes r level end known (node place n ns) bytes = (a : List ℕ) × (b : List ℕ) × (inside : ℕ) × (level ≡ suc inside) × (place ≡ end - length bytes)
-      × IsNode r inside place (end - length b) known n a × AreNodes r level end (after r place known n) ns b × (bytes ≡ a ++ b)
+  AreNodes r level end known (lost place why) bytes =
+      (place ≡ end - length bytes) × (0 < length bytes) × ¬ BeginsNode r level known bytes
+  AreNodes r level end known (node place n ns) bytes = (a : List ℕ) × (b : List ℕ) × (inside : ℕ)
+      × (level ≡ suc inside) × (place ≡ end - length bytes)
+      × IsNode r inside place (end - length b) known n a
+      × AreNodes r level end (after r place known n) ns b × (bytes ≡ a ++ b)
 
 -- the outline of a code, with at most `depth` levels, from a first state
 abbrev pub IsOutline : {S : Type 0} → Rules S → S → ℕ → NodeTrees → List ℕ → Type 0

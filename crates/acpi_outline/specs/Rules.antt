@@ -8,10 +8,10 @@ use Rattle.acpi_outline.specs.Nodes.{PlainTree, FixedTree, method, units, FieldN
 use Rattle.acpi_outline.specs.Nodes.{NodeTree, plain, holds, holds_fields, closed, package_lost, data_lost, name_lost, NodeTrees, no_more, lost, node}
 
 -- What a state says, and how it goes on: how many values follow a name, if that is sure; whether one may go into a
--- package with these fixed arguments. Then the state behind a plain node, behind a Name whose data is lost, behind a package
--- whose fixed arguments are lost, by its form, or a statement whose data is (None), inside a package, behind what stands in one,
--- at the front of a field list, behind an element of it, and behind a package that is not gone into. A number is the place of the
--- node.
+-- package with these fixed arguments. Then the state behind a plain node, behind a Name whose data is lost, behind a
+-- package whose fixed arguments are lost, by its form, or a statement whose data is (None), inside a package, behind
+-- what stands in one, at the front of a field list, behind an element of it, and behind a package that is not gone
+-- into. A number is the place of the node.
 pub record Rules (S : Type 0) : Type 0 where
   pub args : S → NameParts → Option ℕ
   pub opens : S → FixedTree → Bool
@@ -39,7 +39,8 @@ goes_into r known f = r.opens known f
 abbrev pub after_fields : {S : Type 0} → Rules S → S → FixedTree → FieldNodes → S
 after_fields r known f no_more_fields = known
 after_fields r known f (fields_lost place why) = known
-after_fields r known f (field_node place offset e es) = after_fields r (r.after_field known place f e) f es
+after_fields r known f (field_node place offset e es) =
+    after_fields r (r.after_field known place f e) f es
 
 abbrev mutual
   pub after : {S : Type 0} → Rules S → ℕ → S → NodeTree → S

@@ -5,17 +5,20 @@ use Rattle.acpi_outline.specs.Nodes.{NodeTree, holds, NodeTrees, no_more, lost, 
 abbrev pub TilesFields : ℕ → ℕ → FieldNodes → Type 0
 TilesFields start end no_more_fields = start ≡ end
 TilesFields start end (fields_lost place why) = (place ≡ start) × (start < end)
-TilesFields start end (field_node place offset e es) = (next : ℕ) × (place ≡ start) × (start < next) × (next ≤ end) × TilesFields next end es
+TilesFields start end (field_node place offset e es) =
+    (next : ℕ) × (place ≡ start) × (start < next) × (next ≤ end) × TilesFields next end es
 
 abbrev mutual
   -- what stands in the node ends at the place `end`, where the node ends, and begins behind its first byte
   pub TilesInside : ℕ → ℕ → NodeTree → Type 0
   TilesInside place end (holds f ns) = (start : ℕ) × (place < start) × Tiles start end ns
-  TilesInside place end (holds_fields f es) = (start : ℕ) × (place < start) × TilesFields start end es
+  TilesInside place end (holds_fields f es) =
+      (start : ℕ) × (place < start) × TilesFields start end es
   TilesInside place end _ = Unit {0}
 
   -- from one place to another
   pub Tiles : ℕ → ℕ → NodeTrees → Type 0
   Tiles start end no_more = start ≡ end
   Tiles start end (lost place why) = (place ≡ start) × (start < end)
-  Tiles start end (node place n ns) = (next : ℕ) × (place ≡ start) × (start < next) × (next ≤ end) × TilesInside place next n × Tiles next end ns
+  Tiles start end (node place n ns) = (next : ℕ) × (place ≡ start) × (start < next) × (next ≤ end)
+      × TilesInside place next n × Tiles next end ns

@@ -22,21 +22,27 @@ abbrev pub plain_view : Plain → PlainTree
 plain_view (plains.Term t) = term (term_view t)
 plain_view (plains.External x) = external (external_view x)
 plain_view (plains.Alias source n) = alias source n
-plain_view (plains.TableRegion n a b c) = table_region n (more (term_view (box_value a)) (more (term_view (box_value b)) (more (term_view (box_value c)) no_terms)))
+plain_view (plains.TableRegion n a b c) = table_region n
+    (more (term_view (box_value a))
+    (more (term_view (box_value b)) (more (term_view (box_value c)) no_terms)))
 
 abbrev pub fixed_view : Fixed → FixedTree
 fixed_view (fixeds.Scope n) = scope n
 fixed_view (fixeds.Device n) = container containers.Device n no_terms
-fixed_view (fixeds.Processor n id block len) = container containers.Processor n (more (raw 1 id) (more (raw 4 block) (more (raw 1 len) no_terms)))
-fixed_view (fixeds.Power n deepest order) = container containers.Power n (more (raw 1 deepest) (more (raw 2 order) no_terms))
+fixed_view (fixeds.Processor n id block len) = container containers.Processor n
+    (more (raw 1 id) (more (raw 4 block) (more (raw 1 len) no_terms)))
+fixed_view (fixeds.Power n deepest order) =
+    container containers.Power n (more (raw 1 deepest) (more (raw 2 order) no_terms))
 fixed_view (fixeds.Thermal n) = container containers.Thermal n no_terms
 fixed_view (fixeds.Method n flags) = method n flags
 fixed_view (fixeds.If b) = if_so (term_view (box_value b))
 fixed_view fixeds.Else = otherwise
 fixed_view (fixeds.While b) = while_so (term_view (box_value b))
 fixed_view (fixeds.Field n flags) = units fields.Field (n ∷ []) (more (raw 1 flags) no_terms)
-fixed_view (fixeds.IndexField n m flags) = units fields.IndexField (n ∷ m ∷ []) (more (raw 1 flags) no_terms)
-fixed_view (fixeds.BankField n m b flags) = units fields.BankField (n ∷ m ∷ []) (more (term_view (box_value b)) (more (raw 1 flags) no_terms))
+fixed_view (fixeds.IndexField n m flags) =
+    units fields.IndexField (n ∷ m ∷ []) (more (raw 1 flags) no_terms)
+fixed_view (fixeds.BankField n m b flags) = units fields.BankField (n ∷ m ∷ [])
+    (more (term_view (box_value b)) (more (raw 1 flags) no_terms))
 
 -- an element with its place and the number of bits before it
 abbrev pub PlacedElement : Type 0
@@ -73,7 +79,8 @@ end_view (Some l) = lost l.place l.fault
 abbrev pub node_step : Node-F NodeTree NodeTrees Placed → NodeTree
 node_step (Node-F.Plain p) = plain (plain_view p)
 node_step (Node-F.Holds f ns) = holds (fixed_view f) ns
-node_step (Node-F.Fields f us l) = holds_fields (fixed_view f) (fields_before (placed_fields us.items) (fields_end l))
+node_step (Node-F.Fields f us l) =
+    holds_fields (fixed_view f) (fields_before (placed_fields us.items) (fields_end l))
 node_step (Node-F.Closed f content) = closed (fixed_view f) content
 node_step (Node-F.PackageLost form why) = package_lost form why
 node_step (Node-F.DataLost form why) = data_lost form why

@@ -1,22 +1,19 @@
 //! Reading the fixed arguments of packages.
 
-ghost use Rattle.std.specs.Prelude.{◌≡◌, ◌∷◌, [], IfOk, box_value};
+ghost use Rattle.std.specs.Prelude.{◌≡◌, IfOk, box_value};
 ghost use Rattle.acpi_tree.specs.TermView.{term_view};
-ghost use Rattle.acpi_tree.specs.declared.place.UnitsForm.TheVariants as units;
-ghost use Rattle.acpi_code.specs.steps.Reading.{name_in};
 ghost use Rattle.acpi_outline.specs.Nodes.{has_fields};
 ghost use Rattle.acpi_outline.specs.View.{fixed_view};
 ghost use Rattle.acpi_outline.specs.Rules.{goes_into};
-ghost use Rattle.acpi_outline.specs.steps.Reading.{part, test_in, names_in, container_in, units_in, fixed_in};
+ghost use Rattle.acpi_outline.specs.steps.Reading.{test_in, container_in, units_in, fixed_in};
 ghost use Rattle.acpi_outline.specs.steps.Cursor.{Reads, ReadsOn};
 
 use crate::fault::LostStop;
 use crate::form::{ContainerForm, PackedForm};
 use crate::known::Known;
 use crate::node::Fixed;
-use crate::plain::value;
+use crate::plain::{owned_name, value};
 use acpi_code::Code;
-use acpi_name::Name;
 use acpi_tree::{Int, Term, UnitsForm};
 use std::alloc::{AllocError, Global};
 
@@ -31,25 +28,6 @@ fn test<K: Known>(known: &K, level: u32, code: &mut Code<'_>) -> Result<Box<Term
         return Ok(Box::new(known.alloc(), Term::Int(Int::Zero))?);
     }
     value(known, level, code)
-}
-
-// A name, with memory of its own.
-#[inline(never)]
-#[tactic(auto, using(crate::proofs::Parts::part_fails))]
-fn owned_name(alloc: Global, code: &mut Code<'_>) -> Result<Name, LostStop>
-    ensures { Reads (λ n. n) (λ end bytes. part (name_in end bytes)) code.old code.new result }
-{
-    Ok(code.name()?.own(alloc)?)
-}
-
-#[inline(never)]
-#[tactic(auto, unfolding(crate::specs::steps::Reading::names_in))]
-fn two_names(alloc: Global, code: &mut Code<'_>) -> Result<(Name, Name), LostStop>
-    ensures { Reads (λ x. x.0 ∷ x.1 ∷ []) (names_in 2) code.old code.new result }
-{
-    let first = owned_name(alloc, code)?;
-    let second = owned_name(alloc, code)?;
-    Ok((first, second))
 }
 
 // The name and the numbers of a package with a scope of its own.
@@ -82,38 +60,31 @@ fn container<K: Known>(
     }
 }
 
+// The names and operands of a declaration of field units.
 #[inline(never)]
 #[tactic(auto, using(crate::proofs::Parts::part_fails), unfolding(crate::specs::steps::Reading::units_in, crate::specs::steps::Reading::names_in, acpi_body::specs::steps::Reading::operands_at, acpi_body::specs::steps::Reading::operand_at))]
-fn field<K: Known>(known: &K, level: u32, code: &mut Code<'_>) -> Result<Fixed, LostStop>
-    ensures { Reads fixed_view (units_in K.rules level known.now units.Field)
+fn units<K: Known>(
+    known: &K,
+    level: u32,
+    form: UnitsForm,
+    code: &mut Code<'_>,
+) -> Result<Fixed, LostStop>
+    ensures { Reads fixed_view (units_in K.rules level known.now form)
         code.old code.new result }
 {
-    let region = owned_name(known.alloc(), code)?;
-    let flags = code.byte()?;
-    Ok(Fixed::Field(region, flags))
-}
-
-#[inline(never)]
-#[tactic(auto, using(crate::proofs::Parts::part_fails), unfolding(crate::specs::steps::Reading::units_in, acpi_body::specs::steps::Reading::operands_at, acpi_body::specs::steps::Reading::operand_at))]
-fn index_field<K: Known>(known: &K, level: u32, code: &mut Code<'_>) -> Result<Fixed, LostStop>
-    ensures { Reads fixed_view (units_in K.rules level known.now units.IndexField)
-        code.old code.new result }
-{
-    let (index, data) = two_names(known.alloc(), code)?;
-    let flags = code.byte()?;
-    Ok(Fixed::IndexField(index, data, flags))
-}
-
-#[inline(never)]
-#[tactic(auto, using(crate::proofs::Parts::part_fails), unfolding(crate::specs::steps::Reading::units_in, acpi_body::specs::steps::Reading::operands_at, acpi_body::specs::steps::Reading::operand_at))]
-fn bank_field<K: Known>(known: &K, level: u32, code: &mut Code<'_>) -> Result<Fixed, LostStop>
-    ensures { Reads fixed_view (units_in K.rules level known.now units.BankField)
-        code.old code.new result }
-{
-    let (region, bank) = two_names(known.alloc(), code)?;
-    let value = value(known, level, code)?;
-    let flags = code.byte()?;
-    Ok(Fixed::BankField(region, bank, value, flags))
+    let first = owned_name(known.alloc(), code)?;
+    match form {
+        UnitsForm::Field => Ok(Fixed::Field(first, code.byte()?)),
+        UnitsForm::IndexField => {
+            let data = owned_name(known.alloc(), code)?;
+            Ok(Fixed::IndexField(first, data, code.byte()?))
+        }
+        UnitsForm::BankField => {
+            let bank = owned_name(known.alloc(), code)?;
+            let value = value(known, level, code)?;
+            Ok(Fixed::BankField(first, bank, value, code.byte()?))
+        }
+    }
 }
 
 /// The fixed arguments of a package of that form; `level` levels are left inside it.
@@ -139,9 +110,7 @@ pub(crate) fn fixed<K: Known>(
         PackedForm::If => Ok(Fixed::If(test(known, level, code)?)),
         PackedForm::Else => Ok(Fixed::Else),
         PackedForm::While => Ok(Fixed::While(test(known, level, code)?)),
-        PackedForm::Units(UnitsForm::Field) => field(known, level, code),
-        PackedForm::Units(UnitsForm::IndexField) => index_field(known, level, code),
-        PackedForm::Units(UnitsForm::BankField) => bank_field(known, level, code),
+        PackedForm::Units(form) => units(known, level, form, code),
     }
 }
 

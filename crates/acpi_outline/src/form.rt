@@ -5,30 +5,30 @@ use acpi_tree::UnitsForm;
 /// A package whose nodes stand in a scope that it declares (ACPI 6.5, 20.2.5.2).
 #[derive(Clone, Copy, Debug, PartialEq, Eq)]
 pub enum ContainerForm {
-    /// DefDevice
+    /// DefDevice.
     Device,
-    /// DefProcessor, as ACPI 6.3 and earlier have it
+    /// DefProcessor, as ACPI 6.3 and earlier have it.
     Processor,
-    /// DefPowerRes
+    /// DefPowerRes.
     Power,
-    /// DefThermalZone
+    /// DefThermalZone.
     Thermal,
 }
 
 /// What a node is whose opcode a package follows (ACPI 6.5, 20.2.5).
 #[derive(Clone, Copy, Debug, PartialEq, Eq)]
 pub enum PackedForm {
-    /// DefScope
+    /// DefScope.
     Scope,
     /// A package with a scope of its own.
     Container(ContainerForm),
-    /// DefMethod
+    /// DefMethod.
     Method,
-    /// DefIfElse
+    /// DefIfElse, up to its Else.
     If,
-    /// DefElse
+    /// DefElse.
     Else,
-    /// DefWhile
+    /// DefWhile.
     While,
     /// A declaration of field units.
     Units(UnitsForm),
@@ -37,10 +37,10 @@ pub enum PackedForm {
 /// A term that is data in a package, as a statement or as the data of a Name (20.2.5.4).
 #[derive(Clone, Copy, Debug, PartialEq, Eq)]
 pub enum DataForm {
-    /// DefBuffer
+    /// DefBuffer.
     Buffer,
-    /// DefPackage
+    /// DefPackage.
     Package,
-    /// DefVarPackage
+    /// DefVarPackage.
     VarPackage,
 }

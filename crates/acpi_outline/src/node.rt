@@ -72,29 +72,29 @@ pub enum Node {
 #[cycle(node)]
 #[derive(Debug, Drop)]
 pub struct PlacedNode {
-    /// The place.
+    /// Where it begins, in bytes from the code's first.
     pub place: usize,
-    /// The node.
+    /// What stands there.
     pub node: Node,
 }
 
 /// An element of a field list, and where it stands.
 #[derive(Debug, Drop)]
 pub struct PlacedField {
-    /// The place of its first byte in the code.
+    /// Where it begins, in bytes from the code's first.
     pub place: usize,
     /// The number of bits before it in the list, at most 2^64 - 1.
     pub offset: u64,
-    /// The element.
+    /// The element, as the field list has it.
     pub element: FieldElem,
 }
 
 /// Where the rest of a list is lost, and why.
 #[derive(Clone, Copy, Debug)]
 pub struct Lost {
-    /// The place of its first byte in the code.
+    /// Where it begins, in bytes from the code's first.
     pub place: usize,
-    /// Why.
+    /// What can't be read there.
     pub fault: LostFault,
 }
 
@@ -102,7 +102,7 @@ pub struct Lost {
 #[cycle(node)]
 #[derive(Debug, Drop)]
 pub struct Nodes {
-    /// Those that were read.
+    /// The nodes that were read, in order.
     pub read: Vec<PlacedNode>,
     /// What is lost behind them.
     pub lost: Option<Lost>,

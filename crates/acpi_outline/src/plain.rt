@@ -1,22 +1,23 @@
 //! Reading plain nodes: terms in which no nodes stand.
 
-ghost use Rattle.std.specs.Prelude.{◌≡◌, ◌<◌, ◌-◌, length, None, Ok, box_value};
+ghost use Rattle.std.specs.Prelude.{◌≡◌, ◌<◌, ◌-◌, length, None, box_value};
 ghost use Rattle.acpi_tree.specs.TermView.{term_view, decl_view};
 ghost use Rattle.acpi_tree.specs.declared.place.Place.TheVariants.{Value};
-ghost use Rattle.acpi_tree.specs.declared.place.NamedForm.TheVariants as named;
+ghost use Rattle.acpi_code.specs.steps.Reading.{name_in};
 ghost use Rattle.acpi_body.specs.steps.Reading.{term_at};
 ghost use Rattle.acpi_outline.specs.Nodes as nodes;
 ghost use Rattle.acpi_outline.specs.Rules.{grammar_at};
 ghost use Rattle.acpi_outline.specs.View.{plain_view};
-ghost use Rattle.acpi_outline.specs.steps.Reading.{of_term, reference_in, source_in, named_in, external_in, alias_in, table_region_in, term_in, plain_by, packed_form};
-ghost use Rattle.acpi_outline.specs.steps.Cursor.{Gives, Reads};
+ghost use Rattle.acpi_outline.specs.steps.Reading.{part, of_term, reference_in, source_in, named_in, external_in, alias_in, table_region_in, term_in, plain_by, packed_form};
+ghost use Rattle.acpi_outline.specs.steps.Cursor.{Reads};
 
 use crate::fault::{LostReason, LostStop, stopped};
 use crate::known::{Counted, Known};
 use crate::node::Plain;
 use acpi_body::read_term;
 use acpi_code::{Code, Opcode, name_start};
-use acpi_tree::{Decl, External, Place, Term, Width};
+use acpi_name::Name;
+use acpi_tree::{Decl, External, NamedForm, Place, Term};
 use std::alloc::Global;
 
 // A term at a place, which lies apart from the frame that asks for it.
@@ -49,6 +50,15 @@ pub(crate) fn value<K: Known>(
     term_apart(known, level, Place::Value, code)
 }
 
+/// A name, with memory of its own.
+#[inline(never)]
+#[tactic(auto, using(crate::proofs::Parts::part_fails))]
+pub(crate) fn owned_name(alloc: Global, code: &mut Code<'_>) -> Result<Name, LostStop>
+    ensures { Reads (λ n. n) (λ end bytes. part (name_in end bytes)) code.old code.new result }
+{
+    Ok(code.name()?.own(alloc)?)
+}
+
 // A name that is never a call.
 #[inline(never)]
 #[tactic(auto, using(crate::proofs::Parts::part_fails), unfolding(crate::specs::steps::Reading::reference_in))]
@@ -73,116 +83,58 @@ fn source<K: Known>(known: &K, level: u32, code: &mut Code<'_>) -> Result<Box<Te
     term_apart(known, level, Place::Source, code)
 }
 
-// A declaration as a node.
-#[inline(never)]
-fn declaration(alloc: Global, decl: Decl) -> Result<Plain, LostStop>
-    ensures { Gives plain_view result (Ok (nodes.term (decl_view decl))) }
-{
-    Ok(Plain::Term(Term::Declare(Box::new(alloc, decl)?)))
-}
-
-#[inline(never)]
-#[tactic(auto, using(crate::proofs::Parts::part_fails), unfolding(crate::specs::steps::Reading::named_in, acpi_body::specs::steps::Reading::operands_at, acpi_body::specs::steps::Reading::operand_at))]
-fn name_declared<K: Known>(known: &K, level: u32, code: &mut Code<'_>) -> Result<Plain, LostStop>
-    ensures { Reads plain_view (named_in K.rules level known.now named.Name)
-        code.old code.new result }
-{
-    let name = code.name()?;
-    let data = value(known, level, code)?;
-    declaration(known.alloc(), Decl::Name(name.own(known.alloc())?, data))
-}
-
-#[inline(never)]
-#[tactic(auto, using(crate::proofs::Parts::part_fails), unfolding(crate::specs::steps::Reading::named_in, acpi_body::specs::steps::Reading::operands_at, acpi_body::specs::steps::Reading::operand_at))]
-fn region_declared<K: Known>(known: &K, level: u32, code: &mut Code<'_>) -> Result<Plain, LostStop>
-    ensures { Reads plain_view (named_in K.rules level known.now named.Region)
-        code.old code.new result }
-{
-    let name = code.name()?;
-    let space = code.byte()?;
-    let offset = value(known, level, code)?;
-    let length = value(known, level, code)?;
-    let name = name.own(known.alloc())?;
-    declaration(
-        known.alloc(),
-        Decl::Region {
-            name,
-            space,
-            offset,
-            length,
-        },
-    )
-}
-
-#[inline(never)]
-#[tactic(auto, using(crate::proofs::Parts::part_fails), unfolding(crate::specs::steps::Reading::named_in, acpi_body::specs::steps::Reading::operands_at, acpi_body::specs::steps::Reading::operand_at))]
-fn mutex_declared<K: Known>(known: &K, level: u32, code: &mut Code<'_>) -> Result<Plain, LostStop>
-    ensures { Reads plain_view (named_in K.rules level known.now named.Mutex)
-        code.old code.new result }
-{
-    let name = code.name()?;
-    let flags = code.byte()?;
-    declaration(known.alloc(), Decl::Mutex(name.own(known.alloc())?, flags))
-}
-
-#[inline(never)]
-#[tactic(auto, using(crate::proofs::Parts::part_fails), unfolding(crate::specs::steps::Reading::named_in, acpi_body::specs::steps::Reading::operands_at, acpi_body::specs::steps::Reading::operand_at))]
-fn event_declared<K: Known>(known: &K, level: u32, code: &mut Code<'_>) -> Result<Plain, LostStop>
-    ensures { Reads plain_view (named_in K.rules level known.now named.Event)
-        code.old code.new result }
-{
-    let name = code.name()?;
-    declaration(known.alloc(), Decl::Event(name.own(known.alloc())?))
-}
-
+// A declaration of one name.
 #[inline(never)]
 #[tactic(auto, using(crate::proofs::Parts::part_fails), unfolding(crate::specs::steps::Reading::named_in, crate::specs::steps::Reading::sourced_in, acpi_body::specs::steps::Reading::operands_at, acpi_body::specs::steps::Reading::operand_at))]
-fn create_declared<K: Known>(
+fn named<K: Known>(
     known: &K,
     level: u32,
-    width: Width,
+    form: NamedForm,
     code: &mut Code<'_>,
-) -> Result<Plain, LostStop>
-    ensures { Reads plain_view (named_in K.rules level known.now (named.Create width))
+) -> Result<Decl, LostStop>
+    ensures { Reads (λ d. nodes.term (decl_view d)) (named_in K.rules level known.now form)
         code.old code.new result }
 {
-    let source = source(known, level, code)?;
-    let index = value(known, level, code)?;
-    let name = code.name()?.own(known.alloc())?;
-    declaration(
-        known.alloc(),
-        Decl::Create {
+    match form {
+        NamedForm::Name => Ok(Decl::Name(
+            owned_name(known.alloc(), code)?,
+            value(known, level, code)?,
+        )),
+        NamedForm::Create(width) => Ok(Decl::Create {
             width,
-            source,
-            index,
-            name,
-        },
-    )
+            source: source(known, level, code)?,
+            index: value(known, level, code)?,
+            name: owned_name(known.alloc(), code)?,
+        }),
+        NamedForm::CreateField => Ok(Decl::CreateField {
+            source: source(known, level, code)?,
+            index: value(known, level, code)?,
+            bits: value(known, level, code)?,
+            name: owned_name(known.alloc(), code)?,
+        }),
+        NamedForm::Region => Ok(Decl::Region {
+            name: owned_name(known.alloc(), code)?,
+            space: code.byte()?,
+            offset: value(known, level, code)?,
+            length: value(known, level, code)?,
+        }),
+        NamedForm::Mutex => Ok(Decl::Mutex(owned_name(known.alloc(), code)?, code.byte()?)),
+        NamedForm::Event => Ok(Decl::Event(owned_name(known.alloc(), code)?)),
+    }
 }
 
-#[inline(never)]
-#[tactic(auto, using(crate::proofs::Parts::part_fails), unfolding(crate::specs::steps::Reading::named_in, crate::specs::steps::Reading::sourced_in, acpi_body::specs::steps::Reading::operands_at, acpi_body::specs::steps::Reading::operand_at))]
-fn create_field_declared<K: Known>(
+// The same, as a node.
+fn declaration<K: Known>(
     known: &K,
     level: u32,
+    form: NamedForm,
     code: &mut Code<'_>,
 ) -> Result<Plain, LostStop>
-    ensures { Reads plain_view (named_in K.rules level known.now named.CreateField)
+    ensures { Reads plain_view (named_in K.rules level known.now form)
         code.old code.new result }
 {
-    let source = source(known, level, code)?;
-    let index = value(known, level, code)?;
-    let bits = value(known, level, code)?;
-    let name = code.name()?.own(known.alloc())?;
-    declaration(
-        known.alloc(),
-        Decl::CreateField {
-            source,
-            index,
-            bits,
-            name,
-        },
-    )
+    let decl = named(known, level, form, code)?;
+    Ok(Plain::Term(Term::Declare(Box::new(known.alloc(), decl)?)))
 }
 
 #[inline(never)]
@@ -261,12 +213,12 @@ pub(crate) fn plain<'a, K: Known>(
         front.now code.new result }
 {
     match opcode {
-        Opcode::DeclareName => name_declared(known, level - 1, code),
-        Opcode::Region => region_declared(known, level - 1, code),
-        Opcode::Mutex => mutex_declared(known, level - 1, code),
-        Opcode::Event => event_declared(known, level - 1, code),
-        Opcode::Create(width) => create_declared(known, level - 1, width, code),
-        Opcode::CreateField => create_field_declared(known, level - 1, code),
+        Opcode::DeclareName => declaration(known, level - 1, NamedForm::Name, code),
+        Opcode::Region => declaration(known, level - 1, NamedForm::Region, code),
+        Opcode::Mutex => declaration(known, level - 1, NamedForm::Mutex, code),
+        Opcode::Event => declaration(known, level - 1, NamedForm::Event, code),
+        Opcode::Create(width) => declaration(known, level - 1, NamedForm::Create(width), code),
+        Opcode::CreateField => declaration(known, level - 1, NamedForm::CreateField, code),
         Opcode::External => external(known.alloc(), code),
         Opcode::Alias => alias(known.alloc(), code),
         Opcode::DataRegion => table_region(known, level - 1, code),

@@ -8,19 +8,19 @@ use Rattle.acpi_overview.specs.declared.value.Value.{Value}
 use Rattle.acpi_overview.specs.declared.value.Value.TheVariants as values
 
 -- the number of a constant; Revision has none before a program runs
-abbrev pub constant_number : Int → Option ℕ
-constant_number ints.Zero = Some 0
-constant_number ints.One = Some 1
-constant_number ints.Ones = Some 0xFFFFFFFFFFFFFFFF
-constant_number ints.Revision = None
-constant_number (ints.Byte n) = Some n
-constant_number (ints.Word n) = Some n
-constant_number (ints.DWord n) = Some n
-constant_number (ints.QWord n) = Some n
+abbrev pub integer_value : Int → Option ℕ
+integer_value ints.Zero = Some 0
+integer_value ints.One = Some 1
+integer_value ints.Ones = Some 0xFFFFFFFFFFFFFFFF
+integer_value ints.Revision = None
+integer_value (ints.Byte n) = Some n
+integer_value (ints.Word n) = Some n
+integer_value (ints.DWord n) = Some n
+integer_value (ints.QWord n) = Some n
 
 -- the number of a term that is a constant integer
 abbrev pub term_number : Term → Option ℕ
-term_number (terms.Int int) = constant_number int
+term_number (terms.Int int) = integer_value int
 term_number _ = None
 
 -- the number of a value that is a constant integer

@@ -1,4 +1,5 @@
--- Control methods that an operating system runs by itself (ACPI 6.5, 5.6.4, 5.8.1, 6.2.11, 6.3.7, 6.5.1, 6.5.4, 7.3.13 and 7.4).
+-- Control methods that an operating system runs by itself (ACPI 6.5, 5.6.4, 5.8.1, 6.2.11, 6.3.7, 6.5.1, 6.5.4, 7.3.13
+-- and 7.4).
 use Rattle.std.specs.Prelude.{◌≡◌, ◌≤◌, ◌⊎◌, ℕ, List, [], ◌∷◌, codes}
 use Rattle.acpi_overview.specs.declared.ospm_methods.OspmKind.{OspmKind}
 use Rattle.acpi_overview.specs.declared.ospm_methods.OspmKind.TheVariants as kinds
@@ -12,7 +13,9 @@ IsNumbered letter (a ∷ b ∷ c ∷ d ∷ []) = (a ≡ 95) × (b ≡ letter) ×
 IsNumbered _ _ = ⊥
 
 abbrev pub IsSystemName : List ℕ → Type 0
-IsSystemName s = (s ≡ codes "_PIC") ⊎ ((s ≡ codes "_PTS") ⊎ ((s ≡ codes "_WAK") ⊎ ((s ≡ codes "_TTS") ⊎ ((s ≡ codes "_GTS") ⊎ (s ≡ codes "_BFS")))))
+IsSystemName s = (s ≡ codes "_PIC")
+    ⊎ ((s ≡ codes "_PTS")
+    ⊎ ((s ≡ codes "_WAK") ⊎ ((s ≡ codes "_TTS") ⊎ ((s ≡ codes "_GTS") ⊎ (s ≡ codes "_BFS")))))
 
 -- a name that methods of the kind have; 81 is Q, 76 L and 69 E
 abbrev pub IsNameOf : OspmKind → List ℕ → Type 0

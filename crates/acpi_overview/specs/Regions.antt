@@ -6,10 +6,10 @@ use Rattle.acpi_name.specs.declared.name.Name.{Name}
 use Rattle.acpi_overview.specs.Numbers.{term_number}
 use Rattle.acpi_overview.specs.declared.regions.Bound.{Bound}
 use Rattle.acpi_overview.specs.declared.regions.Bound.TheVariants as bounds
-use Rattle.acpi_overview.specs.declared.regions.Mark.{Mark}
-use Rattle.acpi_overview.specs.declared.regions.Mark.TheVariants as marks
-use Rattle.acpi_overview.specs.declared.resources.Kind.{Kind}
-use Rattle.acpi_overview.specs.declared.resources.Kind.TheVariants as kinds
+use Rattle.acpi_overview.specs.declared.regions.Certainty.{Certainty}
+use Rattle.acpi_overview.specs.declared.regions.Certainty.TheVariants as marks
+use Rattle.acpi_overview.specs.declared.resources.AddressKind.{AddressKind}
+use Rattle.acpi_overview.specs.declared.resources.AddressKind.TheVariants as kinds
 
 -- the number of a bound that is known without running code
 abbrev pub bound_number : Bound → Option ℕ
@@ -24,7 +24,7 @@ IsBoundOf term (bounds.Named _ name) = term_number term ≡ None
 IsBoundOf term (bounds.Read read) = (read.now ≡ term) × (term_number term ≡ None)
 
 -- how far two bounds are known
-abbrev pub region_mark : Bound → Bound → Mark
+abbrev pub region_mark : Bound → Bound → Certainty
 region_mark (bounds.Read _) _ = marks.Read
 region_mark (bounds.Constant _) (bounds.Constant _) = marks.Constant
 region_mark (bounds.Constant _) (bounds.Named _ _) = marks.Named
@@ -45,5 +45,6 @@ ends_before (Some count) bit = nat_lt (min (count * 8) (2 ^ 64 - 1)) bit
 ends_before None _ = false
 
 -- the kind of addresses in an address space that devices claim: 0 SystemMemory, 1 SystemIO (table 5.184)
-abbrev pub claimed_kind : ℕ → Option Kind
-claimed_kind space = if nat_eq space 0 then Some kinds.Memory else (if nat_eq space 1 then Some kinds.Ports else None)
+abbrev pub claimed_kind : ℕ → Option AddressKind
+claimed_kind space = if nat_eq space 0 then Some kinds.Memory else
+    (if nat_eq space 1 then Some kinds.Ports else None)

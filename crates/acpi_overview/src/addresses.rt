@@ -1,7 +1,7 @@
 //! Where devices stand on their parents' buses.
 
 use crate::containers::Container;
-use crate::value::{Value, number_of};
+use crate::value::{Value, integer_value};
 use acpi_tree::Term;
 
 /// Where a device stands on its parent's bus, as its `_ADR` says (ACPI 6.5, 6.1.1).
@@ -11,12 +11,12 @@ pub enum Address {
     Unknown,
     /// The device and function on a PCI bus; function FFFF stands for all.
     Pci {
-        /// The device.
+        /// The number of the device on its bus.
         device: u16,
-        /// The function.
+        /// The number of the function of that device, FFFF for all.
         function: u16,
     },
-    /// A number of another bus.
+    /// The number that `_ADR` gives on another bus.
     Other(u64),
 }
 
@@ -32,7 +32,7 @@ fn is_bridge_id(value: &Value<'_>) -> bool {
 
 fn is_bridge_term(term: &Term) -> bool {
     match term {
-        Term::Int(int) => match number_of(*int) {
+        Term::Int(int) => match integer_value(*int) {
             Some(number) => number == 0x030A_D041 || number == 0x080A_D041,
             None => false,
         },

@@ -35,10 +35,10 @@ pub struct DeviceValues<'a> {
 
 /// How many objects stand directly below another.
 #[derive(Debug, Clone, Copy)]
-pub struct Counts {
-    /// Methods.
+pub struct MemberCounts {
+    /// How many methods.
     pub methods: usize,
-    /// Field units.
+    /// How many field units.
     pub units: usize,
 }
 
@@ -58,16 +58,16 @@ pub struct Container<'a> {
     /// What is known of the device.
     pub values: DeviceValues<'a>,
     /// What stands directly below it.
-    pub counts: Counts,
+    pub counts: MemberCounts,
     /// Where it stands on its parent's bus.
     pub address: Address,
 }
 
-/// The containers in the order of their paths, so that each stands behind those around, and for each object the container below
-/// which it stands.
+/// The containers in the order of their paths, so that each stands behind those around, and for each object the
+/// container below which it stands.
 #[derive(Drop)]
 pub struct Tree<'a> {
-    /// The containers.
+    /// The containers, by their numbers.
     pub containers: Vec<Container<'a>>,
     /// By the place of an object among all, the number of the container around.
     pub around: Vec<Option<usize>>,
@@ -133,7 +133,7 @@ fn set<'a>(fact: &mut Value<'a>, value: Value<'a>) {
 
 impl<'a> DeviceValues<'a> {
     // Hears of an object of the device, by its last segment.
-    fn hear(&mut self, segment: &[u8], value: Value<'a>) {
+    fn add(&mut self, segment: &[u8], value: Value<'a>) {
         match segment {
             b"_HID" => set(&mut self.hid, value),
             b"_CID" => set(&mut self.cid, value),
@@ -148,8 +148,8 @@ impl<'a> DeviceValues<'a> {
     }
 }
 
-impl Counts {
-    fn hear(&mut self, declared: Declared<'_>) {
+impl MemberCounts {
+    fn add(&mut self, declared: Declared<'_>) {
         match declared {
             Declared::Method(_) => self.methods = self.methods.saturating_add(1),
             Declared::Field { .. } => self.units = self.units.saturating_add(1),
@@ -160,7 +160,7 @@ impl Counts {
 
 impl<'a> Container<'a> {
     // Hears of an object that stands below it.
-    fn hear(&mut self, survey: &Survey, object: &Object<'a>) -> Result<(), AllocError> {
+    fn add(&mut self, survey: &Survey, object: &Object<'a>) -> Result<(), AllocError> {
         if !is_directly_in(object.path, self.object.path) {
             return Ok(());
         }
@@ -169,8 +169,8 @@ impl<'a> Container<'a> {
         } else {
             Value::of_declared(object.declared, object.code)
         };
-        self.values.hear(&last_segment(object.path), value);
-        self.counts.hear(object.declared);
+        self.values.add(&last_segment(object.path), value);
+        self.counts.add(object.declared);
         Ok(())
     }
 }
@@ -185,7 +185,7 @@ struct Building<'a> {
 
 impl<'a> Building<'a> {
     // The innermost container around a path; those that are not around it are left.
-    fn come_to(&mut self, path: &Path) -> Option<usize> {
+    fn leave_to(&mut self, path: &Path) -> Option<usize> {
         for _ in 0..self.open.len() {
             let number = *self.open.last()?;
             let container = self.containers.get(number)?;
@@ -212,7 +212,7 @@ impl<'a> Building<'a> {
             count: 1,
             place,
             values: NOTHING,
-            counts: Counts {
+            counts: MemberCounts {
                 methods: 0,
                 units: 0,
             },
@@ -223,9 +223,9 @@ impl<'a> Building<'a> {
     }
 
     // Tells the container of that number of an object below it.
-    fn tell(&mut self, number: usize, object: &Object<'a>) -> Result<(), AllocError> {
+    fn add_to(&mut self, number: usize, object: &Object<'a>) -> Result<(), AllocError> {
         match self.containers.get_mut(number) {
-            Some(container) => container.hear(self.survey, object),
+            Some(container) => container.add(self.survey, object),
             None => Ok(()),
         }
     }
@@ -246,10 +246,10 @@ impl<'a> Building<'a> {
 
     // Comes to the next object; the number of the container around it.
     fn next(&mut self, object: &Object<'a>, place: usize) -> Result<Option<usize>, AllocError> {
-        let around = self.come_to(object.path);
+        let around = self.leave_to(object.path);
         if !is_container(object.declared) {
             if let Some(number) = around {
-                self.tell(number, object)?;
+                self.add_to(number, object)?;
             }
             return Ok(around);
         }

@@ -3,7 +3,7 @@
 ghost use Rattle.std.specs.Prelude.{◌≡◌, ◌≤◌, ◌↔◌, length, IsSome};
 ghost use Rattle.acpi_overview.specs.Tables.{sum_is_good};
 
-use acpi_survey::{Judged, SurveyedTable};
+use acpi_survey::{SurveyedTable, TableContent};
 use acpi_table::HEADER_BYTES;
 use byteorder::{ByteOrder, LittleEndian};
 
@@ -59,11 +59,11 @@ pub fn is_sum_good(table: &SurveyedTable) -> Option<bool>
     ensures { result ≡ sum_is_good table.now.judged }
 {
     match &table.judged {
-        Judged::Read {
+        TableContent::Read {
             is_cut,
             has_bad_sum,
             ..
         } => { if *is_cut { None } else { Some(!*has_bad_sum) } }
-        Judged::Unread(_) => None,
+        TableContent::Unread(_) => None,
     }
 }

@@ -28,15 +28,16 @@ mod value;
 
 pub use addresses::Address;
 pub use containers::{
-    Container, Counts, DeviceValues, Tree, is_container, is_directly_in, is_within, last_segment,
+    Container, DeviceValues, MemberCounts, Tree, is_container, is_directly_in, is_within,
+    last_segment,
 };
 pub use headers::{TableHeader, header_of, is_sum_good};
 pub use lints::Lint;
 pub use machine::{Overview, Totals, overview_of};
 pub use objects::{Object, objects_at, objects_of};
 pub use ospm_methods::{OSPM_KINDS, OspmKind, OspmMethod, ospm_kind, ospm_methods_of};
-pub use regions::{Bound, Mark, Region, kind_of, regions_of};
-pub use resources::{Claim, Claims, Cover, Kind, claimed_range, resources_of};
+pub use regions::{Bound, Certainty, Region, kind_of, regions_of};
+pub use resources::{AddressKind, Claim, Claims, Cover, claimed_range, resources_of};
 pub use sources::UnitSource;
 pub use store_targets::StoreTargets;
-pub use value::{Value, number_of};
+pub use value::{Value, integer_value};

@@ -15,21 +15,21 @@ use std::alloc::{AllocError, Global};
 /// How many objects of some kinds there are, and bytes of code.
 #[derive(Debug, Clone, Copy)]
 pub struct Totals {
-    /// Devices.
+    /// How many devices.
     pub devices: usize,
-    /// Field units.
+    /// How many field units.
     pub units: usize,
-    /// Methods.
+    /// How many methods.
     pub methods: usize,
-    /// Bytes of methods' code.
+    /// How many bytes the methods' codes have.
     pub code: usize,
-    /// Methods whose code can't be read.
+    /// How many methods have code that can't be read.
     pub opaque: usize,
-    /// Names.
+    /// How many objects of DefName.
     pub names: usize,
-    /// Objects that have a condition.
+    /// How many objects have a condition.
     pub conditional: usize,
-    /// Bytes of tables that are lost.
+    /// How many bytes of tables are lost.
     pub lost: usize,
 }
 
@@ -60,24 +60,24 @@ pub struct Overview<'a> {
     pub totals: Totals,
 }
 
-fn add(total: &mut usize, count: usize) {
+fn increase(total: &mut usize, count: usize) {
     *total = total.saturating_add(count);
 }
 
 impl Totals {
-    fn hear(&mut self, object: &Object<'_>) {
+    fn add(&mut self, object: &Object<'_>) {
         match object.declared {
-            Declared::Device => add(&mut self.devices, 1),
-            Declared::Field { .. } => add(&mut self.units, 1),
+            Declared::Device => increase(&mut self.devices, 1),
+            Declared::Field { .. } => increase(&mut self.units, 1),
             Declared::Method(_) => {
-                add(&mut self.methods, 1);
-                add(&mut self.code, object.code);
+                increase(&mut self.methods, 1);
+                increase(&mut self.code, object.code);
             }
-            Declared::Name(_) => add(&mut self.names, 1),
+            Declared::Name(_) => increase(&mut self.names, 1),
             _ => {}
         }
         if object.is_conditional {
-            add(&mut self.conditional, 1);
+            increase(&mut self.conditional, 1);
         }
     }
 }
@@ -105,7 +105,7 @@ fn totals_of(objects: &[Object<'_>], problems: &[Problem], opaque: usize) -> Tot
     };
     for object in objects {
         if object.site.is_some() {
-            totals.hear(object);
+            totals.add(object);
         }
     }
     totals

@@ -3,8 +3,7 @@
 use acpi_conditions::{Entry, Turn, Way};
 use acpi_name::Path;
 use acpi_outline::{Fixed, Node};
-use acpi_survey::{Site, Span, Survey, What};
-use acpi_table::HEADER_BYTES;
+use acpi_survey::{Site, Span, SpanContent, Survey, site_of};
 use acpins_survey_output::{Declared, declared_by, predefined};
 use std::alloc::{AllocError, Global};
 
@@ -13,7 +12,7 @@ use std::alloc::{AllocError, Global};
 pub struct Object<'a> {
     /// The number of its entry.
     pub number: usize,
-    /// The path.
+    /// Where it stands in the namespace.
     pub path: &'a Path,
     /// What its term declares.
     pub declared: Declared<'a>,
@@ -32,7 +31,7 @@ pub struct Object<'a> {
 // The number of bytes of the code of a method.
 fn code_of(part: &Span<'_>) -> usize {
     match part.what {
-        What::Node(node) => match node {
+        SpanContent::Node(node) => match node {
             Node::Closed(fixed, code) => match fixed {
                 Fixed::Method(_, _) => code.len(),
                 _ => 0,
@@ -43,23 +42,9 @@ fn code_of(part: &Span<'_>) -> usize {
     }
 }
 
-/// Where a term at a place stands: in which table, and at which offset from its first byte.
-fn site_of(place: u128) -> Site {
-    let offset = (place % (1 << 64)) as usize;
-    Site {
-        table: (place / (1 << 64)) as usize,
-        offset: offset.saturating_add(HEADER_BYTES),
-    }
-}
-
-fn asks_something(entry: &Entry) -> bool {
-    let asks = &entry.asks;
-    asks.has || asks.no || !asks.needs.is_empty()
-}
-
 // What the entry of that number declares; what no table declares is there before all tables.
 fn object_of<'a>(survey: &'a Survey, entry: &'a Entry, number: usize) -> Object<'a> {
-    let asks = asks_something(entry);
+    let asks = !entry.asks.is_empty();
     match survey.part_of(number) {
         Some(part) => Object {
             number,
@@ -95,8 +80,8 @@ fn is_inside(turns: &[Turn], around: &[Turn], place: u128) -> bool {
     }
 }
 
-/// Whether an object has a condition that the object around it doesn't have: its term asks something, or control comes to
-/// it by another way than to what stands around.
+/// Whether an object has a condition that the object around it doesn't have: its term asks something, or control comes
+/// to it by another way than to what stands around.
 pub(crate) fn has_own_condition(
     survey: &Survey,
     around: &Object<'_>,

@@ -46,9 +46,9 @@ pub const OSPM_KINDS: [OspmKind; 8] = [
 /// A method that an operating system runs by itself.
 #[derive(Debug, Clone, Copy)]
 pub struct OspmMethod<'a> {
-    /// Its kind.
+    /// What the operating system runs it for.
     pub kind: OspmKind,
-    /// The method.
+    /// The object of the method.
     pub object: Object<'a>,
 }
 

@@ -5,7 +5,7 @@ ghost use Rattle.acpi_overview.specs.Regions.{bound_number, claimed_kind, ends_b
 
 use crate::containers::Tree;
 use crate::objects::{Object, objects_at};
-use crate::resources::Kind;
+use crate::resources::AddressKind;
 use crate::store_targets::StoreTargets;
 use crate::value::Value;
 use acpi_conditions::Seen;
@@ -18,7 +18,7 @@ use std::alloc::{AllocError, Global};
 /// A bound of a region: its offset or its length, in bytes (ACPI 6.5, 19.6.100).
 #[derive(Debug, Clone, Copy)]
 pub enum Bound<'a> {
-    /// A constant.
+    /// A constant: its value.
     Constant(u64),
     /// A name whose only object is a constant that no code stores to.
     Named(u64, &'a Name),
@@ -28,7 +28,7 @@ pub enum Bound<'a> {
 
 /// How far the bounds of a region are known.
 #[derive(Debug, Clone, Copy, PartialEq, Eq)]
-pub enum Mark {
+pub enum Certainty {
     /// Both are constants.
     Constant,
     /// Both are constants or names of constants that no code stores to.
@@ -40,15 +40,15 @@ pub enum Mark {
 /// An operation region.
 #[derive(Debug, Clone, Copy)]
 pub struct Region<'a> {
-    /// The object.
+    /// The object that the region is.
     pub object: Object<'a>,
     /// The number of the container around it.
     pub around: Option<usize>,
-    /// The address space (ACPI 6.5, table 5.184).
+    /// RegionSpace: 0 SystemMemory, 1 SystemIO and so on (ACPI 6.5, 20.2.5.2 DefOpRegion).
     pub space: u8,
-    /// The first byte.
+    /// RegionOffset: its first byte in the space.
     pub offset: Bound<'a>,
-    /// The number of bytes.
+    /// RegionLen: how many bytes it has.
     pub length: Bound<'a>,
     /// How many field units are in it.
     pub units: usize,
@@ -69,14 +69,14 @@ impl<'a> Bound<'a> {
 
 impl<'a> Region<'a> {
     /// How far its bounds are known.
-    pub fn mark(&self) -> Mark
+    pub fn mark(&self) -> Certainty
         ensures { result ≡ region_mark self.now.offset self.now.length }
     {
         match (self.offset, self.length) {
-            (Bound::Read(_), _) => Mark::Read,
-            (_, Bound::Read(_)) => Mark::Read,
-            (Bound::Constant(_), Bound::Constant(_)) => Mark::Constant,
-            _ => Mark::Named,
+            (Bound::Read(_), _) => Certainty::Read,
+            (_, Bound::Read(_)) => Certainty::Read,
+            (Bound::Constant(_), Bound::Constant(_)) => Certainty::Constant,
+            _ => Certainty::Named,
         }
     }
 
@@ -103,14 +103,14 @@ impl<'a> Region<'a> {
 
 /// What the bounds of regions are looked up in.
 #[derive(Clone, Copy)]
-struct Lookup<'a, 'b> {
+struct ConstantLookup<'a, 'b> {
     alloc: Global,
     survey: &'a Survey,
     objects: &'b [Object<'a>],
     store_targets: &'b StoreTargets,
 }
 
-impl<'a, 'b> Lookup<'a, 'b> {
+impl<'a, 'b> ConstantLookup<'a, 'b> {
     // The constant that a name in the term of an entry stands for, if nothing can change it.
     fn constant_of(&self, number: usize, name: &Name) -> Result<Option<u64>, AllocError> {
         let entries = self.survey.entries();
@@ -182,7 +182,7 @@ pub fn regions_of<'a>(
     tree: &Tree<'a>,
     store_targets: &StoreTargets,
 ) -> Result<Vec<Region<'a>>, AllocError> {
-    let lookup = Lookup {
+    let lookup = ConstantLookup {
         alloc,
         survey,
         objects,
@@ -204,13 +204,14 @@ pub(crate) fn regions_at(regions: &[Region<'_>], path: &Path) -> (usize, usize) 
     (from, to)
 }
 
-/// The kind of addresses of an address space, if devices claim such (ACPI 6.5, table 5.184): 0 SystemMemory, 1 SystemIO.
-pub fn kind_of(space: u8) -> Option<Kind>
+/// The kind of addresses of an address space, if devices claim such (ACPI 6.5, table 5.184): 0 SystemMemory, 1
+/// SystemIO.
+pub fn kind_of(space: u8) -> Option<AddressKind>
     ensures { result ≡ claimed_kind space }
 {
     match space {
-        0 => Some(Kind::Memory),
-        1 => Some(Kind::Ports),
+        0 => Some(AddressKind::Memory),
+        1 => Some(AddressKind::Ports),
         _ => None,
     }
 }

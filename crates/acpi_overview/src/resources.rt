@@ -9,10 +9,10 @@ use std::alloc::{AllocError, Global};
 
 /// A kind of addresses that devices claim and regions lie in.
 #[derive(Debug, Clone, Copy, PartialEq, Eq, PartialOrd, Ord)]
-pub enum Kind {
-    /// Memory.
+pub enum AddressKind {
+    /// Addresses of memory, in bytes.
     Memory,
-    /// I/O ports.
+    /// I/O ports, by number.
     Ports,
 }
 
@@ -20,10 +20,10 @@ pub enum Kind {
 #[derive(Debug, Clone, Copy, PartialEq, Eq, PartialOrd, Ord)]
 pub struct Claim {
     /// The kind of the addresses.
-    pub kind: Kind,
-    /// The first of them.
+    pub kind: AddressKind,
+    /// The first address.
     pub from: u64,
-    /// The first behind them.
+    /// The first address behind them.
     pub to: u64,
     /// The number of the container that claims them.
     pub container: usize,
@@ -72,7 +72,7 @@ pub fn resources_of<'a>(
     Ok(resources)
 }
 
-fn range(kind: Kind, from: u64, count: u64) -> Option<(Kind, u64, u64)>
+fn range(kind: AddressKind, from: u64, count: u64) -> Option<(AddressKind, u64, u64)>
     ensures { IfSome result (λ r. r.1 ≤ r.2) }
 {
     if count == 0 {
@@ -82,7 +82,7 @@ fn range(kind: Kind, from: u64, count: u64) -> Option<(Kind, u64, u64)>
 }
 
 // A range that can't be moved.
-fn fixed_range(kind: Kind, min: u64, max: u64, count: u64) -> Option<(Kind, u64, u64)>
+fn fixed_range(kind: AddressKind, min: u64, max: u64, count: u64) -> Option<(AddressKind, u64, u64)>
     ensures { IfSome result (λ r. r.1 ≤ r.2) }
 {
     if min != max {
@@ -92,45 +92,53 @@ fn fixed_range(kind: Kind, min: u64, max: u64, count: u64) -> Option<(Kind, u64,
 }
 
 // What a bridge passes on to the devices behind it is not claimed.
-fn space_range(space: &AddressSpace<'_>, is_bridge: bool) -> Option<(Kind, u64, u64)>
+fn space_range(space: &AddressSpace<'_>, is_bridge: bool) -> Option<(AddressKind, u64, u64)>
     ensures { IfSome result (λ r. r.1 ≤ r.2) }
 {
     if is_bridge && space.flags % 2 == 0 {
         return None;
     }
     match space.kind {
-        0 => range(Kind::Memory, space.min, space.length),
-        1 => range(Kind::Ports, space.min, space.length),
+        0 => range(AddressKind::Memory, space.min, space.length),
+        1 => range(AddressKind::Ports, space.min, space.length),
         _ => None,
     }
 }
 
-/// The addresses that a descriptor claims, of a container that may be a PCI host bridge: the first, and the first behind them.
-pub fn claimed_range(descriptor: &Descriptor<'_>, is_bridge: bool) -> Option<(Kind, u64, u64)>
+/// The addresses that a descriptor claims, of a container that may be a PCI host bridge: the first, and the first
+/// behind them.
+pub fn claimed_range(
+    descriptor: &Descriptor<'_>,
+    is_bridge: bool,
+) -> Option<(AddressKind, u64, u64)>
     ensures { IfSome result (λ r. r.1 ≤ r.2) }
 {
     match descriptor {
         Descriptor::Io(io) => fixed_range(
-            Kind::Ports,
+            AddressKind::Ports,
             u64::from(io.min),
             u64::from(io.max),
             u64::from(io.length),
         ),
-        Descriptor::FixedIo(io) => range(Kind::Ports, u64::from(io.base), u64::from(io.length)),
+        Descriptor::FixedIo(io) => range(
+            AddressKind::Ports,
+            u64::from(io.base),
+            u64::from(io.length),
+        ),
         Descriptor::Memory24(memory) => fixed_range(
-            Kind::Memory,
+            AddressKind::Memory,
             u64::from(memory.min).saturating_mul(256),
             u64::from(memory.max).saturating_mul(256),
             u64::from(memory.length).saturating_mul(256),
         ),
         Descriptor::Memory32(memory) => fixed_range(
-            Kind::Memory,
+            AddressKind::Memory,
             u64::from(memory.min),
             u64::from(memory.max),
             u64::from(memory.length),
         ),
         Descriptor::FixedMemory32(memory) => range(
-            Kind::Memory,
+            AddressKind::Memory,
             u64::from(memory.base),
             u64::from(memory.length),
         ),
@@ -211,7 +219,7 @@ impl Claims {
     }
 
     // The claim that reaches furthest, of those that begin at an address or before it.
-    fn furthest_at(&self, kind: Kind, address: u64) -> Option<Claim>
+    fn furthest_at(&self, kind: AddressKind, address: u64) -> Option<Claim>
         ensures { IfSome result (λ c. address < c.to) }
     {
         let count = self
@@ -227,7 +235,7 @@ impl Claims {
     }
 
     /// How far a range is claimed, from its first address on.
-    pub fn cover(&self, kind: Kind, from: u64, to: u64) -> Result<Cover, AllocError>
+    pub fn cover(&self, kind: AddressKind, from: u64, to: u64) -> Result<Cover, AllocError>
         ensures { IfOk result (λ c. from ≤ c.to) }
     {
         let mut cover = Cover {

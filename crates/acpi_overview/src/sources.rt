@@ -12,11 +12,11 @@ use std::alloc::{AllocError, Global};
 /// A field unit from which a bound of a region is read at run time.
 #[derive(Debug, Clone, Copy)]
 pub struct UnitSource<'a> {
-    /// The field unit.
+    /// The object of the field unit.
     pub unit: Object<'a>,
-    /// Its first bit in its region.
+    /// Its first bit, from the first of its region.
     pub offset: u64,
-    /// The number of its bits.
+    /// Its width, in bits.
     pub bits: u32,
     /// The number of its region.
     pub region: usize,
@@ -100,7 +100,8 @@ impl<'a> Overview<'a> {
         }
     }
 
-    /// The field unit from which the first byte of a region is read, where a name in its term is sure to be one in a region.
+    /// The field unit from which the first byte of a region is read, where a name in its term is sure to be one in a
+    /// region.
     pub fn source_of(
         &self,
         alloc: Global,

@@ -3,14 +3,15 @@
 use crate::objects::Object;
 use acpi_name::{Name, Seg};
 use acpi_outline::{Fixed, Node, Nodes, Plain};
-use acpi_survey::{BodyReading, Span, Spans, Survey, What};
+use acpi_survey::{BodyReading, Span, SpanContent, Spans, Survey};
 use acpi_tree::{Decl, Operand, Term};
 use acpins_survey_output::Declared;
 use std::alloc::{AllocError, Global};
 use std::collections::BTreeSet;
 
 /// The last segments of all names that stand as the target of a store or as a reference in some body or statement, so
-/// that code may store to the objects of these names (ACPI 6.5, 19.6). A name with another last segment is never stored to.
+/// that code may store to the objects of these names (ACPI 6.5, 19.6). A name with another last segment is never stored
+/// to.
 #[derive(Drop)]
 pub struct StoreTargets {
     segments: BTreeSet<Seg>,
@@ -132,7 +133,7 @@ impl StoreTargets {
 
     fn hear_span(&mut self, span: &Span<'_>) -> Result<(), AllocError> {
         match span.what {
-            What::Node(node) => match node {
+            SpanContent::Node(node) => match node {
                 Node::Plain(plain) => self.hear_plain(plain),
                 Node::Holds(fixed, _) => self.hear_fixed(fixed),
                 Node::Fields(fixed, _, _) => self.hear_fixed(fixed),
@@ -142,8 +143,8 @@ impl StoreTargets {
                     Ok(())
                 }
             },
-            What::Element(_, _, _) => Ok(()),
-            What::Lost(_) => {
+            SpanContent::Element(_, _, _) => Ok(()),
+            SpanContent::Lost(_) => {
                 self.has_unread = true;
                 Ok(())
             }

@@ -1,7 +1,7 @@
 //! What is known of an object's value without running code.
 
 ghost use Rattle.std.specs.Prelude.{◌≡◌, ℕ};
-ghost use Rattle.acpi_overview.specs.Numbers.{constant_number, is_missing, term_number, value_number};
+ghost use Rattle.acpi_overview.specs.Numbers.{integer_value, is_missing, term_number, value_number};
 ghost use Rattle.acpins_survey_output.specs.declared.objects.Declared.TheVariants as objects;
 ghost use Rattle.acpi_overview.specs.declared.value.Value.TheVariants as known;
 
@@ -13,7 +13,7 @@ use acpins_survey_output::Declared;
 pub enum Value<'a> {
     /// Nothing declares it.
     Missing,
-    /// A constant integer.
+    /// A constant integer, by its value.
     Number(u64),
     /// A string, without the 00 that ends it.
     Text(&'a [u8]),
@@ -28,8 +28,8 @@ pub enum Value<'a> {
 }
 
 /// The number of a constant; Revision has none before a program runs.
-pub fn number_of(int: Int) -> Option<u64>
-    ensures { result ≡ constant_number int }
+pub fn integer_value(int: Int) -> Option<u64>
+    ensures { result ≡ integer_value int }
 {
     match int {
         Int::Zero => Some(0),
@@ -49,7 +49,7 @@ impl<'a> Value<'a> {
         ensures { value_number result ≡ term_number term.now }
     {
         match term {
-            Term::Int(int) => match number_of(*int) {
+            Term::Int(int) => match integer_value(*int) {
                 Some(number) => Value::Number(number),
                 None => Value::Unknown,
             },

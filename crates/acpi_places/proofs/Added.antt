@@ -19,6 +19,7 @@ use Rattle.acpi_declare.specs.Tables.{IsTableOf}
 use Rattle.acpi_declare.specs.declared.notes.Method as code
 use Rattle.acpi_declare.specs.declared.notes.TableNotes.{TableNotes}
 use Rattle.acpi_declare.proofs.Unions.{path_same, union-nothing, union_assoc}
+use Rattle.acpi_declare.proofs.TableLists.{count_listings, count_notes}
 use Rattle.acpi_places.specs.declared.place.CodePlace.{CodePlace}
 use Rattle.acpi_places.specs.Places.{AreTablePlaces, AreAllPlaces, by_path, all_by_path, AreCodePlaces}
 use Rattle.acpi_places.specs.steps.Adding.{AddsTable, AreFirstPlaces}
@@ -56,16 +57,6 @@ pub get_none : {V : Type 0} → get (empty {X = V} {R = path_cmp}) ≡ nothing
 get_none = λ i q. get-empty path_cmp q i
 
 -- ---- lists of tables
-
-pub as_many : (depth number : ℕ) (N : Namespace) (bs : List (List ℕ)) (ts : List (List Placement)) → AreListings depth number N bs ts → length ts ≡ length bs
-as_many depth number N [] [] h = refl
-as_many depth number N [] (t ∷ ts) h = absurd h
-as_many depth number N (b ∷ bs) [] h = absurd h
-as_many depth number N (b ∷ bs) (t ∷ ts) h = ap (λ (k : ℕ). suc k) (as_many depth (suc number) (union N (objects_of t)) bs ts h.1)
-
-as_many_notes : (N : Namespace) (ts : List (List Placement)) → length (all_notes N ts) ≡ length ts
-as_many_notes N [] = refl
-as_many_notes N (t ∷ ts) = ap (λ (k : ℕ). suc k) (as_many_notes (union N (objects_of t)) ts)
 
 -- the table at a place, and its notes
 record TableAt (depth number : ℕ) (b : List ℕ) (t : List Placement) (n : Notes) : Type 0 where
@@ -134,7 +125,7 @@ noted_at (m ∷ ns) (suc i) n below e = noted_at ns i n (omega arith) e
 module _ (depth : ℕ) (bs : List (List ℕ)) (ns : List TableNotes) (h : AreNotes depth bs (map notes_of ns)) where
   -- there are notes of each table
   pub notes_enough : length ns ≡ length bs
-  notes_enough = sym (length-map ns notes_of) ∙ ap length h.notes_are ∙ as_many_notes predefined h.placements ∙ as_many depth 0 predefined bs h.placements h.listings
+  notes_enough = sym (length-map ns notes_of) ∙ ap length h.notes_are ∙ count_notes predefined h.placements ∙ count_listings depth 0 predefined bs h.placements h.listings
 
   pub none_yet : AreFirstPlaces bs h.placements 0 nothing
   none_yet = record { codes = []; are = tt; by_paths = refl }
@@ -145,7 +136,7 @@ module _ (depth : ℕ) (bs : List (List ℕ)) (ns : List TableNotes) (h : AreNot
     t = get_or h.placements i []
 
     reach : i < length h.placements
-    reach = omega (arith, below, as_many depth 0 predefined bs h.placements h.listings)
+    reach = omega (arith, below, count_listings depth 0 predefined bs h.placements h.listings)
 
     at : TableAt depth i b t (notes_of n)
     at =
@@ -183,7 +174,7 @@ module _ (depth : ℕ) (bs : List (List ℕ)) (ns : List TableNotes) (h : AreNot
   pub all_places : (count : ℕ) (places : Lookup CodePlace) → length bs ≤ count → AreFirstPlaces bs h.placements count places → AreCodePlaces depth bs places
   all_places count places past first =
       let all = take_all count bs past in
-      let all_listed = take_all count h.placements (omega (arith, past, as_many depth 0 predefined bs h.placements h.listings)) in
+      let all_listed = take_all count h.placements (omega (arith, past, count_listings depth 0 predefined bs h.placements h.listings)) in
       record {
         placements = h.placements;
         listings = h.listings;

@@ -5,6 +5,7 @@ use Rattle.std.specs.Option.{option_or}
 use Rattle.acpi_name.specs.Names.{Segment, NameParts}
 use Rattle.acpi_space.specs.Lookups.{Lookup, is_same_path, nothing, singleton, union}
 use Rattle.acpi_space.proofs.Comparisons.{path_itself}
+use Rattle.acpi_space.proofs.Elements.{all_map}
 use Rattle.acpi_tree.specs.Objects.{ObjectTree}
 use Rattle.acpi_declare.specs.Listing.{Placement, object_by, object_of, objects_of, IsJustified}
 use Rattle.acpi_declare.specs.Loads.{AreListings}
@@ -56,13 +57,9 @@ free_apart N p q free has = by (is_same_path p q) refl
         let none : is_some (N q) ≡ false = ap (λ (r : List Segment). is_some (N r)) (sym (path_same p q e)) ∙ ap (λ (o : Option ObjectTree). is_some o) free in
         absurd (true≢false (sym has ∙ none))
 
-all_weaker : {X : Type 0} (P Q : X → Type 0) (xs : List X) → ((x : X) → P x → Q x) → AllByRecursion P xs → AllByRecursion Q xs
-all_weaker P Q [] f h = tt
-all_weaker P Q (x ∷ xs) f h = (f x h.0, all_weaker P Q xs f h.1)
-
 -- what is apart from more is apart from these
 less_apart : (N M : Namespace) (ms : List Method) → AreApart (union N M) ms → AreApart N ms
-less_apart N M ms h = all_weaker (Apart (union N M)) (Apart N) ms (λ m apart q has. apart q (has_first N M q has)) h
+less_apart N M ms h = all_map (Apart (union N M)) (Apart N) (λ m apart q has. apart q (has_first N M q has)) ms h
 
 -- ---- the methods of a table
 
@@ -85,11 +82,11 @@ later_apart N before (x ∷ xs) (e ∷ es) h =
 -- each is defined by the table
 one_defined : (M : Namespace) (d : Effect) (p : List Segment) (ms : List Method) → AllByRecursion (λ m. Has M m.path) ms
     → AllByRecursion (λ m. Has (union (object_by d p) M) m.path) (methods_by d p ++ ms)
-one_defined M (declares o links None) p ms h = all_weaker (λ m. Has M m.path) _ ms (λ m has. has_second (singleton p o) M m.path has) h
+one_defined M (declares o links None) p ms h = all_map (λ m. Has M m.path) _ (λ m has. has_second (singleton p o) M m.path has) ms h
 one_defined M (declares o links (Some code)) p ms h =
-    (has_first (singleton p o) M p (has_itself p o), all_weaker (λ m. Has M m.path) _ ms (λ m has. has_second (singleton p o) M m.path has) h)
-one_defined M opens p ms h = all_weaker (λ m. Has M m.path) _ ms (λ m has. has_second nothing M m.path has) h
-one_defined M (expects count) p ms h = all_weaker (λ m. Has M m.path) _ ms (λ m has. has_second nothing M m.path has) h
+    (has_first (singleton p o) M p (has_itself p o), all_map (λ m. Has M m.path) _ (λ m has. has_second (singleton p o) M m.path has) ms h)
+one_defined M opens p ms h = all_map (λ m. Has M m.path) _ (λ m has. has_second nothing M m.path has) ms h
+one_defined M (expects count) p ms h = all_map (λ m. Has M m.path) _ (λ m has. has_second nothing M m.path has) ms h
 
 all_defined : (es : List Placement) → AllByRecursion (λ m. Has (objects_of es) m.path) (methods es)
 all_defined [] = tt
@@ -124,8 +121,8 @@ module _ (N : Namespace) (bytes : List ℕ) (p : List Segment) (ms : List Method
   first_placed (declares o links (Some code)) (c ∷ cs) apart later h = (
     ap (λ (b : Bool). option_or (cond b (Some c) None) (by_path ms cs p)) (path_itself p),
     placed_second (singleton p c) (by_path ms cs) ms cs
-        (all_weaker (Apart (union N (singleton p o))) (λ m. singleton p c m.path ≡ None) ms
-        (λ m away. ap (λ (b : Bool). cond b (Some c) None) (away p (has_second N (singleton p o) p (has_itself p o)))) apart) (later cs h.1),
+        (all_map (Apart (union N (singleton p o))) (λ m. singleton p c m.path ≡ None) (λ m away. ap (λ (b : Bool). cond b (Some c) None) (away p (has_second N (singleton p o) p (has_itself p o))))
+        ms apart) (later cs h.1),
   )
   first_placed opens cs apart later h = later cs h
   first_placed (expects count) cs apart later h = later cs h
@@ -148,7 +145,7 @@ tables_apart depth k N [] (t ∷ ts) h = absurd h
 tables_apart depth k N (b ∷ bs) [] h = absurd h
 tables_apart depth k N (b ∷ bs) (t ∷ ts) h = (
   later_apart N [] (sites h.0.0) t h.0.2,
-  all_weaker (λ u. AreApart (union N (objects_of t)) (methods u)) (λ u. AreApart N (methods u)) ts (λ u apart. less_apart N (objects_of t) (methods u) apart)
+  all_map (λ u. AreApart (union N (objects_of t)) (methods u)) (λ u. AreApart N (methods u)) (λ u apart. less_apart N (objects_of t) (methods u) apart) ts
       (tables_apart depth (suc k) (union N (objects_of t)) bs ts h.1),
 )
 
@@ -167,8 +164,8 @@ module _ (N : Namespace) (t : List Placement) (cs : List CodePlace) (later : Loo
   behind (u ∷ ts) [] h k = absurd k
   behind (u ∷ ts) (ds ∷ css) h k = (
     placed_second (by_path (methods t) cs) later (methods u) ds
-        (all_weaker (Apart (union N (objects_of t))) (λ m. by_path (methods t) cs m.path ≡ None) (methods u)
-        (λ m away. none_there (objects_of t) m.path (methods t) cs (λ r has. away r (has_second N (objects_of t) r has)) (all_defined t)) h.0) k.0,
+        (all_map (Apart (union N (objects_of t))) (λ m. by_path (methods t) cs m.path ≡ None) (λ m away. none_there (objects_of t) m.path (methods t) cs (λ r has. away r (has_second N (objects_of t) r has)) (all_defined t))
+        (methods u) h.0) k.0,
     behind ts css h.1 k.1,
   )
 

@@ -2,23 +2,22 @@
 use Rattle.std.proofs.Common.{◌≡◌, ℕ, suc, ◌-◌, ◌≤◌, true, List, [], ◌++◌, length, Result, Ok, refl, sym, ap, subst, ◌∙◌, append_assoc, arith}
 use Rattle.std.proofs.lemmas.List.{length-append}
 use Rattle.acpi_name.specs.Names.{NameParts}
-use Rattle.acpi_tree.specs.Tree.{ItemTree, scope, method, device, processor, power, thermal, ItemTrees, no_items, item}
+use Rattle.acpi_tree.specs.declared.tree.ScopeKind.{ScopeKind}
+use Rattle.acpi_tree.specs.Tree.{ItemTree, scope, method, ItemTrees, no_items, item}
 use Rattle.acpi_code.specs.declared.fault.CodeFault.{CodeFault}
 use Rattle.acpi_code.specs.declared.opcode.Opcode.{Opcode}
-use Rattle.acpi_code.specs.declared.opcode.Opcode.TheVariants as opcodes
 use Rattle.acpi_code.specs.Opcodes.{opcode_bytes, is_spelled}
 use Rattle.acpi_code.specs.steps.Left.{Left}
 use Rattle.acpi_code.specs.steps.Reading.{opcode_at}
 use Rattle.acpi_code.proofs.Opcodes.{opens}
 use Rattle.acpi_terms.specs.declared.holder.Holder.{Holder}
-use Rattle.acpi_terms.specs.declared.holder.HolderForm.{HolderForm}
-use Rattle.acpi_terms.specs.declared.holder.HolderForm.TheVariants as forms
-use Rattle.acpi_terms.specs.Forms.{fixed_arguments, ArgumentsOf}
-use Rattle.acpi_terms.specs.Spelling.{SpellsFilled, SpellsItem, SpellsItems, item_height, items_height}
-use Rattle.acpi_terms.specs.steps.Holding.{opens_items, holding, held_by, holder_item, HasFront}
+use Rattle.acpi_terms.specs.Forms.{fixed_arguments, ArgumentsOf, kind_opcode, kind_arguments}
+use Rattle.acpi_terms.specs.Spelling.{SpellsFilled, SpellsItem, SpellsItems}
+use Rattle.acpi_terms.specs.steps.Holding.{opens_items, held_by, holder_item, HasFront}
 use Rattle.acpi_terms.specs.steps.Reading.{Fault, packed_at, item_by}
 use Rattle.acpi_terms.proofs.Arguments.{arguments_height, packed_complete}
 use Rattle.acpi_terms.proofs.Holders.{as_holder}
+use Rattle.acpi_terms.proofs.ScopeKinds.{kind_form}
 use Rattle.acpi_places.specs.declared.place.CodePlace.{CodePlace}
 use Rattle.acpi_places.specs.Places.{place_of_last, SpellsItemAt, SpellsItemsAt}
 
@@ -51,19 +50,8 @@ told_bytes (item i is) = bytes_in i
 
 -- the items in an item
 abbrev pub items_in : ItemTree → ItemTrees
-items_in (scope n is) = is
-items_in (device n is) = is
-items_in (processor n id block len is) = is
-items_in (power n level order is) = is
-items_in (thermal n is) = is
+items_in (scope kind n is) = is
 items_in _ = no_items
-
-items_held : (form : HolderForm) (n : NameParts) (is : ItemTrees) → items_in (holding form n is) ≡ is
-items_held forms.Scope n is = refl
-items_held forms.Device n is = refl
-items_held (forms.Processor id block length) n is = refl
-items_held (forms.Power level order) n is = refl
-items_held forms.Thermal n is = refl
 
 abbrev given : {X F : Type 0} → X → Result X F
 given x = Ok x
@@ -118,7 +106,6 @@ module _ (o : Opcode) (made : ArgumentsOf o → ItemTrees → ItemTree) (v : Arg
   same : here ≡ told h.inner.end h.inner.bytes
   same =
       sym (items here) ∙ ap items_in (same_item _ _ _ _ (sym read_here ∙ read_there)).0
-      ∙ items_held h.front.form h.front.name (told h.inner.end h.inner.bytes)
 
   pub inside_is : f.1 ≡ h.inner.bytes
   inside_is = ap told_bytes same
@@ -154,33 +141,11 @@ module _ (is : ItemTrees) (a rest : List ℕ) (old : Left) (h : Holder) where
   }
 
   module _ (new : Left) (whole : old.bytes ≡ a ++ rest) (front : HasFront old new h) where
-    as_filled : (o : Opcode) (made : ArgumentsOf o → ItemTrees → ItemTree) (v : ArgumentsOf o) (f : SpellsFilled o v (λ b. SpellsItems is b) a)
-        → is_spelled o ≡ true → opens_items o ≡ true → arguments_height (fixed_arguments o) ≤ 0
-        → ((inner : ℕ → List ℕ → Result ItemTrees Fault) (end : ℕ) (whole more : List ℕ) → item_by inner 0 end whole o more ≡ packed_at (fixed_arguments o) made 0 inner end more)
-        → ((js : ItemTrees) → items_in (made v js) ≡ js)
-        → ((table start : ℕ) (places : List CodePlace) → SpellsFilled o v (λ b. SpellsItemsAt table (place_of_last start a b) is b places) a → SpellsItemAt table start (made v is) a places)
-        → Inside (made v is) is a rest old h
-    as_filled o made v f some holds flat form items so =
-        filled o v (made v is) f (inside_is o made v (λ b. SpellsItems is b) a rest old new h some holds flat form items f whole front)
-        (inside_ends o made v (λ b. SpellsItems is b) a rest old new h some holds flat form items f whole front) so
-
-    pub inside : (form : HolderForm) (n : NameParts) → SpellsItem (holding form n is) a → Inside (holding form n is) is a rest old h
-    inside forms.Scope n f =
-        as_filled opcodes.Scope (λ v js. scope v.0 js) (n, tt) f refl refl (omega arith) (λ inner end w m. refl) (λ js. refl) (λ table start places p. p)
-    inside forms.Device n f =
-        as_filled opcodes.Device (λ v js. device v.0 js) (n, tt) f refl refl (omega arith) (λ inner end w m. refl) (λ js. refl) (λ table start places p. p)
-    inside (forms.Processor id block len) n f =
-        as_filled opcodes.Processor (λ v js. processor v.0 v.1.0 v.1.1.0 v.1.1.1.0 js) (n, (id, (block, (len, tt)))) f refl refl (omega arith)
-        (λ inner end w m. refl) (λ js. refl) (λ table start places p. p)
-    inside (forms.Power level order) n f =
-        as_filled opcodes.Power (λ v js. power v.0 v.1.0 v.1.1.0 js) (n, (level, (order, tt))) f refl refl (omega arith) (λ inner end w m. refl) (λ js. refl) (λ table start places p. p)
-    inside forms.Thermal n f =
-        as_filled opcodes.Thermal (λ v js. thermal v.0 js) (n, tt) f refl refl (omega arith) (λ inner end w m. refl) (λ js. refl) (λ table start places p. p)
-
--- an item that holds items is a level higher than they are
-pub held_height : (form : HolderForm) (n : NameParts) (is : ItemTrees) → item_height (holding form n is) ≡ suc (items_height is)
-held_height forms.Scope n is = refl
-held_height forms.Device n is = refl
-held_height (forms.Processor id block length) n is = refl
-held_height (forms.Power level order) n is = refl
-held_height forms.Thermal n is = refl
+    pub inside : (kind : ScopeKind) (n : NameParts) → SpellsItem (scope kind n is) a → Inside (scope kind n is) is a rest old h
+    inside kind n f =
+        let k = kind_form kind in
+        let o = kind_opcode kind in
+        let v = kind_arguments kind n in
+        let items : (js : ItemTrees) → items_in (k.made v js) ≡ js = λ js. ap items_in (k.is n js) in
+        filled o v (scope kind n is) f (inside_is o k.made v (λ b. SpellsItems is b) a rest old new h k.spelled k.opens k.flat (λ inner. k.read inner 0) items f whole front)
+        (inside_ends o k.made v (λ b. SpellsItems is b) a rest old new h k.spelled k.opens k.flat (λ inner. k.read inner 0) items f whole front) (λ table start places p. p)

@@ -2,7 +2,7 @@
 use Rattle.std.proofs.Common.{◌≡◌, ℕ, ◌+◌, List, [], ◌∷◌, length, map, ap, ◌∙◌}
 use Rattle.std.specs.List.{AllZip}
 use Rattle.std.proofs.lemmas.List.{map-append}
-use Rattle.acpi_tree.specs.Tree.{ItemTree, name, scope, method, external, external_block, create, create_field, mutex, event, region, field, index_field, bank_field, device, processor, power, thermal, ItemTrees, no_items, item}
+use Rattle.acpi_tree.specs.Tree.{ItemTree, name, scope, method, external, external_block, create, create_field, mutex, event, region, field, index_field, bank_field, ItemTrees, no_items, item}
 use Rattle.acpi_declare.specs.Listing.{Placement}
 use Rattle.acpi_declare.specs.Notes.{Method, methods}
 use Rattle.acpi_declare.specs.Tables.{code_of}
@@ -17,11 +17,7 @@ in_table number c = record { table = number; place = c.place; length = c.length 
 mutual
   item_in : (table other start : ℕ) (i : ItemTree) (a : List ℕ) (ps : List CodePlace) → SpellsItemAt table start i a ps → SpellsItemAt other start i a (map (in_table other) ps)
   item_in table other start (method n flags code) a ps h = (h.0, ap (map (in_table other)) h.1)
-  item_in table other start (scope n is) a ps f = (f.0, f.1, f.2, items_in table other (place_of_last start a f.1) is f.1 ps f.3, f.4)
-  item_in table other start (device n is) a ps f = (f.0, f.1, f.2, items_in table other (place_of_last start a f.1) is f.1 ps f.3, f.4)
-  item_in table other start (processor n id block len is) a ps f = (f.0, f.1, f.2, items_in table other (place_of_last start a f.1) is f.1 ps f.3, f.4)
-  item_in table other start (power n level order is) a ps f = (f.0, f.1, f.2, items_in table other (place_of_last start a f.1) is f.1 ps f.3, f.4)
-  item_in table other start (thermal n is) a ps f = (f.0, f.1, f.2, items_in table other (place_of_last start a f.1) is f.1 ps f.3, f.4)
+  item_in table other start (scope kind n is) a ps f = (f.0, f.1, f.2, items_in table other (place_of_last start a f.1) is f.1 ps f.3, f.4)
   item_in table other start (name n d) a ps h = (h.0, ap (map (in_table other)) h.1)
   item_in table other start (external x) a ps h = (h.0, ap (map (in_table other)) h.1)
   item_in table other start (external_block xs) a ps h = (h.0, ap (map (in_table other)) h.1)

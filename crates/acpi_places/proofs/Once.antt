@@ -1,14 +1,14 @@
 -- The bytes alone say where the code of methods stands.
 use Rattle.std.proofs.Common.{◌≡◌, ℕ, suc, ◌+◌, ◌≤◌, List, [], ◌∷◌, ◌++◌, length, take, drop, refl, sym, ap, subst, ◌∙◌, append-nil, arith}
 use Rattle.std.proofs.lemmas.List.{length-append, take_at, drop_at}
-use Rattle.acpi_tree.specs.Tree.{ItemTree, name, scope, method, external, external_block, create, create_field, mutex, event, region, field, index_field, bank_field, device, processor, power, thermal, ItemTrees, no_items, item}
+use Rattle.acpi_tree.specs.Tree.{ItemTree, name, scope, method, external, external_block, create, create_field, mutex, event, region, field, index_field, bank_field, ItemTrees, no_items, item}
 use Rattle.acpi_code.specs.declared.opcode.Opcode.{Opcode}
-use Rattle.acpi_code.specs.declared.opcode.Opcode.TheVariants as opcodes
 use Rattle.acpi_code.specs.Opcodes.{opcode_bytes}
-use Rattle.acpi_terms.specs.Forms.{fixed_arguments, ArgumentsOf}
+use Rattle.acpi_terms.specs.Forms.{fixed_arguments, ArgumentsOf, kind_opcode, kind_arguments}
 use Rattle.acpi_terms.specs.Spelling.{SpellsFilled, SpellsItem, SpellsItems, item_height}
 use Rattle.acpi_terms.specs.steps.Reading.{packed_at, item_at}
 use Rattle.acpi_terms.proofs.Arguments.{arguments_height, packed_complete}
+use Rattle.acpi_terms.proofs.ScopeKinds.{kind_form}
 use Rattle.acpi_terms.proofs.Items.{item_complete}
 use Rattle.acpi_terms.proofs.OneTree.{one_item_tree}
 use Rattle.acpi_declare.specs.Listing.{Placement}
@@ -26,11 +26,7 @@ use Rattle.acpi_places.proofs.Fronts.{told, telling, told_bytes, items_in, whole
 mutual
   item_spelled : (table start : ℕ) (i : ItemTree) (a : List ℕ) (ps : List CodePlace) → SpellsItemAt table start i a ps → SpellsItem i a
   item_spelled table start (method n flags code) a ps h = h.0
-  item_spelled table start (scope n is) a ps f = (f.0, f.1, f.2, items_spelled table (place_of_last start a f.1) is f.1 ps f.3, f.4)
-  item_spelled table start (device n is) a ps f = (f.0, f.1, f.2, items_spelled table (place_of_last start a f.1) is f.1 ps f.3, f.4)
-  item_spelled table start (processor n id block len is) a ps f = (f.0, f.1, f.2, items_spelled table (place_of_last start a f.1) is f.1 ps f.3, f.4)
-  item_spelled table start (power n level order is) a ps f = (f.0, f.1, f.2, items_spelled table (place_of_last start a f.1) is f.1 ps f.3, f.4)
-  item_spelled table start (thermal n is) a ps f = (f.0, f.1, f.2, items_spelled table (place_of_last start a f.1) is f.1 ps f.3, f.4)
+  item_spelled table start (scope kind n is) a ps f = (f.0, f.1, f.2, items_spelled table (place_of_last start a f.1) is f.1 ps f.3, f.4)
   item_spelled table start (name n d) a ps h = h.0
   item_spelled table start (external x) a ps h = h.0
   item_spelled table start (external_block xs) a ps h = h.0
@@ -85,16 +81,10 @@ moved table start is a qs b b' same k = subst (λ (c : List ℕ). SpellsItemsAt 
 mutual
   one_item : (table start : ℕ) (i : ItemTree) (a : List ℕ) (ps qs : List CodePlace) → SpellsItemAt table start i a ps → SpellsItemAt table start i a qs → ps ≡ qs
   one_item table start (method n flags code) a ps qs h k = h.1 ∙ sym k.1
-  one_item table start (scope n is) a ps qs f g =
-      one_items table (place_of_last start a f.1) is f.1 ps qs f.3 (moved table start is a qs f.1 g.1 (same_last opcodes.Scope (λ v js. scope v.0 js) (n, tt) a (omega arith) (λ js. refl) _ _ f g) g.3)
-  one_item table start (device n is) a ps qs f g =
-      one_items table (place_of_last start a f.1) is f.1 ps qs f.3 (moved table start is a qs f.1 g.1 (same_last opcodes.Device (λ v js. device v.0 js) (n, tt) a (omega arith) (λ js. refl) _ _ f g) g.3)
-  one_item table start (processor n id block len is) a ps qs f g =
-      one_items table (place_of_last start a f.1) is f.1 ps qs f.3 (moved table start is a qs f.1 g.1 (same_last opcodes.Processor (λ v js. processor v.0 v.1.0 v.1.1.0 v.1.1.1.0 js) (n, (id, (block, (len, tt)))) a (omega arith) (λ js. refl) _ _ f g) g.3)
-  one_item table start (power n level order is) a ps qs f g =
-      one_items table (place_of_last start a f.1) is f.1 ps qs f.3 (moved table start is a qs f.1 g.1 (same_last opcodes.Power (λ v js. power v.0 v.1.0 v.1.1.0 js) (n, (level, (order, tt))) a (omega arith) (λ js. refl) _ _ f g) g.3)
-  one_item table start (thermal n is) a ps qs f g =
-      one_items table (place_of_last start a f.1) is f.1 ps qs f.3 (moved table start is a qs f.1 g.1 (same_last opcodes.Thermal (λ v js. thermal v.0 js) (n, tt) a (omega arith) (λ js. refl) _ _ f g) g.3)
+  one_item table start (scope kind n is) a ps qs f g =
+      let k = kind_form kind in
+      one_items table (place_of_last start a f.1) is f.1 ps qs f.3
+      (moved table start is a qs f.1 g.1 (same_last (kind_opcode kind) k.made (kind_arguments kind n) a k.flat (λ js. ap items_in (k.is n js)) _ _ f g) g.3)
   one_item table start (name n d) a ps qs h k = h.1 ∙ sym k.1
   one_item table start (external x) a ps qs h k = h.1 ∙ sym k.1
   one_item table start (external_block xs) a ps qs h k = h.1 ∙ sym k.1

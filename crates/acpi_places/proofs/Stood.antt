@@ -1,23 +1,23 @@
 -- The code of the methods that a table declares stands in it at their places.
-use Rattle.std.proofs.Common.{◌≡◌, ℕ, suc, ◌+◌, ◌-◌, ◌≤◌, Bool, true, false, cond, ◌==◌, List, [], ◌∷◌, ◌++◌, map, length, take, drop, Option, Some, None, refl, sym, ap, subst, ◌∙◌, append_assoc, append-nil, arith}
+use Rattle.std.proofs.Common.{◌≡◌, ℕ, suc, ◌+◌, ◌-◌, ◌≤◌, List, [], ◌∷◌, ◌++◌, length, take, drop, Option, Some, None, refl, sym, ap, subst, ◌∙◌, append_assoc, append-nil, arith}
 use Rattle.std.specs.Prelude.{slice_range}
 use Rattle.std.specs.List.{AllZip}
 use Rattle.std.proofs.lemmas.List.{length-append, length-take-le, take-append-drop, take_at, drop_at}
-use Rattle.acpi_name.specs.Names.{Segment, NameParts}
+use Rattle.acpi_name.specs.Names.{Segment}
 use Rattle.acpi_space.specs.Lookups.{union}
 use Rattle.acpi_tree.specs.declared.object.FieldForm.{FieldForm}
-use Rattle.acpi_tree.specs.Tree.{FieldTree, unit, ExternalParts, ItemTree, name, scope, method, external, external_block, create, create_field, mutex, event, region, field, index_field, bank_field, device, processor, power, thermal, ItemTrees, no_items, item}
-use Rattle.acpi_tree.specs.Offsets.{element_bits}
+use Rattle.acpi_tree.specs.Tree.{ItemTree, name, scope, method, external, external_block, create, create_field, mutex, event, region, field, index_field, bank_field, ItemTrees, no_items, item}
 use Rattle.acpi_code.specs.declared.opcode.Opcode.{Opcode}
 use Rattle.acpi_code.specs.declared.opcode.Opcode.TheVariants as opcodes
 use Rattle.acpi_code.specs.Opcodes.{opcode_bytes}
-use Rattle.acpi_terms.specs.Forms.{ArgumentsOf}
+use Rattle.acpi_terms.specs.Forms.{ArgumentsOf, kind_opcode, kind_arguments}
 use Rattle.acpi_terms.specs.Spelling.{SpellsFilled}
 use Rattle.acpi_declare.specs.Listing.{Placement, object_of, IsJustified, IsListing}
 use Rattle.acpi_declare.specs.Namespace.{Namespace}
 use Rattle.acpi_declare.specs.Notes.{Method, methods_by, methods}
-use Rattle.acpi_declare.specs.Sites.{Effect, declares, opens, expects, Step, step, unit_steps, external_step, external_steps, Site, site_in, item_sites, items_sites, sites}
+use Rattle.acpi_declare.specs.Sites.{Effect, declares, opens, expects, Step, step, kind_object, scope_effect, unit_steps, external_step, external_steps, Site, item_sites, items_sites, sites}
 use Rattle.acpi_declare.specs.Tables.{code_of, IsTableOf}
+use Rattle.acpi_declare.proofs.SiteCodes.{effect_codes, scope_codes, step_codes, site_codes, sites_appended, units_codes, external_codes, externals_codes, in_sites}
 use Rattle.acpi_places.specs.declared.place.CodePlace.{CodePlace}
 use Rattle.acpi_places.specs.Places.{place_of_last, SpellsItemAt, SpellsItemsAt, IsCodeAt, AreTablePlaces}
 
@@ -66,47 +66,6 @@ module _ (whole : List ℕ) (start : ℕ) (o : Opcode) (v : ArgumentsOf o) (Fill
       omega (arith, ap length p.whole, length-append op (p.len ++ (f.0 ++ f.1)), length-append p.len (f.0 ++ f.1), length-append f.0 f.1) in
       subst (λ k. Stands whole k f.1) place at
 
--- ---- the code of sites
-
-abbrev effect_codes : Effect → List (List ℕ)
-effect_codes (declares o links (Some code)) = code ∷ []
-effect_codes (declares o links None) = []
-effect_codes opens = []
-effect_codes (expects count) = []
-
-abbrev step_codes : List Step → List (List ℕ)
-step_codes [] = []
-step_codes (x ∷ xs) = effect_codes x.effect ++ step_codes xs
-
-abbrev site_codes : List Site → List (List ℕ)
-site_codes [] = []
-site_codes (x ∷ xs) = effect_codes x.step.effect ++ site_codes xs
-
-sites_appended : (xs ys : List Site) → site_codes (xs ++ ys) ≡ site_codes xs ++ site_codes ys
-sites_appended [] ys = refl
-sites_appended (x ∷ xs) ys = ap (λ (cs : List (List ℕ)). effect_codes x.step.effect ++ cs) (sites_appended xs ys)
-    ∙ sym (append_assoc (effect_codes x.step.effect) (site_codes xs) (site_codes ys))
-
-units_codes : (form : FieldForm) (flags : ℕ) (links : List NameParts) (offset : ℕ) (es : List FieldTree) → step_codes (unit_steps form flags links offset es) ≡ []
-units_codes form flags links offset [] = refl
-units_codes form flags links offset (unit s bits ∷ es) = units_codes form flags links (offset + bits) es
-units_codes form flags links offset (e ∷ es) = units_codes form flags links (offset + element_bits e) es
-
-external_codes : (x : ExternalParts) (later : List Step) → step_codes (external_step x ++ later) ≡ step_codes later
-external_codes x later = by (x.kind == 8)
-  where
-    by : (b : Bool) → step_codes (cond b (step x.name (expects x.args) ∷ []) [] ++ later) ≡ step_codes later
-    by true = refl
-    by false = refl
-
-externals_codes : (xs : List ExternalParts) → step_codes (external_steps xs) ≡ []
-externals_codes [] = refl
-externals_codes (x ∷ xs) = external_codes x (external_steps xs) ∙ externals_codes xs
-
-in_sites : (inside : Option ℕ) (xs : List Step) → site_codes (map (site_in inside) xs) ≡ step_codes xs
-in_sites inside [] = refl
-in_sites inside (x ∷ xs) = ap (λ (cs : List (List ℕ)). effect_codes x.effect ++ cs) (in_sites inside xs)
-
 -- ---- the code of each stands at its place
 
 module _ (whole : List ℕ) where
@@ -135,16 +94,9 @@ module _ (whole : List ℕ) where
         let f = h.0 in
         let at : IsAt whole f.1 (place_of_last start bytes f.1) = stands_at whole _ f.1 (stands_last whole start opcodes.Method (n, (flags, tt)) (λ b. b ≡ code) bytes f s) in
         subst (AreThere (code ∷ [])) (sym h.1) (subst (λ (c : List ℕ). IsAt whole c (place_of_last start bytes c)) f.3 at, tt)
-    item_there table start (scope n is) bytes places k inside s f =
-        items_there table _ is f.1 places (suc k) (Some k) (stands_last whole start opcodes.Scope (n, tt) _ bytes f s) f.3
-    item_there table start (device n is) bytes places k inside s f =
-        items_there table _ is f.1 places (suc k) (Some k) (stands_last whole start opcodes.Device (n, tt) _ bytes f s) f.3
-    item_there table start (processor n id block len is) bytes places k inside s f =
-        items_there table _ is f.1 places (suc k) (Some k) (stands_last whole start opcodes.Processor (n, (id, (block, (len, tt)))) _ bytes f s) f.3
-    item_there table start (power n level order is) bytes places k inside s f =
-        items_there table _ is f.1 places (suc k) (Some k) (stands_last whole start opcodes.Power (n, (level, (order, tt))) _ bytes f s) f.3
-    item_there table start (thermal n is) bytes places k inside s f =
-        items_there table _ is f.1 places (suc k) (Some k) (stands_last whole start opcodes.Thermal (n, tt) _ bytes f s) f.3
+    item_there table start (scope kind n is) bytes places k inside s f =
+        subst (λ (cs : List (List ℕ)). AreThere (cs ++ site_codes (items_sites (suc k) (Some k) is)) places) (sym (scope_codes (kind_object kind)))
+        (items_there table _ is f.1 places (suc k) (Some k) (stands_last whole start (kind_opcode kind) (kind_arguments kind n) _ bytes f s) f.3)
     item_there table start (external x) bytes places k inside s h = none_there _ places (in_sites inside (external_step x) ∙ ap step_codes (sym (append-nil (external_step x))) ∙ external_codes x []) h.1
     item_there table start (external_block xs) bytes places k inside s h = none_there _ places (in_sites inside (external_steps xs) ∙ externals_codes xs) h.1
     item_there table start (field r flags es) bytes places k inside s h =

@@ -1,11 +1,11 @@
 -- Items that are gone through one after another, and the places of the code of their methods.
-use Rattle.std.proofs.Common.{◌≡◌, ℕ, ◌+◌, ◌-◌, ◌≤◌, ◌<◌, false, Option, None, Some, List, [], ◌++◌, length, Result, Ok, Err, refl, sym, ap, subst, ◌∙◌, append_assoc, append-nil, arith}
+use Rattle.std.proofs.Common.{◌≡◌, ℕ, suc, ◌+◌, ◌-◌, ◌≤◌, ◌<◌, false, Option, None, Some, List, [], ◌++◌, length, Result, Ok, Err, refl, sym, ap, subst, ◌∙◌, append_assoc, append-nil, arith}
 use Rattle.std.proofs.lemmas.List.{length-append}
 use Rattle.acpi_code.specs.declared.opcode.Opcode.TheVariants as opcodes
 use Rattle.acpi_code.specs.steps.Left.{Left}
 use Rattle.acpi_code.specs.steps.Reading.{◌>>=◌}
 use Rattle.acpi_tree.specs.Fits.{holds_items}
-use Rattle.acpi_tree.specs.Tree.{ItemTree, name, scope, method, external, external_block, create, create_field, mutex, event, region, field, index_field, bank_field, device, processor, power, thermal, ItemTrees, no_items, item}
+use Rattle.acpi_tree.specs.Tree.{ItemTree, name, scope, method, external, external_block, create, create_field, mutex, event, region, field, index_field, bank_field, ItemTrees, no_items, item}
 use Rattle.acpi_tree.specs.View.{item_view}
 use Rattle.acpi_tree.specs.declared.tree.Item.{Item}
 use Rattle.acpi_terms.specs.declared.fault.ItemReason.{ItemReason}
@@ -19,7 +19,7 @@ use Rattle.acpi_terms.proofs.Items.{item_complete, item_long}
 use Rattle.acpi_places.specs.declared.place.CodePlace.{CodePlace}
 use Rattle.acpi_places.specs.Places.{place_of_last, SpellsItemAt, SpellsItemsAt}
 use Rattle.acpi_places.specs.steps.Walking.{place_of_left, IsSpelled, ArePlacesOf, AddsPlaces, code_length, leaf_places, Continues, Opens, GoesOn}
-use Rattle.acpi_places.proofs.Fronts.{same_item, Inside, inside, held_height, last_fits}
+use Rattle.acpi_places.proofs.Fronts.{same_item, Inside, inside, last_fits}
 
 -- ---- the first of the items that are left
 
@@ -60,7 +60,7 @@ first level left (item i is) some h =
 pub code_within : (i : ItemTree) (a : List ℕ) → SpellsItem i a → code_length i ≤ length a
 code_within (method n flags code) a h = subst (λ (c : List ℕ). length c ≤ length a) h.3 (last_fits opcodes.Method (n, (flags, tt)) (λ b. b ≡ code) a h)
 code_within (name n d) a h = omega arith
-code_within (scope n is) a h = omega arith
+code_within (scope kind n is) a h = omega arith
 code_within (external x) a h = omega arith
 code_within (external_block xs) a h = omega arith
 code_within (create w source index n) a h = omega arith
@@ -71,15 +71,11 @@ code_within (region n space offset len) a h = omega arith
 code_within (field r flags es) a h = omega arith
 code_within (index_field i d flags es) a h = omega arith
 code_within (bank_field r bank value flags es) a h = omega arith
-code_within (device n is) a h = omega arith
-code_within (processor n id block len is) a h = omega arith
-code_within (power n level order is) a h = omega arith
-code_within (thermal n is) a h = omega arith
 
 leaf_at : (table start : ℕ) (i : ItemTree) (a : List ℕ) → holds_items i ≡ false → SpellsItem i a → SpellsItemAt table start i a (leaf_places table (start + length a) i)
 leaf_at table start (method n flags code) a none h = (h, refl)
 leaf_at table start (name n d) a none h = (h, refl)
-leaf_at table start (scope n is) a none h = absurd cc
+leaf_at table start (scope kind n is) a none h = absurd cc
 leaf_at table start (external x) a none h = (h, refl)
 leaf_at table start (external_block xs) a none h = (h, refl)
 leaf_at table start (create w source index n) a none h = (h, refl)
@@ -90,10 +86,6 @@ leaf_at table start (region n space offset len) a none h = (h, refl)
 leaf_at table start (field r flags es) a none h = (h, refl)
 leaf_at table start (index_field i d flags es) a none h = (h, refl)
 leaf_at table start (bank_field r bank value flags es) a none h = (h, refl)
-leaf_at table start (device n is) a none h = absurd cc
-leaf_at table start (processor n id block len is) a none h = absurd cc
-leaf_at table start (power n level order is) a none h = absurd cc
-leaf_at table start (thermal n is) a none h = absurd cc
 
 -- ---- what the reader of the next item gives
 
@@ -172,15 +164,15 @@ module _ (table level : ℕ) (old new : Left) (is : ItemTrees) (some : 0 < lengt
           let bytes : new.bytes ≡ f.behind = sym same.1 in
           let ends : new.end ≡ old.end = g.2.same_end in
           let s : SpellsItem (held_by x.front js) f.front = subst (λ (i : ItemTree). SpellsItem i f.front) same.0 f.spells in
-          let o : Inside (held_by x.front js) js f.front f.behind old x = inside js f.front f.behind old x new f.whole g.0.1 x.front.form x.front.name s in
-          let high : item_height (held_by x.front js) ≤ level = subst (λ (i : ItemTree). item_height i ≤ level) same.0 f.high in
+          let o : Inside (held_by x.front js) js f.front f.behind old x = inside js f.front f.behind old x new f.whole g.0.1 x.front.kind x.front.name s in
+          let high : suc (items_height js) ≤ level = subst (λ (i : ItemTree). item_height i ≤ level) same.0 f.high in
           let place : place_of_left x.inner ≡ place_of_last (place_of_left old) f.front x.inner.bytes = omega (arith, sizes, h.room, o.ends, o.fits) in
           record {
             inside = js;
             others = f.others;
             within = record {
               spelled = o.spelled;
-              height = omega (arith, high, held_height x.front.form x.front.name js);
+              height = omega (arith, high);
               room = omega (arith, sizes, h.room, o.ends, o.fits);
             };
             left = left_behind bytes ends;

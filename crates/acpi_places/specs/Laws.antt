@@ -9,7 +9,8 @@ use Rattle.acpi_places.specs.Places.{AreCodePlaces}
 
 -- the tables alone say where their code stands
 abbrev pub OneCodePlaces : Type 0
-OneCodePlaces = (depth : ℕ) (tables : List (List ℕ)) (places places' : Lookup CodePlace) → AreCodePlaces depth tables places → AreCodePlaces depth tables places' → places ≡ places'
+OneCodePlaces = (depth : ℕ) (tables : List (List ℕ)) (places places' : Lookup CodePlace)
+    → AreCodePlaces depth tables places → AreCodePlaces depth tables places' → places ≡ places'
 
 -- at the path of each method stands the place of its own code
 abbrev pub IsPlaced : Lookup CodePlace → Method → CodePlace → Type 0
@@ -19,4 +20,5 @@ abbrev pub AreTablePlaced : Lookup CodePlace → List Placement → List CodePla
 AreTablePlaced places t cs = AllZip (IsPlaced places) (methods t) cs
 
 abbrev pub EachIsPlaced : Type 0
-EachIsPlaced = (depth : ℕ) (tables : List (List ℕ)) (places : Lookup CodePlace) (h : AreCodePlaces depth tables places) → AllZip (AreTablePlaced places) h.placements h.codes
+EachIsPlaced = (depth : ℕ) (tables : List (List ℕ)) (places : Lookup CodePlace)
+    (h : AreCodePlaces depth tables places) → AllZip (AreTablePlaced places) h.placements h.codes

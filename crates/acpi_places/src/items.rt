@@ -36,8 +36,8 @@ fn add_place(
     }
 }
 
-// Goes past the next item, and adds the place of its code if it is a method; or gives the code of the items that it holds.
-// It is no part of the recursion, which so holds no item on the stack.
+// Goes past the next item, and adds the place of its code if it is a method; or gives the code of the items that it
+// holds. It is no part of the recursion, which so holds no item on the stack.
 #[inline(never)]
 fn next<'c>(
     alloc: Global,
@@ -65,7 +65,8 @@ fn next<'c>(
     }
 }
 
-/// Adds the places of the code of the methods that some code declares, in byte order; `level` levels are left for its items.
+/// Adds the places of the code of the methods that some code declares, in byte order; `level` levels are left for its
+/// items.
 pub(crate) fn add_places(
     alloc: Global,
     table: usize,

@@ -90,9 +90,9 @@ fn notes_at(notes: &[TableNotes], number: usize) -> &TableNotes
     &notes[number]
 }
 
-/// Where the code of each method stands that a DSDT and SSDTs declare (ACPI 6.5, 20.2.5.2), by the method's path. The notes
-/// are all notes of their load (`declare_shared`), and `depth` is that of the load. The predefined method `_OSI` has no code.
-/// The error is want of memory.
+/// Where the code of each method stands that a DSDT and SSDTs declare (ACPI 6.5, 20.2.5.2), by the method's path. The
+/// notes are all notes of their load (`declare_shared`), and `depth` is that of the load. The predefined method `_OSI`
+/// has no code. The error is want of memory.
 pub fn code_places(
     alloc: Global,
     dsdt: &Bytes,

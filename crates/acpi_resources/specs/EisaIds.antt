@@ -30,7 +30,8 @@ is_letter_number a = nat_le 1 a && nat_le a 26
 
 -- the number is one of an id
 abbrev pub is_eisa_number : ℕ → Bool
-is_eisa_number n = is_letter_number (letter_1 n) && (is_letter_number (letter_2 n) && is_letter_number (letter_3 n))
+is_eisa_number n = is_letter_number (letter_1 n)
+    && (is_letter_number (letter_2 n) && is_letter_number (letter_3 n))
 
 -- its characters; each digit has four bits of the last two bytes
 abbrev pub eisa_text : ℕ → List ℕ

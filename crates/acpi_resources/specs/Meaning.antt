@@ -16,16 +16,19 @@ has_bit weight flags = (flags / weight) % 2 == 1
 -- and exclusive (6.4.2.1).
 abbrev pub irq_mode : Option ℕ → InterruptMode
 irq_mode None = record { edge = true; low = false; shared = false; wake = false }
-irq_mode (Some f) = record { edge = has_bit 1 f; low = has_bit 8 f; shared = has_bit 16 f; wake = has_bit 32 f }
+irq_mode (Some f) =
+    record { edge = has_bit 1 f; low = has_bit 8 f; shared = has_bit 16 f; wake = has_bit 32 f }
 
 -- mode 2, polarity 4, sharing 8 and wake capability 16 (6.4.3.6)
 abbrev pub interrupt_mode : ℕ → InterruptMode
-interrupt_mode f = record { edge = has_bit 2 f; low = has_bit 4 f; shared = has_bit 8 f; wake = has_bit 16 f }
+interrupt_mode f =
+    record { edge = has_bit 2 f; low = has_bit 4 f; shared = has_bit 8 f; wake = has_bit 16 f }
 
 -- the resource type (6.4.3.5)
 abbrev pub address_kind : ℕ → AddressKind
 address_kind n =
-    if n == 0 then address.Memory else if n == 1 then address.Io else if n == 2 then address.Bus else address.Other n
+    if n == 0 then address.Memory else if n == 1 then address.Io else
+    if n == 2 then address.Bus else address.Other n
 
 -- the serial bus type (6.4.3.8.2)
 abbrev pub bus_kind : ℕ → BusKind
@@ -38,4 +41,5 @@ abbrev pub item_kind : ℕ → ItemKind
 item_kind t =
     if t == 0x8D then item.PinFunction else if t == 0x8F then item.PinConfiguration else
     if t == 0x90 then item.PinGroup else if t == 0x91 then item.PinGroupFunction else
-    if t == 0x92 then item.PinGroupConfiguration else if t == 0x93 then item.ClockInput else item.Other
+    if t == 0x92 then item.PinGroupConfiguration else if t == 0x93 then item.ClockInput else
+    item.Other

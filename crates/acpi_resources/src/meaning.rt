@@ -16,18 +16,18 @@ pub struct InterruptMode {
     pub low: bool,
     /// Shared with other devices.
     pub shared: bool,
-    /// Can wake the system.
+    /// Able to wake the system.
     pub wake: bool,
 }
 
 /// What an address range is of (ACPI 6.5, 6.4.3.5).
 #[derive(Debug, Clone, Copy, PartialEq, Eq)]
 pub enum AddressKind {
-    /// Memory.
+    /// Memory, type 0.
     Memory,
-    /// I/O ports.
+    /// I/O ports, type 1.
     Io,
-    /// Bus numbers.
+    /// Bus numbers, type 2.
     Bus,
     /// Another type, by its number.
     Other(u8),
@@ -36,13 +36,13 @@ pub enum AddressKind {
 /// The kind of a serial bus (ACPI 6.5, 6.4.3.8.2).
 #[derive(Debug, Clone, Copy, PartialEq, Eq)]
 pub enum BusKind {
-    /// I2C.
+    /// I2C, type 1.
     I2c,
-    /// SPI.
+    /// SPI, type 2.
     Spi,
-    /// UART.
+    /// UART, type 3.
     Uart,
-    /// CSI-2.
+    /// CSI-2, type 4.
     Csi2,
     /// Another type, by its number.
     Other(u8),

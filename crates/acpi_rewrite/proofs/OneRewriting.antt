@@ -1,11 +1,12 @@
 -- Tables are rewritten in one way.
-use Rattle.std.proofs.Common.{◌≡◌, ℕ, zero, suc, ◌+◌, ◌*◌, ◌<◌, ◌≤◌, List, [], ◌∷◌, ◌++◌, length, take, drop, sum, get_or, Some, refl, sym, ap, subst, ◌∙◌, arith}
+use Rattle.std.proofs.Common.{◌≡◌, ℕ, zero, suc, ◌+◌, ◌*◌, ◌<◌, ◌≤◌, List, [], ◌∷◌, ◌++◌, length, take, drop, sum, get_or, refl, sym, ap, subst, ◌∙◌, arith}
 use Rattle.std.specs.List.{AllZip}
 use Rattle.std.proofs.lemmas.List.{length-drop, drop-drop}
 use Rattle.std.proofs.lemmas.List.Elements.{recursion_from_All}
 use Rattle.std.proofs.lemmas.List.Sums.{sum_by-append, sum_by-cons}
 use Rattle.byteorder.specs.Endian.{little_number}
 use Rattle.acpi_table.specs.declared.tables.Header.{Header}
+use Rattle.acpi_space.proofs.Elements.{one_some}
 use Rattle.acpi_tree.specs.Tree.{ItemTrees}
 use Rattle.acpi_terms.proofs.OneTree.{one_item_tree}
 use Rattle.acpi_code.proofs.Fitting.{AreBytes, back_bytes}
@@ -20,9 +21,6 @@ use Rattle.acpi_order.proofs.ReadBodies.{one_body_there}
 use Rattle.acpi_rewrite.specs.Rewriting.{codes, without_code, body_bytes, IsNewCode, IsShortest, IsRewritten, AreEachRewritten, AreRewritten}
 use Rattle.acpi_rewrite.specs.Rewriting.{AreTablesOfBytes}
 use Rattle.acpi_rewrite.proofs.Shortened.{same_items}
-
-some_same : (a b : List ℕ) → Some a ≡ Some b → a ≡ b
-some_same a b e = cc
 
 -- ---- the bytes of a header
 
@@ -105,7 +103,7 @@ module _ (old a b : List ℕ) (is : ItemTrees) (r : IsShortest old is a) (q : Is
   lb = q.table.has_header
 
   at36 : drop 36 a ≡ drop 36 b
-  at36 = some_same (drop 36 a) (drop 36 b) (sym r.spelling ∙ q.spelling)
+  at36 = one_some (drop 36 a) (drop 36 b) (sym r.spelling ∙ q.spelling)
 
   same_length : length a ≡ length b
   same_length = omega (arith, la, lb, length-drop 36 a, length-drop 36 b, ap length at36)
@@ -156,7 +154,7 @@ module _ (old a b : List ℕ) (is : ItemTrees) (r : IsShortest old is a) (q : Is
 
 module _ (depth : ℕ) (objects : Namespace) where
   one_code : (m : Method) (c d : List ℕ) → IsNewCode depth objects m c → IsNewCode depth objects m d → c ≡ d
-  one_code m c d h k = some_same c d (sym h.2 ∙ ap body_bytes (one_body_there depth objects m h.0 k.0 h.1 k.1) ∙ k.2)
+  one_code m c d h k = one_some c d (sym h.2 ∙ ap body_bytes (one_body_there depth objects m h.0 k.0 h.1 k.1) ∙ k.2)
 
   one_list : (ms : List Method) (cs ds : List (List ℕ)) → AllZip (IsNewCode depth objects) ms cs → AllZip (IsNewCode depth objects) ms ds → cs ≡ ds
   one_list [] [] [] h k = refl

@@ -1,7 +1,7 @@
 -- Items with other code in their methods: what they have in common, and what they are by their code.
 use Rattle.std.proofs.Common.{◌≡◌, ℕ, suc, ◌+◌, max, Bool, ◌&&◌, length, refl, sym, ap, subst, ◌∙◌}
 use Rattle.std.proofs.lemmas.List.{length-append}
-use Rattle.acpi_tree.specs.Tree.{ItemTree, scope, device, processor, power, thermal, ItemTrees, no_items, item}
+use Rattle.acpi_tree.specs.Tree.{ItemTree, scope, ItemTrees, no_items, item}
 use Rattle.acpi_tree.specs.Fits.{item_fits, items_fit}
 use Rattle.acpi_terms.specs.Spelling.{item_height, items_height}
 use Rattle.acpi_write.specs.Laws.{IsItemTyped, AreItemsTyped}
@@ -11,11 +11,7 @@ use Rattle.acpi_rewrite.specs.Rewriting.{item_codes, codes, item_without_code, w
 
 mutual
   height_bare : (i : ItemTree) → item_height (item_without_code i) ≡ item_height i
-  height_bare (scope n is) = ap (λ (k : ℕ). suc k) (heights_bare is)
-  height_bare (device n is) = ap (λ (k : ℕ). suc k) (heights_bare is)
-  height_bare (processor n id block len is) = ap (λ (k : ℕ). suc k) (heights_bare is)
-  height_bare (power n level order is) = ap (λ (k : ℕ). suc k) (heights_bare is)
-  height_bare (thermal n is) = ap (λ (k : ℕ). suc k) (heights_bare is)
+  height_bare (scope kind n is) = ap (λ (k : ℕ). suc k) (heights_bare is)
   height_bare i = refl
 
   pub heights_bare : (is : ItemTrees) → items_height (without_code is) ≡ items_height is
@@ -24,11 +20,7 @@ mutual
 
 mutual
   fits_bare : (i : ItemTree) → item_fits (item_without_code i) ≡ item_fits i
-  fits_bare (scope n is) = all_fit_bare is
-  fits_bare (device n is) = all_fit_bare is
-  fits_bare (processor n id block len is) = all_fit_bare is
-  fits_bare (power n level order is) = all_fit_bare is
-  fits_bare (thermal n is) = all_fit_bare is
+  fits_bare (scope kind n is) = all_fit_bare is
   fits_bare i = refl
 
   pub all_fit_bare : (is : ItemTrees) → items_fit (without_code is) ≡ items_fit is
@@ -37,11 +29,7 @@ mutual
 
 mutual
   typed_bare : (i : ItemTree) → IsItemTyped i → IsItemTyped (item_without_code i)
-  typed_bare (scope n is) h = (h.0, all_typed_bare is h.1)
-  typed_bare (device n is) h = (h.0, all_typed_bare is h.1)
-  typed_bare (processor n id block len is) h = (h.0, all_typed_bare is h.1)
-  typed_bare (power n level order is) h = (h.0, all_typed_bare is h.1)
-  typed_bare (thermal n is) h = (h.0, all_typed_bare is h.1)
+  typed_bare (scope kind n is) h = (h.0, all_typed_bare is h.1)
   typed_bare i h = h
 
   pub all_typed_bare : (is : ItemTrees) → AreItemsTyped is → AreItemsTyped (without_code is)
@@ -50,11 +38,7 @@ mutual
 
 mutual
   bare_typed : (i : ItemTree) → IsItemTyped (item_without_code i) → IsItemTyped i
-  bare_typed (scope n is) h = (h.0, all_bare_typed is h.1)
-  bare_typed (device n is) h = (h.0, all_bare_typed is h.1)
-  bare_typed (processor n id block len is) h = (h.0, all_bare_typed is h.1)
-  bare_typed (power n level order is) h = (h.0, all_bare_typed is h.1)
-  bare_typed (thermal n is) h = (h.0, all_bare_typed is h.1)
+  bare_typed (scope kind n is) h = (h.0, all_bare_typed is h.1)
   bare_typed i h = h
 
   pub all_bare_typed : (is : ItemTrees) → AreItemsTyped (without_code is) → AreItemsTyped is
@@ -64,11 +48,7 @@ mutual
 -- as many methods
 mutual
   pub count_bare : (i : ItemTree) → length (item_codes (item_without_code i)) ≡ length (item_codes i)
-  count_bare (scope n is) = counts_bare is
-  count_bare (device n is) = counts_bare is
-  count_bare (processor n id block len is) = counts_bare is
-  count_bare (power n level order is) = counts_bare is
-  count_bare (thermal n is) = counts_bare is
+  count_bare (scope kind n is) = counts_bare is
   count_bare i = refl
 
   counts_bare : (is : ItemTrees) → length (codes (without_code is)) ≡ length (codes is)

@@ -17,6 +17,7 @@ use Rattle.acpi_declare.specs.Notes as notes
 use Rattle.acpi_declare.specs.Sites.{sites}
 use Rattle.acpi_declare.specs.Tables.{code_of}
 use Rattle.acpi_declare.proofs.Refusals.{same_listings}
+use Rattle.acpi_declare.proofs.TableLists.{count_listings, count_notes}
 use Rattle.acpi_write.specs.Canonical.{items_bytes}
 use Rattle.acpi_write.specs.Shortest.{HasWithin}
 use Rattle.acpi_order.specs.Bodies.{Method, with_counts, methods_of}
@@ -153,16 +154,6 @@ noted_at depth number N (b ∷ bs) (t ∷ ts) h zero n below e =
     record { number = number; before = N; items = h.0.0; table = h.0.1; listing = h.0.2; methods_are = ap noted e }
 noted_at depth number N (b ∷ bs) (t ∷ ts) h (suc i) n below e = noted_at depth (suc number) (union N (objects_of t)) bs ts h.1 i n (omega arith) e
 
-as_many_listings : (depth number : ℕ) (N : Namespace) (bs : List (List ℕ)) (ts : List (List Placement)) → AreListings depth number N bs ts → length ts ≡ length bs
-as_many_listings depth number N [] [] h = refl
-as_many_listings depth number N [] (t ∷ ts) h = absurd h
-as_many_listings depth number N (b ∷ bs) [] h = absurd h
-as_many_listings depth number N (b ∷ bs) (t ∷ ts) h = ap (λ (k : ℕ). suc k) (as_many_listings depth (suc number) (union N (objects_of t)) bs ts h.1)
-
-as_many_noted : (N : Namespace) (ts : List (List Placement)) → length (all_notes N ts) ≡ length ts
-as_many_noted N [] = refl
-as_many_noted N (t ∷ ts) = ap (λ (k : ℕ). suc k) (as_many_noted (union N (objects_of t)) ts)
-
 module _ (depth : ℕ) (objects : Namespace) where
   push_each : (ts : List (List Placement)) (bs ns : List (List ℕ)) (t : List Placement) (b n : List ℕ) → AreEachRewritten depth objects ts bs ns → IsRewritten depth objects t b n
       → AreEachRewritten depth objects (ts ++ t ∷ []) (bs ++ b ∷ []) (ns ++ n ∷ [])
@@ -208,11 +199,11 @@ none_rewritten depth bs ns objects links d n = record {
 module _ (depth : ℕ) (bs : List (List ℕ)) (ns : List TableNotes) (objects : Namespace) (i : ℕ) (done : List Bytes)
     (r : IsRewrittenTo depth bs (map notes_of ns) objects i (map items_in done)) where
   as_many : length r.placements ≡ length bs
-  as_many = as_many_listings depth 0 predefined bs r.placements r.listings
+  as_many = count_listings depth 0 predefined bs r.placements r.listings
 
   -- as many notes as tables
   pub as_many_notes : length ns ≡ length bs
-  as_many_notes = sym (length-map ns notes_of) ∙ ap length r.notes_are ∙ as_many_noted predefined r.placements ∙ as_many
+  as_many_notes = sym (length-map ns notes_of) ∙ ap length r.notes_are ∙ count_notes predefined r.placements ∙ as_many
 
   -- all of them are
   pub all_rewritten : length ns ≤ i → AreRewritten depth bs (map items_in done)

@@ -5,7 +5,7 @@ use Rattle.std.proofs.lemmas.List.{map-append, length-map}
 use Rattle.acpi_name.specs.Names.{Segment, NameParts}
 use Rattle.acpi_space.specs.Lookups.{Lookup, union}
 use Rattle.acpi_tree.specs.declared.object.FieldForm.{FieldForm}
-use Rattle.acpi_tree.specs.Tree.{FieldTree, unit, ExternalParts, ItemTree, scope, external, external_block, field, index_field, bank_field, device, processor, power, thermal, ItemTrees, no_items, item}
+use Rattle.acpi_tree.specs.Tree.{FieldTree, unit, ExternalParts, ItemTree, scope, external, external_block, field, index_field, bank_field, ItemTrees, no_items, item}
 use Rattle.acpi_tree.specs.Objects.{ObjectTree}
 use Rattle.acpi_tree.specs.Offsets.{element_bits}
 use Rattle.acpi_declare.specs.Links.{pending_by, pending_links}
@@ -14,7 +14,8 @@ use Rattle.acpi_declare.specs.Namespace.{Namespace}
 use Rattle.acpi_declare.specs.Notes.{counts_by, external_counts, methods_by, methods}
 use Rattle.acpi_declare.specs.Notes as notes
 use Rattle.acpi_declare.specs.Placing.{IsPlaced}
-use Rattle.acpi_declare.specs.Sites.{Effect, declares, opens, expects, Step, step, unit_step, unit_steps, external_step, external_steps, own_steps, Site, site_in, own_sites, item_sites, items_sites, sites}
+use Rattle.acpi_declare.specs.Sites.{Effect, declares, opens, expects, Step, step, kind_object, scope_effect, unit_step, unit_steps, external_step, external_steps, own_steps, Site, site_in, own_sites, item_sites, items_sites, sites}
+use Rattle.acpi_declare.proofs.SiteCodes.{effect_codes, scope_codes, step_codes, site_codes, sites_appended, units_codes, externals_codes, in_sites}
 use Rattle.acpi_rewrite.specs.Rewriting.{item_codes, codes, item_without_code, without_code}
 
 -- ---- sites without code
@@ -55,7 +56,12 @@ bare_externals (x ∷ xs) =
     map-append bare_step (external_step x) (external_steps xs) ∙ ap (λ (ys : List Step). ys ++ map bare_step (external_steps xs)) (bare_external x)
     ∙ ap (λ (ys : List Step). external_step x ++ ys) (bare_externals xs)
 
+bare_scope : (o : Option ObjectTree) → bare_effect (scope_effect o) ≡ scope_effect o
+bare_scope None = refl
+bare_scope (Some o) = refl
+
 own_bare : (i : ItemTree) → own_steps (item_without_code i) ≡ map bare_step (own_steps i)
+own_bare (scope kind n is) = ap (λ (d : Effect). step n d ∷ []) (sym (bare_scope (kind_object kind)))
 own_bare (external x) = sym (bare_external x)
 own_bare (external_block xs) = sym (bare_externals xs)
 own_bare (field r flags es) = sym (bare_units FieldForm.Field flags (r ∷ []) 0 es)
@@ -75,12 +81,7 @@ joined xs xs' ys ys' a b = ap (λ (zs : List Site). zs ++ ys') a ∙ ap (λ (zs 
 
 mutual
   item_sites_bare : (i : ItemTree) (k : ℕ) (inside : Option ℕ) → item_sites k inside (item_without_code i) ≡ map bare_site (item_sites k inside i)
-  item_sites_bare (scope n is) k inside = joined (own_sites inside (scope n is)) _ _ _ (own_sites_bare inside (scope n is)) (sites_bare is (suc k) (Some k))
-  item_sites_bare (device n is) k inside = joined (own_sites inside (device n is)) _ _ _ (own_sites_bare inside (device n is)) (sites_bare is (suc k) (Some k))
-  item_sites_bare (processor n id block len is) k inside = joined (own_sites inside (processor n id block len is)) _ _ _
-      (own_sites_bare inside (processor n id block len is)) (sites_bare is (suc k) (Some k))
-  item_sites_bare (power n level order is) k inside = joined (own_sites inside (power n level order is)) _ _ _ (own_sites_bare inside (power n level order is)) (sites_bare is (suc k) (Some k))
-  item_sites_bare (thermal n is) k inside = joined (own_sites inside (thermal n is)) _ _ _ (own_sites_bare inside (thermal n is)) (sites_bare is (suc k) (Some k))
+  item_sites_bare (scope kind n is) k inside = joined (own_sites inside (scope kind n is)) _ _ _ (own_sites_bare inside (scope kind n is)) (sites_bare is (suc k) (Some k))
   item_sites_bare i k inside = own_sites_bare inside i
 
   sites_bare : (is : ItemTrees) (k : ℕ) (inside : Option ℕ) → items_sites k inside (without_code is) ≡ map bare_site (items_sites k inside is)
@@ -96,42 +97,9 @@ sites_alike is js e = sym (sites_bare js 0 None) ∙ ap sites e ∙ sites_bare i
 
 -- ---- the code of sites
 
-abbrev pub effect_codes : Effect → List (List ℕ)
-effect_codes (declares o links (Some code)) = code ∷ []
-effect_codes d = []
-
-abbrev pub step_codes : List Step → List (List ℕ)
-step_codes [] = []
-step_codes (x ∷ xs) = effect_codes x.effect ++ step_codes xs
-
-abbrev pub site_codes : List Site → List (List ℕ)
-site_codes [] = []
-site_codes (x ∷ xs) = effect_codes x.step.effect ++ site_codes xs
-
 steps_appended : (xs ys : List Step) → step_codes (xs ++ ys) ≡ step_codes xs ++ step_codes ys
 steps_appended [] ys = refl
 steps_appended (x ∷ xs) ys = ap (λ (cs : List (List ℕ)). effect_codes x.effect ++ cs) (steps_appended xs ys) ∙ sym (append_assoc (effect_codes x.effect) (step_codes xs) (step_codes ys))
-
-sites_appended : (xs ys : List Site) → site_codes (xs ++ ys) ≡ site_codes xs ++ site_codes ys
-sites_appended [] ys = refl
-sites_appended (x ∷ xs) ys = ap (λ (cs : List (List ℕ)). effect_codes x.step.effect ++ cs) (sites_appended xs ys)
-    ∙ sym (append_assoc (effect_codes x.step.effect) (site_codes xs) (site_codes ys))
-
-units_codes : (form : FieldForm) (flags : ℕ) (links : List NameParts) (offset : ℕ) (es : List FieldTree) → step_codes (unit_steps form flags links offset es) ≡ []
-units_codes form flags links offset [] = refl
-units_codes form flags links offset (unit s bits ∷ es) = units_codes form flags links (offset + bits) es
-units_codes form flags links offset (e ∷ es) = units_codes form flags links (offset + element_bits e) es
-
-external_codes : (x : ExternalParts) (later : List Step) → step_codes (external_step x ++ later) ≡ step_codes later
-external_codes x later = by (x.kind == 8)
-  where
-    by : (b : Bool) → step_codes (cond b (step x.name (expects x.args) ∷ []) [] ++ later) ≡ step_codes later
-    by true = refl
-    by false = refl
-
-externals_codes : (xs : List ExternalParts) → step_codes (external_steps xs) ≡ []
-externals_codes [] = refl
-externals_codes (x ∷ xs) = external_codes x (external_steps xs) ∙ externals_codes xs
 
 external_alone : (x : ExternalParts) → step_codes (external_step x) ≡ []
 external_alone x = by (x.kind == 8)
@@ -140,17 +108,9 @@ external_alone x = by (x.kind == 8)
     by true = refl
     by false = refl
 
-in_sites : (inside : Option ℕ) (xs : List Step) → site_codes (map (site_in inside) xs) ≡ step_codes xs
-in_sites inside [] = refl
-in_sites inside (x ∷ xs) = ap (λ (cs : List (List ℕ)). effect_codes x.effect ++ cs) (in_sites inside xs)
-
 mutual
   item_sites_codes : (i : ItemTree) (k : ℕ) (inside : Option ℕ) → site_codes (item_sites k inside i) ≡ item_codes i
-  item_sites_codes (scope n is) k inside = sites_codes is (suc k) (Some k)
-  item_sites_codes (device n is) k inside = sites_codes is (suc k) (Some k)
-  item_sites_codes (processor n id block len is) k inside = sites_codes is (suc k) (Some k)
-  item_sites_codes (power n level order is) k inside = sites_codes is (suc k) (Some k)
-  item_sites_codes (thermal n is) k inside = sites_codes is (suc k) (Some k)
+  item_sites_codes (scope kind n is) k inside = ap (λ (cs : List (List ℕ)). cs ++ site_codes (items_sites (suc k) (Some k) is)) (scope_codes (kind_object kind)) ∙ sites_codes is (suc k) (Some k)
   item_sites_codes (external x) k inside = in_sites inside (external_step x) ∙ external_alone x
   item_sites_codes (external_block xs) k inside = in_sites inside (external_steps xs) ∙ externals_codes xs
   item_sites_codes (field r flags es) k inside = in_sites inside (unit_steps FieldForm.Field flags (r ∷ []) 0 es) ∙ units_codes FieldForm.Field flags (r ∷ []) 0 es

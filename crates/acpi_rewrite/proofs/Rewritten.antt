@@ -4,6 +4,7 @@ use Rattle.std.specs.List.{AllByRecursion, AllZip}
 use Rattle.std.proofs.lemmas.List.{length-drop}
 use Rattle.std.proofs.lemmas.List.Elements.{All-drop, recursion_from_All}
 use Rattle.acpi_space.specs.Lookups.{Lookup, singleton, union}
+use Rattle.acpi_space.proofs.Elements.{one_some}
 use Rattle.acpi_table.specs.Tables.{header_of, length_field}
 use Rattle.acpi_table.specs.declared.tables.Header.{Header}
 use Rattle.acpi_tree.specs.Tree.{ItemTrees}
@@ -46,9 +47,6 @@ use Rattle.acpi_rewrite.proofs.Relisted.{sites_alike, table_codes, relisted, Are
 abbrev pub AreBytes : List ℕ → Type 0
 AreBytes bytes = All (λ b. b < 256) bytes
 
-some_same : {X : Type 0} (a b : X) → Some a ≡ Some b → a ≡ b
-some_same a b e = cc
-
 -- ---- one body
 
 abbrev with_code : List ℕ → Method → Method
@@ -59,11 +57,11 @@ module _ (depth : ℕ) (objects : Namespace) (m : Method) (code : List ℕ) (bel
   same_body : (b : BodyTree) → IsBody depth objects m b → body_bytes b ≡ Some code → IsBody depth objects (with_code code m) b × (length code ≤ length m.code)
   same_body (read ts) is e =
       let r = read_terms_are_written (count objects m) m.path depth m.code ts below is in
-      let same : r.written ≡ code = some_same r.written code (sym r.spelling ∙ e) in
+      let same : r.written ≡ code = one_some r.written code (sym r.spelling ∙ e) in
       (subst (λ (c : List ℕ). ReadsBody (count objects m) m.path depth c ts) same r.reads, subst (λ (c : List ℕ). length c ≤ length m.code) same r.within)
   same_body (unread kept) is e =
-      let same : m.code ≡ code = sym is.0 ∙ some_same kept code e in (
-        (some_same kept code e, subst (λ (c : List ℕ). (ts : TermTrees) → ReadsBody (count objects m) m.path depth c ts → ⊥) same is.1),
+      let same : m.code ≡ code = sym is.0 ∙ one_some kept code e in (
+        (one_some kept code e, subst (λ (c : List ℕ). (ts : TermTrees) → ReadsBody (count objects m) m.path depth c ts → ⊥) same is.1),
         subst (λ (c : List ℕ). length c ≤ length m.code) same (omega arith),
       )
 

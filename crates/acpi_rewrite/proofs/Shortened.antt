@@ -3,7 +3,7 @@
 use Rattle.std.proofs.Common.{◌≡◌, ℕ, zero, suc, ◌≤◌, List, [], ◌∷◌, ◌++◌, length, drop, refl, sym, ap, subst, ◌∙◌, append_assoc, append-nil, arith}
 use Rattle.std.specs.List.{AllZip}
 use Rattle.std.proofs.lemmas.List.{drop_at}
-use Rattle.acpi_tree.specs.Tree.{ItemTree, scope, method, device, processor, power, thermal, ItemTrees, no_items, item}
+use Rattle.acpi_tree.specs.Tree.{ItemTree, scope, method, ItemTrees, no_items, item}
 use Rattle.acpi_write.specs.Shortest.{IsShortened, AreShortened}
 use Rattle.acpi_rewrite.specs.Rewriting.{item_codes, codes, item_without_code, without_code}
 use Rattle.acpi_rewrite.proofs.Recoded.{count_bare}
@@ -17,11 +17,7 @@ first_or code (c ∷ cs) = c
 abbrev mutual
   item_with : List (List ℕ) → ItemTree → ItemTree
   item_with cs (method n flags code) = method n flags (first_or code cs)
-  item_with cs (scope n is) = scope n (items_with cs is)
-  item_with cs (device n is) = device n (items_with cs is)
-  item_with cs (processor n id block len is) = processor n id block len (items_with cs is)
-  item_with cs (power n level order is) = power n level order (items_with cs is)
-  item_with cs (thermal n is) = thermal n (items_with cs is)
+  item_with cs (scope kind n is) = scope kind n (items_with cs is)
   item_with cs i = i
 
   items_with : List (List ℕ) → ItemTrees → ItemTrees
@@ -31,11 +27,7 @@ abbrev mutual
 mutual
   item_remade : (i : ItemTree) (rest : List (List ℕ)) → item_with (item_codes i ++ rest) (item_without_code i) ≡ i
   item_remade (method n flags code) rest = refl
-  item_remade (scope n is) rest = ap (scope n) (remade is rest)
-  item_remade (device n is) rest = ap (device n) (remade is rest)
-  item_remade (processor n id block len is) rest = ap (processor n id block len) (remade is rest)
-  item_remade (power n level order is) rest = ap (power n level order) (remade is rest)
-  item_remade (thermal n is) rest = ap (thermal n) (remade is rest)
+  item_remade (scope kind n is) rest = ap (scope kind n) (remade is rest)
   item_remade i rest = refl
 
   remade : (is : ItemTrees) (rest : List (List ℕ)) → items_with (codes is ++ rest) (without_code is) ≡ is
@@ -75,11 +67,7 @@ first_shorter code (c ∷ cs) (d ∷ ds) h = h.0
 mutual
   item_shortened : (i : ItemTree) (cs ds : List (List ℕ)) → AreNoLonger cs ds → IsShortened (item_with cs i) (item_with ds i)
   item_shortened (method n flags code) cs ds h = (first_or code ds, first_shorter code cs ds h, refl)
-  item_shortened (scope n is) cs ds h = (items_with ds is, shortened is cs ds h, refl)
-  item_shortened (device n is) cs ds h = (items_with ds is, shortened is cs ds h, refl)
-  item_shortened (processor n id block len is) cs ds h = (items_with ds is, shortened is cs ds h, refl)
-  item_shortened (power n level order is) cs ds h = (items_with ds is, shortened is cs ds h, refl)
-  item_shortened (thermal n is) cs ds h = (items_with ds is, shortened is cs ds h, refl)
+  item_shortened (scope kind n is) cs ds h = (items_with ds is, shortened is cs ds h, refl)
   item_shortened i cs ds h = refl
 
   shortened : (is : ItemTrees) (cs ds : List (List ℕ)) → AreNoLonger cs ds → AreShortened (items_with cs is) (items_with ds is)

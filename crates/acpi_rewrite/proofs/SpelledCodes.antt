@@ -2,15 +2,11 @@
 use Rattle.std.proofs.Common.{ℕ, ◌<◌, List, [], ◌∷◌, ◌++◌, subst, All}
 use Rattle.std.specs.List.{AllByRecursion}
 use Rattle.std.proofs.lemmas.List.Elements.{All-from_recursion, recursion_from_All}
-use Rattle.acpi_code.specs.Spelling.{Packs}
-use Rattle.acpi_code.proofs.Fitting.{AreBytes, back_bytes, packed, parts}
-use Rattle.acpi_tree.specs.Tree.{ItemTree, scope, method, device, processor, power, thermal, ItemTrees, no_items, item}
+use Rattle.acpi_code.proofs.Fitting.{AreBytes, parts}
+use Rattle.acpi_tree.specs.Tree.{ItemTree, scope, method, ItemTrees, no_items, item}
 use Rattle.acpi_terms.specs.Spelling.{SpellsItem, SpellsItems}
+use Rattle.acpi_terms.proofs.Fitting.{filled}
 use Rattle.acpi_rewrite.specs.Rewriting.{item_codes, codes}
-
--- the last part of what a package holds
-filling : (opcode a b bytes : List ℕ) → Packs opcode (a ++ b) bytes → AreBytes bytes → AreBytes b
-filling opcode a b bytes p h = back_bytes a b (packed opcode (a ++ b) bytes p h)
 
 abbrev AreOfBytes : List (List ℕ) → Type 0
 AreOfBytes cs = AllByRecursion (All (λ b. b < 256)) cs
@@ -22,12 +18,8 @@ both (c ∷ cs) ds h k = (h.0, both cs ds h.1 k)
 mutual
   item_codes_small : (i : ItemTree) (bytes : List ℕ) → SpellsItem i bytes → AreBytes bytes → AreOfBytes (item_codes i)
   item_codes_small (method n flags code) bytes h small =
-      (All-from_recursion (λ b. b < 256) code (subst AreBytes h.3 (filling _ h.0 h.1 bytes h.4 small)), tt)
-  item_codes_small (scope n is) bytes h small = codes_small is h.1 h.3 (filling _ h.0 h.1 bytes h.4 small)
-  item_codes_small (device n is) bytes h small = codes_small is h.1 h.3 (filling _ h.0 h.1 bytes h.4 small)
-  item_codes_small (processor n id block len is) bytes h small = codes_small is h.1 h.3 (filling _ h.0 h.1 bytes h.4 small)
-  item_codes_small (power n level order is) bytes h small = codes_small is h.1 h.3 (filling _ h.0 h.1 bytes h.4 small)
-  item_codes_small (thermal n is) bytes h small = codes_small is h.1 h.3 (filling _ h.0 h.1 bytes h.4 small)
+      (All-from_recursion (λ b. b < 256) code (subst AreBytes h.3 (filled _ h.0 h.1 bytes h.4 small)), tt)
+  item_codes_small (scope kind n is) bytes h small = codes_small is h.1 h.3 (filled _ h.0 h.1 bytes h.4 small)
   item_codes_small i bytes h small = tt
 
   codes_small : (is : ItemTrees) (bytes : List ℕ) → SpellsItems is bytes → AreBytes bytes → AreOfBytes (codes is)

@@ -2,7 +2,7 @@
 use Rattle.std.specs.Prelude.{◌≡◌, ◌<◌, ℕ, List, [], ◌∷◌, ◌++◌, Option, Some, All, ⊤}
 use Rattle.std.specs.List.{AllByRecursion, AllZip}
 use Rattle.acpi_table.specs.Tables.{IsTable, header_of}
-use Rattle.acpi_tree.specs.Tree.{ItemTree, scope, method, device, processor, power, thermal, ItemTrees, no_items, item}
+use Rattle.acpi_tree.specs.Tree.{ItemTree, scope, method, ItemTrees, no_items, item}
 use Rattle.acpi_terms.specs.Spelling.{SpellsItems}
 use Rattle.acpi_declare.specs.Namespace.{Namespace}
 use Rattle.acpi_declare.specs.Predefined.{predefined}
@@ -29,11 +29,7 @@ AreTablesOfBytes tables = AllByRecursion (All (λ b. b < 256)) tables
 abbrev mutual
   pub item_codes : ItemTree → List (List ℕ)
   item_codes (method n flags code) = code ∷ []
-  item_codes (scope n is) = codes is
-  item_codes (device n is) = codes is
-  item_codes (processor n id block len is) = codes is
-  item_codes (power n level order is) = codes is
-  item_codes (thermal n is) = codes is
+  item_codes (scope kind n is) = codes is
   item_codes _ = []
 
   pub codes : ItemTrees → List (List ℕ)
@@ -44,11 +40,7 @@ abbrev mutual
 abbrev mutual
   pub item_without_code : ItemTree → ItemTree
   item_without_code (method n flags code) = method n flags []
-  item_without_code (scope n is) = scope n (without_code is)
-  item_without_code (device n is) = device n (without_code is)
-  item_without_code (processor n id block len is) = processor n id block len (without_code is)
-  item_without_code (power n level order is) = power n level order (without_code is)
-  item_without_code (thermal n is) = thermal n (without_code is)
+  item_without_code (scope kind n is) = scope kind n (without_code is)
   item_without_code i = i
 
   pub without_code : ItemTrees → ItemTrees
@@ -64,7 +56,8 @@ body_bytes (unread kept) = Some kept
 
 -- what is written in the place of a method's code
 abbrev pub IsNewCode : ℕ → Namespace → Method → List ℕ → Type 0
-IsNewCode depth objects m code = (b : BodyTree) × IsBody depth objects m b × (body_bytes b ≡ Some code)
+IsNewCode depth objects m code =
+    (b : BodyTree) × IsBody depth objects m b × (body_bytes b ≡ Some code)
 
 -- ---- tables
 
@@ -75,7 +68,8 @@ pub record IsShortest (old : List ℕ) (is : ItemTrees) (new : List ℕ) : Type 
   pub spelling : items_bytes is ≡ Some (code_of new)
 
 -- a table of these placements, rewritten over the objects of all tables: its items, with new code for their methods
-pub record IsRewritten (depth : ℕ) (objects : Namespace) (placements : List Placement) (old new : List ℕ) : Type 0 where
+pub record IsRewritten (depth : ℕ) (objects : Namespace) (placements : List Placement)
+    (old new : List ℕ) : Type 0 where
   pub items : ItemTrees
   pub spelled : SpellsItems items (code_of old)
   pub rewritten : ItemTrees
@@ -84,9 +78,11 @@ pub record IsRewritten (depth : ℕ) (objects : Namespace) (placements : List Pl
   pub written : IsShortest old rewritten new
 
 -- .. each table
-abbrev pub AreEachRewritten : ℕ → Namespace → List (List Placement) → List (List ℕ) → List (List ℕ) → Type 0
+abbrev pub AreEachRewritten : ℕ → Namespace → List (List Placement) → List (List ℕ) → List (List ℕ)
+    → Type 0
 AreEachRewritten depth objects [] [] [] = ⊤
-AreEachRewritten depth objects (t ∷ ts) (b ∷ bs) (n ∷ ns) = IsRewritten depth objects t b n × AreEachRewritten depth objects ts bs ns
+AreEachRewritten depth objects (t ∷ ts) (b ∷ bs) (n ∷ ns) =
+    IsRewritten depth objects t b n × AreEachRewritten depth objects ts bs ns
 AreEachRewritten depth objects _ _ _ = ⊥
 
 -- the tables of a load, rewritten

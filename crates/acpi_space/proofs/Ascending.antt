@@ -12,6 +12,7 @@ use Rattle.acpi_space.specs.steps.Tree.{node_children, node_value, own_pair, pai
 use Rattle.acpi_space.specs.Spaces.{PathMap}
 use Rattle.acpi_space.proofs.Maps.{entries_ascending}
 use Rattle.acpi_space.proofs.Comparisons.{eq_of, segment_itself}
+use Rattle.acpi_space.proofs.Elements.{all_append}
 
 -- a pair before each of a list
 abbrev Before : {V : Type 0} → List Segment → List (List Segment × V) → Type 0
@@ -20,10 +21,6 @@ Before p es = AllByRecursion (λ f. path_cmp p f.0 ≡ Less) es
 abbrev Ascend : {V : Type 0} → List (List Segment × V) → Type 0
 Ascend [] = Unit {0}
 Ascend (e ∷ es) = Before e.0 es × Ascend es
-
-all_append : {X : Type 0} (P : X → Type 0) (a b : List X) → AllByRecursion P a → AllByRecursion P b → AllByRecursion P (a ++ b)
-all_append P [] b h k = k
-all_append P (x ∷ a) b h k = (h.0, all_append P a b h.1 k)
 
 ascend_append : {V : Type 0} (a b : List (List Segment × V)) → Ascend a → Ascend b → AllByRecursion (λ e. Before e.0 b) a → Ascend (a ++ b)
 ascend_append [] b h k l = k

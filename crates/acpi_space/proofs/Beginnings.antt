@@ -23,7 +23,7 @@ pub beginnings_push : {A : Type 0} (xs : List A) (y : A) → beginnings (xs ++ y
 beginnings_push [] y = refl
 beginnings_push (x ∷ xs) y = ap (λ l. map (λ q. x ∷ q) l ++ [] ∷ []) (beginnings_push xs y)
 
-beginnings_whole : {A : Type 0} (xs : List A) → (rest : List (List A)) × (beginnings xs ≡ xs ∷ rest)
+pub beginnings_whole : {A : Type 0} (xs : List A) → (rest : List (List A)) × (beginnings xs ≡ xs ∷ rest)
 beginnings_whole [] = ([], refl)
 beginnings_whole (x ∷ xs) =
     let t : (rest : _) × (beginnings xs ≡ xs ∷ rest) = beginnings_whole xs in

@@ -32,7 +32,7 @@ among_filtered f xs ys P e h x =
 
 -- ---- where all pass
 
-filter_all : {X : Type 0} (l : List X) → filter (λ _. true) l ≡ l
+pub filter_all : {X : Type 0} (l : List X) → filter (λ _. true) l ≡ l
 filter_all [] = refl
 filter_all (x ∷ l) = ap (λ r. x ∷ r) (filter_all l)
 

@@ -40,7 +40,7 @@ true_of false h = absurd h
 pub keys_ascend : {V : Type 0} (m : PathMap V) → IsStrictlySortedBy path_cmp (keys m)
 keys_ascend m = ascend (entries m) (true_of (is_sorted path_cmp (entries m)) (entries_sorted m))
 
-key_found : {V : Type 0} (es : List (List Segment × V)) (p : List Segment) → Among (map (λ e. e.0) es) p ↔ IsTrue (is_some (find path_cmp p es))
+pub key_found : {V : Type 0} (es : List (List Segment × V)) (p : List Segment) → Among (map (λ e. e.0) es) p ↔ IsTrue (is_some (find path_cmp p es))
 key_found [] p = (λ h. absurd h, λ h. absurd (true≢false (sym h)))
 key_found (e ∷ es) p = by (is_eq (path_cmp p e.0)) refl (key_found es p)
   where

@@ -27,6 +27,7 @@ use Rattle.acpi_space.proofs.Comparisons.{same_path}
 use Rattle.acpi_space.proofs.Filters.{among_filter}
 use Rattle.acpi_space.proofs.Keys.{key_is, keys_ascend}
 use Rattle.acpi_space.proofs.Maps.{entries_ascending, entries_none, get_is_lookup, none_of_not_some, put_is_insert}
+use Rattle.acpi_space.proofs.Tree.{or_none}
 
 find_both : {V : Type 0} (es fs : List (List Segment × V)) (q : List Segment) → find path_cmp q (es ++ fs) ≡ option_or (find path_cmp q es) (find path_cmp q fs)
 find_both [] fs q = refl
@@ -45,10 +46,6 @@ get-both lower upper q =
 
 pub same_paths : {V : Type 0} (m n : PathMap V) → ((q : List Segment) → get m q ≡ get n q) → m ≡ n
 same_paths = same_map path_cmp_total path_cmp-IsAntisymmetric
-
-or_none : {X : Type 0} (o : Option X) → option_or o None ≡ o
-or_none None = refl
-or_none (Some x) = refl
 
 -- nothing is laid over it, or it over nothing
 pub both-nothing : {V : Type 0} (lower upper : PathMap V) → upper ≡ empty → both lower upper ≡ lower
@@ -234,7 +231,7 @@ at es q = lookup (λ k. is_eq (path_cmp q k)) es
 get-seen : {V : Type 0} (es : List (List Segment × Bor V)) (q : List Segment) → get (pairs_of es) q ≡ option_map (λ v. v.now) (at es q)
 get-seen es q = get_is_lookup (map seen es) q ∙ lookup-seen (λ k. is_eq (path_cmp q k)) es
 
-is_some-map : {X Y : Type 0} (f : X → Y) (o : Option X) → is_some (option_map f o) ≡ is_some o
+pub is_some-map : {X Y : Type 0} (f : X → Y) (o : Option X) → is_some (option_map f o) ≡ is_some o
 is_some-map f None = refl
 is_some-map f (Some x) = refl
 

@@ -16,6 +16,7 @@ pub mod Trails
 pub mod Insertion
 pub mod WalkSteps
 pub mod Visits
+pub mod Elements
 pub mod Ascending
 pub mod Keys
 pub mod Laid

@@ -42,7 +42,7 @@ among_all P [] x a m = absurd m
 among_all P (y ∷ l) x a (inl e) = subst P e a.0
 among_all P (y ∷ l) x a (inr m) = among_all P l x a.1 m
 
-found_among : {A : Type 0} (p : A → Bool) (l : List A) (x : A) → find p l ≡ Some x → Among l x
+pub found_among : {A : Type 0} (p : A → Bool) (l : List A) (x : A) → find p l ≡ Some x → Among l x
 found_among p [] x e = cc
 found_among {A} p (y ∷ l) x e = by (p y) e (found_among p l x)
   where

@@ -1,5 +1,5 @@
 -- The entries of an ordered map, seen as a finite map.
-use Rattle.std.proofs.Common.{◌≡◌, Bool, true, false, cond, List, [], ◌∷◌, map, length, arith, ◌++◌, append_assoc, Option, Some, None, IsSome, is_some, true≢false, refl, sym, ap, ◌∙◌}
+use Rattle.std.proofs.Common.{◌≡◌, Bool, true, false, cond, List, [], ◌∷◌, map, length, arith, ◌++◌, append_assoc, Option, Some, None, IsSome, is_some, true≢false, refl, sym, ap, ◌∙◌, append-nil}
 use Rattle.std.specs.Ordering.{is_eq}
 use Rattle.std.specs.Cmp.{eq_by_cmp_equiv}
 use Rattle.std.specs.Map.{lookup}
@@ -47,7 +47,7 @@ first_put : {V : Type 0} (k : List Segment) (v : V) (es : List (List Segment × 
 first_put k v [] h = refl
 first_put k v (e ∷ es) h = ap (λ o. by_order o ((k, v) ∷ e ∷ es) ((e.0, v) ∷ es) (e ∷ put path_cmp k v es)) h.0
 
-no_length : {A : Type 0} (l : List A) → length l ≡ 0 → l ≡ []
+pub no_length : {A : Type 0} (l : List A) → length l ≡ 0 → l ≡ []
 no_length [] e = refl
 no_length (x ∷ l) e = absurd (omega arith)
 
@@ -66,11 +66,7 @@ listed_more f items new x y rest left all e r h n =
     ap (λ l. map f l ++ left) n ∙ ap (λ l. l ++ left) (map-append f items (x ∷ [])) ∙ append_assoc (map f items) (f x ∷ []) left
     ∙ ap (λ z. map f items ++ z ∷ left) h ∙ ap (λ l. map f items ++ l) (sym r) ∙ e
 
-append_nil : {A : Type 0} (l : List A) → l ++ [] ≡ l
-append_nil [] = refl
-append_nil (x ∷ l) = ap (λ r. x ∷ r) (append_nil l)
-
 pub listed_all : {V : Type 0} {A : Type 0} (f : A → List Segment × V) (items : List A) (rest all es : List (List Segment × V)) (m : FinMap path_cmp V)
     → map f items ++ rest ≡ all → rest ≡ [] → all ≡ es → IsStrictlySortedBy path_cmp (map (λ e. e.0) es) → from_entries es ≡ m → map f items ≡ entries m
 listed_all f items rest all es m e r a s v =
-    sym (append_nil (map f items)) ∙ ap (λ l. map f items ++ l) (sym r) ∙ e ∙ a ∙ sym (entries_ascending es s) ∙ ap entries v
+    sym (append-nil (map f items)) ∙ ap (λ l. map f items ++ l) (sym r) ∙ e ∙ a ∙ sym (entries_ascending es s) ∙ ap entries v

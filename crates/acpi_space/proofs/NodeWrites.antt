@@ -8,7 +8,7 @@ pub on_err : {A E : Type 0} (P : Type 0) (r : Result A E) → P → OnErr r P
 on_err P (Ok x) h = tt
 on_err P (Err e) h = h
 
-get_set : {X : Type 0} (xs : List X) (n : ℕ) (y : X) → n < length xs → slice_get (slice_set xs n y) n ≡ Some y
+pub get_set : {X : Type 0} (xs : List X) (n : ℕ) (y : X) → n < length xs → slice_get (slice_set xs n y) n ≡ Some y
 get_set [] n y h = absurd (omega arith)
 get_set (x ∷ xs) zero y h = refl
 get_set (x ∷ xs) (suc n) y h = get_set xs n y (omega arith)

@@ -61,7 +61,7 @@ none_after g h (k ∷ kids) e a =
     let less : segment_cmp g k.0 ≡ Less = nat_list_cmp_total.congr g h k.0 e ∙ a.0 in
     ap (λ o. cond (is_eq o) (Some k.1) (child_of kids g)) less ∙ none_after g h kids e a.1
 
-or_none : {X : Type 0} (o : Option X) → option_or o None ≡ o
+pub or_none : {X : Type 0} (o : Option X) → option_or o None ≡ o
 or_none None = refl
 or_none (Some x) = refl
 

@@ -12,7 +12,8 @@ abbrev pub tries_of : List Segment → NameParts → Option Segment → List (Li
 tries_of s n (Some g) = map (λ q. q ++ g ∷ []) (beginnings s)
 tries_of s n None = option_to_list (place_of s n)
 
--- where a name may stand, the innermost first: a plain name in the scope and in each of its parents, any other at its place
+-- where a name may stand, the innermost first: a plain name in the scope and in each of its parents, any other at its
+-- place
 abbrev pub tries : List Segment → NameParts → List (List Segment)
 tries s n = tries_of s n (plain_segment n)
 

@@ -99,7 +99,7 @@ impl<'a, S> Overlay<'a, S> {
     }
 }
 
-// Gathers the paths that it is shown, but for those that a space has which is lent.
+/// Gathers the paths that it is shown, but for those that a space has which is lent.
 #[derive(Drop)]
 pub struct OwnPaths<'a, S> {
     lower: Option<&'a S>,

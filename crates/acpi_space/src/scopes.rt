@@ -61,7 +61,8 @@ pub(crate) fn paths_among<W, T: Space<W>>(
     }
 }
 
-// The longest beginning of the scope below which the segment is one of the paths, if that has at least `outer` segments.
+// The longest beginning of the scope below which the segment is one of the paths, if that has at least `outer`
+// segments.
 fn innermost<W, T: Space<W>>(
     alloc: Global,
     scope: &Path,

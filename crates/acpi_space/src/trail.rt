@@ -8,7 +8,9 @@ use std::alloc::Global;
 /// One segment of the way, and the number of the node to which it leads.
 #[derive(Clone, Copy)]
 pub struct Mark {
+    /// The segment that stands here in the path.
     pub seg: Seg,
+    /// The number of the node to which it leads.
     pub number: usize,
 }
 

@@ -151,7 +151,8 @@ pub fn wanted_misses<V, S: Space<V>, Q: Wanted>(
     Ok(paths)
 }
 
-// The paths that the search of a plain name tries in vain. Where none of its tries is asked for, the space is not walked.
+// The paths that the search of a plain name tries in vain. Where none of its tries is asked for, the space is not
+// walked.
 fn plain_misses<V, S: Space<V>, Q: Wanted>(
     alloc: Global,
     space: &S,

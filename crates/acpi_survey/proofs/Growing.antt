@@ -16,8 +16,8 @@ use Rattle.acpi_outline.specs.Tiling.{TilesFields, TilesInside, Tiles}
 use Rattle.acpi_outline.proofs.One.{outline_tiles}
 use Rattle.acpi_conditions.specs.Nodes.{Nodes, no_nodes, declares, branch, places}
 use Rattle.acpi_conditions.specs.Laws.{AreDistinct}
-use Rattle.acpi_survey.specs.declared.tables.Judged.{Judged}
-use Rattle.acpi_survey.specs.declared.tables.Judged.TheVariants.{Unread, Read}
+use Rattle.acpi_survey.specs.declared.tables.TableContent.{TableContent}
+use Rattle.acpi_survey.specs.declared.tables.TableContent.TheVariants.{Unread, Read}
 use Rattle.acpi_survey.specs.Tables.{IsJudged}
 use Rattle.acpi_survey.specs.Nodes.{term_at, operator_at, plain_at, package_at, element_at, operands_of, fields_at, Listed, no_else, with_else, if_before, holding_at, lost_package_at, listed_node, listed, nodes_of}
 use Rattle.acpi_survey.specs.Reading.{Reading, survey_rules}
@@ -184,7 +184,7 @@ mutual
 -- ---- tables
 
 -- a code is shorter than what sets the places of two tables apart
-pub code_short : (number : ℕ) (bytes : List ℕ) (j : Judged) → IsJudged number bytes j → length (code_read j) ≤ 2 ^ 64
+pub code_short : (number : ℕ) (bytes : List ℕ) (j : TableContent) → IsJudged number bytes j → length (code_read j) ≤ 2 ^ 64
 code_short number bytes (Unread why) h = omega arith
 code_short number bytes (Read code is_cut has_bad_sum is_out_of_place trailing) h =
     let short : length (take (length_field bytes) bytes) ≤ length_field bytes = simp length-take (omega arith) in

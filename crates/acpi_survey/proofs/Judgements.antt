@@ -8,8 +8,8 @@ use Rattle.acpi_table.specs.Tables.{sum_of, length_field}
 use Rattle.acpi_table.specs.declared.tables.TableFault.TheVariants.{Short, BadLength, TooLong}
 use Rattle.acpi_survey.specs.declared.tables.TableReason.{TableReason}
 use Rattle.acpi_survey.specs.declared.tables.TableReason.TheVariants.{Table, NotDsdt, NotSsdt}
-use Rattle.acpi_survey.specs.declared.tables.Judged.{Judged}
-use Rattle.acpi_survey.specs.declared.tables.Judged.TheVariants.{Unread, Read}
+use Rattle.acpi_survey.specs.declared.tables.TableContent.{TableContent}
+use Rattle.acpi_survey.specs.declared.tables.TableContent.TheVariants.{Unread, Read}
 use Rattle.acpi_survey.specs.Tables.{IsDsdt, IsSsdt, HasLength, HasBadSum, IsOutOfPlace, IsJudged, code_in}
 use Rattle.acpi_survey.specs.Survey.{code_read}
 
@@ -58,34 +58,34 @@ place_told (suc n) bytes d (inr other) = inl (inr (omega arith, other))
 
 -- ---- what is read of a table
 
-read_of : (number : ℕ) (bytes : List ℕ) → HasLength bytes → IsDsdt bytes ⊎ IsSsdt bytes → (j : Judged) × IsJudged number bytes j
+read_of : (number : ℕ) (bytes : List ℕ) → HasLength bytes → IsDsdt bytes ⊎ IsSsdt bytes → (j : TableContent) × IsJudged number bytes j
 read_of number bytes l signed =
     let cut = told (cut_told (length bytes) (length_field bytes)) in
     let sum = told (bad_sum_told bytes) in
     let out = told (place_told number bytes (bytes_told (take 4 bytes) (codes "DSDT")) (bytes_told (take 4 bytes) (codes "SSDT"))) in
     (Read (code_in bytes) cut.0 sum.0 out.0 (length bytes - length_field bytes), (l, signed, refl, cut.1, sum.1, out.1, refl))
 
-unread_of : (number : ℕ) (bytes : List ℕ) → HasLength bytes → (IsDsdt bytes → ⊥) → (IsSsdt bytes → ⊥) → (j : Judged) × IsJudged number bytes j
+unread_of : (number : ℕ) (bytes : List ℕ) → HasLength bytes → (IsDsdt bytes → ⊥) → (IsSsdt bytes → ⊥) → (j : TableContent) × IsJudged number bytes j
 unread_of zero bytes l no_dsdt no_ssdt = (Unread NotDsdt, (l, no_dsdt, no_ssdt, refl))
 unread_of (suc n) bytes l no_dsdt no_ssdt = (Unread NotSsdt, (l, no_dsdt, no_ssdt, omega arith))
 
-by_signature : (number : ℕ) (bytes : List ℕ) → HasLength bytes → IsDsdt bytes ⊎ (IsDsdt bytes → ⊥) → IsSsdt bytes ⊎ (IsSsdt bytes → ⊥) → (j : Judged) × IsJudged number bytes j
+by_signature : (number : ℕ) (bytes : List ℕ) → HasLength bytes → IsDsdt bytes ⊎ (IsDsdt bytes → ⊥) → IsSsdt bytes ⊎ (IsSsdt bytes → ⊥) → (j : TableContent) × IsJudged number bytes j
 by_signature number bytes l (inl d) s = read_of number bytes l (inl d)
 by_signature number bytes l (inr other) (inl s) = read_of number bytes l (inr s)
 by_signature number bytes l (inr no_dsdt) (inr no_ssdt) = unread_of number bytes l no_dsdt no_ssdt
 
 by_length : (number : ℕ) (bytes : List ℕ) → 36 ≤ length bytes → (length_field bytes < 36) ⊎ (36 ≤ length_field bytes) → (16777216 < length_field bytes) ⊎ (length_field bytes ≤ 16777216)
-    → (j : Judged) × IsJudged number bytes j
+    → (j : TableContent) × IsJudged number bytes j
 by_length number bytes has (inl less) m = (Unread (Table BadLength), (has, less))
 by_length number bytes has (inr least) (inl more) = (Unread (Table TooLong), (has, more))
 by_length number bytes has (inr least) (inr most) =
     by_signature number bytes (record { has_header = has; least = least; most = most }) (bytes_told (take 4 bytes) (codes "DSDT")) (bytes_told (take 4 bytes) (codes "SSDT"))
 
-by_header : (number : ℕ) (bytes : List ℕ) → (length bytes < 36) ⊎ (36 ≤ length bytes) → (j : Judged) × IsJudged number bytes j
+by_header : (number : ℕ) (bytes : List ℕ) → (length bytes < 36) ⊎ (36 ≤ length bytes) → (j : TableContent) × IsJudged number bytes j
 by_header number bytes (inl short) = (Unread (Table Short), short)
 by_header number bytes (inr has) = by_length number bytes has (cases_lt (length_field bytes) 36) (cases_lt 16777216 (length_field bytes))
 
-pub judged : (number : ℕ) (bytes : List ℕ) → (j : Judged) × IsJudged number bytes j
+pub judged : (number : ℕ) (bytes : List ℕ) → (j : TableContent) × IsJudged number bytes j
 judged number bytes = by_header number bytes (cases_lt (length bytes) 36)
 
 -- ---- its code is one
@@ -100,7 +100,7 @@ not_read number bytes NotDsdt h l (inr s) = h.2 s
 not_read number bytes NotSsdt h l (inl d) = h.1 d
 not_read number bytes NotSsdt h l (inr s) = h.2 s
 
-pub one_code : (number : ℕ) (bytes : List ℕ) (i j : Judged) → IsJudged number bytes i → IsJudged number bytes j → code_read i ≡ code_read j
+pub one_code : (number : ℕ) (bytes : List ℕ) (i j : TableContent) → IsJudged number bytes i → IsJudged number bytes j → code_read i ≡ code_read j
 one_code number bytes (Unread why) (Unread what) h k = refl
 one_code number bytes (Unread why) (Read code is_cut has_bad_sum is_out_of_place trailing) h k = absurd (not_read number bytes why h k.0 k.1)
 one_code number bytes (Read code is_cut has_bad_sum is_out_of_place trailing) (Unread why) h k = absurd (not_read number bytes why k h.0 h.1)

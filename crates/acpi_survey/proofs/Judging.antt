@@ -6,7 +6,7 @@ use Rattle.acpi_table.specs.Tables.{length_field, IsRefusedAs}
 use Rattle.acpi_table.specs.declared.tables.TableFault.TheVariants.{Short, BadLength, TooLong, Cut, BadSum}
 use Rattle.acpi_table.specs.declared.tables.TableFault.{TableFault}
 use Rattle.acpi_survey.specs.declared.tables.TableReason.TheVariants.{Table}
-use Rattle.acpi_survey.specs.declared.tables.Judged.TheVariants.{Unread}
+use Rattle.acpi_survey.specs.declared.tables.TableContent.TheVariants.{Unread}
 use Rattle.acpi_survey.specs.Tables.{HasLength, HasBadSum, IsJudged, code_in}
 
 pub length_of_cut : (bytes : List ℕ) → IsRefusedAs Cut bytes → HasLength bytes

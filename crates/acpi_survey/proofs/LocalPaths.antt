@@ -22,8 +22,8 @@ no_scope : (p : Path) (ps : List Path) → list_any (λ c. is_same_path c.path p
 no_scope p [] = refl
 no_scope p (q ∷ qs) = elim (is_same_path q p) as (λ b. ((b && false) || list_any (λ (c : Certain). is_same_path c.path p && c.is_scope) (map object_at qs)) ≡ false) [ true ↦ no_scope p qs | false ↦ no_scope p qs ]
 
-pub certain_behind : (locals : Locals) (k : Known) (p : Path) → is_certain (known_behind locals k) p ≡ (is_defined locals p || is_certain k p)
-certain_behind locals k p =
+pub certain_with_locals : (locals : Locals) (k : Known) (p : Path) → is_certain (known_behind locals k) p ≡ (is_defined locals p || is_certain k p)
+certain_with_locals locals k p =
     list_any-append (λ c. is_same_path c.path p) (map object_at (finite.keys locals)) k.certain
     ∙ ap (λ b. b || is_certain k p) (among_keys p (finite.keys locals) ∙ sym (finite.contains_key-keys locals p))
 

@@ -1,5 +1,5 @@
 -- What a search for a place finds.
-use Rattle.std.proofs.Common.{◌≡◌, ◌-◌, ◌<◌, ◌≤◌, ◌==◌, ℕ, zero, suc, true, false, Bool, cond, List, [], ◌∷◌, ◌++◌, length, length-append, slice_get, slice_index_or, Option, Some, None, option_map, unwrap_or, refl, sym, ap, subst, ◌∙◌, arith, rules, nat_le, nat_lt}
+use Rattle.std.proofs.Common.{◌≡◌, ◌-◌, ◌<◌, ◌≤◌, ◌==◌, ℕ, zero, suc, true, false, Bool, cond, List, [], ◌∷◌, ◌++◌, length, length-append, slice_get, slice_index_or, Option, Some, None, option_map, refl, sym, ap, subst, ◌∙◌, arith, rules, nat_le, nat_lt}
 use Rattle.std.specs.Option.{option_or}
 use Rattle.std.specs.List.{AllWithin}
 use Rattle.std.specs.List.Sorted.{IsNonDecreasingBy, IsPartitionPoint}
@@ -17,6 +17,7 @@ use Rattle.acpi_tree.specs.View.{field_view}
 use Rattle.acpi_outline.specs.declared.node.PlacedField.{PlacedField}
 use Rattle.acpi_survey.specs.declared.lookup.NodeRange.{NodeRange}
 use Rattle.acpi_survey.specs.steps.Lookups.{end_behind, nodes_before, elements_before, IsBefore}
+use Rattle.acpi_survey.proofs.DeclaringParts.{some_is}
 
 same_eqb : (a b : ℕ) → a ≡ b → (a == b) ≡ true
 same_eqb a b e = eq-eqb a b e
@@ -26,9 +27,6 @@ other a b lt = ne_eqb b a (λ e. omega (arith, lt, e))
 
 before : (a b : ℕ) → a < b → (a == b) ≡ false
 before a b lt = ne_eqb a b (λ e. omega (arith, lt, e))
-
-some_same : {X : Type 0} {x y : X} → Some x ≡ Some y → x ≡ y
-some_same {x = x} e = ap (λ o. unwrap_or o x) e
 
 or_none : (o : Option Found) → option_or o None ≡ o
 or_none None = refl
@@ -106,7 +104,7 @@ begins l start stop (n ∷ ns) t = sym t.1
 
 at_least : (l : Option Lost) (start stop : ℕ) (ns : List Placed) (k : ℕ) (m : Placed) → Tiles start stop (nodes_left ns l) → slice_get ns k ≡ Some m → start ≤ m.0
 at_least l start stop [] k m t e = absurd (cc e)
-at_least l start stop (n ∷ ns) zero m t e = let same : n ≡ m = some_same e in omega (arith, t.1, ap (λ (n : Placed). n.0) same)
+at_least l start stop (n ∷ ns) zero m t e = let same : n ≡ m = some_is e in omega (arith, t.1, ap (λ (n : Placed). n.0) same)
 at_least l start stop (n ∷ ns) (suc k) m t e = omega (arith, t.2, at_least l t.0 stop ns k m t.5 e)
 
 pub sorted : (l : Option Lost) (start stop : ℕ) (ns : List Placed) → Tiles start stop (nodes_left ns l) → IsNonDecreasingBy (λ (n : Placed). n.0) ns
@@ -140,7 +138,7 @@ pub found_last : (place end : ℕ) (l : Option Lost) (start stop : ℕ) (ns : Li
     (inside_at place (end_behind (option_map (λ (n : Placed). n.0) (slice_get ns (suc k))) l end) m.1)
 found_last place end l start stop [] k m t e le after = absurd (cc e)
 found_last place end l start stop (n ∷ ns) zero m t e le after =
-    let same : n ≡ m = some_same e in
+    let same : n ≡ m = some_is e in
     subst (λ (m : Placed). part_at place end (nodes_left (n ∷ ns) l)
     ≡ cond (m.0 == place) (Some (node_found (end_behind (option_map (λ (n : Placed). n.0) (slice_get ns 0)) l end) m.1))
     (inside_at place (end_behind (option_map (λ (n : Placed). n.0) (slice_get ns 0)) l end) m.1)) same
@@ -156,7 +154,7 @@ pub tiles_last : (l : Option Lost) (start stop : ℕ) (ns : List Placed) (k : �
     → TilesInside m.0 (end_behind (option_map (λ (n : Placed). n.0) (slice_get ns (suc k))) l stop) m.1
 tiles_last l start stop [] k m t e = absurd (cc e)
 tiles_last l start stop (n ∷ ns) zero m t e =
-    let same : n ≡ m = some_same e in
+    let same : n ≡ m = some_is e in
     subst (λ (m : Placed). TilesInside m.0 (end_behind (option_map (λ (n : Placed). n.0) (slice_get ns 0)) l stop) m.1) same
     (subst (λ to. TilesInside n.0 to n.1) (begins l t.0 stop ns t.5) t.4)
 tiles_last l start stop (n ∷ ns) (suc k) m t e = tiles_last l t.0 stop ns k m t.5 e
@@ -167,7 +165,7 @@ pub inner_shorter : (ns : List Placed) (l : NodeTrees) (k : ℕ) (m : Placed) �
     → length (inner_parts m.1) < length (parts_of (put_before ns l))
 inner_shorter [] l k m e = absurd (cc e)
 inner_shorter (n ∷ ns) l zero m e =
-    let same : n ≡ m = some_same e in
+    let same : n ≡ m = some_is e in
     omega (arith, ap (λ (n : Placed). length (inner_parts n.1)) same, length-append (inner_parts n.1) (parts_of (put_before ns l)))
 inner_shorter (n ∷ ns) l (suc k) m e =
     omega (arith, inner_shorter ns l k m e, length-append (inner_parts n.1) (parts_of (put_before ns l)))
@@ -182,7 +180,7 @@ place_is n = ap (λ (p : Placed). p.0) (placed_is n)
 
 got_node : (ns : List PlacedNode) (k : ℕ) (p : Placed) → slice_get (placed_views ns) k ≡ Some p → (n : PlacedNode) × (slice_get ns k ≡ Some n) × (p ≡ placed_view n)
 got_node [] k p e = absurd (cc e)
-got_node (n ∷ ns) zero p e = (n, refl, sym (some_same e))
+got_node (n ∷ ns) zero p e = (n, refl, sym (some_is e))
 got_node (n ∷ ns) (suc k) p e = got_node ns k p e
 
 put_node : (ns : List PlacedNode) (k : ℕ) (m : PlacedNode) → slice_get ns k ≡ Some m → slice_get (placed_views ns) k ≡ Some (placed_view m)
@@ -298,7 +296,7 @@ pub element_there : (place end k : ℕ) (f : FixedTree) (l : Option Lost) (fs : 
     ≡ Some (element_found (end_behind (option_map (λ (u : PlacedField). u.place) (slice_get fs (suc k))) l end) f u.offset (field_view u.element))
 element_there place end k f l [] u are e same = absurd (cc e)
 element_there place end zero f l (v ∷ fs) u are e same =
-    let is : v ≡ u = some_same e in
+    let is : v ≡ u = some_is e in
     let to = end_behind (option_map (λ (u : PlacedField). u.place) (slice_get fs 0)) l end in
     ap (λ b. cond b (Some (element_found (first_field end (elements_before fs l)) f v.offset (field_view v.element))) (element_at place end f (elements_before fs l)))
     (same_eqb v.place place (ap (λ (u : PlacedField). u.place) is ∙ same))
@@ -312,7 +310,7 @@ element_there place end (suc k) f l (v ∷ fs) u are e same =
 
 fields_from : (start stop : ℕ) (l : Option Lost) (fs : List PlacedField) (k : ℕ) (u : PlacedField) → TilesFields start stop (elements_before fs l) → slice_get fs k ≡ Some u → start ≤ u.place
 fields_from start stop l [] k u t e = absurd (cc e)
-fields_from start stop l (v ∷ fs) zero u t e = let same : v ≡ u = some_same e in omega (arith, t.1, ap (λ (u : PlacedField). u.place) same)
+fields_from start stop l (v ∷ fs) zero u t e = let same : v ≡ u = some_is e in omega (arith, t.1, ap (λ (u : PlacedField). u.place) same)
 fields_from start stop l (v ∷ fs) (suc k) u t e = omega (arith, t.2, fields_from t.0 stop l fs k u t.4 e)
 
 sorted_fields : (start stop : ℕ) (l : Option Lost) (fs : List PlacedField) → TilesFields start stop (elements_before fs l) → IsNonDecreasingBy (λ (f : PlacedField). f.place) fs

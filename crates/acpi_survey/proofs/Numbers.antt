@@ -3,6 +3,7 @@ use Rattle.std.proofs.Common.{◌≡◌, ◌&&◌, ℕ, suc, Bool, true, false, 
 use Rattle.std.specs.Option.{option_map}
 use Rattle.std.proofs.lemmas.Option.{slice_get-map}
 use Rattle.std.specs.List.{list_any}
+use Rattle.std.proofs.Math.Bool.{and-true}
 use Rattle.acpi_space.specs.Lookups.{is_same_path}
 use Rattle.acpi_conditions.specs.Entries.{Path, Turn, Entry}
 use Rattle.acpi_conditions.specs.EntryForms.{entry_view}
@@ -18,15 +19,11 @@ none_opposite (t ∷ ts) = none_opposite ts
 is_met : (e : Entry) → may_be_met [] e ≡ true
 is_met e = ap not (none_opposite (outside_loops e.way))
 
-and_true : (b : Bool) → (b && true) ≡ b
-and_true true = refl
-and_true false = refl
-
 all_beyond : (p : Path) (n : ℕ) (es : List Entry) → numbers_beyond [] p n es ≡ numbers_at p n es
 all_beyond p n [] = refl
 all_beyond p n (e ∷ es) =
     ap (λ (b : Bool). cond (is_same_path e.path p && b) (n ∷ numbers_beyond [] p (suc n) es) (numbers_beyond [] p (suc n) es)) (is_met e)
-    ∙ ap (λ (b : Bool). cond b (n ∷ numbers_beyond [] p (suc n) es) (numbers_beyond [] p (suc n) es)) (and_true (is_same_path e.path p))
+    ∙ ap (λ (b : Bool). cond b (n ∷ numbers_beyond [] p (suc n) es) (numbers_beyond [] p (suc n) es)) (and-true (is_same_path e.path p))
     ∙ ap (λ (ns : List ℕ). cond (is_same_path e.path p) (n ∷ ns) ns) (all_beyond p (suc n) es)
 
 pub all_met : (m : Meeting) (p : Path) (es : List Entry) → m.way ≡ [] → m.entries ≡ es → numbers_met m p ≡ numbers_at p 0 es

@@ -43,7 +43,7 @@ get_or_mapped f [] k d = refl
 get_or_mapped f (x ∷ xs) zero d = refl
 get_or_mapped f (x ∷ xs) (suc k) d = get_or_mapped f xs k d
 
-length_mapped : {X Y : Type 0} (f : X → Y) (xs : List X) → length (map f xs) ≡ length xs
+pub length_mapped : {X Y : Type 0} (f : X → Y) (xs : List X) → length (map f xs) ≡ length xs
 length_mapped f [] = refl
 length_mapped f (x ∷ xs) = ap suc (length_mapped f xs)
 

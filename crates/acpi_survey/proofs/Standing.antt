@@ -1,6 +1,7 @@
 -- Each place of what the nodes of a code do is the first of one of the code's ranges.
 use Rattle.std.proofs.Common.{◌≡◌, ◌+◌, ◌⊎◌, ℕ, Bool, false, List, [], ◌∷◌, ◌++◌, inl, inr, refl, sym, ap, ◌∙◌}
 use Rattle.acpi_space.specs.Laws.{Among}
+use Rattle.acpi_space.proofs.Elements.{among_left, among_right, among_append}
 use Rattle.acpi_tree.specs.declared.op.Op.{Op}
 use Rattle.acpi_tree.specs.declared.op.Op.TheVariants as ops
 use Rattle.acpi_tree.specs.Tree.{FieldTree, unit}
@@ -12,19 +13,9 @@ use Rattle.acpi_outline.specs.Nodes.{PlainTree, FixedTree, container, method, if
 use Rattle.acpi_outline.specs.Nodes.{NodeTree, plain, holds, holds_fields, closed, package_lost, data_lost, name_lost, NodeTrees, no_more, lost, node}
 use Rattle.acpi_conditions.specs.Entries.{Path}
 use Rattle.acpi_conditions.specs.Nodes.{Nodes, no_nodes, declares, branch, places}
-use Rattle.acpi_conditions.proofs.Basics.{among_left, among_right}
 use Rattle.acpi_survey.specs.Nodes.{term_at, operator_at, plain_at, package_at, element_at, operands_of, fields_at, Listed, no_else, with_else, if_before, holding_at, lost_package_at, listed_node, listed, nodes_of}
 use Rattle.acpi_survey.specs.Spans.{of_node, of_element, of_lost}
 use Rattle.acpi_survey.specs.Ranges.{Range, range, Entered, scope_inside, first_place, first_field_place, is_if, element_ranges, inner_ranges, ranges_of}
-
-pub either : {X : Type 0} (xs ys : List X) (x : X) → Among (xs ++ ys) x → Among xs x ⊎ Among ys x
-either [] ys x m = inr m
-either (z ∷ xs) ys x (inl e) = inl (inl e)
-either (z ∷ xs) ys x (inr m) = either_more z xs ys x (either xs ys x m)
-  where
-    either_more : {X : Type 0} (z : X) (xs ys : List X) (x : X) → Among xs x ⊎ Among ys x → Among (z ∷ xs) x ⊎ Among ys x
-    either_more z xs ys x (inl m) = inl (inr m)
-    either_more z xs ys x (inr m) = inr m
 
 -- a range begins at the place
 abbrev pub Stands : ℕ → List Range → ℕ → Type 0
@@ -87,7 +78,7 @@ module _ (base place : ℕ) (first : Range) (at : first.from ≡ place) (behind 
 
 -- places one after another
 both_stand : (base : ℕ) (rs : List Range) (ps qs : List ℕ) → AllStand base rs ps → AllStand base rs qs → AllStand base rs (ps ++ qs)
-both_stand base rs ps qs h n p m = by (either ps qs p m)
+both_stand base rs ps qs h n p m = by (among_append ps qs p m)
   where
     by : Among ps p ⊎ Among qs p → Stands base rs p
     by (inl m) = h p m

@@ -3,13 +3,14 @@ use Rattle.std.proofs.Common.{◌≡◌, ◌⊎◌, ◌||◌, ◌&&◌, ◌+◌,
 use Rattle.std.specs.Prelude.{IsTrue, slice_index_or, nat_eq}
 use Rattle.std.specs.List.{AllByRecursion, filter, flat_map, list_all, list_any}
 use Rattle.std.specs.FinMap as finite
-use Rattle.std.proofs.lemmas.Bool.{eqb-true}
+use Rattle.std.proofs.lemmas.Bool.{eqb-true, or_right, and_from}
 use Rattle.acpi_name.specs.Names.{NameParts}
 use Rattle.acpi_space.specs.Lookups.{Lookup, is_same_path, is_defined_in}
 use Rattle.acpi_space.specs.Search.{answer, tries}
 use Rattle.acpi_space.specs.Spaces.{PathMap, is_defined}
 use Rattle.acpi_space.specs.Laws.{Among}
 use Rattle.acpi_space.proofs.Filters.{among_filter}
+use Rattle.acpi_space.proofs.Elements.{among_left, among_right, among_append, one_some, some_is}
 use Rattle.acpi_body.specs.Arguments.{Locals}
 use Rattle.acpi_outline.specs.Nodes.{NodeTrees}
 use Rattle.acpi_conditions.specs.Nodes.{Term}
@@ -20,16 +21,17 @@ use Rattle.acpi_conditions.specs.Views.{nothing_known, known_with, seen_by}
 use Rattle.acpi_conditions.specs.Met.{may_be_met, numbers_beyond}
 use Rattle.acpi_conditions.specs.Survey.{surveys, all_entries}
 use Rattle.acpi_conditions.specs.Laws.{AnswerAlike}
-use Rattle.acpi_conditions.proofs.Basics.{among_left, among_right, among_append, some_any, any_some, some_is, one_some, same_path, path_itself, and_left, and_right, and_both, or_right}
+use Rattle.acpi_conditions.proofs.Basics.{some_any, any_some, same_path, path_itself, and_left, and_right}
 use Rattle.acpi_conditions.proofs.SeenIsTrue.{seen_is_true}
 use Rattle.acpi_conditions.proofs.AmongAll.{seen_among_all}
+use Rattle.acpi_conditions.proofs.Strict.{flat_among}
 use Rattle.acpi_survey.specs.Counts.{is_count, agreed, counts_numbered, count_of}
 use Rattle.acpi_survey.specs.Bodies.{known_behind, counts_behind, entry_count}
 use Rattle.acpi_survey.specs.Reading.{Reading}
 use Rattle.acpi_survey.specs.Predefined.{first_reading, with_object}
 use Rattle.acpi_survey.specs.Survey.{all_nodes}
 use Rattle.acpi_survey.specs.Laws.{HasCountAt, SureCountsHold}
-use Rattle.acpi_survey.proofs.LocalPaths.{certain_behind}
+use Rattle.acpi_survey.proofs.LocalPaths.{certain_with_locals}
 use Rattle.acpi_survey.proofs.Growing.{places_are_distinct}
 use Rattle.acpi_survey.proofs.Surveys.{first_at_start}
 use Rattle.acpi_survey.proofs.TableWalks.{read_is_survey}
@@ -55,15 +57,10 @@ agreed_each (Some k ∷ cs) n e c m = by (list_all (is_count k) cs) refl e
     by true all is = each_same k n cs all is c m
     by false all is = cc
 
-flat_member : {X Y : Type 0} (f : X → List Y) (xs : List X) (x : X) (y : Y) → Among xs x → Among (f x) y → Among (flat_map f xs) y
-flat_member f [] x y m n = absurd m
-flat_member f (z ∷ xs) x y (inl same) n = among_left (f z) (flat_map f xs) y (subst (λ (z : _). Among (f z) y) (sym same) n)
-flat_member f (z ∷ xs) x y (inr m) n = among_right (f z) (flat_map f xs) y (flat_member f xs x y m n)
-
 count_each : (externals : Lookup ℕ) (s : Path) (counts : Path → List (Option ℕ)) (name : NameParts) (ps : List Path) (n : ℕ) → count_of externals s counts name ps ≡ Some n
     → (p : Path) → Among ps p → (c : Option ℕ) → Among (counts p) c → c ≡ Some n
 count_each externals s counts name [] n e p m c is = absurd m
-count_each externals s counts name (q ∷ qs) n e p m c is = agreed_each (flat_map counts (q ∷ qs)) n e c (flat_member counts (q ∷ qs) p c m is)
+count_each externals s counts name (q ∷ qs) n e p m c is = agreed_each (flat_map counts (q ∷ qs)) n e c (flat_among counts (q ∷ qs) p c m is)
 
 -- ---- the numbers of the entries at a path
 
@@ -74,7 +71,7 @@ more_numbers false n ns i m = m
 numbered : (w : List Turn) (p : Path) (n : ℕ) (es : List Entry) (f : Entry) → Among es f → f.path ≡ p → may_be_met w f ≡ true → (i : ℕ) × (slice_get es i ≡ Some f) × Among (numbers_beyond w p n es) (n + i)
 numbered w p n [] f m is met = absurd m
 numbered w p n (g ∷ es) f (inl same) is met =
-    let here : (is_same_path g.path p && may_be_met w g) ≡ true = and_both (is_same_path g.path p) (may_be_met w g) (path_itself g.path p (ap (λ (x : Entry). x.path) same ∙ is)) (ap (may_be_met w) same ∙ met) in
+    let here : (is_same_path g.path p && may_be_met w g) ≡ true = and_from (is_same_path g.path p) (may_be_met w g) (path_itself g.path p (ap (λ (x : Entry). x.path) same ∙ is)) (ap (may_be_met w) same ∙ met) in
     let number : n ≡ n + 0 = omega arith in
     (0, ap Some same, subst (λ b. Among (cond b (n ∷ numbers_beyond w p (suc n) es) (numbers_beyond w p (suc n) es)) (n + 0)) (sym here) (inl number))
 numbered w p n (g ∷ es) f (inr m) is met =
@@ -190,7 +187,7 @@ module _ (es : List Entry) (counts : List (Option ℕ)) (objects : Namespace) (e
   among_candidates name p found = found_among (known_behind locals seen) there certain possible (tries e.path name) p found
     where
       certain : (q : Path) → is_certain (known_behind locals seen) q ≡ true → there q ≡ true
-      certain q is = by (is_defined locals q) (sym (certain_behind locals seen q) ∙ is)
+      certain q is = by (is_defined locals q) (sym (certain_with_locals locals seen q) ∙ is)
         where
           by : (b : Bool) → (b || is_certain seen q) ≡ true → (b || is_defined_in objects q) ≡ true
           by true h = refl
@@ -200,7 +197,7 @@ module _ (es : List Entry) (counts : List (Option ℕ)) (objects : Namespace) (e
       possible q is = by (is_defined locals q) refl is
         where
           by : (b : Bool) → is_defined locals q ≡ b → (b || is_defined_in objects q) ≡ true → (is_certain (known_behind locals seen) q ≡ true) ⊎ (is_possible (known_behind locals seen) q ≡ true)
-          by true at h = inl (certain_behind locals seen q ∙ ap (λ b. b || is_certain seen q) at)
+          by true at h = inl (certain_with_locals locals seen q ∙ ap (λ b. b || is_certain seen q) at)
           by false at h = inr (defined_possible q h)
 
   met_entry : (f : Entry) → Among (seen_from first_reading.walk.known es e).entries f → Among all f × (may_be_met e.way f ≡ true)

@@ -2,6 +2,7 @@
 use Rattle.std.proofs.Common.{◌≡◌, ◌==◌, ◌+◌, ◌*◌, ◌^◌, ◌⊎◌, ℕ, suc, Bool, true, false, true≢false, cond, nat_lt, List, [], ◌∷◌, ◌++◌, map, flat_map, Option, Some, None, option_to_list, length, ◌-◌, inl, inr, refl, sym, ap, subst, ◌∙◌, add-one, arith}
 use Rattle.std.proofs.lemmas.Bool.Decides.{nat_tests}
 use Rattle.acpi_space.specs.Laws.{Among}
+use Rattle.acpi_space.proofs.Elements.{among_left, among_right, among_append}
 use Rattle.acpi_outline.specs.Nodes.{NodeTrees}
 use Rattle.acpi_outline.specs.View.{nodes_view}
 use Rattle.acpi_outline.specs.declared.fault.LostFault.{LostFault}
@@ -9,7 +10,8 @@ use Rattle.acpi_conditions.specs.Entries.{Why, Refusal}
 use Rattle.acpi_conditions.specs.Nodes.{places}
 use Rattle.acpi_conditions.specs.Survey.{surveys, all_refused}
 use Rattle.acpi_conditions.specs.Laws.{AreDistinct}
-use Rattle.acpi_conditions.proofs.Basics.{among_left, among_right}
+use Rattle.acpi_conditions.proofs.Strict.{flat_among, among_map}
+use Rattle.acpi_conditions.proofs.Basics.{among_flat}
 use Rattle.acpi_survey.specs.Places.{last_or, last_at}
 use Rattle.acpi_survey.specs.Nodes.{nodes_of}
 use Rattle.acpi_survey.specs.Ranges.{Range, ranges_of}
@@ -19,38 +21,16 @@ use Rattle.acpi_survey.specs.Predefined.{Predefined, with_object, with_objects, 
 use Rattle.acpi_survey.specs.Survey.{place_in, code_read, all_nodes}
 use Rattle.acpi_survey.specs.Surveys.{AreTables, bytes_of, nodes_of_each}
 use Rattle.acpi_survey.specs.Found.{refused_pairs, problems_by, problems_in, entered_in, refusals_in, TellsRefusal, EachRefusalIsTold, OnlyRefusalsAreTold}
-use Rattle.acpi_survey.specs.declared.tables.Judged.{Judged}
-use Rattle.acpi_survey.specs.declared.tables.Judged.TheVariants as judged
+use Rattle.acpi_survey.specs.declared.tables.TableContent.{TableContent}
+use Rattle.acpi_survey.specs.declared.tables.TableContent.TheVariants as judged
 use Rattle.acpi_survey.specs.declared.machine_survey.SurveyedTable.{SurveyedTable}
 use Rattle.acpi_survey.proofs.Growing.{places_are_distinct}
 use Rattle.acpi_survey.proofs.TableWalks.{read_is_survey}
 use Rattle.acpi_survey.proofs.Surveys.{first_at_start, are_read}
 use Rattle.acpi_survey.proofs.Refusals.{has_among, has_distinct, places_of, place_among, pairs_of, tables_have, last_of}
-use Rattle.acpi_survey.proofs.Standing.{either, Stands, places_stand}
+use Rattle.acpi_survey.proofs.Standing.{Stands, places_stand}
 
 -- ---- lists
-
-among_flat : {X Y : Type 0} (f : X → List Y) (xs : List X) (x : X) (y : Y) → Among xs x → Among (f x) y → Among (flat_map f xs) y
-among_flat f [] x y m n = absurd m
-among_flat f (z ∷ xs) x y (inl e) n = among_left (f z) (flat_map f xs) y (subst (λ w. Among (f w) y) (sym e) n)
-among_flat f (z ∷ xs) x y (inr m) n = among_right (f z) (flat_map f xs) y (among_flat f xs x y m n)
-
-in_either : {X Y : Type 0} (f : X → List Y) (z : X) (xs : List X) (y : Y) → Among (f z) y ⊎ ((x : X) × Among xs x × Among (f x) y) → (x : X) × Among (z ∷ xs) x × Among (f x) y
-in_either f z xs y (inl n) = (z, inl refl, n)
-in_either f z xs y (inr deep) = (deep.0, inr deep.1, deep.2)
-
-in_later : {A B C : Type 0} → (B → C) → A ⊎ B → A ⊎ C
-in_later f (inl x) = inl x
-in_later f (inr y) = inr (f y)
-
-in_flat : {X Y : Type 0} (f : X → List Y) (xs : List X) (y : Y) → Among (flat_map f xs) y → (x : X) × Among xs x × Among (f x) y
-in_flat f [] y m = absurd m
-in_flat f (z ∷ xs) y m = in_either f z xs y (in_later (in_flat f xs y) (either (f z) (flat_map f xs) y m))
-
-in_map : {X Y : Type 0} (f : X → Y) (xs : List X) (y : Y) → Among (map f xs) y → (x : X) × (f x ≡ y)
-in_map f [] y m = absurd m
-in_map f (x ∷ xs) y (inl e) = (x, e)
-in_map f (x ∷ xs) y (inr m) = in_map f xs y m
 
 -- ---- each refusal is told
 
@@ -78,7 +58,7 @@ told_in s number t r h last =
     let f : Range → List ProblemParts = range_problems (refusals_in s) code number in
     let p : ProblemParts = refused_problem number x r.why in
     let here : Among (refused_in (refusals_in s) number x) p = chosen_first (refused_problem number x) (refusals_in s (place_in number x.from)) r.why (ap (refusals_in s) same ∙ last) in
-    let inside : Among (flat_map f rs) p = among_flat f rs x p h.1 (among_left (refused_in (refusals_in s) number x) (lost_in code number x) p here) in (
+    let inside : Among (flat_map f rs) p = flat_among f rs x p h.1 (among_left (refused_in (refusals_in s) number x) (lost_in code number x) p here) in (
       p,
       among_left (front_problems number t.bytes t.judged ++ flat_map f rs) (trailing_problems number t.bytes t.judged) p
           (among_right (front_problems number t.bytes t.judged) (flat_map f rs) p inside),
@@ -113,7 +93,7 @@ each_told : (s : Reading) (number : ℕ) (ts : List SurveyedTable) (r : Refusal)
 each_told s number [] r last m = absurd m
 each_told s number (t ∷ ts) r last m =
     told_either s number t ts r last (each_told s (number + 1) ts r last)
-    (either (places (nodes_of (place_in number 0) (nodes_view t.nodes))) (flat_map places (all_nodes (suc number) (nodes_of_each ts))) r.place m)
+    (among_append (places (nodes_of (place_in number 0) (nodes_view t.nodes))) (flat_map places (all_nodes (suc number) (nodes_of_each ts))) r.place m)
 
 pub each_refusal_is_told : EachRefusalIsTold
 each_refusal_is_told depth ts last are r m =
@@ -144,14 +124,14 @@ why_in other _ = other
 not_told : (p q : ProblemParts) (why : Why) → is_refused q.reason ≡ false → q ≡ p → p.reason ≡ refused why → ⊥
 not_told p q why other e is = true≢false (sym (ap is_refused is) ∙ sym (ap (λ (p : ProblemParts). is_refused p.reason) e) ∙ other)
 
-not_front : (number : ℕ) (bytes : List ℕ) (j : Judged) (p : ProblemParts) (why : Why) → Among (front_problems number bytes j) p → p.reason ≡ refused why → ⊥
+not_front : (number : ℕ) (bytes : List ℕ) (j : TableContent) (p : ProblemParts) (why : Why) → Among (front_problems number bytes j) p → p.reason ≡ refused why → ⊥
 not_front number bytes (judged.Unread w) p why (inl e) is = not_told p (table_problem number 0 (unread w) (Some (bytes_from 0 bytes))) why refl e is
 not_front number bytes (judged.Unread w) p why (inr m) is = m
 not_front number bytes (judged.Read code true has_bad_sum is_out_of_place behind) p why (inl e) is = not_told p (table_problem number 0 cut None) why refl e is
 not_front number bytes (judged.Read code true has_bad_sum is_out_of_place behind) p why (inr m) is = m
 not_front number bytes (judged.Read code false has_bad_sum is_out_of_place behind) p why m is = m
 
-not_trailing : (number : ℕ) (bytes : List ℕ) (j : Judged) (p : ProblemParts) (why : Why) → Among (trailing_problems number bytes j) p → p.reason ≡ refused why → ⊥
+not_trailing : (number : ℕ) (bytes : List ℕ) (j : TableContent) (p : ProblemParts) (why : Why) → Among (trailing_problems number bytes j) p → p.reason ≡ refused why → ⊥
 not_trailing number bytes (judged.Unread w) p why m is = m
 not_trailing number bytes (judged.Read code is_cut has_bad_sum is_out_of_place behind) p why m is = by (nat_lt 0 behind) m
   where
@@ -183,7 +163,7 @@ abbrev IsToldOf : Reading → ProblemParts → Why → Type 0
 IsToldOf s p why = (r : Refusal) × Among s.walk.refused r × (r.why ≡ why) × TellsRefusal r p
 
 only_in_range : (s : Reading) (code : List ℕ) (number : ℕ) (x : Range) (p : ProblemParts) (why : Why) → Among (range_problems (refusals_in s) code number x) p → p.reason ≡ refused why → IsToldOf s p why
-only_in_range s code number x p why m is = by (either (refused_in (refusals_in s) number x) (lost_in code number x) p m)
+only_in_range s code number x p why m is = by (among_append (refused_in (refusals_in s) number x) (lost_in code number x) p m)
   where
     at : ℕ
     at = place_in number x.from
@@ -207,11 +187,11 @@ only_in_range s code number x p why m is = by (either (refused_in (refusals_in s
 
     by : Among (refused_in (refusals_in s) number x) p ⊎ Among (lost_in code number x) p → IsToldOf s p why
     by (inl n) = chosen (refusals_in s at) refl n
-    by (inr n) = let w = in_map (lost_problem code number x) (why_lost x.part) p n in absurd (not_told p (lost_problem code number x w.0) why refl w.1 is)
+    by (inr n) = let w = among_map (lost_problem code number x) (why_lost x.part) p n in absurd (not_told p (lost_problem code number x w.0) why refl w.1 is)
 
 only_in_table : (s : Reading) (number : ℕ) (t : SurveyedTable) (p : ProblemParts) (why : Why)
     → Among (table_problems (entered_in s number) (refusals_in s) number t.bytes t.judged (nodes_view t.nodes)) p → p.reason ≡ refused why → IsToldOf s p why
-only_in_table s number t p why m is = by (either (front ++ inner) behind p m)
+only_in_table s number t p why m is = by (among_append (front ++ inner) behind p m)
   where
     f : Range → List ProblemParts
     f = range_problems (refusals_in s) (code_read t.judged) number
@@ -228,10 +208,10 @@ only_in_table s number t p why m is = by (either (front ++ inner) behind p m)
     first : Among front p ⊎ Among inner p → IsToldOf s p why
     first (inl n) = absurd (not_front number t.bytes t.judged p why n is)
     first (inr n) =
-        let x = in_flat f (table_ranges (entered_in s number) t.judged (nodes_view t.nodes)) p n in only_in_range s (code_read t.judged) number x.0 p why x.2 is
+        let x = among_flat f (table_ranges (entered_in s number) t.judged (nodes_view t.nodes)) p n in only_in_range s (code_read t.judged) number x.0 p why x.2 is
 
     by : Among (front ++ inner) p ⊎ Among behind p → IsToldOf s p why
-    by (inl n) = first (either front inner p n)
+    by (inl n) = first (among_append front inner p n)
     by (inr n) = absurd (not_trailing number t.bytes t.judged p why n is)
 
 either_told : {A B C : Type 0} → (A → C) → (B → C) → A ⊎ B → C
@@ -242,7 +222,7 @@ only_told : (s : Reading) (number : ℕ) (ts : List SurveyedTable) (p : ProblemP
 only_told s number [] p why m is = absurd m
 only_told s number (t ∷ ts) p why m is =
     either_told (λ n. only_in_table s number t p why n is) (λ n. only_told s (number + 1) ts p why n is)
-    (either (table_problems (entered_in s number) (refusals_in s) number t.bytes t.judged (nodes_view t.nodes)) (problems_by (entered_in s) (refusals_in s) (number + 1) ts) p m)
+    (among_append (table_problems (entered_in s number) (refusals_in s) number t.bytes t.judged (nodes_view t.nodes)) (problems_by (entered_in s) (refusals_in s) (number + 1) ts) p m)
 
 pub only_refusals_are_told : OnlyRefusalsAreTold
 only_refusals_are_told s ts p why m is = only_told s 0 ts p why m is

@@ -23,9 +23,15 @@ abbrev pub counts_behind : Locals → (Path → List (Option ℕ)) → Path → 
 counts_behind locals counts p = cond (is_defined locals p) (Some 0 ∷ []) (counts p)
 
 -- in the scope of the method's path, over what is known where it is declared
-abbrev pub body_count : Lookup ℕ → Path → Known → (Path → List (Option ℕ)) → Locals → NameParts → Option ℕ
-body_count externals s k counts locals n = count_of externals s (counts_behind locals counts) n (candidates (known_behind locals k) s n)
+abbrev pub body_count : Lookup ℕ → Path → Known → (Path → List (Option ℕ)) → Locals → NameParts
+    → Option ℕ
+body_count externals s k counts locals n =
+    count_of externals s (counts_behind locals counts) n (candidates (known_behind locals k) s n)
 
--- as the body of the method of an entry is read, by all entries, their counts, and what the Externals of the method's table say
-abbrev pub entry_count : List Entry → List (Option ℕ) → PathMap ℕ → Entry → Locals → NameParts → Option ℕ
-entry_count es counts expected e = body_count (finite.get expected) e.path (seen_by (record { entries = es; entry = e })) (λ p. counts_numbered counts (numbers_beyond e.way p 0 es))
+-- as the body of the method of an entry is read, by all entries, their counts, and what the Externals of the method's
+-- table say
+abbrev pub entry_count : List Entry → List (Option ℕ) → PathMap ℕ → Entry → Locals → NameParts
+    → Option ℕ
+entry_count es counts expected e = body_count (finite.get expected) e.path
+    (seen_by (record { entries = es; entry = e }))
+    (λ p. counts_numbered counts (numbers_beyond e.way p 0 es))

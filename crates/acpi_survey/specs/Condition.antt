@@ -12,8 +12,9 @@ use Rattle.acpi_survey.specs.EntryParts.{site_of, part_in, predefined_count}
 use Rattle.acpi_survey.specs.declared.problems.Site.{Site}
 use Rattle.acpi_survey.specs.declared.machine_survey.SurveyedTable.{SurveyedTable}
 
--- One thing that has to be so: an If took its first branch, or it didn't; a While went into its body; by their predicates, which may be
--- lost. A stop wasn't come to; a scope stands at a path; nothing stands there; a name is found.
+-- One thing that has to be so: an If took its first branch, or it didn't; a While went into its body; by their
+-- predicates, which may be lost. A stop wasn't come to; a scope stands at a path; nothing stands there; a name is
+-- found.
 pub data LiteralParts : Type 0 where
   if_taken : Option TermTree → LiteralParts
   if_missed : Option TermTree → LiteralParts
@@ -37,7 +38,8 @@ abbrev pub asked_if : Bool → ℕ → LiteralParts → List PlacedParts
 asked_if b place l = cond b (literal_at place l ∷ []) []
 
 abbrev pub asked : Entry → List PlacedParts
-asked e = asked_if e.asks.has e.term.place (has (parent_of e.path)) ++ asked_if e.asks.no e.term.place (free e.path)
+asked e = asked_if e.asks.has e.term.place (has (parent_of e.path))
+    ++ asked_if e.asks.no e.term.place (free e.path)
     ++ map (λ n. literal_at e.term.place (needs n)) e.asks.needs
 
 -- the entry of a table, and the target of a Scope that was entered, at a place
@@ -68,11 +70,16 @@ abbrev pub predicate_at : List SurveyedTable → ℕ → Option TermTree
 predicate_at ts place = option_and_then predicate_of (part_in ts place)
 
 -- what a turn of control says, by the tables, the Scopes that were entered, and the entries
-abbrev pub turn_literals : List SurveyedTable → List (ℕ × Path) → List Entry → Turn → List PlacedParts
-turn_literals ts opened es (then_branch place) = literal_at place (if_taken (predicate_at ts place)) ∷ []
-turn_literals ts opened es (else_branch place) = literal_at place (if_missed (predicate_at ts place)) ∷ []
-turn_literals ts opened es (in_round place) = literal_at place (while_taken (predicate_at ts place)) ∷ []
-turn_literals ts opened es (within place) = asked_within place (find (λ o. o.0 == place) opened) (entry_at es place)
+abbrev pub turn_literals : List SurveyedTable → List (ℕ × Path) → List Entry → Turn
+    → List PlacedParts
+turn_literals ts opened es (then_branch place) =
+    literal_at place (if_taken (predicate_at ts place)) ∷ []
+turn_literals ts opened es (else_branch place) =
+    literal_at place (if_missed (predicate_at ts place)) ∷ []
+turn_literals ts opened es (in_round place) =
+    literal_at place (while_taken (predicate_at ts place)) ∷ []
+turn_literals ts opened es (within place) =
+    asked_within place (find (λ o. o.0 == place) opened) (entry_at es place)
 turn_literals ts opened es (past place) = literal_at place stop_missed ∷ []
 
 -- for each turn on the way to the entry what it says, and then what the entry asks

@@ -20,8 +20,8 @@ agreed (Some n ∷ cs) = cond (list_all (is_count n) cs) (Some n) None
 abbrev pub counts_numbered : List (Option ℕ) → List ℕ → List (Option ℕ)
 counts_numbered cs ns = map (λ n. slice_index_or cs n None) ns
 
--- by the counts of what is at a path, of a name that is searched from a scope and may be at these paths; where it is nowhere, what
--- Externals say
+-- by the counts of what is at a path, of a name that is searched from a scope and may be at these paths; where it is
+-- nowhere, what Externals say
 abbrev pub count_of : Lookup ℕ → Path → (Path → List (Option ℕ)) → NameParts → List Path → Option ℕ
 count_of externals s counts n [] = Some (expected_at externals (expected_place externals s n))
 count_of externals s counts n (p ∷ ps) = agreed (flat_map counts (p ∷ ps))

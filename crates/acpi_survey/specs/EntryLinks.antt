@@ -49,7 +49,12 @@ abbrev pub view_of : List Entry → Entry → View
 view_of es e = record { entries = es; entry = e }
 
 abbrev pub seen_link : View → NameParts → LinkParts
-seen_link v n = record { name = n; paths = candidates (seen_by v) v.entry.scope n; is_certain = is_certain_name (seen_by v) v.entry.scope n }
+seen_link v n =
+    record {
+      name = n;
+      paths = candidates (seen_by v) v.entry.scope n;
+      is_certain = is_certain_name (seen_by v) v.entry.scope n;
+    }
 
 -- ---- an Alias, where it is read
 
@@ -62,14 +67,16 @@ alias_name (node_found to (plain (alias source n))) = Some source
 alias_name _ = None
 
 abbrev pub alias_links : List Source → ℕ → NameParts → List LinkParts
-alias_links sources place n = option_to_list (option_map (source_link n) (find (λ s. s.place == place) sources))
+alias_links sources place n =
+    option_to_list (option_map (source_link n) (find (λ s. s.place == place) sources))
 
 -- ---- an entry
 
 abbrev pub seen_links : List Entry → Entry → List NameParts → List LinkParts
 seen_links es e names = map (seen_link (view_of es e)) names
 
-abbrev pub links_by_name : List Entry → List Source → Entry → Option NameParts → List NameParts → List LinkParts
+abbrev pub links_by_name : List Entry → List Source → Entry → Option NameParts → List NameParts
+    → List LinkParts
 links_by_name es sources e None names = seen_links es e names
 links_by_name es sources e (Some n) names = alias_links sources e.term.place n
 

@@ -24,7 +24,9 @@ site_of place = record { table = table_at place; offset = offset_of (byte_at pla
 
 -- what begins at a place of the tables
 abbrev pub part_in : List SurveyedTable → ℕ → Option Found
-part_in ts place = option_and_then (λ t. part_at (byte_at place) (length (code_read t.judged)) (nodes_view t.nodes)) (slice_get ts (table_at place))
+part_in ts place = option_and_then
+    (λ t. part_at (byte_at place) (length (code_read t.judged)) (nodes_view t.nodes))
+    (slice_get ts (table_at place))
 
 -- the nodes of each table tile its code
 abbrev pub AllTile : List SurveyedTable → Type 0
@@ -36,4 +38,5 @@ predefined_count = 10
 
 -- what declares the entry of that number
 abbrev pub part_declaring : List SurveyedTable → List Entry → ℕ → Option Found
-part_declaring ts es number = cond (nat_lt number predefined_count) None (option_and_then (λ e. part_in ts e.term.place) (slice_get es number))
+part_declaring ts es number = cond (nat_lt number predefined_count) None
+    (option_and_then (λ e. part_in ts e.term.place) (slice_get es number))

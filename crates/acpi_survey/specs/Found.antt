@@ -13,8 +13,8 @@ use Rattle.acpi_survey.specs.Survey.{place_in}
 use Rattle.acpi_survey.specs.Surveys.{AreTables}
 use Rattle.acpi_survey.specs.declared.machine_survey.SurveyedTable.{SurveyedTable}
 
--- the paths of entries and of the targets of Scopes, with their places. At a place of a table stands one at most; predefined objects
--- have the place 0, and come first.
+-- the paths of entries and of the targets of Scopes, with their places. At a place of a table stands one at most;
+-- predefined objects have the place 0, and come first.
 abbrev pub entered_pairs : Reading → List (ℕ × Path)
 entered_pairs s = map (λ e. (e.term.place, e.path)) s.walk.entries ++ s.opened
 
@@ -22,14 +22,17 @@ abbrev pub refused_pairs : Reading → List (ℕ × Why)
 refused_pairs s = map (λ r. (r.place, r.why)) s.walk.refused
 
 -- of tables from a number on, by what is entered in each
-abbrev pub problems_by : (ℕ → Entered) → Refusals → (number : ℕ) → List SurveyedTable → List ProblemParts
+abbrev pub problems_by : (ℕ → Entered) → Refusals → (number : ℕ) → List SurveyedTable
+    → List ProblemParts
 problems_by entered refusals number [] = []
 problems_by entered refusals number (t ∷ ts) =
-    table_problems (entered number) refusals number t.bytes t.judged (nodes_view t.nodes) ++ problems_by entered refusals (number + 1) ts
+    table_problems (entered number) refusals number t.bytes t.judged (nodes_view t.nodes)
+    ++ problems_by entered refusals (number + 1) ts
 
 abbrev pub notes_by : (ℕ → Entered) → Unknowns → (number : ℕ) → List SurveyedTable → List NoteParts
 notes_by entered unknowns number [] = []
-notes_by entered unknowns number (t ∷ ts) = table_notes (entered number) unknowns number t.judged (nodes_view t.nodes) ++ notes_by entered unknowns (number + 1) ts
+notes_by entered unknowns number (t ∷ ts) = table_notes (entered number) unknowns number t.judged
+    (nodes_view t.nodes) ++ notes_by entered unknowns (number + 1) ts
 
 -- ---- by what is known behind all tables
 
@@ -47,14 +50,18 @@ problems_in s ts = problems_by (entered_in s) (refusals_in s) 0 ts
 -- the problem tells the refusal, and where it stands
 pub record TellsRefusal (r : Refusal) (p : ProblemParts) : Type 0 where
   pub reason : p.reason ≡ refused r.why
-  pub place : (place : ℕ) × (r.place ≡ place_in p.site.table place) × (p.site ≡ site_at p.site.table place)
+  pub place : (place : ℕ) × (r.place ≡ place_in p.site.table place)
+      × (p.site ≡ site_at p.site.table place)
 
 -- each refusal of tables that are read one after another is a problem of them
 abbrev pub EachRefusalIsTold : Type 0
-EachRefusalIsTold = (depth : ℕ) (ts : List SurveyedTable) (last : Reading) → AreTables depth 0 first_reading ts last
-    → (r : Refusal) → Among last.walk.refused r → (p : ProblemParts) × Among (problems_in last ts) p × TellsRefusal r p
+EachRefusalIsTold =
+    (depth : ℕ) (ts : List SurveyedTable) (last : Reading) → AreTables depth 0 first_reading ts last
+    → (r : Refusal) → Among last.walk.refused r
+    → (p : ProblemParts) × Among (problems_in last ts) p × TellsRefusal r p
 
 -- and no other is
 abbrev pub OnlyRefusalsAreTold : Type 0
-OnlyRefusalsAreTold = (s : Reading) (ts : List SurveyedTable) (p : ProblemParts) (why : Why) → Among (problems_in s ts) p → p.reason ≡ refused why
+OnlyRefusalsAreTold = (s : Reading) (ts : List SurveyedTable) (p : ProblemParts) (why : Why)
+    → Among (problems_in s ts) p → p.reason ≡ refused why
     → (r : Refusal) × Among s.walk.refused r × (r.why ≡ why) × TellsRefusal r p

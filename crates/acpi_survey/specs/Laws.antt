@@ -21,10 +21,13 @@ use Rattle.acpi_survey.specs.Reading.{Reading}
 use Rattle.acpi_survey.specs.Predefined.{first_reading}
 use Rattle.acpi_survey.specs.Survey.{AreRead, all_nodes}
 
--- the entries and refusals of the tables are those of the surveys of what their nodes do, and so is what is known behind them
+-- the entries and refusals of the tables are those of the surveys of what their nodes do, and so is what is known
+-- behind them
 pub record IsSurveyed (number : ℕ) (s last : Reading) (nss : List NodeTrees) : Type 0 where
-  pub entries : last.walk.entries ≡ s.walk.entries ++ all_entries (surveys s.walk.known (all_nodes number nss))
-  pub refused : last.walk.refused ≡ s.walk.refused ++ all_refused (surveys s.walk.known (all_nodes number nss))
+  pub entries : last.walk.entries
+      ≡ s.walk.entries ++ all_entries (surveys s.walk.known (all_nodes number nss))
+  pub refused : last.walk.refused
+      ≡ s.walk.refused ++ all_refused (surveys s.walk.known (all_nodes number nss))
   pub known : last.walk.known ≡ known_behind s.walk.known (all_nodes number nss)
 
 -- at the start of a table
@@ -32,32 +35,39 @@ abbrev pub IsAtStart : Walk → Type 0
 IsAtStart w = started w ≡ w
 
 abbrev pub ReadIsSurvey : Type 0
-ReadIsSurvey = (depth number : ℕ) (s last : Reading) (tables : List (List ℕ)) (nss : List NodeTrees) → IsAtStart s.walk → AreRead depth number s tables nss last
+ReadIsSurvey = (depth number : ℕ) (s last : Reading) (tables : List (List ℕ)) (nss : List NodeTrees)
+    → IsAtStart s.walk → AreRead depth number s tables nss last
     → IsSurveyed number s last nss
 
 -- no two nodes of tables stand at one place
 abbrev pub PlacesAreDistinct : Type 0
-PlacesAreDistinct = (depth number : ℕ) (s last : Reading) (tables : List (List ℕ)) (nss : List NodeTrees) → AreRead depth number s tables nss last
+PlacesAreDistinct = (depth number : ℕ) (s last : Reading) (tables : List (List ℕ))
+    (nss : List NodeTrees) → AreRead depth number s tables nss last
     → AreDistinct (flat_map places (all_nodes number nss))
 
 -- ---- there is one reading
 
 -- the nodes of each table are the same, but for why something is lost
 abbrev pub AreSameNodes : List NodeTrees → List NodeTrees → Type 0
-AreSameNodes nss mss = (why : LostFault) → map (all_with_reason why) nss ≡ map (all_with_reason why) mss
+AreSameNodes nss mss =
+    (why : LostFault) → map (all_with_reason why) nss ≡ map (all_with_reason why) mss
 
 -- Any tables have a reading.
 abbrev pub TablesAreRead : Type 0
-TablesAreRead = (depth number : ℕ) (s : Reading) (tables : List (List ℕ)) → (nss : List NodeTrees) × (last : Reading) × AreRead depth number s tables nss last
+TablesAreRead = (depth number : ℕ) (s : Reading) (tables : List (List ℕ))
+    → (nss : List NodeTrees) × (last : Reading) × AreRead depth number s tables nss last
 
 -- They have one alone: what is known behind them is the same, entries and refusals among it, and so are the nodes.
 abbrev pub AtMostOneReading : Type 0
-AtMostOneReading = (depth number : ℕ) (s last other : Reading) (tables : List (List ℕ)) (nss mss : List NodeTrees) → AreRead depth number s tables nss last → AreRead depth number s tables mss other
+AtMostOneReading = (depth number : ℕ) (s last other : Reading) (tables : List (List ℕ))
+    (nss mss : List NodeTrees) → AreRead depth number s tables nss last
+    → AreRead depth number s tables mss other
     → AreSameNodes nss mss × (last ≡ other)
 
 -- each reading of the tables, from the first, has these nodes and this end
 abbrev pub IsOnlyReading : ℕ → List (List ℕ) → List NodeTrees → Reading → Type 0
-IsOnlyReading depth tables nss last = (mss : List NodeTrees) (other : Reading) → AreRead depth 0 first_reading tables mss other → AreSameNodes nss mss × (last ≡ other)
+IsOnlyReading depth tables nss last = (mss : List NodeTrees) (other : Reading)
+    → AreRead depth 0 first_reading tables mss other → AreSameNodes nss mss × (last ≡ other)
 
 -- ---- counts in bodies
 
@@ -70,12 +80,16 @@ pub record HasCountAt (objects : Namespace) (last : Reading) (p : Path) (n : ℕ
   pub declared : objects p ≡ Some entry.term
   pub count : slice_index_or last.counts number None ≡ Some n
 
--- A count of a name in the body of an entry, where it is sure, holds in each run in which control came to the entry, outside of Whiles:
--- what the name finds at the end is declared by the body before, or by an entry with this count.
+-- A count of a name in the body of an entry, where it is sure, holds in each run in which control came to the entry,
+-- outside of Whiles: what the name finds at the end is declared by the body before, or by an entry with this count.
 abbrev pub SureCountsHold : Type 0
-SureCountsHold = (depth : ℕ) (tables : List (List ℕ)) (nss : List NodeTrees) (last : Reading) → AreRead depth 0 first_reading tables nss last
+SureCountsHold = (depth : ℕ) (tables : List (List ℕ)) (nss : List NodeTrees) (last : Reading)
+    → AreRead depth 0 first_reading tables nss last
     → (S S' : State) → IsRunOf first_reading.walk.known (all_nodes 0 nss) S S'
-    → (e : Entry) → Among (all_entries (surveys first_reading.walk.known (all_nodes 0 nss))) e → IsTrue (not (list_any is_round e.way)) → IsReached S' e
-    → (expected : PathMap ℕ) (locals : Locals) (name : NameParts) (n : ℕ) → entry_count last.walk.entries last.counts expected e locals name ≡ Some n
-    → (p : Path) → answer (λ q. is_defined locals q || is_defined_in S'.objects q) e.path name ≡ Some p
+    → (e : Entry) → Among (all_entries (surveys first_reading.walk.known (all_nodes 0 nss))) e
+    → IsTrue (not (list_any is_round e.way)) → IsReached S' e
+    → (expected : PathMap ℕ) (locals : Locals) (name : NameParts) (n : ℕ)
+    → entry_count last.walk.entries last.counts expected e locals name ≡ Some n
+    → (p : Path)
+    → answer (λ q. is_defined locals q || is_defined_in S'.objects q) e.path name ≡ Some p
     → (IsTrue (is_defined locals p) × (n ≡ 0)) ⊎ HasCountAt S'.objects last p n

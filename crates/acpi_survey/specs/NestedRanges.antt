@@ -4,8 +4,8 @@ use Rattle.acpi_outline.specs.Nodes.{NodeTree, holds, holds_fields, NodeTrees, n
 use Rattle.acpi_survey.specs.Ranges.{first_field_place, first_place}
 use Rattle.acpi_survey.specs.Spans.{Part, of_node, of_element, of_lost}
 
--- A part of the code, from its first byte to the first behind it, and the number of nodes around. Places are counted from the code's
--- first byte.
+-- A part of the code, from its first byte to the first behind it, and the number of nodes around. Places are counted
+-- from the code's first byte.
 pub record NestedRange : Type 0 where
   pub depth : ℕ
   pub from : ℕ
@@ -19,7 +19,8 @@ nested_range depth from to p = record { depth = depth; from = from; to = to; par
 abbrev pub nested_elements : (depth end : ℕ) → FieldNodes → List NestedRange
 nested_elements depth end no_more_fields = []
 nested_elements depth end (fields_lost place why) = nested_range depth place end (of_lost why) ∷ []
-nested_elements depth end (field_node place offset e es) = nested_range depth place (first_field_place end es) (of_element e) ∷ nested_elements depth end es
+nested_elements depth end (field_node place offset e es) = nested_range depth place
+    (first_field_place end es) (of_element e) ∷ nested_elements depth end es
 
 -- of nodes that end there; behind each node come the ranges inside it
 abbrev mutual
@@ -32,4 +33,5 @@ abbrev mutual
   nested_nodes depth end no_more = []
   nested_nodes depth end (lost place why) = nested_range depth place end (of_lost why) ∷ []
   nested_nodes depth end (node place n ns) =
-      nested_range depth place (first_place end ns) (of_node n) ∷ nested_inside (suc depth) (first_place end ns) n ++ nested_nodes depth end ns
+      nested_range depth place (first_place end ns) (of_node n)
+      ∷ nested_inside (suc depth) (first_place end ns) n ++ nested_nodes depth end ns

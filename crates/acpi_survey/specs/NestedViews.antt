@@ -21,8 +21,10 @@ with_first_nested (Some s) ranges = nested_view s ∷ ranges
 -- ---- what is still to come
 
 abbrev pub nested_items : (depth end : ℕ) → Items → Option Lost → List NestedRange
-nested_items depth end (items.Nodes ns) l = nested_nodes depth end (put_before (placed_views ns.now) (end_view l))
-nested_items depth end (items.Fields fixed es) l = nested_elements depth end (fields_before (placed_fields es.now) (fields_end l))
+nested_items depth end (items.Nodes ns) l =
+    nested_nodes depth end (put_before (placed_views ns.now) (end_view l))
+nested_items depth end (items.Fields fixed es) l =
+    nested_elements depth end (fields_before (placed_fields es.now) (fields_end l))
 
 abbrev pub nested_in : (depth : ℕ) → Remainder → List NestedRange
 nested_in depth r = nested_items depth r.end r.items r.lost

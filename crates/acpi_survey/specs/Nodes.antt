@@ -18,7 +18,8 @@ use Rattle.acpi_survey.specs.Needs.{names_in_all, names_before, with_names}
 
 -- `place` is that of the term among the bytes of all tables
 abbrev pub term_at : ℕ → NameParts → Bool → List NameParts → Term
-term_at place n is_scope names = record { place = place; name = n; is_scope = is_scope; needs = with_names [] names }
+term_at place n is_scope names =
+    record { place = place; name = n; is_scope = is_scope; needs = with_names [] names }
 
 -- an element of a field list declares its name, which needs what the operands of the list need
 abbrev pub name_of : Segment → NameParts
@@ -37,12 +38,15 @@ operator_at place ops.Continue rest = stop place nodes.continues rest
 operator_at place _ rest = rest
 
 abbrev pub plain_at : ℕ → PlainTree → Nodes → Nodes
-plain_at place (outline.term (declare form before n behind)) rest = declares (term_at place n false (names_before before ++ names_in_all behind)) no_nodes rest
+plain_at place (outline.term (declare form before n behind)) rest =
+    declares (term_at place n false (names_before before ++ names_in_all behind)) no_nodes rest
 plain_at place (outline.term (apply op vs)) rest = operator_at place op rest
 plain_at place (outline.term t) rest = rest
 plain_at place (outline.external x) rest = rest
-plain_at place (outline.alias source n) rest = declares (term_at place n false (source ∷ [])) no_nodes rest
-plain_at place (outline.table_region n vs) rest = declares (term_at place n false (names_in_all vs)) no_nodes rest
+plain_at place (outline.alias source n) rest =
+    declares (term_at place n false (source ∷ [])) no_nodes rest
+plain_at place (outline.table_region n vs) rest =
+    declares (term_at place n false (names_in_all vs)) no_nodes rest
 
 -- ---- packages
 
@@ -68,7 +72,8 @@ operands_of _ = TermTrees.no_terms
 abbrev pub fields_at : ℕ → TermTrees → FieldNodes → Nodes → Nodes
 fields_at base vs no_more_fields rest = rest
 fields_at base vs (fields_lost place why) rest = rest
-fields_at base vs (field_node place offset e es) rest = element_at (base + place) vs e (fields_at base vs es rest)
+fields_at base vs (field_node place offset e es) rest =
+    element_at (base + place) vs e (fields_at base vs es rest)
 
 -- ---- lists
 
@@ -84,7 +89,8 @@ no_else ns = record { nodes = ns; inside_else = no_nodes; behind_else = ns }
 
 -- an Else; without an If before it, it is as behind one whose test isn't known
 abbrev pub with_else : ℕ → (inside rest : Nodes) → Listed
-with_else place inside rest = record { nodes = branch place no_nodes inside rest; inside_else = inside; behind_else = rest }
+with_else place inside rest =
+    record { nodes = branch place no_nodes inside rest; inside_else = inside; behind_else = rest }
 
 -- an If, and the Else directly behind it
 abbrev pub if_before : ℕ → (first : Nodes) → Listed → Listed
@@ -104,11 +110,14 @@ abbrev mutual
   pub listed_node : ℕ → ℕ → NodeTree → Listed → Listed
   listed_node base place (plain p) rest = no_else (plain_at (base + place) p rest.nodes)
   listed_node base place (holds f ns) rest = holding_at (base + place) f (listed base ns).nodes rest
-  listed_node base place (holds_fields f es) rest = no_else (fields_at base (operands_of f) es rest.nodes)
-  listed_node base place (closed f content) rest = no_else (package_at (base + place) f no_nodes rest.nodes)
+  listed_node base place (holds_fields f es) rest =
+      no_else (fields_at base (operands_of f) es rest.nodes)
+  listed_node base place (closed f content) rest =
+      no_else (package_at (base + place) f no_nodes rest.nodes)
   listed_node base place (package_lost form why) rest = lost_package_at (base + place) form rest
   listed_node base place (data_lost form why) rest = no_else rest.nodes
-  listed_node base place (name_lost n form why) rest = no_else (declares (term_at (base + place) n false []) no_nodes rest.nodes)
+  listed_node base place (name_lost n form why) rest =
+      no_else (declares (term_at (base + place) n false []) no_nodes rest.nodes)
 
   pub listed : ℕ → NodeTrees → Listed
   listed base no_more = no_else no_nodes

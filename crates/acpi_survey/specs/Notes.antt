@@ -11,13 +11,13 @@ use Rattle.acpi_survey.specs.Survey.{place_in}
 use Rattle.acpi_survey.specs.Spans.{Part, of_node, of_element, of_lost}
 use Rattle.acpi_survey.specs.Ranges.{Range, Entered}
 use Rattle.acpi_survey.specs.Problems.{offset_of, table_ranges}
-use Rattle.acpi_survey.specs.declared.tables.Judged.{Judged}
-use Rattle.acpi_survey.specs.declared.tables.Judged.TheVariants as judged
+use Rattle.acpi_survey.specs.declared.tables.TableContent.{TableContent}
+use Rattle.acpi_survey.specs.declared.tables.TableContent.TheVariants as judged
 use Rattle.acpi_survey.specs.declared.notes.NoteReason.{NoteReason}
 use Rattle.acpi_survey.specs.declared.notes.NoteReason.TheVariants.{BadSum, NotDsdt, NotSsdt, Unknown, Stray, StrayElse, Loads}
 
--- A note: the number of the table; the offset in it, where it isn't that of a name or a load inside a term; what is noticed; and the
--- scope in which it stands, but for the table as a whole.
+-- A note: the number of the table; the offset in it, where it isn't that of a name or a load inside a term; what is
+-- noticed; and the scope in which it stands, but for the table as a whole.
 pub record NoteParts : Type 0 where
   pub table : ℕ
   pub offset : Option ℕ
@@ -31,7 +31,8 @@ offset_told Loads offset = None
 offset_told _ offset = Some offset
 
 abbrev pub note_parts : (table offset : ℕ) → NoteReason → Option Path → NoteParts
-note_parts table offset why scope = record { table = table; offset = offset_told why offset; reason = why; scope = scope }
+note_parts table offset why scope =
+    record { table = table; offset = offset_told why offset; reason = why; scope = scope }
 
 -- ---- the table as a whole
 
@@ -40,12 +41,12 @@ abbrev pub misplaced : ℕ → NoteReason
 misplaced number = cond (number == 0) NotDsdt NotSsdt
 
 -- its bytes don't sum to 0, or it is out of place
-abbrev pub whole_reasons : ℕ → Judged → List NoteReason
+abbrev pub whole_reasons : ℕ → TableContent → List NoteReason
 whole_reasons number (judged.Unread why) = []
 whole_reasons number (judged.Read code is_cut has_bad_sum is_out_of_place trailing) =
     cond has_bad_sum (BadSum ∷ []) [] ++ cond is_out_of_place (misplaced number ∷ []) []
 
-abbrev pub whole_notes : (number : ℕ) → Judged → List NoteParts
+abbrev pub whole_notes : (number : ℕ) → TableContent → List NoteParts
 whole_notes number j = map (λ why. note_parts number 0 why None) (whole_reasons number j)
 
 -- ---- the code
@@ -62,7 +63,8 @@ own_reasons unknown (alias source n) = mark_reasons unknown (called source)
 own_reasons unknown (table_region n vs) = []
 
 abbrev pub plain_reasons : List NameParts → PlainTree → List NoteReason
-plain_reasons unknown p = own_reasons unknown p ++ flat_map (mark_reasons unknown) (marks_in_plain p)
+plain_reasons unknown p =
+    own_reasons unknown p ++ flat_map (mark_reasons unknown) (marks_in_plain p)
 
 abbrev pub fixed_reasons : List NameParts → FixedTree → List NoteReason
 fixed_reasons unknown f = flat_map (mark_reasons unknown) (marks_in_fixed f)
@@ -92,8 +94,11 @@ Unknowns = ℕ → List NameParts
 
 abbrev pub range_notes : Unknowns → (number : ℕ) → Range → List NoteParts
 range_notes unknowns number r =
-    map (λ why. note_parts number (offset_of r.from) why (Some r.scope)) (part_reasons (unknowns (place_in number r.from)) r.behind_if r.part)
+    map (λ why. note_parts number (offset_of r.from) why (Some r.scope))
+    (part_reasons (unknowns (place_in number r.from)) r.behind_if r.part)
 
 -- the notes of the table of that number, by what is entered at the places of its code
-abbrev pub table_notes : Entered → Unknowns → (number : ℕ) → Judged → NodeTrees → List NoteParts
-table_notes entered unknowns number j ns = whole_notes number j ++ flat_map (range_notes unknowns number) (table_ranges entered j ns)
+abbrev pub table_notes : Entered → Unknowns → (number : ℕ) → TableContent → NodeTrees
+    → List NoteParts
+table_notes entered unknowns number j ns =
+    whole_notes number j ++ flat_map (range_notes unknowns number) (table_ranges entered j ns)

@@ -12,7 +12,8 @@ pub record IsFront (piece bytes : List ℕ) : Type 0 where
 
 abbrev pub ArePieces : List (List ℕ) → List ℕ → Type 0
 ArePieces [] bytes = bytes ≡ []
-ArePieces (piece ∷ pieces) bytes = IsFront piece bytes × ArePieces pieces (drop (length piece) bytes)
+ArePieces (piece ∷ pieces) bytes =
+    IsFront piece bytes × ArePieces pieces (drop (length piece) bytes)
 
 -- ---- what follows
 
@@ -24,8 +25,10 @@ pub record IsCutInto (pieces : List (List ℕ)) (file : List ℕ) : Type 0 where
       → pieces ≡ before ++ piece ∷ behind → behind ≢ [] → length_field piece ≡ length piece
 
 abbrev pub PiecesMakeTheFile : Type 0
-PiecesMakeTheFile = (pieces : List (List ℕ)) (file : List ℕ) → ArePieces pieces file → IsCutInto pieces file
+PiecesMakeTheFile =
+    (pieces : List (List ℕ)) (file : List ℕ) → ArePieces pieces file → IsCutInto pieces file
 
 -- a file is cut into pieces in one way
 abbrev pub PiecesAreOne : Type 0
-PiecesAreOne = (pieces others : List (List ℕ)) (file : List ℕ) → ArePieces pieces file → ArePieces others file → pieces ≡ others
+PiecesAreOne = (pieces others : List (List ℕ)) (file : List ℕ) → ArePieces pieces file
+    → ArePieces others file → pieces ≡ others

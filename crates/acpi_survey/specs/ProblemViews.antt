@@ -15,4 +15,11 @@ reason_view (Lost why) = unreadable why
 reason_view (Refused why) = refused (why_of why)
 
 abbrev pub problem_view : Problem → ProblemParts
-problem_view p = record { site = p.site; reason = reason_view p.reason; name = p.name; lost = p.lost; scope = p.scope }
+problem_view p =
+    record {
+      site = p.site;
+      reason = reason_view p.reason;
+      name = p.name;
+      lost = p.lost;
+      scope = p.scope;
+    }

@@ -17,13 +17,13 @@ use Rattle.acpi_survey.specs.Survey.{place_in, code_read}
 use Rattle.acpi_survey.specs.Spans.{Part, of_node, of_element, of_lost}
 use Rattle.acpi_survey.specs.Ranges.{Range, Entered, ranges_of}
 use Rattle.acpi_survey.specs.declared.tables.TableReason.{TableReason}
-use Rattle.acpi_survey.specs.declared.tables.Judged.{Judged}
-use Rattle.acpi_survey.specs.declared.tables.Judged.TheVariants as judged
+use Rattle.acpi_survey.specs.declared.tables.TableContent.{TableContent}
+use Rattle.acpi_survey.specs.declared.tables.TableContent.TheVariants as judged
 use Rattle.acpi_survey.specs.declared.problems.Site.{Site}
 use Rattle.acpi_survey.specs.declared.problems.LostRange.{LostRange}
 
--- Why something of a table is lost: the table isn't read, or is cut; bytes stand behind it; a part of its code can't be read; a term
--- declares nothing, or a Scope isn't entered.
+-- Why something of a table is lost: the table isn't read, or is cut; bytes stand behind it; a part of its code can't be
+-- read; a term declares nothing, or a Scope isn't entered.
 pub data ReasonParts : Type 0 where
   unread : TableReason → ReasonParts
   cut : ReasonParts
@@ -31,8 +31,8 @@ pub data ReasonParts : Type 0 where
   unreadable : LostFault → ReasonParts
   refused : Why → ReasonParts
 
--- A problem: where, and why; of which name it isn't sure how many values follow it, where that is the reason; the bytes that are lost,
--- if some are; and the scope in which it stands, but for the table as a whole.
+-- A problem: where, and why; of which name it isn't sure how many values follow it, where that is the reason; the bytes
+-- that are lost, if some are; and the scope in which it stands, but for the table as a whole.
 pub record ProblemParts : Type 0 where
   pub site : Site
   pub reason : ReasonParts
@@ -43,22 +43,33 @@ pub record ProblemParts : Type 0 where
 -- ---- the table as a whole (5.2.6)
 
 abbrev pub table_problem : (number offset : ℕ) → ReasonParts → Option LostRange → ProblemParts
-table_problem number offset why lost = record { site = record { table = number; offset = offset }; reason = why; name = None; lost = lost; scope = None }
+table_problem number offset why lost =
+    record {
+      site = record { table = number; offset = offset };
+      reason = why;
+      name = None;
+      lost = lost;
+      scope = None;
+    }
 
 -- from an offset to the end of the bytes
 abbrev pub bytes_from : (offset : ℕ) → List ℕ → LostRange
 bytes_from offset bytes = record { from = offset; to = length bytes }
 
 -- before the problems of its code: none of the table is read, or it is cut
-abbrev pub front_problems : (number : ℕ) → (bytes : List ℕ) → Judged → List ProblemParts
-front_problems number bytes (judged.Unread why) = table_problem number 0 (unread why) (Some (bytes_from 0 bytes)) ∷ []
-front_problems number bytes (judged.Read code is_cut has_bad_sum is_out_of_place behind) = cond is_cut (table_problem number 0 cut None ∷ []) []
+abbrev pub front_problems : (number : ℕ) → (bytes : List ℕ) → TableContent → List ProblemParts
+front_problems number bytes (judged.Unread why) =
+    table_problem number 0 (unread why) (Some (bytes_from 0 bytes)) ∷ []
+front_problems number bytes (judged.Read code is_cut has_bad_sum is_out_of_place behind) =
+    cond is_cut (table_problem number 0 cut None ∷ []) []
 
 -- behind them: bytes stand behind the table
-abbrev pub trailing_problems : (number : ℕ) → (bytes : List ℕ) → Judged → List ProblemParts
+abbrev pub trailing_problems : (number : ℕ) → (bytes : List ℕ) → TableContent → List ProblemParts
 trailing_problems number bytes (judged.Unread why) = []
 trailing_problems number bytes (judged.Read code is_cut has_bad_sum is_out_of_place behind) =
-    cond (nat_lt 0 behind) (table_problem number (length bytes - behind) trailing (Some (bytes_from (length bytes - behind) bytes)) ∷ []) []
+    cond (nat_lt 0 behind)
+    (table_problem number (length bytes - behind) trailing
+    (Some (bytes_from (length bytes - behind) bytes)) ∷ []) []
 
 -- ---- the code
 
@@ -83,13 +94,16 @@ why_lost (of_lost why) = why ∷ []
 
 -- the name that bytes begin with (20.2.2), and how many of them spell it
 abbrev pub name_front : List ℕ → Option (NameParts × ℕ)
-name_front bytes = option_map (λ x. (x.0, length bytes - length x.1)) (result_ok (name_in (length bytes) bytes))
+name_front bytes =
+    option_map (λ x. (x.0, length bytes - length x.1)) (result_ok (name_in (length bytes) bytes))
 
 -- a law of it: it is the name that is spelled at the front, and the number of the bytes that spell it
 abbrev pub NameFrontsAreSpelled : Type 0
-NameFrontsAreSpelled = (bytes : List ℕ) (n : NameParts) (count : ℕ) → (name_front bytes ≡ Some (n, count)) ↔ BeginsWithName n count bytes
+NameFrontsAreSpelled = (bytes : List ℕ) (n : NameParts) (count : ℕ)
+    → (name_front bytes ≡ Some (n, count)) ↔ BeginsWithName n count bytes
 
--- how many bytes an opcode of one byte and a package length take, whose first byte says in its two highest bits how many follow it (20.2.4)
+-- how many bytes an opcode of one byte and a package length take, whose first byte says in its two highest bits how
+-- many follow it (20.2.4)
 abbrev pub package_front : List ℕ → ℕ
 package_front (opcode ∷ lead ∷ bytes) = 2 + lead / 64
 package_front _ = 0
@@ -99,7 +113,8 @@ abbrev pub named_front : List ℕ → ℕ
 named_front (opcode ∷ bytes) = unwrap_or (option_map (λ x. x.1 + 1) (name_front bytes)) 0
 named_front [] = 0
 
--- How many bytes of a part, from its first on, aren't lost: those before the package of an If or While, and before the data of a Name.
+-- How many bytes of a part, from its first on, aren't lost: those before the package of an If or While, and before the
+-- data of a Name.
 abbrev pub front_kept : List ℕ → Part → ℕ
 front_kept bytes (of_node (package_lost forms.If why)) = package_front bytes
 front_kept bytes (of_node (package_lost forms.While why)) = package_front bytes
@@ -138,7 +153,8 @@ abbrev pub Refusals : Type 0
 Refusals = ℕ → Option Why
 
 abbrev pub refused_in : Refusals → (number : ℕ) → Range → List ProblemParts
-refused_in refusals number r = map (refused_problem number r) (option_to_list (refusals (place_in number r.from)))
+refused_in refusals number r =
+    map (refused_problem number r) (option_to_list (refusals (place_in number r.from)))
 
 abbrev pub lost_in : List ℕ → (number : ℕ) → Range → List ProblemParts
 lost_in code number r = map (lost_problem code number r) (why_lost r.part)
@@ -148,10 +164,13 @@ abbrev pub range_problems : Refusals → List ℕ → (number : ℕ) → Range �
 range_problems refusals code number r = refused_in refusals number r ++ lost_in code number r
 
 -- the ranges of a table's nodes
-abbrev pub table_ranges : Entered → Judged → NodeTrees → List Range
+abbrev pub table_ranges : Entered → TableContent → NodeTrees → List Range
 table_ranges entered j ns = ranges_of entered [] (length (code_read j)) false ns
 
 -- the problems of the table of that number, by what is entered at the places of its code
-abbrev pub table_problems : Entered → Refusals → (number : ℕ) → (bytes : List ℕ) → Judged → NodeTrees → List ProblemParts
+abbrev pub table_problems : Entered → Refusals → (number : ℕ) → (bytes : List ℕ) → TableContent
+    → NodeTrees → List ProblemParts
 table_problems entered refusals number bytes j ns =
-    front_problems number bytes j ++ flat_map (range_problems refusals (code_read j) number) (table_ranges entered j ns) ++ trailing_problems number bytes j
+    front_problems number bytes j
+    ++ flat_map (range_problems refusals (code_read j) number) (table_ranges entered j ns)
+    ++ trailing_problems number bytes j

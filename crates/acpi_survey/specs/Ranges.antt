@@ -5,8 +5,8 @@ use Rattle.acpi_outline.specs.Nodes.{FixedTree, scope, container, if_so, NodeTre
 use Rattle.acpi_conditions.specs.Entries.{Path}
 use Rattle.acpi_survey.specs.Spans.{Part, of_node, of_element, of_lost}
 
--- A part of the code, from its first byte to the first behind it; the scope in which it stands; and whether an If stands directly
--- before it in its list. Places are counted from the code's first byte.
+-- A part of the code, from its first byte to the first behind it; the scope in which it stands; and whether an If
+-- stands directly before it in its list. Places are counted from the code's first byte.
 pub record Range : Type 0 where
   pub from : ℕ
   pub to : ℕ
@@ -15,7 +15,8 @@ pub record Range : Type 0 where
   pub part : Part
 
 abbrev pub range : (from to : ℕ) → Path → Bool → Part → Range
-range from to s behind_if p = record { from = from; to = to; scope = s; behind_if = behind_if; part = p }
+range from to s behind_if p =
+    record { from = from; to = to; scope = s; behind_if = behind_if; part = p }
 
 -- ---- scopes
 
@@ -55,17 +56,22 @@ first_field_place end (field_node place offset e es) = place
 abbrev pub element_ranges : Path → (end : ℕ) → FieldNodes → List Range
 element_ranges s end no_more_fields = []
 element_ranges s end (fields_lost place why) = range place end s false (of_lost why) ∷ []
-element_ranges s end (field_node place offset e es) = range place (first_field_place end es) s false (of_element e) ∷ element_ranges s end es
+element_ranges s end (field_node place offset e es) =
+    range place (first_field_place end es) s false (of_element e) ∷ element_ranges s end es
 
--- nodes in a scope, up to their end; whether an If stands directly before them. Behind each node come the ranges inside it.
+-- nodes in a scope, up to their end; whether an If stands directly before them. Behind each node come the ranges inside
+-- it.
 abbrev mutual
   pub inner_ranges : Entered → (place : ℕ) → Path → (end : ℕ) → NodeTree → List Range
-  inner_ranges entered place s end (holds f ns) = ranges_of entered (scope_inside entered place f s) end false ns
+  inner_ranges entered place s end (holds f ns) =
+      ranges_of entered (scope_inside entered place f s) end false ns
   inner_ranges entered place s end (holds_fields f es) = element_ranges s end es
   inner_ranges entered place s end _ = []
 
   pub ranges_of : Entered → Path → (end : ℕ) → (behind_if : Bool) → NodeTrees → List Range
   ranges_of entered s end behind_if no_more = []
-  ranges_of entered s end behind_if (lost place why) = range place end s behind_if (of_lost why) ∷ []
+  ranges_of entered s end behind_if (lost place why) =
+      range place end s behind_if (of_lost why) ∷ []
   ranges_of entered s end behind_if (node place n ns) =
-      range place (first_place end ns) s behind_if (of_node n) ∷ inner_ranges entered place s (first_place end ns) n ++ ranges_of entered s end (is_if n) ns
+      range place (first_place end ns) s behind_if (of_node n)
+      ∷ inner_ranges entered place s (first_place end ns) n ++ ranges_of entered s end (is_if n) ns

@@ -34,9 +34,9 @@ pub record Source : Type 0 where
   pub paths : List Path
   pub is_certain : Bool
 
--- What is known: the walk over the nodes so far; the place of the code's first byte; of each entry how many values follow its name where
--- it is called, None where that isn't sure; what the Externals of the table so far say; the Scopes that were entered, by their places
--- and the paths of their targets; and the Aliases.
+-- What is known: the walk over the nodes so far; the place of the code's first byte; of each entry how many values
+-- follow its name where it is called, None where that isn't sure; what the Externals of the table so far say; the
+-- Scopes that were entered, by their places and the paths of their targets; and the Aliases.
 pub record Reading : Type 0 where
   pub walk : Walk
   pub base : ℕ
@@ -49,10 +49,12 @@ pub record Reading : Type 0 where
 
 -- a scope around isn't called
 abbrev pub counts_at : Reading → Path → List (Option ℕ)
-counts_at s p = cond (list_any (λ q. is_same_path q p) (scopes_around s.walk)) (Some 0 ∷ []) (counts_numbered s.counts (numbers_met (meeting s.walk) p))
+counts_at s p = cond (list_any (λ q. is_same_path q p) (scopes_around s.walk)) (Some 0 ∷ [])
+    (counts_numbered s.counts (numbers_met (meeting s.walk) p))
 
 abbrev pub count_at : Reading → NameParts → Option ℕ
-count_at s n = count_of (finite.get s.expected) s.walk.around.scope (counts_at s) n (candidates (met_by (meeting s.walk)) s.walk.around.scope n)
+count_at s n = count_of (finite.get s.expected) s.walk.around.scope (counts_at s) n
+    (candidates (met_by (meeting s.walk)) s.walk.around.scope n)
 
 -- ---- how it goes on
 
@@ -96,7 +98,12 @@ with_expected counts n (g ∷ gs) None = counts
 with_expected counts n (g ∷ gs) (Some p) = with_first counts p n
 
 abbrev pub expecting : ExternalParts → Reading → Reading
-expecting x s = record (passing s) { expected = cond (is_heard x) (with_expected s.expected x.args x.name.segments (place_of s.walk.around.scope x.name)) s.expected }
+expecting x s =
+    record (passing s) {
+      expected = cond (is_heard x)
+          (with_expected s.expected x.args x.name.segments (place_of s.walk.around.scope x.name))
+          s.expected;
+    }
 
 abbrev pub after_operator : ℕ → Op → Reading → Reading
 after_operator place ops.Return s = stopping place nodes.returns s
@@ -105,12 +112,16 @@ after_operator place ops.Continue s = stopping place nodes.continues s
 after_operator place _ s = passing s
 
 abbrev pub after_plain : Reading → ℕ → PlainTree → Reading
-after_plain s place (outline.term (declare form before n behind)) = declaring (term_at (s.base + place) n false (names_before before ++ names_in_all behind)) (Some 0) s
+after_plain s place (outline.term (declare form before n behind)) = declaring
+    (term_at (s.base + place) n false (names_before before ++ names_in_all behind)) (Some 0) s
 after_plain s place (outline.term (apply op vs)) = after_operator (s.base + place) op s
 after_plain s place (outline.term t) = passing s
 after_plain s place (outline.external x) = expecting x s
-after_plain s place (outline.alias source n) = declaring (term_at (s.base + place) n false (source ∷ [])) (count_at s source) (with_source (s.base + place) source s)
-after_plain s place (outline.table_region n vs) = declaring (term_at (s.base + place) n false (names_in_all vs)) (Some 0) s
+after_plain s place (outline.alias source n) = declaring
+    (term_at (s.base + place) n false (source ∷ [])) (count_at s source)
+    (with_source (s.base + place) source s)
+after_plain s place (outline.table_region n vs) =
+    declaring (term_at (s.base + place) n false (names_in_all vs)) (Some 0) s
 
 abbrev pub after_name : Reading → ℕ → NameParts → Reading
 after_name s place n = declaring (term_at (s.base + place) n false []) (Some 0) s
@@ -129,7 +140,11 @@ abbrev pub opened_behind : Reading → (place : ℕ) → NameParts → List (ℕ
 opened_behind s place n = with_opened place (opened_at s.walk.known s.walk.around.scope n) s.opened
 
 abbrev pub enter : Reading → ℕ → FixedTree → Reading
-enter s place (outline.scope n) = record s { walk = walks.enter_scope (s.base + place) n s.walk; opened = opened_behind s (s.base + place) n }
+enter s place (outline.scope n) =
+    record s {
+      walk = walks.enter_scope (s.base + place) n s.walk;
+      opened = opened_behind s (s.base + place) n;
+    }
 enter s place (container form n vs) = entering (term_at (s.base + place) n true []) s
 enter s place (if_so v) = record s { walk = walks.enter_first (s.base + place) s.walk }
 enter s place otherwise = record s { walk = walks.enter_other (s.base + place) s.walk }
@@ -141,14 +156,21 @@ leave s = record s { walk = walks.leave s.walk }
 
 -- an element of a field list
 abbrev pub after_field : Reading → ℕ → FixedTree → FieldTree → Reading
-after_field s place f (unit g bits) = declaring (unit_at (s.base + place) g (operands_of f)) (Some 0) s
+after_field s place f (unit g bits) =
+    declaring (unit_at (s.base + place) g (operands_of f)) (Some 0) s
 after_field s place f e = passing s
 
 -- a package that isn't gone into: a method, by the number of its arguments, or what is refused
 abbrev pub after_closed : Reading → ℕ → FixedTree → List ℕ → Reading
-after_closed s place (outline.scope n) content = record s { walk = walks.walked_scope (s.base + place) n (λ w. w) s.walk; opened = opened_behind s (s.base + place) n }
-after_closed s place (container form n vs) content = declaring (term_at (s.base + place) n true []) (Some 0) s
-after_closed s place (method n flags) content = declaring (term_at (s.base + place) n false []) (Some (flags % 8)) s
+after_closed s place (outline.scope n) content =
+    record s {
+      walk = walks.walked_scope (s.base + place) n (λ w. w) s.walk;
+      opened = opened_behind s (s.base + place) n;
+    }
+after_closed s place (container form n vs) content =
+    declaring (term_at (s.base + place) n true []) (Some 0) s
+after_closed s place (method n flags) content =
+    declaring (term_at (s.base + place) n false []) (Some (flags % 8)) s
 after_closed s place f content = passing s
 
 -- behind an If whose test is lost an Else belongs to it

@@ -11,8 +11,8 @@ use Rattle.acpi_survey.specs.Spans.{Part, of_node, of_element, of_lost, PlacedPa
 use Rattle.acpi_survey.specs.Ranges.{Range, range, Entered, ranges_of, element_ranges}
 use Rattle.acpi_survey.specs.steps.ByPlace.{kept_at}
 use Rattle.acpi_survey.specs.declared.scopes.Places.{Places}
-use Rattle.acpi_survey.specs.declared.spans.What.{What}
-use Rattle.acpi_survey.specs.declared.spans.What.TheVariants as whats
+use Rattle.acpi_survey.specs.declared.spans.SpanContent.{SpanContent}
+use Rattle.acpi_survey.specs.declared.spans.SpanContent.TheVariants as whats
 use Rattle.acpi_survey.specs.declared.spans.Span.{Span}
 use Rattle.acpi_survey.specs.declared.spans.ScopedSpan.{ScopedSpan}
 use Rattle.acpi_survey.specs.declared.spans.Items.{Items}
@@ -20,7 +20,7 @@ use Rattle.acpi_survey.specs.declared.spans.Items.TheVariants as items
 use Rattle.acpi_survey.specs.declared.spans.Remainder.{Remainder}
 use Rattle.acpi_survey.specs.declared.spans.Spans.{Spans}
 
-abbrev pub part_of : What → Part
+abbrev pub part_of : SpanContent → Part
 part_of (whats.Node n) = of_node (node_view n.now)
 part_of (whats.Element fixed e offset) = of_element (field_view e.now)
 part_of (whats.Lost why) = of_lost why
@@ -66,8 +66,10 @@ placed_range r = part_at r.from r.part
 -- ---- what is still to come
 
 abbrev pub items_left : Entered → Path → ℕ → Bool → Items → Option Lost → List Range
-items_left entered s end behind_if (items.Nodes ns) l = ranges_of entered s end behind_if (put_before (placed_views ns.now) (end_view l))
-items_left entered s end behind_if (items.Fields fixed es) l = element_ranges s end (fields_before (placed_fields es.now) (fields_end l))
+items_left entered s end behind_if (items.Nodes ns) l =
+    ranges_of entered s end behind_if (put_before (placed_views ns.now) (end_view l))
+items_left entered s end behind_if (items.Fields fixed es) l =
+    element_ranges s end (fields_before (placed_fields es.now) (fields_end l))
 
 abbrev pub left_in : Entered → Remainder → List Range
 left_in entered r = items_left entered (scope_of r.around) r.end r.is_behind_if r.items r.lost

@@ -7,14 +7,14 @@ use Rattle.acpi_outline.specs.Outline.{IsOutline}
 use Rattle.acpi_conditions.specs.Nodes.{Nodes}
 use Rattle.acpi_conditions.specs.Walk as walks
 use Rattle.acpi_conditions.specs.Walk.{Walk}
-use Rattle.acpi_survey.specs.declared.tables.Judged.{Judged}
-use Rattle.acpi_survey.specs.declared.tables.Judged.TheVariants.{Unread, Read}
+use Rattle.acpi_survey.specs.declared.tables.TableContent.{TableContent}
+use Rattle.acpi_survey.specs.declared.tables.TableContent.TheVariants.{Unread, Read}
 use Rattle.acpi_survey.specs.Tables.{IsJudged}
 use Rattle.acpi_survey.specs.Nodes.{nodes_of}
 use Rattle.acpi_survey.specs.Reading.{Reading, survey_rules}
 
 -- the code of a table, of which nothing is read where the table isn't
-abbrev pub code_read : Judged → List ℕ
+abbrev pub code_read : TableContent → List ℕ
 code_read (Unread why) = []
 code_read (Read code is_cut has_bad_sum is_out_of_place trailing) = code
 
@@ -33,8 +33,10 @@ behind_table s = record s { walk = walks.end_table s.walk; expected = finite.emp
 -- Tables have these nodes, read one after another; and what is known behind them.
 abbrev pub AreRead : ℕ → ℕ → Reading → List (List ℕ) → List NodeTrees → Reading → Type 0
 AreRead depth number s [] [] last = last ≡ s
-AreRead depth number s (b ∷ bs) (ns ∷ nss) last = (j : Judged) × IsJudged number b j × IsOutline survey_rules (at_table number s) depth ns (code_read j)
-    × AreRead depth (suc number) (behind_table (after_all survey_rules (at_table number s) ns)) bs nss last
+AreRead depth number s (b ∷ bs) (ns ∷ nss) last = (j : TableContent) × IsJudged number b j
+    × IsOutline survey_rules (at_table number s) depth ns (code_read j)
+    × AreRead depth (suc number)
+    (behind_table (after_all survey_rules (at_table number s) ns)) bs nss last
 AreRead depth number s [] (ns ∷ nss) last = ⊥
 AreRead depth number s (b ∷ bs) [] last = ⊥
 

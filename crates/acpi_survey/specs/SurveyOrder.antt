@@ -10,27 +10,36 @@ use Rattle.acpi_survey.specs.declared.machine_survey.SurveyedTable.{SurveyedTabl
 use Rattle.acpi_survey.specs.EntryParts.{AllTile, predefined_count}
 use Rattle.acpi_survey.specs.declared.machine_survey.Survey.{Survey}
 
--- What is kept of tables that were read has nodes that tile their codes, and the entries of tables stand in the order of their places.
+-- What is kept of tables that were read has nodes that tile their codes, and the entries of tables stand in the order
+-- of their places.
 abbrev pub TablesTile : Type 0
-TablesTile = (depth number : ℕ) (s last : Reading) (ts : List SurveyedTable) → AreTables depth number s ts last → AllTile ts
+TablesTile = (depth number : ℕ) (s last : Reading) (ts : List SurveyedTable)
+    → AreTables depth number s ts last → AllTile ts
 
 abbrev pub EntriesStandInOrder : Type 0
-EntriesStandInOrder = (depth : ℕ) (last : Reading) (ts : List SurveyedTable) → AreTables depth 0 first_reading ts last
+EntriesStandInOrder =
+    (depth : ℕ) (last : Reading) (ts : List SurveyedTable) → AreTables depth 0 first_reading ts last
     → IsNonDecreasingBy (λ (e : Entry). e.term.place) (drop predefined_count last.walk.entries)
 
 -- So do the Scopes that were entered ..
 abbrev pub ScopesStandInOrder : Type 0
-ScopesStandInOrder = (depth : ℕ) (last : Reading) (ts : List SurveyedTable) → AreTables depth 0 first_reading ts last → IsNonDecreasingBy (λ (o : ℕ × Path). o.0) last.opened
+ScopesStandInOrder = (depth : ℕ) (last : Reading) (ts : List SurveyedTable)
+    → AreTables depth 0 first_reading ts last
+    → IsNonDecreasingBy (λ (o : ℕ × Path). o.0) last.opened
 
 -- .. and the Aliases.
 abbrev pub AliasesStandInOrder : Type 0
-AliasesStandInOrder = (depth : ℕ) (last : Reading) (ts : List SurveyedTable) → AreTables depth 0 first_reading ts last → IsNonDecreasingBy (λ (s : Source). s.place) last.sources
+AliasesStandInOrder = (depth : ℕ) (last : Reading) (ts : List SurveyedTable)
+    → AreTables depth 0 first_reading ts last
+    → IsNonDecreasingBy (λ (s : Source). s.place) last.sources
 
 -- ---- of a survey
 
--- the nodes of each table tile its code, and the entries of tables, the Scopes that were entered and the Aliases stand in order
+-- the nodes of each table tile its code, and the entries of tables, the Scopes that were entered and the Aliases stand
+-- in order
 pub record IsInOrder (s : Survey) : Type 0 where
   pub tile : AllTile s.tables.items
-  pub entries : IsNonDecreasingBy (λ (e : Entry). e.term.place) (drop predefined_count s.reading.walk.entries)
+  pub entries : IsNonDecreasingBy (λ (e : Entry). e.term.place)
+      (drop predefined_count s.reading.walk.entries)
   pub opened : IsNonDecreasingBy (λ (o : ℕ × Path). o.0) s.reading.opened
   pub sources : IsNonDecreasingBy (λ (s : Source). s.place) s.reading.sources

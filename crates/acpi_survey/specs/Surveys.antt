@@ -26,18 +26,21 @@ nodes_of_each ts = map (λ t. nodes_view t.nodes) ts
 abbrev pub behind_nodes : ℕ → Reading → SurveyedTable → Reading
 behind_nodes number s t = after_all survey_rules (at_table number s) (nodes_view t.nodes)
 
--- A table, of that number and behind what is known, is as it is kept: what of its bytes is read, its nodes, why each of its lost ranges
--- is lost, and what its Externals say.
+-- A table, of that number and behind what is known, is as it is kept: what of its bytes is read, its nodes, why each of
+-- its lost ranges is lost, and what its Externals say.
 pub record IsTable (depth number : ℕ) (s : Reading) (t : SurveyedTable) : Type 0 where
   pub judged : IsJudged number t.bytes t.judged
-  pub outline : IsOutline survey_rules (at_table number s) depth (nodes_view t.nodes) (code_read t.judged)
-  pub faults : HaveTrueFaults survey_rules (at_table number s) depth (code_read t.judged) (nodes_view t.nodes)
+  pub outline : IsOutline survey_rules (at_table number s) depth (nodes_view t.nodes)
+      (code_read t.judged)
+  pub faults : HaveTrueFaults survey_rules (at_table number s) depth (code_read t.judged)
+      (nodes_view t.nodes)
   pub expected : t.expected ≡ (behind_nodes number s t).expected
 
 -- so is each table, behind those before it; and what is known behind them
 abbrev pub AreTables : ℕ → ℕ → Reading → List SurveyedTable → Reading → Type 0
 AreTables depth number s [] last = last ≡ s
-AreTables depth number s (t ∷ ts) last = IsTable depth number s t × AreTables depth (suc number) (behind_table (behind_nodes number s t)) ts last
+AreTables depth number s (t ∷ ts) last = IsTable depth number s t
+    × AreTables depth (suc number) (behind_table (behind_nodes number s t)) ts last
 
 -- ---- entries
 
@@ -48,7 +51,8 @@ without_way e = record e { way = [] }
 -- the numbers of the entries at a path, of those from a number on
 abbrev pub numbers_at : Path → ℕ → List Entry → List ℕ
 numbers_at p n [] = []
-numbers_at p n (e ∷ es) = cond (is_same_path e.path p) (n ∷ numbers_at p (suc n) es) (numbers_at p (suc n) es)
+numbers_at p n (e ∷ es) =
+    cond (is_same_path e.path p) (n ∷ numbers_at p (suc n) es) (numbers_at p (suc n) es)
 
 -- a path begins with the segments of another, and has more
 abbrev pub lies_below : (above : Path) → Path → Bool
@@ -57,4 +61,5 @@ lies_below above p = nat_lt (length above) (length p) && starts_with (pointwise 
 -- the numbers of the entries whose path lies below another, of those from a number on
 abbrev pub numbers_below : Path → ℕ → List Entry → List ℕ
 numbers_below p n [] = []
-numbers_below p n (e ∷ es) = cond (lies_below p e.path) (n ∷ numbers_below p (suc n) es) (numbers_below p (suc n) es)
+numbers_below p n (e ∷ es) =
+    cond (lies_below p e.path) (n ∷ numbers_below p (suc n) es) (numbers_below p (suc n) es)

@@ -3,8 +3,8 @@ use Rattle.std.specs.Prelude.{◌≡◌, ◌≢◌, ◌⊎◌, ◌↔◌, ◌-�
 use Rattle.acpi_table.specs.Tables.{sum_of, length_field, IsRefusedAs}
 use Rattle.acpi_table.specs.declared.tables.TableFault.TheVariants.{Short, BadLength, TooLong}
 use Rattle.acpi_survey.specs.declared.tables.TableReason.TheVariants.{Table, NotDsdt, NotSsdt}
-use Rattle.acpi_survey.specs.declared.tables.Judged.{Judged}
-use Rattle.acpi_survey.specs.declared.tables.Judged.TheVariants.{Unread, Read}
+use Rattle.acpi_survey.specs.declared.tables.TableContent.{TableContent}
+use Rattle.acpi_survey.specs.declared.tables.TableContent.TheVariants.{Unread, Read}
 
 abbrev pub IsDsdt : List ℕ → Type 0
 IsDsdt bytes = take 4 bytes ≡ codes "DSDT"
@@ -24,21 +24,25 @@ code_in bytes = drop 36 (take (length_field bytes) bytes)
 
 -- the table is whole, and its bytes don't sum to 0
 abbrev pub HasBadSum : List ℕ → Type 0
-HasBadSum bytes = (length_field bytes ≤ length bytes) × (sum_of (take (length_field bytes) bytes) ≢ 0)
+HasBadSum bytes =
+    (length_field bytes ≤ length bytes) × (sum_of (take (length_field bytes) bytes) ≢ 0)
 
 -- the table of that number has another signature than it should
 abbrev pub IsOutOfPlace : ℕ → List ℕ → Type 0
 IsOutOfPlace number bytes = ((number ≡ 0) × ¬ IsDsdt bytes) ⊎ ((0 < number) × ¬ IsSsdt bytes)
 
--- None of a table is read where it has no possible length or is neither a DSDT nor an SSDT. Else its code is, and it is said whether
--- the table is cut, or doesn't sum to 0, whether it has the signature of its number, and how many bytes stand behind it.
-abbrev pub IsJudged : ℕ → List ℕ → Judged → Type 0
+-- None of a table is read where it has no possible length or is neither a DSDT nor an SSDT. Else its code is, and it is
+-- said whether the table is cut, or doesn't sum to 0, whether it has the signature of its number, and how many bytes
+-- stand behind it.
+abbrev pub IsJudged : ℕ → List ℕ → TableContent → Type 0
 IsJudged number bytes (Unread (Table Short)) = IsRefusedAs Short bytes
 IsJudged number bytes (Unread (Table BadLength)) = IsRefusedAs BadLength bytes
 IsJudged number bytes (Unread (Table TooLong)) = IsRefusedAs TooLong bytes
 IsJudged number bytes (Unread (Table f)) = ⊥
-IsJudged number bytes (Unread NotDsdt) = HasLength bytes × ¬ IsDsdt bytes × ¬ IsSsdt bytes × (number ≡ 0)
-IsJudged number bytes (Unread NotSsdt) = HasLength bytes × ¬ IsDsdt bytes × ¬ IsSsdt bytes × (0 < number)
+IsJudged number bytes (Unread NotDsdt) =
+    HasLength bytes × ¬ IsDsdt bytes × ¬ IsSsdt bytes × (number ≡ 0)
+IsJudged number bytes (Unread NotSsdt) =
+    HasLength bytes × ¬ IsDsdt bytes × ¬ IsSsdt bytes × (0 < number)
 IsJudged number bytes (Read code is_cut has_bad_sum is_out_of_place trailing) =
     HasLength bytes × (IsDsdt bytes ⊎ IsSsdt bytes) × (code ≡ code_in bytes)
     × (IsTrue is_cut ↔ (length bytes < length_field bytes))

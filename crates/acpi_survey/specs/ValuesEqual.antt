@@ -23,7 +23,7 @@ use Rattle.acpi_survey.specs.declared.tables.TableReason.TheVariants as tables
 use Rattle.acpi_survey.specs.declared.notes.Note.{Note}
 use Rattle.acpi_survey.specs.declared.notes.NoteReason.{NoteReason}
 use Rattle.acpi_survey.specs.declared.notes.NoteReason.TheVariants as notes
-use Rattle.acpi_survey.specs.declared.scopes.Opened.{Opened}
+use Rattle.acpi_survey.specs.declared.scopes.OpenedScope.{OpenedScope}
 use Rattle.acpi_survey.specs.Problems.{ReasonParts, unread, cut, trailing, unreadable, refused, ProblemParts}
 use Rattle.acpi_survey.specs.Condition.{LiteralParts, if_taken, if_missed, while_taken, stop_missed, has, free, needs, PlacedParts}
 use Rattle.acpi_survey.specs.EntryLinks.{LinkParts}
@@ -69,7 +69,8 @@ range_eq a b = nat_eq a.from b.from && nat_eq a.to b.to
 
 abbrev pub problem_eq : ProblemParts → ProblemParts → Bool
 problem_eq a b =
-    site_eq a.site b.site && reason_eq a.reason b.reason && option_eq name_eq a.name b.name && option_eq range_eq a.lost b.lost && option_eq path_eq a.scope b.scope
+    site_eq a.site b.site && reason_eq a.reason b.reason && option_eq name_eq a.name b.name
+    && option_eq range_eq a.lost b.lost && option_eq path_eq a.scope b.scope
 
 -- ---- notes
 
@@ -84,11 +85,12 @@ note_reason_eq notes.Loads notes.Loads = true
 note_reason_eq _ _ = false
 
 abbrev pub note_eq : Note → Note → Bool
-note_eq a b = site_eq a.site b.site && note_reason_eq a.reason b.reason && option_eq path_eq a.scope b.scope
+note_eq a b =
+    site_eq a.site b.site && note_reason_eq a.reason b.reason && option_eq path_eq a.scope b.scope
 
 -- ---- Scopes that are entered
 
-abbrev pub opened_eq : Opened → Opened → Bool
+abbrev pub opened_eq : OpenedScope → OpenedScope → Bool
 opened_eq a b = nat_eq a.place b.place && path_eq a.path b.path
 
 -- ---- conditions and links
@@ -107,7 +109,8 @@ abbrev pub placed_eq : PlacedParts → PlacedParts → Bool
 placed_eq a b = site_eq a.site b.site && literal_eq a.literal b.literal
 
 abbrev pub link_eq : LinkParts → LinkParts → Bool
-link_eq a b = name_eq a.name b.name && pointwise path_eq a.paths b.paths && beq a.is_certain b.is_certain
+link_eq a b =
+    name_eq a.name b.name && pointwise path_eq a.paths b.paths && beq a.is_certain b.is_certain
 
 -- ---- bodies
 

@@ -6,6 +6,6 @@ pub mod Lookups
 pub mod PlacedItems
 pub mod MethodBodies
 pub mod MarkViews
-pub mod NotedViews
+pub mod NoteSiteViews
 pub mod Indexes
 pub mod ValueEquality

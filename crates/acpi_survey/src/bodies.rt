@@ -11,7 +11,7 @@ ghost use Rattle.acpi_survey.specs.Counts.{counts_numbered, count_of};
 ghost use Rattle.acpi_survey.specs.Bodies.{body_count, counts_behind};
 
 use crate::counts::{agreed, put_counts};
-use crate::locals::{Behind, is_local};
+use crate::locals::{WithLocals, is_local};
 use acpi_body::MethodCounting;
 use acpi_conditions::{Met, Seen, find};
 use acpi_counts::Counts;
@@ -58,7 +58,8 @@ impl<'a> Setting<'a> {
         path: &Path,
     ) -> Result<(), AllocError>
         ensures { OnOk result (found.new.items ≡ found.old.items
-            ++ counts_behind locals.now (λ p. counts_numbered self.now.counts.now (numbers_met self.now.met p)) path.now) }
+            ++ counts_behind locals.now
+            (λ p. counts_numbered self.now.counts.now (numbers_met self.now.met p)) path.now) }
     {
         if is_local(locals, path) {
             found.push(Some(0))?;
@@ -84,7 +85,7 @@ impl<'a> MethodCounting for Setting<'a> {
     }
 
     fn count(&self, locals: &TreeSpace<()>, name: NameRef<'_>) -> Result<Option<u8>, AllocError> {
-        let behind = Behind {
+        let behind = WithLocals {
             known: &self.seen,
             locals,
         };

@@ -11,7 +11,7 @@ use crate::entry_parts::entry_numbered;
 use crate::machine_survey::{Survey, SurveyedTable};
 use crate::method_bodies::{Methods, terms_of};
 use crate::problems::{offset_of, unsure_name};
-use crate::spans::{Span, What};
+use crate::spans::{Span, SpanContent};
 use acpi_body::{BodyReason, Stop};
 use acpi_code::Depth;
 use acpi_conditions::{Entries, Entry};
@@ -23,11 +23,11 @@ use std::alloc::AllocError;
 /// What the code of a method is read as.
 #[derive(Debug, Drop)]
 pub enum BodyReading {
-    /// Terms.
+    /// The terms that it spells.
     Terms(Vec<Term>),
-    /// Nothing.
+    /// Nothing: it can't be read.
     Opaque {
-        /// Why.
+        /// What is wrong at the place.
         reason: BodyReason,
         /// Where, in bytes from the code's first.
         place: usize,
@@ -39,7 +39,7 @@ pub enum BodyReading {
 /// The code of the method of an entry, and what it is read as (ACPI 6.5, 20.2.5.2).
 #[derive(Debug, Drop)]
 pub struct MethodBody<'a> {
-    /// The code.
+    /// The code of the method, its TermList.
     pub code: &'a [u8],
     /// Where it begins, in bytes from the table's first, the header included.
     pub offset: usize,
@@ -59,7 +59,7 @@ fn code_in<'a>(part: &Span<'a>) -> Option<MethodCode<'a>>
         ≡ option_and_then method_code (found_of part.now) }
 {
     match part.what {
-        What::Node(Node::Closed(Fixed::Method(_, _), code)) => Some(MethodCode {
+        SpanContent::Node(Node::Closed(Fixed::Method(_, _), code)) => Some(MethodCode {
             code,
             offset: offset_of(part.to.saturating_sub(code.len())),
         }),

@@ -7,8 +7,8 @@ ghost use Rattle.acpi_survey.specs.steps.ByPlace.{kept_at};
 use std::alloc::{AllocError, Global};
 use std::collections::BTreeMap;
 
-/// Values by the places at which they stand, one at each. A place is a table's number times 2^64, and the number of bytes
-/// of the table's code before it.
+/// Values by the places at which they stand, one at each. A place is a table's number times 2^64, and the number of
+/// bytes of the table's code before it.
 #[derive(Drop)]
 pub(crate) struct ByPlace<'a, T> {
     kept: BTreeMap<u128, &'a T>,

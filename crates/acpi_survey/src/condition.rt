@@ -18,7 +18,7 @@ use crate::entry_parts::{entry_numbered, site_of};
 use crate::machine_survey::Survey;
 use crate::placed::{entry_at, scope_at};
 use crate::problems::Site;
-use crate::spans::{Span, What};
+use crate::spans::{Span, SpanContent};
 use acpi_conditions::{Entry, Turn};
 use acpi_name::{Name, Path};
 use acpi_outline::{Fixed, Node};
@@ -47,7 +47,7 @@ pub enum Literal<'a> {
 /// A literal, and where it comes from.
 #[derive(Debug, Drop)]
 pub struct PlacedLiteral<'a> {
-    /// The literal.
+    /// What has to be so.
     pub literal: Literal<'a>,
     /// Where the If, the While, the stop or the term that asks stands. An Else behind no If stands for its If.
     pub site: Site,
@@ -74,9 +74,9 @@ fn test_in<'a>(part: Option<Span<'a>>) -> Option<&'a Term>
 {
     let found = part?;
     match found.what {
-        What::Node(node) => test_of(node),
-        What::Element(_, _, _) => None,
-        What::Lost(_) => None,
+        SpanContent::Node(node) => test_of(node),
+        SpanContent::Element(_, _, _) => None,
+        SpanContent::Lost(_) => None,
     }
 }
 

@@ -27,8 +27,8 @@ pub(crate) fn byte_at(place: u128) -> usize
     (place % (1 << 64)) as usize
 }
 
-/// The site of what stands at a place.
-pub(crate) fn site_of(place: u128) -> Site
+/// The site of what stands at a place: its table, and its offset from the table's first byte.
+pub fn site_of(place: u128) -> Site
     ensures { result ≡ site_of place }
 {
     Site {

@@ -83,8 +83,8 @@ impl<'a> PlaceIndex<'a> {
         })
     }
 
-    /// The path of the entry whose term begins at a place of a table's code, or of the target of the Scope that does. The
-    /// predefined objects have the place 0 of table 0.
+    /// The path of the entry whose term begins at a place of a table's code, or of the target of the Scope that does.
+    /// The predefined objects have the place 0 of table 0.
     pub fn path_at(&self, table: usize, place: usize) -> Option<&'a Path>
         ensures { option_copied result ≡ index_entered self.now table place }
     {

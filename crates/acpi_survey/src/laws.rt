@@ -1,4 +1,5 @@
-//! Laws of the survey of tables, of the definitions alone: the functions do nothing, and their contracts state the laws.
+//! Laws of the survey of tables, of the definitions alone: the functions do nothing, and their contracts state the
+//! laws.
 ghost use Rattle.acpi_survey.specs.Laws.{ReadIsSurvey, PlacesAreDistinct, TablesAreRead, AtMostOneReading, SureCountsHold};
 ghost use Rattle.acpi_survey.specs.Problems.{NameFrontsAreSpelled};
 ghost use Rattle.acpi_survey.specs.Found.{EachRefusalIsTold, OnlyRefusalsAreTold};
@@ -18,8 +19,8 @@ pub fn tables_are_read()
     ensures { TablesAreRead }
 {}
 
-/// They have one alone: what is known behind them is the same, entries and refusals among it, and so are their nodes, but
-/// for the reasons of what is lost.
+/// They have one alone: what is known behind them is the same, entries and refusals among it, and so are their nodes,
+/// but for the reasons of what is lost.
 pub fn at_most_one_reading()
     ensures { AtMostOneReading }
 {}
@@ -34,8 +35,8 @@ pub fn only_refusals_are_told()
     ensures { OnlyRefusalsAreTold }
 {}
 
-/// A count in the body of an entry that is sure holds in each run in which control came to the entry, outside of Whiles:
-/// what the name finds at the end was declared by the body before, or by an entry with this count.
+/// A count in the body of an entry that is sure holds in each run in which control came to the entry, outside of
+/// Whiles: what the name finds at the end was declared by the body before, or by an entry with this count.
 pub fn sure_counts_hold()
     ensures { SureCountsHold }
 {}

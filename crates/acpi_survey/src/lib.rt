@@ -15,8 +15,8 @@
 //! let notes = survey.notes();         // what is noticed and loses nothing
 //! ```
 //!
-//! What the nodes of a table do with what is declared is said by `specs/Nodes.antt`, and how many values follow a name by
-//! `specs/Reading.antt`. `laws` says that what is read of tables is the survey of what their nodes do
+//! What the nodes of a table do with what is declared is said by `specs/Nodes.antt`, and how many values follow a name
+//! by `specs/Reading.antt`. `laws` says that what is read of tables is the survey of what their nodes do
 //! (`read_is_survey`), so that all laws of `acpi_conditions` hold of it, and that no two nodes stand at one place
 //! (`places_are_distinct`).
 #![tactic(auto)]
@@ -58,13 +58,10 @@ mod spans;
 mod table_parts;
 mod table_reader;
 mod tables;
-#[cfg(test)]
-mod tests;
-#[cfg(test)]
-mod tests_of_entries;
 
 pub use body::{BodyReading, MethodBody};
 pub use condition::{Literal, PlacedLiteral};
+pub use entry_parts::site_of;
 pub use file::{pieces, pieces_make_the_file};
 pub use index::PlaceIndex;
 pub use links::Link;
@@ -73,7 +70,7 @@ pub use machine_survey::{Survey, SurveyedTable};
 pub use needs::{needs_of, needs_of_three, needs_of_value};
 pub use notes::{Note, NoteReason, Unknown};
 pub use problems::{LostRange, Problem, ProblemReason, Site};
-pub use scopes::Opened;
-pub use spans::{Span, Spans, What};
+pub use scopes::OpenedScope;
+pub use spans::{Span, SpanContent, Spans};
 pub use table_reader::survey;
-pub use tables::{Judged, TableReason, judge};
+pub use tables::{TableContent, TableReason, judge};

@@ -15,9 +15,8 @@ ghost use Rattle.acpi_survey.specs.SurveyOrder.{IsInOrder};
 use crate::entry_parts::entry_numbered;
 use crate::machine_survey::Survey;
 use crate::placed::source_at;
-use crate::problems::copies;
-use crate::spans::{Span, What};
-use acpi_conditions::{Candidates, Entries, Entry, Seen};
+use crate::spans::{Span, SpanContent};
+use acpi_conditions::{Candidates, Entries, Entry, Seen, copy_paths};
 use acpi_name::{Name, Path};
 use acpi_outline::{Fixed, Node, Plain};
 use acpi_tree::{Decl, Term};
@@ -26,7 +25,7 @@ use std::alloc::{AllocError, Global};
 /// Where a name of an entry's term may be found (ACPI 6.5, 5.3).
 #[derive(Debug, Drop)]
 pub struct Link<'a> {
-    /// The name.
+    /// The name, not resolved.
     pub name: &'a Name,
     /// The paths, the innermost first.
     pub paths: Vec<Path>,
@@ -130,9 +129,9 @@ fn searched_names<'a>(alloc: Global, part: &Span<'a>) -> Result<Vec<&'a Name>, A
 {
     let mut names = Vec::new(alloc);
     match part.what {
-        What::Node(node) => put_of_node(&mut names, node)?,
-        What::Element(fixed, _, _) => put_of_fields(&mut names, fixed)?,
-        What::Lost(_) => {}
+        SpanContent::Node(node) => put_of_node(&mut names, node)?,
+        SpanContent::Element(fixed, _, _) => put_of_fields(&mut names, fixed)?,
+        SpanContent::Lost(_) => {}
     }
     Ok(names)
 }
@@ -175,7 +174,7 @@ fn alias_source<'a>(part: &Span<'a>) -> Option<&'a Name>
         ≡ option_and_then alias_name (found_of part.now) }
 {
     match part.what {
-        What::Node(Node::Plain(Plain::Alias(source, _))) => Some(source),
+        SpanContent::Node(Node::Plain(Plain::Alias(source, _))) => Some(source),
         _ => None,
     }
 }
@@ -190,7 +189,7 @@ impl Survey {
         let mut links = Vec::new(alloc);
         if let Some(kept) = source_at(self.reading.remarks().sources(), place) {
             let found = Candidates {
-                paths: copies(alloc, &kept.found.paths)?,
+                paths: copy_paths(alloc, &kept.found.paths)?,
                 is_certain: kept.found.is_certain,
             };
             put_link(&mut links, source, found)?;
@@ -198,9 +197,9 @@ impl Survey {
         Ok(links)
     }
 
-    /// Where the names of the term of the entry of that number may be found, which is this part of a table's code: of a field
-    /// element those of its region, index and data, or region and bank, and of a Create field that of its source, behind all
-    /// tables; of an Alias its source, where the Alias is read.
+    /// Where the names of the term of the entry of that number may be found, which is this part of a table's code: of a
+    /// field element those of its region, index and data, or region and bank, and of a Create field that of its source,
+    /// behind all tables; of an Alias its source, where the Alias is read.
     pub fn links_in<'a>(
         &'a self,
         number: usize,

@@ -13,7 +13,7 @@ ghost use Rattle.acpi_survey.specs.steps.ValueEquality.{links_tell, literals_tel
 use crate::condition::{Literal, PlacedLiteral};
 use crate::links::Link;
 use crate::problem_values::same_site;
-use crate::problems::copies;
+use acpi_conditions::copy_paths;
 use acpi_tree::Term;
 use std::alloc::{AllocError, Global};
 
@@ -53,7 +53,7 @@ impl<'a> Link<'a> {
     {
         Ok(Link {
             name: self.name,
-            paths: copies(alloc, &self.paths)?,
+            paths: copy_paths(alloc, &self.paths)?,
             is_certain: self.is_certain,
         })
     }

@@ -11,7 +11,7 @@ use acpi_space::{Space, TreeSpace};
 
 /// What is known behind what a body has declared: each path of it is certain.
 #[derive(Drop)]
-pub(crate) struct Behind<'a, S: Statuses> {
+pub(crate) struct WithLocals<'a, S: Statuses> {
     pub(crate) known: &'a S,
     pub(crate) locals: &'a TreeSpace<()>,
 }
@@ -24,7 +24,7 @@ pub(crate) fn is_local(locals: &TreeSpace<()>, path: &Path) -> bool
 }
 
 // What is certain at a path, where a body may have declared it.
-fn certain_behind(is_local: bool, certain: Presence) -> Presence
+fn certain_with_locals(is_local: bool, certain: Presence) -> Presence
     ensures something { is_something result ≡ (is_local || is_something certain) }
     ensures scope { is_a_scope result ≡ is_a_scope certain }
 {
@@ -34,12 +34,12 @@ fn certain_behind(is_local: bool, certain: Presence) -> Presence
     certain
 }
 
-impl<'a, S: Statuses> Statuses for Behind<'a, S> {
+impl<'a, S: Statuses> Statuses for WithLocals<'a, S> {
     ghost known = { λ b. known_behind b.locals.now (S.known b.known.now) };
 
     fn status(&self, path: &Path) -> Status {
         let status = self.known.status(path);
-        let certain = certain_behind(is_local(self.locals, path), status.certain);
+        let certain = certain_with_locals(is_local(self.locals, path), status.certain);
         Status {
             certain,
             possible: status.possible,

@@ -12,7 +12,7 @@ ghost use Rattle.acpi_survey.specs.Spans.{inner_parts, parts_of};
 ghost use Rattle.acpi_survey.specs.steps.Lookups.{end_behind, nodes_before, elements_before, IsBefore};
 
 use crate::placed::item;
-use crate::spans::{Span, What};
+use crate::spans::{Span, SpanContent};
 use acpi_outline::{Fixed, Lost, Node, Nodes, PlacedField, PlacedNode};
 
 /// A node and its range, in bytes from the code's first.
@@ -130,7 +130,7 @@ fn element_at<'a>(
         depth,
         from: place,
         to: end_behind(field_place(fields, number + 1), lost, end),
-        what: What::Element(fixed, &field.element, field.offset),
+        what: SpanContent::Element(fixed, &field.element, field.offset),
     })
 }
 
@@ -149,7 +149,7 @@ pub fn node_at(nodes: &Nodes, end: usize, place: usize) -> Option<Span<'_>>
                 depth,
                 from: place,
                 to: range.to,
-                what: What::Node(range.node),
+                what: SpanContent::Node(range.node),
             });
         }
         depth = depth.saturating_add(1);

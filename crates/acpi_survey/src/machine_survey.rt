@@ -9,8 +9,8 @@ use crate::found::Found;
 use crate::notes::Note;
 use crate::problems::Problem;
 use crate::reading::Reading;
-use crate::scopes::Opened;
-use crate::tables::Judged;
+use crate::scopes::OpenedScope;
+use crate::tables::TableContent;
 use acpi_code::Depth;
 use acpi_conditions::{Entries, Entry, Met, Refusal};
 use acpi_counts::Counts;
@@ -25,7 +25,7 @@ pub struct SurveyedTable {
     /// Its bytes, and those behind it.
     pub bytes: Bytes,
     /// What of them is read.
-    pub judged: Judged,
+    pub judged: TableContent,
     /// The nodes of its code.
     pub nodes: Nodes,
     /// What its Externals say.
@@ -100,7 +100,7 @@ impl Survey {
     }
 
     /// The Scopes that are entered, in the order of their places.
-    pub fn opened(&self) -> &[Opened]
+    pub fn opened(&self) -> &[OpenedScope]
         ensures { map (λ o. (o.place, o.path)) result.now ≡ self.now.reading.opened }
     {
         self.reading.remarks().opened()
@@ -130,8 +130,8 @@ impl Survey {
         met.numbers_at(self.reading.memory(), path)
     }
 
-    /// The numbers, from 0 and in order, of the entries whose path lies below a path, at any depth. Those at the path are
-    /// none of them.
+    /// The numbers, from 0 and in order, of the entries whose path lies below a path, at any depth. Those at the path
+    /// are none of them.
     pub fn below(&self, path: &Path) -> Result<Vec<usize>, AllocError>
         ensures { IfOk result (λ v. v.items
             ≡ numbers_below path.now 0 self.now.reading.walk.entries) }

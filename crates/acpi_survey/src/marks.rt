@@ -18,7 +18,7 @@ use std::alloc::{AllocError, Global};
 pub(crate) struct Mark<'a> {
     /// Where it stands, in bytes from the code's first.
     pub place: usize,
-    /// The name.
+    /// The name that is called, not resolved; none of LoadTable, Load and Unload.
     pub name: Option<&'a Name>,
 }
 

@@ -52,7 +52,8 @@ pub fn add_names(names: &mut Vec<Name>, term: &Term) -> Result<(), AllocError>
 
 #[cycle(names)]
 fn add_of_terms(names: &mut Vec<Name>, terms: &[Term]) -> Result<(), AllocError>
-    ensures { OnOk result (names.new.items ≡ names.old.items ++ names_in_all (terms_tree terms.now)) }
+    ensures { OnOk result (names.new.items
+        ≡ names.old.items ++ names_in_all (terms_tree terms.now)) }
 {
     'each: for term in terms {
         add_names(names, term)?;

@@ -9,7 +9,7 @@ ghost use Rattle.acpi_survey.specs.steps.ValueEquality.{note_reasons_tell, notes
 use crate::notes::{Note, NoteReason};
 use crate::problem_values::same_site;
 use crate::problems::copy_path;
-use crate::scopes::Opened;
+use crate::scopes::OpenedScope;
 use std::alloc::AllocError;
 
 impl NoteReason {
@@ -42,12 +42,12 @@ impl Note {
     }
 }
 
-impl Opened {
+impl OpenedScope {
     /// An equal value with memory of its own.
-    pub fn copy(&self) -> Result<Opened, AllocError>
+    pub fn copy(&self) -> Result<OpenedScope, AllocError>
         ensures { IfOk result (λ o. o ≡ self.now) }
     {
-        Ok(Opened {
+        Ok(OpenedScope {
             place: self.place,
             path: self.path.copy()?,
         })
@@ -75,7 +75,7 @@ fn same_note(a: &Note, b: &Note) -> bool
     same_site(a.site, b.site) && a.reason == b.reason && a.scope == b.scope
 }
 
-fn same_opened(a: &Opened, b: &Opened) -> bool
+fn same_opened(a: &OpenedScope, b: &OpenedScope) -> bool
     ensures { result ≡ opened_eq a.now b.now }
 {
     a.place == b.place && a.path == b.path
@@ -117,13 +117,13 @@ impl Eq for Note {
     ghost laws = { equivalence notes_tell };
 }
 
-impl PartialEq for Opened {
+impl PartialEq for OpenedScope {
     ghost eq = { opened_eq };
 
     ghost laws = { partial_equiv_from_equiv (equivalence opened_tell) };
 
     // True exactly of equal values.
-    fn eq(&self, other: &Opened) -> bool
+    fn eq(&self, other: &OpenedScope) -> bool
         ensures test { result ≡ opened_eq self.now other.now }
         ensures same { IsTrue result ↔ (self.now ≡ other.now) }
     {
@@ -131,6 +131,6 @@ impl PartialEq for Opened {
     }
 }
 
-impl Eq for Opened {
+impl Eq for OpenedScope {
     ghost laws = { equivalence opened_tell };
 }

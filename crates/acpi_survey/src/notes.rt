@@ -14,15 +14,15 @@ ghost use Rattle.acpi_survey.specs.Problems.{offset_of, table_ranges};
 ghost use Rattle.acpi_survey.specs.SpanViews.{part_of, range_of, scope_of};
 ghost use Rattle.acpi_survey.specs.Survey.{place_in};
 ghost use Rattle.acpi_survey.specs.steps.MarkViews.{mark_view};
-ghost use Rattle.acpi_survey.specs.steps.NotedViews.{notes_at};
+ghost use Rattle.acpi_survey.specs.steps.NoteSiteViews.{notes_at};
 ghost use Rattle.acpi_survey.specs.steps.ReadTables.{entered_at, unknowns_of};
 
 use crate::marks::{Mark, Marks, code_at};
 use crate::needs::is_among;
 use crate::problems::{ReadTable, Site, code_of, scope_copy, site_at};
 use crate::reading::place_in;
-use crate::spans::{ScopedSpan, What};
-use crate::tables::Judged;
+use crate::spans::{ScopedSpan, SpanContent};
+use crate::tables::TableContent;
 use acpi_name::{Name, Path};
 use acpi_outline::{Fixed, Node, Plain};
 use acpi_tree::Term;
@@ -33,7 +33,7 @@ use std::alloc::{AllocError, Global};
 pub struct Unknown {
     /// Where the node stands: the table's number times 2^64, and the number of bytes of the table's code before it.
     pub place: u128,
-    /// The names.
+    /// The names, not resolved.
     pub names: Vec<Name>,
 }
 
@@ -59,9 +59,9 @@ pub enum NoteReason {
 /// What is noticed of a table.
 #[derive(Debug, Drop)]
 pub struct Note {
-    /// Where.
+    /// Where it stands.
     pub site: Site,
-    /// What.
+    /// What is noticed.
     pub reason: NoteReason,
     /// The scope in which it stands; none of what concerns the table as a whole.
     pub scope: Option<Path>,
@@ -96,7 +96,7 @@ fn put_whole(found: &mut Vec<Note>, table: &ReadTable<'_, '_>) -> Result<(), All
     ensures { OnOk result (map note_view found.new.items ≡ map note_view found.old.items
         ++ whole_notes table.now.number table.now.judged.now) }
 {
-    if let Judged::Read {
+    if let TableContent::Read {
         has_bad_sum,
         is_out_of_place,
         ..
@@ -131,14 +131,14 @@ fn is_stray(term: &Term) -> bool
 // The node in which notes are made: the number of its table, its place in the code, the names in it of which nothing is
 // known, and the scope around.
 #[derive(Clone, Copy)]
-struct Noted<'a> {
+struct NoteSite<'a> {
     number: usize,
     place: usize,
     unknown: &'a [Name],
     around: Option<&'a Path>,
 }
 
-impl<'a> Noted<'a> {
+impl<'a> NoteSite<'a> {
     // Puts a note of what stands at a place of the code.
     fn put(
         self,
@@ -148,7 +148,8 @@ impl<'a> Noted<'a> {
         reason: NoteReason,
     ) -> Result<(), AllocError>
         ensures { OnOk result (map note_view found.new.items ≡ map note_view found.old.items
-            ++ note_parts self.entry.number (offset_of place) reason (Some (scope_of self.entry.around)) ∷ []) }
+            ++ note_parts self.entry.number (offset_of place) reason
+            (Some (scope_of self.entry.around)) ∷ []) }
     {
         found.push(Note {
             site: site_at(self.number, place),
@@ -304,7 +305,7 @@ impl<'a> Noted<'a> {
             (part_of range.now.span.what))) }
     {
         match range.span.what {
-            What::Node(node) => {
+            SpanContent::Node(node) => {
                 self.put_else(alloc, found, node, range.is_behind_if)?;
                 self.put_node(alloc, found, code, node)
             }
@@ -345,7 +346,7 @@ fn put_of_range(
     ensures { OnOk result (map note_view found.new.items ≡ map note_view found.old.items
         ++ range_notes (unknowns_of table.now) table.now.number (range_of range.now)) }
 {
-    let noted = Noted {
+    let noted = NoteSite {
         number: table.number,
         place: range.span.from,
         unknown: unknown_at(table, range.span.from),

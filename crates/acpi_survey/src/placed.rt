@@ -14,7 +14,7 @@ ghost use Rattle.std.specs.List.Sorted.{IsNonDecreasingBy};
 
 use crate::entry_parts::table_entries;
 use crate::remarks::Source;
-use crate::scopes::Opened;
+use crate::scopes::OpenedScope;
 use acpi_conditions::{Entries, Entry};
 
 /// What stands at a place: a table's number times 2^64, and the number of bytes of the table's code before it.
@@ -34,7 +34,7 @@ impl Placed for Entry {
     }
 }
 
-impl Placed for Opened {
+impl Placed for OpenedScope {
     ghost place = { λ o. o.place };
 
     fn place(&self) -> u128 {
@@ -90,7 +90,7 @@ pub(crate) fn entry_at<'a>(entries: Entries<'a>, place: u128) -> Option<&'a Entr
 }
 
 /// The Scope that was entered at a place.
-pub(crate) fn scope_at(opened: &[Opened], place: u128) -> Option<&Opened>
+pub(crate) fn scope_at(opened: &[OpenedScope], place: u128) -> Option<&OpenedScope>
     ensures { IsNonDecreasingBy (λ (o : ℕ × Path). o.0) (opened_pairs opened.now)
         → option_map (λ o. (o.now.place, o.now.path)) result
         ≡ find (λ (o : ℕ × Path). o.0 == place) (opened_pairs opened.now) }

@@ -15,8 +15,8 @@ ghost use Rattle.acpi_survey.specs.steps.ReadTables.{entered_at, refusals_of};
 use crate::index::PlaceIndex;
 use crate::reading::place_in;
 use crate::scopes::Places;
-use crate::spans::{ScopedSpan, Span, Spans, What};
-use crate::tables::{Judged, TableReason};
+use crate::spans::{ScopedSpan, Span, SpanContent, Spans};
+use crate::tables::{TableContent, TableReason};
 use acpi_body::BodyReason;
 use acpi_code::Code;
 use acpi_conditions::Reason;
@@ -31,16 +31,16 @@ use std::alloc::{AllocError, Global};
 pub struct Site {
     /// The number of the table, the first being 0.
     pub table: usize,
-    /// The offset.
+    /// Bytes from the table's first.
     pub offset: usize,
 }
 
 /// Bytes of a table that are lost, by offsets from the table's first byte.
 #[derive(Debug, Clone, Copy, PartialEq, Eq)]
 pub struct LostRange {
-    /// The first of them.
+    /// The first byte that is lost.
     pub from: usize,
-    /// The first behind them.
+    /// The first byte behind them.
     pub to: usize,
 }
 
@@ -62,9 +62,9 @@ pub enum ProblemReason {
 /// What is lost of a table, and why.
 #[derive(Debug, Drop)]
 pub struct Problem {
-    /// Where.
+    /// Where it stands.
     pub site: Site,
-    /// Why.
+    /// Why it is lost.
     pub reason: ProblemReason,
     /// The name of which it isn't sure how many values follow it, where that is the reason.
     pub name: Option<Name>,
@@ -82,7 +82,7 @@ pub(crate) struct ReadTable<'b, 'a> {
     /// Its bytes, and those behind it.
     pub bytes: &'a Bytes,
     /// What of its bytes is read.
-    pub judged: &'a Judged,
+    pub judged: &'a TableContent,
     /// Its nodes.
     pub nodes: &'a Nodes,
     /// What the reading of all tables gave, by place.
@@ -93,7 +93,8 @@ impl<'b, 'a> ReadTable<'b, 'a> {
     /// The ranges of its code.
     pub(crate) fn ranges(&self, alloc: Global) -> Result<Spans<'a>, AllocError>
         ensures { IfOk result (λ s. ranges_left (entered_at self.now) s
-            ≡ table_ranges (entered_at self.now) self.now.judged.now (nodes_view self.now.nodes.now)) }
+            ≡ table_ranges (entered_at self.now) self.now.judged.now
+            (nodes_view self.now.nodes.now)) }
     {
         Spans::new(alloc, self.nodes, code_of(self.judged).len())
     }
@@ -121,12 +122,12 @@ pub(crate) fn offset_of(place: usize) -> usize
 }
 
 /// The code of which the table's nodes are.
-pub(crate) fn code_of<'a>(judged: &'a Judged) -> &'a [u8]
+pub(crate) fn code_of<'a>(judged: &'a TableContent) -> &'a [u8]
     ensures { result.now ≡ code_read judged.now }
 {
     match judged {
-        Judged::Read { code, .. } => code.as_slice(),
-        Judged::Unread(_) => &[],
+        TableContent::Read { code, .. } => code.as_slice(),
+        TableContent::Unread(_) => &[],
     }
 }
 
@@ -162,14 +163,14 @@ fn put_first(found: &mut Vec<Problem>, table: &ReadTable<'_, '_>) -> Result<(), 
         ++ front_problems table.now.number table.now.bytes.now table.now.judged.now) }
 {
     match table.judged {
-        Judged::Unread(reason) => {
+        TableContent::Unread(reason) => {
             let lost = LostRange {
                 from: 0,
                 to: table.bytes.len(),
             };
             found.push(of_table(table.number, 0, ProblemReason::Unread(*reason), Some(lost)))?;
         }
-        Judged::Read { is_cut, .. } => {
+        TableContent::Read { is_cut, .. } => {
             if *is_cut {
                 found.push(of_table(table.number, 0, ProblemReason::Cut, None))?;
             }
@@ -182,7 +183,7 @@ fn put_trailing(found: &mut Vec<Problem>, table: &ReadTable<'_, '_>) -> Result<(
     ensures { OnOk result (map problem_view found.new.items ≡ map problem_view found.old.items
         ++ trailing_problems table.now.number table.now.bytes.now table.now.judged.now) }
 {
-    if let Judged::Read { trailing, .. } = table.judged {
+    if let TableContent::Read { trailing, .. } = table.judged {
         if *trailing > 0 {
             let to = table.bytes.len();
             let from = to.saturating_sub(*trailing);
@@ -194,17 +195,6 @@ fn put_trailing(found: &mut Vec<Problem>, table: &ReadTable<'_, '_>) -> Result<(
 }
 
 // ---- what is refused
-
-/// The same paths, with memory of their own.
-pub(crate) fn copies(alloc: Global, paths: &[Path]) -> Result<Vec<Path>, AllocError>
-    ensures { IfOk result (λ v. v.items ≡ paths.now) }
-{
-    let mut copies = Vec::new(alloc);
-    'each: for path in paths {
-        copies.push(path.copy()?)?;
-    }
-    Ok(copies)
-}
 
 /// The path again, if there is one.
 pub(crate) fn copy_path(path: &Option<Path>) -> Result<Option<Path>, AllocError>
@@ -271,13 +261,13 @@ fn fault_in(node: &Node) -> Option<LostFault>
     }
 }
 
-fn fault_of(what: What<'_>) -> Option<LostFault>
+fn fault_of(what: SpanContent<'_>) -> Option<LostFault>
     ensures { option_to_list result ≡ why_lost (part_of what.entry) }
 {
     match what {
-        What::Node(node) => fault_in(node),
-        What::Element(_, _, _) => None,
-        What::Lost(fault) => Some(fault),
+        SpanContent::Node(node) => fault_in(node),
+        SpanContent::Element(_, _, _) => None,
+        SpanContent::Lost(fault) => Some(fault),
     }
 }
 
@@ -324,11 +314,11 @@ fn named_front(bytes: &[u8]) -> usize
 }
 
 // How many bytes of a part, from its first on, aren't lost.
-fn front_kept(bytes: &[u8], what: What<'_>) -> usize
+fn front_kept(bytes: &[u8], what: SpanContent<'_>) -> usize
     ensures { result ≡ front_kept bytes.now (part_of what.entry) }
 {
     match what {
-        What::Node(node) => match node {
+        SpanContent::Node(node) => match node {
             Node::PackageLost(PackedForm::If, _) => package_front(bytes),
             Node::PackageLost(PackedForm::While, _) => package_front(bytes),
             Node::NameLost(_, _, _) => named_front(bytes),

@@ -3,7 +3,7 @@
 ghost use Rattle.std.specs.Prelude.{◌≡◌, ◌++◌, ◌∷◌, [], OnOk};
 
 use crate::notes::Unknown;
-use crate::scopes::Opened;
+use crate::scopes::OpenedScope;
 use acpi_conditions::Candidates;
 use acpi_name::{Name, Path};
 use std::alloc::{AllocError, Global};
@@ -21,7 +21,7 @@ pub(crate) struct Source {
 /// their places.
 #[derive(Drop)]
 pub(crate) struct Remarks {
-    opened: Vec<Opened>,
+    opened: Vec<OpenedScope>,
     unknown: Vec<Unknown>,
     sources: Vec<Source>,
 }
@@ -40,7 +40,7 @@ impl Remarks {
     }
 
     /// The Scopes.
-    pub(crate) fn opened(&self) -> &[Opened]
+    pub(crate) fn opened(&self) -> &[OpenedScope]
         ensures { result.now ≡ self.now.opened.items }
     {
         &self.opened
@@ -66,7 +66,7 @@ impl Remarks {
             ≡ self.old.opened.items ++ record { place = place; path = path } ∷ []) }
         ensures sources { OnOk result (self.new.sources.items ≡ self.old.sources.items) }
     {
-        self.opened.push(Opened { place, path })?;
+        self.opened.push(OpenedScope { place, path })?;
         Ok(())
     }
 

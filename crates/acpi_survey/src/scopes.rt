@@ -18,7 +18,7 @@ use std::alloc::{AllocError, Global};
 
 /// A Scope that is entered.
 #[derive(Debug, Drop)]
-pub struct Opened {
+pub struct OpenedScope {
     /// Where it stands: the table's number times 2^64, and the number of bytes of the table's code before it.
     pub place: u128,
     /// The path of its target.
@@ -37,7 +37,10 @@ fn put_entries<'a>(paths: &mut ByPlace<'a, Path>, entries: &'a [Entry]) -> Resul
 }
 
 // Puts the paths of the targets of Scopes.
-fn put_opened<'a>(paths: &mut ByPlace<'a, Path>, opened: &'a [Opened]) -> Result<(), AllocError>
+fn put_opened<'a>(
+    paths: &mut ByPlace<'a, Path>,
+    opened: &'a [OpenedScope],
+) -> Result<(), AllocError>
     ensures { OnOk result ((q : ℕ) → kept_at paths.new q
         ≡ last_or (kept_at paths.old q) (map (λ o. (o.place, o.path)) opened.now) q) }
 {
@@ -52,7 +55,7 @@ fn put_opened<'a>(paths: &mut ByPlace<'a, Path>, opened: &'a [Opened]) -> Result
 pub(crate) fn entered_paths<'a>(
     alloc: Global,
     entries: &'a [Entry],
-    opened: &'a [Opened],
+    opened: &'a [OpenedScope],
 ) -> Result<ByPlace<'a, Path>, AllocError>
     ensures { IfOk result (λ m. (q : ℕ) → kept_at m q
         ≡ last_at (map (λ e. (e.term.place, e.path)) entries.now
@@ -67,9 +70,9 @@ pub(crate) fn entered_paths<'a>(
 /// What is entered at the places of one table's code: the table's number, and the paths by the places of all tables.
 #[derive(Clone, Copy)]
 pub(crate) struct Places<'b, 'a> {
-    /// The number.
+    /// The number of the table, the first being 0.
     pub table: usize,
-    /// The paths.
+    /// The paths that are entered, by place.
     pub paths: &'b ByPlace<'a, Path>,
 }
 

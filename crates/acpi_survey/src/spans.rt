@@ -18,7 +18,7 @@ use std::alloc::{AllocError, Global};
 
 /// What stands in a range of a table's code.
 #[derive(Debug, Clone, Copy)]
-pub enum What<'a> {
+pub enum SpanContent<'a> {
     /// A node; what stands inside it follows, one level deeper.
     Node(&'a Node),
     /// An element of the field list that is behind these fixed arguments, and the number of bits before it.
@@ -32,12 +32,12 @@ pub enum What<'a> {
 pub struct Span<'a> {
     /// How many nodes it stands in.
     pub depth: usize,
-    /// Its first byte.
+    /// Where it begins.
     pub from: usize,
-    /// The first byte behind it.
+    /// Where it ends: the first byte behind it.
     pub to: usize,
     /// What stands there.
-    pub what: What<'a>,
+    pub what: SpanContent<'a>,
 }
 
 /// A range of a table's code, and where it stands.
@@ -58,8 +58,8 @@ enum Items<'a> {
     Fields(&'a Fixed, &'a [PlacedField]),
 }
 
-/// A list that is gone through: what is left of it, what is lost behind that, where the list ends, the scope around, if it
-/// isn't the root, and whether an If stands directly before what is left.
+/// A list that is gone through: what is left of it, what is lost behind that, where the list ends, the scope around, if
+/// it isn't the root, and whether an If stands directly before what is left.
 #[derive(Debug, Clone, Copy)]
 struct Remainder<'a> {
     items: Items<'a>,
@@ -163,7 +163,7 @@ impl<'a> Remainder<'a> {
             depth,
             from: first.place,
             to: self.node_end(rest),
-            what: What::Node(&first.node),
+            what: SpanContent::Node(&first.node),
         })
     }
 
@@ -189,7 +189,7 @@ impl<'a> Remainder<'a> {
             depth,
             from: first.place,
             to: self.field_end(rest),
-            what: What::Element(fixed, &first.element, first.offset),
+            what: SpanContent::Element(fixed, &first.element, first.offset),
         })
     }
 
@@ -208,7 +208,7 @@ impl<'a> Remainder<'a> {
             depth,
             from: lost.place,
             to: self.end,
-            what: What::Lost(lost.fault),
+            what: SpanContent::Lost(lost.fault),
         })
     }
 }
@@ -283,7 +283,7 @@ impl<'a> ScopedSpan<'a> {
             ≡ nested_in_part depth self.now.span.to (part_of self.now.span.what) }
     {
         match self.span.what {
-            What::Node(node) => self.in_node(places, node),
+            SpanContent::Node(node) => self.in_node(places, node),
             _ => None,
         }
     }
@@ -337,7 +337,8 @@ impl<'a> Spans<'a> {
             ≡ left_in_some entered result ++ ranges_left entered self.new }
         ensures nested { nested_left self.old
             ≡ nested_in_some (length self.new.lists.items) result ++ nested_left self.new }
-        ensures fewer { IfSome result (λ _. length self.new.lists.items < length self.old.lists.items) }
+        ensures fewer { IfSome result
+            (λ _. length self.new.lists.items < length self.old.lists.items) }
         ensures none { result ≡ None → (entered : Entered) → ranges_left entered self.old ≡ [] }
         ensures none_nested { result ≡ None → nested_left self.old ≡ [] }
     {

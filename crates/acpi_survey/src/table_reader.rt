@@ -14,19 +14,19 @@ ghost use Rattle.acpi_survey.specs.Surveys.{AreTables, IsTable, behind_nodes, by
 use crate::found::found_in;
 use crate::machine_survey::{Survey, SurveyedTable};
 use crate::reading::Reading;
-use crate::tables::{Judged, judge};
+use crate::tables::{TableContent, judge};
 use acpi_code::Depth;
 use acpi_outline::read_outline;
 use bytes::Bytes;
 use std::alloc::{AllocError, Global};
 
 // The code of a table, of which nothing is read where the table isn't.
-fn code_of(judged: &Judged) -> Result<Bytes, AllocError>
+fn code_of(judged: &TableContent) -> Result<Bytes, AllocError>
     ensures { IfOk result (λ b. b ≡ code_read judged.now) }
 {
     match judged {
-        Judged::Read { code, .. } => code.slice(..),
-        Judged::Unread(_) => Ok(Bytes::new()),
+        TableContent::Read { code, .. } => code.slice(..),
+        TableContent::Unread(_) => Ok(Bytes::new()),
     }
 }
 

@@ -22,10 +22,10 @@ pub enum TableReason {
 
 /// What is read of a table (ACPI 6.5, 5.2.6).
 #[derive(Debug, Drop)]
-pub enum Judged {
-    /// Nothing, and why.
+pub enum TableContent {
+    /// Nothing of it is read, and why.
     Unread(TableReason),
-    /// Its code.
+    /// Its code is read.
     Read {
         /// What stands behind the header, to the table's end.
         code: Bytes,
@@ -69,14 +69,14 @@ fn is_block(signature: [u8; 4]) -> bool
 }
 
 // Why none of a table of that number is read, if it is no definition block.
-fn unread(number: usize) -> Judged
+fn unread(number: usize) -> TableContent
     ensures { (bytes : List ℕ) → HasLength bytes → ¬ IsDsdt bytes → ¬ IsSsdt bytes
         → IsJudged number bytes result }
 {
     if number == 0 {
-        Judged::Unread(TableReason::NotDsdt)
+        TableContent::Unread(TableReason::NotDsdt)
     } else {
-        Judged::Unread(TableReason::NotSsdt)
+        TableContent::Unread(TableReason::NotSsdt)
     }
 }
 
@@ -101,7 +101,7 @@ fn is_out_of_place(number: usize, signature: [u8; 4]) -> bool
 }
 
 // What is read of a table of a possible length.
-fn read(number: usize, bytes: &Bytes, has_bad_sum: bool) -> Result<Judged, AllocError>
+fn read(number: usize, bytes: &Bytes, has_bad_sum: bool) -> Result<TableContent, AllocError>
     requires length { HasLength bytes.now }
     requires sum { IsTrue has_bad_sum ↔ HasBadSum bytes.now }
     ensures { IfOk result (λ j. IsJudged number bytes.now j) }
@@ -112,7 +112,7 @@ fn read(number: usize, bytes: &Bytes, has_bad_sum: bool) -> Result<Judged, Alloc
     }
     let length = length_in(bytes);
     let end = length.min(bytes.len());
-    Ok(Judged::Read {
+    Ok(TableContent::Read {
         code: bytes.slice(HEADER_BYTES..end)?,
         is_cut: bytes.len() < length,
         has_bad_sum,
@@ -122,7 +122,7 @@ fn read(number: usize, bytes: &Bytes, has_bad_sum: bool) -> Result<Judged, Alloc
 }
 
 /// What is read of the bytes of the table of that number, the first being 0.
-pub fn judge(number: usize, bytes: &Bytes) -> Result<Judged, AllocError>
+pub fn judge(number: usize, bytes: &Bytes) -> Result<TableContent, AllocError>
     ensures { IfOk result (λ j. IsJudged number bytes.now j) }
 {
     match split_table(bytes) {
@@ -130,7 +130,7 @@ pub fn judge(number: usize, bytes: &Bytes) -> Result<Judged, AllocError>
         Err(fault) => match fault {
             TableFault::Cut => read(number, bytes, false),
             TableFault::BadSum => read(number, bytes, true),
-            _ => Ok(Judged::Unread(TableReason::Table(fault))),
+            _ => Ok(TableContent::Unread(TableReason::Table(fault))),
         },
     }
 }

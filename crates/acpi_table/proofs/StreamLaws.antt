@@ -2,6 +2,7 @@
 use Rattle.std.proofs.Common.{Result, Ok, Err, ◌≡◌, ◌≢◌, ℕ, ◌+◌, ◌≤◌, ◌<◌, length, take, IfSome, arith, List, ◌++◌, Option, Some, None, refl, sym, ap, subst, ◌∙◌, append_assoc, append-nil, []}
 use Rattle.std.proofs.lemmas.List.{length-append, take_at}
 use Rattle.std.specs.Io.KnownBytes.{Consumes, IsAtEnd}
+use Rattle.std.proofs.KnownBytes.{Consumes-trans}
 use Rattle.acpi_table.proofs.TableLaws.{length_field-append, table_again}
 use Rattle.acpi_table.specs.Sources.{TakesOnto}
 use Rattle.acpi_table.specs.Tables.{sum_of, length_field, IsTable, IsRefusedAs, table_at}
@@ -15,16 +16,10 @@ pub TakesOnto-nothing : (a : Option (List ℕ)) (there : List ℕ) → TakesOnto
 TakesOnto-nothing None there = ([], sym (append-nil there), tt)
 TakesOnto-nothing (Some xs) there = ([], sym (append-nil there), refl)
 
-consumes_both : (a b c : Option (List ℕ)) (xs ys : List ℕ) → Consumes a b xs → Consumes b c ys → Consumes a c (xs ++ ys)
-consumes_both None b c xs ys p q = tt
-consumes_both (Some x) None c xs ys p q = absurd p
-consumes_both (Some x) (Some y) None xs ys p q = absurd q
-consumes_both (Some x) (Some y) (Some z) xs ys p q = p ∙ ap (λ l. xs ++ l) q ∙ sym (append_assoc xs ys z)
-
 -- one piece after another
 pub TakesOnto-both : (a b c : Option (List ℕ)) (there more all : List ℕ) → TakesOnto a b there more → TakesOnto b c more all → TakesOnto a c there all
 TakesOnto-both a b c there more all p q =
-    (p.0 ++ q.0, q.1 ∙ ap (λ l. l ++ q.0) p.1 ∙ append_assoc there p.0 q.0, consumes_both a b c p.0 q.0 p.2 q.2)
+    (p.0 ++ q.0, q.1 ∙ ap (λ l. l ++ q.0) p.1 ∙ append_assoc there p.0 q.0, Consumes-trans a b c p.0 q.0 p.2 q.2)
 
 -- what a loop that reads pieces keeps
 pub record SoFar (coming coming' : Option (List ℕ)) (failures failures' : ℕ) (old new : List ℕ) (size target : ℕ) : Type 0 where

@@ -2,14 +2,18 @@
 use Rattle.std.specs.Prelude.{◌≡◌, ◌⊎◌, ◌+◌, ◌*◌, ◌/◌, ◌%◌, ◌<◌, ◌≤◌, ℕ, List, [], ◌∷◌, length, nat_lt, if◌then◌else◌}
 use Rattle.byteorder.specs.Endian.{little_number, little_bytes}
 
--- A number's spelling (20.2.4). Bits 7 and 6 of the lead byte say how many bytes follow it. With none the
+-- PkgLength := PkgLeadByte | <PkgLeadByte ByteData> | <PkgLeadByte ByteData ByteData> |
+-- <PkgLeadByte ByteData ByteData ByteData> (20.2.4)
+--
+-- A number's spelling. Bits 7 and 6 of the lead byte say how many bytes follow it. With none the
 -- lead is the number. With some, bits 5 and 4 are zero, bits 3 to 0 are the low four bits of the number,
 -- and each next byte is the next eight.
 abbrev pub SpellsPkgLength : ℕ → List ℕ → Type 0
 SpellsPkgLength n [] = ⊥
 SpellsPkgLength n (lead ∷ tail) =
     ((lead < 64) × (tail ≡ []) × (n ≡ lead))
-    ⊎ ((64 ≤ lead) × (lead % 64 < 16) × (length tail ≡ lead / 64) × (n ≡ lead % 64 + 16 * little_number (lead / 64) tail))
+    ⊎ ((64 ≤ lead) × (lead % 64 < 16) × (length tail ≡ lead / 64)
+    × (n ≡ lead % 64 + 16 * little_number (lead / 64) tail))
 
 -- Bytes follow the lead, and its bits 5 and 4 aren't zero (20.2.4).
 abbrev pub HasReservedBits : List ℕ → Type 0

@@ -23,4 +23,5 @@ IsNoTableFault Memory = Unit {0}
 
 -- Bytes move from the front of what was to come to the end of what is there.
 abbrev pub TakesOnto : Option (List ℕ) → Option (List ℕ) → List ℕ → List ℕ → Type 0
-TakesOnto coming coming' old new = (bytes : List ℕ) × (new ≡ old ++ bytes) × Consumes coming coming' bytes
+TakesOnto coming coming' old new =
+    (bytes : List ℕ) × (new ≡ old ++ bytes) × Consumes coming coming' bytes

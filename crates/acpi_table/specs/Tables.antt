@@ -13,7 +13,9 @@ sum_of bytes = sum bytes % 256
 abbrev pub length_field : List ℕ → ℕ
 length_field bytes = little_number 4 (drop 4 bytes)
 
--- The fields of a header that begins there (5.2.6, Table 5.4).
+-- The fields of a header that begins there (5.2.6, Table 5.4), with the names of that section. In the grammar
+-- DefBlockHeader := TableSignature TableLength SpecCompliance CheckSum OemID OemTableID OemRevision CreatorID
+-- CreatorRevision (20.2.1).
 abbrev pub header_of : List ℕ → Header
 header_of bytes = record {
   signature = take 4 bytes;
@@ -27,8 +29,8 @@ header_of bytes = record {
   creator_revision = little_number 4 (drop 32 bytes);
 }
 
--- The bytes are one whole table (5.2.6): a header at least, 16 MiB at most (a limit of our own), as many
--- as Length says, and their sum is 0.
+-- The bytes are one whole table (5.2.6; AMLCode := DefBlockHeader TermList, 20.2.1): a header at least, 16 MiB at most
+-- (a limit of our own), as many as Length says, and their sum is 0.
 pub record IsTable (bytes : List ℕ) : Type 0 where
   pub has_header : 36 ≤ length bytes
   pub within_limit : length bytes ≤ 16777216
@@ -44,7 +46,8 @@ IsRefusedAs Cut bytes =
     (36 ≤ length bytes) × (36 ≤ length_field bytes) × (length_field bytes ≤ 16777216)
     × (length bytes < length_field bytes)
 IsRefusedAs BadSum bytes =
-    (36 ≤ length_field bytes) × (length_field bytes ≤ 16777216) × (length_field bytes ≤ length bytes)
+    (36 ≤ length_field bytes) × (length_field bytes ≤ 16777216)
+    × (length_field bytes ≤ length bytes)
     × (sum_of (take (length_field bytes) bytes) ≢ 0)
 
 -- The table at the front, and the bytes after it (5.2.6).

@@ -2,8 +2,10 @@
 use Rattle.std.proofs.Common.{◌≡◌, ℕ, true, List, [], ◌∷◌, ◌++◌, refl}
 use Rattle.std.proofs.lemmas.Bool.{le-leb}
 use Rattle.acpi_code.specs.Spelling.{Packs}
+use Rattle.acpi_code.specs.Opcodes.{opcode_bytes}
+use Rattle.acpi_terms.specs.Forms.{kind_opcode}
 use Rattle.acpi_terms.specs.Spelling.{SpellsData, SpellsElem, SpellsElems, SpellsExternal, SpellsItem, SpellsItems}
-use Rattle.acpi_tree.specs.Tree.{DataTree, int, str, buffer, pkg, var_pkg, ElemTree, of_data, of_name, ElemTrees, no_elems, elem, ExternalParts, ItemTree, name, scope, method, external, external_block, create, create_field, mutex, event, region, field, index_field, bank_field, device, processor, power, thermal, ItemTrees, no_items, item}
+use Rattle.acpi_tree.specs.Tree.{DataTree, int, str, buffer, pkg, var_pkg, ElemTree, of_data, of_name, ElemTrees, no_elems, elem, ExternalParts, ItemTree, name, scope, method, external, external_block, create, create_field, mutex, event, region, field, index_field, bank_field, ItemTrees, no_items, item}
 use Rattle.acpi_tree.specs.Fits.{data_fits, elem_fits, elems_fit, external_fits, item_fits, items_fit}
 use Rattle.acpi_code.proofs.Fitting.{AreBytes, both, parts, packed, term_name_fits, text_all, each_fits, fields_fit}
 
@@ -32,14 +34,14 @@ external_fit x bytes h all = le-leb x.args 7 h.1.3.3.2.0
 
 -- ---- items
 
-filled : (opcode a b bytes : List ℕ) → Packs opcode (a ++ b) bytes → AreBytes bytes → AreBytes b
+pub filled : (opcode a b bytes : List ℕ) → Packs opcode (a ++ b) bytes → AreBytes bytes → AreBytes b
 filled opcode a b bytes p all = (parts a b (a ++ b) refl (packed opcode (a ++ b) bytes p all)).1
 
 mutual
   item_fit : (i : ItemTree) (bytes : List ℕ) → SpellsItem i bytes → AreBytes bytes → item_fits i ≡ true
   item_fit (name n d) bytes h all =
       let inner = (parts (8 ∷ []) (h.0 ++ h.1) bytes h.4 all).1 in data_fit d h.1 h.3 (parts h.0 h.1 (h.0 ++ h.1) refl inner).1
-  item_fit (scope n is) bytes h all = items_are_fit is h.1 h.3 (filled (16 ∷ []) h.0 h.1 bytes h.4 all)
+  item_fit (scope kind n is) bytes h all = items_are_fit is h.1 h.3 (filled (opcode_bytes (kind_opcode kind)) h.0 h.1 bytes h.4 all)
   item_fit (method n flags code) bytes h all = refl
   item_fit (external x) bytes h all = external_fit x bytes h all
   item_fit (external_block xs) bytes h all =
@@ -52,10 +54,6 @@ mutual
   item_fit (field r flags es) bytes h all = fields_fit es h.1 h.3 (filled (91 ∷ 129 ∷ []) h.0 h.1 bytes h.4 all)
   item_fit (index_field i d flags es) bytes h all = fields_fit es h.1 h.3 (filled (91 ∷ 134 ∷ []) h.0 h.1 bytes h.4 all)
   item_fit (bank_field r bank value flags es) bytes h all = fields_fit es h.1 h.3 (filled (91 ∷ 135 ∷ []) h.0 h.1 bytes h.4 all)
-  item_fit (device n is) bytes h all = items_are_fit is h.1 h.3 (filled (91 ∷ 130 ∷ []) h.0 h.1 bytes h.4 all)
-  item_fit (processor n id block len is) bytes h all = items_are_fit is h.1 h.3 (filled (91 ∷ 131 ∷ []) h.0 h.1 bytes h.4 all)
-  item_fit (power n level order is) bytes h all = items_are_fit is h.1 h.3 (filled (91 ∷ 132 ∷ []) h.0 h.1 bytes h.4 all)
-  item_fit (thermal n is) bytes h all = items_are_fit is h.1 h.3 (filled (91 ∷ 133 ∷ []) h.0 h.1 bytes h.4 all)
 
   pub items_are_fit : (is : ItemTrees) (bytes : List ℕ) → SpellsItems is bytes → AreBytes bytes → items_fit is ≡ true
   items_are_fit no_items bytes h all = refl

@@ -1,17 +1,17 @@
 -- Items that hold items: what was read of one is its reading, by that of the items inside.
 use Rattle.std.proofs.Common.{◌≡◌, ℕ, ◌-◌, ◌<◌, List, [], ◌∷◌, ◌++◌, length, true, Option, None, Some, Result, Ok, Err, refl, ◌∙◌, subst}
 use Rattle.acpi_name.specs.Names.{NameParts}
-use Rattle.acpi_tree.specs.Tree.{ItemTree, ItemTrees}
+use Rattle.acpi_tree.specs.declared.tree.ScopeKind.{ScopeKind}
+use Rattle.acpi_tree.specs.declared.tree.ScopeKind.TheVariants as kinds
+use Rattle.acpi_tree.specs.Tree.{ItemTree, ItemTrees, scope}
 use Rattle.acpi_code.specs.declared.opcode.Opcode.{Opcode}
 use Rattle.acpi_code.specs.declared.opcode.Opcode.TheVariants as opcodes
 use Rattle.acpi_code.specs.steps.Reading.{◌>>=◌, Reading, name_in, package_at, opcode_at, each_at}
 use Rattle.acpi_terms.specs.declared.holder.Holder.{Holder}
-use Rattle.acpi_terms.specs.declared.holder.HolderForm.{HolderForm}
-use Rattle.acpi_terms.specs.declared.holder.HolderForm.TheVariants as forms
 use Rattle.acpi_terms.specs.declared.fault.ItemFault.{ItemFault}
 use Rattle.acpi_terms.specs.Forms.{byte_arg, word_arg, dword_arg}
 use Rattle.acpi_terms.specs.steps.Cursor.{Fails}
-use Rattle.acpi_terms.specs.steps.Holding.{opens_items, holding, held_by, holder_item, BeginsWith, ReadsNext}
+use Rattle.acpi_terms.specs.steps.Holding.{opens_items, held_by, holder_item, BeginsWith, ReadsNext}
 use Rattle.acpi_terms.specs.steps.Reading.{Fault, part, arguments_at, item_by, items_with, item_at}
 use Rattle.acpi_code.specs.steps.Left.{Left}
 use Rattle.acpi_code.proofs.Lists.{Turns, turned, reads_on}
@@ -26,44 +26,44 @@ on_each (Err e) f g same = refl
 abbrev listed : {Vs : Type 0} → NameParts → Vs × List ℕ → Reading Fault (NameParts × Vs)
 listed name xs = Ok ((name, xs.0), xs.1)
 
-abbrev formed : {Vs : Type 0} → (Vs → HolderForm) → Vs × List ℕ → Reading Fault HolderForm
-formed form xs = Ok (form xs.0, xs.1)
+abbrev with_kind : {Vs : Type 0} → (Vs → ScopeKind) → Vs × List ℕ → Reading Fault ScopeKind
+with_kind kind xs = Ok (kind xs.0, xs.1)
 
-abbrev named : NameParts → HolderForm × List ℕ → Reading Fault (ItemTrees → ItemTree)
-named name f = Ok (holding f.0 name, f.1)
+abbrev named : NameParts → ScopeKind × List ℕ → Reading Fault (ItemTrees → ItemTree)
+named name f = Ok (scope f.0 name, f.1)
 
 -- with items inside, and with those bytes behind
 abbrev filled : (List ℕ → Result ItemTrees Fault) → List ℕ → (ItemTrees → ItemTree) × List ℕ → Reading Fault ItemTree
 filled inner rest f = inner f.1 >>= λ is. Ok (f.0 is, rest)
 
-abbrev filled_by : {Vs : Type 0} → (Vs → HolderForm) → (List ℕ → Result ItemTrees Fault) → List ℕ → (NameParts × Vs) × List ℕ → Reading Fault ItemTree
-filled_by form inner rest v = inner v.1 >>= λ is. Ok (holding (form v.0.1) v.0.0 is, rest)
+abbrev filled_by : {Vs : Type 0} → (Vs → ScopeKind) → (List ℕ → Result ItemTrees Fault) → List ℕ → (NameParts × Vs) × List ℕ → Reading Fault ItemTree
+filled_by kind inner rest v = inner v.1 >>= λ is. Ok (scope (kind v.0.1) v.0.0 is, rest)
 
-behind_name : {Vs : Type 0} (name : NameParts) (m : Reading Fault Vs) (form : Vs → HolderForm) (inner : List ℕ → Result ItemTrees Fault) (rest : List ℕ)
-    → ((m >>= listed name) >>= filled_by form inner rest) ≡ (((m >>= formed form) >>= named name) >>= filled inner rest)
-behind_name name (Ok v) form inner rest = refl
-behind_name name (Err e) form inner rest = refl
+behind_name : {Vs : Type 0} (name : NameParts) (m : Reading Fault Vs) (kind : Vs → ScopeKind) (inner : List ℕ → Result ItemTrees Fault) (rest : List ℕ)
+    → ((m >>= listed name) >>= filled_by kind inner rest) ≡ (((m >>= with_kind kind) >>= named name) >>= filled inner rest)
+behind_name name (Ok v) kind inner rest = refl
+behind_name name (Err e) kind inner rest = refl
 
-in_front : {Vs : Type 0} (n : Reading Fault NameParts) (m : List ℕ → Reading Fault Vs) (form : Vs → HolderForm) (inner : List ℕ → Result ItemTrees Fault) (rest : List ℕ)
-    → ((n >>= λ x. m x.1 >>= listed x.0) >>= filled_by form inner rest) ≡ ((n >>= λ x. (m x.1 >>= formed form) >>= named x.0) >>= filled inner rest)
-in_front (Ok x) m form inner rest = behind_name x.0 (m x.1) form inner rest
-in_front (Err e) m form inner rest = refl
+in_front : {Vs : Type 0} (n : Reading Fault NameParts) (m : List ℕ → Reading Fault Vs) (kind : Vs → ScopeKind) (inner : List ℕ → Result ItemTrees Fault) (rest : List ℕ)
+    → ((n >>= λ x. m x.1 >>= listed x.0) >>= filled_by kind inner rest) ≡ ((n >>= λ x. (m x.1 >>= with_kind kind) >>= named x.0) >>= filled inner rest)
+in_front (Ok x) m kind inner rest = behind_name x.0 (m x.1) kind inner rest
+in_front (Err e) m kind inner rest = refl
 
 pub as_holder : (inner : ℕ → List ℕ → Result ItemTrees Fault) (level end : ℕ) (whole : List ℕ) (opcode : Opcode) (rest : List ℕ) → opens_items opcode ≡ true
     → item_by inner level end whole opcode rest ≡ holder_item inner opcode end rest
 as_holder inner level end whole opcodes.Scope rest h = on_each (part (package_at end rest)) _ _
-    (λ p. in_front (part (name_in p.end p.content)) (arguments_at 0 [] p.end) (λ _. forms.Scope) (inner p.end) p.rest)
+    (λ p. in_front (part (name_in p.end p.content)) (arguments_at 0 [] p.end) (λ _. kinds.Scope) (inner p.end) p.rest)
 as_holder inner level end whole opcodes.Device rest h = on_each (part (package_at end rest)) _ _
-    (λ p. in_front (part (name_in p.end p.content)) (arguments_at 0 [] p.end) (λ _. forms.Device) (inner p.end) p.rest)
+    (λ p. in_front (part (name_in p.end p.content)) (arguments_at 0 [] p.end) (λ _. kinds.Device) (inner p.end) p.rest)
 as_holder inner level end whole opcodes.Processor rest h = on_each (part (package_at end rest)) _ _
-    (λ p. in_front (part (name_in p.end p.content)) (arguments_at 0 (byte_arg ∷ dword_arg ∷ byte_arg ∷ []) p.end) (λ v. forms.Processor v.0 v.1.0 v.1.1.0) (inner p.end) p.rest)
+    (λ p. in_front (part (name_in p.end p.content)) (arguments_at 0 (byte_arg ∷ dword_arg ∷ byte_arg ∷ []) p.end) (λ v. kinds.Processor v.0 v.1.0 v.1.1.0) (inner p.end) p.rest)
 as_holder inner level end whole opcodes.Power rest h = on_each (part (package_at end rest)) _ _
-    (λ p. in_front (part (name_in p.end p.content)) (arguments_at 0 (byte_arg ∷ word_arg ∷ []) p.end) (λ v. forms.Power v.0 v.1.0) (inner p.end) p.rest)
+    (λ p. in_front (part (name_in p.end p.content)) (arguments_at 0 (byte_arg ∷ word_arg ∷ []) p.end) (λ v. kinds.Power v.0 v.1.0) (inner p.end) p.rest)
 as_holder inner level end whole opcodes.Thermal rest h = on_each (part (package_at end rest)) _ _
-    (λ p. in_front (part (name_in p.end p.content)) (arguments_at 0 [] p.end) (λ _. forms.Thermal) (inner p.end) p.rest)
+    (λ p. in_front (part (name_in p.end p.content)) (arguments_at 0 [] p.end) (λ _. kinds.Thermal) (inner p.end) p.rest)
 as_holder inner level end whole _ rest h = absurd cc
 
--- the reading of an item that holds items is that of its form, where its opcode was read
+-- the reading of an item that holds items is that of its kind, where its opcode was read
 pub holder_opened : (level end : ℕ) (bytes : List ℕ) (front : Opcode) (rest : List ℕ) → 0 < level → opcode_at end bytes ≡ Ok (front, rest) → opens_items front ≡ true
     → item_at level end bytes ≡ holder_item (items_with (item_at (level - 1))) front end rest
 holder_opened level end bytes front rest some opens holds =

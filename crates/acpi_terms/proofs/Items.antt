@@ -4,8 +4,10 @@ use Rattle.acpi_name.specs.Names.{NameParts}
 use Rattle.acpi_code.specs.declared.opcode.Opcode.{Opcode}
 use Rattle.acpi_tree.specs.declared.op.Op.{Op}
 use Rattle.acpi_tree.specs.declared.tree.Width.{Width}
+use Rattle.acpi_tree.specs.declared.tree.ScopeKind.{ScopeKind}
+use Rattle.acpi_tree.specs.declared.tree.ScopeKind.TheVariants as kinds
 use Rattle.acpi_tree.specs.Operators.{is_load}
-use Rattle.acpi_tree.specs.Tree.{DataTree, ExternalParts, ItemTree, name, scope, method, external, external_block, create, create_field, mutex, event, region, field, index_field, bank_field, device, processor, power, thermal, ItemTrees, no_items, item, items_of}
+use Rattle.acpi_tree.specs.Tree.{DataTree, ExternalParts, ItemTree, name, scope, method, external, external_block, create, create_field, mutex, event, region, field, index_field, bank_field, ItemTrees, no_items, item, items_of}
 use Rattle.acpi_code.proofs.Lists.{AreAll, none_left, one_more, all_at, all_sound}
 use Rattle.acpi_code.proofs.Names.{name_in_complete, name_sound}
 use Rattle.acpi_code.proofs.Opcodes.{opens, Opened, opcode_sound}
@@ -18,9 +20,10 @@ use Rattle.acpi_terms.proofs.Arguments.{arguments_height, plain_complete, packed
 use Rattle.acpi_terms.proofs.DataTrees.{data_complete, DataWithin, data_sound, opens_with}
 use Rattle.acpi_terms.proofs.Fields.{fields_complete, fields_sound}
 use Rattle.acpi_code.specs.Fields.{SpellsFields}
-use Rattle.acpi_terms.specs.Forms.{fixed_arguments, ArgumentsOf}
+use Rattle.acpi_terms.specs.Forms.{fixed_arguments, ArgumentsOf, kind_opcode, kind_arguments}
 use Rattle.acpi_terms.specs.Spelling.{SpellsArguments, SpellsExternal, SpellsItem, SpellsItems, data_height, block_height, item_height, items_height, SpellsFilled, SpellsForm}
 use Rattle.acpi_terms.specs.steps.Reading.{Fault, fields_in, bytes_in, plain_at, packed_at, parts_at, block_content, item_by, items_with, item_at, items_at, fault_at, data_at, block_fault, in_block, name_item, block_item, part}
+use Rattle.acpi_terms.proofs.ScopeKinds.{kind_form}
 use Rattle.acpi_terms.proofs.Blocks.{parts_complete, content_complete, BlockShows, BlockBad, InBlock, content_sound, no_block, failed, parts_sound}
 use Rattle.acpi_table.specs.PkgLength.{SpellsPkgLength}
 use Rattle.acpi_name.specs.Spelling.{SpellsName}
@@ -85,7 +88,7 @@ width_long widths.QWord a = omega arith
 
 pub item_long : (i : ItemTree) (a : List ℕ) → SpellsItem i a → 0 < length a
 item_long (name n d) a h = rw h.4 (omega arith)
-item_long (scope n is) a h = rw h.4.whole (omega arith)
+item_long (scope kind n is) a h = rw h.4.whole ((kind_form kind).long (h.4.len ++ (h.0 ++ h.1)))
 item_long (method n flags code) a h = rw h.4.whole (omega arith)
 item_long (external x) a h = rw h.2 (omega arith)
 item_long (external_block xs) a h = rw h.2.whole (omega arith)
@@ -97,10 +100,6 @@ item_long (region n space offset len) a h = rw h.2 (omega arith)
 item_long (field r flags es) a h = rw h.4.whole (omega arith)
 item_long (index_field i d flags es) a h = rw h.4.whole (omega arith)
 item_long (bank_field r bank value flags es) a h = rw h.4.whole (omega arith)
-item_long (device n is) a h = rw h.4.whole (omega arith)
-item_long (processor n id block len is) a h = rw h.4.whole (omega arith)
-item_long (power n level order is) a h = rw h.4.whole (omega arith)
-item_long (thermal n is) a h = rw h.4.whole (omega arith)
 
 -- ---- trees
 
@@ -121,7 +120,7 @@ external_item_complete level end x a rest h =
 
 item_high : (i : ItemTree) → 0 < item_height i
 item_high (name n d) = omega arith
-item_high (scope n is) = omega arith
+item_high (scope kind n is) = omega arith
 item_high (method n flags code) = omega arith
 item_high (external x) = omega arith
 item_high (external_block []) = omega arith
@@ -134,17 +133,21 @@ item_high (region n space offset len) = omega arith
 item_high (field r flags es) = omega arith
 item_high (index_field i d flags es) = omega arith
 item_high (bank_field r bank value flags es) = omega arith
-item_high (device n is) = omega arith
-item_high (processor n id block len is) = omega arith
-item_high (power n level order is) = omega arith
-item_high (thermal n is) = omega arith
+
+-- what opens a scope is read where its items are
+scope_complete : (kind : ScopeKind) (level end : ℕ) (n : NameParts) (is : ItemTrees) (a rest : List ℕ)
+    → ((b : List ℕ) → SpellsItems is b → inner_items level (end - length rest) b ≡ Ok is) → SpellsItem (scope kind n is) a → item_at (suc level) end (a ++ rest) ≡ Ok (scope kind n is, rest)
+scope_complete kind level end n is a rest inside h =
+    let f = kind_form kind in
+    subst (λ (i : ItemTree). item_at (suc level) end (a ++ rest) ≡ Ok (i, rest)) (f.is n is)
+    (packed_item (kind_opcode kind) f.made (inner_items level) (λ b. SpellsItems is b) level end (kind_arguments kind n) is a rest f.spelled (omega (arith, f.flat))
+    (f.read (inner_items level) level end) inside h)
 
 mutual
   one_complete : (i : ItemTree) (level end : ℕ) (a rest : List ℕ) → SpellsItem i a → item_height i ≤ suc level → item_at (suc level) end (a ++ rest) ≡ Ok (i, rest)
   one_complete (name n d) level end a rest h le = name_item_complete level end n d a rest h (omega arith)
-  one_complete (scope n is) level end a rest h le =
-      packed_item opcodes.Scope (λ v is. scope v.0 is) (inner_items level) (λ b. SpellsItems is b) level end (n, tt) is a rest refl (omega arith) (λ whole more. refl)
-      (λ b s. are_items level (end - length rest) is b (items_complete is level (end - length rest) b s (omega arith))) h
+  one_complete (scope kind n is) level end a rest h le =
+      scope_complete kind level end n is a rest (λ b s. are_items level (end - length rest) is b (items_complete is level (end - length rest) b s (omega arith))) h
   one_complete (method n flags code) level end a rest h le =
       packed_item opcodes.Method (λ v code. method v.0 v.1.0 code) bytes_in (λ b. b ≡ code) level end (n, (flags, tt)) code a rest refl (omega arith) (λ whole more. refl) (λ b s. ap Ok s) h
   one_complete (external x) level end a rest h le = external_item_complete level end x a rest h
@@ -168,19 +171,6 @@ mutual
   one_complete (bank_field r bank value flags es) level end a rest h le =
       packed_item opcodes.BankField (λ v es. bank_field v.0 v.1.0 v.1.1.0 v.1.1.1.0 es) fields_in (λ b. SpellsFields es b) level end
       (r, (bank, (value, (flags, tt)))) es a rest refl (omega arith) (λ whole more. refl) (λ b s. fields_complete es (end - length rest) b s) h
-  one_complete (device n is) level end a rest h le =
-      packed_item opcodes.Device (λ v is. device v.0 is) (inner_items level) (λ b. SpellsItems is b) level end (n, tt) is a rest refl (omega arith) (λ whole more. refl)
-      (λ b s. are_items level (end - length rest) is b (items_complete is level (end - length rest) b s (omega arith))) h
-  one_complete (processor n id block len is) level end a rest h le =
-      packed_item opcodes.Processor (λ v is. processor v.0 v.1.0 v.1.1.0 v.1.1.1.0 is) (inner_items level) (λ b. SpellsItems is b) level end
-      (n, (id, (block, (len, tt)))) is a rest refl (omega arith) (λ whole more. refl)
-      (λ b s. are_items level (end - length rest) is b (items_complete is level (end - length rest) b s (omega arith))) h
-  one_complete (power n l order is) level end a rest h le =
-      packed_item opcodes.Power (λ v is. power v.0 v.1.0 v.1.1.0 is) (inner_items level) (λ b. SpellsItems is b) level end (n, (l, (order, tt))) is a rest refl (omega arith) (λ whole more. refl)
-      (λ b s. are_items level (end - length rest) is b (items_complete is level (end - length rest) b s (omega arith))) h
-  one_complete (thermal n is) level end a rest h le =
-      packed_item opcodes.Thermal (λ v is. thermal v.0 is) (inner_items level) (λ b. SpellsItems is b) level end (n, tt) is a rest refl (omega arith) (λ whole more. refl)
-      (λ b s. are_items level (end - length rest) is b (items_complete is level (end - length rest) b s (omega arith))) h
 
   pub items_complete : (is : ItemTrees) (level end : ℕ) (b : List ℕ) → SpellsItems is b → items_height is ≤ level → AreAll (item_at level end) b (listed is)
   items_complete no_items level end b h le = none_left (item_at level end) b h
@@ -314,7 +304,7 @@ item_by_sound s level end opcodes.DeclareName bytes rest inner h o =
     judge_up (Bad s) s level end (ItemWithin (suc level)) bytes (name_item level end rest)
     (name_item_sound s level end bytes rest is (position_deeper s level end bytes (8 ∷ []) rest is (omega arith) h))
 item_by_sound s level end opcodes.Scope bytes rest inner h o =
-    packed_form s level end opcodes.Scope (λ v is. scope v.0 is) (items_with (item_at level)) (ItemsWithin level) bytes rest o refl o.told.1 h
+    packed_form s level end opcodes.Scope (λ v is. scope kinds.Scope v.0 is) (items_with (item_at level)) (ItemsWithin level) bytes rest o refl o.told.1 h
     (λ v x front a b k le fills p. ((a, b, k, fills.0, p), omega (arith, fills.1))) (λ end b w k. inner end b k)
 item_by_sound s level end opcodes.Method bytes rest inner h o =
     packed_form s level end opcodes.Method (λ v code. method v.0 v.1.0 code) bytes_in (λ code b. b ≡ code) bytes rest o refl o.told.1 h
@@ -349,16 +339,16 @@ item_by_sound s level end opcodes.BankField bytes rest inner h o =
     packed_form s level end opcodes.BankField (λ v es. bank_field v.0 v.1.0 v.1.1.0 v.1.1.1.0 es) fields_in (λ es b. SpellsFields es b) bytes rest o refl o.told.1 h
     (λ v x front a b k le fills p. ((a, b, k, fills, p), omega (arith, le))) (λ end b w k. fields_sound s level end opcodes.BankField b refl w k)
 item_by_sound s level end opcodes.Device bytes rest inner h o =
-    packed_form s level end opcodes.Device (λ v is. device v.0 is) (items_with (item_at level)) (ItemsWithin level) bytes rest o refl o.told.1 h
+    packed_form s level end opcodes.Device (λ v is. scope kinds.Device v.0 is) (items_with (item_at level)) (ItemsWithin level) bytes rest o refl o.told.1 h
     (λ v x front a b k le fills p. ((a, b, k, fills.0, p), omega (arith, fills.1))) (λ end b w k. inner end b k)
 item_by_sound s level end opcodes.Processor bytes rest inner h o =
-    packed_form s level end opcodes.Processor (λ v is. processor v.0 v.1.0 v.1.1.0 v.1.1.1.0 is) (items_with (item_at level)) (ItemsWithin level) bytes rest o refl o.told.1 h
+    packed_form s level end opcodes.Processor (λ v is. scope (kinds.Processor v.1.0 v.1.1.0 v.1.1.1.0) v.0 is) (items_with (item_at level)) (ItemsWithin level) bytes rest o refl o.told.1 h
     (λ v x front a b k le fills p. ((a, b, k, fills.0, p), omega (arith, fills.1))) (λ end b w k. inner end b k)
 item_by_sound s level end opcodes.Power bytes rest inner h o =
-    packed_form s level end opcodes.Power (λ v is. power v.0 v.1.0 v.1.1.0 is) (items_with (item_at level)) (ItemsWithin level) bytes rest o refl o.told.1 h
+    packed_form s level end opcodes.Power (λ v is. scope (kinds.Power v.1.0 v.1.1.0) v.0 is) (items_with (item_at level)) (ItemsWithin level) bytes rest o refl o.told.1 h
     (λ v x front a b k le fills p. ((a, b, k, fills.0, p), omega (arith, fills.1))) (λ end b w k. inner end b k)
 item_by_sound s level end opcodes.Thermal bytes rest inner h o =
-    packed_form s level end opcodes.Thermal (λ v is. thermal v.0 is) (items_with (item_at level)) (ItemsWithin level) bytes rest o refl o.told.1 h
+    packed_form s level end opcodes.Thermal (λ v is. scope kinds.Thermal v.0 is) (items_with (item_at level)) (ItemsWithin level) bytes rest o refl o.told.1 h
     (λ v x front a b k le fills p. ((a, b, k, fills.0, p), omega (arith, fills.1))) (λ end b w k. inner end b k)
 item_by_sound s level end opcodes.Nothing bytes rest inner h o = refused s (suc level) end bytes (opcodes.Nothing, rest) BadOpcode h o refl
 item_by_sound s level end opcodes.Alias bytes rest inner h o = refused s (suc level) end bytes (opcodes.Alias, rest) Alias h o refl

@@ -4,6 +4,7 @@ pub mod Arguments
 pub mod DataTrees
 pub mod Fields
 pub mod Blocks
+pub mod ScopeKinds
 pub mod Items
 pub mod Leaves
 pub mod Refusals

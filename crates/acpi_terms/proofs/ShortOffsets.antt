@@ -2,11 +2,13 @@
 use Rattle.std.proofs.Common.{◌≡◌, ℕ, ◌+◌, ◌*◌, ◌^◌, ◌≤◌, ◌<◌, List, [], ◌∷◌, ◌++◌, length, refl, ap, subst, ◌∙◌, arith}
 use Rattle.std.proofs.lemmas.Bool.{leb-true}
 use Rattle.std.proofs.lemmas.List.{length-append}
-use Rattle.acpi_tree.specs.Tree.{FieldTree, unit, reserved, access, connect_name, connect_buffer, extended, ItemTree, name, scope, method, external, external_block, create, create_field, mutex, event, region, field, index_field, bank_field, device, processor, power, thermal, ItemTrees, no_items, item}
+use Rattle.acpi_tree.specs.Tree.{FieldTree, unit, reserved, access, connect_name, connect_buffer, extended, ItemTree, name, scope, method, external, external_block, create, create_field, mutex, event, region, field, index_field, bank_field, ItemTrees, no_items, item}
 use Rattle.acpi_code.specs.Spelling.{SpellsEach, Packs}
 use Rattle.acpi_code.proofs.Fields.{field_long}
 use Rattle.acpi_code.proofs.Fitting.{AreBytes, front_bytes, back_bytes, field_fit}
 use Rattle.acpi_code.specs.Fields.{SpellsField}
+use Rattle.acpi_code.specs.Opcodes.{opcode_bytes}
+use Rattle.acpi_terms.specs.Forms.{kind_opcode}
 use Rattle.acpi_terms.specs.Spelling.{SpellsItem, SpellsItems}
 use Rattle.acpi_tree.specs.Offsets.{element_bits, list_bits, OffsetFits, OffsetsFit}
 
@@ -53,7 +55,7 @@ filled_short opcode a b bytes p h =
 mutual
   item_offsets : (i : ItemTree) (bytes : List ℕ) → SpellsItem i bytes → Short bytes → OffsetFits i
   item_offsets (name n d) bytes h short = tt
-  item_offsets (scope n is) bytes h short = items_offsets is h.1 h.3 (filled_short (16 ∷ []) h.0 h.1 bytes h.4 short)
+  item_offsets (scope kind n is) bytes h short = items_offsets is h.1 h.3 (filled_short (opcode_bytes (kind_opcode kind)) h.0 h.1 bytes h.4 short)
   item_offsets (method n flags code) bytes h short = tt
   item_offsets (external x) bytes h short = tt
   item_offsets (external_block xs) bytes h short = tt
@@ -65,10 +67,6 @@ mutual
   item_offsets (field r flags es) bytes h short = let s = filled_short (91 ∷ 129 ∷ []) h.0 h.1 bytes h.4 short in list_fits es h.1 h.3 s.0 s.1
   item_offsets (index_field i d flags es) bytes h short = let s = filled_short (91 ∷ 134 ∷ []) h.0 h.1 bytes h.4 short in list_fits es h.1 h.3 s.0 s.1
   item_offsets (bank_field r bank value flags es) bytes h short = let s = filled_short (91 ∷ 135 ∷ []) h.0 h.1 bytes h.4 short in list_fits es h.1 h.3 s.0 s.1
-  item_offsets (device n is) bytes h short = items_offsets is h.1 h.3 (filled_short (91 ∷ 130 ∷ []) h.0 h.1 bytes h.4 short)
-  item_offsets (processor n id block len is) bytes h short = items_offsets is h.1 h.3 (filled_short (91 ∷ 131 ∷ []) h.0 h.1 bytes h.4 short)
-  item_offsets (power n level order is) bytes h short = items_offsets is h.1 h.3 (filled_short (91 ∷ 132 ∷ []) h.0 h.1 bytes h.4 short)
-  item_offsets (thermal n is) bytes h short = items_offsets is h.1 h.3 (filled_short (91 ∷ 133 ∷ []) h.0 h.1 bytes h.4 short)
 
   items_offsets : (is : ItemTrees) (bytes : List ℕ) → SpellsItems is bytes → Short bytes → OffsetsFit is
   items_offsets no_items bytes h short = tt

@@ -95,7 +95,8 @@ refusal _ = None
 
 -- such a term begins at the place
 abbrev pub Refused : ItemReason → List ℕ → ℕ → Type 0
-Refused why code place = (lead : Opcode) × (first_opcode (drop place code) ≡ Some lead) × (refusal lead ≡ Some why)
+Refused why code place =
+    (lead : Opcode) × (first_opcode (drop place code) ≡ Some lead) × (refusal lead ≡ Some why)
 
 -- ---- what must begin at a place
 
@@ -104,9 +105,10 @@ abbrev pub IsLengthOf : Bool → List ℕ → Type 0
 IsLengthOf true len = (n : ℕ) × SpellsPkgLength n len
 IsLengthOf false len = len ≡ []
 
--- These fixed arguments of a form must follow at the place: before it stand the form's opcode, its package length where it has a
--- package, and the arguments before these (20.2.5).
-pub record Awaits (opcode : Opcode) (kinds : List FixedArgument) (code : List ℕ) (place : ℕ) : Type 0 where
+-- These fixed arguments of a form must follow at the place: before it stand the form's opcode, its package length where
+-- it has a package, and the arguments before these (20.2.5).
+pub record Awaits (opcode : Opcode) (kinds : List FixedArgument) (code : List ℕ)
+    (place : ℕ) : Type 0 where
   pub before : List FixedArgument
   pub all : fixed_arguments opcode ≡ before ++ kinds
   pub at : ℕ
@@ -121,7 +123,8 @@ pub record Awaits (opcode : Opcode) (kinds : List FixedArgument) (code : List �
 
 -- a fixed argument of that kind must begin at the place
 abbrev pub MustBegin : FixedArgument → List ℕ → ℕ → Type 0
-MustBegin kind code place = (opcode : Opcode) × (kinds : List FixedArgument) × Awaits opcode (kind ∷ kinds) code place
+MustBegin kind code place =
+    (opcode : Opcode) × (kinds : List FixedArgument) × Awaits opcode (kind ∷ kinds) code place
 
 -- the forms whose fixed arguments a field list follows (20.2.5.2)
 abbrev pub has_fields : Opcode → Bool
@@ -132,7 +135,8 @@ has_fields _ = false
 
 -- a field element must begin at the place: behind others, in the field list of a form
 abbrev pub IsItemElement : List ℕ → ℕ → Type 0
-IsItemElement code place = (opcode : Opcode) × (has_fields opcode ≡ true) × (start : ℕ) × Awaits opcode [] code start × IsElementOf code start place
+IsItemElement code place = (opcode : Opcode) × (has_fields opcode ≡ true) × (start : ℕ)
+    × Awaits opcode [] code start × IsElementOf code start place
 
 -- ---- what a fault shows
 
@@ -143,7 +147,8 @@ pub record IsOtherIf (bytes : List ℕ) : Type 0 where
   pub rest : List ℕ
   pub spells_len : SpellsPkgLength (length len + length content) len
   pub here : bytes ≡ 0xA0 ∷ (len ++ (content ++ rest))
-  pub is_other : (xs : List ExternalParts) (b : List ℕ) → content ≡ 0x00 ∷ b → ¬ SpellsEach SpellsExternal xs b
+  pub is_other : (xs : List ExternalParts) (b : List ℕ) → content ≡ 0x00 ∷ b
+      → ¬ SpellsEach SpellsExternal xs b
 
 -- What the reason says is true of the code at that place, for some kind of place; `depth` is the number of
 -- levels that are allowed.
@@ -152,15 +157,17 @@ pub record IsOtherIf (bytes : List ℕ) : Type 0 where
 -- begin. Overrun: a package length below its own number of bytes, or past the end of the list that it stands in.
 -- Computed: a term that is no constant, or a constant where the source of a Create field must begin. ModuleIf: an Else,
 -- a While, or an If that is no block of Externals. ModuleCode: a name, data, Local, Arg, Debug or an operator,
--- other than a load. Load: LoadTable, Load or Unload. NotData: no data. TooDeep: a byte, behind at least as many bytes as
--- there are levels. BadString: a byte above 7F in a string.
+-- other than a load. Load: LoadTable, Load or Unload. NotData: no data. TooDeep: a byte, behind at least as many bytes
+-- as there are levels. BadString: a byte above 7F in a string.
 abbrev pub ShowsItems : ℕ → List ℕ → ItemReason → ℕ → Type 0
 ShowsItems depth code Cut place = ShowsPart depth code codes.Cut place
 ShowsItems depth code BadOpcode place = Refused BadOpcode code place
-ShowsItems depth code ReservedBits place = ShowsPart depth code codes.ReservedBits place ⊎ (MustBegin count_arg code place × ByteAt (λ b. 7 < b) code place)
+ShowsItems depth code ReservedBits place = ShowsPart depth code codes.ReservedBits place
+    ⊎ (MustBegin count_arg code place × ByteAt (λ b. 7 < b) code place)
 ShowsItems depth code BadName place = ShowsElementPart (IsItemElement code) code codes.BadName place
 ShowsItems depth code Overrun place = ShowsPart depth code codes.Overrun place
-ShowsItems depth code Computed place = Begins is_computed code place ⊎ (MustBegin source_arg code place × Begins is_constant code place)
+ShowsItems depth code Computed place = Begins is_computed code place
+    ⊎ (MustBegin source_arg code place × Begins is_constant code place)
 ShowsItems depth code Alias place = Refused Alias code place
 ShowsItems depth code ModuleIf place = Refused ModuleIf code place ⊎ IsOtherIf (drop place code)
 ShowsItems depth code ModuleCode place = Refused ModuleCode code place
@@ -175,11 +182,13 @@ abbrev pub IsTrueFault : ℕ → List ℕ → ItemFault → Type 0
 IsTrueFault depth code errors.Memory = Unit {0}
 IsTrueFault depth code (errors.At reason place) = ShowsItems depth code reason place
 
--- The same of the field element that stands first in these bytes: it is what `acpi_code` tells of the element, as a fault of items. So it is
--- Cut, ReservedBits, BadName or Overrun, or, where the size of a connection's buffer must be a constant, BadOpcode or Computed.
+-- The same of the field element that stands first in these bytes: it is what `acpi_code` tells of the element, as a
+-- fault of items. So it is Cut, ReservedBits, BadName or Overrun, or, where the size of a connection's buffer must be a
+-- constant, BadOpcode or Computed.
 abbrev pub IsTrueElementFault : List ℕ → ItemFault → Type 0
 IsTrueElementFault bytes errors.Memory = Unit {0}
-IsTrueElementFault bytes (errors.At reason place) = (f : ConstantFault) × (constant_fault_of f ≡ errors.At reason place) × ShowsElement (λ k. k ≡ 0) bytes f
+IsTrueElementFault bytes (errors.At reason place) = (f : ConstantFault)
+    × (constant_fault_of f ≡ errors.At reason place) × ShowsElement (λ k. k ≡ 0) bytes f
 
 -- ---- answers, unless memory runs out
 

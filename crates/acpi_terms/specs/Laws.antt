@@ -6,7 +6,8 @@ use Rattle.acpi_terms.specs.Spelling.{SpellsData, SpellsItems}
 
 -- at most one item tree stands for a code
 abbrev pub OneItemTree : Type 0
-OneItemTree = (code : List ℕ) (is js : ItemTrees) → SpellsItems is code → SpellsItems js code → is ≡ js
+OneItemTree =
+    (code : List ℕ) (is js : ItemTrees) → SpellsItems is code → SpellsItems js code → is ≡ js
 
 -- at most one data tree is spelled by some bytes
 abbrev pub OneDataTree : Type 0
@@ -14,4 +15,5 @@ OneDataTree = (bytes : List ℕ) (d e : DataTree) → SpellsData d bytes → Spe
 
 -- at most one list of field elements is spelled by some bytes
 abbrev pub OneFieldList : Type 0
-OneFieldList = (bytes : List ℕ) (es fs : List FieldTree) → SpellsFields es bytes → SpellsFields fs bytes → es ≡ fs
+OneFieldList = (bytes : List ℕ) (es fs : List FieldTree) → SpellsFields es bytes
+    → SpellsFields fs bytes → es ≡ fs

@@ -7,11 +7,13 @@ use Rattle.acpi_code.specs.declared.opcode.Opcode.TheVariants as opcodes
 use Rattle.acpi_code.specs.Opcodes.{opcode_bytes}
 use Rattle.acpi_code.specs.Fields.{SpellsFields}
 use Rattle.acpi_code.specs.Spelling.{SpellsByte, SpellsNumber, SpellsInt, SpellsTermName, SpellsText, SpellsEach, Packs}
-use Rattle.acpi_tree.specs.Tree.{DataTree, int, str, buffer, pkg, var_pkg, ElemTree, of_data, of_name, ElemTrees, no_elems, elem, ExternalParts, ItemTree, name, scope, method, external, external_block, create, create_field, mutex, event, region, field, index_field, bank_field, device, processor, power, thermal, ItemTrees, no_items, item}
-use Rattle.acpi_terms.specs.Forms.{FixedArgument, name_arg, source_arg, byte_arg, word_arg, dword_arg, count_arg, int_arg, Value, Values, fixed_arguments, ArgumentsOf}
+use Rattle.acpi_tree.specs.Tree.{DataTree, int, str, buffer, pkg, var_pkg, ElemTree, of_data, of_name, ElemTrees, no_elems, elem, ExternalParts, ItemTree, name, scope, method, external, external_block, create, create_field, mutex, event, region, field, index_field, bank_field, ItemTrees, no_items, item}
+use Rattle.acpi_terms.specs.Forms.{FixedArgument, name_arg, source_arg, byte_arg, word_arg, dword_arg, count_arg, int_arg, Value, Values, fixed_arguments, ArgumentsOf, kind_opcode, kind_arguments}
 
 -- ---- fixed arguments
 
+-- NameString, a name in the place of a TermArg, ByteData, WordData, DWordData, ArgumentCount := ByteData (0 to 7), and
+-- a TermArg that is a constant (20.2.2, 20.2.3, 20.2.5.2)
 abbrev pub SpellsArgument : (k : FixedArgument) → Value k → List ℕ → Type 0
 SpellsArgument name_arg n bytes = SpellsName n bytes
 SpellsArgument source_arg n bytes = SpellsTermName n bytes
@@ -24,15 +26,18 @@ SpellsArgument int_arg i bytes = SpellsInt i bytes
 -- one after another
 abbrev pub SpellsArguments : (ks : List FixedArgument) → Values ks → List ℕ → Type 0
 SpellsArguments [] v bytes = bytes ≡ []
-SpellsArguments (k ∷ ks) v bytes = (a : List ℕ) × (b : List ℕ) × SpellsArgument k v.0 a × SpellsArguments ks v.1 b × (bytes ≡ a ++ b)
+SpellsArguments (k ∷ ks) v bytes = (a : List ℕ) × (b : List ℕ) × SpellsArgument k v.0 a
+    × SpellsArguments ks v.1 b × (bytes ≡ a ++ b)
 
 -- an opcode and fixed arguments
 abbrev pub SpellsPlain : List ℕ → (ks : List FixedArgument) → Values ks → List ℕ → Type 0
 SpellsPlain opcode ks v bytes = (a : List ℕ) × SpellsArguments ks v a × (bytes ≡ opcode ++ a)
 
 -- an opcode and a package of fixed arguments and of what fills it
-abbrev pub SpellsPacked : List ℕ → (ks : List FixedArgument) → Values ks → (List ℕ → Type 0) → List ℕ → Type 0
-SpellsPacked opcode ks v Fills bytes = (a : List ℕ) × (b : List ℕ) × SpellsArguments ks v a × Fills b × Packs opcode (a ++ b) bytes
+abbrev pub SpellsPacked : List ℕ → (ks : List FixedArgument) → Values ks → (List ℕ → Type 0)
+    → List ℕ → Type 0
+SpellsPacked opcode ks v Fills bytes =
+    (a : List ℕ) × (b : List ℕ) × SpellsArguments ks v a × Fills b × Packs opcode (a ++ b) bytes
 
 -- the form of an opcode, which has fixed arguments alone
 abbrev pub SpellsForm : (o : Opcode) → ArgumentsOf o → List ℕ → Type 0
@@ -44,22 +49,31 @@ SpellsFilled o v Fills bytes = SpellsPacked (opcode_bytes o) (fixed_arguments o)
 
 -- ---- data (20.2.3 and 20.2.5.4)
 
--- Integers, String, DefBuffer, DefPackage, DefVarPackage; an element is data or a name
+-- DataObject := ComputationalData | DefPackage | DefVarPackage, with a ConstObj, a number or RevisionOp, a String or a
+-- DefBuffer as ComputationalData (20.2.3). What stands in the packages of these is said above `fixed_arguments`.
 abbrev mutual
   pub SpellsData : DataTree → List ℕ → Type 0
   SpellsData (int i) bytes = SpellsInt i bytes
+  -- String := StringPrefix AsciiCharList NullChar, where StringPrefix := 0x0D (20.2.3)
   SpellsData (str text) bytes = (b : List ℕ) × SpellsText text b × (bytes ≡ 0x0D ∷ b)
-  SpellsData (buffer size content) bytes = SpellsFilled opcodes.Buffer (size, tt) (λ b. b ≡ content) bytes
-  SpellsData (pkg count es) bytes = SpellsFilled opcodes.Package (count, tt) (λ b. SpellsElems es b) bytes
-  SpellsData (var_pkg count es) bytes = SpellsFilled opcodes.VarPackage (count, tt) (λ b. SpellsElems es b) bytes
+  -- ByteList := Nothing | <ByteData ByteList> (20.2.3)
+  SpellsData (buffer size content) bytes =
+      SpellsFilled opcodes.Buffer (size, tt) (λ b. b ≡ content) bytes
+  SpellsData (pkg count es) bytes =
+      SpellsFilled opcodes.Package (count, tt) (λ b. SpellsElems es b) bytes
+  SpellsData (var_pkg count es) bytes =
+      SpellsFilled opcodes.VarPackage (count, tt) (λ b. SpellsElems es b) bytes
 
+  -- PackageElement := DataRefObject | NameString (20.2.5.4)
   pub SpellsElem : ElemTree → List ℕ → Type 0
   SpellsElem (of_data d) bytes = SpellsData d bytes
   SpellsElem (of_name n) bytes = SpellsTermName n bytes
 
+  -- PackageElementList := Nothing | <PackageElement PackageElementList> (20.2.5.4)
   pub SpellsElems : ElemTrees → List ℕ → Type 0
   SpellsElems no_elems bytes = bytes ≡ []
-  SpellsElems (elem e es) bytes = (a : List ℕ) × (b : List ℕ) × SpellsElem e a × SpellsElems es b × (bytes ≡ a ++ b)
+  SpellsElems (elem e es) bytes =
+      (a : List ℕ) × (b : List ℕ) × SpellsElem e a × SpellsElems es b × (bytes ≡ a ++ b)
 
 -- ---- items (20.2.5.1 and 20.2.5.2)
 
@@ -67,31 +81,41 @@ abbrev mutual
 abbrev pub SpellsExternal : ExternalParts → List ℕ → Type 0
 SpellsExternal x bytes = SpellsForm opcodes.External (x.name, (x.kind, (x.args, tt))) bytes
 
--- Module-level terms. A block is `If (Zero)` round Externals alone; method code is any bytes; a Processor
--- is as ACPI 6.3 and earlier have it.
+-- Module-level terms, by the rules that stand above each line of `fixed_arguments`. A block is `If (Zero)` round
+-- Externals alone; method code is any bytes; a Processor is as ACPI 6.3 and earlier have it.
 abbrev mutual
   pub SpellsItem : ItemTree → List ℕ → Type 0
-  SpellsItem (name n d) bytes = (a : List ℕ) × (b : List ℕ) × SpellsName n a × SpellsData d b × (bytes ≡ 0x08 ∷ (a ++ b))
-  SpellsItem (scope n is) bytes = SpellsFilled opcodes.Scope (n, tt) (λ b. SpellsItems is b) bytes
-  SpellsItem (method n flags code) bytes = SpellsFilled opcodes.Method (n, (flags, tt)) (λ b. b ≡ code) bytes
+  -- DefName := NameOp NameString DataRefObject, where NameOp := 0x08 (20.2.5.1)
+  SpellsItem (name n d) bytes =
+      (a : List ℕ) × (b : List ℕ) × SpellsName n a × SpellsData d b × (bytes ≡ 0x08 ∷ (a ++ b))
+  SpellsItem (scope kind n is) bytes =
+      SpellsFilled (kind_opcode kind) (kind_arguments kind n) (λ b. SpellsItems is b) bytes
+  SpellsItem (method n flags code) bytes =
+      SpellsFilled opcodes.Method (n, (flags, tt)) (λ b. b ≡ code) bytes
   SpellsItem (external x) bytes = SpellsExternal x bytes
-  SpellsItem (external_block xs) bytes = (b : List ℕ) × SpellsEach SpellsExternal xs b × Packs (0xA0 ∷ []) (0x00 ∷ b) bytes
-  SpellsItem (create w source index n) bytes = SpellsForm (opcodes.Create w) (source, (index, (n, tt))) bytes
-  SpellsItem (create_field source index bits n) bytes = SpellsForm opcodes.CreateField (source, (index, (bits, (n, tt)))) bytes
+  -- DefIfElse := IfOp PkgLength Predicate TermList DefElse, where IfOp := 0xA0, with no DefElse (20.2.5.3)
+  SpellsItem (external_block xs) bytes =
+      (b : List ℕ) × SpellsEach SpellsExternal xs b × Packs (0xA0 ∷ []) (0x00 ∷ b) bytes
+  SpellsItem (create w source index n) bytes =
+      SpellsForm (opcodes.Create w) (source, (index, (n, tt))) bytes
+  SpellsItem (create_field source index bits n) bytes =
+      SpellsForm opcodes.CreateField (source, (index, (bits, (n, tt)))) bytes
   SpellsItem (mutex n flags) bytes = SpellsForm opcodes.Mutex (n, (flags, tt)) bytes
   SpellsItem (event n) bytes = SpellsForm opcodes.Event (n, tt) bytes
-  SpellsItem (region n space offset len) bytes = SpellsForm opcodes.Region (n, (space, (offset, (len, tt)))) bytes
-  SpellsItem (field r flags es) bytes = SpellsFilled opcodes.Field (r, (flags, tt)) (λ b. SpellsFields es b) bytes
-  SpellsItem (index_field i d flags es) bytes = SpellsFilled opcodes.IndexField (i, (d, (flags, tt))) (λ b. SpellsFields es b) bytes
-  SpellsItem (bank_field r bank value flags es) bytes = SpellsFilled opcodes.BankField (r, (bank, (value, (flags, tt)))) (λ b. SpellsFields es b) bytes
-  SpellsItem (device n is) bytes = SpellsFilled opcodes.Device (n, tt) (λ b. SpellsItems is b) bytes
-  SpellsItem (processor n id block len is) bytes = SpellsFilled opcodes.Processor (n, (id, (block, (len, tt)))) (λ b. SpellsItems is b) bytes
-  SpellsItem (power n level order is) bytes = SpellsFilled opcodes.Power (n, (level, (order, tt))) (λ b. SpellsItems is b) bytes
-  SpellsItem (thermal n is) bytes = SpellsFilled opcodes.Thermal (n, tt) (λ b. SpellsItems is b) bytes
+  SpellsItem (region n space offset len) bytes =
+      SpellsForm opcodes.Region (n, (space, (offset, (len, tt)))) bytes
+  SpellsItem (field r flags es) bytes =
+      SpellsFilled opcodes.Field (r, (flags, tt)) (λ b. SpellsFields es b) bytes
+  SpellsItem (index_field i d flags es) bytes =
+      SpellsFilled opcodes.IndexField (i, (d, (flags, tt))) (λ b. SpellsFields es b) bytes
+  SpellsItem (bank_field r bank value flags es) bytes = SpellsFilled opcodes.BankField
+      (r, (bank, (value, (flags, tt)))) (λ b. SpellsFields es b) bytes
 
+  -- TermList := Nothing | <TermObj TermList> (20.2.5)
   pub SpellsItems : ItemTrees → List ℕ → Type 0
   SpellsItems no_items bytes = bytes ≡ []
-  SpellsItems (item i is) bytes = (a : List ℕ) × (b : List ℕ) × SpellsItem i a × SpellsItems is b × (bytes ≡ a ++ b)
+  SpellsItems (item i is) bytes =
+      (a : List ℕ) × (b : List ℕ) × SpellsItem i a × SpellsItems is b × (bytes ≡ a ++ b)
 
 -- ---- heights
 -- A term has a level more than the highest term in it. Declared names, the names of scopes, of regions and
@@ -121,7 +145,7 @@ block_height (x ∷ xs) = 2
 abbrev mutual
   pub item_height : ItemTree → ℕ
   item_height (name n d) = suc (data_height d)
-  item_height (scope n is) = suc (items_height is)
+  item_height (scope kind n is) = suc (items_height is)
   item_height (method n flags code) = 1
   item_height (external x) = 1
   item_height (external_block xs) = block_height xs
@@ -133,10 +157,6 @@ abbrev mutual
   item_height (field r flags es) = 1
   item_height (index_field i d flags es) = 1
   item_height (bank_field r bank value flags es) = 2
-  item_height (device n is) = suc (items_height is)
-  item_height (processor n id block len is) = suc (items_height is)
-  item_height (power n level order is) = suc (items_height is)
-  item_height (thermal n is) = suc (items_height is)
 
   pub items_height : ItemTrees → ℕ
   items_height no_items = 0

@@ -62,11 +62,8 @@ fn leaf(
         Opcode::Field => field_form(alloc, code),
         Opcode::IndexField => index_field_form(alloc, code),
         Opcode::BankField => bank_field_form(alloc, level, code),
-        Opcode::Scope => unreachable!(),
-        Opcode::Device => unreachable!(),
-        Opcode::Processor => unreachable!(),
-        Opcode::Power => unreachable!(),
-        Opcode::Thermal => unreachable!(),
+        Opcode::Scope | Opcode::Device | Opcode::Processor | Opcode::Power | Opcode::Thermal =>
+            unreachable!(),
         Opcode::Nothing => Err(refused(front, ItemReason::BadOpcode)),
         Opcode::Alias => Err(refused(front, ItemReason::Alias)),
         Opcode::Else => Err(refused(front, ItemReason::ModuleIf)),
@@ -88,8 +85,8 @@ pub enum NextItem<'a> {
 
 /// The next item that the code spells (ACPI 6.5, 20.2.5), `level` levels being left for it (for those of the outermost
 /// list as many as the depth has); or, where it holds items, what stands before these, which have one level less. So
-/// the items of a table can be gone through without a list of them. A fault is that of `read_items`; `code` is not to be
-/// read on behind one.
+/// the items of a table can be gone through without a list of them. A fault is that of `read_items`; `code` is not to
+/// be read on behind one.
 #[tactic(auto, using(crate::proofs::Parts::part_fails), unfolding(crate::specs::steps::Reading::item_at))]
 pub fn next_item<'a>(
     alloc: Global,
@@ -110,8 +107,8 @@ pub fn next_item<'a>(
     }
 }
 
-// The next item, `level` levels being left for it: adds it to those found; or, where it holds items, answers what stands
-// before these. It is no part of the recursion, so that a level of this costs little stack.
+// The next item, `level` levels being left for it: adds it to those found; or, where it holds items, answers what
+// stands before these. It is no part of the recursion, so that a level of this costs little stack.
 #[inline(never)]
 fn next<'a>(
     alloc: Global,

@@ -27,10 +27,10 @@ mod part;
 
 pub use acpi_code::Depth;
 pub use acpi_tree::{
-    Data, Decl, Elem, External, FieldElem, FieldForm, Int, Item, Object, Op, Operand, Term, Width,
-    items_fit, terms_fit,
+    Data, Decl, Elem, External, FieldElem, FieldForm, Int, Item, Object, Op, Operand, ScopeKind,
+    Term, Width, items_fit, terms_fit,
 };
 pub use fault::{ItemFault, ItemReason};
-pub use holder::{Holder, HolderForm, HolderFront};
+pub use holder::{Holder, HolderFront};
 pub use item::{NextItem, next_item, read_items, read_items_shared};
 pub use part::{read_elem, read_int};

@@ -7,9 +7,11 @@ use Rattle.acpi_tree.specs.declared.tree.Int.{Int}
 use Rattle.acpi_tree.specs.declared.tree.Int.TheVariants.{Zero, One, Ones, Revision, Byte, Word, DWord, QWord}
 use Rattle.acpi_tree.specs.declared.tree.Width.{Width}
 use Rattle.acpi_tree.specs.declared.tree.Width.TheVariants as widths
+use Rattle.acpi_tree.specs.declared.tree.ScopeKind.{ScopeKind}
+use Rattle.acpi_tree.specs.declared.tree.ScopeKind.TheVariants as kinds
 use Rattle.acpi_tree.specs.declared.object.FieldForm.{FieldForm}
 use Rattle.acpi_tree.specs.declared.object.FieldForm.TheVariants as forms
-use Rattle.acpi_tree.specs.Tree.{DataTree, int, str, buffer, pkg, var_pkg, ElemTree, of_data, of_name, ElemTrees, no_elems, elem, FieldTree, unit, reserved, access, connect_name, connect_buffer, extended, ExternalParts, ItemTree, name, scope, method, external, external_block, create, create_field, mutex, event, region, field, index_field, bank_field, device, processor, power, thermal, ItemTrees, no_items, item}
+use Rattle.acpi_tree.specs.Tree.{DataTree, int, str, buffer, pkg, var_pkg, ElemTree, of_data, of_name, ElemTrees, no_elems, elem, FieldTree, unit, reserved, access, connect_name, connect_buffer, extended, ExternalParts, ItemTree, name, scope, method, external, external_block, create, create_field, mutex, event, region, field, index_field, bank_field, ItemTrees, no_items, item}
 use Rattle.acpi_tree.specs.Objects.{ObjectTree, root_object, scope_object, predefined_object, device_object, processor_object, power_object, thermal_object, name_object, method_object, region_object, mutex_object, event_object, field_object, create_object, create_field_object}
 
 abbrev pub int_eq : Int → Int → Bool
@@ -71,25 +73,33 @@ external_eq x y = name_eq x.name y.name && nat_eq x.kind y.kind && nat_eq x.args
 abbrev pub externals_eq : List ExternalParts → List ExternalParts → Bool
 externals_eq = pointwise external_eq
 
+abbrev pub kind_eq : ScopeKind → ScopeKind → Bool
+kind_eq kinds.Scope kinds.Scope = true
+kind_eq kinds.Device kinds.Device = true
+kind_eq (kinds.Processor i b l) (kinds.Processor j c k) = nat_eq i j && nat_eq b c && nat_eq l k
+kind_eq (kinds.Power l o) (kinds.Power k p) = nat_eq l k && nat_eq o p
+kind_eq kinds.Thermal kinds.Thermal = true
+kind_eq _ _ = false
+
 abbrev mutual
   pub item_eq : ItemTree → ItemTree → Bool
   item_eq (name m d) (name n e) = name_eq m n && data_eq d e
-  item_eq (scope m is) (scope n js) = name_eq m n && items_eq is js
+  item_eq (scope k m is) (scope l n js) = kind_eq k l && name_eq m n && items_eq is js
   item_eq (method m f s) (method n g t) = name_eq m n && nat_eq f g && bytes_eq s t
   item_eq (external x) (external y) = external_eq x y
   item_eq (external_block xs) (external_block ys) = externals_eq xs ys
-  item_eq (create w s i m) (create v t j n) = width_eq w v && name_eq s t && int_eq i j && name_eq m n
-  item_eq (create_field s i b m) (create_field t j c n) = name_eq s t && int_eq i j && int_eq b c && name_eq m n
+  item_eq (create w s i m) (create v t j n) =
+      width_eq w v && name_eq s t && int_eq i j && name_eq m n
+  item_eq (create_field s i b m) (create_field t j c n) =
+      name_eq s t && int_eq i j && int_eq b c && name_eq m n
   item_eq (mutex m f) (mutex n g) = name_eq m n && nat_eq f g
   item_eq (event m) (event n) = name_eq m n
   item_eq (region m s o l) (region n t p k) = name_eq m n && nat_eq s t && int_eq o p && int_eq l k
   item_eq (field r f es) (field q g fs) = name_eq r q && nat_eq f g && fields_eq es fs
-  item_eq (index_field i d f es) (index_field j e g fs) = name_eq i j && name_eq d e && nat_eq f g && fields_eq es fs
-  item_eq (bank_field r b v f es) (bank_field q c w g fs) = name_eq r q && name_eq b c && int_eq v w && nat_eq f g && fields_eq es fs
-  item_eq (device m is) (device n js) = name_eq m n && items_eq is js
-  item_eq (processor m i b l is) (processor n j c k js) = name_eq m n && nat_eq i j && nat_eq b c && nat_eq l k && items_eq is js
-  item_eq (power m l o is) (power n k p js) = name_eq m n && nat_eq l k && nat_eq o p && items_eq is js
-  item_eq (thermal m is) (thermal n js) = name_eq m n && items_eq is js
+  item_eq (index_field i d f es) (index_field j e g fs) =
+      name_eq i j && name_eq d e && nat_eq f g && fields_eq es fs
+  item_eq (bank_field r b v f es) (bank_field q c w g fs) =
+      name_eq r q && name_eq b c && int_eq v w && nat_eq f g && fields_eq es fs
   item_eq _ _ = false
 
   pub items_eq : ItemTrees → ItemTrees → Bool
@@ -116,7 +126,8 @@ object_eq (method_object f) (method_object g) = nat_eq f g
 object_eq (region_object s o l) (region_object t p k) = nat_eq s t && int_eq o p && int_eq l k
 object_eq (mutex_object f) (mutex_object g) = nat_eq f g
 object_eq event_object event_object = true
-object_eq (field_object w f o b) (field_object v g p c) = field_form_eq w v && nat_eq f g && nat_eq o p && nat_eq b c
+object_eq (field_object w f o b) (field_object v g p c) =
+    field_form_eq w v && nat_eq f g && nat_eq o p && nat_eq b c
 object_eq (create_object w i) (create_object v j) = width_eq w v && int_eq i j
 object_eq (create_field_object i b) (create_field_object j c) = int_eq i j && int_eq b c
 object_eq _ _ = false

@@ -2,7 +2,7 @@
 use Rattle.std.specs.Prelude.{ℕ, Bool, true, false, not, ◌&&◌, nat_eq, nat_lt, nat_le, length}
 use Rattle.std.specs.List.{list_all}
 use Rattle.acpi_name.specs.Names.{is_null_name}
-use Rattle.acpi_tree.specs.Tree.{DataTree, str, pkg, var_pkg, ElemTree, of_data, of_name, ElemTrees, no_elems, elem, FieldTree, unit, reserved, ExternalParts, ItemTree, name, scope, external, external_block, create, create_field, field, index_field, bank_field, device, processor, power, thermal, ItemTrees, no_items, item}
+use Rattle.acpi_tree.specs.Tree.{DataTree, str, pkg, var_pkg, ElemTree, of_data, of_name, ElemTrees, no_elems, elem, FieldTree, unit, reserved, ExternalParts, ItemTree, name, scope, external, external_block, create, create_field, field, index_field, bank_field, ItemTrees, no_items, item}
 
 -- AsciiChar: 01 to 7F (20.2.3)
 abbrev pub text_fits : ℕ → Bool
@@ -40,7 +40,7 @@ external_fits x = nat_le x.args 7
 abbrev mutual
   pub item_fits : ItemTree → Bool
   item_fits (name n d) = data_fits d
-  item_fits (scope n is) = items_fit is
+  item_fits (scope kind n is) = items_fit is
   item_fits (external x) = external_fits x
   item_fits (external_block xs) = list_all external_fits xs
   item_fits (create w s i n) = not (is_null_name s)
@@ -48,10 +48,6 @@ abbrev mutual
   item_fits (field r f es) = list_all field_fits es
   item_fits (index_field i d f es) = list_all field_fits es
   item_fits (bank_field r b v f es) = list_all field_fits es
-  item_fits (device n is) = items_fit is
-  item_fits (processor n i b l is) = items_fit is
-  item_fits (power n l o is) = items_fit is
-  item_fits (thermal n is) = items_fit is
   item_fits _ = true
 
   pub items_fit : ItemTrees → Bool
@@ -60,9 +56,5 @@ abbrev mutual
 
 -- the forms that hold items
 abbrev pub holds_items : ItemTree → Bool
-holds_items (scope n is) = true
-holds_items (device n is) = true
-holds_items (processor n i b l is) = true
-holds_items (power n l o is) = true
-holds_items (thermal n is) = true
+holds_items (scope kind n is) = true
 holds_items _ = false

@@ -1,6 +1,6 @@
 -- How many bits field lists take (ACPI 6.5, 20.2.5.2 FieldList).
 use Rattle.std.specs.Prelude.{◌+◌, ◌^◌, ◌<◌, ℕ, List, [], ◌∷◌}
-use Rattle.acpi_tree.specs.Tree.{FieldTree, unit, reserved, ItemTree, scope, field, index_field, bank_field, device, processor, power, thermal, ItemTrees, no_items, item}
+use Rattle.acpi_tree.specs.Tree.{FieldTree, unit, reserved, ItemTree, scope, field, index_field, bank_field, ItemTrees, no_items, item}
 
 -- the bits of an element: those of a NamedField and of a ReservedField
 abbrev pub element_bits : FieldTree → ℕ
@@ -19,11 +19,7 @@ abbrev mutual
   OffsetFits (field r flags es) = list_bits es < 2 ^ 64
   OffsetFits (index_field i d flags es) = list_bits es < 2 ^ 64
   OffsetFits (bank_field r bank value flags es) = list_bits es < 2 ^ 64
-  OffsetFits (scope n is) = OffsetsFit is
-  OffsetFits (device n is) = OffsetsFit is
-  OffsetFits (processor n id block len is) = OffsetsFit is
-  OffsetFits (power n level order is) = OffsetsFit is
-  OffsetFits (thermal n is) = OffsetsFit is
+  OffsetFits (scope kind n is) = OffsetsFit is
   OffsetFits _ = Unit {0}
 
   pub OffsetsFit : ItemTrees → Type 0

@@ -7,7 +7,8 @@ use Rattle.acpi_tree.specs.declared.place.OperandKind.TheVariants.{At, Target, B
 use Rattle.acpi_tree.specs.Terms.{TermTree, int, str, buffer, pkg, var_pkg, local, arg, debug, no_target, raw, ref, call, apply, if_do, while_do, declare, declare_units}
 use Rattle.acpi_tree.specs.Operators.{is_expression, is_reference}
 
--- DataRefObject, the data of a Name: a constant, a string, Buffer, Package, VarPackage
+-- DataRefObject, the data of a Name: DataObject := ComputationalData | DefPackage | DefVarPackage, which is a constant,
+-- a string, Buffer, Package, VarPackage (20.2.3)
 abbrev pub is_data : TermTree → Bool
 is_data (int i) = true
 is_data (str s) = true
@@ -16,12 +17,12 @@ is_data (pkg n ts) = true
 is_data (var_pkg v ts) = true
 is_data _ = false
 
--- PackageElement: data or a name
+-- PackageElement := DataRefObject | NameString (20.2.5.4)
 abbrev pub is_element : TermTree → Bool
 is_element (ref n) = true
 is_element t = is_data t
 
--- TermArg: data, a Local, an Arg, an expression, a call
+-- TermArg := ExpressionOpcode | DataObject | ArgObj | LocalObj; a call is an expression too (20.2.5)
 abbrev pub is_value : TermTree → Bool
 is_value (local n) = true
 is_value (arg n) = true
@@ -29,20 +30,20 @@ is_value (call n vs) = true
 is_value (apply op vs) = is_expression op
 is_value t = is_data t
 
--- SimpleName: a name, a Local, an Arg
+-- SimpleName := NameString | ArgObj | LocalObj (20.2.2)
 abbrev pub is_simple_name : TermTree → Bool
 is_simple_name (ref n) = true
 is_simple_name (local n) = true
 is_simple_name (arg n) = true
 is_simple_name _ = false
 
--- SuperName: a SimpleName, Debug, RefOf, DerefOf, Index
+-- SuperName := SimpleName | DebugObj | ReferenceTypeOpcode, the last of which is RefOf, DerefOf or Index (20.2.2)
 abbrev pub is_super_name : TermTree → Bool
 is_super_name debug = true
 is_super_name (apply op vs) = is_reference op
 is_super_name t = is_simple_name t
 
--- Target: a SuperName, or none
+-- Target := SuperName | NullName: the byte 00 is no target (20.2.2)
 abbrev pub is_target : TermTree → Bool
 is_target no_target = true
 is_target t = is_super_name t
@@ -53,7 +54,7 @@ is_source (ref n) = true
 is_source (call n vs) = false
 is_source t = is_value t
 
--- TermObj: an operator, Buffer, Package, VarPackage, a call, If, While, a declaration
+-- TermObj (20.2.5): an operator, Buffer, Package, VarPackage, a call, If, While, a declaration
 abbrev pub is_statement : TermTree → Bool
 is_statement (buffer v s) = true
 is_statement (pkg n ts) = true

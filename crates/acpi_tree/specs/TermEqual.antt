@@ -49,8 +49,10 @@ abbrev mutual
   term_eq (apply o ts) (apply p us) = op_eq o p && terms_eq ts us
   term_eq (if_do v ts e) (if_do w us f) = else_eq e f && term_eq v w && terms_eq ts us
   term_eq (while_do v ts) (while_do w us) = term_eq v w && terms_eq ts us
-  term_eq (declare f ts m us) (declare g vs n ws) = named_form_eq f g && terms_eq ts vs && name_eq m n && terms_eq us ws
-  term_eq (declare_units f ms ts es) (declare_units g ns us fs) = units_form_eq f g && names_eq ms ns && terms_eq ts us && fields_eq es fs
+  term_eq (declare f ts m us) (declare g vs n ws) =
+      named_form_eq f g && terms_eq ts vs && name_eq m n && terms_eq us ws
+  term_eq (declare_units f ms ts es) (declare_units g ns us fs) =
+      units_form_eq f g && names_eq ms ns && terms_eq ts us && fields_eq es fs
   term_eq _ _ = false
 
   pub else_eq : ElseTree → ElseTree → Bool

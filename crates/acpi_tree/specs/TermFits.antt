@@ -27,10 +27,13 @@ abbrev mutual
   term_fits (ref n) = not (is_null_name n)
   term_fits (call n vs) = not (is_null_name n) && all_stand Value vs
   term_fits (apply op vs) = not (is_load op) && operands_fit (operands_of op) vs
-  term_fits (if_do v ts e) = may_stand Value v && term_fits v && all_stand Statement ts && else_fits e
+  term_fits (if_do v ts e) =
+      may_stand Value v && term_fits v && all_stand Statement ts && else_fits e
   term_fits (while_do v ts) = may_stand Value v && term_fits v && all_stand Statement ts
-  term_fits (declare form before n behind) = operands_fit (operands_before form) before && operands_fit (operands_behind form) behind
-  term_fits (declare_units form ns vs es) = nat_eq (length ns) (names_of_units form) && operands_fit (operands_of_units form) vs && list_all field_fits es
+  term_fits (declare form before n behind) =
+      operands_fit (operands_before form) before && operands_fit (operands_behind form) behind
+  term_fits (declare_units form ns vs es) = nat_eq (length ns) (names_of_units form)
+      && operands_fit (operands_of_units form) vs && list_all field_fits es
 
   pub else_fits : ElseTree → Bool
   else_fits no_else = true

@@ -38,14 +38,20 @@ term_step (Term-F.Declare b) = box_value b
 
 abbrev pub decl_step : Decl-F TermTree TermTree TermTree → TermTree
 decl_step (Decl-F.Name n b) = declare named.Name no_terms n (more (box_value b) no_terms)
-decl_step (Decl-F.Create w s i n) = declare (named.Create w) (more (box_value s) (more (box_value i) no_terms)) n no_terms
-decl_step (Decl-F.CreateField s i b n) = declare named.CreateField (more (box_value s) (more (box_value i) (more (box_value b) no_terms))) n no_terms
+decl_step (Decl-F.Create w s i n) =
+    declare (named.Create w) (more (box_value s) (more (box_value i) no_terms)) n no_terms
+decl_step (Decl-F.CreateField s i b n) = declare named.CreateField
+    (more (box_value s) (more (box_value i) (more (box_value b) no_terms))) n no_terms
 decl_step (Decl-F.Mutex n f) = declare named.Mutex no_terms n (more (raw 1 f) no_terms)
 decl_step (Decl-F.Event n) = declare named.Event no_terms n no_terms
-decl_step (Decl-F.Region n s o l) = declare named.Region no_terms n (more (raw 1 s) (more (box_value o) (more (box_value l) no_terms)))
-decl_step (Decl-F.Field r f v) = declare_units units.Field (r ∷ []) (more (raw 1 f) no_terms) (fields_view v.items)
-decl_step (Decl-F.IndexField i d f v) = declare_units units.IndexField (i ∷ d ∷ []) (more (raw 1 f) no_terms) (fields_view v.items)
-decl_step (Decl-F.BankField r b i f v) = declare_units units.BankField (r ∷ b ∷ []) (more (box_value i) (more (raw 1 f) no_terms)) (fields_view v.items)
+decl_step (Decl-F.Region n s o l) = declare named.Region no_terms n
+    (more (raw 1 s) (more (box_value o) (more (box_value l) no_terms)))
+decl_step (Decl-F.Field r f v) =
+    declare_units units.Field (r ∷ []) (more (raw 1 f) no_terms) (fields_view v.items)
+decl_step (Decl-F.IndexField i d f v) =
+    declare_units units.IndexField (i ∷ d ∷ []) (more (raw 1 f) no_terms) (fields_view v.items)
+decl_step (Decl-F.BankField r b i f v) = declare_units units.BankField (r ∷ b ∷ [])
+    (more (box_value i) (more (raw 1 f) no_terms)) (fields_view v.items)
 
 abbrev pub operand_view : Operand → TermTree
 operand_view = fold-Operand TermTree TermTree TermTree decl_step operand_step term_step

@@ -3,6 +3,7 @@ use Rattle.std.specs.Prelude.{ℕ, List, [], ◌∷◌}
 use Rattle.acpi_name.specs.Names.{NameParts, Segment}
 use Rattle.acpi_tree.specs.declared.tree.Int.{Int}
 use Rattle.acpi_tree.specs.declared.tree.Width.{Width}
+use Rattle.acpi_tree.specs.declared.tree.ScopeKind.{ScopeKind}
 
 -- constant data, and the elements of a package
 mutual
@@ -44,7 +45,7 @@ pub record ExternalParts : Type 0 where
 mutual
   pub data ItemTree : Type 0 where
     name : NameParts → DataTree → ItemTree
-    scope : NameParts → ItemTrees → ItemTree
+    scope : ScopeKind → NameParts → ItemTrees → ItemTree
     method : NameParts → ℕ → List ℕ → ItemTree
     external : ExternalParts → ItemTree
     external_block : List ExternalParts → ItemTree
@@ -56,10 +57,6 @@ mutual
     field : NameParts → ℕ → List FieldTree → ItemTree
     index_field : NameParts → NameParts → ℕ → List FieldTree → ItemTree
     bank_field : NameParts → NameParts → Int → ℕ → List FieldTree → ItemTree
-    device : NameParts → ItemTrees → ItemTree
-    processor : NameParts → ℕ → ℕ → ℕ → ItemTrees → ItemTree
-    power : NameParts → ℕ → ℕ → ItemTrees → ItemTree
-    thermal : NameParts → ItemTrees → ItemTree
 
   pub data ItemTrees : Type 0 where
     no_items : ItemTrees

@@ -1,6 +1,7 @@
 -- The tree that a value stands for.
 use Rattle.std.specs.Prelude.{List, box_value, map}
-use Rattle.acpi_tree.specs.Tree.{DataTree, int, str, buffer, pkg, var_pkg, ElemTree, of_data, of_name, FieldTree, unit, reserved, access, connect_name, connect_buffer, extended, ExternalParts, ItemTree, name, scope, method, external, external_block, create, create_field, mutex, event, region, field, index_field, bank_field, device, processor, power, thermal, ItemTrees, elems_of, items_of}
+use Rattle.acpi_tree.specs.Tree.{DataTree, int, str, buffer, pkg, var_pkg, ElemTree, of_data, of_name, FieldTree, unit, reserved, access, connect_name, connect_buffer, extended, ExternalParts, ItemTree, name, scope, method, external, external_block, create, create_field, mutex, event, region, field, index_field, bank_field, ItemTrees, elems_of, items_of}
+use Rattle.acpi_tree.specs.declared.tree.ScopeKind.TheVariants as kinds
 use Rattle.acpi_tree.specs.declared.tree.Data.{Data, Data-F, fold-Data}
 use Rattle.acpi_tree.specs.declared.tree.Elem.{Elem, Elem-F, fold-Elem}
 use Rattle.acpi_tree.specs.declared.tree.FieldElem.{FieldElem}
@@ -46,7 +47,7 @@ externals_view xs = map external_view xs
 
 abbrev pub item_step : Item-F ItemTree → ItemTree
 item_step (Item-F.Name n d) = name n (data_view d)
-item_step (Item-F.Scope n v) = scope n (items_of v.items)
+item_step (Item-F.Scope n v) = scope kinds.Scope n (items_of v.items)
 item_step (Item-F.Method n f c) = method n f c
 item_step (Item-F.External x) = external (external_view x)
 item_step (Item-F.ExternalBlock v) = external_block (externals_view v.items)
@@ -58,10 +59,10 @@ item_step (Item-F.Region n s o l) = region n s o l
 item_step (Item-F.Field r f v) = field r f (fields_view v.items)
 item_step (Item-F.IndexField i d f v) = index_field i d f (fields_view v.items)
 item_step (Item-F.BankField r b i f v) = bank_field r b i f (fields_view v.items)
-item_step (Item-F.Device n v) = device n (items_of v.items)
-item_step (Item-F.Processor n i b l v) = processor n i b l (items_of v.items)
-item_step (Item-F.Power n l o v) = power n l o (items_of v.items)
-item_step (Item-F.Thermal n v) = thermal n (items_of v.items)
+item_step (Item-F.Device n v) = scope kinds.Device n (items_of v.items)
+item_step (Item-F.Processor n i b l v) = scope (kinds.Processor i b l) n (items_of v.items)
+item_step (Item-F.Power n l o v) = scope (kinds.Power l o) n (items_of v.items)
+item_step (Item-F.Thermal n v) = scope kinds.Thermal n (items_of v.items)
 
 abbrev pub item_view : Item → ItemTree
 item_view = fold-Item ItemTree item_step

@@ -4,9 +4,9 @@ ghost use Rattle.std.specs.Prelude.{◌≡◌, IfOk};
 ghost use Rattle.acpi_tree.specs.View.{data_view, elem_view, elems_view, field_view, fields_view, external_view, externals_view, item_view, items_view};
 ghost use Rattle.acpi_tree.specs.Objects.{object_view};
 
-use crate::item_copies::{copy_leaf, device_of, power_of, processor_of, scope_of, thermal_of};
+use crate::item_copies::{copy_leaf, scope_of};
 use crate::object::Object;
-use crate::tree::{Data, Elem, External, FieldElem, Item};
+use crate::tree::{Data, Elem, External, FieldElem, Item, ScopeKind};
 use std::alloc::{AllocError, Global};
 
 impl Data {
@@ -114,22 +114,43 @@ impl Item {
         ensures { IfOk result (λ i. item_view i ≡ item_view self.now) }
     {
         match self {
-            Item::Scope(name, items) => scope_of(name, copy_items(alloc, items)?),
-            Item::Device(name, items) => device_of(name, copy_items(alloc, items)?),
+            Item::Scope(name, items) => scope_of(ScopeKind::Scope, name, copy_items(alloc, items)?),
+            Item::Device(name, items) => scope_of(
+                ScopeKind::Device,
+                name,
+                copy_items(alloc, items)?,
+            ),
             Item::Processor {
                 name,
                 id,
                 block,
                 length,
                 items,
-            } => processor_of(name, *id, *block, *length, copy_items(alloc, items)?),
+            } => {
+                let kind = ScopeKind::Processor {
+                    id: *id,
+                    block: *block,
+                    length: *length,
+                };
+                scope_of(kind, name, copy_items(alloc, items)?)
+            }
             Item::Power {
                 name,
                 level,
                 order,
                 items,
-            } => power_of(name, *level, *order, copy_items(alloc, items)?),
-            Item::Thermal(name, items) => thermal_of(name, copy_items(alloc, items)?),
+            } => {
+                let kind = ScopeKind::Power {
+                    level: *level,
+                    order: *order,
+                };
+                scope_of(kind, name, copy_items(alloc, items)?)
+            }
+            Item::Thermal(name, items) => scope_of(
+                ScopeKind::Thermal,
+                name,
+                copy_items(alloc, items)?,
+            ),
             _ => copy_leaf(alloc, self),
         }
     }

@@ -6,70 +6,17 @@ ghost use Rattle.acpi_tree.specs.View.{data_view, fields_view, external_view, ex
 ghost use Rattle.acpi_tree.specs.Fits.{holds_items};
 
 use crate::copies::{copy_externals, copy_fields};
-use crate::tree::{Data, FieldElem, Int, Item, Width};
+use crate::tree::{Data, FieldElem, Int, Item, ScopeKind, Width};
 use acpi_name::Name;
 use bytes::Bytes;
 use std::alloc::{AllocError, Global};
 
-// Items that hold items, which are copied already.
-
+// An item that holds items, which are copied already.
 #[inline(never)]
-pub(crate) fn scope_of(name: &Name, items: Vec<Item>) -> Result<Item, AllocError>
-    ensures { IfOk result (λ i. item_view i ≡ tree.scope name.now (items_tree items.items)) }
+pub(crate) fn scope_of(kind: ScopeKind, name: &Name, items: Vec<Item>) -> Result<Item, AllocError>
+    ensures { IfOk result (λ i. item_view i ≡ tree.scope kind name.now (items_tree items.items)) }
 {
-    Ok(Item::Scope(name.copy()?, items))
-}
-
-#[inline(never)]
-pub(crate) fn device_of(name: &Name, items: Vec<Item>) -> Result<Item, AllocError>
-    ensures { IfOk result (λ i. item_view i ≡ tree.device name.now (items_tree items.items)) }
-{
-    Ok(Item::Device(name.copy()?, items))
-}
-
-#[inline(never)]
-pub(crate) fn processor_of(
-    name: &Name,
-    id: u8,
-    block: u32,
-    length: u8,
-    items: Vec<Item>,
-) -> Result<Item, AllocError>
-    ensures { IfOk result (λ i. item_view i ≡ tree.processor name.now id block length
-        (items_tree items.items)) }
-{
-    Ok(Item::Processor {
-        name: name.copy()?,
-        id,
-        block,
-        length,
-        items,
-    })
-}
-
-#[inline(never)]
-pub(crate) fn power_of(
-    name: &Name,
-    level: u8,
-    order: u16,
-    items: Vec<Item>,
-) -> Result<Item, AllocError>
-    ensures { IfOk result (λ i. item_view i ≡ tree.power name.now level order
-        (items_tree items.items)) }
-{
-    Ok(Item::Power {
-        name: name.copy()?,
-        level,
-        order,
-        items,
-    })
-}
-
-#[inline(never)]
-pub(crate) fn thermal_of(name: &Name, items: Vec<Item>) -> Result<Item, AllocError>
-    ensures { IfOk result (λ i. item_view i ≡ tree.thermal name.now (items_tree items.items)) }
-{
-    Ok(Item::Thermal(name.copy()?, items))
+    Ok(kind.item(name.copy()?, items))
 }
 
 // Items that hold none.
@@ -227,10 +174,10 @@ pub(crate) fn copy_leaf(alloc: Global, item: &Item) -> Result<Item, AllocError>
             flags,
             elems,
         } => copy_bank_field(alloc, region, bank, *value, *flags, elems),
-        Item::Scope(..) => unreachable!(),
-        Item::Device(..) => unreachable!(),
-        Item::Processor { .. } => unreachable!(),
-        Item::Power { .. } => unreachable!(),
-        Item::Thermal(..) => unreachable!(),
+        Item::Scope(..)
+        | Item::Device(..)
+        | Item::Processor { .. }
+        | Item::Power { .. }
+        | Item::Thermal(..) => unreachable!(),
     }
 }

@@ -5,8 +5,10 @@ ghost use Rattle.acpi_tree.specs.Tree as tree;
 ghost use Rattle.acpi_tree.specs.View.{data_view, fields_view, external_view, externals_view, item_view, items_tree};
 ghost use Rattle.acpi_tree.specs.Equal.{item_eq, items_eq};
 
-use crate::same::{same_data, same_external, same_externals, same_fields, same_int, same_width};
-use crate::tree::{Data, External, FieldElem, Int, Item, Width};
+use crate::same::{
+    same_data, same_external, same_externals, same_fields, same_int, same_kind, same_width,
+};
+use crate::tree::{Data, External, FieldElem, Int, Item, ScopeKind, Width};
 use acpi_name::Name;
 use bytes::Bytes;
 
@@ -16,22 +18,35 @@ pub(crate) fn same_item(a: &Item, b: &Item) -> bool
 {
     match a {
         Item::Name(name, data) => is_name(name, data, b),
-        Item::Scope(name, items) => is_scope(name, items, b),
-        Item::Device(name, items) => is_device(name, items, b),
-        Item::Thermal(name, items) => is_thermal(name, items, b),
+        Item::Scope(name, items) => is_scope(ScopeKind::Scope, name, items, b),
+        Item::Device(name, items) => is_scope(ScopeKind::Device, name, items, b),
+        Item::Thermal(name, items) => is_scope(ScopeKind::Thermal, name, items, b),
         Item::Processor {
             name,
             id,
             block,
             length,
             items,
-        } => is_processor(name, *id, *block, *length, items, b),
+        } => {
+            let kind = ScopeKind::Processor {
+                id: *id,
+                block: *block,
+                length: *length,
+            };
+            is_scope(kind, name, items, b)
+        }
         Item::Power {
             name,
             level,
             order,
             items,
-        } => is_power(name, *level, *order, items, b),
+        } => {
+            let kind = ScopeKind::Power {
+                level: *level,
+                order: *order,
+            };
+            is_scope(kind, name, items, b)
+        }
         Item::Method { name, flags, code } => is_method(name, *flags, code, b),
         Item::External(external) => is_external(external, b),
         Item::ExternalBlock(externals) => is_external_block(externals, b),
@@ -101,66 +116,45 @@ fn is_name(name: &Name, data: &Data, item: &Item) -> bool
 }
 
 #[cycle(same_item)]
-fn is_scope(name: &Name, items: &[Item], item: &Item) -> bool
-    ensures { result ≡ item_eq (tree.scope name.now (items_tree items.now)) (item_view item.now) }
-{
-    match item {
-        Item::Scope(n, is) => name == n && same_items(items, is),
-        _ => false,
-    }
-}
-
-#[cycle(same_item)]
-fn is_device(name: &Name, items: &[Item], item: &Item) -> bool
-    ensures { result ≡ item_eq (tree.device name.now (items_tree items.now)) (item_view item.now) }
-{
-    match item {
-        Item::Device(n, is) => name == n && same_items(items, is),
-        _ => false,
-    }
-}
-
-#[cycle(same_item)]
-fn is_thermal(name: &Name, items: &[Item], item: &Item) -> bool
-    ensures { result ≡ item_eq (tree.thermal name.now (items_tree items.now)) (item_view item.now) }
-{
-    match item {
-        Item::Thermal(n, is) => name == n && same_items(items, is),
-        _ => false,
-    }
-}
-
-#[cycle(same_item)]
-fn is_processor(name: &Name, id: u8, block: u32, length: u8, items: &[Item], item: &Item) -> bool
-    ensures { result ≡ item_eq (tree.processor name.now id block length (items_tree items.now))
+fn is_scope(kind: ScopeKind, name: &Name, items: &[Item], item: &Item) -> bool
+    ensures { result ≡ item_eq (tree.scope kind name.now (items_tree items.now))
         (item_view item.now) }
 {
-    match item {
+    let (other, n, is) = match item {
+        Item::Scope(n, is) => (ScopeKind::Scope, n, is),
+        Item::Device(n, is) => (ScopeKind::Device, n, is),
         Item::Processor {
-            name: n,
-            id: i,
-            block: b,
-            length: l,
-            items: is,
-        } => name == n && id == *i && block == *b && length == *l && same_items(items, is),
-        _ => false,
-    }
-}
-
-#[cycle(same_item)]
-fn is_power(name: &Name, level: u8, order: u16, items: &[Item], item: &Item) -> bool
-    ensures { result ≡ item_eq (tree.power name.now level order (items_tree items.now))
-        (item_view item.now) }
-{
-    match item {
+            name,
+            id,
+            block,
+            length,
+            items,
+        } => (
+            ScopeKind::Processor {
+                id: *id,
+                block: *block,
+                length: *length,
+            },
+            name,
+            items,
+        ),
         Item::Power {
-            name: n,
-            level: l,
-            order: o,
-            items: is,
-        } => name == n && level == *l && order == *o && same_items(items, is),
-        _ => false,
-    }
+            name,
+            level,
+            order,
+            items,
+        } => (
+            ScopeKind::Power {
+                level: *level,
+                order: *order,
+            },
+            name,
+            items,
+        ),
+        Item::Thermal(n, is) => (ScopeKind::Thermal, n, is),
+        _ => return false,
+    };
+    same_kind(kind, other) && name == n && same_items(items, is)
 }
 
 fn is_method(name: &Name, flags: u8, code: &Bytes, item: &Item) -> bool

@@ -27,4 +27,4 @@ pub use op::{Op, OpClass, OpRow};
 pub use place::{NamedForm, OperandKind, Place, UnitsForm};
 pub use standing::terms_fit;
 pub use term::{Decl, Operand, Term};
-pub use tree::{Data, Elem, External, FieldElem, Int, Item, Width};
+pub use tree::{Data, Elem, External, FieldElem, Int, Item, ScopeKind, Width};

@@ -10,65 +10,125 @@ use OpClass::{Expression, Reference, Statement, TableLoad};
 /// and earlier. Method bodies have no LoadTable, Load or Unload.
 #[derive(Clone, Copy, Debug, PartialEq, Eq)]
 pub enum Op {
+    /// Puts a value into an object.
     Store,
+    /// A reference to an object.
     RefOf,
+    /// The sum of two integers.
     Add,
+    /// Two integers, strings or buffers, one behind the other.
     Concat,
+    /// The first integer less the second.
     Subtract,
+    /// Adds one to an integer object.
     Increment,
+    /// Takes one from an integer object.
     Decrement,
+    /// The product of two integers.
     Multiply,
+    /// The first integer by the second: its targets get the remainder and then the quotient.
     Divide,
+    /// The first integer, shifted left by as many bits as the second says.
     ShiftLeft,
+    /// The first integer, shifted right by as many bits as the second says.
     ShiftRight,
+    /// The bits that both integers have.
     And,
+    /// The bits that not both integers have.
     NAnd,
+    /// The bits that one or both integers have.
     Or,
+    /// The bits that neither integer has.
     NOr,
+    /// The bits that exactly one of two integers has.
     XOr,
+    /// The bits that an integer has not.
     Not,
+    /// The number of the highest bit that is set, from 1; 0 where none is.
     FindSetLeftBit,
+    /// The number of the lowest bit that is set, from 1; 0 where none is.
     FindSetRightBit,
+    /// The object that a reference, or a string with its name, refers to.
     DerefOf,
+    /// Two resource templates, one behind the other, with one end tag.
     ConcatRes,
+    /// The remainder of the first integer by the second.
     Mod,
+    /// Tells the system of a device, processor or thermal zone, with an integer that says what of it.
     Notify,
+    /// The size of an object: bytes of a buffer or a string, elements of a package.
     SizeOf,
+    /// A reference to an element of a package, or a byte of a buffer or a string, by its number from 0.
     Index,
+    /// The number of the first element of a package, from an index on, of which two comparisons hold.
     Match,
+    /// The number of the type that an object has.
     ObjectType,
+    /// Whether both integers are nonzero.
     LAnd,
+    /// Whether one or both integers are nonzero.
     LOr,
+    /// Whether an integer is zero.
     LNot,
+    /// Whether two values are equal.
     LEqual,
+    /// Whether the first value is greater than the second.
     LGreater,
+    /// Whether the first value is less than the second.
     LLess,
+    /// A value as a buffer.
     ToBuffer,
+    /// A value as a string of decimal numbers.
     ToDecimalString,
+    /// A value as a string of hexadecimal numbers.
     ToHexString,
+    /// A value as an integer.
     ToInteger,
+    /// The bytes of a buffer as a string, of at most a given length.
     ToString,
+    /// Puts a copy of an object into a name, whose type becomes that of the object.
     CopyObject,
+    /// A part of a buffer or a string, from a byte on, of at most a given length.
     Mid,
+    /// Goes on with the next round of the innermost While.
     Continue,
+    /// Does nothing.
     Noop,
+    /// Ends the method and gives its value.
     Return,
+    /// Ends the innermost While.
     Break,
+    /// Stops in a debugger, if there is one.
     BreakPoint,
+    /// Whether an object exists; if so, the target gets a reference to it.
     CondRefOf,
+    /// Waits as many microseconds, and keeps the processor.
     Stall,
+    /// Waits as many milliseconds, and gives the processor away.
     Sleep,
+    /// Takes a mutex, for which it waits as many milliseconds at most; whether it timed out.
     Acquire,
+    /// Signals an event.
     Signal,
+    /// Waits for an event, as many milliseconds at most; whether it timed out.
     Wait,
+    /// Takes back all signals of an event.
     Reset,
+    /// Releases a mutex.
     Release,
+    /// The integer that binary coded decimal digits spell.
     FromBCD,
+    /// An integer as binary coded decimal digits.
     ToBCD,
+    /// Tells the system of an error after which it shuts down: its type, its code and an argument.
     Fatal,
+    /// The time since an arbitrary moment, in units of 100 nanoseconds.
     Timer,
+    /// Loads a table that the system has, by its signature, OEM ID and OEM table ID.
     LoadTable,
+    /// Loads a definition block out of an object; whether it was loaded.
     Load,
+    /// Unloads what a Load has loaded.
     Unload,
 }
 

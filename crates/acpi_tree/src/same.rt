@@ -6,11 +6,11 @@ ghost use Rattle.acpi_tree.specs.Tree.{elems_of};
 ghost use Rattle.acpi_tree.specs.View.{data_view, elem_view, elems_view, field_view, fields_view, external_view, externals_view, item_view};
 ghost use Rattle.acpi_tree.specs.Objects.{object_view};
 ghost use Rattle.acpi_tree.specs.steps.Equality.{equivalence, data_tells, elem_tells, field_tells, external_tells, item_tells, object_tells};
-ghost use Rattle.acpi_tree.specs.Equal.{int_eq, width_eq, field_form_eq, data_eq, elem_eq, elems_eq, field_eq, fields_eq, external_eq, externals_eq, item_eq, object_eq};
+ghost use Rattle.acpi_tree.specs.Equal.{int_eq, width_eq, field_form_eq, data_eq, elem_eq, elems_eq, field_eq, fields_eq, external_eq, externals_eq, kind_eq, item_eq, object_eq};
 
 use crate::item_same::same_item;
 use crate::object::{FieldForm, Object};
-use crate::tree::{Data, Elem, External, FieldElem, Int, Item, Width};
+use crate::tree::{Data, Elem, External, FieldElem, Int, Item, ScopeKind, Width};
 
 pub(crate) fn same_int(a: Int, b: Int) -> bool
     ensures { result ≡ int_eq a b }
@@ -37,6 +37,31 @@ pub(crate) fn same_width(a: Width, b: Width) -> bool
         (Width::Byte, Width::Byte) => true,
         (Width::Bit, Width::Bit) => true,
         (Width::QWord, Width::QWord) => true,
+        _ => false,
+    }
+}
+
+pub(crate) fn same_kind(a: ScopeKind, b: ScopeKind) -> bool
+    ensures { result ≡ kind_eq a b }
+{
+    match (a, b) {
+        (ScopeKind::Scope, ScopeKind::Scope) => true,
+        (ScopeKind::Device, ScopeKind::Device) => true,
+        (
+            ScopeKind::Processor {
+                id: i,
+                block: b,
+                length: l,
+            },
+            ScopeKind::Processor {
+                id: j,
+                block: c,
+                length: k,
+            },
+        ) => i == j && b == c && l == k,
+        (ScopeKind::Power { level: l, order: o }, ScopeKind::Power { level: k, order: p }) => l == k
+            && o == p,
+        (ScopeKind::Thermal, ScopeKind::Thermal) => true,
         _ => false,
     }
 }

@@ -3,7 +3,7 @@ use Rattle.std.proofs.Common.{◌≡◌, ◌⊎◌, inl, inr, ℕ, ◌<◌, List
 use Rattle.std.specs.FinMap.{get}
 use Rattle.std.specs.List.{AllByRecursion}
 use Rattle.acpi_name.specs.Names.{Segment}
-use Rattle.acpi_order.proofs.Lists.{one_some, not_both}
+use Rattle.acpi_space.proofs.Elements.{not_both, one_some}
 use Rattle.acpi_verdict.specs.declared.clashes.Clash.{Clash}
 use Rattle.acpi_verdict.specs.declared.declared.Declared.{Declared}
 use Rattle.acpi_verdict.specs.declared.definers.Definer.{Definer}

@@ -1,35 +1,20 @@
 -- SSDTs over a DSDT, by their numbers.
-use Rattle.std.proofs.Common.{◌≡◌, ℕ, zero, suc, ◌+◌, ◌<◌, ◌≤◌, List, [], ◌∷◌, ◌++◌, length, get_or, None, Some, refl, sym, ap, subst, ◌∙◌, arith, add-one}
-use Rattle.std.specs.Option.{option_or}
-use Rattle.acpi_name.specs.Names.{Segment}
-use Rattle.acpi_tree.specs.Objects.{ObjectTree}
+use Rattle.std.proofs.Common.{◌≡◌, ℕ, zero, suc, ◌+◌, ◌<◌, ◌≤◌, List, [], ◌∷◌, ◌++◌, length, get_or, refl, sym, subst, arith, add-one}
 use Rattle.acpi_declare.specs.declared.fault.LoadReason.{LoadReason}
 use Rattle.acpi_declare.specs.declared.fault.LoadFault.{LoadFault}
 use Rattle.acpi_declare.specs.declared.fault.LoadFault.TheVariants.{At, Memory}
 use Rattle.acpi_declare.specs.Declaring.{State, HasTables}
-use Rattle.acpi_declare.specs.Listing.{Placement, objects_of}
+use Rattle.acpi_declare.specs.Listing.{Placement}
 use Rattle.acpi_declare.specs.Loads.{AreListings, objects_after}
 use Rattle.acpi_declare.specs.Predefined.{predefined}
 use Rattle.acpi_declare.specs.Refusals.{IsLoadReason, IsFirstWithout, IsLoadFault}
 use Rattle.acpi_declare.proofs.Refusals.{refused_has_no_load}
-use Rattle.acpi_order.specs.Independent.{StandsAt, AreSingleListings, LoadsAlone}
-use Rattle.acpi_order.specs.Laws.{taken_away}
-use Rattle.acpi_order.specs.Misses.{Listing, objects_of_first, objects_of_both}
+use Rattle.acpi_order.specs.Independent.{StandsAt, LoadsAlone}
 use Rattle.acpi_order.specs.Verdicts.{IsSsdt, DsdtLoads, AllAlone}
-use Rattle.acpi_order.proofs.Singles.{taken_back}
 use Rattle.acpi_verdict.specs.VerdictView.{IsSinglesFault}
 use Rattle.acpi_verdict.specs.steps.Overlays.{renumbered}
 
 -- ---- the SSDT of a number
-
-one_place : (bs : List (List ℕ)) (k : ℕ) (b c : List ℕ) → StandsAt bs k b → StandsAt bs k c → b ≡ c
-one_place [] k b c h g = absurd h
-one_place (x ∷ bs) zero b c h g = sym h ∙ g
-one_place (x ∷ bs) (suc k) b c h g = one_place bs k b c h g
-
-pub one_ssdt : (bs : List (List ℕ)) (i : ℕ) (b c : List ℕ) → IsSsdt bs i b → IsSsdt bs i c → b ≡ c
-one_ssdt bs zero b c h g = absurd h
-one_ssdt bs (suc k) b c h g = one_place bs k b c h g
 
 place_within : (bs : List (List ℕ)) (k : ℕ) (b : List ℕ) → StandsAt bs k b → k < length bs
 place_within [] k b h = absurd h
@@ -56,15 +41,6 @@ alone_at depth dsdt bs all (suc k) b at = by bs all k at
     by [] all k at = absurd at
     by (c ∷ cs) all zero at = subst (LoadsAlone depth dsdt) at all.0
     by (c ∷ cs) all (suc k) at = by cs all.1 k at
-
--- ---- what an SSDT declares
-
--- it stands in the machine of the SSDT's single load
-pub declared_there : (depth : ℕ) (dsdt b : List ℕ) (first t : Listing) → AreSingleListings depth dsdt b first t → (p : List Segment) (o : ObjectTree) → objects_of t p ≡ Some o
-    → objects_of_both first t p ≡ Some o
-declared_there depth dsdt b first t h p o e =
-    let free : objects_of_first first p ≡ None = sym (taken_back depth dsdt b first t h p) ∙ ap (λ a. taken_away a (objects_of_both first t p)) e in
-    ap (λ a. option_or a (objects_of t p)) free ∙ e
 
 -- ---- the DSDT alone
 

@@ -9,6 +9,7 @@ use Rattle.acpi_space.specs.Laws.{Among}
 use Rattle.acpi_space.specs.Lookups.{Lookup}
 use Rattle.acpi_space.specs.Spaces.{PathMap}
 use Rattle.acpi_space.specs.Wanted.{Wants}
+use Rattle.acpi_space.proofs.Elements.{one_some}
 use Rattle.acpi_counts.specs.Counts.{with_first}
 use Rattle.acpi_declare.specs.Namespace.{Namespace}
 use Rattle.acpi_declare.specs.Notes as notes
@@ -19,7 +20,6 @@ use Rattle.acpi_body.proofs.Listed.{pair_among}
 use Rattle.acpi_body.proofs.Grown.{Holds, holds_as, one_count}
 use Rattle.acpi_order.specs.Bodies.{Method, with_counts}
 use Rattle.acpi_order.specs.Misses.{IsAwaiting}
-use Rattle.acpi_order.proofs.Lists.{one_some}
 use Rattle.acpi_verdict.specs.declared.misses.Misses.{Misses}
 use Rattle.acpi_verdict.specs.steps.Misses.{IsAwaitedByAny, open_pair, with_opens, AddsMethod, AddsMethods}
 

@@ -11,9 +11,9 @@ use Rattle.acpi_name.specs.Paths.{path_cmp}
 use Rattle.acpi_space.specs.Laws.{Among}
 use Rattle.acpi_space.specs.Spaces.{PathMap}
 use Rattle.acpi_space.proofs.Keys.{keys_ascend}
+use Rattle.acpi_space.proofs.Elements.{among_append, among_both, all_append}
 use Rattle.acpi_order.specs.Misses.{Listing, objects_of_both}
 use Rattle.acpi_order.specs.Singles.{awaited_cmp, IsAwaitedInTable, IsAwaitedBy}
-use Rattle.acpi_order.proofs.Lists.{among_append, appended}
 use Rattle.acpi_verdict.specs.steps.SingleMisses.{tagged}
 use Rattle.acpi_verdict.proofs.PathSets.{pair_is}
 
@@ -39,15 +39,11 @@ behind : (p : List Segment) (n : ℕ) (es : List (List Segment × ℕ)) → AllB
 behind p n [] = tt
 behind p n (e ∷ es) = (refl, behind p n es)
 
-all_both : {X : Type 0} (P : X → Type 0) (xs ys : List X) → AllByRecursion P xs → AllByRecursion P ys → AllByRecursion P (xs ++ ys)
-all_both P [] ys h k = k
-all_both P (x ∷ xs) ys h k = (h.0, all_both P xs ys h.1 k)
-
 both_ascend : (es fs : List (List Segment × ℕ)) → IsStrictlySortedBy awaited_cmp (tagged 0 es) → IsStrictlySortedBy awaited_cmp (tagged 1 fs)
     → IsStrictlySortedBy awaited_cmp (tagged 0 es ++ tagged 1 fs)
 unfolding IsStrictlySortedBy
 both_ascend [] fs h k = k
-both_ascend (e ∷ es) fs h k = (all_both (λ b. awaited_cmp (0, e.0, e.1) b ≡ Less) (tagged 0 es) (tagged 1 fs) h.0 (behind e.0 e.1 fs), both_ascend es fs h.1 k)
+both_ascend (e ∷ es) fs h k = (all_append (λ b. awaited_cmp (0, e.0, e.1) b ≡ Less) (tagged 0 es) (tagged 1 fs) h.0 (behind e.0 e.1 fs), both_ascend es fs h.1 k)
 
 -- ---- what stands in it
 
@@ -92,5 +88,5 @@ module _ (depth : ℕ) (first t : Listing) (one two : PathMap ℕ) (items : List
     pub awaited_by : (k : ℕ) (p : List Segment) (n : ℕ) → Among items (entry k p n) ↔ IsAwaitedBy depth first t k p n
     awaited_by k p n = (
       (λ i. to k p n (among_append (tagged 0 (entries one)) (tagged 1 (entries two)) (entry k p n) (subst (λ (l : List Entry). Among l (entry k p n)) list i))),
-      (λ h. subst (λ (l : List Entry). Among l (entry k p n)) (sym list) (appended (tagged 0 (entries one)) (tagged 1 (entries two)) (entry k p n) (from k p n h))),
+      (λ h. subst (λ (l : List Entry). Among l (entry k p n)) (sym list) (among_both (tagged 0 (entries one)) (tagged 1 (entries two)) (entry k p n) (from k p n h))),
     )

@@ -84,10 +84,6 @@ module _ (depth : ℕ) (dsdt : List ℕ) (ssdts : List (List ℕ)) (loads : Dsdt
 
 -- ---- as results
 
-pub ok_so : {T E : Type 0} (r : Result T E) (P Q : T → Type 0) → ((x : T) → P x → Q x) → IfOk r P → IfOk r Q
-ok_so (Ok x) P Q f h = f x h
-ok_so (Err e) P Q f h = tt
-
 pub memory_so : {T : Type 0} (r : Result T LoadFault) (depth : ℕ) (tables : List (List ℕ)) → IfErr r (λ e. e ≡ Memory) → IfErr r (λ e. IsLoadFault depth tables e)
 memory_so (Ok x) depth tables h = tt
 memory_so (Err e) depth tables h = subst (λ (f : LoadFault). IsLoadFault depth tables f) (sym h) tt

@@ -6,14 +6,15 @@ use Rattle.std.specs.Map.{lookup}
 use Rattle.std.specs.List.{AllByRecursion}
 use Rattle.acpi_name.specs.Names.{Segment}
 use Rattle.acpi_name.specs.Paths.{path_cmp}
+use Rattle.acpi_space.proofs.Elements.{not_both}
 use Rattle.acpi_tree.specs.Objects.{ObjectTree}
 use Rattle.acpi_declare.specs.Listing.{objects_of}
 use Rattle.acpi_declare.specs.Namespace.{Namespace}
 use Rattle.acpi_order.specs.Independent.{StandsAt, AreSingleListings, LoadsAlone}
 use Rattle.acpi_order.specs.Misses.{Listing}
 use Rattle.acpi_order.specs.Verdicts.{IsSsdt, IsSame}
-use Rattle.acpi_order.proofs.Lists.{not_both}
 use Rattle.acpi_order.proofs.Once.{same_first, same_second}
+use Rattle.acpi_order.proofs.Singles.{one_ssdt, declared_there}
 use Rattle.acpi_verdict.specs.declared.clashes.Clash.{Clash}
 use Rattle.acpi_verdict.specs.declared.declared.Declared.{Declared}
 use Rattle.acpi_verdict.specs.declared.definers.Definer.{Definer}
@@ -21,7 +22,7 @@ use Rattle.acpi_verdict.specs.steps.Clashing.{IsLeastOf}
 use Rattle.acpi_verdict.specs.steps.Defining.{method_args, args_at, IsNoted}
 use Rattle.acpi_verdict.specs.steps.Declaring.{args_in, IsNewAt, IsSameAt, AddsSsdt, IsDefiner, AreFirst, AreDeclaredTo, AreDeclared}
 use Rattle.acpi_verdict.specs.steps.Overlays.{OverlayTree, IsOverlay}
-use Rattle.acpi_verdict.proofs.AloneLoads.{one_ssdt, ssdt_within, declared_there}
+use Rattle.acpi_verdict.proofs.AloneLoads.{ssdt_within}
 use Rattle.acpi_verdict.proofs.Offers.{IsUpTo, least_covers, least_offered}
 
 -- ---- none

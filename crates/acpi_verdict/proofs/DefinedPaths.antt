@@ -1,7 +1,7 @@
 -- The paths that the second of two tables declares: those of both that the first alone has not.
 use Rattle.std.proofs.Common.{◌≡◌, ◌↔◌, ℕ, Bool, true, false, not, List, is_some, filter, Option, Some, None, true≢false, refl, sym, ap, subst, ◌∙◌}
 use Rattle.std.specs.Prelude.{IsTrue}
-use Rattle.std.specs.Option.{option_map, option_or}
+use Rattle.std.specs.Option.{option_or}
 use Rattle.std.specs.FinMap.{empty, get, keys}
 use Rattle.std.specs.List.Sorted.{IsStrictlySortedBy}
 use Rattle.std.proofs.lemmas.List.Kept.{IsStrictlySortedBy-filter}
@@ -11,6 +11,7 @@ use Rattle.acpi_space.specs.Laws.{Among}
 use Rattle.acpi_space.specs.Spaces.{PathMap, is_defined}
 use Rattle.acpi_space.proofs.Filters.{among_filter}
 use Rattle.acpi_space.proofs.Keys.{key_is, keys_ascend}
+use Rattle.acpi_space.proofs.Laid.{is_some-map}
 use Rattle.acpi_tree.specs.Objects.{ObjectTree, object_view}
 use Rattle.acpi_tree.specs.declared.object.Object.{Object}
 use Rattle.acpi_declare.specs.Listing.{objects_of}
@@ -23,12 +24,8 @@ use Rattle.acpi_order.specs.Independent.{AreSingleListings}
 use Rattle.acpi_order.proofs.Singles.{taken_back}
 
 -- whether an object is there
-seen : (a : Option Object) → is_some (option_map object_view a) ≡ is_some a
-seen None = refl
-seen (Some o) = refl
-
 pub there : (m : PathMap Object) (p : List Segment) → is_some (namespace_of m p) ≡ is_defined m p
-there m p = seen (get m p)
+there m p = is_some-map object_view (get m p)
 
 -- what is there with the second table, and not without it
 pub new_object : (b a : Option ObjectTree) → taken_away a (option_or b a) ≡ b → (IsTrue (is_some (option_or b a)) × (is_some b ≡ false)) ↔ ((o : ObjectTree) × (a ≡ Some o))

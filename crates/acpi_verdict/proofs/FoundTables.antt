@@ -7,6 +7,7 @@ use Rattle.std.specs.List.Sorted.{IsStrictlySortedBy}
 use Rattle.acpi_name.specs.Names.{Segment}
 use Rattle.acpi_space.specs.Laws.{Among}
 use Rattle.acpi_space.specs.Spaces.{PathMap, is_defined}
+use Rattle.acpi_space.proofs.Elements.{one_some}
 use Rattle.acpi_tree.specs.Objects.{ObjectTree, method_object}
 use Rattle.acpi_declare.specs.Declaring.{State}
 use Rattle.acpi_declare.specs.Listing.{objects_of}
@@ -17,8 +18,8 @@ use Rattle.acpi_order.specs.Independent.{AreSingleListings, is_method_of}
 use Rattle.acpi_order.specs.Misses.{Listing, objects_of_first, objects_of_both, IsMiss, IsAwaited}
 use Rattle.acpi_order.specs.Singles.{IsAwaitedInTable, IsAwaitedOf, IsSatisfied}
 use Rattle.acpi_order.specs.Verdicts.{IsSsdt, IsSame, IsUnmet, IsMissed}
-use Rattle.acpi_order.proofs.Lists.{one_some}
 use Rattle.acpi_order.proofs.Once.{same_first, same_second}
+use Rattle.acpi_order.proofs.Singles.{one_ssdt}
 use Rattle.acpi_verdict.specs.declared.clashes.Clash.{Clash}
 use Rattle.acpi_verdict.specs.declared.definers.Definer.{Definer}
 use Rattle.acpi_verdict.specs.declared.definers.Definers.{Definers}
@@ -33,7 +34,7 @@ use Rattle.acpi_verdict.specs.steps.Overlays.{IsOver}
 use Rattle.acpi_verdict.specs.steps.PairMisses.{PairTree, IsMissedIn, IsAwaitedIn, AreLoadMisses, AreAwaitsAlone}
 use Rattle.acpi_verdict.specs.steps.AffectedSsdts.{is_miss, AreAffected}
 use Rattle.acpi_verdict.specs.declared.misses.Misses.{Misses}
-use Rattle.acpi_verdict.proofs.AloneLoads.{one_ssdt, ssdt_within}
+use Rattle.acpi_verdict.proofs.AloneLoads.{ssdt_within}
 use Rattle.acpi_verdict.proofs.Offers.{least_same, least_offered, offers_same}
 use Rattle.acpi_verdict.proofs.PathSets.{pair_is}
 use Rattle.acpi_verdict.proofs.PutExternals.{puts_among, puts_ascend, puts_same}

@@ -15,9 +15,10 @@ use Rattle.acpi_space.specs.Laws.{Among}
 use Rattle.acpi_space.specs.Lookups.{Lookup, is_same_path, singleton, union}
 use Rattle.acpi_space.specs.Spaces.{PathMap}
 use Rattle.acpi_space.proofs.Maps.{entries_ascending, get_is_lookup}
+use Rattle.acpi_space.proofs.Elements.{one_some}
+use Rattle.acpi_space.proofs.Tree.{or_none}
 use Rattle.acpi_tree.specs.steps.Equality.{Tells, lists_tell}
 use Rattle.acpi_declare.proofs.ValuesByPath.{get_inserted, lookup_mapped, put_mapped}
-use Rattle.acpi_order.proofs.Lists.{one_some}
 use Rattle.acpi_verdict.specs.steps.Joining.{Gains, Clash, JoinsValue}
 use Rattle.acpi_verdict.proofs.PathSets.{pair_is}
 
@@ -56,10 +57,6 @@ put {V} old new p v free is q u = by (is_same_path q p) refl
 newest : {V : Type 0} (b : Bool) (v : V) (a : Option V) → option_or (cond b (Some v) None) a ≡ cond b (Some v) a
 newest true v a = refl
 newest false v a = refl
-
-or_none : {V : Type 0} (a : Option V) → option_or a None ≡ a
-or_none None = refl
-or_none (Some v) = refl
 
 -- .. and has the value now, before or behind the others
 pub put_first : {V : Type 0} (old new : Lookup V) (p : List Segment) (v : V) → old p ≡ None → new ≡ union (singleton p v) old → Gains old new (λ q u. (p ≡ q) × (v ≡ u))

@@ -1,14 +1,14 @@
 -- Numbers of SSDTs that are marked.
-use Rattle.std.proofs.Common.{◌≡◌, ◌⊎◌, inl, inr, ℕ, zero, suc, Bool, true, false, ◌||◌, List, [], ◌∷◌, set, Option, is_some, Some, None, true≢false, refl, sym, ap, subst, ◌∙◌}
+use Rattle.std.proofs.Common.{◌≡◌, ◌⊎◌, inl, inr, ℕ, zero, suc, Bool, true, false, ◌||◌, List, [], ◌∷◌, set, Some, None, refl, sym, ap, subst, ◌∙◌}
 use Rattle.std.specs.BTreeMap.{BTreeMap}
 use Rattle.std.specs.BTreeMap as tree
 use Rattle.std.specs.FinMap.{get, entries}
 use Rattle.std.specs.Global.{Vec}
 use Rattle.acpi_name.specs.Names.{Segment}
 use Rattle.acpi_name.specs.Paths.{path_cmp}
-use Rattle.acpi_order.proofs.Lists.{one_some, not_both}
 use Rattle.acpi_space.specs.Laws.{Among}
 use Rattle.acpi_space.specs.Spaces.{PathMap, is_defined}
+use Rattle.acpi_space.proofs.Elements.{not_both, one_some, some_is}
 use Rattle.acpi_verdict.specs.declared.definers.Definer.{Definer}
 use Rattle.acpi_verdict.specs.declared.definers.Definers.{Definers}
 use Rattle.acpi_verdict.specs.steps.Defining.{IsNoted, IsOther}
@@ -95,16 +95,12 @@ more_paths_marked {V} d p v es old one two new first others rest =
 
 -- ---- of what the DSDT missed and awaits
 
-value_there : {V : Type 0} (o : Option V) → is_some o ≡ true → (v : V) × (o ≡ Some v)
-value_there None e = absurd (true≢false (sym e))
-value_there (Some v) e = (v, refl)
-
 either : (a b : Bool) → a || b ≡ true → (a ≡ true) ⊎ (b ≡ true)
 either true b e = inl refl
 either false b e = inr e
 
 noted_at_any : {V : Type 0} (d : Definers) (m : PathMap V) (p : List Segment) (x : Definer) → is_defined m p ≡ true → IsNoted d p x → IsNotedAtAny d (entries m) x
-noted_at_any d m p x e noted = let r = value_there (get m p) e in (p, r.0, (pair_is m p r.0).1 r.1, noted)
+noted_at_any d m p x e noted = let r = some_is (get m p) e in (p, r.0, (pair_is m p r.0).1 r.1, noted)
 
 pub all_affected : (d : Definers) (t : Misses) (old mid new : List Bool) → Marks old mid (IsNotedAtAny d (entries t.missed)) → Marks mid new (IsNotedAtAny d (entries t.awaited))
     → AreAffected d t new

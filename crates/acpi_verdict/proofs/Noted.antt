@@ -11,8 +11,8 @@ use Rattle.acpi_space.specs.Laws.{Among}
 use Rattle.acpi_space.specs.Lookups.{is_same_path}
 use Rattle.acpi_space.specs.Spaces.{PathMap}
 use Rattle.acpi_space.proofs.Comparisons.{path_itself}
+use Rattle.acpi_space.proofs.Elements.{among_append, among_both, not_both, one_some}
 use Rattle.acpi_declare.proofs.Unions.{path_same}
-use Rattle.acpi_order.proofs.Lists.{one_some, among_append, appended, not_both}
 use Rattle.acpi_verdict.specs.declared.definers.Definer.{Definer}
 use Rattle.acpi_verdict.specs.declared.definers.Definers.{Definers}
 use Rattle.acpi_verdict.specs.steps.Defining.{IsOther, IsNoted, AddsOther, AddsDefiner}
@@ -46,8 +46,8 @@ module _ (old new : Others) (p : List Segment) (x : Definer) (now : Vec Definer)
       by (inr (inr k)) = absurd k
 
   in_now : (y : Definer) → Among (items_of (tree.get path_cmp old p)) y ⊎ (x ≡ y) → Among now.items y
-  in_now y (inl k) = subst (λ (ys : List Definer). Among ys y) (sym grown) (appended (items_of (tree.get path_cmp old p)) (x ∷ []) y (inl k))
-  in_now y (inr e) = subst (λ (ys : List Definer). Among ys y) (sym grown) (appended (items_of (tree.get path_cmp old p)) (x ∷ []) y (inr (inl e)))
+  in_now y (inl k) = subst (λ (ys : List Definer). Among ys y) (sym grown) (among_both (items_of (tree.get path_cmp old p)) (x ∷ []) y (inl k))
+  in_now y (inr e) = subst (λ (ys : List Definer). Among ys y) (sym grown) (among_both (items_of (tree.get path_cmp old p)) (x ∷ []) y (inr (inl e)))
 
   at_path : tree.get path_cmp new p ≡ Some now
   at_path = there p ∙ ap (λ b. cond b (Some now) (tree.get path_cmp old p)) (path_itself p)

@@ -1,10 +1,10 @@
 -- Satisfied Externals of one user: put in order, and behind those of earlier users.
-use Rattle.std.proofs.Common.{◌≡◌, ◌↔◌, ◌⊎◌, inl, inr, ℕ, zero, suc, ◌<◌, Bool, true, ◌&&◌, nat_eq, List, [], ◌∷◌, ◌++◌, length, slice_index_or, refl, sym, subst, arith, rules}
+use Rattle.std.proofs.Common.{◌≡◌, ◌↔◌, ◌⊎◌, inl, inr, ℕ, zero, suc, ◌<◌, Bool, ◌&&◌, nat_eq, List, [], ◌∷◌, ◌++◌, length, slice_index_or, refl, sym, subst, arith, rules}
 use Rattle.std.specs.Cmp.{IsTotalOrder, eq_by_cmp_equiv}
 use Rattle.std.specs.Cmp.Rules.{comparing}
 use Rattle.std.specs.List.{Contains, dedup}
 use Rattle.std.specs.List.Sorted.{IsPermutation, IsStrictlySortedBy}
-use Rattle.std.specs.Ordering.{eq_by_cmp, is_eq, nat_cmp, ordering_then}
+use Rattle.std.specs.Ordering.{eq_by_cmp, nat_cmp, ordering_then}
 use Rattle.std.specs.declared.cmp.Ordering.{Ordering}
 use Rattle.std.specs.declared.cmp.Ordering.TheVariants.{Less, Equal, Greater}
 use Rattle.std.proofs.lemmas.Bool.Decides.{nat_tests}
@@ -14,7 +14,9 @@ use Rattle.std.proofs.lemmas.List.Sorted.{Contains-permutation, IsPermutation-sy
 use Rattle.acpi_name.specs.Paths.{path_cmp}
 use Rattle.acpi_name.specs.steps.PathOrder.{path_cmp_total, path_cmp-IsAntisymmetric}
 use Rattle.acpi_space.specs.Laws.{Among}
-use Rattle.acpi_order.proofs.Lists.{all_among, among_all, among_append, appended}
+use Rattle.acpi_space.proofs.Elements.{among_append, among_both, among_all}
+use Rattle.acpi_space.proofs.Comparisons.{eq_of}
+use Rattle.acpi_order.proofs.Lists.{all_among}
 use Rattle.acpi_verdict.specs.declared.verdicts.Satisfied.{Satisfied}
 use Rattle.acpi_verdict.specs.SatisfiedView.{satisfied_cmp}
 use Rattle.acpi_verdict.specs.steps.Finding.{AddsSatisfied, PutsSatisfied}
@@ -31,11 +33,6 @@ less : (a b : Satisfied) → a.user < b.user → satisfied_cmp a b ≡ Less
 less a b earlier =
     let users : nat_cmp a.user b.user ≡ Less = grind (arith, nat_tests) in
     subst (λ (o : Ordering). ordering_then o (ordering_then (nat_cmp a.definer b.definer) (path_cmp a.path b.path)) ≡ Less) (sym users) refl
-
-equal_is : (o : Ordering) → is_eq o ≡ true → o ≡ Equal
-equal_is Less e = cc
-equal_is Equal e = refl
-equal_is Greater e = cc
 
 -- those that the order does not tell apart are equal
 same_satisfied : (a b : Satisfied) → satisfied_cmp a b ≡ Equal → a ≡ b
@@ -92,7 +89,7 @@ among_in_order found own moved s = subst (λ (test : Satisfied → Satisfied →
     from m =
         let listed : Contains own s = Contains-permutation found own s moved (among_contains found s m) in
         among (dedup (eq_by_cmp satisfied_cmp) own)
-        (Contains-dedup (eq_by_cmp_equiv satisfied_total) (λ a b e. same_satisfied a b (equal_is (satisfied_cmp a b) e)) own s listed)
+        (Contains-dedup (eq_by_cmp_equiv satisfied_total) (λ a b e. same_satisfied a b (eq_of (satisfied_cmp a b) e)) own s listed)
 
 -- ---- behind others
 
@@ -121,8 +118,8 @@ module _ (old new : List Satisfied) (P : Satisfied → Type 0) (puts : PutsSatis
           by (inr k) = inr ((puts.are s).0 k)
 
       from : Among old s ⊎ P s → Among (old ++ puts.own) s
-      from (inl k) = appended old puts.own s (inl k)
-      from (inr h) = appended old puts.own s (inr ((puts.are s).1 h))
+      from (inl k) = among_both old puts.own s (inl k)
+      from (inr h) = among_both old puts.own s (inr ((puts.are s).1 h))
 
   pub puts_ascend : IsStrictlySortedBy satisfied_cmp old → ((a b : Satisfied) → Among old a → P b → a.user < b.user) → IsStrictlySortedBy satisfied_cmp new
   puts_ascend up earlier =

@@ -8,7 +8,7 @@ use Rattle.acpi_name.specs.Names.{Segment}
 use Rattle.acpi_name.specs.Paths.{path_cmp}
 use Rattle.acpi_space.specs.Laws.{Among}
 use Rattle.acpi_space.specs.Spaces.{PathMap}
-use Rattle.acpi_order.proofs.Lists.{one_some, not_both, among_append, appended}
+use Rattle.acpi_space.proofs.Elements.{among_append, among_both, not_both, one_some}
 use Rattle.acpi_verdict.specs.declared.definers.Definer.{Definer}
 use Rattle.acpi_verdict.specs.declared.definers.Definers.{Definers}
 use Rattle.acpi_verdict.specs.declared.verdicts.Satisfied.{Satisfied}
@@ -67,8 +67,8 @@ adds_one old k s = (to, from)
         by (inr (inr h)) = absurd h
 
     from : Among old s ⊎ (k ≡ s) → Among (old ++ k ∷ []) s
-    from (inl h) = appended old (k ∷ []) s (inl h)
-    from (inr e) = appended old (k ∷ []) s (inr (inl e))
+    from (inl h) = among_both old (k ∷ []) s (inl h)
+    from (inr e) = among_both old (k ∷ []) s (inr (inl e))
 
 -- ---- one SSDT
 

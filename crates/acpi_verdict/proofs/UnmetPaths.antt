@@ -6,7 +6,7 @@ use Rattle.acpi_name.specs.Names.{Segment}
 use Rattle.acpi_space.specs.Laws.{Among}
 use Rattle.acpi_space.specs.Spaces.{PathMap, is_defined}
 use Rattle.acpi_space.proofs.Keys.{key_is}
-use Rattle.acpi_order.proofs.Lists.{one_some, not_both}
+use Rattle.acpi_space.proofs.Elements.{not_both, one_some}
 use Rattle.acpi_verdict.specs.declared.clashes.Clash.{Clash}
 use Rattle.std.specs.Prelude.{Option}
 use Rattle.acpi_verdict.specs.declared.definers.Definer.{Definer}

@@ -26,7 +26,8 @@ IsFaultOf depth dsdt ssdts (Missed searcher definer path) = Unit {0}
 IsFaultOf depth dsdt ssdts Commute = Unit {0}
 
 -- the DSDT loads, and so does each SSDT before that one alone; that one is refused for the reason
-pub record IsFirstRefused (depth : ℕ) (dsdt : List ℕ) (ssdts : List (List ℕ)) (i : ℕ) (reason : LoadReason) : Type 0 where
+pub record IsFirstRefused (depth : ℕ) (dsdt : List ℕ) (ssdts : List (List ℕ)) (i : ℕ)
+    (reason : LoadReason) : Type 0 where
   pub loads : DsdtLoads depth dsdt
   pub earlier : (k : ℕ) (b : List ℕ) → k < i → IsSsdt ssdts k b → LoadsAlone depth dsdt b
   pub is_reason : IsReasonAt depth dsdt ssdts i reason

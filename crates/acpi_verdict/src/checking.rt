@@ -98,9 +98,9 @@ fn checked_over<S: Space<Object>>(
     }
 }
 
-/// What `verdict_shared` and `satisfied_shared` tell of SSDTs over a DSDT, from one load of the DSDT. Each SSDT is declared
-/// over it twice, and no more than one is held. Where an SSDT doesn't load over the DSDT alone, no External is told as
-/// satisfied. Where the DSDT doesn't load by itself, its refusal is the error.
+/// What `verdict_shared` and `satisfied_shared` tell of SSDTs over a DSDT, from one load of the DSDT. Each SSDT is
+/// declared over it twice, and no more than one is held. Where an SSDT doesn't load over the DSDT alone, no External is
+/// told as satisfied. Where the DSDT doesn't load by itself, its refusal is the error.
 pub fn check_shared<S: Space<Object>>(
     alloc: Global,
     dsdt: &Bytes,

@@ -13,9 +13,9 @@
 //! `single` tells of the load with one SSDT what it declares, misses and awaits, and `join` puts such loads together.
 //! `verdict` finds whether SSDTs may be loaded in any order, or the first reason that they may not (`IsVerdict` of
 //! `acpi_order`), and `satisfied` which methods that bodies await another SSDT declares (`IsSatisfied`). `check_shared`
-//! tells both. It declares the DSDT once, and each SSDT over it twice, one after another: first to note who declares each
-//! path, then to gather what is missed and awaited of these paths, since no other decides. What the DSDT's links and bodies
-//! missed alone stands for each SSDT that declares none of it; for another they are searched once more:
+//! tells both. It declares the DSDT once, and each SSDT over it twice, one after another: first to note who declares
+//! each path, then to gather what is missed and awaited of these paths, since no other decides. What the DSDT's links
+//! and bodies missed alone stands for each SSDT that declares none of it; for another they are searched once more:
 //!
 //! ```text
 //! let checked = check_shared::<TreeSpace<Object>>(alloc, &dsdt, &ssdts, depth)?;

@@ -9,19 +9,27 @@ use acpi_name::Path;
 pub enum Verdict {
     /// SSDT `i` is the first that doesn't load over the DSDT alone, and why; the fault has the same number.
     NotAlone {
+        /// The number of the SSDT, from 1.
         i: usize,
+        /// Why it is refused, and where.
         fault: LoadFault,
     },
     /// SSDTs `i` and `j`, of which `i` is the less, are the first two that declare one path; and the first such path.
     Same {
+        /// The number of the first SSDT, from 1.
         i: usize,
+        /// The number of the second one, greater than `i`.
         j: usize,
+        /// The first path that both declare.
         path: Path,
     },
     /// The first two SSDTs of which the load of the one missed what the other declares, and the first such path.
     Missed {
+        /// The number of the SSDT whose load missed the path, from 1.
         searcher: usize,
+        /// The number of the SSDT that declares it, from 1.
         definer: usize,
+        /// The first such path.
         path: Path,
     },
     /// None of these: they load alike in any order.

@@ -19,8 +19,8 @@ use Rattle.acpi_code.specs.Spelling.{SpellsNumber, SpellsInt, SpellsEach, Packs}
 use Rattle.acpi_code.proofs.Fitting.{AreBytes, parts, packed}
 use Rattle.acpi_tree.specs.declared.tree.Int.{Int}
 use Rattle.acpi_tree.specs.declared.tree.Int.TheVariants.{Zero, One, Ones, Revision, Byte, Word, DWord, QWord}
-use Rattle.acpi_tree.specs.Tree.{DataTree, int, str, buffer, pkg, var_pkg, ElemTree, of_data, of_name, ElemTrees, no_elems, elem, FieldTree, unit, reserved, access, connect_name, connect_buffer, extended, ExternalParts, ItemTree, name, scope, method, external, external_block, create, create_field, mutex, event, region, field, index_field, bank_field, device, processor, power, thermal, ItemTrees, no_items, item}
-use Rattle.acpi_terms.specs.Forms.{FixedArgument, name_arg, source_arg, byte_arg, word_arg, dword_arg, count_arg, int_arg, Value, Values, fixed_arguments, ArgumentsOf}
+use Rattle.acpi_tree.specs.Tree.{DataTree, int, str, buffer, pkg, var_pkg, ElemTree, of_data, of_name, ElemTrees, no_elems, elem, FieldTree, unit, reserved, access, connect_name, connect_buffer, extended, ExternalParts, ItemTree, name, scope, method, external, external_block, create, create_field, mutex, event, region, field, index_field, bank_field, ItemTrees, no_items, item}
+use Rattle.acpi_terms.specs.Forms.{FixedArgument, name_arg, source_arg, byte_arg, word_arg, dword_arg, count_arg, int_arg, Value, Values, fixed_arguments, ArgumentsOf, kind_opcode, kind_arguments}
 use Rattle.acpi_terms.specs.Spelling.{SpellsArgument, SpellsArguments, SpellsPlain, SpellsPacked, SpellsForm, SpellsData, SpellsElem, SpellsElems, SpellsExternal, SpellsItem, SpellsItems}
 use Rattle.acpi_write.specs.Canonical.{int_bytes, argument_bytes, arguments_bytes, form_bytes, filled_with, each_bytes, data_bytes, elem_bytes, elems_bytes, bits_bytes, field_bytes, fields_bytes, external_bytes, item_bytes, items_bytes}
 use Rattle.acpi_write.specs.Laws.{IsIntTyped, IsTyped, AreTyped, IsDataTyped, IsElemTyped, AreElemsTyped, IsFieldTyped, IsExternalTyped, IsItemTyped, AreItemsTyped}
@@ -197,9 +197,9 @@ mutual
       let split = parts (8 ∷ a) b bytes whole all in
       let le : length (name_bytes n) ≤ length a = name_shortest n a named in
       subst (λ x. HasWithin (item_bytes x) bytes) (sym e) (within_both (Some (8 ∷ name_bytes n)) (data_bytes d) (8 ∷ a) b bytes (omega (arith, le)) (data_short d b split.1 fills) whole)
-  item_short (scope n is) j bytes all h (js, s, e) = subst (λ x. HasWithin (item_bytes x) bytes) (sym e)
-      (filled_short (16 ∷ []) (name_arg ∷ []) (n, tt) (λ b. SpellsItems is b) (items_bytes js) bytes all h
-      (λ b small k. items_short is js b small k s))
+  item_short (scope kind n is) j bytes all h (js, s, e) = subst (λ x. HasWithin (item_bytes x) bytes) (sym e)
+      (filled_short (opcode_bytes (kind_opcode kind)) (fixed_arguments (kind_opcode kind)) (kind_arguments kind n) (λ b. SpellsItems is b) (items_bytes js)
+      bytes all h (λ b small k. items_short is js b small k s))
   item_short (method n flags code) j bytes all h (short, le, e) =
       subst (λ x. HasWithin (item_bytes x) bytes) (sym e) (filled_short (20 ∷ []) (name_arg ∷ byte_arg ∷ []) (n, (flags, tt)) (λ b. b ≡ code)
       (Some short) bytes all h (λ b small k. omega (arith, ap length k, le)))
@@ -224,20 +224,6 @@ mutual
       subst (λ x. HasWithin (item_bytes x) bytes) (sym e)
       (filled_short (91 ∷ 135 ∷ []) (name_arg ∷ name_arg ∷ int_arg ∷ byte_arg ∷ []) (r, (bank, (value, (flags, tt)))) (λ b. SpellsFields es b)
       (fields_bytes es) bytes all h (λ b small k. fields_short es b small k))
-  item_short (device n is) j bytes all h (js, s, e) = subst (λ x. HasWithin (item_bytes x) bytes) (sym e)
-      (filled_short (91 ∷ 130 ∷ []) (name_arg ∷ []) (n, tt) (λ b. SpellsItems is b) (items_bytes js) bytes all h
-      (λ b small k. items_short is js b small k s))
-  item_short (processor n id block len is) j bytes all h (js, s, e) =
-      subst (λ x. HasWithin (item_bytes x) bytes) (sym e)
-      (filled_short (91 ∷ 131 ∷ []) (name_arg ∷ byte_arg ∷ dword_arg ∷ byte_arg ∷ []) (n, (id, (block, (len, tt)))) (λ b. SpellsItems is b)
-      (items_bytes js) bytes all h (λ b small k. items_short is js b small k s))
-  item_short (power n level order is) j bytes all h (js, s, e) =
-      subst (λ x. HasWithin (item_bytes x) bytes) (sym e)
-      (filled_short (91 ∷ 132 ∷ []) (name_arg ∷ byte_arg ∷ word_arg ∷ []) (n, (level, (order, tt))) (λ b. SpellsItems is b) (items_bytes js) bytes all
-      h (λ b small k. items_short is js b small k s))
-  item_short (thermal n is) j bytes all h (js, s, e) = subst (λ x. HasWithin (item_bytes x) bytes) (sym e)
-      (filled_short (91 ∷ 133 ∷ []) (name_arg ∷ []) (n, tt) (λ b. SpellsItems is b) (items_bytes js) bytes all h
-      (λ b small k. items_short is js b small k s))
 
   items_short : (is js : ItemTrees) (bytes : List ℕ) → AreBytes bytes → SpellsItems is bytes → AreShortened is js → HasWithin (items_bytes js) bytes
   items_short no_items js bytes all h e = rw (e, h) (omega arith)
@@ -341,7 +327,8 @@ held_typed op ks v is bytes all h each =
 mutual
   item_typed : (i : ItemTree) (bytes : List ℕ) → AreBytes bytes → SpellsItem i bytes → IsItemTyped i
   item_typed (name n d) bytes all (a, b, named, fills, whole) = (named.is_name, data_typed d b (parts (8 ∷ a) b bytes whole all).1 fills)
-  item_typed (scope n is) bytes all h = held_typed (16 ∷ []) (name_arg ∷ []) (n, tt) is bytes all h (λ b small k. items_typed is b small k)
+  item_typed (scope kind n is) bytes all h =
+      held_typed (opcode_bytes (kind_opcode kind)) (fixed_arguments (kind_opcode kind)) (kind_arguments kind n) is bytes all h (λ b small k. items_typed is b small k)
   item_typed (method n flags code) bytes all h = front_typed (20 ∷ []) (name_arg ∷ byte_arg ∷ []) (n, (flags, tt)) (λ b. b ≡ code) bytes all h
   item_typed (external x) bytes all h = external_typed x bytes all h
   item_typed (external_block xs) bytes all (b, each, packs) = each_typed SpellsExternal IsExternalTyped external_typed xs b
@@ -354,12 +341,6 @@ mutual
   item_typed (field r flags es) bytes all h = units_typed (91 ∷ 129 ∷ []) (name_arg ∷ byte_arg ∷ []) (r, (flags, tt)) es bytes all h
   item_typed (index_field i d flags es) bytes all h = units_typed (91 ∷ 134 ∷ []) (name_arg ∷ name_arg ∷ byte_arg ∷ []) (i, (d, (flags, tt))) es bytes all h
   item_typed (bank_field r bank value flags es) bytes all h = units_typed (91 ∷ 135 ∷ []) (name_arg ∷ name_arg ∷ int_arg ∷ byte_arg ∷ []) (r, (bank, (value, (flags, tt)))) es bytes all h
-  item_typed (device n is) bytes all h = held_typed (91 ∷ 130 ∷ []) (name_arg ∷ []) (n, tt) is bytes all h (λ b small k. items_typed is b small k)
-  item_typed (processor n id block len is) bytes all h = held_typed (91 ∷ 131 ∷ []) (name_arg ∷ byte_arg ∷ dword_arg ∷ byte_arg ∷ [])
-      (n, (id, (block, (len, tt)))) is bytes all h (λ b small k. items_typed is b small k)
-  item_typed (power n level order is) bytes all h = held_typed (91 ∷ 132 ∷ []) (name_arg ∷ byte_arg ∷ word_arg ∷ []) (n, (level, (order, tt))) is
-      bytes all h (λ b small k. items_typed is b small k)
-  item_typed (thermal n is) bytes all h = held_typed (91 ∷ 133 ∷ []) (name_arg ∷ []) (n, tt) is bytes all h (λ b small k. items_typed is b small k)
 
   items_typed : (is : ItemTrees) (bytes : List ℕ) → AreBytes bytes → SpellsItems is bytes → AreItemsTyped is
   items_typed no_items bytes all h = tt

@@ -4,7 +4,7 @@ use Rattle.std.specs.FinMap as finite
 use Rattle.std.specs.List.{AllByRecursion, list_all}
 use Rattle.std.specs.Prelude.{nat_eq}
 use Rattle.std.specs.Fmt.{option_append}
-use Rattle.std.proofs.lemmas.Bool.{leb-true, eqb-true}
+use Rattle.std.proofs.lemmas.Bool.{leb-true, eqb-true, not-true}
 use Rattle.byteorder.specs.Endian.{little_bytes}
 use Rattle.acpi_name.specs.Names.{Segment, NameParts, IsName, is_null_name}
 use Rattle.acpi_name.specs.Spelling.{SpellsName, name_bytes}
@@ -25,7 +25,7 @@ use Rattle.acpi_body.specs.Statements.{named_opcode, units_opcode, locals_after,
 use Rattle.acpi_write.specs.Canonical.{int_bytes, filled_with, fields_bytes}
 use Rattle.acpi_write.specs.CanonicalTerms.{names_bytes, term_bytes, else_bytes, terms_bytes}
 use Rattle.acpi_write.specs.TermLaws.{IsTermTyped, IsElseTyped, AreTermsTyped, count_of, IsCounted, AreCounted, MayStandIn, ElseMayStandIn, AllMayStandIn, TermsAreSpelled}
-use Rattle.acpi_write.proofs.Written.{first_of, second_of, both_of, some_is, filled_is, front_is, number_written, int_written, term_name_written, text_written, not_false, fields_written}
+use Rattle.acpi_write.proofs.Written.{first_of, second_of, both_of, some_is, filled_is, front_is, number_written, int_written, term_name_written, text_written, fields_written}
 
 -- arguments of a call are operands, each of which is a value
 as_operands : (ts : TermTrees) → all_stand Value ts ≡ operands_fit (values (count_of ts)) ts
@@ -66,10 +66,10 @@ mutual
   term_written args debug bytes h fit k e = sym (some_is (91 ∷ 49 ∷ []) bytes e)
   term_written args no_target bytes h fit k e = sym (some_is (0 ∷ []) bytes e)
   term_written args (raw j n) bytes h fit k e = subst (SpellsNumber j n) (some_is (little_bytes j n) bytes e) (number_written j n h)
-  term_written args (ref n) bytes h fit k e = subst (SpellsTermName n) (some_is (name_bytes n) bytes e) (term_name_written n h (not_false (is_null_name n) fit))
+  term_written args (ref n) bytes h fit k e = subst (SpellsTermName n) (some_is (name_bytes n) bytes e) (term_name_written n h (not-true (is_null_name n) fit))
   term_written args (call n vs) bytes h fit k e =
       let b = front_is (name_bytes n) (terms_bytes vs) bytes e in
-      let named = term_name_written n h.0 (not_false (is_null_name n) (first_of (not (is_null_name n)) (all_stand Value vs) fit)) in
+      let named = term_name_written n h.0 (not-true (is_null_name n) (first_of (not (is_null_name n)) (all_stand Value vs) fit)) in
       let fits_values = sym (as_operands vs) ∙ second_of (not (is_null_name n)) (all_stand Value vs) fit in
       let operands = operands_written args (values (count_of vs)) vs b.0 h.1 fits_values k.1 b.1 in
       (count_of vs, name_bytes n, b.0, k.0, named, operands, b.2)

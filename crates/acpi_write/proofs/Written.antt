@@ -3,7 +3,7 @@ use Rattle.std.proofs.Common.{◌≡◌, ℕ, zero, suc, ◌<◌, ◌≤◌, ◌
 use Rattle.std.specs.List.{AllByRecursion, list_all}
 use Rattle.std.specs.Fmt.{option_append}
 use Rattle.std.specs.Prelude.{nat_le, nat_lt, nat_eq, cond}
-use Rattle.std.proofs.lemmas.Bool.{ltb-true, leb-true}
+use Rattle.std.proofs.lemmas.Bool.{ltb-true, leb-true, not-true}
 use Rattle.byteorder.specs.Endian.{little_number, little_bytes}
 use Rattle.byteorder.specs.Numbers.{little_number-reads_back, length-bytes_low_first}
 use Rattle.acpi_name.specs.Names.{NameParts, IsName, Segment, is_segment, is_lead_char, is_name_char, is_null_name}
@@ -11,16 +11,18 @@ use Rattle.acpi_name.specs.Spelling.{name_bytes, prefix_of, path_bytes}
 use Rattle.acpi_name.proofs.NameWritten.{name_written}
 use Rattle.acpi_table.specs.PkgLength.{SpellsPkgLength, shortest_pkg_length, package_number}
 use Rattle.acpi_table.proofs.PkgLengths.{shortest_spells, number_counts}
-use Rattle.acpi_code.specs.Opcodes.{is_name_start}
+use Rattle.acpi_code.specs.Opcodes.{is_name_start, opcode_bytes}
 use Rattle.acpi_code.specs.declared.opcode.Opcode.{Opcode}
 use Rattle.acpi_code.specs.declared.opcode.Opcode.TheVariants as opcodes
 use Rattle.acpi_code.specs.Fields.{SpellsField, SpellsFields}
 use Rattle.acpi_code.specs.Spelling.{SpellsNumber, SpellsInt, SpellsTermName, SpellsEach, IsText, Packs}
 use Rattle.acpi_tree.specs.declared.tree.Int.{Int}
 use Rattle.acpi_tree.specs.declared.tree.Int.TheVariants.{Zero, One, Ones, Revision, Byte, Word, DWord, QWord}
-use Rattle.acpi_tree.specs.Tree.{DataTree, int, str, buffer, pkg, var_pkg, ElemTree, of_data, of_name, ElemTrees, no_elems, elem, FieldTree, unit, reserved, access, connect_name, connect_buffer, extended, ExternalParts, ItemTree, name, scope, method, external, external_block, create, create_field, mutex, event, region, field, index_field, bank_field, device, processor, power, thermal, ItemTrees, no_items, item}
+use Rattle.acpi_tree.specs.declared.tree.ScopeKind.{ScopeKind}
+use Rattle.acpi_tree.specs.declared.tree.ScopeKind.TheVariants as kinds
+use Rattle.acpi_tree.specs.Tree.{DataTree, int, str, buffer, pkg, var_pkg, ElemTree, of_data, of_name, ElemTrees, no_elems, elem, FieldTree, unit, reserved, access, connect_name, connect_buffer, extended, ExternalParts, ItemTree, name, scope, method, external, external_block, create, create_field, mutex, event, region, field, index_field, bank_field, ItemTrees, no_items, item}
 use Rattle.acpi_tree.specs.Fits.{text_fits, data_fits, elem_fits, elems_fit, bits_fit, field_fits, external_fits, item_fits, items_fit}
-use Rattle.acpi_terms.specs.Forms.{FixedArgument, name_arg, source_arg, byte_arg, word_arg, dword_arg, count_arg, int_arg, Value, Values, fixed_arguments, ArgumentsOf}
+use Rattle.acpi_terms.specs.Forms.{FixedArgument, name_arg, source_arg, byte_arg, word_arg, dword_arg, count_arg, int_arg, Value, Values, fixed_arguments, ArgumentsOf, kind_opcode, kind_arguments}
 use Rattle.acpi_terms.specs.Spelling.{SpellsArgument, SpellsArguments, SpellsPacked, SpellsForm, SpellsData, SpellsElem, SpellsElems, SpellsExternal, SpellsItem, SpellsItems}
 use Rattle.acpi_write.specs.Canonical.{int_bytes, argument_bytes, arguments_bytes, form_bytes, packed_bytes, filled_with, each_bytes, data_bytes, elem_bytes, elems_bytes, bits_bytes, field_bytes, fields_bytes, external_bytes, item_bytes, items_bytes}
 use Rattle.acpi_write.specs.Laws.{IsIntTyped, IsTyped, AreTyped, IsDataTyped, IsElemTyped, AreElemsTyped, IsFieldTyped, IsExternalTyped, IsItemTyped, AreItemsTyped}
@@ -100,10 +102,6 @@ parts_start false zero [] h some = absurd cc
 parts_start false zero (s ∷ []) h some = lead_starts s (first_of (is_segment s) true h)
 parts_start false zero (s ∷ t ∷ []) h some = refl
 parts_start false zero (s ∷ t ∷ u ∷ ss) h some = refl
-
-pub not_false : (b : Bool) → not b ≡ true → b ≡ false
-not_false true e = absurd cc
-not_false false e = refl
 
 pub term_name_written : (n : NameParts) → IsName n → is_null_name n ≡ false → SpellsTermName n (name_bytes n)
 term_name_written n h some = (name_written n h, parts_start n.rooted n.parents n.segments h.are_segments some)
@@ -195,7 +193,7 @@ mutual
 
   elem_written : (e : ElemTree) (bytes : List ℕ) → IsElemTyped e → elem_fits e ≡ true → elem_bytes e ≡ Some bytes → SpellsElem e bytes
   elem_written (of_data d) bytes h fit e = data_written d bytes h fit e
-  elem_written (of_name n) bytes h fit e = subst (SpellsTermName n) (some_is (name_bytes n) bytes e) (term_name_written n h (not_false (is_null_name n) fit))
+  elem_written (of_name n) bytes h fit e = subst (SpellsTermName n) (some_is (name_bytes n) bytes e) (term_name_written n h (not-true (is_null_name n) fit))
 
   elems_written : (es : ElemTrees) (bytes : List ℕ) → AreElemsTyped es → elems_fit es ≡ true → elems_bytes es ≡ Some bytes → SpellsElems es bytes
   elems_written no_elems bytes h fit e = sym (some_is [] bytes e)
@@ -236,12 +234,20 @@ fields_written es bytes h fit e = each_written field_bytes SpellsField IsFieldTy
 external_written : (x : ExternalParts) (bytes : List ℕ) → IsExternalTyped x → external_fits x ≡ true → Some (external_bytes x) ≡ Some bytes → SpellsExternal x bytes
 external_written x bytes h fit e = form_written opcodes.External (x.name, (x.kind, (x.args, tt))) bytes (h, (tt, (tt, tt))) (tt, (tt, (leb-true x.args 7 fit, tt))) e
 
+kind_stands : (kind : ScopeKind) (n : NameParts) → AllStand (fixed_arguments (kind_opcode kind)) (kind_arguments kind n)
+kind_stands kinds.Scope n = (tt, tt)
+kind_stands kinds.Device n = (tt, tt)
+kind_stands (kinds.Processor id block len) n = (tt, (tt, (tt, (tt, tt))))
+kind_stands (kinds.Power level order) n = (tt, (tt, (tt, tt)))
+kind_stands kinds.Thermal n = (tt, tt)
+
 mutual
   item_written : (i : ItemTree) (bytes : List ℕ) → IsItemTyped i → item_fits i ≡ true → item_bytes i ≡ Some bytes → SpellsItem i bytes
   item_written (name n d) bytes h fit e =
       let b = both_of (Some (8 ∷ name_bytes n)) (data_bytes d) bytes e in
       (name_bytes n, b.back, name_written n h.0, data_written d b.back h.1 fit b.is_back, b.whole ∙ ap (λ a. a ++ b.back) (sym (some_is (8 ∷ name_bytes n) b.front b.is_front)))
-  item_written (scope n is) bytes h fit e = filled_written (16 ∷ []) (name_arg ∷ []) (n, tt) (λ b. SpellsItems is b) (items_bytes is) bytes h.0 (tt, tt) (λ b e. items_written is b h.1 fit e) e
+  item_written (scope kind n is) bytes h fit e = filled_written (opcode_bytes (kind_opcode kind)) (fixed_arguments (kind_opcode kind)) (kind_arguments kind n)
+      (λ b. SpellsItems is b) (items_bytes is) bytes h.0 (kind_stands kind n) (λ b e. items_written is b h.1 fit e) e
   item_written (method n flags code) bytes h fit e = filled_written (20 ∷ []) (name_arg ∷ byte_arg ∷ []) (n, (flags, tt)) (λ b. b ≡ code) (Some code)
       bytes h (tt, (tt, tt)) (λ b e. sym (some_is code b e)) e
   item_written (external x) bytes h fit e = external_written x bytes h fit e
@@ -256,9 +262,9 @@ mutual
             h fit is,
         packed_written (160 ∷ []) (0 ∷ b) bytes e,
       )
-  item_written (create w source index n) bytes h fit e = form_written (opcodes.Create w) (source, (index, (n, tt))) bytes h (not_false (is_null_name source) fit, (tt, (tt, tt))) e
+  item_written (create w source index n) bytes h fit e = form_written (opcodes.Create w) (source, (index, (n, tt))) bytes h (not-true (is_null_name source) fit, (tt, (tt, tt))) e
   item_written (create_field source index bits n) bytes h fit e = form_written opcodes.CreateField (source, (index, (bits, (n, tt)))) bytes h
-      (not_false (is_null_name source) fit, (tt, (tt, (tt, tt)))) e
+      (not-true (is_null_name source) fit, (tt, (tt, (tt, tt)))) e
   item_written (mutex n flags) bytes h fit e = form_written opcodes.Mutex (n, (flags, tt)) bytes h (tt, (tt, tt)) e
   item_written (event n) bytes h fit e = form_written opcodes.Event (n, tt) bytes h (tt, tt) e
   item_written (region n space offset len) bytes h fit e = form_written opcodes.Region (n, (space, (offset, (len, tt)))) bytes h (tt, (tt, (tt, (tt, tt)))) e
@@ -269,15 +275,6 @@ mutual
   item_written (bank_field r bank value flags es) bytes h fit e = filled_written (91 ∷ 135 ∷ []) (name_arg ∷ name_arg ∷ int_arg ∷ byte_arg ∷ [])
       (r, (bank, (value, (flags, tt)))) (λ b. SpellsFields es b) (fields_bytes es) bytes h.0 (tt, (tt, (tt, (tt, tt))))
       (λ b e. fields_written es b h.1 fit e) e
-  item_written (device n is) bytes h fit e = filled_written (91 ∷ 130 ∷ []) (name_arg ∷ []) (n, tt) (λ b. SpellsItems is b) (items_bytes is) bytes h.0
-      (tt, tt) (λ b e. items_written is b h.1 fit e) e
-  item_written (processor n id block len is) bytes h fit e = filled_written (91 ∷ 131 ∷ []) (name_arg ∷ byte_arg ∷ dword_arg ∷ byte_arg ∷ [])
-      (n, (id, (block, (len, tt)))) (λ b. SpellsItems is b) (items_bytes is) bytes h.0 (tt, (tt, (tt, (tt, tt))))
-      (λ b e. items_written is b h.1 fit e) e
-  item_written (power n level order is) bytes h fit e = filled_written (91 ∷ 132 ∷ []) (name_arg ∷ byte_arg ∷ word_arg ∷ []) (n, (level, (order, tt)))
-      (λ b. SpellsItems is b) (items_bytes is) bytes h.0 (tt, (tt, (tt, tt))) (λ b e. items_written is b h.1 fit e) e
-  item_written (thermal n is) bytes h fit e = filled_written (91 ∷ 133 ∷ []) (name_arg ∷ []) (n, tt) (λ b. SpellsItems is b) (items_bytes is) bytes
-      h.0 (tt, tt) (λ b e. items_written is b h.1 fit e) e
 
   pub items_written : (is : ItemTrees) (bytes : List ℕ) → AreItemsTyped is → items_fit is ≡ true → items_bytes is ≡ Some bytes → SpellsItems is bytes
   items_written no_items bytes h fit e = sym (some_is [] bytes e)

@@ -1,4 +1,5 @@
--- The one spelling of a tree that is written (ACPI 6.5, 20.2): the shortest of each part.
+-- The one spelling of a tree that is written (ACPI 6.5, 20.2): the shortest of each part. The rules of the grammar stand
+-- above the lines of `fixed_arguments`, `SpellsData`, `SpellsItem`, `SpellsField` and `SpellsInt`.
 use Rattle.std.specs.Prelude.{ℕ, List, [], ◌∷◌, ◌++◌, length, nat_le, if◌then◌else◌, Option, Some, None}
 use Rattle.std.specs.Fmt.{option_append}
 use Rattle.byteorder.specs.Endian.{little_bytes}
@@ -9,8 +10,8 @@ use Rattle.acpi_code.specs.declared.opcode.Opcode.TheVariants as opcodes
 use Rattle.acpi_code.specs.Opcodes.{opcode_bytes}
 use Rattle.acpi_tree.specs.declared.tree.Int.{Int}
 use Rattle.acpi_tree.specs.declared.tree.Int.TheVariants.{Zero, One, Ones, Revision, Byte, Word, DWord, QWord}
-use Rattle.acpi_tree.specs.Tree.{DataTree, int, str, buffer, pkg, var_pkg, ElemTree, of_data, of_name, ElemTrees, no_elems, elem, FieldTree, unit, reserved, access, connect_name, connect_buffer, extended, ExternalParts, ItemTree, name, scope, method, external, external_block, create, create_field, mutex, event, region, field, index_field, bank_field, device, processor, power, thermal, ItemTrees, no_items, item}
-use Rattle.acpi_terms.specs.Forms.{FixedArgument, name_arg, source_arg, byte_arg, word_arg, dword_arg, count_arg, int_arg, Value, Values, fixed_arguments, ArgumentsOf}
+use Rattle.acpi_tree.specs.Tree.{DataTree, int, str, buffer, pkg, var_pkg, ElemTree, of_data, of_name, ElemTrees, no_elems, elem, FieldTree, unit, reserved, access, connect_name, connect_buffer, extended, ExternalParts, ItemTree, name, scope, method, external, external_block, create, create_field, mutex, event, region, field, index_field, bank_field, ItemTrees, no_items, item}
+use Rattle.acpi_terms.specs.Forms.{FixedArgument, name_arg, source_arg, byte_arg, word_arg, dword_arg, count_arg, int_arg, Value, Values, fixed_arguments, ArgumentsOf, kind_opcode, kind_arguments}
 
 -- ---- fixed arguments
 
@@ -48,7 +49,9 @@ form_bytes o v = opcode_bytes o ++ arguments_bytes (fixed_arguments o) v
 
 -- An opcode, the least package length and the content; no package holds more than 268,435,451 bytes (20.2.4).
 abbrev pub packed_bytes : List ℕ → List ℕ → Option (List ℕ)
-packed_bytes opcode content = if nat_le (length content) 268435451 then Some (opcode ++ (shortest_pkg_length (package_number (length content)) ++ content)) else None
+packed_bytes opcode content =
+    if nat_le (length content) 268435451 then
+    Some (opcode ++ (shortest_pkg_length (package_number (length content)) ++ content)) else None
 
 -- a package of fixed arguments and of what fills it
 abbrev pub filled_with : List ℕ → List ℕ → Option (List ℕ) → Option (List ℕ)
@@ -93,7 +96,8 @@ field_bytes (unit s bits) = option_append (Some s) (bits_bytes bits)
 field_bytes (reserved bits) = option_append (Some (0x00 ∷ [])) (bits_bytes bits)
 field_bytes (access kind attribute) = Some (0x01 ∷ kind ∷ attribute ∷ [])
 field_bytes (connect_name n) = Some (0x02 ∷ name_bytes n)
-field_bytes (connect_buffer size content) = filled_with (0x02 ∷ 0x11 ∷ []) (int_bytes size) (Some content)
+field_bytes (connect_buffer size content) =
+    filled_with (0x02 ∷ 0x11 ∷ []) (int_bytes size) (Some content)
 field_bytes (extended kind attribute len) = Some (0x03 ∷ kind ∷ attribute ∷ len ∷ [])
 
 abbrev pub fields_bytes : List FieldTree → Option (List ℕ)
@@ -107,22 +111,25 @@ external_bytes x = form_bytes opcodes.External (x.name, (x.kind, (x.args, tt)))
 abbrev mutual
   pub item_bytes : ItemTree → Option (List ℕ)
   item_bytes (name n d) = option_append (Some (0x08 ∷ name_bytes n)) (data_bytes d)
-  item_bytes (scope n is) = filled_bytes opcodes.Scope (n, tt) (items_bytes is)
+  item_bytes (scope kind n is) =
+      filled_bytes (kind_opcode kind) (kind_arguments kind n) (items_bytes is)
   item_bytes (method n flags code) = filled_bytes opcodes.Method (n, (flags, tt)) (Some code)
   item_bytes (external x) = Some (external_bytes x)
-  item_bytes (external_block xs) = filled_with (0xA0 ∷ []) (0x00 ∷ []) (each_bytes (λ x. Some (external_bytes x)) xs)
-  item_bytes (create w source index n) = Some (form_bytes (opcodes.Create w) (source, (index, (n, tt))))
-  item_bytes (create_field source index bits n) = Some (form_bytes opcodes.CreateField (source, (index, (bits, (n, tt)))))
+  item_bytes (external_block xs) =
+      filled_with (0xA0 ∷ []) (0x00 ∷ []) (each_bytes (λ x. Some (external_bytes x)) xs)
+  item_bytes (create w source index n) =
+      Some (form_bytes (opcodes.Create w) (source, (index, (n, tt))))
+  item_bytes (create_field source index bits n) =
+      Some (form_bytes opcodes.CreateField (source, (index, (bits, (n, tt)))))
   item_bytes (mutex n flags) = Some (form_bytes opcodes.Mutex (n, (flags, tt)))
   item_bytes (event n) = Some (form_bytes opcodes.Event (n, tt))
-  item_bytes (region n space offset len) = Some (form_bytes opcodes.Region (n, (space, (offset, (len, tt)))))
+  item_bytes (region n space offset len) =
+      Some (form_bytes opcodes.Region (n, (space, (offset, (len, tt)))))
   item_bytes (field r flags es) = filled_bytes opcodes.Field (r, (flags, tt)) (fields_bytes es)
-  item_bytes (index_field i d flags es) = filled_bytes opcodes.IndexField (i, (d, (flags, tt))) (fields_bytes es)
-  item_bytes (bank_field r bank value flags es) = filled_bytes opcodes.BankField (r, (bank, (value, (flags, tt)))) (fields_bytes es)
-  item_bytes (device n is) = filled_bytes opcodes.Device (n, tt) (items_bytes is)
-  item_bytes (processor n id block len is) = filled_bytes opcodes.Processor (n, (id, (block, (len, tt)))) (items_bytes is)
-  item_bytes (power n level order is) = filled_bytes opcodes.Power (n, (level, (order, tt))) (items_bytes is)
-  item_bytes (thermal n is) = filled_bytes opcodes.Thermal (n, tt) (items_bytes is)
+  item_bytes (index_field i d flags es) =
+      filled_bytes opcodes.IndexField (i, (d, (flags, tt))) (fields_bytes es)
+  item_bytes (bank_field r bank value flags es) =
+      filled_bytes opcodes.BankField (r, (bank, (value, (flags, tt)))) (fields_bytes es)
 
   -- one after another
   pub items_bytes : ItemTrees → Option (List ℕ)

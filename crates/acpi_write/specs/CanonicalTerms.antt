@@ -1,4 +1,5 @@
--- The one spelling of the terms of a method body that is written (ACPI 6.5, 20.2.5): the shortest of each part.
+-- The one spelling of the terms of a method body that is written (ACPI 6.5, 20.2.5): the shortest of each part. The
+-- rules of the grammar stand above the lines of `Spells`, `IsStatement` and `row_of`.
 use Rattle.std.specs.Prelude.{◌+◌, ℕ, List, [], ◌∷◌, ◌++◌, Option, Some}
 use Rattle.std.specs.Fmt.{option_append}
 use Rattle.byteorder.specs.Endian.{little_bytes}
@@ -19,9 +20,11 @@ abbrev mutual
   pub term_bytes : TermTree → Option (List ℕ)
   term_bytes (int i) = Some (int_bytes i)
   term_bytes (str text) = Some (0x0D ∷ (text ++ 0x00 ∷ []))
-  term_bytes (buffer size content) = filled_with (0x11 ∷ []) [] (option_append (term_bytes size) (Some content))
+  term_bytes (buffer size content) =
+      filled_with (0x11 ∷ []) [] (option_append (term_bytes size) (Some content))
   term_bytes (pkg count es) = filled_with (0x12 ∷ []) (count ∷ []) (terms_bytes es)
-  term_bytes (var_pkg count es) = filled_with (0x13 ∷ []) [] (option_append (term_bytes count) (terms_bytes es))
+  term_bytes (var_pkg count es) =
+      filled_with (0x13 ∷ []) [] (option_append (term_bytes count) (terms_bytes es))
   term_bytes (local n) = Some (little_bytes 1 (n + 0x60))
   term_bytes (arg n) = Some (little_bytes 1 (n + 0x68))
   term_bytes debug = Some (0x5B ∷ 0x31 ∷ [])
@@ -30,11 +33,16 @@ abbrev mutual
   term_bytes (ref n) = Some (name_bytes n)
   term_bytes (call n vs) = option_append (Some (name_bytes n)) (terms_bytes vs)
   term_bytes (apply op vs) = option_append (Some (operator_bytes op)) (terms_bytes vs)
-  term_bytes (if_do v ts e) = option_append (filled_with (0xA0 ∷ []) [] (option_append (term_bytes v) (terms_bytes ts))) (else_bytes e)
-  term_bytes (while_do v ts) = filled_with (0xA2 ∷ []) [] (option_append (term_bytes v) (terms_bytes ts))
+  term_bytes (if_do v ts e) = option_append
+      (filled_with (0xA0 ∷ []) [] (option_append (term_bytes v) (terms_bytes ts))) (else_bytes e)
+  term_bytes (while_do v ts) =
+      filled_with (0xA2 ∷ []) [] (option_append (term_bytes v) (terms_bytes ts))
   term_bytes (declare form before n behind) =
-      option_append (Some (opcode_bytes (named_opcode form))) (option_append (terms_bytes before) (option_append (Some (name_bytes n)) (terms_bytes behind)))
-  term_bytes (declare_units form ns vs es) = filled_with (opcode_bytes (units_opcode form)) [] (option_append (names_bytes ns) (option_append (terms_bytes vs) (fields_bytes es)))
+      option_append (Some (opcode_bytes (named_opcode form)))
+      (option_append (terms_bytes before)
+      (option_append (Some (name_bytes n)) (terms_bytes behind)))
+  term_bytes (declare_units form ns vs es) = filled_with (opcode_bytes (units_opcode form)) []
+      (option_append (names_bytes ns) (option_append (terms_bytes vs) (fields_bytes es)))
 
   -- an Else stands behind the package of its If
   pub else_bytes : ElseTree → Option (List ℕ)

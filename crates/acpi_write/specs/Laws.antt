@@ -4,9 +4,9 @@ use Rattle.std.specs.List.{AllByRecursion}
 use Rattle.acpi_name.specs.Names.{IsName, is_segment}
 use Rattle.acpi_tree.specs.declared.tree.Int.{Int}
 use Rattle.acpi_tree.specs.declared.tree.Int.TheVariants.{Word, DWord, QWord}
-use Rattle.acpi_tree.specs.Tree.{DataTree, int, str, buffer, pkg, var_pkg, ElemTree, of_data, of_name, ElemTrees, no_elems, elem, FieldTree, unit, connect_name, connect_buffer, ExternalParts, ItemTree, name, scope, method, external, external_block, create, create_field, mutex, event, region, field, index_field, bank_field, device, processor, power, thermal, ItemTrees, no_items, item}
+use Rattle.acpi_tree.specs.Tree.{DataTree, int, str, buffer, pkg, var_pkg, ElemTree, of_data, of_name, ElemTrees, no_elems, elem, FieldTree, unit, connect_name, connect_buffer, ExternalParts, ItemTree, name, scope, method, external, external_block, create, create_field, mutex, event, region, field, index_field, bank_field, ItemTrees, no_items, item}
 use Rattle.acpi_tree.specs.Fits.{items_fit}
-use Rattle.acpi_terms.specs.Forms.{FixedArgument, name_arg, source_arg, word_arg, dword_arg, int_arg, Value, Values, fixed_arguments, ArgumentsOf}
+use Rattle.acpi_terms.specs.Forms.{FixedArgument, name_arg, source_arg, word_arg, dword_arg, int_arg, Value, Values, fixed_arguments, ArgumentsOf, kind_opcode, kind_arguments}
 use Rattle.acpi_code.specs.declared.opcode.Opcode.{Opcode}
 use Rattle.acpi_code.specs.declared.opcode.Opcode.TheVariants as opcodes
 use Rattle.acpi_terms.specs.Spelling.{SpellsItems}
@@ -64,22 +64,24 @@ IsExternalTyped x = IsName x.name
 abbrev mutual
   pub IsItemTyped : ItemTree → Type 0
   IsItemTyped (name n d) = IsName n × IsDataTyped d
-  IsItemTyped (scope n is) = IsFormTyped opcodes.Scope (n, tt) × AreItemsTyped is
+  IsItemTyped (scope kind n is) =
+      IsFormTyped (kind_opcode kind) (kind_arguments kind n) × AreItemsTyped is
   IsItemTyped (method n flags code) = IsFormTyped opcodes.Method (n, (flags, tt))
   IsItemTyped (external x) = IsExternalTyped x
   IsItemTyped (external_block xs) = AllByRecursion IsExternalTyped xs
   IsItemTyped (create w source index n) = IsFormTyped (opcodes.Create w) (source, (index, (n, tt)))
-  IsItemTyped (create_field source index bits n) = IsFormTyped opcodes.CreateField (source, (index, (bits, (n, tt))))
+  IsItemTyped (create_field source index bits n) =
+      IsFormTyped opcodes.CreateField (source, (index, (bits, (n, tt))))
   IsItemTyped (mutex n flags) = IsFormTyped opcodes.Mutex (n, (flags, tt))
   IsItemTyped (event n) = IsFormTyped opcodes.Event (n, tt)
-  IsItemTyped (region n space offset len) = IsFormTyped opcodes.Region (n, (space, (offset, (len, tt))))
-  IsItemTyped (field r flags es) = IsFormTyped opcodes.Field (r, (flags, tt)) × AllByRecursion IsFieldTyped es
-  IsItemTyped (index_field i d flags es) = IsFormTyped opcodes.IndexField (i, (d, (flags, tt))) × AllByRecursion IsFieldTyped es
-  IsItemTyped (bank_field r bank value flags es) = IsFormTyped opcodes.BankField (r, (bank, (value, (flags, tt)))) × AllByRecursion IsFieldTyped es
-  IsItemTyped (device n is) = IsFormTyped opcodes.Device (n, tt) × AreItemsTyped is
-  IsItemTyped (processor n id block len is) = IsFormTyped opcodes.Processor (n, (id, (block, (len, tt)))) × AreItemsTyped is
-  IsItemTyped (power n level order is) = IsFormTyped opcodes.Power (n, (level, (order, tt))) × AreItemsTyped is
-  IsItemTyped (thermal n is) = IsFormTyped opcodes.Thermal (n, tt) × AreItemsTyped is
+  IsItemTyped (region n space offset len) =
+      IsFormTyped opcodes.Region (n, (space, (offset, (len, tt))))
+  IsItemTyped (field r flags es) =
+      IsFormTyped opcodes.Field (r, (flags, tt)) × AllByRecursion IsFieldTyped es
+  IsItemTyped (index_field i d flags es) =
+      IsFormTyped opcodes.IndexField (i, (d, (flags, tt))) × AllByRecursion IsFieldTyped es
+  IsItemTyped (bank_field r bank value flags es) = IsFormTyped opcodes.BankField
+      (r, (bank, (value, (flags, tt)))) × AllByRecursion IsFieldTyped es
 
   pub AreItemsTyped : ItemTrees → Type 0
   AreItemsTyped no_items = Unit {0}
@@ -87,4 +89,5 @@ abbrev mutual
 
 -- what is written of items spells them
 abbrev pub ItemsAreSpelled : Type 0
-ItemsAreSpelled = (is : ItemTrees) (bytes : List ℕ) → AreItemsTyped is → items_fit is ≡ true → items_bytes is ≡ Some bytes → SpellsItems is bytes
+ItemsAreSpelled = (is : ItemTrees) (bytes : List ℕ) → AreItemsTyped is → items_fit is ≡ true
+    → items_bytes is ≡ Some bytes → SpellsItems is bytes

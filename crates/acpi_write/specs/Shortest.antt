@@ -1,7 +1,7 @@
 -- No spelling is shorter than the one that is written (ACPI 6.5, 20.2).
 use Rattle.std.specs.Prelude.{◌≡◌, ◌<◌, ◌≤◌, ℕ, List, length, Option, Some, None, All}
 use Rattle.acpi_name.specs.Names.{Segment}
-use Rattle.acpi_tree.specs.Tree.{ItemTree, scope, method, device, processor, power, thermal, ItemTrees, no_items, item}
+use Rattle.acpi_tree.specs.Tree.{ItemTree, scope, method, ItemTrees, no_items, item}
 use Rattle.acpi_tree.specs.Terms.{TermTrees}
 use Rattle.acpi_terms.specs.Spelling.{SpellsItems}
 use Rattle.acpi_body.specs.Arguments.{Arguments}
@@ -20,36 +20,38 @@ HasWithin (Some b) bytes = length b ≤ length bytes
 -- the same items but for the code of methods, none of which has become longer
 abbrev mutual
   pub IsShortened : ItemTree → ItemTree → Type 0
-  IsShortened (method n flags code) j = (short : List ℕ) × (length short ≤ length code) × (j ≡ method n flags short)
-  IsShortened (scope n is) j = (js : ItemTrees) × AreShortened is js × (j ≡ scope n js)
-  IsShortened (device n is) j = (js : ItemTrees) × AreShortened is js × (j ≡ device n js)
-  IsShortened (processor n id block len is) j = (js : ItemTrees) × AreShortened is js × (j ≡ processor n id block len js)
-  IsShortened (power n level order is) j = (js : ItemTrees) × AreShortened is js × (j ≡ power n level order js)
-  IsShortened (thermal n is) j = (js : ItemTrees) × AreShortened is js × (j ≡ thermal n js)
+  IsShortened (method n flags code) j =
+      (short : List ℕ) × (length short ≤ length code) × (j ≡ method n flags short)
+  IsShortened (scope kind n is) j = (js : ItemTrees) × AreShortened is js × (j ≡ scope kind n js)
   IsShortened i j = j ≡ i
 
   pub AreShortened : ItemTrees → ItemTrees → Type 0
   AreShortened no_items js = js ≡ no_items
-  AreShortened (item i is) js = (k : ItemTree) × (ks : ItemTrees) × IsShortened i k × AreShortened is ks × (js ≡ item k ks)
+  AreShortened (item i is) js =
+      (k : ItemTree) × (ks : ItemTrees) × IsShortened i k × AreShortened is ks × (js ≡ item k ks)
 
 -- Items that some bytes spell have a spelling that is written, and it isn't longer; nor is that of the items with
 -- shorter code in their methods.
 abbrev pub NoItemsAreShorter : Type 0
-NoItemsAreShorter = (is js : ItemTrees) (bytes : List ℕ) → All (λ b. b < 256) bytes → SpellsItems is bytes → AreShortened is js → HasWithin (items_bytes js) bytes
+NoItemsAreShorter = (is js : ItemTrees) (bytes : List ℕ) → All (λ b. b < 256) bytes
+    → SpellsItems is bytes → AreShortened is js → HasWithin (items_bytes js) bytes
 
 -- items that some bytes spell have values of the types that a value in memory has
 abbrev pub SpelledItemsAreTyped : Type 0
-SpelledItemsAreTyped = (is : ItemTrees) (bytes : List ℕ) → All (λ b. b < 256) bytes → SpellsItems is bytes → AreItemsTyped is
+SpelledItemsAreTyped = (is : ItemTrees) (bytes : List ℕ) → All (λ b. b < 256) bytes
+    → SpellsItems is bytes → AreItemsTyped is
 
 -- ---- terms
 
 -- what is written of the terms that a body is, is read as the same terms and isn't longer than the body
-pub record IsWritten (args : Arguments) (s : List Segment) (depth : ℕ) (bytes : List ℕ) (ts : TermTrees) : Type 0 where
+pub record IsWritten (args : Arguments) (s : List Segment) (depth : ℕ) (bytes : List ℕ)
+    (ts : TermTrees) : Type 0 where
   pub written : List ℕ
   pub spelling : terms_bytes ts ≡ Some written
   pub reads : ReadsBody args s depth written ts
   pub within : length written ≤ length bytes
 
 abbrev pub ReadTermsAreWritten : Type 0
-ReadTermsAreWritten = (args : Arguments) (s : List Segment) (depth : ℕ) (bytes : List ℕ) (ts : TermTrees)
+ReadTermsAreWritten =
+    (args : Arguments) (s : List Segment) (depth : ℕ) (bytes : List ℕ) (ts : TermTrees)
     → All (λ b. b < 256) bytes → ReadsBody args s depth bytes ts → IsWritten args s depth bytes ts

@@ -25,8 +25,10 @@ abbrev mutual
   IsTermTyped (apply op vs) = AreTermsTyped vs
   IsTermTyped (if_do v ts e) = IsTermTyped v × AreTermsTyped ts × IsElseTyped e
   IsTermTyped (while_do v ts) = IsTermTyped v × AreTermsTyped ts
-  IsTermTyped (declare form before n behind) = AreTermsTyped before × IsName n × AreTermsTyped behind
-  IsTermTyped (declare_units form ns vs es) = AllByRecursion IsName ns × AreTermsTyped vs × AllByRecursion IsFieldTyped es
+  IsTermTyped (declare form before n behind) =
+      AreTermsTyped before × IsName n × AreTermsTyped behind
+  IsTermTyped (declare_units form ns vs es) =
+      AllByRecursion IsName ns × AreTermsTyped vs × AllByRecursion IsFieldTyped es
   IsTermTyped _ = Unit {0}
 
   pub IsElseTyped : ElseTree → Type 0
@@ -43,7 +45,8 @@ abbrev pub count_of : TermTrees → ℕ
 count_of no_terms = zero
 count_of (more t ts) = suc (count_of ts)
 
--- it is sure of each call in the value how many arguments its name asks for, and it has as many; a block or a declaration is no value
+-- it is sure of each call in the value how many arguments its name asks for, and it has as many; a block or a
+-- declaration is no value
 abbrev mutual
   pub IsCounted : (NameParts → Option ℕ) → TermTree → Type 0
   IsCounted args (buffer size content) = IsCounted args size
@@ -65,9 +68,12 @@ abbrev mutual
 -- declared has segments and a place in the method's path.
 abbrev mutual
   pub MayStandIn : Arguments → List Segment → Locals → TermTree → Type 0
-  MayStandIn args s locals (if_do v ts e) = IsCounted (args locals) v × AllMayStandIn args s locals ts × ElseMayStandIn args s (locals_after_all s locals ts) e
-  MayStandIn args s locals (while_do v ts) = IsCounted (args locals) v × AllMayStandIn args s locals ts
-  MayStandIn args s locals (declare form before n behind) = AreCounted (args locals) before × MayDeclare s n × AreCounted (args locals) behind
+  MayStandIn args s locals (if_do v ts e) = IsCounted (args locals) v
+      × AllMayStandIn args s locals ts × ElseMayStandIn args s (locals_after_all s locals ts) e
+  MayStandIn args s locals (while_do v ts) =
+      IsCounted (args locals) v × AllMayStandIn args s locals ts
+  MayStandIn args s locals (declare form before n behind) =
+      AreCounted (args locals) before × MayDeclare s n × AreCounted (args locals) behind
   MayStandIn args s locals (declare_units form ns vs es) = AreCounted (args locals) vs
   MayStandIn args s locals t = IsCounted (args locals) t
 
@@ -77,11 +83,14 @@ abbrev mutual
 
   pub AllMayStandIn : Arguments → List Segment → Locals → TermTrees → Type 0
   AllMayStandIn args s locals no_terms = Unit {0}
-  AllMayStandIn args s locals (more t ts) = MayStandIn args s locals t × AllMayStandIn args s (locals_after s locals t) ts
+  AllMayStandIn args s locals (more t ts) =
+      MayStandIn args s locals t × AllMayStandIn args s (locals_after s locals t) ts
 
 -- ---- the law
 
 -- what is written of the terms of a body is read again as them, at any depth not below their height
 abbrev pub TermsAreSpelled : Type 0
-TermsAreSpelled = (args : Arguments) (s : List Segment) (depth : ℕ) (ts : TermTrees) (bytes : List ℕ)
-    → AreTermsTyped ts → terms_fit ts ≡ true → AllMayStandIn args s finite.empty ts → heights ts ≤ depth → terms_bytes ts ≡ Some bytes → ReadsBody args s depth bytes ts
+TermsAreSpelled =
+    (args : Arguments) (s : List Segment) (depth : ℕ) (ts : TermTrees) (bytes : List ℕ)
+    → AreTermsTyped ts → terms_fit ts ≡ true → AllMayStandIn args s finite.empty ts
+    → heights ts ≤ depth → terms_bytes ts ≡ Some bytes → ReadsBody args s depth bytes ts

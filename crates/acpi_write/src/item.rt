@@ -167,11 +167,11 @@ impl Writer {
                 ];
                 self.units(&[0x5B, 0x87], &front, elems)
             }
-            Item::Scope(..) => unreachable!(),
-            Item::Device(..) => unreachable!(),
-            Item::Processor { .. } => unreachable!(),
-            Item::Power { .. } => unreachable!(),
-            Item::Thermal(..) => unreachable!(),
+            Item::Scope(..)
+            | Item::Device(..)
+            | Item::Processor { .. }
+            | Item::Power { .. }
+            | Item::Thermal(..) => unreachable!(),
         }
     }
 

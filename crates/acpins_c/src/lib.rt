@@ -1,7 +1,7 @@
 //! What C and Rust call (docs/LIBRARY.md): each export calls a function of `acpins_records`, and states its clauses again.
 //!
-//! An export takes the host's memory by the three functions of `bindings/c/acpins_heap.h`, and gives all of it back before it
-//! returns. A slice is a pointer and a length in C; where the length is 0 the pointer may be NULL.
+//! An export takes the host's memory by the three functions of `bindings/c/acpins_heap.h`, and gives all of it back
+//! before it returns. A slice is a pointer and a length in C; where the length is 0 the pointer may be NULL.
 #![tactic(auto)]
 
 ghost use Rattle.std.specs.Prelude.{◌≡◌, ◌≢◌, ◌↔◌, ◌⊎◌, ◌<◌, ◌≤◌, [], take};
@@ -18,7 +18,8 @@ use acpins_records::{
 };
 use std::alloc::Global;
 
-/// The form of the records that the library writes. It grows by one where their fields change; records grow at their end.
+/// The form of the records that the library writes. It grows by one where their fields change; records grow at their
+/// end.
 #[unsafe(no_mangle)]
 pub extern "C" fn acpins_abi() -> u32
     ensures { result ≡ 1 }
@@ -85,7 +86,8 @@ pub extern "C" fn acpins_body(
     write_body(alloc, tables, depth, path, text, body, outcome)
 }
 
-/// Writes whether the SSDTs may be loaded in any order over the DSDT, and the Externals that they satisfy for one another.
+/// Writes whether the SSDTs may be loaded in any order over the DSDT, and the Externals that they satisfy for one
+/// another.
 #[unsafe(no_mangle)]
 pub extern "C" fn acpins_check(
     alloc: Global,

@@ -7,6 +7,7 @@ use Rattle.std.proofs.lemmas.List.Sorted.{All-permutation}
 use Rattle.acpi_name.specs.Names.{Segment}
 use Rattle.acpi_name.specs.Paths.{path_cmp}
 use Rattle.acpi_space.specs.Lookups.{is_same_path}
+use Rattle.acpi_space.proofs.Elements.{all_map}
 use Rattle.acpi_tree.specs.Objects.{ObjectTree, root_object}
 use Rattle.acpi_code.proofs.Fitting.{AreBytes}
 use Rattle.acpi_declare.specs.Namespace.{Namespace}
@@ -51,11 +52,6 @@ numbered_there before (q ∷ qs) n count =
           (numbered_there (before ++ q ∷ []) qs (suc n) (omega (arith, count, length-append before (q ∷ [])))),
     )
 
--- what follows for each
-each_so : {X : Type 0} (P Q : X → Type 0) → ((x : X) → P x → Q x) → (xs : List X) → AllByRecursion P xs → AllByRecursion Q xs
-each_so P Q f [] h = tt
-each_so P Q f (x ∷ xs) h = (f x h.0, each_so P Q f xs h.1)
-
 module _ (depth : ℕ) (s : Survey) (limit : s.depth ≡ depth) (read_so : AreTables depth 0 first_reading s.tables.items s.reading) (bytes : AllByRecursion AreBytes (bytes_of s.tables.items))
     (m : Machine) (is : IsMachine depth (bytes_of s.tables.items) m) where
   -- what is printed of an entry is its body's line
@@ -81,7 +77,7 @@ module _ (depth : ℕ) (s : Survey) (limit : s.depth ≡ depth) (read_so : AreTa
   pub bodies_listed : (text : List ℕ) → IsBodyListing s text → ListsBodies m text
   bodies_listed text l =
       let numbered : AllByRecursion HasLine (numbered_from 0 (entry_paths (entries_of s))) =
-      each_so (λ (x : Path × ℕ). slice_get (entry_paths (entries_of s)) x.1 ≡ Some x.0) HasLine has_line (numbered_from 0 (entry_paths (entries_of s)))
+      all_map (λ (x : Path × ℕ). slice_get (entry_paths (entries_of s)) x.1 ≡ Some x.0) HasLine has_line (numbered_from 0 (entry_paths (entries_of s)))
       (numbered_there [] (entry_paths (entries_of s)) 0 refl) in
       let each : AllByRecursion HasLine l.order =
       recursion_from_All HasLine l.order (All-permutation HasLine (numbered_from 0 (entry_paths (entries_of s))) l.order l.by_path.each

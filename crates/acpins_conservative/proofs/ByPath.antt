@@ -15,6 +15,7 @@ use Rattle.acpi_name.specs.Names.{Segment}
 use Rattle.acpi_name.specs.Paths.{path_cmp}
 use Rattle.acpi_name.specs.steps.PathOrder.{path_cmp_total, path_cmp-IsAntisymmetric}
 use Rattle.acpi_space.specs.Lookups.{is_same_path}
+use Rattle.acpi_space.proofs.Comparisons.{eq_of}
 use Rattle.acpi_conditions.specs.ByPath.{numbered_from, numbered_cmp}
 
 abbrev Path : Type 0
@@ -22,13 +23,8 @@ Path = List Segment
 
 -- ---- paths that are the same
 
-is_equal : (r : Ordering) → is_eq r ≡ true → r ≡ Equal
-is_equal Less e = absurd (true≢false (sym e))
-is_equal Equal e = refl
-is_equal Greater e = absurd (true≢false (sym e))
-
 pub same_path : (p q : Path) → is_same_path p q ≡ true → p ≡ q
-same_path p q e = path_cmp-IsAntisymmetric p q (is_equal (path_cmp p q) e)
+same_path p q e = path_cmp-IsAntisymmetric p q (eq_of (path_cmp p q) e)
 
 pub path_itself : (p : Path) → is_same_path p p ≡ true
 path_itself p = (eq_by_cmp_equiv path_cmp_total).refl p

@@ -19,6 +19,7 @@ use Rattle.acpi_declare.specs.Loads.{AreListings, objects_after}
 use Rattle.acpi_declare.proofs.Unions.{union-nothing, union_assoc}
 use Rattle.acpi_conservative.specs.Strict.{predefined_objects}
 use Rattle.acpi_conservative.specs.Parts.{Declared, declared_by, declared, all_declared}
+use Rattle.acpi_conservative.proofs.TableCounts.{or_first}
 use Rattle.acpins_conservative.proofs.ByPath.{AreApart, keys, same_path, path_itself, other_way}
 
 abbrev Path : Type 0
@@ -140,13 +141,10 @@ differs objects q p o there free = by (is_same_path q p) refl
     by false is = is
     by true is = let e : Some o ≡ None = sym there ∙ ap objects (same_path q p is) ∙ free in let f : ⊥ = cc in absurd f
 
-grows : (a b : Option ObjectTree) (o : ObjectTree) → a ≡ Some o → option_or a b ≡ Some o
-grows a b o is = ap (λ (x : Option ObjectTree). option_or x b) is
-
 kept_apart : (objects : Namespace) (q : Path) (o : ObjectTree) → objects q ≡ Some o → (ds : List Declared) → AreFresh objects ds → AllByRecursion (λ (p : Path). is_same_path q p ≡ false) (keys (pairs ds))
 kept_apart objects q o there [] h = tt
 kept_apart objects q o there (d ∷ ds) h =
-    (differs objects q d.path o there h.0, kept_apart (union objects (singleton d.path d.object)) q o (grows (objects q) (singleton d.path d.object q) o there) ds h.1)
+    (differs objects q d.path o there h.0, kept_apart (union objects (singleton d.path d.object)) q o (or_first (objects q) (singleton d.path d.object q) o there) ds h.1)
 
 there_now : (objects : Namespace) (d : Declared) → objects d.path ≡ None → union objects (singleton d.path d.object) d.path ≡ Some d.object
 there_now objects d free =

@@ -7,6 +7,7 @@ use Rattle.std.proofs.lemmas.List.{map-append}
 use Rattle.acpi_name.specs.Names.{Segment, NameParts}
 use Rattle.acpi_space.specs.Laws.{Among}
 use Rattle.acpi_space.specs.Lookups.{Lookup, is_same_path}
+use Rattle.acpi_space.proofs.Elements.{among_left, among_right}
 use Rattle.acpi_tree.specs.Objects.{ObjectTree, root_object, scope_object, predefined_object, device_object, processor_object, power_object, thermal_object, name_object, method_object, region_object, mutex_object, event_object, field_object, create_object, create_field_object}
 use Rattle.acpi_declare.specs.Listing.{Placement}
 use Rattle.acpi_declare.specs.Notes.{external_counts, methods_by, methods}
@@ -14,7 +15,6 @@ use Rattle.acpi_declare.specs.Sites.{Effect, declares, opens, expects}
 use Rattle.acpi_body.specs.Bodies.{BodyTree}
 use Rattle.acpi_order.specs.Bodies.{Method, with_counts, methods_of, all_methods, bodies_at}
 use Rattle.acpi_conditions.specs.Entries.{Entry}
-use Rattle.acpi_conditions.proofs.Basics.{among_left, among_right}
 use Rattle.acpi_conditions.proofs.Viewing.{get_behind}
 use Rattle.acpi_survey.specs.declared.body.MethodBody.{MethodBody}
 use Rattle.acpi_survey.specs.declared.machine_survey.Survey.{Survey}

@@ -17,6 +17,7 @@ use Rattle.acpi_declare.specs.Listing.{Placement}
 use Rattle.acpi_declare.specs.Links.{all_pending, answers, links_of}
 use Rattle.acpi_declare.specs.Loads.{AreListings, objects_after}
 use Rattle.acpi_code.proofs.Fitting.{AreBytes}
+use Rattle.acpi_body.proofs.Kept.{all_right}
 use Rattle.acpi_conditions.specs.Entries.{Path, Entry, HasNoCondition}
 use Rattle.acpi_survey.specs.declared.machine_survey.Survey.{Survey}
 use Rattle.acpi_survey.specs.declared.machine_survey.SurveyedTable.{SurveyedTable}
@@ -24,12 +25,12 @@ use Rattle.acpi_survey.specs.Predefined.{first_reading, with_object}
 use Rattle.acpi_survey.specs.Surveys.{AreTables, bytes_of, nodes_of_each}
 use Rattle.acpi_survey.proofs.Surveys.{are_read}
 use Rattle.acpi_conservative.specs.Parts.{Declared, all_declared, IsDeclaredAt}
-use Rattle.acpi_conservative.proofs.BehindTables.{all_last}
 use Rattle.acpi_conservative.proofs.ObjectParts.{strict_read_is_declared}
 use Rattle.acpi_conservative.proofs.StrictLinks.{IsAllThere, is_all_there}
 use Rattle.acpins_output.specs.Listings.{Prints}
 use Rattle.acpi_conditions.specs.ByPath.{numbered_from, AreByPath}
 use Rattle.acpins_survey_output.specs.Listings.{entries_of, numbered_line}
+use Rattle.acpins_survey_output.proofs.Ordering.{map_twice}
 use Rattle.acpins_conservative.proofs.ByPath.{keys, AreApart, moved_apart, found_alike, is_ascending, strictly_sorted, value_at, value_seam, with_value, values_are}
 use Rattle.acpins_conservative.proofs.Declared.{everything, everything_after, everything_fresh, everything_pending, pairs, fresh_apart, found_there, each_links}
 use Rattle.acpins_conservative.proofs.EntryLines.{HaveLines, predefined_line, lines_behind}
@@ -51,10 +52,6 @@ paths_alike kept (d ∷ ds) (e ∷ es) h = λ i. h.0.path i ∷ paths_alike kept
 flat_alike : {X Y : Type 0} (f g : X → List Y) (xs : List X) → AllByRecursion (λ (x : X). f x ≡ g x) xs → flat_map f xs ≡ flat_map g xs
 flat_alike f g [] h = refl
 flat_alike f g (x ∷ xs) h = λ i. h.0 i ++ flat_alike f g xs h.1 i
-
-map_twice : {X Y Z : Type 0} (f : Y → Z) (g : X → Y) (xs : List X) → map f (map g xs) ≡ map (λ x. f (g x)) xs
-map_twice f g [] = refl
-map_twice f g (x ∷ xs) = ap (λ t. f (g x) ∷ t) (map_twice f g xs)
 
 -- ---- lines by their numbers
 
@@ -100,7 +97,7 @@ module _ (depth : ℕ) (s : Survey) (read : AreTables depth 0 first_reading s.ta
   unfolding first_reading with_object
   all_lines =
       let later = lines_behind s objects there first_reading.walk.entries parts.0 parts.1
-      (all_last HasNoCondition first_reading.walk.entries parts.0 (subst (AllByRecursion HasNoCondition) parts.1 there.no_condition)) 10 refl (omega arith) (all_declared ts) parts.2
+      (all_right HasNoCondition first_reading.walk.entries parts.0 (subst (AllByRecursion HasNoCondition) parts.1 there.no_condition)) 10 refl (omega arith) (all_declared ts) parts.2
       (tables_fit depth 0 predefined (bytes_of s.tables.items) ts l bytes) in (
         predefined_line s objects 0 _ (early 0 _ refl) (refl, refl) [] _ refl refl,
         (

@@ -4,19 +4,21 @@ use Rattle.std.specs.List.{AllByRecursion}
 use Rattle.std.proofs.lemmas.List.{length-drop}
 use Rattle.acpi_name.specs.Names.{Segment, NameParts}
 use Rattle.acpi_space.specs.Lookups.{union}
+use Rattle.acpi_space.proofs.Elements.{all_append}
 use Rattle.acpi_tree.specs.declared.object.FieldForm.{FieldForm}
+use Rattle.acpi_tree.specs.declared.tree.ScopeKind.{ScopeKind}
+use Rattle.acpi_tree.specs.declared.tree.ScopeKind.TheVariants as kinds
 use Rattle.acpi_tree.specs.Tree.{FieldTree, unit, ExternalParts}
-use Rattle.acpi_tree.specs.Tree.{ItemTree, name, scope, method, external, external_block, create, create_field, mutex, event, region, field, index_field, bank_field, device, processor, power, thermal, ItemTrees, no_items, item}
+use Rattle.acpi_tree.specs.Tree.{ItemTree, name, scope, method, external, external_block, create, create_field, mutex, event, region, field, index_field, bank_field, ItemTrees, no_items, item}
 use Rattle.acpi_tree.specs.Offsets.{element_bits, list_bits, OffsetFits, OffsetsFit}
 use Rattle.acpi_tree.specs.Objects.{ObjectTree, field_object}
 use Rattle.acpi_code.proofs.Fitting.{AreBytes}
 use Rattle.acpi_terms.proofs.ShortOffsets.{offsets_fit}
 use Rattle.acpi_declare.specs.Namespace.{Namespace}
-use Rattle.acpi_declare.specs.Sites.{Effect, declares, opens, expects, Step, step, unit_step, unit_steps, external_step, external_steps, own_steps, Site, site_in, item_sites, items_sites, sites}
+use Rattle.acpi_declare.specs.Sites.{Effect, declares, opens, expects, Step, step, kind_object, scope_effect, unit_step, unit_steps, external_step, external_steps, own_steps, Site, site_in, item_sites, items_sites, sites}
 use Rattle.acpi_declare.specs.Listing.{Placement, object_of, objects_of, IsJustified}
 use Rattle.acpi_declare.specs.Loads.{AreListings}
 use Rattle.acpi_declare.specs.Tables.{IsTableOf, code_of}
-use Rattle.acpi_conditions.proofs.Basics.{all_append}
 use Rattle.acpi_conservative.specs.Parts.{Declared, declared_by, declared, all_declared}
 
 abbrev Path : Type 0
@@ -64,9 +66,16 @@ externals_fit (x ∷ xs) = all_append StepFits (external_step x) (external_steps
 from_start : (es : List FieldTree) → list_bits es < 2 ^ 64 → 0 + list_bits es < 2 ^ 64
 from_start es h = omega (arith, h)
 
+kind_fits : (kind : ScopeKind) → EffectFits (scope_effect (kind_object kind))
+kind_fits kinds.Scope = tt
+kind_fits kinds.Device = tt
+kind_fits (kinds.Processor id block len) = tt
+kind_fits (kinds.Power level order) = tt
+kind_fits kinds.Thermal = tt
+
 own_fits : (i : ItemTree) → OffsetFits i → AllByRecursion StepFits (own_steps i)
 own_fits (name n d) h = (tt, tt)
-own_fits (scope n is) h = (tt, tt)
+own_fits (scope kind n is) h = (kind_fits kind, tt)
 own_fits (method n flags code) h = (tt, tt)
 own_fits (external x) h = one_external (x.kind == 8) x.name x.args
 own_fits (external_block xs) h = externals_fit xs
@@ -78,10 +87,6 @@ own_fits (region n space offset len) h = (tt, tt)
 own_fits (field r flags es) h = units_fit FieldForm.Field flags (r ∷ []) 0 es (from_start es h)
 own_fits (index_field i d flags es) h = units_fit FieldForm.Index flags (i ∷ d ∷ []) 0 es (from_start es h)
 own_fits (bank_field r b value flags es) h = units_fit (FieldForm.Bank value) flags (r ∷ b ∷ []) 0 es (from_start es h)
-own_fits (device n is) h = (tt, tt)
-own_fits (processor n id block len is) h = (tt, tt)
-own_fits (power n level order is) h = (tt, tt)
-own_fits (thermal n is) h = (tt, tt)
 
 -- ---- sites
 
@@ -91,11 +96,7 @@ placed_fit inside (x ∷ xs) h = (h.0, placed_fit inside xs h.1)
 
 mutual
   item_fits : (k : ℕ) (inside : Option ℕ) (i : ItemTree) → OffsetFits i → AllByRecursion SiteFits (item_sites k inside i)
-  item_fits k inside (scope n is) h = (tt, items_fit (suc k) (Some k) is h)
-  item_fits k inside (device n is) h = (tt, items_fit (suc k) (Some k) is h)
-  item_fits k inside (processor n id block len is) h = (tt, items_fit (suc k) (Some k) is h)
-  item_fits k inside (power n level order is) h = (tt, items_fit (suc k) (Some k) is h)
-  item_fits k inside (thermal n is) h = (tt, items_fit (suc k) (Some k) is h)
+  item_fits k inside (scope kind n is) h = (kind_fits kind, items_fit (suc k) (Some k) is h)
   item_fits k inside i h = placed_fit inside (own_steps i) (own_fits i h)
 
   items_fit : (k : ℕ) (inside : Option ℕ) (is : ItemTrees) → OffsetsFit is → AllByRecursion SiteFits (items_sites k inside is)

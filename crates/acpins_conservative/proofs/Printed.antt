@@ -1,5 +1,5 @@
 -- What lists a survey of strict tables prints their objects and links.
-use Rattle.std.proofs.Common.{◌≡◌, ◌∙◌, ℕ, Bool, true, T, List, [], ◌∷◌, ◌++◌, append-nil, map, refl, sym, ap, subst}
+use Rattle.std.proofs.Common.{◌≡◌, ◌∙◌, ℕ, Bool, true, T, List, [], ◌++◌, append-nil, sym, ap, subst}
 use Rattle.std.specs.FinMap.Entries.{is_sorted, same_entries}
 use Rattle.std.specs.List.{AllByRecursion, flat_map}
 use Rattle.acpi_name.specs.Names.{Segment}
@@ -13,6 +13,7 @@ use Rattle.acpi_declare.specs.Predefined.{predefined}
 use Rattle.acpi_declare.specs.Links.{Links, links_of, all_pending}
 use Rattle.acpi_declare.specs.Loads.{IsLoad, objects_after}
 use Rattle.acpi_conditions.specs.Entries.{Path}
+use Rattle.acpi_conditions.proofs.Basics.{map_nothing}
 use Rattle.acpi_survey.specs.declared.machine_survey.Survey.{Survey}
 use Rattle.acpi_survey.specs.declared.notes.Note.{Note}
 use Rattle.acpi_survey.specs.declared.problems.Problem.{Problem}
@@ -28,10 +29,6 @@ use Rattle.acpins_survey_run.specs.Runs.{IsSurvey}
 use Rattle.acpins_conservative.specs.Laws.{AreBytes, StrictListingPrints, OneTextPrints}
 use Rattle.acpins_conservative.proofs.Listing.{lines_are}
 
-none_viewed : {X Y : Type 0} (f : X → Y) (xs : List X) → map f xs ≡ [] → xs ≡ []
-none_viewed f [] e = refl
-none_viewed f (x ∷ xs) e = let g : ⊥ = cc in absurd g
-
 module _ (depth : ℕ) (tables : List (List ℕ)) (bytes : AllByRecursion AreBytes tables) (objects : Namespace) (links : Lookup Links) (loaded : IsLoad depth tables objects links)
     (s : Survey) (surveyed : IsSurvey depth tables s) where
   here : IsLoad depth (bytes_of s.tables.items) objects links
@@ -39,12 +36,12 @@ module _ (depth : ℕ) (tables : List (List ℕ)) (bytes : AllByRecursion AreByt
 
   pub no_problem : s.found.problems.items ≡ []
   no_problem =
-      none_viewed problem_view s.found.problems.items
+      map_nothing problem_view s.found.problems.items
       (surveyed.problems ∙ strict_has_no_problem depth s.tables.items s.reading surveyed.read here.placements here.listings)
 
   no_note : s.found.notes.items ≡ []
   no_note =
-      none_viewed note_view s.found.notes.items
+      map_nothing note_view s.found.notes.items
       (surveyed.notes.1 ∙ strict_has_no_note depth s.tables.items s.reading surveyed.read here.placements here.listings (entered_in s.reading) surveyed.notes.0)
 
   links_same : links_of (objects_after predefined here.placements) (all_pending here.placements) ≡ links

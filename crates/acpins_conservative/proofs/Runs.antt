@@ -4,6 +4,7 @@ use Rattle.std.specs.List.{AllByRecursion}
 use Rattle.acpi_name.specs.Names.{Segment}
 use Rattle.acpi_name.specs.Text.{SpellsPathText}
 use Rattle.acpi_name.proofs.PathTexts.{text_again}
+use Rattle.acpi_space.proofs.Elements.{one_some}
 use Rattle.acpi_declare.specs.Loads.{IsLoad}
 use Rattle.acpi_order.specs.Machines.{Machine, IsMachine}
 use Rattle.acpi_survey.specs.Surveys.{bytes_of}
@@ -15,7 +16,7 @@ use Rattle.acpins_run.specs.Input.{FileBytes, IsLoadOfFiles}
 use Rattle.acpins_run.specs.RunLaws.{HasPrinted}
 use Rattle.acpins_run.specs.Runs as load_runs
 use Rattle.acpins_survey_words.specs.Words as survey_words
-use Rattle.acpins_survey_words.specs.Words.{Wish}
+use Rattle.acpins_survey_words.specs.Words.{Invocation}
 use Rattle.acpins_survey_run.specs.Input as survey_files
 use Rattle.acpins_survey_run.specs.Input.{FolderNames}
 use Rattle.acpins_survey_run.specs.Runs.{IsSurvey, IsSurveyOfFiles, IsTextOf, page_file, printed_of, IsSurveyed, IsPrinted}
@@ -29,22 +30,19 @@ use Rattle.acpins_conservative.proofs.SameTables.{same_tables, files_bytes}
 
 -- ---- what runs printed
 
-asked_is : (a b : Asked) → Some a ≡ Some b → a ≡ b
-asked_is a b e = cc
-
 printed_of_load : (files : FileBytes) (words : List Text) (asked : Asked) (command : Command) (text : List ℕ) → HasPrinted files words asked command text
     → load_runs.IsPrinted files asked command 0 text
 printed_of_load files words asked command text h =
     subst (λ (c : Command). load_runs.IsPrinted files asked c 0 text) h.command_is
-    (subst (λ (a : Asked). load_runs.IsPrinted files a a.command 0 text) (asked_is h.printed.0 asked (sym h.printed.1 ∙ h.ask)) h.printed.2)
+    (subst (λ (a : Asked). load_runs.IsPrinted files a a.command 0 text) (one_some h.printed.0 asked (sym h.printed.1 ∙ h.ask)) h.printed.2)
 
-wish_is : (a b : Wish) → Some a ≡ Some b → a ≡ b
-wish_is a b e = cc
+invocation_is : (a b : Invocation) → Some a ≡ Some b → a ≡ b
+invocation_is a b e = cc
 
 surveyed_of : (files : FileBytes) (folders : FolderNames) (words : List Text) (asked : survey_words.Asked) (command : survey_words.Command) (status : ℕ) (text : List ℕ)
     → HasSurveyed files folders words asked command status text → IsSurveyed files folders asked status text
 surveyed_of files folders words asked command status text h =
-    subst (λ (w : Wish). IsPrinted files folders w status text) (wish_is h.printed.0 (survey_words.survey asked) (sym h.printed.1 ∙ h.ask)) h.printed.2
+    subst (λ (w : Invocation). IsPrinted files folders w status text) (invocation_is h.printed.0 (survey_words.survey asked) (sym h.printed.1 ∙ h.ask)) h.printed.2
 
 -- ---- the survey is of the tables of the load
 

@@ -1,5 +1,5 @@
 -- A file of whole tables holds the same tables for both programs.
-use Rattle.std.proofs.Common.{◌≡◌, ◌∙◌, ◌+◌, ◌*◌, ◌<◌, ◌&&◌, ℕ, suc, Bool, true, false, true≢false, eqb, refl, List, [], ◌∷◌, ◌++◌, Option, Some, None, IfSome, sym, ap, subst, arith}
+use Rattle.std.proofs.Common.{◌≡◌, ◌∙◌, ◌+◌, ◌*◌, ◌<◌, ℕ, suc, Bool, true, false, true≢false, eqb, refl, List, [], ◌∷◌, ◌++◌, Option, Some, None, IfSome, sym, ap, subst, arith}
 use Rattle.std.specs.List.{AllByRecursion, concat}
 use Rattle.std.proofs.lemmas.Bool.{eqb-true}
 use Rattle.std.proofs.lemmas.List.Elements.{recursion_from_All}
@@ -7,8 +7,9 @@ use Rattle.hex.specs.Hex.{IsBytes}
 use Rattle.hex.proofs.HexLemmas.{decode_of-ok, decode_of-same}
 use Rattle.acpi_table.specs.Tables.{length_field, IsTable}
 use Rattle.acpi_table.proofs.TableLaws.{length_field-append}
+use Rattle.acpi_space.proofs.Elements.{all_append}
 use Rattle.acpi_code.proofs.Fitting.{front_bytes, back_bytes}
-use Rattle.acpi_conditions.proofs.Basics.{all_append}
+use Rattle.acpi_conditions.proofs.Basics.{and_left, and_right}
 use Rattle.acpi_survey.specs.Pieces.{ArePieces}
 use Rattle.acpi_conservative.proofs.FileTables.{strict_file_is_cut}
 use Rattle.acpins_io.specs.Dump.{is_header}
@@ -22,27 +23,19 @@ use Rattle.acpins_conservative.specs.RunLaws.{IsSameFile}
 
 -- ---- no table begins as the text of acpidump does: its length would be above the limit
 
-left_holds : (a b : Bool) → (a && b) ≡ true → a ≡ true
-left_holds true b h = refl
-left_holds false b h = h
-
-right_holds : (a b : Bool) → (a && b) ≡ true → b ≡ true
-right_holds true b h = h
-right_holds false b h = absurd (true≢false (sym h))
-
 header_is_long : (content : List ℕ) → is_header content ≡ true → 16777216 < length_field content
 header_is_long [] h = absurd (true≢false (sym h))
 header_is_long (a ∷ []) h = absurd (true≢false (sym h))
 header_is_long (a ∷ b ∷ []) h = absurd (true≢false (sym h))
 header_is_long (a ∷ b ∷ c ∷ []) h = absurd (true≢false (sym h))
 header_is_long (a ∷ b ∷ c ∷ d ∷ []) h = absurd (true≢false (sym h))
-header_is_long (a ∷ b ∷ c ∷ d ∷ e ∷ []) h = absurd (true≢false (sym (right_holds (eqb 32 e) false h)))
+header_is_long (a ∷ b ∷ c ∷ d ∷ e ∷ []) h = absurd (true≢false (sym (and_right (eqb 32 e) false h)))
 header_is_long (a ∷ b ∷ c ∷ d ∷ e ∷ f ∷ []) h =
-    absurd (true≢false (sym (right_holds (eqb 64 f) false (right_holds (eqb 32 e) _ h))))
+    absurd (true≢false (sym (and_right (eqb 64 f) false (and_right (eqb 32 e) _ h))))
 header_is_long (a ∷ b ∷ c ∷ d ∷ e ∷ f ∷ g ∷ []) h =
-    absurd (true≢false (sym (right_holds (eqb 32 g) false (right_holds (eqb 64 f) _ (right_holds (eqb 32 e) _ h)))))
+    absurd (true≢false (sym (and_right (eqb 32 g) false (and_right (eqb 64 f) _ (and_right (eqb 32 e) _ h)))))
 header_is_long (a ∷ b ∷ c ∷ d ∷ e ∷ f ∷ g ∷ i ∷ rest) h =
-    let digit : 48 ≡ i = eqb-true 48 i (left_holds (eqb 48 i) _ (right_holds (eqb 32 g) _ (right_holds (eqb 64 f) _ (right_holds (eqb 32 e) _ h)))) in
+    let digit : 48 ≡ i = eqb-true 48 i (and_left (eqb 48 i) _ (and_right (eqb 32 g) _ (and_right (eqb 64 f) _ (and_right (eqb 32 e) _ h)))) in
     let field : length_field (a ∷ b ∷ c ∷ d ∷ e ∷ f ∷ g ∷ i ∷ rest) ≡ e + 256 * (f + 256 * (g + 256 * (i + 256 * 0))) = refl in
     omega (arith, digit, field)
 

@@ -17,8 +17,10 @@ AreBytes = AllByRecursion (λ b. b < 256)
 abbrev pub StrictListingPrints : Type 0
 StrictListingPrints = (depth : ℕ) (tables : List (List ℕ)) → AllByRecursion AreBytes tables
     → (objects : Namespace) (links : Lookup Links) → IsLoad depth tables objects links
-    → (s : Survey) → IsSurvey depth tables s → (text : List ℕ) → IsListing s text → Prints objects links text
+    → (s : Survey) → IsSurvey depth tables s → (text : List ℕ) → IsListing s text
+    → Prints objects links text
 
 -- one text prints them
 abbrev pub OneTextPrints : Type 0
-OneTextPrints = (objects : Namespace) (links : Lookup Links) (text other : List ℕ) → Prints objects links text → Prints objects links other → text ≡ other
+OneTextPrints = (objects : Namespace) (links : Lookup Links) (text other : List ℕ)
+    → Prints objects links text → Prints objects links other → text ≡ other

@@ -2,17 +2,8 @@
 use Rattle.std.proofs.Common.{◌≡◌, Bool, true, false, ℕ, ◌+◌, List, [], ◌∷◌, ◌++◌, take, drop, take-append-drop, take_all, get_or, length, length-drop, ◌-◌, ◌≤◌, ◌<◌, le_of_eq, arith, refl, sym, ap, ◌∙◌, append_assoc, append-nil, Option, Some, None}
 use Rattle.std.proofs.Math.Seq.{take-add}
 use Rattle.std.specs.Io.KnownBytes.{Appends, Keeps}
+use Rattle.std.proofs.KnownBytes.{Appends-trans, Appends-nil}
 use Rattle.acpins_io.specs.Told.{AppendsBeginning, Tells}
-
-pub appends_more : (a b c : Option (List ℕ)) (x y : List ℕ) → Appends a b x → Appends b c y → Appends a c (x ++ y)
-appends_more None b c x y h k = tt
-appends_more (Some p) None c x y h k = absurd h
-appends_more (Some p) (Some q) None x y h k = absurd k
-appends_more (Some p) (Some q) (Some r) x y h k = k ∙ ap (λ l. l ++ y) h ∙ append_assoc p x y
-
-pub appends_nothing : (a : Option (List ℕ)) → Appends a a []
-appends_nothing None = tt
-appends_nothing (Some p) = sym (append-nil p)
 
 appends_behind : (a b c : Option (List ℕ)) (x : List ℕ) → Appends a b x → Appends b c [] → Appends a c x
 appends_behind None b c x h k = tt
@@ -24,7 +15,7 @@ begins_more : (fb : Bool) (fa fc : Bool) (a b c : Option (List ℕ)) (x y : List
 begins_more false fa fc a b c x y s t =
     let whole = s.whole refl in
     let begun = t.begins in
-    (x ++ begun.0, begun.1, ap (λ l. x ++ l) begun.2 ∙ sym (append_assoc x begun.0 begun.1), appends_more a b c x begun.0 whole.1 begun.3)
+    (x ++ begun.0, begun.1, ap (λ l. x ++ l) begun.2 ∙ sym (append_assoc x begun.0 begun.1), Appends-trans a b c x begun.0 whole.1 begun.3)
 begins_more true fa fc a b c x y s t =
     let begun = s.begins in
     (begun.0, begun.1 ++ y, ap (λ l. l ++ y) begun.2 ∙ append_assoc begun.0 begun.1 y, appends_behind a b c begun.0 begun.3 (t.silent refl).1)
@@ -33,17 +24,17 @@ begins_more true fa fc a b c x y s t =
 pub tells_more : (x y : List ℕ) (fa : Bool) (a : Option (List ℕ)) (fb : Bool) (b : Option (List ℕ)) (fc : Bool) (c : Option (List ℕ))
     → Tells x fa a fb b → Tells y fb b fc c → Tells (x ++ y) fa a fc c
 tells_more x y fa a fb b fc c s t = record {
-  whole = λ e. let second = t.whole e in let first = s.whole second.0 in (first.0, appends_more a b c x y first.1 second.1);
+  whole = λ e. let second = t.whole e in let first = s.whole second.0 in (first.0, Appends-trans a b c x y first.1 second.1);
   begins = begins_more fb fa fc a b c x y s t;
-  silent = λ e. let first = s.silent e in let second = t.silent first.0 in (second.0, appends_more a b c [] [] first.1 second.1);
+  silent = λ e. let first = s.silent e in let second = t.silent first.0 in (second.0, Appends-trans a b c [] [] first.1 second.1);
 }
 
 -- no part
 pub tells_nothing : (f : Bool) (a : Option (List ℕ)) → Tells [] f a f a
 tells_nothing f a = record {
-  whole = λ e. (e, appends_nothing a);
-  begins = ([], [], refl, appends_nothing a);
-  silent = λ e. (e, appends_nothing a);
+  whole = λ e. (e, Appends-nil a);
+  begins = ([], [], refl, Appends-nil a);
+  silent = λ e. (e, Appends-nil a);
 }
 
 -- ---- a part that is written piece by piece
@@ -66,4 +57,4 @@ piece_fits part n m h k = let e = ap length (rest_is part n) ∙ length-drop n p
 
 pub piece_more : (a b c : Option (List ℕ)) (part : List ℕ) (n m : ℕ) → Appends a b (take n part) → Appends b c (take m (take (length part - n) (drop n part)))
     → Appends a c (take (n + m) part)
-piece_more a b c part n m h k = rw (take-add n m part) (appends_more a b c (take n part) (take m (drop n part)) h (rw (rest_is part n) at k))
+piece_more a b c part n m h k = rw (take-add n m part) (Appends-trans a b c (take n part) (take m (drop n part)) h (rw (rest_is part n) at k))

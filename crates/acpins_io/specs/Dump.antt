@@ -1,5 +1,5 @@
--- The text that the program `acpidump` writes of tables: for each a line with its signature and its address, and under that a row for
--- every 16 of its bytes.
+-- The text that the program `acpidump` writes of tables: for each a line with its signature and its address, and under
+-- that a row for every 16 of its bytes.
 use Rattle.std.specs.Prelude.{ℕ, zero, suc, ◌+◌, ◌*◌, Bool, false, ◌&&◌, ◌==◌, nat_eq, if◌then◌else◌, List, [], ◌∷◌, ◌++◌, drop, Option, Some, None, option_and_then, option_map, codes}
 use Rattle.std.specs.Option.{option_map_or}
 use Rattle.std.specs.List.{slice_split, starts_with}
@@ -18,7 +18,9 @@ is_header _ = false
 -- the byte whose two digits stand behind a blank
 abbrev pub byte_at : List ℕ → Option ℕ
 byte_at (c ∷ high ∷ low ∷ rest) =
-    if c == 32 then option_and_then (λ h. option_map (λ l. h * 16 + l) (hex_digit_value low)) (hex_digit_value high) else None
+    if c == 32 then
+    option_and_then (λ h. option_map (λ l. h * 16 + l) (hex_digit_value low))
+    (hex_digit_value high) else None
 byte_at _ = None
 
 -- the bytes from there on, at most n
@@ -46,8 +48,10 @@ bytes_under (line ∷ lines) = if is_header line then [] else row_bytes line ++ 
 abbrev pub blocks_of : List ℕ → List (List ℕ) → List (List ℕ)
 blocks_of signature [] = []
 blocks_of signature (line ∷ lines) =
-    if is_header line && starts_with nat_eq line signature then bytes_under lines ∷ blocks_of signature lines else blocks_of signature lines
+    if is_header line && starts_with nat_eq line signature then
+    bytes_under lines ∷ blocks_of signature lines else blocks_of signature lines
 
 -- the DSDTs, and behind them the SSDTs
 abbrev pub tables_of_dump : List ℕ → List (List ℕ)
-tables_of_dump text = blocks_of (codes "DSDT") (lines_of text) ++ blocks_of (codes "SSDT") (lines_of text)
+tables_of_dump text =
+    blocks_of (codes "DSDT") (lines_of text) ++ blocks_of (codes "SSDT") (lines_of text)

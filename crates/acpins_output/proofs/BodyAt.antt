@@ -1,5 +1,5 @@
 -- The body at a path, as its map answers it.
-use Rattle.std.proofs.Common.{◌≡◌, Bool, true, false, cond, List, [], ◌∷◌, map, Option, Some, refl, sym, ap, ◌∙◌}
+use Rattle.std.proofs.Common.{◌≡◌, List, Option, sym, ap, ◌∙◌}
 use Rattle.std.specs.Option.{option_map}
 use Rattle.std.specs.Ordering.{is_eq}
 use Rattle.std.specs.Map.{lookup}
@@ -9,15 +9,8 @@ use Rattle.acpi_name.specs.Paths.{path_cmp}
 use Rattle.acpi_space.proofs.Maps.{get_is_lookup}
 use Rattle.acpi_body.specs.declared.body.Body.{Body}
 use Rattle.acpi_body.specs.Bodies.{body_view}
+use Rattle.acpi_declare.proofs.ValuesByPath.{lookup_mapped}
 use Rattle.acpi_machine.specs.MachineView.{bodies_of}
-
-lookup_mapped : {V W : Type 0} (f : V → W) (t : List Segment → Bool) (es : List (List Segment × V)) → lookup t (map (λ e. (e.0, f e.1)) es) ≡ option_map f (lookup t es)
-lookup_mapped f t [] = refl
-lookup_mapped f t (e ∷ es) =
-    elim (t e.0) as (λ b. cond b (Some (f e.1)) (lookup t (map (λ e. (e.0, f e.1)) es)) ≡ option_map f (cond b (Some e.1) (lookup t es))) [
-      | true ↦ refl
-      | false ↦ lookup_mapped f t es
-    ]
 
 pub body_answered : (m : BTreeMap (List Segment) Body) (p : List Segment) (o : Option Body) → o ≡ lookup (λ k. is_eq (path_cmp p k)) m.entries → bodies_of m p ≡ option_map body_view o
 body_answered m p o e = get_is_lookup _ p ∙ lookup_mapped body_view _ m.entries ∙ ap (option_map body_view) (sym e)

@@ -55,9 +55,11 @@ load_reason_text reasons.NotDsdt = codes "L1 NotDsdt"
 load_reason_text reasons.NotSsdt = codes "L2 NotSsdt"
 load_reason_text reasons.Trailing = codes "L3 Trailing"
 load_reason_text (reasons.Item reason place) = item_reason_text reason
-load_reason_text (reasons.Refused refusal path) = refusal_text refusal ++ codes " " ++ path_text path
+load_reason_text (reasons.Refused refusal path) =
+    refusal_text refusal ++ codes " " ++ path_text path
 
 -- .. with the place of a reason in its code, in the table
 abbrev pub fault_text : LoadReason → List ℕ
-fault_text (reasons.Item reason place) = item_reason_text reason ++ codes " at " ++ decimal (place_in_table place)
+fault_text (reasons.Item reason place) =
+    item_reason_text reason ++ codes " at " ++ decimal (place_in_table place)
 fault_text reason = load_reason_text reason

@@ -15,7 +15,8 @@ abbrev pub objects_by_path : PathMap Object → List (List Segment × ObjectTree
 objects_by_path m = map (λ e. (e.0, object_view e.1)) (entries m)
 
 -- the text is a line for each object of the namespace, in the order of the paths, with the links at its path
-pub record Prints (objects : Namespace) (links : List Segment → Option Links) (text : List ℕ) : Type 0 where
+pub record Prints (objects : Namespace) (links : List Segment → Option Links)
+    (text : List ℕ) : Type 0 where
   pub lines : List (List Segment × ObjectTree)
   pub ascending : IsTrue (is_sorted path_cmp lines)
   pub objects_are : (p : List Segment) → find path_cmp p lines ≡ objects p

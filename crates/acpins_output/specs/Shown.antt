@@ -31,16 +31,19 @@ body_reason_text Unsure = codes "S5 UnsureCount"
 -- its line: the place in the body, and the reason
 abbrev pub reason_text : Option BodyFault → List ℕ
 reason_text None = []
-reason_text (Some f) = codes "At " ++ decimal f.place ++ codes ": " ++ body_reason_text f.reason ++ 10 ∷ []
+reason_text (Some f) =
+    codes "At " ++ decimal f.place ++ codes ": " ++ body_reason_text f.reason ++ 10 ∷ []
 
 -- the body of a method: its statements, or its bytes and why they are not read; nothing where no method was declared
 abbrev pub IsBodyText : ℕ → List (List ℕ) → List Segment → Option BodyTree → List ℕ → Type 0
 IsBodyText depth tables path None text = text ≡ []
 IsBodyText depth tables path (Some (read ts)) text = text ≡ statements_text [] ts
-IsBodyText depth tables path (Some (unread bytes)) text = (w : Option BodyFault) × IsExplained depth tables path w × (text ≡ opaque_text bytes ++ reason_text w)
+IsBodyText depth tables path (Some (unread bytes)) text = (w : Option BodyFault)
+    × IsExplained depth tables path w × (text ≡ opaque_text bytes ++ reason_text w)
 
 -- the text is the line of the object at the path, and the body of the method there
-pub record Shows (depth : ℕ) (tables : List (List ℕ)) (m : Machine) (path : List Segment) (text : List ℕ) : Type 0 where
+pub record Shows (depth : ℕ) (tables : List (List ℕ)) (m : Machine) (path : List Segment)
+    (text : List ℕ) : Type 0 where
   pub object : ObjectTree
   pub there : m.objects path ≡ Some object
   pub body : List ℕ
@@ -54,4 +57,5 @@ ShowsOrNone depth tables m path None = m.objects path ≡ None
 
 -- .. of the machine to which the tables load
 abbrev pub ShowsLoaded : ℕ → List (List ℕ) → List Segment → Option (List ℕ) → Type 0
-ShowsLoaded depth tables path text = (m : Machine) × IsMachine depth tables m × ShowsOrNone depth tables m path text
+ShowsLoaded depth tables path text =
+    (m : Machine) × IsMachine depth tables m × ShowsOrNone depth tables m path text

@@ -85,8 +85,8 @@ fn put_satisfied(text: &mut Vec<u8>, satisfied: &[Satisfied]) -> Result<(), Allo
 }
 
 /// Whether the SSDTs may be loaded in any order over the DSDT: `commute`, with status 0, and a line for each External
-/// that another table satisfies; or the line of the first reason why perhaps not, with status 3. Only the DSDT is refused:
-/// an SSDT that doesn't load is a verdict.
+/// that another table satisfies; or the line of the first reason why perhaps not, with status 3. Only the DSDT is
+/// refused: an SSDT that doesn't load is a verdict.
 pub fn check<S: Space<Object>>(
     alloc: Global,
     dsdt: &Bytes,

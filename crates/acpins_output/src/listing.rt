@@ -24,7 +24,7 @@ pub fn links_of<'a>(path: &Path, links: &'a LinkMap) -> &'a [Option<Path>]
     }
 }
 
-// The lines so far, and the links of all fields.
+/// The lines so far, and the links of all fields.
 #[derive(Drop)]
 pub struct Lines<'a> {
     text: Vec<u8>,

@@ -4,14 +4,13 @@ use Rattle.std.specs.List.{AllZip}
 use Rattle.std.specs.Prelude as prelude
 use Rattle.std.specs.FinMap.{find}
 use Rattle.std.specs.Option.{option_or}
-use Rattle.std.specs.Ordering.{eq_by_cmp, is_eq}
-use Rattle.std.specs.declared.cmp.Ordering.{Ordering}
-use Rattle.std.specs.declared.cmp.Ordering.TheVariants.{Less, Equal, Greater}
+use Rattle.std.specs.Ordering.{eq_by_cmp}
 use Rattle.acpi_name.specs.Names.{Segment, NameParts}
 use Rattle.acpi_name.specs.Paths.{path_cmp}
 use Rattle.acpi_name.specs.steps.PathOrder.{path_cmp-IsAntisymmetric}
 use Rattle.acpi_space.specs.Lookups.{is_defined_in, is_same_path}
 use Rattle.acpi_space.specs.Search.{answer, tries}
+use Rattle.acpi_space.proofs.Comparisons.{eq_of}
 use Rattle.acpi_tree.specs.Objects.{ObjectTree}
 use Rattle.acpi_declare.specs.Namespace.{Namespace}
 use Rattle.acpi_declare.specs.Links.{Links, PendingLink, answers, links_of}
@@ -46,11 +45,6 @@ targets_from paths (a ∷ xs) (n ∷ ns) here zip = (target_from paths a n here.
 
 -- ---- what a search finds is defined, and what is defined is one of the paths
 
-equal : (o : Ordering) → is_eq o ≡ true → o ≡ Equal
-equal Less e = cc
-equal Equal e = refl
-equal Greater e = cc
-
 by_test : (b : Bool) (q : List Segment) (rest : Option (List Segment)) (t : List Segment) (P : Type 0) → (b ≡ true → q ≡ t → P) → (rest ≡ Some t → P) → cond b (Some q) rest ≡ Some t → P
 by_test true q rest t P hit miss e = hit refl (let same : q ≡ t = cc in same)
 by_test false q rest t P hit miss e = miss e
@@ -63,7 +57,7 @@ listed : (es : List (List Segment × ObjectTree)) (q : List Segment) → prelude
 listed [] q e = cc
 listed (e ∷ es) q is =
     elim (eq_by_cmp path_cmp q e.0) as (λ b. eq_by_cmp path_cmp q e.0 ≡ b → prelude.is_some (cond b (Some e.1) (find path_cmp q es)) ≡ true → (k : ℕ) × (slice_get (e.0 ∷ map (λ f. f.0) es) k ≡ Some q)) [
-      | true ↦ λ same is. (zero, ap Some (sym (path_cmp-IsAntisymmetric q e.0 (equal _ same))))
+      | true ↦ λ same is. (zero, ap Some (sym (path_cmp-IsAntisymmetric q e.0 (eq_of _ same))))
       | false ↦ λ other is. let more = listed es q is in (suc more.0, more.1)
     ] refl is
 

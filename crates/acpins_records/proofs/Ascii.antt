@@ -10,7 +10,7 @@ use Rattle.std.proofs.lemmas.Str.Ascii.{IsAscii-from_all}
 use Rattle.acpi_name.specs.Names.{Segment, is_segment, is_lead_char, is_name_char}
 use Rattle.acpi_name.specs.Text.{IsTypedSegment, SpellsPathText, IsPathText}
 use Rattle.acpi_name.proofs.NameAgain.{and_true}
-use Rattle.acpins_records.proofs.Runs.{front_kept}
+use Rattle.acpi_body.proofs.SpelledNames.{take_front}
 
 abbrev AreBelow : List ℕ → Type 0
 AreBelow bs = All (λ b. b < 128) bs
@@ -43,7 +43,7 @@ segment_below (a ∷ b ∷ c ∷ d ∷ e ∷ s) h = absurd cc
 
 typed_below : (g typed : List ℕ) → IsTypedSegment g typed → AreBelow typed
 typed_below g typed h =
-    subst AreBelow (ap (take (length typed)) h.filled ∙ front_kept typed _) (All-take (λ b. b < 128) (length typed) g (segment_below g h.segment))
+    subst AreBelow (ap (take (length typed)) h.filled ∙ take_front typed _) (All-take (λ b. b < 128) (length typed) g (segment_below g h.segment))
 
 joined_below : (p typed : List (List ℕ)) → AllZip IsTypedSegment p typed → AreBelow (join_with_byte 0x2E typed)
 joined_below [] [] h = All-nil (λ b. b < 128)

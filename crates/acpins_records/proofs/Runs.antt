@@ -3,6 +3,7 @@ use Rattle.std.proofs.Common.{◌≡◌, ◌≢◌, ℕ, ◌+◌, ◌<◌, ◌�
 use Rattle.std.proofs.lemmas.Bool.{cases_lt}
 use Rattle.acpi_name.specs.Names.{Segment}
 use Rattle.acpi_name.specs.Paths.{parent_of}
+use Rattle.acpi_body.proofs.SpelledNames.{take_front}
 use Rattle.acpins_records.specs.Tree.{IsBelow, IsParent, IsPlaceOf, none, path_round}
 use Rattle.acpins_records.specs.steps.Runs.{RunTo, RunsTo}
 use Rattle.acpins_records.proofs.Prefixes.{below_below, one_there, within_list}
@@ -50,12 +51,8 @@ begins_with above p front is more same = (
   λ none. absurd (omega (arith, length-drop (length above) p, ap length none)),
 )
 
-pub front_kept : {A : Type 0} (above rest : List A) → take (length above) (above ++ rest) ≡ above
-front_kept [] rest = refl
-front_kept (x ∷ above) rest = ap (λ l. x ∷ l) (front_kept above rest)
-
 pub front_of_below : (above p : List Segment) → IsBelow above p → take (length above) p ≡ above
-front_of_below above p (rest, split, some) = ap (take (length above)) split ∙ front_kept above rest
+front_of_below above p (rest, split, some) = ap (take (length above)) split ∙ take_front above rest
 
 -- ---- parents
 

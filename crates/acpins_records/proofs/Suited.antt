@@ -5,13 +5,14 @@ use Rattle.std.specs.Option.{option_or}
 use Rattle.acpi_name.specs.Names.{Segment, NameParts}
 use Rattle.acpi_space.specs.Lookups.{is_same_path, singleton, union}
 use Rattle.acpi_space.proofs.Comparisons.{path_itself}
+use Rattle.acpi_space.proofs.Elements.{all_append}
 use Rattle.acpi_tree.specs.declared.object.FieldForm.{FieldForm}
-use Rattle.acpi_tree.specs.Tree.{FieldTree, unit, ExternalParts, ItemTree, name, scope, method, external, external_block, create, create_field, mutex, event, region, field, index_field, bank_field, device, processor, power, thermal, ItemTrees, no_items, item}
+use Rattle.acpi_tree.specs.Tree.{FieldTree, unit, ExternalParts, ItemTree, name, scope, method, external, external_block, create, create_field, mutex, event, region, field, index_field, bank_field, ItemTrees, no_items, item}
 use Rattle.acpi_tree.specs.Offsets.{element_bits}
 use Rattle.acpi_tree.specs.Objects.{ObjectTree, method_object, field_object, create_object, create_field_object}
 use Rattle.acpi_declare.specs.Namespace.{Namespace}
 use Rattle.acpi_declare.specs.Predefined.{predefined}
-use Rattle.acpi_declare.specs.Sites.{Effect, declares, opens, expects, Step, Site, site_in, unit_step, unit_steps, external_step, external_steps, own_steps, own_sites, item_sites, items_sites, sites, step}
+use Rattle.acpi_declare.specs.Sites.{Effect, declares, opens, expects, Step, Site, site_in, kind_object, scope_effect, unit_step, unit_steps, external_step, external_steps, own_steps, own_sites, item_sites, items_sites, sites, step}
 use Rattle.acpi_declare.specs.Placing.{IsPlaced}
 use Rattle.acpi_declare.specs.Listing.{Placement, object_by, object_of, objects_of, IsJustified}
 use Rattle.acpi_declare.specs.Links.{Links, PendingLink, pending_by, pending_links, all_pending, answers, one_link, links_of}
@@ -21,10 +22,6 @@ use Rattle.acpi_declare.proofs.Unions.{path_same}
 use Rattle.acpi_places.specs.declared.place.CodePlace.{CodePlace}
 use Rattle.acpi_places.specs.Places.{by_path, all_by_path}
 use Rattle.acpins_records.specs.steps.Kinds.{links_by, code_by, Suits}
-
-all_append : {X : Type 0} (P : X → Type 0) (xs ys : List X) → AllByRecursion P xs → AllByRecursion P ys → AllByRecursion P (xs ++ ys)
-all_append P [] ys h k = k
-all_append P (x ∷ xs) ys h k = (h.0, all_append P xs ys h.1 k)
 
 -- ---- what terms declare
 
@@ -67,9 +64,13 @@ externals_fit : (xs : List ExternalParts) → StepsFit (external_steps xs)
 externals_fit [] = tt
 externals_fit (x ∷ xs) = all_append (λ x. Fits x.effect) (external_step x) (external_steps xs) (external_fits x) (externals_fit xs)
 
+scope_fits : (o : Option ObjectTree) → Fits (scope_effect o)
+scope_fits None = tt
+scope_fits (Some o) = tt
+
 own_fit : (i : ItemTree) → StepsFit (own_steps i)
 own_fit (name n d) = (tt, tt)
-own_fit (scope n is) = (tt, tt)
+own_fit (scope kind n is) = (scope_fits (kind_object kind), tt)
 own_fit (method n flags code) = (λ c. refl, tt)
 own_fit (external x) = external_fits x
 own_fit (external_block xs) = externals_fit xs
@@ -81,10 +82,6 @@ own_fit (region n space offset length) = (tt, tt)
 own_fit (field r flags es) = units_fit FieldForm.Field flags r [] 0 es
 own_fit (index_field i d flags es) = units_fit FieldForm.Index flags i (d ∷ []) 0 es
 own_fit (bank_field r b value flags es) = units_fit (FieldForm.Bank value) flags r (b ∷ []) 0 es
-own_fit (device n is) = (tt, tt)
-own_fit (processor n id block length is) = (tt, tt)
-own_fit (power n level order is) = (tt, tt)
-own_fit (thermal n is) = (tt, tt)
 
 placed_fit : (inside : Option ℕ) (xs : List Step) → StepsFit xs → SitesFit (map (site_in inside) xs)
 placed_fit inside [] h = tt
@@ -98,11 +95,7 @@ with_inner inside i inner h = all_append (λ x. Fits x.step.effect) (own_sites i
 
 mutual
   item_fits : (k : ℕ) (inside : Option ℕ) (i : ItemTree) → SitesFit (item_sites k inside i)
-  item_fits k inside (scope n is) = with_inner inside (scope n is) _ (items_fit (suc k) (Some k) is)
-  item_fits k inside (device n is) = with_inner inside (device n is) _ (items_fit (suc k) (Some k) is)
-  item_fits k inside (processor n id block length is) = with_inner inside (processor n id block length is) _ (items_fit (suc k) (Some k) is)
-  item_fits k inside (power n level order is) = with_inner inside (power n level order is) _ (items_fit (suc k) (Some k) is)
-  item_fits k inside (thermal n is) = with_inner inside (thermal n is) _ (items_fit (suc k) (Some k) is)
+  item_fits k inside (scope kind n is) = with_inner inside (scope kind n is) _ (items_fit (suc k) (Some k) is)
   item_fits k inside (name n d) = own_sites_fit inside (name n d)
   item_fits k inside (method n flags code) = own_sites_fit inside (method n flags code)
   item_fits k inside (external x) = own_sites_fit inside (external x)

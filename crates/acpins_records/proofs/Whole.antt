@@ -13,6 +13,7 @@ use Rattle.acpi_name.specs.steps.PathOrder.{path_cmp_total}
 use Rattle.acpi_space.specs.Spaces.{PathMap}
 use Rattle.acpi_space.specs.Lookups.{Lookup}
 use Rattle.acpi_space.proofs.Comparisons.{path_itself}
+use Rattle.acpi_space.proofs.Elements.{all_map}
 use Rattle.acpi_tree.specs.Objects.{ObjectTree, object_view}
 use Rattle.acpi_tree.specs.declared.object.Object.{Object}
 use Rattle.acpi_declare.specs.Listing.{Placement}
@@ -114,10 +115,6 @@ all_found [] h = tt
 all_found (f ∷ es) h =
     (ap (λ b. cond b (Some f.1) (find path_cmp f.0 es)) (path_itself f.0), found_behind f es es (both_first _ _ h) (all_found es (both_second _ _ h)))
 
-all_weaker : {X : Type 0} (P Q : X → Type 0) (xs : List X) → ((x : X) → P x → Q x) → AllByRecursion P xs → AllByRecursion Q xs
-all_weaker P Q [] f h = tt
-all_weaker P Q (x ∷ xs) f h = (f x h.0, all_weaker P Q xs f h.1)
-
 -- the lines of a map's objects
 lines_ascend : (m : PathMap Object) → is_sorted path_cmp (objects_by_path m) ≡ true
 lines_ascend m = sorted_mapped object_view (entries m) ∙ entries_ascend m
@@ -139,8 +136,8 @@ load_suits depth tables m links codes loads are =
     λ p o there. subst (λ (l : Lookup Links). Suits l codes p o) (sym links_is)
     (subst (λ (c : Lookup CodePlace). Suits (links_of objects (all_pending loads.placements)) c p o) (sym codes_is)
     (object_suits depth tables loads.placements are.codes loads.listings p o (ap (λ (n : Namespace). n p) (sym loads.objects_are) ∙ there))) in
-    all_weaker (λ (e : List Segment × ObjectTree). find path_cmp e.0 (objects_by_path m) ≡ Some e.1) (λ (e : List Segment × ObjectTree). Suits links codes e.0 e.1) (objects_by_path m)
-    (λ e found. suits e.0 e.1 (sym (lines_found m e.0) ∙ found)) (all_found (objects_by_path m) (lines_ascend m))
+    all_map (λ (e : List Segment × ObjectTree). find path_cmp e.0 (objects_by_path m) ≡ Some e.1) (λ (e : List Segment × ObjectTree). Suits links codes e.0 e.1) (λ e found. suits e.0 e.1 (sym (lines_found m e.0) ∙ found))
+    (objects_by_path m) (all_found (objects_by_path m) (lines_ascend m))
 
 pub whole_records : (depth : ℕ) (tables : List (List ℕ)) (m : PathMap Object) (links : Lookup Links) (codes : Lookup CodePlace) (r : Records)
     → IsLoad depth tables (namespace_of m) links → AreCodePlaces depth tables codes → AreRecords (objects_by_path m) links codes r

@@ -43,10 +43,12 @@ unread_record None = record { is_read = 0; reason = 0; place = 0 }
 -- the text is the statements of the body, or its bytes where it can't be read, and the record says which
 abbrev pub GivesBody : ℕ → List (List ℕ) → List Segment → BodyTree → BodyRecord → List ℕ → Type 0
 GivesBody depth tables path (read ts) r text = (r ≡ read_record) × (text ≡ statements_text [] ts)
-GivesBody depth tables path (unread bytes) r text = (w : Option BodyFault) × IsExplained depth tables path w × (r ≡ unread_record w) × (text ≡ bytes)
+GivesBody depth tables path (unread bytes) r text = (w : Option BodyFault)
+    × IsExplained depth tables path w × (r ≡ unread_record w) × (text ≡ bytes)
 
 -- .. of the body at the path, of the machine to which the tables load
-pub record IsBodyAt (depth : ℕ) (tables : List (List ℕ)) (path : List Segment) (r : BodyRecord) (text : List ℕ) : Type 0 where
+pub record IsBodyAt (depth : ℕ) (tables : List (List ℕ)) (path : List Segment) (r : BodyRecord)
+    (text : List ℕ) : Type 0 where
   pub machine : Machine
   pub loads : IsMachine depth tables machine
   pub body : BodyTree
@@ -54,7 +56,8 @@ pub record IsBodyAt (depth : ℕ) (tables : List (List ℕ)) (path : List Segmen
   pub gives : GivesBody depth tables path body r text
 
 -- the body at the path that the bytes spell stands at the front of the text
-pub record IsBodyWritten (depth : ℕ) (tables : List (List ℕ)) (spelled old new : List ℕ) (r : BodyRecord) (outcome : Outcome) : Type 0 where
+pub record IsBodyWritten (depth : ℕ) (tables : List (List ℕ)) (spelled old new : List ℕ)
+    (r : BodyRecord) (outcome : Outcome) : Type 0 where
   pub path : List Segment
   pub spells : SpellsPathText path spelled
   pub text : List ℕ
@@ -63,7 +66,8 @@ pub record IsBodyWritten (depth : ℕ) (tables : List (List ℕ)) (spelled old n
   pub outcome_is : outcome ≡ text_outcome (length text)
 
 -- .. has no room there
-pub record NeedsText (depth : ℕ) (tables : List (List ℕ)) (spelled old : List ℕ) (r : BodyRecord) (outcome : Outcome) : Type 0 where
+pub record NeedsText (depth : ℕ) (tables : List (List ℕ)) (spelled old : List ℕ) (r : BodyRecord)
+    (outcome : Outcome) : Type 0 where
   pub path : List Segment
   pub spells : SpellsPathText path spelled
   pub text : List ℕ

@@ -38,7 +38,8 @@ abbrev pub paths_in : List (List Segment × ObjectTree) → List (List Segment)
 paths_in es = map (λ e. e.0) es
 
 -- the contents are those of these objects, whose paths ascend, with their links and the places of their code
-pub record AreContents (es : List (List Segment × ObjectTree)) (links : Lookup Links) (codes : Lookup CodePlace) (c : Contents) : Type 0 where
+pub record AreContents (es : List (List Segment × ObjectTree)) (links : Lookup Links)
+    (codes : Lookup CodePlace) (c : Contents) : Type 0 where
   pub parents : ℕ → ℕ
   pub belows : ℕ → ℕ
   pub are_parents : (k : ℕ) → k < length es → IsParent (paths_in es) k (parents k)

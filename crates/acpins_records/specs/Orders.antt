@@ -32,7 +32,10 @@ pub record AreAlike (c d : Contents) : Type 0 where
   pub parts : d.parts ≡ c.parts
   pub bytes : d.bytes ≡ c.bytes
 
--- Of independent SSDTs in this order the arrays begin with what stands there in any order, but for the numbers of tables.
+-- Of independent SSDTs in this order the arrays begin with what stands there in any order, but for the numbers of
+-- tables.
 abbrev pub IsWrittenInAnyOrder : ℕ → List (List ℕ) → (old new : Contents) → Type 0
-IsWrittenInAnyOrder depth tables old new = (dsdt : List ℕ) (ssdts given : List (List ℕ)) → tables ≡ dsdt ∷ given → AreReordered depth dsdt ssdts given
-    → (c : Contents) → IsContentsOf depth (dsdt ∷ ssdts) c → (d : Contents) × AreFronts d old new × AreAlike c d
+IsWrittenInAnyOrder depth tables old new = (dsdt : List ℕ) (ssdts given : List (List ℕ))
+    → tables ≡ dsdt ∷ given → AreReordered depth dsdt ssdts given
+    → (c : Contents) → IsContentsOf depth (dsdt ∷ ssdts) c
+    → (d : Contents) × AreFronts d old new × AreAlike c d

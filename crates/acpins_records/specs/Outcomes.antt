@@ -72,7 +72,17 @@ counted c = record {
 
 -- so many bytes of text
 abbrev pub text_outcome : ℕ → Outcome
-text_outcome n = record { objects = 0; targets = 0; text = n; parts = 0; bytes = 0; table = 0; reason = 0; place = 0 }
+text_outcome n =
+    record {
+      objects = 0;
+      targets = 0;
+      text = n;
+      parts = 0;
+      bytes = 0;
+      table = 0;
+      reason = 0;
+      place = 0;
+    }
 
 -- nothing is said
 abbrev pub no_outcome : Outcome
@@ -80,7 +90,17 @@ no_outcome = text_outcome 0
 
 -- so many bytes
 abbrev pub bytes_outcome : ℕ → Outcome
-bytes_outcome n = record { objects = 0; targets = 0; text = 0; parts = 0; bytes = n; table = 0; reason = 0; place = 0 }
+bytes_outcome n =
+    record {
+      objects = 0;
+      targets = 0;
+      text = 0;
+      parts = 0;
+      bytes = n;
+      table = 0;
+      reason = 0;
+      place = 0;
+    }
 
 -- which table is refused, why and where, and how many bytes the path has that the refusal names
 abbrev pub refused_as : (table : ℕ) → LoadReason → (text : ℕ) → Outcome

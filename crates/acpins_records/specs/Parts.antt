@@ -22,7 +22,8 @@ abbrev mutual
   elems_parts_in no_elems = 0
   elems_parts_in (elem e es) = elem_parts_in e + elems_parts_in es
 
--- the bytes that its parts hold: of a string without the 00 that ends it, of a buffer those that are given, the text of a name
+-- the bytes that its parts hold: of a string without the 00 that ends it, of a buffer those that are given, the text of
+-- a name
 abbrev mutual
   pub data_bytes : DataTree → List ℕ
   data_bytes (int i) = []
@@ -56,8 +57,10 @@ abbrev mutual
   data_parts place byte (int i) = part 0 i 0 0 (place + 1) ∷ []
   data_parts place byte (str bytes) = part 1 Zero byte (length bytes) (place + 1) ∷ []
   data_parts place byte (buffer size bytes) = part 2 size byte (length bytes) (place + 1) ∷ []
-  data_parts place byte (pkg count es) = part 3 (Byte count) 0 0 (place + 1 + elems_parts_in es) ∷ elems_parts (place + 1) byte es
-  data_parts place byte (var_pkg count es) = part 4 count 0 0 (place + 1 + elems_parts_in es) ∷ elems_parts (place + 1) byte es
+  data_parts place byte (pkg count es) =
+      part 3 (Byte count) 0 0 (place + 1 + elems_parts_in es) ∷ elems_parts (place + 1) byte es
+  data_parts place byte (var_pkg count es) =
+      part 4 count 0 0 (place + 1 + elems_parts_in es) ∷ elems_parts (place + 1) byte es
 
   pub elem_parts : (place byte : ℕ) → ElemTree → List PartRecord
   elem_parts place byte (of_data d) = data_parts place byte d
@@ -65,4 +68,5 @@ abbrev mutual
 
   pub elems_parts : (place byte : ℕ) → ElemTrees → List PartRecord
   elems_parts place byte no_elems = []
-  elems_parts place byte (elem e es) = elem_parts place byte e ++ elems_parts (place + elem_parts_in e) (byte + length (elem_bytes e)) es
+  elems_parts place byte (elem e es) = elem_parts place byte e
+      ++ elems_parts (place + elem_parts_in e) (byte + length (elem_bytes e)) es

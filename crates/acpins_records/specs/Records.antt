@@ -73,11 +73,14 @@ numbers_of (processor_object id block len) = six id block len 0 0 0
 numbers_of (power_object level order) = six level order 0 0 0 0
 numbers_of (name_object d) = data_numbers d
 numbers_of (method_object flags) = six flags 0 0 0 0 0
-numbers_of (region_object space offset len) = six space (form_of offset) (value_of offset) (form_of len) (value_of len) 0
+numbers_of (region_object space offset len) =
+    six space (form_of offset) (value_of offset) (form_of len) (value_of len) 0
 numbers_of (mutex_object flags) = six flags 0 0 0 0 0
-numbers_of (field_object form flags offset bits) = six flags offset bits (bank_form_of form) (bank_value_of form) 0
+numbers_of (field_object form flags offset bits) =
+    six flags offset bits (bank_form_of form) (bank_value_of form) 0
 numbers_of (create_object width index) = six (bits_of width) (form_of index) (value_of index) 0 0 0
-numbers_of (create_field_object index bits) = six (form_of index) (value_of index) (form_of bits) (value_of bits) 0 0
+numbers_of (create_field_object index bits) =
+    six (form_of index) (value_of index) (form_of bits) (value_of bits) 0 0
 numbers_of _ = six 0 0 0 0 0 0
 
 -- ---- code
@@ -104,7 +107,8 @@ data_of _ = []
 -- the parts of data, one behind the other
 abbrev pub parts_from : (part byte : ℕ) → List DataTree → List PartRecord
 parts_from part byte [] = []
-parts_from part byte (d ∷ ds) = data_parts part byte d ++ parts_from (part + parts_in d) (byte + length (data_bytes d)) ds
+parts_from part byte (d ∷ ds) =
+    data_parts part byte d ++ parts_from (part + parts_in d) (byte + length (data_bytes d)) ds
 
 -- .. and the bytes that they hold
 abbrev pub bytes_of_data : List DataTree → List ℕ
@@ -122,7 +126,8 @@ part_count _ = 0
 -- ---- records
 
 -- an object whose line begins at a place of the text, whose first target and whose data have places among those of all
-abbrev pub record_of : (line target part parent below : ℕ) → List Segment → ObjectTree → Links → Option CodePlace → ObjectRecord
+abbrev pub record_of : (line target part parent below : ℕ) → List Segment → ObjectTree → Links
+    → Option CodePlace → ObjectRecord
 record_of line target part parent below path object own code = record {
   kind = kind_of object;
   line = line;
@@ -144,8 +149,10 @@ abbrev pub own_links : Lookup Links → List Segment → Links
 own_links links path = unwrap_or (links path) []
 
 -- one record for each object, the first of which has place k: their lines, targets and parts one behind the other
-abbrev pub records_from : (k line target part : ℕ) → (parents belows : ℕ → ℕ) → List (List Segment × ObjectTree) → Lookup Links → Lookup CodePlace → List ObjectRecord
+abbrev pub records_from : (k line target part : ℕ) → (parents belows : ℕ → ℕ)
+    → List (List Segment × ObjectTree) → Lookup Links → Lookup CodePlace → List ObjectRecord
 records_from k line target part parents belows [] links codes = []
 records_from k line target part parents belows (e ∷ es) links codes =
     record_of line target part (parents k) (belows k) e.0 e.1 (own_links links e.0) (codes e.0)
-    ∷ records_from (suc k) (line + length (line_text e.0 e.1 (own_links links e.0))) (target + length (own_links links e.0)) (part + part_count e.1) parents belows es links codes
+    ∷ records_from (suc k) (line + length (line_text e.0 e.1 (own_links links e.0)))
+    (target + length (own_links links e.0)) (part + part_count e.1) parents belows es links codes

@@ -16,7 +16,8 @@ ends_from begin [] = []
 ends_from begin (t ∷ ts) = (begin + length t) ∷ ends_from (begin + length t) ts
 
 -- the rewritten tables stand at the front of the bytes, and their ends at the front of the ends
-pub record AreTablesWritten (depth : ℕ) (tables : List (List ℕ)) (old new ends ends' : List ℕ) (outcome : Outcome) : Type 0 where
+pub record AreTablesWritten (depth : ℕ) (tables : List (List ℕ)) (old new ends ends' : List ℕ)
+    (outcome : Outcome) : Type 0 where
   pub rewritten : List (List ℕ)
   pub are : AreRewritten depth tables rewritten
   pub bytes : IsFront (joined rewritten) old new
@@ -24,8 +25,10 @@ pub record AreTablesWritten (depth : ℕ) (tables : List (List ℕ)) (old new en
   pub outcome_is : outcome ≡ bytes_outcome (length (joined rewritten))
 
 -- .. have no room there
-pub record NeedTablesRoom (depth : ℕ) (tables : List (List ℕ)) (old ends : List ℕ) (outcome : Outcome) : Type 0 where
+pub record NeedTablesRoom (depth : ℕ) (tables : List (List ℕ)) (old ends : List ℕ)
+    (outcome : Outcome) : Type 0 where
   pub rewritten : List (List ℕ)
   pub are : AreRewritten depth tables rewritten
   pub outcome_is : outcome ≡ bytes_outcome (length (joined rewritten))
-  pub short : (length old < length (joined rewritten)) ⊎ (length ends < length (ends_from 0 rewritten))
+  pub short : (length old < length (joined rewritten))
+      ⊎ (length ends < length (ends_from 0 rewritten))

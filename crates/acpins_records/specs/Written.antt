@@ -27,12 +27,20 @@ bytes_of tables = map (λ t. t.bytes.now) tables
 
 -- the contents of the caller's arrays
 abbrev pub contents_of : Arrays → Contents
-contents_of a = record { objects = a.objects.now; targets = a.targets.now; text = a.text.now; parts = a.parts.now; bytes = a.bytes.now }
+contents_of a =
+    record {
+      objects = a.objects.now;
+      targets = a.targets.now;
+      text = a.text.now;
+      parts = a.parts.now;
+      bytes = a.bytes.now;
+    }
 
 -- they stay where they are
 abbrev pub SamePlaces : Arrays → Arrays → Type 0
 SamePlaces a b =
-    (b.objects.ref_ptr ≡ a.objects.ref_ptr) × (b.targets.ref_ptr ≡ a.targets.ref_ptr) × (b.text.ref_ptr ≡ a.text.ref_ptr)
+    (b.objects.ref_ptr ≡ a.objects.ref_ptr) × (b.targets.ref_ptr ≡ a.targets.ref_ptr)
+    × (b.text.ref_ptr ≡ a.text.ref_ptr)
     × (b.parts.ref_ptr ≡ a.parts.ref_ptr) × (b.bytes.ref_ptr ≡ a.bytes.ref_ptr)
 
 -- ---- a load
@@ -62,7 +70,8 @@ pub record AreFronts (c old new : Contents) : Type 0 where
   pub bytes : IsFront c.bytes old.bytes new.bytes
 
 -- the contents of the load stand in the arrays
-pub record IsWritten (depth : ℕ) (tables : List (List ℕ)) (old new : Contents) (outcome : Outcome) : Type 0 where
+pub record IsWritten (depth : ℕ) (tables : List (List ℕ)) (old new : Contents)
+    (outcome : Outcome) : Type 0 where
   pub contents : Contents
   pub is_load : IsContentsOf depth tables contents
   pub outcome_is : outcome ≡ counted contents
@@ -71,7 +80,8 @@ pub record IsWritten (depth : ℕ) (tables : List (List ℕ)) (old new : Content
 -- one of the arrays is too short
 abbrev pub IsShort : (c old : Contents) → Type 0
 IsShort c old =
-    (length old.objects < length c.objects) ⊎ (length old.targets < length c.targets) ⊎ (length old.text < length c.text)
+    (length old.objects < length c.objects) ⊎ (length old.targets < length c.targets)
+    ⊎ (length old.text < length c.text)
     ⊎ (length old.parts < length c.parts) ⊎ (length old.bytes < length c.bytes)
 
 -- none is
@@ -83,7 +93,8 @@ pub record Fits (c old : Contents) : Type 0 where
   pub bytes : length c.bytes ≤ length old.bytes
 
 -- the tables load, but one of the arrays is too short for what they load to
-pub record NeedsRoom (depth : ℕ) (tables : List (List ℕ)) (old : Contents) (outcome : Outcome) : Type 0 where
+pub record NeedsRoom (depth : ℕ) (tables : List (List ℕ)) (old : Contents)
+    (outcome : Outcome) : Type 0 where
   pub contents : Contents
   pub is_load : IsContentsOf depth tables contents
   pub outcome_is : outcome ≡ counted contents
@@ -93,16 +104,19 @@ pub record NeedsRoom (depth : ℕ) (tables : List (List ℕ)) (old : Contents) (
 
 -- all but the text is as it was
 abbrev pub StayButText : (old new : Contents) → Type 0
-StayButText old new = (new.objects ≡ old.objects) × (new.targets ≡ old.targets) × (new.parts ≡ old.parts) × (new.bytes ≡ old.bytes)
+StayButText old new = (new.objects ≡ old.objects) × (new.targets ≡ old.targets)
+    × (new.parts ≡ old.parts) × (new.bytes ≡ old.bytes)
 
 -- the path that a refusal names stands at the front of the text, where there is room for it; the outcome has its bytes
 abbrev pub TellsPath : LoadReason → ℕ → (old new : List ℕ) → Type 0
 TellsPath (Refused refusal path) n old new =
-    (n ≡ length (path_text path)) × (n ≤ length old → new ≡ path_text path ++ drop n old) × (length old < n → new ≡ old)
+    (n ≡ length (path_text path)) × (n ≤ length old → new ≡ path_text path ++ drop n old)
+    × (length old < n → new ≡ old)
 TellsPath _ n old new = (n ≡ 0) × (new ≡ old)
 
 -- the tables have no load, and the outcome has a true reason
-pub record IsRefusal (depth : ℕ) (tables : List (List ℕ)) (old new : List ℕ) (outcome : Outcome) : Type 0 where
+pub record IsRefusal (depth : ℕ) (tables : List (List ℕ)) (old new : List ℕ)
+    (outcome : Outcome) : Type 0 where
   pub table : ℕ
   pub reason : LoadReason
   pub fault : IsLoadFault depth tables (At table reason)

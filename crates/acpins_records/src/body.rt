@@ -164,8 +164,8 @@ fn write_given(given: &Given, text: &mut [u8], body: &mut BodyRecord, outcome: &
     OK
 }
 
-/// Writes the body of the method at a path: its statements as text, or its bytes where they can't be read. Where the text
-/// is too short, only the record and the outcome are written.
+/// Writes the body of the method at a path: its statements as text, or its bytes where they can't be read. Where the
+/// text is too short, only the record and the outcome are written.
 pub fn write_body(
     alloc: Global,
     tables: &[LentTable<'_>],

@@ -23,8 +23,8 @@ use std::alloc::{AllocError, Global};
 #[repr(C)]
 #[derive(Clone, Copy, Debug)]
 pub struct VerdictRecord {
-    /// 0: they may. 1: the SSDT `first` doesn't load over the DSDT alone. 2: `first` and `second` declare one path. 3: the
-    /// load of `first` missed a path that `second` declares.
+    /// 0: they may. 1: the SSDT `first` doesn't load over the DSDT alone. 2: `first` and `second` declare one path. 3:
+    /// the load of `first` missed a path that `second` declares.
     pub order: u64,
     /// An SSDT; 0 where they may.
     pub first: u64,
@@ -260,8 +260,8 @@ fn write_answer(
     OK
 }
 
-/// Writes whether the SSDTs may be loaded in any order over the DSDT, and the Externals that they satisfy for one another.
-/// Where an array is too short, only the verdict and the outcome are written.
+/// Writes whether the SSDTs may be loaded in any order over the DSDT, and the Externals that they satisfy for one
+/// another. Where an array is too short, only the verdict and the outcome are written.
 pub fn write_verdict(
     alloc: Global,
     tables: &[LentTable<'_>],

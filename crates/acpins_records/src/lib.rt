@@ -7,8 +7,8 @@
 //!               └─────► refusal ────────────────────────────────► Outcome
 //! ```
 //!
-//! `write_load`, `write_body`, `write_verdict` and `write_tables` are what `acpins_c` exports. They keep nothing: all memory
-//! that they take is given back when they return.
+//! `write_load`, `write_body`, `write_verdict` and `write_tables` are what `acpins_c` exports. They keep nothing: all
+//! memory that they take is given back when they return.
 #![tactic(auto)]
 
 mod body;

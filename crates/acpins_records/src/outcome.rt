@@ -34,13 +34,13 @@ pub const BAD_PATH: u32 = 6;
 pub struct Outcome {
     /// How many records there are.
     pub objects: u64,
-    /// How many targets.
+    /// How many targets of links there are.
     pub targets: u64,
     /// How many bytes of text; of a refusal, those of the path that it names.
     pub text: u64,
     /// How many parts of constant data.
     pub parts: u64,
-    /// How many bytes.
+    /// How many bytes of strings, buffers and names, or of all tables that are written.
     pub bytes: u64,
     /// The table that is refused, from 0.
     pub table: u64,

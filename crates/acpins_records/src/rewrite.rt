@@ -71,8 +71,8 @@ fn write_joined(joined: &Joined, bytes: &mut [u8], ends: &mut [u64], outcome: &m
     OK
 }
 
-/// Writes the tables, each in its shortest spelling, one behind the other, and where each ends, in bytes. The path that a
-/// refusal names stands at the front of the bytes.
+/// Writes the tables, each in its shortest spelling, one behind the other, and where each ends, in bytes. The path that
+/// a refusal names stands at the front of the bytes.
 pub fn write_tables(
     alloc: Global,
     tables: &[LentTable<'_>],

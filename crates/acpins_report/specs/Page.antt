@@ -36,7 +36,8 @@ element_name elements.Title = codes "title"
 element_name elements.Tr = codes "tr"
 element_name elements.Ul = codes "ul"
 
--- what stands before an attribute's value: its name, `=` and a quote; a link leads to an element of the page, by the `#`
+-- what stands before an attribute's value: its name, `=` and a quote; a link leads to an element of the page, by the
+-- `#`
 abbrev pub attribute_start : AttributeName → List ℕ
 attribute_start names.Class = codes " class=\""
 attribute_start names.Height = codes " height=\""
@@ -71,7 +72,8 @@ pub data Part : Type 0 where
   line_end : Part
 
 abbrev pub part_text : Part → List ℕ
-part_text (opening_tag element attributes) = codes "<" ++ element_name element ++ flat_map attribute_text attributes ++ codes ">"
+part_text (opening_tag element attributes) =
+    codes "<" ++ element_name element ++ flat_map attribute_text attributes ++ codes ">"
 part_text (plain_text bytes) = escaped bytes
 part_text (closing_tag element) = codes "</" ++ element_name element ++ codes ">"
 part_text line_end = codes "\n"

@@ -1,7 +1,7 @@
 //! Texts of what is known of a device.
 
 use crate::words::{put_chars, put_hex};
-use acpi_overview::{Address, Container, Value, number_of};
+use acpi_overview::{Address, Container, Value, integer_value};
 use acpi_resources::{eisa_id, name_of};
 use acpi_text::{put, put_decimal};
 use acpi_tree::Term;
@@ -169,12 +169,12 @@ pub(crate) fn put_status(text: &mut Vec<u8>, value: &Value<'_>) -> Result<(), Al
 // The event by which a device wakes the machine: a number, or that of another device.
 fn put_event(text: &mut Vec<u8>, term: &Term) -> Result<(), AllocError> {
     match term {
-        Term::Int(int) => match number_of(*int) {
+        Term::Int(int) => match integer_value(*int) {
             Some(number) => put_hex(text, number, 2),
             None => put(text, "?"),
         },
         Term::Package(_, elements) => match elements.as_slice() {
-            [_, Term::Int(int)] => match number_of(*int) {
+            [_, Term::Int(int)] => match integer_value(*int) {
                 Some(number) => put_hex(text, number, 2),
                 None => put(text, "?"),
             },

@@ -1,7 +1,7 @@
 //! Terms that are read at run time, with the signs of arithmetic.
 
 use crate::words::put_hex;
-use acpi_overview::number_of;
+use acpi_overview::integer_value;
 use acpi_text::{put, put_decimal, put_name, put_term};
 use acpi_tree::{Op, Operand, Term};
 use std::alloc::AllocError;
@@ -36,7 +36,7 @@ fn sign_between(op: Op, operands: &[Operand]) -> Option<&'static str> {
 // By how many bits a shift moves.
 fn shift_count(op: Op, term: &Term) -> Option<u64> {
     match (op, term) {
-        (Op::ShiftLeft | Op::ShiftRight, Term::Int(int)) => number_of(*int),
+        (Op::ShiftLeft | Op::ShiftRight, Term::Int(int)) => integer_value(*int),
         _ => None,
     }
 }
@@ -57,7 +57,7 @@ fn put_number(text: &mut Vec<u8>, number: u64) -> Result<(), AllocError> {
 #[cycle(put_expression)]
 pub(crate) fn put_expression(text: &mut Vec<u8>, term: &Term) -> Result<(), AllocError> {
     match term {
-        Term::Int(int) => match number_of(*int) {
+        Term::Int(int) => match integer_value(*int) {
             Some(number) => put_number(text, number),
             None => put_term(text, term),
         },

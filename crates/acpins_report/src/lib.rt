@@ -30,8 +30,6 @@ mod rows;
 mod sections;
 mod sheet;
 mod style;
-#[cfg(test)]
-mod tests;
 mod words;
 
 pub use page::html;

@@ -27,7 +27,7 @@ fn put_heads(
     overview: &Overview<'_>,
     files: &[&str],
 ) -> Result<(), AllocError> {
-    page.element(Element::H1, b"What the tables say")?;
+    page.element(Element::H1, b"SpanContent the tables say")?;
     page.end_line()?;
     let mut text = Vec::new(alloc);
     put_first(&mut text, overview)?;
@@ -236,10 +236,10 @@ fn with_head(alloc: Global, head: &str, body: &[u8]) -> Result<Vec<u8>, AllocErr
     Ok(page)
 }
 
-/// The overview of the tables of a survey, of which these are the names of the files, as one page that needs no other file
-/// and no script. Only an allocation failure is an error. Behind a head that is always the same the page is tags of some
-/// elements, which run and fetch nothing, with some attributes, and text: all that comes from tables and names of files
-/// is escaped.
+/// The overview of the tables of a survey, of which these are the names of the files, as one page that needs no other
+/// file and no script. Only an allocation failure is an error. Behind a head that is always the same the page is tags
+/// of some elements, which run and fetch nothing, with some attributes, and text: all that comes from tables and names
+/// of files is escaped.
 pub fn html(alloc: Global, survey: &Survey, files: &[&str]) -> Result<Vec<u8>, AllocError>
     ensures { IfOk result (λ page. IsPage HEAD.now page.items) }
 {

@@ -4,7 +4,7 @@ use crate::markup::{AttributeName, Element};
 use crate::page_parts::with_value;
 use crate::page_writer::{Page, digits};
 use crate::region_words::{by_address, put_addresses, put_length, put_region_path, space_word};
-use acpi_overview::{Mark, Overview, Region, kind_of};
+use acpi_overview::{Certainty, Overview, Region, kind_of};
 use acpi_text::{put, put_decimal};
 use std::alloc::{AllocError, Global};
 
@@ -64,11 +64,11 @@ fn map_boxes<'a, 'b>(
 }
 
 // The class of a region with that mark.
-fn class_of(mark: Mark) -> &'static str {
+fn class_of(mark: Certainty) -> &'static str {
     match mark {
-        Mark::Constant => "k",
-        Mark::Named => "n",
-        Mark::Read => "q",
+        Certainty::Constant => "k",
+        Certainty::Named => "n",
+        Certainty::Read => "q",
     }
 }
 

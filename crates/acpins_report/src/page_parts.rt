@@ -12,9 +12,9 @@ use std::alloc::AllocError;
 /// An attribute with its value.
 #[derive(Debug, Clone, Copy)]
 pub(crate) struct Attribute<'a> {
-    /// The name.
+    /// Which attribute it is.
     pub name: AttributeName,
-    /// The value.
+    /// Its value, which is escaped where it is written.
     pub value: &'a [u8],
 }
 

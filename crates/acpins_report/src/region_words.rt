@@ -3,7 +3,7 @@
 use crate::device_words::put_address;
 use crate::expressions::put_expression;
 use crate::words::{put_hex, put_last, put_short_path, put_size};
-use acpi_overview::{Address, Bound, Kind, Mark, Overview, Region, kind_of};
+use acpi_overview::{Address, AddressKind, Bound, Certainty, Overview, Region, kind_of};
 use acpi_text::{put, put_decimal, put_name};
 use std::alloc::{AllocError, Global};
 
@@ -73,13 +73,13 @@ pub(crate) fn by_address(alloc: Global, overview: &Overview<'_>) -> Result<Vec<u
     Ok(numbers)
 }
 
-/// The sign of how far the bounds of a region are known: `=` constants, `~` names of constants that are never stored to, `?`
-/// read at run time.
+/// The sign of how far the bounds of a region are known: `=` constants, `~` names of constants that are never stored
+/// to, `?` read at run time.
 pub(crate) fn mark_of(region: &Region<'_>) -> &'static str {
     match region.mark() {
-        Mark::Constant => "=",
-        Mark::Named => "~",
-        Mark::Read => "?",
+        Certainty::Constant => "=",
+        Certainty::Named => "~",
+        Certainty::Read => "?",
     }
 }
 
@@ -166,7 +166,7 @@ fn put_source(text: &mut Vec<u8>, bound: &Bound<'_>) -> Result<(), AllocError> {
 fn put_claimed(
     text: &mut Vec<u8>,
     overview: &Overview<'_>,
-    kind: Kind,
+    kind: AddressKind,
     from: u64,
     to: u64,
     digits: u32,

@@ -70,7 +70,8 @@ impl Order {
         Ok(Order { keys })
     }
 
-    /// The containers by their parents, those of one parent in their order: each behind its parent's number and its address.
+    /// The containers by their parents, those of one parent in their order: each behind its parent's number and its
+    /// address.
     pub(crate) fn numbers(&self) -> &[(usize, u64, usize)] {
         &self.keys
     }
@@ -232,7 +233,8 @@ fn put_below(
     Ok(())
 }
 
-// By the number of a container, what it and all below it have; nothing where that is long. Each stands behind its parent.
+// By the number of a container, what it and all below it have; nothing where that is long. Each stands behind its
+// parent.
 fn keys_of(
     alloc: Global,
     containers: &[Container<'_>],

@@ -350,8 +350,8 @@ fn put_lints(
 }
 
 /// The report of the tables of a survey, of which these are the names of the files: problems and notes, what has a
-/// condition, the methods that an operating system runs by itself, devices, power and thermal objects, regions, and what looks wrong.
-/// Only an allocation failure is an error.
+/// condition, the methods that an operating system runs by itself, devices, power and thermal objects, regions, and
+/// what looks wrong. Only an allocation failure is an error.
 pub fn report(
     alloc: Global,
     survey: &Survey,

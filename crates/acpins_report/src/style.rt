@@ -1,7 +1,7 @@
 //! What a page looks like.
 
-/// What stands before the body of a page: its language, its width on a telephone, its title, and how it looks in light, in
-/// the dark and on paper.
+/// What stands before the body of a page: its language, its width on a telephone, its title, and how it looks in light,
+/// in the dark and on paper.
 pub const HEAD: &str = "<!doctype html>
 <html lang=\"en\"><head><meta charset=\"utf-8\">
 <meta name=\"viewport\" content=\"width=device-width, initial-scale=1\">

@@ -6,6 +6,7 @@ use Rattle.std.specs.List.{concat}
 use Rattle.std.proofs.lemmas.List.{length-append, map-append, take_more, drop_more, take-append-drop}
 use Rattle.std.proofs.lemmas.List.Elements.{All-nil, All-push}
 use Rattle.std.proofs.lemmas.List.Folds.{concat-append}
+use Rattle.std.proofs.KnownBytes.{Consumes-trans, Consumes-nil}
 use Rattle.acpi_table.specs.Tables.{IsTable, IsRefusedAs}
 use Rattle.acpi_table.specs.declared.tables.TableFault.{TableFault}
 use Rattle.acpins_io.specs.Hexadecimal.{SpellsInHex}
@@ -15,16 +16,6 @@ use Rattle.acpins_run.specs.declared.failure.Failure.{Failure}
 use Rattle.acpins_run.specs.declared.failure.Failure.TheVariants.{WrongWords, BadPath, NoSuchPath, NoTable, Read, BadHex, Out, Output, Table, Item, Load, Memory}
 
 -- ---- bytes that are taken, piece by piece
-
-pub Consumes-nothing : (a : Option (List ℕ)) → Consumes a a []
-Consumes-nothing None = tt
-Consumes-nothing (Some xs) = refl
-
-pub Consumes-both : (a b c : Option (List ℕ)) (xs ys : List ℕ) → Consumes a b xs → Consumes b c ys → Consumes a c (xs ++ ys)
-Consumes-both None b c xs ys p q = tt
-Consumes-both (Some x) None c xs ys p q = absurd p
-Consumes-both (Some x) (Some y) None xs ys p q = absurd q
-Consumes-both (Some x) (Some y) (Some z) xs ys p q = p ∙ ap (λ l. xs ++ l) q ∙ sym (append_assoc xs ys z)
 
 -- all that is known was taken
 pub taken_whole : (a b : Option (List ℕ)) (xs : List ℕ) → Consumes a b xs → IsAtEnd b → IfSome a (λ bytes. bytes ≡ xs)
@@ -41,7 +32,7 @@ pub record SoFar (known coming : Option (List ℕ)) (old new : List (List ℕ)) 
   pub taken : Consumes known coming (concat added)
 
 pub SoFar-nothing : (a : Option (List ℕ)) (old : List (List ℕ)) → SoFar a a old old
-SoFar-nothing a old = record { added = []; grown = sym (append-nil old); whole = All-nil IsTable; taken = Consumes-nothing a }
+SoFar-nothing a old = record { added = []; grown = sym (append-nil old); whole = All-nil IsTable; taken = Consumes-nil a }
 
 pub SoFar-more : (a b c : Option (List ℕ)) (old mid new : List (List ℕ)) (table : List ℕ)
     → SoFar a b old mid → new ≡ mid ++ table ∷ [] → IsTable table → Consumes b c table → SoFar a c old new
@@ -50,7 +41,7 @@ SoFar-more a b c old mid new table before grown is taken = record {
   grown = grown ∙ ap (λ l. l ++ table ∷ []) before.grown ∙ append_assoc old before.added (table ∷ []);
   whole = All-push IsTable before.added table before.whole is;
   taken = subst (Consumes a c) (sym (concat-append before.added (table ∷ []) ∙ ap (λ l. concat before.added ++ l) (append-nil table)))
-      (Consumes-both a b c (concat before.added) table before.taken taken);
+      (Consumes-trans a b c (concat before.added) table before.taken taken);
 }
 
 -- the bytes are at their end

@@ -1,5 +1,6 @@
 -- What a run tells of a load's refusal.
 use Rattle.std.proofs.Common.{◌≡◌, [], ◌∷◌, ℕ, List, Option, refl, sym, ap, subst}
+use Rattle.std.proofs.KnownBytes.{Appends-nil}
 use Rattle.acpi_declare.specs.Refusals.{IsLoadFault}
 use Rattle.acpi_declare.specs.declared.fault.LoadFault.{LoadFault}
 use Rattle.acpi_declare.specs.declared.fault.LoadFault.TheVariants.{At, Memory}
@@ -10,7 +11,6 @@ use Rattle.acpins_run.specs.Input.{FileBytes, AreTablesOf}
 use Rattle.acpins_run.specs.Failures.{failure_of}
 use Rattle.acpins_run.specs.Runs.{IsFailureOf, IsRunFailure, GetsBeginning, loaded_by}
 use Rattle.acpins_run.specs.declared.failure.Failure.TheVariants.{Output}
-use Rattle.acpins_io.proofs.Telling.{appends_nothing}
 
 -- a refusal of what the command loads is a failure of the run
 pub refusal_of : (bytes_of : FileBytes) (asked : Asked) (tables loaded : List (List ℕ)) (e : LoadFault) → AreTablesOf bytes_of asked.hex asked.files tables
@@ -45,4 +45,4 @@ first_checked c dsdt ssdts is = ap (λ (x : Command). loaded_by x (dsdt ∷ ssdt
 
 -- nothing is a beginning of the output
 pub begins_with_nothing : (bytes_of : FileBytes) (words : List Text) (old : Option (List ℕ)) → IsRunFailure bytes_of words Output → GetsBeginning bytes_of words old old
-begins_with_nothing bytes_of words old h = (h.0, h.1, h.2, ([], h.1, refl, appends_nothing old))
+begins_with_nothing bytes_of words old h = (h.0, h.1, h.2, ([], h.1, refl, Appends-nil old))

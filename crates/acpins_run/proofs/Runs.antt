@@ -10,6 +10,7 @@ use Rattle.acpi_name.specs.steps.PathOrder.{path_cmp_total, path_cmp-IsAntisymme
 use Rattle.acpi_table.specs.Tables.{IsTable, table_at}
 use Rattle.acpi_table.specs.declared.tables.TableFault.{TableFault}
 use Rattle.acpi_table.proofs.TableLaws.{table_again}
+use Rattle.acpi_space.proofs.Elements.{one_some}
 use Rattle.acpi_text.specs.Lines.{listing_text}
 use Rattle.acpi_order.specs.Machines.{Machine, IsMachine}
 use Rattle.acpi_order.specs.Joins.{IsJoin, IsSingleLoad}
@@ -73,13 +74,10 @@ tail_is a b xs ys e = cc
 
 -- ---- what a run with status 0 printed
 
-asked_is : (a b : Asked) → Some a ≡ Some b → a ≡ b
-asked_is a b e = cc
-
 is_printed : (bytes_of : FileBytes) (words : List Text) (asked : Asked) (command : Command) (text : List ℕ) → HasPrinted bytes_of words asked command text
     → IsPrinted bytes_of asked command 0 text
 is_printed bytes_of words asked command text h =
-    let same : h.printed.0 ≡ asked = asked_is h.printed.0 asked (sym h.printed.1 ∙ h.ask) in
+    let same : h.printed.0 ≡ asked = one_some h.printed.0 asked (sym h.printed.1 ∙ h.ask) in
     subst (λ (c : Command). IsPrinted bytes_of asked c 0 text) h.command_is (subst (λ (a : Asked). IsPrinted bytes_of a a.command 0 text) same h.printed.2)
 
 -- SSDTs of which a check ends with status 0 are independent

@@ -19,7 +19,8 @@ failure_text (BadHex file) = file.now ++ codes ": bad hexadecimal text"
 failure_text (Out file) = file.now ++ codes ": cannot be written"
 failure_text Output = codes "standard output cannot be written"
 failure_text (Table number fault) = in_table number (table_fault_text fault)
-failure_text (Item number reason place) = in_table number (item_reason_text reason ++ codes " at " ++ decimal place)
+failure_text (Item number reason place) =
+    in_table number (item_reason_text reason ++ codes " at " ++ decimal place)
 failure_text (Load number reason) = in_table number (load_reason_text reason)
 failure_text Memory = codes "M Memory"
 

@@ -12,7 +12,8 @@ use Rattle.acpins_run.specs.declared.failure.Failure.TheVariants as failures
 -- what a run tells of a load's refusal
 abbrev pub failure_of : LoadFault → Failure
 failure_of Memory = failures.Memory
-failure_of (At table (reasons.Item reason place)) = failures.Item table reason (place_in_table place)
+failure_of (At table (reasons.Item reason place)) =
+    failures.Item table reason (place_in_table place)
 failure_of (At table reason) = failures.Load table reason
 
 -- .. and of words that ask for nothing

@@ -23,8 +23,10 @@ abbrev pub Stores : Bool → List ℕ → List ℕ → Type 0
 Stores true content bytes = SpellsInHex bytes content
 Stores false content bytes = content ≡ bytes
 
--- Each of these is one whole table, and what is known of the file's bytes stores them one after another, and nothing else.
-pub record AreTablesIn (hex : Bool) (known : Option (List ℕ)) (tables : List (List ℕ)) : Type 0 where
+-- Each of these is one whole table, and what is known of the file's bytes stores them one after another, and nothing
+-- else.
+pub record AreTablesIn (hex : Bool) (known : Option (List ℕ))
+    (tables : List (List ℕ)) : Type 0 where
   pub whole : All IsTable tables
   pub stored : IfSome known (λ content. Stores hex content (concat tables))
 
@@ -32,18 +34,23 @@ pub record AreTablesIn (hex : Bool) (known : Option (List ℕ)) (tables : List (
 abbrev pub AreTablesOf : FileBytes → Bool → List (List ℕ) → List (List ℕ) → Type 0
 AreTablesOf bytes_of hex [] tables = tables ≡ []
 AreTablesOf bytes_of hex (name ∷ names) tables =
-    (first : List (List ℕ)) × (rest : List (List ℕ)) × (tables ≡ first ++ rest) × AreTablesIn hex (bytes_of name) first × AreTablesOf bytes_of hex names rest
+    (first : List (List ℕ)) × (rest : List (List ℕ)) × (tables ≡ first ++ rest)
+    × AreTablesIn hex (bytes_of name) first × AreTablesOf bytes_of hex names rest
 
 -- a file's tables follow those that were there
 abbrev pub AddsTablesOf : Bool → Option (List ℕ) → List (List ℕ) → List (List ℕ) → Type 0
-AddsTablesOf hex known old new = (added : List (List ℕ)) × (new ≡ old ++ added) × AreTablesIn hex known added
+AddsTablesOf hex known old new =
+    (added : List (List ℕ)) × (new ≡ old ++ added) × AreTablesIn hex known added
 
 -- ---- files that hold no tables
 
 -- After these whole tables the file has more bytes, and no table stands there for this reason.
-pub record BreaksOff (hex : Bool) (known : Option (List ℕ)) (tables : List (List ℕ)) (fault : TableFault) : Type 0 where
+pub record BreaksOff (hex : Bool) (known : Option (List ℕ)) (tables : List (List ℕ))
+    (fault : TableFault) : Type 0 where
   pub whole : All IsTable tables
-  pub refused : IfSome known (λ content. (rest : List ℕ) × Stores hex content (concat tables ++ rest) × (rest ≢ []) × IsRefusedAs fault rest)
+  pub refused : IfSome known
+      (λ content. (rest : List ℕ) × Stores hex content (concat tables ++ rest) × (rest ≢ [])
+      × IsRefusedAs fault rest)
 
 -- one failed read more where the file can't be read, and none else
 abbrev pub CountsFailedRead : {A : Type 0} → Result A Failure → ℕ → ℕ → Type 0
@@ -55,14 +62,16 @@ CountsFailedRead _ old new = new ≡ old
 abbrev pub IsFileFault : Bool → List ℕ → Option (List ℕ) → ℕ → Failure → Type 0
 IsFileFault hex name known before (Read word) = word.now ≡ name
 IsFileFault hex name known before (BadHex word) =
-    (word.now ≡ name) × IsTrue hex × IfSome known (λ content. (bytes : List ℕ) → SpellsInHex bytes content → ⊥)
+    (word.now ≡ name) × IsTrue hex
+    × IfSome known (λ content. (bytes : List ℕ) → SpellsInHex bytes content → ⊥)
 IsFileFault hex name known before (Table number fault) =
     (tables : List (List ℕ)) × (number ≡ before + length tables) × BreaksOff hex known tables fault
 IsFileFault hex name known before Memory = Unit {0}
 IsFileFault hex name known before _ = ⊥
 
 -- the first of the files that gives no tables, and why
-pub record IsFilesFault (bytes_of : FileBytes) (hex : Bool) (names : List (List ℕ)) (failure : Failure) : Type 0 where
+pub record IsFilesFault (bytes_of : FileBytes) (hex : Bool) (names : List (List ℕ))
+    (failure : Failure) : Type 0 where
   pub earlier : List (List ℕ)
   pub name : List ℕ
   pub later : List (List ℕ)
@@ -74,7 +83,8 @@ pub record IsFilesFault (bytes_of : FileBytes) (hex : Bool) (names : List (List 
 -- ---- loads of files
 
 -- the machine of the tables that the files hold, at least one
-pub record IsLoadOfFiles (bytes_of : FileBytes) (hex : Bool) (depth : ℕ) (names : List (List ℕ)) (tables : List (List ℕ)) (m : Machine) : Type 0 where
+pub record IsLoadOfFiles (bytes_of : FileBytes) (hex : Bool) (depth : ℕ) (names : List (List ℕ))
+    (tables : List (List ℕ)) (m : Machine) : Type 0 where
   pub of_files : AreTablesOf bytes_of hex names tables
   pub some : tables ≢ []
   pub loaded : IsMachine depth tables m

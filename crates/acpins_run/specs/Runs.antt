@@ -29,7 +29,8 @@ pub record IsListing (bytes_of : FileBytes) (asked : Asked) (text : List ℕ) : 
   pub printed : Prints machine.objects machine.links text
 
 -- the text prints the object at the path that the word spells
-pub record IsShowing (bytes_of : FileBytes) (asked : Asked) (word : Text) (text : List ℕ) : Type 0 where
+pub record IsShowing (bytes_of : FileBytes) (asked : Asked) (word : Text)
+    (text : List ℕ) : Type 0 where
   pub path : List Segment
   pub spelled : SpellsPathText path word
   pub tables : List (List ℕ)
@@ -38,7 +39,8 @@ pub record IsShowing (bytes_of : FileBytes) (asked : Asked) (word : Text) (text 
   pub printed : Shows asked.depth tables machine path text
 
 -- the text and the status are those of the verdict on the SSDTs in the files, over the DSDT, the first of all tables
-pub record IsChecking (bytes_of : FileBytes) (asked : Asked) (status : ℕ) (text : List ℕ) : Type 0 where
+pub record IsChecking (bytes_of : FileBytes) (asked : Asked) (status : ℕ)
+    (text : List ℕ) : Type 0 where
   pub dsdt : List ℕ
   pub ssdts : List (List ℕ)
   pub of_files : AreTablesOf bytes_of asked.hex asked.files (dsdt ∷ ssdts)
@@ -52,30 +54,37 @@ pub record IsRewriting (bytes_of : FileBytes) (asked : Asked) : Type 0 where
   pub are : AreRewritten asked.depth tables rewritten
   pub bytes : AreTablesOfBytes tables
 
--- What is printed, and the status with which the run ends then. Rewritten tables are written to a file, and nothing is printed.
+-- What is printed, and the status with which the run ends then. Rewritten tables are written to a file, and nothing is
+-- printed.
 abbrev pub IsPrinted : FileBytes → Asked → Command → ℕ → List ℕ → Type 0
 IsPrinted bytes_of asked listing status text = (status ≡ 0) × IsListing bytes_of asked text
-IsPrinted bytes_of asked (showing word) status text = (status ≡ 0) × IsShowing bytes_of asked word text
+IsPrinted bytes_of asked (showing word) status text =
+    (status ≡ 0) × IsShowing bytes_of asked word text
 IsPrinted bytes_of asked checking status text = IsChecking bytes_of asked status text
-IsPrinted bytes_of asked (rewriting word) status text = (status ≡ 0) × IsRewriting bytes_of asked × (text ≡ [])
+IsPrinted bytes_of asked (rewriting word) status text =
+    (status ≡ 0) × IsRewriting bytes_of asked × (text ≡ [])
 
 -- the words ask for that text
 abbrev pub IsOutput : FileBytes → List Text → ℕ → List ℕ → Type 0
-IsOutput bytes_of words status text = (asked : Asked) × (asked_of words ≡ Some asked) × IsPrinted bytes_of asked asked.command status text
+IsOutput bytes_of words status text = (asked : Asked) × (asked_of words ≡ Some asked)
+    × IsPrinted bytes_of asked asked.command status text
 
 -- standard output gets it, whole
 abbrev pub GetsOutput : FileBytes → List Text → ℕ → Option (List ℕ) → Option (List ℕ) → Type 0
-GetsOutput bytes_of words status old new = (text : List ℕ) × IsOutput bytes_of words status text × Appends old new text
+GetsOutput bytes_of words status old new =
+    (text : List ℕ) × IsOutput bytes_of words status text × Appends old new text
 
 -- .. or a beginning of it
 abbrev pub GetsBeginning : FileBytes → List Text → Option (List ℕ) → Option (List ℕ) → Type 0
-GetsBeginning bytes_of words old new = (status : ℕ) × (text : List ℕ) × IsOutput bytes_of words status text × AppendsBeginning text old new
+GetsBeginning bytes_of words old new = (status : ℕ) × (text : List ℕ)
+    × IsOutput bytes_of words status text × AppendsBeginning text old new
 
 -- ---- what is written to files
 
 -- What was written to each file, where it is known.
 -- The file of that name holds the tables of the files in their shortest spelling, and the others are as they were.
-pub record IsStored (bytes_of : FileBytes) (asked : Asked) (name : Text) (old new : FileBytes) : Type 0 where
+pub record IsStored (bytes_of : FileBytes) (asked : Asked) (name : Text)
+    (old new : FileBytes) : Type 0 where
   pub tables : List (List ℕ)
   pub of_files : AreTablesOf bytes_of asked.hex asked.files tables
   pub rewritten : List (List ℕ)
@@ -93,7 +102,8 @@ IsStoredFor bytes_of asked checking old new = new ≡ old
 IsStoredFor bytes_of asked (rewriting word) old new = IsStored bytes_of asked word old new
 
 abbrev pub StoresOutput : FileBytes → List Text → FileBytes → FileBytes → Type 0
-StoresOutput bytes_of words old new = (asked : Asked) × (asked_of words ≡ Some asked) × IsStoredFor bytes_of asked asked.command old new
+StoresOutput bytes_of words old new = (asked : Asked) × (asked_of words ≡ Some asked)
+    × IsStoredFor bytes_of asked asked.command old new
 
 -- a failure leaves all files as they were; where standard output can't be written, all else is done
 abbrev pub LeavesFiles : FileBytes → List Text → Failure → FileBytes → FileBytes → Type 0
@@ -139,20 +149,23 @@ IsMissingPath bytes_of asked (rewriting word) = ⊥
 
 -- the rewritten tables are made, and the file of that name is said not to be written
 abbrev pub IsUnwrittenFile : FileBytes → Asked → Command → Failure → Type 0
-IsUnwrittenFile bytes_of asked (rewriting word) failure = IsRewriting bytes_of asked × IsUnwritten word failure
+IsUnwrittenFile bytes_of asked (rewriting word) failure =
+    IsRewriting bytes_of asked × IsUnwritten word failure
 IsUnwrittenFile bytes_of asked _ failure = ⊥
 
--- why what the words ask for can't be made: the path is none or has no object; the files can't be read or cut into tables, they hold none,
--- the tables have no load; a file can't be written; or there is no memory
+-- why what the words ask for can't be made: the path is none or has no object; the files can't be read or cut into
+-- tables, they hold none, the tables have no load; a file can't be written; or there is no memory
 abbrev pub IsFailureOf : FileBytes → Asked → Failure → Type 0
 IsFailureOf bytes_of asked (Read word) = IsFilesFault bytes_of asked.hex asked.files (Read word)
 IsFailureOf bytes_of asked (BadHex word) = IsFilesFault bytes_of asked.hex asked.files (BadHex word)
-IsFailureOf bytes_of asked (Table number fault) = IsFilesFault bytes_of asked.hex asked.files (Table number fault)
+IsFailureOf bytes_of asked (Table number fault) =
+    IsFilesFault bytes_of asked.hex asked.files (Table number fault)
 IsFailureOf bytes_of asked BadPath = IsBadPath asked.command
 IsFailureOf bytes_of asked NoSuchPath = IsMissingPath bytes_of asked asked.command
 IsFailureOf bytes_of asked (Out word) = IsUnwrittenFile bytes_of asked asked.command (Out word)
 IsFailureOf bytes_of asked NoTable = AreTablesOf bytes_of asked.hex asked.files []
-IsFailureOf bytes_of asked (Item number reason place) = IsRefusal bytes_of asked (Item number reason place)
+IsFailureOf bytes_of asked (Item number reason place) =
+    IsRefusal bytes_of asked (Item number reason place)
 IsFailureOf bytes_of asked (Load number reason) = IsRefusal bytes_of asked (Load number reason)
 IsFailureOf bytes_of asked Memory = Unit {0}
 IsFailureOf bytes_of asked _ = ⊥
@@ -161,16 +174,22 @@ IsFailureOf bytes_of asked _ = ⊥
 abbrev pub IsRunFailure : FileBytes → List Text → Failure → Type 0
 IsRunFailure bytes_of words WrongWords = asked_of words ≡ None
 IsRunFailure bytes_of words Memory = Unit {0}
-IsRunFailure bytes_of words Output = (status : ℕ) × (text : List ℕ) × IsOutput bytes_of words status text
-IsRunFailure bytes_of words failure = (asked : Asked) × (asked_of words ≡ Some asked) × IsFailureOf bytes_of asked failure
+IsRunFailure bytes_of words Output =
+    (status : ℕ) × (text : List ℕ) × IsOutput bytes_of words status text
+IsRunFailure bytes_of words failure =
+    (asked : Asked) × (asked_of words ≡ Some asked) × IsFailureOf bytes_of asked failure
 
 -- the words ask for nothing, or for a path that is none
 abbrev pub IsWrong : List Text → Type 0
-IsWrong words = (asked_of words ≡ None) ⊎ ((asked : Asked) × (asked_of words ≡ Some asked) × IsBadPath asked.command)
+IsWrong words = (asked_of words ≡ None)
+    ⊎ ((asked : Asked) × (asked_of words ≡ Some asked) × IsBadPath asked.command)
 
--- A run ends with the status of such a failure, and its line is said. Standard output is as it was; if it was that which
--- could not be written, it got a beginning of what the words ask for. What was written to files is as `LeavesFiles` has it.
-pub record FailsWith (bytes_of : FileBytes) (words : List Text) (status : ℕ) (old new : Option (List ℕ)) (before after : FileBytes) (is_said : List ℕ → Type 0) : Type 0 where
+-- A run ends with the status of such a failure, and its line is said. Standard output is as it was; if it was that
+-- which could not be written, it got a beginning of what the words ask for. What was written to files is as
+-- `LeavesFiles` has it.
+pub record FailsWith (bytes_of : FileBytes) (words : List Text) (status : ℕ)
+    (old new : Option (List ℕ)) (before after : FileBytes)
+    (is_said : List ℕ → Type 0) : Type 0 where
   pub failure : Failure
   pub true_of : IsRunFailure bytes_of words failure
   pub status_is : status ≡ status_of failure

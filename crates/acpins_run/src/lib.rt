@@ -32,5 +32,5 @@ pub use acpins_io::{
 };
 pub use acpins_output::Output;
 pub use failure::Failure;
-pub use program::{made_in, run, run_telling, told};
+pub use program::{output_of, report_failure, run, run_telling};
 pub use tables::add_tables;

@@ -65,8 +65,8 @@ fn some_tables_of<'a, F: Files>(
     Ok(tables)
 }
 
-// The listing of what the files hold. Bodies are not listed and refuse nothing, so they are not read, and nothing is kept of
-// what the tables note for them.
+// The listing of what the files hold. Bodies are not listed and refuse nothing, so they are not read, and nothing is
+// kept of what the tables note for them.
 fn listing_of<'a, S: Space<Object>, F: Files>(
     alloc: Global,
     request: &Request<'a>,
@@ -170,7 +170,7 @@ fn rewriting_of<'a, S: Space<Object>, F: Files>(
 
 /// What a run prints, whole, with the objects kept in a space of the caller's choice. Rewritten tables stand in their
 /// file then.
-pub fn made_in<'a, S: Space<Object>, F: Files>(
+pub fn output_of<'a, S: Space<Object>, F: Files>(
     alloc: Global,
     words: &'a [&'a str],
     files: &mut F,
@@ -196,25 +196,9 @@ pub fn made_in<'a, S: Space<Object>, F: Files>(
     Ok(Output { text, status: 0 })
 }
 
-fn made<'a, F: Files>(
-    alloc: Global,
-    words: &'a [&'a str],
-    files: &mut F,
-) -> Result<Output, Failure<'a>>
-    ensures ok { IfOk result (λ m. IsOutput (F.bytes_of files.old)
-        (texts words.now) m.status m.text.items) }
-    ensures err { IfErr result (IsRunFailure (F.bytes_of files.old) (texts words.now)) }
-    ensures stored { OnOk result (StoresOutput (F.bytes_of files.old) (texts words.now)
-        (F.written_to files.old) (F.written_to files.new)) }
-    ensures left { IfErr result (λ f. LeavesFiles (F.bytes_of files.old) (texts words.now) f
-        (F.written_to files.old) (F.written_to files.new)) }
-{
-    made_in::<TreeSpace<Object>, F>(alloc, words, files)
-}
-
 // Makes what the words ask for, prints it, and answers the status. Where anything but printing fails, nothing was
 // printed.
-fn ended<'a, F: Files, O: Write>(
+fn print_output<'a, F: Files, O: Write>(
     alloc: Global,
     words: &'a [&'a str],
     files: &mut F,
@@ -234,7 +218,7 @@ fn ended<'a, F: Files, O: Write>(
     ensures left { IfErr result (λ f. LeavesFiles (F.bytes_of files.old) (texts words.now) f
         (F.written_to files.old) (F.written_to files.new)) }
 {
-    let Output { text, status } = made(alloc, words, files)?;
+    let Output { text, status } = output_of::<TreeSpace<Object>, F>(alloc, words, files)?;
     if !write_whole(out, &text) || out.flush().is_err() {
         return Err(Failure::Output);
     }
@@ -242,7 +226,7 @@ fn ended<'a, F: Files, O: Write>(
 }
 
 /// Says why a run failed, as far as it can be said, and answers the status.
-pub fn told<E, P: PartWriter<E>>(failure: &Failure<'_>, err: &mut E, parts: &mut P) -> u8
+pub fn report_failure<E, P: PartWriter<E>>(failure: &Failure<'_>, err: &mut E, parts: &mut P) -> u8
     ensures status { result ≡ status_of failure.now }
     ensures line { Tells (failure_line failure.now) (P.failed parts.old) (P.contents err.old)
         (P.failed parts.new) (P.contents err.new) }
@@ -273,9 +257,9 @@ pub fn run_telling<'a, F: Files, O: Write, E, P: PartWriter<E>>(
         (P.contents err.new)) }
     ensures statuses { result ≤ 3 }
 {
-    match ended(alloc, words, files, out) {
+    match print_output(alloc, words, files, out) {
         Ok(status) => status,
-        Err(failure) => told(&failure, err, parts),
+        Err(failure) => report_failure(&failure, err, parts),
     }
 }
 

@@ -56,7 +56,7 @@ pub fn rewritten_text<S: Space<Object>>(
 }
 
 // Why a file of that name isn't written.
-fn unwritten(name: &str, fault: FileFault) -> Failure<'_>
+fn write_failure(name: &str, fault: FileFault) -> Failure<'_>
     ensures { IsUnwritten name.now result }
 {
     match fault {
@@ -76,7 +76,7 @@ pub fn put_file<'a, F: Files>(files: &mut F, name: &'a str, bytes: &[u8]) -> Res
 {
     let mut file = match files.create(name) {
         Ok(file) => file,
-        Err(fault) => return Err(unwritten(name, fault)),
+        Err(fault) => return Err(write_failure(name, fault)),
     };
     let written = file.write_all(bytes).is_ok() && file.flush().is_ok();
     if !written {
@@ -85,6 +85,6 @@ pub fn put_file<'a, F: Files>(files: &mut F, name: &'a str, bytes: &[u8]) -> Res
     }
     match files.close(file) {
         Ok(()) => Ok(()),
-        Err(fault) => Err(unwritten(name, fault)),
+        Err(fault) => Err(write_failure(name, fault)),
     }
 }

@@ -9,14 +9,16 @@ ghost use Rattle.std.specs.Prelude.{◌≡◌, ◌≢◌, ◌≤◌, IfOk};
 ghost use Rattle.std.specs.IoError.{error_kind};
 ghost use Rattle.acpins_survey_run.specs.declared.failure.Failure.{Failure};
 
-use acpins_survey_run::{Failure, HostConsole, HostFiles, HostFolders, UntilFailure, run, told};
+use acpins_survey_run::{
+    Failure, HostConsole, HostFiles, HostFolders, UntilFailure, report_failure, run,
+};
 use std::alloc::Global;
 use std::io::ErrorKind;
 use std::process::ExitCode;
 use std::{env, io};
 
 // What the host gives: its words, its files and folders, its terminal, and its two streams.
-fn started(rt: &HostRuntime, alloc: Global) -> io::Result<u8>
+fn run_on_host(rt: &HostRuntime, alloc: Global) -> io::Result<u8>
     ensures { IfOk result (λ status. status ≤ 3) }
 {
     let args: Vec<String> = env::args(rt)?.collect(alloc)?;
@@ -51,9 +53,9 @@ fn failure_of(error: &io::Error) -> Failure
 }
 
 fn main(rt: HostRuntime) -> ExitCode {
-    let status = match started(&rt, rt.alloc()) {
+    let status = match run_on_host(&rt, rt.alloc()) {
         Ok(status) => status,
-        Err(error) => told(
+        Err(error) => report_failure(
             &failure_of(&error),
             &mut rt.stderr(),
             &mut UntilFailure::new(),

@@ -1,13 +1,13 @@
 -- Where the terms of entries stand.
 use Rattle.std.proofs.Common.{◌≡◌, ℕ, List, [], ◌++◌, Option, Some, None, is_some, option_map, unwrap_or, Result, OnOk, true≢false, ap, sym, subst}
 use Rattle.acpi_survey.specs.Lookup.{Found, found_to}
-use Rattle.acpi_survey.specs.declared.spans.What.{What}
-use Rattle.acpi_survey.specs.declared.spans.What.TheVariants as whats
+use Rattle.acpi_survey.specs.declared.spans.SpanContent.{SpanContent}
+use Rattle.acpi_survey.specs.declared.spans.SpanContent.TheVariants as whats
 use Rattle.acpins_survey_output.specs.Json.{more_members_text}
 use Rattle.acpins_survey_output.specs.JsonEntries.{end_of, term_members}
 
 -- where a part ends
-pub end_known : (to : ℕ) (w : What) (f : Found) → found_to to w ≡ Some f → to ≡ end_of f
+pub end_known : (to : ℕ) (w : SpanContent) (f : Found) → found_to to w ≡ Some f → to ≡ end_of f
 end_known to (whats.Node n) f h = ap (λ (o : Option Found). unwrap_or (option_map end_of o) to) h
 end_known to (whats.Element fixed e offset) f h = ap (λ (o : Option Found). unwrap_or (option_map end_of o) to) h
 end_known to (whats.Lost why) f h = ap (λ (o : Option Found). unwrap_or (option_map end_of o) to) h

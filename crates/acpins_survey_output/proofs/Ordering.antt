@@ -1,5 +1,5 @@
 -- The paths of entries.
-use Rattle.std.proofs.Common.{◌≡◌, ◌∙◌, suc, List, [], ◌∷◌, length, map, ap, sym, refl}
+use Rattle.std.proofs.Common.{◌≡◌, ◌∙◌, List, [], ◌∷◌, map, ap, sym, refl}
 use Rattle.acpi_conditions.specs.Entries.{Path, Turn, Entry}
 use Rattle.acpi_conditions.specs.EntryForms.{entry_view}
 use Rattle.acpi_conditions.specs.declared.entry.Entry.{Entry as EntryForm}
@@ -7,11 +7,7 @@ use Rattle.acpi_conditions.specs.declared.entry.Entry.{Entry as EntryForm}
 abbrev pub path_of : EntryForm → Path
 path_of e = e.path
 
-pub length_mapped : {X Y : Type 0} (f : X → Y) (xs : List X) → length (map f xs) ≡ length xs
-length_mapped f [] = refl
-length_mapped f (x ∷ xs) = ap suc (length_mapped f xs)
-
-map_twice : {X Y Z : Type 0} (f : Y → Z) (g : X → Y) (xs : List X) → map f (map g xs) ≡ map (λ x. f (g x)) xs
+pub map_twice : {X Y Z : Type 0} (f : Y → Z) (g : X → Y) (xs : List X) → map f (map g xs) ≡ map (λ x. f (g x)) xs
 map_twice f g [] = refl
 map_twice f g (x ∷ xs) = ap (λ t. f (g x) ∷ t) (map_twice f g xs)
 

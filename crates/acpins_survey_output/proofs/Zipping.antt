@@ -3,9 +3,9 @@ use Rattle.std.proofs.Common.{◌≡◌, ◌∙◌, ℕ, Bool, true, ◌+◌, �
 use Rattle.std.proofs.lemmas.Result.{on_ok_weaker}
 use Rattle.std.proofs.lemmas.List.{take_more, get_or-map}
 use Rattle.std.specs.List.{AllZip}
+use Rattle.acpi_survey.proofs.PlacedLists.{length_mapped}
 use Rattle.acpins_survey_output.specs.Json.{Value, array_lines, elements, lines_behind, lines_end}
 use Rattle.acpins_survey_output.specs.Shown.{zip_text}
-use Rattle.acpins_survey_output.proofs.Ordering.{length_mapped}
 
 all_behind : {X Y : Type 0} (R : X → Y → Type 0) (xs : List X) (ys : List Y) (x : X) (y : Y) → AllZip R xs ys → R x y → AllZip R (xs ++ x ∷ []) (ys ++ y ∷ [])
 all_behind R [] [] x y all r = (r, tt)

@@ -13,7 +13,8 @@ use Rattle.acpins_survey_output.specs.Reasons.{body_fault_text}
 abbrev pub reading_text : (code : List ℕ) → BodyReading → List ℕ
 reading_text code (Terms ts) = statements_text [] (terms_tree ts.items)
 reading_text code (Opaque reason place name) =
-    opaque_text code ++ codes "At " ++ decimal place ++ codes ": " ++ body_fault_text reason name ++ 10 ∷ []
+    opaque_text code ++ codes "At " ++ decimal place ++ codes ": " ++ body_fault_text reason name
+    ++ 10 ∷ []
 
 abbrev pub body_text : MethodBody → List ℕ
 body_text b = reading_text b.code.now b.reading
@@ -21,7 +22,8 @@ body_text b = reading_text b.code.now b.reading
 -- whether a code is read, or why and where it isn't
 abbrev pub verdict_text : BodyReading → List ℕ
 verdict_text (Terms ts) = codes " terms"
-verdict_text (Opaque reason place name) = codes " opaque " ++ body_fault_text reason name ++ codes " at " ++ decimal place
+verdict_text (Opaque reason place name) =
+    codes " opaque " ++ body_fault_text reason name ++ codes " at " ++ decimal place
 
 -- the line of a method
 abbrev pub method_line : List Segment → MethodBody → List ℕ

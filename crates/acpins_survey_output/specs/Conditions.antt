@@ -17,7 +17,8 @@ abbrev pub text_at : Site → LiteralParts → List ℕ
 text_at site (if_taken test) = codes "if(" ++ test_text test ++ codes ")"
 text_at site (if_missed test) = codes "not(" ++ test_text test ++ codes ")"
 text_at site (while_taken test) = codes "while(" ++ test_text test ++ codes ")"
-text_at site stop_missed = codes "past(" ++ decimal site.table ++ codes ":" ++ decimal site.offset ++ codes ")"
+text_at site stop_missed =
+    codes "past(" ++ decimal site.table ++ codes ":" ++ decimal site.offset ++ codes ")"
 text_at site (has p) = codes "has(" ++ path_text p ++ codes ")"
 text_at site (free p) = codes "no(" ++ path_text p ++ codes ")"
 text_at site (needs n) = codes "needs(" ++ name_text n ++ codes ")"

@@ -37,7 +37,8 @@ region_of _ offset length = None
 abbrev pub named_object : NamedForm → (before behind : TermTrees) → Option ObjectParts
 named_object nameds.Name before (more v vs) = Some (named (Some v))
 named_object (nameds.Create width) (more s (more i vs)) behind = Some (create width (computed s) i)
-named_object nameds.CreateField (more s (more i (more b vs))) behind = Some (create_bits (computed s) i b)
+named_object nameds.CreateField (more s (more i (more b vs))) behind =
+    Some (create_bits (computed s) i b)
 named_object nameds.Mutex before (more flags vs) = mutex_of flags
 named_object nameds.Event before behind = Some (constant event_object)
 named_object nameds.Region before (more space (more o (more l vs))) = region_of space o l
@@ -50,17 +51,20 @@ term_object _ = None
 abbrev pub plain_object : PlainTree → Option ObjectParts
 plain_object (term t) = term_object t
 plain_object (other_name source n) = Some alias
-plain_object (region_of_table n (more signature (more oem_id (more oem_table_id vs)))) = Some (table_region signature oem_id oem_table_id)
+plain_object (region_of_table n (more signature (more oem_id (more oem_table_id vs)))) =
+    Some (table_region signature oem_id oem_table_id)
 plain_object _ = None
 
 -- ---- packages
 
 abbrev pub processor_of : TermTrees → Option ObjectParts
-processor_of (more (raw s id) (more (raw t block) (more (raw u length) vs))) = Some (constant (processor_object id block length))
+processor_of (more (raw s id) (more (raw t block) (more (raw u length) vs))) =
+    Some (constant (processor_object id block length))
 processor_of _ = None
 
 abbrev pub power_of : TermTrees → Option ObjectParts
-power_of (more (raw s deepest) (more (raw t order) vs)) = Some (constant (power_object deepest order))
+power_of (more (raw s deepest) (more (raw t order) vs)) =
+    Some (constant (power_object deepest order))
 power_of _ = None
 
 abbrev pub container_object : ContainerForm → TermTrees → Option ObjectParts
@@ -85,9 +89,12 @@ node_object _ = None
 
 -- an element of so many bits at an offset, by the form of its list and what stands before the elements
 abbrev pub unit_object : UnitsForm → TermTrees → (offset bits : ℕ) → Option ObjectParts
-unit_object fields.Field (more (raw s flags) vs) offset bits = Some (constant (field_object forms.Field flags offset bits))
-unit_object fields.IndexField (more (raw s flags) vs) offset bits = Some (constant (field_object forms.Index flags offset bits))
-unit_object fields.BankField (more value (more (raw s flags) vs)) offset bits = Some (bank_unit value flags offset bits)
+unit_object fields.Field (more (raw s flags) vs) offset bits =
+    Some (constant (field_object forms.Field flags offset bits))
+unit_object fields.IndexField (more (raw s flags) vs) offset bits =
+    Some (constant (field_object forms.Index flags offset bits))
+unit_object fields.BankField (more value (more (raw s flags) vs)) offset bits =
+    Some (bank_unit value flags offset bits)
 unit_object _ vs offset bits = None
 
 abbrev pub units_object : FixedTree → (offset bits : ℕ) → Option ObjectParts

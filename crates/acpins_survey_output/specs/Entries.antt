@@ -11,4 +11,5 @@ use Rattle.acpins_survey_output.specs.Objects.{ObjectParts, parts_text, source_o
 -- the path, what the entry declares, the links, and the condition where there is one
 abbrev pub entry_line : List Segment → ObjectParts → List LinkParts → List PlacedParts → List ℕ
 entry_line path object links condition =
-    path_text path ++ codes " " ++ parts_text object ++ sourced_text (source_of object) links ++ condition_text condition ++ 10 ∷ []
+    path_text path ++ codes " " ++ parts_text object ++ sourced_text (source_of object) links
+    ++ condition_text condition ++ 10 ∷ []

@@ -29,11 +29,13 @@ scope_text (Some p) = codes " in " ++ path_text p
 
 -- a line of a problem: where, why, what is lost, and the scope around
 abbrev pub problem_line : Problem → List ℕ
-problem_line p = codes "! " ++ site_text p.site ++ problem_reason_text p.reason p.name ++ lost_text p.lost ++ scope_text p.scope ++ 10 ∷ []
+problem_line p = codes "! " ++ site_text p.site ++ problem_reason_text p.reason p.name
+    ++ lost_text p.lost ++ scope_text p.scope ++ 10 ∷ []
 
 -- a line of a note: where, what, and the scope around
 abbrev pub note_line : Note → List ℕ
-note_line n = codes "~ " ++ site_text n.site ++ note_reason_text n.reason ++ scope_text n.scope ++ 10 ∷ []
+note_line n =
+    codes "~ " ++ site_text n.site ++ note_reason_text n.reason ++ scope_text n.scope ++ 10 ∷ []
 
 -- ---- problems and notes together
 
@@ -47,7 +49,8 @@ is_refused _ = false
 
 -- A problem is met before a note: at one site a refusal comes behind notes, and each other problem before them.
 abbrev pub is_met_first : Problem → Note → Bool
-is_met_first p n = if is_refused p.reason then is_before p.site n.site else not (is_before n.site p.site)
+is_met_first p n =
+    if is_refused p.reason then is_before p.site n.site else not (is_before n.site p.site)
 
 -- the lines of the notes up to the first that the problem is met before
 abbrev pub notes_before : Problem → List Note → List ℕ

@@ -67,7 +67,8 @@ abbrev mutual
 
   pub more_members_text : Members → List ℕ
   more_members_text no_members = codes "}"
-  more_members_text (member name v ms) = codes "," ++ (name_start name ++ (value_text v ++ more_members_text ms))
+  more_members_text (member name v ms) =
+      codes "," ++ (name_start name ++ (value_text v ++ more_members_text ms))
 
 -- what stands before the next element of an array, and the elements from there on
 abbrev pub element_start : (is_first : Bool) → List ℕ
@@ -106,7 +107,8 @@ value_lines v = value_text v
 -- members, each of which begins a line, up to the closing brace
 abbrev pub members_lines : (is_first : Bool) → Members → List ℕ
 members_lines is_first no_members = codes "\n}\n"
-members_lines is_first (member name v ms) = line_start is_first ++ (name_start name ++ (value_lines v ++ members_lines false ms))
+members_lines is_first (member name v ms) =
+    line_start is_first ++ (name_start name ++ (value_lines v ++ members_lines false ms))
 
 -- an object whose members begin lines, and so do the elements of their arrays
 abbrev pub object_lines : Members → List ℕ

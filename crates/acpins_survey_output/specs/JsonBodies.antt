@@ -21,7 +21,8 @@ use Rattle.acpins_survey_output.specs.Reasons.{body_fault_text}
 -- the lines of a text, each with an end; those behind the beginning of one
 abbrev pub lines_from : (line : List ℕ) → List ℕ → List (List ℕ)
 lines_from line [] = []
-lines_from line (c ∷ cs) = if nat_eq c 10 then line ∷ lines_from [] cs else lines_from (line ++ c ∷ []) cs
+lines_from line (c ∷ cs) =
+    if nat_eq c 10 then line ∷ lines_from [] cs else lines_from (line ++ c ∷ []) cs
 
 abbrev pub lines_value : List ℕ → Value
 lines_value text = array (values_of string (lines_from [] text))
@@ -29,12 +30,16 @@ lines_value text = array (values_of string (lines_from [] text))
 -- why and where a code isn't read, and its bytes
 abbrev pub opaque_value : List ℕ → BodyReason → (place : ℕ) → Option NameParts → Value
 opaque_value code reason place name =
-    object (member (codes "reason") (string (body_fault_text reason name)) (member (codes "at") (number_value place)
+    object (member (codes "reason") (string (body_fault_text reason name))
+    (member (codes "at") (number_value place)
     (member (codes "bytes") (string (separated (codes " ") (hex_digits 2) code)) no_members)))
 
 abbrev pub reading_members : List ℕ → BodyReading → Members
-reading_members code (Terms ts) = member (codes "statements") (lines_value (statements_text [] (terms_tree ts.items))) (member (codes "opaque") null no_members)
-reading_members code (Opaque reason place name) = member (codes "statements") null (member (codes "opaque") (opaque_value code reason place name) no_members)
+reading_members code (Terms ts) = member (codes "statements")
+    (lines_value (statements_text [] (terms_tree ts.items)))
+    (member (codes "opaque") null no_members)
+reading_members code (Opaque reason place name) = member (codes "statements") null
+    (member (codes "opaque") (opaque_value code reason place name) no_members)
 
 -- where the term of the entry of that number stands
 abbrev pub number_site : Survey → ℕ → Site
@@ -42,8 +47,10 @@ number_site s n = site_of (unwrap_or (place_of s n) 0)
 
 abbrev pub body_value : Survey → Path × ℕ → MethodBody → Value
 body_value s x b =
-    object (member (codes "path") (path_value x.0) (site_members (number_site s x.1) (member (codes "code_offset") (number_value b.offset)
-    (member (codes "code_length") (number_value (length b.code.now)) (reading_members b.code.now b.reading)))))
+    object (member (codes "path") (path_value x.0)
+    (site_members (number_site s x.1) (member (codes "code_offset") (number_value b.offset)
+    (member (codes "code_length") (number_value (length b.code.now))
+    (reading_members b.code.now b.reading)))))
 
 -- the body of an entry; an entry that is no method of a table has none
 abbrev pub body_values : Survey → Path × ℕ → Option MethodBody → List Value

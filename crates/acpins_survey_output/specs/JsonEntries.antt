@@ -18,11 +18,14 @@ use Rattle.acpins_survey_output.specs.Listings.{condition_of, entries_of, links_
 
 abbrev pub link_value : LinkParts → Value
 link_value l =
-    object (member (codes "name") (name_value l.name) (member (codes "candidates") (paths_value l.paths) (member (codes "certain") (boolean l.is_certain) no_members)))
+    object (member (codes "name") (name_value l.name)
+    (member (codes "candidates") (paths_value l.paths)
+    (member (codes "certain") (boolean l.is_certain) no_members)))
 
 -- a literal and a predicate, which may be lost
 abbrev pub test_members : (literal : List ℕ) → Option TermTree → Members → Members
-test_members literal test ms = member (codes "literal") (string literal) (member (codes "test") (value_or_null printed_term test) ms)
+test_members literal test ms = member (codes "literal") (string literal)
+    (member (codes "test") (value_or_null printed_term test) ms)
 
 abbrev pub named_members : (literal name : List ℕ) → Value → Members → Members
 named_members literal name v ms = member (codes "literal") (string literal) (member name v ms)
@@ -47,8 +50,10 @@ end_of (element_found to f offset e) = to
 
 -- where the term of an entry stands, and how many bytes it has; null of what is there before all tables
 abbrev pub term_members : Option Found → Option ℕ → Members
-term_members (Some part) (Some place) = site_members (site_of place) (member (codes "length") (number_value (end_of part - byte_at place)) no_members)
-term_members _ place = member (codes "table") null (member (codes "offset") null (member (codes "length") null no_members))
+term_members (Some part) (Some place) = site_members (site_of place)
+    (member (codes "length") (number_value (end_of part - byte_at place)) no_members)
+term_members _ place = member (codes "table") null
+    (member (codes "offset") null (member (codes "length") null no_members))
 
 abbrev pub place_of : Survey → ℕ → Option ℕ
 place_of s n = option_map (λ (e : Entry). e.term.place) (slice_get (entries_of s) n)

@@ -25,8 +25,8 @@ survey_members s order bodies =
     (member (codes "problems") (array (values_of problem_value s.found.problems.items))
     (member (codes "notes") (array (values_of note_value s.found.notes.items)) no_members))))))
 
--- The text spells an object with all that the survey says. Entries are in the order of the paths, those of one path in the order of
--- their places, and bodies of methods in that order too.
+-- The text spells an object with all that the survey says. Entries are in the order of the paths, those of one path in
+-- the order of their places, and bodies of methods in that order too.
 pub record IsJson (s : Survey) (text : List ℕ) : Type 0 where
   pub order : List (Path × ℕ)
   pub by_path : AreByPath (map (λ (e : Entry). e.path) (entries_of s)) order

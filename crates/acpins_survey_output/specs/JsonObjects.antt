@@ -55,31 +55,41 @@ kind_of (create_bits source index bits) = codes "create_field"
 
 abbrev pub processor_members : (id block length : ℕ) → Members
 processor_members id block length =
-    member (codes "id") (number_value id) (member (codes "block") (number_value block) (member (codes "length") (number_value length) no_members))
+    member (codes "id") (number_value id)
+    (member (codes "block") (number_value block)
+    (member (codes "length") (number_value length) no_members))
 
 abbrev pub power_members : (deepest order : ℕ) → Members
-power_members deepest order = member (codes "level") (number_value deepest) (member (codes "order") (number_value order) no_members)
+power_members deepest order = member (codes "level") (number_value deepest)
+    (member (codes "order") (number_value order) no_members)
 
 -- by the flags of a method: arguments, whether it is serialized, and the sync level (20.2.5.2)
 abbrev pub method_members : (flags : ℕ) → Members
 method_members flags =
-    member (codes "arguments") (number_value (flags % 8)) (member (codes "serialized") (boolean (nat_eq (flags / 8 % 2) 1))
+    member (codes "arguments") (number_value (flags % 8))
+    (member (codes "serialized") (boolean (nat_eq (flags / 8 % 2) 1))
     (member (codes "sync_level") (number_value (flags / 16)) no_members))
 
 abbrev pub unit_members : (flags offset bits : ℕ) → Members → Members
 unit_members flags offset bits ms =
-    member (codes "offset") (number_value offset) (member (codes "bits") (number_value bits) (member (codes "flags") (number_value flags) ms))
+    member (codes "offset") (number_value offset)
+    (member (codes "bits") (number_value bits) (member (codes "flags") (number_value flags) ms))
 
 abbrev pub region_members : (space : ℕ) → (offset length : TermTree) → Members
 region_members space offset length =
-    member (codes "space") (number_value space) (member (codes "offset") (term_value offset) (member (codes "length") (term_value length) no_members))
+    member (codes "space") (number_value space)
+    (member (codes "offset") (term_value offset)
+    (member (codes "length") (term_value length) no_members))
 
 abbrev pub table_members : (signature oem_id oem_table_id : TermTree) → Members
 table_members signature oem_id oem_table_id =
-    member (codes "signature") (term_value signature) (member (codes "oem_id") (term_value oem_id) (member (codes "oem_table_id") (term_value oem_table_id) no_members))
+    member (codes "signature") (term_value signature)
+    (member (codes "oem_id") (term_value oem_id)
+    (member (codes "oem_table_id") (term_value oem_table_id) no_members))
 
 abbrev pub create_members : Option TermTree → (index : TermTree) → Members → Members
-create_members source index ms = member (codes "source") (value_or_null term_value source) (member (codes "index") (term_value index) ms)
+create_members source index ms = member (codes "source") (value_or_null term_value source)
+    (member (codes "index") (term_value index) ms)
 
 abbrev pub constant_members : ObjectTree → Members
 constant_members (processor_object id block length) = processor_members id block length
@@ -93,15 +103,19 @@ abbrev pub object_members : ObjectParts → Members
 object_members (constant o) = constant_members o
 object_members (named v) = member (codes "value") (value_or_null term_value v) no_members
 object_members (region space offset length) = region_members space offset length
-object_members (table_region signature oem_id oem_table_id) = table_members signature oem_id oem_table_id
+object_members (table_region signature oem_id oem_table_id) =
+    table_members signature oem_id oem_table_id
 object_members alias = no_members
-object_members (bank_unit v flags offset bits) = unit_members flags offset bits (member (codes "value") (term_value v) no_members)
+object_members (bank_unit v flags offset bits) =
+    unit_members flags offset bits (member (codes "value") (term_value v) no_members)
 object_members (create width source index) = create_members source index no_members
-object_members (create_bits source index bits) = create_members source index (member (codes "bits") (term_value bits) no_members)
+object_members (create_bits source index bits) =
+    create_members source index (member (codes "bits") (term_value bits) no_members)
 
 abbrev pub fields_value : ObjectParts → Value
 fields_value o = object (object_members o)
 
 -- the kind, and what is known of the object, before other members
 abbrev pub declared_members : ObjectParts → Members → Members
-declared_members o ms = member (codes "kind") (string (kind_of o)) (member (codes "fields") (fields_value o) ms)
+declared_members o ms =
+    member (codes "kind") (string (kind_of o)) (member (codes "fields") (fields_value o) ms)

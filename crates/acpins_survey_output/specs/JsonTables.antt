@@ -28,19 +28,28 @@ label_value bytes = string (flat_map char_text (without_zeros bytes))
 -- the fields of a header, before other members
 abbrev pub header_members : Header → Members → Members
 header_members h ms =
-    member (codes "signature") (label_value h.signature) (member (codes "length") (number_value h.length) (member (codes "revision") (number_value h.revision)
-    (member (codes "oem_id") (label_value h.oem_id) (member (codes "oem_table_id") (label_value h.oem_table_id)
-    (member (codes "oem_revision") (number_value h.oem_revision) (member (codes "creator_id") (label_value h.creator_id)
+    member (codes "signature") (label_value h.signature)
+    (member (codes "length") (number_value h.length)
+    (member (codes "revision") (number_value h.revision)
+    (member (codes "oem_id") (label_value h.oem_id)
+    (member (codes "oem_table_id") (label_value h.oem_table_id)
+    (member (codes "oem_revision") (number_value h.oem_revision)
+    (member (codes "creator_id") (label_value h.creator_id)
     (member (codes "creator_revision") (number_value h.creator_revision) ms)))))))
 
 -- there is no header
 abbrev pub null_members : Members → Members
 null_members ms =
-    member (codes "signature") null (member (codes "length") null (member (codes "revision") null (member (codes "oem_id") null (member (codes "oem_table_id") null
-    (member (codes "oem_revision") null (member (codes "creator_id") null (member (codes "creator_revision") null ms)))))))
+    member (codes "signature") null
+    (member (codes "length") null
+    (member (codes "revision") null
+    (member (codes "oem_id") null (member (codes "oem_table_id") null
+    (member (codes "oem_revision") null
+    (member (codes "creator_id") null (member (codes "creator_revision") null ms)))))))
 
 abbrev pub front_members : List ℕ → Members → Members
-front_members bytes ms = if nat_lt (length bytes) 36 then null_members ms else header_members (header_of bytes) ms
+front_members bytes ms =
+    if nat_lt (length bytes) 36 then null_members ms else header_members (header_of bytes) ms
 
 -- ---- tables
 
@@ -53,7 +62,8 @@ sum_value (Err _) = null
 abbrev pub table_value : (number : ℕ) → List ℕ → Value
 table_value number bytes =
     object (member (codes "table") (number_value number) (front_members bytes
-    (member (codes "bytes") (number_value (length bytes)) (member (codes "checksum_good") (sum_value (table_at bytes)) no_members))))
+    (member (codes "bytes") (number_value (length bytes))
+    (member (codes "checksum_good") (sum_value (table_at bytes)) no_members))))
 
 -- tables from a number on
 abbrev pub table_values : (number : ℕ) → List SurveyedTable → Values

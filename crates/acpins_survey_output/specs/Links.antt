@@ -7,10 +7,12 @@ use Rattle.acpi_text.specs.Constants.{separated}
 use Rattle.acpi_text.specs.Terms.{term_text}
 use Rattle.acpi_survey.specs.EntryLinks.{LinkParts}
 
--- the candidates with a bar between each two, and behind them `|-` where the name isn't certain; `-` where there are none
+-- the candidates with a bar between each two, and behind them `|-` where the name isn't certain; `-` where there are
+-- none
 abbrev pub found_at : (is_certain : Bool) → List (List Segment) → List ℕ
 found_at is_certain [] = codes "-"
-found_at is_certain (p ∷ ps) = separated (codes "|") path_text (p ∷ ps) ++ (if is_certain then [] else codes "|-")
+found_at is_certain (p ∷ ps) =
+    separated (codes "|") path_text (p ∷ ps) ++ (if is_certain then [] else codes "|-")
 
 abbrev pub link_text : LinkParts → List ℕ
 link_text l = found_at l.is_certain l.paths

@@ -29,10 +29,13 @@ object_of None n = predefined n
 object_of (Some part) n = unwrap_or (object_in part) (constant predefined_object)
 
 abbrev pub links_of : Survey → ℕ → List LinkParts
-links_of s n = links_of_part (entries_of s) s.reading.sources (slice_get (entries_of s) n) (part_of s n)
+links_of s n =
+    links_of_part (entries_of s) s.reading.sources (slice_get (entries_of s) n) (part_of s n)
 
 abbrev pub condition_of : Survey → ℕ → List PlacedParts
-condition_of s n = unwrap_or (option_map (condition s.tables.items s.reading.opened (entries_of s)) (slice_get (entries_of s) n)) []
+condition_of s n = unwrap_or
+    (option_map (condition s.tables.items s.reading.opened (entries_of s))
+    (slice_get (entries_of s) n)) []
 
 -- the line of the entry of that number, which has that path
 abbrev pub numbered_line : Survey → Path → ℕ → List ℕ
@@ -40,9 +43,11 @@ numbered_line s p n = entry_line p (object_of (part_of s n) n) (links_of s n) (c
 
 -- ---- all of them
 
--- The text is a line for each entry, in the order of the paths, those of one path in the order of their places; and then a line for each
--- problem and note.
+-- The text is a line for each entry, in the order of the paths, those of one path in the order of their places; and
+-- then a line for each problem and note.
 pub record IsListing (s : Survey) (text : List ℕ) : Type 0 where
   pub order : List (Path × ℕ)
   pub by_path : AreByPath (map (λ (e : Entry). e.path) (entries_of s)) order
-  pub text_is : text ≡ flat_map (λ (x : Path × ℕ). numbered_line s x.0 x.1) order ++ found_text s.found.problems.items s.found.notes.items
+  pub text_is : text
+      ≡ flat_map (λ (x : Path × ℕ). numbered_line s x.0 x.1) order
+      ++ found_text s.found.problems.items s.found.notes.items

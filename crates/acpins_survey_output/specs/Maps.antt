@@ -19,12 +19,13 @@ use Rattle.acpi_survey.specs.Survey.{code_read, place_in}
 use Rattle.acpi_survey.specs.declared.machine_survey.Survey.{Survey}
 use Rattle.acpi_survey.specs.declared.machine_survey.SurveyedTable.{SurveyedTable}
 use Rattle.acpi_survey.specs.declared.problems.LostRange.{LostRange}
-use Rattle.acpi_survey.specs.declared.tables.Judged.{Judged}
-use Rattle.acpi_survey.specs.declared.tables.Judged.TheVariants as judged
+use Rattle.acpi_survey.specs.declared.tables.TableContent.{TableContent}
+use Rattle.acpi_survey.specs.declared.tables.TableContent.TheVariants as judged
 use Rattle.acpins_survey_output.specs.Found.{range_text}
 use Rattle.acpins_survey_output.specs.Reasons.{lost_reason_text, named_text, table_reason_text, why_text}
 
--- A table's number; at each place of its code the path that is declared or entered there; and why what begins at a place is refused.
+-- A table's number; at each place of its code the path that is declared or entered there; and why what begins at a
+-- place is refused.
 pub record TableParts : Type 0 where
   pub number : ℕ
   pub entered : Entered
@@ -39,7 +40,8 @@ begun_text word None (Some path) = word ++ path_text path
 begun_text word None None = []
 
 abbrev pub declaring_text : TableParts → (word : List ℕ) → (place : ℕ) → List ℕ
-declaring_text t word place = begun_text word (t.refusals (place_in t.number place)) (t.entered place)
+declaring_text t word place =
+    begun_text word (t.refusals (place_in t.number place)) (t.entered place)
 
 abbrev pub term_in_map : TableParts → (place : ℕ) → TermTree → List ℕ
 term_in_map t place (declare form before n behind) = declaring_text t (codes "Declares ") place
@@ -87,25 +89,32 @@ indent (suc depth) = indent depth ++ codes "  "
 
 -- the table's number, the first byte of a range, and the first behind it
 abbrev pub start_text : (depth number from to : ℕ) → List ℕ
-start_text depth number from to = indent depth ++ decimal number ++ codes " " ++ range_text from to ++ codes " "
+start_text depth number from to =
+    indent depth ++ decimal number ++ codes " " ++ range_text from to ++ codes " "
 
 -- the line of a range of which not all is lost; offsets count the table's header
 abbrev pub kept_line : TableParts → NestedRange → List ℕ
-kept_line t r = start_text r.depth t.number (offset_of r.from) (offset_of r.to) ++ part_in_map t r.from r.part ++ 10 ∷ []
+kept_line t r = start_text r.depth t.number (offset_of r.from) (offset_of r.to)
+    ++ part_in_map t r.from r.part ++ 10 ∷ []
 
 -- the line of bytes that are lost; none where there are none
 abbrev pub lost_line : (depth number : ℕ) → LostRange → (reason : List ℕ) → List ℕ
-lost_line depth number l reason = if nat_eq l.from l.to then [] else start_text depth number l.from l.to ++ codes "Lost " ++ reason ++ 10 ∷ []
+lost_line depth number l reason = if nat_eq l.from l.to then [] else
+    start_text depth number l.from l.to ++ codes "Lost " ++ reason ++ 10 ∷ []
 
 -- of what is lost of a range of a code
-abbrev pub lost_in_map : (number : ℕ) → (code : List ℕ) → (depth : ℕ) → NestedRange → LostFault → List ℕ
+abbrev pub lost_in_map : (number : ℕ) → (code : List ℕ) → (depth : ℕ) → NestedRange → LostFault
+    → List ℕ
 lost_in_map number code depth r why =
-    lost_line depth number (range_lost code (range r.from r.to [] false r.part)) (lost_reason_text why.reason ++ named_text (unsure_name code why.place why.reason))
+    lost_line depth number (range_lost code (range r.from r.to [] false r.part))
+    (lost_reason_text why.reason ++ named_text (unsure_name code why.place why.reason))
 
 -- An If or While of which a part is lost has a line, and the part one inside it. The lost data of a Name has none.
 abbrev pub node_lines : TableParts → (code : List ℕ) → NestedRange → NodeTree → List ℕ
-node_lines t code r (package_lost forms.If why) = kept_line t r ++ lost_in_map t.number code (suc r.depth) r why
-node_lines t code r (package_lost forms.While why) = kept_line t r ++ lost_in_map t.number code (suc r.depth) r why
+node_lines t code r (package_lost forms.If why) =
+    kept_line t r ++ lost_in_map t.number code (suc r.depth) r why
+node_lines t code r (package_lost forms.While why) =
+    kept_line t r ++ lost_in_map t.number code (suc r.depth) r why
 node_lines t code r (package_lost form why) = lost_in_map t.number code r.depth r why
 node_lines t code r (data_lost form why) = lost_in_map t.number code r.depth r why
 node_lines t code r n = kept_line t r
@@ -122,22 +131,27 @@ range_lines t code r = part_lines t code r r.part
 
 -- the header and the ranges of a code
 abbrev pub code_lines : TableParts → (code : List ℕ) → NodeTrees → List ℕ
-code_lines t code ns = start_text 0 t.number 0 36 ++ codes "Header\n" ++ flat_map (range_lines t code) (nested_nodes 0 (length code) ns)
+code_lines t code ns = start_text 0 t.number 0 36 ++ codes "Header\n"
+    ++ flat_map (range_lines t code) (nested_nodes 0 (length code) ns)
 
 -- .. and what stands behind the table; of a table of which nothing is read all bytes are lost
-abbrev pub table_lines : TableParts → (bytes : List ℕ) → Judged → NodeTrees → List ℕ
-table_lines t bytes (judged.Unread why) ns = lost_line 0 t.number (bytes_from 0 bytes) (table_reason_text why)
+abbrev pub table_lines : TableParts → (bytes : List ℕ) → TableContent → NodeTrees → List ℕ
+table_lines t bytes (judged.Unread why) ns =
+    lost_line 0 t.number (bytes_from 0 bytes) (table_reason_text why)
 table_lines t bytes (judged.Read code is_cut has_bad_sum is_out_of_place behind) ns =
-    code_lines t code ns ++ lost_line 0 t.number (bytes_from (length bytes - behind) bytes) (codes "L3 Trailing")
+    code_lines t code ns
+    ++ lost_line 0 t.number (bytes_from (length bytes - behind) bytes) (codes "L3 Trailing")
 
 abbrev pub table_parts : (ℕ → Entered) → Refusals → (number : ℕ) → TableParts
-table_parts entered refusals number = record { number = number; entered = entered number; refusals = refusals }
+table_parts entered refusals number =
+    record { number = number; entered = entered number; refusals = refusals }
 
 -- of tables from a number on, by what is entered in each
 abbrev pub map_by : (ℕ → Entered) → Refusals → (number : ℕ) → List SurveyedTable → List ℕ
 map_by entered refusals number [] = []
 map_by entered refusals number (t ∷ ts) =
-    table_lines (table_parts entered refusals number) t.bytes t.judged (nodes_view t.nodes) ++ map_by entered refusals (number + 1) ts
+    table_lines (table_parts entered refusals number) t.bytes t.judged (nodes_view t.nodes)
+    ++ map_by entered refusals (number + 1) ts
 
 -- a line for each range of each table, in byte order
 abbrev pub map_text : Survey → List ℕ

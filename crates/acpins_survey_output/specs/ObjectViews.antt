@@ -31,11 +31,15 @@ declared_view (objects.Power level order) = constant (power_object level order)
 declared_view objects.Thermal = constant thermal_object
 declared_view (objects.Name value) = named (option_map lent_view value)
 declared_view (objects.Method flags) = constant (method_object flags)
-declared_view (objects.Region space offset length) = region space (lent_view offset) (lent_view length)
-declared_view (objects.TableRegion signature oem_id oem_table_id) = table_region (lent_view signature) (lent_view oem_id) (lent_view oem_table_id)
+declared_view (objects.Region space offset length) =
+    region space (lent_view offset) (lent_view length)
+declared_view (objects.TableRegion signature oem_id oem_table_id) =
+    table_region (lent_view signature) (lent_view oem_id) (lent_view oem_table_id)
 declared_view (objects.Mutex flags) = constant (mutex_object flags)
 declared_view objects.Event = constant event_object
 declared_view objects.Alias = alias
 declared_view (objects.Field form flags offset bits) = unit_view form flags offset bits
-declared_view (objects.Create width source index) = create width (option_map lent_view source) (lent_view index)
-declared_view (objects.CreateField source index bits) = create_bits (option_map lent_view source) (lent_view index) (lent_view bits)
+declared_view (objects.Create width source index) =
+    create width (option_map lent_view source) (lent_view index)
+declared_view (objects.CreateField source index bits) =
+    create_bits (option_map lent_view source) (lent_view index) (lent_view bits)

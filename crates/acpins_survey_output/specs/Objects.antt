@@ -7,8 +7,8 @@ use Rattle.acpi_text.specs.Constants.{hex_digits}
 use Rattle.acpi_text.specs.Objects.{object_text, width_text}
 use Rattle.acpi_text.specs.Terms.{term_text}
 
--- An object that has no terms; a name with its data, which may be lost; an operation region; a region of the bytes of a table; another name;
--- an element of a BankField; and Create fields, whose source is None where it is a name.
+-- An object that has no terms; a name with its data, which may be lost; an operation region; a region of the bytes of a
+-- table; another name; an element of a BankField; and Create fields, whose source is None where it is a name.
 pub data ObjectParts : Type 0 where
   constant : ObjectTree → ObjectParts
   named : Option TermTree → ObjectParts
@@ -28,14 +28,19 @@ named_text (Some v) = codes "Name " ++ term_text v
 abbrev pub parts_text : ObjectParts → List ℕ
 parts_text (constant o) = object_text o
 parts_text (named v) = named_text v
-parts_text (region space offset length) = codes "OperationRegion space=" ++ hex_digits 2 space ++ codes " offset=" ++ term_text offset ++ codes " length=" ++ term_text length
+parts_text (region space offset length) = codes "OperationRegion space=" ++ hex_digits 2 space
+    ++ codes " offset=" ++ term_text offset ++ codes " length=" ++ term_text length
 parts_text (table_region signature oem_id oem_table_id) =
-    codes "DataTableRegion signature=" ++ term_text signature ++ codes " oem=" ++ term_text oem_id ++ codes " table=" ++ term_text oem_table_id
+    codes "DataTableRegion signature=" ++ term_text signature ++ codes " oem=" ++ term_text oem_id
+    ++ codes " table=" ++ term_text oem_table_id
 parts_text alias = codes "Alias"
 parts_text (bank_unit value flags offset bits) =
-    codes "BankField offset=" ++ decimal offset ++ codes " bits=" ++ decimal bits ++ codes " flags=" ++ hex_digits 2 flags ++ codes " value=" ++ term_text value
-parts_text (create width source index) = codes "Create" ++ width_text width ++ codes "Field index=" ++ term_text index
-parts_text (create_bits source index bits) = codes "CreateField index=" ++ term_text index ++ codes " bits=" ++ term_text bits
+    codes "BankField offset=" ++ decimal offset ++ codes " bits=" ++ decimal bits ++ codes " flags="
+    ++ hex_digits 2 flags ++ codes " value=" ++ term_text value
+parts_text (create width source index) =
+    codes "Create" ++ width_text width ++ codes "Field index=" ++ term_text index
+parts_text (create_bits source index bits) =
+    codes "CreateField index=" ++ term_text index ++ codes " bits=" ++ term_text bits
 
 -- the source of a Create field, where it is no name
 abbrev pub source_of : ObjectParts → Option TermTree

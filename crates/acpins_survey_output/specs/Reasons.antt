@@ -140,7 +140,8 @@ why_text why = why_name why ++ paths_behind (why_paths why)
 
 -- why something is lost or refused, with what the reason names
 abbrev pub problem_reason_text : ProblemReason → Option NameParts → List ℕ
-problem_reason_text reason name = problem_name reason ++ paths_behind (problem_paths reason) ++ named_text name
+problem_reason_text reason name =
+    problem_name reason ++ paths_behind (problem_paths reason) ++ named_text name
 
 -- what is noticed, with the name that it names
 abbrev pub note_reason_text : NoteReason → List ℕ

@@ -5,7 +5,6 @@ ghost use Rattle.std.specs.Option.{option_map};
 ghost use Rattle.acpi_survey.specs.ConditionViews.{link_views, placed_views};
 ghost use Rattle.acpins_survey_output.specs.Entries.{entry_line};
 ghost use Rattle.acpins_survey_output.specs.ObjectViews.{declared_view};
-ghost use Rattle.acpi_survey.specs.EntryParts.{site_of};
 ghost use Rattle.acpi_survey.specs.Lookup.{Found, found_of};
 ghost use Rattle.acpi_survey.specs.SurveyOrder.{IsInOrder};
 ghost use Rattle.acpins_survey_output.specs.Listings.{object_of, numbered_line};
@@ -14,8 +13,7 @@ use crate::condition::put_condition;
 use crate::links::put_links;
 use crate::objects::{Declared, declared_by, predefined, put_declared};
 use acpi_name::Path;
-use acpi_survey::{Link, PlacedLiteral, Site, Span, Survey};
-use acpi_table::HEADER_BYTES;
+use acpi_survey::{Link, PlacedLiteral, Span, Survey};
 use acpi_text::{put, put_path};
 use std::alloc::AllocError;
 
@@ -68,14 +66,4 @@ pub(crate) fn put_numbered(
     let links = survey.links_in(number, part)?;
     let condition = survey.condition(number)?;
     put_entry(text, path, &declared, &links, &condition)
-}
-
-/// The site of what stands at a place.
-pub(crate) fn site_of_place(place: u128) -> Site
-    ensures { result ≡ site_of place }
-{
-    Site {
-        table: (place / (1 << 64)) as usize,
-        offset: ((place % (1 << 64)) as usize).saturating_add(HEADER_BYTES),
-    }
 }

@@ -14,7 +14,6 @@ ghost use Rattle.acpi_conditions.specs.ByPath.{lent_pair};
 ghost use Rattle.acpins_survey_output.specs.Shown.{IsBodyAt, zip_text};
 ghost use Rattle.acpins_survey_output.specs.steps.JsonPuts.{PutsMembers};
 
-use crate::entries::site_of_place;
 use crate::json_entries::place_at;
 use crate::json_found::put_site;
 use crate::json_members::{put_member, put_number_member, put_path_member, put_text_member};
@@ -22,7 +21,7 @@ use crate::json_values::{put_element_start, put_line_start, put_lines_end, put_t
 use crate::method_lines::put_body_reason;
 use acpi_body::BodyReason;
 use acpi_name::{Name, Path};
-use acpi_survey::{BodyReading, MethodBody, Site, Survey};
+use acpi_survey::{BodyReading, MethodBody, Site, Survey, site_of};
 use acpi_text::{put, put_spaced, put_terms};
 use acpi_tree::Term;
 use std::alloc::AllocError;
@@ -161,7 +160,7 @@ fn put_reading(text: &mut Vec<u8>, body: &MethodBody<'_>) -> Result<(), AllocErr
 fn site_at(survey: &Survey, number: usize) -> Site
     ensures { result ≡ number_site survey.now number }
 {
-    site_of_place(place_at(survey, number).unwrap_or(0))
+    site_of(place_at(survey, number).unwrap_or(0))
 }
 
 fn put_body(

@@ -12,7 +12,7 @@ ghost use Rattle.acpins_survey_output.specs.JsonEntries.{entry_value, link_value
 ghost use Rattle.acpins_survey_output.specs.JsonValues.{name_value, path_value};
 ghost use Rattle.acpins_survey_output.specs.Listings.{condition_of, links_of, part_of};
 
-use crate::entries::{declared_in, site_of_place};
+use crate::entries::declared_in;
 use crate::json_found::put_site;
 use crate::json_members::{
     put_boolean_member, put_member, put_name_member, put_number_member, put_path_member,
@@ -21,7 +21,7 @@ use crate::json_members::{
 use crate::json_objects::put_declared;
 use crate::json_values::{put_element_start, put_line_start, put_lines_end};
 use acpi_name::{Name, Path};
-use acpi_survey::{Link, Literal, PlacedLiteral, Span, Survey};
+use acpi_survey::{Link, Literal, PlacedLiteral, Span, Survey, site_of};
 use acpi_text::put;
 use acpi_tree::Term;
 use std::alloc::AllocError;
@@ -138,7 +138,7 @@ fn put_part(text: &mut Vec<u8>, part: &Span<'_>, place: u128) -> Result<(), Allo
     ensures { (found : Found) → found_of part.now ≡ Some found → OnOk result (text.new.items
         ≡ text.old.items ++ more_members_text (term_members (Some found) (Some place))) }
 {
-    put_site(text, site_of_place(place))?;
+    put_site(text, site_of(place))?;
     let length = part.to.saturating_sub((place % (1 << 64)) as usize);
     put_number_member(text, ",", "length", length as u64)?;
     put(text, "}")

@@ -13,8 +13,8 @@ use acpi_survey::Survey;
 use acpi_text::put;
 use std::alloc::{AllocError, Global};
 
-/// An object of JSON (RFC 8259) with all that the survey says: the limit of levels, tables, entries, bodies, problems and
-/// notes. Its members stand each on lines of their own, and so do the elements of their lists.
+/// An object of JSON (RFC 8259) with all that the survey says: the limit of levels, tables, entries, bodies, problems
+/// and notes. Its members stand each on lines of their own, and so do the elements of their lists.
 pub fn json(alloc: Global, survey: &Survey) -> Result<Vec<u8>, AllocError>
     ensures { IsInOrder survey.now → IfOk result (λ text. IsJson survey.now text.items) }
 {

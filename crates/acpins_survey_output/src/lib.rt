@@ -30,8 +30,6 @@ mod objects;
 mod ranges;
 mod reasons;
 mod showing;
-#[cfg(test)]
-mod tests;
 
 pub use condition::{put_condition, put_literal};
 pub use entries::put_entry;

@@ -26,8 +26,8 @@ fn put_entries(
     Ok(())
 }
 
-/// A line for each entry, in the order of the paths, those of one path by their places; then a line for each problem and
-/// note, by their places.
+/// A line for each entry, in the order of the paths, those of one path by their places; then a line for each problem
+/// and note, by their places.
 pub fn list(alloc: Global, survey: &Survey) -> Result<Vec<u8>, AllocError>
     ensures { IsInOrder survey.now → IfOk result (λ text. IsListing survey.now text.items) }
 {

@@ -13,7 +13,7 @@ ghost use Rattle.acpins_survey_output.specs.Declaring.{computed as computed_term
 ghost use Rattle.acpins_survey_output.specs.ObjectViews.{lent_view, unit_view, declared_view};
 
 use acpi_outline::{Fixed, Node, Plain};
-use acpi_survey::{Span, What};
+use acpi_survey::{Span, SpanContent};
 use acpi_text::{put, put_byte, put_decimal, put_object, put_term};
 use acpi_tree::{Decl, FieldElem, FieldForm, Object, Term, Width};
 use std::alloc::AllocError;
@@ -21,9 +21,9 @@ use std::alloc::AllocError;
 /// The form in which a field element is declared.
 #[derive(Debug, Clone, Copy)]
 pub enum UnitForm<'a> {
-    /// DefField
+    /// DefField.
     Field,
-    /// DefIndexField
+    /// DefIndexField.
     Index,
     /// DefBankField, with the value that selects the bank.
     Bank(&'a Term),
@@ -32,46 +32,46 @@ pub enum UnitForm<'a> {
 /// What a term declares (ACPI 6.5, 5.3 and 20.2.5.2), with terms where they may stand.
 #[derive(Debug, Clone, Copy)]
 pub enum Declared<'a> {
-    /// The root.
+    /// The root `\`.
     Root,
-    /// A predefined scope.
+    /// A predefined scope, `\_SB_` say (5.3.1).
     Scope,
     /// A predefined object of which nothing more is known.
     Predefined,
-    /// A device.
+    /// A device, by DefDevice.
     Device,
     /// A processor: ProcID, PblkAddr and PblkLen.
     Processor {
-        /// ProcID
+        /// ProcID.
         id: u8,
-        /// PblkAddr
+        /// PblkAddr: the address of its register block P_BLK in system I/O space.
         block: u32,
-        /// PblkLen, in bytes.
+        /// PblkLen: how many bytes P_BLK has, 0 where there is none.
         length: u8,
     },
-    /// A power resource.
+    /// A power resource, by DefPowerRes.
     Power {
-        /// SystemLevel
+        /// SystemLevel: the deepest sleep state that keeps the resource on, 0 for S0, 1 for S1 and so on.
         level: u8,
-        /// ResourceOrder
+        /// ResourceOrder: resources go on from the least number to the greatest, and off from the greatest.
         order: u16,
     },
-    /// A thermal zone.
+    /// A thermal zone, by DefThermalZone.
     Thermal,
     /// A name with its data, which may be lost.
     Name(Option<&'a Term>),
     /// A method, by its flags: bits 0 to 2 the argument count, bit 3 serialized, bits 4 to 7 the sync level.
     Method(u8),
-    /// An operation region.
+    /// An operation region, by DefOpRegion.
     Region {
-        /// RegionSpace
+        /// RegionSpace: 0 SystemMemory, 1 SystemIO, 2 PCI_Config, .., and from 0x80 on those of an OEM.
         space: u8,
-        /// The offset in bytes.
+        /// RegionOffset: where it begins in its space, in bytes.
         offset: &'a Term,
-        /// The length in bytes.
+        /// RegionLen: how many bytes it has.
         length: &'a Term,
     },
-    /// A region of the bytes of a table.
+    /// A region of the bytes of a table, by DefDataRegion.
     TableRegion {
         /// The signature of the table.
         signature: &'a Term,
@@ -82,37 +82,37 @@ pub enum Declared<'a> {
     },
     /// A mutex, by its sync flags.
     Mutex(u8),
-    /// An event.
+    /// An event, by DefEvent.
     Event,
-    /// Another name for an object.
+    /// Another name for an object, by DefAlias.
     Alias,
-    /// A field element.
+    /// A named unit of a field list.
     Field {
-        /// The form of its field list.
+        /// The term whose field list it is of.
         form: UnitForm<'a>,
-        /// The flags of its field list.
+        /// FieldFlags: bits 0 to 3 AccessType, bit 4 LockRule, bits 5 and 6 UpdateRule.
         flags: u8,
-        /// Its offset in bits.
+        /// Where it begins, in bits from the first of its field list.
         offset: u64,
-        /// Its width in bits.
+        /// Its width, in bits.
         bits: u32,
     },
     /// A Create field of a fixed width.
     Create {
-        /// The width.
+        /// Which term declares it, which is its width.
         width: Width,
         /// The buffer that it is of; none where that is a name, which has a link.
         source: Option<&'a Term>,
-        /// The index in bytes, of a bit field in bits.
+        /// ByteIndex: where it begins in its buffer, in bytes; of a bit field BitIndex, in bits.
         index: &'a Term,
     },
     /// A Create field of any width.
     CreateField {
         /// The buffer that it is of; none where that is a name, which has a link.
         source: Option<&'a Term>,
-        /// The index in bits.
+        /// BitIndex: where it begins in its buffer, in bits.
         index: &'a Term,
-        /// The width in bits.
+        /// NumBits: its width, in bits.
         bits: &'a Term,
     },
 }
@@ -258,13 +258,14 @@ pub fn declared_by<'a>(part: &Span<'a>) -> Option<Declared<'a>>
     ensures { option_map declared_view result ≡ option_and_then object_in (found_of part.now) }
 {
     match part.what {
-        What::Node(node) => declared_by_node(node),
-        What::Element(fixed, element, offset) => declared_by_element(fixed, element, offset),
-        What::Lost(_) => None,
+        SpanContent::Node(node) => declared_by_node(node),
+        SpanContent::Element(fixed, element, offset) => declared_by_element(fixed, element, offset),
+        SpanContent::Lost(_) => None,
     }
 }
 
-/// The predefined object of that number: the root, five scopes, `\_GL_`, `\_OSI` and two more (ACPI 6.5, 5.3.1 and 5.7).
+/// The predefined object of that number: the root, five scopes, `\_GL_`, `\_OSI` and two more (ACPI 6.5, 5.3.1 and
+/// 5.7).
 pub fn predefined(number: usize) -> Declared<'static>
     ensures { declared_view result ≡ predefined_object number }
 {
@@ -400,8 +401,8 @@ fn put_create_field(text: &mut Vec<u8>, index: &Term, bits: &Term) -> Result<(),
     put_behind(text, " bits=", bits)
 }
 
-/// Puts what a term declares, without its links: its kind, and what is known of it. Offsets and widths of field elements
-/// are in bits.
+/// Puts what a term declares, without its links: its kind, and what is known of it. Offsets and widths of field
+/// elements are in bits.
 pub fn put_declared(text: &mut Vec<u8>, declared: &Declared<'_>) -> Result<(), AllocError>
     ensures { OnOk result (text.new.items
         ≡ text.old.items ++ parts_text (declared_view declared.now)) }

@@ -16,7 +16,9 @@ ghost use Rattle.acpins_survey_output.specs.steps.MapViews.{places_view};
 use crate::found::put_range;
 use crate::reasons::{lost_reason_name, put_named, put_refusal, table_reason_name};
 use acpi_outline::{Fixed, LostFault, Node, PackedForm, Plain};
-use acpi_survey::{Judged, LostRange, PlaceIndex, Span, Spans, Survey, SurveyedTable, What};
+use acpi_survey::{
+    LostRange, PlaceIndex, Span, SpanContent, Spans, Survey, SurveyedTable, TableContent,
+};
 use acpi_table::HEADER_BYTES;
 use acpi_text::{put, put_decimal, put_path, put_term};
 use acpi_tree::{Decl, FieldElem, Term};
@@ -25,7 +27,7 @@ use std::alloc::{AllocError, Global};
 /// A table's number, and what begins at the places of tables.
 #[derive(Clone, Copy)]
 pub(crate) struct TablePlaces<'b, 'a> {
-    /// The number.
+    /// The number of the table, the first being 0.
     pub number: usize,
     /// What begins at the places of all tables.
     pub index: &'b PlaceIndex<'a>,
@@ -174,15 +176,15 @@ fn put_part(
     text: &mut Vec<u8>,
     places: TablePlaces<'_, '_>,
     place: usize,
-    what: What<'_>,
+    what: SpanContent<'_>,
 ) -> Result<(), AllocError>
     ensures { OnOk result (text.new.items
         ≡ text.old.items ++ part_in_map (places_view places.entry) place (part_of what.entry)) }
 {
     match what {
-        What::Node(node) => put_node(text, places, place, node),
-        What::Element(_, element, _) => put_element(text, places, place, element),
-        What::Lost(_) => Ok(()),
+        SpanContent::Node(node) => put_node(text, places, place, node),
+        SpanContent::Element(_, element, _) => put_element(text, places, place, element),
+        SpanContent::Lost(_) => Ok(()),
     }
 }
 
@@ -334,9 +336,9 @@ fn put_span(
         (nested_view span.now)) }
 {
     match span.what {
-        What::Node(node) => put_node_lines(text, places, table, span, node),
-        What::Element(_, _, _) => put_kept(text, places, span),
-        What::Lost(fault) => put_lost(text, places.number, table, span.depth, span, fault),
+        SpanContent::Node(node) => put_node_lines(text, places, table, span, node),
+        SpanContent::Element(_, _, _) => put_kept(text, places, span),
+        SpanContent::Lost(fault) => put_lost(text, places.number, table, span.depth, span, fault),
     }
 }
 
@@ -393,12 +395,12 @@ fn put_table(
 {
     let to = table.bytes.len();
     match &table.judged {
-        Judged::Unread(reason) => {
+        TableContent::Unread(reason) => {
             let lost = LostRange { from: 0, to };
             let reason = table_reason_name(*reason);
             put_lost_bytes(text, 0, places.number, lost, reason.as_bytes())
         }
-        Judged::Read { trailing, .. } => {
+        TableContent::Read { trailing, .. } => {
             put_code(alloc, text, places, table)?;
             let from = to.saturating_sub(*trailing);
             let lost = LostRange { from, to };
@@ -424,8 +426,8 @@ fn put_tables(
     Ok(())
 }
 
-/// What each byte of each table belongs to, in byte order, a line for each range: the number of the table, the first byte
-/// and the first behind, and what stands there. Two blanks stand before a line for each range around.
+/// What each byte of each table belongs to, in byte order, a line for each range: the number of the table, the first
+/// byte and the first behind, and what stands there. Two blanks stand before a line for each range around.
 pub fn map(alloc: Global, survey: &Survey) -> Result<Vec<u8>, AllocError>
     ensures { IfOk result (λ text. text.items ≡ map_text survey.now) }
 {

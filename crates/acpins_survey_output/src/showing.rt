@@ -47,8 +47,8 @@ fn put_all_shown(
     Ok(())
 }
 
-/// For each entry at a path, by place, its line, and for a method of a table its body: a line for each statement, or its
-/// bytes and why they can't be read. None where no entry is at the path.
+/// For each entry at a path, by place, its line, and for a method of a table its body: a line for each statement, or
+/// its bytes and why they can't be read. None where no entry is at the path.
 pub fn show(alloc: Global, survey: &Survey, path: &Path) -> Result<Option<Vec<u8>>, AllocError>
     ensures { IsInOrder survey.now → IfOk result (λ t.
         IsShownOrNone survey.now path.now (option_map (λ v. v.items) t)) }

@@ -30,7 +30,8 @@ Adds AreThose old new = (added : List (List ℕ)) × (new ≡ old ++ added) × A
 abbrev pub AreOfEach : {A : Type 0} → (A → List (List ℕ) → Type 0) → List A → List (List ℕ) → Type 0
 AreOfEach AreOf [] tables = tables ≡ []
 AreOfEach AreOf (source ∷ sources) tables =
-    (first : List (List ℕ)) × (rest : List (List ℕ)) × (tables ≡ first ++ rest) × AreOf source first × AreOfEach AreOf sources rest
+    (first : List (List ℕ)) × (rest : List (List ℕ)) × (tables ≡ first ++ rest) × AreOf source first
+    × AreOfEach AreOf sources rest
 
 -- ---- files
 
@@ -45,7 +46,8 @@ ArePlainTables false content tables = ArePieces tables content
 
 -- A file holds tables one behind another: as they are, as hexadecimal text, or as the text that `acpidump` writes.
 abbrev pub HoldsTables : Bool → List ℕ → List (List ℕ) → Type 0
-HoldsTables true content tables = (bytes : List ℕ) × SpellsInHex bytes content × ArePieces tables bytes
+HoldsTables true content tables =
+    (bytes : List ℕ) × SpellsInHex bytes content × ArePieces tables bytes
 HoldsTables false content tables = ArePlainTables (is_header content) content tables
 
 -- .. so do the bytes of a file, where they are known
@@ -61,7 +63,8 @@ AreTablesOfFiles bytes_of hex = AreOfEach (λ name. AreTablesIn hex (bytes_of na
 -- the number that decimal digits spell, which is below 2 ^ 32; 0 where there are none
 abbrev pub number_of : List ℕ → Option ℕ
 number_of digits =
-    if all_ascii_digits digits && nat_lt (digits_value 10 digits) (2 ^ 32) then Some (digits_value 10 digits) else None
+    if all_ascii_digits digits && nat_lt (digits_value 10 digits) (2 ^ 32) then
+    Some (digits_value 10 digits) else None
 
 -- the number of an SSDT's file, by its name: that behind `SSDT`
 abbrev pub ssdt_number : List ℕ → Option ℕ
@@ -86,15 +89,18 @@ pub record AreSsdtsAmong (names ssdts : List (List ℕ)) : Type 0 where
 
 -- the path of a name in a folder
 abbrev pub path_in : List ℕ → List ℕ → List ℕ
-path_in folder name = folder ++ (if ends_with nat_eq folder (codes "/") then [] else codes "/") ++ name
+path_in folder name = folder ++ (if ends_with nat_eq folder (codes "/") then [] else codes "/")
+    ++ name
 
 -- the tables of the SSDTs' files in a folder in which there are these names
 abbrev pub AreOfSsdts : FileBytes → Bool → List ℕ → List (List ℕ) → List (List ℕ) → Type 0
 AreOfSsdts bytes_of hex folder names tables =
-    (ssdts : List (List ℕ)) × AreSsdtsAmong names ssdts × AreTablesOfFiles bytes_of hex (map (path_in folder) ssdts) tables
+    (ssdts : List (List ℕ)) × AreSsdtsAmong names ssdts
+    × AreTablesOfFiles bytes_of hex (map (path_in folder) ssdts) tables
 
 -- .. in a folder that may not be there
-abbrev pub AreOfSsdtsBy : FileBytes → Bool → List ℕ → Option (List (List ℕ)) → List (List ℕ) → Type 0
+abbrev pub AreOfSsdtsBy : FileBytes → Bool → List ℕ → Option (List (List ℕ)) → List (List ℕ)
+    → Type 0
 AreOfSsdtsBy bytes_of hex folder None tables = tables ≡ []
 AreOfSsdtsBy bytes_of hex folder (Some names) tables = AreOfSsdts bytes_of hex folder names tables
 
@@ -104,9 +110,10 @@ AreOfDynamic bytes_of names_in hex folder tables =
     let dynamic = path_in folder (codes "dynamic") in
     IfSome (names_in dynamic) (λ found. AreOfSsdtsBy bytes_of hex dynamic found tables)
 
--- The tables of a folder in which there are these names are those of its DSDT's file, then those of its SSDTs' files, and then
--- those of the SSDTs' files in its folder `dynamic`.
-pub record AreOfFolder (bytes_of : FileBytes) (names_in : FolderNames) (hex : Bool) (folder : List ℕ) (names tables : List (List ℕ)) : Type 0 where
+-- The tables of a folder in which there are these names are those of its DSDT's file, then those of its SSDTs' files,
+-- and then those of the SSDTs' files in its folder `dynamic`.
+pub record AreOfFolder (bytes_of : FileBytes) (names_in : FolderNames) (hex : Bool)
+    (folder : List ℕ) (names tables : List (List ℕ)) : Type 0 where
   pub dsdt : List (List ℕ)
   pub ssdts : List (List ℕ)
   pub dynamic : List (List ℕ)
@@ -116,13 +123,16 @@ pub record AreOfFolder (bytes_of : FileBytes) (names_in : FolderNames) (hex : Bo
   pub of_dynamic : AreOfDynamic bytes_of names_in hex folder dynamic
 
 -- the tables at a name, by the names in the folder there: those of one file where it is none
-abbrev pub AreTablesBy : FileBytes → FolderNames → Bool → List ℕ → Option (List (List ℕ)) → List (List ℕ) → Type 0
+abbrev pub AreTablesBy : FileBytes → FolderNames → Bool → List ℕ → Option (List (List ℕ))
+    → List (List ℕ) → Type 0
 AreTablesBy bytes_of names_in hex name None tables = AreTablesIn hex (bytes_of name) tables
-AreTablesBy bytes_of names_in hex name (Some names) tables = AreOfFolder bytes_of names_in hex name names tables
+AreTablesBy bytes_of names_in hex name (Some names) tables =
+    AreOfFolder bytes_of names_in hex name names tables
 
 -- .. where it is known whether it is one
 abbrev pub AreTablesAt : FileBytes → FolderNames → Bool → List ℕ → List (List ℕ) → Type 0
-AreTablesAt bytes_of names_in hex name tables = IfSome (names_in name) (λ found. AreTablesBy bytes_of names_in hex name found tables)
+AreTablesAt bytes_of names_in hex name tables =
+    IfSome (names_in name) (λ found. AreTablesBy bytes_of names_in hex name found tables)
 
 -- .. at each of these names
 abbrev pub AreTablesOf : FileBytes → FolderNames → Bool → List (List ℕ) → List (List ℕ) → Type 0
@@ -130,11 +140,13 @@ AreTablesOf bytes_of names_in hex = AreOfEach (AreTablesAt bytes_of names_in hex
 
 -- ---- files that can't be read
 
--- the failure says that a file can't be read, that its text, which is known, spells no bytes, or that there is no memory
+-- the failure says that a file can't be read, that its text, which is known, spells no bytes, or that there is no
+-- memory
 abbrev pub IsFileFault : Bool → Option (List ℕ) → List ℕ → Failure → Type 0
 IsFileFault hex known name (Read file cause) = file.items ≡ printed_name name
 IsFileFault hex known name (BadHex file) =
-    (file.items ≡ printed_name name) × IsTrue hex × IfSome known (λ content. (bytes : List ℕ) → SpellsInHex bytes content → ⊥)
+    (file.items ≡ printed_name name) × IsTrue hex
+    × IfSome known (λ content. (bytes : List ℕ) → SpellsInHex bytes content → ⊥)
 IsFileFault hex known name Memory = Unit {0}
 IsFileFault hex known name _ = ⊥
 

@@ -18,7 +18,7 @@ use Rattle.acpins_report.specs.Page.{IsPage}
 use Rattle.acpins_report.specs.declared.style.TheConstants.{HEAD}
 use Rattle.acpins_io.specs.Told.{AppendsBeginning}
 use Rattle.acpins_words.specs.Words.{Text}
-use Rattle.acpins_survey_words.specs.Words.{Asked, Command, Wish, listing, showing, mapping, telling_bodies, json, paging, help, version, survey, wish_of}
+use Rattle.acpins_survey_words.specs.Words.{Asked, Command, Invocation, listing, showing, mapping, telling_bodies, json, paging, help, version, survey, invocation_of}
 use Rattle.acpins_survey_run.specs.FailureLines.{failure_line}
 use Rattle.acpins_survey_run.specs.Failures.{status_of}
 use Rattle.acpins_survey_run.specs.Stored.{Holds, IsUnwritten}
@@ -34,20 +34,24 @@ pub record IsSurvey (depth : ℕ) (tables : List (List ℕ)) (s : Survey) : Type
   pub limit : s.depth ≡ depth
   pub read : AreTables depth 0 first_reading s.tables.items s.reading
   pub problems : map problem_view s.found.problems.items ≡ problems_in s.reading s.tables.items
-  pub notes : (unknowns : Unknowns) × (map note_view s.found.notes.items ≡ notes_by (entered_in s.reading) unknowns 0 s.tables.items)
+  pub notes : (unknowns : Unknowns)
+      × (map note_view s.found.notes.items
+      ≡ notes_by (entered_in s.reading) unknowns 0 s.tables.items)
 
 -- the survey of the tables in the files, one at least
-pub record IsSurveyOfFiles (files : FileBytes) (folders : FolderNames) (asked : Asked) (s : Survey) : Type 0 where
+pub record IsSurveyOfFiles (files : FileBytes) (folders : FolderNames) (asked : Asked)
+    (s : Survey) : Type 0 where
   pub tables : List (List ℕ)
   pub of_files : AreTablesOf files folders asked.hex asked.files tables
   pub some : tables ≢ []
   pub is : IsSurvey asked.depth tables s
 
--- The text that a command makes of a survey. Nothing is said of `report`; of `html`, what its page is made of, in which all that
--- comes from tables is escaped.
+-- The text that a command makes of a survey. Nothing is said of `report`; of `html`, what its page is made of, in which
+-- all that comes from tables is escaped.
 abbrev pub IsTextOf : Command → Survey → List ℕ → Type 0
 IsTextOf listing s text = IsListing s text
-IsTextOf (showing word) s text = (path : List Segment) × SpellsPathText path word × IsShownOrNone s path (Some text)
+IsTextOf (showing word) s text =
+    (path : List Segment) × SpellsPathText path word × IsShownOrNone s path (Some text)
 IsTextOf mapping s text = text ≡ map_text s
 IsTextOf telling_bodies s text = IsBodyListing s text
 IsTextOf json s text = IsJson s text
@@ -56,11 +60,13 @@ IsTextOf _ s text = Unit {0}
 
 -- the word of `show` spells a path at which no object may be
 abbrev pub HasNothingAt : Command → Survey → Type 0
-HasNothingAt (showing word) s = (path : List Segment) × SpellsPathText path word × IsShownOrNone s path None
+HasNothingAt (showing word) s =
+    (path : List Segment) × SpellsPathText path word × IsShownOrNone s path None
 HasNothingAt _ s = ⊥
 
 -- the text that a command makes of the tables in the files
-pub record IsMadeOf (files : FileBytes) (folders : FolderNames) (asked : Asked) (text : List ℕ) : Type 0 where
+pub record IsMadeOf (files : FileBytes) (folders : FolderNames) (asked : Asked)
+    (text : List ℕ) : Type 0 where
   pub survey : Survey
   pub is : IsSurveyOfFiles files folders asked survey
   pub made : IsTextOf asked.command survey text
@@ -75,7 +81,8 @@ printed_of (Some out) text = []
 printed_of None text = text
 
 -- what a command over tables prints, and its status: 3 where something in them is lost or refused, and else 0
-pub record IsSurveyed (files : FileBytes) (folders : FolderNames) (asked : Asked) (status : ℕ) (text : List ℕ) : Type 0 where
+pub record IsSurveyed (files : FileBytes) (folders : FolderNames) (asked : Asked) (status : ℕ)
+    (text : List ℕ) : Type 0 where
   pub survey : Survey
   pub is : IsSurveyOfFiles files folders asked survey
   pub made : List ℕ
@@ -84,43 +91,53 @@ pub record IsSurveyed (files : FileBytes) (folders : FolderNames) (asked : Asked
   pub status_is : (status ≡ 0) ⊎ (status ≡ 3)
   pub problems : (status ≡ 0) ↔ (survey.found.problems.items ≡ [])
 
--- what is printed for a wish, and the status with which the run ends then
-abbrev pub IsPrinted : FileBytes → FolderNames → Wish → ℕ → List ℕ → Type 0
+-- what is printed for an invocation, and the status with which the run ends then
+abbrev pub IsPrinted : FileBytes → FolderNames → Invocation → ℕ → List ℕ → Type 0
 IsPrinted files folders (help topic) status text = status ≡ 0
 IsPrinted files folders version status text = status ≡ 0
 IsPrinted files folders (survey asked) status text = IsSurveyed files folders asked status text
 
 -- the words ask for that text
 abbrev pub IsOutput : FileBytes → FolderNames → List Text → ℕ → List ℕ → Type 0
-IsOutput files folders words status text = (wish : Wish) × (wish_of words ≡ Some wish) × IsPrinted files folders wish status text
+IsOutput files folders words status text =
+    (invocation : Invocation) × (invocation_of words ≡ Some invocation)
+    × IsPrinted files folders invocation status text
 
 -- standard output gets it, whole
-abbrev pub GetsOutput : FileBytes → FolderNames → List Text → ℕ → Option (List ℕ) → Option (List ℕ) → Type 0
-GetsOutput files folders words status old new = (text : List ℕ) × IsOutput files folders words status text × Appends old new text
+abbrev pub GetsOutput : FileBytes → FolderNames → List Text → ℕ → Option (List ℕ) → Option (List ℕ)
+    → Type 0
+GetsOutput files folders words status old new =
+    (text : List ℕ) × IsOutput files folders words status text × Appends old new text
 
 -- .. or a beginning of it
-abbrev pub GetsBeginning : FileBytes → FolderNames → List Text → Option (List ℕ) → Option (List ℕ) → Type 0
-GetsBeginning files folders words old new = (status : ℕ) × (text : List ℕ) × IsOutput files folders words status text × AppendsBeginning text old new
+abbrev pub GetsBeginning : FileBytes → FolderNames → List Text → Option (List ℕ) → Option (List ℕ)
+    → Type 0
+GetsBeginning files folders words old new = (status : ℕ) × (text : List ℕ)
+    × IsOutput files folders words status text × AppendsBeginning text old new
 
 -- ---- what is written to files
 
 -- The file to which a command writes its text holds it, and all other files are as they were.
 -- `old` and `new` are what was written to each file, where it is known.
 abbrev pub IsHeldIn : Option Text → List ℕ → FileBytes → FileBytes → Type 0
-IsHeldIn (Some out) text old new = Holds (old out) (new out) text × ((other : List ℕ) → other ≢ out → new other ≡ old other)
+IsHeldIn (Some out) text old new =
+    Holds (old out) (new out) text × ((other : List ℕ) → other ≢ out → new other ≡ old other)
 IsHeldIn None text old new = new ≡ old
 
-abbrev pub IsStoredFor : FileBytes → FolderNames → Wish → FileBytes → FileBytes → Type 0
+abbrev pub IsStoredFor : FileBytes → FolderNames → Invocation → FileBytes → FileBytes → Type 0
 IsStoredFor files folders (survey asked) old new =
-    (text : List ℕ) × IsMadeOf files folders asked text × IsHeldIn (page_file asked.command) text old new
+    (text : List ℕ) × IsMadeOf files folders asked text
+    × IsHeldIn (page_file asked.command) text old new
 IsStoredFor files folders _ old new = new ≡ old
 
 abbrev pub StoresOutput : FileBytes → FolderNames → List Text → FileBytes → FileBytes → Type 0
 StoresOutput files folders words old new =
-    (wish : Wish) × (wish_of words ≡ Some wish) × IsStoredFor files folders wish old new
+    (invocation : Invocation) × (invocation_of words ≡ Some invocation)
+    × IsStoredFor files folders invocation old new
 
 -- a failure leaves all files as they were; where standard output can't be written, all else is done
-abbrev pub LeavesFiles : FileBytes → FolderNames → List Text → Failure → FileBytes → FileBytes → Type 0
+abbrev pub LeavesFiles : FileBytes → FolderNames → List Text → Failure → FileBytes → FileBytes
+    → Type 0
 LeavesFiles files folders words Output old new = StoresOutput files folders words old new
 LeavesFiles files folders words failure old new = new ≡ old
 
@@ -141,23 +158,30 @@ abbrev pub IsFailureOf : FileBytes → FolderNames → Asked → Failure → Typ
 IsFailureOf files folders asked (Read file cause) = IsFilesFault files asked.hex (Read file cause)
 IsFailureOf files folders asked (BadHex file) = IsFilesFault files asked.hex (BadHex file)
 IsFailureOf files folders asked (Out file) =
-    (text : List ℕ) × IsMadeOf files folders asked text × IsUnwrittenIn (page_file asked.command) (Out file)
+    (text : List ℕ) × IsMadeOf files folders asked text
+    × IsUnwrittenIn (page_file asked.command) (Out file)
 IsFailureOf files folders asked BadPath = IsBadPath asked.command
-IsFailureOf files folders asked NoSuchPath = (s : Survey) × IsSurveyOfFiles files folders asked s × HasNothingAt asked.command s
+IsFailureOf files folders asked NoSuchPath =
+    (s : Survey) × IsSurveyOfFiles files folders asked s × HasNothingAt asked.command s
 IsFailureOf files folders asked NoTable = AreTablesOf files folders asked.hex asked.files []
 IsFailureOf files folders asked Memory = Unit {0}
 IsFailureOf files folders asked _ = ⊥
 
 -- why a run fails: the words ask for nothing; or what they ask for can't be made, or can't be written
 abbrev pub IsRunFailure : FileBytes → FolderNames → List Text → Failure → Type 0
-IsRunFailure files folders words WrongWords = wish_of words ≡ None
+IsRunFailure files folders words WrongWords = invocation_of words ≡ None
 IsRunFailure files folders words Memory = Unit {0}
-IsRunFailure files folders words Output = (status : ℕ) × (text : List ℕ) × IsOutput files folders words status text
-IsRunFailure files folders words failure = (asked : Asked) × (wish_of words ≡ Some (survey asked)) × IsFailureOf files folders asked failure
+IsRunFailure files folders words Output =
+    (status : ℕ) × (text : List ℕ) × IsOutput files folders words status text
+IsRunFailure files folders words failure =
+    (asked : Asked) × (invocation_of words ≡ Some (survey asked))
+    × IsFailureOf files folders asked failure
 
--- A run ends with the status of such a failure, and its line is said. Standard output is as it was; if it was that which
--- could not be written, it got a beginning of what the words ask for. What was written to files is as `LeavesFiles` has it.
-pub record FailsWith (files : FileBytes) (folders : FolderNames) (words : List Text) (status : ℕ) (old new : Option (List ℕ)) (before after : FileBytes)
+-- A run ends with the status of such a failure, and its line is said. Standard output is as it was; if it was that
+-- which could not be written, it got a beginning of what the words ask for. What was written to files is as
+-- `LeavesFiles` has it.
+pub record FailsWith (files : FileBytes) (folders : FolderNames) (words : List Text) (status : ℕ)
+    (old new : Option (List ℕ)) (before after : FileBytes)
     (is_said : List ℕ → Type 0) : Type 0 where
   pub failure : Failure
   pub true_of : IsRunFailure files folders words failure

@@ -1,7 +1,7 @@
 //! Where a run's output goes.
 
-/// The terminal of a run, if it has one. A run asks it how a report looks, and tells it that work begins; nothing that a
-/// contract speaks of rests on its answers.
+/// The terminal of a run, if it has one. A run asks it how a report looks, and tells it that work begins; nothing that
+/// a contract speaks of rests on its answers.
 pub trait Console {
     /// Whether standard output shows colours.
     fn shows_colours(&self) -> bool {

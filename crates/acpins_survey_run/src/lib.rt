@@ -27,8 +27,6 @@ mod lines;
 mod printing;
 mod program;
 mod tables;
-#[cfg(test)]
-mod tests;
 mod writing;
 
 pub use acpins_io::{FileFault, Files, HostFiles, PartWriter, UntilFailure};
@@ -36,5 +34,5 @@ pub use console::{Console, NoConsole};
 pub use failure::{Failure, ReadCause};
 pub use folders::Folders;
 pub use host::{HostConsole, HostFolders};
-pub use program::{Ending, Output, made_in, run, told};
+pub use program::{Ending, Output, output_of, report_failure, run};
 pub use tables::{FoundTables, Source, add_tables};

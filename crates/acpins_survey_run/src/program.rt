@@ -26,7 +26,7 @@ use crate::writing::put_file;
 use acpi_survey::survey;
 use acpins_io::{Files, PartWriter, UntilFailure, Written, write_bytes};
 use acpins_survey_output::has_problem;
-use acpins_survey_words::{Command, Request, VERSION, Wish, help_of, read_words};
+use acpins_survey_words::{Command, Invocation, Request, VERSION, help_of, read_words};
 use bytes::Bytes;
 use std::alloc::Global;
 use std::io::{ErrorKind, Write};
@@ -46,8 +46,8 @@ pub struct Output {
 pub struct Ending {
     /// The exit status.
     pub status: u8,
-    /// Whether standard output has all that is printed. Where nobody reads it any more it has a beginning of that, and this
-    /// is no failure.
+    /// Whether standard output has all that is printed. Where nobody reads it any more it has a beginning of that, and
+    /// this is no failure.
     pub is_whole: bool,
 }
 
@@ -114,7 +114,7 @@ fn page_file<'a>(command: &Command<'a>) -> Option<&'a str>
 }
 
 // What is printed of a text that was made: all of it, or nothing where it is written to a file.
-fn delivered<F: Files>(
+fn deliver<F: Files>(
     alloc: Global,
     text: Vec<u8>,
     out: Option<&str>,
@@ -137,7 +137,7 @@ fn delivered<F: Files>(
 }
 
 // What a command over tables prints.
-fn surveyed<F: Files, D: Folders, C: Console>(
+fn survey_output<F: Files, D: Folders, C: Console>(
     alloc: Global,
     request: &Request<'_>,
     files: &mut F,
@@ -156,7 +156,7 @@ fn surveyed<F: Files, D: Folders, C: Console>(
     let found = survey_of(alloc, request, files, folders, console)?;
     let text = text_of(alloc, &print, &found, console.shows_colours())?;
     let status = if has_problem(&found.survey) { 3 } else { 0 };
-    let printed = delivered(alloc, text, page_file(&request.command), files)?;
+    let printed = deliver(alloc, text, page_file(&request.command), files)?;
     // The process ends soon and gives all memory back at once; to take the survey apart first costs time.
     mem::forget(found);
     Ok(Output {
@@ -166,7 +166,7 @@ fn surveyed<F: Files, D: Folders, C: Console>(
 }
 
 // A text that is printed whatever the tables are.
-fn said(alloc: Global, text: &str) -> Result<Output, Failure>
+fn text_output(alloc: Global, text: &str) -> Result<Output, Failure>
     ensures ok { IfOk result (λ m. (m.status ≡ 0) × (m.text.items ≡ text.now)) }
     ensures err { IfErr result (λ f. f ≡ Failure.Memory) }
 {
@@ -175,7 +175,7 @@ fn said(alloc: Global, text: &str) -> Result<Output, Failure>
 }
 
 /// What a run prints, whole. A page stands in its file then.
-pub fn made_in<'a, F: Files, D: Folders, C: Console>(
+pub fn output_of<'a, F: Files, D: Folders, C: Console>(
     alloc: Global,
     words: &'a [&'a str],
     files: &mut F,
@@ -191,9 +191,9 @@ pub fn made_in<'a, F: Files, D: Folders, C: Console>(
     ensures left { OnErr result (F.written_to files.new ≡ F.written_to files.old) }
 {
     match read_words(alloc, words)? {
-        Wish::Help(topic) => said(alloc, help_of(topic)),
-        Wish::Version => said(alloc, VERSION),
-        Wish::Survey(request) => surveyed(alloc, &request, files, folders, console),
+        Invocation::Help(topic) => text_output(alloc, help_of(topic)),
+        Invocation::Version => text_output(alloc, VERSION),
+        Invocation::Survey(request) => survey_output(alloc, &request, files, folders, console),
     }
 }
 
@@ -216,7 +216,7 @@ fn write_out<O: Write>(out: &mut O, bytes: &[u8]) -> Written
 
 // Makes what the words ask for, prints it, and answers the status. Where anything but printing fails, nothing was
 // printed.
-fn ended<'a, F: Files, D: Folders, C: Console, O: Write>(
+fn print_output<'a, F: Files, D: Folders, C: Console, O: Write>(
     alloc: Global,
     words: &'a [&'a str],
     files: &mut F,
@@ -242,7 +242,7 @@ fn ended<'a, F: Files, D: Folders, C: Console, O: Write>(
     ensures left { IfErr result (λ f. LeavesFiles (F.bytes_of files.old) (D.names_in folders.old)
         (texts words.now) f (F.written_to files.old) (F.written_to files.new)) }
 {
-    let Output { text, status } = made_in(alloc, words, files, folders, console)?;
+    let Output { text, status } = output_of(alloc, words, files, folders, console)?;
     match write_out(out, &text) {
         Written::Whole => Ok(Ending {
             status,
@@ -257,7 +257,7 @@ fn ended<'a, F: Files, D: Folders, C: Console, O: Write>(
 }
 
 /// Says why a run failed, as far as it can be said, and answers the status.
-pub fn told<E, P: PartWriter<E>>(failure: &Failure, err: &mut E, parts: &mut P) -> u8
+pub fn report_failure<E, P: PartWriter<E>>(failure: &Failure, err: &mut E, parts: &mut P) -> u8
     ensures status { result ≡ status_of failure.now }
     ensures line { Tells (failure_line failure.now) (P.failed parts.old) (P.contents err.old)
         (P.failed parts.new) (P.contents err.new) }
@@ -298,10 +298,10 @@ pub fn run<'a, F: Files, D: Folders, C: Console, O: Write, E: Write>(
         (λ line. AppendsBeginning line (E.contents err.old) (E.contents err.new)) }
     ensures statuses { result.status ≤ 3 }
 {
-    match ended(alloc, words, files, folders, console, out) {
+    match print_output(alloc, words, files, folders, console, out) {
         Ok(ending) => ending,
         Err(failure) => Ending {
-            status: told(&failure, err, &mut UntilFailure::new()),
+            status: report_failure(&failure, err, &mut UntilFailure::new()),
             is_whole: false,
         },
     }

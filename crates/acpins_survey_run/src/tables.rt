@@ -19,7 +19,7 @@ use std::io::Read;
 /// A file that holds tables.
 #[derive(Debug, Drop)]
 pub struct Source {
-    /// Its name.
+    /// The name of the file.
     pub name: String,
     /// How many tables stand in it and in the files before it.
     pub end: usize,
@@ -71,7 +71,7 @@ pub fn names_of_tables<'a>(
 }
 
 // The failure to read the file of that name for that cause.
-fn unread(alloc: Global, name: &str, cause: ReadCause) -> Failure
+fn read_failure(alloc: Global, name: &str, cause: ReadCause) -> Failure
     ensures { (hex : Bool) (known : Option (List ℕ)) → IsFileFault hex known name.now result }
 {
     match printed_name(alloc, name) {
@@ -81,13 +81,13 @@ fn unread(alloc: Global, name: &str, cause: ReadCause) -> Failure
 }
 
 // Why the file of that name can't be read.
-fn unread_by(alloc: Global, name: &str, fault: FileFault) -> Failure
+fn read_failure_by(alloc: Global, name: &str, fault: FileFault) -> Failure
     ensures { (hex : Bool) (known : Option (List ℕ)) → IsFileFault hex known name.now result }
 {
     match fault {
-        FileFault::Missing => unread(alloc, name, ReadCause::Missing),
-        FileFault::Denied => unread(alloc, name, ReadCause::Denied),
-        FileFault::Device => unread(alloc, name, ReadCause::Unknown),
+        FileFault::Missing => read_failure(alloc, name, ReadCause::Missing),
+        FileFault::Denied => read_failure(alloc, name, ReadCause::Denied),
+        FileFault::Device => read_failure(alloc, name, ReadCause::Unknown),
         FileFault::Memory => Failure::Memory,
     }
 }
@@ -130,7 +130,7 @@ fn add_each(alloc: Global, sources: &[Vec<u8>], tables: &mut Vec<Bytes>) -> Resu
 }
 
 // The bytes that a hexadecimal text of that name spells.
-fn decoded(alloc: Global, name: &str, text: &[u8]) -> Result<Vec<u8>, Failure>
+fn decode_hex(alloc: Global, name: &str, text: &[u8]) -> Result<Vec<u8>, Failure>
     ensures ok { IfOk result (λ v. SpellsInHex v.items text.now) }
     ensures err { IfErr result (IsFileFault true (Some text.now) name.now) }
 {
@@ -166,7 +166,7 @@ fn add_content(
     ensures err { IfErr result (IsFileFault hex (Some content.items) name.now) }
 {
     if hex {
-        let bytes = decoded(alloc, name, &content)?;
+        let bytes = decode_hex(alloc, name, &content)?;
         return Ok(add_pieces(alloc, bytes, tables)?);
     }
     if is_header(&content) {
@@ -194,7 +194,7 @@ fn add_file<F: Files>(
             add_content(alloc, name, hex, content, &mut found.tables)?;
             Ok(found.end_source(alloc, name)?)
         }
-        Err(fault) => Err(unread_by(alloc, name, fault)),
+        Err(fault) => Err(read_failure_by(alloc, name, fault)),
     }
 }
 
@@ -242,7 +242,7 @@ fn add_dynamic<F: Files, D: Folders>(
     match folders.names(dynamic.as_str()) {
         Ok(Some(names)) => add_ssdts(alloc, files, dynamic.as_str(), &names, hex, found),
         Ok(None) | Err(FileFault::Missing) => Ok(()),
-        Err(fault) => Err(unread_by(alloc, dynamic.as_str(), fault)),
+        Err(fault) => Err(read_failure_by(alloc, dynamic.as_str(), fault)),
     }
 }
 
@@ -265,7 +265,7 @@ fn add_folder<F: Files, D: Folders>(
     ensures folders { D.names_in folders.new ≡ D.names_in folders.old }
 {
     if !has_dsdt(names) {
-        return Err(unread(alloc, folder, ReadCause::NoDsdt));
+        return Err(read_failure(alloc, folder, ReadCause::NoDsdt));
     }
     let dsdt = path_in(alloc, folder, "DSDT")?;
     add_file(alloc, files, dsdt.as_str(), hex, found)?;
@@ -293,6 +293,6 @@ pub fn add_tables<F: Files, D: Folders>(
     match folders.names(name) {
         Ok(Some(names)) => add_folder(alloc, files, folders, name, &names, hex, found),
         Ok(None) => add_file(alloc, files, name, hex, found),
-        Err(fault) => Err(unread_by(alloc, name, fault)),
+        Err(fault) => Err(read_failure_by(alloc, name, fault)),
     }
 }

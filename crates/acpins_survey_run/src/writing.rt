@@ -10,7 +10,7 @@ use std::alloc::Global;
 use std::io::Write;
 
 // The failure to write the file of that name.
-fn unwritten(alloc: Global, name: &str) -> Failure
+fn write_failure(alloc: Global, name: &str) -> Failure
     ensures { IsUnwritten name.now result }
 {
     match printed_name(alloc, name) {
@@ -20,12 +20,12 @@ fn unwritten(alloc: Global, name: &str) -> Failure
 }
 
 // Why the file of that name isn't written.
-fn unwritten_by(alloc: Global, name: &str, fault: FileFault) -> Failure
+fn write_failure_by(alloc: Global, name: &str, fault: FileFault) -> Failure
     ensures { IsUnwritten name.now result }
 {
     match fault {
         FileFault::Memory => Failure::Memory,
-        _ => unwritten(alloc, name),
+        _ => write_failure(alloc, name),
     }
 }
 
@@ -45,15 +45,15 @@ pub fn put_file<F: Files>(
 {
     let mut file = match files.create(name) {
         Ok(file) => file,
-        Err(fault) => return Err(unwritten_by(alloc, name, fault)),
+        Err(fault) => return Err(write_failure_by(alloc, name, fault)),
     };
     let written = file.write_all(bytes).is_ok() && file.flush().is_ok();
     if !written {
         files.abandon(file);
-        return Err(unwritten(alloc, name));
+        return Err(write_failure(alloc, name));
     }
     match files.close(file) {
         Ok(()) => Ok(()),
-        Err(fault) => Err(unwritten_by(alloc, name, fault)),
+        Err(fault) => Err(write_failure_by(alloc, name, fault)),
     }
 }

@@ -12,8 +12,8 @@ use Rattle.acpins_survey_words.specs.declared.words.Command.TheVariants as read
 use Rattle.acpins_survey_words.specs.declared.words.Request.{Request}
 use Rattle.acpins_survey_words.specs.declared.words.Topic.{Topic}
 use Rattle.acpins_survey_words.specs.declared.words.Topic.TheVariants as topics
-use Rattle.acpins_survey_words.specs.declared.words.Wish.{Wish as WishWords}
-use Rattle.acpins_survey_words.specs.declared.words.Wish.TheVariants as wishes
+use Rattle.acpins_survey_words.specs.declared.words.Invocation.{Invocation as InvocationWords}
+use Rattle.acpins_survey_words.specs.declared.words.Invocation.TheVariants as invocations
 
 -- `-v`
 abbrev pub verbose_rule : Rule
@@ -28,7 +28,8 @@ report_shape =
 -- the command, as clap reads it
 abbrev pub survey_app : App
 survey_app =
-    let list = with_subcommand (alone (program_shape (codes "acpins-survey"))) (files_shape (codes "list")) in
+    let list = with_subcommand (alone (program_shape (codes "acpins-survey")))
+    (files_shape (codes "list")) in
     let show = with_subcommand list (path_shape (codes "show")) in
     let map = with_subcommand show (files_shape (codes "map")) in
     let bodies = with_subcommand map (files_shape (codes "bodies")) in
@@ -36,8 +37,8 @@ survey_app =
     let json = with_subcommand report (files_shape (codes "json")) in
     with_subcommand json (out_shape (codes "html"))
 
--- what is made of the survey of tables: the listing; the objects at the path that a text spells; the map of the bytes; the methods;
--- the report, unfolded or not; JSON; a page, in the file of a name
+-- what is made of the survey of tables: the listing; the objects at the path that a text spells; the map of the bytes;
+-- the methods; the report, unfolded or not; JSON; a page, in the file of a name
 pub data Command : Type 0 where
   listing : Command
   showing : Text → Command
@@ -47,7 +48,8 @@ pub data Command : Type 0 where
   json : Command
   paging : Text → Command
 
--- a command over a list of tables: whether their files are hexadecimal text, how many levels terms may have, and the files
+-- a command over a list of tables: whether their files are hexadecimal text, how many levels terms may have, and the
+-- files
 pub record Asked : Type 0 where
   pub command : Command
   pub hex : Bool
@@ -55,10 +57,10 @@ pub record Asked : Type 0 where
   pub files : List Text
 
 -- how the program is called, which one it is, or a survey
-pub data Wish : Type 0 where
-  help : Topic → Wish
-  version : Wish
-  survey : Asked → Wish
+pub data Invocation : Type 0 where
+  help : Topic → Invocation
+  version : Invocation
+  survey : Asked → Invocation
 
 -- ---- help
 
@@ -74,15 +76,16 @@ topic_of name =
     else (if bytes_eq name (codes "html") then Some topics.Html
     else None))))))
 
-abbrev pub lone_wish : Text → Option Wish
-lone_wish word =
+abbrev pub lone_invocation : Text → Option Invocation
+lone_invocation word =
     if bytes_eq word (codes "--help") then Some (help topics.Program)
     else (if bytes_eq word (codes "--version") then Some version else None)
 
 -- `--help`, `--version`, or the name of a command and `--help`
-abbrev pub help_in : List Text → Option Wish
-help_in (word ∷ []) = lone_wish word
-help_in (name ∷ word ∷ []) = if bytes_eq word (codes "--help") then option_map help (topic_of name) else None
+abbrev pub help_in : List Text → Option Invocation
+help_in (word ∷ []) = lone_invocation word
+help_in (name ∷ word ∷ []) =
+    if bytes_eq word (codes "--help") then option_map help (topic_of name) else None
 help_in _ = None
 
 -- ---- a survey
@@ -120,12 +123,12 @@ asked_of words =
 
 -- ---- what words ask for
 
-abbrev pub wish_or : Option Wish → List Text → Option Wish
-wish_or (Some wish) words = Some wish
-wish_or None words = option_map survey (asked_of words)
+abbrev pub invocation_or : Option Invocation → List Text → Option Invocation
+invocation_or (Some invocation) words = Some invocation
+invocation_or None words = option_map survey (asked_of words)
 
-abbrev pub wish_of : List Text → Option Wish
-wish_of words = wish_or (help_in words) words
+abbrev pub invocation_of : List Text → Option Invocation
+invocation_of words = invocation_or (help_in words) words
 
 abbrev pub command_in : CommandWords → Command
 command_in read.List = listing
@@ -145,7 +148,7 @@ asked_in r = record {
   files = texts r.files.items;
 }
 
-abbrev pub wish_in : WishWords → Wish
-wish_in (wishes.Help topic) = help topic
-wish_in wishes.Version = version
-wish_in (wishes.Survey request) = survey (asked_in request)
+abbrev pub invocation_in : InvocationWords → Invocation
+invocation_in (invocations.Help topic) = help topic
+invocation_in invocations.Version = version
+invocation_in (invocations.Survey request) = survey (asked_in request)

@@ -1,8 +1,8 @@
 //! The words of the command `acpins-survey`: what those that follow the program's name ask for.
 //!
 //! ```text
-//! let wish = read_words(alloc, &["show", "--hex", "\\_SB_.PCI0", "dsdt.hex"])?;
-//! // Wish::Survey(request): request.command is Command::Show("\\_SB_.PCI0"); request.files is ["dsdt.hex"]
+//! let invocation = read_words(alloc, &["show", "--hex", "\\_SB_.PCI0", "dsdt.hex"])?;
+//! // Invocation::Survey(request): request.command is Command::Show("\\_SB_.PCI0"); request.files is ["dsdt.hex"]
 //! ```
 //!
 //! `help_of` and `VERSION` are what `--help` and `--version` print.
@@ -12,4 +12,4 @@ mod help;
 mod words;
 
 pub use help::{VERSION, help_of};
-pub use words::{Command, Request, Topic, Wish, read_words};
+pub use words::{Command, Invocation, Request, Topic, read_words};

@@ -8,8 +8,8 @@ ghost use Rattle.clap.specs.Walk.{rows_of, rule_of, texts};
 ghost use Rattle.clap.specs.declared.builder.command.Command.TheViews.{out-Command as fields_of};
 ghost use Rattle.acpins_words.specs.Words.{alone};
 ghost use Rattle.acpins_survey_words.specs.Words.{asked_by, asked_in, asked_of, command_by};
-ghost use Rattle.acpins_survey_words.specs.Words.{command_in, help_in, lone_wish, report_shape};
-ghost use Rattle.acpins_survey_words.specs.Words.{survey_app, topic_of, verbose_rule, wish_in, wish_of};
+ghost use Rattle.acpins_survey_words.specs.Words.{command_in, help_in, lone_invocation, report_shape};
+ghost use Rattle.acpins_survey_words.specs.Words.{survey_app, topic_of, verbose_rule, invocation_in, invocation_of};
 
 use acpi_code::Depth;
 use acpins_words::WordsFault;
@@ -78,7 +78,7 @@ pub enum Topic {
 
 /// What the words ask for.
 #[derive(Debug, Drop)]
-pub enum Wish<'a> {
+pub enum Invocation<'a> {
     /// How the program is called.
     Help(Topic),
     /// Which program this is.
@@ -104,32 +104,32 @@ fn topic_of(name: &str) -> Option<Topic>
 }
 
 // What a word asks for that stands alone.
-fn lone_wish<'a>(word: &str) -> Option<Wish<'a>>
-    ensures { option_map wish_in result ≡ lone_wish word.now }
+fn lone_invocation<'a>(word: &str) -> Option<Invocation<'a>>
+    ensures { option_map invocation_in result ≡ lone_invocation word.now }
 {
     match word {
-        "--help" => Some(Wish::Help(Topic::Program)),
-        "--version" => Some(Wish::Version),
+        "--help" => Some(Invocation::Help(Topic::Program)),
+        "--version" => Some(Invocation::Version),
         _ => None,
     }
 }
 
 // The help on a command that two words ask for.
-fn command_help<'a>(name: &str, word: &str) -> Option<Wish<'a>>
-    ensures { option_map wish_in result ≡ help_in (name.now ∷ word.now ∷ []) }
+fn command_help<'a>(name: &str, word: &str) -> Option<Invocation<'a>>
+    ensures { option_map invocation_in result ≡ help_in (name.now ∷ word.now ∷ []) }
 {
     match word {
-        "--help" => Some(Wish::Help(topic_of(name)?)),
+        "--help" => Some(Invocation::Help(topic_of(name)?)),
         _ => None,
     }
 }
 
 // The help or the version that words ask for.
-fn help_in<'a>(words: &[&str]) -> Option<Wish<'a>>
-    ensures { option_map wish_in result ≡ help_in (texts words.now) }
+fn help_in<'a>(words: &[&str]) -> Option<Invocation<'a>>
+    ensures { option_map invocation_in result ≡ help_in (texts words.now) }
 {
     match words {
-        [word] => lone_wish(word),
+        [word] => lone_invocation(word),
         [name, word] => command_help(name, word),
         _ => None,
     }
@@ -239,12 +239,13 @@ fn read_request<'a>(alloc: Global, words: &'a [&'a str]) -> Result<Request<'a>, 
 }
 
 /// Reads the words that follow the program's name. `WordsFault::Wrong` where they ask for nothing.
-pub fn read_words<'a>(alloc: Global, words: &'a [&'a str]) -> Result<Wish<'a>, WordsFault>
-    ensures found { IfOk result (λ wish. wish_of (texts words.now) ≡ Some (wish_in wish)) }
-    ensures wrong { result ≡ Err WordsFault.Wrong → wish_of (texts words.now) ≡ None }
+pub fn read_words<'a>(alloc: Global, words: &'a [&'a str]) -> Result<Invocation<'a>, WordsFault>
+    ensures found { IfOk result (λ invocation. invocation_of (texts words.now)
+        ≡ Some (invocation_in invocation)) }
+    ensures wrong { result ≡ Err WordsFault.Wrong → invocation_of (texts words.now) ≡ None }
 {
     match help_in(words) {
-        Some(wish) => Ok(wish),
-        None => Ok(Wish::Survey(read_request(alloc, words)?)),
+        Some(invocation) => Ok(invocation),
+        None => Ok(Invocation::Survey(read_request(alloc, words)?)),
     }
 }

@@ -47,11 +47,13 @@ files_shape name = record (new_shape name) { rules = hex_rule ∷ depth_rule ∷
 
 -- .. with a path: the first word that is no option, and the others are files
 abbrev pub path_shape : Text → Shape
-path_shape name = record (new_shape name) { rules = hex_rule ∷ depth_rule ∷ path_rule ∷ file_rule ∷ [] }
+path_shape name =
+    record (new_shape name) { rules = hex_rule ∷ depth_rule ∷ path_rule ∷ file_rule ∷ [] }
 
 -- .. with the file that is written: the first word that is no option, and the others are read
 abbrev pub out_shape : Text → Shape
-out_shape name = record (new_shape name) { rules = hex_rule ∷ depth_rule ∷ out_rule ∷ file_rule ∷ [] }
+out_shape name =
+    record (new_shape name) { rules = hex_rule ∷ depth_rule ∷ out_rule ∷ file_rule ∷ [] }
 
 -- a program: a subcommand is wanted, and there is no help and no version to ask for
 abbrev pub program_shape : Text → Shape
@@ -70,15 +72,16 @@ alone shape = record { top = shape; subs = [] }
 -- the command, as clap reads it
 abbrev pub acpins_app : App
 acpins_app =
-    let list = with_subcommand (alone (program_shape (codes "acpins"))) (files_shape (codes "list")) in
+    let list = with_subcommand (alone (program_shape (codes "acpins")))
+    (files_shape (codes "list")) in
     let show = with_subcommand list (path_shape (codes "show")) in
     let check = with_subcommand show (files_shape (codes "check")) in
     with_subcommand check (out_shape (codes "rewrite"))
 
 -- ---- what words ask for
 
--- what is made of tables: the listing of the objects; the object whose path a text spells; the verdict on the SSDTs; the
--- tables in their shortest spelling, in the file of a name
+-- what is made of tables: the listing of the objects; the object whose path a text spells; the verdict on the SSDTs;
+-- the tables in their shortest spelling, in the file of a name
 pub data Command : Type 0 where
   listing : Command
   showing : Text → Command

@@ -3,10 +3,8 @@ use Rattle.std.proofs.Common.{◌≡◌, ◌∙◌, ℕ, ◌+◌, ◌<◌, Bool,
 use Rattle.std.specs.List.{flat_map, list_all}
 use Rattle.std.proofs.lemmas.List.{flat_map_more, take_more}
 use Rattle.std.proofs.lemmas.List.Folds.{list_all-append}
+use Rattle.std.proofs.lemmas.Bool.{and_from}
 use Rattle.html_text.specs.Escape.{entity_of, escaped, is_no_markup}
-
-both_are : (a b : Bool) → a ≡ true → b ≡ true → (a && b) ≡ true
-both_are a b one other = ap (λ x. x && b) one ∙ other
 
 -- an entity, or a byte that is none of the characters
 entity : (b : ℕ) (lt gt amp quote single : Bool) → is_no_markup b ≡ (not lt && not gt && not quote && not single)
@@ -24,7 +22,7 @@ entity-no_markup b = entity b (nat_eq b 60) (nat_eq b 62) (nat_eq b 38) (nat_eq 
 pub escaped-no_markup : (bytes : List ℕ) → list_all is_no_markup (escaped bytes) ≡ true
 escaped-no_markup [] = refl
 escaped-no_markup (b ∷ bs) = list_all-append is_no_markup (entity_of b) (escaped bs)
-    ∙ both_are (list_all is_no_markup (entity_of b)) (list_all is_no_markup (escaped bs)) (entity-no_markup b) (escaped-no_markup bs)
+    ∙ and_from (list_all is_no_markup (entity_of b)) (list_all is_no_markup (escaped bs)) (entity-no_markup b) (escaped-no_markup bs)
 
 -- one byte more
 pub one_more : (bytes : List ℕ) (i b : ℕ) (old mid new : List ℕ) → i < length bytes → b ≡ get_or bytes i 0

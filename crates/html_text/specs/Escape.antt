@@ -4,7 +4,8 @@ use Rattle.std.specs.List.{flat_map, list_all}
 
 -- the characters that stand for a byte: an entity for `<`, `>`, `&`, `"` and `'`, and else the byte
 abbrev pub entity_of : ℕ → List ℕ
-entity_of b = if nat_eq b 60 then codes "&lt;" else (if nat_eq b 62 then codes "&gt;" else (if nat_eq b 38 then codes "&amp;"
+entity_of b = if nat_eq b 60 then codes "&lt;" else (if nat_eq b 62 then codes "&gt;" else
+    (if nat_eq b 38 then codes "&amp;"
     else (if nat_eq b 34 then codes "&quot;" else (if nat_eq b 39 then codes "&#39;" else b ∷ []))))
 
 -- the characters that stand for bytes

@@ -15,7 +15,5 @@
 
 mod html;
 pub mod laws;
-#[cfg(test)]
-mod tests;
 
 pub use html::Html;

@@ -1,5 +1,5 @@
-//! Bodies over both kinds of space: one that is read, with what it misses, and one that isn't, with the reason; and one by
-//! counts that aren't sure. Other bodies, and which of several true reasons is told of one, are rows of the program.
+//! Bodies over both kinds of space: one that is read, with what it misses, and one that isn't, with the reason; and one
+//! by counts that aren't sure. Other bodies, and which of several true reasons is told of one, are rows of the program.
 
 ghost use Rattle.std.specs.Prelude.{None};
 

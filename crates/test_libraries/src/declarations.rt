@@ -1,5 +1,5 @@
-//! Declarations of small tables over both kinds of space. What other tables declare, and why one is refused, are rows of
-//! the program.
+//! Declarations of small tables over both kinds of space. What other tables declare, and why one is refused, are rows
+//! of the program.
 
 use crate::expect::{expect_number, expect_path, expect_printed, path_of};
 use crate::machines::{dsdt_of, limit, slices_of, ssdts_of, table};

@@ -209,8 +209,8 @@ fn tells_faults(rt: HostRuntime) {
     expect_faults(&rt, rt.alloc(), &FAULTS);
 }
 
-// External (\FOO, MethodObj, 2 arguments), Name (FOO, Package (4) { "AB", \BAR, Buffer (1) { FF }, VarPackage of FF }) and a
-// Field (REG0, ..) of each kind of element.
+// External (\FOO, MethodObj, 2 arguments), Name (FOO, Package (4) { "AB", \BAR, Buffer (1) { FF }, VarPackage of FF })
+// and a Field (REG0, ..) of each kind of element.
 const COPIED: [&[u8]; 3] = [
     b"\x15\\FOO_\x08\x02",
     b"\x08FOO_\x12\x12\x04\x0DAB\x00\\BAR_\x11\x03\x01\xFF\x13\x02\xFF",

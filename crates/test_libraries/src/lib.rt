@@ -23,6 +23,8 @@ mod names;
 #[cfg(test)]
 mod orders;
 #[cfg(test)]
+mod places;
+#[cfg(test)]
 mod rewritten;
 #[cfg(test)]
 mod singles;

@@ -86,8 +86,8 @@ fn expect_read<S: Space<Object>>(rt: &impl Abort, alloc: Global) {
     expect_body(rt, alloc, &machine, &shared);
 }
 
-// Of the methods of two tables that body alone is read, and none at a path without a method; of what the tables note, that
-// method alone is kept, or nothing.
+// Of the methods of two tables that body alone is read, and none at a path without a method; of what the tables note,
+// that method alone is kept, or nothing.
 fn expect_one_body<S: Space<Object>>(rt: &impl Abort, alloc: Global) {
     let dsdt = dsdt_of(rt, alloc, &[CALL]);
     let ssdts = ssdts_of(rt, alloc, &[MTH2]);

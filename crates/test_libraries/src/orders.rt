@@ -1,5 +1,5 @@
-//! A worked list of SSDTs over both kinds of space: the verdict on them, and which External they satisfy. What is told of
-//! other lists, and what they load to in every order, are rows of the program.
+//! A worked list of SSDTs over both kinds of space: the verdict on them, and which External they satisfy. What is told
+//! of other lists, and what they load to in every order, are rows of the program.
 
 use crate::expect::expect_printed;
 use crate::machines::{MTH2, OTHER, dsdt_of, limit, slices_of, ssdts_of};

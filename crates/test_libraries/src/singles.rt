@@ -1,5 +1,5 @@
-//! Worked single loads over both kinds of space: what one declares, misses and awaits, and the join of two. Whether SSDTs
-//! commute is told in rows of the program.
+//! Worked single loads over both kinds of space: what one declares, misses and awaits, and the join of two. Whether
+//! SSDTs commute is told in rows of the program.
 
 use crate::declarations::FIELD;
 use crate::expect::{expect_number, expect_path, expect_printed};

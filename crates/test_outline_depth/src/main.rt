@@ -164,8 +164,8 @@ impl Known for Nothing {
     }
 }
 
-// So many packages, each inside the one before: the opcode, a length of four bytes that counts all that follows, and what
-// stands first in each.
+// So many packages, each inside the one before: the opcode, a length of four bytes that counts all that follows, and
+// what stands first in each.
 fn nested(alloc: Global, opcode: u8, first: u8, levels: u32) -> Result<Vec<u8>, AllocError> {
     let mut code = Vec::new(alloc);
     for left in (1..=levels).rev() {

@@ -4,7 +4,7 @@ use acpi_load::{LoadReason, Refusal};
 use acpi_name::Path;
 use acpi_table::TableFault;
 use acpi_terms::ItemReason;
-use acpins_run::{Failure, UntilFailure, told};
+use acpins_run::{Failure, UntilFailure, report_failure};
 use std::alloc::Global;
 use std::process::Abort;
 use std::str::from_utf8;
@@ -46,7 +46,7 @@ static REFUSALS: [Refusal; 6] = [
 // The line is the text and a line end.
 fn agrees(rt: &impl Abort, alloc: Global, failure: Failure<'_>) {
     let mut line: Vec<u8> = Vec::new(alloc);
-    told(&failure, &mut line, &mut UntilFailure::new());
+    report_failure(&failure, &mut line, &mut UntilFailure::new());
     let text = format!(in alloc; "{failure}\n").expect(rt, "memory");
     assert_eq!(rt; from_utf8(line.as_slice()), Ok(text.as_str()));
 }

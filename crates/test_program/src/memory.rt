@@ -10,12 +10,17 @@ use std::{io, mem};
 pub struct Failing {
     /// The file whose reads are counted.
     pub file: &'static str,
+    /// The read that fails.
     pub read: usize,
+    /// The write that fails.
     pub write: usize,
+    /// Whether no file can be made.
     pub create: bool,
+    /// Whether no file can be closed.
     pub close: bool,
 }
 
+/// Nothing fails.
 pub const NONE: Failing = Failing {
     file: "",
     read: 0,
@@ -65,11 +70,14 @@ impl Read for MemoryReader {
 /// Takes at most five bytes a call.
 #[derive(Drop)]
 pub struct MemoryWriter {
+    /// What was written so far.
     pub bytes: Vec<u8>,
+    /// Which write fails, from here on.
     pub left: Countdown,
 }
 
 impl MemoryWriter {
+    /// Nothing is written; the write of that number fails, and none where it is 0.
     pub fn new(alloc: Global, failing: usize) -> MemoryWriter {
         MemoryWriter {
             bytes: Vec::new(alloc),
@@ -101,6 +109,7 @@ impl Write for MemoryWriter {
 #[derive(Drop)]
 pub struct MemoryFiles {
     alloc: Global,
+    /// The files by their names, with their bytes.
     pub kept: Vec<(String, Vec<u8>)>,
     /// How many files were made and neither closed nor given up.
     pub unended: usize,
@@ -110,6 +119,7 @@ pub struct MemoryFiles {
 }
 
 impl MemoryFiles {
+    /// No files.
     pub fn new(alloc: Global, failing: Failing) -> MemoryFiles {
         MemoryFiles {
             alloc,
@@ -120,12 +130,14 @@ impl MemoryFiles {
         }
     }
 
+    /// Adds a file behind the others.
     pub fn add(&mut self, name: &str, bytes: &[u8]) -> Result<(), AllocError> {
         let name = String::from_str(self.alloc, name)?;
         self.kept.push((name, Vec::from_slice(self.alloc, bytes)?))?;
         Ok(())
     }
 
+    /// The bytes of the first file of that name.
     pub fn get(&self, name: &str) -> Option<&[u8]> {
         for (known, bytes) in self.kept.iter() {
             if known.as_str() == name {

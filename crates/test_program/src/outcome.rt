@@ -4,7 +4,7 @@ use crate::memory::{Failing, MemoryFiles, MemoryWriter};
 use acpi_space::MapSpace;
 use acpi_table::checksum_for;
 use acpi_terms::Object;
-use acpins_run::{UntilFailure, from_hex, made_in, run, told};
+use acpins_run::{UntilFailure, from_hex, output_of, report_failure, run};
 use std::alloc::Global;
 use std::process::Abort;
 use std::str::from_utf8;
@@ -84,12 +84,16 @@ pub fn files_of(rt: &impl Abort, alloc: Global, kept: &[Kept], failing: Failing)
 /// What a run answered and wrote.
 #[derive(Debug, Drop)]
 pub struct Outcome {
+    /// The exit status.
     pub status: u8,
+    /// What standard output got.
     pub out: Vec<u8>,
+    /// What standard error got.
     pub err: Vec<u8>,
 }
 
 impl Outcome {
+    /// Whether the run ended with this status and printed these texts.
     pub fn is(&self, status: u8, out: &str, err: &str) -> bool {
         self.status == status
             && from_utf8(self.out.as_slice()) == Ok(out)
@@ -134,14 +138,14 @@ pub fn made_over_map(
 ) -> Outcome {
     let words: Vec<&str> = words.split('|').collect(alloc).expect(rt, "memory");
     let mut err = MemoryWriter::new(alloc, 0);
-    match made_in::<MapSpace<Object>, MemoryFiles>(alloc, words.as_slice(), files) {
+    match output_of::<MapSpace<Object>, MemoryFiles>(alloc, words.as_slice(), files) {
         Ok(made) => Outcome {
             status: made.status,
             out: made.text,
             err: err.bytes,
         },
         Err(failure) => {
-            let status = told(&failure, &mut err, &mut UntilFailure::new());
+            let status = report_failure(&failure, &mut err, &mut UntilFailure::new());
             Outcome {
                 status,
                 out: Vec::new(alloc),

@@ -26,15 +26,19 @@ Gives view (Err e) reading = Fails e reading
 
 -- What a reader answered, seen by `view`, is what the reading gives of the bytes that were left, and the bytes behind
 -- it are left, which are fewer; unless memory ran out.
-abbrev pub Reads : {X Y : Type 0} → (X → Y) → (ℕ → List ℕ → Reading BodyFault Y) → Left → Left → Result X Stop → Type 0
+abbrev pub Reads : {X Y : Type 0} → (X → Y) → (ℕ → List ℕ → Reading BodyFault Y) → Left → Left
+    → Result X Stop → Type 0
 Reads view read old new (Ok x) = (read old.end old.bytes ≡ Ok (view x, new.bytes)) × Shorter old new
 Reads view read old new (Err e) = Fails e (read old.end old.bytes)
 
 -- the same, where there may be nothing to read
-abbrev pub ReadsOn : {X Y : Type 0} → (X → Y) → (ℕ → List ℕ → Reading BodyFault Y) → Left → Left → Result X Stop → Type 0
-ReadsOn view read old new (Ok x) = (read old.end old.bytes ≡ Ok (view x, new.bytes)) × NoLonger old new
+abbrev pub ReadsOn : {X Y : Type 0} → (X → Y) → (ℕ → List ℕ → Reading BodyFault Y) → Left → Left
+    → Result X Stop → Type 0
+ReadsOn view read old new (Ok x) =
+    (read old.end old.bytes ≡ Ok (view x, new.bytes)) × NoLonger old new
 ReadsOn view read old new (Err e) = Fails e (read old.end old.bytes)
 
 -- all that was left was read
-abbrev pub ReadsAll : {X Y : Type 0} → (X → Y) → (ℕ → List ℕ → Result Y BodyFault) → Left → Result X Stop → Type 0
+abbrev pub ReadsAll : {X Y : Type 0} → (X → Y) → (ℕ → List ℕ → Result Y BodyFault) → Left
+    → Result X Stop → Type 0
 ReadsAll view read old result = Gives view result (read old.end old.bytes)

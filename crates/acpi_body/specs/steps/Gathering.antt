@@ -30,7 +30,8 @@ is_at (Some q) p = is_same_path p q
 -- the firm misses with those of one search, but for the path that it awaits
 abbrev pub with_misses : Option (List Segment) → Paths → List (List Segment) → Paths
 with_misses awaited firm [] = firm
-with_misses awaited firm (p ∷ ps) = with_misses awaited (cond (is_at awaited p) firm (with_local firm p)) ps
+with_misses awaited firm (p ∷ ps) =
+    with_misses awaited (cond (is_at awaited p) firm (with_local firm p)) ps
 
 -- the counts that are awaited with that of one search
 abbrev pub with_awaited : Lookup ℕ → PathMap ℕ → Option (List Segment) → PathMap ℕ
@@ -47,7 +48,12 @@ unfoldable pub with_search : Wants → Setting → Gathered → Searched → Gat
 with_search w c g e =
     let objects = namespace_of c.objects in
     let awaited = awaited_place objects (get c.externals) c.method e.0 e.1 in
-    record { firm = with_misses awaited g.firm (filter w (missed (defined_with objects e.0) c.method e.1)); awaited = with_awaited (get c.externals) g.awaited (if_wanted w awaited) }
+    record {
+      firm = with_misses awaited g.firm
+          (filter w (missed (defined_with objects e.0) c.method e.1));
+      awaited =
+          with_awaited (get c.externals) g.awaited (if_wanted w awaited);
+    }
 
 -- .. and with the searches of a read body, in order
 abbrev pub with_searches : Wants → Setting → Gathered → List Searched → Gathered
@@ -59,7 +65,8 @@ abbrev mutual
   pub after_value : Wants → Setting → Locals → Gathered → TermTree → Gathered
   after_value w c locals g (buffer size content) = after_value w c locals g size
   after_value w c locals g (pkg count es) = after_values w c locals g es
-  after_value w c locals g (var_pkg count es) = after_values w c locals (after_value w c locals g count) es
+  after_value w c locals g (var_pkg count es) =
+      after_values w c locals (after_value w c locals g count) es
   after_value w c locals g (call n vs) = after_values w c locals (with_search w c g (locals, n)) vs
   after_value w c locals g (apply op vs) = after_values w c locals g vs
   after_value w c locals g _ = g
@@ -70,9 +77,12 @@ abbrev mutual
 
 abbrev mutual
   pub after_statement : Wants → Setting → Locals → Gathered → TermTree → Gathered
-  after_statement w c locals g (if_do v ts e) = after_else w c (locals_after_all c.method locals ts) (after_statements w c locals (after_value w c locals g v) ts) e
-  after_statement w c locals g (while_do v ts) = after_statements w c locals (after_value w c locals g v) ts
-  after_statement w c locals g (declare form before n behind) = after_values w c locals (after_values w c locals g before) behind
+  after_statement w c locals g (if_do v ts e) = after_else w c (locals_after_all c.method locals ts)
+      (after_statements w c locals (after_value w c locals g v) ts) e
+  after_statement w c locals g (while_do v ts) =
+      after_statements w c locals (after_value w c locals g v) ts
+  after_statement w c locals g (declare form before n behind) =
+      after_values w c locals (after_values w c locals g before) behind
   after_statement w c locals g (declare_units form ns vs es) = after_values w c locals g vs
   after_statement w c locals g t = after_value w c locals g t
 
@@ -82,7 +92,8 @@ abbrev mutual
 
   pub after_statements : Wants → Setting → Locals → Gathered → TermTrees → Gathered
   after_statements w c locals g no_terms = g
-  after_statements w c locals g (more t ts) = after_statements w c (locals_after c.method locals t) (after_statement w c locals g t) ts
+  after_statements w c locals g (more t ts) =
+      after_statements w c (locals_after c.method locals t) (after_statement w c locals g t) ts
 
 -- the paths have become those that they were, and those with P
 abbrev pub Grows : Paths → Paths → (List Segment → Type 0) → Type 0
@@ -93,7 +104,8 @@ abbrev pub Asked : Wants → (List Segment → Type 0) → List Segment → Type
 Asked w P p = P p × IsTrue (w p)
 
 -- the search of the name at the front misses the path
-pub record IsFrontMiss (objects : Namespace) (s : List Segment) (bytes : List ℕ) (p : List Segment) : Type 0 where
+pub record IsFrontMiss (objects : Namespace) (s : List Segment) (bytes : List ℕ)
+    (p : List Segment) : Type 0 where
   pub name : NameParts
   pub count : ℕ
   pub begins : BeginsWithName name count bytes

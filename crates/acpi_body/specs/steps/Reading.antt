@@ -1,4 +1,5 @@
--- Reading terms and method bodies from left to right, up to the first fault (ACPI 6.5, 20.2.5), over the readings of parts.
+-- Reading terms and method bodies from left to right, up to the first fault (ACPI 6.5, 20.2.5), over the readings of
+-- parts.
 use Rattle.std.specs.Prelude.{◌-◌, ℕ, zero, suc, Bool, true, false, List, [], ◌∷◌, length, Option, Some, None, Result, Ok, Err, ◌==◌, if◌then◌else◌}
 use Rattle.acpi_name.specs.Names.{Segment, NameParts}
 use Rattle.acpi_name.specs.Paths.{place_of}
@@ -53,7 +54,8 @@ as_raw k read = part read >>= λ n. Ok (raw k n.0, n.1)
 -- the byte 00 is no target, and has no level
 abbrev pub target_at : Reader → ℕ → List ℕ → Reading BodyFault TermTree
 target_at inner end [] = inner SuperName end []
-target_at inner end (b ∷ rest) = if b == 0x00 then Ok (no_target, rest) else inner SuperName end (b ∷ rest)
+target_at inner end (b ∷ rest) =
+    if b == 0x00 then Ok (no_target, rest) else inner SuperName end (b ∷ rest)
 
 unfoldable pub operand_at : Reader → OperandKind → ℕ → List ℕ → Reading BodyFault TermTree
 operand_at inner (At place) end bytes = inner place end bytes
@@ -63,7 +65,8 @@ operand_at inner Word end bytes = as_raw 2 (number_at 2 end bytes)
 operand_at inner DWord end bytes = as_raw 4 (number_at 4 end bytes)
 
 -- one operand of each kind, in order
-unfoldable pub operands_at : Reader → List OperandKind → ℕ → List ℕ → Reading BodyFault (List TermTree)
+unfoldable pub operands_at : Reader → List OperandKind → ℕ → List ℕ
+    → Reading BodyFault (List TermTree)
 operands_at inner [] end bytes = Ok ([], bytes)
 operands_at inner (k ∷ ks) end bytes = do
   v ← operand_at inner k end bytes
@@ -109,17 +112,20 @@ calls Statement = true
 calls _ = false
 
 -- A call, by how many values follow its name, which `bytes` begin with.
-abbrev pub call_by : Reader → ℕ → List ℕ → NameParts × List ℕ → Option ℕ → Reading BodyFault TermTree
+abbrev pub call_by : Reader → ℕ → List ℕ → NameParts × List ℕ → Option ℕ
+    → Reading BodyFault TermTree
 call_by inner end bytes n None = Err (fault_at end bytes Unsure)
 call_by inner end bytes n (Some count) = do
   vs ← operands_at inner (values count) end n.1
   Ok (call n.0 (terms_of vs.0), vs.1)
 
-abbrev pub named_by : (NameParts → Option ℕ) → Reader → ℕ → List ℕ → Bool → NameParts × List ℕ → Reading BodyFault TermTree
+abbrev pub named_by : (NameParts → Option ℕ) → Reader → ℕ → List ℕ → Bool → NameParts × List ℕ
+    → Reading BodyFault TermTree
 named_by args inner end bytes true n = call_by inner end bytes n (args n.0)
 named_by args inner end bytes false n = Ok (ref n.0, n.1)
 
-unfoldable pub name_form : (NameParts → Option ℕ) → Reader → Place → ℕ → List ℕ → Reading BodyFault TermTree
+unfoldable pub name_form : (NameParts → Option ℕ) → Reader → Place → ℕ → List ℕ
+    → Reading BodyFault TermTree
 name_form args inner place end bytes = do
   n ← part (name_in end bytes)
   named_by args inner end bytes (calls place) n
@@ -130,7 +136,8 @@ operator_form inner op end bytes = do
   Ok (apply op (terms_of vs.0), vs.1)
 
 -- A term that is no block and no declaration, by what begins there; `whole` from the opcode on, `rest` behind it.
-unfoldable pub form_by : Grammar → Reader → Place → ℕ → List ℕ → Opcode → List ℕ → Reading BodyFault TermTree
+unfoldable pub form_by : Grammar → Reader → Place → ℕ → List ℕ → Opcode → List ℕ
+    → Reading BodyFault TermTree
 form_by g inner place end whole (opcodes.Constant form) rest = constant_form form end rest
 form_by g inner place end whole opcodes.Str rest = string_form end rest
 form_by g inner place end whole opcodes.Buffer rest = buffer_form inner end rest
@@ -143,13 +150,16 @@ form_by g inner place end whole opcodes.Name rest = name_form g.args inner place
 form_by g inner place end whole (opcodes.Operator op) rest = operator_form inner op end rest
 form_by g inner place end whole _ rest = Err (fault_at end whole NotStatement)
 
-abbrev pub unless : {A : Type 0} → Option BodyReason → ℕ → List ℕ → Result A BodyFault → Result A BodyFault
+abbrev pub unless : {A : Type 0} → Option BodyReason → ℕ → List ℕ → Result A BodyFault
+    → Result A BodyFault
 unless None end bytes r = r
 unless (Some why) end bytes r = Err (fault_at end bytes why)
 
 -- the same, where it may stand there
-unfoldable pub placed_by : Grammar → Reader → Place → ℕ → List ℕ → Opcode → List ℕ → Reading BodyFault TermTree
-placed_by g inner place end whole opcode rest = unless (refusal_at g.loads place opcode) end whole (form_by g inner place end whole opcode rest)
+unfoldable pub placed_by : Grammar → Reader → Place → ℕ → List ℕ → Opcode → List ℕ
+    → Reading BodyFault TermTree
+placed_by g inner place end whole opcode rest =
+    unless (refusal_at g.loads place opcode) end whole (form_by g inner place end whole opcode rest)
 
 -- a term at a place, `level` levels being left
 unfoldable pub term_at : Grammar → ℕ → Reader
@@ -166,7 +176,8 @@ fields_in end bytes = with_fault constant_fault_of (fields.fields_in end bytes)
 -- ---- declarations
 
 -- a declared name has segments and a place
-abbrev pub declared_if : {A : Type 0} → Option (List Segment) → List Segment → ℕ → List ℕ → Result A BodyFault → Result A BodyFault
+abbrev pub declared_if : {A : Type 0} → Option (List Segment) → List Segment → ℕ → List ℕ
+    → Result A BodyFault → Result A BodyFault
 declared_if None segments end bytes r = Err (fault_at end bytes BadPlace)
 declared_if (Some p) [] end bytes r = Err (fault_at end bytes BadPlace)
 declared_if (Some p) (g ∷ gs) end bytes r = r
@@ -177,7 +188,8 @@ declared_at s end bytes = do
   declared_if (place_of s n.0) n.0.segments end bytes (Ok n)
 
 -- a declaration of one name, with the operands before and behind it
-unfoldable pub named_form : Reader → List Segment → NamedForm → ℕ → List ℕ → Reading BodyFault TermTree
+unfoldable pub named_form : Reader → List Segment → NamedForm → ℕ → List ℕ
+    → Reading BodyFault TermTree
 named_form inner s form end bytes = do
   before ← operands_at inner (operands_before form) end bytes
   n ← declared_at s end before.1
@@ -209,7 +221,8 @@ Statements = Locals → ℕ → List ℕ → Result (List TermTree) BodyFault
 
 -- One after another to the end of the bytes, each with the locals that those before it leave. The number bounds the
 -- turns, and the length is enough.
-unfoldable pub statements_with : (Locals → List ℕ → Reading BodyFault TermTree) → List Segment → ℕ → Locals → List ℕ → Result (List TermTree) BodyFault
+unfoldable pub statements_with : (Locals → List ℕ → Reading BodyFault TermTree) → List Segment → ℕ
+    → Locals → List ℕ → Result (List TermTree) BodyFault
 statements_with one s zero locals bytes = Ok []
 statements_with one s (suc n) locals [] = Ok []
 statements_with one s (suc n) locals (b ∷ rest) = do
@@ -217,11 +230,13 @@ statements_with one s (suc n) locals (b ∷ rest) = do
   xs ← statements_with one s n (locals_after s locals x.0) x.1
   Ok (x.0 ∷ xs)
 
-abbrev pub statements_by : (Locals → List ℕ → Reading BodyFault TermTree) → List Segment → Locals → List ℕ → Result (List TermTree) BodyFault
+abbrev pub statements_by : (Locals → List ℕ → Reading BodyFault TermTree) → List Segment → Locals
+    → List ℕ → Result (List TermTree) BodyFault
 statements_by one s locals bytes = statements_with one s (length bytes) locals bytes
 
 -- the statements of the Else, where one begins
-unfoldable pub else_at : (ℕ → List ℕ → Result (List TermTree) BodyFault) → ℕ → List ℕ → Reading BodyFault ElseTree
+unfoldable pub else_at : (ℕ → List ℕ → Result (List TermTree) BodyFault) → ℕ → List ℕ
+    → Reading BodyFault ElseTree
 else_at inner end [] = Ok (no_else, [])
 else_at inner end (b ∷ rest) =
     if b == 0xA1 then (do
@@ -230,7 +245,8 @@ else_at inner end (b ∷ rest) =
       Ok (else_do (terms_of ts), p.rest))
     else Ok (no_else, b ∷ rest)
 
-unfoldable pub if_form : Reader → Statements → List Segment → Locals → ℕ → List ℕ → Reading BodyFault TermTree
+unfoldable pub if_form : Reader → Statements → List Segment → Locals → ℕ → List ℕ
+    → Reading BodyFault TermTree
 if_form value inner s locals end bytes = do
   p ← part (package_at end bytes)
   v ← value Value p.end p.content
@@ -246,31 +262,49 @@ while_form value inner locals end bytes = do
   Ok (while_do v.0 (terms_of ts), p.rest)
 
 -- A statement, by what begins there; `value` and `inner` read what stands in it.
-unfoldable pub statement_by : Grammar → Reader → Statements → List Segment → Locals → ℕ → List ℕ → Opcode → List ℕ → Reading BodyFault TermTree
-statement_by g value inner s locals end whole opcodes.If rest = if_form value inner s locals end rest
-statement_by g value inner s locals end whole opcodes.While rest = while_form value inner locals end rest
-statement_by g value inner s locals end whole opcodes.DeclareName rest = named_form value s named.Name end rest
-statement_by g value inner s locals end whole (opcodes.Create w) rest = named_form value s (named.Create w) end rest
-statement_by g value inner s locals end whole opcodes.CreateField rest = named_form value s named.CreateField end rest
-statement_by g value inner s locals end whole opcodes.Region rest = named_form value s named.Region end rest
-statement_by g value inner s locals end whole opcodes.Mutex rest = named_form value s named.Mutex end rest
-statement_by g value inner s locals end whole opcodes.Event rest = named_form value s named.Event end rest
-statement_by g value inner s locals end whole opcodes.Field rest = units_form value units.Field end rest
-statement_by g value inner s locals end whole opcodes.IndexField rest = units_form value units.IndexField end rest
-statement_by g value inner s locals end whole opcodes.BankField rest = units_form value units.BankField end rest
-statement_by g value inner s locals end whole opcode rest = placed_by g value Statement end whole opcode rest
+unfoldable pub statement_by : Grammar → Reader → Statements → List Segment → Locals → ℕ → List ℕ
+    → Opcode → List ℕ → Reading BodyFault TermTree
+statement_by g value inner s locals end whole opcodes.If rest =
+    if_form value inner s locals end rest
+statement_by g value inner s locals end whole opcodes.While rest =
+    while_form value inner locals end rest
+statement_by g value inner s locals end whole opcodes.DeclareName rest =
+    named_form value s named.Name end rest
+statement_by g value inner s locals end whole (opcodes.Create w) rest =
+    named_form value s (named.Create w) end rest
+statement_by g value inner s locals end whole opcodes.CreateField rest =
+    named_form value s named.CreateField end rest
+statement_by g value inner s locals end whole opcodes.Region rest =
+    named_form value s named.Region end rest
+statement_by g value inner s locals end whole opcodes.Mutex rest =
+    named_form value s named.Mutex end rest
+statement_by g value inner s locals end whole opcodes.Event rest =
+    named_form value s named.Event end rest
+statement_by g value inner s locals end whole opcodes.Field rest =
+    units_form value units.Field end rest
+statement_by g value inner s locals end whole opcodes.IndexField rest =
+    units_form value units.IndexField end rest
+statement_by g value inner s locals end whole opcodes.BankField rest =
+    units_form value units.BankField end rest
+statement_by g value inner s locals end whole opcode rest =
+    placed_by g value Statement end whole opcode rest
 
 -- a statement, `level` levels being left
-unfoldable pub statement_at : Arguments → List Segment → ℕ → Locals → ℕ → List ℕ → Reading BodyFault TermTree
+unfoldable pub statement_at : Arguments → List Segment → ℕ → Locals → ℕ → List ℕ
+    → Reading BodyFault TermTree
 statement_at args s zero locals end bytes = Err (fault_of (no_level end bytes))
 statement_at args s (suc level) locals end bytes = do
   x ← part (opcode_at end bytes)
-  statement_by (body_grammar (args locals)) (term_at (body_grammar (args locals)) level) (λ locals end bytes. statements_by (λ locals. statement_at args s level locals end) s locals bytes) s locals end bytes x.0 x.1
+  statement_by (body_grammar (args locals)) (term_at (body_grammar (args locals)) level)
+      (λ locals end bytes. statements_by
+      (λ locals. statement_at args s level locals end) s locals bytes) s locals end bytes x.0 x.1
 
 -- the statements of a list, `level` levels being left
 abbrev pub statements_at : Arguments → List Segment → ℕ → Statements
-statements_at args s level locals end bytes = statements_by (λ locals. statement_at args s level locals end) s locals bytes
+statements_at args s level locals end bytes =
+    statements_by (λ locals. statement_at args s level locals end) s locals bytes
 
 -- all of a body
-abbrev pub body_at : Arguments → List Segment → ℕ → Locals → List ℕ → Result (List TermTree) BodyFault
+abbrev pub body_at : Arguments → List Segment → ℕ → Locals → List ℕ
+    → Result (List TermTree) BodyFault
 body_at args s depth locals bytes = statements_at args s depth locals (length bytes) bytes

@@ -21,8 +21,10 @@ abbrev pub coded_counts : Coded (PathMap ℕ)
 coded_counts = finite.code coded_path coded_ℕ
 
 abbrev pub setting_code : Coded Setting
-setting_code = code_by (PathMap Object × (PathMap ℕ × List Segment)) (coded× coded_objects (coded× coded_counts coded_path))
-    (λ s. (s.objects, (s.externals, s.method))) (λ p. record { objects = p.0; externals = p.1.0; method = p.1.1 }) (λ _. refl)
+setting_code = code_by (PathMap Object × (PathMap ℕ × List Segment))
+    (coded× coded_objects (coded× coded_counts coded_path))
+    (λ s. (s.objects, (s.externals, s.method)))
+    (λ p. record { objects = p.0; externals = p.1.0; method = p.1.1 }) (λ _. refl)
 
 -- how many values follow a name there
 unfoldable pub count_in : Setting → Locals → NameParts → ℕ

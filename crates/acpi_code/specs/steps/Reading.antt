@@ -71,7 +71,8 @@ byte_at end (b ∷ rest) = Ok (b, rest)
 -- WordData, DWordData, QWordData: n bytes, the lowest first (20.2.3)
 unfoldable pub number_at : ℕ → ℕ → List ℕ → Reading CodeFault ℕ
 number_at n end bytes =
-    if nat_lt (length bytes) n then Err (fault_at end [] Cut) else Ok (little_number n bytes, drop n bytes)
+    if nat_lt (length bytes) n then Err (fault_at end [] Cut) else
+    Ok (little_number n bytes, drop n bytes)
 
 abbrev pub or_length_fault : {A : Type 0} → ℕ → List ℕ → Result A PkgFault → Result A CodeFault
 or_length_fault end bytes (Ok x) = Ok x
@@ -97,7 +98,8 @@ unfoldable pub package_at : ℕ → List ℕ → Result Package CodeFault
 package_at end bytes = do
   n ← length_in end bytes
   let used = length bytes - length n.1
-  if nat_lt n.0 used || nat_lt (length bytes) n.0 then Err (fault_at end bytes Overrun) else Ok (package_of end (take (n.0 - used) n.1) (drop (n.0 - used) n.1))
+  if nat_lt n.0 used || nat_lt (length bytes) n.0 then Err (fault_at end bytes Overrun) else
+      Ok (package_of end (take (n.0 - used) n.1) (drop (n.0 - used) n.1))
 
 abbrev pub or_name_fault : {A : Type 0} → ℕ → List ℕ → Result A NameFault → Result A CodeFault
 or_name_fault end bytes (Ok x) = Ok x
@@ -151,4 +153,5 @@ string_end end text bytes = do
 
 -- AsciiCharList and NullChar (20.2.3)
 unfoldable pub string_at : ℕ → List ℕ → Reading CodeFault (List ℕ)
-string_at end bytes = let n = length (take_while is_text bytes) in string_end end (take n bytes) (drop n bytes)
+string_at end bytes =
+    let n = length (take_while is_text bytes) in string_end end (take n bytes) (drop n bytes)

@@ -5,4 +5,5 @@ use Rattle.std.specs.List.{slice_range}
 -- they end at the place `end`, and are those bytes of the code
 pub record IsWithin (left : List ℕ) (end : ℕ) (shared : Option (List ℕ)) : Type 0 where
   pub room : length left ≤ end
-  pub part : MatchOption shared (Unit {0}) (λ code. (end ≤ length code) × (left ≡ slice_range code (end - length left) end))
+  pub part : MatchOption shared (Unit {0})
+      (λ code. (end ≤ length code) × (left ≡ slice_range code (end - length left) end))

@@ -9,7 +9,7 @@ use Rattle.acpi_conditions.specs.declared.statuses.Presence.{Presence}
 use Rattle.acpi_conditions.specs.declared.statuses.Presence.TheVariants.{Nothing, Object, Scope}
 use Rattle.acpi_conditions.specs.declared.slots.Sight.{Sight}
 use Rattle.acpi_conditions.specs.declared.facts.Fact.{Fact}
-use Rattle.acpi_conditions.specs.declared.facts.Hidden.{Hidden}
+use Rattle.acpi_conditions.specs.declared.facts.HiddenRange.{HiddenRange}
 use Rattle.acpi_conditions.specs.declared.slots.Slots.{Slots}
 use Rattle.acpi_conditions.specs.steps.Slots.{Here, kept_at, paths_of, path_in, IsNumbered}
 
@@ -28,12 +28,14 @@ certain_of paths f = record { path = path_in paths f.slot; is_scope = f.is_scope
 -- what is certain at a path, by the facts, the newest first
 abbrev pub certainty_at : List Path → Path → List Fact → Presence
 certainty_at paths p [] = Nothing
-certainty_at paths p (f ∷ fs) = cond (is_same_path (path_in paths f.slot) p) (raised f.is_scope (certainty_at paths p fs)) (certainty_at paths p fs)
+certainty_at paths p (f ∷ fs) = cond (is_same_path (path_in paths f.slot) p)
+    (raised f.is_scope (certainty_at paths p fs)) (certainty_at paths p fs)
 
 -- each fact is of a slot, and knows what was certain at its path before it
 abbrev pub AreFacts : List Path → List Fact → Type 0
 AreFacts paths [] = ⊤
-AreFacts paths (f ∷ fs) = (f.slot < length paths) × ((f.before ≡ certainty_at paths (path_in paths f.slot) fs) × AreFacts paths fs)
+AreFacts paths (f ∷ fs) = (f.slot < length paths)
+    × ((f.before ≡ certainty_at paths (path_in paths f.slot) fs) × AreFacts paths fs)
 
 -- ---- which entries are seen
 
@@ -41,13 +43,15 @@ AreFacts paths (f ∷ fs) = (f.slot < length paths) × ((f.before ≡ certainty_
 abbrev pub sights_beyond : Path → ℕ → List Entry → List Sight
 sights_beyond p n [] = []
 sights_beyond p n (e ∷ es) =
-    cond (is_same_path e.path p) (record { number = n; is_scope = e.term.is_scope } ∷ sights_beyond p (suc n) es) (sights_beyond p (suc n) es)
+    cond (is_same_path e.path p)
+    (record { number = n; is_scope = e.term.is_scope } ∷ sights_beyond p (suc n) es)
+    (sights_beyond p (suc n) es)
 
 -- one of the entries is seen, and one whose object is a scope
-abbrev pub is_seen : List Hidden → List Sight → Bool
+abbrev pub is_seen : List HiddenRange → List Sight → Bool
 is_seen ranges xs = list_any (λ x. not (is_hidden ranges x.number)) xs
 
-abbrev pub is_scope_seen : List Hidden → List Sight → Bool
+abbrev pub is_scope_seen : List HiddenRange → List Sight → Bool
 is_scope_seen ranges xs = list_any (λ x. x.is_scope && not (is_hidden ranges x.number)) xs
 
 -- ---- slots and facts
@@ -65,7 +69,8 @@ certain_by s fs = map (certain_of (paths_in s)) (reverse fs)
 -- the slots say what is certain by the facts
 pub record IsCertainBy (slots : Slots) (fs : List Fact) : Type 0 where
   pub numbered : IsNumbered slots.numbers (paths_in slots)
-  pub certain : (p : Path) → (kept_in slots p).certain ≡ certainty_at (paths_in slots) p (reverse fs)
+  pub certain : (p : Path)
+      → (kept_in slots p).certain ≡ certainty_at (paths_in slots) p (reverse fs)
   pub facts : AreFacts (paths_in slots) (reverse fs)
 
 -- the entries at each path stay

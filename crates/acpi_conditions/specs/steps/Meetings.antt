@@ -6,4 +6,9 @@ use Rattle.acpi_conditions.specs.Met.{Meeting}
 use Rattle.acpi_conditions.specs.declared.met.Met.TheInside.{Inside}
 
 abbrev pub meeting_of : Inside → Meeting
-meeting_of m = record { entries = map (entry_view m.ways.now) m.paths.now.entries; certain = m.paths.now.certain; way = map turn_of m.turns.items }
+meeting_of m =
+    record {
+      entries = map (entry_view m.ways.now) m.paths.now.entries;
+      certain = m.paths.now.certain;
+      way = map turn_of m.turns.items;
+    }

@@ -67,7 +67,8 @@ refusal_same : (a : Refusal) → refusal_eq a a ≡ true
 refusal_same a = both ((Decides-eqb a.place a.place).1 refl) (why_same a.why)
 
 pub refusal_eq_Decides : (a b : Refusal) → Decides (refusal_eq a b) (a ≡ b)
-refusal_eq_Decides a b = (refusal_is a b, λ h. subst (λ c. refusal_eq a c ≡ true) h (refusal_same a))
+refusal_eq_Decides a b =
+    (refusal_is a b, λ h. subst (λ c. refusal_eq a c ≡ true) h (refusal_same a))
 
 -- such a test is an equivalence
 both_ways : (p q : Bool) → (p ≡ true → q ≡ true) → (q ≡ true → p ≡ true) → p ≡ q
@@ -75,7 +76,8 @@ both_ways true q forth back = sym (forth refl)
 both_ways false true forth back = back refl
 both_ways false false forth back = refl
 
-equivalence : {X : Type 0} {E : X → X → Bool} → ((x y : X) → Decides (E x y) (x ≡ y)) → IsEquivalence E
+equivalence : {X : Type 0} {E : X → X → Bool} → ((x y : X) → Decides (E x y) (x ≡ y))
+    → IsEquivalence E
 equivalence {X = X} {E = E} d = record {
   refl = itself;
   symm = λ x y. both_ways (E x y) (E y x) (turned x y) (turned y x);

@@ -17,4 +17,6 @@ slot_pairs slots n = pairs_in (slice_get slots n)
 -- those of the slots that were shown are put behind the others
 abbrev pub WereShown : Numbered → List (Path × ℕ) → Numbered → Type 0
 WereShown first pairs last =
-    (last.slots.now ≡ first.slots.now) × (map lent_pair last.order.items ≡ map lent_pair first.order.items ++ flat_map (λ x. slot_pairs first.slots.now x.1) pairs)
+    (last.slots.now ≡ first.slots.now)
+    × (map lent_pair last.order.items
+    ≡ map lent_pair first.order.items ++ flat_map (λ x. slot_pairs first.slots.now x.1) pairs)

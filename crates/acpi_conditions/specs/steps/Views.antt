@@ -27,7 +27,11 @@ passes_if test ways way None = false
 passes_if test ways way (Some e) = passes test way (entry_view ways e)
 
 abbrev pub view_of : Inside → View
-view_of s = record { entries = map (entry_view s.ways.now) s.paths.now.entries; entry = entry_view s.ways.now s.entry.now }
+view_of s =
+    record {
+      entries = map (entry_view s.ways.now) s.paths.now.entries;
+      entry = entry_view s.ways.now s.entry.now;
+    }
 
 -- the turns are those of the entry's way
 abbrev pub HasWay : Inside → Type 0

@@ -10,7 +10,7 @@ use Rattle.acpi_conditions.specs.Walk.{Package, Walk}
 use Rattle.acpi_conditions.specs.steps.Packages.{kind_of}
 use Rattle.acpi_conditions.specs.steps.Stops.{stop_at_of, IsWayOf}
 use Rattle.acpi_conditions.specs.declared.facts.Mark.{Mark}
-use Rattle.acpi_conditions.specs.declared.facts.Hidden.{Hidden}
+use Rattle.acpi_conditions.specs.declared.facts.HiddenRange.{HiddenRange}
 use Rattle.acpi_conditions.specs.declared.packages.Package.{Package as PackageForm}
 use Rattle.acpi_conditions.specs.declared.walk.Walk.TheInside.{Inside}
 
@@ -42,7 +42,7 @@ walk_of w = record {
 -- ---- what always holds
 
 -- the ranges end there or before
-abbrev pub AreBefore : ℕ → List Hidden → Type 0
+abbrev pub AreBefore : ℕ → List HiddenRange → Type 0
 AreBefore n = AllByRecursion (λ r. r.to ≤ n)
 
 -- a moment of these lists
@@ -68,6 +68,7 @@ pub record IsWalk (w : Inside) : Type 0 where
   pub ways : 0 < length w.ways
   pub way : IsWayOf w.ways w.way
   pub entries : AllByRecursion (λ e. IsWayOf w.ways e.way) w.paths.entries
-  pub packages : AllByRecursion (λ p. IsWayOf w.ways p.way) (open_packages w.last_if w.packages.items)
+  pub packages : AllByRecursion (λ p. IsWayOf w.ways p.way)
+      (open_packages w.last_if w.packages.items)
   pub marks : AreMarksOf w.paths (marks_of (open_packages w.last_if w.packages.items) w.start)
   pub ranges : AreBefore (length w.paths.entries) w.paths.hidden

@@ -7,7 +7,8 @@ use Rattle.acpi_conditions.specs.declared.turns.LastTurn.{LastTurn}
 -- the ways, and one behind them for each last turn
 abbrev pub with_turns : List (List Turn) → List LastTurn → List (List Turn)
 with_turns ways [] = ways
-with_turns ways (l ∷ ls) = with_turns (ways ++ (way_of ways l.before ++ turn_of l.turn ∷ []) ∷ []) ls
+with_turns ways (l ∷ ls) =
+    with_turns (ways ++ (way_of ways l.before ++ turn_of l.turn ∷ []) ∷ []) ls
 
 abbrev pub ways_of : List LastTurn → List (List Turn)
 ways_of ls = with_turns ([] ∷ []) ls

@@ -12,7 +12,8 @@ use Rattle.acpi_declare.specs.Notes.{Notes, notes_on}
 use Rattle.acpi_declare.specs.Tables.{IsTableOf}
 
 -- a table's listing goes over what is there, and so much of its notes is kept
-pub record AddsTable (keep : Keep) (depth number : ℕ) (bytes : List ℕ) (before now : State) : Type 0 where
+pub record AddsTable (keep : Keep) (depth number : ℕ) (bytes : List ℕ)
+    (before now : State) : Type 0 where
   pub is : ItemTrees
   pub table : IsTableOf depth number bytes is
   pub placements : List Placement

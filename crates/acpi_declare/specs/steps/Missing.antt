@@ -10,4 +10,5 @@ use Rattle.acpi_declare.specs.Namespace.{Namespace}
 -- what the searches of some names miss, of the paths that are asked for
 abbrev pub misses_from : Wants → Namespace → List Segment → List NameParts → List (List Segment)
 misses_from w objects scope [] = []
-misses_from w objects scope (n ∷ ns) = filter w (missed (is_defined_in objects) scope n) ++ misses_from w objects scope ns
+misses_from w objects scope (n ∷ ns) =
+    filter w (missed (is_defined_in objects) scope n) ++ misses_from w objects scope ns

@@ -16,13 +16,18 @@ abbrev pub IsStopOf : {A : Type 0} → Stop → Result A RefusedAt → Type 0
 IsStopOf (Refused r p) outcome = outcome ≡ Err (r, p)
 IsStopOf Memory outcome = Unit {0}
 
+-- a step answers the outcome's value, or tells its refusal
+abbrev pub IsOutcome : {A : Type 0} → Result A Stop → Result A RefusedAt → Type 0
+IsOutcome result outcome = MatchResult result (λ x. outcome ≡ Ok x) (λ f. IsStopOf f outcome)
+
 -- steps that succeed end in the outcome's state; steps that are refused tell its refusal
 abbrev pub Ends : {A : Type 0} → Result A Stop → Passing → Pass → Type 0
 Ends result outcome now = MatchResult result (λ _. outcome ≡ Ok now) (λ f. IsStopOf f outcome)
 
 -- the table of that number is refused over those objects
 abbrev pub IsTableFault : ℕ → ℕ → Namespace → List ℕ → LoadFault → Type 0
-IsTableFault depth number objects bytes (faults.At k reason) = (k ≡ number) × IsLoadReason depth number objects bytes reason
+IsTableFault depth number objects bytes (faults.At k reason) =
+    (k ≡ number) × IsLoadReason depth number objects bytes reason
 IsTableFault depth number objects bytes faults.Memory = Unit {0}
 
 -- the code of a whole table with the signature of its number

@@ -2,10 +2,9 @@
 use Rattle.std.specs.Prelude.{List, [], ◌∷◌, ◌++◌, Result, Ok, Err}
 use Rattle.acpi_name.specs.Names.{Segment}
 use Rattle.acpi_space.specs.Lookups.{nothing, union}
-use Rattle.acpi_tree.specs.Tree.{ItemTree, scope, device, processor, power, thermal, ItemTrees, no_items, item}
-use Rattle.acpi_tree.specs.Objects.{device_object, processor_object, power_object, thermal_object}
+use Rattle.acpi_tree.specs.Tree.{ItemTree, scope, ItemTrees, no_items, item}
 use Rattle.acpi_declare.specs.Namespace.{Namespace}
-use Rattle.acpi_declare.specs.Sites.{opens, declares_alone, Step, step, own_steps}
+use Rattle.acpi_declare.specs.Sites.{Step, step, kind_object, scope_effect, own_steps}
 use Rattle.acpi_declare.specs.Placing.{RefusedAt, placed_path}
 use Rattle.acpi_declare.specs.Listing.{Placement, object_of}
 use Rattle.acpi_declare.specs.Links.{PendingLink, pending_by}
@@ -24,7 +23,12 @@ note_of objects e = record {
 
 -- notes, and later ones behind them
 abbrev pub all_notes : Notes → Notes → Notes
-all_notes n m = record { counts = union n.counts m.counts; methods = n.methods ++ m.methods; missed = n.missed ++ m.missed }
+all_notes n m =
+    record {
+      counts = union n.counts m.counts;
+      methods = n.methods ++ m.methods;
+      missed = n.missed ++ m.missed;
+    }
 
 -- what the pass has so far
 pub record Pass : Type 0 where
@@ -48,7 +52,8 @@ abbrev pub Passing : Type 0
 Passing = Result Pass RefusedAt
 
 infixl 10 ◌>>=◌
-abbrev pub ◌>>=◌ : {A B : Type 0} → Result A RefusedAt → (A → Result B RefusedAt) → Result B RefusedAt
+abbrev pub ◌>>=◌ : {A B : Type 0} → Result A RefusedAt → (A → Result B RefusedAt)
+    → Result B RefusedAt
 (Ok x) >>= f = f x
 (Err e) >>= f = Err e
 
@@ -65,15 +70,13 @@ take_steps t s (x ∷ xs) = take_step t s x >>= λ u. take_steps u s xs
 
 -- a step, and then what stands inside it
 abbrev pub enter : Pass → List Segment → Step → (Pass → List Segment → Passing) → Passing
-enter t s x inner = placed_path x.effect t.objects s x.name >>= λ p. inner (after t (placement s x p)) p
+enter t s x inner =
+    placed_path x.effect t.objects s x.name >>= λ p. inner (after t (placement s x p)) p
 
 abbrev mutual
   pub pass_item : Pass → List Segment → ItemTree → Passing
-  pass_item t s (scope n is) = enter t s (step n opens) (λ u p. pass_items u p is)
-  pass_item t s (device n is) = enter t s (step n (declares_alone device_object)) (λ u p. pass_items u p is)
-  pass_item t s (processor n id block length is) = enter t s (step n (declares_alone (processor_object id block length))) (λ u p. pass_items u p is)
-  pass_item t s (power n level order is) = enter t s (step n (declares_alone (power_object level order))) (λ u p. pass_items u p is)
-  pass_item t s (thermal n is) = enter t s (step n (declares_alone thermal_object)) (λ u p. pass_items u p is)
+  pass_item t s (scope kind n is) =
+      enter t s (step n (scope_effect (kind_object kind))) (λ u p. pass_items u p is)
   pass_item t s i = take_steps t s (own_steps i)
 
   pub pass_items : Pass → List Segment → ItemTrees → Passing

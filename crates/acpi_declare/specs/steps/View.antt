@@ -29,28 +29,39 @@ abbrev coded_objects : Coded (PathMap Object)
 coded_objects = finite.code coded_path object.the_row.coded
 
 abbrev coded_link : Coded PendingLink
-coded_link = code_by (List Segment × (List Segment × List NameParts)) (coded× coded_path (coded× coded_path (coded_list name.the_row.coded)))
-    (λ w. (w.path, (w.scope, w.names))) (λ p. record { path = p.0; scope = p.1.0; names = p.1.1 }) (λ _. refl)
+coded_link = code_by (List Segment × (List Segment × List NameParts))
+    (coded× coded_path (coded× coded_path (coded_list name.the_row.coded)))
+    (λ w. (w.path, (w.scope, w.names))) (λ p. record { path = p.0; scope = p.1.0; names = p.1.1 })
+    (λ _. refl)
 
 abbrev pub pass_code : Coded PassState
 pass_code = code_by (PathMap Object × (PathMap Object × (List PendingLink × TableNotes)))
-    (coded× coded_objects (coded× coded_objects (coded× (coded_list coded_link) notes.the_row.coded)))
-    (λ t. (t.objects, (t.lower, (t.links, t.notes)))) (λ p. record { objects = p.0; lower = p.1.0; links = p.1.1.0; notes = p.1.1.1 }) (λ _. refl)
+    (coded× coded_objects
+    (coded× coded_objects (coded× (coded_list coded_link) notes.the_row.coded)))
+    (λ t. (t.objects, (t.lower, (t.links, t.notes))))
+    (λ p. record { objects = p.0; lower = p.1.0; links = p.1.1.0; notes = p.1.1.1 }) (λ _. refl)
 
 abbrev pub pass_of : PassState → Pass
 pass_of t = record { objects = namespace_of t.objects; links = t.links; notes = notes_of t.notes }
 
 -- .. and with the links of the units that a field list has so far
 abbrev pub pass_with_units : PassState → List NameParts → List Segment → List Segment → Pass
-pass_with_units t names s segs = record { objects = namespace_of t.objects; links = t.links ++ pending_from s names (unit_paths s segs); notes = notes_of t.notes }
+pass_with_units t names s segs =
+    record {
+      objects = namespace_of t.objects;
+      links = t.links ++ pending_from s names (unit_paths s segs);
+      notes = notes_of t.notes;
+    }
 
 -- ---- notes with one more
 
 abbrev pub with_count : Notes → List Segment → ℕ → Notes
-with_count n p count = record { counts = union n.counts (singleton p count); methods = n.methods; missed = n.missed }
+with_count n p count =
+    record { counts = union n.counts (singleton p count); methods = n.methods; missed = n.missed }
 
 abbrev pub with_counts : Notes → Lookup ℕ → Notes
-with_counts n counts = record { counts = union n.counts counts; methods = n.methods; missed = n.missed }
+with_counts n counts =
+    record { counts = union n.counts counts; methods = n.methods; missed = n.missed }
 
 abbrev pub with_method : Notes → Method → Notes
 with_method n m = record { counts = n.counts; methods = n.methods ++ m ∷ []; missed = n.missed }

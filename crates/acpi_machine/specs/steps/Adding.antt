@@ -21,7 +21,8 @@ all_noted (n ∷ ns) = noted n ++ all_noted ns
 -- each method's body goes over what is there
 abbrev pub AddsBodies : ℕ → Namespace → List Method → Lookup BodyTree → Lookup BodyTree → Type 0
 AddsBodies depth objects [] before now = now ≡ before
-AddsBodies depth objects (m ∷ ms) before now = (b : BodyTree) × IsBody depth objects m b × AddsBodies depth objects ms (union (singleton m.path b) before) now
+AddsBodies depth objects (m ∷ ms) before now = (b : BodyTree) × IsBody depth objects m b
+    × AddsBodies depth objects ms (union (singleton m.path b) before) now
 
 -- the objects and links to which the tables load, and the bodies of the methods whose notes are kept
 pub record HasBodies (keep : Keep) (depth : ℕ) (tables : List (List ℕ)) (m : Machine) : Type 0 where

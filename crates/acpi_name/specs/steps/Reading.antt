@@ -12,14 +12,16 @@ Answers view (Err e) reading = reading ≡ Err e
 
 -- go on with what was read, or stop at the first fault
 infixl 10 ◌>>=◌
-abbrev pub ◌>>=◌ : {A B : Type 0} → Result A NameFault → (A → Result B NameFault) → Result B NameFault
+abbrev pub ◌>>=◌ : {A B : Type 0} → Result A NameFault → (A → Result B NameFault)
+    → Result B NameFault
 (Ok x) >>= f = f x
 (Err e) >>= f = Err e
 
 -- a segment, and the bytes behind it (20.2.2 NameSeg)
 unfoldable pub segment_at : List ℕ → Result (Segment × List ℕ) NameFault
 segment_at bytes =
-    if is_segment_front bytes then (if nat_lt (length bytes) 4 then Err Cut else Ok (take 4 bytes, drop 4 bytes)) else Err BadChar
+    if is_segment_front bytes then (if nat_lt (length bytes) 4 then Err Cut else
+    Ok (take 4 bytes, drop 4 bytes)) else Err BadChar
 
 -- so many segments, and the bytes behind them
 unfoldable pub segments_at : ℕ → List ℕ → Result (List Segment × List ℕ) NameFault
@@ -32,7 +34,8 @@ segments_at (suc n) bytes = do
 -- behind 2F: the number of segments, a byte that is not 0, and so many segments (20.2.2 MultiNamePath)
 unfoldable pub counted_at : List ℕ → Result (List Segment × List ℕ) NameFault
 counted_at [] = Err Cut
-counted_at (n ∷ rest) = if n == 0 then Err ZeroCount else if nat_lt 255 n then Err BadChar else segments_at n rest
+counted_at (n ∷ rest) =
+    if n == 0 then Err ZeroCount else if nat_lt 255 n then Err BadChar else segments_at n rest
 
 -- 00, 2E and two segments, 2F and a number of segments, or one segment (20.2.2 NamePath)
 unfoldable pub path_at : List ℕ → Result (List Segment × List ℕ) NameFault
@@ -51,11 +54,14 @@ ups bytes = length (take_while (λ b. b == 0x5E) bytes)
 unfoldable pub relative_at : List ℕ → Result (NameParts × List ℕ) NameFault
 relative_at bytes =
     if nat_lt 255 (ups bytes) then Err TooManyUps else
-    (path_at (drop (ups bytes) bytes) >>= λ p. Ok (record { rooted = false; parents = ups bytes; segments = p.0 }, p.1))
+    (path_at
+    (drop (ups bytes) bytes) >>=
+    λ p. Ok (record { rooted = false; parents = ups bytes; segments = p.0 }, p.1))
 
 -- a name, and the bytes behind it: 5C and a NamePath, or a name that does not begin at the root (20.2.2 NameString)
 unfoldable pub name_at : List ℕ → Result (NameParts × List ℕ) NameFault
 name_at [] = Err Cut
 name_at (b ∷ rest) =
-    if b == 0x5C then (path_at rest >>= λ p. Ok (record { rooted = true; parents = 0; segments = p.0 }, p.1)) else
+    if b == 0x5C then
+    (path_at rest >>= λ p. Ok (record { rooted = true; parents = 0; segments = p.0 }, p.1)) else
     relative_at (b ∷ rest)

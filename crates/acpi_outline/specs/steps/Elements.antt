@@ -14,13 +14,17 @@ use Rattle.acpi_outline.specs.steps.Reading.{fields_with, fields_at}
 
 -- the next element was read, or none is, for that reason
 abbrev pub ReadsField : Left → Left → Result FieldElem LostFault → Type 0
-ReadsField old new (Ok e) = (field_at old.end old.bytes ≡ Ok (field_view e, new.bytes)) × Shorter old new
-ReadsField old new (Err why) = (f : ConstantFault) × (field_at old.end old.bytes ≡ Err f) × (why ≡ element_fault f)
+ReadsField old new (Ok e) =
+    (field_at old.end old.bytes ≡ Ok (field_view e, new.bytes)) × Shorter old new
+ReadsField old new (Err why) =
+    (f : ConstantFault) × (field_at old.end old.bytes ≡ Err f) × (why ≡ element_fault f)
 
 -- these elements were read of what was left at first, what is left now follows them, and so many bits stand before it
-pub record FieldsFollow {S : Type 0} (r : Rules S) (f : FixedTree) (known : S) (first : Left) (then : S) (now : Left) (offset : ℕ) (front : List PlacedElement) : Type 0 where
+pub record FieldsFollow {S : Type 0} (r : Rules S) (f : FixedTree) (known : S) (first : Left)
+    (then : S) (now : Left) (offset : ℕ) (front : List PlacedElement) : Type 0 where
   pub same_end : now.end ≡ first.end
   pub turns : ℕ
   pub enough : length now.bytes ≤ turns
-  pub whole : fields_before front (fields_with turns now.end offset now.bytes) ≡ fields_at first.end first.bytes
+  pub whole : fields_before front (fields_with turns now.end offset now.bytes)
+      ≡ fields_at first.end first.bytes
   pub state : after_fields r known f (fields_before front no_more_fields) ≡ then

@@ -67,23 +67,29 @@ reference_in end bytes = do
 -- the source of a Create form; a name has no level
 abbrev pub source_in : {S : Type 0} → Rules S → ℕ → S → ℕ → List ℕ → Reading LostFault TermTree
 source_in r level known end [] = source_at r level known end []
-source_in r level known end (b ∷ rest) = if is_name_start b then reference_in end (b ∷ rest) else source_at r level known end (b ∷ rest)
+source_in r level known end (b ∷ rest) =
+    if is_name_start b then reference_in end (b ∷ rest) else source_at r level known end (b ∷ rest)
 
 -- .. and operands of these kinds behind it
-unfoldable pub sourced_in : {S : Type 0} → Rules S → ℕ → S → List OperandKind → ℕ → List ℕ → Reading LostFault (List TermTree)
+unfoldable pub sourced_in : {S : Type 0} → Rules S → ℕ → S → List OperandKind → ℕ → List ℕ
+    → Reading LostFault (List TermTree)
 sourced_in r level known ks end bytes = do
   v ← source_in r level known end bytes
   vs ← of_term (operands_at (term_at (grammar_at r known) level) ks end v.1)
   Ok (v.0 ∷ vs.0, vs.1)
 
 -- what stands before a declared name
-abbrev pub first_in : {S : Type 0} → Rules S → ℕ → S → NamedForm → ℕ → List ℕ → Reading LostFault (List TermTree)
-first_in r level known (named.Create w) end bytes = sourced_in r level known (At Value ∷ []) end bytes
-first_in r level known named.CreateField end bytes = sourced_in r level known (At Value ∷ At Value ∷ []) end bytes
+abbrev pub first_in : {S : Type 0} → Rules S → ℕ → S → NamedForm → ℕ → List ℕ
+    → Reading LostFault (List TermTree)
+first_in r level known (named.Create w) end bytes =
+    sourced_in r level known (At Value ∷ []) end bytes
+first_in r level known named.CreateField end bytes =
+    sourced_in r level known (At Value ∷ At Value ∷ []) end bytes
 first_in r level known _ end bytes = Ok ([], bytes)
 
 -- a declaration, behind its opcode
-unfoldable pub named_in : {S : Type 0} → Rules S → ℕ → S → NamedForm → ℕ → List ℕ → Reading LostFault PlainTree
+unfoldable pub named_in : {S : Type 0} → Rules S → ℕ → S → NamedForm → ℕ → List ℕ
+    → Reading LostFault PlainTree
 named_in r level known form end bytes = do
   us ← first_in r level known form end bytes
   n ← part (name_in end us.1)
@@ -96,10 +102,12 @@ external_in end bytes = do
   n ← part (name_in end bytes)
   kind ← part (byte_at end n.1)
   args ← part (byte_at end kind.1)
-  if nat_lt 7 args.0 then Err (fault_at end kind.1 ManyArguments) else Ok (external (record { name = n.0; kind = kind.0; args = args.0 }), args.1)
+  if nat_lt 7 args.0 then Err (fault_at end kind.1 ManyArguments) else
+      Ok (external (record { name = n.0; kind = kind.0; args = args.0 }), args.1)
 
 -- a term as one stands at a place; `whole` from its opcode on, `level` levels being left inside it
-unfoldable pub term_in : {S : Type 0} → Rules S → ℕ → S → Place → ℕ → List ℕ → Reading LostFault PlainTree
+unfoldable pub term_in : {S : Type 0} → Rules S → ℕ → S → Place → ℕ → List ℕ
+    → Reading LostFault PlainTree
 term_in r level known place end whole = do
   t ← of_term (term_at (grammar_at r known) (suc level) place end whole)
   Ok (term t.0, t.1)
@@ -112,20 +120,27 @@ alias_in end bytes = do
   Ok (alias source.0 n.0, n.1)
 
 -- a region that is a table, behind its opcode
-unfoldable pub table_region_in : {S : Type 0} → Rules S → ℕ → S → ℕ → List ℕ → Reading LostFault PlainTree
+unfoldable pub table_region_in : {S : Type 0} → Rules S → ℕ → S → ℕ → List ℕ
+    → Reading LostFault PlainTree
 table_region_in r level known end bytes = do
   n ← part (name_in end bytes)
-  vs ← of_term (operands_at (term_at (grammar_at r known) level) (At Value ∷ At Value ∷ At Value ∷ []) end n.1)
+  vs ← of_term
+      (operands_at (term_at (grammar_at r known) level)
+      (At Value ∷ At Value ∷ At Value ∷ []) end n.1)
   Ok (table_region n.0 (terms_of vs.0), vs.1)
 
 -- a plain node, by what begins there
-abbrev pub plain_by : {S : Type 0} → Rules S → ℕ → S → ℕ → List ℕ → Opcode → List ℕ → Reading LostFault PlainTree
-plain_by r level known end whole opcodes.DeclareName rest = named_in r level known named.Name end rest
+abbrev pub plain_by : {S : Type 0} → Rules S → ℕ → S → ℕ → List ℕ → Opcode → List ℕ
+    → Reading LostFault PlainTree
+plain_by r level known end whole opcodes.DeclareName rest =
+    named_in r level known named.Name end rest
 plain_by r level known end whole opcodes.Region rest = named_in r level known named.Region end rest
 plain_by r level known end whole opcodes.Mutex rest = named_in r level known named.Mutex end rest
 plain_by r level known end whole opcodes.Event rest = named_in r level known named.Event end rest
-plain_by r level known end whole (opcodes.Create w) rest = named_in r level known (named.Create w) end rest
-plain_by r level known end whole opcodes.CreateField rest = named_in r level known named.CreateField end rest
+plain_by r level known end whole (opcodes.Create w) rest =
+    named_in r level known (named.Create w) end rest
+plain_by r level known end whole opcodes.CreateField rest =
+    named_in r level known named.CreateField end rest
 plain_by r level known end whole opcodes.External rest = external_in end rest
 plain_by r level known end whole opcodes.Alias rest = alias_in end rest
 plain_by r level known end whole opcodes.DataRegion rest = table_region_in r level known end rest
@@ -133,8 +148,10 @@ plain_by r level known end whole opcodes.Buffer rest = term_in r level known Sta
 plain_by r level known end whole opcodes.Package rest = term_in r level known Statement end whole
 plain_by r level known end whole opcodes.VarPackage rest = term_in r level known Statement end whole
 plain_by r level known end whole opcodes.Name rest = term_in r level known Statement end whole
-plain_by r level known end whole (opcodes.Operator op) rest = term_in r level known Statement end whole
-plain_by r level known end whole (opcodes.Constant form) rest = term_in r level known Value end whole
+plain_by r level known end whole (opcodes.Operator op) rest =
+    term_in r level known Statement end whole
+plain_by r level known end whole (opcodes.Constant form) rest =
+    term_in r level known Value end whole
 plain_by r level known end whole opcodes.Str rest = term_in r level known Value end whole
 plain_by r level known end whole (opcodes.Local n) rest = term_in r level known Value end whole
 plain_by r level known end whole (opcodes.Arg n) rest = term_in r level known Value end whole
@@ -142,7 +159,8 @@ plain_by r level known end whole opcodes.Debug rest = term_in r level known Supe
 plain_by r level known end whole _ rest = Err (fault_at end whole NoNode)
 
 -- .. as a node
-unfoldable pub plain_in : {S : Type 0} → Rules S → ℕ → S → ℕ → List ℕ → Opcode → List ℕ → Reading LostFault NodeTree
+unfoldable pub plain_in : {S : Type 0} → Rules S → ℕ → S → ℕ → List ℕ → Opcode → List ℕ
+    → Reading LostFault NodeTree
 plain_in r level known end whole opcode rest = do
   p ← plain_by r level known end whole opcode rest
   Ok (plain p.0, p.1)
@@ -156,7 +174,8 @@ value_in r level known end bytes = of_term (term_at (grammar_at r known) level V
 -- the test of an If; the byte 00 has no level
 abbrev pub test_in : {S : Type 0} → Rules S → ℕ → S → ℕ → List ℕ → Reading LostFault TermTree
 test_in r level known end [] = value_in r level known end []
-test_in r level known end (b ∷ rest) = if b == 0x00 then Ok (int Zero, rest) else value_in r level known end (b ∷ rest)
+test_in r level known end (b ∷ rest) =
+    if b == 0x00 then Ok (int Zero, rest) else value_in r level known end (b ∷ rest)
 
 -- so many names
 unfoldable pub names_in : ℕ → ℕ → List ℕ → Reading LostFault (List NameParts)
@@ -167,29 +186,37 @@ names_in (suc count) end bytes = do
   Ok (n.0 ∷ ns.0, ns.1)
 
 -- the name and the numbers of a package with a scope of its own
-unfoldable pub container_in : {S : Type 0} → Rules S → ℕ → S → ContainerForm → ℕ → List ℕ → Reading LostFault FixedTree
+unfoldable pub container_in : {S : Type 0} → Rules S → ℕ → S → ContainerForm → ℕ → List ℕ
+    → Reading LostFault FixedTree
 container_in r level known form end bytes = do
   n ← part (name_in end bytes)
   vs ← of_term (operands_at (term_at (grammar_at r known) level) (container_operands form) end n.1)
   Ok (container form n.0 (terms_of vs.0), vs.1)
 
 -- the names and operands of a declaration of field units
-unfoldable pub units_in : {S : Type 0} → Rules S → ℕ → S → UnitsForm → ℕ → List ℕ → Reading LostFault FixedTree
+unfoldable pub units_in : {S : Type 0} → Rules S → ℕ → S → UnitsForm → ℕ → List ℕ
+    → Reading LostFault FixedTree
 units_in r level known form end bytes = do
   ns ← names_in (names_of_units form) end bytes
   vs ← of_term (operands_at (term_at (grammar_at r known) level) (operands_of_units form) end ns.1)
   Ok (units form ns.0 (terms_of vs.0), vs.1)
 
-abbrev pub fixed_by : {S : Type 0} → Rules S → ℕ → S → PackedForm → ℕ → List ℕ → Reading LostFault FixedTree
+abbrev pub fixed_by : {S : Type 0} → Rules S → ℕ → S → PackedForm → ℕ → List ℕ
+    → Reading LostFault FixedTree
 fixed_by r level known forms.Scope end bytes = part (name_in end bytes) >>= λ n. Ok (scope n.0, n.1)
 fixed_by r level known (forms.Container form) end bytes = container_in r level known form end bytes
-fixed_by r level known forms.Method end bytes = part (name_in end bytes) >>= λ n. part (byte_at end n.1) >>= λ flags. Ok (method n.0 flags.0, flags.1)
-fixed_by r level known forms.If end bytes = test_in r level known end bytes >>= λ v. Ok (if_so v.0, v.1)
+fixed_by r level known forms.Method end bytes = part
+    (name_in end bytes) >>=
+    λ n. part (byte_at end n.1) >>= λ flags. Ok (method n.0 flags.0, flags.1)
+fixed_by r level known forms.If end bytes =
+    test_in r level known end bytes >>= λ v. Ok (if_so v.0, v.1)
 fixed_by r level known forms.Else end bytes = Ok (otherwise, bytes)
-fixed_by r level known forms.While end bytes = test_in r level known end bytes >>= λ v. Ok (while_so v.0, v.1)
+fixed_by r level known forms.While end bytes =
+    test_in r level known end bytes >>= λ v. Ok (while_so v.0, v.1)
 fixed_by r level known (forms.Units form) end bytes = units_in r level known form end bytes
 
-unfoldable pub fixed_in : {S : Type 0} → Rules S → ℕ → S → PackedForm → ℕ → List ℕ → Reading LostFault FixedTree
+unfoldable pub fixed_in : {S : Type 0} → Rules S → ℕ → S → PackedForm → ℕ → List ℕ
+    → Reading LostFault FixedTree
 fixed_in r level known form end bytes = fixed_by r level known form end bytes
 
 -- ---- packages
@@ -198,8 +225,10 @@ fixed_in r level known form end bytes = fixed_by r level known form end bytes
 abbrev pub Nodes : Type 0 → Type 0
 Nodes S = S → ℕ → List ℕ → NodeTrees
 
--- the elements behind what was read at a place, so many bits standing before it, or nothing but what is lost from there on
-abbrev pub then_fields : (place offset : ℕ) → Reading ConstantFault FieldTree → (FieldTree × List ℕ → FieldNodes) → FieldNodes
+-- the elements behind what was read at a place, so many bits standing before it, or nothing but what is lost from there
+-- on
+abbrev pub then_fields : (place offset : ℕ) → Reading ConstantFault FieldTree
+    → (FieldTree × List ℕ → FieldNodes) → FieldNodes
 then_fields place offset (Ok x) next = field_node place offset x.0 (next x)
 then_fields place offset (Err f) next = fields_lost place (element_fault f)
 
@@ -208,7 +237,8 @@ unfoldable pub fields_with : (turns end offset : ℕ) → List ℕ → FieldNode
 fields_with zero end offset bytes = no_more_fields
 fields_with (suc n) end offset [] = no_more_fields
 fields_with (suc n) end offset (b ∷ rest) =
-    then_fields (end - length (b ∷ rest)) offset (field_at end (b ∷ rest)) (λ x. fields_with n end (bits_behind offset x.0) x.1)
+    then_fields (end - length (b ∷ rest)) offset (field_at end (b ∷ rest))
+    (λ x. fields_with n end (bits_behind offset x.0) x.1)
 
 abbrev pub fields_at : ℕ → List ℕ → FieldNodes
 fields_at end bytes = fields_with (length bytes) end 0 bytes
@@ -219,19 +249,27 @@ unentered f end content true = holds_fields f (fields_at end content)
 unentered f end content false = closed f content
 
 -- what fills a package whose front was read, if one goes into it
-abbrev pub filled_by : {S : Type 0} → Rules S → Nodes S → ℕ → S → FixedTree → Bool → ℕ → List ℕ → NodeTree
-filled_by r inner place known f true end content = holds f (inner (r.enter known place f) end content)
+abbrev pub filled_by : {S : Type 0} → Rules S → Nodes S → ℕ → S → FixedTree → Bool → ℕ → List ℕ
+    → NodeTree
+filled_by r inner place known f true end content =
+    holds f (inner (r.enter known place f) end content)
 filled_by r inner place known f false end content = unentered f end content (has_fields f)
 
-abbrev pub packed_by : {S : Type 0} → Rules S → Nodes S → ℕ → S → PackedForm → ℕ → Reading LostFault FixedTree → NodeTree
-packed_by r inner place known form end (Ok f) = filled_by r inner place known f.0 (goes_into r known f.0) end f.1
+abbrev pub packed_by : {S : Type 0} → Rules S → Nodes S → ℕ → S → PackedForm → ℕ
+    → Reading LostFault FixedTree → NodeTree
+packed_by r inner place known form end (Ok f) =
+    filled_by r inner place known f.0 (goes_into r known f.0) end f.1
 packed_by r inner place known form end (Err why) = package_lost form why
 
 -- the package of a node, behind its opcode
-unfoldable pub packed_in : {S : Type 0} → Rules S → ℕ → Nodes S → ℕ → S → PackedForm → ℕ → List ℕ → Reading LostFault NodeTree
+unfoldable pub packed_in : {S : Type 0} → Rules S → ℕ → Nodes S → ℕ → S → PackedForm → ℕ → List ℕ
+    → Reading LostFault NodeTree
 packed_in r level inner place known form end bytes = do
   p ← part (package_at end bytes)
-  Ok (packed_by r inner place known form p.end (fixed_in r level known form p.end p.content), p.rest)
+  Ok (
+    packed_by r inner place known form p.end (fixed_in r level known form p.end p.content),
+    p.rest,
+  )
 
 -- ---- nodes
 
@@ -263,11 +301,13 @@ abbrev pub packed_as : NodeTree → LostFault → Result Package CodeFault → R
 packed_as n why (Ok p) = Ok (n, p.rest)
 packed_as n why (Err f) = Err why
 
-abbrev pub data_by : NameParts → LostFault → ℕ → List ℕ → Option DataForm → Reading LostFault NodeTree
+abbrev pub data_by : NameParts → LostFault → ℕ → List ℕ → Option DataForm
+    → Reading LostFault NodeTree
 data_by n why end bytes (Some form) = packed_as (name_lost n form why) why (package_at end bytes)
 data_by n why end bytes None = Err why
 
-abbrev pub opened_data : NameParts → LostFault → ℕ → Reading CodeFault Opcode → Reading LostFault NodeTree
+abbrev pub opened_data : NameParts → LostFault → ℕ → Reading CodeFault Opcode
+    → Reading LostFault NodeTree
 opened_data n why end (Ok x) = data_by n why end x.1 (data_form x.0)
 opened_data n why end (Err f) = Err why
 
@@ -282,20 +322,27 @@ name_at_level (suc level) why end rest = named_data why end (name_in end rest)
 
 -- the package of a statement, or that of a Name's data, behind its opcode
 abbrev pub contained_by : ℕ → LostFault → ℕ → Opcode → List ℕ → Reading LostFault NodeTree
-contained_by level why end opcodes.Buffer rest = packed_as (data_lost datas.Buffer why) why (package_at end rest)
-contained_by level why end opcodes.Package rest = packed_as (data_lost datas.Package why) why (package_at end rest)
-contained_by level why end opcodes.VarPackage rest = packed_as (data_lost datas.VarPackage why) why (package_at end rest)
+contained_by level why end opcodes.Buffer rest =
+    packed_as (data_lost datas.Buffer why) why (package_at end rest)
+contained_by level why end opcodes.Package rest =
+    packed_as (data_lost datas.Package why) why (package_at end rest)
+contained_by level why end opcodes.VarPackage rest =
+    packed_as (data_lost datas.VarPackage why) why (package_at end rest)
 contained_by level why end opcodes.DeclareName rest = name_at_level level why end rest
 contained_by level why end _ rest = Err why
 
 -- a plain node, or what holds its fault
-abbrev pub or_contained : ℕ → ℕ → Opcode → List ℕ → Reading LostFault NodeTree → Reading LostFault NodeTree
+abbrev pub or_contained : ℕ → ℕ → Opcode → List ℕ → Reading LostFault NodeTree
+    → Reading LostFault NodeTree
 or_contained level end opcode rest (Ok x) = Ok x
 or_contained level end opcode rest (Err why) = contained_by level why end opcode rest
 
-abbrev pub node_by : {S : Type 0} → Rules S → ℕ → Nodes S → S → ℕ → List ℕ → Opcode → List ℕ → Option PackedForm → Reading LostFault NodeTree
-node_by r level inner known end whole opcode rest (Some form) = packed_in r level inner (end - length whole) known form end rest
-node_by r level inner known end whole opcode rest None = or_contained level end opcode rest (plain_in r level known end whole opcode rest)
+abbrev pub node_by : {S : Type 0} → Rules S → ℕ → Nodes S → S → ℕ → List ℕ → Opcode → List ℕ
+    → Option PackedForm → Reading LostFault NodeTree
+node_by r level inner known end whole opcode rest (Some form) =
+    packed_in r level inner (end - length whole) known form end rest
+node_by r level inner known end whole opcode rest None =
+    or_contained level end opcode rest (plain_in r level known end whole opcode rest)
 
 -- the nodes behind what was read at a place, or nothing but what is lost from there on
 abbrev pub then_nodes : ℕ → Reading LostFault NodeTree → (NodeTree × List ℕ → NodeTrees) → NodeTrees
@@ -304,14 +351,17 @@ then_nodes place (Err why) next = lost place why
 
 -- One after another to the end of the bytes, each under the state behind those before it. The number bounds the turns,
 -- and the length is enough.
-unfoldable pub nodes_with : {S : Type 0} → Rules S → (S → ℕ → List ℕ → Reading LostFault NodeTree) → ℕ → S → ℕ → List ℕ → NodeTrees
+unfoldable pub nodes_with : {S : Type 0} → Rules S → (S → ℕ → List ℕ → Reading LostFault NodeTree)
+    → ℕ → S → ℕ → List ℕ → NodeTrees
 nodes_with r one zero known end bytes = no_more
 nodes_with r one (suc n) known end [] = no_more
 nodes_with r one (suc n) known end (b ∷ rest) =
     let place = end - length (b ∷ rest) in
-    then_nodes place (one known end (b ∷ rest)) (λ x. nodes_with r one n (after r place known x.0) end x.1)
+    then_nodes place (one known end (b ∷ rest))
+    (λ x. nodes_with r one n (after r place known x.0) end x.1)
 
-abbrev pub nodes_by : {S : Type 0} → Rules S → (S → ℕ → List ℕ → Reading LostFault NodeTree) → Nodes S
+abbrev pub nodes_by : {S : Type 0} → Rules S → (S → ℕ → List ℕ → Reading LostFault NodeTree)
+    → Nodes S
 nodes_by r one known end bytes = nodes_with r one (length bytes) known end bytes
 
 -- a node, `level` levels being left for it

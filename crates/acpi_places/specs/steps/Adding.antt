@@ -9,13 +9,15 @@ use Rattle.acpi_places.specs.declared.place.CodePlace.{CodePlace}
 use Rattle.acpi_places.specs.Places.{SpellsItemsAt, AreAllPlaces, by_path, all_by_path}
 
 -- the places of one more table stand behind those that are there
-pub record AddsTable (number : ℕ) (bytes : List ℕ) (is : ItemTrees) (notes : Notes) (old new : Lookup CodePlace) : Type 0 where
+pub record AddsTable (number : ℕ) (bytes : List ℕ) (is : ItemTrees) (notes : Notes)
+    (old new : Lookup CodePlace) : Type 0 where
   pub places : List CodePlace
   pub spelled : SpellsItemsAt number 36 is (code_of bytes) places
   pub added : new ≡ union old (by_path notes.methods places)
 
 -- the places of the first tables
-pub record AreFirstPlaces (tables : List (List ℕ)) (placements : List (List Placement)) (count : ℕ) (places : Lookup CodePlace) : Type 0 where
+pub record AreFirstPlaces (tables : List (List ℕ)) (placements : List (List Placement)) (count : ℕ)
+    (places : Lookup CodePlace) : Type 0 where
   pub codes : List (List CodePlace)
   pub are : AreAllPlaces 0 (take count tables) (take count placements) codes
   pub by_paths : places ≡ all_by_path (take count placements) codes

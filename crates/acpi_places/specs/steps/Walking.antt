@@ -21,7 +21,8 @@ abbrev pub ArePlacesOf : ℕ → Left → ItemTrees → List CodePlace → Type 
 ArePlacesOf table left is places = SpellsItemsAt table (place_of_left left) is left.bytes places
 
 -- they were put behind others
-pub record AddsPlaces (table : ℕ) (left : Left) (is : ItemTrees) (old new : List CodePlace) : Type 0 where
+pub record AddsPlaces (table : ℕ) (left : Left) (is : ItemTrees)
+    (old new : List CodePlace) : Type 0 where
   pub places : List CodePlace
   pub are : ArePlacesOf table left is places
   pub put : new ≡ old ++ places
@@ -33,18 +34,21 @@ code_length (method n flags code) = length code
 code_length _ = 0
 
 abbrev pub leaf_places : ℕ → ℕ → ItemTree → List CodePlace
-leaf_places table end (method n flags code) = record { table = table; place = end - length code; length = length code } ∷ []
+leaf_places table end (method n flags code) =
+    record { table = table; place = end - length code; length = length code } ∷ []
 leaf_places table end _ = []
 
 -- ---- one item after another
 
 -- the places of some of the items were put behind others, and these items are left
-pub record Continues (table level : ℕ) (first : Left) (is : ItemTrees) (now : Left) (old new : List CodePlace) : Type 0 where
+pub record Continues (table level : ℕ) (first : Left) (is : ItemTrees) (now : Left)
+    (old new : List CodePlace) : Type 0 where
   pub others : ItemTrees
   pub left : IsSpelled level now others
   pub found : List CodePlace
   pub put : new ≡ old ++ found
-  pub with_others : (later : List CodePlace) → ArePlacesOf table now others later → ArePlacesOf table first is (found ++ later)
+  pub with_others : (later : List CodePlace) → ArePlacesOf table now others later
+      → ArePlacesOf table first is (found ++ later)
 
 -- what stands inside the first of the items is left, and then the others
 pub record Opens (table level : ℕ) (first : Left) (is : ItemTrees) (inner now : Left) : Type 0 where
@@ -52,9 +56,12 @@ pub record Opens (table level : ℕ) (first : Left) (is : ItemTrees) (inner now 
   pub others : ItemTrees
   pub within : IsSpelled (level - 1) inner inside
   pub left : IsSpelled level now others
-  pub with_both : (found later : List CodePlace) → ArePlacesOf table inner inside found → ArePlacesOf table now others later → ArePlacesOf table first is (found ++ later)
+  pub with_both : (found later : List CodePlace) → ArePlacesOf table inner inside found
+      → ArePlacesOf table now others later → ArePlacesOf table first is (found ++ later)
 
 -- the first item was gone through, but for the items in it
-abbrev pub GoesOn : ℕ → ℕ → Left → ItemTrees → Left → List CodePlace → List CodePlace → Option Left → Type 0
+abbrev pub GoesOn : ℕ → ℕ → Left → ItemTrees → Left → List CodePlace → List CodePlace → Option Left
+    → Type 0
 GoesOn table level first is now old new None = Continues table level first is now old new
-GoesOn table level first is now old new (Some inner) = Opens table level first is inner now × (new ≡ old)
+GoesOn table level first is now old new (Some inner) =
+    Opens table level first is inner now × (new ≡ old)

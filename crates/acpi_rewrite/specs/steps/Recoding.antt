@@ -13,7 +13,8 @@ use Rattle.acpi_machine.specs.steps.Adding.{noted}
 use Rattle.acpi_rewrite.specs.Rewriting.{AreEachRewritten}
 
 -- the bytes are a table of a load, with this listing, and its methods are noted
-pub record IsNoted (depth : ℕ) (bytes : List ℕ) (placements : List Placement) (notes : Notes) : Type 0 where
+pub record IsNoted (depth : ℕ) (bytes : List ℕ) (placements : List Placement)
+    (notes : Notes) : Type 0 where
   pub number : ℕ
   pub before : Namespace
   pub items : ItemTrees
@@ -22,7 +23,8 @@ pub record IsNoted (depth : ℕ) (bytes : List ℕ) (placements : List Placement
   pub methods_are : noted notes ≡ methods_of placements
 
 -- the first tables of a load, of which this is noted, are rewritten
-pub record IsRewrittenTo (depth : ℕ) (tables : List (List ℕ)) (notes : List Notes) (objects : Namespace) (done : ℕ) (rewritten : List (List ℕ)) : Type 0 where
+pub record IsRewrittenTo (depth : ℕ) (tables : List (List ℕ)) (notes : List Notes)
+    (objects : Namespace) (done : ℕ) (rewritten : List (List ℕ)) : Type 0 where
   pub placements : List (List Placement)
   pub listings : AreListings depth 0 predefined tables placements
   pub notes_are : notes ≡ all_notes predefined placements

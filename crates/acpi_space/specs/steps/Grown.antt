@@ -13,7 +13,8 @@ pub record IsPadded {V : Type 0} (old new : List (Node V)) : Type 0 where
 pub record IsGrown {V : Type 0} (old new : List (Node V)) : Type 0 where
   pub tree : IsTree new
   pub values : (n : ℕ) (q : List Segment) → value_below new n q ≡ value_below old n q
-  pub children : (n : ℕ) (g : Segment) (k : ℕ) → child_at old n g ≡ Some k → child_at new n g ≡ Some k
+  pub children : (n : ℕ) (g : Segment) (k : ℕ) → child_at old n g ≡ Some k
+      → child_at new n g ≡ Some k
 
 -- one node has the value, and no other changed
 pub record HasPut {V : Type 0} (old new : List (Node V)) (number : ℕ) (v : V) : Type 0 where

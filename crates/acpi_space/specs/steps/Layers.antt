@@ -18,6 +18,9 @@ abbrev pub pairs_of : {V : Type 0} → List (List Segment × Bor V) → PathMap 
 pairs_of es = from_entries (map (λ e. (e.0, e.1.now)) es)
 
 -- the paths of these pairs that the lent space has not stand behind the first ones
-pub record AddsOwn {V S : Type 0} (contents : S → PathMap V) (first : OwnPaths S) (pairs : List (List Segment × V)) (now : OwnPaths S) : Type 0 where
+pub record AddsOwn {V S : Type 0} (contents : S → PathMap V) (first : OwnPaths S)
+    (pairs : List (List Segment × V)) (now : OwnPaths S) : Type 0 where
   pub lower : now.lower ≡ first.lower
-  pub paths : now.paths.items ≡ first.paths.items ++ filter (λ p. not (is_defined (lent contents first.lower) p)) (map (λ e. e.0) pairs)
+  pub paths : now.paths.items
+      ≡ first.paths.items
+      ++ filter (λ p. not (is_defined (lent contents first.lower) p)) (map (λ e. e.0) pairs)

@@ -50,8 +50,10 @@ own_pair None = []
 own_pair (Some v) = ([], v) ∷ []
 
 -- the pairs at and below a node, by what each child gives
-abbrev pub node_pairs : {V : Type 0} → (ℕ → List (List Segment × V)) → Option (Node V) → List (List Segment × V)
-node_pairs below node = own_pair (node_value node) ++ flat_map (λ e. map (λ p. (e.0 ∷ p.0, p.1)) (below e.1)) (node_children node)
+abbrev pub node_pairs : {V : Type 0} → (ℕ → List (List Segment × V)) → Option (Node V)
+    → List (List Segment × V)
+node_pairs below node = own_pair (node_value node)
+    ++ flat_map (λ e. map (λ p. (e.0 ∷ p.0, p.1)) (below e.1)) (node_children node)
 
 -- .. to a depth, with the paths from the node
 abbrev pub pairs_below : {V : Type 0} → ℕ → List (Node V) → ℕ → List (List Segment × V)
@@ -64,8 +66,11 @@ tree_map nodes = from_entries (pairs_below (length nodes) nodes 0)
 
 -- a node's children ascend by segment, are nodes, and have greater numbers than it
 abbrev pub IsNode : {V : Type 0} → List (Node V) → ℕ → Type 0
-IsNode nodes n = IsStrictlySortedBy segment_cmp (map (λ e. e.0) (node_children (slice_get nodes n))) × AllByRecursion (λ e. (n < e.1) × (e.1 < length nodes)) (node_children (slice_get nodes n))
+IsNode nodes n = IsStrictlySortedBy segment_cmp (map (λ e. e.0) (node_children (slice_get nodes n)))
+    × AllByRecursion (λ e. (n < e.1) × (e.1 < length nodes)) (node_children (slice_get nodes n))
 
 -- each node is the child of at most one
 abbrev pub IsTree : {V : Type 0} → List (Node V) → Type 0
-IsTree nodes = ((n : ℕ) → IsNode nodes n) × ((a b k : ℕ) (g h : Segment) → child_at nodes a g ≡ Some k → child_at nodes b h ≡ Some k → (a ≡ b) × (g ≡ h))
+IsTree nodes = ((n : ℕ) → IsNode nodes n)
+    × ((a b k : ℕ) (g h : Segment) → child_at nodes a g ≡ Some k → child_at nodes b h ≡ Some k
+    → (a ≡ b) × (g ≡ h))

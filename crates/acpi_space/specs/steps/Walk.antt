@@ -37,7 +37,8 @@ abbrev pub under : {V : Type 0} → List Segment → List (List Segment × V) �
 under path pairs = map (λ p. (path ++ p.0, p.1)) pairs
 
 -- the pairs at and below the nodes that are still to be visited
-abbrev pub pairs_of : {V : Type 0} → List (Node V) → List (List Segment × ℕ) → List (List Segment × V)
+abbrev pub pairs_of : {V : Type 0} → List (Node V) → List (List Segment × ℕ)
+    → List (List Segment × V)
 pairs_of nodes places = flat_map (λ e. under e.0 (pairs_below (length nodes) nodes e.1)) places
 
 -- the pairs that a walk has still to give

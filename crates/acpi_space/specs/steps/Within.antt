@@ -10,4 +10,5 @@ passing test outer xs = filter test (take (length xs + 1 - outer) (beginnings xs
 -- the longest of them: those of it are the same; there is none where none passes
 abbrev pub IsInnermost : {A : Type 0} → (List A → Bool) → ℕ → List A → Option (List A) → Type 0
 IsInnermost test outer xs None = passing test outer xs ≡ []
-IsInnermost test outer xs (Some q) = IsTrue (test q) × (outer ≤ length q) × (length q ≤ length xs) × (passing test outer xs ≡ passing test outer q)
+IsInnermost test outer xs (Some q) = IsTrue (test q) × (outer ≤ length q) × (length q ≤ length xs)
+    × (passing test outer xs ≡ passing test outer q)

@@ -27,5 +27,6 @@ elements_before fs l = fields_before (placed_fields fs) (fields_end l)
 abbrev pub IsBefore : ℕ → Option NodeRange → Option Found → Type 0
 IsBefore place None found = found ≡ None
 IsBefore place (Some r) found =
-    (found ≡ cond (r.from == place) (Some (node_found r.to (node_view r.node.now))) (inside_at place r.to (node_view r.node.now)))
+    (found ≡ cond (r.from == place) (Some (node_found r.to (node_view r.node.now)))
+    (inside_at place r.to (node_view r.node.now)))
     × TilesInside r.from r.to (node_view r.node.now)

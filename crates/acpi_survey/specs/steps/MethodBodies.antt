@@ -8,4 +8,6 @@ use Rattle.acpi_survey.specs.Bodies.{entry_count}
 use Rattle.acpi_survey.specs.declared.method_bodies.Methods.{Methods}
 
 abbrev pub method_count : Methods → EntryForm → Locals → NameParts → Option ℕ
-method_count m e = entry_count (map (entry_view m.entries.ways.now) m.entries.paths.now.entries) m.counts.now m.expected.now (entry_view m.entries.ways.now e)
+method_count m e = entry_count
+    (map (entry_view m.entries.ways.now) m.entries.paths.now.entries) m.counts.now m.expected.now
+    (entry_view m.entries.ways.now e)

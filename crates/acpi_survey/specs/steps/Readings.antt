@@ -6,19 +6,29 @@ use Rattle.acpi_space.specs.Spaces.{PathMap, coded_path}
 use Rattle.acpi_conditions.specs.Entries.{Path}
 use Rattle.acpi_survey.specs.Reading.{Reading, Source}
 use Rattle.acpi_survey.specs.Survey.{place_in}
-use Rattle.acpi_survey.specs.declared.scopes.Opened.{Opened}
+use Rattle.acpi_survey.specs.declared.scopes.OpenedScope.{OpenedScope}
 use Rattle.acpi_survey.specs.declared.remarks.Source.{Source as SourceForm}
 use Rattle.acpi_survey.specs.declared.reading.Reading.TheInside.{Inside}
 
 -- the Scopes that were entered, as the code keeps them
-abbrev pub opened_pairs : List Opened → List (ℕ × Path)
+abbrev pub opened_pairs : List OpenedScope → List (ℕ × Path)
 opened_pairs os = map (λ o. (o.place, o.path)) os
 
 abbrev pub source_of : SourceForm → Source
-source_of s = record { place = s.place; paths = s.found.paths.items; is_certain = s.found.is_certain }
+source_of s =
+    record { place = s.place; paths = s.found.paths.items; is_certain = s.found.is_certain }
 
 abbrev pub reading_of : Inside → Reading
-reading_of s = record { walk = s.walk; base = place_in s.table 0; counts = s.counts.items; expected = s.expected; opened = opened_pairs s.remarks.opened.items; sources = map source_of s.remarks.sources.items }
+reading_of s =
+    record {
+      walk = s.walk;
+      base = place_in s.table 0;
+      counts = s.counts.items;
+      expected = s.expected;
+      opened = opened_pairs s.remarks.opened.items;
+      sources =
+          map source_of s.remarks.sources.items;
+    }
 
 abbrev pub expected_code : Coded (PathMap ℕ)
 expected_code = finite.code coded_path coded_ℕ

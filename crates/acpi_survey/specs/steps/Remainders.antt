@@ -26,7 +26,8 @@ inside_span entered s x = inside_part entered x.from s x.to (part_of x.what)
 -- the first of a list in a scope, what stands inside it, and the list's rest
 abbrev pub with_first_item : Entered → Path → Bool → Option Span → List Range → List Range
 with_first_item entered s behind_if None rest = []
-with_first_item entered s behind_if (Some x) rest = span_range s behind_if x ∷ inside_span entered s x ++ rest
+with_first_item entered s behind_if (Some x) rest =
+    span_range s behind_if x ∷ inside_span entered s x ++ rest
 
 abbrev pub HasNoItems : Items → Type 0
 HasNoItems (items.Nodes ns) = ns.now ≡ []
@@ -54,4 +55,5 @@ nested_in_part depth end (of_lost why) = []
 -- the first of a list, what stands inside it, and the list's rest
 abbrev pub with_first_inside : Option Span → List NestedRange → List NestedRange
 with_first_inside None rest = []
-with_first_inside (Some x) rest = nested_view x ∷ nested_in_part (suc x.depth) x.to (part_of x.what) ++ rest
+with_first_inside (Some x) rest =
+    nested_view x ∷ nested_in_part (suc x.depth) x.to (part_of x.what) ++ rest

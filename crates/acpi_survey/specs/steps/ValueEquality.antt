@@ -28,7 +28,7 @@ use Rattle.acpi_survey.specs.declared.tables.TableReason.TheVariants as tables
 use Rattle.acpi_survey.specs.declared.notes.Note.{Note}
 use Rattle.acpi_survey.specs.declared.notes.NoteReason.{NoteReason}
 use Rattle.acpi_survey.specs.declared.notes.NoteReason.TheVariants as notes
-use Rattle.acpi_survey.specs.declared.scopes.Opened.{Opened}
+use Rattle.acpi_survey.specs.declared.scopes.OpenedScope.{OpenedScope}
 use Rattle.acpi_survey.specs.Problems.{ReasonParts, unread, cut, trailing, unreadable, refused, ProblemParts}
 use Rattle.acpi_survey.specs.Condition.{LiteralParts, if_taken, if_missed, while_taken, stop_missed, has, free, needs, PlacedParts}
 use Rattle.acpi_survey.specs.EntryLinks.{LinkParts}
@@ -36,19 +36,29 @@ use Rattle.acpi_survey.specs.BodyViews.{ReadingParts, read, opaque, BodyParts}
 use Rattle.acpi_survey.specs.ValuesEqual.{site_eq, table_fault_eq, table_reason_eq, body_reason_eq, lost_reason_eq, lost_fault_eq, reason_eq, range_eq, problem_eq, note_reason_eq, note_eq, opened_eq, literal_eq, placed_eq, link_eq, reading_eq, body_eq}
 
 paths_tell : Tells path_eq
-paths_tell = record { is = λ p q. (path_eq_Decides p q).0; same = λ p. (path_eq_Decides p p).1 refl }
+paths_tell =
+    record { is = λ p q. (path_eq_Decides p q).0; same = λ p. (path_eq_Decides p p).1 refl }
 
 whys_tell : Tells why_eq
 whys_tell = record { is = λ a b. (why_eq_Decides a b).0; same = λ a. (why_eq_Decides a a).1 refl }
 
 booleans_tell : Tells beq
-booleans_tell = record { is = λ a b. (booleans_Decides a b).0; same = λ a. (booleans_Decides a a).1 refl }
+booleans_tell =
+    record { is = λ a b. (booleans_Decides a b).0; same = λ a. (booleans_Decides a a).1 refl }
 
 table_faults_tell : Tells table_fault_eq
-table_faults_tell = record { is = same_true table_faults.the_type tt; same = λ f. true_same table_faults.the_type f f refl }
+table_faults_tell =
+    record {
+      is = same_true table_faults.the_type tt;
+      same = λ f. true_same table_faults.the_type f f refl;
+    }
 
 body_reasons_tell : Tells body_reason_eq
-body_reasons_tell = record { is = same_true body_reasons.the_type tt; same = λ f. true_same body_reasons.the_type f f refl }
+body_reasons_tell =
+    record {
+      is = same_true body_reasons.the_type tt;
+      same = λ f. true_same body_reasons.the_type f f refl;
+    }
 
 options_tell : {X : Type 0} {E : X → X → Bool} → Tells E → Tells (option_eq E)
 options_tell {X = X} {E = E} t = record { is = is; same = same }
@@ -71,7 +81,11 @@ site_is a b h =
     λ k. record { table = e k; offset = f k }
 
 sites_tell : Tells site_eq
-sites_tell = record { is = site_is; same = λ a. both (numbers_tell.same a.table) (numbers_tell.same a.offset) }
+sites_tell =
+    record {
+      is = site_is;
+      same = λ a. both (numbers_tell.same a.table) (numbers_tell.same a.offset);
+    }
 
 range_is : (a b : LostRange) → range_eq a b ≡ true → a ≡ b
 range_is a b h =
@@ -81,7 +95,8 @@ range_is a b h =
     λ k. record { from = e k; to = f k }
 
 ranges_tell : Tells range_eq
-ranges_tell = record { is = range_is; same = λ a. both (numbers_tell.same a.from) (numbers_tell.same a.to) }
+ranges_tell =
+    record { is = range_is; same = λ a. both (numbers_tell.same a.from) (numbers_tell.same a.to) }
 
 -- ---- problems
 
@@ -142,9 +157,14 @@ problem_is a b h =
     let names = options_tell names_tell in
     let ranges = options_tell ranges_tell in
     let paths = options_tell paths_tell in
-    let p4 = and_true (site_eq a.site b.site && reason_eq a.reason b.reason && option_eq name_eq a.name b.name && option_eq range_eq a.lost b.lost) (option_eq path_eq a.scope b.scope) h in
-    let p3 = and_true (site_eq a.site b.site && reason_eq a.reason b.reason && option_eq name_eq a.name b.name) (option_eq range_eq a.lost b.lost) p4.0 in
-    let p2 = and_true (site_eq a.site b.site && reason_eq a.reason b.reason) (option_eq name_eq a.name b.name) p3.0 in
+    let p4 = and_true
+    (site_eq a.site b.site && reason_eq a.reason b.reason && option_eq name_eq a.name b.name
+    && option_eq range_eq a.lost b.lost) (option_eq path_eq a.scope b.scope) h in
+    let p3 = and_true
+    (site_eq a.site b.site && reason_eq a.reason b.reason && option_eq name_eq a.name b.name)
+    (option_eq range_eq a.lost b.lost) p4.0 in
+    let p2 = and_true (site_eq a.site b.site && reason_eq a.reason b.reason)
+    (option_eq name_eq a.name b.name) p3.0 in
     let p1 = and_true (site_eq a.site b.site) (reason_eq a.reason b.reason) p2.0 in
     let e0 = site_is a.site b.site p1.0 in
     let e1 = reason_is a.reason b.reason p1.1 in
@@ -158,7 +178,8 @@ problem_same a =
     let names = options_tell names_tell in
     let ranges = options_tell ranges_tell in
     let paths = options_tell paths_tell in
-    both (both (both (both (sites_tell.same a.site) (reason_same a.reason)) (names.same a.name)) (ranges.same a.lost)) (paths.same a.scope)
+    both (both (both (both (sites_tell.same a.site) (reason_same a.reason)) (names.same a.name))
+    (ranges.same a.lost)) (paths.same a.scope)
 
 pub problems_tell : Tells problem_eq
 problems_tell = record { is = problem_is; same = problem_same }
@@ -189,7 +210,8 @@ note_reasons_tell = record { is = note_reason_is; same = note_reason_same }
 
 note_is : (a b : Note) → note_eq a b ≡ true → a ≡ b
 note_is a b h =
-    let p2 = and_true (site_eq a.site b.site && note_reason_eq a.reason b.reason) (option_eq path_eq a.scope b.scope) h in
+    let p2 = and_true (site_eq a.site b.site && note_reason_eq a.reason b.reason)
+    (option_eq path_eq a.scope b.scope) h in
     let p1 = and_true (site_eq a.site b.site) (note_reason_eq a.reason b.reason) p2.0 in
     let e0 = site_is a.site b.site p1.0 in
     let e1 = note_reason_is a.reason b.reason p1.1 in
@@ -197,11 +219,16 @@ note_is a b h =
     λ k. record { site = e0 k; reason = e1 k; scope = e2 k }
 
 pub notes_tell : Tells note_eq
-notes_tell = record { is = note_is; same = λ a. both (both (sites_tell.same a.site) (note_reason_same a.reason)) ((options_tell paths_tell).same a.scope) }
+notes_tell =
+    record {
+      is = note_is;
+      same = λ a. both (both (sites_tell.same a.site) (note_reason_same a.reason))
+          ((options_tell paths_tell).same a.scope);
+    }
 
 -- ---- Scopes that are entered
 
-opened_is : (a b : Opened) → opened_eq a b ≡ true → a ≡ b
+opened_is : (a b : OpenedScope) → opened_eq a b ≡ true → a ≡ b
 opened_is a b h =
     let p = and_true (eqb a.place b.place) (path_eq a.path b.path) h in
     let e0 = eqb-true a.place b.place p.0 in
@@ -209,7 +236,8 @@ opened_is a b h =
     λ k. record { place = e0 k; path = e1 k }
 
 pub opened_tell : Tells opened_eq
-opened_tell = record { is = opened_is; same = λ a. both (numbers_tell.same a.place) (paths_tell.same a.path) }
+opened_tell =
+    record { is = opened_is; same = λ a. both (numbers_tell.same a.place) (paths_tell.same a.path) }
 
 -- ---- conditions and links
 
@@ -243,12 +271,14 @@ placed_is a b h =
     λ k. record { site = e k; literal = f k }
 
 pub placed_tell : Tells placed_eq
-placed_tell = record { is = placed_is; same = λ a. both (sites_tell.same a.site) (literal_same a.literal) }
+placed_tell =
+    record { is = placed_is; same = λ a. both (sites_tell.same a.site) (literal_same a.literal) }
 
 link_is : (a b : LinkParts) → link_eq a b ≡ true → a ≡ b
 link_is a b h =
     let paths = lists_tell paths_tell in
-    let p2 = and_true (name_eq a.name b.name && pointwise path_eq a.paths b.paths) (beq a.is_certain b.is_certain) h in
+    let p2 = and_true (name_eq a.name b.name && pointwise path_eq a.paths b.paths)
+    (beq a.is_certain b.is_certain) h in
     let p1 = and_true (name_eq a.name b.name) (pointwise path_eq a.paths b.paths) p2.0 in
     let e0 = names_tell.is a.name b.name p1.0 in
     let e1 = paths.is a.paths b.paths p1.1 in
@@ -258,7 +288,8 @@ link_is a b h =
 pub links_tell : Tells link_eq
 links_tell = record {
   is = link_is;
-  same = λ a. both (both (names_tell.same a.name) ((lists_tell paths_tell).same a.paths)) (booleans_tell.same a.is_certain);
+  same = λ a. both (both (names_tell.same a.name) ((lists_tell paths_tell).same a.paths))
+      (booleans_tell.same a.is_certain);
 }
 
 -- ---- bodies
@@ -279,14 +310,16 @@ reading_is a b h = never h
 
 reading_same : (a : ReadingParts) → reading_eq a a ≡ true
 reading_same (read ts) = term_tells.same (pkg 0 ts)
-reading_same (opaque f p m) = both (both (body_reasons_tell.same f) (numbers_tell.same p)) ((options_tell names_tell).same m)
+reading_same (opaque f p m) =
+    both (both (body_reasons_tell.same f) (numbers_tell.same p)) ((options_tell names_tell).same m)
 
 pub readings_tell : Tells reading_eq
 readings_tell = record { is = reading_is; same = reading_same }
 
 body_is : (a b : BodyParts) → body_eq a b ≡ true → a ≡ b
 body_is a b h =
-    let p2 = and_true (bytes_eq a.code b.code && eqb a.offset b.offset) (reading_eq a.reading b.reading) h in
+    let p2 = and_true (bytes_eq a.code b.code && eqb a.offset b.offset)
+    (reading_eq a.reading b.reading) h in
     let p1 = and_true (bytes_eq a.code b.code) (eqb a.offset b.offset) p2.0 in
     let e0 = bytes_tell.is a.code b.code p1.0 in
     let e1 = eqb-true a.offset b.offset p1.1 in
@@ -294,4 +327,9 @@ body_is a b h =
     λ k. record { code = e0 k; offset = e1 k; reading = e2 k }
 
 pub bodies_tell : Tells body_eq
-bodies_tell = record { is = body_is; same = λ a. both (both (bytes_tell.same a.code) (numbers_tell.same a.offset)) (reading_same a.reading) }
+bodies_tell =
+    record {
+      is = body_is;
+      same = λ a. both (both (bytes_tell.same a.code) (numbers_tell.same a.offset))
+          (reading_same a.reading);
+    }

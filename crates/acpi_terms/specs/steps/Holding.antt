@@ -1,12 +1,12 @@
 -- Items that hold items: the reading of what stands before these, and then of them.
 use Rattle.std.specs.Prelude.{◌≡◌, ◌<◌, ◌-◌, ◌++◌, ◌∷◌, [], ℕ, List, Bool, true, false, Option, None, Some, Result, Ok, Err}
 use Rattle.acpi_name.specs.Names.{NameParts}
-use Rattle.acpi_tree.specs.Tree.{ItemTree, ItemTrees, scope, device, processor, power, thermal}
+use Rattle.acpi_tree.specs.declared.tree.ScopeKind.{ScopeKind}
+use Rattle.acpi_tree.specs.declared.tree.ScopeKind.TheVariants as kinds
+use Rattle.acpi_tree.specs.Tree.{ItemTree, ItemTrees, scope}
 use Rattle.acpi_code.specs.declared.opcode.Opcode.{Opcode}
 use Rattle.acpi_code.specs.declared.opcode.Opcode.TheVariants as opcodes
 use Rattle.acpi_code.specs.steps.Reading.{◌>>=◌, Reading, name_in, opcode_at, package_at}
-use Rattle.acpi_terms.specs.declared.holder.HolderForm.{HolderForm}
-use Rattle.acpi_terms.specs.declared.holder.HolderForm.TheVariants as forms
 use Rattle.acpi_terms.specs.declared.holder.HolderFront.{HolderFront}
 use Rattle.acpi_terms.specs.declared.holder.Holder as code
 use Rattle.acpi_terms.specs.declared.item.NextItem.{NextItem}
@@ -28,34 +28,29 @@ opens_items opcodes.Power = true
 opens_items opcodes.Thermal = true
 opens_items _ = false
 
--- the item of a name, of what stands behind that, and of items
-abbrev pub holding : HolderForm → NameParts → ItemTrees → ItemTree
-holding forms.Scope n is = scope n is
-holding forms.Device n is = device n is
-holding (forms.Processor id block length) n is = processor n id block length is
-holding (forms.Power level order) n is = power n level order is
-holding forms.Thermal n is = thermal n is
-
+-- the item of what stands before these items, and of them
 abbrev pub held_by : HolderFront → ItemTrees → ItemTree
-held_by f is = holding f.form f.name is
+held_by f is = scope f.kind f.name is
 
 -- what stands between the name and the items, by fixed arguments
-abbrev pub form_at : Opcode → ℕ → List ℕ → Reading Fault HolderForm
-form_at opcodes.Scope = plain_at [] (λ _. forms.Scope) 0
-form_at opcodes.Device = plain_at [] (λ _. forms.Device) 0
-form_at opcodes.Processor = plain_at (byte_arg ∷ dword_arg ∷ byte_arg ∷ []) (λ v. forms.Processor v.0 v.1.0 v.1.1.0) 0
-form_at opcodes.Power = plain_at (byte_arg ∷ word_arg ∷ []) (λ v. forms.Power v.0 v.1.0) 0
-form_at _ = plain_at [] (λ _. forms.Thermal) 0
+abbrev pub kind_at : Opcode → ℕ → List ℕ → Reading Fault ScopeKind
+kind_at opcodes.Scope = plain_at [] (λ _. kinds.Scope) 0
+kind_at opcodes.Device = plain_at [] (λ _. kinds.Device) 0
+kind_at opcodes.Processor =
+    plain_at (byte_arg ∷ dword_arg ∷ byte_arg ∷ []) (λ v. kinds.Processor v.0 v.1.0 v.1.1.0) 0
+kind_at opcodes.Power = plain_at (byte_arg ∷ word_arg ∷ []) (λ v. kinds.Power v.0 v.1.0) 0
+kind_at _ = plain_at [] (λ _. kinds.Thermal) 0
 
 -- the name, and what stands behind it
 abbrev pub front_at : Opcode → ℕ → List ℕ → Reading Fault (ItemTrees → ItemTree)
 front_at opcode end bytes = do
   n ← part (name_in end bytes)
-  f ← form_at opcode end n.1
-  Ok (holding f.0 n.0, f.1)
+  k ← kind_at opcode end n.1
+  Ok (scope k.0 n.0, k.1)
 
 -- in a package, with the items behind them to its end
-abbrev pub holder_item : (ℕ → List ℕ → Result ItemTrees Fault) → Opcode → ℕ → List ℕ → Reading Fault ItemTree
+abbrev pub holder_item : (ℕ → List ℕ → Result ItemTrees Fault) → Opcode → ℕ → List ℕ
+    → Reading Fault ItemTree
 holder_item inner opcode end bytes = do
   p ← part (package_at end bytes)
   f ← front_at opcode p.end p.content
@@ -64,33 +59,47 @@ holder_item inner opcode end bytes = do
 
 -- ---- as the code tells it
 
--- What stands before the items of an item was read, and these are spelled by the bytes inside: then the reading of the item,
--- by that of the items inside, is that of these, and puts them there.
-abbrev pub BeginsWith : Result ItemTrees Fault → Reading Fault ItemTree → code.Holder → List ℕ → Type 0
+-- What stands before the items of an item was read, and these are spelled by the bytes inside: then the reading of the
+-- item, by that of the items inside, is that of these, and puts them there.
+abbrev pub BeginsWith : Result ItemTrees Fault → Reading Fault ItemTree → code.Holder → List ℕ
+    → Type 0
 BeginsWith inside whole h rest = whole ≡ (inside >>= λ is. Ok (held_by h.front is, rest))
 
-abbrev pub BeginsHolder : ((ℕ → List ℕ → Result ItemTrees Fault) → ℕ → List ℕ → Reading Fault ItemTree) → Left → Left → Result code.Holder ItemFault → Type 0
+abbrev pub BeginsHolder : ((ℕ → List ℕ → Result ItemTrees Fault) → ℕ → List ℕ
+    → Reading Fault ItemTree) → Left → Left → Result code.Holder ItemFault → Type 0
 BeginsHolder read old new (Ok h) =
-    ((inner : ℕ → List ℕ → Result ItemTrees Fault) → BeginsWith (inner h.inner.end h.inner.bytes) (read inner old.end old.bytes) h new.bytes) × Shorter old new
-BeginsHolder read old new (Err e) = (inner : ℕ → List ℕ → Result ItemTrees Fault) → Fails e (read inner old.end old.bytes)
+    ((inner : ℕ → List ℕ → Result ItemTrees Fault)
+    → BeginsWith (inner h.inner.end h.inner.bytes) (read inner old.end old.bytes) h new.bytes)
+    × Shorter old new
+BeginsHolder read old new (Err e) =
+    (inner : ℕ → List ℕ → Result ItemTrees Fault) → Fails e (read inner old.end old.bytes)
 
 -- what stands before the items of the next item was read, whatever reads these
 abbrev pub HasFront : Left → Left → code.Holder → Type 0
-HasFront old new h = (opcode : Opcode) × (behind : List ℕ) × (opcode_at old.end old.bytes ≡ Ok (opcode, behind)) × (opens_items opcode ≡ true)
-    × ((inner : ℕ → List ℕ → Result ItemTrees Fault) → BeginsWith (inner h.inner.end h.inner.bytes) (holder_item inner opcode old.end behind) h new.bytes)
+HasFront old new h = (opcode : Opcode) × (behind : List ℕ)
+    × (opcode_at old.end old.bytes ≡ Ok (opcode, behind)) × (opens_items opcode ≡ true)
+    × ((inner : ℕ → List ℕ → Result ItemTrees Fault)
+    → BeginsWith (inner h.inner.end h.inner.bytes)
+    (holder_item inner opcode old.end behind) h new.bytes)
 
 -- the next item was read, or what stands before its items
 abbrev pub GivesNext : ℕ → Left → Left → Result NextItem ItemFault → Type 0
 GivesNext level old new (Ok (Leaf i)) =
-    (item_at level old.end old.bytes ≡ Ok (item_view i, new.bytes)) × (holds_items (item_view i) ≡ false) × (0 < level) × Shorter old new
+    (item_at level old.end old.bytes ≡ Ok (item_view i, new.bytes))
+    × (holds_items (item_view i) ≡ false) × (0 < level) × Shorter old new
 GivesNext level old new (Ok (Holder h)) =
-    (BeginsWith (items_with (item_at (level - 1)) h.inner.end h.inner.bytes) (item_at level old.end old.bytes) h new.bytes × HasFront old new h) × (0 < level) × Shorter old new
+    (BeginsWith (items_with (item_at (level - 1)) h.inner.end h.inner.bytes)
+    (item_at level old.end old.bytes) h new.bytes × HasFront old new h) × (0 < level)
+    × Shorter old new
 GivesNext level old new (Err e) = Fails e (item_at level old.end old.bytes)
 
 -- the next item is the last of those that are there afterwards, or what stands before its items was read
-abbrev pub ReadsNext : ℕ → Left → Left → List ItemTree → List ItemTree → Result (Option code.Holder) ItemFault → Type 0
+abbrev pub ReadsNext : ℕ → Left → Left → List ItemTree → List ItemTree
+    → Result (Option code.Holder) ItemFault → Type 0
 ReadsNext level old new before now (Ok None) =
-    ((i : ItemTree) × (item_at level old.end old.bytes ≡ Ok (i, new.bytes)) × (now ≡ before ++ i ∷ [])) × Shorter old new
+    ((i : ItemTree) × (item_at level old.end old.bytes ≡ Ok (i, new.bytes))
+    × (now ≡ before ++ i ∷ [])) × Shorter old new
 ReadsNext level old new before now (Ok (Some h)) =
-    (BeginsWith (items_with (item_at (level - 1)) h.inner.end h.inner.bytes) (item_at level old.end old.bytes) h new.bytes × (now ≡ before) × (0 < level)) × Shorter old new
+    (BeginsWith (items_with (item_at (level - 1)) h.inner.end h.inner.bytes)
+    (item_at level old.end old.bytes) h new.bytes × (now ≡ before) × (0 < level)) × Shorter old new
 ReadsNext level old new before now (Err e) = Fails e (item_at level old.end old.bytes)

@@ -3,7 +3,9 @@ use Rattle.std.specs.Prelude.{◌-◌, ℕ, zero, suc, List, [], ◌∷◌, leng
 use Rattle.acpi_name.specs.Names.{NameParts}
 use Rattle.acpi_tree.specs.declared.tree.Int.{Int}
 use Rattle.acpi_tree.specs.declared.tree.Width.{Width}
-use Rattle.acpi_tree.specs.Tree.{DataTree, int, str, buffer, pkg, var_pkg, ElemTree, of_data, of_name, ElemTrees, elems_of, FieldTree, ExternalParts, ItemTree, name, scope, method, external, external_block, create, create_field, mutex, event, region, field, index_field, bank_field, device, processor, power, thermal, ItemTrees, items_of}
+use Rattle.acpi_tree.specs.declared.tree.ScopeKind.{ScopeKind}
+use Rattle.acpi_tree.specs.declared.tree.ScopeKind.TheVariants as kinds
+use Rattle.acpi_tree.specs.Tree.{DataTree, int, str, buffer, pkg, var_pkg, ElemTree, of_data, of_name, ElemTrees, elems_of, FieldTree, ExternalParts, ItemTree, name, scope, method, external, external_block, create, create_field, mutex, event, region, field, index_field, bank_field, ItemTrees, items_of}
 use Rattle.acpi_code.specs.declared.fault.CodeFault.{CodeFault}
 use Rattle.acpi_code.specs.declared.fault.ConstantFault.{ConstantFault}
 use Rattle.acpi_code.specs.declared.fault.ConstantFault.TheVariants.{Part, NotConstant}
@@ -88,16 +90,19 @@ argument_at level int_arg end bytes = int_at level end bytes
 abbrev pub arguments_at : ℕ → (ks : List FixedArgument) → ℕ → List ℕ → Reading Fault (Values ks)
 arguments_at level [] end bytes = Ok (tt, bytes)
 arguments_at level (k ∷ ks) end bytes =
-    argument_at level k end bytes >>= λ x. arguments_at level ks end x.1 >>= λ xs. Ok ((x.0, xs.0), xs.1)
+    argument_at level k end bytes >>=
+    λ x. arguments_at level ks end x.1 >>= λ xs. Ok ((x.0, xs.0), xs.1)
 
 -- a form of fixed arguments alone
-abbrev pub plain_at : {T : Type 0} → (ks : List FixedArgument) → (Values ks → T) → ℕ → ℕ → List ℕ → Reading Fault T
+abbrev pub plain_at : {T : Type 0} → (ks : List FixedArgument) → (Values ks → T) → ℕ → ℕ → List ℕ
+    → Reading Fault T
 plain_at ks made level end bytes = do
   v ← arguments_at level ks end bytes
   Ok (made v.0, v.1)
 
 -- a form in a package: fixed arguments, and what fills the package to its end
-abbrev pub packed_at : {X T : Type 0} → (ks : List FixedArgument) → (Values ks → X → T) → ℕ → (ℕ → List ℕ → Result X Fault) → ℕ → List ℕ → Reading Fault T
+abbrev pub packed_at : {X T : Type 0} → (ks : List FixedArgument) → (Values ks → X → T) → ℕ
+    → (ℕ → List ℕ → Result X Fault) → ℕ → List ℕ → Reading Fault T
 packed_at ks made level inner end bytes = do
   p ← part (package_at end bytes)
   v ← arguments_at level ks p.end p.content
@@ -122,18 +127,24 @@ string_data end bytes = do
 
 -- DefBuffer: the size is a constant (20.2.5.4)
 abbrev pub buffer_data : ℕ → ℕ → List ℕ → Reading Fault DataTree
-buffer_data level = packed_at (fixed_arguments opcodes.Buffer) (λ v content. buffer v.0 content) level bytes_in
+buffer_data level =
+    packed_at (fixed_arguments opcodes.Buffer) (λ v content. buffer v.0 content) level bytes_in
 
 -- DefPackage (20.2.5.4)
-abbrev pub package_data : (ℕ → List ℕ → Result ElemTrees Fault) → ℕ → ℕ → List ℕ → Reading Fault DataTree
-package_data inner level = packed_at (fixed_arguments opcodes.Package) (λ v es. pkg v.0 es) level inner
+abbrev pub package_data : (ℕ → List ℕ → Result ElemTrees Fault) → ℕ → ℕ → List ℕ
+    → Reading Fault DataTree
+package_data inner level =
+    packed_at (fixed_arguments opcodes.Package) (λ v es. pkg v.0 es) level inner
 
 -- DefVarPackage: the count is a constant (20.2.5.4)
-abbrev pub var_package_data : (ℕ → List ℕ → Result ElemTrees Fault) → ℕ → ℕ → List ℕ → Reading Fault DataTree
-var_package_data inner level = packed_at (fixed_arguments opcodes.VarPackage) (λ v es. var_pkg v.0 es) level inner
+abbrev pub var_package_data : (ℕ → List ℕ → Result ElemTrees Fault) → ℕ → ℕ → List ℕ
+    → Reading Fault DataTree
+var_package_data inner level =
+    packed_at (fixed_arguments opcodes.VarPackage) (λ v es. var_pkg v.0 es) level inner
 
 -- Data, by what begins there. `inner` reads elements; they and constants have `level` levels left.
-abbrev pub data_by : (ℕ → List ℕ → Result ElemTrees Fault) → ℕ → ℕ → List ℕ → Opcode → List ℕ → Reading Fault DataTree
+abbrev pub data_by : (ℕ → List ℕ → Result ElemTrees Fault) → ℕ → ℕ → List ℕ → Opcode → List ℕ
+    → Reading Fault DataTree
 data_by inner level end whole (opcodes.Constant form) rest = int_data form end rest
 data_by inner level end whole opcodes.Str rest = string_data end rest
 data_by inner level end whole opcodes.Buffer rest = buffer_data level end rest
@@ -153,9 +164,11 @@ data_elem_of read = do
   Ok (of_data d.0, d.1)
 
 -- PackageElement, by what begins there
-abbrev pub elem_by : (ℕ → List ℕ → Result ElemTrees Fault) → ℕ → ℕ → List ℕ → Opcode → List ℕ → Reading Fault ElemTree
+abbrev pub elem_by : (ℕ → List ℕ → Result ElemTrees Fault) → ℕ → ℕ → List ℕ → Opcode → List ℕ
+    → Reading Fault ElemTree
 elem_by inner level end whole front rest =
-    if is_name_opcode front then name_elem_at end whole else data_elem_of (data_by inner level end whole front rest)
+    if is_name_opcode front then name_elem_at end whole else
+    data_elem_of (data_by inner level end whole front rest)
 
 abbrev pub elems_with : (ℕ → List ℕ → Reading Fault ElemTree) → ℕ → List ℕ → Result ElemTrees Fault
 elems_with one end bytes = each_at (one end) bytes >>= λ es. Ok (elems_of es)
@@ -190,11 +203,15 @@ name_item level end bytes = do
   d ← data_at level end n.1
   Ok (name n.0 d.0, d.1)
 
-abbrev pub scope_item : (ℕ → List ℕ → Result ItemTrees Fault) → ℕ → ℕ → List ℕ → Reading Fault ItemTree
-scope_item inner level = packed_at (fixed_arguments opcodes.Scope) (λ v is. scope v.0 is) level inner
+-- what opens a scope: its name, what stands behind that, and items
+abbrev pub scope_item : (numbers : List FixedArgument) → (Values numbers → ScopeKind)
+    → (ℕ → List ℕ → Result ItemTrees Fault) → ℕ → ℕ → List ℕ → Reading Fault ItemTree
+scope_item numbers kind inner level =
+    packed_at (name_arg ∷ numbers) (λ v is. scope (kind v.1) v.0 is) level inner
 
 abbrev pub method_item : ℕ → ℕ → List ℕ → Reading Fault ItemTree
-method_item level = packed_at (fixed_arguments opcodes.Method) (λ v code. method v.0 v.1.0 code) level bytes_in
+method_item level =
+    packed_at (fixed_arguments opcodes.Method) (λ v code. method v.0 v.1.0 code) level bytes_in
 
 unfoldable pub parts_at : ℕ → List ℕ → Reading Fault ExternalParts
 parts_at = plain_at (fixed_arguments opcodes.External) external_parts 0
@@ -209,7 +226,8 @@ abbrev pub create_item : Width → ℕ → ℕ → List ℕ → Reading Fault It
 create_item w = plain_at (fixed_arguments (opcodes.Create w)) (λ v. create w v.0 v.1.0 v.1.1.0)
 
 abbrev pub create_field_item : ℕ → ℕ → List ℕ → Reading Fault ItemTree
-create_field_item = plain_at (fixed_arguments opcodes.CreateField) (λ v. create_field v.0 v.1.0 v.1.1.0 v.1.1.1.0)
+create_field_item =
+    plain_at (fixed_arguments opcodes.CreateField) (λ v. create_field v.0 v.1.0 v.1.1.0 v.1.1.1.0)
 
 abbrev pub mutex_item : ℕ → ℕ → List ℕ → Reading Fault ItemTree
 mutex_item = plain_at (fixed_arguments opcodes.Mutex) (λ v. mutex v.0 v.1.0)
@@ -221,26 +239,16 @@ abbrev pub region_item : ℕ → ℕ → List ℕ → Reading Fault ItemTree
 region_item = plain_at (fixed_arguments opcodes.Region) (λ v. region v.0 v.1.0 v.1.1.0 v.1.1.1.0)
 
 abbrev pub field_item : ℕ → ℕ → List ℕ → Reading Fault ItemTree
-field_item level = packed_at (fixed_arguments opcodes.Field) (λ v es. field v.0 v.1.0 es) level fields_in
+field_item level =
+    packed_at (fixed_arguments opcodes.Field) (λ v es. field v.0 v.1.0 es) level fields_in
 
 abbrev pub index_field_item : ℕ → ℕ → List ℕ → Reading Fault ItemTree
-index_field_item level = packed_at (fixed_arguments opcodes.IndexField) (λ v es. index_field v.0 v.1.0 v.1.1.0 es) level fields_in
+index_field_item level = packed_at (fixed_arguments opcodes.IndexField)
+    (λ v es. index_field v.0 v.1.0 v.1.1.0 es) level fields_in
 
 abbrev pub bank_field_item : ℕ → ℕ → List ℕ → Reading Fault ItemTree
-bank_field_item level = packed_at (fixed_arguments opcodes.BankField) (λ v es. bank_field v.0 v.1.0 v.1.1.0 v.1.1.1.0 es) level fields_in
-
-abbrev pub device_item : (ℕ → List ℕ → Result ItemTrees Fault) → ℕ → ℕ → List ℕ → Reading Fault ItemTree
-device_item inner level = packed_at (fixed_arguments opcodes.Device) (λ v is. device v.0 is) level inner
-
--- DefProcessor of ACPI 6.3 and earlier
-abbrev pub processor_item : (ℕ → List ℕ → Result ItemTrees Fault) → ℕ → ℕ → List ℕ → Reading Fault ItemTree
-processor_item inner level = packed_at (fixed_arguments opcodes.Processor) (λ v is. processor v.0 v.1.0 v.1.1.0 v.1.1.1.0 is) level inner
-
-abbrev pub power_item : (ℕ → List ℕ → Result ItemTrees Fault) → ℕ → ℕ → List ℕ → Reading Fault ItemTree
-power_item inner level = packed_at (fixed_arguments opcodes.Power) (λ v is. power v.0 v.1.0 v.1.1.0 is) level inner
-
-abbrev pub thermal_item : (ℕ → List ℕ → Result ItemTrees Fault) → ℕ → ℕ → List ℕ → Reading Fault ItemTree
-thermal_item inner level = packed_at (fixed_arguments opcodes.Thermal) (λ v is. thermal v.0 is) level inner
+bank_field_item level = packed_at (fixed_arguments opcodes.BankField)
+    (λ v es. bank_field v.0 v.1.0 v.1.1.0 v.1.1.1.0 es) level fields_in
 
 -- an External in a block, by what begins there
 abbrev pub external_by : ℕ → List ℕ → Opcode → List ℕ → Reading Fault ExternalParts
@@ -276,9 +284,11 @@ block_item level end whole bytes = do
   Ok (external_block xs, p.rest)
 
 -- An item, by what begins there. `inner` reads items; they, data and constants have `level` levels left.
-abbrev pub item_by : (ℕ → List ℕ → Result ItemTrees Fault) → ℕ → ℕ → List ℕ → Opcode → List ℕ → Reading Fault ItemTree
+abbrev pub item_by : (ℕ → List ℕ → Result ItemTrees Fault) → ℕ → ℕ → List ℕ → Opcode → List ℕ
+    → Reading Fault ItemTree
 item_by inner level end whole opcodes.DeclareName rest = name_item level end rest
-item_by inner level end whole opcodes.Scope rest = scope_item inner level end rest
+item_by inner level end whole opcodes.Scope rest =
+    scope_item [] (λ _. kinds.Scope) inner level end rest
 item_by inner level end whole opcodes.Method rest = method_item level end rest
 item_by inner level end whole opcodes.External rest = external_item end rest
 item_by inner level end whole opcodes.If rest = block_item level end whole rest
@@ -290,15 +300,21 @@ item_by inner level end whole opcodes.Region rest = region_item level end rest
 item_by inner level end whole opcodes.Field rest = field_item level end rest
 item_by inner level end whole opcodes.IndexField rest = index_field_item level end rest
 item_by inner level end whole opcodes.BankField rest = bank_field_item level end rest
-item_by inner level end whole opcodes.Device rest = device_item inner level end rest
-item_by inner level end whole opcodes.Processor rest = processor_item inner level end rest
-item_by inner level end whole opcodes.Power rest = power_item inner level end rest
-item_by inner level end whole opcodes.Thermal rest = thermal_item inner level end rest
+item_by inner level end whole opcodes.Device rest =
+    scope_item [] (λ _. kinds.Device) inner level end rest
+item_by inner level end whole opcodes.Processor rest =
+    scope_item (byte_arg ∷ dword_arg ∷ byte_arg ∷ [])
+    (λ v. kinds.Processor v.0 v.1.0 v.1.1.0) inner level end rest
+item_by inner level end whole opcodes.Power rest =
+    scope_item (byte_arg ∷ word_arg ∷ []) (λ v. kinds.Power v.0 v.1.0) inner level end rest
+item_by inner level end whole opcodes.Thermal rest =
+    scope_item [] (λ _. kinds.Thermal) inner level end rest
 item_by inner level end whole opcodes.Nothing rest = Err (fault_at end whole BadOpcode)
 item_by inner level end whole opcodes.Alias rest = Err (fault_at end whole Alias)
 item_by inner level end whole opcodes.Else rest = Err (fault_at end whole ModuleIf)
 item_by inner level end whole opcodes.While rest = Err (fault_at end whole ModuleIf)
-item_by inner level end whole (opcodes.Operator op) rest = Err (fault_at end whole (operator_reason op))
+item_by inner level end whole (opcodes.Operator op) rest =
+    Err (fault_at end whole (operator_reason op))
 item_by inner level end whole opcodes.DataRegion rest = Err (fault_at end whole DataRegion)
 item_by inner level end whole _ rest = Err (fault_at end whole ModuleCode)
 

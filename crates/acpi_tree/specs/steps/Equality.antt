@@ -12,8 +12,10 @@ use Rattle.acpi_tree.specs.declared.tree.Int.{Int}
 use Rattle.acpi_tree.specs.declared.tree.Int.TheVariants.{Zero, One, Ones, Revision, Byte, Word, DWord, QWord}
 use Rattle.acpi_tree.specs.declared.tree.Width.{Width}
 use Rattle.acpi_tree.specs.declared.tree.Width.TheVariants as widths
-use Rattle.acpi_tree.specs.Tree.{DataTree, int, str, buffer, pkg, var_pkg, ElemTree, of_data, of_name, ElemTrees, no_elems, elem, FieldTree, unit, reserved, access, connect_name, connect_buffer, extended, ExternalParts, ItemTree, name, scope, method, external, external_block, create, create_field, mutex, event, region, field, index_field, bank_field, device, processor, power, thermal, ItemTrees, no_items, item}
-use Rattle.acpi_tree.specs.Equal.{int_eq, width_eq, bytes_eq, data_eq, elem_eq, elems_eq, field_eq, fields_eq, external_eq, externals_eq, item_eq, items_eq, field_form_eq, object_eq}
+use Rattle.acpi_tree.specs.declared.tree.ScopeKind.{ScopeKind}
+use Rattle.acpi_tree.specs.declared.tree.ScopeKind.TheVariants as kinds
+use Rattle.acpi_tree.specs.Tree.{DataTree, int, str, buffer, pkg, var_pkg, ElemTree, of_data, of_name, ElemTrees, no_elems, elem, FieldTree, unit, reserved, access, connect_name, connect_buffer, extended, ExternalParts, ItemTree, name, scope, method, external, external_block, create, create_field, mutex, event, region, field, index_field, bank_field, ItemTrees, no_items, item}
+use Rattle.acpi_tree.specs.Equal.{int_eq, width_eq, bytes_eq, data_eq, elem_eq, elems_eq, field_eq, fields_eq, external_eq, externals_eq, kind_eq, item_eq, items_eq, field_form_eq, object_eq}
 use Rattle.acpi_tree.specs.declared.object.FieldForm.{FieldForm}
 use Rattle.acpi_tree.specs.declared.object.FieldForm.TheVariants as forms
 use Rattle.acpi_tree.specs.Objects.{ObjectTree, root_object, scope_object, predefined_object, device_object, processor_object, power_object, thermal_object, name_object, method_object, region_object, mutex_object, event_object, field_object, create_object, create_field_object}
@@ -93,7 +95,8 @@ lists_tell {X = X} {E = E} t = record { is = is; same = same }
   where
     is : (xs ys : List X) → pointwise E xs ys ≡ true → xs ≡ ys
     is [] [] h = refl
-    is (x ∷ xs) (y ∷ ys) h = let p = and_true (E x y) (pointwise E xs ys) h in ap₂ (λ (a : X) (b : List X). a ∷ b) (t.is x y p.0) (is xs ys p.1)
+    is (x ∷ xs) (y ∷ ys) h = let p = and_true (E x y) (pointwise E xs ys) h in
+        ap₂ (λ (a : X) (b : List X). a ∷ b) (t.is x y p.0) (is xs ys p.1)
     is xs ys h = never h
 
     same : (xs : List X) → pointwise E xs xs ≡ true
@@ -107,9 +110,12 @@ mutual
   data_is : (d e : DataTree) → data_eq d e ≡ true → d ≡ e
   data_is (int i) (int j) h = ap int (int_is i j h)
   data_is (str s) (str t) h = ap str (bytes_tell.is s t h)
-  data_is (buffer i s) (buffer j t) h = let p = and_true (int_eq i j) (bytes_eq s t) h in ap₂ buffer (int_is i j p.0) (bytes_tell.is s t p.1)
-  data_is (pkg m es) (pkg n fs) h = let p = and_true (eqb m n) (elems_eq es fs) h in ap₂ pkg (eqb-true m n p.0) (elems_is es fs p.1)
-  data_is (var_pkg i es) (var_pkg j fs) h = let p = and_true (int_eq i j) (elems_eq es fs) h in ap₂ var_pkg (int_is i j p.0) (elems_is es fs p.1)
+  data_is (buffer i s) (buffer j t) h = let p = and_true (int_eq i j) (bytes_eq s t) h in
+      ap₂ buffer (int_is i j p.0) (bytes_tell.is s t p.1)
+  data_is (pkg m es) (pkg n fs) h = let p = and_true (eqb m n) (elems_eq es fs) h in
+      ap₂ pkg (eqb-true m n p.0) (elems_is es fs p.1)
+  data_is (var_pkg i es) (var_pkg j fs) h = let p = and_true (int_eq i j) (elems_eq es fs) h in
+      ap₂ var_pkg (int_is i j p.0) (elems_is es fs p.1)
   data_is d e h = never h
 
   elem_is : (d e : ElemTree) → elem_eq d e ≡ true → d ≡ e
@@ -119,7 +125,8 @@ mutual
 
   elems_is : (ds es : ElemTrees) → elems_eq ds es ≡ true → ds ≡ es
   elems_is no_elems no_elems h = refl
-  elems_is (elem d ds) (elem e es) h = let p = and_true (elem_eq d e) (elems_eq ds es) h in ap₂ elem (elem_is d e p.0) (elems_is ds es p.1)
+  elems_is (elem d ds) (elem e es) h = let p = and_true (elem_eq d e) (elems_eq ds es) h in
+      ap₂ elem (elem_is d e p.0) (elems_is ds es p.1)
   elems_is ds es h = never h
 
 mutual
@@ -145,11 +152,15 @@ pub elem_tells : Tells elem_eq
 elem_tells = record { is = elem_is; same = elem_same }
 
 field_is : (d e : FieldTree) → field_eq d e ≡ true → d ≡ e
-field_is (unit s m) (unit t n) h = let p = and_true (bytes_eq s t) (eqb m n) h in ap₂ unit (bytes_tell.is s t p.0) (eqb-true m n p.1)
+field_is (unit s m) (unit t n) h = let p = and_true (bytes_eq s t) (eqb m n) h in
+    ap₂ unit (bytes_tell.is s t p.0) (eqb-true m n p.1)
 field_is (reserved m) (reserved n) h = ap reserved (eqb-true m n h)
-field_is (access k l) (access m n) h = let p = and_true (eqb k m) (eqb l n) h in ap₂ access (eqb-true k m p.0) (eqb-true l n p.1)
+field_is (access k l) (access m n) h =
+    let p = and_true (eqb k m) (eqb l n) h in ap₂ access (eqb-true k m p.0) (eqb-true l n p.1)
 field_is (connect_name m) (connect_name n) h = ap connect_name (names_tell.is m n h)
-field_is (connect_buffer i s) (connect_buffer j t) h = let p = and_true (int_eq i j) (bytes_eq s t) h in ap₂ connect_buffer (int_is i j p.0) (bytes_tell.is s t p.1)
+field_is (connect_buffer i s) (connect_buffer j t) h =
+    let p = and_true (int_eq i j) (bytes_eq s t) h in
+    ap₂ connect_buffer (int_is i j p.0) (bytes_tell.is s t p.1)
 field_is (extended j k l) (extended m n o) h =
     let p = and_true (eqb j m && eqb k n) (eqb l o) h in
     let q = and_true (eqb j m) (eqb k n) p.0 in
@@ -165,7 +176,8 @@ field_same (reserved n) = numbers_tell.same n
 field_same (access k l) = both (numbers_tell.same k) (numbers_tell.same l)
 field_same (connect_name n) = names_tell.same n
 field_same (connect_buffer i s) = both (int_same i) (bytes_tell.same s)
-field_same (extended j k l) = both (both (numbers_tell.same j) (numbers_tell.same k)) (numbers_tell.same l)
+field_same (extended j k l) =
+    both (both (numbers_tell.same j) (numbers_tell.same k)) (numbers_tell.same l)
 
 pub field_tells : Tells field_eq
 field_tells = record { is = field_is; same = field_same }
@@ -183,10 +195,41 @@ external_is x y h =
     λ k. record { name = a k; kind = b k; args = c k }
 
 pub external_tells : Tells external_eq
-external_tells = record { is = external_is; same = λ x. both (both (names_tell.same x.name) (numbers_tell.same x.kind)) (numbers_tell.same x.args) }
+external_tells =
+    record {
+      is = external_is;
+      same = λ x. both (both (names_tell.same x.name) (numbers_tell.same x.kind))
+          (numbers_tell.same x.args);
+    }
 
 pub externals_tell : Tells externals_eq
 externals_tell = lists_tell external_tells
+
+kind_is : (k l : ScopeKind) → kind_eq k l ≡ true → k ≡ l
+kind_is kinds.Scope kinds.Scope h = refl
+kind_is kinds.Device kinds.Device h = refl
+kind_is (kinds.Processor i b l) (kinds.Processor j c k) h =
+    let p2 = and_true (eqb i j && eqb b c) (eqb l k) h in
+    let p1 = and_true (eqb i j) (eqb b c) p2.0 in
+    let e0 = eqb-true i j p1.0 in
+    let e1 = eqb-true b c p1.1 in
+    let e2 = eqb-true l k p2.1 in
+    λ x. kinds.Processor (e0 x) (e1 x) (e2 x)
+kind_is (kinds.Power l o) (kinds.Power k p) h =
+    let p1 = and_true (eqb l k) (eqb o p) h in
+    let e0 = eqb-true l k p1.0 in
+    let e1 = eqb-true o p p1.1 in
+    λ x. kinds.Power (e0 x) (e1 x)
+kind_is kinds.Thermal kinds.Thermal h = refl
+kind_is k l h = never h
+
+kind_same : (k : ScopeKind) → kind_eq k k ≡ true
+kind_same kinds.Scope = refl
+kind_same kinds.Device = refl
+kind_same (kinds.Processor i b l) =
+    both (both (numbers_tell.same i) (numbers_tell.same b)) (numbers_tell.same l)
+kind_same (kinds.Power l o) = both (numbers_tell.same l) (numbers_tell.same o)
+kind_same kinds.Thermal = refl
 
 mutual
   item_is : (i j : ItemTree) → item_eq i j ≡ true → i ≡ j
@@ -195,11 +238,13 @@ mutual
       let e0 = names_tell.is m n p1.0 in
       let e1 = data_is d e p1.1 in
       λ x. name (e0 x) (e1 x)
-  item_is (scope m is) (scope n js) h =
-      let p1 = and_true (name_eq m n) (items_eq is js) h in
-      let e0 = names_tell.is m n p1.0 in
-      let e1 = items_is is js p1.1 in
-      λ x. scope (e0 x) (e1 x)
+  item_is (scope k m is) (scope l n js) h =
+      let p2 = and_true (kind_eq k l && name_eq m n) (items_eq is js) h in
+      let p1 = and_true (kind_eq k l) (name_eq m n) p2.0 in
+      let e0 = kind_is k l p1.0 in
+      let e1 = names_tell.is m n p1.1 in
+      let e2 = items_is is js p2.1 in
+      λ x. scope (e0 x) (e1 x) (e2 x)
   item_is (method m f s) (method n g t) h =
       let p2 = and_true (name_eq m n && eqb f g) (bytes_eq s t) h in
       let p1 = and_true (name_eq m n) (eqb f g) p2.0 in
@@ -269,62 +314,38 @@ mutual
       let e3 = eqb-true f g p3.1 in
       let e4 = fields_tell.is es fs p4.1 in
       λ x. bank_field (e0 x) (e1 x) (e2 x) (e3 x) (e4 x)
-  item_is (device m is) (device n js) h =
-      let p1 = and_true (name_eq m n) (items_eq is js) h in
-      let e0 = names_tell.is m n p1.0 in
-      let e1 = items_is is js p1.1 in
-      λ x. device (e0 x) (e1 x)
-  item_is (processor m i b l is) (processor n j c k js) h =
-      let p4 = and_true (name_eq m n && eqb i j && eqb b c && eqb l k) (items_eq is js) h in
-      let p3 = and_true (name_eq m n && eqb i j && eqb b c) (eqb l k) p4.0 in
-      let p2 = and_true (name_eq m n && eqb i j) (eqb b c) p3.0 in
-      let p1 = and_true (name_eq m n) (eqb i j) p2.0 in
-      let e0 = names_tell.is m n p1.0 in
-      let e1 = eqb-true i j p1.1 in
-      let e2 = eqb-true b c p2.1 in
-      let e3 = eqb-true l k p3.1 in
-      let e4 = items_is is js p4.1 in
-      λ x. processor (e0 x) (e1 x) (e2 x) (e3 x) (e4 x)
-  item_is (power m l o is) (power n k p js) h =
-      let p3 = and_true (name_eq m n && eqb l k && eqb o p) (items_eq is js) h in
-      let p2 = and_true (name_eq m n && eqb l k) (eqb o p) p3.0 in
-      let p1 = and_true (name_eq m n) (eqb l k) p2.0 in
-      let e0 = names_tell.is m n p1.0 in
-      let e1 = eqb-true l k p1.1 in
-      let e2 = eqb-true o p p2.1 in
-      let e3 = items_is is js p3.1 in
-      λ x. power (e0 x) (e1 x) (e2 x) (e3 x)
-  item_is (thermal m is) (thermal n js) h =
-      let p1 = and_true (name_eq m n) (items_eq is js) h in
-      let e0 = names_tell.is m n p1.0 in
-      let e1 = items_is is js p1.1 in
-      λ x. thermal (e0 x) (e1 x)
   item_is i j h = never h
 
   items_is : (is js : ItemTrees) → items_eq is js ≡ true → is ≡ js
   items_is no_items no_items h = refl
-  items_is (item i is) (item j js) h = let p = and_true (item_eq i j) (items_eq is js) h in ap₂ item (item_is i j p.0) (items_is is js p.1)
+  items_is (item i is) (item j js) h = let p = and_true (item_eq i j) (items_eq is js) h in
+      ap₂ item (item_is i j p.0) (items_is is js p.1)
   items_is is js h = never h
 
 mutual
   item_same : (i : ItemTree) → item_eq i i ≡ true
   item_same (name m d) = both (names_tell.same m) (data_same d)
-  item_same (scope m is) = both (names_tell.same m) (items_same is)
-  item_same (method m f s) = both (both (names_tell.same m) (numbers_tell.same f)) (bytes_tell.same s)
+  item_same (scope k m is) = both (both (kind_same k) (names_tell.same m)) (items_same is)
+  item_same (method m f s) =
+      both (both (names_tell.same m) (numbers_tell.same f)) (bytes_tell.same s)
   item_same (external a) = external_tells.same a
   item_same (external_block a) = externals_tell.same a
-  item_same (create w s i m) = both (both (both (width_same w) (names_tell.same s)) (int_same i)) (names_tell.same m)
-  item_same (create_field s i b m) = both (both (both (names_tell.same s) (int_same i)) (int_same b)) (names_tell.same m)
+  item_same (create w s i m) =
+      both (both (both (width_same w) (names_tell.same s)) (int_same i)) (names_tell.same m)
+  item_same (create_field s i b m) =
+      both (both (both (names_tell.same s) (int_same i)) (int_same b)) (names_tell.same m)
   item_same (mutex m f) = both (names_tell.same m) (numbers_tell.same f)
   item_same (event m) = names_tell.same m
-  item_same (region m s o l) = both (both (both (names_tell.same m) (numbers_tell.same s)) (int_same o)) (int_same l)
-  item_same (field r f es) = both (both (names_tell.same r) (numbers_tell.same f)) (fields_tell.same es)
-  item_same (index_field i d f es) = both (both (both (names_tell.same i) (names_tell.same d)) (numbers_tell.same f)) (fields_tell.same es)
-  item_same (bank_field r b v f es) = both (both (both (both (names_tell.same r) (names_tell.same b)) (int_same v)) (numbers_tell.same f)) (fields_tell.same es)
-  item_same (device m is) = both (names_tell.same m) (items_same is)
-  item_same (processor m i b l is) = both (both (both (both (names_tell.same m) (numbers_tell.same i)) (numbers_tell.same b)) (numbers_tell.same l)) (items_same is)
-  item_same (power m l o is) = both (both (both (names_tell.same m) (numbers_tell.same l)) (numbers_tell.same o)) (items_same is)
-  item_same (thermal m is) = both (names_tell.same m) (items_same is)
+  item_same (region m s o l) =
+      both (both (both (names_tell.same m) (numbers_tell.same s)) (int_same o)) (int_same l)
+  item_same (field r f es) =
+      both (both (names_tell.same r) (numbers_tell.same f)) (fields_tell.same es)
+  item_same (index_field i d f es) = both
+      (both (both (names_tell.same i) (names_tell.same d)) (numbers_tell.same f))
+      (fields_tell.same es)
+  item_same (bank_field r b v f es) = both
+      (both (both (both (names_tell.same r) (names_tell.same b)) (int_same v))
+      (numbers_tell.same f)) (fields_tell.same es)
 
   items_same : (is : ItemTrees) → items_eq is is ≡ true
   items_same no_items = refl
@@ -401,13 +422,16 @@ object_same predefined_object = refl
 object_same device_object = refl
 object_same thermal_object = refl
 object_same event_object = refl
-object_same (processor_object i b l) = both (both (numbers_tell.same i) (numbers_tell.same b)) (numbers_tell.same l)
+object_same (processor_object i b l) =
+    both (both (numbers_tell.same i) (numbers_tell.same b)) (numbers_tell.same l)
 object_same (power_object l o) = both (numbers_tell.same l) (numbers_tell.same o)
 object_same (name_object d) = data_same d
 object_same (method_object f) = numbers_tell.same f
 object_same (region_object s o l) = both (both (numbers_tell.same s) (int_same o)) (int_same l)
 object_same (mutex_object f) = numbers_tell.same f
-object_same (field_object w f o b) = both (both (both (field_form_same w) (numbers_tell.same f)) (numbers_tell.same o)) (numbers_tell.same b)
+object_same (field_object w f o b) = both
+    (both (both (field_form_same w) (numbers_tell.same f)) (numbers_tell.same o))
+    (numbers_tell.same b)
 object_same (create_object w i) = both (width_same w) (int_same i)
 object_same (create_field_object i b) = both (int_same i) (int_same b)
 
@@ -421,7 +445,12 @@ both_ways false true forth back = back refl
 both_ways false false forth back = refl
 
 pub equivalence : {X : Type 0} {E : X → X → Bool} → Tells E → IsEquivalence E
-equivalence {X = X} {E = E} t = record { refl = t.same; symm = λ x y. both_ways (E x y) (E y x) (turned x y) (turned y x); congr = λ x y z h. ap (λ w. E w z) (t.is x y h) }
+equivalence {X = X} {E = E} t =
+    record {
+      refl = t.same;
+      symm = λ x y. both_ways (E x y) (E y x) (turned x y) (turned y x);
+      congr = λ x y z h. ap (λ w. E w z) (t.is x y h);
+    }
   where
     turned : (x y : X) → E x y ≡ true → E y x ≡ true
     turned x y h = subst (λ z. E z x ≡ true) (t.is x y h) (t.same x)

@@ -14,10 +14,18 @@ use Rattle.acpi_tree.specs.TermEqual.{op_eq, units_form_eq, named_form_eq, names
 use Rattle.acpi_tree.specs.steps.Equality.{Tells, both, never, names_tell, numbers_tell, ints_tell, widths_tell, lists_tell, bytes_tell, fields_tell}
 
 ops_tell : Tells op_eq
-ops_tell = record { is = same_true operators.the_type tt; same = λ o. true_same operators.the_type o o refl }
+ops_tell =
+    record {
+      is = same_true operators.the_type tt;
+      same = λ o. true_same operators.the_type o o refl;
+    }
 
 units_forms_tell : Tells units_form_eq
-units_forms_tell = record { is = same_true units_forms.the_type tt; same = λ f. true_same units_forms.the_type f f refl }
+units_forms_tell =
+    record {
+      is = same_true units_forms.the_type tt;
+      same = λ f. true_same units_forms.the_type f f refl;
+    }
 
 named_form_is : (f g : NamedForm) → named_form_eq f g ≡ true → f ≡ g
 named_form_is named.Name named.Name h = refl
@@ -46,17 +54,23 @@ mutual
   term_is : (t u : TermTree) → term_eq t u ≡ true → t ≡ u
   term_is (int a) (int w) h = ap int (ints_tell.is a w h)
   term_is (str a) (str w) h = ap str (bytes_tell.is a w h)
-  term_is (buffer a b) (buffer w x) h = let p = and_true (term_eq a w) (bytes_eq b x) h in ap₂ buffer (term_is a w p.0) (bytes_tell.is b x p.1)
-  term_is (pkg a b) (pkg w x) h = let p = and_true (eqb a w) (terms_eq b x) h in ap₂ pkg (eqb-true a w p.0) (terms_is b x p.1)
-  term_is (var_pkg a b) (var_pkg w x) h = let p = and_true (term_eq a w) (terms_eq b x) h in ap₂ var_pkg (term_is a w p.0) (terms_is b x p.1)
+  term_is (buffer a b) (buffer w x) h = let p = and_true (term_eq a w) (bytes_eq b x) h in
+      ap₂ buffer (term_is a w p.0) (bytes_tell.is b x p.1)
+  term_is (pkg a b) (pkg w x) h =
+      let p = and_true (eqb a w) (terms_eq b x) h in ap₂ pkg (eqb-true a w p.0) (terms_is b x p.1)
+  term_is (var_pkg a b) (var_pkg w x) h = let p = and_true (term_eq a w) (terms_eq b x) h in
+      ap₂ var_pkg (term_is a w p.0) (terms_is b x p.1)
   term_is (local a) (local w) h = ap local (eqb-true a w h)
   term_is (arg a) (arg w) h = ap arg (eqb-true a w h)
   term_is debug debug h = refl
   term_is no_target no_target h = refl
-  term_is (raw a b) (raw w x) h = let p = and_true (eqb a w) (eqb b x) h in ap₂ raw (eqb-true a w p.0) (eqb-true b x p.1)
+  term_is (raw a b) (raw w x) h =
+      let p = and_true (eqb a w) (eqb b x) h in ap₂ raw (eqb-true a w p.0) (eqb-true b x p.1)
   term_is (ref a) (ref w) h = ap ref (names_tell.is a w h)
-  term_is (call a b) (call w x) h = let p = and_true (name_eq a w) (terms_eq b x) h in ap₂ call (names_tell.is a w p.0) (terms_is b x p.1)
-  term_is (apply a b) (apply w x) h = let p = and_true (op_eq a w) (terms_eq b x) h in ap₂ apply (ops_tell.is a w p.0) (terms_is b x p.1)
+  term_is (call a b) (call w x) h = let p = and_true (name_eq a w) (terms_eq b x) h in
+      ap₂ call (names_tell.is a w p.0) (terms_is b x p.1)
+  term_is (apply a b) (apply w x) h = let p = and_true (op_eq a w) (terms_eq b x) h in
+      ap₂ apply (ops_tell.is a w p.0) (terms_is b x p.1)
   term_is (if_do a b c) (if_do w x y) h =
       let p2 = and_true (else_eq c y && term_eq a w) (terms_eq b x) h in
       let p1 = and_true (else_eq c y) (term_eq a w) p2.0 in
@@ -64,7 +78,8 @@ mutual
       let e1 = terms_is b x p2.1 in
       let e2 = else_is c y p1.0 in
       λ i. if_do (e0 i) (e1 i) (e2 i)
-  term_is (while_do a b) (while_do w x) h = let p = and_true (term_eq a w) (terms_eq b x) h in ap₂ while_do (term_is a w p.0) (terms_is b x p.1)
+  term_is (while_do a b) (while_do w x) h = let p = and_true (term_eq a w) (terms_eq b x) h in
+      ap₂ while_do (term_is a w p.0) (terms_is b x p.1)
   term_is (declare a b c d) (declare w x y z) h =
       let p3 = and_true (named_form_eq a w && terms_eq b x && name_eq c y) (terms_eq d z) h in
       let p2 = and_true (named_form_eq a w && terms_eq b x) (name_eq c y) p3.0 in
@@ -92,7 +107,8 @@ mutual
 
   terms_is : (ts us : TermTrees) → terms_eq ts us ≡ true → ts ≡ us
   terms_is no_terms no_terms h = refl
-  terms_is (more t ts) (more u us) h = let p = and_true (term_eq t u) (terms_eq ts us) h in ap₂ more (term_is t u p.0) (terms_is ts us p.1)
+  terms_is (more t ts) (more u us) h = let p = and_true (term_eq t u) (terms_eq ts us) h in
+      ap₂ more (term_is t u p.0) (terms_is ts us p.1)
   terms_is ts us h = never h
 
 mutual
@@ -112,8 +128,11 @@ mutual
   term_same (apply a b) = both (ops_tell.same a) (terms_same b)
   term_same (if_do a b c) = both (both (else_same c) (term_same a)) (terms_same b)
   term_same (while_do a b) = both (term_same a) (terms_same b)
-  term_same (declare a b c d) = both (both (both (named_forms_tell.same a) (terms_same b)) (names_tell.same c)) (terms_same d)
-  term_same (declare_units a b c d) = both (both (both (units_forms_tell.same a) (all_names_tell.same b)) (terms_same c)) (fields_tell.same d)
+  term_same (declare a b c d) =
+      both (both (both (named_forms_tell.same a) (terms_same b)) (names_tell.same c)) (terms_same d)
+  term_same (declare_units a b c d) = both
+      (both (both (units_forms_tell.same a) (all_names_tell.same b)) (terms_same c))
+      (fields_tell.same d)
 
   else_same : (e : ElseTree) → else_eq e e ≡ true
   else_same no_else = refl

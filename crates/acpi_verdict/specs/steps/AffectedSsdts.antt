@@ -32,4 +32,5 @@ IsNotedAtAny {V} d es x = (p : List Segment) × (v : V) × Among es (p, v) × Is
 
 -- each SSDT is marked that is noted at a path that was missed or is awaited
 abbrev pub AreAffected : Definers → Misses → List Bool → Type 0
-AreAffected d t flags = (p : List Segment) (x : Definer) → is_miss t p ≡ true → IsNoted d p x → IsMarked flags x.number
+AreAffected d t flags =
+    (p : List Segment) (x : Definer) → is_miss t p ≡ true → IsNoted d p x → IsMarked flags x.number

@@ -14,7 +14,8 @@ verdict_from (Some c) missed = Same c.first c.second c.path
 verdict_from None (Some c) = Missed c.first c.second c.path
 verdict_from None None = Commute
 
-pub record IsChecked (depth : ℕ) (dsdt : List ℕ) (ssdts : List (List ℕ)) (c : Checked) : Type 0 where
+pub record IsChecked (depth : ℕ) (dsdt : List ℕ) (ssdts : List (List ℕ))
+    (c : Checked) : Type 0 where
   pub verdict : IsVerdict depth dsdt ssdts (verdict_view c.verdict)
   pub fault : IsFaultOf depth dsdt ssdts c.verdict
   pub satisfied : AllAlone depth dsdt ssdts → AreSatisfied depth dsdt ssdts c.satisfied.items

@@ -38,10 +38,15 @@ abbrev pub IsNoted : Definers → List Segment → Definer → Type 0
 IsNoted d p x = (get d.first p ≡ Some x) ⊎ IsOther d.others p x
 
 -- one more at the path
-abbrev pub AddsOther : BTreeMap (List Segment) (Vec Definer) → BTreeMap (List Segment) (Vec Definer) → List Segment → Definer → Type 0
-AddsOther old new p x = (q : List Segment) (y : Definer) → IsOther new q y ↔ (IsOther old q y ⊎ ((p ≡ q) × (x ≡ y)))
+abbrev pub AddsOther : BTreeMap (List Segment) (Vec Definer) → BTreeMap (List Segment) (Vec Definer)
+    → List Segment → Definer → Type 0
+AddsOther old new p x =
+    (q : List Segment) (y : Definer) → IsOther new q y ↔ (IsOther old q y ⊎ ((p ≡ q) × (x ≡ y)))
 
 -- .. which is the first there where there was none
 pub record AddsDefiner (old new : Definers) (p : List Segment) (x : Definer) : Type 0 where
-  pub noted : (q : List Segment) (y : Definer) → IsNoted new q y ↔ (IsNoted old q y ⊎ ((p ≡ q) × (x ≡ y)))
-  pub firsts : (q : List Segment) (y : Definer) → (get new.first q ≡ Some y) ↔ ((get old.first q ≡ Some y) ⊎ ((get old.first q ≡ None) × (p ≡ q) × (x ≡ y)))
+  pub noted : (q : List Segment) (y : Definer)
+      → IsNoted new q y ↔ (IsNoted old q y ⊎ ((p ≡ q) × (x ≡ y)))
+  pub firsts : (q : List Segment) (y : Definer)
+      → (get new.first q ≡ Some y)
+      ↔ ((get old.first q ≡ Some y) ⊎ ((get old.first q ≡ None) × (p ≡ q) × (x ≡ y)))

@@ -23,7 +23,8 @@ use Rattle.acpi_verdict.specs.declared.misses.Misses.{Misses}
 
 -- the first SSDT that declares the path is of number j, and not the searcher, number i; and P holds of it
 abbrev pub IsFirstOther : PathMap Definer → ℕ → (List Segment → Definer → Type 0) → Clashes
-IsFirstOther firsts number P i j p = (number ≡ i) × (x : Definer) × (get firsts p ≡ Some x) × (x.number ≡ j) × (j ≢ i) × P p x
+IsFirstOther firsts number P i j p =
+    (number ≡ i) × (x : Definer) × (get firsts p ≡ Some x) × (x.number ≡ j) × (j ≢ i) × P p x
 
 -- the path was missed
 abbrev pub IsMissedOf : PathMap Definer → ℕ → List (List Segment) → Clashes
@@ -31,21 +32,26 @@ IsMissedOf firsts number ps = IsFirstOther firsts number (λ p x. Among ps p)
 
 -- a method is awaited there, and the SSDT's object is none of so many arguments
 abbrev pub IsAwaitedOf : PathMap Definer → ℕ → List (List Segment × ℕ) → Clashes
-IsAwaitedOf firsts number es = IsFirstOther firsts number (λ p x. (n : ℕ) × Among es (p, n) × (takes x n ≡ false))
+IsAwaitedOf firsts number es =
+    IsFirstOther firsts number (λ p x. (n : ℕ) × Among es (p, n) × (takes x n ≡ false))
 
 abbrev pub IsUnmetOf : PathMap Definer → ℕ → Misses → Clashes
 IsUnmetOf firsts number t =
-    IsFirstOther firsts number (λ p x. IsTrue (is_defined t.missed p) ⊎ ((n : ℕ) × (get t.awaited p ≡ Some n) × (takes x n ≡ false)))
+    IsFirstOther firsts number
+    (λ p x. IsTrue (is_defined t.missed p)
+    ⊎ ((n : ℕ) × (get t.awaited p ≡ Some n) × (takes x n ≡ false)))
 
 -- .. in a single load
 abbrev pub IsUnmetBy : ℕ → PathMap Definer → ℕ → Listing → Listing → Clashes
 IsUnmetBy depth firsts number first t =
-    IsFirstOther firsts number (λ p x. IsMiss depth first t p ⊎ ((n : ℕ) × IsAwaited depth first t p n × (takes x n ≡ false)))
+    IsFirstOther firsts number
+    (λ p x. IsMiss depth first t p ⊎ ((n : ℕ) × IsAwaited depth first t p n × (takes x n ≡ false)))
 
 -- .. of SSDT i
 abbrev pub IsUnmetAt : ℕ → List ℕ → List (List ℕ) → PathMap Definer → Clashes
 IsUnmetAt depth dsdt ssdts firsts i j p =
-    (b : List ℕ) × (first : Listing) × (t : Listing) × IsSsdt ssdts i b × AreSingleListings depth dsdt b first t × IsUnmetBy depth firsts i first t i j p
+    (b : List ℕ) × (first : Listing) × (t : Listing) × IsSsdt ssdts i b
+    × AreSingleListings depth dsdt b first t × IsUnmetBy depth firsts i first t i j p
 
 -- ---- satisfied Externals
 
@@ -61,12 +67,15 @@ pub record PutsSatisfied (old new : List Satisfied) (P : Satisfied → Type 0) :
   pub are : (s : Satisfied) → Among own s ↔ P s
 
 -- the user awaits it, and another SSDT of which P holds declares such a method there
-abbrev pub IsSatisfiedFor : ℕ → (List Segment → ℕ → Type 0) → (List Segment → Definer → Type 0) → Satisfied → Type 0
+abbrev pub IsSatisfiedFor : ℕ → (List Segment → ℕ → Type 0) → (List Segment → Definer → Type 0)
+    → Satisfied → Type 0
 IsSatisfiedFor user Awaits P s =
-    (user ≡ s.user) × (x : Definer) × P s.path x × (x.number ≡ s.definer) × (x.number ≢ user) × (n : ℕ) × Awaits s.path n × (takes x n ≡ true)
+    (user ≡ s.user) × (x : Definer) × P s.path x × (x.number ≡ s.definer) × (x.number ≢ user)
+    × (n : ℕ) × Awaits s.path n × (takes x n ≡ true)
 
 -- .. at that path
-abbrev pub IsSatisfiedAt : ℕ → List Segment → ℕ → (List Segment → Definer → Type 0) → Satisfied → Type 0
+abbrev pub IsSatisfiedAt : ℕ → List Segment → ℕ → (List Segment → Definer → Type 0) → Satisfied
+    → Type 0
 IsSatisfiedAt user p n = IsSatisfiedFor user (λ q k. (p ≡ q) × (n ≡ k))
 
 -- .. by one of these
@@ -80,26 +89,35 @@ IsSatisfiedOf d user es = IsSatisfiedFor user (λ p n. Among es (p, n)) (IsNoted
 -- ---- one SSDT
 
 -- what its misses say, over what was found before
-pub record FindsPair (d : Definers) (number : ℕ) (pair : PairTree) (old new : Findings) : Type 0 where
-  pub clash : Offers old.clash new.clash (λ i j p. IsUnmetOf d.first number pair.own i j p ⊎ IsUnmetOf d.first number pair.under i j p)
-  pub satisfied : PutsSatisfied old.satisfied.items new.satisfied.items (IsSatisfiedOf d number (entries pair.own.awaited))
+pub record FindsPair (d : Definers) (number : ℕ) (pair : PairTree)
+    (old new : Findings) : Type 0 where
+  pub clash : Offers old.clash new.clash
+      (λ i j p. IsUnmetOf d.first number pair.own i j p ⊎ IsUnmetOf d.first number pair.under i j p)
+  pub satisfied : PutsSatisfied old.satisfied.items new.satisfied.items
+      (IsSatisfiedOf d number (entries pair.own.awaited))
 
 -- .. of its single load
-pub record FindsSsdt (depth : ℕ) (dsdt ssdt : List ℕ) (d : Definers) (number : ℕ) (old new : Findings) : Type 0 where
+pub record FindsSsdt (depth : ℕ) (dsdt ssdt : List ℕ) (d : Definers) (number : ℕ)
+    (old new : Findings) : Type 0 where
   pub first : Listing
   pub t : Listing
   pub listings : AreSingleListings depth dsdt ssdt first t
   pub clash : Offers old.clash new.clash (IsUnmetBy depth d.first number first t)
-  pub satisfied : PutsSatisfied old.satisfied.items new.satisfied.items (IsSatisfiedFor number (IsAwaitedInTable depth (objects_of_both first t) t) (IsNoted d))
+  pub satisfied : PutsSatisfied old.satisfied.items new.satisfied.items
+      (IsSatisfiedFor number (IsAwaitedInTable depth (objects_of_both first t) t) (IsNoted d))
 
 -- ---- all of them
 
 -- what is found of the SSDTs up to that number
-pub record AreFoundTo (depth : ℕ) (dsdt : List ℕ) (ssdts : List (List ℕ)) (d : Definers) (n : ℕ) (f : Findings) : Type 0 where
+pub record AreFoundTo (depth : ℕ) (dsdt : List ℕ) (ssdts : List (List ℕ)) (d : Definers) (n : ℕ)
+    (f : Findings) : Type 0 where
   pub clash : IsLeastOf (λ i j p. IsUnmetAt depth dsdt ssdts d.first i j p × (i ≤ n)) f.clash
   pub ascend : IsStrictlySortedBy satisfied_cmp f.satisfied.items
-  pub satisfied : (s : Satisfied) → Among f.satisfied.items s ↔ (IsSatisfied depth dsdt ssdts s.user s.definer s.path × (s.user ≤ n))
+  pub satisfied : (s : Satisfied)
+      → Among f.satisfied.items s
+      ↔ (IsSatisfied depth dsdt ssdts s.user s.definer s.path × (s.user ≤ n))
 
-pub record AreFound (depth : ℕ) (dsdt : List ℕ) (ssdts : List (List ℕ)) (d : Definers) (f : Findings) : Type 0 where
+pub record AreFound (depth : ℕ) (dsdt : List ℕ) (ssdts : List (List ℕ)) (d : Definers)
+    (f : Findings) : Type 0 where
   pub clash : IsLeastOf (IsUnmetAt depth dsdt ssdts d.first) f.clash
   pub satisfied : AreSatisfied depth dsdt ssdts f.satisfied.items

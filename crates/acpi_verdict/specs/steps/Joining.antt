@@ -29,5 +29,8 @@ JoinsPart old new part false = Clash old part
 
 -- the same of machines
 abbrev pub JoinsMachine : Machine → Machine → Machine → Bool → Type 0
-JoinsMachine old new part true = JoinsPart old.objects new.objects part.objects true × JoinsPart old.links new.links part.links true × JoinsPart old.bodies new.bodies part.bodies true
-JoinsMachine old new part false = Clash old.objects part.objects ⊎ Clash old.links part.links ⊎ Clash old.bodies part.bodies
+JoinsMachine old new part true = JoinsPart old.objects new.objects part.objects true
+    × JoinsPart old.links new.links part.links true
+    × JoinsPart old.bodies new.bodies part.bodies true
+JoinsMachine old new part false =
+    Clash old.objects part.objects ⊎ Clash old.links part.links ⊎ Clash old.bodies part.bodies

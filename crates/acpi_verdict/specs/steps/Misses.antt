@@ -31,7 +31,8 @@ IsAwaitedByAny depth objects ms p n = (m : Method) × Among ms m × IsAwaiting d
 
 -- a link or a body of the table misses the path
 abbrev pub IsTableMiss : ℕ → Namespace → Listing → List Segment → Type 0
-IsTableMiss depth objects t p = IsMissedLink objects (pending_links t) p ⊎ IsMissedByAny depth objects (methods_of t) p
+IsTableMiss depth objects t p =
+    IsMissedLink objects (pending_links t) p ⊎ IsMissedByAny depth objects (methods_of t) p
 
 -- a Scope term of one of the tables missed the path
 abbrev pub IsMissedScope : List Notes → List Segment → Type 0
@@ -53,19 +54,26 @@ pub record AddsBody (body : BodyMisses) (before now : Misses) : Type 0 where
   pub awaited_are : now.awaited ≡ with_opens before.awaited (map open_pair body.open.items)
 
 -- .. the body of the method
-pub record AddsMethod (wanted : Wants) (depth : ℕ) (objects : Namespace) (m : Method) (before now : Misses) : Type 0 where
-  pub missed_are : Grows before.missed now.missed (λ p. IsBodyMiss depth objects m p × IsTrue (wanted p))
+pub record AddsMethod (wanted : Wants) (depth : ℕ) (objects : Namespace) (m : Method)
+    (before now : Misses) : Type 0 where
+  pub missed_are : Grows before.missed now.missed
+      (λ p. IsBodyMiss depth objects m p × IsTrue (wanted p))
   pub opens : List OpenMiss
-  pub opens_are : (p : List Segment) (n : ℕ) → Among opens (record { path = p; count = n }) ↔ (IsAwaiting depth objects m p n × IsTrue (wanted p))
+  pub opens_are : (p : List Segment) (n : ℕ)
+      → Among opens (record { path = p; count = n })
+      ↔ (IsAwaiting depth objects m p n × IsTrue (wanted p))
   pub awaited_are : now.awaited ≡ with_opens before.awaited (map open_pair opens)
 
 -- .. of each of the methods, in turn
 abbrev pub AddsMethods : Wants → ℕ → Namespace → List Method → Misses → Misses → Type 0
 AddsMethods wanted depth objects [] before now = now ≡ before
-AddsMethods wanted depth objects (m ∷ ms) before now = (mid : Misses) × AddsMethod wanted depth objects m before mid × AddsMethods wanted depth objects ms mid now
+AddsMethods wanted depth objects (m ∷ ms) before now = (mid : Misses)
+    × AddsMethod wanted depth objects m before mid × AddsMethods wanted depth objects ms mid now
 
 -- what the links and bodies of tables miss and await over the objects, behind what was missed before
-pub record AreMisses (wanted : Wants) (depth : ℕ) (objects : Namespace) (tables : State) (before : Paths) (now : Misses) : Type 0 where
+pub record AreMisses (wanted : Wants) (depth : ℕ) (objects : Namespace) (tables : State)
+    (before : Paths) (now : Misses) : Type 0 where
   pub linked : Paths
   pub links_are : Grows before linked (λ p. IsMissedLink objects tables.links p × IsTrue (wanted p))
-  pub bodies : AddsMethods wanted depth objects (all_noted tables.notes) (record { missed = linked; awaited = empty }) now
+  pub bodies : AddsMethods wanted depth objects (all_noted tables.notes)
+      (record { missed = linked; awaited = empty }) now

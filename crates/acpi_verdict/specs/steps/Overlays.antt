@@ -39,4 +39,5 @@ pub record IsOver (depth : ℕ) (dsdt ssdt : List ℕ) (s : State) : Type 0 wher
 
 pub record IsOverlay (depth : ℕ) (dsdt ssdt : List ℕ) (l : OverlayTree) : Type 0 where
   pub over : IsOver depth dsdt ssdt l.state
-  pub defined_are : (p : List Segment) → Among l.defined p ↔ ((o : ObjectTree) × (objects_of over.t p ≡ Some o))
+  pub defined_are : (p : List Segment)
+      → Among l.defined p ↔ ((o : ObjectTree) × (objects_of over.t p ≡ Some o))

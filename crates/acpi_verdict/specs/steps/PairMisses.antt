@@ -33,7 +33,8 @@ abbrev pub IsDsdtPart : Wants → ℕ → State → Misses → Bool → State �
 IsDsdtPart wanted depth dsdt alone affected s now =
     ((affected ≡ false) × (now ≡ alone)) ⊎ AreMisses wanted depth s.objects dsdt empty now
 
-pub record ArePairMisses (wanted : Wants) (depth : ℕ) (dsdt : State) (alone : Misses) (affected : Bool) (l : State) (s : PairTree) : Type 0 where
+pub record ArePairMisses (wanted : Wants) (depth : ℕ) (dsdt : State) (alone : Misses)
+    (affected : Bool) (l : State) (s : PairTree) : Type 0 where
   pub scopes : Paths
   pub scopes_are : Grows empty scopes (λ p. IsMissedScope l.notes p × IsTrue (wanted p))
   pub own : AreMisses wanted depth l.objects l scopes s.own
@@ -48,16 +49,24 @@ abbrev pub IsAwaitedIn : PairTree → List Segment → ℕ → Type 0
 IsAwaitedIn s p args = (get s.own.awaited p ≡ Some args) ⊎ (get s.under.awaited p ≡ Some args)
 
 -- what the single load of the SSDT missed and awaits, of the wanted paths
-pub record AreLoadMisses (wanted : Wants) (depth : ℕ) (dsdt ssdt : List ℕ) (s : PairTree) : Type 0 where
+pub record AreLoadMisses (wanted : Wants) (depth : ℕ) (dsdt ssdt : List ℕ)
+    (s : PairTree) : Type 0 where
   pub first : Listing
   pub t : Listing
   pub listings : AreSingleListings depth dsdt ssdt first t
-  pub missed_are : (p : List Segment) → IsMissedIn s p ↔ (IsMiss depth first t p × IsTrue (wanted p))
-  pub awaited_are : (p : List Segment) (args : ℕ) → IsAwaitedIn s p args ↔ (IsAwaited depth first t p args × IsTrue (wanted p))
-  pub own_awaited : (p : List Segment) (args : ℕ) → (get s.own.awaited p ≡ Some args) ↔ (IsAwaitedInTable depth (objects_of_both first t) t p args × IsTrue (wanted p))
+  pub missed_are : (p : List Segment)
+      → IsMissedIn s p ↔ (IsMiss depth first t p × IsTrue (wanted p))
+  pub awaited_are : (p : List Segment) (args : ℕ)
+      → IsAwaitedIn s p args ↔ (IsAwaited depth first t p args × IsTrue (wanted p))
+  pub own_awaited : (p : List Segment) (args : ℕ)
+      → (get s.own.awaited p ≡ Some args)
+      ↔ (IsAwaitedInTable depth (objects_of_both first t) t p args × IsTrue (wanted p))
 
 -- what bodies of the DSDT await alone, of the wanted paths
-pub record AreAwaitsAlone (wanted : Wants) (depth : ℕ) (dsdt : List ℕ) (ws : PathMap ℕ) : Type 0 where
+pub record AreAwaitsAlone (wanted : Wants) (depth : ℕ) (dsdt : List ℕ)
+    (ws : PathMap ℕ) : Type 0 where
   pub first : Listing
   pub listings : AreListings depth 0 predefined (dsdt ∷ []) (first ∷ [])
-  pub awaits_are : (p : List Segment) (args : ℕ) → (get ws p ≡ Some args) ↔ (IsAwaitedInTable depth (objects_of_first first) first p args × IsTrue (wanted p))
+  pub awaits_are : (p : List Segment) (args : ℕ)
+      → (get ws p ≡ Some args)
+      ↔ (IsAwaitedInTable depth (objects_of_first first) first p args × IsTrue (wanted p))

@@ -18,8 +18,10 @@ use Rattle.acpi_verdict.specs.steps.Misses.{all_paths, AddsMethods}
 abbrev pub tagged : ℕ → List (List Segment × ℕ) → List (ℕ × List Segment × ℕ)
 tagged table es = map (λ e. (table, e.0, e.1)) es
 
--- the bodies of two tables, and what they and the Scope terms of the second miss and await, behind what was missed before
-pub record AreSingleMisses (depth : ℕ) (objects : Namespace) (notes : List Notes) (missed : Paths) (s : SingleMisses) : Type 0 where
+-- the bodies of two tables, and what they and the Scope terms of the second miss and await, behind what was missed
+-- before
+pub record AreSingleMisses (depth : ℕ) (objects : Namespace) (notes : List Notes) (missed : Paths)
+    (s : SingleMisses) : Type 0 where
   pub first : Notes
   pub second : Notes
   pub both : notes ≡ first ∷ second ∷ []
@@ -27,8 +29,11 @@ pub record AreSingleMisses (depth : ℕ) (objects : Namespace) (notes : List Not
   pub scopes_are : Grows missed scopes (Among second.missed)
   pub of_first : Misses
   pub of_second : Misses
-  pub first_are : AddsMethods all_paths depth objects (noted first) (record { missed = scopes; awaited = empty }) of_first
-  pub second_are : AddsMethods all_paths depth objects (noted second) (record { missed = of_first.missed; awaited = empty }) of_second
+  pub first_are : AddsMethods all_paths depth objects (noted first)
+      (record { missed = scopes; awaited = empty }) of_first
+  pub second_are : AddsMethods all_paths depth objects (noted second)
+      (record { missed = of_first.missed; awaited = empty }) of_second
   pub bodies_are : AddsBodies depth objects (all_noted notes) nothing (bodies_of s.bodies)
   pub missed_are : s.missed ≡ of_second.missed
-  pub awaited_are : map awaited_view s.awaited.items ≡ tagged 0 (entries of_first.awaited) ++ tagged 1 (entries of_second.awaited)
+  pub awaited_are : map awaited_view s.awaited.items
+      ≡ tagged 0 (entries of_first.awaited) ++ tagged 1 (entries of_second.awaited)

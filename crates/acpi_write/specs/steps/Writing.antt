@@ -38,7 +38,8 @@ AreArgumentsTyped xs = AllByRecursion IsArgumentTyped xs
 
 -- the package length of so many bytes behind it
 abbrev pub length_bytes : ℕ → Option (List ℕ)
-length_bytes payload = if nat_le payload 268435451 then Some (shortest_pkg_length (package_number payload)) else None
+length_bytes payload =
+    if nat_le payload 268435451 then Some (shortest_pkg_length (package_number payload)) else None
 
 -- what a call that puts some bytes in front of the old ones makes of them
 abbrev pub Puts : {A : Type 0} → Result A WriteFault → Option (List ℕ) → List ℕ → List ℕ → Type 0
@@ -48,12 +49,18 @@ Puts (Err Memory) bytes old new = Unit {0}
 
 -- a list of which all from the i-th element on is written
 abbrev pub Ahead : {A : Type 0} → (A → Option (List ℕ)) → List A → ℕ → List ℕ → List ℕ → Type 0
-Ahead f xs i old new = option_append (each_bytes f (take i xs)) (Some new) ≡ option_append (each_bytes f xs) (Some old)
+Ahead f xs i old new =
+    option_append (each_bytes f (take i xs)) (Some new) ≡ option_append (each_bytes f xs) (Some old)
 
 -- a header with this length and checksum
 abbrev pub header_bytes : Header → ℕ → ℕ → List ℕ
 header_bytes h len checksum =
-    h.signature ++ (little_bytes 4 len ++ (h.revision ∷ checksum ∷ (h.oem_id ++ (h.oem_table_id ++ (little_bytes 4 h.oem_revision ++ (h.creator_id ++ little_bytes 4 h.creator_revision))))))
+    h.signature
+    ++ (little_bytes 4 len
+    ++ (h.revision ∷ checksum
+    ∷ (h.oem_id
+    ++ (h.oem_table_id
+    ++ (little_bytes 4 h.oem_revision ++ (h.creator_id ++ little_bytes 4 h.creator_revision))))))
 
 -- what the types of a header's fields say
 pub record HasWidths (h : Header) : Type 0 where

@@ -7,7 +7,8 @@ use Rattle.acpins_io.specs.declared.hexadecimal.HexDecoder.{HexDecoder}
 -- the digits whose second one is to come: none, or one of that value
 abbrev pub IsPending : Option ℕ → List ℕ → Type 0
 IsPending None digits = digits ≡ []
-IsPending (Some value) digits = (digit : ℕ) × (digits ≡ digit ∷ []) × (hex_digit_value digit ≡ Some value)
+IsPending (Some value) digits =
+    (digit : ℕ) × (digits ≡ digit ∷ []) × (hex_digit_value digit ≡ Some value)
 
 -- the decoder has the bytes of the text's digits, and one digit more where their number is odd
 pub record IsDecoded (text : List ℕ) (decoder : HexDecoder) : Type 0 where

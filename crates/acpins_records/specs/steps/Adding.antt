@@ -17,28 +17,34 @@ use Rattle.acpins_records.specs.Contents.{Contents, all_links, all_data, paths_i
 use Rattle.acpins_records.specs.Tree.{IsPlaceOf, IsParent, EndsBelow}
 
 -- the places of these answers stand behind the old ones
-pub record AddsTargets (paths : List (List Segment)) (answers : Links) (old new : List ℕ) : Type 0 where
+pub record AddsTargets (paths : List (List Segment)) (answers : Links)
+    (old new : List ℕ) : Type 0 where
   pub more : List ℕ
   pub behind : new ≡ old ++ more
   pub are : AllZip (IsPlaceOf paths) answers more
 
 -- a line stands behind the text, and begins with so many bytes of the path
-pub record PutsLine (path : List Segment) (object : ObjectTree) (own : Links) (old new : List ℕ) (n : ℕ) : Type 0 where
+pub record PutsLine (path : List Segment) (object : ObjectTree) (own : Links) (old new : List ℕ)
+    (n : ℕ) : Type 0 where
   pub text_is : new ≡ old ++ line_text path object own
   pub count_is : n ≡ length (path_text path)
 
 -- the data of an object stands behind that of others
 pub record PutsData (object : ObjectTree) (old new : Parts) : Type 0 where
-  pub parts_are : new.parts.items ≡ old.parts.items ++ parts_from (length old.parts.items) (length old.bytes.items) (data_of object)
+  pub parts_are : new.parts.items
+      ≡ old.parts.items
+      ++ parts_from (length old.parts.items) (length old.bytes.items) (data_of object)
   pub bytes_are : new.bytes.items ≡ old.bytes.items ++ bytes_of_data (data_of object)
 
 -- An object's record, line and data stand behind the others. The record has no places among the objects yet.
 pub record AddsEntry (e : Entry) (old new : Records) : Type 0 where
   pub objects_are : new.objects.items
       ≡ old.objects.items
-      ++ record_of (length old.text.items) e.target (length old.«data».parts.items) 0 0 e.path.now (object_view e.object.now) e.links.now e.code ∷ []
+      ++ record_of (length old.text.items) e.target (length old.«data».parts.items) 0 0 e.path.now
+      (object_view e.object.now) e.links.now e.code ∷ []
   pub targets_stay : new.targets.items ≡ old.targets.items
-  pub text_is : new.text.items ≡ old.text.items ++ line_text e.path.now (object_view e.object.now) e.links.now
+  pub text_is : new.text.items
+      ≡ old.text.items ++ line_text e.path.now (object_view e.object.now) e.links.now
   pub data_is : PutsData (object_view e.object.now) old.«data» new.«data»
 
 -- a record with its places among the objects
@@ -62,10 +68,12 @@ placed parent below r = record {
 -- .. those of all objects, the first of which has place k
 abbrev pub placed_from : ℕ → (parents belows : ℕ → ℕ) → List ObjectRecord → List ObjectRecord
 placed_from k parents belows [] = []
-placed_from k parents belows (r ∷ rs) = placed (parents k) (belows k) r ∷ placed_from (suc k) parents belows rs
+placed_from k parents belows (r ∷ rs) =
+    placed (parents k) (belows k) r ∷ placed_from (suc k) parents belows rs
 
 -- the records of all objects, with the places of their parents and of what is below them
-pub record AreRecords (es : List (List Segment × ObjectTree)) (links : Lookup Links) (codes : Lookup CodePlace) (r : Records) : Type 0 where
+pub record AreRecords (es : List (List Segment × ObjectTree)) (links : Lookup Links)
+    (codes : Lookup CodePlace) (r : Records) : Type 0 where
   pub parents : ℕ → ℕ
   pub belows : ℕ → ℕ
   pub are_parents : (k : ℕ) → k < length es → IsParent (paths_in es) k (parents k)
@@ -77,4 +85,11 @@ pub record AreRecords (es : List (List Segment × ObjectTree)) (links : Lookup L
   pub bytes_are : r.«data».bytes.items ≡ bytes_of_data (all_data es)
 
 abbrev pub contents_in : Records → Contents
-contents_in r = record { objects = r.objects.items; targets = r.targets.items; text = r.text.items; parts = r.«data».parts.items; bytes = r.«data».bytes.items }
+contents_in r =
+    record {
+      objects = r.objects.items;
+      targets = r.targets.items;
+      text = r.text.items;
+      parts = r.«data».parts.items;
+      bytes = r.«data».bytes.items;
+    }

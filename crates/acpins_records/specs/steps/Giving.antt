@@ -7,4 +7,5 @@ use Rattle.acpins_records.specs.Bodies.{IsBodyAt}
 
 abbrev pub BodyOrNone : ℕ → List (List ℕ) → List Segment → Option Given → Type 0
 BodyOrNone depth tables path (Some g) = IsBodyAt depth tables path g.record g.text.items
-BodyOrNone depth tables path None = (machine : Machine) × IsMachine depth tables machine × (machine.bodies path ≡ None)
+BodyOrNone depth tables path None =
+    (machine : Machine) × IsMachine depth tables machine × (machine.bodies path ≡ None)

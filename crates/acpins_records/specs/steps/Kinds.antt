@@ -21,9 +21,11 @@ code_by (method_object flags) code = code
 code_by _ code = None
 
 -- no other object has links or code
-pub record Suits (links : Lookup Links) (codes : Lookup CodePlace) (path : List Segment) (object : ObjectTree) : Type 0 where
+pub record Suits (links : Lookup Links) (codes : Lookup CodePlace) (path : List Segment)
+    (object : ObjectTree) : Type 0 where
   pub links_are : own_links links path ≡ links_by object (own_links links path)
   pub code_is : codes path ≡ code_by object (codes path)
 
 abbrev pub AllSuit : Lookup Links → Lookup CodePlace → List (List Segment × ObjectTree) → Type 0
-AllSuit links codes es = AllByRecursion (λ (e : List Segment × ObjectTree). Suits links codes e.0 e.1) es
+AllSuit links codes es =
+    AllByRecursion (λ (e : List Segment × ObjectTree). Suits links codes e.0 e.1) es

@@ -21,8 +21,10 @@ abbrev pub no_places : ℕ → ℕ
 no_places k = 0
 
 -- the records of the first objects, without their places, and what their links find
-pub record AreFirst (es : List (List Segment × ObjectTree)) (links : Lookup Links) (codes : Lookup CodePlace) (s : Seen) : Type 0 where
-  pub objects_are : s.records.objects.items ≡ records_from 0 0 0 0 no_places no_places es links codes
+pub record AreFirst (es : List (List Segment × ObjectTree)) (links : Lookup Links)
+    (codes : Lookup CodePlace) (s : Seen) : Type 0 where
+  pub objects_are : s.records.objects.items
+      ≡ records_from 0 0 0 0 no_places no_places es links codes
   pub no_targets : s.records.targets.items ≡ []
   pub wanted_are : map (λ a. a.now) s.wanted.items ≡ all_links es links
   pub text_is : s.records.text.items ≡ listing_text es links
@@ -36,4 +38,5 @@ pub record AreSeen (first : Seen) (pairs : List (List Segment × Object)) (now :
   pub codes_stay : now.codes ≡ first.codes
   pub paths_are : now.paths ≡ map (λ e. e.0) pairs
   pub count_is : length now.records.objects.items ≡ length pairs
-  pub are : AllSuit (links_at first.links.now) (get first.codes) (lines_of pairs) → AreFirst (lines_of pairs) (links_at first.links.now) (get first.codes) now
+  pub are : AllSuit (links_at first.links.now) (get first.codes) (lines_of pairs)
+      → AreFirst (lines_of pairs) (links_at first.links.now) (get first.codes) now

@@ -3,7 +3,7 @@ use Rattle.std.proofs.lemmas.List.{take_all, take_more}
 use Rattle.std.specs.Prelude.{IsTrue}
 use Rattle.acpi_name.specs.Names.{Segment}
 use Rattle.acpi_space.specs.Laws.{Among}
-use Rattle.acpi_declare.specs.declared.pass.PendingLinks.{PendingLinks}
+use Rattle.acpi_declare.specs.declared.pending.PendingLinks.{PendingLinks}
 use Rattle.acpi_declare.specs.Declaring.{IsMissedLink, all_pending_of, linked_paths}
 use Rattle.acpi_declare.specs.Namespace.{namespace_of}
 use Rattle.acpi_declare.specs.steps.Missing.{misses_from}

@@ -27,7 +27,7 @@ returns-in-Err-Refused-clause-err g c =
     let told : pass_items t c.root.result is ≡ Err (c.in-Err-Refused.refusal, c.in-Err-Refused.path) =
     subst (λ f. IsStopOf f (pass_items t c.root.result is)) c.in-Err-Refused.field-0-is c.in-Err-Refused.ensures.steps in
     let stopped : pass_items t [] is ≡ Err (c.in-Err-Refused.refusal, c.in-Err-Refused.path) = ap (λ (s : List Segment). pass_items t s is) (sym c.root.ensures) ∙ told in
-    subst (IsTableFault c.args.depth c.args.number objects c.args.bytes.now) (sym c.refused.ensures)
+    subst (IsTableFault c.args.depth c.args.number objects c.args.bytes.now) (sym c.table_fault.ensures)
     (refl, (is, c.in_ok-items.ensures.ok, pass_refused t is (c.in-Err-Refused.refusal, c.in-Err-Refused.path) stopped))
 
 pub returns-clause-ok : goal.returns-clause-ok

@@ -14,5 +14,5 @@ returns-in-Err-At-clause-err c = λ objects.
     let f = c.in-Err-At in
     let of = c.in_ok-code.ensures.ok in
     let fault = code_fault (λ is v. items_tree v.items ≡ is) c.args.depth c.in_ok-code.code f.reason f.place f.field-0 f.field-0-is f.ensures.only f.ensures.faults f.ensures.next in
-    subst (IsTableFault c.args.depth c.args.number objects c.args.bytes.now) (sym c.refused.ensures)
+    subst (IsTableFault c.args.depth c.args.number objects c.args.bytes.now) (sym c.table_fault.ensures)
     (refl, (of.numbered, subst (λ code. IsCodeFault c.args.depth code f.reason f.place) of.code_is fault))

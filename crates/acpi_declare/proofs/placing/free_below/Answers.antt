@@ -3,11 +3,8 @@ use Rattle.std.proofs.Common.{rules}
 use Rattle.acpi_declare.proofs.Searches.{rejoined_parts}
 use Rattle.acpi_declare.proofs.placing.free_below.Goals as goal
 
-pub returns-then-is_some-clause-ok : goal.returns-then-is_some-clause-ok
-returns-then-is_some-clause-ok g c = search rules
+pub returns-then-is_some : goal.returns-then-is_some
+returns-then-is_some g c = search (rules, rejoined_parts)
 
-pub returns-then-is_some-clause-refused : goal.returns-then-is_some-clause-refused
-returns-then-is_some-clause-refused g c = search (rules, rejoined_parts)
-
-pub returns-else-is_some-clause-ok : goal.returns-else-is_some-clause-ok
-returns-else-is_some-clause-ok g c = search (rules, rejoined_parts)
+pub returns-else-is_some : goal.returns-else-is_some
+returns-else-is_some g c = search (rules, rejoined_parts)

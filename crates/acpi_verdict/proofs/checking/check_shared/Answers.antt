@@ -1,31 +1,32 @@
 use Rattle.std.proofs.Common.{[], ◌∷◌}
 use Rattle.std.proofs.lemmas.Result.{err_from_is_err_and}
 use Rattle.acpi_declare.proofs.Refusals.{refused_has_no_load}
-use Rattle.acpi_verdict.proofs.CheckedTables.{ok_so, memory_so, told_commute_so, told_orders_so, told_no_load}
+use Rattle.acpi_machine.proofs.Explained.{ok_by}
+use Rattle.acpi_verdict.proofs.CheckedTables.{memory_so, told_commute_so, told_orders_so, told_no_load}
 use Rattle.acpi_verdict.proofs.checking.check_shared.Goals as goal
 
 pub returns-clause-ok : goal.returns-clause-ok
-returns-clause-ok g c = ok_so c.checked_over.result _ _ (λ x h. h.verdict) (c.checked_over.ensures.ok c.args.dsdt.now c.in_ok-declared.ensures.ok)
+returns-clause-ok g c = ok_by c.checked_over.result _ _ (λ x h. h.verdict) (c.checked_over.ensures.ok c.args.dsdt.now c.in_ok-declared.ensures.ok)
 
 pub returns-clause-fault : goal.returns-clause-fault
-returns-clause-fault g c = ok_so c.checked_over.result _ _ (λ x h. h.fault) (c.checked_over.ensures.ok c.args.dsdt.now c.in_ok-declared.ensures.ok)
+returns-clause-fault g c = ok_by c.checked_over.result _ _ (λ x h. h.fault) (c.checked_over.ensures.ok c.args.dsdt.now c.in_ok-declared.ensures.ok)
 
 pub returns-clause-commute : goal.returns-clause-commute
 returns-clause-commute g c =
     told_commute_so c.args.depth c.args.dsdt.now c.args.ssdts.now c.checked_over.result c.one_verdict.ensures.one c.one_verdict.ensures.commute
-    (ok_so c.checked_over.result _ _ (λ x h. h.verdict) (c.checked_over.ensures.ok c.args.dsdt.now c.in_ok-declared.ensures.ok))
+    (ok_by c.checked_over.result _ _ (λ x h. h.verdict) (c.checked_over.ensures.ok c.args.dsdt.now c.in_ok-declared.ensures.ok))
 
 pub returns-clause-orders : goal.returns-clause-orders
 returns-clause-orders g c =
     told_orders_so c.args.depth c.args.dsdt.now c.args.ssdts.now c.checked_over.result (λ x. x.verdict)
     (told_commute_so c.args.depth c.args.dsdt.now c.args.ssdts.now c.checked_over.result c.one_verdict.ensures.one c.one_verdict.ensures.commute
-    (ok_so c.checked_over.result _ _ (λ x h. h.verdict) (c.checked_over.ensures.ok c.args.dsdt.now c.in_ok-declared.ensures.ok)))
+    (ok_by c.checked_over.result _ _ (λ x h. h.verdict) (c.checked_over.ensures.ok c.args.dsdt.now c.in_ok-declared.ensures.ok)))
 
 pub returns-clause-satisfied : goal.returns-clause-satisfied
-returns-clause-satisfied g c = ok_so c.checked_over.result _ _ (λ x h. h.satisfied) (c.checked_over.ensures.ok c.args.dsdt.now c.in_ok-declared.ensures.ok)
+returns-clause-satisfied g c = ok_by c.checked_over.result _ _ (λ x h. h.satisfied) (c.checked_over.ensures.ok c.args.dsdt.now c.in_ok-declared.ensures.ok)
 
 pub returns-clause-refused : goal.returns-clause-refused
-returns-clause-refused g c = ok_so c.checked_over.result _ _ (λ x h. h.refused) (c.checked_over.ensures.ok c.args.dsdt.now c.in_ok-declared.ensures.ok)
+returns-clause-refused g c = ok_by c.checked_over.result _ _ (λ x h. h.refused) (c.checked_over.ensures.ok c.args.dsdt.now c.in_ok-declared.ensures.ok)
 
 pub returns-clause-err : goal.returns-clause-err
 returns-clause-err g c = memory_so c.checked_over.result c.args.depth (c.args.dsdt.now ∷ []) (c.checked_over.ensures.memory c.args.dsdt.now c.in_ok-declared.ensures.ok)

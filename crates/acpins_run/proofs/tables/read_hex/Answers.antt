@@ -1,6 +1,6 @@
 use Rattle.std.proofs.Common.{◌≡◌, ◌<◌, ◌++◌, [], ℕ, List, length, take, ap, arith, refl, Err}
+use Rattle.std.proofs.KnownBytes.{Consumes-trans}
 use Rattle.acpins_io.specs.Hexadecimal.{SpellsInHex}
-use Rattle.acpins_run.proofs.Cutting.{Consumes-both}
 use Rattle.acpins_run.proofs.HexFiles.{of_whole, at_end, none_spelled}
 use Rattle.acpins_run.proofs.tables.read_hex.Goals as goal
 
@@ -29,7 +29,7 @@ returns-in-Err-BadHex-clause-err g c =
 pub loop-preserved : goal.loop-preserved
 loop-preserved g c = record {
   text = c.loop.invariant.text ++ take c.in-Ok.n c.read.new.buf;
-  taken = Consumes-both _ _ _ c.loop.invariant.text _ c.loop.invariant.taken c.in-Ok.ensures.bytes.0;
+  taken = Consumes-trans _ _ _ c.loop.invariant.text _ c.loop.invariant.taken c.in-Ok.ensures.bytes.0;
   decoded = c.in-Ok-take_part.ensures.ok c.loop.invariant.text c.loop.invariant.decoded;
   room = omega arith;
 }

@@ -2,10 +2,10 @@ use Rattle.std.proofs.Common.{◌∙◌, ◌<◌, ℕ, Option, ap, arith, length
 use Rattle.std.proofs.lemmas.List.{get_or-map}
 use Rattle.acpi_conditions.specs.Entries.{Path}
 use Rattle.acpi_survey.specs.declared.body.MethodBody.{MethodBody}
+use Rattle.acpi_survey.proofs.PlacedLists.{length_mapped}
 use Rattle.acpins_survey_output.specs.JsonBodies.{body_values}
 use Rattle.acpi_conditions.specs.ByPath.{lent_pair}
 use Rattle.acpins_survey_output.specs.Shown.{IsBodyAt}
-use Rattle.acpins_survey_output.proofs.Ordering.{length_mapped}
 use Rattle.acpins_survey_output.proofs.Zipping.{lines_all_put, lines_more, no_lines}
 use Rattle.acpins_survey_output.proofs.json_bodies.put_bodies.Goals as goal
 

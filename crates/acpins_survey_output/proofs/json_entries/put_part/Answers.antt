@@ -16,7 +16,7 @@ returns c = λ found is.
     let part = c.args.part.now in
     let length = end_of found - byte_at place in
     let m1 = member (codes "length") (number_value length) no_members in
-    let said = subst (λ (s : Site). PutsMembers (site_members s) c.args.text.now.items c.put_site.new.text.items) c.site_of_place.ensures c.in_ok-put_site.ensures in
+    let said = subst (λ (s : Site). PutsMembers (site_members s) c.args.text.now.items c.put_site.new.text.items) c.site_of.ensures c.in_ok-put_site.ensures in
     closed_put c.put.result c.args.text.now.items _ _ (codes "}") _
     (number_said (codes ",") (codes "length") _ length _ _ (c.saturating_sub-length.ensures ∙ ap (λ k. k - byte_at place) (end_known part.to part.what found is))
     c.in_ok-put_number_member.ensures no_members ∙ said m1) c.put.ensures

@@ -28,7 +28,7 @@ returns g c =
     let name = c.as_str-in-Err.result.now in
     record {
       ok = tt;
-      err = some_file bytes_of c.args.hex name _ (c.unread_by.ensures c.args.hex (bytes_of name));
+      err = some_file bytes_of c.args.hex name _ (c.read_failure_by.ensures c.args.hex (bytes_of name));
       stays = refl;
       others = refl;
       folders = c.names.ensures.stays;

@@ -7,7 +7,7 @@ use Rattle.acpins_survey_run.proofs.tables.add_folder.Goals as goal
 pub returns-then-not-has_dsdt-clause-err : goal.returns-then-not-has_dsdt-clause-err
 returns-then-not-has_dsdt-clause-err g c =
     let bytes_of = g.F.Files.bytes_of c.args.files.now in
-    some_file bytes_of c.args.hex c.args.folder.now _ (c.unread.ensures c.args.hex (bytes_of c.args.folder.now))
+    some_file bytes_of c.args.hex c.args.folder.now _ (c.read_failure.ensures c.args.hex (bytes_of c.args.folder.now))
 
 pub returns-clause-ok : goal.returns-clause-ok
 returns-clause-ok g c =

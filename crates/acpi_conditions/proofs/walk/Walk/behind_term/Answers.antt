@@ -19,12 +19,12 @@ returns-in-Some-get c =
     let top = last_is c.self.inside.packages.items c.in-Some.inner.now there in
     let at : slice_get c.self.inside.paths.entries c.in-Some.inner.now.mark.entries ≡ Some c.in-Some-get.entry.now =
     sym (got_at c.entries.result.now c.self.inside.paths.entries c.in-Some.inner.now.mark.entries c.get.result c.get.ensures.lookup c.entries.ensures) ∙ ap option_copied c.in-Some-get.is in
-    let r = c.certain_behind.result in
-    let is = ap (λ (n : ℕ). certain_there r.settled (option_map (λ e. e.path) (slice_get (walk_of c.self.inside).entries n))) c.certain_behind.ensures.number
+    let r = c.certain_after.result in
+    let is = ap (λ (n : ℕ). certain_there r.settled (option_map (λ e. e.path) (slice_get (walk_of c.self.inside).entries n))) c.certain_after.ensures.number
     ∙ ap (λ (o : Option Entry). certain_there r.settled (option_map (λ e. e.path) o)) (viewed_there c.self.inside (walk_of c.self.inside) c.in-Some.inner.now.mark.entries c.in-Some-get.entry.now refl at)
-    ∙ c.certain_behind.ensures.settled c.self.inside.ways in
+    ∙ c.certain_after.ensures.settled c.self.inside.ways in
     subst (λ (w : Walk). IsBehindTerm w.packages w r.keeps (certain_there r.settled (option_map (λ e. e.path) (slice_get w.entries r.number)))) c.self.view_is
-    (entry_behind c.self.inside c.in-Some.inner.now top.0 top.1 c.in-Some-get.entry.now r.keeps (certain_there r.settled (option_map (λ e. e.path) (slice_get (walk_of c.self.inside).entries r.number))) at c.certain_behind.ensures.keeps is)
+    (entry_behind c.self.inside c.in-Some.inner.now top.0 top.1 c.in-Some-get.entry.now r.keeps (certain_there r.settled (option_map (λ e. e.path) (slice_get (walk_of c.self.inside).entries r.number))) at c.certain_after.ensures.keeps is)
 
 pub returns-in-None-get : goal.returns-in-None-get
 returns-in-None-get c =

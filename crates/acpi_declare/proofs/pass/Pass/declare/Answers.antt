@@ -8,5 +8,5 @@ use Rattle.acpi_declare.proofs.pass.Pass.declare.Goals as goal
 pub returns-clause-steps : goal.returns-clause-steps
 returns-clause-steps g c =
     let before = pass_of c.args.self.now in
-    declared_plainly before _ _ _ c.args.scope.now _ c.args.name.now (object_view c.args.object) c.in_ok-path.ensures.ok c.in_ok-put.ensures.objects
+    declared_plainly before _ _ _ c.args.scope.now _ c.args.name.now (object_view c.args.object) c.in_ok-path.ensures c.in_ok-put.ensures.objects
     c.in_ok-put.ensures.links (ap notes_of c.in_ok-put.ensures.notes)

@@ -6,5 +6,5 @@ use Rattle.acpi_declare.proofs.pass.Pass.declare_method.Goals as goal
 pub returns-clause-steps : goal.returns-clause-steps
 returns-clause-steps g c =
     let before = pass_of c.args.self.now in
-    declared_method before _ _ _ c.args.scope.now _ c.args.name.now (method_object c.args.flags) c.args.code c.in_ok-path.ensures.ok c.in_ok-put_method.ensures.objects
+    declared_method before _ _ _ c.args.scope.now _ c.args.name.now (method_object c.args.flags) c.args.code c.in_ok-path.ensures c.in_ok-put_method.ensures.objects
     c.in_ok-put_method.ensures.links c.in_ok-put_method.ensures.notes

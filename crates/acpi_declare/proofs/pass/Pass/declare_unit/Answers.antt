@@ -18,6 +18,6 @@ returns-clause-steps g c =
     let paths = unit_paths s c.args.segs.now.items in
     let before = pass_with_units c.args.self.now names s c.args.segs.now.items in
     let more : unit_paths s c.push.new.self.items ≡ paths ++ (s ++ c.args.seg ∷ []) ∷ [] = ap (unit_paths s) c.in_ok-push.ensures.items ∙ map-append (λ g. s ++ g ∷ []) c.args.segs.now.items (c.args.seg ∷ []) in
-    declared_linked before _ _ _ s _ (unit_name c.args.seg) (field_object c.args.fields.now.form c.args.fields.now.flags c.args.offset c.args.bits) names c.requires c.in_ok-path.ensures.ok c.in_ok-put.ensures.objects
-    (unit_links c.args.self.now.links _ s names paths _ _ _ c.in_ok-put.ensures.links more (unit_is (namespace_of c.args.self.now.objects) s c.args.seg _ c.in_ok-path.ensures.ok))
+    declared_linked before _ _ _ s _ (unit_name c.args.seg) (field_object c.args.fields.now.form c.args.fields.now.flags c.args.offset c.args.bits) names c.requires c.in_ok-path.ensures c.in_ok-put.ensures.objects
+    (unit_links c.args.self.now.links _ s names paths _ _ _ c.in_ok-put.ensures.links more (unit_is (namespace_of c.args.self.now.objects) s c.args.seg _ c.in_ok-path.ensures))
     (ap notes_of c.in_ok-put.ensures.notes)

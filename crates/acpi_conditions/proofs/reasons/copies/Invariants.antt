@@ -1,5 +1,0 @@
-use Rattle.std.proofs.Common.{◌≡◌, ◌++◌, drop}
-use Rattle.acpi_conditions.proofs.reasons.copies.Given as goal
-
-abbrev pub invariant-each : goal.invariant-each
-invariant-each l = l.copies.items ++ drop l.path-index l.paths ≡ l.paths

@@ -1,1 +1,0 @@
-//! Runs over files in memory.
