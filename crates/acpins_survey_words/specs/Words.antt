@@ -1,12 +1,12 @@
 -- The words that follow the program's name, and what they ask for.
-use Rattle.std.specs.Prelude.{◌≡◌, ℕ, Bool, List, [], ◌∷◌, ◌++◌, Option, Some, None, codes, if◌then◌else◌, option_and_then, option_map}
+use Rattle.std.specs.Prelude.{Bool, List, [], ◌∷◌, ◌++◌, Option, Some, None, codes, if◌then◌else◌, option_map}
 use Rattle.std.specs.Str.{bytes_eq}
-use Rattle.clap.specs.Faults.{fault_of}
-use Rattle.clap.specs.Simple.{App, Shape, new_rule, subcommand_of, with_subcommand}
+use Rattle.clap.specs.Simple.{App, Shape, new_rule, with_subcommand}
 use Rattle.clap.specs.Takes.{is_given}
-use Rattle.clap.specs.Walk.{Row, Rule, all_of, first_of, is_empty}
+use Rattle.clap.specs.Walk.{Row, Rule, Text, first_of, texts}
 use Rattle.clap.specs.declared.builder.ArgAction.TheVariants.{SetTrue}
-use Rattle.acpins_words.specs.Words.{Text, texts, alone, depth_or_usual, files_shape, out_shape, path_shape, program_shape}
+use Rattle.acpins_words.specs.Arguments as arguments
+use Rattle.acpins_words.specs.Arguments.{alone, files_shape, out_shape, path_shape, program_shape}
 use Rattle.acpins_survey_words.specs.declared.words.Command.{Command as CommandWords}
 use Rattle.acpins_survey_words.specs.declared.words.Command.TheVariants as read
 use Rattle.acpins_survey_words.specs.declared.words.Request.{Request}
@@ -48,13 +48,8 @@ pub data Command : Type 0 where
   json : Command
   paging : Text → Command
 
--- a command over a list of tables: whether their files are hexadecimal text, how many levels terms may have, and the
--- files
-pub record Asked : Type 0 where
-  pub command : Command
-  pub hex : Bool
-  pub depth : ℕ
-  pub files : List Text
+abbrev pub Asked : Type 0
+Asked = arguments.Asked Command
 
 -- how the program is called, which one it is, or a survey
 pub data Invocation : Type 0 where
@@ -102,24 +97,9 @@ command_by name rows =
     else (if bytes_eq name (codes "html") then option_map paging (first_of (codes "out") rows)
     else None))))))
 
--- what clap found: the command, `--hex`, the value of `--depth`, and the files
-abbrev pub asked_by : Text → List Row → Option Asked
-asked_by name rows =
-    option_and_then (λ command. option_and_then (λ depth. option_map (λ files. record {
-      command = command;
-      hex = is_given (codes "hex") rows;
-      depth = depth;
-      files = files;
-    }) (all_of (codes "file") rows))
-    (depth_or_usual (first_of (codes "depth") rows)))
-    (command_by name rows)
-
 -- nothing, where clap finds a fault in the words
 unfoldable pub asked_of : List Text → Option Asked
-asked_of words =
-    if is_empty (fault_of survey_app words)
-    then option_and_then (λ found. asked_by found.0 found.1) (subcommand_of survey_app words)
-    else None
+asked_of = arguments.asked_of survey_app command_by
 
 -- ---- what words ask for
 

@@ -3,20 +3,19 @@
 ghost use Rattle.std.specs.Prelude.{◌≡◌, ◌∷◌, [], false, IfOk, None, codes, option_map};
 ghost use Rattle.clap.specs.Matches.{found_of};
 ghost use Rattle.clap.specs.Simple.{app_of};
-ghost use Rattle.clap.specs.Takes.{is_given};
 ghost use Rattle.clap.specs.Walk.{rows_of, rule_of, texts};
 ghost use Rattle.clap.specs.declared.builder.command.Command.TheViews.{out-Command as fields_of};
-ghost use Rattle.acpins_words.specs.Words.{alone};
-ghost use Rattle.acpins_survey_words.specs.Words.{asked_by, asked_in, asked_of, command_by};
+ghost use Rattle.acpins_words.specs.Arguments.{alone};
+ghost use Rattle.acpins_survey_words.specs.Words.{asked_in, asked_of, command_by};
 ghost use Rattle.acpins_survey_words.specs.Words.{command_in, help_in, lone_invocation, report_shape};
 ghost use Rattle.acpins_survey_words.specs.Words.{survey_app, topic_of, verbose_rule, invocation_in, invocation_of};
 
 use acpi_code::Depth;
 use acpins_words::WordsFault;
 use acpins_words::arguments::{
-    depth_in, fault_of, has_hex, over_files, over_out, over_path, program, with,
+    TableArguments, find_subcommand, has_flag, over_files, over_out, over_path, program,
+    read_arguments, with,
 };
-use clap::parser::ValueSource;
 use clap::{Arg, ArgAction, ArgMatches};
 use std::alloc::{AllocError, Global};
 
@@ -164,17 +163,6 @@ fn forms<'a>(alloc: Global) -> Result<clap::Command<'a>, AllocError>
     with(command, over_out(alloc, "html"))
 }
 
-// Whether `-v` is one of a command's words. The flag has a value even where it isn't.
-fn has_verbose(found: &ArgMatches<'_>) -> bool
-    ensures { result ≡ is_given (codes "verbose") (rows_of (found_of found.now)) }
-{
-    match found.value_source("verbose") {
-        Some(ValueSource::CommandLine) => true,
-        Some(ValueSource::DefaultValue) => false,
-        None => found.contains_id("verbose"),
-    }
-}
-
 // The command of this name, with what was found for it.
 fn command_in<'a>(name: &str, found: &ArgMatches<'a>) -> Option<Command<'a>>
     ensures { option_map command_in result ≡ command_by name.now (rows_of (found_of found.now)) }
@@ -185,7 +173,7 @@ fn command_in<'a>(name: &str, found: &ArgMatches<'a>) -> Option<Command<'a>>
         "map" => Some(Command::Map),
         "bodies" => Some(Command::Bodies),
         "report" => Some(Command::Report {
-            is_verbose: has_verbose(found),
+            is_verbose: has_flag(found, "verbose"),
         }),
         "json" => Some(Command::Json),
         "html" => Some(Command::Html(found.get_str("out")?)),
@@ -193,49 +181,22 @@ fn command_in<'a>(name: &str, found: &ArgMatches<'a>) -> Option<Command<'a>>
     }
 }
 
-// What the command of this name was found to ask for.
-fn request_of<'a>(
-    alloc: Global,
-    name: &str,
-    found: &ArgMatches<'a>,
-) -> Result<Request<'a>, WordsFault>
-    ensures found { IfOk result (λ request.
-        asked_by name.now (rows_of (found_of found.now)) ≡ Some (asked_in request)) }
-    ensures wrong { result ≡ Err WordsFault.Wrong
-        → asked_by name.now (rows_of (found_of found.now)) ≡ None }
-{
-    let Some(command) = command_in(name, found) else {
-        return Err(WordsFault::Wrong);
-    };
-    let Some(depth) = depth_in(found) else {
-        return Err(WordsFault::Wrong);
-    };
-    let Some(files) = found.get_strs("file") else {
-        return Err(WordsFault::Wrong);
-    };
-    let files = Vec::from_slice(alloc, files)?;
-    Ok(Request {
-        command,
-        hex: has_hex(found),
-        depth,
-        files,
-    })
-}
-
 // The survey that the words ask for.
 fn read_request<'a>(alloc: Global, words: &'a [&'a str]) -> Result<Request<'a>, WordsFault>
     ensures found { IfOk result (λ request. asked_of (texts words.now) ≡ Some (asked_in request)) }
     ensures wrong { result ≡ Err WordsFault.Wrong → asked_of (texts words.now) ≡ None }
 {
-    let command = forms(alloc)?;
-    let matches = match command.try_get_matches_from(words) {
-        Ok(matches) => matches,
-        Err(error) => return Err(fault_of(&error)),
-    };
-    let Some((name, found)) = matches.subcommand() else {
+    let (name, found) = find_subcommand(forms(alloc)?, words)?;
+    let Some(command) = command_in(name, &found) else {
         return Err(WordsFault::Wrong);
     };
-    request_of(alloc, name, found)
+    let TableArguments { hex, depth, files } = read_arguments(alloc, &found)?;
+    Ok(Request {
+        command,
+        hex,
+        depth,
+        files,
+    })
 }
 
 /// Reads the words that follow the program's name. `WordsFault::Wrong` where they ask for nothing.

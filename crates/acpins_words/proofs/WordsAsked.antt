@@ -1,87 +1,55 @@
--- What words ask for, by what clap makes of them.
-use Rattle.std.proofs.Common.{◌≡◌, ◌∙◌, ◌∷◌, [], ℕ, Bool, true, false, List, Option, Some, None, ap, refl, sym, codes, arith}
-use Rattle.std.proofs.lemmas.Bool.Decides.{nat_tests}
-use Rattle.std.specs.Prelude.{Box, option_and_then, option_map, if◌then◌else◌, unwrap_or}
-use Rattle.std.specs.Box.{box_value}
-use Rattle.clap.specs.Faults.{fault_of, is_simple_and_free}
-use Rattle.clap.specs.Kinds.{IsAmong, Kinds}
-use Rattle.clap.specs.Simple.{is_simple, subcommand_of, subcommand_rows}
+-- What words ask for, by what clap makes of them: of any command over tables.
+use Rattle.std.proofs.Common.{◌≡◌, ◌∙◌, ◌⊎◌, inl, inr, ℕ, Bool, List, Option, Some, None, ap, refl, sym, codes}
+use Rattle.std.specs.Prelude.{option_and_then, option_map}
+use Rattle.clap.specs.Simple.{App}
 use Rattle.clap.specs.Takes.{is_given}
-use Rattle.clap.specs.Walk.{Row, Text, all_of, first_of, is_empty}
-use Rattle.clap.specs.declared.error.kind.ErrorKind.{ErrorKind}
-use Rattle.clap.specs.declared.parser.matches.ArgMatches.TheViews.{out-SubCommand}
-use Rattle.clap.specs.declared.parser.matches.SubCommand.{SubCommand}
-use Rattle.clap.proofs.OnLiterals.{clap_on_literals}
-use Rattle.acpins_words.specs.Words.{Asked, Command, acpins_app, asked_by, asked_of, command_by, depth_or_usual, showing, rewriting}
+use Rattle.clap.specs.Walk.{Row, Text, all_of, first_of, rows_of}
+use Rattle.clap.specs.Matches.{first_value}
+use Rattle.clap.specs.declared.parser.matches.Found.{Found}
+use Rattle.clap.proofs.WalkLemmas.{first_value-rows}
+use Rattle.acpins_words.specs.Arguments.{Asked, asked_by, asked_of, depth_or_usual, found_in}
 
-pub app_is_simple : is_simple acpins_app ≡ true
-unfolding clap_on_literals
-app_is_simple = refl
+-- a command that has the text which stands as `id`
+pub has_text : {C : Type 0} (command_by : Text → List Row → Option C) (command : Text → C) (word id name : Text) (found : Found) (text : Option Text)
+    → option_map command (first_of id (rows_of found)) ≡ command_by word (rows_of found) → name ≡ word → text ≡ first_value found id
+    → option_map command text ≡ command_by name (rows_of found)
+has_text command_by command word id name found text by is at =
+    ap (option_map command) (at ∙ first_value-rows found id) ∙ by ∙ ap (λ n. command_by n (rows_of found)) (sym is)
 
-pub app_is_free : is_simple_and_free acpins_app ≡ true
-unfolding clap_on_literals
-app_is_free = refl
+-- forms that were made are the program's
+module _ {C : Type 0} (app : App) (command_by : Text → List Row → Option C) {made : App} (is : made ≡ app) (words : List Text) where
+  found_again : (found : Option (Text × List Row)) → found_in made words ≡ found → asked_of app command_by words ≡ option_and_then (λ f. asked_by command_by f.0 f.1) found
+  found_again found e = ap (option_and_then (λ f. asked_by command_by f.0 f.1)) (ap (λ (a : App). found_in a words) (sym is) ∙ e)
 
--- `show` has its PATH
-pub show_is : (name : Text) (rows : List Row) (path : Option Text) → name ≡ codes "show" → path ≡ first_of (codes "path") rows → option_map showing path ≡ command_by name rows
-show_is name rows path is at = ap (option_map showing) at ∙ ap (λ n. command_by n rows) (sym is)
+  -- words with a fault ask for nothing
+  pub faulty_words : found_in made words ≡ None → asked_of app command_by words ≡ None
+  faulty_words none = found_again None none
 
--- .. and `rewrite` its OUT
-pub rewrite_is : (name : Text) (rows : List Row) (out : Option Text) → name ≡ codes "rewrite" → out ≡ first_of (codes "out") rows → option_map rewriting out ≡ command_by name rows
-rewrite_is name rows out is at = ap (option_map rewriting) at ∙ ap (λ n. command_by n rows) (sym is)
+  -- the others ask for what the rows of the subcommand say
+  module _ {name : Text} {rows : List Row} (found : found_in made words ≡ Some (name, rows)) where
+    asked_parts : (command : Option C) (hex : Bool) (depth : Option ℕ) (files : Option (List Text))
+        → command ≡ command_by name rows → hex ≡ is_given (codes "hex") rows → depth ≡ depth_or_usual (first_of (codes "depth") rows) → files ≡ all_of (codes "file") rows
+        → asked_of app command_by words ≡ option_and_then (λ c. option_and_then (λ d. option_map (λ fs. record { command = c; hex = hex; depth = d; files = fs }) files) depth) command
+    asked_parts command hex depth files c h d f =
+        found_again (Some (name, rows)) found
+        ∙ sym (λ i. option_and_then (λ k. option_and_then (λ n. option_map (λ fs. record { command = k; hex = h i; depth = n; files = fs }) (f i)) (d i)) (c i))
 
-pub asked_by_parts : (name : Text) (rows : List Row) (command : Option Command) (hex : Bool) (depth : Option ℕ) (files : Option (List Text))
-    → command ≡ command_by name rows → hex ≡ is_given (codes "hex") rows → depth ≡ depth_or_usual (first_of (codes "depth") rows) → files ≡ all_of (codes "file") rows
-    → asked_by name rows ≡ option_and_then (λ c. option_and_then (λ d. option_map (λ fs. record { command = c; hex = hex; depth = d; files = fs }) files) depth) command
-asked_by_parts name rows command hex depth files c h d f =
-    sym (λ i. option_and_then (λ k. option_and_then (λ n. option_map (λ fs. record { command = k; hex = h i; depth = n; files = fs }) (f i)) (d i)) (c i))
+    pub asked_is : (command : C) (hex : Bool) (depth : ℕ) (files : List Text)
+        → Some command ≡ command_by name rows → hex ≡ is_given (codes "hex") rows → depth_or_usual (first_of (codes "depth") rows) ≡ Some depth → all_of (codes "file") rows ≡ Some files
+        → asked_of app command_by words ≡ Some (record { command = command; hex = hex; depth = depth; files = files })
+    asked_is command hex depth files c h d f = asked_parts (Some command) hex (Some depth) (Some files) c h (sym d) (sym f)
 
-abbrev nothing : Option Asked
-nothing = None
+    pub no_command : None ≡ command_by name rows → asked_of app command_by words ≡ None
+    no_command none = asked_parts None _ _ _ none refl refl refl
 
-pub no_command : (name : Text) (rows : List Row) → None ≡ command_by name rows → asked_by name rows ≡ None
-no_command name rows none = asked_by_parts name rows None _ _ _ none refl refl refl
+    pub no_arguments : (command : C) → Some command ≡ command_by name rows → (depth_or_usual (first_of (codes "depth") rows) ≡ None) ⊎ (all_of (codes "file") rows ≡ None)
+        → asked_of app command_by words ≡ None
+    no_arguments command c (inl none) = asked_parts (Some command) _ None _ c refl (sym none) refl
+    no_arguments command c (inr none) = asked_parts (Some command) _ _ None c refl refl (sym none) ∙ go (depth_or_usual (first_of (codes "depth") rows))
+      where
+        nothing : Option (Asked C)
+        nothing = None
 
-pub no_depth : (name : Text) (rows : List Row) (command : Option Command) → command ≡ command_by name rows → None ≡ depth_or_usual (first_of (codes "depth") rows)
-    → asked_by name rows ≡ None
-no_depth name rows command is none = asked_by_parts name rows command _ None _ is refl none refl ∙ go command
-  where
-    go : (o : Option Command) → option_and_then (λ c. nothing) o ≡ None
-    go None = refl
-    go (Some c) = refl
-
-not_empty : {X : Type 0} (x : X) (xs : List X) → is_empty (x ∷ xs) ≡ false
-not_empty x xs = grind (arith, nat_tests)
-
-abbrev asked_unless : Kinds → List Text → Option Asked
-asked_unless [] words = option_and_then (λ found. asked_by found.0 found.1) (subcommand_of acpins_app words)
-asked_unless (k ∷ ks) words = None
-
-asked_is : (words : List Text) → asked_of words ≡ asked_unless (fault_of acpins_app words) words
-unfolding asked_of
-asked_is words = go (fault_of acpins_app words)
-  where
-    go : (ks : Kinds) → (if is_empty ks then option_and_then (λ found. asked_by found.0 found.1) (subcommand_of acpins_app words) else None) ≡ asked_unless ks words
-    go [] = refl
-    go (k ∷ ks) = rw (not_empty k ks) refl
-
--- words with a fault ask for nothing
-pub faulty_words : (words : List Text) (k : ErrorKind) → IsAmong k (fault_of acpins_app words) → asked_of words ≡ None
-faulty_words words k among = asked_is words ∙ go (fault_of acpins_app words) among
-  where
-    go : (ks : Kinds) → IsAmong k ks → asked_unless ks words ≡ None
-    go [] h = absurd h
-    go (x ∷ xs) h = refl
-
--- words with none ask for what the rows of the command say
-pub sound_words : (words : List Text) (name : Text) (rows : List Row) → fault_of acpins_app words ≡ [] → Some (name, rows) ≡ subcommand_of acpins_app words
-    → asked_of words ≡ asked_by name rows
-sound_words words name rows none is =
-    asked_is words ∙ ap (λ ks. asked_unless ks words) none ∙ ap (option_and_then (λ found. asked_by found.0 found.1)) (sym is)
-
--- the name and the rows of a subcommand are of one
-module _ {Z : Type 0} where
-  pub found_whole : (o : Option (Box SubCommand Z)) (name : Text) (rows : List Row) → Some name ≡ option_map (λ b. (out-SubCommand (box_value b)).name.now) o
-      → Some rows ≡ option_map (λ p. p.1) (subcommand_rows o) → Some (name, rows) ≡ subcommand_rows o
-  found_whole None name rows n r = absurd (cc)
-  found_whole (Some b) name rows n r = λ i. Some (unwrap_or (n i) name, unwrap_or (r i) rows)
+        go : (o : Option ℕ) → option_and_then (λ d. nothing) o ≡ None
+        go None = refl
+        go (Some d) = refl

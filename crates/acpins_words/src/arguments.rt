@@ -1,15 +1,16 @@
 //! The words that commands over tables share, as clap's forms.
 
-ghost use Rattle.std.specs.Prelude.{◌≡◌, false, IfOk, IsOkAnd, codes};
+ghost use Rattle.std.specs.Prelude.{◌≡◌, ◌⊎◌, true, false, IfOk, IsOkAnd, None, Some, codes};
 ghost use Rattle.clap.specs.Built.{AddsSubcommand};
+ghost use Rattle.clap.specs.Faults.{is_simple_and_free};
 ghost use Rattle.clap.specs.Matches.{found_of};
 ghost use Rattle.clap.specs.Simple.{app_of, new_app, with_rule};
 ghost use Rattle.clap.specs.Takes.{is_given};
 ghost use Rattle.clap.specs.Values.{kind_of};
-ghost use Rattle.clap.specs.Walk.{first_of, rows_of, rule_of};
+ghost use Rattle.clap.specs.Walk.{all_of, first_of, rows_of, rule_of, texts};
 ghost use Rattle.clap.specs.declared.builder.command.Command.TheViews.{out-Command as fields_of};
-ghost use Rattle.acpins_words.specs.Words.{alone, depth_or_usual, depth_rule, depth_said, file_rule, files_shape};
-ghost use Rattle.acpins_words.specs.Words.{hex_rule, out_rule, out_shape, path_rule, path_shape, program_shape};
+ghost use Rattle.acpins_words.specs.Arguments.{alone, depth_or_usual, depth_rule, depth_said, file_rule, files_shape, found_in};
+ghost use Rattle.acpins_words.specs.Arguments.{hex_rule, out_rule, out_shape, path_rule, path_shape, program_shape};
 
 use crate::fault::WordsFault;
 use acpi_code::Depth;
@@ -135,9 +136,9 @@ fn depth_of(text: &str) -> Option<Depth>
     Depth::new(depth)
 }
 
-/// The greatest level that a term may have, where a command was found with these words: 1,024 where none says it. None
-/// where what says it is no number from 1 to 4,096.
-pub fn depth_in(found: &ArgMatches<'_>) -> Option<Depth>
+// The greatest level that a term may have, where a command was found with these words: 1,024 where none says it. None
+// where what says it is no number from 1 to 4,096.
+fn depth_in(found: &ArgMatches<'_>) -> Option<Depth>
     ensures { result ≡ depth_or_usual (first_of (codes "depth") (rows_of (found_of found.now))) }
 {
     match found.get_str("depth") {
@@ -146,24 +147,88 @@ pub fn depth_in(found: &ArgMatches<'_>) -> Option<Depth>
     }
 }
 
-/// Whether `--hex` is one of a command's words. The flag has a value even where it isn't.
-pub fn has_hex(found: &ArgMatches<'_>) -> bool
-    ensures { result ≡ is_given (codes "hex") (rows_of (found_of found.now)) }
+/// Whether the flag of that id is one of a command's words. A flag has a value even where it isn't.
+pub fn has_flag(found: &ArgMatches<'_>, id: &str) -> bool
+    ensures { result ≡ is_given id.now (rows_of (found_of found.now)) }
 {
-    match found.value_source("hex") {
+    match found.value_source(id) {
         Some(ValueSource::CommandLine) => true,
         Some(ValueSource::DefaultValue) => false,
-        None => found.contains_id("hex"),
+        None => found.contains_id(id),
     }
 }
 
-/// Why clap finds no command in words.
-pub fn fault_of(error: &Error) -> WordsFault
+/// What each command over tables is given.
+#[derive(Debug, Drop)]
+pub struct TableArguments<'a> {
+    /// Whether the files are hexadecimal text.
+    pub hex: bool,
+    /// The greatest level that a term may have.
+    pub depth: Depth,
+    /// The files, in order.
+    pub files: Vec<&'a str>,
+}
+
+/// What a command over tables is given by the words that were found for it. `WordsFault::Wrong` where the depth is no
+/// number from 1 to 4,096, or where there are no files.
+pub fn read_arguments<'a>(
+    alloc: Global,
+    found: &ArgMatches<'a>,
+) -> Result<TableArguments<'a>, WordsFault>
+    ensures hex { IfOk result (λ read.
+        read.hex ≡ is_given (codes "hex") (rows_of (found_of found.now))) }
+    ensures depth { IfOk result (λ read.
+        depth_or_usual (first_of (codes "depth") (rows_of (found_of found.now)))
+        ≡ Some read.depth) }
+    ensures files { IfOk result (λ read.
+        all_of (codes "file") (rows_of (found_of found.now)) ≡ Some (texts read.files.items)) }
+    ensures wrong { result ≡ Err WordsFault.Wrong
+        → (depth_or_usual (first_of (codes "depth") (rows_of (found_of found.now))) ≡ None)
+        ⊎ (all_of (codes "file") (rows_of (found_of found.now)) ≡ None) }
+{
+    let Some(depth) = depth_in(found) else {
+        return Err(WordsFault::Wrong);
+    };
+    let Some(files) = found.get_strs("file") else {
+        return Err(WordsFault::Wrong);
+    };
+    let files = Vec::from_slice(alloc, files)?;
+    Ok(TableArguments {
+        hex: has_flag(found, "hex"),
+        depth,
+        files,
+    })
+}
+
+// Why clap finds no command in words.
+fn fault_of(error: &Error) -> WordsFault
     ensures memory { kind_of error.now ≡ ErrorKind.OutOfMemory → result ≡ WordsFault.Memory }
     ensures words { (kind_of error.now ≡ ErrorKind.OutOfMemory → ⊥) → result ≡ WordsFault.Wrong }
 {
     match error.kind() {
         ErrorKind::OutOfMemory => WordsFault::Memory,
         _ => WordsFault::Wrong,
+    }
+}
+
+/// The subcommand that words name, with what clap found for it. `WordsFault::Wrong` where they are none that the
+/// command knows.
+pub fn find_subcommand<'a>(
+    command: Command<'a>,
+    words: &'a [&'a str],
+) -> Result<(&'a str, ArgMatches<'a>), WordsFault>
+    requires { is_simple_and_free (app_of command) ≡ true }
+    ensures found { IfOk result (λ found. found_in (app_of command.entry) (texts words.now)
+        ≡ Some (found.0.now, rows_of (found_of found.1))) }
+    ensures wrong { result ≡ Err WordsFault.Wrong
+        → found_in (app_of command.entry) (texts words.now) ≡ None }
+{
+    let mut matches = match command.try_get_matches_from(words) {
+        Ok(matches) => matches,
+        Err(error) => return Err(fault_of(&error)),
+    };
+    match matches.remove_subcommand() {
+        Some((name, found)) => Ok((name, found)),
+        None => Err(WordsFault::Wrong),
     }
 }

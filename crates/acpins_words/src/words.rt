@@ -4,10 +4,10 @@ ghost use Rattle.std.specs.Prelude.{◌≡◌, IfOk, option_map};
 ghost use Rattle.clap.specs.Matches.{found_of};
 ghost use Rattle.clap.specs.Simple.{app_of};
 ghost use Rattle.clap.specs.Walk.{rows_of, texts};
-ghost use Rattle.acpins_words.specs.Words.{acpins_app, asked_by, asked_in, asked_of, command_by, command_in};
+ghost use Rattle.acpins_words.specs.Words.{acpins_app, asked_in, asked_of, command_by, command_in};
 
 use crate::arguments::{
-    depth_in, fault_of, has_hex, over_files, over_out, over_path, program, with,
+    TableArguments, find_subcommand, over_files, over_out, over_path, program, read_arguments, with,
 };
 use crate::fault::WordsFault;
 use acpi_code::Depth;
@@ -62,48 +62,21 @@ fn command_in<'a>(name: &str, found: &ArgMatches<'a>) -> Option<Command<'a>>
     }
 }
 
-// What the command of this name was found to ask for.
-fn request_of<'a>(
-    alloc: Global,
-    name: &str,
-    found: &ArgMatches<'a>,
-) -> Result<Request<'a>, WordsFault>
-    ensures found { IfOk result (λ request.
-        asked_by name.now (rows_of (found_of found.now)) ≡ Some (asked_in request)) }
-    ensures wrong { result ≡ Err WordsFault.Wrong
-        → asked_by name.now (rows_of (found_of found.now)) ≡ None }
-{
-    let Some(command) = command_in(name, found) else {
-        return Err(WordsFault::Wrong);
-    };
-    let Some(depth) = depth_in(found) else {
-        return Err(WordsFault::Wrong);
-    };
-    let Some(files) = found.get_strs("file") else {
-        return Err(WordsFault::Wrong);
-    };
-    let files = Vec::from_slice(alloc, files)?;
-    Ok(Request {
-        command,
-        hex: has_hex(found),
-        depth,
-        files,
-    })
-}
-
 /// Reads the words that follow the program's name. `WordsFault::Wrong` where they ask for nothing.
 pub fn read_words<'a>(alloc: Global, words: &'a [&'a str]) -> Result<Request<'a>, WordsFault>
     ensures found { IfOk result (λ request.
         asked_of (texts words.now) ≡ Some (asked_in request)) }
     ensures wrong { result ≡ Err WordsFault.Wrong → asked_of (texts words.now) ≡ None }
 {
-    let command = forms(alloc)?;
-    let matches = match command.try_get_matches_from(words) {
-        Ok(matches) => matches,
-        Err(error) => return Err(fault_of(&error)),
-    };
-    let Some((name, found)) = matches.subcommand() else {
+    let (name, found) = find_subcommand(forms(alloc)?, words)?;
+    let Some(command) = command_in(name, &found) else {
         return Err(WordsFault::Wrong);
     };
-    request_of(alloc, name, found)
+    let TableArguments { hex, depth, files } = read_arguments(alloc, &found)?;
+    Ok(Request {
+        command,
+        hex,
+        depth,
+        files,
+    })
 }

@@ -1,7 +1,7 @@
 use Rattle.std.proofs.Common.{codes}
 use Rattle.std.proofs.lemmas.Result.{IfOk-weaker}
 use Rattle.clap.specs.Simple.{with_subcommand}
-use Rattle.acpins_words.specs.Words.{alone, files_shape, out_shape, path_shape, program_shape}
+use Rattle.acpins_words.specs.Arguments.{alone, files_shape, out_shape, path_shape, program_shape}
 use Rattle.acpins_words.proofs.Adding.{subcommand_added}
 use Rattle.acpins_survey_words.specs.Words.{report_shape}
 use Rattle.acpins_survey_words.proofs.words.forms.Goals as goal

@@ -1,6 +1,6 @@
 use Rattle.std.proofs.Common.{codes}
 use Rattle.std.proofs.lemmas.Result.{IfOk-weaker}
-use Rattle.acpins_words.specs.Words.{alone, files_shape}
+use Rattle.acpins_words.specs.Arguments.{alone, files_shape}
 use Rattle.acpins_words.proofs.Adding.{rule_added, still_local}
 use Rattle.acpins_survey_words.specs.Words.{verbose_rule}
 use Rattle.acpins_survey_words.proofs.words.report_form.Goals as goal

@@ -1,7 +1,7 @@
 use Rattle.std.proofs.Common.{◌∙◌, ap, codes}
 use Rattle.clap.proofs.WalkLemmas.{first_value-rows}
 use Rattle.clap.specs.Matches.{found_of}
-use Rattle.acpins_words.specs.Words.{depth_or_usual}
+use Rattle.acpins_words.specs.Arguments.{depth_or_usual}
 use Rattle.acpins_words.proofs.arguments.depth_in.Goals as goal
 
 pub returns-in-Some : goal.returns-in-Some

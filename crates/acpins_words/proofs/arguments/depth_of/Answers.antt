@@ -1,5 +1,5 @@
 use Rattle.std.proofs.Common.{◌≡◌, ◌∙◌, ap, sym, arith, inl, inr, drop, drop-cons, length, get_or, suc, ◌≤◌, drop_of_length-le, ◌+◌, ◌∷◌, None}
-use Rattle.acpins_words.specs.Words.{depth_said}
+use Rattle.acpins_words.specs.Arguments.{depth_said}
 use Rattle.acpins_words.proofs.DepthText.{depth_after, digit_read, not_digit, too_large}
 use Rattle.acpins_words.proofs.arguments.depth_of.Goals as goal
 

@@ -1,5 +1,5 @@
 use Rattle.std.proofs.Common.{◌≡◌, drop}
-use Rattle.acpins_words.specs.Words.{depth_said}
+use Rattle.acpins_words.specs.Arguments.{depth_said}
 use Rattle.acpins_words.proofs.DepthText.{depth_after}
 use Rattle.acpins_words.proofs.arguments.depth_of.Given as goal
 

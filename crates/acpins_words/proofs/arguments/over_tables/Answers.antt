@@ -1,6 +1,6 @@
 use Rattle.std.proofs.lemmas.Result.{IfOk-weaker}
 use Rattle.clap.specs.Simple.{new_app, with_rule}
-use Rattle.acpins_words.specs.Words.{hex_rule, depth_rule}
+use Rattle.acpins_words.specs.Arguments.{hex_rule, depth_rule}
 use Rattle.acpins_words.proofs.Adding.{rule_added, still_local}
 use Rattle.acpins_words.proofs.arguments.over_tables.Goals as goal
 

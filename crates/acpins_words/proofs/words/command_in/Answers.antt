@@ -1,29 +1,23 @@
-use Rattle.std.proofs.Common.{◌∙◌, ap, None, Some, codes, option_map}
-use Rattle.clap.proofs.WalkLemmas.{first_value-rows}
+use Rattle.std.proofs.Common.{◌∙◌, ap, refl, codes, option_map}
 use Rattle.clap.specs.Matches.{found_of}
-use Rattle.clap.specs.Walk.{rows_of}
-use Rattle.acpins_words.specs.Words.{command_in}
-use Rattle.acpins_words.proofs.WordsAsked.{show_is, rewrite_is}
+use Rattle.acpins_words.specs.Words.{command_by, command_in, showing, rewriting}
+use Rattle.acpins_words.proofs.WordsAsked.{has_text}
 use Rattle.acpins_words.proofs.words.command_in.Goals as goal
 
 pub returns-in_err-get_str-in-show : goal.returns-in_err-get_str-in-show
 returns-in_err-get_str-in-show c =
-    let found = found_of c.args.found.now in
     ap (option_map command_in) c.from_residual.ensures
-    ∙ show_is c.args.name.now (rows_of found) None c.in-show.is (c.in_err-get_str-in-show.ensures ∙ first_value-rows found (codes "path"))
+    ∙ has_text command_by showing (codes "show") (codes "path") _ (found_of c.args.found.now) _ refl c.in-show.is c.in_err-get_str-in-show.ensures
 
 pub returns-in_ok-get_str-in-show : goal.returns-in_ok-get_str-in-show
 returns-in_ok-get_str-in-show c =
-    let found = found_of c.args.found.now in
-    show_is c.args.name.now (rows_of found) (Some c.in_ok-get_str-in-show.field-0.now) c.in-show.is (c.in_ok-get_str-in-show.ensures ∙ first_value-rows found (codes "path"))
+    has_text command_by showing (codes "show") (codes "path") _ (found_of c.args.found.now) _ refl c.in-show.is c.in_ok-get_str-in-show.ensures
 
 pub returns-in_err-get_str-in-rewrite : goal.returns-in_err-get_str-in-rewrite
 returns-in_err-get_str-in-rewrite c =
-    let found = found_of c.args.found.now in
     ap (option_map command_in) c.from_residual-in_err-get_str-in-rewrite.ensures
-    ∙ rewrite_is c.args.name.now (rows_of found) None c.in-rewrite.is (c.in_err-get_str-in-rewrite.ensures ∙ first_value-rows found (codes "out"))
+    ∙ has_text command_by rewriting (codes "rewrite") (codes "out") _ (found_of c.args.found.now) _ refl c.in-rewrite.is c.in_err-get_str-in-rewrite.ensures
 
 pub returns-in_ok-get_str-in-rewrite : goal.returns-in_ok-get_str-in-rewrite
 returns-in_ok-get_str-in-rewrite c =
-    let found = found_of c.args.found.now in
-    rewrite_is c.args.name.now (rows_of found) (Some c.in_ok-get_str-in-rewrite.field-0.now) c.in-rewrite.is (c.in_ok-get_str-in-rewrite.ensures ∙ first_value-rows found (codes "out"))
+    has_text command_by rewriting (codes "rewrite") (codes "out") _ (found_of c.args.found.now) _ refl c.in-rewrite.is c.in_ok-get_str-in-rewrite.ensures

@@ -1,48 +1,37 @@
-use Rattle.std.proofs.Common.{◌≡◌, ◌∙◌, ap, sym, subst, inl, inr, Some}
-use Rattle.std.proofs.lemmas.Result.{IfOk-weaker}
-use Rattle.clap.specs.Faults.{fault_of, is_simple_and_free}
-use Rattle.clap.specs.Kinds.{IsAmong}
-use Rattle.clap.specs.Values.{kind_of}
-use Rattle.clap.specs.Matches.{found_of}
-use Rattle.clap.specs.Simple.{App, app_of, is_simple, subcommand_of}
-use Rattle.clap.specs.Walk.{rows_of, texts}
-use Rattle.clap.specs.declared.parser.matches.ArgMatches.TheViews.{out-ArgMatches}
-use Rattle.acpins_words.specs.Words.{acpins_app, asked_by, asked_of}
-use Rattle.acpins_words.specs.declared.fault.WordsFault.TheVariants.{Memory, Wrong}
-use Rattle.acpins_words.proofs.WordsAsked.{app_is_free, app_is_simple, faulty_words, found_whole, sound_words}
+use Rattle.std.proofs.Common.{◌≡◌, ◌∙◌, ap, refl, true}
+use Rattle.std.proofs.lemmas.Result.{err_from_is_err_and}
+use Rattle.clap.specs.Faults.{is_simple_and_free}
+use Rattle.clap.specs.Walk.{texts}
+use Rattle.clap.proofs.OnLiterals.{clap_on_literals}
+use Rattle.acpins_words.specs.Words.{acpins_app, asked_of, command_by}
+use Rattle.acpins_words.proofs.WordsAsked.{asked_is, faulty_words, no_arguments, no_command}
 use Rattle.acpins_words.proofs.words.read_words.Goals as goal
-use Rattle.acpins_words.proofs.words.read_words.Goals.{In-Some}
 
-pub returns-in-Err-clause-wrong : goal.returns-in-Err-clause-wrong
-returns-in-Err-clause-wrong c e =
-    let words = texts c.args.words.now in
-    let app_is : app_of c.in_ok-command.command ≡ acpins_app = c.in_ok-command.ensures in
-    let kinds = c.in-Err.ensures.kinds (ap is_simple_and_free app_is ∙ app_is_free) in
-    elim kinds [
-      | inl memory ↦ let is : c.fault_of.result ≡ Memory = c.fault_of.ensures.memory memory in
-          let other : c.fault_of.result ≡ Wrong = cc e in
-          absurd (cc)
-      | inr among ↦ faulty_words words _ (subst (λ (a : App). IsAmong (kind_of c.in-Err.error) (fault_of a words)) app_is among)
-    ]
+app_is_free : is_simple_and_free acpins_app ≡ true
+unfolding clap_on_literals
+app_is_free = refl
 
--- the command and its rows are those of clap's account
-found_are : (c : In-Some) → Some (c.in-Some.name.now, rows_of (found_of c.in-Some.found.now)) ≡ subcommand_of acpins_app (texts c.args.words.now)
-found_are c =
-    let app_is : app_of c.in_ok-command.command ≡ acpins_app = c.in_ok-command.ensures in
-    let met = c.in-Ok.ensures.matches (ap is_simple app_is ∙ app_is_simple) in
-    found_whole (out-ArgMatches c.in-Ok.matches).subcommand _ _ c.in-Some.ensures.name c.in-Some.ensures.rows
-    ∙ met.1 ∙ ap (λ (a : App). subcommand_of a (texts c.args.words.now)) app_is
+pub find_subcommand-requires : goal.find_subcommand-requires
+find_subcommand-requires c = ap is_simple_and_free c.in_ok-forms.ensures ∙ app_is_free
 
-asked_are : (c : In-Some) → asked_of (texts c.args.words.now) ≡ asked_by c.in-Some.name.now (rows_of (found_of c.in-Some.found.now))
-asked_are c =
-    let app_is : app_of c.in_ok-command.command ≡ acpins_app = c.in_ok-command.ensures in
-    let none = c.in-Ok.ensures.kinds (ap is_simple_and_free app_is ∙ app_is_free) in
-    sound_words (texts c.args.words.now) c.in-Some.name.now (rows_of (found_of c.in-Some.found.now))
-    (ap (λ (a : App). fault_of a (texts c.args.words.now)) (sym app_is) ∙ none) (found_are c)
+pub returns-in_err-name-clause-wrong : goal.returns-in_err-name-clause-wrong
+unfolding asked_of
+returns-in_err-name-clause-wrong c e =
+    let p = err_from_is_err_and c.from_residual-in_err-name.result c.from_residual-in_err-name.ensures.1 in
+    faulty_words acpins_app command_by c.in_ok-forms.ensures (texts c.args.words.now) (c.in_err-name.ensures.wrong (cc (e, p.1, p.2)))
+
+pub returns-in_default-clause-wrong : goal.returns-in_default-clause-wrong
+unfolding asked_of
+returns-in_default-clause-wrong c e = no_command acpins_app command_by c.in_ok-forms.ensures (texts c.args.words.now) c.in_ok-name.ensures.found c.in_default.ensures
+
+pub returns-in_err-hex-clause-wrong : goal.returns-in_err-hex-clause-wrong
+unfolding asked_of
+returns-in_err-hex-clause-wrong c e =
+    let p = err_from_is_err_and c.from_residual-in_err-hex.result c.from_residual-in_err-hex.ensures.1 in
+    no_arguments acpins_app command_by c.in_ok-forms.ensures (texts c.args.words.now) c.in_ok-name.ensures.found _ c.in-Some.ensures (c.in_err-hex.ensures.wrong (cc (e, p.1, p.2)))
 
 pub returns-clause-found : goal.returns-clause-found
+unfolding asked_of
 returns-clause-found c =
-    IfOk-weaker c.request_of.result _ _ (λ request h. asked_are (goal.at.returns-clause-found c).In-Some ∙ h) c.request_of.ensures.found
-
-pub returns-clause-wrong : goal.returns-clause-wrong
-returns-clause-wrong c e = asked_are (goal.at.returns-clause-wrong c).In-Some ∙ c.request_of.ensures.wrong e
+    let h = c.in_ok-hex.ensures in
+    asked_is acpins_app command_by c.in_ok-forms.ensures (texts c.args.words.now) c.in_ok-name.ensures.found _ _ _ _ c.in-Some.ensures h.hex h.depth h.files
