@@ -5,6 +5,7 @@ pub mod Statements
 pub mod Refusals
 pub mod Faults
 pub mod Reasons
+pub mod Texts
 pub mod Bodies
 pub mod BodyEqual
 pub mod Searches

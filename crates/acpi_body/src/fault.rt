@@ -3,6 +3,7 @@
 ghost use Rattle.std.specs.Prelude.{◌≡◌};
 ghost use Rattle.acpi_body.specs.declared.fault.Stop.TheVariants as stops;
 ghost use Rattle.acpi_body.specs.Faults.{reason_of, fault_of};
+ghost use Rattle.acpi_body.specs.Texts.{body_reason_text};
 ghost use Rattle.acpi_body.specs.steps.Reading.{fault_at};
 ghost use Rattle.acpi_body.specs.steps.Cursor.{field_fault_of};
 
@@ -58,6 +59,30 @@ pub enum BodyReason {
     /// It isn't sure how many values follow a name. Never of a body of the strict loader.
     #[error("S5 UnsureCount")]
     Unsure,
+}
+
+impl BodyReason {
+    /// The number and the name of the reason, as the programs print them.
+    pub fn text(self) -> &'static str
+        ensures { result.now ≡ body_reason_text self }
+    {
+        match self {
+            BodyReason::Cut => "B1 Cut",
+            BodyReason::BadOpcode => "B2 BadOpcode",
+            BodyReason::ReservedBits => "B3 ReservedBits",
+            BodyReason::BadName => "B4 BadName",
+            BodyReason::Overrun => "B5 Overrun",
+            BodyReason::NotStatement => "B6 NotStatement",
+            BodyReason::NotValue => "B7 NotValue",
+            BodyReason::NotTarget => "B8 NotTarget",
+            BodyReason::LeftOut => "B9 LeftOut",
+            BodyReason::BadString => "B10 BadString",
+            BodyReason::TooDeep => "B11 TooDeep",
+            BodyReason::NotData => "B12 NotData",
+            BodyReason::BadPlace => "B13 BadPlace",
+            BodyReason::Unsure => "S5 UnsureCount",
+        }
+    }
 }
 
 /// Why a method body can't be read.

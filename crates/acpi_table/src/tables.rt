@@ -4,6 +4,7 @@ ghost use Rattle.std.specs.Prelude.{◌≡◌, ℕ, ◌+◌, ◌≤◌, ◌↔�
 ghost use Rattle.byteorder.specs.Endian.{little_number};
 ghost use Rattle.acpi_table.specs.Tables.{IsTable, IsRefusedAs, table_at, header_of, length_field};
 ghost use Rattle.acpi_table.specs.Gives.{Gives};
+ghost use Rattle.acpi_table.specs.Texts.{table_fault_text};
 
 use crate::sums::byte_sum;
 use byteorder::{ByteOrder, LittleEndian};
@@ -34,6 +35,21 @@ pub enum TableFault {
     /// The table's bytes don't sum to 0 modulo 256.
     #[error("T5 BadSum")]
     BadSum,
+}
+
+impl TableFault {
+    /// The number and the name of the fault, as the programs print them.
+    pub fn text(self) -> &'static str
+        ensures { result.now ≡ table_fault_text self }
+    {
+        match self {
+            TableFault::Short => "T1 Short",
+            TableFault::BadLength => "T2 BadLength",
+            TableFault::TooLong => "T3 TooLong",
+            TableFault::Cut => "T4 Cut",
+            TableFault::BadSum => "T5 BadSum",
+        }
+    }
 }
 
 /// A table's header, field for field as it stands (ACPI 6.5, table 5.4).

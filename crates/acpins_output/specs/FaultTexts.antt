@@ -1,8 +1,7 @@
 -- Why tables can't be loaded, in words (docs/COMMAND.md).
 use Rattle.std.specs.Prelude.{ℕ, ◌+◌, ◌-◌, ◌^◌, min, List, ◌++◌, codes, decimal}
 use Rattle.acpi_name.specs.Text.{path_text}
-use Rattle.acpi_table.specs.declared.tables.TableFault.{TableFault}
-use Rattle.acpi_table.specs.declared.tables.TableFault.TheVariants as tables
+use Rattle.acpi_table.specs.Texts.{table_fault_text}
 use Rattle.acpi_terms.specs.declared.fault.ItemReason.{ItemReason}
 use Rattle.acpi_terms.specs.declared.fault.ItemReason.TheVariants as items
 use Rattle.acpi_declare.specs.declared.fault.Refusal.{Refusal}
@@ -13,14 +12,6 @@ use Rattle.acpi_declare.specs.declared.fault.LoadReason.TheVariants as reasons
 -- a place in a code, as one in its table, which has 36 bytes before it (5.2.6)
 abbrev pub place_in_table : ℕ → ℕ
 place_in_table place = min (place + 36) (2 ^ 64 - 1)
-
--- why no table stands there
-abbrev pub table_fault_text : TableFault → List ℕ
-table_fault_text tables.Short = codes "T1 Short"
-table_fault_text tables.BadLength = codes "T2 BadLength"
-table_fault_text tables.TooLong = codes "T3 TooLong"
-table_fault_text tables.Cut = codes "T4 Cut"
-table_fault_text tables.BadSum = codes "T5 BadSum"
 
 -- why a code can't be read
 abbrev pub item_reason_text : ItemReason → List ℕ

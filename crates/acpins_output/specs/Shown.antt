@@ -4,31 +4,13 @@ use Rattle.acpi_name.specs.Names.{Segment}
 use Rattle.acpi_tree.specs.Objects.{ObjectTree}
 use Rattle.acpi_text.specs.Lines.{line_text}
 use Rattle.acpi_text.specs.Terms.{statements_text, opaque_text}
-use Rattle.acpi_body.specs.declared.fault.BodyReason.{BodyReason}
-use Rattle.acpi_body.specs.declared.fault.BodyReason.TheVariants.{Cut, BadOpcode, ReservedBits, BadName, Overrun, NotStatement, NotValue, NotTarget, LeftOut, BadString, TooDeep, NotData, BadPlace, Unsure}
+use Rattle.acpi_body.specs.Texts.{body_reason_text}
 use Rattle.acpi_body.specs.declared.fault.BodyFault.{BodyFault}
 use Rattle.acpi_body.specs.Bodies.{BodyTree, read, unread}
 use Rattle.acpi_order.specs.Machines.{Machine, IsMachine}
 use Rattle.acpi_machine.specs.Explaining.{IsExplained}
 
--- why a body isn't read
-abbrev pub body_reason_text : BodyReason → List ℕ
-body_reason_text Cut = codes "B1 Cut"
-body_reason_text BadOpcode = codes "B2 BadOpcode"
-body_reason_text ReservedBits = codes "B3 ReservedBits"
-body_reason_text BadName = codes "B4 BadName"
-body_reason_text Overrun = codes "B5 Overrun"
-body_reason_text NotStatement = codes "B6 NotStatement"
-body_reason_text NotValue = codes "B7 NotValue"
-body_reason_text NotTarget = codes "B8 NotTarget"
-body_reason_text LeftOut = codes "B9 LeftOut"
-body_reason_text BadString = codes "B10 BadString"
-body_reason_text TooDeep = codes "B11 TooDeep"
-body_reason_text NotData = codes "B12 NotData"
-body_reason_text BadPlace = codes "B13 BadPlace"
-body_reason_text Unsure = codes "S5 UnsureCount"
-
--- its line: the place in the body, and the reason
+-- the line that says why a body isn't read: the place in the body, and the reason
 abbrev pub reason_text : Option BodyFault → List ℕ
 reason_text None = []
 reason_text (Some f) =

@@ -4,26 +4,13 @@ ghost use Rattle.std.specs.Prelude.{◌≡◌, ◌++◌, ◌∷◌, codes, decim
 ghost use Rattle.std.specs.List.{flat_map};
 ghost use Rattle.acpi_name.specs.Text.{path_text};
 ghost use Rattle.acpins_io.specs.Told.{Tells};
-ghost use Rattle.acpins_output.specs.FaultTexts.{table_fault_text, item_reason_text, refusal_text, load_reason_text, fault_text};
+ghost use Rattle.acpins_output.specs.FaultTexts.{item_reason_text, refusal_text, load_reason_text, fault_text};
 
 use acpi_load::{LoadReason, Refusal};
 use acpi_name::{Path, Seg};
-use acpi_table::{HEADER_BYTES, TableFault};
+use acpi_table::HEADER_BYTES;
 use acpi_terms::ItemReason;
 use acpins_io::{PartWriter, put_number, put_text};
-
-/// The words of a table fault.
-pub fn table_fault_word(fault: TableFault) -> &'static str
-    ensures { result.now ≡ table_fault_text fault }
-{
-    match fault {
-        TableFault::Short => "T1 Short",
-        TableFault::BadLength => "T2 BadLength",
-        TableFault::TooLong => "T3 TooLong",
-        TableFault::Cut => "T4 Cut",
-        TableFault::BadSum => "T5 BadSum",
-    }
-}
 
 fn item_reason_word(reason: ItemReason) -> &'static str
     ensures { result.now ≡ item_reason_text reason }
@@ -106,7 +93,7 @@ pub fn put_load_reason<E, P: PartWriter<E>>(parts: &mut P, err: &mut E, reason: 
         (P.failed parts.new) (P.contents err.new) }
 {
     match reason {
-        LoadReason::Table(fault) => put_text(parts, err, table_fault_word(*fault)),
+        LoadReason::Table(fault) => put_text(parts, err, fault.text()),
         LoadReason::NotDsdt => put_text(parts, err, "L1 NotDsdt"),
         LoadReason::NotSsdt => put_text(parts, err, "L2 NotSsdt"),
         LoadReason::Trailing => put_text(parts, err, "L3 Trailing"),

@@ -18,7 +18,7 @@ mod output;
 mod showing;
 
 pub use checking::check;
-pub use faults::{put_fault, put_item, put_load_reason, table_fault_word};
+pub use faults::{put_fault, put_item, put_load_reason};
 pub use listing::{links_of, list};
 pub use output::Output;
 pub use showing::{body_at, show};

@@ -5,11 +5,11 @@ ghost use Rattle.std.specs.Option.{option_map, option_copied};
 ghost use Rattle.acpi_body.specs.Bodies.{body_view};
 ghost use Rattle.acpi_declare.specs.Refusals.{IsLoadFault};
 ghost use Rattle.acpi_machine.specs.MachineView.{bodies_of, machine_of};
-ghost use Rattle.acpins_output.specs.Shown.{body_reason_text, reason_text, IsBodyText, ShowsOrNone, ShowsLoaded};
+ghost use Rattle.acpins_output.specs.Shown.{reason_text, IsBodyText, ShowsOrNone, ShowsLoaded};
 
 use crate::listing::links_of;
 use crate::output::put;
-use acpi_body::{Body, BodyFault, BodyReason};
+use acpi_body::{Body, BodyFault};
 use acpi_load::{LoadFault, Machine, explain_shared, load_with_body_at};
 use acpi_name::Path;
 use acpi_space::Space;
@@ -19,27 +19,6 @@ use bytes::Bytes;
 use std::alloc::{AllocError, Global};
 use std::collections::BTreeMap;
 
-fn reason_word(reason: BodyReason) -> &'static str
-    ensures { result.now ≡ body_reason_text reason }
-{
-    match reason {
-        BodyReason::Cut => "B1 Cut",
-        BodyReason::BadOpcode => "B2 BadOpcode",
-        BodyReason::ReservedBits => "B3 ReservedBits",
-        BodyReason::BadName => "B4 BadName",
-        BodyReason::Overrun => "B5 Overrun",
-        BodyReason::NotStatement => "B6 NotStatement",
-        BodyReason::NotValue => "B7 NotValue",
-        BodyReason::NotTarget => "B8 NotTarget",
-        BodyReason::LeftOut => "B9 LeftOut",
-        BodyReason::BadString => "B10 BadString",
-        BodyReason::TooDeep => "B11 TooDeep",
-        BodyReason::NotData => "B12 NotData",
-        BodyReason::BadPlace => "B13 BadPlace",
-        BodyReason::Unsure => "S5 UnsureCount",
-    }
-}
-
 // Puts the line that says why a body is not read, and where.
 fn put_reason(text: &mut Vec<u8>, fault: Option<BodyFault>) -> Result<(), AllocError>
     ensures { OnOk result (text.new.items ≡ text.old.items ++ reason_text fault) }
@@ -48,7 +27,7 @@ fn put_reason(text: &mut Vec<u8>, fault: Option<BodyFault>) -> Result<(), AllocE
         put(text, "At ")?;
         put_decimal(text, fault.place as u64)?;
         put(text, ": ")?;
-        put(text, reason_word(fault.reason))?;
+        put(text, fault.reason.text())?;
         put(text, "\n")?;
     }
     Ok(())

@@ -1,6 +1,7 @@
 -- The line that says why a run failed (docs/COMMAND.md).
 use Rattle.std.specs.Prelude.{ℕ, List, ◌∷◌, [], ◌++◌, codes, decimal}
-use Rattle.acpins_output.specs.FaultTexts.{table_fault_text, item_reason_text, load_reason_text}
+use Rattle.acpi_table.specs.Texts.{table_fault_text}
+use Rattle.acpins_output.specs.FaultTexts.{item_reason_text, load_reason_text}
 use Rattle.acpins_run.specs.declared.failure.Failure.{Failure}
 use Rattle.acpins_run.specs.declared.failure.Failure.TheVariants.{WrongWords, BadPath, NoSuchPath, NoTable, Read, BadHex, Out, Output, Table, Item, Load, Memory}
 

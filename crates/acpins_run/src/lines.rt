@@ -2,12 +2,12 @@
 
 ghost use Rattle.std.specs.Prelude.{◌≡◌, ◌++◌, codes, decimal};
 ghost use Rattle.acpins_io.specs.Told.{Tells};
-ghost use Rattle.acpins_output.specs.FaultTexts.{table_fault_text, item_reason_text, load_reason_text};
+ghost use Rattle.acpins_output.specs.FaultTexts.{item_reason_text, load_reason_text};
 ghost use Rattle.acpins_run.specs.FailureLines.{failure_text, failure_line};
 
 use crate::failure::Failure;
 use acpins_io::{PartWriter, put_number, put_text};
-use acpins_output::{put_item, put_load_reason, table_fault_word};
+use acpins_output::{put_item, put_load_reason};
 
 // A table's number, before what fails in it.
 fn put_table<E, P: PartWriter<E>>(parts: &mut P, err: &mut E, number: usize)
@@ -43,7 +43,7 @@ fn put_failure<E, P: PartWriter<E>>(parts: &mut P, err: &mut E, failure: &Failur
         Failure::Output => put_text(parts, err, "standard output cannot be written"),
         Failure::Table(number, fault) => {
             put_table(parts, err, *number);
-            put_text(parts, err, table_fault_word(*fault))
+            put_text(parts, err, fault.text())
         }
         Failure::Item(number, reason, place) => {
             put_table(parts, err, *number);

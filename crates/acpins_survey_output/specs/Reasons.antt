@@ -2,8 +2,8 @@
 use Rattle.std.specs.Prelude.{ℕ, List, [], ◌∷◌, ◌++◌, Option, Some, None, codes}
 use Rattle.acpi_name.specs.Names.{Segment, NameParts}
 use Rattle.acpi_name.specs.Text.{name_text, path_text}
-use Rattle.acpi_table.specs.declared.tables.TableFault.{TableFault}
-use Rattle.acpi_table.specs.declared.tables.TableFault.TheVariants as faults
+use Rattle.acpi_table.specs.Texts.{table_fault_text}
+use Rattle.acpi_body.specs.Texts.{body_reason_text}
 use Rattle.acpi_body.specs.declared.fault.BodyReason.{BodyReason}
 use Rattle.acpi_body.specs.declared.fault.BodyReason.TheVariants as terms
 use Rattle.acpi_outline.specs.declared.fault.LostReason.{LostReason}
@@ -19,14 +19,6 @@ use Rattle.acpi_survey.specs.declared.notes.NoteReason.TheVariants as notes
 use Rattle.acpi_text.specs.Constants.{separated}
 
 -- ---- numbers and names
-
--- of a table that has no possible length, or not this sum
-abbrev pub table_fault_text : TableFault → List ℕ
-table_fault_text faults.Short = codes "T1 Short"
-table_fault_text faults.BadLength = codes "T2 BadLength"
-table_fault_text faults.TooLong = codes "T3 TooLong"
-table_fault_text faults.Cut = codes "T4 Cut"
-table_fault_text faults.BadSum = codes "T5 BadSum"
 
 -- of a table that isn't read
 abbrev pub table_reason_text : TableReason → List ℕ
@@ -57,23 +49,6 @@ lost_reason_text (losses.Term reason) = term_reason_text reason
 lost_reason_text losses.NoNode = codes "K2 BadOpcode"
 lost_reason_text losses.ManyArguments = codes "K3 ReservedBits"
 lost_reason_text losses.Computed = codes "K6 Computed"
-
--- of a body that can't be read
-abbrev pub body_reason_text : BodyReason → List ℕ
-body_reason_text terms.Cut = codes "B1 Cut"
-body_reason_text terms.BadOpcode = codes "B2 BadOpcode"
-body_reason_text terms.ReservedBits = codes "B3 ReservedBits"
-body_reason_text terms.BadName = codes "B4 BadName"
-body_reason_text terms.Overrun = codes "B5 Overrun"
-body_reason_text terms.NotStatement = codes "B6 NotStatement"
-body_reason_text terms.NotValue = codes "B7 NotValue"
-body_reason_text terms.NotTarget = codes "B8 NotTarget"
-body_reason_text terms.LeftOut = codes "B9 LeftOut"
-body_reason_text terms.BadString = codes "B10 BadString"
-body_reason_text terms.TooDeep = codes "B11 TooDeep"
-body_reason_text terms.NotData = codes "B12 NotData"
-body_reason_text terms.BadPlace = codes "B13 BadPlace"
-body_reason_text terms.Unsure = codes "S5 UnsureCount"
 
 -- of a term that declares nothing, or a Scope that isn't entered
 abbrev pub why_name : Why → List ℕ

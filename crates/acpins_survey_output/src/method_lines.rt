@@ -9,7 +9,7 @@ ghost use Rattle.acpins_survey_output.specs.Shown.{IsBodyAt, IsBodyListing, body
 ghost use Rattle.acpins_survey_output.specs.Reasons.{body_fault_text};
 ghost use Rattle.acpins_survey_output.specs.Bodies.{body_text, method_line};
 
-use crate::reasons::{body_reason_name, put_named};
+use crate::reasons::put_named;
 use acpi_body::BodyReason;
 use acpi_name::{Name, Path};
 use acpi_survey::{BodyReading, MethodBody, Survey};
@@ -25,7 +25,7 @@ pub(crate) fn put_body_reason(
 ) -> Result<(), AllocError>
     ensures { OnOk result (text.new.items ≡ text.old.items ++ body_fault_text reason name.now) }
 {
-    put(text, body_reason_name(reason))?;
+    put(text, reason.text())?;
     put_named(text, name.as_ref())
 }
 

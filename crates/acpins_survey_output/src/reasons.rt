@@ -3,7 +3,7 @@
 ghost use Rattle.std.specs.Prelude.{◌≡◌, ◌++◌, OnOk};
 ghost use Rattle.std.specs.Option.{option_map};
 ghost use Rattle.acpi_conditions.specs.EntryForms.{why_of};
-ghost use Rattle.acpins_survey_output.specs.Reasons.{table_fault_text, table_reason_text, term_reason_text, lost_reason_text, body_reason_text, why_name, problem_name as problem_name_text, note_name as note_name_text, why_paths, problem_paths as paths_of, named_text, noted_name as name_noted, paths_behind, why_text, problem_reason_text, note_reason_text};
+ghost use Rattle.acpins_survey_output.specs.Reasons.{table_reason_text, term_reason_text, lost_reason_text, why_name, problem_name as problem_name_text, note_name as note_name_text, why_paths, problem_paths as paths_of, named_text, noted_name as name_noted, paths_behind, why_text, problem_reason_text, note_reason_text};
 
 use crate::links::put_paths;
 use acpi_body::BodyReason;
@@ -11,31 +11,18 @@ use acpi_conditions::Reason;
 use acpi_name::{Name, Path};
 use acpi_outline::LostReason;
 use acpi_survey::{NoteReason, ProblemReason, TableReason};
-use acpi_table::TableFault;
 use acpi_text::{put, put_name};
 use std::alloc::AllocError;
 use std::slice::from_ref;
 
 // ---- the number and the name of a reason
 
-fn table_fault_name(fault: TableFault) -> &'static str
-    ensures { result.now ≡ table_fault_text fault }
-{
-    match fault {
-        TableFault::Short => "T1 Short",
-        TableFault::BadLength => "T2 BadLength",
-        TableFault::TooLong => "T3 TooLong",
-        TableFault::Cut => "T4 Cut",
-        TableFault::BadSum => "T5 BadSum",
-    }
-}
-
 /// The number and the name of a reason why none of a table is read.
 pub(crate) fn table_reason_name(reason: TableReason) -> &'static str
     ensures { result.now ≡ table_reason_text reason }
 {
     match reason {
-        TableReason::Table(fault) => table_fault_name(fault),
+        TableReason::Table(fault) => fault.text(),
         TableReason::NotDsdt => "L1 NotDsdt",
         TableReason::NotSsdt => "L2 NotSsdt",
     }
@@ -72,28 +59,6 @@ pub(crate) fn lost_reason_name(reason: LostReason) -> &'static str
         LostReason::NoNode => "K2 BadOpcode",
         LostReason::ManyArguments => "K3 ReservedBits",
         LostReason::Computed => "K6 Computed",
-    }
-}
-
-/// The number and the name of a reason why a body can't be read.
-pub(crate) fn body_reason_name(reason: BodyReason) -> &'static str
-    ensures { result.now ≡ body_reason_text reason }
-{
-    match reason {
-        BodyReason::Cut => "B1 Cut",
-        BodyReason::BadOpcode => "B2 BadOpcode",
-        BodyReason::ReservedBits => "B3 ReservedBits",
-        BodyReason::BadName => "B4 BadName",
-        BodyReason::Overrun => "B5 Overrun",
-        BodyReason::NotStatement => "B6 NotStatement",
-        BodyReason::NotValue => "B7 NotValue",
-        BodyReason::NotTarget => "B8 NotTarget",
-        BodyReason::LeftOut => "B9 LeftOut",
-        BodyReason::BadString => "B10 BadString",
-        BodyReason::TooDeep => "B11 TooDeep",
-        BodyReason::NotData => "B12 NotData",
-        BodyReason::BadPlace => "B13 BadPlace",
-        BodyReason::Unsure => "S5 UnsureCount",
     }
 }
 

@@ -14,7 +14,7 @@ pub returns-in-Output : goal.returns-in-Output
 returns-in-Output g c = rw c.in-Output.is c.put_text-in-Output.ensures
 
 pub returns-in-Table : goal.returns-in-Table
-returns-in-Table g c = rw c.in-Table.is (tells_more _ _ _ _ _ _ _ _ c.put_table.ensures (rw c.table_fault_word.ensures at c.put_text-in-Table.ensures))
+returns-in-Table g c = rw c.in-Table.is (tells_more _ _ _ _ _ _ _ _ c.put_table.ensures (rw c.text.ensures at c.put_text-in-Table.ensures))
 
 pub returns-in-Item : goal.returns-in-Item
 returns-in-Item g c = rw c.in-Item.is (tells_more _ _ _ _ _ _ _ _ c.put_table-in-Item.ensures c.put_item.ensures)
