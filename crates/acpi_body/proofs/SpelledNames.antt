@@ -7,7 +7,7 @@ use Rattle.std.proofs.lemmas.List.Folds.{length-prefix_len}
 use Rattle.acpi_name.specs.Names.{Segment, NameParts, plain_segment}
 use Rattle.acpi_name.specs.Paths.{place_of}
 use Rattle.acpi_name.specs.Spelling.{SpellsName, BeginsWithName, prefix_of}
-use Rattle.acpi_name.specs.steps.Reading.{ups}
+use Rattle.acpi_name.specs.Reading.{ups}
 use Rattle.acpi_name.proofs.NameAgain.{neq, path_start, ups_of, name_long, one_spelling}
 use Rattle.acpi_space.specs.Lookups.{is_defined_in}
 use Rattle.acpi_space.specs.Search.{skipped, tries_of, missed}

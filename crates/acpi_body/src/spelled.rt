@@ -1,7 +1,7 @@
 //! The searches of an opaque body: every name that is spelled at some place of its bytes counts.
 
 ghost use Rattle.std.specs.Prelude.{◌≡◌, OnOk, length, take};
-ghost use Rattle.acpi_name.specs.steps.Reading.{ups};
+ghost use Rattle.acpi_name.specs.Reading.{ups};
 ghost use Rattle.acpi_body.specs.Arguments.{namespace_of};
 ghost use Rattle.acpi_body.specs.Misses.{IsMissedBy};
 ghost use Rattle.acpi_body.specs.steps.Gathering.{Asked, Grows, goes_above, IsFrontMiss};

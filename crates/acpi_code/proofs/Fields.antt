@@ -10,7 +10,7 @@ use Rattle.acpi_code.specs.Faults.{ShowsElementPart, ShowsElement, IsElementOf, 
 use Rattle.std.proofs.lemmas.Bool.{eqb-true}
 use Rattle.acpi_name.specs.Names.{Segment, NameParts, is_segment, is_lead_char, is_name_char}
 use Rattle.acpi_name.specs.Spelling.{SpellsName}
-use Rattle.acpi_name.specs.steps.Reading.{segment_at, segments_at, path_at, relative_at, name_at}
+use Rattle.acpi_name.specs.Reading.{segment_at, segments_at, path_at, relative_at, name_at}
 use Rattle.acpi_name.specs.declared.reading.NameFault.{NameFault}
 use Rattle.acpi_name.specs.declared.reading.NameFault.TheVariants.{BadChar}
 use Rattle.acpi_name.proofs.NameAgain.{name_long, neq, and_true}

@@ -4,12 +4,12 @@ use Rattle.std.proofs.lemmas.Bool.{eqb-true}
 use Rattle.acpi_name.specs.Names.{NameParts, is_segment, is_lead_char}
 use Rattle.acpi_name.specs.Spelling.{SpellsName, HasBadChar}
 use Rattle.acpi_name.specs.Names.{is_segment_front}
-use Rattle.acpi_name.specs.steps.Reading.{segment_at, segments_at, path_at, relative_at, name_at}
+use Rattle.acpi_name.specs.Reading.{segment_at, segments_at, path_at, relative_at, name_at}
 use Rattle.acpi_name.specs.declared.reading.NameFault.{NameFault}
 use Rattle.acpi_name.specs.declared.reading.NameFault.TheVariants as names
 use Rattle.acpi_name.proofs.NameAgain.{name_again, name_long, segment_again}
 use Rattle.acpi_name.proofs.NameTook.{name_took, segment_took}
-use Rattle.acpi_name.proofs.NameFaults.{name_zero, name_many, name_stays}
+use Rattle.acpi_name.proofs.NameFaults.{name_zero, name_many, name_stays, front_stays}
 use Rattle.acpi_name.proofs.NameTold.{fault_bad}
 use Rattle.acpi_code.specs.declared.opcode.Opcode.TheVariants as opcodes
 use Rattle.acpi_code.specs.declared.fault.CodeFault.{CodeFault}
@@ -52,19 +52,6 @@ name_bare s level end bytes h = by_result (name_at bytes) refl
 
 pub name_sound : (s : Source) (level end : ℕ) (bytes : List ℕ) → Position s.depth level s.code end bytes → Judge (Read s level end SpellsName bytes) (Shown s) (name_in end bytes)
 name_sound s level end bytes h = bare_shown s (Read s level end SpellsName bytes) (name_in end bytes) (name_bare s level end bytes h)
-
-front_stays : (bytes more : List ℕ) → is_segment_front bytes ≡ false → is_segment_front (bytes ++ more) ≡ false
-front_stays [] more h = absurd cc
-front_stays (a ∷ []) [] h = h
-front_stays (a ∷ []) (x ∷ []) h = rw h refl
-front_stays (a ∷ []) (x ∷ y ∷ []) h = rw h refl
-front_stays (a ∷ []) (x ∷ y ∷ z ∷ more) h = rw h refl
-front_stays (a ∷ b ∷ []) [] h = h
-front_stays (a ∷ b ∷ []) (x ∷ []) h = rw h refl
-front_stays (a ∷ b ∷ []) (x ∷ y ∷ more) h = rw h refl
-front_stays (a ∷ b ∷ c ∷ []) [] h = h
-front_stays (a ∷ b ∷ c ∷ []) (x ∷ more) h = rw h refl
-front_stays (a ∷ b ∷ c ∷ d ∷ rest) more h = h
 
 -- what the fault of a part of the element at a place shows
 abbrev pub ElementPart : Source → ℕ → CodeFault → Type 0

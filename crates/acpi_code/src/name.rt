@@ -1,7 +1,7 @@
 //! Reading names and segments.
 
 ghost use Rattle.std.specs.Prelude.{◌≡◌, ◌<◌, ◌≤◌, true, length, take, drop, IfOk};
-ghost use Rattle.acpi_name.specs.steps.Reading.{Answers, name_at};
+ghost use Rattle.acpi_name.specs.Reading.{Answers, name_at};
 ghost use Rattle.acpi_name.specs.NameRefs.{name_parts};
 ghost use Rattle.acpi_name.specs.Names.{is_segment_front};
 ghost use Rattle.acpi_code.specs.steps.Reading.{name_in, segment_in};
@@ -32,7 +32,7 @@ impl<'a> Code<'a> {
 
     /// A NameSeg: four characters, the first no digit (20.2.2). `BadName` where up to four bytes that are left can
     /// begin none, `Cut` where fewer than four are left.
-    #[tactic(auto, unfolding(crate::specs::steps::Reading::segment_in, acpi_name::specs::steps::Reading::segment_at))]
+    #[tactic(auto, unfolding(crate::specs::steps::Reading::segment_in, acpi_name::specs::Reading::segment_at))]
     pub fn segment(&mut self) -> Result<Seg, CodeFault>
         ensures { Finds (λ s. s) segment_in self.old self.new result }
     {

@@ -22,9 +22,9 @@ use crate::met::Met;
 use crate::packages::{Kind, Package, Refusal};
 use crate::placing::Reason;
 use crate::settled::{AfterTerm, certain_after, lasting_by, settled_by};
-use crate::sites::Site;
 use crate::statuses::{Presence, Status, Statuses};
 use crate::stops::{Stop, StopAt, keep_returns, way_past};
+use crate::targets::Target;
 use crate::turns::{Turn, Way, Ways};
 use acpi_name::Path;
 use std::alloc::{AllocError, Global};
@@ -194,17 +194,17 @@ impl Walk {
     }
 
     /// Puts the entry of a term that stands here behind the others; its number. What it settles isn't certain yet.
-    pub(crate) fn put(&mut self, term: Term, site: Site) -> Result<usize, AllocError>
+    pub(crate) fn put(&mut self, term: Term, target: Target) -> Result<usize, AllocError>
         ensures number { IfOk result (λ n. n ≡ length self.old.entries) }
         ensures walk { OnOk result (self.new
-            ≡ with_entry (entry_here self.old (term_view term) site) self.old) }
+            ≡ with_entry (entry_here self.old (term_view term) target) self.old) }
     {
         let entry = Entry {
             term,
             scope: self.scope.copy()?,
-            path: site.path,
+            path: target.path,
             way: self.way,
-            asks: site.asks,
+            asks: target.asks,
         };
         let number = self.paths.put(entry)?;
         Ok(number)

@@ -13,9 +13,9 @@ use crate::entry::{Asks, Term};
 use crate::facts::raised;
 use crate::packages::Kind;
 use crate::placing::{PlacingFault, declare_at, open_at};
-use crate::sites::{Site, site_of};
 use crate::statuses::{Presence, Statuses};
 use crate::stops::Stop;
+use crate::targets::{Target, target_of};
 use crate::turns::Turn;
 use crate::walk::Walk;
 use acpi_name::{NameRef, Path};
@@ -23,23 +23,23 @@ use std::alloc::AllocError;
 
 impl Walk {
     // Puts the entry of a term that stands here behind the others. Its object is certain.
-    fn put_certain(&mut self, term: Term, site: Site) -> Result<(), AllocError>
+    fn put_certain(&mut self, term: Term, target: Target) -> Result<(), AllocError>
         ensures { OnOk result (self.new ≡ with_certain
-            (record { path = site.path; is_scope = term.is_scope } ∷ self.old.known.certain)
-            (with_entry (entry_here self.old (term_view term) site) self.old)) }
+            (record { path = target.path; is_scope = term.is_scope } ∷ self.old.known.certain)
+            (with_entry (entry_here self.old (term_view term) target) self.old)) }
     {
         let presence = raised(term.is_scope, Presence::Nothing);
-        let number = self.put(term, site)?;
+        let number = self.put(term, target)?;
         self.certify_entry(number, presence)
     }
 
     // Puts the entry of a term that stands here behind the others, and makes certain what it settles.
-    fn put_settled(&mut self, term: Term, site: Site) -> Result<(), AllocError>
+    fn put_settled(&mut self, term: Term, target: Target) -> Result<(), AllocError>
         ensures { OnOk result (self.new ≡ with_certain
-            (settled (entry_here self.old (term_view term) site) ++ self.old.known.certain)
-            (with_entry (entry_here self.old (term_view term) site) self.old)) }
+            (settled (entry_here self.old (term_view term) target) ++ self.old.known.certain)
+            (with_entry (entry_here self.old (term_view term) target) self.old)) }
     {
-        let number = self.put(term, site)?;
+        let number = self.put(term, target)?;
         self.settle(number)
     }
 
@@ -53,7 +53,7 @@ impl Walk {
             no: false,
             needs: Vec::new(self.alloc()),
         };
-        self.put_certain(term, Site { path, asks })?;
+        self.put_certain(term, Target { path, asks })?;
         self.start_table();
         Ok(())
     }
@@ -91,9 +91,9 @@ impl Walk {
             (declared_at self.old.known self.old.around.scope term.name)) }
     {
         let scope = self.scope().copy()?;
-        match site_of(self.alloc(), self, &scope, &term) {
-            Ok(site) => {
-                self.list(term, site)?;
+        match target_of(self.alloc(), self, &scope, &term) {
+            Ok(target) => {
+                self.list(term, target)?;
                 Ok(true)
             }
             Err(PlacingFault::Refused(reason)) => {
@@ -105,12 +105,12 @@ impl Walk {
     }
 
     // Passes a term with nothing inside that can be declared.
-    fn list(&mut self, term: Term, site: Site) -> Result<(), AllocError>
+    fn list(&mut self, term: Term, target: Target) -> Result<(), AllocError>
         ensures { OnOk result (self.new ≡ pass (with_certain
-            (settled (entry_here self.old (term_view term) site) ++ self.old.known.certain)
-            (with_entry (entry_here self.old (term_view term) site) self.old))) }
+            (settled (entry_here self.old (term_view term) target) ++ self.old.known.certain)
+            (with_entry (entry_here self.old (term_view term) target) self.old))) }
     {
-        self.put_settled(term, site)?;
+        self.put_settled(term, target)?;
         self.pass();
         Ok(())
     }
@@ -123,9 +123,9 @@ impl Walk {
             (declared_at self.old.known self.old.around.scope term.name)) }
     {
         let scope = self.scope().copy()?;
-        match site_of(self.alloc(), self, &scope, &term) {
-            Ok(site) => {
-                self.go_into(term, site)?;
+        match target_of(self.alloc(), self, &scope, &term) {
+            Ok(target) => {
+                self.go_into(term, target)?;
                 Ok(true)
             }
             Err(PlacingFault::Refused(reason)) => {
@@ -137,15 +137,15 @@ impl Walk {
     }
 
     // Goes into a term that can be declared.
-    fn go_into(&mut self, term: Term, site: Site) -> Result<(), AllocError>
+    fn go_into(&mut self, term: Term, target: Target) -> Result<(), AllocError>
         ensures { OnOk result (self.new
-            ≡ into_term (entry_here self.old (term_view term) site) self.old) }
+            ≡ into_term (entry_here self.old (term_view term) target) self.old) }
     {
         let place = term.place;
-        let free = site.asks.is_empty();
-        let path = site.path.copy()?;
+        let free = target.asks.is_empty();
+        let path = target.path.copy()?;
         self.enter(Kind::Term, place)?;
-        self.put_certain(term, site)?;
+        self.put_certain(term, target)?;
         self.turn_unless(free, Turn::Within(place))?;
         self.set_scope(path);
         Ok(())

@@ -8,7 +8,7 @@ use Rattle.std.specs.List.{list_all, prefix_len}
 use Rattle.acpi_name.specs.Names.{Segment, NameParts, AreSegments, is_segment, is_lead_char}
 use Rattle.acpi_name.specs.Spelling.{segment_bytes, prefix_of, SpellsPath, SpellsName}
 use Rattle.acpi_name.specs.declared.reading.NameFault.{NameFault}
-use Rattle.acpi_name.specs.steps.Reading.{◌>>=◌, segment_at, segments_at, counted_at, path_at, ups, relative_at, name_at}
+use Rattle.acpi_name.specs.Reading.{◌>>=◌, segment_at, segments_at, counted_at, path_at, ups, relative_at, name_at}
 
 pub and_true : (a b : Bool) → (a && b) ≡ true → (a ≡ true) × (b ≡ true)
 and_true true b h = (refl, h)

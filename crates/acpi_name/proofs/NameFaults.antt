@@ -9,7 +9,7 @@ use Rattle.acpi_name.specs.Spelling.{segment_bytes, prefix_of, SpellsPath, IsCut
 use Rattle.acpi_name.specs.declared.reading.NameFault.{NameFault}
 use Rattle.acpi_name.specs.declared.reading.NameFault.TheVariants.{Cut, BadChar, ZeroCount, TooManyUps}
 use Rattle.acpi_name.specs.Names.{is_segment_front}
-use Rattle.acpi_name.specs.steps.Reading.{◌>>=◌, segment_at, segments_at, counted_at, path_at, ups, relative_at, name_at}
+use Rattle.acpi_name.specs.Reading.{◌>>=◌, segment_at, segments_at, counted_at, path_at, ups, relative_at, name_at}
 use Rattle.acpi_name.proofs.NameAgain.{segment_again, name_again, relative_path, relative_of}
 use Rattle.acpi_name.proofs.NameTook.{chosen, done, ok_is, segment_took, ups_are, name_took}
 
@@ -372,7 +372,8 @@ many_name bytes h = rw h.whole (many_of 256 h.rest (omega arith))
 
 -- ---- a fault that is no cut stays, whatever follows
 
-front_stays : (bytes more : List ℕ) → is_segment_front bytes ≡ false → is_segment_front (bytes ++ more) ≡ false
+-- a front that no segment begins with stays one, whatever follows
+pub front_stays : (bytes more : List ℕ) → is_segment_front bytes ≡ false → is_segment_front (bytes ++ more) ≡ false
 front_stays [] more h = absurd cc
 front_stays (a ∷ []) [] h = h
 front_stays (a ∷ []) (x ∷ []) h = rw h refl

@@ -6,7 +6,7 @@ use Rattle.acpi_name.specs.Spelling.{SpellsName, BeginsWithName, HasName, IsCutN
 use Rattle.acpi_name.specs.declared.reading.NameFault.{NameFault}
 use Rattle.acpi_name.specs.declared.reading.NameFault.TheVariants.{Cut, BadChar, ZeroCount, TooManyUps}
 use Rattle.std.specs.Prelude.{IfOk}
-use Rattle.acpi_name.specs.steps.Reading.{Answers, name_at}
+use Rattle.acpi_name.specs.Reading.{Answers, name_at}
 use Rattle.acpi_name.proofs.NameAgain.{name_again}
 use Rattle.acpi_name.proofs.NameTook.{done, ok_is, name_took}
 use Rattle.acpi_name.proofs.NameFaults.{failed, fault_is, ok_no_err, name_cut, cut_name, name_zero, zero_name, name_many, many_name}

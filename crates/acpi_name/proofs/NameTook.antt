@@ -9,7 +9,7 @@ use Rattle.acpi_name.specs.Spelling.{segment_bytes, SpellsPath, SpellsName}
 use Rattle.acpi_name.specs.declared.reading.NameFault.{NameFault}
 use Rattle.acpi_name.specs.declared.reading.NameFault.TheVariants.{Cut, BadChar, ZeroCount, TooManyUps}
 use Rattle.acpi_name.specs.Names.{is_segment_front}
-use Rattle.acpi_name.specs.steps.Reading.{◌>>=◌, segment_at, segments_at, counted_at, path_at, ups, relative_at, name_at}
+use Rattle.acpi_name.specs.Reading.{◌>>=◌, segment_at, segments_at, counted_at, path_at, ups, relative_at, name_at}
 
 pub bind_ok : {A B : Type 0} (r : Result A NameFault) (f : A → Result B NameFault) (y : B) → (r >>= f) ≡ Ok y → (x : A) × (r ≡ Ok x) × (f x ≡ Ok y)
 bind_ok (Ok x) f y e = (x, refl, e)

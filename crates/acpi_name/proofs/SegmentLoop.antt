@@ -5,7 +5,7 @@ use Rattle.std.proofs.lemmas.List.{append-nil, drop-drop, drop-take, take-take}
 use native.Mathlib.Numerals.{unary_clauses}
 use Rattle.acpi_name.specs.Names.{Segment}
 use Rattle.acpi_name.specs.declared.reading.NameFault.{NameFault}
-use Rattle.acpi_name.specs.steps.Reading.{◌>>=◌, segment_at, segments_at}
+use Rattle.acpi_name.specs.Reading.{◌>>=◌, segment_at, segments_at}
 
 -- one chunk more
 first_chunks-more : (n : ℕ) (bytes : List ℕ) → first_chunks 4 (suc n) bytes ≡ first_chunks 4 n bytes ++ take 4 (drop (4 * n) bytes) ∷ []

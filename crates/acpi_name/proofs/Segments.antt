@@ -13,7 +13,7 @@ use Rattle.acpi_name.specs.Names.{Segment, AreSegments, is_segment, is_lead_char
 use Rattle.acpi_name.proofs.NameAgain.{and_true, each}
 
 -- a character of a name is ASCII
-char_below : (a : ℕ) → is_name_char a ≡ true → a < 128
+pub char_below : (a : ℕ) → is_name_char a ≡ true → a < 128
 char_below a h = by (leb 65 a) (leb a 90) (eqb a 95) (leb 48 a) (leb a 57) refl refl refl h
   where
     by : (p q r s t : Bool) → leb a 90 ≡ q → eqb a 95 ≡ r → leb a 57 ≡ t → (((p && q) || r) || (s && t)) ≡ true → a < 128

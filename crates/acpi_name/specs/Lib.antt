@@ -4,5 +4,6 @@ pub mod NameRefs
 pub mod Paths
 pub mod Spelling
 pub mod Text
+pub mod Reading
 pub mod Laws
 pub mod steps

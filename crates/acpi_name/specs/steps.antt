@@ -1,4 +1,3 @@
-pub mod Reading
 pub mod PathOrder
 pub mod NameOrder
 pub mod TextReading

@@ -5,7 +5,7 @@ ghost use Rattle.acpi_name.specs.NameRefs.{name_parts};
 ghost use Rattle.acpi_name.specs.Names.{NameParts};
 ghost use Rattle.acpi_name.specs.Spelling.{BeginsWithName, IsCutName, HasBadChar, HasZeroCount, HasTooManyUps};
 ghost use Rattle.acpi_name.specs.Names.{is_segment_front};
-ghost use Rattle.acpi_name.specs.steps.Reading.{Answers, segment_at, segments_at, counted_at, path_at, ups, relative_at, name_at};
+ghost use Rattle.acpi_name.specs.Reading.{Answers, segment_at, segments_at, counted_at, path_at, ups, relative_at, name_at};
 
 use crate::name::NameRef;
 use crate::seg::{is_lead_char, is_name_char};
@@ -45,7 +45,7 @@ pub fn begins_segment(bytes: &[u8]) -> bool
 }
 
 // The bytes behind the segment at the front.
-#[tactic(auto, unfolding(crate::specs::steps::Reading::segment_at))]
+#[tactic(auto, unfolding(crate::specs::Reading::segment_at))]
 fn skip_segment(bytes: &[u8]) -> Result<&[u8], NameFault>
     ensures exact { Answers (λ x. (take 4 bytes.now, x.now)) result (segment_at bytes.now) }
     ensures back { IfOk result (λ x. x.now ≡ drop 4 bytes.now) }
@@ -75,7 +75,7 @@ fn segments(count: u8, bytes: &[u8]) -> Result<(&[[u8; 4]], &[u8]), NameFault>
 }
 
 // The segments that a number stands before, and what follows them.
-#[tactic(auto, unfolding(crate::specs::steps::Reading::counted_at))]
+#[tactic(auto, unfolding(crate::specs::Reading::counted_at))]
 fn counted(bytes: &[u8]) -> Result<(&[[u8; 4]], &[u8]), NameFault>
     ensures exact { Answers (λ x. (x.0.now, x.1.now)) result (counted_at bytes.now) }
     ensures shorter { IfOk result (λ x. length x.1.now < length bytes.now) }
@@ -88,7 +88,7 @@ fn counted(bytes: &[u8]) -> Result<(&[[u8; 4]], &[u8]), NameFault>
 }
 
 // The segments of a NamePath, and what follows it.
-#[tactic(auto, unfolding(crate::specs::steps::Reading::path_at))]
+#[tactic(auto, unfolding(crate::specs::Reading::path_at))]
 fn path(bytes: &[u8]) -> Result<(&[[u8; 4]], &[u8]), NameFault>
     ensures exact { Answers (λ x. (x.0.now, x.1.now)) result (path_at bytes.now) }
     ensures shorter { IfOk result (λ x. length x.1.now < length bytes.now) }
@@ -111,7 +111,7 @@ fn count_ups(bytes: &[u8]) -> usize
 }
 
 // A name that does not begin at the root, and what follows it.
-#[tactic(auto, unfolding(crate::specs::steps::Reading::relative_at))]
+#[tactic(auto, unfolding(crate::specs::Reading::relative_at))]
 fn relative(bytes: &[u8]) -> Result<(NameRef<'_>, &[u8]), NameFault>
     ensures exact { Answers (λ x. (name_parts x.0, x.1.now)) result (relative_at bytes.now) }
     ensures shorter { IfOk result (λ x. length x.1.now < length bytes.now) }
@@ -125,7 +125,7 @@ fn relative(bytes: &[u8]) -> Result<(NameRef<'_>, &[u8]), NameFault>
 }
 
 // The name at the front, and what follows it.
-#[tactic(auto, unfolding(crate::specs::steps::Reading::name_at))]
+#[tactic(auto, unfolding(crate::specs::Reading::name_at))]
 fn front_name(bytes: &[u8]) -> Result<(NameRef<'_>, &[u8]), NameFault>
     ensures exact { Answers (λ x. (name_parts x.0, x.1.now)) result (name_at bytes.now) }
     ensures shorter { IfOk result (λ x. length x.1.now < length bytes.now) }

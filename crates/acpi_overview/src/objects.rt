@@ -29,7 +29,7 @@ pub struct Object<'a> {
 }
 
 // The number of bytes of the code of a method.
-fn code_of(part: &Span<'_>) -> usize {
+fn code_bytes(part: &Span<'_>) -> usize {
     match part.what {
         SpanContent::Node(node) => match node {
             Node::Closed(fixed, code) => match fixed {
@@ -54,7 +54,7 @@ fn object_of<'a>(survey: &'a Survey, entry: &'a Entry, number: usize) -> Object<
                 None => Declared::Predefined,
             },
             site: Some(site_of(entry.term.place)),
-            code: code_of(&part),
+            code: code_bytes(&part),
             is_conditional: asks || !survey.entries().ways.is_empty(entry.way),
             asks,
             way: entry.way,

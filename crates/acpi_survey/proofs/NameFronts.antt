@@ -6,26 +6,17 @@ use Rattle.std.specs.Result.{result_ok}
 use Rattle.acpi_name.specs.Names.{NameParts}
 use Rattle.acpi_name.specs.Spelling.{BeginsWithName}
 use Rattle.acpi_name.specs.declared.reading.NameFault.{NameFault}
-use Rattle.acpi_name.specs.declared.reading.NameFault.TheVariants.{Cut, BadChar, ZeroCount, TooManyUps}
-use Rattle.acpi_name.specs.steps.Reading.{name_at}
+use Rattle.acpi_name.specs.Reading.{name_at}
 use Rattle.acpi_name.proofs.NameTold.{begins_read, ok_told}
-use Rattle.acpi_code.specs.steps.Reading.{name_in, or_name_fault}
 use Rattle.acpi_survey.specs.Problems.{name_front, NameFrontsAreSpelled}
 use Rattle.acpi_survey.proofs.DeclaringParts.{some_is}
 
 abbrev front_of : List ℕ → Result (NameParts × List ℕ) NameFault → Option (NameParts × ℕ)
-front_of bytes r = option_map (λ x. (x.0, length bytes - length x.1)) (result_ok (or_name_fault (length bytes) bytes r))
-
-is_front_of : (bytes : List ℕ) → name_front bytes ≡ front_of bytes (name_at bytes)
-unfolding name_in
-is_front_of bytes = refl
+front_of bytes r = option_map (λ x. (x.0, length bytes - length x.1)) (result_ok r)
 
 forth : (bytes : List ℕ) (n : NameParts) (count : ℕ) (r : Result (NameParts × List ℕ) NameFault) → name_at bytes ≡ r → front_of bytes r ≡ Some (n, count) → BeginsWithName n count bytes
 forth bytes n count (Ok (m, rest)) e h = subst (λ (y : NameParts × ℕ). BeginsWithName y.0 y.1 bytes) (some_is h) (ok_told bytes m rest e).found
-forth bytes n count (Err Cut) e h = absurd cc
-forth bytes n count (Err BadChar) e h = absurd cc
-forth bytes n count (Err ZeroCount) e h = absurd cc
-forth bytes n count (Err TooManyUps) e h = absurd cc
+forth bytes n count (Err f) e h = absurd cc
 
 back : (bytes : List ℕ) (n : NameParts) (count : ℕ) → BeginsWithName n count bytes → front_of bytes (name_at bytes) ≡ Some (n, count)
 back bytes n count b =
@@ -34,4 +25,4 @@ back bytes n count b =
     ap (front_of bytes) (begins_read n count bytes b) ∙ ap (λ (k : ℕ). Some (n, k)) used
 
 pub name_fronts : NameFrontsAreSpelled
-name_fronts bytes n count = (λ h. forth bytes n count (name_at bytes) refl (sym (is_front_of bytes) ∙ h), λ b. is_front_of bytes ∙ back bytes n count b)
+name_fronts bytes n count = (forth bytes n count (name_at bytes) refl, back bytes n count)

@@ -5,7 +5,7 @@ use Rattle.std.specs.Result.{result_ok}
 use Rattle.std.specs.List.{flat_map}
 use Rattle.acpi_name.specs.Names.{NameParts}
 use Rattle.acpi_name.specs.Spelling.{BeginsWithName}
-use Rattle.acpi_code.specs.steps.Reading.{name_in}
+use Rattle.acpi_name.specs.Reading.{name_at}
 use Rattle.acpi_body.specs.declared.fault.BodyReason.TheVariants.{Unsure}
 use Rattle.acpi_outline.specs.declared.fault.LostFault.{LostFault}
 use Rattle.acpi_outline.specs.declared.fault.LostReason.{LostReason}
@@ -95,7 +95,7 @@ why_lost (of_lost why) = why ∷ []
 -- the name that bytes begin with (20.2.2), and how many of them spell it
 abbrev pub name_front : List ℕ → Option (NameParts × ℕ)
 name_front bytes =
-    option_map (λ x. (x.0, length bytes - length x.1)) (result_ok (name_in (length bytes) bytes))
+    option_map (λ x. (x.0, length bytes - length x.1)) (result_ok (name_at bytes))
 
 -- a law of it: it is the name that is spelled at the front, and the number of the bytes that spell it
 abbrev pub NameFrontsAreSpelled : Type 0

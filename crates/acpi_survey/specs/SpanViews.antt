@@ -6,11 +6,8 @@ use Rattle.acpi_tree.specs.View.{field_view}
 use Rattle.acpi_outline.specs.View.{node_view, placed_views, put_before, end_view, placed_fields, fields_before, fields_end}
 use Rattle.acpi_outline.specs.declared.node.Lost.{Lost}
 use Rattle.acpi_conditions.specs.Entries.{Path}
-use Rattle.acpi_survey.specs.Survey.{place_in}
 use Rattle.acpi_survey.specs.Spans.{Part, of_node, of_element, of_lost, PlacedPart, part_at}
 use Rattle.acpi_survey.specs.Ranges.{Range, range, Entered, ranges_of, element_ranges}
-use Rattle.acpi_survey.specs.steps.ByPlace.{kept_at}
-use Rattle.acpi_survey.specs.declared.scopes.Places.{Places}
 use Rattle.acpi_survey.specs.declared.spans.SpanContent.{SpanContent}
 use Rattle.acpi_survey.specs.declared.spans.SpanContent.TheVariants as whats
 use Rattle.acpi_survey.specs.declared.spans.Span.{Span}
@@ -38,14 +35,6 @@ with_first_span (Some s) parts = placed_part s ∷ parts
 -- the path of a scope around, or that of the root
 abbrev pub scope_of : Option (Bor Path) → Path
 scope_of around = unwrap_or (option_copied around) []
-
--- what is entered at the places of the table
-abbrev pub entered_in : Places → Entered
-entered_in p place = kept_at p.paths.now (place_in p.table place)
-
-abbrev pub entered_by : Option Places → Entered
-entered_by None place = None
-entered_by (Some p) place = entered_in p place
 
 -- ---- ranges
 
@@ -84,4 +73,4 @@ ranges_left entered s = all_left entered s.lists.items
 
 -- which parts stand in them doesn't depend on scopes
 abbrev pub parts_left : Spans → List PlacedPart
-parts_left s = map placed_range (ranges_left (entered_by None) s)
+parts_left s = map placed_range (ranges_left (λ place. None) s)

@@ -18,9 +18,8 @@ use crate::scopes::Places;
 use crate::spans::{ScopedSpan, Span, SpanContent, Spans};
 use crate::tables::{TableContent, TableReason};
 use acpi_body::BodyReason;
-use acpi_code::Code;
 use acpi_conditions::Reason;
-use acpi_name::{Name, NameRef, Path};
+use acpi_name::{Name, NameRef, Path, read_name};
 use acpi_outline::{LostFault, LostReason, Node, Nodes, PackedForm};
 use acpi_table::HEADER_BYTES;
 use bytes::Bytes;
@@ -283,9 +282,8 @@ fn code_behind(code: &[u8], place: usize) -> &[u8]
 fn name_front<'a>(bytes: &'a [u8]) -> Option<(NameRef<'a>, usize)>
     ensures { option_map (λ x. (name_parts x.0, x.1)) result ≡ name_front bytes.now }
 {
-    let mut front = Code::new(bytes);
-    match front.name() {
-        Ok(name) => Some((name, front.place())),
+    match read_name(bytes) {
+        Ok(front) => Some(front),
         Err(_) => None,
     }
 }

@@ -6,7 +6,7 @@ ghost use Rattle.acpi_outline.specs.View.{fixed_view};
 ghost use Rattle.acpi_conditions.specs.Entries.{Path};
 ghost use Rattle.acpi_survey.specs.Places.{last_at, last_or};
 ghost use Rattle.acpi_survey.specs.Ranges.{has_scope, scope_inside};
-ghost use Rattle.acpi_survey.specs.SpanViews.{entered_in};
+ghost use Rattle.acpi_survey.specs.steps.Remainders.{entered_in};
 ghost use Rattle.acpi_survey.specs.steps.ByPlace.{kept_at};
 
 use crate::by_place::ByPlace;

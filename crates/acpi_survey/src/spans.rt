@@ -4,10 +4,10 @@ ghost use Rattle.std.specs.Prelude.{◌≡◌, ◌<◌, ◌+◌, ◌^◌, ◌++�
 ghost use Rattle.std.specs.Option.{option_map};
 ghost use Rattle.acpi_outline.specs.View.{node_view, nodes_view, fixed_view, placed_views, put_before, end_view, placed_fields, fields_before, fields_end};
 ghost use Rattle.acpi_survey.specs.Ranges.{Entered, first_place, first_field_place, inner_ranges, is_if, ranges_of, scope_inside};
-ghost use Rattle.acpi_survey.specs.SpanViews.{entered_by, left_in, part_of, parts_left, placed_range, ranges_left, scope_of, with_first_range, with_first_span};
+ghost use Rattle.acpi_survey.specs.SpanViews.{left_in, part_of, parts_left, placed_range, ranges_left, scope_of, with_first_range, with_first_span};
 ghost use Rattle.acpi_survey.specs.NestedRanges.{nested_inside, nested_nodes};
 ghost use Rattle.acpi_survey.specs.NestedViews.{nested_in, nested_left, with_first_nested};
-ghost use Rattle.acpi_survey.specs.steps.Remainders.{HasNoItems, behind_if_in, inside_span, left_in_some, nested_in_part, nested_in_some, with_first_inside, with_first_item};
+ghost use Rattle.acpi_survey.specs.steps.Remainders.{HasNoItems, behind_if_in, entered_by, inside_span, left_in_some, nested_in_part, nested_in_some, with_first_inside, with_first_item};
 ghost use Rattle.acpi_survey.specs.declared.spans.Items.TheVariants as items;
 
 use crate::scopes::Places;

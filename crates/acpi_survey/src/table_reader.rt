@@ -21,7 +21,7 @@ use bytes::Bytes;
 use std::alloc::{AllocError, Global};
 
 // The code of a table, of which nothing is read where the table isn't.
-fn code_of(judged: &TableContent) -> Result<Bytes, AllocError>
+fn shared_code(judged: &TableContent) -> Result<Bytes, AllocError>
     ensures { IfOk result (λ b. b ≡ code_read judged.now) }
 {
     match judged {
@@ -43,7 +43,7 @@ fn read_table(
         ≡ behind_table (behind_nodes number reading.old t)) }
 {
     let judged = judge(number, bytes)?;
-    let code = code_of(&judged)?;
+    let code = shared_code(&judged)?;
     reading.come_to_table(number);
     let nodes = read_outline(reading, &code, depth)?;
     let expected = reading.end_table()?;

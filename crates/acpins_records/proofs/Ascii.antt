@@ -3,30 +3,17 @@ use Rattle.std.proofs.Common.{◌≡◌, ℕ, ◌<◌, ◌≤◌, Bool, true, fa
 use Rattle.std.specs.Prelude.{All}
 use Rattle.std.specs.List.{AllZip, join_with_byte}
 use Rattle.std.specs.Str.{IsUtf8}
-use Rattle.std.proofs.lemmas.Bool.{leb-true, eqb-true}
 use Rattle.std.proofs.lemmas.List.Elements.{All-nil, All-cons, All-append, All-take}
 use Rattle.std.proofs.lemmas.Str.{IsUtf8-from_ascii}
 use Rattle.std.proofs.lemmas.Str.Ascii.{IsAscii-from_all}
 use Rattle.acpi_name.specs.Names.{Segment, is_segment, is_lead_char, is_name_char}
 use Rattle.acpi_name.specs.Text.{IsTypedSegment, SpellsPathText, IsPathText}
 use Rattle.acpi_name.proofs.NameAgain.{and_true}
+use Rattle.acpi_name.proofs.Segments.{char_below}
 use Rattle.acpi_body.proofs.SpelledNames.{take_front}
 
 abbrev AreBelow : List ℕ → Type 0
 AreBelow bs = All (λ b. b < 128) bs
-
--- a character of a name is ASCII
-char_below : (a : ℕ) → is_name_char a ≡ true → a < 128
-char_below a h = by (leb 65 a) (leb a 90) (eqb a 95) (leb 48 a) (leb a 57) refl refl refl h
-  where
-    by : (p q r s t : Bool) → leb a 90 ≡ q → eqb a 95 ≡ r → leb a 57 ≡ t → (((p && q) || r) || (s && t)) ≡ true → a < 128
-    by p true r s t eq er et h = let le : a ≤ 90 = leb-true a 90 eq in omega arith
-    by p false true s t eq er et h = let is : a ≡ 95 = eqb-true a 95 er in omega arith
-    by p false false s true eq er et h = let le : a ≤ 57 = leb-true a 57 et in omega arith
-    by true false false true false eq er et h = absurd cc
-    by true false false false false eq er et h = absurd cc
-    by false false false true false eq er et h = absurd cc
-    by false false false false false eq er et h = absurd cc
 
 segment_below : (s : Segment) → is_segment s ≡ true → AreBelow s
 segment_below [] h = absurd cc

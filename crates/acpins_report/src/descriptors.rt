@@ -73,7 +73,7 @@ fn space_word(kind: u8) -> &'static str {
 }
 
 // The lowest and the highest address.
-fn put_between(
+fn put_address_range(
     text: &mut Vec<u8>,
     kind: u8,
     min: u64,
@@ -91,11 +91,11 @@ fn put_between(
 }
 
 fn put_space(text: &mut Vec<u8>, space: &AddressSpace<'_>) -> Result<(), AllocError> {
-    put_between(text, space.kind, space.min, space.max, space.length)
+    put_address_range(text, space.kind, space.min, space.max, space.length)
 }
 
 fn put_extended_space(text: &mut Vec<u8>, space: &ExtendedAddressSpace) -> Result<(), AllocError> {
-    put_between(text, space.kind, space.min, space.max, space.length)
+    put_address_range(text, space.kind, space.min, space.max, space.length)
 }
 
 fn put_interrupts(text: &mut Vec<u8>, interrupt: &ExtendedInterrupt<'_>) -> Result<(), AllocError> {

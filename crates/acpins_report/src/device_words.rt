@@ -1,6 +1,6 @@
 //! Texts of what is known of a device.
 
-use crate::words::{put_chars, put_hex};
+use crate::words::{put_escaped, put_hex};
 use acpi_overview::{Address, Container, Value, integer_value};
 use acpi_resources::{eisa_id, name_of};
 use acpi_text::{put, put_decimal};
@@ -41,7 +41,7 @@ fn put_ids(text: &mut Vec<u8>, elements: &[Term]) -> Result<(), AllocError> {
 fn put_single_id(text: &mut Vec<u8>, value: &Value<'_>) -> Result<(), AllocError> {
     match value {
         Value::Number(number) => put_number_id(text, *number),
-        Value::Text(bytes) => put_chars(text, bytes),
+        Value::Text(bytes) => put_escaped(text, bytes),
         _ => put(text, "?"),
     }
 }
@@ -142,7 +142,7 @@ pub(crate) fn put_mark(
     put(text, word)?;
     match value {
         Value::Number(number) => put_hex(text, *number, 1),
-        Value::Text(bytes) => put_chars(text, bytes),
+        Value::Text(bytes) => put_escaped(text, bytes),
         Value::Method(code) => put_method(text, *code),
         _ => put(text, "?"),
     }

@@ -1,6 +1,6 @@
 //! Texts of tables and of all that they hold.
 
-use crate::words::{put_chars, put_count, put_counted};
+use crate::words::{put_count, put_counted, put_escaped};
 use acpi_overview::{Overview, TableHeader, Totals, header_of, is_sum_good};
 use acpi_survey::SurveyedTable;
 use acpi_text::{put, put_decimal};
@@ -21,15 +21,15 @@ pub(crate) fn put_first(text: &mut Vec<u8>, overview: &Overview<'_>) -> Result<(
 }
 
 fn put_header(text: &mut Vec<u8>, header: &TableHeader<'_>) -> Result<(), AllocError> {
-    put_chars(text, header.signature)?;
+    put_escaped(text, header.signature)?;
     put(text, " rev ")?;
     put_decimal(text, u64::from(header.revision))?;
     put(text, "  ")?;
-    put_chars(text, header.oem_id)?;
+    put_escaped(text, header.oem_id)?;
     put(text, "/")?;
-    put_chars(text, header.oem_table_id)?;
+    put_escaped(text, header.oem_table_id)?;
     put(text, "  ")?;
-    put_chars(text, header.creator_id)?;
+    put_escaped(text, header.creator_id)?;
     put(text, " ")?;
     crate::words::put_hex(text, u64::from(header.creator_revision), 8)
 }
@@ -45,7 +45,7 @@ pub(crate) fn put_table(
     put_decimal(text, number as u64)?;
     if let Some(file) = file {
         put(text, "  ")?;
-        put_chars(text, file.as_bytes())?;
+        put_escaped(text, file.as_bytes())?;
     }
     put(text, "  ")?;
     match header_of(&table.bytes) {

@@ -113,7 +113,7 @@ pub(crate) fn put_last(text: &mut Vec<u8>, path: &Path) -> Result<(), AllocError
 }
 
 /// Puts bytes of a table as characters of ASCII: others as `\x` and two digits.
-pub(crate) fn put_chars(text: &mut Vec<u8>, bytes: &[u8]) -> Result<(), AllocError> {
+pub(crate) fn put_escaped(text: &mut Vec<u8>, bytes: &[u8]) -> Result<(), AllocError> {
     for b in bytes {
         put_char(text, *b)?;
     }

@@ -5,7 +5,7 @@ use Rattle.std.specs.Option.{unwrap_or}
 use Rattle.std.specs.FinMap.{get}
 use Rattle.acpi_name.specs.Names.{Segment, NameParts}
 use Rattle.acpi_name.specs.Spelling.{BeginsWithName}
-use Rattle.acpi_name.specs.steps.Reading.{ups}
+use Rattle.acpi_name.specs.Reading.{ups}
 use Rattle.acpi_space.specs.Spaces.{PathMap, is_defined}
 use Rattle.acpi_space.specs.Lookups.{Lookup, is_same_path, is_defined_in}
 use Rattle.acpi_space.specs.Search.{missed}

@@ -5,7 +5,7 @@ use Rattle.std.specs.Prelude.{◌-◌, ℕ, zero, suc, Bool, ◌||◌, ◌&&◌,
 use Rattle.std.specs.List.{take_while}
 use Rattle.byteorder.specs.Endian.{little_number}
 use Rattle.acpi_name.specs.Names.{NameParts, Segment}
-use Rattle.acpi_name.specs.steps.Reading.{name_at, segment_at}
+use Rattle.acpi_name.specs.Reading.{name_at, segment_at}
 use Rattle.acpi_name.specs.declared.reading.NameFault.{NameFault}
 use Rattle.acpi_name.specs.declared.reading.NameFault.TheVariants as names
 use Rattle.acpi_table.specs.steps.PkgLengthRead.{pkg_length_at}

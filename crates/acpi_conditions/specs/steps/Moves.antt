@@ -7,7 +7,7 @@ use Rattle.acpi_conditions.specs.Known.{Certain}
 use Rattle.acpi_conditions.specs.Survey.{turning, leaves_table}
 use Rattle.acpi_conditions.specs.Walk.{of_term, of_other, Package, Walk, pass, out_of, given_inside, given_by, certain_after}
 use Rattle.acpi_conditions.specs.EntryForms.{asks_view}
-use Rattle.acpi_conditions.specs.declared.sites.Site.{Site as SiteForm}
+use Rattle.acpi_conditions.specs.declared.targets.Target.{Target as TargetForm}
 
 abbrev pub with_turn : Turn → Walk → Walk
 with_turn turn w = record w { around = turning w.around turn }
@@ -68,7 +68,7 @@ at_start w = record w {
 }
 
 -- the entry of a term that stands here
-abbrev pub entry_here : Walk → Term → SiteForm → Entry
+abbrev pub entry_here : Walk → Term → TargetForm → Entry
 entry_here w t s =
     record {
       term = t;

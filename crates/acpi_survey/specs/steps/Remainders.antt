@@ -4,12 +4,23 @@ use Rattle.acpi_conditions.specs.Entries.{Path}
 use Rattle.acpi_survey.specs.Spans.{Part, of_node, of_element, of_lost}
 use Rattle.acpi_survey.specs.Ranges.{Range, Entered, inner_ranges}
 use Rattle.acpi_survey.specs.SpanViews.{part_of, span_range, left_in}
+use Rattle.acpi_survey.specs.Survey.{place_in}
+use Rattle.acpi_survey.specs.steps.ByPlace.{kept_at}
 use Rattle.acpi_survey.specs.NestedRanges.{NestedRange, nested_inside}
 use Rattle.acpi_survey.specs.NestedViews.{nested_view, nested_in}
+use Rattle.acpi_survey.specs.declared.scopes.Places.{Places}
 use Rattle.acpi_survey.specs.declared.spans.Span.{Span}
 use Rattle.acpi_survey.specs.declared.spans.Items.{Items}
 use Rattle.acpi_survey.specs.declared.spans.Items.TheVariants as items
 use Rattle.acpi_survey.specs.declared.spans.Remainder.{Remainder}
+
+-- what is entered at the places of the table
+abbrev pub entered_in : Places → Entered
+entered_in p place = kept_at p.paths.now (place_in p.table place)
+
+abbrev pub entered_by : Option Places → Entered
+entered_by None place = None
+entered_by (Some p) place = entered_in p place
 
 abbrev pub left_in_some : Entered → Option Remainder → List Range
 left_in_some entered None = []

@@ -13,10 +13,10 @@ use Rattle.acpi_conditions.proofs.walk.Walk.put_certain.Goals as goal
 pub returns : goal.returns
 returns c =
     let w : Walk = c.args.self.now in
-    let e : Entry = entry_here w (term_view c.args.term) c.args.site in
+    let e : Entry = entry_here w (term_view c.args.term) c.args.target in
     let presence = c.raised-presence.result in
     let number = c.in_ok-number.number in
     on_ok_map c.certify_entry.result _ _
     (λ is. is ∙ ap (λ (v : Walk). with_certain (certain_there presence (option_map (λ e. e.path) (slice_get v.entries number)) ++ v.known.certain) v) c.in_ok-number.ensures.walk
     ∙ last_certified w e number c.in_ok-number.ensures.number presence
-    ∙ ap (λ (cs : List Certain). with_certain (cs ++ w.known.certain) (with_entry e w)) (ap (certain_at c.args.site.path) c.raised-presence.ensures ∙ raised_there c.args.term.is_scope c.args.site.path)) c.certify_entry.ensures
+    ∙ ap (λ (cs : List Certain). with_certain (cs ++ w.known.certain) (with_entry e w)) (ap (certain_at c.args.target.path) c.raised-presence.ensures ∙ raised_there c.args.term.is_scope c.args.target.path)) c.certify_entry.ensures

@@ -13,7 +13,7 @@ use Rattle.acpi_conditions.proofs.walk.Walk.put_settled.Goals as goal
 pub returns : goal.returns
 returns c =
     let w : Walk = c.args.self.now in
-    let e : Entry = entry_here w (term_view c.args.term) c.args.site in
+    let e : Entry = entry_here w (term_view c.args.term) c.args.target in
     let number = c.in_ok-number.number in
     on_ok_map c.settle.result _ _
     (λ is. is ∙ ap (λ (v : Walk). with_certain (flat_map settled (option_to_list (slice_get v.entries number)) ++ v.known.certain) v) c.in_ok-number.ensures.walk

@@ -1,5 +1,6 @@
 use Rattle.std.proofs.Common.{◌≡◌, length}
-use Rattle.acpi_survey.specs.SpanViews.{entered_by, ranges_left}
+use Rattle.acpi_survey.specs.SpanViews.{ranges_left}
+use Rattle.acpi_survey.specs.steps.Remainders.{entered_by}
 use Rattle.acpi_survey.specs.NestedViews.{nested_left}
 use Rattle.acpi_survey.proofs.spans.Spans.next_scoped.Given as goal
 

@@ -13,20 +13,20 @@ use std::alloc::Global;
 
 /// Where a term declares its object, and what it asks.
 #[derive(Drop)]
-pub(crate) struct Site {
+pub(crate) struct Target {
     /// The path at which the object would stand.
     pub path: Path,
     /// What it asks.
     pub asks: Asks,
 }
 
-/// The site of a term that stands in a scope.
-pub(crate) fn site_of<S: Statuses>(
+/// The target of a term that stands in a scope.
+pub(crate) fn target_of<S: Statuses>(
     alloc: Global,
     known: &S,
     scope: &Path,
     term: &Term,
-) -> Result<Site, PlacingFault>
+) -> Result<Target, PlacingFault>
     ensures ok { IfOk result (λ s. declared_at (S.known known.now) scope.now term.now.name
         ≡ Ok s.path) }
     ensures asks { IfOk result (λ s. asks_view s.asks
@@ -43,7 +43,7 @@ pub(crate) fn site_of<S: Statuses>(
                 needs,
             };
             let path = placing.path;
-            Ok(Site { path, asks })
+            Ok(Target { path, asks })
         }
         Err(fault) => Err(fault),
     }
