@@ -1,0 +1,5 @@
+mod ClaimOrder
+mod Furthest
+mod Chains
+mod Naming
+pub mod Claiming

@@ -4,3 +4,6 @@ pub mod OspmMethods
 pub mod Regions
 pub mod Tables
 pub mod Containers
+pub mod HostBridges
+pub mod Claims
+pub mod steps

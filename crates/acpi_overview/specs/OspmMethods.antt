@@ -1,29 +1,58 @@
 -- Control methods that an operating system runs by itself (ACPI 6.5, 5.6.4, 5.8.1, 6.2.11, 6.3.7, 6.5.1, 6.5.4, 7.3.13
 -- and 7.4).
-use Rattle.std.specs.Prelude.{◌≡◌, ◌≤◌, ◌⊎◌, ℕ, List, [], ◌∷◌, codes}
+use Rattle.std.specs.Prelude.{ℕ, Bool, false, ◌==◌, ◌&&◌, ◌||◌, nat_eq, nat_le, List, [], ◌∷◌, length, codes, Option, Some, None, if◌then◌else◌}
+use Rattle.std.specs.Option.{option_or}
+use Rattle.std.specs.Cmp.Lexicographic.{pointwise}
+use Rattle.acpi_overview.specs.Paths.{last_name}
 use Rattle.acpi_overview.specs.declared.ospm_methods.OspmKind.{OspmKind}
 use Rattle.acpi_overview.specs.declared.ospm_methods.OspmKind.TheVariants as kinds
+use Rattle.acpins_survey_output.specs.declared.objects.Declared.{Declared}
+use Rattle.acpins_survey_output.specs.declared.objects.Declared.TheVariants as objects
 
-abbrev pub IsHexDigit : ℕ → Type 0
-IsHexDigit b = ((48 ≤ b) × (b ≤ 57)) ⊎ ((65 ≤ b) × (b ≤ 70))
+-- whether two names are the same
+abbrev pub is_name : List ℕ → List ℕ → Bool
+is_name = pointwise nat_eq
+
+-- 0 to 9 and A to F
+abbrev pub is_hex_digit : ℕ → Bool
+is_hex_digit b = (nat_le 48 b && nat_le b 57) || (nat_le 65 b && nat_le b 70)
 
 -- `_`, a letter and two hexadecimal digits
-abbrev pub IsNumbered : ℕ → List ℕ → Type 0
-IsNumbered letter (a ∷ b ∷ c ∷ d ∷ []) = (a ≡ 95) × (b ≡ letter) × IsHexDigit c × IsHexDigit d
-IsNumbered _ _ = ⊥
+abbrev pub is_numbered : (letter : ℕ) (name : List ℕ) → Bool
+is_numbered letter (a ∷ b ∷ c ∷ d ∷ []) =
+    a == 95 && b == letter && is_hex_digit c && is_hex_digit d
+is_numbered _ _ = false
 
-abbrev pub IsSystemName : List ℕ → Type 0
-IsSystemName s = (s ≡ codes "_PIC")
-    ⊎ ((s ≡ codes "_PTS")
-    ⊎ ((s ≡ codes "_WAK") ⊎ ((s ≡ codes "_TTS") ⊎ ((s ≡ codes "_GTS") ⊎ (s ≡ codes "_BFS")))))
+-- names of methods at any place (6.5.1, 6.5.4, 6.2.11, 6.3.7 and 7.3.13)
+abbrev pub named_kind : List ℕ → Option OspmKind
+named_kind name =
+    if is_name name (codes "_INI") then Some kinds.Init else
+    if is_name name (codes "_REG") then Some kinds.Reg else
+    if is_name name (codes "_OSC") then Some kinds.Osc else
+    if is_name name (codes "_STA") then Some kinds.Sta else
+    if is_name name (codes "_PRW") then Some kinds.Wake else None
 
--- a name that methods of the kind have; 81 is Q, 76 L and 69 E
-abbrev pub IsNameOf : OspmKind → List ℕ → Type 0
-IsNameOf kinds.Init s = s ≡ codes "_INI"
-IsNameOf kinds.Reg s = s ≡ codes "_REG"
-IsNameOf kinds.Osc s = s ≡ codes "_OSC"
-IsNameOf kinds.Sta s = s ≡ codes "_STA"
-IsNameOf kinds.Wake s = s ≡ codes "_PRW"
-IsNameOf kinds.Query s = IsNumbered 81 s
-IsNameOf kinds.Event s = IsNumbered 76 s ⊎ IsNumbered 69 s
-IsNameOf kinds.System s = IsSystemName s
+-- names of methods at the root (5.8.1 and 7.4)
+abbrev pub system_kind : List ℕ → Option OspmKind
+system_kind name =
+    if is_name name (codes "_PIC") || is_name name (codes "_PTS") ||
+    is_name name (codes "_WAK") || is_name name (codes "_TTS") ||
+    is_name name (codes "_GTS") || is_name name (codes "_BFS")
+    then Some kinds.System else None
+
+-- names of methods elsewhere that end with a number (5.6.4); 81 is Q, 76 L and 69 E
+abbrev pub numbered_kind : List ℕ → Option OspmKind
+numbered_kind name =
+    if is_numbered 81 name then Some kinds.Query else
+    if is_numbered 76 name || is_numbered 69 name then Some kinds.Event else None
+
+-- the kind of a method, by its path
+abbrev pub method_kind : (path : List (List ℕ)) → Option OspmKind
+method_kind path = let name = last_name path in
+    option_or (named_kind name)
+    (if length path == 1 then system_kind name else numbered_kind name)
+
+-- the kind of what a term declares; only methods have one
+abbrev pub ospm_kind : Declared → (path : List (List ℕ)) → Option OspmKind
+ospm_kind (objects.Method flags) path = method_kind path
+ospm_kind _ path = None

@@ -1,5 +1,8 @@
 //! Where devices stand on their parents' buses.
 
+ghost use Rattle.std.specs.Prelude.{◌≡◌};
+ghost use Rattle.acpi_overview.specs.HostBridges.{is_bridge_id, is_bridge_term, is_host_bridge};
+
 use crate::containers::Container;
 use crate::value::{Value, integer_value};
 use acpi_tree::Term;
@@ -20,7 +23,9 @@ pub enum Address {
     Other(u64),
 }
 
-fn is_bridge_id(value: &Value<'_>) -> bool {
+fn is_bridge_id(value: &Value<'_>) -> bool
+    ensures { result ≡ is_bridge_id value.now }
+{
     match value {
         // PNP0A03 and PNP0A08 as EISA ids.
         Value::Number(number) => *number == 0x030A_D041 || *number == 0x080A_D041,
@@ -30,7 +35,9 @@ fn is_bridge_id(value: &Value<'_>) -> bool {
     }
 }
 
-fn is_bridge_term(term: &Term) -> bool {
+fn is_bridge_term(term: &Term) -> bool
+    ensures { result ≡ is_bridge_term term.now }
+{
     match term {
         Term::Int(int) => match integer_value(*int) {
             Some(number) => number == 0x030A_D041 || number == 0x080A_D041,
@@ -77,7 +84,9 @@ enum Bus {
 
 impl<'a> Container<'a> {
     /// Whether it is a PCI host bridge, by its ids.
-    pub fn is_host_bridge(&self) -> bool {
+    pub fn is_host_bridge(&self) -> bool
+        ensures { result ≡ is_host_bridge self.now }
+    {
         is_bridge_id(&self.values.hid) || is_bridge_id(&self.values.cid)
     }
 

@@ -14,6 +14,7 @@
 #![tactic(auto)]
 
 mod addresses;
+mod claims;
 mod containers;
 mod headers;
 mod lints;
@@ -27,6 +28,7 @@ mod store_targets;
 mod value;
 
 pub use addresses::Address;
+pub use claims::{Claim, Claims, Cover};
 pub use containers::{
     Container, DeviceValues, MemberCounts, Tree, is_container, is_directly_in, is_within,
     last_segment,
@@ -37,7 +39,7 @@ pub use machine::{Overview, Totals, overview_of};
 pub use objects::{Object, objects_at, objects_of};
 pub use ospm_methods::{OSPM_KINDS, OspmKind, OspmMethod, ospm_kind, ospm_methods_of};
 pub use regions::{Bound, Certainty, Region, kind_of, regions_of};
-pub use resources::{AddressKind, Claim, Claims, Cover, claimed_range, resources_of};
+pub use resources::{AddressKind, claimed_range, resources_of};
 pub use sources::UnitSource;
 pub use store_targets::StoreTargets;
 pub use value::{Value, integer_value};

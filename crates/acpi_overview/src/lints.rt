@@ -1,10 +1,10 @@
 //! What looks wrong in what the tables say.
 
 use crate::addresses::Address;
+use crate::claims::Claims;
 use crate::containers::Container;
 use crate::objects::Object;
 use crate::regions::{Region, kind_of, regions_at};
-use crate::resources::Claims;
 use crate::value::Value;
 use acpi_resources::{Stop, Template};
 use acpi_survey::Survey;

@@ -1,11 +1,12 @@
 //! The overview of a machine.
 
+use crate::claims::Claims;
 use crate::containers::Tree;
 use crate::lints::{Lint, count_units, put_lints};
 use crate::objects::{Object, objects_of};
 use crate::ospm_methods::{OspmMethod, ospm_methods_of};
 use crate::regions::{Region, regions_of};
-use crate::resources::{Claims, resources_of};
+use crate::resources::resources_of;
 use crate::store_targets::StoreTargets;
 use acpi_resources::Template;
 use acpi_survey::{Note, Problem, Survey};

@@ -1,9 +1,7 @@
 //! What an operating system runs without being asked.
 
-ghost use Rattle.std.specs.Prelude.{◌≡◌, ℕ, IfSome, IsSome, IsTrue};
-ghost use Rattle.acpi_overview.specs.OspmMethods.{IsHexDigit, IsNameOf};
-ghost use Rattle.acpi_overview.specs.Paths.{last_name};
-ghost use Rattle.acpins_survey_output.specs.declared.objects.Declared.TheVariants as objects;
+ghost use Rattle.std.specs.Prelude.{◌≡◌};
+ghost use Rattle.acpi_overview.specs.OspmMethods.{is_hex_digit, named_kind, numbered_kind, ospm_kind, system_kind};
 
 use crate::containers::last_segment;
 use crate::objects::Object;
@@ -53,14 +51,14 @@ pub struct OspmMethod<'a> {
 }
 
 fn is_hex(b: u8) -> bool
-    ensures { IsTrue result → IsHexDigit b }
+    ensures { result ≡ is_hex_digit b }
 {
     (b'0' <= b && b <= b'9') || (b'A' <= b && b <= b'F')
 }
 
 // By a name that has no number in it.
 fn named_kind(segment: [u8; 4]) -> Option<OspmKind>
-    ensures { IfSome result (λ k. IsNameOf k segment) }
+    ensures { result ≡ named_kind segment }
 {
     match segment.as_slice() {
         b"_INI" => Some(OspmKind::Init),
@@ -74,7 +72,7 @@ fn named_kind(segment: [u8; 4]) -> Option<OspmKind>
 
 // Of a method at the root.
 fn system_kind(segment: [u8; 4]) -> Option<OspmKind>
-    ensures { IfSome result (λ k. IsNameOf k segment) }
+    ensures { result ≡ system_kind segment }
 {
     match segment.as_slice() {
         b"_PIC" | b"_PTS" | b"_WAK" | b"_TTS" | b"_GTS" | b"_BFS" => Some(OspmKind::System),
@@ -84,7 +82,7 @@ fn system_kind(segment: [u8; 4]) -> Option<OspmKind>
 
 // By a name that ends with a number.
 fn numbered_kind(segment: [u8; 4]) -> Option<OspmKind>
-    ensures { IfSome result (λ k. IsNameOf k segment) }
+    ensures { result ≡ numbered_kind segment }
 {
     let [first, second, high, low] = segment;
     if first != b'_' || !is_hex(high) || !is_hex(low) {
@@ -99,8 +97,7 @@ fn numbered_kind(segment: [u8; 4]) -> Option<OspmKind>
 
 /// The kind of a method, if an operating system runs it by itself.
 pub fn ospm_kind(object: &Object<'_>) -> Option<OspmKind>
-    ensures method { IsSome result → (flags : ℕ) × (object.now.declared ≡ objects.Method flags) }
-    ensures named { IfSome result (λ k. IsNameOf k (last_name object.now.path.now)) }
+    ensures { result ≡ ospm_kind object.now.declared object.now.path.now }
 {
     let Declared::Method(_) = object.declared else {
         return None;
