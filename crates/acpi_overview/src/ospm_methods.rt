@@ -23,7 +23,7 @@ pub enum OspmKind {
     Wake,
     /// `_Qxx`, for an event of an embedded controller (5.6.4.1.2).
     Query,
-    /// `_Lxx` and `_Exx` below `\_GPE`, for a general purpose event (5.6.4.1.1).
+    /// `_Lxx` and `_Exx`, for an event of `\_GPE` or of a GPIO controller (5.6.4.1.1 and 5.6.5.1).
     Event,
     /// `\_PIC`, `\_PTS`, `\_WAK` and the like, for the machine as a whole (5.8.1 and 7.4).
     System,
