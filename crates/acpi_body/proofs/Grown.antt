@@ -17,7 +17,7 @@ use Rattle.acpi_space.proofs.Filters.{among_filter}
 use Rattle.acpi_counts.specs.Counts.{first_of, with_first}
 use Rattle.acpi_tree.specs.Terms.{TermTrees}
 use Rattle.acpi_body.specs.declared.gathered.Gathered.{Gathered}
-use Rattle.acpi_body.specs.Arguments.{namespace_of, Locals, with_local, defined_with, expected_place}
+use Rattle.acpi_body.specs.Arguments.{namespace_of, Locals, with_path, defined_with, expected_place}
 use Rattle.acpi_body.specs.Searches.{Searched, all_searches}
 use Rattle.acpi_body.specs.Misses.{unless_found, awaited_place, IsMissedIn, IsAwaitedIn}
 use Rattle.acpi_body.specs.steps.Setting.{Setting}
@@ -61,7 +61,7 @@ grows_then a b c P Q f g p = (λ h. to ((g p).0 h), from)
     from (inr (inr h)) = (g p).1 (inr h)
 
 -- one path more
-pub grows_local : (m : Paths) (q : List Segment) → Grows m (with_local m q) (λ p. q ≡ p)
+pub grows_local : (m : Paths) (q : List Segment) → Grows m (with_path m q) (λ p. q ≡ p)
 grows_local m q p = by (is_defined m q) refl
   where
     put : (b : Bool) → is_same_path p q ≡ b → IsTrue (is_some (cond b (Some tt) (get m p))) ↔ (IsTrue (is_defined m p) ⊎ (q ≡ p))
@@ -89,17 +89,17 @@ is_at-false : (a : Option (List Segment)) (q : List Segment) → is_at a q ≡ f
 is_at-false None q e h = cc
 is_at-false (Some r) q e h = let same : r ≡ q = cc in true≢false (sym ((path_eq_Decides q r).1 (sym same)) ∙ e)
 
-one_miss : (a : Option (List Segment)) (m : Paths) (q : List Segment) → Grows m (cond (is_at a q) m (with_local m q)) (λ p. (q ≡ p) × (a ≢ Some p))
+one_miss : (a : Option (List Segment)) (m : Paths) (q : List Segment) → Grows m (cond (is_at a q) m (with_path m q)) (λ p. (q ≡ p) × (a ≢ Some p))
 one_miss a m q = by (is_at a q) refl
   where
-    by : (b : Bool) → is_at a q ≡ b → Grows m (cond b m (with_local m q)) (λ p. (q ≡ p) × (a ≢ Some p))
+    by : (b : Bool) → is_at a q ≡ b → Grows m (cond b m (with_path m q)) (λ p. (q ≡ p) × (a ≢ Some p))
     by true e = grows_as m m (λ p. ⊥) (λ p. (q ≡ p) × (a ≢ Some p)) (λ p. (λ h. absurd h, λ h. h.1 (is_at-true a q e ∙ ap Some h.0))) (grows_not m)
-    by false e = grows_as m (with_local m q) (λ p. q ≡ p) (λ p. (q ≡ p) × (a ≢ Some p)) (λ p. (λ h. (h, subst (λ r. a ≢ Some r) h (is_at-false a q e)), λ h. h.0)) (grows_local m q)
+    by false e = grows_as m (with_path m q) (λ p. q ≡ p) (λ p. (q ≡ p) × (a ≢ Some p)) (λ p. (λ h. (h, subst (λ r. a ≢ Some r) h (is_at-false a q e)), λ h. h.0)) (grows_local m q)
 
 pub misses_grow : (a : Option (List Segment)) (m : Paths) (ps : List (List Segment)) → Grows m (with_misses a m ps) (λ p. Among ps p × (a ≢ Some p))
 misses_grow a m [] = grows_as m m (λ p. ⊥) (λ p. ⊥ × (a ≢ Some p)) (λ p. (λ h. absurd h, λ h. h.0)) (grows_not m)
 misses_grow a m (q ∷ ps) =
-    let n = cond (is_at a q) m (with_local m q) in
+    let n = cond (is_at a q) m (with_path m q) in
     grows_as m (with_misses a n ps) (λ p. ((q ≡ p) × (a ≢ Some p)) ⊎ (Among ps p × (a ≢ Some p))) (λ p. ((q ≡ p) ⊎ Among ps p) × (a ≢ Some p)) (λ p. (to p, λ h. from p h.0 h.1))
     (grows_then m n (with_misses a n ps) (λ p. (q ≡ p) × (a ≢ Some p)) (λ p. Among ps p × (a ≢ Some p)) (one_miss a m q) (misses_grow a n ps))
   where

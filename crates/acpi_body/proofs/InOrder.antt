@@ -5,11 +5,11 @@ use Rattle.acpi_tree.specs.Terms.{TermTree}
 use Rattle.acpi_tree.specs.declared.place.Place.TheVariants.{Value}
 use Rattle.acpi_tree.specs.declared.place.OperandKind.{OperandKind}
 use Rattle.acpi_tree.specs.declared.place.OperandKind.TheVariants.{At}
-use Rattle.acpi_code.specs.steps.Left.{Left, Shorter}
+use Rattle.acpi_code.specs.steps.Remaining.{Remaining, Advances}
 use Rattle.acpi_code.specs.steps.Reading.{◌>>=◌, Reading}
 use Rattle.acpi_body.specs.declared.fault.BodyFault.{BodyFault}
-use Rattle.acpi_body.specs.declared.fault.Stop.{Stop}
-use Rattle.acpi_body.specs.declared.fault.Stop.TheVariants as stops
+use Rattle.acpi_body.specs.declared.fault.BodyError.{BodyError}
+use Rattle.acpi_body.specs.declared.fault.BodyError.TheVariants as stops
 use Rattle.acpi_body.specs.Spelling.{values}
 use Rattle.acpi_body.specs.steps.Cursor.{Fails}
 use Rattle.acpi_body.specs.steps.Reading.{Reader, operand_at, operands_at}
@@ -27,12 +27,12 @@ none_yet (Ok x) = refl
 none_yet (Err f) = refl
 
 -- `front` was read, and operands of these kinds are still to be read of what is left
-pub record Operated (inner : Reader) (all kinds : List OperandKind) (first now : Left) (front : List TermTree) : Type 0 where
+pub record Operated (inner : Reader) (all kinds : List OperandKind) (first now : Remaining) (front : List TermTree) : Type 0 where
   pub same_end : now.end ≡ first.end
   pub within : length now.bytes ≤ length first.bytes
   pub told : with_front front (operands_at inner kinds first.end now.bytes) ≡ operands_at inner all first.end first.bytes
 
-pub operated_starts : (inner : Reader) (all : List OperandKind) (first : Left) → Operated inner all all first first []
+pub operated_starts : (inner : Reader) (all : List OperandKind) (first : Remaining) → Operated inner all all first first []
 operated_starts inner all first = record { same_end = refl; within = omega arith; told = none_yet (operands_at inner all first.end first.bytes) }
 
 operand_step : (inner : Reader) (k : OperandKind) (ks : List OperandKind) (end : ℕ) (rest after : List ℕ) (front : List TermTree) (x : TermTree)
@@ -43,8 +43,8 @@ operand_step inner k ks end rest after front x all read told =
     let now : operands_at inner (k ∷ ks) end rest ≡ (operands_at inner ks end after >>= λ xs. Ok (x ∷ xs.0, xs.1)) = rw read refl in
     sym (regroup front x (operands_at inner ks end after)) ∙ ap (with_front front) (sym now) ∙ told
 
-pub operated_goes_on : (inner : Reader) (all : List OperandKind) (k : OperandKind) (ks : List OperandKind) (first now after : Left) (front : List TermTree) (x : TermTree)
-    → operand_at inner k now.end now.bytes ≡ Ok (x, after.bytes) → Shorter now after → Operated inner all (k ∷ ks) first now front → Operated inner all ks first after (front ++ x ∷ [])
+pub operated_goes_on : (inner : Reader) (all : List OperandKind) (k : OperandKind) (ks : List OperandKind) (first now after : Remaining) (front : List TermTree) (x : TermTree)
+    → operand_at inner k now.end now.bytes ≡ Ok (x, after.bytes) → Advances now after → Operated inner all (k ∷ ks) first now front → Operated inner all ks first after (front ++ x ∷ [])
 operated_goes_on inner all k ks first now after front x read on so =
     let same : operand_at inner k first.end now.bytes ≡ Ok (x, after.bytes) = rw (sym so.same_end) read in
     record {
@@ -60,7 +60,7 @@ unfolding operands_at
 operand_fails inner k ks end rest front all f read told =
     let now : operands_at inner (k ∷ ks) end rest ≡ Err f = rw read refl in sym told ∙ rw now refl
 
-pub operated_ends : (inner : Reader) (all : List OperandKind) (k : OperandKind) (ks : List OperandKind) (first now : Left) (front : List TermTree) (e : Stop)
+pub operated_ends : (inner : Reader) (all : List OperandKind) (k : OperandKind) (ks : List OperandKind) (first now : Remaining) (front : List TermTree) (e : BodyError)
     → Fails e (operand_at inner k now.end now.bytes) → Operated inner all (k ∷ ks) first now front → Fails e (operands_at inner all first.end first.bytes)
 operated_ends inner all k ks first now front stops.Memory fails so = tt
 operated_ends inner all k ks first now front (stops.Fault f) fails so =
@@ -71,7 +71,7 @@ operands_none : (inner : Reader) (end : ℕ) (rest : List ℕ) (front : List Ter
 unfolding operands_at
 operands_none inner end rest front = ap (λ l. Ok (l, rest)) (append-nil front)
 
-pub operated_is_done : (inner : Reader) (all : List OperandKind) (first now : Left) (front : List TermTree) → Operated inner all [] first now front
+pub operated_is_done : (inner : Reader) (all : List OperandKind) (first now : Remaining) (front : List TermTree) → Operated inner all [] first now front
     → operands_at inner all first.end first.bytes ≡ Ok (front, now.bytes)
 operated_is_done inner all first now front so = sym so.told ∙ operands_none inner first.end now.bytes front
 

@@ -5,7 +5,7 @@ use Rattle.acpi_tree.specs.declared.place.Place.{Place}
 use Rattle.acpi_code.specs.declared.fault.CodeFault.{CodeFault}
 use Rattle.acpi_code.specs.declared.opcode.Opcode.{Opcode}
 use Rattle.acpi_code.specs.steps.Reading.{opcode_at}
-use Rattle.acpi_body.specs.declared.fault.Stop.TheVariants as stops
+use Rattle.acpi_body.specs.declared.fault.BodyError.TheVariants as stops
 use Rattle.acpi_body.specs.Arguments.{Locals, Arguments}
 use Rattle.acpi_body.specs.Faults.{fault_of}
 use Rattle.acpi_body.specs.Grammars.{Grammar, body_grammar}

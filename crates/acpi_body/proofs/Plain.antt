@@ -6,12 +6,12 @@ use Rattle.acpi_tree.specs.declared.place.Place.TheVariants.{Value, Element}
 use Rattle.acpi_tree.specs.Terms.{TermTree, int, str, buffer, pkg, var_pkg, call, apply, terms_of}
 use Rattle.acpi_code.specs.declared.opcode.Opcode.{Opcode}
 use Rattle.acpi_code.specs.declared.opcode.Opcode.TheVariants as opcodes
-use Rattle.acpi_code.specs.steps.Left.{Left}
+use Rattle.acpi_code.specs.steps.Remaining.{Remaining}
 use Rattle.acpi_tree.specs.Operators.{operands_of}
 use Rattle.acpi_code.specs.steps.Reading.{◌>>=◌, Reading, each_at, byte_at, package_at, name_in, constant_at, string_at}
 use Rattle.acpi_body.specs.declared.fault.BodyFault.{BodyFault}
 use Rattle.acpi_body.specs.declared.fault.BodyReason.{BodyReason}
-use Rattle.acpi_body.specs.declared.fault.Stop.{Stop}
+use Rattle.acpi_body.specs.declared.fault.BodyError.{BodyError}
 use Rattle.acpi_body.specs.Arguments.{Locals}
 use Rattle.acpi_body.specs.Statements.{locals_after}
 use Rattle.acpi_body.specs.Grammars.{Grammar}
@@ -82,7 +82,7 @@ placed_keeps grammar inner place end whole o rest = keeps_unless (refusal_at gra
 
 -- ---- as a function answers it
 
-pub locals_kept : {X : Type 0} (view : X → TermTree) (read : ℕ → List ℕ → Reading BodyFault TermTree) (old new : Left) (result : Result X Stop) (s : List Segment) (locals : Locals)
+pub locals_kept : {X : Type 0} (view : X → TermTree) (read : ℕ → List ℕ → Reading BodyFault TermTree) (old new : Remaining) (result : Result X BodyError) (s : List Segment) (locals : Locals)
     → Keeps (read old.end old.bytes) → Reads view read old new result → IfOk result (λ x. locals ≡ locals_after s locals (view x))
 locals_kept view read old new (Ok x) s locals keeps h = let k : Keeps (Ok (view x, new.bytes)) = subst Keeps h.0 keeps in sym (k s locals)
 locals_kept view read old new (Err e) s locals keeps h = tt

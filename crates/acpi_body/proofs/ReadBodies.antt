@@ -9,8 +9,8 @@ use Rattle.acpi_code.proofs.Readings.{Judge, Source, Position}
 use Rattle.acpi_body.specs.declared.fault.BodyFault.{BodyFault}
 use Rattle.acpi_body.specs.declared.fault.BodyReason.{BodyReason}
 use Rattle.acpi_body.specs.declared.fault.BodyReason.TheVariants.{Unsure}
-use Rattle.acpi_body.specs.declared.fault.Stop.{Stop}
-use Rattle.acpi_body.specs.declared.fault.Stop.TheVariants as stops
+use Rattle.acpi_body.specs.declared.fault.BodyError.{BodyError}
+use Rattle.acpi_body.specs.declared.fault.BodyError.TheVariants as stops
 use Rattle.acpi_space.specs.Lookups.{Lookup}
 use Rattle.acpi_body.specs.Arguments.{Namespace, Locals, Arguments, arguments}
 use Rattle.acpi_body.specs.Statements.{ReadsBody}
@@ -18,7 +18,7 @@ use Rattle.acpi_body.specs.Faults.{IsUnsure, ShowsBody, IsNoStatement}
 use Rattle.acpi_body.specs.Reasons.{IfFault}
 use Rattle.acpi_body.specs.Bodies.{BodyTree, read, unread, IsBodyOf}
 use Rattle.acpi_body.specs.steps.Reading.{body_at}
-use Rattle.acpi_body.specs.steps.Answers.{body_of, told}
+use Rattle.acpi_body.specs.steps.Answers.{body_of, fault_in}
 use Rattle.acpi_body.specs.steps.Cursor.{Gives}
 use Rattle.acpi_body.proofs.TermComplete.{listed, terms_of-listed}
 use Rattle.acpi_body.proofs.StatementComplete.{statements_complete}
@@ -117,30 +117,30 @@ read_law view args s depth bytes (Err e) h = tt
 -- ---- why it isn't read
 
 why_just : (args : Arguments) (s : List Segment) (depth : ℕ) (bytes : List ℕ) (r : Result (List TermTree) BodyFault) → reading args s depth bytes ≡ r
-    → (told r ≡ None) ↔ ((ts : TermTrees) × ReadsBody args s depth bytes ts)
+    → (fault_in r ≡ None) ↔ ((ts : TermTrees) × ReadsBody args s depth bytes ts)
 why_just args s depth bytes (Ok ts) e = (λ none. (terms_of ts, took args s depth bytes ts e), λ some. refl)
 why_just args s depth bytes (Err f) e = (λ none. absurd cc, λ some. absurd (not_both f (listed some.0) (sym e ∙ again args s depth bytes some.0 some.1)))
 
 pub why_law : {E : Type 0} (args : Arguments) (s : List Segment) (depth : ℕ) (bytes : List ℕ) (result : Result (Option BodyFault) E)
-    → IfOk result (λ w. w ≡ told (reading args s depth bytes)) → IfOk result (λ w. (w ≡ None) ↔ ((ts : TermTrees) × ReadsBody args s depth bytes ts))
+    → IfOk result (λ w. w ≡ fault_in (reading args s depth bytes)) → IfOk result (λ w. (w ≡ None) ↔ ((ts : TermTrees) × ReadsBody args s depth bytes ts))
 why_law args s depth bytes (Ok w) h = subst (λ w. (w ≡ None) ↔ ((ts : TermTrees) × ReadsBody args s depth bytes ts)) (sym h) (why_just args s depth bytes (reading args s depth bytes) refl)
 why_law args s depth bytes (Err e) h = tt
 
 pub next_law : {E : Type 0} (args : Arguments) (s : List Segment) (depth : ℕ) (bytes : List ℕ) (result : Result (Option BodyFault) E)
-    → IfOk result (λ w. w ≡ told (reading args s depth bytes)) → 0 < depth → (u w : List ℕ) (ts : TermTrees) (reason : BodyReason) → bytes ≡ u ++ w → ReadsBody args s depth u ts → IsNoStatement reason w
+    → IfOk result (λ w. w ≡ fault_in (reading args s depth bytes)) → 0 < depth → (u w : List ℕ) (ts : TermTrees) (reason : BodyReason) → bytes ≡ u ++ w → ReadsBody args s depth u ts → IsNoStatement reason w
     → IfOk result (λ f. f ≡ Some (record { reason = reason; place = length u }))
 next_law args s depth bytes (Ok f) h some u w ts reason whole reads refused =
-    h ∙ ap told (ap (reading args s depth) whole ∙ next_told args s depth finite.empty u w ts reason some reads.spelled reads.within refused)
+    h ∙ ap fault_in (ap (reading args s depth) whole ∙ next_told args s depth finite.empty u w ts reason some reads.spelled reads.within refused)
 next_law args s depth bytes (Err e) h some u w ts reason whole reads refused = tt
 
 faults_just : (args : Arguments) (s : List Segment) (depth : ℕ) (bytes : List ℕ) (r : Result (List TermTree) BodyFault)
-    → reading args s depth bytes ≡ r → IfSome (told r) (λ f. ShowsBody args s depth bytes f.reason f.place)
+    → reading args s depth bytes ≡ r → IfSome (fault_in r) (λ f. ShowsBody args s depth bytes f.reason f.place)
 faults_just args s depth bytes (Ok ts) e = tt
 faults_just args s depth bytes (Err f) e = bad_of (AreStanding args s depth finite.empty bytes) (Bad args s (record { depth = depth; code = bytes }))
     (reading args s depth bytes) f (judged args s depth bytes) e
 
 pub faults_law : {E : Type 0} (args : Arguments) (s : List Segment) (depth : ℕ) (bytes : List ℕ) (result : Result (Option BodyFault) E)
-    → IfOk result (λ w. w ≡ told (reading args s depth bytes)) → IfOk result (λ w. IfSome w (λ f. ShowsBody args s depth bytes f.reason f.place))
+    → IfOk result (λ w. w ≡ fault_in (reading args s depth bytes)) → IfOk result (λ w. IfSome w (λ f. ShowsBody args s depth bytes f.reason f.place))
 faults_law args s depth bytes (Ok w) h = subst (λ w. IfSome w (λ f. ShowsBody args s depth bytes f.reason f.place)) (sym h) (faults_just args s depth bytes (reading args s depth bytes) refl)
 faults_law args s depth bytes (Err e) h = tt
 
@@ -158,21 +158,21 @@ sure_law objects externals s depth bytes (Err e) h = tt
 
 -- ---- what is answered of any counting
 
-pub terms_law : {V : Type 0} (view : V → List TermTree) (args : Arguments) (s : List Segment) (depth : ℕ) (bytes : List ℕ) (result : Result V Stop)
+pub terms_law : {V : Type 0} (view : V → List TermTree) (args : Arguments) (s : List Segment) (depth : ℕ) (bytes : List ℕ) (result : Result V BodyError)
     → Gives view result (reading args s depth bytes) → IfOk result (λ v. (ts : TermTrees) → (terms_of (view v) ≡ ts) ↔ ReadsBody args s depth bytes ts)
 terms_law view args s depth bytes (Ok v) h =
     let t = took args s depth bytes (view v) h in
     λ ts. (λ e. subst (ReadsBody args s depth bytes) e t, λ k. one_reading args s depth bytes (terms_of (view v)) ts t k)
 terms_law view args s depth bytes (Err e) h = tt
 
-pub shown_law : {V : Type 0} (view : V → List TermTree) (args : Arguments) (s : List Segment) (depth : ℕ) (bytes : List ℕ) (result : Result V Stop)
+pub shown_law : {V : Type 0} (view : V → List TermTree) (args : Arguments) (s : List Segment) (depth : ℕ) (bytes : List ℕ) (result : Result V BodyError)
     → Gives view result (reading args s depth bytes) → IfErr result (λ e. IfFault e (λ f. ShowsBody args s depth bytes f.reason f.place))
 shown_law view args s depth bytes (Ok v) h = tt
 shown_law view args s depth bytes (Err stops.Memory) h = tt
 shown_law view args s depth bytes (Err (stops.Fault f)) h = bad_of (AreStanding args s depth finite.empty bytes) (Bad args s (record { depth = depth; code = bytes }))
     (reading args s depth bytes) f (judged args s depth bytes) h
 
-pub unread_law : {V : Type 0} (view : V → List TermTree) (args : Arguments) (s : List Segment) (depth : ℕ) (bytes : List ℕ) (result : Result V Stop)
+pub unread_law : {V : Type 0} (view : V → List TermTree) (args : Arguments) (s : List Segment) (depth : ℕ) (bytes : List ℕ) (result : Result V BodyError)
     → Gives view result (reading args s depth bytes) → IfErr result (λ e. IfFault e (λ f. (ts : TermTrees) → ¬ ReadsBody args s depth bytes ts))
 unread_law view args s depth bytes (Ok v) h = tt
 unread_law view args s depth bytes (Err stops.Memory) h = tt
@@ -181,13 +181,13 @@ unread_law view args s depth bytes (Err (stops.Fault f)) h = λ ts k. not_both f
 fault_is : (f g : BodyFault) → refused f ≡ refused g → f ≡ g
 fault_is f g e = cc
 
-stops_as : {V : Type 0} (view : V → List TermTree) (r : Result (List TermTree) BodyFault) (result : Result V Stop) (f : BodyFault)
+stops_as : {V : Type 0} (view : V → List TermTree) (r : Result (List TermTree) BodyFault) (result : Result V BodyError) (f : BodyFault)
     → Gives view result r → r ≡ Err f → IsErrAnd result (λ e. IfFault e (λ g. g ≡ f))
 stops_as view r (Ok v) f h e = absurd (not_both f (view v) (sym e ∙ h))
 stops_as view r (Err stops.Memory) f h e = tt
 stops_as view r (Err (stops.Fault g)) f h e = fault_is g f (sym h ∙ e)
 
-pub stops_law : {V : Type 0} (view : V → List TermTree) (args : Arguments) (s : List Segment) (depth : ℕ) (bytes : List ℕ) (result : Result V Stop)
+pub stops_law : {V : Type 0} (view : V → List TermTree) (args : Arguments) (s : List Segment) (depth : ℕ) (bytes : List ℕ) (result : Result V BodyError)
     → Gives view result (reading args s depth bytes) → 0 < depth → (u w : List ℕ) (ts : TermTrees) (reason : BodyReason) → bytes ≡ u ++ w → ReadsBody args s depth u ts → IsNoStatement reason w
     → IsErrAnd result (λ e. IfFault e (λ f. f ≡ record { reason = reason; place = length u }))
 stops_law view args s depth bytes result h some u w ts reason whole reads refused =

@@ -3,11 +3,11 @@ use Rattle.std.proofs.Common.{◌≡◌, ℕ, zero, suc, ◌-◌, ◌≤◌, ◌
 use Rattle.std.proofs.lemmas.List.{append-nil}
 use Rattle.acpi_name.specs.Names.{Segment}
 use Rattle.acpi_tree.specs.Terms.{TermTree, terms_of}
-use Rattle.acpi_code.specs.steps.Left.{Left, Shorter}
+use Rattle.acpi_code.specs.steps.Remaining.{Remaining, Advances}
 use Rattle.acpi_code.specs.steps.Reading.{◌>>=◌, Reading}
 use Rattle.acpi_body.specs.declared.fault.BodyFault.{BodyFault}
-use Rattle.acpi_body.specs.declared.fault.Stop.{Stop}
-use Rattle.acpi_body.specs.declared.fault.Stop.TheVariants as stops
+use Rattle.acpi_body.specs.declared.fault.BodyError.{BodyError}
+use Rattle.acpi_body.specs.declared.fault.BodyError.TheVariants as stops
 use Rattle.acpi_body.specs.Arguments.{Locals}
 use Rattle.acpi_body.specs.Statements.{locals_after, locals_after_all}
 use Rattle.acpi_body.specs.steps.Cursor.{Fails}
@@ -35,7 +35,7 @@ abbrev pub One : Type 0
 One = Locals → ℕ → List ℕ → Reading BodyFault TermTree
 
 -- `front` was read of what was left at first, and what is left now follows it
-pub record Stated (one : One) (s : List Segment) (start : Locals) (first : Left) (locals : Locals) (now : Left) (front : List TermTree) : Type 0 where
+pub record Stated (one : One) (s : List Segment) (start : Locals) (first : Remaining) (locals : Locals) (now : Remaining) (front : List TermTree) : Type 0 where
   pub turns : ℕ
   pub same_end : now.end ≡ first.end
   pub enough : length now.bytes ≤ turns
@@ -43,7 +43,7 @@ pub record Stated (one : One) (s : List Segment) (start : Locals) (first : Left)
   pub now_locals : locals ≡ locals_after_all s start (terms_of front)
   pub told : with_front front (statements_with (λ locals. one locals first.end) s turns locals now.bytes) ≡ statements_by (λ locals. one locals first.end) s start first.bytes
 
-pub stated_starts : (one : One) (s : List Segment) (start : Locals) (first : Left) → Stated one s start first start first []
+pub stated_starts : (one : One) (s : List Segment) (start : Locals) (first : Remaining) → Stated one s start first start first []
 stated_starts one s start first = record {
   turns = length first.bytes;
   same_end = refl;
@@ -61,8 +61,8 @@ turn one s zero locals rest le h = absurd (omega arith)
 turn one s (suc n) locals [] le h = absurd (omega arith)
 turn one s (suc n) locals (b ∷ rest) le h = let e : suc n - 1 ≡ n = omega arith in rw e refl
 
-pub stated_goes_on : (one : One) (s : List Segment) (start : Locals) (first : Left) (locals : Locals) (now : Left) (front : List TermTree) (next : Locals) (after : Left) (x : TermTree)
-    → 0 < length now.bytes → one locals now.end now.bytes ≡ Ok (x, after.bytes) → Shorter now after → next ≡ locals_after s locals x
+pub stated_goes_on : (one : One) (s : List Segment) (start : Locals) (first : Remaining) (locals : Locals) (now : Remaining) (front : List TermTree) (next : Locals) (after : Remaining) (x : TermTree)
+    → 0 < length now.bytes → one locals now.end now.bytes ≡ Ok (x, after.bytes) → Advances now after → next ≡ locals_after s locals x
     → Stated one s start first locals now front → Stated one s start first next after (front ++ x ∷ [])
 stated_goes_on one s start first locals now front next after x h read on is so =
     let one_here : Locals → List ℕ → Reading BodyFault TermTree = λ locals. one locals first.end in
@@ -80,7 +80,7 @@ stated_goes_on one s start first locals now front next after x h read on is so =
           ∙ ap (with_front front) (sym then) ∙ so.told;
     }
 
-pub stated_ends : (one : One) (s : List Segment) (start : Locals) (first : Left) (locals : Locals) (now : Left) (front : List TermTree) (e : Stop)
+pub stated_ends : (one : One) (s : List Segment) (start : Locals) (first : Remaining) (locals : Locals) (now : Remaining) (front : List TermTree) (e : BodyError)
     → 0 < length now.bytes → Fails e (one locals now.end now.bytes)
     → Stated one s start first locals now front → Fails e (statements_by (λ locals. one locals first.end) s start first.bytes)
 stated_ends one s start first locals now front stops.Memory h fails so = tt
@@ -97,6 +97,6 @@ at_end one s zero locals rest h = refl
 at_end one s (suc n) locals [] h = refl
 at_end one s (suc n) locals (b ∷ rest) h = absurd (omega arith)
 
-pub stated_is_done : (one : One) (s : List Segment) (start : Locals) (first : Left) (locals : Locals) (now : Left) (front : List TermTree)
+pub stated_is_done : (one : One) (s : List Segment) (start : Locals) (first : Remaining) (locals : Locals) (now : Remaining) (front : List TermTree)
     → length now.bytes ≡ 0 → Stated one s start first locals now front → statements_by (λ locals. one locals first.end) s start first.bytes ≡ Ok front
 stated_is_done one s start first locals now front h so = sym so.told ∙ rw (at_end (λ locals. one locals first.end) s so.turns locals now.bytes h) (ap Ok (append-nil front))

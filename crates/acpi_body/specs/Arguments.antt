@@ -20,8 +20,8 @@ namespace_of m p = option_map object_view (get m p)
 abbrev pub Locals : Type 0
 Locals = PathMap (Unit {0})
 
-abbrev pub with_local : Locals → List Segment → Locals
-with_local locals p = cond (is_defined locals p) locals (insert locals p tt)
+abbrev pub with_path : Locals → List Segment → Locals
+with_path locals p = cond (is_defined locals p) locals (insert locals p tt)
 
 -- how many values follow a name, by what the body has declared before it; None where that isn't sure
 abbrev pub Arguments : Type 0

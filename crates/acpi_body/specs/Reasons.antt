@@ -4,8 +4,8 @@ use Rattle.acpi_name.specs.Names.{Segment}
 use Rattle.acpi_tree.specs.Terms.{TermTrees}
 use Rattle.acpi_body.specs.declared.fault.BodyReason.{BodyReason}
 use Rattle.acpi_body.specs.declared.fault.BodyFault.{BodyFault}
-use Rattle.acpi_body.specs.declared.fault.Stop.{Stop}
-use Rattle.acpi_body.specs.declared.fault.Stop.TheVariants as stops
+use Rattle.acpi_body.specs.declared.fault.BodyError.{BodyError}
+use Rattle.acpi_body.specs.declared.fault.BodyError.TheVariants as stops
 use Rattle.acpi_body.specs.Arguments.{Arguments}
 use Rattle.acpi_body.specs.Statements.{ReadsBody}
 use Rattle.acpi_body.specs.Faults.{ShowsBody, IsNoStatement}
@@ -21,6 +21,6 @@ pub record IsReason (args : Arguments) (s : List Segment) (depth : ℕ) (bytes :
       → w ≡ Some (record { reason = reason; place = length u })
 
 -- if a reading stopped by a fault and not for memory, this holds of the fault
-abbrev pub IfFault : Stop → (BodyFault → Type 0) → Type 0
+abbrev pub IfFault : BodyError → (BodyFault → Type 0) → Type 0
 IfFault (stops.Fault f) P = P f
 IfFault stops.Memory P = Unit {0}

@@ -16,7 +16,7 @@ use Rattle.acpi_code.specs.declared.opcode.Opcode.{Opcode}
 use Rattle.acpi_code.specs.declared.opcode.Opcode.TheVariants as opcodes
 use Rattle.acpi_code.specs.Opcodes.{opcode_bytes}
 use Rattle.acpi_code.specs.Spelling.{SpellsEach, Packs}
-use Rattle.acpi_body.specs.Arguments.{Locals, with_local, Arguments}
+use Rattle.acpi_body.specs.Arguments.{Locals, with_path, Arguments}
 use Rattle.acpi_body.specs.Grammars.{body_grammar}
 use Rattle.acpi_body.specs.Spelling.{Stands, Spells, AreOperands, heights}
 use Rattle.acpi_code.specs.Fields.{SpellsFields}
@@ -46,11 +46,11 @@ pub record MayDeclare (s : List Segment) (n : NameParts) : Type 0 where
 
 abbrev pub with_place : Locals → Option (List Segment) → Locals
 with_place locals None = locals
-with_place locals (Some p) = with_local locals p
+with_place locals (Some p) = with_path locals p
 
 -- each named element of a field list stands in the method's path
 abbrev pub locals_after_unit : List Segment → Locals → FieldTree → Locals
-locals_after_unit s locals (unit g bits) = with_local locals (s ++ g ∷ [])
+locals_after_unit s locals (unit g bits) = with_path locals (s ++ g ∷ [])
 locals_after_unit s locals _ = locals
 
 abbrev pub locals_after_units : List Segment → Locals → List FieldTree → Locals

@@ -7,7 +7,7 @@ ghost use Rattle.acpi_name.specs.Names.{plain_segment};
 ghost use Rattle.acpi_space.specs.Spaces.{is_defined};
 ghost use Rattle.acpi_space.specs.Search.{nearest_scope};
 ghost use Rattle.acpi_name.specs.Paths.{place_of};
-ghost use Rattle.acpi_body.specs.Arguments.{namespace_of, args_there, with_local, defined_with, expected_at, expected_place};
+ghost use Rattle.acpi_body.specs.Arguments.{namespace_of, args_there, with_path, defined_with, expected_at, expected_place};
 ghost use Rattle.std.specs.FinMap.{get};
 ghost use Rattle.acpi_body.specs.steps.Setting.{args_of, count_in, deeper};
 
@@ -107,7 +107,7 @@ impl<'a, S: Space<Object>> MethodCounting for Context<'a, S> {
 
 /// Adds the path, if it isn't there.
 pub(crate) fn add(locals: &mut TreeSpace<()>, path: Path) -> Result<(), AllocError>
-    ensures { OnOk result (locals.new ≡ with_local locals.old path) }
+    ensures { OnOk result (locals.new ≡ with_path locals.old path) }
 {
     match locals.insert(path, ()) {
         Ok(()) => Ok(()),

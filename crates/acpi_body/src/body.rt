@@ -13,11 +13,11 @@ ghost use Rattle.acpi_body.specs.Faults.{ShowsBody, IsNoStatement};
 ghost use Rattle.acpi_body.specs.Reasons.{IfFault};
 ghost use Rattle.acpi_body.specs.Bodies.{read, body_view, body_fits, IsBodyOf};
 ghost use Rattle.acpi_body.specs.steps.Reading.{body_at};
-ghost use Rattle.acpi_body.specs.steps.Answers.{body_of, told};
+ghost use Rattle.acpi_body.specs.steps.Answers.{body_of, fault_in};
 
 use crate::arguments::Context;
 use crate::counting::MethodCounting;
-use crate::fault::{BodyFault, Stop};
+use crate::fault::{BodyError, BodyFault};
 use crate::statement::body;
 use acpi_code::Depth;
 use acpi_counts::Counts;
@@ -41,7 +41,7 @@ pub fn read_terms<M: MethodCounting>(
     counting: &M,
     bytes: &[u8],
     depth: Depth,
-) -> Result<Vec<Term>, Stop>
+) -> Result<Vec<Term>, BodyError>
     // Terms are the reading of the bytes.
     ensures read { IfOk result (λ v. (ts : TermTrees) → (terms_tree v.items ≡ ts)
         ↔ ReadsBody (M.arguments counting.now) (M.method counting.now) depth bytes.now ts) }
@@ -54,7 +54,7 @@ pub fn read_terms<M: MethodCounting>(
     // .. and they have no reading.
     ensures unread { IfErr result (λ e. IfFault e (λ f. (ts : TermTrees)
         → ¬ ReadsBody (M.arguments counting.now) (M.method counting.now) depth bytes.now ts)) }
-    // Behind statements, what can't begin one is told at its place.
+    // Behind statements, what can't begin one is reported at its place.
     ensures next { (u w : List ℕ) (ts : TermTrees) (reason : BodyReason) → bytes.now ≡ u ++ w
         → ReadsBody (M.arguments counting.now) (M.method counting.now) depth u ts
         → IsNoStatement reason w
@@ -78,8 +78,8 @@ fn body_or_bytes<S: Space<Object>>(
 {
     match body(&Context::new(alloc, space, counts, method), depth, bytes) {
         Ok(terms) => Ok(Body::Terms(terms)),
-        Err(Stop::Fault(_)) => Ok(Body::Opaque(Vec::from_slice(alloc, bytes)?)),
-        Err(Stop::Memory) => Err(AllocError),
+        Err(BodyError::Fault(_)) => Ok(Body::Opaque(Vec::from_slice(alloc, bytes)?)),
+        Err(BodyError::Memory) => Err(AllocError),
     }
 }
 
@@ -116,14 +116,14 @@ fn fault_in<S: Space<Object>>(
     depth: u32,
     counts: &Counts,
 ) -> Result<Option<BodyFault>, AllocError>
-    ensures { IfOk result (λ w. w ≡ told (body_at
+    ensures { IfOk result (λ w. w ≡ fault_in (body_at
         (arguments (namespace_of (S.contents space.now)) (finite.get counts.now) method.now)
         method.now depth finite.empty bytes.now)) }
 {
     match body(&Context::new(alloc, space, counts, method), depth, bytes) {
         Ok(_) => Ok(None),
-        Err(Stop::Fault(fault)) => Ok(Some(fault)),
-        Err(Stop::Memory) => Err(AllocError),
+        Err(BodyError::Fault(fault)) => Ok(Some(fault)),
+        Err(BodyError::Memory) => Err(AllocError),
     }
 }
 
@@ -146,7 +146,7 @@ pub fn why<S: Space<Object>>(
         (finite.get counts.now) method.now) method.now depth bytes.now f.reason f.place)) }
     // It is always sure how many values follow a name.
     ensures sure { IfOk result (λ w. IfSome w (λ f. f.reason ≢ Unsure)) }
-    // Behind statements, what can't begin one is told at its place.
+    // Behind statements, what can't begin one is reported at its place.
     ensures next { (u w : List ℕ) (ts : TermTrees) (reason : BodyReason) → bytes.now ≡ u ++ w
         → ReadsBody (arguments (namespace_of (S.contents space.now))
         (finite.get counts.now) method.now) method.now depth u ts → IsNoStatement reason w

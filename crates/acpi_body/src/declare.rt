@@ -10,7 +10,7 @@ ghost use Rattle.acpi_body.specs.steps.Reading.{part, term_at, fields_in, declar
 ghost use Rattle.acpi_body.specs.steps.Cursor.{Gives, Reads, ReadsAll};
 
 use crate::counting::{Here, MethodCounting};
-use crate::fault::{BodyReason, Stop, refused};
+use crate::fault::{BodyError, BodyReason, refused};
 use crate::locals::declare;
 use crate::term::term;
 use acpi_code::{Code, field_elements};
@@ -26,7 +26,7 @@ pub(crate) fn term_apart<M: MethodCounting>(
     level: u32,
     place: Place,
     code: &mut Code<'_>,
-) -> Result<Box<Term>, Stop>
+) -> Result<Box<Term>, BodyError>
     ensures { Reads (λ b. term_view (box_value b))
         (term_at (body_grammar (M.arguments counting.now locals.now)) level place) code.old
         code.new result }
@@ -42,7 +42,7 @@ pub(crate) fn term_apart<M: MethodCounting>(
 // A name that can be declared: it has segments, and a place.
 #[inline(never)]
 #[tactic(auto, using(crate::proofs::Parts::part_fails), unfolding(crate::specs::steps::Reading::declared_at))]
-fn new_name<M: MethodCounting>(counting: &M, code: &mut Code<'_>) -> Result<Name, Stop>
+fn new_name<M: MethodCounting>(counting: &M, code: &mut Code<'_>) -> Result<Name, BodyError>
     ensures { Reads (λ n. n) (declared_at (M.method counting.now)) code.old code.new result }
 {
     let front = code.fork();
@@ -51,14 +51,14 @@ fn new_name<M: MethodCounting>(counting: &M, code: &mut Code<'_>) -> Result<Name
         Ok(_) if name.is_empty() => Err(refused(&front, BodyReason::BadPlace)),
         Ok(_) => Ok(name.own(counting.alloc())?),
         Err(PlaceFault::AboveRoot) => Err(refused(&front, BodyReason::BadPlace)),
-        Err(PlaceFault::Memory) => Err(Stop::Memory),
+        Err(PlaceFault::Memory) => Err(BodyError::Memory),
     }
 }
 
 // A name, with memory of its own.
 #[inline(never)]
 #[tactic(auto, using(crate::proofs::Parts::part_fails))]
-fn owned_name<M: MethodCounting>(counting: &M, code: &mut Code<'_>) -> Result<Name, Stop>
+fn owned_name<M: MethodCounting>(counting: &M, code: &mut Code<'_>) -> Result<Name, BodyError>
     ensures { Reads (λ n. n) (λ end bytes. part (name_in end bytes)) code.old code.new result }
 {
     Ok(code.name()?.own(counting.alloc())?)
@@ -67,7 +67,10 @@ fn owned_name<M: MethodCounting>(counting: &M, code: &mut Code<'_>) -> Result<Na
 // The elements that are left.
 #[inline(never)]
 #[tactic(auto, using(crate::proofs::Parts::field_fails))]
-fn elements<M: MethodCounting>(counting: &M, code: &mut Code<'_>) -> Result<Vec<FieldElem>, Stop>
+fn elements<M: MethodCounting>(
+    counting: &M,
+    code: &mut Code<'_>,
+) -> Result<Vec<FieldElem>, BodyError>
     ensures { ReadsAll (λ v. fields_view v.items) fields_in code.old result }
 {
     Ok(field_elements(counting.alloc(), code)?)
@@ -82,7 +85,7 @@ fn named<M: MethodCounting>(
     level: u32,
     form: NamedForm,
     code: &mut Code<'_>,
-) -> Result<Decl, Stop>
+) -> Result<Decl, BodyError>
     ensures { Reads decl_view (named_form
         (term_at (body_grammar (M.arguments counting.now locals.now)) level)
         (M.method counting.now) form) code.old code.new result }
@@ -124,7 +127,7 @@ fn units<M: MethodCounting>(
     level: u32,
     form: UnitsForm,
     code: &mut Code<'_>,
-) -> Result<Decl, Stop>
+) -> Result<Decl, BodyError>
     ensures { Reads decl_view (units_form
         (term_at (body_grammar (M.arguments counting.now locals.now)) level) form) code.old
         code.new result }
@@ -158,7 +161,7 @@ fn declaration<M: MethodCounting>(
     counting: &M,
     locals: &mut TreeSpace<()>,
     decl: Decl,
-) -> Result<Term, Stop>
+) -> Result<Term, BodyError>
     ensures made { Gives term_view result (Ok (decl_view decl)) }
     ensures locals { IfOk result (λ t. locals.new
         ≡ locals_after (M.method counting.now) locals.old (term_view t)) }
@@ -174,7 +177,7 @@ pub(crate) fn named_declaration<M: MethodCounting>(
     level: u32,
     form: NamedForm,
     code: &mut Code<'_>,
-) -> Result<Term, Stop>
+) -> Result<Term, BodyError>
     ensures exact { Reads term_view (named_form
         (term_at (body_grammar (M.arguments counting.now locals.old)) level)
         (M.method counting.now) form) code.old code.new result }
@@ -192,7 +195,7 @@ pub(crate) fn units_declaration<M: MethodCounting>(
     level: u32,
     form: UnitsForm,
     code: &mut Code<'_>,
-) -> Result<Term, Stop>
+) -> Result<Term, BodyError>
     ensures exact { Reads term_view (units_form
         (term_at (body_grammar (M.arguments counting.now locals.old)) level) form) code.old
         code.new result }

@@ -1,7 +1,7 @@
 //! Why a method body can't be read.
 
 ghost use Rattle.std.specs.Prelude.{◌≡◌};
-ghost use Rattle.acpi_body.specs.declared.fault.Stop.TheVariants as stops;
+ghost use Rattle.acpi_body.specs.declared.fault.BodyError.TheVariants as stops;
 ghost use Rattle.acpi_body.specs.Faults.{reason_of, fault_of};
 ghost use Rattle.acpi_body.specs.Texts.{body_reason_text};
 ghost use Rattle.acpi_body.specs.steps.Reading.{fault_at};
@@ -97,26 +97,26 @@ pub struct BodyFault {
 
 /// Why reading a body stopped.
 #[derive(Clone, Copy)]
-pub enum Stop {
+pub enum BodyError {
     /// The body can't be read.
     Fault(BodyFault),
     /// A growth of memory was refused.
     Memory,
 }
 
-impl From<AllocError> for Stop {
+impl From<AllocError> for BodyError {
     ghost from_gives = { λ _ s. s ≡ stops.Memory };
 
-    fn from(_e: AllocError) -> Stop {
-        Stop::Memory
+    fn from(_e: AllocError) -> BodyError {
+        BodyError::Memory
     }
 }
 
-impl<T: Drop> From<AllocFailed<T>> for Stop {
+impl<T: Drop> From<AllocFailed<T>> for BodyError {
     ghost from_gives = { λ _ s. s ≡ stops.Memory };
 
-    fn from(_e: AllocFailed<T>) -> Stop {
-        Stop::Memory
+    fn from(_e: AllocFailed<T>) -> BodyError {
+        BodyError::Memory
     }
 }
 
@@ -135,37 +135,39 @@ impl From<CodeReason> for BodyReason {
     }
 }
 
-impl From<CodeFault> for Stop {
+impl From<CodeFault> for BodyError {
     ghost from_gives = { λ fault stop. stop ≡ stops.Fault (fault_of fault) };
 
-    fn from(fault: CodeFault) -> Stop {
-        Stop::Fault(BodyFault {
+    fn from(fault: CodeFault) -> BodyError {
+        BodyError::Fault(BodyFault {
             reason: fault.reason.into(),
             place: fault.place,
         })
     }
 }
 
-impl From<FieldFault> for Stop {
+impl From<FieldFault> for BodyError {
     ghost from_gives = { λ fault stop. stop ≡ field_fault_of fault };
 
-    fn from(fault: FieldFault) -> Stop {
+    fn from(fault: FieldFault) -> BodyError {
         match fault {
             FieldFault::At(ConstantFault::Part(fault)) => fault.into(),
-            FieldFault::At(ConstantFault::NotConstant { place, .. }) => Stop::Fault(BodyFault {
-                reason: BodyReason::NotData,
-                place,
-            }),
-            FieldFault::Memory => Stop::Memory,
+            FieldFault::At(ConstantFault::NotConstant { place, .. }) => BodyError::Fault(
+                BodyFault {
+                    reason: BodyReason::NotData,
+                    place,
+                },
+            ),
+            FieldFault::Memory => BodyError::Memory,
         }
     }
 }
 
 /// The fault that the next byte shows.
-pub(crate) fn refused(code: &Code<'_>, reason: BodyReason) -> Stop
+pub(crate) fn refused(code: &Code<'_>, reason: BodyReason) -> BodyError
     ensures { result ≡ stops.Fault (fault_at code.now.end code.now.bytes reason) }
 {
-    Stop::Fault(BodyFault {
+    BodyError::Fault(BodyFault {
         reason,
         place: code.place(),
     })

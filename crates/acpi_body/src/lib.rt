@@ -1,6 +1,6 @@
 //! Method bodies as terms: read from their bytes, or kept as bytes where no terms stand for them.
 //!
-//! How many arguments follow a name is told by what the name means, so a body is read against a namespace:
+//! How many arguments follow a name depends on what the name means, so a body is read against a namespace:
 //!
 //! ```text
 //!   A4 4D 54 48 32 0A 01 0A 02      read_body ─►  Return(MTH2(0x01, 0x02))    where \MTH2 takes two arguments
@@ -35,6 +35,6 @@ pub use acpi_code::Depth;
 pub use acpi_counts::Counts;
 pub use body::{Body, read_body, read_terms, why};
 pub use counting::{Counting, MethodCounting};
-pub use fault::{BodyFault, BodyReason, Stop};
+pub use fault::{BodyError, BodyFault, BodyReason};
 pub use misses::{BodyMisses, OpenMiss, body_misses, body_misses_among};
 pub use term::read_term;

@@ -12,7 +12,7 @@ ghost use Rattle.acpi_body.specs.steps.Cursor.{Gives, Reads, ReadsOn, ReadsAll};
 
 use crate::counting::{Here, MethodCounting};
 use crate::declare::{named_declaration, term_apart, units_declaration};
-use crate::fault::Stop;
+use crate::fault::BodyError;
 use crate::term::{buffer, package, placed, var_package};
 use acpi_code::{Code, Opcode};
 use acpi_space::{Space, TreeSpace};
@@ -44,7 +44,7 @@ fn if_statement<M: MethodCounting>(
     locals: &mut TreeSpace<()>,
     level: u32,
     code: &mut Code<'_>,
-) -> Result<Term, Stop>
+) -> Result<Term, BodyError>
     ensures exact { Reads term_view
         (if_form (term_at (body_grammar (M.arguments counting.now locals.old)) level)
         (statements_at (M.arguments counting.now) (M.method counting.now) level)
@@ -66,7 +66,7 @@ fn else_statements<M: MethodCounting>(
     locals: &mut TreeSpace<()>,
     level: u32,
     code: &mut Code<'_>,
-) -> Result<Option<Vec<Term>>, Stop>
+) -> Result<Option<Vec<Term>>, BodyError>
     ensures exact { ReadsOn else_view (else_at
         (statements_at (M.arguments counting.now) (M.method counting.now) level locals.old))
         code.old code.new result }
@@ -89,7 +89,7 @@ fn while_statement<M: MethodCounting>(
     locals: &mut TreeSpace<()>,
     level: u32,
     code: &mut Code<'_>,
-) -> Result<Term, Stop>
+) -> Result<Term, BodyError>
     ensures exact { Reads term_view (while_form
         (term_at (body_grammar (M.arguments counting.now locals.old)) level)
         (statements_at (M.arguments counting.now) (M.method counting.now) level) locals.old)
@@ -116,7 +116,7 @@ fn statements<M: MethodCounting>(
     locals: &mut TreeSpace<()>,
     level: u32,
     code: &mut Code<'_>,
-) -> Result<Vec<Term>, Stop>
+) -> Result<Vec<Term>, BodyError>
     ensures exact { ReadsAll (λ v. terms_view v.items)
         (statements_at (M.arguments counting.now) (M.method counting.now) level locals.old)
         code.old result }
@@ -140,7 +140,7 @@ fn form<'a, M: MethodCounting>(
     front: &Code<'a>,
     opcode: Opcode,
     code: &mut Code<'a>,
-) -> Result<Term, Stop>
+) -> Result<Term, BodyError>
     requires ends { front.now.end ≡ code.old.end }
     requires behind { length code.old.bytes < length front.now.bytes }
     ensures exact { Reads term_view (λ end whole. statement_by
@@ -217,7 +217,7 @@ fn statement<M: MethodCounting>(
     locals: &mut TreeSpace<()>,
     level: u32,
     code: &mut Code<'_>,
-) -> Result<Term, Stop>
+) -> Result<Term, BodyError>
     ensures exact { Reads term_view (statement_at (M.arguments counting.now)
         (M.method counting.now) level locals.old) code.old code.new result }
     ensures locals { IfOk result (λ t. locals.new
@@ -236,7 +236,7 @@ pub(crate) fn body<M: MethodCounting>(
     counting: &M,
     depth: u32,
     bytes: &[u8],
-) -> Result<Vec<Term>, Stop>
+) -> Result<Vec<Term>, BodyError>
     ensures { Gives (λ v. terms_view v.items) result
         (body_at (M.arguments counting.now) (M.method counting.now) depth finite.empty bytes.now) }
 {

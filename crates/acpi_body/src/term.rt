@@ -12,7 +12,7 @@ ghost use Rattle.acpi_body.specs.steps.Reading.{constant_form, string_form, buff
 ghost use Rattle.acpi_body.specs.steps.Cursor.{Gives, Reads, ReadsOn, ReadsAll};
 
 use crate::counting::Counting;
-use crate::fault::{BodyReason, Stop, refused};
+use crate::fault::{BodyError, BodyReason, refused};
 use crate::refusal::refusal;
 use crate::register::add_register;
 use acpi_code::{Code, ConstantForm, Opcode};
@@ -22,7 +22,7 @@ use std::alloc::Global;
 
 #[inline(never)]
 #[tactic(auto, using(crate::proofs::Parts::part_fails), unfolding(crate::specs::steps::Reading::constant_form))]
-fn constant(form: ConstantForm, code: &mut Code<'_>) -> Result<Term, Stop>
+fn constant(form: ConstantForm, code: &mut Code<'_>) -> Result<Term, BodyError>
     ensures { ReadsOn term_view (constant_form form) code.old code.new result }
 {
     Ok(Term::Int(code.constant(form)?))
@@ -30,7 +30,7 @@ fn constant(form: ConstantForm, code: &mut Code<'_>) -> Result<Term, Stop>
 
 #[inline(never)]
 #[tactic(auto, using(crate::proofs::Parts::part_fails), unfolding(crate::specs::steps::Reading::string_form))]
-fn string(alloc: Global, code: &mut Code<'_>) -> Result<Term, Stop>
+fn string(alloc: Global, code: &mut Code<'_>) -> Result<Term, BodyError>
     ensures { Reads term_view string_form code.old code.new result }
 {
     let text = code.string()?;
@@ -39,7 +39,7 @@ fn string(alloc: Global, code: &mut Code<'_>) -> Result<Term, Stop>
 
 // A buffer of that size. What allocates has a frame of its own, so that a level of buffers costs less stack.
 #[inline(never)]
-fn buffer_of(alloc: Global, size: Term, content: &[u8]) -> Result<Term, Stop>
+fn buffer_of(alloc: Global, size: Term, content: &[u8]) -> Result<Term, BodyError>
     ensures { Gives term_view result (Ok (buffer (term_view size) content.now)) }
 {
     let content = Vec::from_slice(alloc, content)?;
@@ -53,7 +53,7 @@ pub(crate) fn buffer<C: Counting>(
     counting: &C,
     level: u32,
     code: &mut Code<'_>,
-) -> Result<Term, Stop>
+) -> Result<Term, BodyError>
     ensures { Reads term_view (buffer_form (term_at (C.grammar counting.now) level)) code.old
         code.new result }
 {
@@ -63,7 +63,11 @@ pub(crate) fn buffer<C: Counting>(
 }
 
 #[cycle(read)]
-fn elements<C: Counting>(counting: &C, level: u32, code: &mut Code<'_>) -> Result<Vec<Term>, Stop>
+fn elements<C: Counting>(
+    counting: &C,
+    level: u32,
+    code: &mut Code<'_>,
+) -> Result<Vec<Term>, BodyError>
     ensures { ReadsAll (λ v. terms_view v.items)
         (λ end bytes. each_at (term_at (C.grammar counting.now) level Element end) bytes) code.old
         result }
@@ -82,7 +86,7 @@ pub(crate) fn package<C: Counting>(
     counting: &C,
     level: u32,
     code: &mut Code<'_>,
-) -> Result<Term, Stop>
+) -> Result<Term, BodyError>
     ensures { Reads term_view (package_form (term_at (C.grammar counting.now) level)) code.old
         code.new result }
 {
@@ -99,7 +103,7 @@ pub(crate) fn var_package<C: Counting>(
     counting: &C,
     level: u32,
     code: &mut Code<'_>,
-) -> Result<Term, Stop>
+) -> Result<Term, BodyError>
     ensures { Reads term_view (var_package_form (term_at (C.grammar counting.now) level)) code.old
         code.new result }
 {
@@ -117,7 +121,7 @@ fn arguments<C: Counting>(
     level: u32,
     count: u8,
     code: &mut Code<'_>,
-) -> Result<Vec<Term>, Stop>
+) -> Result<Vec<Term>, BodyError>
     ensures { ReadsOn (λ v. terms_view v.items)
         (operands_at (term_at (C.grammar counting.now) level) (values count)) code.old code.new
         result }
@@ -141,7 +145,7 @@ fn is_call(place: Place) -> bool
 
 // A call. With a frame of its own, a level of calls costs less stack.
 #[inline(never)]
-fn call_of(alloc: Global, name: NameRef<'_>, values: Vec<Term>) -> Result<Term, Stop>
+fn call_of(alloc: Global, name: NameRef<'_>, values: Vec<Term>) -> Result<Term, BodyError>
     ensures { Gives term_view result (Ok (call (name_parts name.entry)
         (terms_of (terms_view values.items)))) }
 {
@@ -150,7 +154,7 @@ fn call_of(alloc: Global, name: NameRef<'_>, values: Vec<Term>) -> Result<Term, 
 
 // A name where it is never a call.
 #[inline(never)]
-fn reference_to(alloc: Global, name: NameRef<'_>) -> Result<Term, Stop>
+fn reference_to(alloc: Global, name: NameRef<'_>) -> Result<Term, BodyError>
     ensures { Gives term_view result (Ok (ref (name_parts name.entry))) }
 {
     Ok(Term::Ref(name.own(alloc)?))
@@ -165,7 +169,7 @@ fn named<C: Counting>(
     level: u32,
     place: Place,
     code: &mut Code<'_>,
-) -> Result<Term, Stop>
+) -> Result<Term, BodyError>
     ensures { Reads term_view (name_form (C.grammar counting.now).args
         (term_at (C.grammar counting.now) level) place) code.old code.new result }
 {
@@ -182,21 +186,21 @@ fn named<C: Counting>(
     }
 }
 
-fn byte_operand(code: &mut Code<'_>) -> Result<Operand, Stop>
+fn byte_operand(code: &mut Code<'_>) -> Result<Operand, BodyError>
     ensures { Reads operand_view (λ end bytes. as_raw 1 (byte_at end bytes)) code.old code.new
         result }
 {
     Ok(Operand::Byte(code.byte()?))
 }
 
-fn word_operand(code: &mut Code<'_>) -> Result<Operand, Stop>
+fn word_operand(code: &mut Code<'_>) -> Result<Operand, BodyError>
     ensures { Reads operand_view (λ end bytes. as_raw 2 (number_at 2 end bytes)) code.old code.new
         result }
 {
     Ok(Operand::Word(code.word()?))
 }
 
-fn dword_operand(code: &mut Code<'_>) -> Result<Operand, Stop>
+fn dword_operand(code: &mut Code<'_>) -> Result<Operand, BodyError>
     ensures { Reads operand_view (λ end bytes. as_raw 4 (number_at 4 end bytes)) code.old code.new
         result }
 {
@@ -211,7 +215,7 @@ fn operand<C: Counting>(
     level: u32,
     kind: OperandKind,
     code: &mut Code<'_>,
-) -> Result<Operand, Stop>
+) -> Result<Operand, BodyError>
     ensures { Reads operand_view (operand_at (term_at (C.grammar counting.now) level) kind)
         code.old code.new result }
 {
@@ -236,7 +240,7 @@ fn operands<C: Counting>(
     level: u32,
     kinds: &[OperandKind],
     code: &mut Code<'_>,
-) -> Result<Vec<Operand>, Stop>
+) -> Result<Vec<Operand>, BodyError>
     ensures { ReadsOn (λ v. operands_view v.items)
         (operands_at (term_at (C.grammar counting.now) level) kinds.now) code.old code.new result }
 {
@@ -258,7 +262,7 @@ fn operator<C: Counting>(
     level: u32,
     op: Op,
     code: &mut Code<'_>,
-) -> Result<Term, Stop>
+) -> Result<Term, BodyError>
     ensures { ReadsOn term_view (operator_form (term_at (C.grammar counting.now) level) op)
         code.old code.new result }
 {
@@ -276,7 +280,7 @@ fn form<'a, C: Counting>(
     front: &Code<'a>,
     opcode: Opcode,
     code: &mut Code<'a>,
-) -> Result<Term, Stop>
+) -> Result<Term, BodyError>
     requires ends { front.now.end ≡ code.old.end }
     requires behind { length code.old.bytes < length front.now.bytes }
     ensures { Reads term_view
@@ -312,7 +316,7 @@ pub(crate) fn placed<'a, C: Counting>(
     front: &Code<'a>,
     opcode: Opcode,
     code: &mut Code<'a>,
-) -> Result<Term, Stop>
+) -> Result<Term, BodyError>
     requires ends { front.now.end ≡ code.old.end }
     requires behind { length code.old.bytes < length front.now.bytes }
     ensures { Reads term_view
@@ -334,7 +338,7 @@ pub(crate) fn term<C: Counting>(
     level: u32,
     place: Place,
     code: &mut Code<'_>,
-) -> Result<Term, Stop>
+) -> Result<Term, BodyError>
     ensures { Reads term_view (term_at (C.grammar counting.now) level place) code.old code.new
         result }
 {
@@ -355,7 +359,7 @@ pub fn read_term<C: Counting>(
     level: u32,
     place: Place,
     code: &mut Code<'_>,
-) -> Result<Term, Stop>
+) -> Result<Term, BodyError>
     ensures { Reads term_view (term_at (C.grammar counting.now) level place) code.old code.new
         result }
 {

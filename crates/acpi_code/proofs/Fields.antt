@@ -20,7 +20,7 @@ use Rattle.acpi_tree.specs.Tree.{FieldTree, unit, reserved, access, connect_name
 use Rattle.acpi_code.specs.declared.fault.ConstantFault.{ConstantFault}
 use Rattle.acpi_code.specs.Spelling.{SpellsByte, SpellsInt, SpellsSegment, Packs}
 use Rattle.acpi_code.specs.Fields.{SpellsField, SpellsFields}
-use Rattle.acpi_code.specs.steps.Left.{Left}
+use Rattle.acpi_code.specs.steps.Remaining.{Remaining}
 use Rattle.acpi_code.specs.steps.Reading.{◌>>=◌, Reading, byte_at, length_in, package_at, or_name_fault, name_in, segment_in, each_at}
 use Rattle.acpi_code.specs.steps.Fields.{part, int_in, connect_buffer_at, connect_name_at, connect_at, unit_at, reserved_at, access_at, extended_at, field_at, fields_in}
 use Rattle.acpi_code.specs.steps.Cursor.{Stops}
@@ -36,7 +36,7 @@ use Rattle.acpi_code.proofs.Packages.{front_is, GoodPackage, at_package, package
 -- ---- as the code does
 
 -- where one of a list fails, the list does
-pub stopped_there : {A : Type 0} (one : ℕ → List ℕ → Reading ConstantFault A) (first now : Left) (front : List A) (e : FieldFault) → 0 < length now.bytes
+pub stopped_there : {A : Type 0} (one : ℕ → List ℕ → Reading ConstantFault A) (first now : Remaining) (front : List A) (e : FieldFault) → 0 < length now.bytes
     → Stops e (one now.end now.bytes) → Turns one first now front → Stops e (each_at (one first.end) first.bytes)
 stopped_there one first now front fields.Memory some fails so = tt
 stopped_there one first now front (fields.At f) some fails so = stopped one first now front f some fails so

@@ -1,4 +1,4 @@
-pub mod Left
+pub mod Remaining
 pub mod Readings
 pub mod Lists
 pub mod Opcodes

@@ -2,7 +2,7 @@
 use Rattle.std.proofs.Common.{◌≡◌, ℕ, zero, suc, ◌-◌, ◌+◌, ◌≤◌, ◌<◌, List, [], ◌∷◌, ◌++◌, length, Result, Ok, Err, refl, sym, ap, ◌∙◌, append_assoc, arith}
 use Rattle.std.proofs.lemmas.List.{append-nil, length-append}
 use Rattle.acpi_code.specs.Spelling.{SpellsEach}
-use Rattle.acpi_code.specs.steps.Left.{Left, Shorter}
+use Rattle.acpi_code.specs.steps.Remaining.{Remaining, Advances}
 use Rattle.acpi_code.specs.steps.Reading.{◌>>=◌, Reading, each_with, each_at}
 use Rattle.acpi_code.proofs.Readings.{Judge, judge_bind, Source, Position, Front, Read}
 
@@ -77,15 +77,15 @@ reads_on r x f is = rw is refl
 -- ---- the same, of what is left of a list
 
 -- `front` was read of what was left at first, and what is left now follows it
-pub record Turns {A F : Type 0} (one : ℕ → List ℕ → Reading F A) (first now : Left) (front : List A) : Type 0 where
+pub record Turns {A F : Type 0} (one : ℕ → List ℕ → Reading F A) (first now : Remaining) (front : List A) : Type 0 where
   pub same_end : now.end ≡ first.end
   pub so_far : SoFar (one first.end) first.bytes now.bytes front
 
-pub begun : {A F : Type 0} (one : ℕ → List ℕ → Reading F A) (first : Left) → Turns one first first []
+pub begun : {A F : Type 0} (one : ℕ → List ℕ → Reading F A) (first : Remaining) → Turns one first first []
 begun one first = record { same_end = refl; so_far = starts (one first.end) first.bytes }
 
-pub turned : {A F : Type 0} (one : ℕ → List ℕ → Reading F A) (first now after : Left) (front : List A) (x : A) → 0 < length now.bytes
-    → one now.end now.bytes ≡ Ok (x, after.bytes) → Shorter now after → Turns one first now front → Turns one first after (front ++ x ∷ [])
+pub turned : {A F : Type 0} (one : ℕ → List ℕ → Reading F A) (first now after : Remaining) (front : List A) (x : A) → 0 < length now.bytes
+    → one now.end now.bytes ≡ Ok (x, after.bytes) → Advances now after → Turns one first now front → Turns one first after (front ++ x ∷ [])
 turned one first now after front x some read on so =
     let same : one first.end now.bytes ≡ Ok (x, after.bytes) = rw (sym so.same_end) read in
     record {
@@ -93,13 +93,13 @@ turned one first now after front x some read on so =
       so_far = goes_on (one first.end) first.bytes now.bytes after.bytes front x some same on.less so.so_far;
     }
 
-pub stopped : {A F : Type 0} (one : ℕ → List ℕ → Reading F A) (first now : Left) (front : List A) (f : F) → 0 < length now.bytes
+pub stopped : {A F : Type 0} (one : ℕ → List ℕ → Reading F A) (first now : Remaining) (front : List A) (f : F) → 0 < length now.bytes
     → one now.end now.bytes ≡ Err f → Turns one first now front → each_at (one first.end) first.bytes ≡ Err f
 stopped one first now front f some fails so =
     let same : one first.end now.bytes ≡ Err f = rw (sym so.same_end) fails in
     ends (one first.end) first.bytes now.bytes front f some same so.so_far
 
-pub all_turned : {A F : Type 0} (one : ℕ → List ℕ → Reading F A) (first now : Left) (front : List A) → length now.bytes ≡ 0
+pub all_turned : {A F : Type 0} (one : ℕ → List ℕ → Reading F A) (first now : Remaining) (front : List A) → length now.bytes ≡ 0
     → Turns one first now front → each_at (one first.end) first.bytes ≡ Ok front
 all_turned one first now front none so = is_done (one first.end) first.bytes now.bytes front none so.so_far
 

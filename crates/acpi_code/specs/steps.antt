@@ -1,4 +1,4 @@
-pub mod Left
+pub mod Remaining
 pub mod Within
 pub mod Reading
 pub mod Fields

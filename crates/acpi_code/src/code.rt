@@ -23,10 +23,10 @@ pub struct Code<'a> {
 
 impl<'a> Model for Code<'a> {
     ghost use Rattle.std.specs.Prelude.{option_map};
-    ghost use Rattle.acpi_code.specs.steps.Left.{Left};
+    ghost use Rattle.acpi_code.specs.steps.Remaining.{Remaining};
     ghost use Rattle.acpi_code.specs.steps.Within.{IsWithin};
 
-    ghost Value = { Left };
+    ghost Value = { Remaining };
 
     ghost view = { λ a. record { bytes = a.left.now; end = a.end } };
 
@@ -129,7 +129,7 @@ impl<'a> Code<'a> {
     }
 
     /// The fault whose place is that of the next byte, or of the end.
-    pub fn stop(&self, reason: CodeReason) -> CodeFault
+    pub fn fault_here(&self, reason: CodeReason) -> CodeFault
         ensures { result ≡ fault_at self.now.end self.now.bytes reason }
     {
         CodeFault {
@@ -155,7 +155,7 @@ impl<'a> Code<'a> {
     {
         match self.left {
             [] => self.cut(),
-            _ => self.stop(CodeReason::TooDeep),
+            _ => self.fault_here(CodeReason::TooDeep),
         }
     }
 }

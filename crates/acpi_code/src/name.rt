@@ -24,9 +24,9 @@ impl<'a> Code<'a> {
                 Ok(name)
             }
             Err(NameFault::Cut) => Err(self.cut()),
-            Err(NameFault::BadChar) => Err(self.stop(CodeReason::BadName)),
-            Err(NameFault::ZeroCount) => Err(self.stop(CodeReason::BadName)),
-            Err(NameFault::TooManyUps) => Err(self.stop(CodeReason::BadName)),
+            Err(NameFault::BadChar) => Err(self.fault_here(CodeReason::BadName)),
+            Err(NameFault::ZeroCount) => Err(self.fault_here(CodeReason::BadName)),
+            Err(NameFault::TooManyUps) => Err(self.fault_here(CodeReason::BadName)),
         }
     }
 
@@ -38,7 +38,7 @@ impl<'a> Code<'a> {
     {
         let left = self.left();
         if !begins_segment(left) {
-            return Err(self.stop(CodeReason::BadName));
+            return Err(self.fault_here(CodeReason::BadName));
         }
         if left.len() < 4 {
             return Err(self.cut());

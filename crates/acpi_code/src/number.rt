@@ -13,7 +13,7 @@ use byteorder::{ByteOrder, LittleEndian};
 
 impl<'a> Code<'a> {
     /// ByteData: one byte (ACPI 6.5, 20.2.3). `Cut` where none is left.
-    #[tactic(auto, using(crate::proofs::Left::first_byte), unfolding(crate::specs::steps::Reading::byte_at))]
+    #[tactic(auto, using(crate::proofs::Remaining::first_byte), unfolding(crate::specs::steps::Reading::byte_at))]
     pub fn byte(&mut self) -> Result<u8, CodeFault>
         ensures { Finds (λ n. n) byte_at self.old self.new result }
     {
@@ -77,7 +77,7 @@ impl<'a> Code<'a> {
                 Ok(number)
             }
             Err(PkgFault::Cut) => Err(self.cut()),
-            Err(PkgFault::ReservedBits) => Err(self.stop(CodeReason::ReservedBits)),
+            Err(PkgFault::ReservedBits) => Err(self.fault_here(CodeReason::ReservedBits)),
         }
     }
 
@@ -93,7 +93,7 @@ impl<'a> Code<'a> {
         let size = number as usize;
         let used = front.left().len() - self.left().len();
         if size < used || front.left().len() < size {
-            return Err(front.stop(CodeReason::Overrun));
+            return Err(front.fault_here(CodeReason::Overrun));
         }
         Ok(self.split(size - used))
     }

@@ -25,7 +25,7 @@ impl<'a> Code<'a> {
         let text = self.split(text_len(self.left()));
         let closing = self.fork();
         if self.byte()? != 0 {
-            return Err(closing.stop(CodeReason::BadString));
+            return Err(closing.fault_here(CodeReason::BadString));
         }
         Ok(text.left())
     }

@@ -40,7 +40,7 @@ use Rattle.acpi_survey.specs.Predefined.{first_reading}
 use Rattle.acpi_survey.specs.Survey.{code_read, place_in, behind_table}
 use Rattle.acpi_survey.specs.Surveys.{AreTables, behind_nodes, bytes_of, nodes_of_each}
 use Rattle.acpi_survey.proofs.Surveys.{are_read}
-use Rattle.acpi_conservative.specs.Parts.{Declared, declared_by, declared, IsPartOf}
+use Rattle.acpi_conservative.specs.Parts.{DeclaredPart, declared_by, declared, IsPartOf}
 use Rattle.acpi_conservative.specs.Laws.{IsSameBody, HasBodyOf, HaveBodies, StrictBodies}
 use Rattle.acpi_conservative.proofs.WholeTables.{strict_table_is_read}
 use Rattle.acpi_conservative.proofs.TableCounts.{strict_counts}
@@ -70,7 +70,7 @@ pub record IsMethodAt (look : ℕ → Option Found) (base : ℕ) (m : Method) (e
   pub found : look place ≡ Some (node_found to (closed (outline.method name flags) m.code))
 
 -- an object with code is one
-as_method : (look : ℕ → Option Found) (base : ℕ) (d : Declared) (e : Entry) → IsObjectAt look base d e → (content : List ℕ) → d.code ≡ Some content
+as_method : (look : ℕ → Option Found) (base : ℕ) (d : DeclaredPart) (e : Entry) → IsObjectAt look base d e → (content : List ℕ) → d.code ≡ Some content
     → IsMethodAt look base (record { path = d.path; code = content }) e
 as_method look base d e at content has =
     let h : IsPartOf d.object d.links (Some content) at.part = subst (λ (c : Option (List ℕ)). IsPartOf d.object d.links c at.part) has at.is_part in
@@ -84,14 +84,14 @@ has_more : (look : ℕ → Option Found) (base : ℕ) (e : Entry) (es : List Ent
 has_more look base e es m h = (h.0, inr h.1, h.2)
 
 -- .. where there are such entries of one object and those behind it
-with_object : (look : ℕ → Option Found) (base : ℕ) (s p : Path) (o : ObjectTree) (links : List NameParts) (code : Option (List ℕ)) (ds : List Declared) (ms : List Method)
+with_object : (look : ℕ → Option Found) (base : ℕ) (s p : Path) (o : ObjectTree) (links : List NameParts) (code : Option (List ℕ)) (ds : List DeclaredPart) (ms : List Method)
     → ((es : List Entry) → HaveEntries look base ds es → (m : Method) → Among ms m → HasMethod look base es m) → (es : List Entry) → HaveEntries look base (declared_by (declares o links code) s p ++ ds) es
     → (m : Method) → Among (methods_by (declares o links code) p ++ ms) m → HasMethod look base es m
 with_object look base s p o links code ds ms later [] h m a = absurd h
 with_object look base s p o links None ds ms later (e ∷ es) h m a = has_more look base e es m (later es h.1 m a)
 with_object look base s p o links (Some content) ds ms later (e ∷ es) h m (inr a) = has_more look base e es m (later es h.1 m a)
 with_object look base s p o links (Some content) ds ms later (e ∷ es) h m (inl same) =
-    let d : Declared = record { object = o; links = links; code = Some content; scope = s; path = p } in
+    let d : DeclaredPart = record { object = o; links = links; code = Some content; scope = s; path = p } in
     (e, inl refl, subst (λ (m : Method). IsMethodAt look base m e) same (as_method look base d e h.0 content refl))
 
 method_there : (look : ℕ → Option Found) (base : ℕ) (t : List Placement) (es : List Entry) → HaveEntries look base (declared t) es → (m : Method) → Among (methods t) m → HasMethod look base es m

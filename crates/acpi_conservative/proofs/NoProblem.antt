@@ -18,7 +18,7 @@ use Rattle.acpi_survey.specs.Places.{last_at}
 use Rattle.acpi_survey.specs.Ranges.{Range, Entered, ranges_of}
 use Rattle.acpi_survey.specs.Problems.{ProblemParts, Refusals, why_lost, offset_of, lost_problem, refused_problem, range_problems, table_problems}
 use Rattle.acpi_survey.specs.Notes.{NoteParts, note_parts, Unknowns, range_notes, table_notes}
-use Rattle.acpi_survey.specs.Found.{entered_in, refusals_in, problems_by, notes_by}
+use Rattle.acpi_survey.specs.Findings.{entered_in, refusals_in, problems_by, notes_by}
 use Rattle.acpi_survey.specs.Reading.{Reading}
 use Rattle.acpi_survey.specs.Predefined.{first_reading}
 use Rattle.acpi_survey.specs.Survey.{behind_table, place_in}

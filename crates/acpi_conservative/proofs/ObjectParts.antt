@@ -20,7 +20,7 @@ use Rattle.acpi_survey.specs.Reading.{Reading}
 use Rattle.acpi_survey.specs.Predefined.{first_reading}
 use Rattle.acpi_survey.specs.Survey.{code_read, place_in, behind_table}
 use Rattle.acpi_survey.specs.Surveys.{AreTables, behind_nodes, bytes_of}
-use Rattle.acpi_conservative.specs.Parts.{Declared, declared, all_declared, IsDeclaredAt, StrictReadIsDeclared}
+use Rattle.acpi_conservative.specs.Parts.{DeclaredPart, declared, all_declared, IsDeclaredAt, StrictReadIsDeclared}
 use Rattle.acpi_conservative.proofs.WholeTables.{strict_table_is_read}
 use Rattle.acpi_conservative.proofs.PartLookups.{part_within}
 use Rattle.acpi_conservative.proofs.Steps.{both_zip, IsObjectAt, HaveEntries}
@@ -31,7 +31,7 @@ use Rattle.acpi_conservative.proofs.Bodies.{in_table, at_byte}
 
 module _ (kept : List SurveyedTable) (number : ℕ) (k : SurveyedTable) (here : slice_get kept number ≡ Some k) (tiles : Tiles 0 (length (code_read k.judged)) (nodes_view k.nodes))
     (short : length (code_read k.judged) ≤ 2 ^ 64) where
-  one_object : (d : Declared) (e : Entry) → IsObjectAt (part_of k) (place_in number 0) d e → IsDeclaredAt kept d e
+  one_object : (d : DeclaredPart) (e : Entry) → IsObjectAt (part_of k) (place_in number 0) d e → IsDeclaredAt kept d e
   one_object d e at =
       let within = part_within at.place (length (code_read k.judged)) 0 (length (code_read k.judged)) (nodes_view k.nodes) tiles at.part at.found in
       let low : at.place < 2 ^ 64 = omega (arith, within.1, short) in
@@ -47,7 +47,7 @@ module _ (kept : List SurveyedTable) (number : ℕ) (k : SurveyedTable) (here : 
         is_part = at.is_part;
       }
 
-  all_objects : (ds : List Declared) (es : List Entry) → HaveEntries (part_of k) (place_in number 0) ds es → AllZip (IsDeclaredAt kept) ds es
+  all_objects : (ds : List DeclaredPart) (es : List Entry) → HaveEntries (part_of k) (place_in number 0) ds es → AllZip (IsDeclaredAt kept) ds es
   all_objects [] [] h = tt
   all_objects [] (e ∷ es) h = absurd h
   all_objects (d ∷ ds) [] h = absurd h

@@ -18,7 +18,7 @@ use Rattle.acpi_conditions.specs.Entries.{Path, Entry}
 use Rattle.acpi_survey.specs.Nodes.{term_at}
 use Rattle.acpi_survey.specs.Reading.{Reading, declaring}
 use Rattle.acpi_survey.specs.Lookup.{Found}
-use Rattle.acpi_conservative.specs.Parts.{Declared, declared_by, declared, IsPartOf}
+use Rattle.acpi_conservative.specs.Parts.{DeclaredPart, declared_by, declared, IsPartOf}
 use Rattle.acpi_conservative.proofs.Standing.{StandsIn, made, stands_behind, entries_behind}
 
 -- ---- lists
@@ -36,8 +36,8 @@ counts_both (e ∷ es) fs =
 declared_both : (es fs : List Placement) → declared (es ++ fs) ≡ declared es ++ declared fs
 declared_both [] fs = refl
 declared_both (e ∷ es) fs =
-    let ds : List Declared = declared_by e.step.effect e.scope e.path in
-    ap (λ (l : List Declared). ds ++ l) (declared_both es fs) ∙ sym (append_assoc ds (declared es) (declared fs))
+    let ds : List DeclaredPart = declared_by e.step.effect e.scope e.path in
+    ap (λ (l : List DeclaredPart). ds ++ l) (declared_both es fs) ∙ sym (append_assoc ds (declared es) (declared fs))
 
 pub both_zip : {X Y : Type 0} (R : X → Y → Type 0) (xs us : List X) (ys vs : List Y) → AllZip R xs ys → AllZip R us vs → AllZip R (xs ++ us) (ys ++ vs)
 both_zip R [] us [] vs h k = k
@@ -52,7 +52,7 @@ none_justified objects before (e ∷ es) j = absurd j
 -- ---- one state behind another
 
 -- the entry is the object's, and stands where the search finds its part
-pub record IsObjectAt (look : ℕ → Option Found) (base : ℕ) (d : Declared) (e : Entry) : Type 0 where
+pub record IsObjectAt (look : ℕ → Option Found) (base : ℕ) (d : DeclaredPart) (e : Entry) : Type 0 where
   pub scope : e.scope ≡ d.scope
   pub path : e.path ≡ d.path
   pub place : ℕ
@@ -61,7 +61,7 @@ pub record IsObjectAt (look : ℕ → Option Found) (base : ℕ) (d : Declared) 
   pub found : look place ≡ Some part
   pub is_part : IsPartOf d.object d.links d.code part
 
-abbrev pub HaveEntries : (look : ℕ → Option Found) → (base : ℕ) → List Declared → List Entry → Type 0
+abbrev pub HaveEntries : (look : ℕ → Option Found) → (base : ℕ) → List DeclaredPart → List Entry → Type 0
 HaveEntries look base = AllZip (IsObjectAt look base)
 
 -- The state follows another by these placements: where it stands, what the Externals so far say, and the entries behind those before,
@@ -99,7 +99,7 @@ both_follow look objects around s m s' es fs f g = record {
   base = g.base ∙ f.base;
   news = f.news ++ g.news;
   entries = g.entries ∙ ap (λ (l : List Entry). l ++ g.news) f.entries ∙ append_assoc s.walk.entries f.news g.news;
-  objects_there = subst (λ (ds : List Declared). HaveEntries look s.base ds (f.news ++ g.news)) (sym (declared_both es fs))
+  objects_there = subst (λ (ds : List DeclaredPart). HaveEntries look s.base ds (f.news ++ g.news)) (sym (declared_both es fs))
       (both_zip (IsObjectAt look s.base) (declared es) (declared fs) f.news g.news f.objects_there (subst (λ (b : ℕ). HaveEntries look b (declared fs) g.news) f.base g.objects_there));
 }
 

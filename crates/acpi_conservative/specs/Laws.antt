@@ -39,7 +39,7 @@ use Rattle.acpi_survey.specs.declared.body.BodyReading.TheVariants.{Terms, Opaqu
 use Rattle.acpi_survey.specs.declared.body.MethodBody.{MethodBody}
 use Rattle.acpi_survey.specs.Bodies.{entry_count}
 use Rattle.acpi_survey.specs.EntryBodies.{IsBodyOf}
-use Rattle.acpi_survey.specs.Found.{problems_in, notes_by}
+use Rattle.acpi_survey.specs.Findings.{problems_in, notes_by}
 use Rattle.acpi_survey.specs.Notes.{Unknowns}
 use Rattle.acpi_survey.specs.Pieces.{ArePieces}
 use Rattle.acpi_survey.specs.Ranges.{Entered}

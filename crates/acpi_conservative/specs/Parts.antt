@@ -31,25 +31,25 @@ use Rattle.acpi_survey.specs.Surveys.{AreTables, bytes_of}
 -- ---- what is declared
 
 -- an object, the names that its links search, the code of a method, the scope in which the term stands, and the path
-pub record Declared : Type 0 where
+pub record DeclaredPart : Type 0 where
   pub object : ObjectTree
   pub links : List NameParts
   pub code : Option (List ℕ)
   pub scope : List Segment
   pub path : List Segment
 
-abbrev pub declared_by : Effect → List Segment → List Segment → List Declared
+abbrev pub declared_by : Effect → List Segment → List Segment → List DeclaredPart
 declared_by (declares o links code) s p =
     record { object = o; links = links; code = code; scope = s; path = p } ∷ []
 declared_by opens s p = []
 declared_by (expects count) s p = []
 
 -- the objects that a listing declares, in order
-abbrev pub declared : List Placement → List Declared
+abbrev pub declared : List Placement → List DeclaredPart
 declared [] = []
 declared (e ∷ es) = declared_by e.step.effect e.scope e.path ++ declared es
 
-abbrev pub all_declared : List (List Placement) → List Declared
+abbrev pub all_declared : List (List Placement) → List DeclaredPart
 all_declared = flat_map declared
 
 -- ---- parts
@@ -120,7 +120,7 @@ IsPartOf o names (Some code) part =
 
 -- The entry is that of the object: it stands at the same path, is declared in the same scope, and its part is the
 -- object's.
-pub record IsDeclaredAt (kept : List SurveyedTable) (d : Declared) (e : Entry) : Type 0 where
+pub record IsDeclaredAt (kept : List SurveyedTable) (d : DeclaredPart) (e : Entry) : Type 0 where
   pub scope : e.scope ≡ d.scope
   pub path : e.path ≡ d.path
   pub part : Found

@@ -6,12 +6,12 @@ use Rattle.acpi_declare.specs.Notes.{Notes}
 use Rattle.acpi_declare.specs.Placing.{RefusedAt}
 use Rattle.acpi_declare.specs.Sites.{Step, external_step, external_steps}
 use Rattle.acpi_declare.specs.steps.Pass.{Pass, Passing, ◌>>=◌, take_step, take_steps}
-use Rattle.acpi_declare.specs.steps.Outcomes.{IsStopOf}
+use Rattle.acpi_declare.specs.steps.Outcomes.{IsPassErrorOf}
 use Rattle.acpi_declare.specs.steps.View.{count_said, counts_said, with_counts}
 use Rattle.acpi_declare.proofs.PassSteps.{pass, passed, expected}
 use Rattle.acpi_declare.proofs.Unions.{union-nothing, union_assoc}
-use Rattle.acpi_declare.specs.declared.fault.Stop.{Stop}
-use Rattle.acpi_declare.specs.declared.fault.Stop.TheVariants.{Refused, Memory}
+use Rattle.acpi_declare.specs.declared.fault.PassError.{PassError}
+use Rattle.acpi_declare.specs.declared.fault.PassError.TheVariants.{Refused, Memory}
 
 regroup : (r : Passing) (f h : Pass → Passing) → (r >>= f) >>= h ≡ (r >>= λ u. f u >>= h)
 regroup (Ok t) f h = refl
@@ -35,8 +35,8 @@ pub take_steps_refused : (t : Pass) (s : List Segment) (f : RefusedAt) (xs ys : 
 take_steps_refused t s f xs ys e = take_steps_append t s xs ys ∙ ap (λ r. r >>= λ v. take_steps v s ys) e
 
 -- the refusal of the first steps left is that of all the steps
-pub told_on : (f : Stop) (t first : Pass) (s : List Segment) (xs ys all : List Step) → take_steps t s (xs ++ ys) ≡ take_steps first s all
-    → IsStopOf f (take_steps t s xs) → IsStopOf f (take_steps first s all)
+pub told_on : (f : PassError) (t first : Pass) (s : List Segment) (xs ys all : List Step) → take_steps t s (xs ++ ys) ≡ take_steps first s all
+    → IsPassErrorOf f (take_steps t s xs) → IsPassErrorOf f (take_steps first s all)
 told_on Memory t first s xs ys all e h = tt
 told_on (Refused r p) t first s xs ys all e h = sym e ∙ take_steps_refused t s (r, p) xs ys h
 

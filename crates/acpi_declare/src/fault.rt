@@ -6,7 +6,7 @@ use acpi_terms::ItemReason;
 use std::alloc::{AllocError, AllocFailed};
 use thiserror::Error;
 
-/// Why a declaration or a Scope term is refused (ACPI 6.5, 5.3). The first that holds is told.
+/// Why a declaration or a Scope term is refused (ACPI 6.5, 5.3). The first that holds is reported.
 #[derive(Clone, Copy, Debug, PartialEq, Eq, Error)]
 pub enum Refusal {
     /// The declared name has no segments.
@@ -31,30 +31,30 @@ pub enum Refusal {
 
 // Why the pass over a table stops.
 #[derive(Debug, Drop)]
-pub(crate) enum Stop {
+pub(crate) enum PassError {
     Refused(Refusal, Path),
     Memory,
 }
 
-impl From<AllocError> for Stop {
+impl From<AllocError> for PassError {
     ghost use Rattle.std.specs.Prelude.{◌≡◌};
-    ghost use Rattle.acpi_declare.specs.declared.fault.Stop.TheVariants.{Memory};
+    ghost use Rattle.acpi_declare.specs.declared.fault.PassError.TheVariants.{Memory};
 
     ghost from_gives = { λ _ f. f ≡ Memory };
 
-    fn from(_: AllocError) -> Stop {
-        Stop::Memory
+    fn from(_: AllocError) -> PassError {
+        PassError::Memory
     }
 }
 
-impl<T: Drop> From<AllocFailed<T>> for Stop {
+impl<T: Drop> From<AllocFailed<T>> for PassError {
     ghost use Rattle.std.specs.Prelude.{◌≡◌};
-    ghost use Rattle.acpi_declare.specs.declared.fault.Stop.TheVariants.{Memory};
+    ghost use Rattle.acpi_declare.specs.declared.fault.PassError.TheVariants.{Memory};
 
     ghost from_gives = { λ _ f. f ≡ Memory };
 
-    fn from(_: AllocFailed<T>) -> Stop {
-        Stop::Memory
+    fn from(_: AllocFailed<T>) -> PassError {
+        PassError::Memory
     }
 }
 

@@ -12,7 +12,7 @@ ghost use Rattle.acpi_declare.specs.steps.Pass.{pass_item, pass_items};
 ghost use Rattle.acpi_declare.specs.steps.View.{pass_of};
 ghost use Rattle.acpi_declare.specs.steps.Outcomes.{Ends};
 
-use crate::fault::Stop;
+use crate::fault::PassError;
 use crate::pass::Pass;
 use crate::placing::{opened_path, rejoin};
 use acpi_name::{Name, Path};
@@ -52,7 +52,12 @@ pub enum Entered {
 
 impl<S: Space<Object>> Pass<S> {
     // Declares an object inside which others stand, and gives its path.
-    fn declare_scope(&mut self, scope: &Path, name: &Name, object: Object) -> Result<Path, Stop>
+    fn declare_scope(
+        &mut self,
+        scope: &Path,
+        name: &Name,
+        object: Object,
+    ) -> Result<Path, PassError>
         ensures steps { StepsInto result (λ p. p) (pass_of self.old) scope.now
             (step name.now (declares_alone (object_view object))) (pass_of self.new) }
         ensures lower { OnOk result (self.new.lower ≡ self.old.lower) }
@@ -64,7 +69,7 @@ impl<S: Space<Object>> Pass<S> {
     }
 
     // Opens a scope, and gives its path.
-    fn open_scope(&mut self, scope: &Path, name: &Name) -> Result<Path, Stop>
+    fn open_scope(&mut self, scope: &Path, name: &Name) -> Result<Path, PassError>
         ensures steps { StepsInto result (λ p. p) (pass_of self.old) scope.now
             (step name.now opens) (pass_of self.new) }
         ensures lower { OnOk result (self.new.lower ≡ self.old.lower) }
@@ -75,7 +80,7 @@ impl<S: Space<Object>> Pass<S> {
                 self.notes.add_missed(paths)?;
                 Ok(target)
             }
-            Err(SearchFault::Memory) => Err(Stop::Memory),
+            Err(SearchFault::Memory) => Err(PassError::Memory),
             Err(SearchFault::AboveRoot) => unreachable!(),
         }
     }
@@ -87,7 +92,7 @@ impl<S: Space<Object>> Pass<S> {
         name: Name,
         object: Object,
         items: Vec<Item>,
-    ) -> Result<(Path, Vec<Item>), Stop>
+    ) -> Result<(Path, Vec<Item>), PassError>
         ensures steps { StepsInto result (λ left. left.0) (pass_of self.old) scope.now
             (step name (declares_alone (object_view object))) (pass_of self.new) }
         ensures items { IfOk result (λ left. left.1 ≡ items) }
@@ -103,7 +108,7 @@ impl<S: Space<Object>> Pass<S> {
         scope: &Path,
         name: Name,
         items: Vec<Item>,
-    ) -> Result<(Path, Vec<Item>), Stop>
+    ) -> Result<(Path, Vec<Item>), PassError>
         ensures steps { StepsInto result (λ left. left.0) (pass_of self.old) scope.now
             (step name opens) (pass_of self.new) }
         ensures items { IfOk result (λ left. left.1 ≡ items) }
@@ -116,7 +121,7 @@ impl<S: Space<Object>> Pass<S> {
     // Declares an item without what stands inside it, and gives that and its scope. None where nothing is left. It is
     // no part of the recursion, which so holds no item on the stack.
     #[inline(never)]
-    fn enter(&mut self, scope: &Path, item: Item) -> Result<Option<(Path, Vec<Item>)>, Stop>
+    fn enter(&mut self, scope: &Path, item: Item) -> Result<Option<(Path, Vec<Item>)>, PassError>
         requires room { OffsetFits (item_view item) }
         requires fits { item_fits (item_view item) ≡ true }
         ensures steps { Enters (item_view item) result
@@ -151,7 +156,7 @@ impl<S: Space<Object>> Pass<S> {
     // Declares the next item of a list, the last of those that are left, without what stands inside it, and gives that.
     // It is no part of the recursion, which so holds no item on the stack.
     #[inline(never)]
-    fn enter_next(&mut self, scope: &mut Path, left: &mut Vec<Item>) -> Result<Entered, Stop>
+    fn enter_next(&mut self, scope: &mut Path, left: &mut Vec<Item>) -> Result<Entered, PassError>
         requires some { left.old.items ≢ [] }
         requires room { OffsetsFit (items_tree (reverse left.old.items)) }
         requires fits { items_fit (items_tree (reverse left.old.items)) ≡ true }
@@ -179,7 +184,7 @@ impl<S: Space<Object>> Pass<S> {
     // What stands inside an item whose scope is not that of its list, with one segment more.
     #[inline(never)]
     #[cycle(declare)]
-    fn declare_elsewhere(&mut self, scope: Path, items: Vec<Item>) -> Result<(), Stop>
+    fn declare_elsewhere(&mut self, scope: Path, items: Vec<Item>) -> Result<(), PassError>
         requires room { OffsetsFit (items_tree items.items) }
         requires fits { items_fit (items_tree items.items) ≡ true }
         ensures steps { Ends result (pass_items (pass_of self.old) scope (items_tree items.items))
@@ -192,7 +197,11 @@ impl<S: Space<Object>> Pass<S> {
 
     // The items of a list, in order.
     #[cycle(declare)]
-    pub(crate) fn declare_items(&mut self, scope: &mut Path, items: Vec<Item>) -> Result<(), Stop>
+    pub(crate) fn declare_items(
+        &mut self,
+        scope: &mut Path,
+        items: Vec<Item>,
+    ) -> Result<(), PassError>
         requires room { OffsetsFit (items_tree items.items) }
         requires fits { items_fit (items_tree items.items) ≡ true }
         ensures steps { Ends result (pass_items (pass_of self.old) scope.old

@@ -17,7 +17,7 @@ ghost use Rattle.acpi_declare.specs.steps.Adding.{AddsTable, HasKept};
 ghost use Rattle.acpi_declare.specs.steps.Outcomes.{IsCodeOf, IsTableFault};
 
 use crate::declaring::Declaring;
-use crate::fault::{LoadFault, LoadReason, Stop};
+use crate::fault::{LoadFault, LoadReason, PassError};
 use crate::keep::{Keep, put_kept};
 use crate::link_map::LinkMap;
 use crate::notes::TableNotes;
@@ -184,11 +184,11 @@ pub(crate) fn add_table<S: Space<Object>>(
     };
     match pass.declare_items(&mut Path::root(alloc), items) {
         Ok(()) => {}
-        Err(Stop::Refused(refusal, path)) => return Err(table_fault(
+        Err(PassError::Refused(refusal, path)) => return Err(table_fault(
             number,
             LoadReason::Refused { refusal, path },
         )),
-        Err(Stop::Memory) => return Err(LoadFault::Memory),
+        Err(PassError::Memory) => return Err(LoadFault::Memory),
     }
     let Pass {
         objects,

@@ -16,7 +16,7 @@ ghost use Rattle.acpi_declare.specs.steps.Pass.{take_step, take_steps};
 ghost use Rattle.acpi_declare.specs.steps.View.{pass_of, pass_with_units, with_method};
 ghost use Rattle.acpi_declare.specs.steps.Outcomes.{Ends, IsOutcome};
 
-use crate::fault::Stop;
+use crate::fault::PassError;
 use crate::field_list::{FieldList, behind, one, two};
 use crate::notes::TableNotes;
 use crate::pending::{LinkedPaths, PendingLinks, add_links, add_links_of};
@@ -55,7 +55,7 @@ impl<S: Space<Object>> Model for Pass<S> {
 
 impl<S: Space<Object>> Pass<S> {
     // Where a declaration of the name puts its object.
-    pub(crate) fn free_path(&self, scope: &Path, name: &Name) -> Result<Path, Stop>
+    pub(crate) fn free_path(&self, scope: &Path, name: &Name) -> Result<Path, PassError>
         ensures { IsOutcome result
             (declared_path (namespace_of self.now.objects) scope.now name.now) }
     {
@@ -63,7 +63,7 @@ impl<S: Space<Object>> Pass<S> {
     }
 
     // Where a field unit is declared.
-    fn free_unit_path(&self, scope: &Path, seg: Seg) -> Result<Path, Stop>
+    fn free_unit_path(&self, scope: &Path, seg: Seg) -> Result<Path, PassError>
         ensures { IsOutcome result
             (declared_path (namespace_of self.now.objects) scope.now (unit_name seg)) }
     {
@@ -84,7 +84,7 @@ impl<S: Space<Object>> Pass<S> {
     }
 
     // Declares an object that has no links.
-    fn declare(&mut self, scope: &Path, name: &Name, object: Object) -> Result<(), Stop>
+    fn declare(&mut self, scope: &Path, name: &Name, object: Object) -> Result<(), PassError>
         ensures steps { Ends result (take_step (pass_of self.old) scope.now
             (step name.now (declares_alone (object_view object)))) (pass_of self.new) }
         ensures lower { OnOk result (self.new.lower ≡ self.old.lower) }
@@ -116,7 +116,7 @@ impl<S: Space<Object>> Pass<S> {
         name: &Name,
         flags: u8,
         code: Bytes,
-    ) -> Result<(), Stop>
+    ) -> Result<(), PassError>
         ensures steps { Ends result (take_step (pass_of self.old) scope.now
             (step name.now (declares (method_object flags) [] (Some code)))) (pass_of self.new) }
         ensures lower { OnOk result (self.new.lower ≡ self.old.lower) }
@@ -154,7 +154,7 @@ impl<S: Space<Object>> Pass<S> {
         name: &Name,
         object: Object,
         names: Vec<Name>,
-    ) -> Result<(), Stop>
+    ) -> Result<(), PassError>
         requires { names.items ≢ [] }
         ensures steps { Ends result (take_step (pass_of self.old) scope.now
             (step name.now (declares (object_view object) names.items None))) (pass_of self.new) }
@@ -174,7 +174,7 @@ impl<S: Space<Object>> Pass<S> {
         seg: Seg,
         offset: u64,
         bits: u32,
-    ) -> Result<(), Stop>
+    ) -> Result<(), PassError>
         requires { fields.now.names.now ≢ [] }
         ensures steps { Ends result (take_step (pass_with_units self.old fields.now.names.now
             scope.now segs.old.items) scope.now (step (unit_name seg)
@@ -196,11 +196,11 @@ impl<S: Space<Object>> Pass<S> {
     }
 
     // Keeps what an External says.
-    fn expect(&mut self, scope: &Path, external: &External) -> Result<(), Stop>
+    fn expect(&mut self, scope: &Path, external: &External) -> Result<(), PassError>
         requires { external_fits (external_view external.now) ≡ true }
         ensures steps { Ends result (take_steps (pass_of self.old) scope.now
             (external_step (external_view external.now))) (pass_of self.new) }
-        ensures memory { IfErr result (λ f. f ≡ Stop.Memory) }
+        ensures memory { IfErr result (λ f. f ≡ PassError.Memory) }
         ensures lower { OnOk result (self.new.lower ≡ self.old.lower) }
     {
         self.notes.expect(self.alloc, scope, external)?;
@@ -208,11 +208,11 @@ impl<S: Space<Object>> Pass<S> {
     }
 
     // Keeps what the Externals of a block say.
-    fn expect_all(&mut self, scope: &Path, externals: &[External]) -> Result<(), Stop>
+    fn expect_all(&mut self, scope: &Path, externals: &[External]) -> Result<(), PassError>
         requires { list_all external_fits (externals_view externals.now) ≡ true }
         ensures steps { Ends result (take_steps (pass_of self.old) scope.now
             (external_steps (externals_view externals.now))) (pass_of self.new) }
-        ensures memory { IfErr result (λ f. f ≡ Stop.Memory) }
+        ensures memory { IfErr result (λ f. f ≡ PassError.Memory) }
         ensures lower { OnOk result (self.new.lower ≡ self.old.lower) }
     {
         self.notes.expect_all(self.alloc, scope, externals)?;
@@ -227,7 +227,7 @@ impl<S: Space<Object>> Pass<S> {
         segs: &mut Vec<Seg>,
         offset: u64,
         elem: &FieldElem,
-    ) -> Result<u64, Stop>
+    ) -> Result<u64, PassError>
         requires some { fields.now.names.now ≢ [] }
         requires room { offset + element_bits (field_view elem.now) < 2 ^ 64 }
         ensures steps { Ends result (take_steps (pass_with_units self.old fields.now.names.now
@@ -254,7 +254,7 @@ impl<S: Space<Object>> Pass<S> {
         fields: &FieldList<'_>,
         segs: &mut Vec<Seg>,
         elems: Vec<FieldElem>,
-    ) -> Result<(), Stop>
+    ) -> Result<(), PassError>
         requires some { fields.now.names.now ≢ [] }
         requires room { list_bits (fields_view elems.items) < 2 ^ 64 }
         ensures steps { Ends result (take_steps (pass_with_units self.old fields.now.names.now
@@ -273,7 +273,7 @@ impl<S: Space<Object>> Pass<S> {
     }
 
     // An item in which no others stand.
-    pub(crate) fn declare_leaf(&mut self, scope: &Path, item: Item) -> Result<(), Stop>
+    pub(crate) fn declare_leaf(&mut self, scope: &Path, item: Item) -> Result<(), PassError>
         requires leaf { IsTrue (is_leaf (item_view item)) }
         requires room { OffsetFits (item_view item) }
         requires fits { item_fits (item_view item) ≡ true }
@@ -352,7 +352,7 @@ impl<S: Space<Object>> Pass<S> {
         name: &Name,
         object: Object,
         source: Name,
-    ) -> Result<(), Stop>
+    ) -> Result<(), PassError>
         ensures steps { Ends result (take_step (pass_of self.old) scope.now
             (step name.now (declares (object_view object) (source ∷ []) None))) (pass_of self.new) }
         ensures lower { OnOk result (self.new.lower ≡ self.old.lower) }
@@ -368,7 +368,7 @@ impl<S: Space<Object>> Pass<S> {
         flags: u8,
         region: Name,
         elems: Vec<FieldElem>,
-    ) -> Result<(), Stop>
+    ) -> Result<(), PassError>
         requires room { list_bits (fields_view elems.items) < 2 ^ 64 }
         ensures steps { Ends result (take_steps (pass_of self.old) scope.now
             (unit_steps FieldForm.Field flags (region ∷ []) 0 (fields_view elems.items)))
@@ -388,7 +388,7 @@ impl<S: Space<Object>> Pass<S> {
         first: Name,
         second: Name,
         elems: Vec<FieldElem>,
-    ) -> Result<(), Stop>
+    ) -> Result<(), PassError>
         requires room { list_bits (fields_view elems.items) < 2 ^ 64 }
         ensures steps { Ends result (take_steps (pass_of self.old) scope.now
             (unit_steps form flags (first ∷ second ∷ []) 0 (fields_view elems.items)))
@@ -422,7 +422,7 @@ impl<S: Space<Object>> Pass<S> {
         flags: u8,
         names: Vec<Name>,
         elems: Vec<FieldElem>,
-    ) -> Result<(), Stop>
+    ) -> Result<(), PassError>
         requires some { names.items ≢ [] }
         requires room { list_bits (fields_view elems.items) < 2 ^ 64 }
         ensures steps { Ends result (take_steps (pass_of self.old) scope.now

@@ -7,9 +7,9 @@ ghost use Rattle.acpi_space.specs.Lookups.{singleton, union};
 ghost use Rattle.acpi_declare.specs.Namespace.{Namespace, namespace_of};
 ghost use Rattle.acpi_declare.specs.Placing.{below, declared_path, opened_in, opened_path};
 ghost use Rattle.acpi_declare.specs.Sites.{unit_name};
-ghost use Rattle.acpi_declare.specs.steps.Outcomes.{IsOutcome, IsStopOf};
+ghost use Rattle.acpi_declare.specs.steps.Outcomes.{IsOutcome, IsPassErrorOf};
 
-use crate::fault::{Refusal, Stop};
+use crate::fault::{PassError, Refusal};
 use acpi_name::{Name, Path, PlaceFault, Seg, place};
 use acpi_space::{Found, Refused, SearchFault, Space, search};
 use acpi_terms::Object;
@@ -46,21 +46,21 @@ pub(crate) fn rejoin(parent: Path, last: Option<Seg>) -> Result<Path, AllocError
 
 // The path, if an object may be declared there.
 #[tactic(auto, using(crate::proofs::Searches::rejoined_parts))]
-fn free_below<S: Space<Object>>(objects: &S, path: Path) -> Result<Path, Stop>
+fn free_below<S: Space<Object>>(objects: &S, path: Path) -> Result<Path, PassError>
     ensures { IsOutcome result (below (namespace_of (S.contents objects.now)) path
         (namespace_of (S.contents objects.now) (parent_of path))) }
 {
     let mut path = path;
     let last = path.pop();
     match objects.get(&path) {
-        None => Err(Stop::Refused(Refusal::NoParent, path)),
+        None => Err(PassError::Refused(Refusal::NoParent, path)),
         Some(object) => {
             if !object.opens_scope() {
-                return Err(Stop::Refused(Refusal::NotAScope, path));
+                return Err(PassError::Refused(Refusal::NotAScope, path));
             }
             let path = rejoin(path, last)?;
             if objects.get(&path).is_some() {
-                return Err(Stop::Refused(Refusal::Taken, path));
+                return Err(PassError::Refused(Refusal::Taken, path));
             }
             Ok(path)
         }
@@ -73,17 +73,17 @@ pub(crate) fn declared_path<S: Space<Object>>(
     objects: &S,
     scope: &Path,
     name: &Name,
-) -> Result<Path, Stop>
+) -> Result<Path, PassError>
     ensures { IsOutcome result
         (declared_path (namespace_of (S.contents objects.now)) scope.now name.now) }
 {
     if name.view().len() == 0 {
-        return Err(Stop::Refused(Refusal::EmptyName, scope.copy()?));
+        return Err(PassError::Refused(Refusal::EmptyName, scope.copy()?));
     }
     match place(alloc, scope, name.view()) {
         Ok(path) => free_below(objects, path),
-        Err(PlaceFault::AboveRoot) => Err(Stop::Refused(Refusal::AboveRoot, scope.copy()?)),
-        Err(PlaceFault::Memory) => Err(Stop::Memory),
+        Err(PlaceFault::AboveRoot) => Err(PassError::Refused(Refusal::AboveRoot, scope.copy()?)),
+        Err(PlaceFault::Memory) => Err(PassError::Memory),
     }
 }
 
@@ -101,7 +101,7 @@ pub(crate) fn declared_unit_path<S: Space<Object>>(
     objects: &S,
     scope: &Path,
     seg: Seg,
-) -> Result<Path, Stop>
+) -> Result<Path, PassError>
     ensures { IsOutcome result
         (declared_path (namespace_of (S.contents objects.now)) scope.now (unit_name seg)) }
 {
@@ -115,22 +115,25 @@ pub(crate) fn opened_path<S: Space<Object>>(
     objects: &S,
     scope: &Path,
     name: &Name,
-) -> Result<Path, Stop>
+) -> Result<Path, PassError>
     ensures { IsOutcome result
         (opened_path (namespace_of (S.contents objects.now)) scope.now name.now) }
 {
     let target = match search(alloc, objects, scope, name.view()) {
         Ok(Found::At(path)) => path,
         Ok(Found::Missing) => return Err(refuse_missing(alloc, scope, name)),
-        Err(SearchFault::AboveRoot) => return Err(Stop::Refused(Refusal::AboveRoot, scope.copy()?)),
-        Err(SearchFault::Memory) => return Err(Stop::Memory),
+        Err(SearchFault::AboveRoot) => return Err(PassError::Refused(
+            Refusal::AboveRoot,
+            scope.copy()?,
+        )),
+        Err(SearchFault::Memory) => return Err(PassError::Memory),
     };
     match objects.get(&target) {
         Some(object) => {
             if object.opens_scope() {
                 Ok(target)
             } else {
-                Err(Stop::Refused(Refusal::NotAScope, target))
+                Err(PassError::Refused(Refusal::NotAScope, target))
             }
         }
         None => unreachable!(),
@@ -138,14 +141,14 @@ pub(crate) fn opened_path<S: Space<Object>>(
 }
 
 // The refusal of a Scope term without an answer: it names the name's place.
-fn refuse_missing(alloc: Global, scope: &Path, name: &Name) -> Stop
+fn refuse_missing(alloc: Global, scope: &Path, name: &Name) -> PassError
     requires { place_of scope.now name.now ≢ None }
-    ensures { (objects : Namespace) → IsStopOf result
+    ensures { (objects : Namespace) → IsPassErrorOf result
         (opened_in objects scope.now (place_of scope.now name.now) None) }
 {
     match place(alloc, scope, name.view()) {
-        Ok(path) => Stop::Refused(Refusal::Missing, path),
-        Err(PlaceFault::Memory) => Stop::Memory,
+        Ok(path) => PassError::Refused(Refusal::Missing, path),
+        Err(PlaceFault::Memory) => PassError::Memory,
         Err(PlaceFault::AboveRoot) => unreachable!(),
     }
 }

@@ -22,8 +22,8 @@
 //! }
 //! ```
 //!
-//! What is loaded stands in `acpi_machine`, what is told of an order in `acpi_verdict`, and rewriting in
-//! `acpi_rewrite`; this crate gives them all on, and in `laws` what holds of them.
+//! What is loaded stands in `acpi_machine`, what is said of an order in `acpi_verdict`, and rewriting in
+//! `acpi_rewrite`; this crate re-exports them all, and states in `laws` what holds of them.
 //!
 //! `single` tells of the load with one SSDT what it declares, misses and awaits. `verdict` finds whether all SSDTs may
 //! be loaded in any order, or the first reason that they may not (`IsVerdict` of `acpi_order`), and `satisfied` which

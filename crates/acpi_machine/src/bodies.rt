@@ -17,7 +17,7 @@ use acpi_terms::{Depth, Object};
 use std::alloc::{AllocError, Global};
 use std::collections::BTreeMap;
 
-/// Gives the path this body, in place of the one that it had. The error is a want of memory.
+/// Gives the path this body, in place of the one that it had. Only an allocation failure is an error.
 pub fn put_body(bodies: &mut BTreeMap<Path, Body>, path: Path, body: Body) -> Result<(), AllocError>
     ensures { OnOk result (body_map bodies.new
         ≡ finite.insert (body_map bodies.old) path (body_view body)) }

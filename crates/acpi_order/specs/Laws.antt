@@ -55,8 +55,9 @@ AnyOrderLoadsAlike = (depth : ℕ) (dsdt : List ℕ) (ssdts given : List (List �
     → ssdts ≢ [] → IsPermutation ssdts given → IsIndependent depth dsdt ssdts
     → IsMachine depth (dsdt ∷ ssdts) m → IsMachine depth (dsdt ∷ given) n → m ≡ n
 
--- What tells of a list of tables a machine to which they load or a fault, and a fault other than want of memory only
--- where they have no load, tells of independent SSDTs in any order the join of their single loads, or want of memory.
+-- What tells of a list of tables a machine to which they load or a fault, and a fault that is no allocation failure only
+-- where they have no load, tells of independent SSDTs in any order the join of their single loads, or an allocation
+-- failure.
 abbrev pub LoadTellsJoin : Type 0
 LoadTellsJoin =
     (depth : ℕ) (dsdt : List ℕ) (given : List (List ℕ)) (told : Result Machine LoadFault)

@@ -2,12 +2,12 @@
 use Rattle.std.proofs.Common.{◌≡◌, ℕ, zero, suc, ◌-◌, ◌<◌, List, [], ◌∷◌, ◌++◌, length, Some, None, Result, Ok, Err, refl, sym, ap, ◌∙◌, arith}
 use Rattle.acpi_code.specs.declared.fault.CodeFault.{CodeFault}
 use Rattle.acpi_code.specs.declared.opcode.Opcode.{Opcode}
-use Rattle.acpi_code.specs.steps.Left.{Left, Shorter}
+use Rattle.acpi_code.specs.steps.Remaining.{Remaining, Advances}
 use Rattle.acpi_code.specs.steps.Reading.{Package, no_level, package_at, opcode_at}
 use Rattle.acpi_outline.specs.declared.form.PackedForm.{PackedForm}
 use Rattle.acpi_outline.specs.declared.fault.LostFault.{LostFault}
-use Rattle.acpi_outline.specs.declared.fault.LostStop.{LostStop}
-use Rattle.acpi_outline.specs.declared.fault.LostStop.TheVariants.{Fault, Memory}
+use Rattle.acpi_outline.specs.declared.fault.LostError.{LostError}
+use Rattle.acpi_outline.specs.declared.fault.LostError.TheVariants.{Fault, Memory}
 use Rattle.acpi_outline.specs.Faults.{part_fault}
 use Rattle.acpi_outline.specs.Nodes.{FixedTree, NodeTree, holds, NodeTrees, no_more, lost, node}
 use Rattle.acpi_outline.specs.View.{Placed, put_before}
@@ -25,11 +25,11 @@ after_put : {S : Type 0} (r : Rules S) (known : S) (front : List Placed) (ns : N
 after_put r known [] ns = refl
 after_put r known (p ∷ front) ns = after_put r (after r p.0 known p.1) front ns
 
-pub begun : {S : Type 0} (r : Rules S) (level : ℕ) (known : S) (first : Left) → Follows r level known first known first []
+pub begun : {S : Type 0} (r : Rules S) (level : ℕ) (known : S) (first : Remaining) → Follows r level known first known first []
 begun r level known first = record { same_end = refl; turns = length first.bytes; enough = omega arith; whole = refl; state = refl }
 
-pub goes_on : {S : Type 0} (r : Rules S) (level : ℕ) (known : S) (first : Left) (now_known : S) (now : Left) (next_known : S) (next : Left) (front : List Placed) (n : NodeTree) → 0 < length now.bytes
-    → node_at r level now_known now.end now.bytes ≡ Ok (n, next.bytes) → next_known ≡ after r (now.end - length now.bytes) now_known n → Shorter now next
+pub goes_on : {S : Type 0} (r : Rules S) (level : ℕ) (known : S) (first : Remaining) (now_known : S) (now : Remaining) (next_known : S) (next : Remaining) (front : List Placed) (n : NodeTree) → 0 < length now.bytes
+    → node_at r level now_known now.end now.bytes ≡ Ok (n, next.bytes) → next_known ≡ after r (now.end - length now.bytes) now_known n → Advances now next
     → Follows r level known first now_known now front → Follows r level known first next_known next (front ++ (now.end - length now.bytes, n) ∷ [])
 goes_on r level known first now_known now next_known next front n some read state on so =
     let place = now.end - length now.bytes in
@@ -43,23 +43,23 @@ goes_on r level known first now_known now next_known next front n some read stat
     }
 
 -- the same of a node that holds others, which were read behind its front
-pub entered_goes_on : {S : Type 0} (r : Rules S) (level : ℕ) (known : S) (first : Left) (now_known : S) (now : Left) (entered held left : S) (next : Left) (front : List Placed) (f : FixedTree) (inner : Left) (ns : NodeTrees)
+pub entered_goes_on : {S : Type 0} (r : Rules S) (level : ℕ) (known : S) (first : Remaining) (now_known : S) (now : Remaining) (entered held left : S) (next : Remaining) (front : List Placed) (f : FixedTree) (inner : Remaining) (ns : NodeTrees)
     → 0 < length now.bytes → node_at r level now_known now.end now.bytes ≡ Ok (holds f (nodes_at r (level - 1) (r.enter now_known (now.end - length now.bytes) f) inner.end inner.bytes), next.bytes)
     → entered ≡ r.enter now_known (now.end - length now.bytes) f → ns ≡ nodes_at r (level - 1) entered inner.end inner.bytes → held ≡ after_all r entered ns → left ≡ r.leave held
-    → Shorter now next → Follows r level known first now_known now front → Follows r level known first left next (front ++ (now.end - length now.bytes, holds f ns) ∷ [])
+    → Advances now next → Follows r level known first now_known now front → Follows r level known first left next (front ++ (now.end - length now.bytes, holds f ns) ∷ [])
 entered_goes_on r level known first now_known now entered held left next front f inner ns some read enters are state leaves on so =
     let place = now.end - length now.bytes in
     let same : nodes_at r (level - 1) (r.enter now_known place f) inner.end inner.bytes ≡ ns = ap (λ k. nodes_at r (level - 1) k inner.end inner.bytes) (sym enters) ∙ sym are in
     let behind : left ≡ r.leave (after_all r (r.enter now_known place f) ns) = leaves ∙ ap r.leave (state ∙ ap (λ k. after_all r k ns) enters) in
     goes_on r level known first now_known now left next front (holds f ns) some (read ∙ ap (λ ms. Ok (holds f ms, next.bytes)) same) behind on so
 
-pub goes_lost : {S : Type 0} (r : Rules S) (level : ℕ) (known : S) (first : Left) (now_known : S) (now : Left) (front : List Placed) (why : LostFault) → 0 < length now.bytes
+pub goes_lost : {S : Type 0} (r : Rules S) (level : ℕ) (known : S) (first : Remaining) (now_known : S) (now : Remaining) (front : List Placed) (why : LostFault) → 0 < length now.bytes
     → node_at r level now_known now.end now.bytes ≡ Err why → Follows r level known first now_known now front
     → put_before front (lost (now.end - length now.bytes) why) ≡ nodes_at r level known first.end first.bytes
 goes_lost r level known first now_known now front why some read so =
     ap (put_before front) (sym (turn r level so.turns now_known now.end now.bytes (Err why) some so.enough read)) ∙ so.whole
 
-pub goes_out : {S : Type 0} (r : Rules S) (level : ℕ) (known : S) (first : Left) (now_known : S) (now : Left) (front : List Placed) → length now.bytes ≡ 0
+pub goes_out : {S : Type 0} (r : Rules S) (level : ℕ) (known : S) (first : Remaining) (now_known : S) (now : Remaining) (front : List Placed) → length now.bytes ≡ 0
     → Follows r level known first now_known now front → put_before front no_more ≡ nodes_at r level known first.end first.bytes
 goes_out r level known first now_known now front none so = ap (put_before front) (sym (at_end now.bytes none)) ∙ so.whole
   where
@@ -68,7 +68,7 @@ goes_out r level known first now_known now front none so = ap (put_before front)
     at_end (b ∷ rest) none = absurd (omega arith)
 
 -- the state behind what was read, and nothing more
-pub state_lost : {S : Type 0} (r : Rules S) (level : ℕ) (known : S) (first : Left) (now_known : S) (now : Left) (front : List Placed) (place : ℕ) (why : LostFault)
+pub state_lost : {S : Type 0} (r : Rules S) (level : ℕ) (known : S) (first : Remaining) (now_known : S) (now : Remaining) (front : List Placed) (place : ℕ) (why : LostFault)
     → Follows r level known first now_known now front → now_known ≡ after_all r known (put_before front (lost place why))
 state_lost r level known first now_known now front place why so = sym (after_put r known front (lost place why) ∙ so.state)
 
@@ -105,11 +105,11 @@ pub plain_begun : {S : Type 0} (r : Rules S) (level : ℕ) (known : S) (end : �
     → opcode_at end bytes ≡ Ok (o, rest) → packed_form o ≡ None → node_at r level known end bytes ≡ or_contained (level - 1) end o rest (plain_in r (level - 1) known end bytes o rest)
 plain_begun r level known end bytes o rest some opens none = node_opened r level known end bytes o rest some opens ∙ rw none refl
 
-pub fails_as : {Y : Type 0} (e : LostStop) (r k : Result Y LostFault) → k ≡ r → Fails e r → Fails e k
+pub fails_as : {Y : Type 0} (e : LostError) (r k : Result Y LostFault) → k ≡ r → Fails e r → Fails e k
 fails_as Memory r k e h = tt
 fails_as (Fault f) r k e h = e ∙ h
 
 -- the state behind what was read, and nothing more
-pub state_out : {S : Type 0} (r : Rules S) (level : ℕ) (known : S) (first : Left) (now_known : S) (now : Left) (front : List Placed)
+pub state_out : {S : Type 0} (r : Rules S) (level : ℕ) (known : S) (first : Remaining) (now_known : S) (now : Remaining) (front : List Placed)
     → Follows r level known first now_known now front → now_known ≡ after_all r known (put_before front no_more)
 state_out r level known first now_known now front so = sym so.state

@@ -108,7 +108,7 @@ abbrev mutual
   AreItems (item i is) ms = (place : ℕ) × (n : NodeTree) × (ns : NodeTrees) × (ms ≡ node place n ns)
       × IsItem i n × AreItems is ns
 
--- Where a code spells items, its outline is these: nothing is lost, nothing is package_lost, and there is no statement.
+-- Where a code spells items, its outline is these: nothing is lost, no package is lost, and there is no statement.
 abbrev pub StrictIsKept : {S : Type 0} → Rules S → Type 0
 StrictIsKept {S} r = (known : S) (depth : ℕ) (code : List ℕ) (is : ItemTrees) (ns : NodeTrees)
     → SpellsItems is code → items_height is ≤ depth → IsOutline r known depth ns code

@@ -8,7 +8,7 @@ ghost use Rattle.acpi_outline.specs.Rules.{goes_into};
 ghost use Rattle.acpi_outline.specs.steps.Reading.{test_in, container_in, units_in, fixed_in};
 ghost use Rattle.acpi_outline.specs.steps.Cursor.{Reads, ReadsOn};
 
-use crate::fault::LostStop;
+use crate::fault::LostError;
 use crate::form::{ContainerForm, PackedForm};
 use crate::known::Known;
 use crate::node::Fixed;
@@ -19,7 +19,7 @@ use std::alloc::{AllocError, Global};
 
 // The predicate of an If or While; the byte 00 has no level.
 #[inline(never)]
-fn test<K: Known>(known: &K, level: u32, code: &mut Code<'_>) -> Result<Box<Term>, LostStop>
+fn test<K: Known>(known: &K, level: u32, code: &mut Code<'_>) -> Result<Box<Term>, LostError>
     ensures { Reads (λ b. term_view (box_value b)) (test_in K.rules level known.now)
         code.old code.new result }
 {
@@ -38,7 +38,7 @@ fn container<K: Known>(
     level: u32,
     form: ContainerForm,
     code: &mut Code<'_>,
-) -> Result<Fixed, LostStop>
+) -> Result<Fixed, LostError>
     ensures { Reads fixed_view (container_in K.rules level known.now form)
         code.old code.new result }
 {
@@ -68,7 +68,7 @@ fn units<K: Known>(
     level: u32,
     form: UnitsForm,
     code: &mut Code<'_>,
-) -> Result<Fixed, LostStop>
+) -> Result<Fixed, LostError>
     ensures { Reads fixed_view (units_in K.rules level known.now form)
         code.old code.new result }
 {
@@ -95,7 +95,7 @@ pub(crate) fn fixed<K: Known>(
     level: u32,
     form: PackedForm,
     code: &mut Code<'_>,
-) -> Result<Fixed, LostStop>
+) -> Result<Fixed, LostError>
     ensures { ReadsOn fixed_view (fixed_in K.rules level known.now form)
         code.old code.new result }
 {

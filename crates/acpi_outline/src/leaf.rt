@@ -7,7 +7,7 @@ ghost use Rattle.acpi_outline.specs.steps.Cursor.{Reads};
 ghost use Rattle.acpi_outline.specs.steps.Leaves.{leaf_view};
 ghost use Rattle.acpi_outline.specs.steps.Reading.{plain_in, packed_form, data_form, packed_as, name_at_level, contained_by, or_contained};
 
-use crate::fault::{LostFault, LostStop};
+use crate::fault::{LostError, LostFault};
 use crate::form::DataForm;
 use crate::known::Known;
 use crate::node::Plain;
@@ -40,14 +40,14 @@ fn data_of(opcode: Opcode) -> Option<DataForm>
 }
 
 // The package of a statement.
-fn data_lost(form: DataForm, why: LostFault, code: &mut Code<'_>) -> Result<Leaf, LostStop>
+fn data_lost(form: DataForm, why: LostFault, code: &mut Code<'_>) -> Result<Leaf, LostError>
     ensures { Reads leaf_view
         (λ end rest. packed_as (nodes.data_lost form why) why (package_at end rest))
         code.old code.new result }
 {
     match code.package() {
         Ok(_) => Ok(Leaf::DataLost(form, why)),
-        Err(_) => Err(LostStop::Fault(why)),
+        Err(_) => Err(LostError::Fault(why)),
     }
 }
 
@@ -57,25 +57,25 @@ fn name_lost(
     level: u32,
     why: LostFault,
     code: &mut Code<'_>,
-) -> Result<Leaf, LostStop>
+) -> Result<Leaf, LostError>
     ensures { Reads leaf_view (λ end rest. name_at_level level why end rest)
         code.old code.new result }
 {
     if level == 0 {
-        return Err(LostStop::Fault(why));
+        return Err(LostError::Fault(why));
     }
     let Ok(name) = code.name() else {
-        return Err(LostStop::Fault(why));
+        return Err(LostError::Fault(why));
     };
     let Ok(opcode) = code.opcode() else {
-        return Err(LostStop::Fault(why));
+        return Err(LostError::Fault(why));
     };
     let Some(form) = data_of(opcode) else {
-        return Err(LostStop::Fault(why));
+        return Err(LostError::Fault(why));
     };
     match code.package() {
         Ok(_) => Ok(Leaf::NameLost(name.own(alloc)?, form, why)),
-        Err(_) => Err(LostStop::Fault(why)),
+        Err(_) => Err(LostError::Fault(why)),
     }
 }
 
@@ -87,7 +87,7 @@ fn held(
     opcode: Opcode,
     why: LostFault,
     code: &mut Code<'_>,
-) -> Result<Leaf, LostStop>
+) -> Result<Leaf, LostError>
     ensures { Reads leaf_view (λ end rest. contained_by level why end opcode rest)
         code.old code.new result }
 {
@@ -96,7 +96,7 @@ fn held(
         Opcode::Package => data_lost(DataForm::Package, why, code),
         Opcode::VarPackage => data_lost(DataForm::VarPackage, why, code),
         Opcode::DeclareName => name_lost(alloc, level, why, code),
-        _ => Err(LostStop::Fault(why)),
+        _ => Err(LostError::Fault(why)),
     }
 }
 
@@ -109,7 +109,7 @@ pub(crate) fn read_leaf<'a, K: Known>(
     front: &Code<'a>,
     opcode: Opcode,
     code: &mut Code<'a>,
-) -> Result<Leaf, LostStop>
+) -> Result<Leaf, LostError>
     requires some { 0 < level }
     requires ends { front.now.end ≡ code.old.end }
     requires behind { length code.old.bytes < length front.now.bytes }
@@ -122,10 +122,10 @@ pub(crate) fn read_leaf<'a, K: Known>(
     let behind = code.fork();
     match plain(known, level, front, opcode, code) {
         Ok(plain) => Ok(Leaf::Plain(plain)),
-        Err(LostStop::Fault(why)) => {
+        Err(LostError::Fault(why)) => {
             *code = behind;
             held(known.alloc(), level - 1, opcode, why, code)
         }
-        Err(LostStop::Memory) => Err(LostStop::Memory),
+        Err(LostError::Memory) => Err(LostError::Memory),
     }
 }

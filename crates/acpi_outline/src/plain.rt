@@ -11,7 +11,7 @@ ghost use Rattle.acpi_outline.specs.View.{plain_view};
 ghost use Rattle.acpi_outline.specs.steps.Reading.{part, of_term, reference_in, source_in, named_in, external_in, alias_in, table_region_in, term_in, plain_by, packed_form};
 ghost use Rattle.acpi_outline.specs.steps.Cursor.{Reads};
 
-use crate::fault::{LostReason, LostStop, stopped};
+use crate::fault::{LostError, LostReason, stopped};
 use crate::known::{Counted, Known};
 use crate::node::Plain;
 use acpi_body::read_term;
@@ -28,7 +28,7 @@ fn term_apart<K: Known>(
     level: u32,
     place: Place,
     code: &mut Code<'_>,
-) -> Result<Box<Term>, LostStop>
+) -> Result<Box<Term>, LostError>
     ensures { Reads (λ b. term_view (box_value b))
         (λ end bytes. of_term (term_at (grammar_at K.rules known.now) level place end bytes))
         code.old code.new result }
@@ -42,7 +42,7 @@ pub(crate) fn value<K: Known>(
     known: &K,
     level: u32,
     code: &mut Code<'_>,
-) -> Result<Box<Term>, LostStop>
+) -> Result<Box<Term>, LostError>
     ensures { Reads (λ b. term_view (box_value b))
         (λ end bytes. of_term (term_at (grammar_at K.rules known.now) level Value end bytes))
         code.old code.new result }
@@ -53,7 +53,7 @@ pub(crate) fn value<K: Known>(
 /// A name, with memory of its own.
 #[inline(never)]
 #[tactic(auto, using(crate::proofs::Parts::part_fails))]
-pub(crate) fn owned_name(alloc: Global, code: &mut Code<'_>) -> Result<Name, LostStop>
+pub(crate) fn owned_name(alloc: Global, code: &mut Code<'_>) -> Result<Name, LostError>
     ensures { Reads (λ n. n) (λ end bytes. part (name_in end bytes)) code.old code.new result }
 {
     Ok(code.name()?.own(alloc)?)
@@ -62,7 +62,7 @@ pub(crate) fn owned_name(alloc: Global, code: &mut Code<'_>) -> Result<Name, Los
 // A name that is never a call.
 #[inline(never)]
 #[tactic(auto, using(crate::proofs::Parts::part_fails), unfolding(crate::specs::steps::Reading::reference_in))]
-fn reference(alloc: Global, code: &mut Code<'_>) -> Result<Box<Term>, LostStop>
+fn reference(alloc: Global, code: &mut Code<'_>) -> Result<Box<Term>, LostError>
     ensures { Reads (λ b. term_view (box_value b)) reference_in code.old code.new result }
 {
     let name = code.name()?.own(alloc)?;
@@ -71,7 +71,7 @@ fn reference(alloc: Global, code: &mut Code<'_>) -> Result<Box<Term>, LostStop>
 
 // The source of a Create form; a name has no level.
 #[inline(never)]
-fn source<K: Known>(known: &K, level: u32, code: &mut Code<'_>) -> Result<Box<Term>, LostStop>
+fn source<K: Known>(known: &K, level: u32, code: &mut Code<'_>) -> Result<Box<Term>, LostError>
     ensures { Reads (λ b. term_view (box_value b)) (source_in K.rules level known.now)
         code.old code.new result }
 {
@@ -91,7 +91,7 @@ fn named<K: Known>(
     level: u32,
     form: NamedForm,
     code: &mut Code<'_>,
-) -> Result<Decl, LostStop>
+) -> Result<Decl, LostError>
     ensures { Reads (λ d. nodes.term (decl_view d)) (named_in K.rules level known.now form)
         code.old code.new result }
 {
@@ -129,7 +129,7 @@ fn declaration<K: Known>(
     level: u32,
     form: NamedForm,
     code: &mut Code<'_>,
-) -> Result<Plain, LostStop>
+) -> Result<Plain, LostError>
     ensures { Reads plain_view (named_in K.rules level known.now form)
         code.old code.new result }
 {
@@ -139,7 +139,7 @@ fn declaration<K: Known>(
 
 #[inline(never)]
 #[tactic(auto, using(crate::proofs::Parts::part_fails), unfolding(crate::specs::steps::Reading::external_in))]
-fn external(alloc: Global, code: &mut Code<'_>) -> Result<Plain, LostStop>
+fn external(alloc: Global, code: &mut Code<'_>) -> Result<Plain, LostError>
     ensures { Reads plain_view external_in code.old code.new result }
 {
     let name = code.name()?;
@@ -155,7 +155,7 @@ fn external(alloc: Global, code: &mut Code<'_>) -> Result<Plain, LostStop>
 
 #[inline(never)]
 #[tactic(auto, using(crate::proofs::Parts::part_fails), unfolding(crate::specs::steps::Reading::alias_in))]
-fn alias(alloc: Global, code: &mut Code<'_>) -> Result<Plain, LostStop>
+fn alias(alloc: Global, code: &mut Code<'_>) -> Result<Plain, LostError>
     ensures { Reads plain_view alias_in code.old code.new result }
 {
     let source = code.name()?;
@@ -165,7 +165,7 @@ fn alias(alloc: Global, code: &mut Code<'_>) -> Result<Plain, LostStop>
 
 #[inline(never)]
 #[tactic(auto, using(crate::proofs::Parts::part_fails), unfolding(crate::specs::steps::Reading::table_region_in, acpi_body::specs::steps::Reading::operands_at, acpi_body::specs::steps::Reading::operand_at))]
-fn table_region<K: Known>(known: &K, level: u32, code: &mut Code<'_>) -> Result<Plain, LostStop>
+fn table_region<K: Known>(known: &K, level: u32, code: &mut Code<'_>) -> Result<Plain, LostError>
     ensures { Reads plain_view (table_region_in K.rules level known.now)
         code.old code.new result }
 {
@@ -186,7 +186,7 @@ fn term<'a, K: Known>(
     place: Place,
     front: &Code<'a>,
     code: &mut Code<'a>,
-) -> Result<Plain, LostStop>
+) -> Result<Plain, LostError>
     requires { 0 < level }
     ensures { Reads plain_view (term_in K.rules (level - 1) known.now place)
         front.now code.new result }
@@ -203,7 +203,7 @@ pub(crate) fn plain<'a, K: Known>(
     front: &Code<'a>,
     opcode: Opcode,
     code: &mut Code<'a>,
-) -> Result<Plain, LostStop>
+) -> Result<Plain, LostError>
     requires some { 0 < level }
     requires ends { front.now.end ≡ code.old.end }
     requires behind { length code.old.bytes < length front.now.bytes }

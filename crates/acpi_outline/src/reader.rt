@@ -6,9 +6,9 @@ ghost use Rattle.acpi_outline.specs.View.{fixed_view, node_view, nodes_view, pla
 ghost use Rattle.acpi_outline.specs.Rules.{after, after_all};
 ghost use Rattle.acpi_outline.specs.steps.Leaves.{leaf_view};
 ghost use Rattle.acpi_outline.specs.steps.Reading.{packed_form, unentered, nodes_at};
-ghost use Rattle.acpi_outline.specs.steps.Going.{Begins, Opens, Goes, Continues};
+ghost use Rattle.acpi_outline.specs.steps.Going.{BeginsNode, Opens, Goes, Continues};
 
-use crate::fault::{LostFault, LostStop};
+use crate::fault::{LostError, LostFault};
 use crate::fields::fields;
 use crate::fixed::{fixed, goes_in, holds_fields};
 use crate::form::{ContainerForm, PackedForm};
@@ -49,11 +49,11 @@ pub(crate) enum Begun<'a> {
     Package(PackedForm, Code<'a>),
 }
 
-// The next node, but for what is in its package; `level` levels are left for it. Nothing is told of it yet.
+// The next node, but for what is in its package; `level` levels are left for it. The state doesn't know it yet.
 #[inline(never)]
 #[tactic(auto, using(crate::proofs::Parts::part_fails))]
-fn begin<'a, K: Known>(known: &K, level: u32, code: &mut Code<'a>) -> Result<Begun<'a>, LostStop>
-    ensures { Begins K.rules level known.now code.old code.new result }
+fn begin<'a, K: Known>(known: &K, level: u32, code: &mut Code<'a>) -> Result<Begun<'a>, LostError>
+    ensures { BeginsNode K.rules level known.now code.old code.new result }
 {
     if level == 0 {
         return Err(code.too_deep().into());
@@ -133,11 +133,11 @@ fn open<'a, K: Known>(
             }
             Ok(Next::Read(pass(known, place, fixed, &mut inner)?))
         }
-        Err(LostStop::Fault(fault)) => {
+        Err(LostError::Fault(fault)) => {
             known.pass_lost(place, Some(form))?;
             Ok(Next::Read(Node::PackageLost(form, fault)))
         }
-        Err(LostStop::Memory) => Err(AllocError),
+        Err(LostError::Memory) => Err(AllocError),
     }
 }
 
@@ -177,8 +177,8 @@ fn step<'a, K: Known>(
     match begin(known, level, code) {
         Ok(Begun::Leaf(leaf)) => Ok(Next::Read(tell(known, place, leaf)?)),
         Ok(Begun::Package(form, inner)) => open(known, place, level - 1, form, inner),
-        Err(LostStop::Fault(fault)) => Ok(Next::Lost(fault)),
-        Err(LostStop::Memory) => Err(AllocError),
+        Err(LostError::Fault(fault)) => Ok(Next::Lost(fault)),
+        Err(LostError::Memory) => Err(AllocError),
     }
 }
 

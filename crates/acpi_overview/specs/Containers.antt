@@ -1,10 +1,10 @@
 -- Objects below which others stand (ACPI 6.5, 5.3).
 use Rattle.std.specs.Prelude.{Bool, true, false}
-use Rattle.acpins_survey_output.specs.declared.objects.Declared.{Declared}
-use Rattle.acpins_survey_output.specs.declared.objects.Declared.TheVariants as objects
+use Rattle.acpi_objects.specs.declared.kind.ObjectKind.{ObjectKind}
+use Rattle.acpi_objects.specs.declared.kind.ObjectKind.TheVariants as objects
 
 -- The root, scopes, devices, processors, power resources and thermal zones.
-abbrev pub is_container : Declared → Bool
+abbrev pub is_container : ObjectKind → Bool
 is_container objects.Root = true
 is_container objects.Scope = true
 is_container objects.Device = true

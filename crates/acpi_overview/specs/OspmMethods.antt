@@ -6,8 +6,8 @@ use Rattle.std.specs.Cmp.Lexicographic.{pointwise}
 use Rattle.acpi_overview.specs.Paths.{last_name}
 use Rattle.acpi_overview.specs.declared.ospm_methods.OspmKind.{OspmKind}
 use Rattle.acpi_overview.specs.declared.ospm_methods.OspmKind.TheVariants as kinds
-use Rattle.acpins_survey_output.specs.declared.objects.Declared.{Declared}
-use Rattle.acpins_survey_output.specs.declared.objects.Declared.TheVariants as objects
+use Rattle.acpi_objects.specs.declared.kind.ObjectKind.{ObjectKind}
+use Rattle.acpi_objects.specs.declared.kind.ObjectKind.TheVariants as objects
 
 -- whether two names are the same
 abbrev pub is_name : List ℕ → List ℕ → Bool
@@ -53,6 +53,6 @@ method_kind path = let name = last_name path in
     (if length path == 1 then system_kind name else numbered_kind name)
 
 -- the kind of what a term declares; only methods have one
-abbrev pub ospm_kind : Declared → (path : List (List ℕ)) → Option OspmKind
+abbrev pub ospm_kind : ObjectKind → (path : List (List ℕ)) → Option OspmKind
 ospm_kind (objects.Method flags) path = method_kind path
 ospm_kind _ path = None

@@ -8,8 +8,8 @@ use crate::addresses::{Address, set_addresses};
 use crate::objects::{Object, has_own_condition};
 use crate::value::Value;
 use acpi_name::Path;
+use acpi_objects::ObjectKind;
 use acpi_survey::Survey;
-use acpins_survey_output::Declared;
 use std::alloc::{AllocError, Global};
 
 /// What is known of the objects of a device by which an operating system finds it (ACPI 6.5, 6.1 to 6.3 and 7.3).
@@ -85,17 +85,17 @@ const NOTHING: DeviceValues<'static> = DeviceValues {
 };
 
 /// Whether others may stand below what a term declares.
-pub fn is_container(declared: Declared<'_>) -> bool
-    ensures { result ≡ is_container declared.entry }
+pub fn is_container(kind: ObjectKind<'_>) -> bool
+    ensures { result ≡ is_container kind.entry }
 {
     matches!(
-        declared,
-        Declared::Root
-            | Declared::Scope
-            | Declared::Device
-            | Declared::Processor { .. }
-            | Declared::Power { .. }
-            | Declared::Thermal
+        kind,
+        ObjectKind::Root
+            | ObjectKind::Scope
+            | ObjectKind::Device
+            | ObjectKind::Processor { .. }
+            | ObjectKind::Power { .. }
+            | ObjectKind::Thermal
     )
 }
 
@@ -132,7 +132,7 @@ fn set<'a>(fact: &mut Value<'a>, value: Value<'a>) {
 }
 
 impl<'a> DeviceValues<'a> {
-    // Hears of an object of the device, by its last segment.
+    // Adds an object of the device, by its last segment.
     fn add(&mut self, segment: &[u8], value: Value<'a>) {
         match segment {
             b"_HID" => set(&mut self.hid, value),
@@ -149,17 +149,17 @@ impl<'a> DeviceValues<'a> {
 }
 
 impl MemberCounts {
-    fn add(&mut self, declared: Declared<'_>) {
-        match declared {
-            Declared::Method(_) => self.methods = self.methods.saturating_add(1),
-            Declared::Field { .. } => self.units = self.units.saturating_add(1),
+    fn add(&mut self, kind: ObjectKind<'_>) {
+        match kind {
+            ObjectKind::Method(_) => self.methods = self.methods.saturating_add(1),
+            ObjectKind::Field { .. } => self.units = self.units.saturating_add(1),
             _ => {}
         }
     }
 }
 
 impl<'a> Container<'a> {
-    // Hears of an object that stands below it.
+    // Adds an object that stands below it.
     fn add(&mut self, survey: &Survey, object: &Object<'a>) -> Result<(), AllocError> {
         if !is_directly_in(object.path, self.object.path) {
             return Ok(());
@@ -167,10 +167,10 @@ impl<'a> Container<'a> {
         let value = if has_own_condition(survey, &self.object, object)? {
             Value::Unknown
         } else {
-            Value::of_declared(object.declared, object.code)
+            Value::of_object(object.kind, object.code)
         };
         self.values.add(&last_segment(object.path), value);
-        self.counts.add(object.declared);
+        self.counts.add(object.kind);
         Ok(())
     }
 }
@@ -222,7 +222,7 @@ impl<'a> Building<'a> {
         Ok(())
     }
 
-    // Tells the container of that number of an object below it.
+    // Adds an object to the container of that number, below which it stands.
     fn add_to(&mut self, number: usize, object: &Object<'a>) -> Result<(), AllocError> {
         match self.containers.get_mut(number) {
             Some(container) => container.add(self.survey, object),
@@ -247,7 +247,7 @@ impl<'a> Building<'a> {
     // Comes to the next object; the number of the container around it.
     fn next(&mut self, object: &Object<'a>, place: usize) -> Result<Option<usize>, AllocError> {
         let around = self.leave_to(object.path);
-        if !is_container(object.declared) {
+        if !is_container(object.kind) {
             if let Some(number) = around {
                 self.add_to(number, object)?;
             }

@@ -6,9 +6,9 @@ use crate::containers::Container;
 use crate::objects::Object;
 use crate::regions::{Region, kind_of, regions_at};
 use crate::value::Value;
+use acpi_objects::{ObjectKind, UnitForm};
 use acpi_resources::{Stop, Template};
 use acpi_survey::Survey;
-use acpins_survey_output::{Declared, UnitForm};
 use std::alloc::{AllocError, Global};
 use std::collections::BTreeMap;
 
@@ -122,8 +122,8 @@ fn put_bad_templates(
 
 // The bits of a field unit: its first, and the first behind it.
 fn bits_of(object: &Object<'_>) -> Option<(u64, u64)> {
-    match object.declared {
-        Declared::Field {
+    match object.kind {
+        ObjectKind::Field {
             form,
             offset,
             bits,

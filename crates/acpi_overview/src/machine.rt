@@ -8,9 +8,9 @@ use crate::ospm_methods::{OspmMethod, ospm_methods_of};
 use crate::regions::{Region, regions_of};
 use crate::resources::resources_of;
 use crate::store_targets::StoreTargets;
+use acpi_objects::ObjectKind;
 use acpi_resources::Template;
 use acpi_survey::{Note, Problem, Survey};
-use acpins_survey_output::Declared;
 use std::alloc::{AllocError, Global};
 
 /// How many objects of some kinds there are, and bytes of code.
@@ -67,14 +67,14 @@ fn increase(total: &mut usize, count: usize) {
 
 impl Totals {
     fn add(&mut self, object: &Object<'_>) {
-        match object.declared {
-            Declared::Device => increase(&mut self.devices, 1),
-            Declared::Field { .. } => increase(&mut self.units, 1),
-            Declared::Method(_) => {
+        match object.kind {
+            ObjectKind::Device => increase(&mut self.devices, 1),
+            ObjectKind::Field { .. } => increase(&mut self.units, 1),
+            ObjectKind::Method(_) => {
                 increase(&mut self.methods, 1);
                 increase(&mut self.code, object.code);
             }
-            Declared::Name(_) => increase(&mut self.names, 1),
+            ObjectKind::Name(_) => increase(&mut self.names, 1),
             _ => {}
         }
         if object.is_conditional {

@@ -2,9 +2,9 @@
 
 use acpi_conditions::{Entry, Turn, Way};
 use acpi_name::Path;
+use acpi_objects::{ObjectKind, object_kind};
 use acpi_outline::{Fixed, Node};
 use acpi_survey::{Site, Span, SpanContent, Survey, site_of};
-use acpins_survey_output::{Declared, declared_by, predefined};
 use std::alloc::{AllocError, Global};
 
 /// An object that a table may declare, or that is there before all tables (ACPI 6.5, 5.3).
@@ -14,8 +14,8 @@ pub struct Object<'a> {
     pub number: usize,
     /// Where it stands in the namespace.
     pub path: &'a Path,
-    /// What its term declares.
-    pub declared: Declared<'a>,
+    /// What it is.
+    pub kind: ObjectKind<'a>,
     /// Where its term begins; nowhere for what is there before all tables.
     pub site: Option<Site>,
     /// The number of bytes of a method's code.
@@ -42,33 +42,19 @@ fn code_bytes(part: &Span<'_>) -> usize {
     }
 }
 
-// What the entry of that number declares; what no table declares is there before all tables.
+// The object of the entry of that number.
 fn object_of<'a>(survey: &'a Survey, entry: &'a Entry, number: usize) -> Object<'a> {
+    let part = survey.part_of(number);
     let asks = !entry.asks.is_empty();
-    match survey.part_of(number) {
-        Some(part) => Object {
-            number,
-            path: &entry.path,
-            declared: match declared_by(&part) {
-                Some(declared) => declared,
-                None => Declared::Predefined,
-            },
-            site: Some(site_of(entry.term.place)),
-            code: code_bytes(&part),
-            is_conditional: asks || !survey.entries().ways.is_empty(entry.way),
-            asks,
-            way: entry.way,
-        },
-        None => Object {
-            number,
-            path: &entry.path,
-            declared: predefined(number),
-            site: None,
-            code: 0,
-            is_conditional: false,
-            asks: false,
-            way: entry.way,
-        },
+    Object {
+        number,
+        path: &entry.path,
+        kind: object_kind(part, number),
+        site: part.map(|_| site_of(entry.term.place)),
+        code: part.map_or(0, |p| code_bytes(&p)),
+        is_conditional: part.is_some() && (asks || !survey.entries().ways.is_empty(entry.way)),
+        asks,
+        way: entry.way,
     }
 }
 

@@ -5,7 +5,7 @@ ghost use Rattle.acpi_overview.specs.OspmMethods.{is_hex_digit, named_kind, numb
 
 use crate::containers::last_segment;
 use crate::objects::Object;
-use acpins_survey_output::Declared;
+use acpi_objects::ObjectKind;
 use std::alloc::{AllocError, Global};
 
 /// A kind of methods that an operating system runs by itself (ACPI 6.5, 5.6, 6.2, 6.3, 6.5 and 7).
@@ -29,7 +29,7 @@ pub enum OspmKind {
     System,
 }
 
-/// All kinds, in the order in which they are told.
+/// All kinds, in the order in which they are shown.
 pub const OSPM_KINDS: [OspmKind; 8] = [
     OspmKind::Init,
     OspmKind::Reg,
@@ -97,9 +97,9 @@ fn numbered_kind(segment: [u8; 4]) -> Option<OspmKind>
 
 /// The kind of a method, if an operating system runs it by itself.
 pub fn ospm_kind(object: &Object<'_>) -> Option<OspmKind>
-    ensures { result ≡ ospm_kind object.now.declared object.now.path.now }
+    ensures { result ≡ ospm_kind object.now.kind object.now.path.now }
 {
-    let Declared::Method(_) = object.declared else {
+    let ObjectKind::Method(_) = object.kind else {
         return None;
     };
     let segment = last_segment(object.path);

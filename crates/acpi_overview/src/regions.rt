@@ -10,9 +10,9 @@ use crate::store_targets::StoreTargets;
 use crate::value::Value;
 use acpi_conditions::Seen;
 use acpi_name::{Name, Path};
+use acpi_objects::ObjectKind;
 use acpi_survey::Survey;
 use acpi_tree::Term;
-use acpins_survey_output::Declared;
 use std::alloc::{AllocError, Global};
 
 /// A bound of a region: its offset or its length, in bytes (ACPI 6.5, 19.6.100).
@@ -131,7 +131,7 @@ impl<'a, 'b> ConstantLookup<'a, 'b> {
         if self.store_targets.may_store(*segment) {
             return Ok(None);
         }
-        Ok(Value::of_declared(object.declared, 0).number())
+        Ok(Value::of_object(object.kind, 0).number())
     }
 
     // A bound in the term of an entry.
@@ -155,11 +155,11 @@ impl<'a, 'b> ConstantLookup<'a, 'b> {
         object: &Object<'a>,
         around: Option<usize>,
     ) -> Result<Option<Region<'a>>, AllocError> {
-        let Declared::Region {
+        let ObjectKind::Region {
             space,
             offset,
             length,
-        } = object.declared
+        } = object.kind
         else {
             return Ok(None);
         };

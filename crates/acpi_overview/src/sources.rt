@@ -5,8 +5,8 @@ use crate::objects::{Object, objects_at};
 use crate::regions::{Bound, regions_at};
 use acpi_conditions::Seen;
 use acpi_name::{Name, Path};
+use acpi_objects::ObjectKind;
 use acpi_tree::{Operand, Term};
-use acpins_survey_output::Declared;
 use std::alloc::{AllocError, Global};
 
 /// A field unit from which a bound of a region is read at run time.
@@ -119,7 +119,7 @@ impl<'a> Overview<'a> {
         let Some(unit) = self.object_named(alloc, region.object.number, name)? else {
             return Ok(None);
         };
-        let Declared::Field { offset, bits, .. } = unit.declared else {
+        let ObjectKind::Field { offset, bits, .. } = unit.kind else {
             return Ok(None);
         };
         match self.region_around(&unit)? {

@@ -2,10 +2,12 @@
 
 use crate::objects::Object;
 use acpi_name::{Name, Seg};
-use acpi_outline::{Fixed, Node, Nodes, Plain};
-use acpi_survey::{BodyReading, Span, SpanContent, Spans, Survey};
-use acpi_tree::{Decl, Operand, Term};
-use acpins_survey_output::Declared;
+use acpi_objects::ObjectKind;
+use acpi_outline::{Node, Nodes};
+use acpi_survey::{
+    BodyReading, NameUse, Span, SpanContent, Spans, Survey, names_in_fixed, names_in_plain,
+    names_in_terms,
+};
 use std::alloc::{AllocError, Global};
 use std::collections::BTreeSet;
 
@@ -32,117 +34,37 @@ impl StoreTargets {
         }
         Ok(())
     }
-}
 
-#[cycle(put_store_targets)]
-fn put_of_terms(store_targets: &mut StoreTargets, terms: &[Term]) -> Result<(), AllocError> {
-    for term in terms {
-        put_of_term(store_targets, term)?;
+    fn put_names(&mut self, names: &[&Name]) -> Result<(), AllocError> {
+        for name in names {
+            self.put_name(name)?;
+        }
+        Ok(())
     }
-    Ok(())
-}
 
-#[cycle(put_store_targets)]
-fn put_of_operands(
-    store_targets: &mut StoreTargets,
-    operands: &[Operand],
-) -> Result<(), AllocError> {
-    for operand in operands {
-        if let Operand::Term(term) = operand {
-            put_of_term(store_targets, term)?;
-        }
-    }
-    Ok(())
-}
-
-#[cycle(put_store_targets)]
-fn put_of_decl(store_targets: &mut StoreTargets, decl: &Decl) -> Result<(), AllocError> {
-    match decl {
-        Decl::Name(_, data) => put_of_term(store_targets, data),
-        Decl::Create { source, index, .. } => {
-            put_of_term(store_targets, source)?;
-            put_of_term(store_targets, index)
-        }
-        Decl::CreateField {
-            source,
-            index,
-            bits,
-            ..
-        } => {
-            put_of_term(store_targets, source)?;
-            put_of_term(store_targets, index)?;
-            put_of_term(store_targets, bits)
-        }
-        Decl::Region { offset, length, .. } => {
-            put_of_term(store_targets, offset)?;
-            put_of_term(store_targets, length)
-        }
-        Decl::BankField { value, .. } => put_of_term(store_targets, value),
-        _ => Ok(()),
-    }
-}
-
-// Puts the names that stand in a term as references: super names, targets, simple names and elements of packages.
-#[cycle(put_store_targets)]
-fn put_of_term(store_targets: &mut StoreTargets, term: &Term) -> Result<(), AllocError> {
-    match term {
-        Term::Ref(name) => store_targets.put_name(name),
-        Term::Buffer(size, _) => put_of_term(store_targets, size),
-        Term::Package(_, elements) => put_of_terms(store_targets, elements),
-        Term::VarPackage(count, elements) => {
-            put_of_term(store_targets, count)?;
-            put_of_terms(store_targets, elements)
-        }
-        Term::Call(_, args) => put_of_terms(store_targets, args),
-        Term::Op(_, operands) => put_of_operands(store_targets, operands),
-        Term::If(test, then, other) => {
-            put_of_term(store_targets, test)?;
-            put_of_terms(store_targets, then)?;
-            match other {
-                Some(terms) => put_of_terms(store_targets, terms),
-                None => Ok(()),
+    // Puts the names that stand as references in a node, but for what stands in it.
+    fn put_node(&mut self, alloc: Global, node: &Node) -> Result<(), AllocError> {
+        match node {
+            Node::Plain(plain) => {
+                self.put_names(&names_in_plain(alloc, NameUse::Reference, plain)?)
+            }
+            Node::Holds(fixed, _) => {
+                self.put_names(&names_in_fixed(alloc, NameUse::Reference, fixed)?)
+            }
+            Node::Fields(fixed, _, _) => {
+                self.put_names(&names_in_fixed(alloc, NameUse::Reference, fixed)?)
+            }
+            Node::Closed(_, _) => Ok(()),
+            _ => {
+                self.has_unread = true;
+                Ok(())
             }
         }
-        Term::While(test, body) => {
-            put_of_term(store_targets, test)?;
-            put_of_terms(store_targets, body)
-        }
-        Term::Declare(decl) => put_of_decl(store_targets, decl),
-        _ => Ok(()),
-    }
-}
-
-impl StoreTargets {
-    // Hears of what stands at module level.
-    fn hear_plain(&mut self, plain: &Plain) -> Result<(), AllocError> {
-        match plain {
-            Plain::Term(term) => put_of_term(self, term),
-            Plain::Alias(source, _) => self.put_name(source),
-            _ => Ok(()),
-        }
     }
 
-    fn hear_fixed(&mut self, fixed: &Fixed) -> Result<(), AllocError> {
-        match fixed {
-            Fixed::If(test) => put_of_term(self, test),
-            Fixed::While(test) => put_of_term(self, test),
-            Fixed::BankField(_, _, value, _) => put_of_term(self, value),
-            _ => Ok(()),
-        }
-    }
-
-    fn hear_span(&mut self, span: &Span<'_>) -> Result<(), AllocError> {
+    fn put_span(&mut self, alloc: Global, span: &Span<'_>) -> Result<(), AllocError> {
         match span.what {
-            SpanContent::Node(node) => match node {
-                Node::Plain(plain) => self.hear_plain(plain),
-                Node::Holds(fixed, _) => self.hear_fixed(fixed),
-                Node::Fields(fixed, _, _) => self.hear_fixed(fixed),
-                Node::Closed(_, _) => Ok(()),
-                _ => {
-                    self.has_unread = true;
-                    Ok(())
-                }
-            },
+            SpanContent::Node(node) => self.put_node(alloc, node),
             SpanContent::Element(_, _, _) => Ok(()),
             SpanContent::Lost(_) => {
                 self.has_unread = true;
@@ -151,27 +73,34 @@ impl StoreTargets {
         }
     }
 
-    fn hear_nodes(&mut self, alloc: Global, nodes: &Nodes) -> Result<(), AllocError> {
+    fn put_nodes(&mut self, alloc: Global, nodes: &Nodes) -> Result<(), AllocError> {
         let mut spans = Spans::new(alloc, nodes, 0)?;
         for _ in 0..u64::MAX {
             let Some(span) = spans.next()? else {
                 return Ok(());
             };
-            self.hear_span(&span)?;
+            self.put_span(alloc, &span)?;
         }
         Ok(())
     }
 
-    // Hears of the body of a method.
-    fn hear_body(&mut self, survey: &Survey, object: &Object<'_>) -> Result<(), AllocError> {
-        let Declared::Method(_) = object.declared else {
+    // Puts the names that stand as references in the body of a method.
+    fn put_body(
+        &mut self,
+        alloc: Global,
+        survey: &Survey,
+        object: &Object<'_>,
+    ) -> Result<(), AllocError> {
+        let ObjectKind::Method(_) = object.kind else {
             return Ok(());
         };
         let Some(body) = survey.body(object.number)? else {
             return Ok(());
         };
         match &body.reading {
-            BodyReading::Terms(terms) => put_of_terms(self, terms),
+            BodyReading::Terms(terms) => {
+                self.put_names(&names_in_terms(alloc, NameUse::Reference, terms)?)
+            }
             BodyReading::Opaque { .. } => {
                 self.has_unread = true;
                 self.opaque = self.opaque.saturating_add(1);
@@ -192,10 +121,10 @@ impl StoreTargets {
             opaque: 0,
         };
         'tables: for table in &survey.tables {
-            store_targets.hear_nodes(alloc, &table.nodes)?;
+            store_targets.put_nodes(alloc, &table.nodes)?;
         }
         'objects: for object in objects {
-            store_targets.hear_body(survey, object)?;
+            store_targets.put_body(alloc, survey, object)?;
         }
         Ok(store_targets)
     }

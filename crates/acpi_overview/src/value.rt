@@ -2,11 +2,11 @@
 
 ghost use Rattle.std.specs.Prelude.{◌≡◌, ℕ};
 ghost use Rattle.acpi_overview.specs.Numbers.{integer_value, is_missing, term_number, value_number};
-ghost use Rattle.acpins_survey_output.specs.declared.objects.Declared.TheVariants as objects;
+ghost use Rattle.acpi_objects.specs.declared.kind.ObjectKind.TheVariants as objects;
 ghost use Rattle.acpi_overview.specs.declared.value.Value.TheVariants as known;
 
+use acpi_objects::ObjectKind;
 use acpi_tree::{Int, Term};
-use acpins_survey_output::Declared;
 
 /// What is known of an object's value without running code (ACPI 6.5, 19.6).
 #[derive(Debug, Clone, Copy)]
@@ -61,12 +61,12 @@ impl<'a> Value<'a> {
     }
 
     /// What is known of the value of what a term declares; a method has `code` bytes.
-    pub fn of_declared(declared: Declared<'a>, code: usize) -> Value<'a>
-        ensures { (flags : ℕ) → declared.entry ≡ objects.Method flags → result ≡ known.Method code }
+    pub fn of_object(kind: ObjectKind<'a>, code: usize) -> Value<'a>
+        ensures { (flags : ℕ) → kind.entry ≡ objects.Method flags → result ≡ known.Method code }
     {
-        match declared {
-            Declared::Name(Some(term)) => Value::of_term(term),
-            Declared::Method(_) => Value::Method(code),
+        match kind {
+            ObjectKind::Name(Some(term)) => Value::of_term(term),
+            ObjectKind::Method(_) => Value::Method(code),
             _ => Value::Unknown,
         }
     }

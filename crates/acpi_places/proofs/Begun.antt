@@ -1,7 +1,7 @@
 -- The code of a table, before its items are gone through and afterwards.
 use Rattle.std.proofs.Common.{◌≡◌, ◌≤◌, [], ℕ, List, length, sym, ap, subst, arith}
 use Rattle.std.proofs.lemmas.List.{length-drop}
-use Rattle.acpi_code.specs.steps.Left.{Left}
+use Rattle.acpi_code.specs.steps.Remaining.{Remaining}
 use Rattle.acpi_tree.specs.Tree.{ItemTrees}
 use Rattle.acpi_terms.specs.Spelling.{SpellsItems, items_height}
 use Rattle.acpi_declare.specs.Tables.{code_of, IsTableOf}
@@ -9,7 +9,7 @@ use Rattle.acpi_places.specs.declared.place.CodePlace.{CodePlace}
 use Rattle.acpi_places.specs.Places.{SpellsItemsAt}
 use Rattle.acpi_places.specs.steps.Walking.{place_of_left, IsSpelled, AddsPlaces}
 
-module _ (depth number : ℕ) (bytes : List ℕ) (is : ItemTrees) (table : IsTableOf depth number bytes is) (level : ℕ) (left : Left)
+module _ (depth number : ℕ) (bytes : List ℕ) (is : ItemTrees) (table : IsTableOf depth number bytes is) (level : ℕ) (left : Remaining)
     (limit : level ≡ depth) (begins : left.bytes ≡ code_of bytes) (ends : left.end ≡ length bytes) where
   pub table_spelled : IsSpelled level left is
   table_spelled = record {

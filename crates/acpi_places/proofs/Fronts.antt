@@ -7,16 +7,16 @@ use Rattle.acpi_tree.specs.Tree.{ItemTree, scope, method, ItemTrees, no_items, i
 use Rattle.acpi_code.specs.declared.fault.CodeFault.{CodeFault}
 use Rattle.acpi_code.specs.declared.opcode.Opcode.{Opcode}
 use Rattle.acpi_code.specs.Opcodes.{opcode_bytes, is_spelled}
-use Rattle.acpi_code.specs.steps.Left.{Left}
+use Rattle.acpi_code.specs.steps.Remaining.{Remaining}
 use Rattle.acpi_code.specs.steps.Reading.{opcode_at}
 use Rattle.acpi_code.proofs.Opcodes.{opens}
-use Rattle.acpi_terms.specs.declared.holder.Holder.{Holder}
+use Rattle.acpi_terms.specs.declared.scope_block.ScopeBlock.{ScopeBlock}
 use Rattle.acpi_terms.specs.Forms.{fixed_arguments, ArgumentsOf, kind_opcode, kind_arguments}
 use Rattle.acpi_terms.specs.Spelling.{SpellsFilled, SpellsItem, SpellsItems}
-use Rattle.acpi_terms.specs.steps.Holding.{opens_items, held_by, holder_item, HasFront}
+use Rattle.acpi_terms.specs.steps.ScopeBlocks.{opens_items, scope_with, scope_block_item, HasFront}
 use Rattle.acpi_terms.specs.steps.Reading.{Fault, packed_at, item_by}
 use Rattle.acpi_terms.proofs.Arguments.{arguments_height, packed_complete}
-use Rattle.acpi_terms.proofs.Holders.{as_holder}
+use Rattle.acpi_terms.proofs.ScopeBlocks.{as_scope}
 use Rattle.acpi_terms.proofs.ScopeKinds.{kind_form}
 use Rattle.acpi_places.specs.declared.place.CodePlace.{CodePlace}
 use Rattle.acpi_places.specs.Places.{place_of_last, SpellsItemAt, SpellsItemsAt}
@@ -77,7 +77,7 @@ same_item i j a b e =
 
 -- ---- what is left where the items begin
 
-module _ (o : Opcode) (made : ArgumentsOf o → ItemTrees → ItemTree) (v : ArgumentsOf o) (Fills : List ℕ → Type 0) (a rest : List ℕ) (old new : Left) (h : Holder)
+module _ (o : Opcode) (made : ArgumentsOf o → ItemTrees → ItemTree) (v : ArgumentsOf o) (Fills : List ℕ → Type 0) (a rest : List ℕ) (old new : Remaining) (h : ScopeBlock)
     (some : is_spelled o ≡ true) (holds : opens_items o ≡ true) (flat : arguments_height (fixed_arguments o) ≤ 0)
     (form : (inner : ℕ → List ℕ → Result ItemTrees Fault) (end : ℕ) (whole more : List ℕ) → item_by inner 0 end whole o more ≡ packed_at (fixed_arguments o) made 0 inner end more)
     (items : (is : ItemTrees) → items_in (made v is) ≡ is)
@@ -95,13 +95,13 @@ module _ (o : Opcode) (made : ArgumentsOf o → ItemTrees → ItemTree) (v : Arg
   abbrev here : ItemTrees
   here = told (old.end - length rest) f.1
 
-  read_here : holder_item telling o old.end more ≡ whole_item (made v here) rest
+  read_here : scope_block_item telling o old.end more ≡ whole_item (made v here) rest
   read_here =
-      sym (as_holder telling 0 old.end more o more holds) ∙ form telling old.end more more
+      sym (as_scope telling 0 old.end more o more holds) ∙ form telling old.end more more
       ∙ packed_complete (fixed_arguments o) made 0 telling old.end v here f.4.len f.0 f.1 rest flat f.2 refl f.4.spells_len
 
-  read_there : holder_item telling o old.end more ≡ whole_item (held_by h.front (told h.inner.end h.inner.bytes)) new.bytes
-  read_there = ap (λ (q : Opcode). holder_item telling q old.end more) (sym begun.0) ∙ ap (holder_item telling front.0 old.end) (sym begun.1) ∙ front.4 telling
+  read_there : scope_block_item telling o old.end more ≡ whole_item (scope_with h.front (told h.inner.end h.inner.bytes)) new.bytes
+  read_there = ap (λ (q : Opcode). scope_block_item telling q old.end more) (sym begun.0) ∙ ap (scope_block_item telling front.0 old.end) (sym begun.1) ∙ front.4 telling
 
   same : here ≡ told h.inner.end h.inner.bytes
   same =
@@ -121,13 +121,13 @@ last_fits o v Fills a f =
 -- ---- each form
 
 -- the items that the reader left inside are the last of the item's bytes
-pub record Inside (i : ItemTree) (is : ItemTrees) (a rest : List ℕ) (old : Left) (h : Holder) : Type 0 where
+pub record Inside (i : ItemTree) (is : ItemTrees) (a rest : List ℕ) (old : Remaining) (h : ScopeBlock) : Type 0 where
   pub spelled : SpellsItems is h.inner.bytes
   pub fits : length h.inner.bytes ≤ length a
   pub ends : old.end - length rest ≡ h.inner.end
   pub with_places : (table start : ℕ) (places : List CodePlace) → SpellsItemsAt table (place_of_last start a h.inner.bytes) is h.inner.bytes places → SpellsItemAt table start i a places
 
-module _ (is : ItemTrees) (a rest : List ℕ) (old : Left) (h : Holder) where
+module _ (is : ItemTrees) (a rest : List ℕ) (old : Remaining) (h : ScopeBlock) where
   -- of an item that is filled by items
   filled : (o : Opcode) (v : ArgumentsOf o) (i : ItemTree) (f : SpellsFilled o v (λ b. SpellsItems is b) a) → f.1 ≡ h.inner.bytes → old.end - length rest ≡ h.inner.end
       → ((table start : ℕ) (places : List CodePlace) → SpellsFilled o v (λ b. SpellsItemsAt table (place_of_last start a b) is b places) a → SpellsItemAt table start i a places)
@@ -140,7 +140,7 @@ module _ (is : ItemTrees) (a rest : List ℕ) (old : Left) (h : Holder) where
         (f.0, f.1, f.2, subst (λ (b : List ℕ). SpellsItemsAt table (place_of_last start a b) is b places) (sym same) p, f.4);
   }
 
-  module _ (new : Left) (whole : old.bytes ≡ a ++ rest) (front : HasFront old new h) where
+  module _ (new : Remaining) (whole : old.bytes ≡ a ++ rest) (front : HasFront old new h) where
     pub inside : (kind : ScopeKind) (n : NameParts) → SpellsItem (scope kind n is) a → Inside (scope kind n is) is a rest old h
     inside kind n f =
         let k = kind_form kind in

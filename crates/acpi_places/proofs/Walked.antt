@@ -2,7 +2,7 @@
 use Rattle.std.proofs.Common.{◌≡◌, ℕ, suc, ◌+◌, ◌-◌, ◌≤◌, ◌<◌, false, Option, None, Some, List, [], ◌++◌, length, Result, Ok, Err, refl, sym, ap, subst, ◌∙◌, append_assoc, append-nil, arith}
 use Rattle.std.proofs.lemmas.List.{length-append}
 use Rattle.acpi_code.specs.declared.opcode.Opcode.TheVariants as opcodes
-use Rattle.acpi_code.specs.steps.Left.{Left}
+use Rattle.acpi_code.specs.steps.Remaining.{Remaining}
 use Rattle.acpi_code.specs.steps.Reading.{◌>>=◌}
 use Rattle.acpi_tree.specs.Fits.{holds_items}
 use Rattle.acpi_tree.specs.Tree.{ItemTree, name, scope, method, external, external_block, create, create_field, mutex, event, region, field, index_field, bank_field, ItemTrees, no_items, item}
@@ -10,10 +10,10 @@ use Rattle.acpi_tree.specs.View.{item_view}
 use Rattle.acpi_tree.specs.declared.tree.Item.{Item}
 use Rattle.acpi_terms.specs.declared.fault.ItemReason.{ItemReason}
 use Rattle.acpi_terms.specs.declared.fault.ItemFault.TheVariants.{At}
-use Rattle.acpi_terms.specs.declared.holder.Holder.{Holder}
+use Rattle.acpi_terms.specs.declared.scope_block.ScopeBlock.{ScopeBlock}
 use Rattle.acpi_terms.specs.declared.item.NextItem.TheVariants as next
 use Rattle.acpi_terms.specs.Spelling.{SpellsItem, SpellsItems, item_height, items_height}
-use Rattle.acpi_terms.specs.steps.Holding.{held_by, GivesNext}
+use Rattle.acpi_terms.specs.steps.ScopeBlocks.{scope_with, GivesNext}
 use Rattle.acpi_terms.specs.steps.Reading.{Fault, item_at, items_with}
 use Rattle.acpi_terms.proofs.Items.{item_complete, item_long}
 use Rattle.acpi_places.specs.declared.place.CodePlace.{CodePlace}
@@ -23,7 +23,7 @@ use Rattle.acpi_places.proofs.Fronts.{same_item, Inside, inside, last_fits}
 
 -- ---- the first of the items that are left
 
-record First (level : ℕ) (left : Left) (is : ItemTrees) : Type 0 where
+record First (level : ℕ) (left : Remaining) (is : ItemTrees) : Type 0 where
   i : ItemTree
   others : ItemTrees
   front : List ℕ
@@ -36,7 +36,7 @@ record First (level : ℕ) (left : Left) (is : ItemTrees) : Type 0 where
   later_high : items_height others ≤ level
   read : item_at level left.end left.bytes ≡ Ok (i, behind)
 
-first : (level : ℕ) (left : Left) (is : ItemTrees) → 0 < length left.bytes → IsSpelled level left is → First level left is
+first : (level : ℕ) (left : Remaining) (is : ItemTrees) → 0 < length left.bytes → IsSpelled level left is → First level left is
 first level left no_items some h = let none : length left.bytes ≡ 0 = ap length h.spelled in absurd (omega arith)
 first level left (item i is) some h =
     let s = h.spelled in
@@ -89,7 +89,7 @@ leaf_at table start (bank_field r bank value flags es) a none h = (h, refl)
 
 -- ---- what the reader of the next item gives
 
-module _ (table level : ℕ) (old new : Left) (is : ItemTrees) (some : 0 < length old.bytes) (h : IsSpelled level old is) where
+module _ (table level : ℕ) (old new : Remaining) (is : ItemTrees) (some : 0 < length old.bytes) (h : IsSpelled level old is) where
   abbrev f : First level old is
   f = first level old is some h
 
@@ -154,17 +154,17 @@ module _ (table level : ℕ) (old new : Left) (is : ItemTrees) (some : 0 < lengt
     }
 
   -- one that holds items
-  pub next_opens : (x : Holder) → GivesNext level old new (Ok (next.Holder x)) → Opens table level old is x.inner new
+  pub next_opens : (x : ScopeBlock) → GivesNext level old new (Ok (next.ScopeBlock x)) → Opens table level old is x.inner new
   next_opens x g = by (items_with (item_at (level - 1)) x.inner.end x.inner.bytes) g.0.0
     where
-      by : (r : Result ItemTrees Fault) → item_at level old.end old.bytes ≡ (r >>= λ js. Ok (held_by x.front js, new.bytes)) → Opens table level old is x.inner new
+      by : (r : Result ItemTrees Fault) → item_at level old.end old.bytes ≡ (r >>= λ js. Ok (scope_with x.front js, new.bytes)) → Opens table level old is x.inner new
       by (Err e) whole = let read = f.read in absurd cc
       by (Ok js) whole =
-          let same = same_item f.i (held_by x.front js) f.behind new.bytes (sym f.read ∙ whole) in
+          let same = same_item f.i (scope_with x.front js) f.behind new.bytes (sym f.read ∙ whole) in
           let bytes : new.bytes ≡ f.behind = sym same.1 in
           let ends : new.end ≡ old.end = g.2.same_end in
-          let s : SpellsItem (held_by x.front js) f.front = subst (λ (i : ItemTree). SpellsItem i f.front) same.0 f.spells in
-          let o : Inside (held_by x.front js) js f.front f.behind old x = inside js f.front f.behind old x new f.whole g.0.1 x.front.kind x.front.name s in
+          let s : SpellsItem (scope_with x.front js) f.front = subst (λ (i : ItemTree). SpellsItem i f.front) same.0 f.spells in
+          let o : Inside (scope_with x.front js) js f.front f.behind old x = inside js f.front f.behind old x new f.whole g.0.1 x.front.kind x.front.name s in
           let high : suc (items_height js) ≤ level = subst (λ (i : ItemTree). item_height i ≤ level) same.0 f.high in
           let place : place_of_left x.inner ≡ place_of_last (place_of_left old) f.front x.inner.bytes = omega (arith, sizes, h.room, o.ends, o.fits) in
           record {
@@ -187,8 +187,8 @@ module _ (table level : ℕ) (old new : Left) (is : ItemTrees) (some : 0 < lengt
 
 -- ---- one item after another
 
-module _ (table level : ℕ) (first : Left) (is : ItemTrees) (now : Left) (a b : List CodePlace) (k : Continues table level first is now a b) where
-  pub then_leaf : (after : Left) (c : List CodePlace) → Continues table level now k.others after b c → Continues table level first is after a c
+module _ (table level : ℕ) (first : Remaining) (is : ItemTrees) (now : Remaining) (a b : List CodePlace) (k : Continues table level first is now a b) where
+  pub then_leaf : (after : Remaining) (c : List CodePlace) → Continues table level now k.others after b c → Continues table level first is after a c
   then_leaf after c n = record {
     others = n.others;
     left = n.left;
@@ -197,7 +197,7 @@ module _ (table level : ℕ) (first : Left) (is : ItemTrees) (now : Left) (a b :
     with_others = λ later p. subst (ArePlacesOf table first is) (sym (append_assoc k.found n.found later)) (k.with_others (n.found ++ later) (n.with_others later p));
   }
 
-  pub then_holder : (inner after : Left) (c : List CodePlace) (o : Opens table level now k.others inner after) → AddsPlaces table inner o.inside b c → Continues table level first is after a c
+  pub then_holder : (inner after : Remaining) (c : List CodePlace) (o : Opens table level now k.others inner after) → AddsPlaces table inner o.inside b c → Continues table level first is after a c
   then_holder inner after c o n = record {
     others = o.others;
     left = o.left;
@@ -221,15 +221,15 @@ module _ (table level : ℕ) (first : Left) (is : ItemTrees) (now : Left) (a b :
 
 -- ---- as the loop does
 
-module _ (table level : ℕ) (first : Left) (is : ItemTrees) (now after : Left) (a b c : List CodePlace) (k : Continues table level first is now a b) (found : Option Left)
+module _ (table level : ℕ) (first : Remaining) (is : ItemTrees) (now after : Remaining) (a b c : List CodePlace) (k : Continues table level first is now a b) (found : Option Remaining)
     (goes : GoesOn table level now k.others after b c found) where
   pub gone_on : found ≡ None → Continues table level first is after a c
   gone_on none = then_leaf table level first is now a b k after c (subst (GoesOn table level now k.others after b c) none goes)
 
-  pub opened : (inner : Left) → found ≡ Some inner → Opens table level now k.others inner after × (c ≡ b)
+  pub opened : (inner : Remaining) → found ≡ Some inner → Opens table level now k.others inner after × (c ≡ b)
   opened inner some = subst (GoesOn table level now k.others after b c) some goes
 
-  pub gone_in : (inner : Left) (some : found ≡ Some inner) (d : List CodePlace) → AddsPlaces table inner (opened inner some).0.inside c d → Continues table level first is after a d
+  pub gone_in : (inner : Remaining) (some : found ≡ Some inner) (d : List CodePlace) → AddsPlaces table inner (opened inner some).0.inside c d → Continues table level first is after a d
   gone_in inner some d n =
       let o = opened inner some in
       then_holder table level first is now a b k inner after d o.0 (subst (λ (l : List CodePlace). AddsPlaces table inner o.0.inside l d) o.1 n)

@@ -1,7 +1,7 @@
 //! The places of the code of methods, item after item.
 
 ghost use Rattle.std.specs.Prelude.{◌≡◌, ◌<◌, ◌≤◌, ◌++◌, length, false, IfOk, OnOk};
-ghost use Rattle.acpi_code.specs.steps.Left.{Shorter};
+ghost use Rattle.acpi_code.specs.steps.Remaining.{Advances};
 ghost use Rattle.acpi_tree.specs.Tree.{ItemTrees};
 ghost use Rattle.acpi_tree.specs.View.{item_view};
 ghost use Rattle.acpi_places.specs.steps.Walking.{AddsPlaces, GoesOn, IsSpelled, code_length, leaf_places};
@@ -52,14 +52,14 @@ fn next<'c>(
         → IfOk result (λ e. GoesOn table level code.old is code.new places.old.items
         places.new.items e) }
     ensures level { IfOk result (λ _. 0 < level) }
-    ensures shorter { OnOk result (Shorter code.old code.new) }
+    ensures shorter { OnOk result (Advances code.old code.new) }
 {
     match next_item(alloc, level, code) {
         Ok(NextItem::Leaf(item)) => {
             add_place(table, code.place(), item, places)?;
             Ok(None)
         }
-        Ok(NextItem::Holder(holder)) => Ok(Some(holder.inner)),
+        Ok(NextItem::ScopeBlock(block)) => Ok(Some(block.inner)),
         Err(ItemFault::At { .. }) => unreachable!(),
         Err(ItemFault::Memory) => Err(AllocError),
     }

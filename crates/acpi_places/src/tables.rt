@@ -92,7 +92,7 @@ fn notes_at(notes: &[TableNotes], number: usize) -> &TableNotes
 
 /// Where the code of each method stands that a DSDT and SSDTs declare (ACPI 6.5, 20.2.5.2), by the method's path. The
 /// notes are all notes of their load (`declare_shared`), and `depth` is that of the load. The predefined method `_OSI`
-/// has no code. The error is want of memory.
+/// has no code. Only an allocation failure is an error.
 pub fn code_places(
     alloc: Global,
     dsdt: &Bytes,

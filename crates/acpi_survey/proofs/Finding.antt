@@ -13,7 +13,7 @@ use Rattle.acpi_survey.specs.Ranges.{Entered}
 use Rattle.acpi_survey.specs.Notes.{NoteParts, Unknowns, table_notes}
 use Rattle.acpi_survey.specs.Reading.{Reading}
 use Rattle.acpi_survey.specs.Survey.{place_in}
-use Rattle.acpi_survey.specs.Found.{entered_in, entered_pairs, notes_by, refused_pairs, problems_by, problems_in}
+use Rattle.acpi_survey.specs.Findings.{entered_in, entered_pairs, notes_by, refused_pairs, problems_by, problems_in}
 use Rattle.acpi_survey.specs.steps.Indexes.{index_entered, index_refusals}
 use Rattle.acpi_survey.specs.steps.ByPlace.{kept_at}
 use Rattle.acpi_survey.specs.declared.index.PlaceIndex.{PlaceIndex}

@@ -20,7 +20,7 @@ use Rattle.acpi_survey.specs.Reading.{Reading}
 use Rattle.acpi_survey.specs.Predefined.{Predefined, with_object, with_objects, first_reading, predefined_root, predefined_scopes, predefined_objects, nothing_read}
 use Rattle.acpi_survey.specs.Survey.{place_in, code_read, all_nodes}
 use Rattle.acpi_survey.specs.Surveys.{AreTables, bytes_of, nodes_of_each}
-use Rattle.acpi_survey.specs.Found.{refused_pairs, problems_by, problems_in, entered_in, refusals_in, TellsRefusal, EachRefusalIsTold, OnlyRefusalsAreTold}
+use Rattle.acpi_survey.specs.Findings.{refused_pairs, problems_by, problems_in, entered_in, refusals_in, TellsRefusal, EachRefusalIsTold, OnlyRefusalsAreTold}
 use Rattle.acpi_survey.specs.declared.tables.TableContent.{TableContent}
 use Rattle.acpi_survey.specs.declared.tables.TableContent.TheVariants as judged
 use Rattle.acpi_survey.specs.declared.machine_survey.SurveyedTable.{SurveyedTable}

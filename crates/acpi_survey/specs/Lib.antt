@@ -27,7 +27,7 @@ pub mod EntryLinks
 pub mod EntryBodies
 pub mod SurveyOrder
 pub mod NoteViews
-pub mod Found
+pub mod Findings
 pub mod BodyViews
 pub mod ValuesEqual
 pub mod steps

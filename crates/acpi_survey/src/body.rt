@@ -12,7 +12,7 @@ use crate::machine_survey::{Survey, SurveyedTable};
 use crate::method_bodies::{Methods, terms_of};
 use crate::problems::{offset_of, unsure_name};
 use crate::spans::{Span, SpanContent};
-use acpi_body::{BodyReason, Stop};
+use acpi_body::{BodyError, BodyReason};
 use acpi_code::Depth;
 use acpi_conditions::{Entries, Entry};
 use acpi_name::Name;
@@ -79,7 +79,7 @@ fn read_body(
 {
     match terms_of(methods, entry, code, depth) {
         Ok(terms) => Ok(BodyReading::Terms(terms)),
-        Err(Stop::Fault(fault)) => Ok(BodyReading::Opaque {
+        Err(BodyError::Fault(fault)) => Ok(BodyReading::Opaque {
             reason: fault.reason,
             place: fault.place,
             name: unsure_name(
@@ -89,7 +89,7 @@ fn read_body(
                 LostReason::Term(fault.reason),
             )?,
         }),
-        Err(Stop::Memory) => Err(AllocError),
+        Err(BodyError::Memory) => Err(AllocError),
     }
 }
 

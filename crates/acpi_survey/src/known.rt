@@ -2,7 +2,7 @@
 
 ghost use Rattle.acpi_survey.specs.Reading.{survey_rules};
 
-use crate::calls::{calls_in_fixed, calls_in_plain};
+use crate::name_uses::{NameUse, names_in_fixed, names_in_plain};
 use crate::reading::Reading;
 use acpi_name::{Name, NameRef};
 use acpi_outline::{Fixed, Known, PackedForm, Plain};
@@ -33,8 +33,8 @@ impl Known for Reading {
     }
 
     fn pass_plain(&mut self, place: usize, plain: &Plain) -> Result<(), AllocError> {
-        let calls = calls_in_plain(self.memory(), plain)?;
-        self.keep_unknown(self.place(place), calls)?;
+        let calls = names_in_plain(self.memory(), NameUse::Call, plain)?;
+        self.keep_unknown(self.place(place), &calls)?;
         self.pass_node(place, plain)
     }
 
@@ -50,8 +50,8 @@ impl Known for Reading {
     }
 
     fn enter(&mut self, place: usize, fixed: &Fixed) -> Result<(), AllocError> {
-        let calls = calls_in_fixed(self.memory(), fixed)?;
-        self.keep_unknown(self.place(place), calls)?;
+        let calls = names_in_fixed(self.memory(), NameUse::Call, fixed)?;
+        self.keep_unknown(self.place(place), &calls)?;
         match fixed {
             Fixed::Scope(name) => self.enter_scope_of(place, name),
             Fixed::Device(name) => self.enter_container(place, name),
@@ -70,8 +70,8 @@ impl Known for Reading {
     }
 
     fn begin_fields(&mut self, place: usize, fixed: &Fixed) -> Result<(), AllocError> {
-        let calls = calls_in_fixed(self.memory(), fixed)?;
-        self.keep_unknown(self.place(place), calls)?;
+        let calls = names_in_fixed(self.memory(), NameUse::Call, fixed)?;
+        self.keep_unknown(self.place(place), &calls)?;
         self.pass_other()
     }
 

@@ -2,7 +2,7 @@
 //! laws.
 ghost use Rattle.acpi_survey.specs.Laws.{ReadIsSurvey, PlacesAreDistinct, TablesAreRead, AtMostOneReading, SureCountsHold};
 ghost use Rattle.acpi_survey.specs.Problems.{NameFrontsAreSpelled};
-ghost use Rattle.acpi_survey.specs.Found.{EachRefusalIsTold, OnlyRefusalsAreTold};
+ghost use Rattle.acpi_survey.specs.Findings.{EachRefusalIsTold, OnlyRefusalsAreTold};
 
 /// What the tables may declare, as they are read one after another, is the survey of what their nodes do.
 pub fn read_is_survey()

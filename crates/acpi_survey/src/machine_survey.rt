@@ -5,7 +5,7 @@ ghost use Rattle.std.specs.Option.{option_map};
 ghost use Rattle.acpi_conditions.specs.EntryForms.{entry_view, refusal_of};
 ghost use Rattle.acpi_survey.specs.Surveys.{lies_below, numbers_at, numbers_below, without_way};
 
-use crate::found::Found;
+use crate::findings::Findings;
 use crate::notes::Note;
 use crate::problems::Problem;
 use crate::reading::Reading;
@@ -42,7 +42,7 @@ pub struct Survey {
     /// What is known behind them.
     pub(crate) reading: Reading,
     /// What is lost, refused and noticed in them.
-    pub(crate) found: Found,
+    pub(crate) found: Findings,
 }
 
 // Whether a path begins with the segments of another, and has more.

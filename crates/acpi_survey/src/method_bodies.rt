@@ -9,7 +9,7 @@ ghost use Rattle.acpi_body.specs.Reasons.{IfFault};
 ghost use Rattle.acpi_survey.specs.steps.MethodBodies.{method_count};
 
 use crate::bodies::Setting;
-use acpi_body::{Stop, read_terms};
+use acpi_body::{BodyError, read_terms};
 use acpi_code::Depth;
 use acpi_conditions::{Entries, Entry, Met, Seen};
 use acpi_counts::Counts;
@@ -32,7 +32,7 @@ pub(crate) fn terms_of(
     entry: &Entry,
     body: &[u8],
     depth: Depth,
-) -> Result<Vec<Term>, Stop>
+) -> Result<Vec<Term>, BodyError>
     // Terms are the reading of the body.
     ensures read { IfOk result (λ v. (ts : TermTrees) → (terms_tree v.items ≡ ts)
         ↔ ReadsBody (method_count methods.now entry.now) entry.now.path depth body.now ts) }

@@ -334,18 +334,18 @@ impl Reading {
     }
 
     // Those of the names of which nothing is known here.
-    fn unknown_among(&self, names: Vec<Name>) -> Result<Vec<Name>, AllocError> {
+    fn unknown_among(&self, names: &[&Name]) -> Result<Vec<Name>, AllocError> {
         let mut unknown = Vec::new(self.alloc);
         'each: for name in names {
             if self.is_unknown(name.view())? {
-                unknown.push(name)?;
+                unknown.push(name.copy()?)?;
             }
         }
         Ok(unknown)
     }
 
     /// Keeps those names in the node at the place of which nothing is known here.
-    pub(crate) fn keep_unknown(&mut self, place: u128, names: Vec<Name>) -> Result<(), AllocError>
+    pub(crate) fn keep_unknown(&mut self, place: u128, names: &[&Name]) -> Result<(), AllocError>
         ensures { OnOk result (self.new ≡ self.old) }
     {
         let unknown = self.unknown_among(names)?;

@@ -1,13 +1,13 @@
 //! What is known of the parts of a table that was read.
 
 ghost use Rattle.std.specs.Prelude.{◌≡◌, ℕ, [], false, IfOk};
-ghost use Rattle.acpi_survey.specs.Found.{entered_in, refusals_in};
+ghost use Rattle.acpi_survey.specs.Findings.{entered_in, refusals_in};
 ghost use Rattle.acpi_survey.specs.Problems.{range_lost, unsure_name};
 ghost use Rattle.acpi_survey.specs.SpanViews.{span_range};
 ghost use Rattle.acpi_survey.specs.Survey.{code_read};
 ghost use Rattle.acpi_survey.specs.steps.Indexes.{index_entered, index_refusals};
 
-use crate::found::index_of;
+use crate::findings::index_of;
 use crate::index::PlaceIndex;
 use crate::machine_survey::{Survey, SurveyedTable};
 use crate::problems::{LostRange, code_of, range_lost, unsure_name};

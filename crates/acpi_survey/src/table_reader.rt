@@ -5,13 +5,13 @@ ghost use Rattle.acpi_survey.specs.Predefined.{first_reading};
 ghost use Rattle.acpi_survey.specs.Laws.{IsSurveyed, IsOnlyReading};
 ghost use Rattle.acpi_survey.specs.Survey.{AreRead, behind_table, code_read};
 ghost use Rattle.acpi_survey.specs.ProblemViews.{problem_view};
-ghost use Rattle.acpi_survey.specs.Found.{entered_in, notes_by, problems_in};
+ghost use Rattle.acpi_survey.specs.Findings.{entered_in, notes_by, problems_in};
 ghost use Rattle.acpi_survey.specs.Notes.{Unknowns};
 ghost use Rattle.acpi_survey.specs.NoteViews.{note_view};
 ghost use Rattle.acpi_survey.specs.SurveyOrder.{IsInOrder};
 ghost use Rattle.acpi_survey.specs.Surveys.{AreTables, IsTable, behind_nodes, bytes_of, nodes_of_each};
 
-use crate::found::found_in;
+use crate::findings::found_in;
 use crate::machine_survey::{Survey, SurveyedTable};
 use crate::reading::Reading;
 use crate::tables::{TableContent, judge};

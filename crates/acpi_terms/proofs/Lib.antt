@@ -9,7 +9,7 @@ pub mod Items
 pub mod Leaves
 pub mod Refusals
 pub mod Opened
-pub mod Holders
+pub mod ScopeBlocks
 pub mod Fitting
 pub mod ShortOffsets
 pub mod ReadItems

@@ -11,7 +11,7 @@ use Rattle.acpi_code.specs.declared.opcode.Opcode.{Opcode}
 use Rattle.acpi_code.specs.declared.opcode.Opcode.TheVariants as opcodes
 use Rattle.acpi_code.specs.Opcodes.{first_opcode}
 use Rattle.acpi_code.specs.Faults.{ShowsPart, ShowsConstant, ShowsElementPart, IsElementOf}
-use Rattle.acpi_code.specs.steps.Left.{Left}
+use Rattle.acpi_code.specs.steps.Remaining.{Remaining}
 use Rattle.acpi_code.specs.steps.Reading.{◌>>=◌, Reading, with_fault, each_at, fault_at, no_level}
 use Rattle.acpi_code.specs.steps.Cursor.{Stops}
 use Rattle.acpi_code.proofs.Lists.{Turns, stopped}
@@ -48,7 +48,7 @@ fails_on errors.Memory r f fails = tt
 fails_on (errors.At why place) r f fails = rw fails refl
 
 -- where one of a list fails, the list does
-pub stopped_there : {A : Type 0} (one : ℕ → List ℕ → Reading Fault A) (first now : Left) (front : List A) (e : ItemFault) → 0 < length now.bytes
+pub stopped_there : {A : Type 0} (one : ℕ → List ℕ → Reading Fault A) (first now : Remaining) (front : List A) (e : ItemFault) → 0 < length now.bytes
     → Fails e (one now.end now.bytes) → Turns one first now front → Fails e (each_at (one first.end) first.bytes)
 stopped_there one first now front errors.Memory some fails so = tt
 stopped_there one first now front (errors.At why place) some fails so = stopped one first now front (record { reason = why; place = place }) some fails so

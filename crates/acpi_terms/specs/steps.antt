@@ -1,3 +1,3 @@
 pub mod Reading
 pub mod Cursor
-pub mod Holding
+pub mod ScopeBlocks

@@ -48,8 +48,8 @@ fn content(alloc: Global, level: u32, code: &mut Code<'_>) -> Result<Vec<Externa
     externals(alloc, level, code)
 }
 
-// What is told of a fault in a block whose If stands at a place.
-fn told(fault: ItemFault, of_if: ItemFault) -> ItemFault
+// The fault of a block whose If stands at a place, by the fault of its content.
+fn fault_of_block(fault: ItemFault, of_if: ItemFault) -> ItemFault
     ensures { result ≡ block_answer of_if fault }
 {
     match fault {
@@ -78,6 +78,6 @@ pub(crate) fn block_form(
     let mut inner = code.package()?;
     match content(alloc, level, &mut inner) {
         Ok(externals) => Ok(Item::ExternalBlock(externals)),
-        Err(fault) => Err(told(fault, refused(front, ItemReason::ModuleIf))),
+        Err(fault) => Err(fault_of_block(fault, refused(front, ItemReason::ModuleIf))),
     }
 }

@@ -9,7 +9,7 @@ ghost use Rattle.acpi_tree.specs.Offsets.{OffsetsFit};
 ghost use Rattle.acpi_terms.specs.declared.fault.ItemReason.{ItemReason};
 ghost use Rattle.acpi_tree.specs.View.{item_view, items_view, items_tree};
 ghost use Rattle.acpi_terms.specs.steps.Reading.{item_by, item_at, items_with, items_at};
-ghost use Rattle.acpi_terms.specs.steps.Holding.{opens_items, GivesNext, ReadsNext};
+ghost use Rattle.acpi_terms.specs.steps.ScopeBlocks.{opens_items, GivesNext, ReadsNext};
 ghost use Rattle.acpi_terms.specs.steps.Cursor.{Gives, Reads, ReadsAll};
 
 use crate::block::block_form;
@@ -18,7 +18,7 @@ use crate::form::{
     bank_field_form, create_field_form, create_form, event_form, external_form, field_form,
     index_field_form, method_form, mutex_form, name_form, region_form,
 };
-use crate::holder::{Holder, begin, holds_items};
+use crate::scope_block::{ScopeBlock, open_block, opens_items};
 use acpi_code::{Code, Depth, Opcode};
 use acpi_tree::{Item, Op};
 use bytes::Bytes;
@@ -80,7 +80,7 @@ pub enum NextItem<'a> {
     /// An item that holds no items.
     Leaf(Item),
     /// What stands before the items of an item that holds some, and their code.
-    Holder(Holder<'a>),
+    ScopeBlock(ScopeBlock<'a>),
 }
 
 /// The next item that the code spells (ACPI 6.5, 20.2.5), `level` levels being left for it (for those of the outermost
@@ -100,8 +100,8 @@ pub fn next_item<'a>(
     }
     let front = code.fork();
     let opcode = code.opcode()?;
-    if holds_items(opcode) {
-        Ok(NextItem::Holder(begin(alloc, opcode, code)?))
+    if opens_items(opcode) {
+        Ok(NextItem::ScopeBlock(open_block(alloc, opcode, code)?))
     } else {
         Ok(NextItem::Leaf(leaf(alloc, level - 1, &front, opcode, code)?))
     }
@@ -115,12 +115,12 @@ fn next<'a>(
     level: u32,
     code: &mut Code<'a>,
     found: &mut Vec<Item>,
-) -> Result<Option<Holder<'a>>, ItemFault>
+) -> Result<Option<ScopeBlock<'a>>, ItemFault>
     ensures { ReadsNext level code.old code.new (items_view found.old.items)
         (items_view found.new.items) result }
 {
     match next_item(alloc, level, code)? {
-        NextItem::Holder(holder) => Ok(Some(holder)),
+        NextItem::ScopeBlock(block) => Ok(Some(block)),
         NextItem::Leaf(item) => {
             found.push(item)?;
             Ok(None)
@@ -142,8 +142,8 @@ fn find_items(
 {
     'each: while !code.is_empty() {
         match next(alloc, level, code, found)? {
-            Some(holder) => {
-                let Holder { front, inner } = holder;
+            Some(block) => {
+                let ScopeBlock { front, inner } = block;
                 let mut inner = inner;
                 let items = items(alloc, level - 1, &mut inner)?;
                 front.put(items, found)?;
@@ -194,7 +194,7 @@ pub fn read_items_shared(alloc: Global, code: &Bytes, depth: Depth) -> Result<Ve
         → OrMemory result (λ v. items_tree v.items ≡ is) }
     // What a fault says is true of the code.
     ensures faults { IfErr result (λ e. IsTrueFault depth code.now e) }
-    // Behind items, the first term that can't be an item is told at its place, unless memory runs out.
+    // Behind items, the first term that can't be an item is reported at its place, unless memory runs out.
     ensures next { (u w : List ℕ) (is : ItemTrees) (why : ItemReason) → code.now ≡ u ++ w
         → SpellsItems is u → items_height is ≤ depth
         → Refused why w 0 → IsToldAt result why (length u) }
@@ -219,7 +219,7 @@ pub fn read_items(alloc: Global, code: &[u8], depth: Depth) -> Result<Vec<Item>,
         → OrMemory result (λ v. items_tree v.items ≡ is) }
     // What a fault says is true of the code.
     ensures faults { IfErr result (λ e. IsTrueFault depth code.now e) }
-    // Behind items, the first term that can't be an item is told at its place, unless memory runs out.
+    // Behind items, the first term that can't be an item is reported at its place, unless memory runs out.
     ensures next { (u w : List ℕ) (is : ItemTrees) (why : ItemReason) → code.now ≡ u ++ w
         → SpellsItems is u → items_height is ≤ depth
         → Refused why w 0 → IsToldAt result why (length u) }

@@ -20,10 +20,10 @@ mod constant;
 mod data;
 mod fault;
 mod form;
-mod holder;
 mod item;
 pub mod laws;
 mod part;
+mod scope_block;
 
 pub use acpi_code::Depth;
 pub use acpi_tree::{
@@ -31,6 +31,6 @@ pub use acpi_tree::{
     Term, Width, items_fit, terms_fit,
 };
 pub use fault::{ItemFault, ItemReason};
-pub use holder::{Holder, HolderFront};
 pub use item::{NextItem, next_item, read_items, read_items_shared};
 pub use part::{read_elem, read_int};
+pub use scope_block::{ScopeBlock, ScopeFront};

@@ -11,7 +11,7 @@
 //! put_terms(&mut text, &statements)?;             // Return(MTH2(0x01, 0x02))
 //! ```
 //!
-//! An error is want of memory, and nothing is said of the text then.
+//! Only an allocation failure is an error, and nothing is said of the text then.
 #![tactic(auto)]
 
 mod bytes;

@@ -5,7 +5,7 @@ use Rattle.std.specs.List.{AllByRecursion}
 use Rattle.acpi_name.specs.Names.{Segment}
 use Rattle.acpi_space.proofs.Elements.{not_both, one_some}
 use Rattle.acpi_verdict.specs.declared.clashes.Clash.{Clash}
-use Rattle.acpi_verdict.specs.declared.declared.Declared.{Declared}
+use Rattle.acpi_verdict.specs.declared.ssdt_paths.SsdtPaths.{SsdtPaths}
 use Rattle.acpi_verdict.specs.declared.definers.Definer.{Definer}
 use Rattle.acpi_verdict.specs.declared.definers.Definers.{Definers}
 use Rattle.acpi_verdict.specs.steps.Clashing.{IsAt, Offers}
@@ -27,7 +27,7 @@ module _ (x : Definer) (p : List Segment) where
   of_new q y (inl e, n, a) = (e, same_definer x y n a)
   of_new q y (inr m, n, a) = absurd m
 
-  pub one_added : (old new : Declared) → AddsDefiner old.definers new.definers p x → Offers old.same new.same (IsSameAt x.number (p ∷ []) old.definers)
+  pub one_added : (old new : SsdtPaths) → AddsDefiner old.definers new.definers p x → Offers old.same new.same (IsSameAt x.number (p ∷ []) old.definers)
       → AddsSsdt x.number (p ∷ []) (λ r. x.args) old new
   one_added old new h same = record {
     noted = λ q y. ((λ k. noted_to q y ((h.noted q y).0 k)), (λ k. (h.noted q y).1 (noted_from q y k)));
@@ -85,7 +85,7 @@ module _ (number : ℕ) (p : List Segment) (d : Definers) where
 
 -- ---- several paths
 
-pub none_added : (number : ℕ) (args : List Segment → Option ℕ) (d : Declared) → AddsSsdt number [] args d d
+pub none_added : (number : ℕ) (args : List Segment → Option ℕ) (d : SsdtPaths) → AddsSsdt number [] args d d
 none_added number args d = record {
   noted = λ q y. ((λ k. inl k), noted_from q y);
   firsts = λ q y. ((λ k. inl k), firsts_from q y);
@@ -101,7 +101,7 @@ none_added number args d = record {
     firsts_from q y (inl k) = k
     firsts_from q y (inr (none, k)) = absurd k.0
 
-module _ (number : ℕ) (args : List Segment → Option ℕ) (p : List Segment) (ps : List (List Segment)) (old mid new : Declared)
+module _ (number : ℕ) (args : List Segment → Option ℕ) (p : List Segment) (ps : List (List Segment)) (old mid new : SsdtPaths)
     (one : AddsSsdt number (p ∷ []) (λ r. args p) old mid) (rest : AddsSsdt number ps args mid new) where
   abbrev Here : List Segment → Definer → Type 0
   Here = IsNewAt number (p ∷ []) (λ r. args p)
@@ -147,7 +147,7 @@ module _ (number : ℕ) (args : List Segment → Option ℕ) (p : List Segment) 
       by None e = refl
       by (Some z) e = absurd (not_both (get mid.definers.first q) z ((one.firsts q z).1 (inl e)) none)
 
-  abbrev First : Declared → List Segment → Definer → Type 0
+  abbrev First : SsdtPaths → List Segment → Definer → Type 0
   First d q y = get d.definers.first q ≡ Some y
 
   firsts_to : (q : List Segment) (y : Definer) → First new q y → First old q y ⊎ ((get old.definers.first q ≡ None) × All q y)

@@ -16,7 +16,7 @@ use Rattle.acpi_order.specs.Verdicts.{IsSsdt, IsSame}
 use Rattle.acpi_order.proofs.Once.{same_first, same_second}
 use Rattle.acpi_order.proofs.Singles.{one_ssdt, declared_there}
 use Rattle.acpi_verdict.specs.declared.clashes.Clash.{Clash}
-use Rattle.acpi_verdict.specs.declared.declared.Declared.{Declared}
+use Rattle.acpi_verdict.specs.declared.ssdt_paths.SsdtPaths.{SsdtPaths}
 use Rattle.acpi_verdict.specs.declared.definers.Definer.{Definer}
 use Rattle.acpi_verdict.specs.steps.Clashing.{IsLeastOf}
 use Rattle.acpi_verdict.specs.steps.Defining.{method_args, args_at, IsNoted}
@@ -27,7 +27,7 @@ use Rattle.acpi_verdict.proofs.Offers.{IsUpTo, least_covers, least_offered}
 
 -- ---- none
 
-pub none_declared : (depth : ℕ) (dsdt : List ℕ) (ssdts : List (List ℕ)) (d : Declared) → d.definers.first ≡ empty → d.definers.others.entries ≡ [] → d.same ≡ None
+pub none_declared : (depth : ℕ) (dsdt : List ℕ) (ssdts : List (List ℕ)) (d : SsdtPaths) → d.definers.first ≡ empty → d.definers.others.entries ≡ [] → d.same ≡ None
     → AreDeclaredTo depth dsdt ssdts 0 d
 none_declared depth dsdt ssdts d no_first no_others no_same = record {
   alone = alone;
@@ -59,7 +59,7 @@ none_declared depth dsdt ssdts d no_first no_others no_same = record {
 up_to : (k n : ℕ) → k ≤ n + 1 → (k ≤ n) ⊎ (k ≡ n + 1)
 up_to k n h = grind arith
 
-module _ (depth : ℕ) (dsdt : List ℕ) (ssdts : List (List ℕ)) (n : ℕ) (d now : Declared) (before : AreDeclaredTo depth dsdt ssdts n d) (b : List ℕ) (is_ssdt : IsSsdt ssdts (n + 1) b)
+module _ (depth : ℕ) (dsdt : List ℕ) (ssdts : List (List ℕ)) (n : ℕ) (d now : SsdtPaths) (before : AreDeclaredTo depth dsdt ssdts n d) (b : List ℕ) (is_ssdt : IsSsdt ssdts (n + 1) b)
     (l : OverlayTree) (overlay : IsOverlay depth dsdt b l) (added : AddsSsdt (n + 1) l.defined (args_in l) d now) where
   abbrev first : Listing
   first = overlay.over.first
@@ -216,7 +216,7 @@ module _ (depth : ℕ) (dsdt : List ℕ) (ssdts : List (List ℕ)) (n : ℕ) (d 
 
 -- ---- all
 
-pub all_declared : (depth : ℕ) (dsdt : List ℕ) (ssdts : List (List ℕ)) (n : ℕ) (d : Declared) → length ssdts ≤ n → AreDeclaredTo depth dsdt ssdts n d → AreDeclared depth dsdt ssdts d
+pub all_declared : (depth : ℕ) (dsdt : List ℕ) (ssdts : List (List ℕ)) (n : ℕ) (d : SsdtPaths) → length ssdts ≤ n → AreDeclaredTo depth dsdt ssdts n d → AreDeclared depth dsdt ssdts d
 all_declared depth dsdt ssdts n d all h = record {
   alone = each ssdts (λ k b at. h.alone (suc k) b (let within = ssdt_within ssdts (suc k) b at in omega arith) at);
   definers = record { noted = λ p x. ((λ k. ((h.noted p x).0 k).0), (λ k. (h.noted p x).1 (k, let within = ssdt_within ssdts x.number k.ssdt k.is_ssdt in omega arith))); firsts = h.firsts };

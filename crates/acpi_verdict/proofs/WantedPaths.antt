@@ -5,7 +5,7 @@ use Rattle.acpi_name.specs.Names.{Segment}
 use Rattle.acpi_space.specs.Laws.{Among}
 use Rattle.acpi_space.specs.Wanted.{Wants}
 use Rattle.acpi_declare.specs.Notes.{Notes}
-use Rattle.acpi_body.specs.Arguments.{with_local}
+use Rattle.acpi_body.specs.Arguments.{with_path}
 use Rattle.acpi_body.specs.steps.Gathering.{Paths, Grows}
 use Rattle.acpi_body.proofs.Grown.{grows_not, grows_as, grows_then, grows_local}
 use Rattle.acpi_verdict.specs.steps.Misses.{IsMissedScope}
@@ -14,7 +14,7 @@ module _ (wanted : Wants) where
   pub grow_none : (m : Paths) → Grows m m (λ p. ⊥ × IsTrue (wanted p))
   grow_none m = grows_as m m (λ p. ⊥) (λ p. ⊥ × IsTrue (wanted p)) (λ p. ((λ x. absurd x), (λ x. x.0))) (grows_not m)
 
-  pub grow_wanted : (m n now : Paths) (q : List Segment) (ps : List (List Segment)) → IsTrue (wanted q) → n ≡ with_local m q → Grows n now (λ p. Among ps p × IsTrue (wanted p))
+  pub grow_wanted : (m n now : Paths) (q : List Segment) (ps : List (List Segment)) → IsTrue (wanted q) → n ≡ with_path m q → Grows n now (λ p. Among ps p × IsTrue (wanted p))
       → Grows m now (λ p. Among (q ∷ ps) p × IsTrue (wanted p))
   grow_wanted m n now q ps w e h =
       grows_as m now (λ p. (q ≡ p) ⊎ (Among ps p × IsTrue (wanted p))) (λ p. Among (q ∷ ps) p × IsTrue (wanted p)) (λ p. (to p, λ x. from p x.0 x.1))

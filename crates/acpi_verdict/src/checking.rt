@@ -13,8 +13,8 @@ ghost use Rattle.acpi_verdict.specs.steps.Checking.{IsChecked, verdict_from};
 ghost use Rattle.acpi_verdict.specs.steps.Declaring.{AreDeclared};
 
 use crate::clashes::Clash;
-use crate::declared::{Declared, lay_all_overlays};
 use crate::findings::{Findings, find_all};
+use crate::ssdt_paths::{SsdtPaths, lay_all_overlays};
 use crate::verdicts::{Checked, Verdict};
 use acpi_declare::{Declaring, LoadFault};
 use acpi_order::laws::one_verdict;
@@ -23,7 +23,7 @@ use acpi_terms::{Depth, Object};
 use bytes::Bytes;
 use std::alloc::Global;
 
-// What is told of the first SSDT that doesn't load alone, by its refusal.
+// What is said of the first SSDT that doesn't load alone, by its refusal.
 fn refused(alloc: Global, fault: LoadFault) -> Result<Checked, LoadFault>
     ensures ok { (depth : ℕ) (dsdt : List ℕ) (ssdts : List (List ℕ))
         → IsSinglesFault depth dsdt ssdts fault → IfOk result (λ c. IsChecked depth dsdt ssdts c) }
@@ -66,7 +66,7 @@ fn checked_declared<S: Space<Object>>(
     dsdt: &Declaring<S>,
     ssdts: &[Bytes],
     depth: Depth,
-    declared: Declared,
+    declared: SsdtPaths,
 ) -> Result<Checked, LoadFault>
     ensures ok { (bytes : List ℕ) → HasTables depth (bytes ∷ []) (state_of S.contents dsdt.now)
         → AreDeclared depth bytes ssdts.now declared
@@ -74,7 +74,7 @@ fn checked_declared<S: Space<Object>>(
     ensures memory { (bytes : List ℕ) → HasTables depth (bytes ∷ []) (state_of S.contents dsdt.now)
         → AreDeclared depth bytes ssdts.now declared → IfErr result (λ e. e ≡ LoadFault.Memory) }
 {
-    let Declared { definers, same } = declared;
+    let SsdtPaths { definers, same } = declared;
     let Findings { clash, satisfied } = find_all(alloc, dsdt, ssdts, depth, &definers)?;
     let verdict = verdict_of(same, clash);
     Ok(Checked { verdict, satisfied })
@@ -100,7 +100,7 @@ fn checked_over<S: Space<Object>>(
 
 /// What `verdict_shared` and `satisfied_shared` tell of SSDTs over a DSDT, from one load of the DSDT. Each SSDT is
 /// declared over it twice, and no more than one is held. Where an SSDT doesn't load over the DSDT alone, no External is
-/// told as satisfied. Where the DSDT doesn't load by itself, its refusal is the error.
+/// reported as satisfied. Where the DSDT doesn't load by itself, its refusal is the error.
 pub fn check_shared<S: Space<Object>>(
     alloc: Global,
     dsdt: &Bytes,

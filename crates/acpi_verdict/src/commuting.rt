@@ -18,7 +18,7 @@ use std::alloc::Global;
 
 /// Whether SSDTs commute over a DSDT: the first of these that holds. One SSDT is refused over the DSDT alone; two
 /// declare one path; the load of one with the DSDT missed a path that another declares; else they commute. Of several
-/// the first is told: the least number, or the least pair of numbers and then the least path. (A path that was missed
+/// the first is reported: the least number, or the least pair of numbers and then the least path. (A path that was missed
 /// only by names that took their argument count from an External of that path may be declared, as a method of that many
 /// arguments.) Where the DSDT doesn't load by itself, its refusal is the error.
 ///

@@ -61,7 +61,7 @@ fn add_pair(
 }
 
 // Adds what the load of the SSDT of that number tells.
-fn add_ssdt<S: Space<Object>>(
+fn record_findings<S: Space<Object>>(
     alloc: Global,
     found: &mut Findings,
     dsdt: &Declaring<S>,
@@ -120,7 +120,7 @@ pub(crate) fn find_all<S: Space<Object>>(
         satisfied,
     };
     for (i, ssdt) in ssdts.iter().enumerate() {
-        add_ssdt(
+        record_findings(
             alloc,
             &mut found,
             dsdt,

@@ -30,7 +30,6 @@ mod affected_ssdts;
 mod checking;
 mod clashes;
 mod commuting;
-mod declared;
 mod definers;
 mod findings;
 mod joining;
@@ -44,6 +43,7 @@ mod satisfied_externals;
 mod satisfying;
 mod single_misses;
 mod singles;
+mod ssdt_paths;
 mod table_misses;
 mod verdicts;
 

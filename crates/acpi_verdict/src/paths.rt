@@ -4,7 +4,7 @@ ghost use Rattle.std.specs.Prelude.{◌≡◌, OnOk, IfOk, map, filter, not};
 ghost use Rattle.std.specs.FinMap as finite;
 ghost use Rattle.acpi_space.specs.Laws.{Among};
 ghost use Rattle.acpi_space.specs.Spaces.{is_defined};
-ghost use Rattle.acpi_body.specs.Arguments.{with_local};
+ghost use Rattle.acpi_body.specs.Arguments.{with_path};
 ghost use Rattle.acpi_body.specs.steps.Gathering.{Grows};
 
 use acpi_name::Path;
@@ -13,7 +13,7 @@ use std::alloc::{AllocError, Global};
 
 /// Adds the path, if it isn't there.
 pub(crate) fn add_path(paths: &mut MapSpace<()>, path: Path) -> Result<(), AllocError>
-    ensures { OnOk result (paths.new ≡ with_local paths.old path) }
+    ensures { OnOk result (paths.new ≡ with_path paths.old path) }
 {
     match paths.insert(path, ()) {
         Ok(()) => Ok(()),

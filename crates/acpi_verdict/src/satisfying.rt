@@ -10,8 +10,8 @@ ghost use Rattle.acpi_order.specs.Verdicts.{DsdtLoads, AllAlone};
 ghost use Rattle.acpi_verdict.specs.SatisfiedView.{satisfied_cmp, AreSatisfied};
 ghost use Rattle.acpi_verdict.specs.VerdictView.{IsSinglesFault};
 
-use crate::declared::lay_all_overlays;
 use crate::findings::find_all;
+use crate::ssdt_paths::lay_all_overlays;
 use crate::verdicts::Satisfied;
 use acpi_declare::{Declaring, LoadFault, shared_tables};
 use acpi_space::Space;

@@ -1,4 +1,4 @@
-//! What is told of SSDTs over a DSDT: whether they commute, and which Externals of one another they satisfy.
+//! What is said of SSDTs over a DSDT: whether they commute, and which Externals of one another they satisfy.
 
 use acpi_declare::LoadFault;
 use acpi_name::Path;
@@ -48,7 +48,7 @@ pub struct Satisfied {
     pub path: Path,
 }
 
-/// What is told of SSDTs over a DSDT.
+/// What is said of SSDTs over a DSDT.
 #[derive(Debug, Drop)]
 pub struct Checked {
     /// Whether they commute.

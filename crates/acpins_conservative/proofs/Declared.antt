@@ -18,7 +18,7 @@ use Rattle.acpi_declare.specs.Links.{PendingLink, pending_by, pending_links, all
 use Rattle.acpi_declare.specs.Loads.{AreListings, objects_after}
 use Rattle.acpi_declare.proofs.Unions.{union-nothing, union_assoc}
 use Rattle.acpi_conservative.specs.Strict.{predefined_objects}
-use Rattle.acpi_conservative.specs.Parts.{Declared, declared_by, declared, all_declared}
+use Rattle.acpi_conservative.specs.Parts.{DeclaredPart, declared_by, declared, all_declared}
 use Rattle.acpi_conservative.proofs.TableCounts.{or_first}
 use Rattle.acpins_conservative.proofs.ByPath.{AreApart, keys, same_path, path_itself, other_way}
 
@@ -27,26 +27,26 @@ Path = List Segment
 
 -- ---- objects at new paths
 
-abbrev pub with_declared : Namespace → List Declared → Namespace
+abbrev pub with_declared : Namespace → List DeclaredPart → Namespace
 with_declared objects [] = objects
 with_declared objects (d ∷ ds) = with_declared (union objects (singleton d.path d.object)) ds
 
 -- at the path of each stands nothing before it
-abbrev pub AreFresh : Namespace → List Declared → Type 0
+abbrev pub AreFresh : Namespace → List DeclaredPart → Type 0
 AreFresh objects [] = Unit {0}
 AreFresh objects (d ∷ ds) = (objects d.path ≡ None) × AreFresh (union objects (singleton d.path d.object)) ds
 
-with_both : (objects : Namespace) (ds us : List Declared) → with_declared objects (ds ++ us) ≡ with_declared (with_declared objects ds) us
+with_both : (objects : Namespace) (ds us : List DeclaredPart) → with_declared objects (ds ++ us) ≡ with_declared (with_declared objects ds) us
 with_both objects [] us = refl
 with_both objects (d ∷ ds) us = with_both (union objects (singleton d.path d.object)) ds us
 
-fresh_both : (objects : Namespace) (ds us : List Declared) → AreFresh objects ds → AreFresh (with_declared objects ds) us → AreFresh objects (ds ++ us)
+fresh_both : (objects : Namespace) (ds us : List DeclaredPart) → AreFresh objects ds → AreFresh (with_declared objects ds) us → AreFresh objects (ds ++ us)
 fresh_both objects [] us h k = k
 fresh_both objects (d ∷ ds) us h k = (h.0, fresh_both (union objects (singleton d.path d.object)) ds us h.1 k)
 
 -- ---- of a listing
 
-one_declared : (objects : Namespace) (d : Effect) (s p : Path) (ds : List Declared) → with_declared (union objects (object_by d p)) ds ≡ with_declared objects (declared_by d s p ++ ds)
+one_declared : (objects : Namespace) (d : Effect) (s p : Path) (ds : List DeclaredPart) → with_declared (union objects (object_by d p)) ds ≡ with_declared objects (declared_by d s p ++ ds)
 one_declared objects (declares o links code) s p ds = refl
 one_declared objects opens s p ds = ap (λ (m : Namespace). with_declared m ds) (union-nothing objects)
 one_declared objects (expects count) s p ds = ap (λ (m : Namespace). with_declared m ds) (union-nothing objects)
@@ -58,7 +58,7 @@ objects_declared objects (e ∷ es) =
     ∙ objects_declared (union objects (object_of e)) es
     ∙ one_declared objects e.step.effect e.scope e.path (declared es)
 
-one_fresh : (objects : Namespace) (d : Effect) (s : Path) (n : NameParts) (p : Path) → IsPlaced d objects s n p → (ds : List Declared) → AreFresh (union objects (object_by d p)) ds → AreFresh objects (declared_by d s p ++ ds)
+one_fresh : (objects : Namespace) (d : Effect) (s : Path) (n : NameParts) (p : Path) → IsPlaced d objects s n p → (ds : List DeclaredPart) → AreFresh (union objects (object_by d p)) ds → AreFresh objects (declared_by d s p ++ ds)
 one_fresh objects (declares o links code) s n p is ds h = (is.free, h)
 one_fresh objects opens s n p is ds h = subst (λ (m : Namespace). AreFresh m ds) (union-nothing objects) h
 one_fresh objects (expects count) s n p is ds h = subst (λ (m : Namespace). AreFresh m ds) (union-nothing objects) h
@@ -89,13 +89,13 @@ after_tables objects (t ∷ ts) =
 
 -- ---- with what is there before any table
 
-abbrev pub predefined_one : Path × ObjectTree → Declared
+abbrev pub predefined_one : Path × ObjectTree → DeclaredPart
 predefined_one e = record { object = e.1; links = []; code = None; scope = []; path = e.0 }
 
-abbrev pub predefined_declared : List Declared
+abbrev pub predefined_declared : List DeclaredPart
 predefined_declared = map predefined_one predefined_objects
 
-abbrev pub everything : List (List Placement) → List Declared
+abbrev pub everything : List (List Placement) → List DeclaredPart
 everything ts = predefined_declared ++ all_declared ts
 
 pub everything_after : (ts : List (List Placement)) → objects_after predefined ts ≡ with_declared nothing (everything ts)
@@ -108,10 +108,10 @@ everything_fresh depth bs ts l =
 
 -- ---- paths and objects
 
-abbrev pub pair : Declared → Path × ObjectTree
+abbrev pub pair : DeclaredPart → Path × ObjectTree
 pair d = (d.path, d.object)
 
-abbrev pub pairs : List Declared → List (Path × ObjectTree)
+abbrev pub pairs : List DeclaredPart → List (Path × ObjectTree)
 pairs ds = map pair ds
 
 or_none : (o : Option ObjectTree) → option_or o None ≡ o
@@ -123,13 +123,13 @@ joined (Some x) b v f = refl
 joined None true v f = refl
 joined None false v f = refl
 
-found_behind : (objects : Namespace) (ds : List Declared) (q : Path) → with_declared objects ds q ≡ option_or (objects q) (find path_cmp q (pairs ds))
+found_behind : (objects : Namespace) (ds : List DeclaredPart) (q : Path) → with_declared objects ds q ≡ option_or (objects q) (find path_cmp q (pairs ds))
 found_behind objects [] q = sym (or_none (objects q))
 found_behind objects (d ∷ ds) q =
     found_behind (union objects (singleton d.path d.object)) ds q ∙ joined (objects q) (is_same_path q d.path) d.object (find path_cmp q (pairs ds))
 
 -- the search among them finds what stands at the path
-pub found_there : (ds : List Declared) (q : Path) → with_declared nothing ds q ≡ find path_cmp q (pairs ds)
+pub found_there : (ds : List DeclaredPart) (q : Path) → with_declared nothing ds q ≡ find path_cmp q (pairs ds)
 found_there ds q = found_behind nothing ds q
 
 -- ---- no two stand at one path
@@ -141,16 +141,16 @@ differs objects q p o there free = by (is_same_path q p) refl
     by false is = is
     by true is = let e : Some o ≡ None = sym there ∙ ap objects (same_path q p is) ∙ free in let f : ⊥ = cc in absurd f
 
-kept_apart : (objects : Namespace) (q : Path) (o : ObjectTree) → objects q ≡ Some o → (ds : List Declared) → AreFresh objects ds → AllByRecursion (λ (p : Path). is_same_path q p ≡ false) (keys (pairs ds))
+kept_apart : (objects : Namespace) (q : Path) (o : ObjectTree) → objects q ≡ Some o → (ds : List DeclaredPart) → AreFresh objects ds → AllByRecursion (λ (p : Path). is_same_path q p ≡ false) (keys (pairs ds))
 kept_apart objects q o there [] h = tt
 kept_apart objects q o there (d ∷ ds) h =
     (differs objects q d.path o there h.0, kept_apart (union objects (singleton d.path d.object)) q o (or_first (objects q) (singleton d.path d.object q) o there) ds h.1)
 
-there_now : (objects : Namespace) (d : Declared) → objects d.path ≡ None → union objects (singleton d.path d.object) d.path ≡ Some d.object
+there_now : (objects : Namespace) (d : DeclaredPart) → objects d.path ≡ None → union objects (singleton d.path d.object) d.path ≡ Some d.object
 there_now objects d free =
     ap (λ (x : Option ObjectTree). option_or x (singleton d.path d.object d.path)) free ∙ ap (λ (b : Bool). cond b (Some d.object) None) (path_itself d.path)
 
-pub fresh_apart : (objects : Namespace) (ds : List Declared) → AreFresh objects ds → AreApart (pairs ds)
+pub fresh_apart : (objects : Namespace) (ds : List DeclaredPart) → AreFresh objects ds → AreApart (pairs ds)
 unfolding IsDistinct
 fresh_apart objects [] h = tt
 fresh_apart objects (d ∷ ds) h =
@@ -159,10 +159,10 @@ fresh_apart objects (d ∷ ds) h =
 
 -- ---- their links
 
-abbrev pub pending_of : Declared → List PendingLink
+abbrev pub pending_of : DeclaredPart → List PendingLink
 pending_of d = pending_by (declares d.object d.links d.code) d.scope d.path
 
-one_pending : (d : Effect) (s p : Path) (rest : List PendingLink) (ds : List Declared) → rest ≡ flat_map pending_of ds → pending_by d s p ++ rest ≡ flat_map pending_of (declared_by d s p ++ ds)
+one_pending : (d : Effect) (s p : Path) (rest : List PendingLink) (ds : List DeclaredPart) → rest ≡ flat_map pending_of ds → pending_by d s p ++ rest ≡ flat_map pending_of (declared_by d s p ++ ds)
 one_pending (declares o links code) s p rest ds is = ap (λ (ws : List PendingLink). pending_by (declares o links code) s p ++ ws) is
 one_pending opens s p rest ds is = is
 one_pending (expects count) s p rest ds is = is
@@ -186,7 +186,7 @@ module _ (objects : Namespace) where
   abbrev Links : Type 0
   Links = Option (List (Option Path))
 
-  abbrev pub links_in : List Declared → Path → Links
+  abbrev pub links_in : List DeclaredPart → Path → Links
   links_in ds = links_of objects (flat_map pending_of ds)
 
   -- the links at a path, with those of one object more
@@ -194,7 +194,7 @@ module _ (objects : Namespace) where
   with_own [] s p q later = later
   with_own (n ∷ ns) s p q later = option_or later (cond (is_same_path q p) (Some (answers objects s (n ∷ ns))) None)
 
-  links_more : (d : Declared) (ds : List Declared) (q : Path) → links_in (d ∷ ds) q ≡ with_own d.links d.scope d.path q (links_in ds q)
+  links_more : (d : DeclaredPart) (ds : List DeclaredPart) (q : Path) → links_in (d ∷ ds) q ≡ with_own d.links d.scope d.path q (links_in ds q)
   links_more d ds q = by d.links
     where
       by : (ns : List NameParts) → links_of objects (pending_by (declares d.object ns d.code) d.scope d.path ++ flat_map pending_of ds) q ≡ with_own ns d.scope d.path q (links_in ds q)
@@ -209,7 +209,7 @@ module _ (objects : Namespace) where
   with_other [] s p q later other = refl
   with_other (n ∷ ns) s p q later other = ap (λ (b : Bool). option_or later (cond b (Some (answers objects s (n ∷ ns))) None)) other ∙ none_else later
 
-  no_links : (q : Path) (ds : List Declared) → AllByRecursion (λ (p : Path). is_same_path q p ≡ false) (keys (pairs ds)) → links_in ds q ≡ None
+  no_links : (q : Path) (ds : List DeclaredPart) → AllByRecursion (λ (p : Path). is_same_path q p ≡ false) (keys (pairs ds)) → links_in ds q ≡ None
   no_links q [] h = refl
   no_links q (d ∷ ds) h = links_more d ds q ∙ with_other d.links d.scope d.path q (links_in ds q) h.0 ∙ no_links q ds h.1
 
@@ -217,16 +217,16 @@ module _ (objects : Namespace) where
   with_none [] s p = refl
   with_none (n ∷ ns) s p = ap (λ (b : Bool). unwrap_or (cond b (Some (answers objects s (n ∷ ns))) None) []) (path_itself p)
 
-  abbrev pub HasLinks : List Declared → Declared → Type 0
+  abbrev pub HasLinks : List DeclaredPart → DeclaredPart → Type 0
   HasLinks all d = unwrap_or (links_in all d.path) [] ≡ answers objects d.scope d.links
 
-  own_links : (d : Declared) (ds : List Declared) → AllByRecursion (λ (p : Path). is_same_path d.path p ≡ false) (keys (pairs ds)) → HasLinks (d ∷ ds) d
+  own_links : (d : DeclaredPart) (ds : List DeclaredPart) → AllByRecursion (λ (p : Path). is_same_path d.path p ≡ false) (keys (pairs ds)) → HasLinks (d ∷ ds) d
   own_links d ds h =
       ap (λ (o : Links). unwrap_or o []) (links_more d ds d.path)
       ∙ ap (λ (o : Links). unwrap_or (with_own d.links d.scope d.path d.path o) []) (no_links d.path ds h)
       ∙ with_none d.links d.scope d.path
 
-  links_kept : (d : Declared) (ds l : List Declared) → AllByRecursion (λ (p : Path). is_same_path d.path p ≡ false) (keys (pairs l)) → AllByRecursion (HasLinks ds) l → AllByRecursion (HasLinks (d ∷ ds)) l
+  links_kept : (d : DeclaredPart) (ds l : List DeclaredPart) → AllByRecursion (λ (p : Path). is_same_path d.path p ≡ false) (keys (pairs l)) → AllByRecursion (HasLinks ds) l → AllByRecursion (HasLinks (d ∷ ds)) l
   links_kept d ds [] h k = tt
   links_kept d ds (x ∷ l) h k = (
     ap (λ (o : Links). unwrap_or o []) (links_more d ds x.path ∙ with_other d.links d.scope d.path x.path (links_in ds x.path) (other_way x.path d.path ∙ h.0)) ∙ k.0,
@@ -234,7 +234,7 @@ module _ (objects : Namespace) where
   )
 
   -- each object's links are what its names find
-  pub each_links : (ds : List Declared) → AreApart (pairs ds) → AllByRecursion (HasLinks ds) ds
+  pub each_links : (ds : List DeclaredPart) → AreApart (pairs ds) → AllByRecursion (HasLinks ds) ds
   each_links [] apart = tt
   each_links (d ∷ ds) apart =
       let head = IsDistinct-head is_same_path d.path (keys (pairs ds)) apart in

@@ -23,7 +23,7 @@ use Rattle.acpi_survey.specs.Bodies.{entry_count}
 use Rattle.acpi_survey.specs.EntryBodies.{method_code, IsBody, IsBodyIn}
 use Rattle.acpi_survey.specs.EntryParts.{table_at}
 use Rattle.acpi_survey.specs.Lookup.{Found}
-use Rattle.acpi_conservative.specs.Parts.{Declared, declared_by, declared, all_declared, IsPartWithoutCode, IsPartOf, IsDeclaredAt}
+use Rattle.acpi_conservative.specs.Parts.{DeclaredPart, declared_by, declared, all_declared, IsPartWithoutCode, IsPartOf, IsDeclaredAt}
 use Rattle.acpins_survey_output.specs.Listings.{entries_of, part_of}
 use Rattle.acpins_survey_output.specs.Shown.{IsBodyAt}
 use Rattle.acpins_conservative.proofs.ByPath.{same_path, path_itself}
@@ -71,18 +71,18 @@ module _ (s : Survey) where
       body_is_none (entries_of s) s.reading.counts s.depth (slice_get (entries_of s) n)
       (option_and_then (λ (e : Entry). slice_get s.tables.items (table_at e.term.place)) (slice_get (entries_of s) n)) (part_of s n) b none h
 
-  abbrev pub IsBare : ℕ → Declared → Type 0
+  abbrev pub IsBare : ℕ → DeclaredPart → Type 0
   IsBare n d = d.code ≡ None → HasNoBody n
 
   -- what is there before all tables has none
-  pub low_bare : (n : ℕ) (ds : List Declared) → n + length ds ≤ 10 → HaveEach IsBare n ds
+  pub low_bare : (n : ℕ) (ds : List DeclaredPart) → n + length ds ≤ 10 → HaveEach IsBare n ds
   low_bare n [] h = tt
   low_bare n (d ∷ ds) h = (
     λ none. without_method n (ap (option_and_then method_code) (no_part s n (lt-ltb n 10 (omega (arith, h))))),
     low_bare (suc n) ds (omega (arith, h)),
   )
 
-  pub bare_behind : (before es : List Entry) → entries_of s ≡ before ++ es → (n : ℕ) → n ≡ length before → 10 ≤ n → (ds : List Declared) → AllZip (IsDeclaredAt s.tables.items) ds es → HaveEach IsBare n ds
+  pub bare_behind : (before es : List Entry) → entries_of s ≡ before ++ es → (n : ℕ) → n ≡ length before → 10 ≤ n → (ds : List DeclaredPart) → AllZip (IsDeclaredAt s.tables.items) ds es → HaveEach IsBare n ds
   bare_behind before [] whole n count behind [] h = tt
   bare_behind before [] whole n count behind (d ∷ ds) h = absurd h
   bare_behind before (e ∷ es) whole n count behind [] h = absurd h
@@ -100,11 +100,11 @@ coded_by None p = []
 coded_by (Some code) p = p ∷ []
 
 -- the paths of those with code
-abbrev pub coded : List Declared → List Path
+abbrev pub coded : List DeclaredPart → List Path
 coded [] = []
 coded (d ∷ ds) = coded_by d.code d.path ++ coded ds
 
-pub each_coded : (Holds : Path → Type 0) (n : ℕ) (ds : List Declared) → ((q : Path) → Among (coded ds) q → Holds q)
+pub each_coded : (Holds : Path → Type 0) (n : ℕ) (ds : List DeclaredPart) → ((q : Path) → Among (coded ds) q → Holds q)
     → HaveEach (λ k d. (code : List ℕ) → d.code ≡ Some code → Holds d.path) n ds
 each_coded Holds n [] h = tt
 each_coded Holds n (d ∷ ds) h = (
@@ -112,7 +112,7 @@ each_coded Holds n (d ∷ ds) h = (
   each_coded Holds (suc n) ds (λ q a. h q (among_right (coded_by d.code d.path) (coded ds) q a)),
 )
 
-coded_both : (ds us : List Declared) → coded (ds ++ us) ≡ coded ds ++ coded us
+coded_both : (ds us : List DeclaredPart) → coded (ds ++ us) ≡ coded ds ++ coded us
 coded_both [] us = refl
 coded_both (d ∷ ds) us = ap (λ (ps : List Path). coded_by d.code d.path ++ ps) (coded_both ds us) ∙ sym (append_assoc (coded_by d.code d.path) (coded ds) (coded us))
 

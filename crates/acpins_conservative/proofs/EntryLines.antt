@@ -23,13 +23,14 @@ use Rattle.acpi_survey.specs.Condition.{asked_if, literal_at, has, free, needs, 
 use Rattle.acpi_survey.specs.EntryLinks.{LinkParts, view_of, seen_link, seen_links, links_by_name, links_of_part}
 use Rattle.acpi_survey.specs.EntryParts.{part_in}
 use Rattle.acpi_survey.specs.Lookup.{Found}
-use Rattle.acpi_conservative.specs.Parts.{Declared, IsDeclaredAt}
+use Rattle.acpi_conservative.specs.Parts.{DeclaredPart, IsDeclaredAt}
 use Rattle.acpi_conservative.proofs.StrictLinks.{IsAllThere, one_link, certain_link}
-use Rattle.acpins_survey_output.specs.Declaring.{predefined}
+use Rattle.acpi_objects.specs.Declaring.{object_of, predefined}
 use Rattle.acpins_survey_output.specs.Entries.{entry_line}
 use Rattle.acpins_survey_output.specs.Links.{link_text, sourced_text}
-use Rattle.acpins_survey_output.specs.Listings.{entries_of, part_of, object_of, links_of, condition_of, numbered_line}
-use Rattle.acpins_survey_output.specs.Objects.{ObjectParts, constant, parts_text, source_of}
+use Rattle.acpins_survey_output.specs.Listings.{entries_of, part_of, links_of, condition_of, numbered_line}
+use Rattle.acpi_objects.specs.Objects.{ObjectParts, constant}
+use Rattle.acpins_survey_output.specs.Objects.{parts_text, source_of}
 use Rattle.acpins_conservative.proofs.Offsets.{DeclaredFits}
 use Rattle.acpins_conservative.proofs.Texts.{IsPrintedAs, part_printed, SearchesAs, part_searches, link_is, links_are}
 
@@ -50,7 +51,7 @@ no_condition ts opened es e h =
     ap (λ (w : List Turn). flat_map (turn_literals ts opened es) w ++ asked e) h.0 ∙ nothing_asked e h
 
 -- this holds of each of some objects, which are numbered through
-abbrev pub HaveEach : (ℕ → Declared → Type 0) → ℕ → List Declared → Type 0
+abbrev pub HaveEach : (ℕ → DeclaredPart → Type 0) → ℕ → List DeclaredPart → Type 0
 HaveEach Holds n [] = Unit {0}
 HaveEach Holds n (d ∷ ds) = Holds n d × HaveEach Holds (suc n) ds
 
@@ -60,7 +61,7 @@ module _ (s : Survey) (n : ℕ) where
   pub no_part : nat_lt n 10 ≡ true → part_of s n ≡ None
   no_part low = ap (λ b. cond b None (option_and_then (λ (e : Entry). part_in s.tables.items e.term.place) (slice_get (entries_of s) n))) low
 
-  pub part_there : (e : Entry) → slice_get (entries_of s) n ≡ Some e → 10 ≤ n → (d : Declared) (at : IsDeclaredAt s.tables.items d e) → part_of s n ≡ Some at.part
+  pub part_there : (e : Entry) → slice_get (entries_of s) n ≡ Some e → 10 ≤ n → (d : DeclaredPart) (at : IsDeclaredAt s.tables.items d e) → part_of s n ≡ Some at.part
   part_there e is behind d at =
       ap (λ b. cond b None (option_and_then (λ (e : Entry). part_in s.tables.items e.term.place) (slice_get (entries_of s) n))) (le-ltb n 10 behind)
       ∙ ap (option_and_then (λ (e : Entry). part_in s.tables.items e.term.place)) is
@@ -70,7 +71,7 @@ module _ (s : Survey) (n : ℕ) where
 
 module _ (s : Survey) (objects : Namespace) where
   -- the line of that number is the object's
-  abbrev pub IsLineOf : ℕ → Declared → Type 0
+  abbrev pub IsLineOf : ℕ → DeclaredPart → Type 0
   IsLineOf n d = numbered_line s d.path n ≡ line_text d.path d.object (answers objects d.scope d.links)
 
   module _ (n : ℕ) (e : Entry) (is : slice_get (entries_of s) n ≡ Some e) (free : HasNoCondition e) where
@@ -95,7 +96,7 @@ module _ (s : Survey) (objects : Namespace) where
         ((λ i. links_of_part (entries_of s) s.reading.sources (is i) (none i))) refl
 
     -- of an object of a table
-    module _ (behind : 10 ≤ n) (all : IsAllThere objects (entries_of s)) (d : Declared) (at : IsDeclaredAt s.tables.items d e) (fits : DeclaredFits d) where
+    module _ (behind : 10 ≤ n) (all : IsAllThere objects (entries_of s)) (d : DeclaredPart) (at : IsDeclaredAt s.tables.items d e) (fits : DeclaredFits d) where
       part_is : part_of s n ≡ Some at.part
       part_is = part_there s n e is behind d at
 
@@ -126,11 +127,11 @@ module _ (s : Survey) (objects : Namespace) where
 
   -- ---- all lines, by their numbers
 
-  abbrev pub HaveLines : ℕ → List Declared → Type 0
+  abbrev pub HaveLines : ℕ → List DeclaredPart → Type 0
   HaveLines = HaveEach IsLineOf
 
   pub lines_behind : IsAllThere objects (entries_of s) → (before es : List Entry) → entries_of s ≡ before ++ es → AllByRecursion HasNoCondition es → (n : ℕ) → n ≡ length before → 10 ≤ n
-      → (ds : List Declared) → AllZip (IsDeclaredAt s.tables.items) ds es → AllByRecursion DeclaredFits ds → HaveLines n ds
+      → (ds : List DeclaredPart) → AllZip (IsDeclaredAt s.tables.items) ds es → AllByRecursion DeclaredFits ds → HaveLines n ds
   lines_behind all before [] whole plain n count behind [] h fits = tt
   lines_behind all before [] whole plain n count behind (d ∷ ds) h fits = absurd h
   lines_behind all before (e ∷ es) whole plain n count behind [] h fits = absurd h

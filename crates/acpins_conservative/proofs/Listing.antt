@@ -24,7 +24,7 @@ use Rattle.acpi_survey.specs.declared.machine_survey.SurveyedTable.{SurveyedTabl
 use Rattle.acpi_survey.specs.Predefined.{first_reading, with_object}
 use Rattle.acpi_survey.specs.Surveys.{AreTables, bytes_of, nodes_of_each}
 use Rattle.acpi_survey.proofs.Surveys.{are_read}
-use Rattle.acpi_conservative.specs.Parts.{Declared, all_declared, IsDeclaredAt}
+use Rattle.acpi_conservative.specs.Parts.{DeclaredPart, all_declared, IsDeclaredAt}
 use Rattle.acpi_conservative.proofs.ObjectParts.{strict_read_is_declared}
 use Rattle.acpi_conservative.proofs.StrictLinks.{IsAllThere, is_all_there}
 use Rattle.acpins_output.specs.Listings.{Prints}
@@ -43,7 +43,7 @@ front_there [] ys n x is = let f : ⊥ = cc in absurd f
 front_there (y ∷ xs) ys zero x is = is
 front_there (y ∷ xs) ys (suc n) x is = front_there xs ys n x is
 
-paths_alike : (kept : List SurveyedTable) (ds : List Declared) (es : List Entry) → AllZip (IsDeclaredAt kept) ds es → map (λ (e : Entry). e.path) es ≡ keys (pairs ds)
+paths_alike : (kept : List SurveyedTable) (ds : List DeclaredPart) (es : List Entry) → AllZip (IsDeclaredAt kept) ds es → map (λ (e : Entry). e.path) es ≡ keys (pairs ds)
 paths_alike kept [] [] h = refl
 paths_alike kept [] (e ∷ es) h = absurd h
 paths_alike kept (d ∷ ds) [] h = absurd h
@@ -59,8 +59,8 @@ module _ (s : Survey) (objects : Namespace) (links : Path → Option (List (Opti
   abbrev line_of : Path × ℕ → List ℕ
   line_of x = line_text x.0 (value_at root_object values x.1) (unwrap_or (links x.0) [])
 
-  lines_numbered : (before : List ObjectTree) (n : ℕ) → n ≡ length before → (ds : List Declared) → values ≡ before ++ map (λ (e : Path × ObjectTree). e.1) (pairs ds) → HaveLines s objects n ds
-      → AllByRecursion (λ (d : Declared). unwrap_or (links d.path) [] ≡ answers objects d.scope d.links) ds
+  lines_numbered : (before : List ObjectTree) (n : ℕ) → n ≡ length before → (ds : List DeclaredPart) → values ≡ before ++ map (λ (e : Path × ObjectTree). e.1) (pairs ds) → HaveLines s objects n ds
+      → AllByRecursion (λ (d : DeclaredPart). unwrap_or (links d.path) [] ≡ answers objects d.scope d.links) ds
       → AllByRecursion (λ (x : Path × ℕ). numbered_line s x.0 x.1 ≡ line_of x) (numbered_from n (keys (pairs ds)))
   lines_numbered before n count [] whole h k = tt
   lines_numbered before n count (d ∷ ds) whole h k =
@@ -78,7 +78,7 @@ module _ (depth : ℕ) (s : Survey) (read : AreTables depth 0 first_reading s.ta
   abbrev objects : Namespace
   objects = objects_after predefined ts
 
-  abbrev all : List Declared
+  abbrev all : List DeclaredPart
   all = everything ts
 
   abbrev links : Path → Option (List (Option Path))
@@ -139,8 +139,8 @@ module _ (depth : ℕ) (s : Survey) (read : AreTables depth 0 first_reading s.ta
   abbrev values : List ObjectTree
   values = map (λ (e : Path × ObjectTree). e.1) (pairs all)
 
-  pub links_are : AllByRecursion (λ (d : Declared). unwrap_or (links d.path) [] ≡ answers objects d.scope d.links) all
-  links_are = subst (λ ws. AllByRecursion (λ (d : Declared). unwrap_or (links_of objects ws d.path) [] ≡ answers objects d.scope d.links) all) (sym (everything_pending ts)) (each_links objects all apart)
+  pub links_are : AllByRecursion (λ (d : DeclaredPart). unwrap_or (links d.path) [] ≡ answers objects d.scope d.links) all
+  links_are = subst (λ ws. AllByRecursion (λ (d : DeclaredPart). unwrap_or (links_of objects ws d.path) [] ≡ answers objects d.scope d.links) all) (sym (everything_pending ts)) (each_links objects all apart)
 
   numbered_lines : AllByRecursion (λ (x : Path × ℕ). numbered_line s x.0 x.1 ≡ line_of s objects links values x) (numbered_from 0 (keys (pairs all)))
   numbered_lines = lines_numbered s objects links values [] 0 refl all refl all_lines links_are

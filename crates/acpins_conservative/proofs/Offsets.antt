@@ -19,7 +19,7 @@ use Rattle.acpi_declare.specs.Sites.{Effect, declares, opens, expects, Step, ste
 use Rattle.acpi_declare.specs.Listing.{Placement, object_of, objects_of, IsJustified}
 use Rattle.acpi_declare.specs.Loads.{AreListings}
 use Rattle.acpi_declare.specs.Tables.{IsTableOf, code_of}
-use Rattle.acpi_conservative.specs.Parts.{Declared, declared_by, declared, all_declared}
+use Rattle.acpi_conservative.specs.Parts.{DeclaredPart, declared_by, declared, all_declared}
 
 abbrev Path : Type 0
 Path = List Segment
@@ -40,7 +40,7 @@ StepFits x = EffectFits x.effect
 abbrev SiteFits : Site → Type 0
 SiteFits x = EffectFits x.step.effect
 
-abbrev pub DeclaredFits : Declared → Type 0
+abbrev pub DeclaredFits : DeclaredPart → Type 0
 DeclaredFits d = HasOffset d.object
 
 -- ---- steps

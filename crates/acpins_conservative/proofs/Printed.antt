@@ -17,7 +17,7 @@ use Rattle.acpi_conditions.proofs.Basics.{map_nothing}
 use Rattle.acpi_survey.specs.declared.machine_survey.Survey.{Survey}
 use Rattle.acpi_survey.specs.declared.notes.Note.{Note}
 use Rattle.acpi_survey.specs.declared.problems.Problem.{Problem}
-use Rattle.acpi_survey.specs.Found.{entered_in}
+use Rattle.acpi_survey.specs.Findings.{entered_in}
 use Rattle.acpi_survey.specs.NoteViews.{note_view}
 use Rattle.acpi_survey.specs.ProblemViews.{problem_view}
 use Rattle.acpi_survey.specs.Surveys.{bytes_of}

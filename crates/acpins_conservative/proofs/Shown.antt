@@ -29,7 +29,7 @@ use Rattle.acpi_survey.specs.declared.machine_survey.Survey.{Survey}
 use Rattle.acpi_survey.specs.EntryBodies.{IsBodyOf}
 use Rattle.acpi_survey.specs.Predefined.{first_reading, with_object}
 use Rattle.acpi_survey.specs.Surveys.{AreTables, bytes_of, numbers_at}
-use Rattle.acpi_conservative.specs.Parts.{Declared, all_declared}
+use Rattle.acpi_conservative.specs.Parts.{DeclaredPart, all_declared}
 use Rattle.acpi_conservative.specs.Laws.{IsSameBody, IsKeptAs}
 use Rattle.acpi_conservative.proofs.MachineBodies.{strict_machine_bodies}
 use Rattle.acpi_conservative.proofs.ObjectParts.{strict_read_is_declared}
@@ -107,15 +107,15 @@ path_there (x ∷ es) (suc n) e is = path_there es n e is
 
 -- ---- the one object at a path
 
-record IsOneAt (Holds : ℕ → Declared → Type 0) (p : Path) (o : ObjectTree) (numbers : List ℕ) : Type 0 where
+record IsOneAt (Holds : ℕ → DeclaredPart → Type 0) (p : Path) (o : ObjectTree) (numbers : List ℕ) : Type 0 where
   number : ℕ
-  declared : Declared
+  declared : DeclaredPart
   alone : numbers ≡ number ∷ []
   path : declared.path ≡ p
   object : declared.object ≡ o
   holds : Holds number declared
 
-one_at : (Holds : ℕ → Declared → Type 0) (n : ℕ) (ds : List Declared) → AreApart (pairs ds) → HaveEach Holds n ds → (p : Path) (o : ObjectTree) → find path_cmp p (pairs ds) ≡ Some o
+one_at : (Holds : ℕ → DeclaredPart → Type 0) (n : ℕ) (ds : List DeclaredPart) → AreApart (pairs ds) → HaveEach Holds n ds → (p : Path) (o : ObjectTree) → find path_cmp p (pairs ds) ≡ Some o
     → IsOneAt Holds p o (numbers_in p n (keys (pairs ds)))
 one_at Holds n [] apart h p o e = let f : ⊥ = cc in absurd f
 one_at Holds n (d ∷ ds) apart h p o e =
@@ -148,11 +148,11 @@ one_at Holds n (d ∷ ds) apart h p o e =
           holds = r.holds;
         }
 
-both_hold : (Holds Also : ℕ → Declared → Type 0) (n : ℕ) (ds : List Declared) → HaveEach Holds n ds → HaveEach Also n ds → HaveEach (λ k d. Holds k d × Also k d) n ds
+both_hold : (Holds Also : ℕ → DeclaredPart → Type 0) (n : ℕ) (ds : List DeclaredPart) → HaveEach Holds n ds → HaveEach Also n ds → HaveEach (λ k d. Holds k d × Also k d) n ds
 both_hold Holds Also n [] h k = tt
 both_hold Holds Also n (d ∷ ds) h k = ((h.0, k.0), both_hold Holds Also (suc n) ds h.1 k.1)
 
-one_more : (Holds : ℕ → Declared → Type 0) (n : ℕ) (ds us : List Declared) → HaveEach Holds n ds → HaveEach Holds (n + length ds) us → HaveEach Holds n (ds ++ us)
+one_more : (Holds : ℕ → DeclaredPart → Type 0) (n : ℕ) (ds us : List DeclaredPart) → HaveEach Holds n ds → HaveEach Holds (n + length ds) us → HaveEach Holds n (ds ++ us)
 one_more Holds n [] us h k = subst (λ (i : ℕ). HaveEach Holds i us) (omega arith) k
 one_more Holds n (d ∷ ds) us h k =
     (h.0, one_more Holds (suc n) ds us h.1 (subst (λ (i : ℕ). HaveEach Holds i us) (omega arith) k))
@@ -205,14 +205,14 @@ module _ (depth : ℕ) (s : Survey) (limit : s.depth ≡ depth) (read_so : AreTa
   abbrev links : Lookup Links
   links = links_of objects (all_pending is.placements)
 
-  abbrev all : List Declared
+  abbrev all : List DeclaredPart
   all = everything is.placements
 
   -- the line of that number is the object's
-  abbrev IsLine : ℕ → Declared → Type 0
+  abbrev IsLine : ℕ → DeclaredPart → Type 0
   IsLine n d = numbered_line s d.path n ≡ line_text d.path d.object (unwrap_or (links d.path) [])
 
-  each_line : (n : ℕ) (ds : List Declared) → HaveLines s objects n ds → AllByRecursion (λ (d : Declared). unwrap_or (links d.path) [] ≡ answers objects d.scope d.links) ds → HaveEach IsLine n ds
+  each_line : (n : ℕ) (ds : List DeclaredPart) → HaveLines s objects n ds → AllByRecursion (λ (d : DeclaredPart). unwrap_or (links d.path) [] ≡ answers objects d.scope d.links) ds → HaveEach IsLine n ds
   each_line n [] h k = tt
   each_line n (d ∷ ds) h k = (h.0 ∙ ap (line_text d.path d.object) (sym k.0), each_line (suc n) ds h.1 k.1)
 
@@ -223,7 +223,7 @@ module _ (depth : ℕ) (s : Survey) (limit : s.depth ≡ depth) (read_so : AreTa
   abbrev HasBody : Path → Type 0
   HasBody q = m.bodies q ≡ None → ⊥
 
-  abbrev IsMethod : ℕ → Declared → Type 0
+  abbrev IsMethod : ℕ → DeclaredPart → Type 0
   IsMethod n d = (code : List ℕ) → d.code ≡ Some code → HasBody d.path
 
   methods_there : HaveEach IsMethod 0 all
@@ -238,7 +238,7 @@ module _ (depth : ℕ) (s : Survey) (limit : s.depth ≡ depth) (read_so : AreTa
       one_more (IsBare s) 0 predefined_declared (all_declared is.placements) (low_bare s 0 predefined_declared (omega arith))
       (bare_behind s first_reading.walk.entries parts.0 parts.1 10 refl (omega arith) (all_declared is.placements) parts.2)
 
-  abbrev IsKnown : ℕ → Declared → Type 0
+  abbrev IsKnown : ℕ → DeclaredPart → Type 0
   IsKnown n d = IsLine n d × (IsMethod n d × IsBare s n d)
 
   known : HaveEach IsKnown 0 all

@@ -18,9 +18,10 @@ use Rattle.acpi_outline.specs.Strict.{data_term, elem_term, elem_terms}
 use Rattle.acpi_survey.specs.EntryLinks.{LinkParts, alias_name, searched}
 use Rattle.acpi_survey.specs.Lookup.{Found, element_found}
 use Rattle.acpi_conservative.specs.Parts.{before_fields, IsPartWithoutCode, IsPartOf}
-use Rattle.acpins_survey_output.specs.Declaring.{object_in}
+use Rattle.acpi_objects.specs.Declaring.{object_in}
 use Rattle.acpins_survey_output.specs.Links.{found_at, link_text, links_text}
-use Rattle.acpins_survey_output.specs.Objects.{ObjectParts, constant, named, region, bank_unit, create, create_bits, parts_text, source_of}
+use Rattle.acpi_objects.specs.Objects.{ObjectParts, constant, named, region, bank_unit, create, create_bits}
+use Rattle.acpins_survey_output.specs.Objects.{parts_text, source_of}
 use Rattle.acpins_conservative.proofs.Offsets.{HasOffset}
 
 -- ---- constant data

@@ -3,7 +3,7 @@ use Rattle.std.proofs.Common.{◌≡◌, Bool, true, false, ℕ, ◌+◌, List, 
 use Rattle.std.proofs.Math.Seq.{take-add}
 use Rattle.std.specs.Io.KnownBytes.{Appends, Keeps}
 use Rattle.std.proofs.KnownBytes.{Appends-trans, Appends-nil}
-use Rattle.acpins_io.specs.Told.{AppendsBeginning, Tells}
+use Rattle.acpins_io.specs.PartsWritten.{AppendsBeginning, WritesUntilFailure}
 
 appends_behind : (a b c : Option (List ℕ)) (x : List ℕ) → Appends a b x → Appends b c [] → Appends a c x
 appends_behind None b c x h k = tt
@@ -11,7 +11,7 @@ appends_behind (Some p) None c x h k = absurd h
 appends_behind (Some p) (Some q) None x h k = absurd k
 appends_behind (Some p) (Some q) (Some r) x h k = k ∙ append-nil q ∙ h
 
-begins_more : (fb : Bool) (fa fc : Bool) (a b c : Option (List ℕ)) (x y : List ℕ) → Tells x fa a fb b → Tells y fb b fc c → AppendsBeginning (x ++ y) a c
+begins_more : (fb : Bool) (fa fc : Bool) (a b c : Option (List ℕ)) (x y : List ℕ) → WritesUntilFailure x fa a fb b → WritesUntilFailure y fb b fc c → AppendsBeginning (x ++ y) a c
 begins_more false fa fc a b c x y s t =
     let whole = s.whole refl in
     let begun = t.begins in
@@ -22,7 +22,7 @@ begins_more true fa fc a b c x y s t =
 
 -- a part and the next one
 pub tells_more : (x y : List ℕ) (fa : Bool) (a : Option (List ℕ)) (fb : Bool) (b : Option (List ℕ)) (fc : Bool) (c : Option (List ℕ))
-    → Tells x fa a fb b → Tells y fb b fc c → Tells (x ++ y) fa a fc c
+    → WritesUntilFailure x fa a fb b → WritesUntilFailure y fb b fc c → WritesUntilFailure (x ++ y) fa a fc c
 tells_more x y fa a fb b fc c s t = record {
   whole = λ e. let second = t.whole e in let first = s.whole second.0 in (first.0, Appends-trans a b c x y first.1 second.1);
   begins = begins_more fb fa fc a b c x y s t;
@@ -30,7 +30,7 @@ tells_more x y fa a fb b fc c s t = record {
 }
 
 -- no part
-pub tells_nothing : (f : Bool) (a : Option (List ℕ)) → Tells [] f a f a
+pub tells_nothing : (f : Bool) (a : Option (List ℕ)) → WritesUntilFailure [] f a f a
 tells_nothing f a = record {
   whole = λ e. (e, Appends-nil a);
   begins = ([], [], refl, Appends-nil a);

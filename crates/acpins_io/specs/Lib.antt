@@ -1,4 +1,5 @@
-pub mod Told
+pub mod PartsWritten
 pub mod Hexadecimal
 pub mod Dump
 pub mod steps
+pub mod FilesWritten

@@ -2,6 +2,7 @@
 
 ghost use Rattle.std.specs.Prelude.{◌≡◌, ◌≢◌, ℕ, List, [], Option, Some, None, IfOk, OnOk, OnErr, IfSome, ⊤};
 ghost use Rattle.std.specs.Io.KnownBytes.{Keeps};
+ghost use Rattle.acpins_io.specs.FilesWritten.{Holds};
 ghost use Rattle.acpins_io.specs.declared.files.FileFault.{FileFault};
 
 use std::alloc::{AllocError, AllocFailed};
@@ -82,4 +83,21 @@ pub trait Files {
     fn abandon(&mut self, _file: Self::W)
         ensures stays { written_to self.new ≡ written_to self.old }
     {}
+}
+
+/// Makes the file of that name, and writes the bytes to it. Where that fails, what stands under the name stays.
+pub fn write_file<F: Files>(files: &mut F, name: &str, bytes: &[u8]) -> Result<(), FileFault>
+    ensures held { OnOk result (Holds (F.written_to files.old name.now)
+        (F.written_to files.new name.now) bytes.now) }
+    ensures others { (other : List ℕ) → other ≢ name.now
+        → F.written_to files.new other ≡ F.written_to files.old other }
+    ensures left { OnErr result (F.written_to files.new ≡ F.written_to files.old) }
+{
+    let mut file = files.create(name)?;
+    let is_written = file.write_all(bytes).is_ok() && file.flush().is_ok();
+    if !is_written {
+        files.abandon(file);
+        return Err(FileFault::Device);
+    }
+    files.close(file)
 }

@@ -2,6 +2,7 @@
 //!
 //! ```text
 //! name ── Files::open ──► bytes         HostFiles: the files of the host
+//! bytes ─ write_file ───► a file
 //! text ── from_hex ─────► bytes         HexDecoder: part by part
 //! text ── tables_in_dump ► tables       of the text that acpidump writes
 //! line ── PartWriter ───► a stream      UntilFailure: until a write fails; IntoText: into a text
@@ -15,7 +16,7 @@ mod host;
 mod parts;
 
 pub use dump::{is_header, tables_in_dump};
-pub use files::{FileFault, Files};
+pub use files::{FileFault, Files, write_file};
 pub use hexadecimal::{HexDecoder, HexFault, from_hex};
 pub use host::{HostFile, HostFiles};
 pub use parts::{

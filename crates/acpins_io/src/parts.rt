@@ -2,7 +2,7 @@
 
 ghost use Rattle.std.specs.Prelude.{◌≡◌, ℕ, List, Option, Some, Bool, IsTrue, true, false, decimal};
 ghost use Rattle.std.specs.Io.KnownBytes.{Appends};
-ghost use Rattle.acpins_io.specs.Told.{AppendsBeginning, Tells};
+ghost use Rattle.acpins_io.specs.PartsWritten.{AppendsBeginning, WritesUntilFailure};
 
 use std::io::{ErrorKind, Write};
 
@@ -15,8 +15,8 @@ pub trait PartWriter<E> {
 
     /// Writes the part, unless a write fails or one has failed.
     fn write_part(&mut self, stream: &mut E, part: &[u8])
-        ensures { Tells part.now (failed self.old) (contents stream.old) (failed self.new)
-            (contents stream.new) };
+        ensures { WritesUntilFailure part.now (failed self.old) (contents stream.old)
+            (failed self.new) (contents stream.new) };
 }
 
 /// Writes parts to a writer until a write fails, and leaves out what comes after that.
@@ -136,16 +136,16 @@ impl PartWriter<Vec<u8>> for IntoText {
 
 /// Writes a text.
 pub fn put_text<E, P: PartWriter<E>>(parts: &mut P, err: &mut E, text: &str)
-    ensures { Tells text.now (P.failed parts.old) (P.contents err.old) (P.failed parts.new)
-        (P.contents err.new) }
+    ensures { WritesUntilFailure text.now (P.failed parts.old) (P.contents err.old)
+        (P.failed parts.new) (P.contents err.new) }
 {
     parts.write_part(err, text.as_bytes())
 }
 
 /// Writes a number's decimal digits: those of its tenth part, and the last one.
 pub fn put_number<E, P: PartWriter<E>>(parts: &mut P, err: &mut E, n: usize)
-    ensures { Tells (decimal n) (P.failed parts.old) (P.contents err.old) (P.failed parts.new)
-        (P.contents err.new) }
+    ensures { WritesUntilFailure (decimal n) (P.failed parts.old) (P.contents err.old)
+        (P.failed parts.new) (P.contents err.new) }
 {
     if n >= 10 {
         put_number(parts, err, n / 10);

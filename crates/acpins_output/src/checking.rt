@@ -7,12 +7,12 @@ ghost use Rattle.acpins_output.specs.Checked.{triple_line, satisfied_line, Check
 ghost use Rattle.acpins_output.specs.FaultTexts.{fault_text};
 
 use crate::faults::put_fault;
-use crate::output::{Output, put};
+use crate::output::Output;
 use acpi_load::{Checked, LoadFault, LoadReason, Satisfied, Verdict, check_shared};
 use acpi_name::Path;
 use acpi_space::Space;
 use acpi_terms::{Depth, Object};
-use acpi_text::{put_decimal, put_path};
+use acpi_text::{put, put_decimal, put_path};
 use acpins_io::IntoText;
 use bytes::Bytes;
 use std::alloc::{AllocError, Global};
@@ -50,7 +50,7 @@ fn put_reason(text: &mut Vec<u8>, reason: &LoadReason) -> Result<(), AllocError>
     Ok(())
 }
 
-// The reason of a fault that is not want of memory.
+// The reason of a fault that is no allocation failure.
 fn reason_of(fault: LoadFault) -> LoadReason
     requires { fault ≢ LoadFault.Memory }
     ensures { (table : ℕ) × (fault ≡ LoadFault.At table result) }

@@ -3,7 +3,7 @@
 ghost use Rattle.std.specs.Prelude.{◌≡◌, ◌++◌, ◌∷◌, codes, decimal};
 ghost use Rattle.std.specs.List.{flat_map};
 ghost use Rattle.acpi_name.specs.Text.{path_text};
-ghost use Rattle.acpins_io.specs.Told.{Tells};
+ghost use Rattle.acpins_io.specs.PartsWritten.{WritesUntilFailure};
 ghost use Rattle.acpins_output.specs.FaultTexts.{item_reason_text, refusal_text, load_reason_text, fault_text};
 
 use acpi_load::{LoadReason, Refusal};
@@ -48,8 +48,8 @@ fn refusal_word(refusal: Refusal) -> &'static str
 
 // A dot, and a segment's four characters.
 fn put_dot_segment<E, P: PartWriter<E>>(parts: &mut P, err: &mut E, seg: Seg)
-    ensures { Tells (46 ∷ seg) (P.failed parts.old) (P.contents err.old) (P.failed parts.new)
-        (P.contents err.new) }
+    ensures { WritesUntilFailure (46 ∷ seg) (P.failed parts.old) (P.contents err.old)
+        (P.failed parts.new) (P.contents err.new) }
 {
     let [a, b, c, d] = seg.bytes();
     parts.write_part(err, &[b'.', a, b, c, d])
@@ -57,8 +57,8 @@ fn put_dot_segment<E, P: PartWriter<E>>(parts: &mut P, err: &mut E, seg: Seg)
 
 // Segments, each behind a dot.
 fn put_behind<E, P: PartWriter<E>>(parts: &mut P, err: &mut E, segs: &[Seg])
-    ensures { Tells (flat_map (λ h. 46 ∷ h) segs.now) (P.failed parts.old) (P.contents err.old)
-        (P.failed parts.new) (P.contents err.new) }
+    ensures { WritesUntilFailure (flat_map (λ h. 46 ∷ h) segs.now) (P.failed parts.old)
+        (P.contents err.old) (P.failed parts.new) (P.contents err.new) }
 {
     for seg in segs {
         put_dot_segment(parts, err, *seg);
@@ -67,7 +67,7 @@ fn put_behind<E, P: PartWriter<E>>(parts: &mut P, err: &mut E, segs: &[Seg])
 
 // A path: a backslash, and the segments with a dot between each two.
 fn put_path<E, P: PartWriter<E>>(parts: &mut P, err: &mut E, path: &Path)
-    ensures { Tells (path_text path.now) (P.failed parts.old) (P.contents err.old)
+    ensures { WritesUntilFailure (path_text path.now) (P.failed parts.old) (P.contents err.old)
         (P.failed parts.new) (P.contents err.new) }
 {
     put_text(parts, err, "\\");
@@ -79,8 +79,8 @@ fn put_path<E, P: PartWriter<E>>(parts: &mut P, err: &mut E, path: &Path)
 
 // Why a declaration or a Scope term is refused, and the path that the refusal names.
 fn put_refusal<E, P: PartWriter<E>>(parts: &mut P, err: &mut E, refusal: Refusal, path: &Path)
-    ensures { Tells (refusal_text refusal ++ codes " " ++ path_text path.now) (P.failed parts.old)
-        (P.contents err.old) (P.failed parts.new) (P.contents err.new) }
+    ensures { WritesUntilFailure (refusal_text refusal ++ codes " " ++ path_text path.now)
+        (P.failed parts.old) (P.contents err.old) (P.failed parts.new) (P.contents err.new) }
 {
     put_text(parts, err, refusal_word(refusal));
     put_text(parts, err, " ");
@@ -89,8 +89,8 @@ fn put_refusal<E, P: PartWriter<E>>(parts: &mut P, err: &mut E, refusal: Refusal
 
 /// Writes why a table can't be loaded, without the place of a reason of its code.
 pub fn put_load_reason<E, P: PartWriter<E>>(parts: &mut P, err: &mut E, reason: &LoadReason)
-    ensures { Tells (load_reason_text reason.now) (P.failed parts.old) (P.contents err.old)
-        (P.failed parts.new) (P.contents err.new) }
+    ensures { WritesUntilFailure (load_reason_text reason.now) (P.failed parts.old)
+        (P.contents err.old) (P.failed parts.new) (P.contents err.new) }
 {
     match reason {
         LoadReason::Table(fault) => put_text(parts, err, fault.text()),
@@ -104,8 +104,8 @@ pub fn put_load_reason<E, P: PartWriter<E>>(parts: &mut P, err: &mut E, reason: 
 
 /// Writes why a code can't be read, and where, in bytes.
 pub fn put_item<E, P: PartWriter<E>>(parts: &mut P, err: &mut E, reason: ItemReason, place: usize)
-    ensures { Tells (item_reason_text reason ++ codes " at " ++ decimal place) (P.failed parts.old)
-        (P.contents err.old) (P.failed parts.new) (P.contents err.new) }
+    ensures { WritesUntilFailure (item_reason_text reason ++ codes " at " ++ decimal place)
+        (P.failed parts.old) (P.contents err.old) (P.failed parts.new) (P.contents err.new) }
 {
     put_text(parts, err, item_reason_word(reason));
     put_text(parts, err, " at ");
@@ -114,7 +114,7 @@ pub fn put_item<E, P: PartWriter<E>>(parts: &mut P, err: &mut E, reason: ItemRea
 
 /// Writes why a table can't be loaded; a reason of its code with its place, in bytes from the table's first byte.
 pub fn put_fault<E, P: PartWriter<E>>(parts: &mut P, err: &mut E, reason: &LoadReason)
-    ensures { Tells (fault_text reason.now) (P.failed parts.old) (P.contents err.old)
+    ensures { WritesUntilFailure (fault_text reason.now) (P.failed parts.old) (P.contents err.old)
         (P.failed parts.new) (P.contents err.new) }
 {
     match reason {

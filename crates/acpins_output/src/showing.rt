@@ -8,13 +8,12 @@ ghost use Rattle.acpi_machine.specs.MachineView.{bodies_of, machine_of};
 ghost use Rattle.acpins_output.specs.Shown.{reason_text, IsBodyText, ShowsOrNone, ShowsLoaded};
 
 use crate::listing::links_of;
-use crate::output::put;
 use acpi_body::{Body, BodyFault};
 use acpi_load::{LoadFault, Machine, explain_shared, load_with_body_at};
 use acpi_name::Path;
 use acpi_space::Space;
 use acpi_terms::{Depth, Object};
-use acpi_text::{put_decimal, put_line, put_opaque, put_terms};
+use acpi_text::{put, put_decimal, put_line, put_opaque, put_terms};
 use bytes::Bytes;
 use std::alloc::{AllocError, Global};
 use std::collections::BTreeMap;

@@ -145,8 +145,8 @@ impl Parts {
         Ok(())
     }
 
-    /// Puts the parts of some data behind the others. An error is want of memory, and nothing is said of the parts
-    /// then.
+    /// Puts the parts of some data behind the others. Only an allocation failure is an error, and nothing is said of the
+    /// parts then.
     #[cycle(put_data)]
     pub(crate) fn put_data(&mut self, data: &Data) -> Result<(), AllocError>
         ensures { OnOk result (AddsParts (data_view «data».now) self.old self.new) }

@@ -1,10 +1,11 @@
 //! The tree of devices, as text.
 
+use crate::alike::Groups;
 use crate::folding::group_cells;
-use crate::rows::{Order, Row, alike_of, row_of};
 use crate::sheet::Sheet;
+use acpi_objects::ObjectKind;
 use acpi_overview::{Container, Overview};
-use acpins_survey_output::Declared;
+use acpi_overview_text::{Row, Rows};
 use std::alloc::{AllocError, Global};
 
 /// The columns of the tree.
@@ -33,75 +34,6 @@ fn columns_of(width: usize) -> Columns {
         status,
         has,
         resources: has + 9,
-    }
-}
-
-/// The rows of the tree, and which of them are alike.
-#[derive(Drop)]
-pub(crate) struct Rows {
-    /// By the number of a container, its row.
-    pub rows: Vec<Row>,
-    /// The order of siblings.
-    pub order: Order,
-    /// By the number of a container, the first of its siblings that are like it.
-    alike: Vec<usize>,
-    /// The first of siblings that are alike, the place in their order, and the number of each container, in this order.
-    groups: Vec<(usize, usize, usize)>,
-}
-
-fn groups_of(
-    alloc: Global,
-    order: &Order,
-    alike: &[usize],
-) -> Result<Vec<(usize, usize, usize)>, AllocError> {
-    let mut groups = Vec::new(alloc);
-    let mut place = 0usize;
-    for number in order.numbers() {
-        if let Some(first) = alike.get(number.2) {
-            groups.push((*first, place, number.2))?;
-        }
-        place = place.saturating_add(1);
-    }
-    groups.sort_unstable();
-    Ok(groups)
-}
-
-impl Rows {
-    /// The rows of the containers of an overview.
-    pub(crate) fn new(alloc: Global, overview: &Overview<'_>) -> Result<Rows, AllocError> {
-        let containers = &overview.tree.containers;
-        let mut rows = Vec::new(alloc);
-        for number in 0..containers.len() {
-            rows.push(row_of(alloc, overview, &containers[number], number)?)?;
-        }
-        let order = Order::new(alloc, containers)?;
-        let alike = alike_of(alloc, overview, &order, &rows)?;
-        let groups = groups_of(alloc, &order, &alike)?;
-        Ok(Rows {
-            rows,
-            order,
-            alike,
-            groups,
-        })
-    }
-
-    // Those that are like the first of them.
-    fn group_of(&self, first: usize) -> &[(usize, usize, usize)] {
-        let from = self.groups.partition_point(|g| g.0 < first);
-        let to = self.groups.partition_point(|g| g.0 <= first);
-        if from <= to {
-            &self.groups[from..to]
-        } else {
-            &[]
-        }
-    }
-
-    /// The first of the siblings that are like a container.
-    pub(crate) fn first_of(&self, number: usize) -> usize {
-        match self.alike.get(number) {
-            Some(first) => *first,
-            None => number,
-        }
     }
 }
 
@@ -204,27 +136,11 @@ fn put_row(
 
 // Whether a container is shown: a scope is only where something stands in it.
 fn is_shown(rows: &Rows, container: &Container<'_>, number: usize) -> bool {
-    match container.object.declared {
-        Declared::Root => false,
-        Declared::Scope => !rows.order.below(number).is_empty(),
+    match container.object.kind {
+        ObjectKind::Root => false,
+        ObjectKind::Scope => !rows.order.below(number).is_empty(),
         _ => true,
     }
-}
-
-/// The containers that are like the first of them.
-fn members<'a, 'b>(
-    alloc: Global,
-    overview: &'b Overview<'a>,
-    rows: &Rows,
-    first: usize,
-) -> Result<Vec<&'b Container<'a>>, AllocError> {
-    let mut found = Vec::new(alloc);
-    for (_, _, number) in rows.group_of(first) {
-        if let Some(container) = overview.tree.containers.get(*number) {
-            found.push(container)?;
-        }
-    }
-    Ok(found)
 }
 
 // Puts those below a container on the stack, the first on top.
@@ -257,9 +173,10 @@ pub(crate) fn put_devices(
     alloc: Global,
     sheet: &mut Sheet,
     overview: &Overview<'_>,
-    rows: &Rows,
     is_verbose: bool,
 ) -> Result<(), AllocError> {
+    let rows = &Rows::new(alloc, overview)?;
+    let groups = Groups::new(alloc, overview, rows)?;
     let at = columns_of(sheet.width());
     put_head(sheet, at)?;
     let containers = &overview.tree.containers;
@@ -272,7 +189,7 @@ pub(crate) fn put_devices(
         let (Some(container), Some(row)) = (containers.get(number), rows.rows.get(number)) else {
             return Ok(());
         };
-        let is_folded = !is_verbose && rows.first_of(number) != number;
+        let is_folded = !is_verbose && groups.first_of(number) != number;
         if is_folded {
             continue;
         }
@@ -280,7 +197,7 @@ pub(crate) fn put_devices(
             if is_verbose {
                 put_row(alloc, sheet, row, &[], at, true)?;
             } else {
-                let alike = members(alloc, overview, rows, number)?;
+                let alike = groups.containers(alloc, overview, number)?;
                 put_row(alloc, sheet, row, &alike, at, false)?;
             }
         }

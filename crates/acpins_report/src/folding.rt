@@ -1,7 +1,7 @@
 //! Siblings that are alike, in one row.
 
-use crate::words::{put_hex, put_last};
 use acpi_overview::{Address, Container, Value, last_segment};
+use acpi_overview_text::{put_hex, put_last};
 use acpi_text::{put, put_decimal};
 use std::alloc::{AllocError, Global};
 

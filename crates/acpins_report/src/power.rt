@@ -1,16 +1,16 @@
 //! Power resources and thermal zones, as text.
 
 use crate::sheet::Sheet;
-use crate::words::{put_short_path, put_short_segment};
+use acpi_objects::ObjectKind;
 use acpi_overview::{Container, Object, Overview, Value, is_directly_in};
+use acpi_overview_text::{put_short_path, put_short_segment};
 use acpi_text::{put, put_decimal};
-use acpins_survey_output::Declared;
 use std::alloc::{AllocError, Global};
 
 fn is_power(container: &Container<'_>) -> bool {
     matches!(
-        container.object.declared,
-        Declared::Power { .. } | Declared::Thermal
+        container.object.kind,
+        ObjectKind::Power { .. } | ObjectKind::Thermal
     )
 }
 
@@ -70,7 +70,7 @@ fn put_member(sheet: &mut Sheet, object: &Object<'_>) -> Result<(), AllocError> 
     };
     let mut word = Vec::new(*sheet.line.allocator());
     put_short_segment(&mut word, *segment)?;
-    match Value::of_declared(object.declared, object.code) {
+    match Value::of_object(object.kind, object.code) {
         Value::Number(number) => {
             put(&mut word, " ")?;
             put_decimal(&mut word, number)?;
@@ -98,7 +98,7 @@ fn put_power(
     sheet.put("  ")?;
     put_short_path(&mut sheet.line, container.object.path)?;
     sheet.tab(24)?;
-    if let Declared::Power { level, order } = container.object.declared {
+    if let ObjectKind::Power { level, order } = container.object.kind {
         sheet.put("level ")?;
         put_decimal(&mut sheet.line, u64::from(level))?;
         sheet.put(" order ")?;

@@ -1,16 +1,14 @@
 //! The report: the overview of a machine as text.
 
-use crate::devices::{Rows, put_devices};
-use crate::heads::{put_first, put_table, put_totals};
-use crate::lint_words::{put_lint, put_site, site_of};
+use crate::devices::put_devices;
 use crate::power::put_powers;
-use crate::region_words::{
-    by_address, mark_of, put_addresses, put_length, put_origin, put_region_path, put_units,
-    space_word,
-};
 use crate::sheet::{Sheet, Style};
-use crate::words::{put_count, put_counted, put_short_path};
 use acpi_overview::{OSPM_KINDS, Object, OspmKind, OspmMethod, Overview, overview_of};
+use acpi_overview_text::{
+    by_address, mark_of, put_addresses, put_count, put_counted, put_first, put_length, put_lint,
+    put_origin, put_region_path, put_short_path, put_site, put_table, put_totals, put_units,
+    site_of, space_word,
+};
 use acpi_survey::Survey;
 use acpi_text::{put, put_decimal};
 use acpins_survey_output::{put_condition, put_note, put_problem};
@@ -23,11 +21,11 @@ pub struct ReportOptions {
     pub width: usize,
     /// Whether lines have colours, by the codes of terminals.
     pub is_coloured: bool,
-    /// Whether siblings that are alike have a line each, and long lists are told whole.
+    /// Whether siblings that are alike have a line each, and long lists are shown whole.
     pub is_verbose: bool,
 }
 
-/// The most lines of a list that isn't told whole.
+/// The most lines of a list that isn't shown whole.
 const SHORT_LIST: usize = 24;
 
 // ---- tables, problems and notes
@@ -128,7 +126,7 @@ fn put_conditions(
     }
     sheet.end()?;
     sheet.head("CONDITIONAL  (? before all that has to be so)")?;
-    let mut told = 0usize;
+    let mut shown = 0usize;
     let mut inside = 0usize;
     let mut more = 0usize;
     for place in 0..overview.objects.len() {
@@ -138,10 +136,10 @@ fn put_conditions(
         }
         if !is_verbose && is_inside_conditional(overview, place) {
             inside = inside.saturating_add(1);
-        } else if !is_verbose && told >= SHORT_LIST {
+        } else if !is_verbose && shown >= SHORT_LIST {
             more = more.saturating_add(1);
         } else {
-            told = told.saturating_add(1);
+            shown = shown.saturating_add(1);
             put_conditional(sheet, overview, object)?;
         }
     }
@@ -332,12 +330,12 @@ fn put_lints(
     }
     sheet.end()?;
     sheet.head("LOOKS WRONG  (nothing is lost by these)")?;
-    let mut told = 0usize;
+    let mut shown = 0usize;
     for lint in &overview.lints {
-        if !is_verbose && told >= SHORT_LIST {
+        if !is_verbose && shown >= SHORT_LIST {
             break;
         }
-        told = told.saturating_add(1);
+        shown = shown.saturating_add(1);
         sheet.put("  ")?;
         if let Some(site) = site_of(overview, lint) {
             put_site(&mut sheet.line, site)?;
@@ -346,7 +344,7 @@ fn put_lints(
         put_lint(&mut sheet.line, overview, lint)?;
         sheet.end_as(Style::Odd)?;
     }
-    put_more(sheet, overview.lints.len().saturating_sub(told))
+    put_more(sheet, overview.lints.len().saturating_sub(shown))
 }
 
 /// The report of the tables of a survey, of which these are the names of the files: problems and notes, what has a
@@ -366,9 +364,8 @@ pub fn report(
     put_notes(&mut sheet, &overview)?;
     put_conditions(&mut sheet, &overview, options.is_verbose)?;
     put_ospm_methods(alloc, &mut sheet, &overview, options.is_verbose)?;
-    let rows = Rows::new(alloc, &overview)?;
     sheet.end()?;
-    put_devices(alloc, &mut sheet, &overview, &rows, options.is_verbose)?;
+    put_devices(alloc, &mut sheet, &overview, options.is_verbose)?;
     put_powers(alloc, &mut sheet, &overview)?;
     put_regions(alloc, &mut sheet, &overview)?;
     put_lints(&mut sheet, &overview, options.is_verbose)?;

@@ -1,5 +1,5 @@
 -- What `rewrite` puts into its file (docs/COMMAND.md).
-use Rattle.std.specs.Prelude.{◌≡◌, ℕ, Bool, true, false, List, [], ◌∷◌, ◌++◌, Option, IfSome, Some}
+use Rattle.std.specs.Prelude.{◌≡◌, ℕ, Bool, true, false, List, [], ◌∷◌, ◌++◌}
 use Rattle.std.specs.List.{flat_map}
 use Rattle.acpi_rewrite.specs.Rewriting.{AreTablesOfBytes, AreRewritten}
 use Rattle.acpins_run.specs.declared.failure.Failure.{Failure}
@@ -28,7 +28,3 @@ abbrev pub IsUnwritten : List ℕ → Failure → Type 0
 IsUnwritten name (Out word) = word.now ≡ name
 IsUnwritten name Memory = Unit {0}
 IsUnwritten name _ = ⊥
-
--- where it is known what was written to a file before, it holds these bytes now
-abbrev pub Holds : Option (List ℕ) → Option (List ℕ) → List ℕ → Type 0
-Holds old new bytes = IfSome old (λ _. new ≡ Some bytes)

@@ -14,8 +14,9 @@ use Rattle.acpins_run.specs.Input.{FileBytes, AreTablesOf, IsFilesFault, IsLoadO
 use Rattle.acpins_output.specs.Listings.{Prints}
 use Rattle.acpins_output.specs.Shown.{Shows}
 use Rattle.acpins_output.specs.Checked.{Checks}
-use Rattle.acpins_io.specs.Told.{AppendsBeginning}
-use Rattle.acpins_run.specs.Rewritten.{file_text, IsUnwritten, Holds}
+use Rattle.acpins_io.specs.PartsWritten.{AppendsBeginning}
+use Rattle.acpins_io.specs.FilesWritten.{Holds}
+use Rattle.acpins_run.specs.Rewritten.{file_text, IsUnwritten}
 use Rattle.acpins_run.specs.Failures.{failure_of, status_of}
 use Rattle.acpins_run.specs.FailureLines.{failure_line}
 

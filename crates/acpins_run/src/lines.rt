@@ -1,7 +1,7 @@
 //! The line that says why a run failed.
 
 ghost use Rattle.std.specs.Prelude.{◌≡◌, ◌++◌, codes, decimal};
-ghost use Rattle.acpins_io.specs.Told.{Tells};
+ghost use Rattle.acpins_io.specs.PartsWritten.{WritesUntilFailure};
 ghost use Rattle.acpins_output.specs.FaultTexts.{item_reason_text, load_reason_text};
 ghost use Rattle.acpins_run.specs.FailureLines.{failure_text, failure_line};
 
@@ -11,8 +11,8 @@ use acpins_output::{put_item, put_load_reason};
 
 // A table's number, before what fails in it.
 fn put_table<E, P: PartWriter<E>>(parts: &mut P, err: &mut E, number: usize)
-    ensures { Tells (codes "table " ++ decimal number ++ codes ": ") (P.failed parts.old)
-        (P.contents err.old) (P.failed parts.new) (P.contents err.new) }
+    ensures { WritesUntilFailure (codes "table " ++ decimal number ++ codes ": ")
+        (P.failed parts.old) (P.contents err.old) (P.failed parts.new) (P.contents err.new) }
 {
     put_text(parts, err, "table ");
     put_number(parts, err, number);
@@ -20,8 +20,8 @@ fn put_table<E, P: PartWriter<E>>(parts: &mut P, err: &mut E, number: usize)
 }
 
 fn put_failure<E, P: PartWriter<E>>(parts: &mut P, err: &mut E, failure: &Failure<'_>)
-    ensures { Tells (failure_text failure.now) (P.failed parts.old) (P.contents err.old)
-        (P.failed parts.new) (P.contents err.new) }
+    ensures { WritesUntilFailure (failure_text failure.now) (P.failed parts.old)
+        (P.contents err.old) (P.failed parts.new) (P.contents err.new) }
 {
     match failure {
         Failure::WrongWords => put_text(parts, err, "wrong words"),
@@ -59,8 +59,8 @@ fn put_failure<E, P: PartWriter<E>>(parts: &mut P, err: &mut E, failure: &Failur
 
 /// Writes the line that says why a run failed. It takes no memory.
 pub fn put_line<E, P: PartWriter<E>>(parts: &mut P, err: &mut E, failure: &Failure<'_>)
-    ensures { Tells (failure_line failure.now) (P.failed parts.old) (P.contents err.old)
-        (P.failed parts.new) (P.contents err.new) }
+    ensures { WritesUntilFailure (failure_line failure.now) (P.failed parts.old)
+        (P.contents err.old) (P.failed parts.new) (P.contents err.new) }
 {
     put_text(parts, err, "acpins: ");
     put_failure(parts, err, failure);

@@ -6,7 +6,7 @@ ghost use Rattle.std.specs.Io.KnownBytes.{Appends};
 ghost use Rattle.acpins_run.specs.declared.failure.Failure.{Failure};
 ghost use Rattle.acpins_run.specs.Failures.{status_of};
 ghost use Rattle.acpins_run.specs.FailureLines.{failure_line};
-ghost use Rattle.acpins_io.specs.Told.{AppendsBeginning, Tells};
+ghost use Rattle.acpins_io.specs.PartsWritten.{AppendsBeginning, WritesUntilFailure};
 ghost use Rattle.acpins_words.specs.Words.{texts, listing, showing, checking, rewriting, asked_in, asked_of};
 ghost use Rattle.acpins_run.specs.Input.{files_of, AreTablesOf, IsFilesFault};
 ghost use Rattle.acpins_run.specs.Runs.{IsListing, IsShowing, IsChecking, IsRewriting, IsWrong, IsOutput, GetsOutput, GetsBeginning, IsFailureOf, IsRunFailure, IsStored, StoresOutput, LeavesFiles, FailsWith};
@@ -228,8 +228,8 @@ fn print_output<'a, F: Files, O: Write>(
 /// Says why a run failed, as far as it can be said, and answers the status.
 pub fn report_failure<E, P: PartWriter<E>>(failure: &Failure<'_>, err: &mut E, parts: &mut P) -> u8
     ensures status { result ≡ status_of failure.now }
-    ensures line { Tells (failure_line failure.now) (P.failed parts.old) (P.contents err.old)
-        (P.failed parts.new) (P.contents err.new) }
+    ensures line { WritesUntilFailure (failure_line failure.now) (P.failed parts.old)
+        (P.contents err.old) (P.failed parts.new) (P.contents err.new) }
 {
     put_line(parts, err, failure);
     failure.status()
@@ -250,11 +250,10 @@ pub fn run_telling<'a, F: Files, O: Write, E, P: PartWriter<E>>(
     ensures stored { result ≢ 1 → result ≢ 2 → StoresOutput (F.bytes_of files.old)
         (texts words.now) (F.written_to files.old) (F.written_to files.new) }
     // The failure's line is said whole, unless a write of it failed.
-    ensures failed { 1 ≤ result → result ≤ 2 → FailsWith (F.bytes_of files.old)
-        (texts words.now) result (O.contents out.old) (O.contents out.new)
-        (F.written_to files.old) (F.written_to files.new)
-        (λ line. Tells line (P.failed parts.old) (P.contents err.old) (P.failed parts.new)
-        (P.contents err.new)) }
+    ensures failed { 1 ≤ result → result ≤ 2 → FailsWith (F.bytes_of files.old) (texts words.now)
+        result (O.contents out.old) (O.contents out.new) (F.written_to files.old)
+        (F.written_to files.new) (λ line. WritesUntilFailure line (P.failed parts.old)
+        (P.contents err.old) (P.failed parts.new) (P.contents err.new)) }
     ensures statuses { result ≤ 3 }
 {
     match print_output(alloc, words, files, out) {

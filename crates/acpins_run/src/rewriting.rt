@@ -3,16 +3,16 @@
 ghost use Rattle.std.specs.Prelude.{◌≡◌, ◌≢◌, ◌∷◌, ◌++◌, ℕ, List, IfErr, IfOk, OnOk, OnErr, map};
 ghost use Rattle.acpi_declare.specs.Loads.{HasNoLoad};
 ghost use Rattle.acpi_declare.specs.Refusals.{IsLoadFault};
-ghost use Rattle.acpins_run.specs.Rewritten.{file_text, table_text, IsFileOf, IsUnwritten, Holds};
+ghost use Rattle.acpins_run.specs.Rewritten.{file_text, table_text, IsFileOf, IsUnwritten};
+ghost use Rattle.acpins_io.specs.FilesWritten.{Holds};
 
 use crate::failure::Failure;
 use acpi_load::{LoadFault, rewrite_shared};
 use acpi_space::Space;
 use acpi_terms::{Depth, Object};
-use acpins_io::{FileFault, Files};
+use acpins_io::{FileFault, Files, write_file};
 use bytes::Bytes;
 use std::alloc::{AllocError, Global};
-use std::io::Write;
 
 // Puts a table behind the text: its bytes, or a line of their lower-case hexadecimal digits.
 fn put_table(alloc: Global, text: &mut Vec<u8>, hex: bool, table: &[u8]) -> Result<(), AllocError>
@@ -74,16 +74,7 @@ pub fn put_file<'a, F: Files>(files: &mut F, name: &'a str, bytes: &[u8]) -> Res
     ensures err { IfErr result (IsUnwritten name.now) }
     ensures left { OnErr result (F.written_to files.new ≡ F.written_to files.old) }
 {
-    let mut file = match files.create(name) {
-        Ok(file) => file,
-        Err(fault) => return Err(write_failure(name, fault)),
-    };
-    let written = file.write_all(bytes).is_ok() && file.flush().is_ok();
-    if !written {
-        files.abandon(file);
-        return Err(Failure::Out(name));
-    }
-    match files.close(file) {
+    match write_file(files, name, bytes) {
         Ok(()) => Ok(()),
         Err(fault) => Err(write_failure(name, fault)),
     }

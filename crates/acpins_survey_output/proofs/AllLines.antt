@@ -1,33 +1,15 @@
--- What entries declare, and the text of all of them.
-use Rattle.std.proofs.Common.{◌≡◌, ◌∙◌, ℕ, List, [], ◌++◌, Option, Some, None, is_some, unwrap_or, map, true≢false, ap, sym}
-use Rattle.std.specs.Option.{option_and_then, option_map}
+-- The text of all entries.
+use Rattle.std.proofs.Common.{◌≡◌, ◌∙◌, ℕ, List, [], ◌++◌, map, ap, sym}
 use Rattle.std.specs.Borrow.{Bor}
 use Rattle.std.specs.List.{flat_map}
 use Rattle.acpi_conditions.specs.Entries.{Path}
-use Rattle.acpi_tree.specs.Objects.{predefined_object}
-use Rattle.acpi_survey.specs.Lookup.{Found}
 use Rattle.acpi_survey.specs.declared.machine_survey.Survey.{Survey}
 use Rattle.acpi_survey.specs.declared.notes.Note.{Note}
 use Rattle.acpi_survey.specs.declared.problems.Problem.{Problem}
-use Rattle.acpins_survey_output.specs.Declaring.{object_in, predefined}
 use Rattle.acpins_survey_output.specs.Found.{found_text}
 use Rattle.acpi_conditions.specs.ByPath.{lent_pair}
-use Rattle.acpins_survey_output.specs.Listings.{numbered_line, object_of}
-use Rattle.acpins_survey_output.specs.Objects.{ObjectParts, constant}
+use Rattle.acpins_survey_output.specs.Listings.{numbered_line}
 use Rattle.acpins_survey_output.proofs.Separating.{flat_mapped}
-
--- what a part declares that is found by number, or that of an object of a kind that isn't known
-pub declared_said : (p f : Option Found) (o : Option ObjectParts) (n : ℕ) → Some f ≡ option_map Some p → o ≡ option_and_then object_in f
-    → unwrap_or o (constant predefined_object) ≡ object_of p n
-declared_said None f o n found said = absurd (true≢false (ap is_some found))
-declared_said (Some part) f o n found said =
-    let same : f ≡ Some part = ap (λ x. unwrap_or x None) found in
-    ap (λ x. unwrap_or x (constant predefined_object)) (said ∙ ap (option_and_then object_in) same)
-
--- without a part
-pub predefined_said : (p : Option Found) (o : ObjectParts) (n : ℕ) → None ≡ option_map Some p → o ≡ predefined n → o ≡ object_of p n
-predefined_said None o n found said = said
-predefined_said (Some part) o n found said = absurd (true≢false (sym (ap is_some found)))
 
 -- a line for each entry, and those of problems and notes behind
 pub listed : (s : Survey) (order lent : List (Bor Path × ℕ)) (ps : List Problem) (ns : List Note) (start mid new : List ℕ) → start ≡ [] → lent ≡ order

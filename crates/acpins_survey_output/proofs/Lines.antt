@@ -4,7 +4,7 @@ use Rattle.acpi_conditions.specs.Entries.{Path}
 use Rattle.acpi_survey.specs.Condition.{PlacedParts}
 use Rattle.acpi_survey.specs.EntryLinks.{LinkParts}
 use Rattle.acpins_survey_output.specs.Entries.{entry_line}
-use Rattle.acpins_survey_output.specs.Objects.{ObjectParts}
+use Rattle.acpi_objects.specs.Objects.{ObjectParts}
 
 pub entry_put : {T E : Type 0} (r : Result T E) (old new : List ℕ) (p : Path) (o o' : ObjectParts) (ls ls' : List LinkParts) (cs cs' : List PlacedParts)
     → o ≡ o' → ls ≡ ls' → cs ≡ cs' → OnOk r (new ≡ old ++ entry_line p o ls cs) → OnOk r (new ≡ old ++ entry_line p o' ls' cs')

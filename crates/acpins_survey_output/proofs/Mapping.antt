@@ -3,7 +3,7 @@ use Rattle.std.proofs.Common.{◌≡◌, ◌∙◌, ℕ, suc, ◌+◌, ◌≤◌
 use Rattle.std.proofs.lemmas.List.{drop_all}
 use Rattle.acpi_outline.specs.View.{nodes_view}
 use Rattle.acpi_text.proofs.Pieces.{next_said}
-use Rattle.acpi_survey.specs.Found.{entered_in, refusals_in}
+use Rattle.acpi_survey.specs.Findings.{entered_in, refusals_in}
 use Rattle.acpi_survey.specs.Problems.{Refusals}
 use Rattle.acpi_survey.specs.Ranges.{Entered}
 use Rattle.acpi_survey.specs.declared.index.PlaceIndex.{PlaceIndex}

@@ -6,7 +6,8 @@ use Rattle.acpi_survey.specs.EntryLinks.{LinkParts}
 use Rattle.acpi_survey.specs.Condition.{PlacedParts}
 use Rattle.acpins_survey_output.specs.Conditions.{condition_text}
 use Rattle.acpins_survey_output.specs.Links.{sourced_text}
-use Rattle.acpins_survey_output.specs.Objects.{ObjectParts, parts_text, source_of}
+use Rattle.acpi_objects.specs.Objects.{ObjectParts}
+use Rattle.acpins_survey_output.specs.Objects.{parts_text, source_of}
 
 -- the path, what the entry declares, the links, and the condition where there is one
 abbrev pub entry_line : List Segment → ObjectParts → List LinkParts → List PlacedParts → List ℕ

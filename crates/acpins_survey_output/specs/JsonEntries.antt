@@ -8,11 +8,12 @@ use Rattle.acpi_survey.specs.EntryLinks.{LinkParts}
 use Rattle.acpi_survey.specs.EntryParts.{byte_at, site_of}
 use Rattle.acpi_survey.specs.Lookup.{Found, node_found, element_found}
 use Rattle.acpi_survey.specs.declared.machine_survey.Survey.{Survey}
+use Rattle.acpi_objects.specs.Declaring.{object_of}
 use Rattle.acpins_survey_output.specs.Json.{Value, null, boolean, string, array, object, Members, no_members, member, values_of}
 use Rattle.acpins_survey_output.specs.JsonFound.{site_members}
-use Rattle.acpins_survey_output.specs.JsonObjects.{declared_members}
+use Rattle.acpins_survey_output.specs.JsonObjects.{kind_members}
 use Rattle.acpins_survey_output.specs.JsonValues.{name_value, number_value, path_value, paths_value, printed_term, value_or_null}
-use Rattle.acpins_survey_output.specs.Listings.{condition_of, entries_of, links_of, object_of, part_of}
+use Rattle.acpins_survey_output.specs.Listings.{condition_of, entries_of, links_of, part_of}
 
 -- ---- links and conditions
 
@@ -61,7 +62,7 @@ place_of s n = option_map (λ (e : Entry). e.term.place) (slice_get (entries_of 
 -- the entry of that number, which has that path
 abbrev pub entry_value : Survey → Path → ℕ → Value
 entry_value s p n =
-    object (member (codes "path") (path_value p) (declared_members (object_of (part_of s n) n)
+    object (member (codes "path") (path_value p) (kind_members (object_of (part_of s n) n)
     (member (codes "links") (array (values_of link_value (links_of s n)))
     (member (codes "condition") (array (values_of literal_value (condition_of s n)))
     (term_members (part_of s n) (place_of s n))))))

@@ -8,7 +8,7 @@ use Rattle.acpi_tree.specs.Objects.{ObjectTree, root_object, scope_object, prede
 use Rattle.acpi_tree.specs.Terms.{TermTree}
 use Rattle.acpins_survey_output.specs.Json.{Value, boolean, string, object, Members, no_members, member}
 use Rattle.acpins_survey_output.specs.JsonValues.{number_value, term_value, value_or_null}
-use Rattle.acpins_survey_output.specs.Objects.{ObjectParts, constant, named, region, table_region, alias, bank_unit, create, create_bits}
+use Rattle.acpi_objects.specs.Objects.{ObjectParts, constant, named, region, table_region, alias, bank_unit, create, create_bits}
 
 -- ---- kinds
 
@@ -116,6 +116,6 @@ abbrev pub fields_value : ObjectParts → Value
 fields_value o = object (object_members o)
 
 -- the kind, and what is known of the object, before other members
-abbrev pub declared_members : ObjectParts → Members → Members
-declared_members o ms =
+abbrev pub kind_members : ObjectParts → Members → Members
+kind_members o ms =
     member (codes "kind") (string (kind_of o)) (member (codes "fields") (fields_value o) ms)

@@ -3,8 +3,6 @@ pub mod Found
 pub mod Links
 pub mod Conditions
 pub mod Objects
-pub mod ObjectViews
-pub mod Declaring
 pub mod Entries
 pub mod Bodies
 pub mod Listings

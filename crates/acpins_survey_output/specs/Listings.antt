@@ -2,7 +2,6 @@
 use Rattle.std.specs.Prelude.{◌≡◌, ℕ, List, [], ◌++◌, Option, Some, None, map, slice_get, unwrap_or}
 use Rattle.std.specs.Option.{option_map}
 use Rattle.std.specs.List.{flat_map}
-use Rattle.acpi_tree.specs.Objects.{predefined_object}
 use Rattle.acpi_conditions.specs.ByPath.{AreByPath}
 use Rattle.acpi_conditions.specs.Entries.{Path, Entry}
 use Rattle.acpi_survey.specs.Condition.{condition, PlacedParts}
@@ -10,10 +9,9 @@ use Rattle.acpi_survey.specs.EntryLinks.{LinkParts, links_of_part}
 use Rattle.acpi_survey.specs.EntryParts.{part_declaring}
 use Rattle.acpi_survey.specs.Lookup.{Found}
 use Rattle.acpi_survey.specs.declared.machine_survey.Survey.{Survey}
-use Rattle.acpins_survey_output.specs.Declaring.{object_in, predefined}
+use Rattle.acpi_objects.specs.Declaring.{object_of}
 use Rattle.acpins_survey_output.specs.Entries.{entry_line}
 use Rattle.acpins_survey_output.specs.Found.{found_text}
-use Rattle.acpins_survey_output.specs.Objects.{ObjectParts, constant}
 
 -- ---- one entry, by its number
 
@@ -22,11 +20,6 @@ entries_of s = s.reading.walk.entries
 
 abbrev pub part_of : Survey → ℕ → Option Found
 part_of s n = part_declaring s.tables.items (entries_of s) n
-
--- what the part declares; without a part the predefined object of that number
-abbrev pub object_of : Option Found → ℕ → ObjectParts
-object_of None n = predefined n
-object_of (Some part) n = unwrap_or (object_in part) (constant predefined_object)
 
 abbrev pub links_of : Survey → ℕ → List LinkParts
 links_of s n =

@@ -10,7 +10,7 @@ use Rattle.acpi_outline.specs.declared.form.PackedForm.TheVariants as forms
 use Rattle.acpi_outline.specs.Nodes.{PlainTree, term, external, FixedTree, scope, if_so, otherwise, while_so, NodeTree, plain, holds, holds_fields, closed, package_lost, data_lost, name_lost, NodeTrees}
 use Rattle.acpi_outline.specs.View.{nodes_view}
 use Rattle.acpi_conditions.specs.Entries.{Path, Why}
-use Rattle.acpi_survey.specs.Found.{entered_in, refusals_in}
+use Rattle.acpi_survey.specs.Findings.{entered_in, refusals_in}
 use Rattle.acpi_survey.specs.NestedRanges.{NestedRange, nested_nodes}
 use Rattle.acpi_survey.specs.Problems.{Refusals, bytes_from, offset_of, range_lost, unsure_name}
 use Rattle.acpi_survey.specs.Ranges.{Entered, range}

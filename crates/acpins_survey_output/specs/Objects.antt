@@ -1,23 +1,10 @@
--- What terms declare, and its text (ACPI 6.5, 5.3 and 20.2.5.2).
-use Rattle.std.specs.Prelude.{ℕ, List, [], ◌∷◌, ◌++◌, Option, Some, None, codes, decimal}
-use Rattle.acpi_tree.specs.declared.tree.Width.{Width}
-use Rattle.acpi_tree.specs.Objects.{ObjectTree}
+-- The text of objects (ACPI 6.5, 5.3 and 20.2.5.2).
+use Rattle.std.specs.Prelude.{ℕ, List, ◌++◌, Option, Some, None, codes, decimal}
 use Rattle.acpi_tree.specs.Terms.{TermTree}
 use Rattle.acpi_text.specs.Constants.{hex_digits}
 use Rattle.acpi_text.specs.Objects.{object_text, width_text}
 use Rattle.acpi_text.specs.Terms.{term_text}
-
--- An object that has no terms; a name with its data, which may be lost; an operation region; a region of the bytes of a
--- table; another name; an element of a BankField; and Create fields, whose source is None where it is a name.
-pub data ObjectParts : Type 0 where
-  constant : ObjectTree → ObjectParts
-  named : Option TermTree → ObjectParts
-  region : (space : ℕ) → (offset length : TermTree) → ObjectParts
-  table_region : (signature oem_id oem_table_id : TermTree) → ObjectParts
-  alias : ObjectParts
-  bank_unit : (value : TermTree) → (flags offset bits : ℕ) → ObjectParts
-  create : Width → Option TermTree → (index : TermTree) → ObjectParts
-  create_bits : Option TermTree → (index bits : TermTree) → ObjectParts
+use Rattle.acpi_objects.specs.Objects.{ObjectParts, constant, named, region, table_region, alias, bank_unit, create, create_bits}
 
 -- the data of a name
 abbrev pub named_text : Option TermTree → List ℕ

@@ -12,15 +12,15 @@ ghost use Rattle.acpins_survey_output.specs.JsonEntries.{entry_value, link_value
 ghost use Rattle.acpins_survey_output.specs.JsonValues.{name_value, path_value};
 ghost use Rattle.acpins_survey_output.specs.Listings.{condition_of, links_of, part_of};
 
-use crate::entries::declared_in;
 use crate::json_found::put_site;
 use crate::json_members::{
     put_boolean_member, put_member, put_name_member, put_number_member, put_path_member,
     put_paths_member, put_some_term_member, put_word_member,
 };
-use crate::json_objects::put_declared;
+use crate::json_objects::put_object;
 use crate::json_values::{put_element_start, put_line_start, put_lines_end};
 use acpi_name::{Name, Path};
+use acpi_objects::object_kind;
 use acpi_survey::{Link, Literal, PlacedLiteral, Span, Survey, site_of};
 use acpi_text::put;
 use acpi_tree::Term;
@@ -205,9 +205,9 @@ fn put_entry(
         ≡ text.old.items ++ value_text (entry_value survey.now path.now number)) }
 {
     let part = survey.part_of(number);
-    let declared = declared_in(part, number);
+    let kind = object_kind(part, number);
     put_path_member(text, "{", "path", path)?;
-    put_declared(text, &declared)?;
+    put_object(text, &kind)?;
     put_lists(text, survey, number, part)?;
     put_term_place(text, survey, number, part)
 }

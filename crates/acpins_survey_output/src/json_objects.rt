@@ -1,21 +1,21 @@
-//! What terms declare, in JSON.
+//! Objects in JSON.
 
 ghost use Rattle.std.specs.Prelude.{◌≡◌, ◌++◌, OnOk, codes};
 ghost use Rattle.std.specs.Option.{option_map};
 ghost use Rattle.acpi_tree.specs.Objects.{mutex_object};
 ghost use Rattle.acpi_tree.specs.TermView.{term_view};
 ghost use Rattle.acpins_survey_output.specs.Json.{Members, member, more_members_text, no_members, object, value_text};
-ghost use Rattle.acpins_survey_output.specs.JsonObjects.{create_members, declared_members, fields_value, kind_of, method_members, power_members, processor_members, region_members, table_members, unit_members, width_kind};
+ghost use Rattle.acpins_survey_output.specs.JsonObjects.{create_members, kind_members, fields_value, kind_of, method_members, power_members, processor_members, region_members, table_members, unit_members, width_kind};
 ghost use Rattle.acpins_survey_output.specs.JsonValues.{term_value};
-ghost use Rattle.acpins_survey_output.specs.ObjectViews.{declared_view, lent_view, unit_view};
-ghost use Rattle.acpins_survey_output.specs.Objects.{constant, named};
+ghost use Rattle.acpi_objects.specs.Objects.{constant, named};
+ghost use Rattle.acpi_objects.specs.Views.{kind_view, lent_view, unit_view};
 ghost use Rattle.acpins_survey_output.specs.steps.JsonPuts.{PutsMembers};
 
 use crate::json_members::{
     put_boolean_member, put_member, put_number_member, put_some_value_member, put_value_member,
     put_word_member,
 };
-use crate::objects::{Declared, UnitForm};
+use acpi_objects::{ObjectKind, UnitForm};
 use acpi_text::put;
 use acpi_tree::{Term, Width};
 use std::alloc::AllocError;
@@ -44,27 +44,27 @@ fn unit_kind(form: UnitForm<'_>) -> &'static str
     }
 }
 
-fn declared_kind(declared: &Declared<'_>) -> &'static str
-    ensures { result.now ≡ kind_of (declared_view declared.now) }
+fn kind_word(kind: &ObjectKind<'_>) -> &'static str
+    ensures { result.now ≡ kind_of (kind_view kind.now) }
 {
-    match *declared {
-        Declared::Root => "root",
-        Declared::Scope => "scope",
-        Declared::Predefined => "predefined",
-        Declared::Device => "device",
-        Declared::Processor { .. } => "processor",
-        Declared::Power { .. } => "power_resource",
-        Declared::Thermal => "thermal_zone",
-        Declared::Name(_) => "name",
-        Declared::Method(_) => "method",
-        Declared::Region { .. } => "operation_region",
-        Declared::TableRegion { .. } => "data_table_region",
-        Declared::Mutex(_) => "mutex",
-        Declared::Event => "event",
-        Declared::Alias => "alias",
-        Declared::Field { form, .. } => unit_kind(form),
-        Declared::Create { width, .. } => create_kind(width),
-        Declared::CreateField { .. } => "create_field",
+    match *kind {
+        ObjectKind::Root => "root",
+        ObjectKind::Scope => "scope",
+        ObjectKind::Predefined => "predefined",
+        ObjectKind::Device => "device",
+        ObjectKind::Processor { .. } => "processor",
+        ObjectKind::Power { .. } => "power_resource",
+        ObjectKind::Thermal => "thermal_zone",
+        ObjectKind::Name(_) => "name",
+        ObjectKind::Method(_) => "method",
+        ObjectKind::Region { .. } => "operation_region",
+        ObjectKind::TableRegion { .. } => "data_table_region",
+        ObjectKind::Mutex(_) => "mutex",
+        ObjectKind::Event => "event",
+        ObjectKind::Alias => "alias",
+        ObjectKind::Field { form, .. } => unit_kind(form),
+        ObjectKind::Create { width, .. } => create_kind(width),
+        ObjectKind::CreateField { .. } => "create_field",
     }
 }
 
@@ -229,34 +229,34 @@ fn put_name(text: &mut Vec<u8>, value: Option<&Term>) -> Result<(), AllocError>
 }
 
 // What is known of an object.
-fn put_fields(text: &mut Vec<u8>, declared: &Declared<'_>) -> Result<(), AllocError>
+fn put_fields(text: &mut Vec<u8>, kind: &ObjectKind<'_>) -> Result<(), AllocError>
     ensures { OnOk result (text.new.items ≡ text.old.items
-        ++ value_text (fields_value (declared_view declared.now))) }
+        ++ value_text (fields_value (kind_view kind.now))) }
 {
-    match *declared {
-        Declared::Processor { id, block, length } => put_processor(text, id, block, length),
-        Declared::Power { level, order } => put_power(text, level, order),
-        Declared::Name(value) => put_name(text, value),
-        Declared::Method(flags) => put_method(text, flags),
-        Declared::Region {
+    match *kind {
+        ObjectKind::Processor { id, block, length } => put_processor(text, id, block, length),
+        ObjectKind::Power { level, order } => put_power(text, level, order),
+        ObjectKind::Name(value) => put_name(text, value),
+        ObjectKind::Method(flags) => put_method(text, flags),
+        ObjectKind::Region {
             space,
             offset,
             length,
         } => put_region(text, space, offset, length),
-        Declared::TableRegion {
+        ObjectKind::TableRegion {
             signature,
             oem_id,
             oem_table_id,
         } => put_table_region(text, signature, oem_id, oem_table_id),
-        Declared::Mutex(flags) => put_mutex(text, flags),
-        Declared::Field {
+        ObjectKind::Mutex(flags) => put_mutex(text, flags),
+        ObjectKind::Field {
             form,
             flags,
             offset,
             bits,
         } => put_field(text, form, flags, offset, bits),
-        Declared::Create { source, index, .. } => put_create_fixed(text, source, index),
-        Declared::CreateField {
+        ObjectKind::Create { source, index, .. } => put_create_fixed(text, source, index),
+        ObjectKind::CreateField {
             source,
             index,
             bits,
@@ -265,12 +265,12 @@ fn put_fields(text: &mut Vec<u8>, declared: &Declared<'_>) -> Result<(), AllocEr
     }
 }
 
-/// Puts the members that say what a term declares, behind others.
-pub(crate) fn put_declared(text: &mut Vec<u8>, declared: &Declared<'_>) -> Result<(), AllocError>
-    ensures { OnOk result (PutsMembers (declared_members (declared_view declared.now))
+/// Puts the members that say what an object is, behind others.
+pub(crate) fn put_object(text: &mut Vec<u8>, kind: &ObjectKind<'_>) -> Result<(), AllocError>
+    ensures { OnOk result (PutsMembers (kind_members (kind_view kind.now))
         text.old.items text.new.items) }
 {
-    put_word_member(text, ",", "kind", declared_kind(declared))?;
+    put_word_member(text, ",", "kind", kind_word(kind))?;
     put_member(text, ",", "fields")?;
-    put_fields(text, declared)
+    put_fields(text, kind)
 }

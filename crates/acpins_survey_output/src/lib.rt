@@ -9,7 +9,7 @@
 //!        ── json ────► all of it, for programs
 //! ```
 //!
-//! Nothing here opens a file or reads an argument. An error is want of memory.
+//! Nothing here opens a file or reads an argument. Only an allocation failure is an error.
 #![tactic(auto)]
 
 mod condition;
@@ -38,7 +38,7 @@ pub use json_frame::json;
 pub use links::{put_link, put_links};
 pub use listing::{has_problem, list};
 pub use method_lines::bodies;
-pub use objects::{Declared, UnitForm, declared_by, predefined, put_declared};
+pub use objects::put_kind;
 pub use ranges::map;
 pub use reasons::{put_note_reason, put_problem_reason};
 pub use showing::show;

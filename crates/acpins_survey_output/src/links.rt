@@ -7,11 +7,12 @@ ghost use Rattle.acpi_text.specs.Terms.{term_text};
 ghost use Rattle.acpi_tree.specs.TermView.{term_view};
 ghost use Rattle.acpi_survey.specs.ConditionViews.{link_view, link_views};
 ghost use Rattle.acpins_survey_output.specs.Links.{link_text, links_text, sourced_text};
+ghost use Rattle.acpi_objects.specs.Views.{kind_view};
 ghost use Rattle.acpins_survey_output.specs.Objects.{source_of};
-ghost use Rattle.acpins_survey_output.specs.ObjectViews.{declared_view};
 
-use crate::objects::{Declared, computed_source};
+use crate::objects::computed_source;
 use acpi_name::Path;
+use acpi_objects::ObjectKind;
 use acpi_survey::Link;
 use acpi_text::{put, put_path, put_term};
 use acpi_tree::Term;
@@ -78,17 +79,17 @@ fn put_source(text: &mut Vec<u8>, source: &Term) -> Result<(), AllocError>
     put(text, ")")
 }
 
-/// Puts an arrow and the links of what a term declares; of a Create field whose source is no name, the source.
+/// Puts an arrow and the links of an object; of a Create field whose source is no name, the source.
 pub fn put_links(
     text: &mut Vec<u8>,
-    declared: &Declared<'_>,
+    kind: &ObjectKind<'_>,
     links: &[Link<'_>],
 ) -> Result<(), AllocError>
     ensures { OnOk result (text.new.items
-        ≡ text.old.items ++ sourced_text (source_of (declared_view declared.now))
+        ≡ text.old.items ++ sourced_text (source_of (kind_view kind.now))
         (link_views links.now)) }
 {
-    match computed_source(declared) {
+    match computed_source(kind) {
         Some(source) => put_source(text, source),
         None => put_found(text, links),
     }

@@ -1,284 +1,18 @@
-//! What terms declare, and its text.
+//! The text of objects.
 
-ghost use Rattle.std.specs.Prelude.{◌≡◌, ◌++◌, ℕ, OnOk, codes};
-ghost use Rattle.acpi_tree.specs.TermView.{term_view, decl_view};
-ghost use Rattle.acpi_tree.specs.View.{field_view};
-ghost use Rattle.acpi_outline.specs.View.{plain_view, fixed_view, node_view};
+ghost use Rattle.std.specs.Prelude.{◌≡◌, ◌++◌, OnOk, codes};
+ghost use Rattle.std.specs.Option.{option_map};
+ghost use Rattle.acpi_tree.specs.TermView.{term_view};
 ghost use Rattle.acpi_text.specs.Terms.{term_text};
 ghost use Rattle.acpi_text.specs.Objects.{width_text};
-ghost use Rattle.std.specs.Option.{option_map, option_and_then};
-ghost use Rattle.acpi_survey.specs.Lookup.{found_of};
-ghost use Rattle.acpins_survey_output.specs.Objects.{named_text, parts_text, region, table_region, bank_unit, create, create_bits, source_of};
-ghost use Rattle.acpins_survey_output.specs.Declaring.{computed as computed_term, term_object, plain_object, fixed_object, node_object, element_object, units_object, object_in, predefined as predefined_object};
-ghost use Rattle.acpins_survey_output.specs.ObjectViews.{lent_view, unit_view, declared_view};
+ghost use Rattle.acpi_objects.specs.Objects.{region, table_region, bank_unit};
+ghost use Rattle.acpi_objects.specs.Views.{kind_view, lent_view, unit_view};
+ghost use Rattle.acpins_survey_output.specs.Objects.{named_text, parts_text, source_of};
 
-use acpi_outline::{Fixed, Node, Plain};
-use acpi_survey::{Span, SpanContent};
+use acpi_objects::{ObjectKind, UnitForm};
 use acpi_text::{put, put_byte, put_decimal, put_object, put_term};
-use acpi_tree::{Decl, FieldElem, FieldForm, Object, Term, Width};
+use acpi_tree::{FieldForm, Object, Term, Width};
 use std::alloc::AllocError;
-
-/// The form in which a field element is declared.
-#[derive(Debug, Clone, Copy)]
-pub enum UnitForm<'a> {
-    /// DefField.
-    Field,
-    /// DefIndexField.
-    Index,
-    /// DefBankField, with the value that selects the bank.
-    Bank(&'a Term),
-}
-
-/// What a term declares (ACPI 6.5, 5.3 and 20.2.5.2), with terms where they may stand.
-#[derive(Debug, Clone, Copy)]
-pub enum Declared<'a> {
-    /// The root `\`.
-    Root,
-    /// A predefined scope, `\_SB_` say (5.3.1).
-    Scope,
-    /// A predefined object of which nothing more is known.
-    Predefined,
-    /// A device, by DefDevice.
-    Device,
-    /// A processor: ProcID, PblkAddr and PblkLen.
-    Processor {
-        /// ProcID.
-        id: u8,
-        /// PblkAddr: the address of its register block P_BLK in system I/O space.
-        block: u32,
-        /// PblkLen: how many bytes P_BLK has, 0 where there is none.
-        length: u8,
-    },
-    /// A power resource, by DefPowerRes.
-    Power {
-        /// SystemLevel: the deepest sleep state that keeps the resource on, 0 for S0, 1 for S1 and so on.
-        level: u8,
-        /// ResourceOrder: resources go on from the least number to the greatest, and off from the greatest.
-        order: u16,
-    },
-    /// A thermal zone, by DefThermalZone.
-    Thermal,
-    /// A name with its data, which may be lost.
-    Name(Option<&'a Term>),
-    /// A method, by its flags: bits 0 to 2 the argument count, bit 3 serialized, bits 4 to 7 the sync level.
-    Method(u8),
-    /// An operation region, by DefOpRegion.
-    Region {
-        /// RegionSpace: 0 SystemMemory, 1 SystemIO, 2 PCI_Config, .., and from 0x80 on those of an OEM.
-        space: u8,
-        /// RegionOffset: where it begins in its space, in bytes.
-        offset: &'a Term,
-        /// RegionLen: how many bytes it has.
-        length: &'a Term,
-    },
-    /// A region of the bytes of a table, by DefDataRegion.
-    TableRegion {
-        /// The signature of the table.
-        signature: &'a Term,
-        /// Its OEM ID.
-        oem_id: &'a Term,
-        /// Its OEM table ID.
-        oem_table_id: &'a Term,
-    },
-    /// A mutex, by its sync flags.
-    Mutex(u8),
-    /// An event, by DefEvent.
-    Event,
-    /// Another name for an object, by DefAlias.
-    Alias,
-    /// A named unit of a field list.
-    Field {
-        /// The term whose field list it is of.
-        form: UnitForm<'a>,
-        /// FieldFlags: bits 0 to 3 AccessType, bit 4 LockRule, bits 5 and 6 UpdateRule.
-        flags: u8,
-        /// Where it begins, in bits from the first of its field list.
-        offset: u64,
-        /// Its width, in bits.
-        bits: u32,
-    },
-    /// A Create field of a fixed width.
-    Create {
-        /// Which term declares it, which is its width.
-        width: Width,
-        /// The buffer that it is of; none where that is a name, which has a link.
-        source: Option<&'a Term>,
-        /// ByteIndex: where it begins in its buffer, in bytes; of a bit field BitIndex, in bits.
-        index: &'a Term,
-    },
-    /// A Create field of any width.
-    CreateField {
-        /// The buffer that it is of; none where that is a name, which has a link.
-        source: Option<&'a Term>,
-        /// BitIndex: where it begins in its buffer, in bits.
-        index: &'a Term,
-        /// NumBits: its width, in bits.
-        bits: &'a Term,
-    },
-}
-
-// ---- what a part declares
-
-// What the fixed arguments of a package declare, if they declare something.
-fn declared_by_fixed<'a>(fixed: &'a Fixed) -> Option<Declared<'a>>
-    ensures { option_map declared_view result ≡ fixed_object (fixed_view fixed.now) }
-{
-    match fixed {
-        Fixed::Device(_) => Some(Declared::Device),
-        Fixed::Processor(_, id, block, length) => Some(Declared::Processor {
-            id: *id,
-            block: *block,
-            length: *length,
-        }),
-        Fixed::Power(_, level, order) => Some(Declared::Power {
-            level: *level,
-            order: *order,
-        }),
-        Fixed::Thermal(_) => Some(Declared::Thermal),
-        Fixed::Method(_, flags) => Some(Declared::Method(*flags)),
-        _ => None,
-    }
-}
-
-// A term that is no name.
-fn computed(term: &Term) -> Option<&Term>
-    ensures { option_map lent_view result ≡ computed_term (term_view term.now) }
-{
-    match term {
-        Term::Ref(_) => None,
-        _ => Some(term),
-    }
-}
-
-fn declared_by_decl<'a>(decl: &'a Decl) -> Option<Declared<'a>>
-    ensures { option_map declared_view result ≡ term_object (decl_view decl.now) }
-{
-    match decl {
-        Decl::Name(_, value) => Some(Declared::Name(Some(value))),
-        Decl::Create {
-            width,
-            source,
-            index,
-            ..
-        } => Some(Declared::Create {
-            width: *width,
-            source: computed(source),
-            index,
-        }),
-        Decl::CreateField {
-            source,
-            index,
-            bits,
-            ..
-        } => Some(Declared::CreateField {
-            source: computed(source),
-            index,
-            bits,
-        }),
-        Decl::Mutex(_, flags) => Some(Declared::Mutex(*flags)),
-        Decl::Event(_) => Some(Declared::Event),
-        Decl::Region {
-            space,
-            offset,
-            length,
-            ..
-        } => Some(Declared::Region {
-            space: *space,
-            offset,
-            length,
-        }),
-        Decl::Field { .. } => None,
-        Decl::IndexField { .. } => None,
-        Decl::BankField { .. } => None,
-    }
-}
-
-fn declared_by_plain<'a>(plain: &'a Plain) -> Option<Declared<'a>>
-    ensures { option_map declared_view result ≡ plain_object (plain_view plain.now) }
-{
-    match plain {
-        Plain::Term(Term::Declare(decl)) => declared_by_decl(decl),
-        Plain::Alias(_, _) => Some(Declared::Alias),
-        Plain::TableRegion(_, signature, oem_id, oem_table_id) => Some(Declared::TableRegion {
-            signature,
-            oem_id,
-            oem_table_id,
-        }),
-        _ => None,
-    }
-}
-
-fn declared_by_node<'a>(node: &'a Node) -> Option<Declared<'a>>
-    ensures { option_map declared_view result ≡ node_object (node_view node.now) }
-{
-    match node {
-        Node::Plain(plain) => declared_by_plain(plain),
-        Node::Holds(fixed, _) => declared_by_fixed(fixed),
-        Node::Closed(fixed, _) => declared_by_fixed(fixed),
-        Node::NameLost(_, _, _) => Some(Declared::Name(None)),
-        _ => None,
-    }
-}
-
-// The form and the flags of the field elements behind these fixed arguments.
-fn units_of<'a>(fixed: &'a Fixed) -> Option<(UnitForm<'a>, u8)>
-    ensures { (offset bits : ℕ) → option_map (λ u. unit_view u.0 u.1 offset bits) result
-        ≡ units_object (fixed_view fixed.now) offset bits }
-{
-    match fixed {
-        Fixed::Field(_, flags) => Some((UnitForm::Field, *flags)),
-        Fixed::IndexField(_, _, flags) => Some((UnitForm::Index, *flags)),
-        Fixed::BankField(_, _, value, flags) => Some((UnitForm::Bank(value), *flags)),
-        _ => None,
-    }
-}
-
-fn declared_by_element<'a>(
-    fixed: &'a Fixed,
-    element: &FieldElem,
-    offset: u64,
-) -> Option<Declared<'a>>
-    ensures { option_map declared_view result
-        ≡ element_object (fixed_view fixed.now) offset (field_view element.now) }
-{
-    let FieldElem::Unit(_, bits) = element else {
-        return None;
-    };
-    let (form, flags) = units_of(fixed)?;
-    Some(Declared::Field {
-        form,
-        flags,
-        offset,
-        bits: *bits,
-    })
-}
-
-/// What a part of a table's code declares, if it declares something.
-pub fn declared_by<'a>(part: &Span<'a>) -> Option<Declared<'a>>
-    ensures { option_map declared_view result ≡ option_and_then object_in (found_of part.now) }
-{
-    match part.what {
-        SpanContent::Node(node) => declared_by_node(node),
-        SpanContent::Element(fixed, element, offset) => declared_by_element(fixed, element, offset),
-        SpanContent::Lost(_) => None,
-    }
-}
-
-/// The predefined object of that number: the root, five scopes, `\_GL_`, `\_OSI` and two more (ACPI 6.5, 5.3.1 and
-/// 5.7).
-pub fn predefined(number: usize) -> Declared<'static>
-    ensures { declared_view result ≡ predefined_object number }
-{
-    match number {
-        0 => Declared::Root,
-        1..=5 => Declared::Scope,
-        6 => Declared::Mutex(0),
-        7 => Declared::Method(1),
-        _ => Declared::Predefined,
-    }
-}
-
-// ---- the text
 
 // What stands before a term, and the term.
 fn put_behind(text: &mut Vec<u8>, before: &str, term: &Term) -> Result<(), AllocError>
@@ -401,55 +135,55 @@ fn put_create_field(text: &mut Vec<u8>, index: &Term, bits: &Term) -> Result<(),
     put_behind(text, " bits=", bits)
 }
 
-/// Puts what a term declares, without its links: its kind, and what is known of it. Offsets and widths of field
-/// elements are in bits.
-pub fn put_declared(text: &mut Vec<u8>, declared: &Declared<'_>) -> Result<(), AllocError>
+/// Puts the kind of an object and what its term says of it, without links. Offsets and widths of field elements are in
+/// bits.
+pub fn put_kind(text: &mut Vec<u8>, kind: &ObjectKind<'_>) -> Result<(), AllocError>
     ensures { OnOk result (text.new.items
-        ≡ text.old.items ++ parts_text (declared_view declared.now)) }
+        ≡ text.old.items ++ parts_text (kind_view kind.now)) }
 {
-    match *declared {
-        Declared::Root => put_object(text, &Object::Root),
-        Declared::Scope => put_object(text, &Object::Scope),
-        Declared::Predefined => put_object(text, &Object::Predefined),
-        Declared::Device => put_object(text, &Object::Device),
-        Declared::Processor { id, block, length } => {
+    match *kind {
+        ObjectKind::Root => put_object(text, &Object::Root),
+        ObjectKind::Scope => put_object(text, &Object::Scope),
+        ObjectKind::Predefined => put_object(text, &Object::Predefined),
+        ObjectKind::Device => put_object(text, &Object::Device),
+        ObjectKind::Processor { id, block, length } => {
             put_object(text, &Object::Processor { id, block, length })
         }
-        Declared::Power { level, order } => put_object(text, &Object::Power { level, order }),
-        Declared::Thermal => put_object(text, &Object::Thermal),
-        Declared::Name(value) => put_name(text, value),
-        Declared::Method(flags) => put_object(text, &Object::Method(flags)),
-        Declared::Region {
+        ObjectKind::Power { level, order } => put_object(text, &Object::Power { level, order }),
+        ObjectKind::Thermal => put_object(text, &Object::Thermal),
+        ObjectKind::Name(value) => put_name(text, value),
+        ObjectKind::Method(flags) => put_object(text, &Object::Method(flags)),
+        ObjectKind::Region {
             space,
             offset,
             length,
         } => put_region(text, space, offset, length),
-        Declared::TableRegion {
+        ObjectKind::TableRegion {
             signature,
             oem_id,
             oem_table_id,
         } => put_table_region(text, signature, oem_id, oem_table_id),
-        Declared::Mutex(flags) => put_object(text, &Object::Mutex(flags)),
-        Declared::Event => put_object(text, &Object::Event),
-        Declared::Alias => put(text, "Alias"),
-        Declared::Field {
+        ObjectKind::Mutex(flags) => put_object(text, &Object::Mutex(flags)),
+        ObjectKind::Event => put_object(text, &Object::Event),
+        ObjectKind::Alias => put(text, "Alias"),
+        ObjectKind::Field {
             form,
             flags,
             offset,
             bits,
         } => put_field(text, form, flags, offset, bits),
-        Declared::Create { width, index, .. } => put_create(text, width, index),
-        Declared::CreateField { index, bits, .. } => put_create_field(text, index, bits),
+        ObjectKind::Create { width, index, .. } => put_create(text, width, index),
+        ObjectKind::CreateField { index, bits, .. } => put_create_field(text, index, bits),
     }
 }
 
 /// The source of a Create field, where it is no name.
-pub(crate) fn computed_source<'a>(declared: &Declared<'a>) -> Option<&'a Term>
-    ensures { option_map lent_view result ≡ source_of (declared_view declared.now) }
+pub(crate) fn computed_source<'a>(kind: &ObjectKind<'a>) -> Option<&'a Term>
+    ensures { option_map lent_view result ≡ source_of (kind_view kind.now) }
 {
-    match *declared {
-        Declared::Create { source, .. } => source,
-        Declared::CreateField { source, .. } => source,
+    match *kind {
+        ObjectKind::Create { source, .. } => source,
+        ObjectKind::CreateField { source, .. } => source,
         _ => None,
     }
 }

@@ -3,7 +3,7 @@ use Rattle.std.specs.Prelude.{◌≡◌, ◌≢◌, ◌⊎◌, ◌↔◌, ℕ, L
 use Rattle.std.specs.Io.KnownBytes.{Appends}
 use Rattle.acpi_name.specs.Names.{Segment}
 use Rattle.acpi_name.specs.Text.{IsPathText, SpellsPathText}
-use Rattle.acpi_survey.specs.Found.{entered_in, problems_in, notes_by}
+use Rattle.acpi_survey.specs.Findings.{entered_in, problems_in, notes_by}
 use Rattle.acpi_survey.specs.Notes.{Unknowns}
 use Rattle.acpi_survey.specs.NoteViews.{note_view}
 use Rattle.acpi_survey.specs.Predefined.{first_reading}
@@ -14,14 +14,15 @@ use Rattle.acpins_survey_output.specs.JsonFrame.{IsJson}
 use Rattle.acpins_survey_output.specs.Listings.{IsListing}
 use Rattle.acpins_survey_output.specs.Maps.{map_text}
 use Rattle.acpins_survey_output.specs.Shown.{IsBodyListing, IsShownOrNone}
-use Rattle.acpins_report.specs.Page.{IsPage}
-use Rattle.acpins_report.specs.declared.style.TheConstants.{HEAD}
-use Rattle.acpins_io.specs.Told.{AppendsBeginning}
+use Rattle.acpins_page.specs.Page.{IsPage}
+use Rattle.acpins_page.specs.declared.style.TheConstants.{HEAD}
+use Rattle.acpins_io.specs.PartsWritten.{AppendsBeginning}
 use Rattle.acpins_words.specs.Words.{Text}
 use Rattle.acpins_survey_words.specs.Words.{Asked, Command, Invocation, listing, showing, mapping, telling_bodies, json, paging, help, version, survey, invocation_of}
 use Rattle.acpins_survey_run.specs.FailureLines.{failure_line}
 use Rattle.acpins_survey_run.specs.Failures.{status_of}
-use Rattle.acpins_survey_run.specs.Stored.{Holds, IsUnwritten}
+use Rattle.acpins_io.specs.FilesWritten.{Holds}
+use Rattle.acpins_survey_run.specs.Stored.{IsUnwritten}
 use Rattle.acpins_survey_run.specs.Input.{FileBytes, FolderNames, AreTablesOf, IsFilesFault}
 use Rattle.acpins_survey_run.specs.declared.failure.Failure.{Failure}
 use Rattle.acpins_survey_run.specs.declared.failure.Failure.TheVariants.{WrongWords, BadPath, NoSuchPath, NoTable, Read, BadHex, Out, Output, Memory}

@@ -1,5 +1,5 @@
 -- A file that is written.
-use Rattle.std.specs.Prelude.{◌≡◌, ℕ, List, Option, Some, IfSome}
+use Rattle.std.specs.Prelude.{◌≡◌, ℕ, List}
 use Rattle.acpins_survey_run.specs.FailureLines.{printed_name}
 use Rattle.acpins_survey_run.specs.declared.failure.Failure.{Failure}
 use Rattle.acpins_survey_run.specs.declared.failure.Failure.TheVariants.{Out, Memory}
@@ -9,7 +9,3 @@ abbrev pub IsUnwritten : List ℕ → Failure → Type 0
 IsUnwritten name (Out file) = file.items ≡ printed_name name
 IsUnwritten name Memory = Unit {0}
 IsUnwritten name _ = ⊥
-
--- where it is known what was written to a file before, it holds these bytes now
-abbrev pub Holds : Option (List ℕ) → Option (List ℕ) → List ℕ → Type 0
-Holds old new bytes = IfSome old (λ _. new ≡ Some bytes)

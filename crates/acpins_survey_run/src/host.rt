@@ -40,11 +40,11 @@ impl<'a> Folders for HostFolders<'a> {
     }
 }
 
-/// So many bytes of tables are told before work over them begins: it may take longer than a second.
+/// From so many bytes of tables on, a line is written before work over them begins: it may take longer than a second.
 const MANY_BYTES: usize = 1 << 20;
 
-/// The terminal of the host: a report has colours where standard output is one and the environment has no `NO_COLOR`;
-/// long work is told where standard error is one.
+/// The terminal of the host: a report has colours where standard output is one and `NO_COLOR` is unset or empty; a line
+/// says that long work begins where standard error is one.
 #[derive(Drop)]
 pub struct HostConsole<'a> {
     rt: &'a HostRuntime,

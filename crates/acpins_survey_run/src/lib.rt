@@ -16,7 +16,7 @@
 //! let ending = run(alloc, &words, &mut files, &mut folders, &mut console, &mut rt.stdout(), &mut rt.stderr());
 //! ```
 //!
-//! `told` says a failure alone, for a caller that never came to a run.
+//! `report_failure` says a failure alone, for a caller that never came to a run.
 #![tactic(auto)]
 
 mod console;

@@ -1,7 +1,7 @@
 //! The line that says why a run failed.
 
 ghost use Rattle.std.specs.Prelude.{◌≡◌, ◌++◌, codes, IfOk, OnOk};
-ghost use Rattle.acpins_io.specs.Told.{Tells};
+ghost use Rattle.acpins_io.specs.PartsWritten.{WritesUntilFailure};
 ghost use Rattle.acpins_survey_run.specs.FailureLines.{cause_text, character_text, failure_text, failure_line, printed_name};
 
 use crate::failure::{Failure, ReadCause};
@@ -44,8 +44,8 @@ fn cause_word(cause: ReadCause) -> &'static str
 }
 
 fn put_failure<E, P: PartWriter<E>>(parts: &mut P, err: &mut E, failure: &Failure)
-    ensures { Tells (failure_text failure.now) (P.failed parts.old) (P.contents err.old)
-        (P.failed parts.new) (P.contents err.new) }
+    ensures { WritesUntilFailure (failure_text failure.now) (P.failed parts.old)
+        (P.contents err.old) (P.failed parts.new) (P.contents err.new) }
 {
     match failure {
         Failure::WrongWords => put_text(parts, err, "wrong words (see --help)"),
@@ -72,8 +72,8 @@ fn put_failure<E, P: PartWriter<E>>(parts: &mut P, err: &mut E, failure: &Failur
 
 /// Writes the line that says why a run failed. It takes no memory.
 pub fn put_line<E, P: PartWriter<E>>(parts: &mut P, err: &mut E, failure: &Failure)
-    ensures { Tells (failure_line failure.now) (P.failed parts.old) (P.contents err.old)
-        (P.failed parts.new) (P.contents err.new) }
+    ensures { WritesUntilFailure (failure_line failure.now) (P.failed parts.old)
+        (P.contents err.old) (P.failed parts.new) (P.contents err.new) }
 {
     put_text(parts, err, "acpins-survey: ");
     put_failure(parts, err, failure);

@@ -3,7 +3,7 @@
 ghost use Rattle.std.specs.Prelude.{◌≡◌, ◌⊎◌, IfOk, IfErr};
 ghost use Rattle.acpi_name.specs.Text.{SpellsPathText, IsPathText};
 ghost use Rattle.acpi_survey.specs.SurveyOrder.{IsInOrder};
-ghost use Rattle.acpins_report.specs.Page.{IsPage};
+ghost use Rattle.acpins_page.specs.Page.{IsPage};
 ghost use Rattle.acpins_survey_words.specs.Words.{Command as AskedCommand, command_in};
 ghost use Rattle.acpins_survey_run.specs.Runs.{IsTextOf};
 ghost use Rattle.acpins_survey_run.specs.steps.Prints.{IsPrintOf, IsUnprinted, IsUntold};
@@ -13,7 +13,8 @@ use crate::failure::Failure;
 use crate::tables::{Source, names_of_tables};
 use acpi_name::{Path, PathFault};
 use acpi_survey::Survey;
-use acpins_report::{HEAD, ReportOptions, html, report};
+use acpins_page::{HEAD, html};
+use acpins_report::{ReportOptions, report};
 use acpins_survey_output::{bodies, json, list, map, show};
 use acpins_survey_words::Command;
 use std::alloc::{AllocError, Global};

@@ -3,7 +3,7 @@
 ghost use Rattle.std.specs.Prelude.{◌≡◌, ◌≢◌, ◌≤◌, ◌⊎◌, [], IfOk, IfErr, OnOk, OnErr, option_map, true};
 ghost use Rattle.std.specs.Io.KnownBytes.{Appends};
 ghost use Rattle.acpi_survey.specs.SurveyOrder.{IsInOrder};
-ghost use Rattle.acpins_io.specs.Told.{AppendsBeginning, Tells};
+ghost use Rattle.acpins_io.specs.PartsWritten.{AppendsBeginning, WritesUntilFailure};
 ghost use Rattle.acpins_words.specs.Words.{texts};
 ghost use Rattle.acpins_survey_words.specs.Words.{asked_in, command_in};
 ghost use Rattle.acpins_survey_run.specs.FailureLines.{failure_line};
@@ -259,8 +259,8 @@ fn print_output<'a, F: Files, D: Folders, C: Console, O: Write>(
 /// Says why a run failed, as far as it can be said, and answers the status.
 pub fn report_failure<E, P: PartWriter<E>>(failure: &Failure, err: &mut E, parts: &mut P) -> u8
     ensures status { result ≡ status_of failure.now }
-    ensures line { Tells (failure_line failure.now) (P.failed parts.old) (P.contents err.old)
-        (P.failed parts.new) (P.contents err.new) }
+    ensures line { WritesUntilFailure (failure_line failure.now) (P.failed parts.old)
+        (P.contents err.old) (P.failed parts.new) (P.contents err.new) }
 {
     put_line(parts, err, failure);
     failure.status()

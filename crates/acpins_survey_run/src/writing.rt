@@ -1,31 +1,24 @@
 //! A file that is written.
 
 ghost use Rattle.std.specs.Prelude.{◌≡◌, ◌≢◌, ℕ, List, IfErr, OnOk, OnErr};
-ghost use Rattle.acpins_survey_run.specs.Stored.{Holds, IsUnwritten};
+ghost use Rattle.acpins_io.specs.FilesWritten.{Holds};
+ghost use Rattle.acpins_survey_run.specs.Stored.{IsUnwritten};
 
 use crate::failure::Failure;
 use crate::lines::printed_name;
-use acpins_io::{FileFault, Files};
+use acpins_io::{FileFault, Files, write_file};
 use std::alloc::Global;
-use std::io::Write;
-
-// The failure to write the file of that name.
-fn write_failure(alloc: Global, name: &str) -> Failure
-    ensures { IsUnwritten name.now result }
-{
-    match printed_name(alloc, name) {
-        Ok(file) => Failure::Out(file),
-        Err(_) => Failure::Memory,
-    }
-}
 
 // Why the file of that name isn't written.
-fn write_failure_by(alloc: Global, name: &str, fault: FileFault) -> Failure
+fn write_failure(alloc: Global, name: &str, fault: FileFault) -> Failure
     ensures { IsUnwritten name.now result }
 {
     match fault {
         FileFault::Memory => Failure::Memory,
-        _ => write_failure(alloc, name),
+        _ => match printed_name(alloc, name) {
+            Ok(file) => Failure::Out(file),
+            Err(_) => Failure::Memory,
+        },
     }
 }
 
@@ -43,17 +36,8 @@ pub fn put_file<F: Files>(
     ensures err { IfErr result (IsUnwritten name.now) }
     ensures left { OnErr result (F.written_to files.new ≡ F.written_to files.old) }
 {
-    let mut file = match files.create(name) {
-        Ok(file) => file,
-        Err(fault) => return Err(write_failure_by(alloc, name, fault)),
-    };
-    let written = file.write_all(bytes).is_ok() && file.flush().is_ok();
-    if !written {
-        files.abandon(file);
-        return Err(write_failure(alloc, name));
-    }
-    match files.close(file) {
+    match write_file(files, name, bytes) {
         Ok(()) => Ok(()),
-        Err(fault) => Err(write_failure_by(alloc, name, fault)),
+        Err(fault) => Err(write_failure(alloc, name, fault)),
     }
 }

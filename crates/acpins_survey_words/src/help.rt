@@ -63,10 +63,11 @@ prints a line for each method of a table: that its terms are read, or why not, a
 const REPORT: &str = "\
 acpins-survey report [-v] [--hex] [--depth N] FILE..
 
-prints an overview: problems and notes; the address spaces that the tables touch; the devices with
-their ids, addresses, resources and wake; power and thermal objects; what an operating system runs
-unasked; and what looks wrong. With -v siblings that are alike have a line each, and no list is cut
-short. It has colours where standard output is a terminal and NO_COLOR is not set.
+prints an overview: problems and notes; the objects with a condition; what an operating system runs
+unasked; the devices with their ids, addresses, resources and wake; power and thermal objects; the
+address spaces that the tables touch; and what looks wrong. With -v siblings that are alike have a
+line each, and no list is cut short. It has colours where standard output is a terminal and NO_COLOR
+is unset or empty.
 ";
 
 const JSON: &str = "\

@@ -10,7 +10,7 @@
 //! ```
 //!
 //! Markup is a constant of the program (`&'static str`), so data can't be put as markup by mistake. `laws` says that
-
+//! escaped data holds no `<`, `>`, `"` or `'`.
 #![tactic(auto)]
 
 mod html;

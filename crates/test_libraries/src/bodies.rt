@@ -98,7 +98,7 @@ fn unsure_name_ends_the_reading(rt: HostRuntime) {
     };
     let reason = BodyReason::Unsure;
     match read_terms(&counting, CALL, limit(&rt, 4)) {
-        Err(Stop::Fault(fault)) => assert!(rt; fault == BodyFault { reason, place: 1 }),
+        Err(BodyError::Fault(fault)) => assert!(rt; fault == BodyFault { reason, place: 1 }),
         _ => assert!(rt; false),
     }
 }

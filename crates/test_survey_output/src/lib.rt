@@ -1,5 +1,5 @@
-//! Worked examples of what is printed of small tables (`acpins_survey_output`, `acpins_report`, `html_text`), where memory is
-//! there, and of what no contract states. Nothing here is called from elsewhere.
+//! Worked examples of what is printed of small tables (`acpins_survey_output`, `acpins_report`, `acpins_page`,
+//! `html_text`), where memory is there, and of what no contract states. Nothing here is called from elsewhere.
 #![tactic(auto)]
 
 #[cfg(test)]

@@ -1,7 +1,8 @@
 //! Reports of small tables: which siblings are alike, what looks wrong, and how far the bounds of regions are known.
 
 use crate::tables::survey_of;
-use acpins_report::{ReportOptions, html, report};
+use acpins_page::html;
+use acpins_report::{ReportOptions, report};
 use std::alloc::Global;
 use std::process::Abort;
 

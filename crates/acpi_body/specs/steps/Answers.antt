@@ -10,6 +10,6 @@ body_of bytes (Ok ts) = read (terms_of ts)
 body_of bytes (Err f) = unread bytes
 
 -- the fault, if there was one
-abbrev pub told : Result (List TermTree) BodyFault → Option BodyFault
-told (Ok ts) = None
-told (Err f) = Some f
+abbrev pub fault_in : Result (List TermTree) BodyFault → Option BodyFault
+fault_in (Ok ts) = None
+fault_in (Err f) = Some f

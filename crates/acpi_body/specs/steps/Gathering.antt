@@ -14,7 +14,7 @@ use Rattle.acpi_space.specs.Laws.{Among}
 use Rattle.acpi_tree.specs.Terms.{TermTree, TermTrees, buffer, pkg, var_pkg, call, apply, ElseTree, if_do, no_else, else_do, while_do, declare, declare_units, no_terms, more}
 use Rattle.acpi_counts.specs.Counts.{with_first}
 use Rattle.acpi_body.specs.declared.gathered.Gathered.{Gathered}
-use Rattle.acpi_body.specs.Arguments.{Namespace, namespace_of, Locals, with_local, defined_with}
+use Rattle.acpi_body.specs.Arguments.{Namespace, namespace_of, Locals, with_path, defined_with}
 use Rattle.acpi_body.specs.Searches.{Searched}
 use Rattle.acpi_body.specs.Statements.{locals_after, locals_after_all}
 use Rattle.acpi_body.specs.Misses.{awaited_place}
@@ -31,7 +31,7 @@ is_at (Some q) p = is_same_path p q
 abbrev pub with_misses : Option (List Segment) → Paths → List (List Segment) → Paths
 with_misses awaited firm [] = firm
 with_misses awaited firm (p ∷ ps) =
-    with_misses awaited (cond (is_at awaited p) firm (with_local firm p)) ps
+    with_misses awaited (cond (is_at awaited p) firm (with_path firm p)) ps
 
 -- the counts that are awaited with that of one search
 abbrev pub with_awaited : Lookup ℕ → PathMap ℕ → Option (List Segment) → PathMap ℕ

@@ -10,10 +10,10 @@ use Rattle.acpi_tree.specs.View.{items_tree}
 use Rattle.acpi_name.specs.Paths.{parent_of}
 use Rattle.acpi_declare.specs.declared.items.Entered.{Entered}
 use Rattle.acpi_declare.specs.declared.items.Entered.TheVariants.{Nothing, Below, Elsewhere}
-use Rattle.acpi_declare.specs.declared.fault.Stop.{Stop}
+use Rattle.acpi_declare.specs.declared.fault.PassError.{PassError}
 use Rattle.acpi_declare.specs.Placing.{placed_path}
 use Rattle.acpi_declare.specs.Sites.{Step}
-use Rattle.acpi_declare.specs.steps.Outcomes.{IsStopOf}
+use Rattle.acpi_declare.specs.steps.Outcomes.{IsPassErrorOf}
 use Rattle.acpi_declare.specs.steps.Pass.{◌>>=◌, Pass, Passing, after, pass_items, placement}
 
 -- a measure of what is left: what stands inside an item weighs less than the item, and an item less than its list
@@ -27,12 +27,12 @@ abbrev mutual
   weights (item i is) = 1 + weight i + weights is
 
 -- a step into a scope: placed at the path that the result has, from which the state follows, or refused
-abbrev pub StepsInto : {A : Type 0} → Result A Stop → (A → List Segment) → Pass → List Segment
+abbrev pub StepsInto : {A : Type 0} → Result A PassError → (A → List Segment) → Pass → List Segment
     → Step → Pass → Type 0
 StepsInto result path_of before s x now = MatchResult result
     (λ a. (placed_path x.effect before.objects s x.name ≡ Ok (path_of a))
     × (now ≡ after before (placement s x (path_of a))))
-    (λ f. IsStopOf f (placed_path x.effect before.objects s x.name))
+    (λ f. IsPassErrorOf f (placed_path x.effect before.objects s x.name))
 
 -- the whole item's outcome is that of what is left, from there
 abbrev pub IsEntered : ItemTree → Passing → Pass → Option (List Segment × Vec Item) → Type 0
@@ -42,9 +42,9 @@ IsEntered i whole now (Some (p, is)) = (whole ≡ pass_items now p (items_tree i
     × (weights (items_tree is.items) < weight i)
 
 -- .. or its refusal is told
-abbrev pub Enters : ItemTree → Result (Option (List Segment × Vec Item)) Stop → Passing → Pass
+abbrev pub Enters : ItemTree → Result (Option (List Segment × Vec Item)) PassError → Passing → Pass
     → Type 0
-Enters i result whole now = MatchResult result (IsEntered i whole now) (λ f. IsStopOf f whole)
+Enters i result whole now = MatchResult result (IsEntered i whole now) (λ f. IsPassErrorOf f whole)
 
 -- The outcome of a list's items is that of what is left inside the first, from there, and then that of the others.
 abbrev pub IsEnteredNext : Passing → (Pass → Passing) → Pass → List Segment → Entered → Type 0
@@ -55,10 +55,10 @@ IsEnteredNext whole others now here (Elsewhere p is) =
     whole ≡ (pass_items now p (items_tree is.items) >>= others)
 
 -- .. or their refusal is told
-abbrev pub EntersNext : Result Entered Stop → Passing → (Pass → Passing) → Pass → List Segment
+abbrev pub EntersNext : Result Entered PassError → Passing → (Pass → Passing) → Pass → List Segment
     → Type 0
 EntersNext result whole others now here =
-    MatchResult result (IsEnteredNext whole others now here) (λ f. IsStopOf f whole)
+    MatchResult result (IsEnteredNext whole others now here) (λ f. IsPassErrorOf f whole)
 
 -- items that may be declared
 abbrev pub AreLeft : ItemTrees → Type 0

@@ -1,6 +1,6 @@
 -- What a reader answers of what is left of a list, and what it leaves of it.
 use Rattle.std.specs.Prelude.{◌≡◌, ℕ, List, Result, Ok, Err}
-use Rattle.acpi_code.specs.steps.Left.{Left, Shorter, NoLonger}
+use Rattle.acpi_code.specs.steps.Remaining.{Remaining, Advances, DoesNotRewind}
 use Rattle.acpi_code.specs.steps.Reading.{Reading}
 use Rattle.acpi_terms.specs.declared.fault.ItemFault.{ItemFault}
 use Rattle.acpi_terms.specs.declared.fault.ItemFault.TheVariants as errors
@@ -24,25 +24,25 @@ Gives view (Err e) reading = Fails e reading
 
 -- What a reader answered, seen by `view`, is what the reading gives of the bytes that were left, and the
 -- bytes behind it are left, which are fewer; unless memory ran out.
-abbrev pub Reads : {X Y : Type 0} → (X → Y) → (ℕ → List ℕ → Reading Fault Y) → Left → Left
+abbrev pub Reads : {X Y : Type 0} → (X → Y) → (ℕ → List ℕ → Reading Fault Y) → Remaining → Remaining
     → Result X ItemFault → Type 0
-Reads view read old new (Ok x) = (read old.end old.bytes ≡ Ok (view x, new.bytes)) × Shorter old new
+Reads view read old new (Ok x) = (read old.end old.bytes ≡ Ok (view x, new.bytes)) × Advances old new
 Reads view read old new (Err e) = Fails e (read old.end old.bytes)
 
 -- the same behind an opcode, where there may be nothing to read
-abbrev pub ReadsOn : {X Y : Type 0} → (X → Y) → (ℕ → List ℕ → Reading Fault Y) → Left → Left
+abbrev pub ReadsOn : {X Y : Type 0} → (X → Y) → (ℕ → List ℕ → Reading Fault Y) → Remaining → Remaining
     → Result X ItemFault → Type 0
 ReadsOn view read old new (Ok x) =
-    (read old.end old.bytes ≡ Ok (view x, new.bytes)) × NoLonger old new
+    (read old.end old.bytes ≡ Ok (view x, new.bytes)) × DoesNotRewind old new
 ReadsOn view read old new (Err e) = Fails e (read old.end old.bytes)
 
 -- as `Reads`, of a reader that takes no memory
-abbrev pub Finds : {X Y : Type 0} → (X → Y) → (ℕ → List ℕ → Reading Fault Y) → Left → Left
+abbrev pub Finds : {X Y : Type 0} → (X → Y) → (ℕ → List ℕ → Reading Fault Y) → Remaining → Remaining
     → Result X ItemFault → Type 0
-Finds view read old new (Ok x) = (read old.end old.bytes ≡ Ok (view x, new.bytes)) × Shorter old new
+Finds view read old new (Ok x) = (read old.end old.bytes ≡ Ok (view x, new.bytes)) × Advances old new
 Finds view read old new (Err e) = FailsFree e (read old.end old.bytes)
 
 -- all that was left was read
-abbrev pub ReadsAll : {X Y : Type 0} → (X → Y) → (ℕ → List ℕ → Result Y Fault) → Left
+abbrev pub ReadsAll : {X Y : Type 0} → (X → Y) → (ℕ → List ℕ → Result Y Fault) → Remaining
     → Result X ItemFault → Type 0
 ReadsAll view read old result = Gives view result (read old.end old.bytes)

@@ -8,7 +8,7 @@ use Rattle.acpi_declare.specs.Listing.{objects_of}
 use Rattle.acpi_order.specs.Independent.{AreSingleListings, LoadsAlone}
 use Rattle.acpi_order.specs.Misses.{Listing}
 use Rattle.acpi_order.specs.Verdicts.{IsSsdt, AllAlone, IsSame}
-use Rattle.acpi_verdict.specs.declared.declared.Declared.{Declared}
+use Rattle.acpi_verdict.specs.declared.ssdt_paths.SsdtPaths.{SsdtPaths}
 use Rattle.acpi_verdict.specs.declared.definers.Definer.{Definer}
 use Rattle.acpi_verdict.specs.declared.definers.Definers.{Definers}
 use Rattle.acpi_verdict.specs.steps.Clashing.{IsLeastOf, Offers}
@@ -37,7 +37,7 @@ IsSameAt number ps d i j p =
 
 -- it is noted at its paths, and where it clashes with an earlier one
 pub record AddsSsdt (number : ℕ) (ps : List (List Segment)) (args : List Segment → Option ℕ)
-    (old new : Declared) : Type 0 where
+    (old new : SsdtPaths) : Type 0 where
   pub noted : (p : List Segment) (x : Definer)
       → IsNoted new.definers p x ↔ (IsNoted old.definers p x ⊎ IsNewAt number ps args p x)
   pub firsts : (p : List Segment) (x : Definer)
@@ -67,7 +67,7 @@ AreFirst d = (p : List Segment) (x : Definer) → IsNoted d p x
 
 -- the SSDTs up to that number load alone, are noted at their paths, and the first two that declare one path are known
 pub record AreDeclaredTo (depth : ℕ) (dsdt : List ℕ) (ssdts : List (List ℕ)) (n : ℕ)
-    (d : Declared) : Type 0 where
+    (d : SsdtPaths) : Type 0 where
   pub alone : (k : ℕ) (b : List ℕ) → k ≤ n → IsSsdt ssdts k b → LoadsAlone depth dsdt b
   pub noted : (p : List Segment) (x : Definer)
       → IsNoted d.definers p x ↔ (IsDefiner depth dsdt ssdts p x × (x.number ≤ n))
@@ -82,7 +82,7 @@ pub record AreDefiners (depth : ℕ) (dsdt : List ℕ) (ssdts : List (List ℕ))
 
 -- all load alone, it is known who declares each path, and which are the first two that declare one
 pub record AreDeclared (depth : ℕ) (dsdt : List ℕ) (ssdts : List (List ℕ))
-    (d : Declared) : Type 0 where
+    (d : SsdtPaths) : Type 0 where
   pub alone : AllAlone depth dsdt ssdts
   pub definers : AreDefiners depth dsdt ssdts d.definers
   pub same : IsLeastOf (IsSame depth dsdt ssdts) d.same

@@ -8,7 +8,7 @@ use Rattle.acpi_declare.specs.Namespace.{namespace_of}
 use Rattle.acpi_declare.specs.Notes.{Notes, notes_of}
 use Rattle.acpi_declare.specs.steps.Adding.{AddsTable}
 use Rattle.acpi_declare.specs.steps.Pass.{pass_items}
-use Rattle.acpi_declare.specs.steps.Outcomes.{IsTableFault, IsStopOf}
+use Rattle.acpi_declare.specs.steps.Outcomes.{IsTableFault, IsPassErrorOf}
 use Rattle.acpi_declare.specs.steps.View.{PassState, pass_of}
 use Rattle.acpi_declare.proofs.PassSteps.{passed}
 use Rattle.acpi_declare.proofs.TableListings.{pass_refused, pass_adds}
@@ -25,7 +25,7 @@ returns-in-Err-Refused-clause-err g c =
     let t = pass_of (record { objects = g.S.Space.contents c.args.loaded.objects; lower = g.S.Space.lower c.args.loaded.objects; links = all_pending_of c.args.loaded.links.items; notes = c.new.result }) in
     let is = items_tree c.in_ok-items.items.items in
     let told : pass_items t c.root.result is ≡ Err (c.in-Err-Refused.refusal, c.in-Err-Refused.path) =
-    subst (λ f. IsStopOf f (pass_items t c.root.result is)) c.in-Err-Refused.field-0-is c.in-Err-Refused.ensures.steps in
+    subst (λ f. IsPassErrorOf f (pass_items t c.root.result is)) c.in-Err-Refused.field-0-is c.in-Err-Refused.ensures.steps in
     let stopped : pass_items t [] is ≡ Err (c.in-Err-Refused.refusal, c.in-Err-Refused.path) = ap (λ (s : List Segment). pass_items t s is) (sym c.root.ensures) ∙ told in
     subst (IsTableFault c.args.depth c.args.number objects c.args.bytes.now) (sym c.table_fault.ensures)
     (refl, (is, c.in_ok-items.ensures.ok, pass_refused t is (c.in-Err-Refused.refusal, c.in-Err-Refused.path) stopped))

@@ -3,7 +3,7 @@ use Rattle.std.specs.FinMap.{get}
 use Rattle.acpi_space.specs.Spaces.{is_defined}
 use Rattle.acpi_space.specs.Search.{answer}
 use Rattle.acpi_declare.specs.Namespace.{namespace_of}
-use Rattle.acpi_declare.specs.steps.Outcomes.{IsStopOf}
+use Rattle.acpi_declare.specs.steps.Outcomes.{IsPassErrorOf}
 use Rattle.acpi_declare.proofs.Searches.{answer_defined, opened_is}
 use Rattle.acpi_declare.proofs.placing.opened_path.Goals as goal
 
@@ -11,7 +11,7 @@ pub returns-in-Ok-Missing : goal.returns-in-Ok-Missing
 returns-in-Ok-Missing g c =
     let objects = g.S.Space.contents c.args.objects.now in
     let none : answer (is_defined objects) c.args.scope.now c.args.name.now ≡ None = search rules in
-    subst (IsStopOf c.refuse_missing.result) (sym (opened_is objects c.args.scope.now c.args.name.now None none)) (c.refuse_missing.ensures (namespace_of objects))
+    subst (IsPassErrorOf c.refuse_missing.result) (sym (opened_is objects c.args.scope.now c.args.name.now None none)) (c.refuse_missing.ensures (namespace_of objects))
 
 pub unreachable-requires : goal.unreachable-requires
 unreachable-requires g c =

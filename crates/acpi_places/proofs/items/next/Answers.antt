@@ -2,7 +2,7 @@ use Rattle.std.proofs.Common.{◌≤◌, ◌++◌, Ok, Err, refl, sym, ap, subst
 use Rattle.acpi_tree.specs.View.{item_view}
 use Rattle.acpi_terms.specs.declared.fault.ItemFault.{ItemFault}
 use Rattle.acpi_terms.specs.declared.item.NextItem.{NextItem}
-use Rattle.acpi_terms.specs.steps.Holding.{GivesNext}
+use Rattle.acpi_terms.specs.steps.ScopeBlocks.{GivesNext}
 use Rattle.acpi_places.specs.steps.Walking.{code_length, leaf_places}
 use Rattle.acpi_places.proofs.Walked.{code_fits, next_leaf, next_opens, next_fault}
 use Rattle.acpi_places.proofs.items.next.Goals as goal
@@ -32,9 +32,9 @@ returns-in_ok-add_place-in-Ok-Leaf-clause-next c = λ is h.
     next_leaf c.args.table c.args.level old new is c.requires.some h c.in-Ok-Leaf.item g c.args.places.now.items c.add_place.new.places.items
     (put ∙ ap (λ n. c.args.places.now.items ++ leaf_places c.args.table n (item_view c.in-Ok-Leaf.item)) c.place.ensures)
 
-pub returns-in-Ok-Holder-clause-next : goal.returns-in-Ok-Holder-clause-next
-returns-in-Ok-Holder-clause-next c = λ is h.
+pub returns-in-Ok-ScopeBlock-clause-next : goal.returns-in-Ok-ScopeBlock-clause-next
+returns-in-Ok-ScopeBlock-clause-next c = λ is h.
     let old = c.args.code.now in
     let new = c.next_item.new.code in
-    let g = subst (λ (x : NextItem). GivesNext c.args.level old new (Ok x)) c.in-Ok-Holder.field-0-is c.in-Ok-Holder.ensures in
-    (next_opens c.args.table c.args.level old new is c.requires.some h c.in-Ok-Holder.holder g, refl)
+    let g = subst (λ (x : NextItem). GivesNext c.args.level old new (Ok x)) c.in-Ok-ScopeBlock.field-0-is c.in-Ok-ScopeBlock.ensures in
+    (next_opens c.args.table c.args.level old new is c.requires.some h c.in-Ok-ScopeBlock.block g, refl)

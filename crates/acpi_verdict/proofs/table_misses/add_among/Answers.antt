@@ -4,7 +4,7 @@ use Rattle.std.proofs.lemmas.List.{drop_more, drop_all}
 use Rattle.acpi_name.specs.Names.{Segment}
 use Rattle.acpi_space.specs.Laws.{Among}
 use Rattle.acpi_space.specs.Spaces.{is_defined}
-use Rattle.acpi_body.specs.Arguments.{with_local}
+use Rattle.acpi_body.specs.Arguments.{with_path}
 use Rattle.acpi_body.specs.steps.Gathering.{Paths, Grows}
 use Rattle.acpi_verdict.proofs.WantedPaths.{grow_none, grow_wanted, grow_unwanted}
 use Rattle.acpi_verdict.proofs.table_misses.add_among.Goals.{then-is_some+in_ok-copy+in_ok-add_path, else-is_some}
@@ -26,7 +26,7 @@ loop-path-preserved g c = λ now h.
     (elim c.if-is_some.branch [
       | then-is_some+in_ok-copy+in_ok-add_path w ↦
           grow_wanted wanted c.loop-path.missed c.if-is_some.missed now q (drop (i + 1) paths) (sym test ∙ w.if-is_some.true)
-          (w.missed-is ∙ w.in_ok-add_path.ensures ∙ ap (with_local c.loop-path.missed) w.in_ok-copy.ensures) h
+          (w.missed-is ∙ w.in_ok-add_path.ensures ∙ ap (with_path c.loop-path.missed) w.in_ok-copy.ensures) h
       | else-is_some w ↦
           grow_unwanted wanted c.loop-path.missed now q (drop (i + 1) paths) (sym test ∙ w.if-is_some.false)
           (subst (λ (m : Paths). Grows m now (λ (p : List Segment). Among (drop (i + 1) paths) p × IsTrue (wanted p))) w.missed-is h)

@@ -8,5 +8,5 @@ pub returns : goal.returns
 returns c = λ o.
     let part = part_of c.args.survey.now c.args.number in
     let is = c.part_of-part.ensures o.tile in
-    entry_put c.put_entry.result _ _ _ _ _ _ _ _ _ (c.declared_in-declared.ensures part is) (ap link_views c.deref.ensures.value ∙ c.in_ok-links.ensures o part is)
+    entry_put c.put_entry.result _ _ _ _ _ _ _ _ _ (c.object_kind-kind.ensures part is) (ap link_views c.deref.ensures.value ∙ c.in_ok-links.ensures o part is)
     (ap placed_views c.deref-2.ensures.value ∙ c.in_ok-condition.ensures o) c.put_entry.ensures

@@ -1,9 +1,10 @@
 use Rattle.std.proofs.Common.{◌∙◌, codes, subst}
+use Rattle.acpi_objects.specs.Declaring.{object_of}
 use Rattle.acpins_survey_output.specs.Json.{array, member, more_members_text, values_of}
 use Rattle.acpins_survey_output.specs.JsonEntries.{link_value, literal_value, place_of, term_members}
-use Rattle.acpins_survey_output.specs.JsonObjects.{declared_members}
-use Rattle.acpins_survey_output.specs.Listings.{condition_of, links_of, object_of, part_of}
-use Rattle.acpins_survey_output.specs.Objects.{ObjectParts}
+use Rattle.acpins_survey_output.specs.JsonObjects.{kind_members}
+use Rattle.acpins_survey_output.specs.Listings.{condition_of, links_of, part_of}
+use Rattle.acpi_objects.specs.Objects.{ObjectParts}
 use Rattle.acpins_survey_output.specs.steps.JsonPuts.{PutsMembers}
 use Rattle.acpins_survey_output.proofs.JsonPutting.{closed_put}
 use Rattle.acpins_survey_output.proofs.json_entries.put_entry.Goals as goal
@@ -16,7 +17,7 @@ returns c = λ o.
     let place = term_members (part_of s n) (place_of s n) in
     let lists = member (codes "links") (array (values_of link_value (links_of s n))) (member (codes "condition") (array (values_of literal_value (condition_of s n))) place) in
     let object = object_of (part_of s n) n in
-    let said = subst (λ (x : ObjectParts). PutsMembers (declared_members x) c.put_path_member.new.text.items c.put_declared.new.text.items) (c.declared_in-declared.ensures (part_of s n) is)
-    c.in_ok-put_declared.ensures in
+    let said = subst (λ (x : ObjectParts). PutsMembers (kind_members x) c.put_path_member.new.text.items c.put_object.new.text.items) (c.object_kind-kind.ensures (part_of s n) is)
+    c.in_ok-put_object.ensures in
     closed_put c.put_term_place.result c.args.text.now.items _ _ (more_members_text place) _
-    (c.in_ok-put_lists.ensures o is place ∙ said lists ∙ c.in_ok-put_path_member.ensures (declared_members object lists)) (c.put_term_place.ensures (part_of s n) is)
+    (c.in_ok-put_lists.ensures o is place ∙ said lists ∙ c.in_ok-put_path_member.ensures (kind_members object lists)) (c.put_term_place.ensures (part_of s n) is)

@@ -1,0 +1,249 @@
+//! Where the tables touch the machine: the regions by address space, in the order of their addresses.
+
+use crate::device_words::put_address;
+use crate::expressions::put_expression;
+use crate::words::{put_hex, put_last, put_short_path, put_size};
+use acpi_overview::{Address, AddressKind, Bound, Certainty, Overview, Region, kind_of};
+use acpi_text::{put, put_decimal, put_name};
+use std::alloc::{AllocError, Global};
+
+/// The word for an address space (ACPI 6.5, table 5.184).
+pub fn space_word(space: u8) -> &'static str {
+    match space {
+        0 => "memory",
+        1 => "ports",
+        2 => "config",
+        3 => "EC",
+        4 => "SMBus",
+        5 => "CMOS",
+        6 => "PCI BAR",
+        7 => "IPMI",
+        8 => "GPIO",
+        9 => "serial",
+        10 => "PCC",
+        11 => "PRM",
+        127 => "fixed hw",
+        _ => "vendor",
+    }
+}
+
+// How many digits an address has at least.
+fn digits_of(space: u8) -> u32 {
+    match space {
+        0 => 8,
+        1 => 4,
+        _ => 2,
+    }
+}
+
+// The device in whose configuration space a region lies.
+fn device_of(region: &Region<'_>, overview: &Overview<'_>) -> u64 {
+    match region.around.and_then(|n| overview.tree.containers.get(n)) {
+        Some(container) => match container.address {
+            Address::Pci { device, function } => {
+                u64::from(device) * 0x1_0000 + u64::from(function)
+            }
+            _ => u64::MAX,
+        },
+        None => u64::MAX,
+    }
+}
+
+/// The numbers of the regions by their spaces and addresses, those of which nothing is known before a run last.
+pub fn by_address(alloc: Global, overview: &Overview<'_>) -> Result<Vec<usize>, AllocError> {
+    let mut keys: Vec<(u8, u64, u64, usize)> = Vec::new(alloc);
+    for number in 0..overview.regions.len() {
+        let region = &overview.regions[number];
+        let device = if region.space == 2 {
+            device_of(region, overview)
+        } else {
+            0
+        };
+        let address = match region.offset.number() {
+            Some(address) => address,
+            None => u64::MAX,
+        };
+        keys.push((region.space, device, address, number))?;
+    }
+    keys.sort_unstable();
+    let mut numbers = Vec::new(alloc);
+    for (_, _, _, number) in &keys {
+        numbers.push(*number)?;
+    }
+    Ok(numbers)
+}
+
+/// The sign of how far the bounds of a region are known: `=` constants, `~` names of constants that are never stored
+/// to, `?` read at run time.
+pub fn mark_of(region: &Region<'_>) -> &'static str {
+    match region.mark() {
+        Certainty::Constant => "=",
+        Certainty::Named => "~",
+        Certainty::Read => "?",
+    }
+}
+
+fn put_bound(text: &mut Vec<u8>, bound: &Bound<'_>, digits: u32) -> Result<(), AllocError> {
+    match bound {
+        Bound::Constant(number) => put_hex(text, *number, digits),
+        Bound::Named(number, _) => put_hex(text, *number, digits),
+        Bound::Read(term) => put_expression(text, term),
+    }
+}
+
+// The device in whose configuration space a region lies.
+fn put_device(
+    text: &mut Vec<u8>,
+    overview: &Overview<'_>,
+    region: &Region<'_>,
+) -> Result<(), AllocError> {
+    match region.around.and_then(|n| overview.tree.containers.get(n)) {
+        Some(container) => {
+            if container.values.adr.is_missing() {
+                return put(text, "?");
+            }
+            put_address(text, container)
+        }
+        None => put(text, "?"),
+    }
+}
+
+/// Puts the addresses of a region: the first and the last, or what gives them.
+pub fn put_addresses(
+    text: &mut Vec<u8>,
+    overview: &Overview<'_>,
+    region: &Region<'_>,
+) -> Result<(), AllocError> {
+    let digits = digits_of(region.space);
+    if region.space == 2 {
+        put_device(text, overview, region)?;
+        put(text, " ")?;
+    }
+    match region.range() {
+        Some((from, to)) => {
+            put_hex(text, from, digits)?;
+            put(text, "-")?;
+            put_hex(text, to.saturating_sub(1), digits)
+        }
+        None => {
+            put_bound(text, &region.offset, digits)?;
+            match region.length.number() {
+                Some(_) => Ok(()),
+                None => {
+                    put(text, " +")?;
+                    put_bound(text, &region.length, 1)
+                }
+            }
+        }
+    }
+}
+
+/// Puts the number of bytes of a region; nothing where only a run tells.
+pub fn put_length(text: &mut Vec<u8>, region: &Region<'_>) -> Result<(), AllocError> {
+    match region.length.number() {
+        Some(length) => put_size(text, length),
+        None => put(text, "?"),
+    }
+}
+
+/// Puts how many field units are in a region.
+pub fn put_units(text: &mut Vec<u8>, region: &Region<'_>) -> Result<(), AllocError> {
+    put_decimal(text, region.units as u64)?;
+    put(text, if region.units == 1 { " unit" } else { " units" })
+}
+
+fn put_source(text: &mut Vec<u8>, bound: &Bound<'_>) -> Result<(), AllocError> {
+    if let Bound::Named(_, name) = bound {
+        if !text.is_empty() {
+            put(text, ", ")?;
+        }
+        put_name(text, name.view())?;
+    }
+    Ok(())
+}
+
+// By which devices a range is claimed, and from where on by none.
+fn put_claimed(
+    text: &mut Vec<u8>,
+    overview: &Overview<'_>,
+    kind: AddressKind,
+    from: u64,
+    to: u64,
+    digits: u32,
+) -> Result<(), AllocError> {
+    let cover = overview.claims.cover(kind, from, to)?;
+    if cover.to <= from {
+        return put(text, "no _CRS");
+    }
+    let mut is_first = true;
+    for number in &cover.containers {
+        if let Some(container) = overview.tree.containers.get(*number) {
+            put(text, if is_first { "_CRS of " } else { ", " })?;
+            is_first = false;
+            put_last(text, container.object.path)?;
+        }
+    }
+    if cover.to < to {
+        put(text, ", ")?;
+        put_hex(text, cover.to, digits)?;
+        put(text, "-")?;
+        put_hex(text, to.saturating_sub(1), digits)?;
+        put(text, " none")?;
+    }
+    Ok(())
+}
+
+// The field unit from which the first byte of a region is read: `MHBR: config 00.0 bit 591+24`.
+fn put_unit(
+    alloc: Global,
+    text: &mut Vec<u8>,
+    overview: &Overview<'_>,
+    number: usize,
+) -> Result<(), AllocError> {
+    let Some(source) = overview.source_of(alloc, number)? else {
+        return Ok(());
+    };
+    let Some(region) = overview.regions.get(source.region) else {
+        return Ok(());
+    };
+    put_last(text, source.unit.path)?;
+    put(text, ": ")?;
+    put(text, space_word(region.space))?;
+    put(text, " ")?;
+    if region.space == 2 {
+        put_device(text, overview, region)?;
+    } else {
+        put_last(text, region.object.path)?;
+    }
+    put(text, " bit ")?;
+    put_decimal(text, source.offset)?;
+    put(text, "+")?;
+    put_decimal(text, u64::from(source.bits))
+}
+
+/// Puts what gives the bounds of the region of that number, and whose `_CRS` claims it.
+pub fn put_origin(
+    alloc: Global,
+    text: &mut Vec<u8>,
+    overview: &Overview<'_>,
+    number: usize,
+) -> Result<(), AllocError> {
+    let Some(region) = overview.regions.get(number) else {
+        return Ok(());
+    };
+    put_source(text, &region.offset)?;
+    put_source(text, &region.length)?;
+    put_unit(alloc, text, overview, number)?;
+    let (Some(kind), Some((from, to))) = (kind_of(region.space), region.range()) else {
+        return Ok(());
+    };
+    if !text.is_empty() {
+        put(text, "; ")?;
+    }
+    put_claimed(text, overview, kind, from, to, digits_of(region.space))
+}
+
+/// Puts the path of a region.
+pub fn put_region_path(text: &mut Vec<u8>, region: &Region<'_>) -> Result<(), AllocError> {
+    put_short_path(text, region.object.path)
+}
