@@ -5,8 +5,8 @@ use Rattle.std.proofs.lemmas.List.{length-append, take_at, drop_at}
 use Rattle.std.proofs.lemmas.List.Elements.{recursion_from_All}
 use Rattle.acpi_table.specs.Tables.{length_field, IsTable}
 use Rattle.acpi_table.proofs.TableLaws.{length_field-append}
-use Rattle.acpi_survey.specs.Pieces.{IsFront, ArePieces}
-use Rattle.acpi_survey.proofs.FilePieces.{one}
+use Rattle.acpi_pieces.specs.Pieces.{IsFront, ArePieces}
+use Rattle.acpi_pieces.proofs.FilePieces.{one}
 use Rattle.acpi_conservative.specs.Laws.{StrictFileIsCut}
 
 whole_front : (table rest : List ℕ) → IsTable table → IsFront table (table ++ rest)

@@ -41,7 +41,7 @@ use Rattle.acpi_survey.specs.Bodies.{entry_count}
 use Rattle.acpi_survey.specs.EntryBodies.{IsBodyOf}
 use Rattle.acpi_survey.specs.Findings.{problems_in, notes_by}
 use Rattle.acpi_survey.specs.Notes.{Unknowns}
-use Rattle.acpi_survey.specs.Pieces.{ArePieces}
+use Rattle.acpi_pieces.specs.Pieces.{ArePieces}
 use Rattle.acpi_survey.specs.Ranges.{Entered}
 use Rattle.acpi_survey.specs.Surveys.{AreTables, bytes_of}
 use Rattle.acpi_survey.specs.Tables.{IsJudged}

@@ -10,7 +10,8 @@ use Rattle.acpi_survey.specs.declared.tables.TableReason.{TableReason}
 use Rattle.acpi_survey.specs.declared.tables.TableReason.TheVariants.{Table, NotDsdt, NotSsdt}
 use Rattle.acpi_survey.specs.declared.tables.TableContent.{TableContent}
 use Rattle.acpi_survey.specs.declared.tables.TableContent.TheVariants.{Unread, Read}
-use Rattle.acpi_survey.specs.Tables.{IsDsdt, IsSsdt, HasLength, HasBadSum, IsOutOfPlace, IsJudged, code_in}
+use Rattle.acpi_pieces.specs.Pieces.{HasLength}
+use Rattle.acpi_survey.specs.Tables.{IsDsdt, IsSsdt, HasBadSum, IsOutOfPlace, IsJudged, code_in}
 use Rattle.acpi_survey.specs.Survey.{code_read}
 
 -- ---- what can be told

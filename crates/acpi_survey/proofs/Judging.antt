@@ -7,7 +7,8 @@ use Rattle.acpi_table.specs.declared.tables.TableFault.TheVariants.{Short, BadLe
 use Rattle.acpi_table.specs.declared.tables.TableFault.{TableFault}
 use Rattle.acpi_survey.specs.declared.tables.TableReason.TheVariants.{Table}
 use Rattle.acpi_survey.specs.declared.tables.TableContent.TheVariants.{Unread}
-use Rattle.acpi_survey.specs.Tables.{HasLength, HasBadSum, IsJudged, code_in}
+use Rattle.acpi_pieces.specs.Pieces.{HasLength}
+use Rattle.acpi_survey.specs.Tables.{HasBadSum, IsJudged, code_in}
 
 pub length_of_cut : (bytes : List ℕ) → IsRefusedAs Cut bytes → HasLength bytes
 length_of_cut bytes cut = record { has_header = cut.0; least = cut.1; most = cut.2 }

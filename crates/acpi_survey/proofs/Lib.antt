@@ -1,4 +1,3 @@
-pub mod FilePieces
 mod Judging
 pub mod Judgements
 pub mod OneReading

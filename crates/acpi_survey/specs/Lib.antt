@@ -1,6 +1,5 @@
 pub mod Needs
 pub mod Tables
-pub mod Pieces
 pub mod Counts
 pub mod Bodies
 pub mod Nodes

@@ -2,6 +2,7 @@
 use Rattle.std.specs.Prelude.{◌≡◌, ◌≢◌, ◌⊎◌, ◌↔◌, ◌-◌, ◌<◌, ◌≤◌, ℕ, IsTrue, List, length, take, drop, codes}
 use Rattle.acpi_table.specs.Tables.{sum_of, length_field, IsRefusedAs}
 use Rattle.acpi_table.specs.declared.tables.TableFault.TheVariants.{Short, BadLength, TooLong}
+use Rattle.acpi_pieces.specs.Pieces.{HasLength}
 use Rattle.acpi_survey.specs.declared.tables.TableReason.TheVariants.{Table, NotDsdt, NotSsdt}
 use Rattle.acpi_survey.specs.declared.tables.TableContent.{TableContent}
 use Rattle.acpi_survey.specs.declared.tables.TableContent.TheVariants.{Unread, Read}
@@ -11,12 +12,6 @@ IsDsdt bytes = take 4 bytes ≡ codes "DSDT"
 
 abbrev pub IsSsdt : List ℕ → Type 0
 IsSsdt bytes = take 4 bytes ≡ codes "SSDT"
-
--- there is a header, and the table's length is a possible one
-pub record HasLength (bytes : List ℕ) : Type 0 where
-  pub has_header : 36 ≤ length bytes
-  pub least : 36 ≤ length_field bytes
-  pub most : length_field bytes ≤ 16777216
 
 -- the code: what stands behind the header, up to the table's length or, before it, to the last byte
 abbrev pub code_in : List ℕ → List ℕ

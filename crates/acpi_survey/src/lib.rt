@@ -2,7 +2,7 @@
 //! (ACPI 6.5, 5.2.11, 5.3 and 20.2.5). None of their code is run, and no table is refused.
 //!
 //! ```text
-//! file ──pieces──► tables ──judge──► code ──read_outline──► nodes
+//! tables ──judge──► code ──read_outline──► nodes
 //!                                              │
 //!                             a walk over nodes, which counts what follows a name
 //!                                              ▼
@@ -29,7 +29,6 @@ mod condition;
 mod counts;
 pub mod entry_laws;
 mod entry_parts;
-mod file;
 mod findings;
 mod index;
 mod known;
@@ -62,7 +61,6 @@ mod tables;
 pub use body::{BodyReading, MethodBody};
 pub use condition::{Literal, PlacedLiteral};
 pub use entry_parts::site_of;
-pub use file::{pieces, pieces_make_the_file};
 pub use index::PlaceIndex;
 pub use links::Link;
 pub use lookup::node_at;

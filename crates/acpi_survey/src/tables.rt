@@ -2,10 +2,11 @@
 
 ghost use Rattle.std.specs.Prelude.{◌≡◌, ◌⊎◌, ◌↔◌, ◌-◌, ◌≤◌, ℕ, List, IfOk, IsTrue, length, take, codes};
 ghost use Rattle.acpi_table.specs.Tables.{length_field};
-ghost use Rattle.acpi_survey.specs.Tables.{IsDsdt, IsSsdt, IsJudged, IsOutOfPlace, HasLength, HasBadSum, code_in};
+ghost use Rattle.acpi_pieces.specs.Pieces.{HasLength};
+ghost use Rattle.acpi_survey.specs.Tables.{IsDsdt, IsSsdt, IsJudged, IsOutOfPlace, HasBadSum, code_in};
 
+use acpi_pieces::length_field;
 use acpi_table::{HEADER_BYTES, TableFault, split_table};
-use byteorder::{ByteOrder, LittleEndian};
 use bytes::Bytes;
 use std::alloc::AllocError;
 
@@ -80,14 +81,6 @@ fn unread(number: usize) -> TableContent
     }
 }
 
-// The number of bytes that the header says.
-pub(crate) fn length_in(bytes: &[u8]) -> usize
-    requires { 8 ≤ length bytes.now }
-    ensures { result ≡ length_field bytes.now }
-{
-    LittleEndian::read_u32(&bytes[4..]) as usize
-}
-
 // Whether a table has another signature than one of its number should.
 fn is_out_of_place(number: usize, signature: [u8; 4]) -> bool
     ensures { (bytes : List ℕ) → signature ≡ take 4 bytes
@@ -110,7 +103,7 @@ fn read(number: usize, bytes: &Bytes, has_bad_sum: bool) -> Result<TableContent,
     if !is_block(signature) {
         return Ok(unread(number));
     }
-    let length = length_in(bytes);
+    let length = length_field(bytes);
     let end = length.min(bytes.len());
     Ok(TableContent::Read {
         code: bytes.slice(HEADER_BYTES..end)?,

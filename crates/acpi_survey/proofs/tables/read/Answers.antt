@@ -7,7 +7,7 @@ use Rattle.acpi_survey.proofs.tables.read.Goals as goal
 pub returns : goal.returns
 returns c =
     let text : c.signature-signature.result ≡ take 4 c.args.bytes.now = c.signature-signature.ensures ∙ ap (take 4) c.deref.ensures in
-    let l : c.length_in-length.result ≡ length_field c.args.bytes.now = c.length_in-length.ensures ∙ ap length_field c.deref-2.ensures in
+    let l : c.length_field-length.result ≡ length_field c.args.bytes.now = c.length_field-length.ensures ∙ ap length_field c.deref-2.ensures in
     let block : IsDsdt c.args.bytes.now ⊎ IsSsdt c.args.bytes.now = grind arith in
     let end_is : c.min-end.result ≡ min (length_field c.args.bytes.now) (length c.args.bytes.now) = omega (arith, l, c.len.ensures.value, c.min-end.ensures) in
     let code : c.in_ok-slice.field-0 ≡ code_in c.args.bytes.now =

@@ -1,13 +1,21 @@
 //! The tables in a file.
 
 ghost use Rattle.std.specs.Prelude.{◌≡◌, ◌↔◌, ◌<◌, ◌≤◌, IfOk, IsTrue, length, take};
-ghost use Rattle.acpi_survey.specs.Tables.{HasLength};
-ghost use Rattle.acpi_survey.specs.Pieces.{IsFront, ArePieces, PiecesMakeTheFile, PiecesAreOne};
+ghost use Rattle.acpi_table.specs.Tables.{length_field};
+ghost use Rattle.acpi_pieces.specs.Pieces.{HasLength, IsFront, ArePieces, PiecesMakeTheFile, PiecesAreOne};
 
-use crate::tables::length_in;
 use acpi_table::{HEADER_BYTES, TABLE_LIMIT};
+use byteorder::{ByteOrder, LittleEndian};
 use bytes::Bytes;
 use std::alloc::{AllocError, Global};
+
+/// The Length field of a table's header, in bytes: how long the table is by its own account (ACPI 6.5, 5.2.6).
+pub fn length_field(bytes: &[u8]) -> usize
+    requires { 8 ≤ length bytes.now }
+    ensures { result ≡ length_field bytes.now }
+{
+    LittleEndian::read_u32(&bytes[4..]) as usize
+}
 
 // Whether a table of a possible length begins there.
 fn has_length(bytes: &[u8]) -> bool
@@ -16,7 +24,7 @@ fn has_length(bytes: &[u8]) -> bool
     if bytes.len() < HEADER_BYTES {
         return false;
     }
-    let length = length_in(bytes);
+    let length = length_field(bytes);
     HEADER_BYTES <= length && length <= TABLE_LIMIT
 }
 
@@ -30,7 +38,7 @@ fn front_length(bytes: &[u8]) -> usize
     if !has_length(bytes) {
         return bytes.len();
     }
-    length_in(bytes).min(bytes.len())
+    length_field(bytes).min(bytes.len())
 }
 
 /// The tables in a file, one after another, none of them copied. A table that the file's end cuts, or what begins no

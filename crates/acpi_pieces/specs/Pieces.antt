@@ -1,8 +1,13 @@
 -- The tables in a file, one after another (ACPI 6.5, 5.2.6).
-use Rattle.std.specs.Prelude.{◌≡◌, ◌≢◌, ℕ, List, [], ◌∷◌, ◌++◌, length, take, drop}
+use Rattle.std.specs.Prelude.{◌≡◌, ◌≢◌, ◌≤◌, ℕ, List, [], ◌∷◌, ◌++◌, length, take, drop}
 use Rattle.std.specs.List.{All, concat}
 use Rattle.acpi_table.specs.Tables.{length_field}
-use Rattle.acpi_survey.specs.Tables.{HasLength}
+
+-- there is a header, and the table's length is a possible one
+pub record HasLength (bytes : List ℕ) : Type 0 where
+  pub has_header : 36 ≤ length bytes
+  pub least : 36 ≤ length_field bytes
+  pub most : length_field bytes ≤ 16777216
 
 -- The piece at the front: a table of a possible length, or as much of it as is there; or else all that is left.
 pub record IsFront (piece bytes : List ℕ) : Type 0 where

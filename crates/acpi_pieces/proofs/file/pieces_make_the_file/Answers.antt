@@ -1,5 +1,5 @@
-use Rattle.acpi_survey.proofs.FilePieces.{made, one}
-use Rattle.acpi_survey.proofs.file.pieces_make_the_file.Goals as goal
+use Rattle.acpi_pieces.proofs.FilePieces.{made, one}
+use Rattle.acpi_pieces.proofs.file.pieces_make_the_file.Goals as goal
 
 pub returns-clause-whole : goal.returns-clause-whole
 returns-clause-whole c = made

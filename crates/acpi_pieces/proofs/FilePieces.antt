@@ -6,8 +6,7 @@ use Rattle.std.proofs.lemmas.Bool.{ltb-true, ltb-false}
 use Rattle.std.specs.List.{All, concat}
 use Rattle.acpi_table.specs.Tables.{length_field}
 use Rattle.acpi_table.proofs.TableLaws.{length_field-append}
-use Rattle.acpi_survey.specs.Tables.{HasLength}
-use Rattle.acpi_survey.specs.Pieces.{IsFront, ArePieces, PiecesMakeTheFile}
+use Rattle.acpi_pieces.specs.Pieces.{HasLength, IsFront, ArePieces, PiecesMakeTheFile}
 
 -- ---- whether a table of a possible length begins there
 

@@ -1,7 +1,7 @@
 use Rattle.std.proofs.Common.{◌≡◌, ◌≤◌, ◌-◌, ℕ, List, [], ◌∷◌, ◌++◌, length, take, drop, sym, ap, subst, ◌∙◌, append-nil, append_assoc, arith}
 use Rattle.std.proofs.lemmas.List.{length-take-le, length-drop, nil_from_length}
-use Rattle.acpi_survey.specs.Pieces.{IsFront, ArePieces}
-use Rattle.acpi_survey.proofs.file.pieces.Goals as goal
+use Rattle.acpi_pieces.specs.Pieces.{IsFront, ArePieces}
+use Rattle.acpi_pieces.proofs.file.pieces.Goals as goal
 
 pub each-init : goal.each-init
 each-init c = λ more are.

@@ -1,6 +1,6 @@
 use Rattle.std.proofs.Common.{ℕ, List, ◌++◌, length}
-use Rattle.acpi_survey.specs.Pieces.{ArePieces}
-use Rattle.acpi_survey.proofs.file.pieces.Given as goal
+use Rattle.acpi_pieces.specs.Pieces.{ArePieces}
+use Rattle.acpi_pieces.proofs.file.pieces.Given as goal
 
 -- what are pieces of the rest are, behind those that are there, pieces of the file
 abbrev pub invariant-each : goal.invariant-each
