@@ -2,7 +2,7 @@
 
 use crate::words::{put_count, put_counted, put_escaped, put_hex};
 use acpi_overview::{Overview, TableHeader, Totals, header_of, is_sum_good};
-use acpi_survey::SurveyedTable;
+use acpi_survey::{SurveyedTable, TableContent, TableReason};
 use acpi_text::{put, put_decimal};
 use std::alloc::AllocError;
 
@@ -34,7 +34,22 @@ fn put_header(text: &mut Vec<u8>, header: &TableHeader<'_>) -> Result<(), AllocE
     put_hex(text, u64::from(header.creator_revision), 8)
 }
 
-/// Puts a table: its number, its file, its header, and whether its bytes sum to 0.
+// Says that nothing of a table is read, and of one that is neither a DSDT nor an SSDT what it is.
+fn put_unread(text: &mut Vec<u8>, table: &SurveyedTable) -> Result<(), AllocError> {
+    let TableContent::Unread(reason) = &table.judged else {
+        return Ok(());
+    };
+    put(text, "  ")?;
+    match (reason, header_of(&table.bytes)) {
+        (TableReason::Table(_), _) | (_, None) => put(text, "not read"),
+        (_, Some(header)) => {
+            put_escaped(text, header.signature)?;
+            put(text, ": not read")
+        }
+    }
+}
+
+/// Puts a table: its number, its file, its header, and whether its bytes sum to 0 or aren't read.
 pub fn put_table(
     text: &mut Vec<u8>,
     number: usize,
@@ -57,7 +72,7 @@ pub fn put_table(
     match is_sum_good(table) {
         Some(true) => put(text, "  sum good"),
         Some(false) => put(text, "  sum bad"),
-        None => Ok(()),
+        None => put_unread(text, table),
     }
 }
 
