@@ -38,7 +38,8 @@ class Proofs(threading.Thread):
             return
         name = words[words.index(b"--crate-name") + 1].decode()
         fields = bytes_of(f"{process}/stat").decode().rpartition(")")[2].split()
-        self.seconds[name] = max(self.seconds.get(name, 0), (int(fields[11]) + int(fields[12])) / TICKS)
+        # Its own, and those of the processes that it has started and awaited.
+        self.seconds[name] = max(self.seconds.get(name, 0), sum(map(int, fields[11:15])) / TICKS)
 
     def run(self):
         while True:
