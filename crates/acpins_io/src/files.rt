@@ -72,6 +72,12 @@ pub trait Files {
         ensures stays { bytes_of self.new ≡ bytes_of self.old }
         ensures others { written_to self.new ≡ written_to self.old };
 
+    /// Whether the name is that of a pipe, a device or a standard stream. What is written to such a one replaces nothing,
+    /// and a read of it may wait without end.
+    fn is_stream(&self, _name: &str) -> bool {
+        false
+    }
+
     /// Makes a file, which is to stand under that name once it is closed; what stands there stays until then. Files
     /// are made one at a time: the next one is made when this one was closed or given up.
     fn create(&mut self, name: &str) -> Result<Self::W, FileFault>
@@ -95,7 +101,7 @@ pub trait Files {
     {}
 }
 
-// Writes the bytes, and no fewer.
+// Writes the bytes, and what the writer holds back of them.
 fn write_and_flush<W: Write>(file: &mut W, bytes: &[u8]) -> io::Result<()>
     ensures { OnOk result (Appends (W.contents file.old) (W.contents file.new) bytes.now) }
 {

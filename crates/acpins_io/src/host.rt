@@ -135,7 +135,7 @@ impl<'a> HostFiles<'a> {
         }
     }
 
-    fn is_stream(&self, name: &str) -> bool {
+    fn is_standard(&self, name: &str) -> bool {
         self.has_streams && name == STREAM_NAME
     }
 
@@ -211,7 +211,7 @@ impl<'a> Files for HostFiles<'a> {
     type W = HostFile;
 
     fn open(&mut self, name: &str) -> Result<HostReader, FileFault> {
-        let source = if self.is_stream(name) {
+        let source = if self.is_standard(name) {
             Source::Stdin(self.rt.stdin())
         } else {
             Source::File(File::open(self.rt, name)?)
@@ -219,8 +219,18 @@ impl<'a> Files for HostFiles<'a> {
         Ok(HostReader { source })
     }
 
+    fn is_stream(&self, name: &str) -> bool {
+        if self.is_standard(name) {
+            return true;
+        }
+        match fs::metadata(self.rt, name) {
+            Ok(found) => !found.is_file() && !found.is_dir(),
+            Err(_) => false,
+        }
+    }
+
     fn create(&mut self, name: &str) -> Result<HostFile, FileFault> {
-        if self.is_stream(name) {
+        if self.is_standard(name) {
             let sink = Sink::Stdout(self.rt.stdout());
             return Ok(HostFile { sink });
         }
