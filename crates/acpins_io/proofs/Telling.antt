@@ -1,5 +1,5 @@
 -- Parts of a line that are told one after another.
-use Rattle.std.proofs.Common.{◌≡◌, Bool, true, false, ℕ, ◌+◌, List, [], ◌∷◌, ◌++◌, take, drop, take-append-drop, take_all, get_or, length, length-drop, ◌-◌, ◌≤◌, ◌<◌, le_of_eq, arith, refl, sym, ap, ◌∙◌, append_assoc, append-nil, Option, Some, None}
+use Rattle.std.proofs.Common.{◌≡◌, Bool, true, false, ℕ, ◌+◌, List, [], ◌++◌, take, drop, take-append-drop, take_all, length, length-drop, ◌-◌, ◌≤◌, le_of_eq, arith, refl, sym, ap, ◌∙◌, append_assoc, append-nil, Option, Some, None}
 use Rattle.std.proofs.Math.Seq.{take-add}
 use Rattle.std.specs.Io.KnownBytes.{Appends, Keeps}
 use Rattle.std.proofs.KnownBytes.{Appends-trans, Appends-nil}

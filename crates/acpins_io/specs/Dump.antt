@@ -1,6 +1,6 @@
 -- The text that the program `acpidump` writes of tables: for each a line with its signature and its address, and under
 -- that a row for every 16 of its bytes.
-use Rattle.std.specs.Prelude.{ℕ, zero, suc, ◌+◌, ◌*◌, Bool, false, ◌&&◌, ◌==◌, nat_eq, if◌then◌else◌, List, [], ◌∷◌, ◌++◌, drop, Option, Some, None, option_and_then, option_map, codes}
+use Rattle.std.specs.Prelude.{ℕ, zero, suc, ◌+◌, ◌*◌, Bool, false, ◌&&◌, ◌||◌, ◌==◌, nat_eq, if◌then◌else◌, List, [], ◌∷◌, ◌++◌, drop, Option, None, option_and_then, option_map, codes}
 use Rattle.std.specs.Option.{option_map_or}
 use Rattle.std.specs.List.{slice_split, starts_with}
 use Rattle.hex.specs.Hex.{hex_digit_value}
@@ -12,6 +12,12 @@ lines_of text = slice_split (λ c. c == 10) text
 abbrev pub is_header : List ℕ → Bool
 is_header (a ∷ b ∷ c ∷ d ∷ rest) = starts_with nat_eq rest (codes " @ 0x")
 is_header _ = false
+
+-- a DSDT or an SSDT begins there, or a text of such blocks (ACPI 6.5, 5.2.6: a table begins with its signature)
+abbrev pub begins_as_tables : List ℕ → Bool
+begins_as_tables bytes =
+    starts_with nat_eq bytes (codes "DSDT") || starts_with nat_eq bytes (codes "SSDT")
+    || is_header bytes
 
 -- ---- a row
 

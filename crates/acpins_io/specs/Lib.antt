@@ -3,3 +3,4 @@ pub mod Hexadecimal
 pub mod Dump
 pub mod steps
 pub mod FilesWritten
+pub mod Faults

@@ -7,7 +7,7 @@
 //! ```
 
 ghost use Rattle.std.specs.Prelude.{◌≡◌, ◌≤◌, ◌++◌, IfOk, IfSome, OnOk, length, map};
-ghost use Rattle.acpins_io.specs.Dump.{behind_offset, blocks_of, byte_at, bytes_at, bytes_under, is_header, lines_of, row_bytes, tables_of_dump};
+ghost use Rattle.acpins_io.specs.Dump.{begins_as_tables, behind_offset, blocks_of, byte_at, bytes_at, bytes_under, is_header, lines_of, row_bytes, tables_of_dump};
 
 use crate::hexadecimal::digit_value;
 use std::alloc::{AllocError, Global};
@@ -24,6 +24,13 @@ pub fn is_header(text: &[u8]) -> bool
         [_, _, _, _, rest @ ..] => rest.starts_with(b" @ 0x"),
         _ => false,
     }
+}
+
+/// Whether the bytes begin as a table does (`DSDT`, `SSDT`), or as the text that `acpidump` writes.
+pub fn begins_as_tables(bytes: &[u8]) -> bool
+    ensures { result ≡ begins_as_tables bytes.now }
+{
+    bytes.starts_with(b"DSDT") || bytes.starts_with(b"SSDT") || is_header(bytes)
 }
 
 // The byte whose two digits stand behind a blank.

@@ -1,24 +1,34 @@
 //! The files that a run opens and makes.
 
 ghost use Rattle.std.specs.Prelude.{◌≡◌, ◌≢◌, ℕ, List, [], Option, Some, None, IfOk, OnOk, OnErr, IfSome, ⊤};
-ghost use Rattle.std.specs.Io.KnownBytes.{Keeps};
+ghost use Rattle.std.specs.Io.KnownBytes.{Appends, Keeps};
+ghost use Rattle.std.specs.IoError.{error_kind};
+ghost use Rattle.acpins_io.specs.Faults.{fault_of};
 ghost use Rattle.acpins_io.specs.FilesWritten.{Holds};
 ghost use Rattle.acpins_io.specs.declared.files.FileFault.{FileFault};
 
 use std::alloc::{AllocError, AllocFailed};
-use std::io::{Read, Write};
+use std::io;
+use std::io::{ErrorKind, Read, Write};
 
-/// Why a file can't be had.
+/// Why a file can't be opened, made, read, written or ended.
 #[derive(Clone, Copy, Debug, PartialEq, Eq)]
 pub enum FileFault {
-    /// No file has that name.
-    Missing,
-    /// The file may not be opened.
-    Denied,
-    /// The file could not be opened, made, read or ended for another reason.
-    Device,
+    /// The host refused it, with an error of this kind.
+    Host(ErrorKind),
     /// A growth of memory was refused.
     Memory,
+}
+
+impl From<io::Error> for FileFault {
+    ghost from_gives = { λ e f. f ≡ fault_of (error_kind e) };
+
+    fn from(error: io::Error) -> FileFault {
+        match error.kind() {
+            ErrorKind::OutOfMemory => FileFault::Memory,
+            kind => FileFault::Host(kind),
+        }
+    }
 }
 
 impl From<AllocError> for FileFault {
@@ -62,6 +72,12 @@ pub trait Files {
         ensures stays { bytes_of self.new ≡ bytes_of self.old }
         ensures others { written_to self.new ≡ written_to self.old };
 
+    /// Whether the name is that of a pipe, a device or a standard stream. What is written to such a one replaces nothing,
+    /// and a read of it may wait without end.
+    fn is_stream(&self, _name: &str) -> bool {
+        false
+    }
+
     /// Makes a file, which is to stand under that name once it is closed; what stands there stays until then. Files
     /// are made one at a time: the next one is made when this one was closed or given up.
     fn create(&mut self, name: &str) -> Result<Self::W, FileFault>
@@ -85,6 +101,14 @@ pub trait Files {
     {}
 }
 
+// Writes the bytes, and what the writer holds back of them.
+fn write_and_flush<W: Write>(file: &mut W, bytes: &[u8]) -> io::Result<()>
+    ensures { OnOk result (Appends (W.contents file.old) (W.contents file.new) bytes.now) }
+{
+    file.write_all(bytes)?;
+    file.flush()
+}
+
 /// Makes the file of that name, and writes the bytes to it. Where that fails, what stands under the name stays.
 pub fn write_file<F: Files>(files: &mut F, name: &str, bytes: &[u8]) -> Result<(), FileFault>
     ensures held { OnOk result (Holds (F.written_to files.old name.now)
@@ -94,10 +118,9 @@ pub fn write_file<F: Files>(files: &mut F, name: &str, bytes: &[u8]) -> Result<(
     ensures left { OnErr result (F.written_to files.new ≡ F.written_to files.old) }
 {
     let mut file = files.create(name)?;
-    let is_written = file.write_all(bytes).is_ok() && file.flush().is_ok();
-    if !is_written {
+    if let Err(error) = write_and_flush(&mut file, bytes) {
         files.abandon(file);
-        return Err(FileFault::Device);
+        return Err(FileFault::from(error));
     }
     files.close(file)
 }

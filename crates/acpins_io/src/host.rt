@@ -1,13 +1,8 @@
 //! The files of the host.
 
-ghost use Rattle.std.specs.Prelude.{◌≡◌, ◌↔◌};
-ghost use Rattle.std.specs.IoError.{error_kind};
-ghost use Rattle.std.specs.declared.io.ErrorKind.TheVariants.{OutOfMemory};
-ghost use Rattle.acpins_io.specs.declared.files.FileFault.{FileFault};
-
 use crate::files::{FileFault, Files};
 use std::fs::{File, Metadata};
-use std::io::{ErrorKind, Write};
+use std::io::{ErrorKind, Read, Stdin, Stdout, Write};
 use std::os::unix::fs::{MetadataExt, OpenOptionsExt, fchown};
 use std::path::{Path, PathBuf};
 use std::{fs, io};
@@ -18,18 +13,8 @@ const MOST_LINKS: u32 = 40;
 /// How many names are tried for a new file: each may be that of one which a run left that was killed.
 const MOST_NAMES: u32 = 1000;
 
-impl From<io::Error> for FileFault {
-    ghost from_gives = { λ e f. (f ≡ FileFault.Memory) ↔ (error_kind e ≡ OutOfMemory) };
-
-    fn from(error: io::Error) -> FileFault {
-        match error.kind() {
-            ErrorKind::OutOfMemory => FileFault::Memory,
-            ErrorKind::NotFound => FileFault::Missing,
-            ErrorKind::PermissionDenied => FileFault::Denied,
-            _ => FileFault::Device,
-        }
-    }
-}
+/// The name of the standard streams.
+const STREAM_NAME: &str = "-";
 
 /// The files of the host. One that is made is written beside the one in whose place it is to stand, and put there
 /// once it is whole: until then, and where that fails, the old one stays as it was. Pipes and devices are written as
@@ -37,14 +22,34 @@ impl From<io::Error> for FileFault {
 #[derive(Drop)]
 pub struct HostFiles<'a> {
     rt: &'a HostRuntime,
+    has_streams: bool,
 }
 
-/// A file of the host that is written.
+/// A file of the host that is read, or its standard input.
+#[derive(Drop)]
+pub struct HostReader {
+    source: Source,
+}
+
+#[derive(Drop)]
+enum Source {
+    Stdin(Stdin),
+    File(File),
+}
+
+/// A file of the host that is written, or its standard output.
 #[derive(Drop)]
 pub struct HostFile {
-    file: File,
-    // None of one that is written in its place.
-    rename: Option<Rename>,
+    sink: Sink,
+}
+
+#[derive(Drop)]
+enum Sink {
+    Stdout(Stdout),
+    // A file that is written in its place.
+    InPlace(File),
+    // A new file, which gets its path once it is whole.
+    Beside(File, Rename),
 }
 
 // The path of a new file, and the one that it gets once it is whole.
@@ -63,13 +68,30 @@ enum Target {
     Stream(File),
 }
 
+impl Read for HostReader {
+    fn read(&mut self, bytes: &mut [u8]) -> io::Result<usize> {
+        match &mut self.source {
+            Source::Stdin(stdin) => stdin.read(bytes),
+            Source::File(file) => file.read(bytes),
+        }
+    }
+}
+
 impl Write for HostFile {
     fn write(&mut self, bytes: &[u8]) -> io::Result<usize> {
-        self.file.write(bytes)
+        match &mut self.sink {
+            Sink::Stdout(stdout) => stdout.write(bytes),
+            Sink::InPlace(file) => file.write(bytes),
+            Sink::Beside(file, _) => file.write(bytes),
+        }
     }
 
     fn flush(&mut self) -> io::Result<()> {
-        self.file.flush()
+        match &mut self.sink {
+            Sink::Stdout(stdout) => stdout.flush(),
+            Sink::InPlace(file) => file.flush(),
+            Sink::Beside(file, _) => file.flush(),
+        }
     }
 }
 
@@ -78,6 +100,14 @@ fn folder_of<'a>(path: Path<'a>) -> Path<'a> {
     match path.parent() {
         Some(folder) if !folder.as_str().is_empty() => folder,
         _ => Path::new("."),
+    }
+}
+
+// Brings a file to its disk. A pipe or a terminal has nothing to bring there, and says so.
+fn sync(file: &File) -> io::Result<()> {
+    match file.sync_all() {
+        Err(e) if e.kind() != ErrorKind::InvalidInput => Err(e),
+        _ => Ok(()),
     }
 }
 
@@ -90,7 +120,23 @@ fn copy_owner_and_permissions(file: &File, old: &Metadata) -> io::Result<()> {
 impl<'a> HostFiles<'a> {
     /// The host's files, by the paths that it knows.
     pub fn new(rt: &'a HostRuntime) -> HostFiles<'a> {
-        HostFiles { rt }
+        HostFiles {
+            rt,
+            has_streams: false,
+        }
+    }
+
+    /// The same, where `-` is no file: opened it is standard input, made it is standard output. A file of that name is
+    /// `./-`.
+    pub fn with_streams(rt: &'a HostRuntime) -> HostFiles<'a> {
+        HostFiles {
+            rt,
+            has_streams: true,
+        }
+    }
+
+    fn is_standard(&self, name: &str) -> bool {
+        self.has_streams && name == STREAM_NAME
     }
 
     // What stands under that name. It is opened to be written, and not changed.
@@ -146,49 +192,70 @@ impl<'a> HostFiles<'a> {
         Err(io::Error::from(ErrorKind::AlreadyExists))
     }
 
-    // Brings a file to its disk, and to its place. A pipe or a terminal has nothing to bring to a disk, and says so.
+    // Brings a file to its disk, and to its place. Standard output belongs to others too, and stays as it is.
     fn finish(&self, file: &HostFile) -> io::Result<()> {
-        match file.file.sync_all() {
-            Err(e) if e.kind() != ErrorKind::InvalidInput => return Err(e),
-            _ => {}
-        }
-        match &file.rename {
-            Some(it) => fs::rename(self.rt, it.from.as_path(), it.to.as_path()),
-            None => Ok(()),
+        match &file.sink {
+            Sink::Stdout(_) => Ok(()),
+            Sink::InPlace(file) => sync(file),
+            Sink::Beside(file, rename) => {
+                sync(file)?;
+                fs::rename(self.rt, rename.from.as_path(), rename.to.as_path())
+            }
         }
     }
 }
 
 impl<'a> Files for HostFiles<'a> {
-    type R = File;
+    type R = HostReader;
 
     type W = HostFile;
 
-    fn open(&mut self, name: &str) -> Result<File, FileFault> {
-        Ok(File::open(self.rt, name)?)
+    fn open(&mut self, name: &str) -> Result<HostReader, FileFault> {
+        let source = if self.is_standard(name) {
+            Source::Stdin(self.rt.stdin())
+        } else {
+            Source::File(File::open(self.rt, name)?)
+        };
+        Ok(HostReader { source })
+    }
+
+    fn is_stream(&self, name: &str) -> bool {
+        if self.is_standard(name) {
+            return true;
+        }
+        match fs::metadata(self.rt, name) {
+            Ok(found) => !found.is_file() && !found.is_dir(),
+            Err(_) => false,
+        }
     }
 
     fn create(&mut self, name: &str) -> Result<HostFile, FileFault> {
+        if self.is_standard(name) {
+            let sink = Sink::Stdout(self.rt.stdout());
+            return Ok(HostFile { sink });
+        }
         let old = match self.target(name)? {
             Target::Absent => None,
             Target::Regular(found) => Some(found),
-            Target::Stream(file) => return Ok(HostFile { file, rename: None }),
+            Target::Stream(file) => {
+                let sink = Sink::InPlace(file);
+                return Ok(HostFile { sink });
+            }
         };
         let Some(to) = self.path_past_links(name)? else {
-            let file = File::create(self.rt, name)?;
-            return Ok(HostFile { file, rename: None });
+            let sink = Sink::InPlace(File::create(self.rt, name)?);
+            return Ok(HostFile { sink });
         };
         let mode = old.as_ref().map_or(0o666, |old| old.mode() & 0o777);
         let (file, from) = self.create_beside(to.as_path(), mode)?;
-        let rename = Some(Rename { from, to });
-        let new = HostFile { file, rename };
         if let Some(old) = old
-            && let Err(e) = copy_owner_and_permissions(&new.file, &old)
+            && let Err(e) = copy_owner_and_permissions(&file, &old)
         {
-            self.abandon(new);
+            let _ = fs::remove_file(self.rt, from.as_path());
             return Err(FileFault::from(e));
         }
-        Ok(new)
+        let sink = Sink::Beside(file, Rename { from, to });
+        Ok(HostFile { sink })
     }
 
     fn close(&mut self, file: HostFile) -> Result<(), FileFault> {
@@ -200,8 +267,8 @@ impl<'a> Files for HostFiles<'a> {
     }
 
     fn abandon(&mut self, file: HostFile) {
-        if let Some(it) = &file.rename {
-            let _ = fs::remove_file(self.rt, it.from.as_path());
+        if let Sink::Beside(_, rename) = &file.sink {
+            let _ = fs::remove_file(self.rt, rename.from.as_path());
         }
     }
 }

@@ -15,10 +15,10 @@ mod hexadecimal;
 mod host;
 mod parts;
 
-pub use dump::{is_header, tables_in_dump};
+pub use dump::{begins_as_tables, is_header, tables_in_dump};
 pub use files::{FileFault, Files, write_file};
 pub use hexadecimal::{HexDecoder, HexFault, from_hex};
-pub use host::{HostFile, HostFiles};
+pub use host::{HostFile, HostFiles, HostReader};
 pub use parts::{
     IntoText, PartWriter, UntilFailure, Written, put_number, put_text, write_bytes, write_whole,
 };
