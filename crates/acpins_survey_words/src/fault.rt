@@ -36,6 +36,15 @@ struct Operation<'a> {
     operands: usize,
 }
 
+// A command that is none; an empty text stands for no command.
+fn unknown_command(name: &str) -> Fault<'_> {
+    if name.is_empty() {
+        Fault::NoCommand
+    } else {
+        Fault::UnknownCommand(name)
+    }
+}
+
 // Whether an argument is an option where the options have not ended: `-` alone is none.
 fn is_option(argument: &str) -> bool {
     argument.len() > 1 && argument.starts_with('-')
@@ -203,7 +212,7 @@ fn check_help<'a>(arguments: &[&'a str]) -> Result<(), Fault<'a>> {
         [] => Ok(()),
         [name, rest @ ..] => {
             if topic_of(name).is_none() {
-                Err(Fault::UnknownCommand(name))
+                Err(unknown_command(name))
             } else if rest.is_empty() {
                 Ok(())
             } else {
@@ -226,7 +235,7 @@ fn check<'a>(arguments: &[&'a str]) -> Result<(), Fault<'a>> {
             } else if is_option(first) {
                 Err(Fault::UnknownOption(first))
             } else {
-                Err(Fault::UnknownCommand(first))
+                Err(unknown_command(first))
             }
         }
     }
