@@ -72,7 +72,7 @@ topic_of name =
     else (if bytes_eq name (codes "html") then Some topics.Html
     else None))))))
 
--- .. behind the arguments of a command: that of the command, or of the program where the first names none
+-- what help is about among these arguments: the command that the first names, or else the program
 abbrev pub topic_in : List Text → Topic
 topic_in [] = topics.Program
 topic_in (name ∷ _) = unwrap_or (topic_of name) topics.Program
