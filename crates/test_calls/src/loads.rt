@@ -13,8 +13,10 @@ fn loads_tables(rt: HostRuntime) {
     let loaded = load(alloc, DSDT, &[SSDT], limit(&rt));
     let machine: Machine<TreeSpace<Object>> = loaded.expect(&rt, "a machine");
     let path = path_of(&rt, alloc, "\\_SB_.PCI0._UID");
-    let object = machine.objects().get(&path);
-    assert!(&rt; object == Some(&Object::Name(Data::Int(Int::One))));
+    match machine.objects().get(&path) {
+        Some(Object::Name(Data::Int(Int::One))) => {}
+        _ => assert!(&rt; false, "another object"),
+    }
 }
 
 // Without the method the call is no statement at its first argument.

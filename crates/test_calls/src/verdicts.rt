@@ -59,9 +59,9 @@ fn joins_no_loads_that_differ(rt: HostRuntime) {
 fn tells_a_verdict(rt: HostRuntime) {
     let alloc = rt.alloc();
     let found = verdict::<Tree>(alloc, DSDT, &[SSDT, SSDT], limit(&rt));
-    match found.expect(&rt, "a verdict") {
+    match &found.expect(&rt, "a verdict") {
         Verdict::Same { i: 1, j: 2, path } => {
-            expect_printed(&rt, alloc, &path, "\\_SB_.PCI0._UID")
+            expect_printed(&rt, alloc, path, "\\_SB_.PCI0._UID")
         }
         _ => assert!(&rt; false, "another verdict"),
     }
