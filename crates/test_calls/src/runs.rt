@@ -14,13 +14,13 @@ use std::process::Abort;
 
 // Every name is that of a file of these bytes. The last file that was written is kept.
 #[derive(Drop)]
-struct Held<'a> {
+struct OneFile<'a> {
     alloc: Global,
     bytes: &'a [u8],
     written: Vec<u8>,
 }
 
-impl<'a> Files for Held<'a> {
+impl<'a> Files for OneFile<'a> {
     ghost bytes_of = { λ s _. Some s.bytes.now };
 
     type R = &'a [u8];
@@ -41,10 +41,8 @@ impl<'a> Files for Held<'a> {
     }
 }
 
-fn files_of(alloc: Global, bytes: &[u8]) -> Held<'_>
-    ensures { result.bytes.now ≡ bytes.now }
-{
-    Held {
+fn files_of(alloc: Global, bytes: &[u8]) -> OneFile<'_> {
+    OneFile {
         alloc,
         bytes,
         written: Vec::new(alloc),
@@ -55,13 +53,18 @@ fn files_of(alloc: Global, bytes: &[u8]) -> Held<'_>
 fn tables_in(alloc: Global, bytes: &[u8]) -> Result<Vec<Bytes>, Failure<'static>>
     ensures { IfOk result (λ tables. bytes.now ≡ concat tables.items) }
 {
-    let mut tables = Vec::new(alloc);
-    add_tables(alloc, &mut files_of(alloc, bytes), "a", false, &mut tables)?;
+    let (mut tables, written) = (Vec::new(alloc), Vec::new(alloc));
+    let mut files = OneFile {
+        alloc,
+        bytes,
+        written,
+    };
+    add_tables(alloc, &mut files, "a", false, &mut tables)?;
     Ok(tables)
 }
 
 #[test]
-fn cuts_what_is_held(rt: HostRuntime) {
+fn cuts_one_table(rt: HostRuntime) {
     let tables = tables_in(rt.alloc(), DSDT).ok().expect(&rt, "tables");
     expect_number(&rt, tables.len(), 1);
 }
@@ -81,21 +84,21 @@ fn writes_own_files(rt: HostRuntime) {
 // What is printed over a map of paths.
 fn expect_output(rt: &impl Abort, alloc: Global, words: &[&str], wanted: &[u8]) {
     let mut files = files_of(alloc, DSDT);
-    let output = output_of::<MapSpace<Object>, Held<'_>>(alloc, words, &mut files);
+    let output = output_of::<MapSpace<Object>, OneFile<'_>>(alloc, words, &mut files);
     expect_bytes(rt, &output.ok().expect(rt, "an output").text, wanted);
 }
 
 #[test]
 fn runs_over_a_map(rt: HostRuntime) {
     let alloc = rt.alloc();
-    let shown = ["show", "\\_SB_.PCI0", "a"];
-    expect_output(&rt, alloc, &shown, b"\\_SB_.PCI0 Device\n");
+    let words = ["show", "\\_SB_.PCI0", "a"];
+    expect_output(&rt, alloc, &words, b"\\_SB_.PCI0 Device\n");
     expect_output(&rt, alloc, &["check", "a"], b"commute\n");
     expect_output(&rt, alloc, &["rewrite", "out", "a"], b"");
-    expect_output(&rt, alloc, &["list", "a"], LISTED);
+    expect_output(&rt, alloc, &["list", "a"], LISTING);
 }
 
-const LISTED: &[u8] = b"\\ Root\n\
+const LISTING: &[u8] = b"\\ Root\n\
 \\_GL_ Mutex 00\n\
 \\_GPE Scope\n\
 \\_OSI Method 1\n\

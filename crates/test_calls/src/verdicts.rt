@@ -31,7 +31,7 @@ fn loads_an_ssdt_alone(rt: HostRuntime) {
 }
 
 // The join of the single loads of two SSDTs.
-fn joined(rt: &impl Abort, alloc: Global, one: &[u8], other: &[u8]) -> Option<Machine<Tree>> {
+fn join_of(rt: &impl Abort, alloc: Global, one: &[u8], other: &[u8]) -> Option<Machine<Tree>> {
     let mut singles = Vec::new(alloc);
     singles.push(single_of(rt, alloc, one)).expect(rt, "memory");
     singles
@@ -43,7 +43,7 @@ fn joined(rt: &impl Abort, alloc: Global, one: &[u8], other: &[u8]) -> Option<Ma
 #[test]
 fn joins_single_loads(rt: HostRuntime) {
     let alloc = rt.alloc();
-    let machine = joined(&rt, alloc, AWAITS, FIELD).expect(&rt, "a join");
+    let machine = join_of(&rt, alloc, AWAITS, FIELD).expect(&rt, "a join");
     expect_number(&rt, machine.bodies().len(), 1);
     // Ten objects are there without a table.
     let pairs = machine.objects().pairs().expect(&rt, "memory");
@@ -52,7 +52,7 @@ fn joins_single_loads(rt: HostRuntime) {
 
 #[test]
 fn joins_no_loads_that_differ(rt: HostRuntime) {
-    assert!(&rt; joined(&rt, rt.alloc(), ZERO, ONE).is_none());
+    assert!(&rt; join_of(&rt, rt.alloc(), ZERO, ONE).is_none());
 }
 
 #[test]
