@@ -83,7 +83,7 @@ const REFUSALS: [(Refusal, &str); 6] = [
     (Refusal::Taken, "E6 Taken"),
 ];
 
-static LOADS: [(LoadReason, &str); 5] = [
+const LOADS: [(LoadReason, &str); 5] = [
     (LoadReason::Table(TableFault::BadSum), "T5 BadSum"),
     (LoadReason::NotDsdt, "L1 NotDsdt"),
     (LoadReason::NotSsdt, "L2 NotSsdt"),
@@ -112,7 +112,7 @@ const WORDS: [(WordsFault, &str); 2] = [
     (WordsFault::Memory, "M Memory"),
 ];
 
-static FAILURES: [(Failure<'static>, &str); 12] = [
+const FAILURES: [(Failure<'static>, &str); 12] = [
     (Failure::WrongWords, "acpins: wrong words"),
     (Failure::BadPath, "acpins: bad path"),
     (Failure::NoSuchPath, "acpins: no such path"),
