@@ -17,7 +17,7 @@
 //! `laws` states what follows: the runs over SSDTs that commute print the same for each order of them.
 //!
 //! `report_failure` says a failure alone, for a caller that never came to a run.
-//! `output_of`, `add_tables` and `from_hex` are parts of a run, public so that `test_program` can try them by themselves.
+//! `output_of`, `add_tables` and `from_hex` are parts of a run, public so that callers and `test_calls` can have them by themselves.
 #![tactic(auto)]
 
 mod failure;
