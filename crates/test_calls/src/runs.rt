@@ -7,9 +7,10 @@ use crate::expect::{expect_bytes, expect_number};
 use crate::tables::DSDT;
 use acpi_space::MapSpace;
 use acpi_terms::Object;
+use acpins_io::begins_as_tables;
 use acpins_run::{Failure, FileFault, Files, add_tables, output_of, run};
 use bytes::Bytes;
-use std::alloc::Global;
+use std::alloc::{AllocError, Global};
 use std::process::Abort;
 
 // Every name is that of a file of these bytes. The last file that was written is kept.
@@ -29,6 +30,10 @@ impl<'a> Files for OneFile<'a> {
 
     fn open(&mut self, _name: &str) -> Result<&'a [u8], FileFault> {
         Ok(self.bytes)
+    }
+
+    fn holds_tables(&mut self, _name: &str) -> Result<bool, AllocError> {
+        Ok(begins_as_tables(self.bytes))
     }
 
     fn create(&mut self, _name: &str) -> Result<Vec<u8>, FileFault> {
