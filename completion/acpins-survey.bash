@@ -1,15 +1,21 @@
 # Completion of acpins-survey(1) for bash.
 _acpins_survey() {
     local word=${COMP_WORDS[COMP_CWORD]} before=("${COMP_WORDS[@]:1:COMP_CWORD-1}") options='' option
+    local commands='bodies html json list map report show'
     COMPREPLY=()
     if ((COMP_CWORD == 1)); then
-        mapfile -t COMPREPLY < <(compgen -W 'bodies html json list map report show --help --version' -- "$word")
+        mapfile -t COMPREPLY < <(compgen -W "$commands help -h --help --version" -- "$word")
+        compopt +o default
+        return
+    fi
+    if [[ ${before[0]} == help ]]; then
+        ((COMP_CWORD > 2)) || mapfile -t COMPREPLY < <(compgen -W "$commands" -- "$word")
         compopt +o default
         return
     fi
     case " ${before[*]} " in *' -- '*) return ;; esac
     case ${before[-1]} in
-        --help | --version | --depth | =)
+        -h | --help | --version | --depth | =)
             compopt +o default
             return
             ;;
@@ -22,7 +28,7 @@ _acpins_survey() {
             *) options+=" $option" ;;
         esac
     done
-    ((COMP_CWORD > 2)) || options+=' --help'
+    ((COMP_CWORD > 2)) || options+=' -h --help'
     mapfile -t COMPREPLY < <(compgen -W "$options" -- "$word")
     compopt +o default
 }

@@ -1,5 +1,6 @@
--- The words that follow the program's name, and what they ask for.
-use Rattle.std.specs.Prelude.{Bool, List, [], ◌∷◌, ◌++◌, Option, Some, None, codes, if◌then◌else◌, option_map}
+-- The arguments that follow the program's name, and what they ask for.
+use Rattle.std.specs.Prelude.{Bool, ◌||◌, List, [], ◌∷◌, ◌++◌, Option, Some, None, codes, if◌then◌else◌, option_map, unwrap_or}
+use Rattle.std.specs.List.{before_first, list_any}
 use Rattle.std.specs.Str.{bytes_eq}
 use Rattle.clap.specs.Simple.{App, Shape, new_rule, with_subcommand}
 use Rattle.clap.specs.Takes.{is_given}
@@ -71,17 +72,40 @@ topic_of name =
     else (if bytes_eq name (codes "html") then Some topics.Html
     else None))))))
 
+-- what help is about among these arguments: the command that the first names, or else the program
+abbrev pub topic_in : List Text → Topic
+topic_in [] = topics.Program
+topic_in (name ∷ _) = unwrap_or (topic_of name) topics.Program
+
+-- `--help` or `-h`
+abbrev pub is_help : Text → Bool
+is_help word = bytes_eq word (codes "--help") || bytes_eq word (codes "-h")
+
+-- `--`, which ends the options
+abbrev pub is_end : Text → Bool
+is_end word = bytes_eq word (codes "--")
+
+-- some argument before `--` is `--help` or `-h`
+abbrev pub asks_help : List Text → Bool
+asks_help words = list_any is_help (before_first is_end words)
+
+-- `help` or `--version`
 abbrev pub lone_invocation : Text → Option Invocation
 lone_invocation word =
-    if bytes_eq word (codes "--help") then Some (help topics.Program)
+    if bytes_eq word (codes "help") then Some (help topics.Program)
     else (if bytes_eq word (codes "--version") then Some version else None)
 
--- `--help`, `--version`, or the name of a command and `--help`
+-- .. or `help` and the name of a command
+abbrev pub named_invocation : List Text → Option Invocation
+named_invocation (word ∷ []) = lone_invocation word
+named_invocation (word ∷ name ∷ []) =
+    if bytes_eq word (codes "help") then option_map help (topic_of name) else None
+named_invocation _ = None
+
+-- the help or the version that arguments ask for
 abbrev pub help_in : List Text → Option Invocation
-help_in (word ∷ []) = lone_invocation word
-help_in (name ∷ word ∷ []) =
-    if bytes_eq word (codes "--help") then option_map help (topic_of name) else None
-help_in _ = None
+help_in words =
+    if asks_help words then Some (help (topic_in words)) else named_invocation words
 
 -- ---- a survey
 
@@ -97,11 +121,11 @@ command_by name rows =
     else (if bytes_eq name (codes "html") then option_map paging (first_of (codes "out") rows)
     else None))))))
 
--- nothing, where clap finds a fault in the words
+-- nothing, where clap finds a fault in the arguments
 unfoldable pub asked_of : List Text → Option Asked
 asked_of = arguments.asked_of survey_app command_by
 
--- ---- what words ask for
+-- ---- what arguments ask for
 
 abbrev pub invocation_or : Option Invocation → List Text → Option Invocation
 invocation_or (Some invocation) words = Some invocation

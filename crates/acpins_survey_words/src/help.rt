@@ -6,7 +6,7 @@ use crate::words::Topic;
 pub const VERSION: &str = "acpins-survey 0.3.0 (rattle-kit logic dac8208d650f15bf)\n";
 
 const PROGRAM: &str = "\
-acpins-survey: what the tables DSDT and SSDT of a machine declare or may declare, and under which condition
+acpins-survey: what the tables DSDT and SSDT declare or may declare, and under which condition
 
   acpins-survey list FILE..       a line for each object that may exist, then problems and notes
   acpins-survey show PATH FILE..  the objects at PATH, with the bodies of methods
@@ -16,20 +16,23 @@ acpins-survey: what the tables DSDT and SSDT of a machine declare or may declare
   acpins-survey json FILE..       all of it, for programs
   acpins-survey html OUT FILE..   the overview as one page
 
-  acpins-survey COMMAND --help    what COMMAND prints
+  acpins-survey COMMAND --help    what COMMAND prints; so does: acpins-survey help COMMAND
   acpins-survey --version         the version, and the kit that built it
 
-A FILE holds tables one after another, or the text that acpidump writes. A folder stands for the
-files in it: DSDT, then SSDT1, SSDT2 and so on, then the SSDTs in its folder dynamic; so
-/sys/firmware/acpi/tables stands for the tables of this machine. The first table is the DSDT.
+A FILE holds tables one after another, or the text that acpidump writes; - is standard input.
+A folder stands for the tables in it: DSDT, then SSDT1, SSDT2 and so on, then the SSDTs in its
+folder dynamic; so /sys/firmware/acpi/tables stands for the tables of this machine. A folder may
+also hold what acpixtract writes (dsdt.dat, ssdt1.dat, ..), or DSDT.aml and SSDT1.aml, in any case
+of letters. Other tables in it are passed over. The first table is the DSDT.
 
   --hex      the files are hexadecimal text
   --depth N  the greatest level that a term may have, 1 to 4096; 1024 without it
   -v         report tells all of it: nothing is folded or cut short
+  -h         the same as --help
   --         ends the options
 
 The status is 0 where all is read, 3 where a table has a problem, 1 where a file or the output
-fails, and 2 where the words or PATH are wrong.
+fails, and 2 where the arguments or PATH are wrong.
 ";
 
 const LIST: &str = "\
@@ -66,8 +69,8 @@ acpins-survey report [-v] [--hex] [--depth N] FILE..
 prints an overview: problems and notes; the objects with a condition; what an operating system runs
 unasked; the devices with their ids, addresses, resources and wake; power and thermal objects; the
 address spaces that the tables touch; and what looks wrong. With -v siblings that are alike have a
-line each, and no list is cut short. It has colours where standard output is a terminal and NO_COLOR
-is unset or empty.
+line each, and no list is cut short. It has colours where standard output is a terminal and
+NO_COLOR is unset or empty.
 ";
 
 const JSON: &str = "\
@@ -79,9 +82,10 @@ prints one object of JSON with all that list, show, bodies and the headers of th
 const HTML: &str = "\
 acpins-survey html [--hex] [--depth N] OUT FILE..
 
-writes the report to the file OUT as one page of HTML, which needs no other file and no script: with
-a map of the addresses, the tree of the devices, and the bytes of each table beside what they are. It
-prints nothing. What stood in OUT stays until the page is whole.
+writes the report to the file OUT as one page of HTML, which needs no other file and no script:
+with a map of the addresses, the tree of the devices, and the bytes of each table beside what they
+are. It prints nothing. OUT must not be a file that holds ACPI tables. What stood in OUT stays
+until the page is whole.
 ";
 
 /// What `--help` prints on the topic.

@@ -1,4 +1,4 @@
-//! The words of the command.
+//! What the arguments ask for.
 
 ghost use Rattle.std.specs.Prelude.{◌≡◌, ◌∷◌, [], false, IfOk, None, codes, option_map};
 ghost use Rattle.clap.specs.Matches.{found_of};
@@ -6,9 +6,10 @@ ghost use Rattle.clap.specs.Simple.{app_of};
 ghost use Rattle.clap.specs.Walk.{rows_of, rule_of, texts};
 ghost use Rattle.clap.specs.declared.builder.command.Command.TheViews.{out-Command as fields_of};
 ghost use Rattle.acpins_words.specs.Arguments.{alone};
-ghost use Rattle.acpins_survey_words.specs.Words.{asked_in, asked_of, command_by};
-ghost use Rattle.acpins_survey_words.specs.Words.{command_in, help_in, lone_invocation, report_shape};
-ghost use Rattle.acpins_survey_words.specs.Words.{survey_app, topic_of, verbose_rule, invocation_in, invocation_of};
+ghost use Rattle.acpins_survey_words.specs.Words.{asked_in, asked_of, asks_help, command_by, command_in};
+ghost use Rattle.acpins_survey_words.specs.Words.{help_in, invocation_in, invocation_of, is_end, is_help};
+ghost use Rattle.acpins_survey_words.specs.Words.{lone_invocation, named_invocation, report_shape, survey_app};
+ghost use Rattle.acpins_survey_words.specs.Words.{topic_in, topic_of, verbose_rule};
 
 use acpi_code::Depth;
 use acpins_words::WordsFault;
@@ -32,7 +33,7 @@ pub enum Command<'a> {
     Bodies,
     /// An overview for people.
     Report {
-        /// Whether siblings that are alike have a line each, and long lists are told whole.
+        /// Whether siblings that are alike have a line each, and long lists are whole.
         is_verbose: bool,
     },
     /// All of it, as JSON.
@@ -41,7 +42,7 @@ pub enum Command<'a> {
     Html(&'a str),
 }
 
-/// A survey that the words ask for: a command over the tables in these files.
+/// A survey that the arguments ask for: a command over the tables in these files.
 #[derive(Debug, Drop)]
 pub struct Request<'a> {
     /// What is made.
@@ -75,7 +76,7 @@ pub enum Topic {
     Html,
 }
 
-/// What the words ask for.
+/// What the arguments ask for.
 #[derive(Debug, Drop)]
 pub enum Invocation<'a> {
     /// How the program is called.
@@ -87,7 +88,7 @@ pub enum Invocation<'a> {
 }
 
 // What help is about behind the name of a command.
-fn topic_of(name: &str) -> Option<Topic>
+pub(crate) fn topic_of(name: &str) -> Option<Topic>
     ensures { result ≡ topic_of name.now }
 {
     match name {
@@ -102,34 +103,70 @@ fn topic_of(name: &str) -> Option<Topic>
     }
 }
 
-// What a word asks for that stands alone.
+// What help is about among these arguments: the command that the first one names, or the program.
+fn topic_in(words: &[&str]) -> Topic
+    ensures { result ≡ topic_in (texts words.now) }
+{
+    match words {
+        [name, ..] => topic_of(name).unwrap_or(Topic::Program),
+        [] => Topic::Program,
+    }
+}
+
+fn is_help(word: &str) -> bool
+    ensures { result ≡ is_help word.now }
+{
+    word == "--help" || word == "-h"
+}
+
+fn is_end(word: &str) -> bool
+    ensures { result ≡ is_end word.now }
+{
+    word == "--"
+}
+
+// Whether `--help` or `-h` is an argument, before `--` if that is one.
+fn asks_help(words: &[&str]) -> bool
+    ensures { result ≡ asks_help (texts words.now) }
+{
+    words
+        .iter()
+        .take_while(|word| !is_end(word))
+        .any(|word| is_help(word))
+}
+
+// What an argument asks for that stands alone.
 fn lone_invocation<'a>(word: &str) -> Option<Invocation<'a>>
     ensures { option_map invocation_in result ≡ lone_invocation word.now }
 {
     match word {
-        "--help" => Some(Invocation::Help(Topic::Program)),
+        "help" => Some(Invocation::Help(Topic::Program)),
         "--version" => Some(Invocation::Version),
         _ => None,
     }
 }
 
-// The help on a command that two words ask for.
-fn command_help<'a>(name: &str, word: &str) -> Option<Invocation<'a>>
-    ensures { option_map invocation_in result ≡ help_in (name.now ∷ word.now ∷ []) }
+// The help on a command that two arguments ask for.
+fn command_help<'a>(word: &str, name: &str) -> Option<Invocation<'a>>
+    ensures { option_map invocation_in result
+        ≡ named_invocation (word.now ∷ name.now ∷ []) }
 {
     match word {
-        "--help" => Some(Invocation::Help(topic_of(name)?)),
+        "help" => Some(Invocation::Help(topic_of(name)?)),
         _ => None,
     }
 }
 
-// The help or the version that words ask for.
+// The help or the version that arguments ask for.
 fn help_in<'a>(words: &[&str]) -> Option<Invocation<'a>>
     ensures { option_map invocation_in result ≡ help_in (texts words.now) }
 {
+    if asks_help(words) {
+        return Some(Invocation::Help(topic_in(words)));
+    }
     match words {
         [word] => lone_invocation(word),
-        [name, word] => command_help(name, word),
+        [word, name] => command_help(word, name),
         _ => None,
     }
 }
@@ -181,7 +218,7 @@ fn command_in<'a>(name: &str, found: &ArgMatches<'a>) -> Option<Command<'a>>
     }
 }
 
-// The survey that the words ask for.
+// The survey that the arguments ask for.
 fn read_request<'a>(alloc: Global, words: &'a [&'a str]) -> Result<Request<'a>, WordsFault>
     ensures found { IfOk result (λ request. asked_of (texts words.now) ≡ Some (asked_in request)) }
     ensures wrong { result ≡ Err WordsFault.Wrong → asked_of (texts words.now) ≡ None }
@@ -199,7 +236,8 @@ fn read_request<'a>(alloc: Global, words: &'a [&'a str]) -> Result<Request<'a>, 
     })
 }
 
-/// Reads the words that follow the program's name. `WordsFault::Wrong` where they ask for nothing.
+/// Reads the arguments that follow the program's name. `WordsFault::Wrong` where they ask for nothing; `fault_text` says
+/// why.
 pub fn read_words<'a>(alloc: Global, words: &'a [&'a str]) -> Result<Invocation<'a>, WordsFault>
     ensures found { IfOk result (λ invocation. invocation_of (texts words.now)
         ≡ Some (invocation_in invocation)) }

@@ -1,0 +1,294 @@
+//! Why arguments ask for nothing, in one line.
+
+use crate::words::topic_of;
+use acpi_code::Depth;
+use acpi_text::{put, put_byte};
+use std::alloc::{AllocError, Global};
+
+// Why arguments ask for nothing.
+#[derive(Debug, Drop)]
+enum Fault<'a> {
+    NoCommand,
+    UnknownCommand(&'a str),
+    // An option before the command.
+    UnknownOption(&'a str),
+    NotOfCommand { option: &'a str, command: &'a str },
+    Twice(&'a str),
+    TakesNoValue(&'a str),
+    NoDepth,
+    BadDepth(&'a str),
+    Missing { command: &'a str, operand: &'a str },
+    ManyCommands,
+    MoreThanVersion,
+}
+
+// The arguments of a command, as far as they are read.
+#[derive(Drop)]
+struct Operation<'a> {
+    command: &'a str,
+    has_hex: bool,
+    has_depth: bool,
+    has_verbose: bool,
+    // Whether the next argument is the number of `--depth`.
+    needs_depth: bool,
+    // Whether `--` ended the options.
+    has_ended: bool,
+    operands: usize,
+}
+
+// A command that is none; an empty text stands for no command.
+fn unknown_command(name: &str) -> Fault<'_> {
+    if name.is_empty() {
+        Fault::NoCommand
+    } else {
+        Fault::UnknownCommand(name)
+    }
+}
+
+// Whether an argument is an option where the options have not ended: `-` alone is none.
+fn is_option(argument: &str) -> bool {
+    argument.len() > 1 && argument.starts_with('-')
+}
+
+// Whether an option is `-v` several times.
+fn is_verbose_again(option: &str) -> bool {
+    match option.strip_prefix('-') {
+        Some(flags) => flags.len() > 1 && flags.bytes().all(|flag| flag == b'v'),
+        None => false,
+    }
+}
+
+fn check_no_value<'a>(name: &'a str, value: Option<&str>) -> Result<(), Fault<'a>> {
+    match value {
+        Some(_) => Err(Fault::TakesNoValue(name)),
+        None => Ok(()),
+    }
+}
+
+fn check_depth(value: &str) -> Result<(), Fault<'_>> {
+    let is_depth = match value.parse::<u32>() {
+        Ok(limit) => !value.starts_with('+') && Depth::new(limit).is_some(),
+        Err(_) => false,
+    };
+    if is_depth {
+        Ok(())
+    } else if value.is_empty() {
+        Err(Fault::NoDepth)
+    } else {
+        Err(Fault::BadDepth(value))
+    }
+}
+
+// Notes an option that may be given once.
+fn note_once<'a>(is_given: &mut bool, name: &'a str) -> Result<(), Fault<'a>> {
+    if *is_given {
+        return Err(Fault::Twice(name));
+    }
+    *is_given = true;
+    Ok(())
+}
+
+impl<'a> Operation<'a> {
+    fn new(command: &'a str) -> Operation<'a> {
+        Operation {
+            command,
+            has_hex: false,
+            has_depth: false,
+            has_verbose: false,
+            needs_depth: false,
+            has_ended: false,
+            operands: 0,
+        }
+    }
+
+    // Reads one more argument.
+    fn read(&mut self, argument: &'a str) -> Result<(), Fault<'a>> {
+        if self.needs_depth {
+            self.needs_depth = false;
+            return check_depth(argument);
+        }
+        if self.has_ended || !is_option(argument) {
+            self.operands = self.operands.saturating_add(1);
+            return Ok(());
+        }
+        if argument == "--" {
+            self.has_ended = true;
+            return Ok(());
+        }
+        self.read_option(argument)
+    }
+
+    fn read_option(&mut self, option: &'a str) -> Result<(), Fault<'a>> {
+        let (name, value) = match option.split_once('=') {
+            Some((name, value)) => (name, Some(value)),
+            None => (option, None),
+        };
+        match name {
+            "--hex" => {
+                check_no_value(name, value)?;
+                note_once(&mut self.has_hex, name)
+            }
+            "--depth" => {
+                note_once(&mut self.has_depth, name)?;
+                self.read_depth(value)
+            }
+            _ if self.command == "report" => self.read_report_option(option, name, value),
+            _ => Err(self.unknown(option)),
+        }
+    }
+
+    fn read_depth(&mut self, value: Option<&'a str>) -> Result<(), Fault<'a>> {
+        match value {
+            Some(value) => check_depth(value),
+            None => {
+                self.needs_depth = true;
+                Ok(())
+            }
+        }
+    }
+
+    // Reads an option that only `report` has.
+    fn read_report_option(
+        &mut self,
+        option: &'a str,
+        name: &'a str,
+        value: Option<&'a str>,
+    ) -> Result<(), Fault<'a>> {
+        if name == "-v" {
+            check_no_value(name, value)?;
+            note_once(&mut self.has_verbose, name)
+        } else if is_verbose_again(name) {
+            Err(Fault::Twice("-v"))
+        } else {
+            Err(self.unknown(option))
+        }
+    }
+
+    fn unknown(&self, option: &'a str) -> Fault<'a> {
+        Fault::NotOfCommand {
+            option,
+            command: self.command,
+        }
+    }
+
+    // The first operand of the command, where that is no FILE.
+    fn first_operand(&self) -> Option<&'static str> {
+        match self.command {
+            "show" => Some("a PATH"),
+            "html" => Some("an OUT"),
+            _ => None,
+        }
+    }
+
+    // Whether something is missing behind the last argument.
+    fn finish(&self) -> Result<(), Fault<'a>> {
+        if self.needs_depth {
+            return Err(Fault::NoDepth);
+        }
+        let operand = match (self.first_operand(), self.operands) {
+            (Some(first), 0) => first,
+            (Some(_), 1) | (None, 0) => "a FILE",
+            _ => return Ok(()),
+        };
+        Err(Fault::Missing {
+            command: self.command,
+            operand,
+        })
+    }
+}
+
+// Finds what is wrong of the arguments of a command.
+fn check_operation<'a>(command: &'a str, arguments: &[&'a str]) -> Result<(), Fault<'a>> {
+    let mut operation = Operation::new(command);
+    for argument in arguments {
+        operation.read(argument)?;
+    }
+    operation.finish()
+}
+
+// Finds what is wrong of what follows `help`.
+fn check_help<'a>(arguments: &[&'a str]) -> Result<(), Fault<'a>> {
+    match arguments {
+        [] => Ok(()),
+        [name, rest @ ..] => {
+            if topic_of(name).is_none() {
+                Err(unknown_command(name))
+            } else if rest.is_empty() {
+                Ok(())
+            } else {
+                Err(Fault::ManyCommands)
+            }
+        }
+    }
+}
+
+// Finds what is wrong of arguments.
+fn check<'a>(arguments: &[&'a str]) -> Result<(), Fault<'a>> {
+    match arguments {
+        [] => Err(Fault::NoCommand),
+        ["help", rest @ ..] => check_help(rest),
+        ["--version"] => Ok(()),
+        ["--version", ..] => Err(Fault::MoreThanVersion),
+        [first, rest @ ..] => {
+            if topic_of(first).is_some() {
+                check_operation(first, rest)
+            } else if is_option(first) {
+                Err(Fault::UnknownOption(first))
+            } else {
+                Err(unknown_command(first))
+            }
+        }
+    }
+}
+
+// Puts an argument as it is printed: `\x` and two digits stand for a control character.
+fn put_printed(text: &mut Vec<u8>, argument: &str) -> Result<(), AllocError> {
+    for byte in argument.as_bytes() {
+        if byte.is_ascii_control() {
+            put(text, "\\x")?;
+            put_byte(text, *byte)?;
+        } else {
+            text.push(*byte)?;
+        }
+    }
+    Ok(())
+}
+
+fn put_each(text: &mut Vec<u8>, parts: &[&str]) -> Result<(), AllocError> {
+    for part in parts {
+        put_printed(text, part)?;
+    }
+    Ok(())
+}
+
+fn put_fault(text: &mut Vec<u8>, fault: &Fault<'_>) -> Result<(), AllocError> {
+    match fault {
+        Fault::NoCommand => put(text, "a command is missing"),
+        Fault::UnknownCommand(name) => put_each(text, &["unknown command ", name]),
+        Fault::UnknownOption(option) => put_each(text, &["unknown option ", option]),
+        Fault::NotOfCommand { option, command } => {
+            put_each(text, &["unknown option ", option, " of ", command])
+        }
+        Fault::Twice(name) => put_each(text, &[name, " is given twice"]),
+        Fault::TakesNoValue(name) => put_each(text, &[name, " takes no value"]),
+        Fault::NoDepth => put(text, "--depth needs a number"),
+        Fault::BadDepth(value) => put_each(text, &["--depth ", value, ": from 1 to 4096"]),
+        Fault::Missing { command, operand } => {
+            put_each(text, &[command, ": ", operand, " is missing"])
+        }
+        Fault::ManyCommands => put(text, "help takes one command"),
+        Fault::MoreThanVersion => put(text, "--version takes no arguments"),
+    }
+}
+
+/// Why these arguments ask for nothing, as one line says it, with no line end: for arguments of which `read_words` answers
+/// `WordsFault::Wrong`. Control characters of arguments are `\x` and their two digits.
+pub fn fault_text(alloc: Global, arguments: &[&str]) -> Result<Vec<u8>, AllocError> {
+    let mut text = Vec::new(alloc);
+    match check(arguments) {
+        Err(fault) => put_fault(&mut text, &fault)?,
+        Ok(()) => put(&mut text, "wrong arguments")?,
+    }
+    put(&mut text, " (see acpins-survey --help)")?;
+    Ok(text)
+}
