@@ -3,6 +3,7 @@
 ghost use Rattle.std.specs.Prelude.{◌≡◌, ◌≢◌, ℕ, List, [], Option, Some, None, IfOk, OnOk, OnErr, IfSome, ⊤};
 ghost use Rattle.std.specs.Io.KnownBytes.{Appends, Keeps};
 ghost use Rattle.std.specs.IoError.{error_kind};
+ghost use Rattle.acpins_io.specs.Dump.{begins_as_tables};
 ghost use Rattle.acpins_io.specs.Faults.{fault_of};
 ghost use Rattle.acpins_io.specs.FilesWritten.{Holds};
 ghost use Rattle.acpins_io.specs.declared.files.FileFault.{FileFault};
@@ -72,10 +73,16 @@ pub trait Files {
         ensures stays { bytes_of self.new ≡ bytes_of self.old }
         ensures others { written_to self.new ≡ written_to self.old };
 
-    /// Whether the name is that of a pipe, a device or a standard stream. What is written to such a one replaces nothing,
-    /// and a read of it may wait without end.
-    fn is_stream(&self, _name: &str) -> bool {
-        false
+    /// Whether what stands under that name begins as tables do. Only a file that is no stream is looked at, since what is
+    /// read of a pipe is gone; one that can't be opened or read is taken for none. An implementation that leaves this
+    /// out has no memory to look.
+    fn holds_tables(&mut self, _name: &str) -> Result<bool, AllocError>
+        ensures begins { IfOk result (λ holds. IfSome (bytes_of self.old _name.now)
+            (λ bytes. holds ≡ begins_as_tables bytes)) }
+        ensures stays { bytes_of self.new ≡ bytes_of self.old }
+        ensures others { written_to self.new ≡ written_to self.old }
+    {
+        Err(AllocError)
     }
 
     /// Makes a file, which is to stand under that name once it is closed; what stands there stays until then. Files

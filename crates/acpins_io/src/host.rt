@@ -1,6 +1,8 @@
 //! The files of the host.
 
+use crate::dump::begins_as_tables;
 use crate::files::{FileFault, Files};
+use std::alloc::AllocError;
 use std::fs::{File, Metadata};
 use std::io::{ErrorKind, Read, Stdin, Stdout, Write};
 use std::os::unix::fs::{MetadataExt, OpenOptionsExt, fchown};
@@ -12,6 +14,9 @@ const MOST_LINKS: u32 = 40;
 
 /// How many names are tried for a new file: each may be that of one which a run left that was killed.
 const MOST_NAMES: u32 = 1000;
+
+/// How many bytes show whether tables begin there: those of a header of `acpidump`'s text.
+const FRONT_BYTES: u64 = 10;
 
 /// The name of the standard streams.
 const STREAM_NAME: &str = "-";
@@ -154,6 +159,16 @@ impl<'a> HostFiles<'a> {
         }
     }
 
+    // The first bytes of the file of that name; none of a pipe, a device or a standard stream.
+    fn read_front(&self, name: &str) -> io::Result<Vec<u8>> {
+        let mut front = Vec::new(self.rt.alloc());
+        if !self.is_standard(name) && fs::metadata(self.rt, name)?.is_file() {
+            let file = File::open(self.rt, name)?;
+            file.take(FRONT_BYTES).read_to_end(&mut front)?;
+        }
+        Ok(front)
+    }
+
     // The path to which symbolic links lead from that name. None where one of them is the system's, to a file that is
     // open, as that of `/dev/stdout`: a file that took its place would not be the one that is open.
     fn path_past_links(&self, name: &str) -> io::Result<Option<PathBuf>> {
@@ -219,13 +234,11 @@ impl<'a> Files for HostFiles<'a> {
         Ok(HostReader { source })
     }
 
-    fn is_stream(&self, name: &str) -> bool {
-        if self.is_standard(name) {
-            return true;
-        }
-        match fs::metadata(self.rt, name) {
-            Ok(found) => !found.is_file() && !found.is_dir(),
-            Err(_) => false,
+    fn holds_tables(&mut self, name: &str) -> Result<bool, AllocError> {
+        match self.read_front(name) {
+            Ok(front) => Ok(begins_as_tables(&front)),
+            Err(e) if e.kind() == ErrorKind::OutOfMemory => Err(AllocError),
+            Err(_) => Ok(false),
         }
     }
 
