@@ -5,33 +5,31 @@
 //! program over any files and streams; `main` gives it the host's.
 #![tactic(auto)]
 
-ghost use Rattle.std.specs.Prelude.{◌≡◌, ◌≢◌, ◌≤◌, IfOk};
-ghost use Rattle.std.specs.IoError.{error_kind};
-ghost use Rattle.acpins_survey_run.specs.declared.failure.Failure.{Failure};
+ghost use Rattle.std.specs.Prelude.{◌≤◌, IfOk};
 
 use acpins_survey_run::{
-    Failure, HostConsole, HostFiles, HostFolders, UntilFailure, report_failure, run,
+    Failure, HostConsole, HostFiles, HostFolders, UntilFailure, arguments, report_failure, run,
 };
+use acpins_survey_texts::SurveyPrinter;
 use std::alloc::Global;
-use std::io::ErrorKind;
 use std::process::ExitCode;
-use std::{env, io};
 
-// What the host gives: its words, its files and folders, its terminal, and its two streams.
-fn run_on_host(rt: &HostRuntime, alloc: Global) -> io::Result<u8>
+// What the host gives: its arguments, its files and folders, its terminal, and its two streams.
+fn run_on_host(rt: &HostRuntime, alloc: Global) -> Result<u8, Failure>
     ensures { IfOk result (λ status. status ≤ 3) }
 {
-    let args: Vec<String> = env::args(rt)?.collect(alloc)?;
+    let args = arguments(rt, alloc)?;
     let mut words: Vec<&str> = Vec::new(alloc);
     for arg in args.iter().skip(1) {
         words.push(arg.as_str())?;
     }
-    let mut files = HostFiles::new(rt);
+    let mut files = HostFiles::with_streams(rt);
     let mut folders = HostFolders::new(rt);
     let mut console = HostConsole::new(rt);
     let ending = run(
         alloc,
         words.as_slice(),
+        &SurveyPrinter,
         &mut files,
         &mut folders,
         &mut console,
@@ -41,25 +39,10 @@ fn run_on_host(rt: &HostRuntime, alloc: Global) -> io::Result<u8>
     Ok(ending.status)
 }
 
-// The host's words could not be had: there is no memory for them, or one is no text.
-fn failure_of(error: &io::Error) -> Failure
-    ensures memory { error_kind error.now ≡ ErrorKind.OutOfMemory → result ≡ Failure.Memory }
-    ensures words { error_kind error.now ≢ ErrorKind.OutOfMemory → result ≡ Failure.WrongWords }
-{
-    match error.kind() {
-        ErrorKind::OutOfMemory => Failure::Memory,
-        _ => Failure::WrongWords,
-    }
-}
-
 fn main(rt: HostRuntime) -> ExitCode {
     let status = match run_on_host(&rt, rt.alloc()) {
         Ok(status) => status,
-        Err(error) => report_failure(
-            &failure_of(&error),
-            &mut rt.stderr(),
-            &mut UntilFailure::new(),
-        ),
+        Err(failure) => report_failure(&failure, &mut rt.stderr(), &mut UntilFailure::new()),
     };
     ExitCode::from(status)
 }

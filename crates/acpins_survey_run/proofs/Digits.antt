@@ -10,7 +10,7 @@ use Rattle.std.proofs.lemmas.List.Recursion.{and_fails_at, and_push}
 use Rattle.std.proofs.lemmas.Int.Digits.{digits_value_push}
 use Rattle.std.proofs.lemmas.Str.Parse.{digits_value-take-le}
 use Rattle.std.proofs.lemmas.Str.{digit_value_digit}
-use Rattle.acpins_survey_run.specs.Input.{number_of}
+use Rattle.acpins_survey_run.specs.Folders.{number_of}
 
 abbrev spelled : Bool → ℕ → Option ℕ
 spelled digits n = if digits && nat_lt n (2 ^ 32) then Some n else None

@@ -1,6 +1,8 @@
 pub mod Failures
 pub mod FailureLines
-pub mod Input
 pub mod Stored
+pub mod Folders
+pub mod Input
+pub mod Prints
 pub mod Runs
 pub mod steps

@@ -1,76 +1,28 @@
 -- What a run prints and says, and why it prints nothing.
-use Rattle.std.specs.Prelude.{◌≡◌, ◌≢◌, ◌⊎◌, ◌↔◌, ℕ, List, [], map, Option, Some, None}
+use Rattle.std.specs.Prelude.{◌≡◌, ◌≢◌, ◌⊎◌, ℕ, List, [], Option, Some, None}
 use Rattle.std.specs.Io.KnownBytes.{Appends}
-use Rattle.acpi_name.specs.Names.{Segment}
-use Rattle.acpi_name.specs.Text.{IsPathText, SpellsPathText}
-use Rattle.acpi_survey.specs.Findings.{entered_in, problems_in, notes_by}
-use Rattle.acpi_survey.specs.Notes.{Unknowns}
-use Rattle.acpi_survey.specs.NoteViews.{note_view}
-use Rattle.acpi_survey.specs.Predefined.{first_reading}
-use Rattle.acpi_survey.specs.ProblemViews.{problem_view}
-use Rattle.acpi_survey.specs.Surveys.{AreTables, bytes_of}
-use Rattle.acpi_survey.specs.declared.machine_survey.Survey.{Survey}
-use Rattle.acpins_survey_output.specs.JsonFrame.{IsJson}
-use Rattle.acpins_survey_output.specs.Listings.{IsListing}
-use Rattle.acpins_survey_output.specs.Maps.{map_text}
-use Rattle.acpins_survey_output.specs.Shown.{IsBodyListing, IsShownOrNone}
-use Rattle.acpins_page.specs.Page.{IsPage}
-use Rattle.acpins_page.specs.declared.style.TheConstants.{HEAD}
+use Rattle.acpi_name.specs.Text.{IsPathText}
+use Rattle.acpins_io.specs.FilesWritten.{Holds}
 use Rattle.acpins_io.specs.PartsWritten.{AppendsBeginning}
 use Rattle.acpins_words.specs.Words.{Text}
-use Rattle.acpins_survey_words.specs.Words.{Asked, Command, Invocation, listing, showing, mapping, telling_bodies, json, paging, help, version, survey, invocation_of}
-use Rattle.acpins_survey_run.specs.FailureLines.{failure_line}
+use Rattle.acpins_survey_words.specs.Words.{Asked, Command, Invocation, showing, paging, help, version, survey, invocation_of}
+use Rattle.acpins_survey_run.specs.FailureLines.{failure_line, printed_name}
 use Rattle.acpins_survey_run.specs.Failures.{status_of}
-use Rattle.acpins_io.specs.FilesWritten.{Holds}
-use Rattle.acpins_survey_run.specs.Stored.{IsUnwritten}
-use Rattle.acpins_survey_run.specs.Input.{FileBytes, FolderNames, AreTablesOf, IsFilesFault}
+use Rattle.acpins_survey_run.specs.Folders.{FolderNames}
+use Rattle.acpins_survey_run.specs.Input.{AreFilesOf, AreTablesOfFiles, IsFilesFault}
+use Rattle.acpins_survey_run.specs.Stored.{FileBytes, IsSpared, IsUnspared, IsUnwritten}
 use Rattle.acpins_survey_run.specs.declared.failure.Failure.{Failure}
-use Rattle.acpins_survey_run.specs.declared.failure.Failure.TheVariants.{WrongWords, BadPath, NoSuchPath, NoTable, Read, BadHex, Out, Output, Memory}
+use Rattle.acpins_survey_run.specs.declared.failure.Failure.TheVariants.{WrongArguments, BadPath, NoSuchPath, NoTable, Read, BadHex, HoldsTables, Out, Output, Memory}
 
--- ---- what is printed
+-- ---- what is made of tables
 
--- The survey of these tables, with this limit, tells what is lost, refused and noticed in them.
-pub record IsSurvey (depth : ℕ) (tables : List (List ℕ)) (s : Survey) : Type 0 where
-  pub kept : bytes_of s.tables.items ≡ tables
-  pub limit : s.depth ≡ depth
-  pub read : AreTables depth 0 first_reading s.tables.items s.reading
-  pub problems : map problem_view s.found.problems.items ≡ problems_in s.reading s.tables.items
-  pub notes : (unknowns : Unknowns)
-      × (map note_view s.found.notes.items
-      ≡ notes_by (entered_in s.reading) unknowns 0 s.tables.items)
+-- which text, with which status, a command makes of tables that are read to a depth
+abbrev pub Makes : Type 1
+Makes = Command → ℕ → List (List ℕ) → ℕ → List ℕ → Type 0
 
--- the survey of the tables in the files, one at least
-pub record IsSurveyOfFiles (files : FileBytes) (folders : FolderNames) (asked : Asked)
-    (s : Survey) : Type 0 where
-  pub tables : List (List ℕ)
-  pub of_files : AreTablesOf files folders asked.hex asked.files tables
-  pub some : tables ≢ []
-  pub is : IsSurvey asked.depth tables s
-
--- The text that a command makes of a survey. Nothing is said of `report`; of `html`, what its page is made of, in which
--- all that comes from tables is escaped.
-abbrev pub IsTextOf : Command → Survey → List ℕ → Type 0
-IsTextOf listing s text = IsListing s text
-IsTextOf (showing word) s text =
-    (path : List Segment) × SpellsPathText path word × IsShownOrNone s path (Some text)
-IsTextOf mapping s text = text ≡ map_text s
-IsTextOf telling_bodies s text = IsBodyListing s text
-IsTextOf json s text = IsJson s text
-IsTextOf (paging out) s text = IsPage HEAD.now text
-IsTextOf _ s text = Unit {0}
-
--- the word of `show` spells a path at which no object may be
-abbrev pub HasNothingAt : Command → Survey → Type 0
-HasNothingAt (showing word) s =
-    (path : List Segment) × SpellsPathText path word × IsShownOrNone s path None
-HasNothingAt _ s = ⊥
-
--- the text that a command makes of the tables in the files
-pub record IsMadeOf (files : FileBytes) (folders : FolderNames) (asked : Asked)
-    (text : List ℕ) : Type 0 where
-  pub survey : Survey
-  pub is : IsSurveyOfFiles files folders asked survey
-  pub made : IsTextOf asked.command survey text
+-- whether no object may be at the path that the word of a command spells
+abbrev pub HasNothing : Type 1
+HasNothing = Command → ℕ → List (List ℕ) → Type 0
 
 -- the file to which a command writes its text, which is then not printed: that of `html`
 abbrev pub page_file : Command → Option Text
@@ -81,40 +33,59 @@ abbrev pub printed_of : Option Text → List ℕ → List ℕ
 printed_of (Some out) text = []
 printed_of None text = text
 
+-- the file that is written is none of these, and holds no tables
+abbrev pub AreSpared : FileBytes → Option Text → List (List ℕ) → Type 0
+AreSpared bytes_of (Some out) files = IsSpared bytes_of files out
+AreSpared bytes_of None files = Unit {0}
+
+-- the tables of the files that the arguments stand for, none of which is written
+pub record AreTablesOf (bytes_of : FileBytes) (folders : FolderNames) (asked : Asked)
+    (tables : List (List ℕ)) : Type 0 where
+  pub files : List (List ℕ)
+  pub of_arguments : AreFilesOf folders asked.files files
+  pub spared : AreSpared bytes_of (page_file asked.command) files
+  pub are : AreTablesOfFiles bytes_of asked.hex files tables
+
+-- what a command makes of these tables
+abbrev pub IsMadeOf : FileBytes → FolderNames → Makes → Asked → ℕ → List ℕ → Type 0
+IsMadeOf files folders makes asked status text =
+    (tables : List (List ℕ)) × AreTablesOf files folders asked tables
+    × makes asked.command asked.depth tables status text
+
+-- ---- what is printed
+
 -- what a command over tables prints, and its status: 3 where something in them is lost or refused, and else 0
-pub record IsSurveyed (files : FileBytes) (folders : FolderNames) (asked : Asked) (status : ℕ)
-    (text : List ℕ) : Type 0 where
-  pub survey : Survey
-  pub is : IsSurveyOfFiles files folders asked survey
+pub record IsSurveyed (files : FileBytes) (folders : FolderNames) (makes : Makes) (asked : Asked)
+    (status : ℕ) (text : List ℕ) : Type 0 where
   pub made : List ℕ
-  pub of_survey : IsTextOf asked.command survey made
+  pub of_tables : IsMadeOf files folders makes asked status made
   pub printed : text ≡ printed_of (page_file asked.command) made
   pub status_is : (status ≡ 0) ⊎ (status ≡ 3)
-  pub problems : (status ≡ 0) ↔ (survey.found.problems.items ≡ [])
 
 -- what is printed for an invocation, and the status with which the run ends then
-abbrev pub IsPrinted : FileBytes → FolderNames → Invocation → ℕ → List ℕ → Type 0
-IsPrinted files folders (help topic) status text = status ≡ 0
-IsPrinted files folders version status text = status ≡ 0
-IsPrinted files folders (survey asked) status text = IsSurveyed files folders asked status text
+abbrev pub IsPrinted : FileBytes → FolderNames → Makes → Invocation → ℕ → List ℕ → Type 0
+IsPrinted files folders makes (help topic) status text = status ≡ 0
+IsPrinted files folders makes version status text = status ≡ 0
+IsPrinted files folders makes (survey asked) status text =
+    IsSurveyed files folders makes asked status text
 
 -- the words ask for that text
-abbrev pub IsOutput : FileBytes → FolderNames → List Text → ℕ → List ℕ → Type 0
-IsOutput files folders words status text =
+abbrev pub IsOutput : FileBytes → FolderNames → Makes → List Text → ℕ → List ℕ → Type 0
+IsOutput files folders makes words status text =
     (invocation : Invocation) × (invocation_of words ≡ Some invocation)
-    × IsPrinted files folders invocation status text
+    × IsPrinted files folders makes invocation status text
 
 -- standard output gets it, whole
-abbrev pub GetsOutput : FileBytes → FolderNames → List Text → ℕ → Option (List ℕ) → Option (List ℕ)
-    → Type 0
-GetsOutput files folders words status old new =
-    (text : List ℕ) × IsOutput files folders words status text × Appends old new text
+abbrev pub GetsOutput : FileBytes → FolderNames → Makes → List Text → ℕ → Option (List ℕ)
+    → Option (List ℕ) → Type 0
+GetsOutput files folders makes words status old new =
+    (text : List ℕ) × IsOutput files folders makes words status text × Appends old new text
 
 -- .. or a beginning of it
-abbrev pub GetsBeginning : FileBytes → FolderNames → List Text → Option (List ℕ) → Option (List ℕ)
-    → Type 0
-GetsBeginning files folders words old new = (status : ℕ) × (text : List ℕ)
-    × IsOutput files folders words status text × AppendsBeginning text old new
+abbrev pub GetsBeginning : FileBytes → FolderNames → Makes → List Text → Option (List ℕ)
+    → Option (List ℕ) → Type 0
+GetsBeginning files folders makes words old new = (status : ℕ) × (text : List ℕ)
+    × IsOutput files folders makes words status text × AppendsBeginning text old new
 
 -- ---- what is written to files
 
@@ -125,22 +96,26 @@ IsHeldIn (Some out) text old new =
     Holds (old out) (new out) text × ((other : List ℕ) → other ≢ out → new other ≡ old other)
 IsHeldIn None text old new = new ≡ old
 
-abbrev pub IsStoredFor : FileBytes → FolderNames → Invocation → FileBytes → FileBytes → Type 0
-IsStoredFor files folders (survey asked) old new =
-    (text : List ℕ) × IsMadeOf files folders asked text
+-- So no file that was read is written: what is made of tables spares them.
+abbrev pub IsStoredFor : FileBytes → FolderNames → Makes → Invocation → FileBytes → FileBytes
+    → Type 0
+IsStoredFor files folders makes (survey asked) old new =
+    (status : ℕ) × (text : List ℕ) × IsMadeOf files folders makes asked status text
     × IsHeldIn (page_file asked.command) text old new
-IsStoredFor files folders _ old new = new ≡ old
+IsStoredFor files folders makes _ old new = new ≡ old
 
-abbrev pub StoresOutput : FileBytes → FolderNames → List Text → FileBytes → FileBytes → Type 0
-StoresOutput files folders words old new =
+abbrev pub StoresOutput : FileBytes → FolderNames → Makes → List Text → FileBytes → FileBytes
+    → Type 0
+StoresOutput files folders makes words old new =
     (invocation : Invocation) × (invocation_of words ≡ Some invocation)
-    × IsStoredFor files folders invocation old new
+    × IsStoredFor files folders makes invocation old new
 
 -- a failure leaves all files as they were; where standard output can't be written, all else is done
-abbrev pub LeavesFiles : FileBytes → FolderNames → List Text → Failure → FileBytes → FileBytes
-    → Type 0
-LeavesFiles files folders words Output old new = StoresOutput files folders words old new
-LeavesFiles files folders words failure old new = new ≡ old
+abbrev pub LeavesFiles : FileBytes → FolderNames → Makes → List Text → Failure → FileBytes
+    → FileBytes → Type 0
+LeavesFiles files folders makes words Output old new =
+    StoresOutput files folders makes words old new
+LeavesFiles files folders makes words failure old new = new ≡ old
 
 -- ---- why nothing is
 
@@ -149,45 +124,64 @@ abbrev pub IsUnwrittenIn : Option Text → Failure → Type 0
 IsUnwrittenIn (Some out) failure = IsUnwritten out failure
 IsUnwrittenIn None failure = ⊥
 
--- the word of `show` spells no path
-abbrev pub IsBadPath : Command → Type 0
-IsBadPath (showing word) = ¬ IsPathText word
-IsBadPath _ = ⊥
+-- the file that is written is one of these, or holds tables; it is printed so
+abbrev pub AreUnspared : FileBytes → Option Text → List (List ℕ) → List ℕ → Type 0
+AreUnspared bytes_of (Some out) files printed =
+    (printed ≡ printed_name out) × IsUnspared bytes_of files out
+AreUnspared bytes_of None files printed = ⊥
+
+-- the word of `show` spells no path, and is printed so
+abbrev pub IsBadPath : Command → List ℕ → Type 0
+IsBadPath (showing word) printed = ¬ IsPathText word × (printed ≡ printed_name word)
+IsBadPath _ printed = ⊥
+
+-- why the tables that the arguments stand for aren't had
+abbrev pub IsInputFault : FileBytes → FolderNames → Asked → Failure → Type 0
+IsInputFault files folders asked (Read file cause) =
+    IsFilesFault files asked.hex (Read file cause)
+IsInputFault files folders asked (BadHex file) = IsFilesFault files asked.hex (BadHex file)
+IsInputFault files folders asked (NoTable file) = IsFilesFault files asked.hex (NoTable file)
+IsInputFault files folders asked (HoldsTables file) =
+    (sources : List (List ℕ)) × AreFilesOf folders asked.files sources
+    × AreUnspared files (page_file asked.command) sources file.items
+IsInputFault files folders asked Memory = Unit {0}
+IsInputFault files folders asked _ = ⊥
 
 -- why what the words ask for can't be made
-abbrev pub IsFailureOf : FileBytes → FolderNames → Asked → Failure → Type 0
-IsFailureOf files folders asked (Read file cause) = IsFilesFault files asked.hex (Read file cause)
-IsFailureOf files folders asked (BadHex file) = IsFilesFault files asked.hex (BadHex file)
-IsFailureOf files folders asked (Out file) =
-    (text : List ℕ) × IsMadeOf files folders asked text
-    × IsUnwrittenIn (page_file asked.command) (Out file)
-IsFailureOf files folders asked BadPath = IsBadPath asked.command
-IsFailureOf files folders asked NoSuchPath =
-    (s : Survey) × IsSurveyOfFiles files folders asked s × HasNothingAt asked.command s
-IsFailureOf files folders asked NoTable = AreTablesOf files folders asked.hex asked.files []
-IsFailureOf files folders asked Memory = Unit {0}
-IsFailureOf files folders asked _ = ⊥
+abbrev pub IsFailureOf : FileBytes → FolderNames → Makes → HasNothing → Asked → Failure → Type 0
+IsFailureOf files folders makes has_nothing asked (Out file kind) =
+    (status : ℕ) × (text : List ℕ) × IsMadeOf files folders makes asked status text
+    × IsUnwrittenIn (page_file asked.command) (Out file kind)
+IsFailureOf files folders makes has_nothing asked (BadPath word) =
+    IsBadPath asked.command word.items
+IsFailureOf files folders makes has_nothing asked NoSuchPath =
+    (tables : List (List ℕ)) × AreTablesOf files folders asked tables
+    × has_nothing asked.command asked.depth tables
+IsFailureOf files folders makes has_nothing asked failure =
+    IsInputFault files folders asked failure
 
 -- why a run fails: the words ask for nothing; or what they ask for can't be made, or can't be written
-abbrev pub IsRunFailure : FileBytes → FolderNames → List Text → Failure → Type 0
-IsRunFailure files folders words WrongWords = invocation_of words ≡ None
-IsRunFailure files folders words Memory = Unit {0}
-IsRunFailure files folders words Output =
-    (status : ℕ) × (text : List ℕ) × IsOutput files folders words status text
-IsRunFailure files folders words failure =
+abbrev pub IsRunFailure : FileBytes → FolderNames → Makes → HasNothing → List Text → Failure
+    → Type 0
+IsRunFailure files folders makes has_nothing words (WrongArguments text) =
+    invocation_of words ≡ None
+IsRunFailure files folders makes has_nothing words Memory = Unit {0}
+IsRunFailure files folders makes has_nothing words Output =
+    (status : ℕ) × (text : List ℕ) × IsOutput files folders makes words status text
+IsRunFailure files folders makes has_nothing words failure =
     (asked : Asked) × (invocation_of words ≡ Some (survey asked))
-    × IsFailureOf files folders asked failure
+    × IsFailureOf files folders makes has_nothing asked failure
 
 -- A run ends with the status of such a failure, and its line is said. Standard output is as it was; if it was that
 -- which could not be written, it got a beginning of what the words ask for. What was written to files is as
 -- `LeavesFiles` has it.
-pub record FailsWith (files : FileBytes) (folders : FolderNames) (words : List Text) (status : ℕ)
-    (old new : Option (List ℕ)) (before after : FileBytes)
-    (is_said : List ℕ → Type 0) : Type 0 where
+pub record FailsWith (files : FileBytes) (folders : FolderNames) (makes : Makes)
+    (has_nothing : HasNothing) (words : List Text) (status : ℕ) (old new : Option (List ℕ))
+    (before after : FileBytes) (is_said : List ℕ → Type 0) : Type 0 where
   pub failure : Failure
-  pub true_of : IsRunFailure files folders words failure
+  pub true_of : IsRunFailure files folders makes has_nothing words failure
   pub status_is : status ≡ status_of failure
   pub kept : failure ≢ Output → new ≡ old
-  pub begun : failure ≡ Output → GetsBeginning files folders words old new
-  pub left : LeavesFiles files folders words failure before after
+  pub begun : failure ≡ Output → GetsBeginning files folders makes words old new
+  pub left : LeavesFiles files folders makes words failure before after
   pub said : is_said (failure_line failure)

@@ -1,13 +1,59 @@
-//! The folders and the terminal of the host.
+//! The arguments, the folders and the terminal of the host.
+
+ghost use Rattle.std.specs.Prelude.{◌≡◌};
+ghost use Rattle.std.specs.declared.io.ErrorKind.{ErrorKind};
+ghost use Rattle.acpins_survey_run.specs.declared.failure.Failure.{Failure};
 
 use crate::console::Console;
+use crate::failure::Failure;
 use crate::folders::Folders;
 use acpins_io::FileFault;
-use std::env::VarError;
+use std::alloc::Global;
+use std::env::{Env, VarError};
 use std::io::{ErrorKind, IsTerminal};
-use std::{env, fs};
+use std::{env, fs, str};
 
-/// The folders of the host, by the paths that it knows.
+/// The most bytes of an argument, as Linux has it.
+const ARGUMENT_BYTES: usize = 1 << 17;
+
+// The number of the first argument that is not UTF-8. None where it isn't found.
+fn find_not_utf8(rt: &HostRuntime, alloc: Global) -> Result<Option<usize>, Failure> {
+    let mut bytes = vec![in alloc; 0; ARGUMENT_BYTES]?;
+    for number in 0..usize::MAX {
+        match rt.arg(number, &mut bytes) {
+            Ok(length) if str::from_utf8(&bytes[..length]).is_err() => return Ok(Some(number)),
+            Ok(_) => {}
+            Err(_) => return Ok(None),
+        }
+    }
+    Ok(None)
+}
+
+// Why the host's arguments can't be had: there is no memory for them, or one is not UTF-8.
+fn arguments_failure(rt: &HostRuntime, alloc: Global, kind: ErrorKind) -> Failure
+    ensures { kind ≡ ErrorKind.OutOfMemory → result ≡ Failure.Memory }
+{
+    match kind {
+        ErrorKind::OutOfMemory => Failure::Memory,
+        _ => match find_not_utf8(rt, alloc) {
+            Ok(number) => Failure::NotUtf8(number),
+            Err(failure) => failure,
+        },
+    }
+}
+
+/// The arguments of the process, the program's name first.
+pub fn arguments(rt: &HostRuntime, alloc: Global) -> Result<Vec<String>, Failure> {
+    match env::args(rt) {
+        Ok(arguments) => Ok(arguments.collect(alloc)?),
+        Err(error) => Err(arguments_failure(rt, alloc, error.kind())),
+    }
+}
+
+/// The name of standard input.
+const STREAM_NAME: &str = "-";
+
+/// The folders of the host, by the paths that it knows. `-` is none of them: it is standard input.
 #[derive(Drop)]
 pub struct HostFolders<'a> {
     rt: &'a HostRuntime,
@@ -22,6 +68,9 @@ impl<'a> HostFolders<'a> {
 
 impl<'a> Folders for HostFolders<'a> {
     fn names(&mut self, folder: &str) -> Result<Option<Vec<String>>, FileFault> {
+        if folder == STREAM_NAME {
+            return Ok(None);
+        }
         let alloc = self.rt.alloc();
         let listing = match fs::read_dir(self.rt, folder) {
             Ok(listing) => listing,

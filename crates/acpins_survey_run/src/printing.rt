@@ -1,54 +1,89 @@
-//! What commands print of a survey.
+//! What commands print of tables.
 
-ghost use Rattle.std.specs.Prelude.{◌≡◌, ◌⊎◌, IfOk, IfErr};
-ghost use Rattle.acpi_name.specs.Text.{SpellsPathText, IsPathText};
-ghost use Rattle.acpi_survey.specs.SurveyOrder.{IsInOrder};
-ghost use Rattle.acpins_page.specs.Page.{IsPage};
-ghost use Rattle.acpins_survey_words.specs.Words.{Command as AskedCommand, command_in};
-ghost use Rattle.acpins_survey_run.specs.Runs.{IsTextOf};
-ghost use Rattle.acpins_survey_run.specs.steps.Prints.{IsPrintOf, IsUnprinted, IsUntold};
-ghost use Rattle.acpins_survey_run.specs.declared.failure.Failure.{Failure};
+ghost use Rattle.std.specs.Prelude.{◌≡◌, ◌⊎◌, ℕ, List, IfOk, IfErr, Err};
+ghost use Rattle.acpi_name.specs.Text.{SpellsPathText};
+ghost use Rattle.acpins_survey_words.specs.Words.{Command as AskedCommand, command_in, showing};
+ghost use Rattle.acpins_survey_run.specs.Prints.{IsPrintOf};
+ghost use Rattle.acpins_survey_run.specs.steps.Refusals.{IsUnprinted};
+ghost use Rattle.acpins_survey_run.specs.declared.failure.PrintFault.{PrintFault};
 
-use crate::failure::Failure;
-use crate::tables::{Source, names_of_tables};
+use crate::failure::{Failure, PrintFault};
+use crate::lines::printed_name;
+use crate::tables::FoundTables;
+use acpi_code::Depth;
 use acpi_name::{Path, PathFault};
-use acpi_survey::Survey;
-use acpins_page::{HEAD, html};
-use acpins_report::{ReportOptions, report};
-use acpins_survey_output::{bodies, json, list, map, show};
 use acpins_survey_words::Command;
-use std::alloc::{AllocError, Global};
+use std::alloc::Global;
 
-/// The most characters of a report's line.
-const REPORT_WIDTH: usize = 100;
+/// What is made of tables.
+#[derive(Debug, Drop)]
+pub enum Print {
+    /// The lines of objects, problems and notes.
+    List,
+    /// The objects at this path.
+    Show(Path),
+    /// What each byte is.
+    Map,
+    /// The methods.
+    Bodies,
+    /// The overview for people.
+    Report {
+        /// Whether all is told.
+        is_verbose: bool,
+    },
+    /// All of it, as JSON.
+    Json,
+    /// The overview as a page.
+    Html,
+}
+
+/// What a run prints, and the status with which it ends once that is printed.
+#[derive(Debug, Drop)]
+pub struct Output {
+    /// The bytes for standard output.
+    pub text: Vec<u8>,
+    /// 0, or 3 where there is a problem in a table.
+    pub status: u8,
+}
+
+/// Makes texts of tables. Contracts see which texts these may be.
+pub trait Printer {
+    // Which text, with which status, a command makes of tables that are read to a depth.
+    ghost makes: { AskedCommand → ℕ → List (List ℕ) → ℕ → List ℕ → Type 0 };
+
+    // Whether no object may be at the path that the word of a command spells.
+    ghost has_nothing: { AskedCommand → ℕ → List (List ℕ) → Type 0 };
+
+    /// The text that is made of these tables, with at most `depth` levels of terms; a report has colours or not.
+    fn text(
+        &self,
+        alloc: Global,
+        print: &Print,
+        found: &FoundTables,
+        depth: Depth,
+        is_coloured: bool,
+    ) -> Result<Output, PrintFault>
+        ensures made { IfOk result (λ m. (command : AskedCommand) → IsPrintOf command print.now
+            → makes command depth found.now.tables.items m.status m.text.items) }
+        ensures statuses { IfOk result (λ m. (m.status ≡ 0) ⊎ (m.status ≡ 3)) }
+        ensures nothing { result ≡ Err PrintFault.NoSuchPath → (command : AskedCommand)
+            → IsPrintOf command print.now → has_nothing command depth found.now.tables.items };
+}
 
 // The path that the word spells.
 fn path_of(alloc: Global, word: &str) -> Result<Path, Failure>
     ensures ok { IfOk result (λ p. SpellsPathText p word.now) }
-    ensures err { IfErr result (λ f.
-        ((f ≡ Failure.BadPath) × (IsPathText word.now → ⊥)) ⊎ (f ≡ Failure.Memory)) }
+    ensures err { IfErr result (IsUnprinted (showing word.now)) }
 {
     match Path::from_text(alloc, word) {
         Ok(path) => Ok(path),
-        Err(PathFault::BadText) => Err(Failure::BadPath),
+        Err(PathFault::BadText) => Err(Failure::BadPath(printed_name(alloc, word)?)),
         Err(PathFault::Memory) => Err(Failure::Memory),
     }
 }
 
-/// What is made of a survey.
-#[derive(Drop)]
-pub(crate) enum Print {
-    List,
-    Show(Path),
-    Map,
-    Bodies,
-    Report { is_verbose: bool },
-    Json,
-    Html,
-}
-
-/// The same as the command, with the path that its word spells.
-pub(crate) fn print_of(alloc: Global, command: &Command<'_>) -> Result<Print, Failure>
+/// What the command makes, with the path that its word spells.
+pub fn print_of(alloc: Global, command: &Command<'_>) -> Result<Print, Failure>
     ensures ok { IfOk result (IsPrintOf (command_in command.now)) }
     ensures err { IfErr result (IsUnprinted (command_in command.now)) }
 {
@@ -62,65 +97,5 @@ pub(crate) fn print_of(alloc: Global, command: &Command<'_>) -> Result<Print, Fa
         }),
         Command::Json => Ok(Print::Json),
         Command::Html(_) => Ok(Print::Html),
-    }
-}
-
-/// A survey, and the files that hold its tables.
-#[derive(Drop)]
-pub(crate) struct SurveyedFiles {
-    pub(crate) survey: Survey,
-    pub(crate) sources: Vec<Source>,
-}
-
-// The report, which names the file beside each table.
-fn report_of(
-    alloc: Global,
-    found: &SurveyedFiles,
-    is_coloured: bool,
-    is_verbose: bool,
-) -> Result<Vec<u8>, AllocError> {
-    let names = names_of_tables(alloc, &found.sources)?;
-    let options = ReportOptions {
-        width: REPORT_WIDTH,
-        is_coloured,
-        is_verbose,
-    };
-    report(alloc, &found.survey, &names, options)
-}
-
-// The page, which names them so too.
-fn page_of(alloc: Global, found: &SurveyedFiles) -> Result<Vec<u8>, AllocError>
-    ensures { IfOk result (λ page. IsPage HEAD.now page.items) }
-{
-    let names = names_of_tables(alloc, &found.sources)?;
-    html(alloc, &found.survey, &names)
-}
-
-/// The text that is made of a survey; a report has colours or not.
-pub(crate) fn text_of(
-    alloc: Global,
-    print: &Print,
-    found: &SurveyedFiles,
-    is_coloured: bool,
-) -> Result<Vec<u8>, Failure>
-    ensures ok { IfOk result (λ text. (command : AskedCommand)
-        → IsPrintOf command print.now → IsInOrder found.now.survey
-        → IsTextOf command found.now.survey text.items) }
-    ensures err { IfErr result (λ f. (command : AskedCommand)
-        → IsPrintOf command print.now → IsInOrder found.now.survey
-        → IsUntold command found.now.survey f) }
-{
-    let survey = &found.survey;
-    match print {
-        Print::List => Ok(list(alloc, survey)?),
-        Print::Show(path) => match show(alloc, survey, path)? {
-            Some(text) => Ok(text),
-            None => Err(Failure::NoSuchPath),
-        },
-        Print::Map => Ok(map(alloc, survey)?),
-        Print::Bodies => Ok(bodies(alloc, survey)?),
-        Print::Report { is_verbose } => { Ok(report_of(alloc, found, is_coloured, *is_verbose)?) }
-        Print::Json => Ok(json(alloc, survey)?),
-        Print::Html => Ok(page_of(alloc, found)?),
     }
 }

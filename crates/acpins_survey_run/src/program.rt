@@ -2,44 +2,31 @@
 
 ghost use Rattle.std.specs.Prelude.{◌≡◌, ◌≢◌, ◌≤◌, ◌⊎◌, [], IfOk, IfErr, OnOk, OnErr, option_map, true};
 ghost use Rattle.std.specs.Io.KnownBytes.{Appends};
-ghost use Rattle.acpi_survey.specs.SurveyOrder.{IsInOrder};
 ghost use Rattle.acpins_io.specs.PartsWritten.{AppendsBeginning, WritesUntilFailure};
 ghost use Rattle.acpins_words.specs.Words.{texts};
-ghost use Rattle.acpins_survey_words.specs.Words.{asked_in, command_in};
+ghost use Rattle.acpins_survey_words.specs.Words.{asked_in, command_in, survey as surveying};
 ghost use Rattle.acpins_survey_run.specs.FailureLines.{failure_line};
 ghost use Rattle.acpins_survey_run.specs.Failures.{status_of};
-ghost use Rattle.acpins_survey_run.specs.Input.{AreTablesOf, IsFilesFault};
-ghost use Rattle.acpins_survey_run.specs.Runs.{FailsWith, GetsBeginning, GetsOutput, IsFailureOf};
-ghost use Rattle.acpins_survey_run.specs.Runs.{IsHeldIn, IsOutput, IsRunFailure, IsStoredFor, IsSurveyed};
-ghost use Rattle.acpins_survey_run.specs.Runs.{IsSurveyOfFiles, IsUnwrittenIn, LeavesFiles};
+ghost use Rattle.acpins_survey_run.specs.Runs.{AreTablesOf, FailsWith, GetsBeginning, GetsOutput, IsInputFault};
+ghost use Rattle.acpins_survey_run.specs.Runs.{IsFailureOf, IsHeldIn, IsOutput, IsRunFailure, IsStoredFor};
+ghost use Rattle.acpins_survey_run.specs.Runs.{IsSurveyed, IsUnwrittenIn, LeavesFiles};
 ghost use Rattle.acpins_survey_run.specs.Runs.{StoresOutput, page_file, printed_of};
-ghost use Rattle.acpins_survey_words.specs.Words.{survey as surveying};
 ghost use Rattle.acpins_survey_run.specs.declared.failure.Failure.{Failure};
 
 use crate::console::Console;
 use crate::failure::Failure;
 use crate::folders::Folders;
 use crate::lines::put_line;
-use crate::printing::{SurveyedFiles, print_of, text_of};
-use crate::tables::{FoundTables, add_tables};
-use crate::writing::put_file;
-use acpi_survey::survey;
+use crate::printing::{Output, Printer, print_of};
+use crate::sources::files_of;
+use crate::tables::{FoundTables, read_tables};
+use crate::writing::{put_file, spare_tables};
 use acpins_io::{Files, PartWriter, UntilFailure, Written, write_bytes};
-use acpins_survey_output::has_problem;
-use acpins_survey_words::{Command, Invocation, Request, VERSION, help_of, read_words};
+use acpins_survey_words::{Command, Invocation, Request, VERSION, fault_text, help_of, read_words};
+use acpins_words::WordsFault;
 use bytes::Bytes;
 use std::alloc::Global;
 use std::io::{ErrorKind, Write};
-use std::mem;
-
-/// What a run prints, and the status with which it ends once that is printed.
-#[derive(Debug, Drop)]
-pub struct Output {
-    /// The bytes for standard output.
-    pub text: Vec<u8>,
-    /// 0, or 3 where there is a problem in a table.
-    pub status: u8,
-}
 
 /// How a run ended.
 #[derive(Clone, Copy, Debug, PartialEq, Eq)]
@@ -51,7 +38,17 @@ pub struct Ending {
     pub is_whole: bool,
 }
 
-// All tables of all files and folders, in order.
+// The file to which a command writes its text.
+fn page_file<'a>(command: &Command<'a>) -> Option<&'a str>
+    ensures { option_map (λ name. name.now) result ≡ page_file (command_in command.now) }
+{
+    match command {
+        Command::Html(out) => Some(*out),
+        _ => None,
+    }
+}
+
+// The tables of the files that the arguments stand for, none of which is written.
 fn tables_of<F: Files, D: Folders>(
     alloc: Global,
     request: &Request<'_>,
@@ -59,15 +56,14 @@ fn tables_of<F: Files, D: Folders>(
     folders: &mut D,
 ) -> Result<FoundTables, Failure>
     ensures ok { IfOk result (λ found. AreTablesOf (F.bytes_of files.old)
-        (D.names_in folders.old) request.now.hex (asked_in request.now).files found.tables.items) }
-    ensures err { IfErr result (IsFilesFault (F.bytes_of files.old) request.now.hex) }
+        (D.names_in folders.old) (asked_in request.now) found.tables.items) }
+    ensures err { IfErr result
+        (IsInputFault (F.bytes_of files.old) (D.names_in folders.old) (asked_in request.now)) }
     ensures others { F.written_to files.new ≡ F.written_to files.old }
 {
-    let mut found = FoundTables::new(alloc);
-    for name in request.files.iter() {
-        add_tables(alloc, files, folders, *name, request.hex, &mut found)?;
-    }
-    Ok(found)
+    let sources = files_of(alloc, folders, &request.files)?;
+    spare_tables(alloc, files, page_file(&request.command), &sources)?;
+    read_tables(alloc, files, &sources, request.hex)
 }
 
 // Tells that work over these tables begins.
@@ -77,40 +73,6 @@ fn tell_work<C: Console>(console: &mut C, tables: &[Bytes]) {
         bytes = bytes.saturating_add(table.len());
     }
     console.work_begins(bytes);
-}
-
-// The survey of the tables in the files.
-fn survey_of<F: Files, D: Folders, C: Console>(
-    alloc: Global,
-    request: &Request<'_>,
-    files: &mut F,
-    folders: &mut D,
-    console: &mut C,
-) -> Result<SurveyedFiles, Failure>
-    ensures ok { IfOk result (λ found. IsSurveyOfFiles (F.bytes_of files.old)
-        (D.names_in folders.old) (asked_in request.now) found.survey) }
-    ensures in_order { IfOk result (λ found. IsInOrder found.survey) }
-    ensures err { IfErr result
-        (IsFailureOf (F.bytes_of files.old) (D.names_in folders.old) (asked_in request.now)) }
-    ensures others { F.written_to files.new ≡ F.written_to files.old }
-{
-    let FoundTables { tables, sources } = tables_of(alloc, request, files, folders)?;
-    if tables.is_empty() {
-        return Err(Failure::NoTable);
-    }
-    tell_work(console, &tables);
-    let survey = survey(alloc, &tables, request.depth)?;
-    Ok(SurveyedFiles { survey, sources })
-}
-
-// The file to which a command writes its text.
-fn page_file<'a>(command: &Command<'a>) -> Option<&'a str>
-    ensures { option_map (λ name. name.now) result ≡ page_file (command_in command.now) }
-{
-    match command {
-        Command::Html(out) => Some(*out),
-        _ => None,
-    }
 }
 
 // What is printed of a text that was made: all of it, or nothing where it is written to a file.
@@ -137,31 +99,32 @@ fn deliver<F: Files>(
 }
 
 // What a command over tables prints.
-fn survey_output<F: Files, D: Folders, C: Console>(
+fn survey_output<T: Printer, F: Files, D: Folders, C: Console>(
     alloc: Global,
     request: &Request<'_>,
+    printer: &T,
     files: &mut F,
     folders: &mut D,
     console: &mut C,
 ) -> Result<Output, Failure>
     ensures ok { IfOk result (λ m. IsSurveyed (F.bytes_of files.old) (D.names_in folders.old)
-        (asked_in request.now) m.status m.text.items) }
-    ensures err { IfErr result
-        (IsFailureOf (F.bytes_of files.old) (D.names_in folders.old) (asked_in request.now)) }
+        T.makes (asked_in request.now) m.status m.text.items) }
+    ensures err { IfErr result (IsFailureOf (F.bytes_of files.old) (D.names_in folders.old)
+        T.makes T.has_nothing (asked_in request.now)) }
     ensures stored { OnOk result (IsStoredFor (F.bytes_of files.old) (D.names_in folders.old)
-        (surveying (asked_in request.now)) (F.written_to files.old) (F.written_to files.new)) }
+        T.makes (surveying (asked_in request.now)) (F.written_to files.old)
+        (F.written_to files.new)) }
     ensures left { OnErr result (F.written_to files.new ≡ F.written_to files.old) }
 {
     let print = print_of(alloc, &request.command)?;
-    let found = survey_of(alloc, request, files, folders, console)?;
-    let text = text_of(alloc, &print, &found, console.shows_colours())?;
-    let status = if has_problem(&found.survey) { 3 } else { 0 };
-    let printed = deliver(alloc, text, page_file(&request.command), files)?;
-    // The process ends soon and gives all memory back at once; to take the survey apart first costs time.
-    mem::forget(found);
+    let found = tables_of(alloc, request, files, folders)?;
+    tell_work(console, &found.tables);
+    let is_coloured = console.shows_colours();
+    let output = printer.text(alloc, &print, &found, request.depth, is_coloured)?;
+    let text = deliver(alloc, output.text, page_file(&request.command), files)?;
     Ok(Output {
-        text: printed,
-        status,
+        text,
+        status: output.status,
     })
 }
 
@@ -175,25 +138,30 @@ fn text_output(alloc: Global, text: &str) -> Result<Output, Failure>
 }
 
 /// What a run prints, whole. A page stands in its file then.
-pub fn output_of<'a, F: Files, D: Folders, C: Console>(
+pub fn output_of<'a, T: Printer, F: Files, D: Folders, C: Console>(
     alloc: Global,
     words: &'a [&'a str],
+    printer: &T,
     files: &mut F,
     folders: &mut D,
     console: &mut C,
 ) -> Result<Output, Failure>
     ensures ok { IfOk result (λ m. IsOutput (F.bytes_of files.old) (D.names_in folders.old)
-        (texts words.now) m.status m.text.items) }
+        T.makes (texts words.now) m.status m.text.items) }
     ensures err { IfErr result (λ f. IsRunFailure (F.bytes_of files.old) (D.names_in folders.old)
-        (texts words.now) f × (f ≢ Failure.Output)) }
+        T.makes T.has_nothing (texts words.now) f × (f ≢ Failure.Output)) }
     ensures stored { OnOk result (StoresOutput (F.bytes_of files.old) (D.names_in folders.old)
-        (texts words.now) (F.written_to files.old) (F.written_to files.new)) }
+        T.makes (texts words.now) (F.written_to files.old) (F.written_to files.new)) }
     ensures left { OnErr result (F.written_to files.new ≡ F.written_to files.old) }
 {
-    match read_words(alloc, words)? {
-        Invocation::Help(topic) => text_output(alloc, help_of(topic)),
-        Invocation::Version => text_output(alloc, VERSION),
-        Invocation::Survey(request) => survey_output(alloc, &request, files, folders, console),
+    match read_words(alloc, words) {
+        Ok(Invocation::Help(topic)) => text_output(alloc, help_of(topic)),
+        Ok(Invocation::Version) => text_output(alloc, VERSION),
+        Ok(Invocation::Survey(request)) => {
+            survey_output(alloc, &request, printer, files, folders, console)
+        }
+        Err(WordsFault::Wrong) => Err(Failure::WrongArguments(fault_text(alloc, words)?)),
+        Err(WordsFault::Memory) => Err(Failure::Memory),
     }
 }
 
@@ -216,9 +184,10 @@ fn write_out<O: Write>(out: &mut O, bytes: &[u8]) -> Written
 
 // Makes what the words ask for, prints it, and answers the status. Where anything but printing fails, nothing was
 // printed.
-fn print_output<'a, F: Files, D: Folders, C: Console, O: Write>(
+fn print_output<'a, T: Printer, F: Files, D: Folders, C: Console, O: Write>(
     alloc: Global,
     words: &'a [&'a str],
+    printer: &T,
     files: &mut F,
     folders: &mut D,
     console: &mut C,
@@ -226,23 +195,24 @@ fn print_output<'a, F: Files, D: Folders, C: Console, O: Write>(
 ) -> Result<Ending, Failure>
     ensures ok { IfOk result (λ e. e.is_whole ≡ true
         → GetsOutput (F.bytes_of files.old) (D.names_in folders.old)
-        (texts words.now) e.status (O.contents out.old) (O.contents out.new)) }
+        T.makes (texts words.now) e.status (O.contents out.old) (O.contents out.new)) }
     ensures part { OnOk result (GetsBeginning (F.bytes_of files.old) (D.names_in folders.old)
-        (texts words.now) (O.contents out.old) (O.contents out.new)) }
+        T.makes (texts words.now) (O.contents out.old) (O.contents out.new)) }
     ensures statuses { IfOk result (λ e. (e.status ≡ 0) ⊎ (e.status ≡ 3)) }
     ensures err { IfErr result
-        (IsRunFailure (F.bytes_of files.old) (D.names_in folders.old) (texts words.now)) }
+        (IsRunFailure (F.bytes_of files.old) (D.names_in folders.old)
+        T.makes T.has_nothing (texts words.now)) }
     ensures kept { IfErr result (λ f.
         f ≢ Failure.Output → O.contents out.new ≡ O.contents out.old) }
     ensures begun { IfErr result (λ f. f ≡ Failure.Output
         → GetsBeginning (F.bytes_of files.old) (D.names_in folders.old)
-        (texts words.now) (O.contents out.old) (O.contents out.new)) }
+        T.makes (texts words.now) (O.contents out.old) (O.contents out.new)) }
     ensures stored { OnOk result (StoresOutput (F.bytes_of files.old) (D.names_in folders.old)
-        (texts words.now) (F.written_to files.old) (F.written_to files.new)) }
+        T.makes (texts words.now) (F.written_to files.old) (F.written_to files.new)) }
     ensures left { IfErr result (λ f. LeavesFiles (F.bytes_of files.old) (D.names_in folders.old)
-        (texts words.now) f (F.written_to files.old) (F.written_to files.new)) }
+        T.makes (texts words.now) f (F.written_to files.old) (F.written_to files.new)) }
 {
-    let Output { text, status } = output_of(alloc, words, files, folders, console)?;
+    let Output { text, status } = output_of(alloc, words, printer, files, folders, console)?;
     match write_out(out, &text) {
         Written::Whole => Ok(Ending {
             status,
@@ -269,9 +239,10 @@ pub fn report_failure<E, P: PartWriter<E>>(failure: &Failure, err: &mut E, parts
 /// Runs the command that the words say, and answers how it ended. The words leave out the program's name.
 /// Nothing is written to `out` before all of the output is made, and nothing to `err` but one line where the
 /// status is 1 or 2.
-pub fn run<'a, F: Files, D: Folders, C: Console, O: Write, E: Write>(
+pub fn run<'a, T: Printer, F: Files, D: Folders, C: Console, O: Write, E: Write>(
     alloc: Global,
     words: &'a [&'a str],
+    printer: &T,
     files: &mut F,
     folders: &mut D,
     console: &mut C,
@@ -281,24 +252,24 @@ pub fn run<'a, F: Files, D: Folders, C: Console, O: Write, E: Write>(
     // All that the words ask for is printed, and nothing else; or a beginning of it, where nobody reads it.
     ensures done { result.status ≢ 1 → result.status ≢ 2 → result.is_whole ≡ true
         → GetsOutput (F.bytes_of files.old) (D.names_in folders.old)
-        (texts words.now) result.status (O.contents out.old) (O.contents out.new) }
+        T.makes (texts words.now) result.status (O.contents out.old) (O.contents out.new) }
     ensures part { result.status ≢ 1 → result.status ≢ 2
         → GetsBeginning (F.bytes_of files.old) (D.names_in folders.old)
-        (texts words.now) (O.contents out.old) (O.contents out.new) }
+        T.makes (texts words.now) (O.contents out.old) (O.contents out.new) }
     ensures quiet { result.status ≢ 1 → result.status ≢ 2 → err.new ≡ err.old }
-    // The page that the words ask for stands in its file, whole, and no other file is written.
+    // The page that the words ask for stands in its file, whole. No other file is written, and none that was read.
     ensures stored { result.status ≢ 1 → result.status ≢ 2
         → StoresOutput (F.bytes_of files.old) (D.names_in folders.old)
-        (texts words.now) (F.written_to files.old) (F.written_to files.new) }
+        T.makes (texts words.now) (F.written_to files.old) (F.written_to files.new) }
     // Something failed, and its line is said, or a beginning of it; nothing is printed, unless it was the printing.
     ensures failed { 1 ≤ result.status → result.status ≤ 2
         → FailsWith (F.bytes_of files.old) (D.names_in folders.old)
-        (texts words.now) result.status (O.contents out.old) (O.contents out.new)
-        (F.written_to files.old) (F.written_to files.new)
+        T.makes T.has_nothing (texts words.now) result.status
+        (O.contents out.old) (O.contents out.new) (F.written_to files.old) (F.written_to files.new)
         (λ line. AppendsBeginning line (E.contents err.old) (E.contents err.new)) }
     ensures statuses { result.status ≤ 3 }
 {
-    match print_output(alloc, words, files, folders, console, out) {
+    match print_output(alloc, words, printer, files, folders, console, out) {
         Ok(ending) => ending,
         Err(failure) => Ending {
             status: report_failure(&failure, err, &mut UntilFailure::new()),

@@ -1,16 +1,15 @@
-//! Files and folders into tables.
+//! Files into tables.
 
-ghost use Rattle.std.specs.Prelude.{◌≡◌, ◌++◌, [], ℕ, List, Bool, true, Option, Some, IfOk, IfErr, OnOk, IfSome, map, string_bytes};
-ghost use Rattle.acpi_survey.specs.Pieces.{ArePieces};
+ghost use Rattle.std.specs.Prelude.{◌≡◌, ◌≢◌, ◌++◌, [], ℕ, List, Bool, true, Option, Some, IfOk, IfErr, OnOk, IfSome, map, string_bytes};
+ghost use Rattle.acpi_pieces.specs.Pieces.{ArePieces};
 ghost use Rattle.acpins_io.specs.Dump.{tables_of_dump};
 ghost use Rattle.acpins_io.specs.Hexadecimal.{SpellsInHex};
-ghost use Rattle.acpins_survey_run.specs.Input.{Adds, AreOfDynamic, AreOfFolder, AreOfSsdts, ArePiecesOfEach};
-ghost use Rattle.acpins_survey_run.specs.Input.{AreTablesAt, AreTablesIn, IsFileFault, IsFilesFault};
+ghost use Rattle.acpins_survey_run.specs.Input.{ArePiecesOfEach, AreTablesIn, AreTablesOfFiles};
+ghost use Rattle.acpins_survey_run.specs.Input.{IsFileFault, IsFilesFault};
 
 use crate::failure::{Failure, ReadCause};
-use crate::folders::{Folders, has_dsdt, path_in, ssdts_among};
 use crate::lines::printed_name;
-use acpi_survey::pieces;
+use acpi_pieces::pieces;
 use acpins_io::{FileFault, Files, HexFault, from_hex, is_header, tables_in_dump};
 use bytes::Bytes;
 use std::alloc::{AllocError, Global};
@@ -35,8 +34,8 @@ pub struct FoundTables {
 }
 
 impl FoundTables {
-    /// No tables.
-    pub fn new(alloc: Global) -> FoundTables
+    // No tables.
+    fn new(alloc: Global) -> FoundTables
         ensures { result.tables.items ≡ [] }
     {
         FoundTables {
@@ -45,49 +44,39 @@ impl FoundTables {
         }
     }
 
-    // Notes that the tables behind those of earlier files stand in the file of that name.
-    fn end_source(&mut self, alloc: Global, name: &str) -> Result<(), AllocError>
-        ensures { OnOk result (self.new.tables.items ≡ self.old.tables.items) }
+    // Puts the tables of the file of that name behind the others.
+    fn add(&mut self, alloc: Global, name: &str, tables: &mut Vec<Bytes>) -> Result<(), AllocError>
+        ensures { OnOk result (self.new.tables.items
+            ≡ self.old.tables.items ++ tables.old.items) }
     {
+        self.tables.append(tables)?;
         let name = String::from_str(alloc, name)?;
         let end = self.tables.len();
         self.sources.push(Source { name, end })?;
         Ok(())
     }
-}
 
-/// For each table the name of the file that holds it.
-pub fn names_of_tables<'a>(
-    alloc: Global,
-    sources: &'a [Source],
-) -> Result<Vec<&'a str>, AllocError> {
-    let mut names = Vec::new(alloc);
-    for source in sources {
-        for _ in names.len()..source.end {
-            names.push(source.name.as_str())?;
+    /// For each table the name of the file that holds it.
+    pub fn names(&self, alloc: Global) -> Result<Vec<&str>, AllocError> {
+        let mut names = Vec::new(alloc);
+        for source in &self.sources {
+            for _ in names.len()..source.end {
+                names.push(source.name.as_str())?;
+            }
         }
-    }
-    Ok(names)
-}
-
-// The failure to read the file of that name for that cause.
-fn read_failure(alloc: Global, name: &str, cause: ReadCause) -> Failure
-    ensures { (hex : Bool) (known : Option (List ℕ)) → IsFileFault hex known name.now result }
-{
-    match printed_name(alloc, name) {
-        Ok(file) => Failure::Read(file, cause),
-        Err(_) => Failure::Memory,
+        Ok(names)
     }
 }
 
 // Why the file of that name can't be read.
-fn read_failure_by(alloc: Global, name: &str, fault: FileFault) -> Failure
+fn read_failure(alloc: Global, name: &str, fault: FileFault) -> Failure
     ensures { (hex : Bool) (known : Option (List ℕ)) → IsFileFault hex known name.now result }
 {
     match fault {
-        FileFault::Missing => read_failure(alloc, name, ReadCause::Missing),
-        FileFault::Denied => read_failure(alloc, name, ReadCause::Denied),
-        FileFault::Device => read_failure(alloc, name, ReadCause::Unknown),
+        FileFault::Host(kind) => match printed_name(alloc, name) {
+            Ok(file) => Failure::Read(file, ReadCause::Host(kind)),
+            Err(_) => Failure::Memory,
+        },
         FileFault::Memory => Failure::Memory,
     }
 }
@@ -107,26 +96,33 @@ fn read_file<F: Files>(alloc: Global, files: &mut F, name: &str) -> Result<Vec<u
     }
 }
 
-// Adds the tables that stand one behind another in these bytes to others.
-fn add_pieces(alloc: Global, bytes: Vec<u8>, tables: &mut Vec<Bytes>) -> Result<(), AllocError>
-    ensures { OnOk result (Adds (λ added. ArePieces added bytes.items)
-        tables.old.items tables.new.items) }
+// The tables that stand one behind another in these bytes.
+fn pieces_of(alloc: Global, bytes: Vec<u8>) -> Result<Vec<Bytes>, AllocError>
+    ensures { IfOk result (λ v. ArePieces v.items bytes.items) }
 {
     let bytes = Bytes::from_vec(bytes)?;
-    let mut added = pieces(alloc, &bytes)?;
-    tables.append(&mut added)
+    pieces(alloc, &bytes)
 }
 
 // .. in each of these byte strings.
-fn add_each(alloc: Global, sources: &[Vec<u8>], tables: &mut Vec<Bytes>) -> Result<(), AllocError>
-    ensures { OnOk result (Adds (ArePiecesOfEach (map (λ v. v.items) sources.now))
-        tables.old.items tables.new.items) }
+fn pieces_of_each(alloc: Global, sources: &[Vec<u8>]) -> Result<Vec<Bytes>, AllocError>
+    ensures { IfOk result (λ v. ArePiecesOfEach (map (λ v. v.items) sources.now) v.items) }
 {
+    let mut tables = Vec::new(alloc);
     for source in sources {
         let bytes = Vec::from_slice(alloc, source.as_slice())?;
-        add_pieces(alloc, bytes, tables)?;
+        let mut added = pieces_of(alloc, bytes)?;
+        tables.append(&mut added)?;
     }
-    Ok(())
+    Ok(tables)
+}
+
+// The tables of the text that `acpidump` writes.
+fn tables_of_dump(alloc: Global, text: &[u8]) -> Result<Vec<Bytes>, AllocError>
+    ensures { IfOk result (λ v. ArePiecesOfEach (tables_of_dump text.now) v.items) }
+{
+    let sources = tables_in_dump(alloc, text)?;
+    pieces_of_each(alloc, &sources)
 }
 
 // The bytes that a hexadecimal text of that name spells.
@@ -136,163 +132,79 @@ fn decode_hex(alloc: Global, name: &str, text: &[u8]) -> Result<Vec<u8>, Failure
 {
     match from_hex(alloc, text) {
         Ok(bytes) => Ok(bytes),
-        Err(HexFault::BadHex) => match printed_name(alloc, name) {
-            Ok(file) => Err(Failure::BadHex(file)),
-            Err(_) => Err(Failure::Memory),
-        },
+        Err(HexFault::BadHex) => Err(Failure::BadHex(printed_name(alloc, name)?)),
         Err(HexFault::Memory) => Err(Failure::Memory),
     }
 }
 
-// Adds the tables of the text that `acpidump` writes to others.
-fn add_dumped(alloc: Global, text: &[u8], tables: &mut Vec<Bytes>) -> Result<(), AllocError>
-    ensures { OnOk result (Adds (ArePiecesOfEach (tables_of_dump text.now))
-        tables.old.items tables.new.items) }
-{
-    let sources = tables_in_dump(alloc, text)?;
-    add_each(alloc, &sources, tables)
-}
-
-// Adds the tables of a file that has this content to others.
-fn add_content(
-    alloc: Global,
-    name: &str,
-    hex: bool,
-    content: Vec<u8>,
-    tables: &mut Vec<Bytes>,
-) -> Result<(), Failure>
-    ensures ok { OnOk result (Adds (AreTablesIn hex (Some content.items))
-        tables.old.items tables.new.items) }
+// The tables of a file that has this content.
+fn tables_in(alloc: Global, name: &str, hex: bool, content: Vec<u8>) -> Result<Vec<Bytes>, Failure>
+    ensures ok { IfOk result (λ v. AreTablesIn hex (Some content.items) v.items) }
     ensures err { IfErr result (IsFileFault hex (Some content.items) name.now) }
 {
     if hex {
         let bytes = decode_hex(alloc, name, &content)?;
-        return Ok(add_pieces(alloc, bytes, tables)?);
+        return Ok(pieces_of(alloc, bytes)?);
     }
     if is_header(&content) {
-        return Ok(add_dumped(alloc, &content, tables)?);
+        return Ok(tables_of_dump(alloc, &content)?);
     }
-    Ok(add_pieces(alloc, content, tables)?)
+    Ok(pieces_of(alloc, content)?)
 }
 
-// Adds the tables of one file to others.
-fn add_file<F: Files>(
+// .. one at least.
+fn some_tables_in(
+    alloc: Global,
+    name: &str,
+    hex: bool,
+    content: Vec<u8>,
+) -> Result<Vec<Bytes>, Failure>
+    ensures ok { IfOk result (λ v.
+        (v.items ≢ []) × AreTablesIn hex (Some content.items) v.items) }
+    ensures err { IfErr result (IsFileFault hex (Some content.items) name.now) }
+{
+    let tables = tables_in(alloc, name, hex, content)?;
+    if tables.is_empty() {
+        return Err(Failure::NoTable(printed_name(alloc, name)?));
+    }
+    Ok(tables)
+}
+
+// The tables of the file of that name.
+fn tables_at<F: Files>(
     alloc: Global,
     files: &mut F,
     name: &str,
     hex: bool,
-    found: &mut FoundTables,
-) -> Result<(), Failure>
-    ensures ok { OnOk result (Adds (AreTablesIn hex (F.bytes_of files.old name.now))
-        found.old.tables.items found.new.tables.items) }
+) -> Result<Vec<Bytes>, Failure>
+    ensures ok { IfOk result (λ v.
+        (v.items ≢ []) × AreTablesIn hex (F.bytes_of files.old name.now) v.items) }
     ensures err { IfErr result (IsFileFault hex (F.bytes_of files.old name.now) name.now) }
     ensures stays { F.bytes_of files.new ≡ F.bytes_of files.old }
     ensures others { F.written_to files.new ≡ F.written_to files.old }
 {
     match read_file(alloc, files, name) {
-        Ok(content) => {
-            add_content(alloc, name, hex, content, &mut found.tables)?;
-            Ok(found.end_source(alloc, name)?)
-        }
-        Err(fault) => Err(read_failure_by(alloc, name, fault)),
+        Ok(content) => some_tables_in(alloc, name, hex, content),
+        Err(fault) => Err(read_failure(alloc, name, fault)),
     }
 }
 
-// Adds the tables of the SSDTs' files among these names in a folder to others.
-fn add_ssdts<F: Files>(
+/// The tables of the files of these names, one file after another. Each has to hold one at least.
+pub fn read_tables<F: Files>(
     alloc: Global,
     files: &mut F,
-    folder: &str,
     names: &[String],
     hex: bool,
-    found: &mut FoundTables,
-) -> Result<(), Failure>
-    ensures ok { OnOk result (Adds (AreOfSsdts (F.bytes_of files.old) hex folder.now
-        (map string_bytes names.now)) found.old.tables.items found.new.tables.items) }
+) -> Result<FoundTables, Failure>
+    ensures ok { IfOk result (λ found. AreTablesOfFiles (F.bytes_of files.old) hex
+        (map string_bytes names.now) found.tables.items) }
     ensures err { IfErr result (IsFilesFault (F.bytes_of files.old) hex) }
-    ensures stays { F.bytes_of files.new ≡ F.bytes_of files.old }
     ensures others { F.written_to files.new ≡ F.written_to files.old }
 {
-    let ssdts = ssdts_among(alloc, names)?;
-    for name in &ssdts {
-        let path = path_in(alloc, folder, *name)?;
-        add_file(alloc, files, path.as_str(), hex, found)?;
+    let mut found = FoundTables::new(alloc);
+    for name in names {
+        let mut tables = tables_at(alloc, files, name.as_str(), hex)?;
+        found.add(alloc, name.as_str(), &mut tables)?;
     }
-    Ok(())
-}
-
-// Adds the tables of the SSDTs' files in the folder `dynamic` of a folder to others, where there is one.
-fn add_dynamic<F: Files, D: Folders>(
-    alloc: Global,
-    files: &mut F,
-    folders: &mut D,
-    folder: &str,
-    hex: bool,
-    found: &mut FoundTables,
-) -> Result<(), Failure>
-    ensures ok { OnOk result (Adds
-        (AreOfDynamic (F.bytes_of files.old) (D.names_in folders.old) hex folder.now)
-        found.old.tables.items found.new.tables.items) }
-    ensures err { IfErr result (IsFilesFault (F.bytes_of files.old) hex) }
-    ensures stays { F.bytes_of files.new ≡ F.bytes_of files.old }
-    ensures others { F.written_to files.new ≡ F.written_to files.old }
-    ensures folders { D.names_in folders.new ≡ D.names_in folders.old }
-{
-    let dynamic = path_in(alloc, folder, "dynamic")?;
-    match folders.names(dynamic.as_str()) {
-        Ok(Some(names)) => add_ssdts(alloc, files, dynamic.as_str(), &names, hex, found),
-        Ok(None) | Err(FileFault::Missing) => Ok(()),
-        Err(fault) => Err(read_failure_by(alloc, dynamic.as_str(), fault)),
-    }
-}
-
-// Adds the tables of the files in a folder with these names to others: the DSDT, the SSDTs, and those of its folder
-// `dynamic`.
-fn add_folder<F: Files, D: Folders>(
-    alloc: Global,
-    files: &mut F,
-    folders: &mut D,
-    folder: &str,
-    names: &[String],
-    hex: bool,
-    found: &mut FoundTables,
-) -> Result<(), Failure>
-    ensures ok { OnOk result (Adds (AreOfFolder (F.bytes_of files.old) (D.names_in folders.old) hex
-        folder.now (map string_bytes names.now)) found.old.tables.items found.new.tables.items) }
-    ensures err { IfErr result (IsFilesFault (F.bytes_of files.old) hex) }
-    ensures stays { F.bytes_of files.new ≡ F.bytes_of files.old }
-    ensures others { F.written_to files.new ≡ F.written_to files.old }
-    ensures folders { D.names_in folders.new ≡ D.names_in folders.old }
-{
-    if !has_dsdt(names) {
-        return Err(read_failure(alloc, folder, ReadCause::NoDsdt));
-    }
-    let dsdt = path_in(alloc, folder, "DSDT")?;
-    add_file(alloc, files, dsdt.as_str(), hex, found)?;
-    add_ssdts(alloc, files, folder, names, hex, found)?;
-    add_dynamic(alloc, files, folders, folder, hex, found)
-}
-
-/// Adds the tables of one file, or of the files in one folder, to others.
-pub fn add_tables<F: Files, D: Folders>(
-    alloc: Global,
-    files: &mut F,
-    folders: &mut D,
-    name: &str,
-    hex: bool,
-    found: &mut FoundTables,
-) -> Result<(), Failure>
-    ensures ok { OnOk result (Adds
-        (AreTablesAt (F.bytes_of files.old) (D.names_in folders.old) hex name.now)
-        found.old.tables.items found.new.tables.items) }
-    ensures err { IfErr result (IsFilesFault (F.bytes_of files.old) hex) }
-    ensures stays { F.bytes_of files.new ≡ F.bytes_of files.old }
-    ensures others { F.written_to files.new ≡ F.written_to files.old }
-    ensures folders { D.names_in folders.new ≡ D.names_in folders.old }
-{
-    match folders.names(name) {
-        Ok(Some(names)) => add_folder(alloc, files, folders, name, &names, hex, found),
-        Ok(None) => add_file(alloc, files, name, hex, found),
-        Err(fault) => Err(read_failure_by(alloc, name, fault)),
-    }
+    Ok(found)
 }

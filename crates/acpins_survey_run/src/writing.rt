@@ -1,24 +1,78 @@
 //! A file that is written.
 
-ghost use Rattle.std.specs.Prelude.{◌≡◌, ◌≢◌, ℕ, List, IfErr, OnOk, OnErr};
+ghost use Rattle.std.specs.Prelude.{◌≡◌, ◌≢◌, ℕ, List, IfOk, IfErr, OnOk, OnErr, IsTrue, true, false, map, option_map, string_bytes};
+ghost use Rattle.std.specs.List.{All, Contains};
 ghost use Rattle.acpins_io.specs.FilesWritten.{Holds};
-ghost use Rattle.acpins_survey_run.specs.Stored.{IsUnwritten};
+ghost use Rattle.acpins_survey_run.specs.Runs.{AreSpared};
+ghost use Rattle.acpins_survey_run.specs.Stored.{IsSpared, IsUnspared, IsUnwritten};
+ghost use Rattle.acpins_survey_run.specs.steps.Refusals.{IsRefused};
 
 use crate::failure::Failure;
 use crate::lines::printed_name;
 use acpins_io::{FileFault, Files, write_file};
-use std::alloc::Global;
+use std::alloc::{AllocError, Global};
+
+// Whether the name is one of these.
+fn is_among(name: &str, files: &[String]) -> bool
+    ensures among { IsTrue result → Contains (map string_bytes files.now) name.now }
+    ensures apart { result ≡ false → All (λ file. file ≢ name.now) (map string_bytes files.now) }
+{
+    for file in files {
+        if file.as_str() == name {
+            return true;
+        }
+    }
+    false
+}
+
+// Whether no file that is read has that name, and what stands there doesn't begin as tables do.
+fn is_spared<F: Files>(files: &mut F, name: &str, sources: &[String]) -> Result<bool, AllocError>
+    ensures yes { IfOk result (λ is. is ≡ true
+        → IsSpared (F.bytes_of files.old) (map string_bytes sources.now) name.now) }
+    ensures no { IfOk result (λ is. is ≡ false
+        → IsUnspared (F.bytes_of files.old) (map string_bytes sources.now) name.now) }
+    ensures stays { F.bytes_of files.new ≡ F.bytes_of files.old }
+    ensures others { F.written_to files.new ≡ F.written_to files.old }
+{
+    if is_among(name, sources) {
+        return Ok(false);
+    }
+    Ok(!files.holds_tables(name)?)
+}
+
+/// Refuses to write a file that is one of those that are read, or that begins as tables do.
+pub fn spare_tables<F: Files>(
+    alloc: Global,
+    files: &mut F,
+    out: Option<&str>,
+    sources: &[String],
+) -> Result<(), Failure>
+    ensures ok { OnOk result (AreSpared (F.bytes_of files.old)
+        (option_map (λ name. name.now) out.entry) (map string_bytes sources.now)) }
+    ensures err { IfErr result (IsRefused (F.bytes_of files.old)
+        (option_map (λ name. name.now) out.entry) (map string_bytes sources.now)) }
+    ensures stays { F.bytes_of files.new ≡ F.bytes_of files.old }
+    ensures others { F.written_to files.new ≡ F.written_to files.old }
+{
+    let Some(name) = out else {
+        return Ok(());
+    };
+    if !is_spared(files, name, sources)? {
+        return Err(Failure::HoldsTables(printed_name(alloc, name)?));
+    }
+    Ok(())
+}
 
 // Why the file of that name isn't written.
 fn write_failure(alloc: Global, name: &str, fault: FileFault) -> Failure
     ensures { IsUnwritten name.now result }
 {
     match fault {
-        FileFault::Memory => Failure::Memory,
-        _ => match printed_name(alloc, name) {
-            Ok(file) => Failure::Out(file),
+        FileFault::Host(kind) => match printed_name(alloc, name) {
+            Ok(file) => Failure::Out(file, kind),
             Err(_) => Failure::Memory,
         },
+        FileFault::Memory => Failure::Memory,
     }
 }
 

@@ -1,0 +1,30 @@
+use Rattle.std.proofs.Common.{◌≢◌, ◌∙◌, ◌<◌, ℕ, List, [], length, ap, arith, string_bytes, subst}
+use Rattle.std.proofs.lemmas.Result.{err_from_is_err_and}
+use Rattle.acpins_survey_run.specs.Input.{AreTablesIn, IsFilesFault}
+use Rattle.acpins_survey_run.specs.Stored.{FileBytes}
+use Rattle.acpins_survey_run.proofs.Gathering.{next_of, some_file}
+use Rattle.acpins_survey_run.proofs.tables.read_tables.Goals as goal
+
+pub returns-in_err-tables-clause-err : goal.returns-in_err-tables-clause-err
+returns-in_err-tables-clause-err g c =
+    let p = err_from_is_err_and c.from_residual.result c.from_residual.ensures.1 in
+    let failure = c.in_err-tables.field-0.0 in
+    let fault = some_file (g.F.Files.bytes_of c.loop-name.files) c.args.hex c.as_str.result.now failure c.in_err-tables.ensures.err in
+    rw (p.1, p.2) (subst (λ (b : FileBytes). IsFilesFault b c.args.hex failure) c.loop-name.invariant.stays fault)
+
+pub loop-name-preserved : goal.loop-name-preserved
+loop-name-preserved g c =
+    let names = c.args.names.now in
+    let hex = c.args.hex in
+    let start = g.F.Files.bytes_of c.args.files.now in
+    let tables = c.in_ok-tables.tables.items in
+    let below : c.loop-name.name-index < length names = grind arith in
+    let are = c.in_ok-tables.ensures.ok in
+    let known = subst (λ (b : FileBytes). AreTablesIn hex (b c.as_str.result.now) tables) c.loop-name.invariant.stays are.1 in
+    let here = subst (λ (name : List ℕ). AreTablesIn hex (start name) tables) (c.as_str.ensures.value ∙ ap string_bytes c.name-item.is) known in
+    record {
+      are = next_of (λ name tables. (tables ≢ []) × AreTablesIn hex (start name) tables) string_bytes names c.loop-name.name-index c.name-item.result
+          c.loop-name.found.tables.items c.add.new.self.tables.items below c.loop-name.invariant.are (tables, c.in_ok-add.ensures, (are.0, here));
+      stays = c.in_ok-tables.ensures.stays ∙ c.loop-name.invariant.stays;
+      others = c.in_ok-tables.ensures.others ∙ c.loop-name.invariant.others;
+    }
