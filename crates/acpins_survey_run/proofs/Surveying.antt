@@ -1,5 +1,5 @@
 -- Why a command over tables fails, and what it stores.
-use Rattle.std.proofs.Common.{◌≡◌, ◌∙◌, ℕ, List, Option, Some, None, refl, subst, sym}
+use Rattle.std.proofs.Common.{◌≡◌, ℕ, List, Option, Some, None, refl, subst}
 use Rattle.acpins_words.specs.Words.{Text}
 use Rattle.acpins_survey_words.specs.Words.{Asked, survey}
 use Rattle.acpins_survey_run.specs.Failures.{failure_of_printing}
