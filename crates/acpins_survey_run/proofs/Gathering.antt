@@ -1,10 +1,10 @@
 -- Byte strings of several sources, one source after another.
-use Rattle.std.proofs.Common.{◌≡◌, ◌+◌, ◌<◌, ◌≤◌, take_all, ℕ, Bool, List, [], ◌∷◌, ◌++◌, map, take, get_or, length, Option, Some, None, refl, sym, ap, subst, ◌∙◌, append_assoc, append-nil, codes}
+use Rattle.std.proofs.Common.{◌≡◌, ◌+◌, ◌<◌, ◌≤◌, take_all, ℕ, Bool, List, [], ◌∷◌, ◌++◌, map, take, get_or, length, Option, Some, None, refl, sym, ap, subst, ◌∙◌, append_assoc, append-nil}
 use Rattle.std.specs.Borrow.{Bor}
 use Rattle.std.specs.Prelude.{IfSome}
 use Rattle.std.proofs.lemmas.List.{map-append, take_more}
 use Rattle.std.proofs.lemmas.Simd.{map-map}
-use Rattle.acpins_survey_run.specs.Folders.{AreDynamicFiles, AreFilesAt, AreFilesBy, AreFilesIn, AreSsdtFiles, AreSsdtFilesBy, AreSsdtsAmong, FolderNames, dsdts_among, path_in}
+use Rattle.acpins_survey_run.specs.Folders.{AreFilesAt, AreFilesBy, AreSsdtFiles, AreSsdtsAmong, FolderNames, path_in}
 use Rattle.acpins_survey_run.specs.Input.{AreOfEach, IsFileFault, IsFilesFault}
 use Rattle.acpins_survey_run.specs.Stored.{FileBytes}
 use Rattle.acpins_survey_run.specs.steps.Adding.{Adds}
@@ -20,7 +20,7 @@ module _ {A : Type 0} (AreOf : A → List (List ℕ) → Type 0) where
   of_one x a h = (a, [], sym (append-nil a), h, refl)
 
   -- those of so many sources, and of one more
-  pub of_more : {B : Type 0} (view : B → A) (xs : List B) (i : ℕ) (d : B) (now added : List (List ℕ)) → i < length xs
+  of_more : {B : Type 0} (view : B → A) (xs : List B) (i : ℕ) (d : B) (now added : List (List ℕ)) → i < length xs
       → AreOfEach AreOf (map view (take i xs)) now → AreOf (view (get_or xs i d)) added
       → AreOfEach AreOf (map view (take (i + 1) xs)) (now ++ added)
   of_more view xs i d now added below h k =
@@ -60,24 +60,7 @@ plain_added text names_in name old new file known is more = (
 abbrev pub lent_path : List ℕ → Bor (List ℕ) → List ℕ
 lent_path folder name = path_in folder name.now
 
--- a text behind others
-pub pushed : {S : Type 0} (text : S → List ℕ) (old new : List S) (s : S) → new ≡ old ++ s ∷ [] → map text new ≡ map text old ++ text s ∷ []
-pushed text old new s is = ap (map text) is ∙ map-append text old (s ∷ [])
-
--- the file of one SSDT more
-pub file_more : (folder : List ℕ) (ssdts : List (Bor (List ℕ))) (i : ℕ) (d : Bor (List ℕ)) (before now after : List (List ℕ)) (path : List ℕ) → i < length ssdts
-    → now ≡ before ++ map (lent_path folder) (take i ssdts) → path ≡ lent_path folder (get_or ssdts i d) → after ≡ now ++ path ∷ []
-    → after ≡ before ++ map (lent_path folder) (take (i + 1) ssdts)
-file_more folder ssdts i d before now after path below h is more =
-    let front = map (lent_path folder) (take i ssdts) in
-    let longer = ap (map (lent_path folder)) (take_more ssdts i d below) ∙ map-append (lent_path folder) (take i ssdts) (get_or ssdts i d ∷ []) in
-    more
-    ∙ ap (λ l. l ++ path ∷ []) h
-    ∙ append_assoc before front (path ∷ [])
-    ∙ ap (λ (p : List ℕ). before ++ (front ++ p ∷ [])) is
-    ∙ ap (λ l. before ++ l) (sym longer)
-
--- those of all SSDTs
+-- the files of all SSDTs
 pub all_files : (extension folder : List ℕ) (names : List (List ℕ)) (ssdts : List (Bor (List ℕ))) (i : ℕ) (before after : List (List ℕ)) → length ssdts ≤ i
     → AreSsdtsAmong extension names (map (λ (s : Bor (List ℕ)). s.now) ssdts) → after ≡ before ++ map (lent_path folder) (take i ssdts)
     → Adds (AreSsdtFiles extension folder names) before after
@@ -85,38 +68,6 @@ all_files extension folder names ssdts i before after past among h =
     let now : Bor (List ℕ) → List ℕ = λ s. s.now in
     let paths = ap (map (lent_path folder)) (take_all i ssdts past) ∙ sym (map-map (path_in folder) now ssdts) in
     (map (lent_path folder) (take i ssdts), h, (map now ssdts, among, paths))
-
--- those of the folder `dynamic`
-pub dynamic_added : (names_in : FolderNames) (extension folder dynamic : List ℕ) (found : Option (List (List ℕ))) (old new : List (List ℕ))
-    → dynamic ≡ path_in folder (codes "dynamic") → IfSome (names_in dynamic) (λ known. found ≡ known) → Adds (AreSsdtFilesBy extension dynamic found) old new
-    → Adds (AreDynamicFiles names_in extension folder) old new
-dynamic_added names_in extension folder dynamic found old new is known h =
-    let P : List ℕ → Type 0 = λ d. IfSome (names_in d) (λ f. AreSsdtFilesBy extension d f h.0) in
-    (h.0, h.1, subst P is (of_known (names_in dynamic) found (λ f. AreSsdtFilesBy extension dynamic f h.0) known h.2))
-
--- the DSDT's file, the SSDTs' files, and those in `dynamic`
-pub folder_added : (names_in : FolderNames) (folder : List ℕ) (names : List (List ℕ)) (dsdt extension path : List ℕ) (a b c d : List (List ℕ))
-    → dsdts_among names ≡ (dsdt, extension) ∷ [] → path ≡ path_in folder dsdt → b ≡ a ++ path ∷ [] → Adds (AreSsdtFiles extension folder names) b c
-    → Adds (AreDynamicFiles names_in extension folder) c d → Adds (AreFilesIn names_in folder names) a d
-folder_added names_in folder names dsdt extension path a b c d one is more k l =
-    let first = path_in folder dsdt in
-    let whole : d ≡ a ++ (first ∷ (k.0 ++ l.0)) =
-    l.1 ∙ ap (λ x. x ++ l.0) k.1 ∙ append_assoc b k.0 l.0
-    ∙ ap (λ x. x ++ (k.0 ++ l.0)) (more ∙ ap (λ (p : List ℕ). a ++ p ∷ []) is)
-    ∙ append_assoc a (first ∷ []) (k.0 ++ l.0) in (
-      first ∷ (k.0 ++ l.0),
-      whole,
-      record {
-        dsdt = dsdt;
-        extension = extension;
-        one_dsdt = one;
-        ssdts = k.0;
-        of_ssdts = k.2;
-        dynamic = l.0;
-        of_dynamic = l.2;
-        are = refl;
-      },
-    )
 
 -- ---- a file that can't be read
 

@@ -1,4 +1,4 @@
-use Rattle.std.proofs.Common.{◌≡◌, ◌∙◌, List, ℕ, Option, Some, Vec, Global, ap, get_or, map, option_map, string_bytes, sym}
+use Rattle.std.proofs.Common.{◌∙◌, List, ℕ, Option, Some, Vec, Global, ap, get_or, map, option_map, string_bytes, sym}
 use Rattle.std.specs.Borrow.{Bor}
 use Rattle.std.specs.Str.{str_to_ascii_lowercase}
 use Rattle.acpins_survey_run.specs.Folders.{dsdt_extension}

@@ -1,4 +1,4 @@
-use Rattle.std.proofs.Common.{◌≡◌, ◌∙◌, true, false, true≢false, ap, arith, get_or, rules, tests, string_bytes, sym}
+use Rattle.std.proofs.Common.{◌≡◌, ◌∙◌, true, false, true≢false, ap, arith, rules, tests, string_bytes, sym}
 use Rattle.std.specs.Str.{bytes_eq}
 use Rattle.std.proofs.lemmas.Slice.Eq.{bytes_eq-Decides}
 use Rattle.acpins_survey_run.proofs.Spared.{among, apart, apart_more}
