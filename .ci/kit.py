@@ -44,9 +44,9 @@ def write(file, text):
         it.write(text)
 
 
-def sources_sum(name):
-    """The checksum of all that a program is made from, as `.ci/made-from` prints it."""
-    return subprocess.run(["sh", f"{TOP}/.ci/made-from", name], capture_output=True, text=True, check=True).stdout
+def sources_sum(name, *parts):
+    """The checksum of all that a program is made from, or of these folders of its crates, as `.ci/made-from` prints it."""
+    return subprocess.run(["sh", f"{TOP}/.ci/made-from", name, *parts], capture_output=True, text=True, check=True).stdout
 
 
 def made_from(crate):
