@@ -1,4 +1,4 @@
-use Rattle.std.proofs.Common.{◌≡◌, [], inl, inr}
+use Rattle.std.proofs.Common.{rules, ◌≡◌, [], inl, inr}
 use Rattle.acpins_survey_texts.proofs.Problems.{with_problem, without_problem}
 use Rattle.acpins_survey_texts.proofs.texts.SurveyPrinterPrinter.text.Goals.{then-has_problem, else-has_problem}
 use Rattle.acpins_survey_texts.proofs.texts.SurveyPrinterPrinter.text.Goals as goal
@@ -16,3 +16,7 @@ returns-clause-made c = λ command is_print. record {
         w.if-has_problem.false w.status-is
   ];
 }
+
+pub returns-in_err-text-clause-nothing : goal.returns-in_err-text-clause-nothing
+returns-in_err-text-clause-nothing c = λ none command is_print.
+    (c.in_ok-survey.survey, c.in_ok-survey.ensures.is, c.in_err-text.ensures.nothing (search rules) command is_print c.in_ok-survey.ensures.in_order)
