@@ -33,7 +33,7 @@ class Proofs(threading.Thread):
 
     def look(self, process):
         words = bytes_of(f"{process}/cmdline").split(b"\0")
-        is_proof = words[0].endswith(b"/rattle") and b"build" in words[1:2] and b"--test" not in words
+        is_proof = words[0].endswith(b"/rattle") and words[1] in (b"build", b"check") and b"--test" not in words
         if not is_proof or b"--crate-name" not in words:
             return
         name = words[words.index(b"--crate-name") + 1].decode()
