@@ -18,8 +18,8 @@ from kit import TOP, bytes_of, write  # noqa: E402
 from prove import additions  # noqa: E402
 
 TABLE = f"{TOP}/.ci/minutes.txt"
-HEAD = """# Processor minutes of each crate's proof from nothing, by one job, as `./test --all` measured them; `additions` is how many seconds
-# 20 million additions of Python took there.
+HEAD = """# Processor minutes of each crate's proof from nothing, by one job, as `./test --all` measured them, or as estimated where it
+# has not proved a crate from nothing yet; `additions` is how many seconds 20 million additions of Python took there.
 """
 TICKS = os.sysconf("SC_CLK_TCK")
 

@@ -4,12 +4,13 @@ use Rattle.acpi_name.specs.Names.{Segment}
 use Rattle.acpi_tree.specs.declared.place.Place.TheVariants.{Value}
 use Rattle.acpi_tree.specs.Terms.{TermTree, ElseTree, if_do, while_do, terms_of}
 use Rattle.acpi_code.specs.steps.Reading.{◌>>=◌, Package, package_at}
-use Rattle.acpi_body.specs.declared.fault.BodyError.{BodyError}
-use Rattle.acpi_body.specs.Arguments.{Locals}
+use Rattle.acpi_values.specs.declared.fault.BodyError.{BodyError}
+use Rattle.acpi_values.specs.Arguments.{Locals}
 use Rattle.acpi_body.specs.Statements.{locals_after_all}
-use Rattle.acpi_body.specs.steps.Cursor.{Fails}
-use Rattle.acpi_body.specs.steps.Reading.{Reader, Statements, else_at, if_form, while_form}
-use Rattle.acpi_body.proofs.Parts.{fails_on}
+use Rattle.acpi_values.specs.steps.Cursor.{Fails}
+use Rattle.acpi_values.specs.steps.Reading.{Reader}
+use Rattle.acpi_body.specs.steps.Reading.{Statements, else_at, if_form, while_form}
+use Rattle.acpi_values.proofs.Parts.{fails_on}
 
 pub else_fails : (value : Reader) (inner : Statements) (s : List Segment) (locals next : Locals) (end : ℕ) (bytes : List ℕ) (p : Package)
     (v : TermTree × List ℕ) (ts : List TermTree) (e : BodyError) (inside outside : ℕ)

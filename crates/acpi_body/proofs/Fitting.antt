@@ -12,11 +12,12 @@ use Rattle.acpi_tree.specs.Places.{may_stand}
 use Rattle.acpi_tree.specs.TermFits.{term_fits, terms_fit, else_fits, all_stand, operands_fit}
 use Rattle.acpi_code.specs.Opcodes.{opcode_bytes}
 use Rattle.acpi_code.proofs.Fitting.{AreBytes, both, parts, packed, term_name_fits, text_all, fields_fit}
-use Rattle.acpi_body.specs.Arguments.{Locals, Arguments}
-use Rattle.acpi_body.specs.Grammars.{body_grammar}
-use Rattle.acpi_body.specs.Spelling.{values, Spells, AreOperands, AreElements}
+use Rattle.acpi_values.specs.Arguments.{Locals, Arguments}
+use Rattle.acpi_values.specs.Grammars.{body_grammar}
+use Rattle.acpi_values.specs.Spelling.{values, Spells, AreOperands, AreElements}
 use Rattle.acpi_body.specs.Bodies.{BodyTree, read, unread, IsBodyOf, body_fits}
-use Rattle.acpi_body.specs.Statements.{units_opcode, locals_after, locals_after_all, IsStatement, IsElse, AreStatements, ReadsBody}
+use Rattle.acpi_values.specs.Declarations.{units_opcode}
+use Rattle.acpi_body.specs.Statements.{locals_after, locals_after_all, IsStatement, IsElse, AreStatements, ReadsBody}
 
 -- ---- terms
 

@@ -17,7 +17,8 @@ use Rattle.acpi_space.proofs.Filters.{among_filter}
 use Rattle.acpi_counts.specs.Counts.{first_of, with_first}
 use Rattle.acpi_tree.specs.Terms.{TermTrees}
 use Rattle.acpi_body.specs.declared.gathered.Gathered.{Gathered}
-use Rattle.acpi_body.specs.Arguments.{namespace_of, Locals, with_path, defined_with, expected_place}
+use Rattle.acpi_values.specs.Arguments.{Locals}
+use Rattle.acpi_body.specs.Arguments.{namespace_of, with_path, defined_with, expected_place}
 use Rattle.acpi_body.specs.Searches.{Searched, all_searches}
 use Rattle.acpi_body.specs.Misses.{unless_found, awaited_place, IsMissedIn, IsAwaitedIn}
 use Rattle.acpi_body.specs.steps.Setting.{Setting}

@@ -1,4 +1,3 @@
-pub mod Parts
 pub mod Overlaid
 pub mod Missed
 pub mod Unasked
@@ -6,16 +5,10 @@ pub mod Gathering
 pub mod Grown
 pub mod SpelledNames
 pub mod Listed
-pub mod InOrder
 pub mod Opened
 pub mod Plain
 pub mod Stated
 pub mod Branches
-pub mod Allowed
-pub mod Places
-pub mod TermComplete
-pub mod Registers
-pub mod TermSound
 pub mod StatementComplete
 pub mod StatementSound
 pub mod Next

@@ -9,15 +9,16 @@ use Rattle.acpi_code.specs.declared.opcode.Opcode.{Opcode}
 use Rattle.acpi_code.specs.declared.opcode.Opcode.TheVariants as opcodes
 use Rattle.acpi_code.specs.Opcodes.{plain_opcode_of, extended_opcode_of, extended_opcode, first_opcode}
 use Rattle.acpi_code.specs.steps.Reading.{Reading, byte_at, extended_opcode_at, opcode_at}
-use Rattle.acpi_body.specs.declared.fault.BodyFault.{BodyFault}
-use Rattle.acpi_body.specs.declared.fault.BodyReason.{BodyReason}
-use Rattle.acpi_body.specs.Arguments.{Locals, Arguments}
-use Rattle.acpi_body.specs.Grammars.{Grammar, body_grammar}
-use Rattle.acpi_body.specs.Spelling.{heights}
+use Rattle.acpi_values.specs.declared.fault.BodyFault.{BodyFault}
+use Rattle.acpi_values.specs.declared.fault.BodyReason.{BodyReason}
+use Rattle.acpi_values.specs.Arguments.{Locals, Arguments}
+use Rattle.acpi_values.specs.Grammars.{Grammar, body_grammar}
+use Rattle.acpi_values.specs.Spelling.{heights}
 use Rattle.acpi_body.specs.Statements.{locals_after, AreStatements}
-use Rattle.acpi_body.specs.Refusals.{statement_refusal, never_begins}
-use Rattle.acpi_body.specs.Faults.{IsNoStatement}
-use Rattle.acpi_body.specs.steps.Reading.{Reader, Statements, fault_at, placed_by, term_at, statements_with, statement_by, statement_at, statements_at, body_at}
+use Rattle.acpi_values.specs.Refusals.{statement_refusal, never_begins}
+use Rattle.acpi_values.specs.Faults.{IsNoStatement}
+use Rattle.acpi_values.specs.steps.Reading.{Reader, fault_at, placed_by, term_at}
+use Rattle.acpi_body.specs.steps.Reading.{Statements, statements_with, statement_by, statement_at, statements_at, body_at}
 use Rattle.acpi_body.proofs.StatementComplete.{begins_else, statement_starts, statements_start, statement_complete}
 
 abbrev known : {A : Type 0} → A → Option A

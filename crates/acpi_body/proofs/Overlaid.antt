@@ -12,7 +12,8 @@ use Rattle.acpi_space.proofs.Beginnings.{find_map, found_within, found_there, no
 use Rattle.acpi_space.proofs.Laid.{is_some-map}
 use Rattle.acpi_tree.specs.declared.object.Object.{Object}
 use Rattle.acpi_tree.specs.Objects.{object_view}
-use Rattle.acpi_body.specs.Arguments.{Namespace, namespace_of, Locals, defined_with, args_there, args_at, expected_at, expected_place, count_behind}
+use Rattle.acpi_values.specs.Arguments.{Locals}
+use Rattle.acpi_body.specs.Arguments.{Namespace, namespace_of, defined_with, args_there, args_at, expected_at, expected_place, count_behind}
 use Rattle.acpi_body.specs.steps.Setting.{deeper}
 
 -- ---- each beginning is longer than those behind it

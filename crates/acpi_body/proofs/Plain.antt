@@ -9,17 +9,17 @@ use Rattle.acpi_code.specs.declared.opcode.Opcode.TheVariants as opcodes
 use Rattle.acpi_code.specs.steps.Remaining.{Remaining}
 use Rattle.acpi_tree.specs.Operators.{operands_of}
 use Rattle.acpi_code.specs.steps.Reading.{◌>>=◌, Reading, each_at, byte_at, package_at, name_in, constant_at, string_at}
-use Rattle.acpi_body.specs.declared.fault.BodyFault.{BodyFault}
-use Rattle.acpi_body.specs.declared.fault.BodyReason.{BodyReason}
-use Rattle.acpi_body.specs.declared.fault.BodyError.{BodyError}
-use Rattle.acpi_body.specs.Arguments.{Locals}
+use Rattle.acpi_values.specs.declared.fault.BodyFault.{BodyFault}
+use Rattle.acpi_values.specs.declared.fault.BodyReason.{BodyReason}
+use Rattle.acpi_values.specs.declared.fault.BodyError.{BodyError}
+use Rattle.acpi_values.specs.Arguments.{Locals}
 use Rattle.acpi_body.specs.Statements.{locals_after}
-use Rattle.acpi_body.specs.Grammars.{Grammar}
-use Rattle.acpi_body.specs.Refusals.{refusal_at}
-use Rattle.acpi_body.specs.steps.Cursor.{Reads}
-use Rattle.acpi_body.specs.Spelling.{values}
-use Rattle.acpi_body.specs.steps.Reading.{Reader, part, operands_at, unless, placed_by, form_by}
-use Rattle.acpi_body.specs.steps.Reading.{constant_form, string_form, buffer_form, package_form, var_package_form, name_form, call_by, named_by, calls, operator_form}
+use Rattle.acpi_values.specs.Grammars.{Grammar}
+use Rattle.acpi_values.specs.Refusals.{refusal_at}
+use Rattle.acpi_values.specs.steps.Cursor.{Reads}
+use Rattle.acpi_values.specs.Spelling.{values}
+use Rattle.acpi_values.specs.steps.Reading.{Reader, part, operands_at, unless, placed_by, form_by}
+use Rattle.acpi_values.specs.steps.Reading.{constant_form, string_form, buffer_form, package_form, var_package_form, name_form, call_by, named_by, calls, operator_form}
 
 -- what was read leaves the locals as they are
 abbrev pub Keeps : Reading BodyFault TermTree → Type 0

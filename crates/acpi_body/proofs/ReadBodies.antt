@@ -6,24 +6,26 @@ use Rattle.std.proofs.lemmas.List.{append-nil}
 use Rattle.acpi_name.specs.Names.{Segment, NameParts}
 use Rattle.acpi_tree.specs.Terms.{TermTree, TermTrees, terms_of}
 use Rattle.acpi_code.proofs.Readings.{Judge, Source, Position}
-use Rattle.acpi_body.specs.declared.fault.BodyFault.{BodyFault}
-use Rattle.acpi_body.specs.declared.fault.BodyReason.{BodyReason}
-use Rattle.acpi_body.specs.declared.fault.BodyReason.TheVariants.{Unsure}
-use Rattle.acpi_body.specs.declared.fault.BodyError.{BodyError}
-use Rattle.acpi_body.specs.declared.fault.BodyError.TheVariants as stops
+use Rattle.acpi_values.specs.declared.fault.BodyFault.{BodyFault}
+use Rattle.acpi_values.specs.declared.fault.BodyReason.{BodyReason}
+use Rattle.acpi_values.specs.declared.fault.BodyReason.TheVariants.{Unsure}
+use Rattle.acpi_values.specs.declared.fault.BodyError.{BodyError}
+use Rattle.acpi_values.specs.declared.fault.BodyError.TheVariants as stops
 use Rattle.acpi_space.specs.Lookups.{Lookup}
-use Rattle.acpi_body.specs.Arguments.{Namespace, Locals, Arguments, arguments}
+use Rattle.acpi_values.specs.Arguments.{Locals, Arguments}
+use Rattle.acpi_body.specs.Arguments.{Namespace, arguments}
 use Rattle.acpi_body.specs.Statements.{ReadsBody}
-use Rattle.acpi_body.specs.Faults.{IsUnsure, ShowsBody, IsNoStatement}
+use Rattle.acpi_values.specs.Faults.{IsUnsure, ShowsBody, IsNoStatement}
 use Rattle.acpi_body.specs.Reasons.{IfFault}
 use Rattle.acpi_body.specs.Bodies.{BodyTree, read, unread, IsBodyOf}
 use Rattle.acpi_body.specs.steps.Reading.{body_at}
 use Rattle.acpi_body.specs.steps.Answers.{body_of, fault_in}
-use Rattle.acpi_body.specs.steps.Cursor.{Gives}
-use Rattle.acpi_body.proofs.TermComplete.{listed, terms_of-listed}
+use Rattle.acpi_values.specs.steps.Cursor.{Gives}
+use Rattle.acpi_values.proofs.TermComplete.{listed, terms_of-listed}
 use Rattle.acpi_body.proofs.StatementComplete.{statements_complete}
 use Rattle.acpi_body.proofs.StatementSound.{AreStanding, statements_sound}
-use Rattle.acpi_body.proofs.Places.{Bad}
+use Rattle.acpi_values.proofs.Parts.{good_of}
+use Rattle.acpi_values.proofs.Places.{Bad}
 use Rattle.acpi_body.proofs.Next.{next_told}
 
 abbrev pub reading : Arguments → List Segment → ℕ → List ℕ → Result (List TermTree) BodyFault
@@ -44,9 +46,6 @@ judged args s depth bytes =
       deep = omega arith;
     } in
     statements_sound s source args depth finite.empty (length bytes) bytes here
-
-pub good_of : {A F : Type 0} (Good : A → Type 0) (Bad : F → Type 0) (r : Result A F) (x : A) → Judge Good Bad r → r ≡ Ok x → Good x
-good_of Good Bad r x h e = subst (Judge Good Bad) e h
 
 bad_of : {A F : Type 0} (Good : A → Type 0) (Bad : F → Type 0) (r : Result A F) (f : F) → Judge Good Bad r → r ≡ Err f → Bad f
 bad_of Good Bad r f h e = subst (Judge Good Bad) e h

@@ -5,12 +5,12 @@ use Rattle.acpi_name.specs.Names.{Segment}
 use Rattle.acpi_tree.specs.Terms.{TermTree, terms_of}
 use Rattle.acpi_code.specs.steps.Remaining.{Remaining, Advances}
 use Rattle.acpi_code.specs.steps.Reading.{◌>>=◌, Reading}
-use Rattle.acpi_body.specs.declared.fault.BodyFault.{BodyFault}
-use Rattle.acpi_body.specs.declared.fault.BodyError.{BodyError}
-use Rattle.acpi_body.specs.declared.fault.BodyError.TheVariants as stops
-use Rattle.acpi_body.specs.Arguments.{Locals}
+use Rattle.acpi_values.specs.declared.fault.BodyFault.{BodyFault}
+use Rattle.acpi_values.specs.declared.fault.BodyError.{BodyError}
+use Rattle.acpi_values.specs.declared.fault.BodyError.TheVariants as stops
+use Rattle.acpi_values.specs.Arguments.{Locals}
 use Rattle.acpi_body.specs.Statements.{locals_after, locals_after_all}
-use Rattle.acpi_body.specs.steps.Cursor.{Fails}
+use Rattle.acpi_values.specs.steps.Cursor.{Fails}
 use Rattle.acpi_body.specs.steps.Reading.{statements_with, statements_by}
 
 abbrev pub with_front : {A : Type 0} → List A → Result (List A) BodyFault → Result (List A) BodyFault

@@ -23,17 +23,20 @@ use Rattle.acpi_code.specs.steps.Reading.{Reading, byte_at, opcode_at}
 use Rattle.acpi_code.proofs.Names.{name_in_complete}
 use Rattle.acpi_code.proofs.Opcodes.{opens}
 use Rattle.acpi_code.proofs.Packages.{front_is, package_complete}
-use Rattle.acpi_body.specs.declared.fault.BodyFault.{BodyFault}
-use Rattle.acpi_body.specs.Arguments.{Locals, Arguments}
-use Rattle.acpi_body.specs.Grammars.{Grammar, body_grammar}
-use Rattle.acpi_body.specs.Spelling.{Spells, height, else_height, heights}
+use Rattle.acpi_values.specs.declared.fault.BodyFault.{BodyFault}
+use Rattle.acpi_values.specs.Arguments.{Locals, Arguments}
+use Rattle.acpi_values.specs.Grammars.{Grammar, body_grammar}
+use Rattle.acpi_values.specs.Spelling.{Spells, height, else_height, heights}
 use Rattle.acpi_code.specs.Fields.{SpellsFields}
-use Rattle.acpi_body.specs.Statements.{named_opcode, units_opcode, MayDeclare, locals_after, locals_after_all, IsStatement, IsElse, AreStatements}
-use Rattle.acpi_body.specs.Refusals.{refusal_at}
-use Rattle.acpi_body.specs.steps.Reading.{Reader, Statements, operands_at, placed_by, term_at, declared_if, declared_at, named_form, names_at, units_form, statements_with, else_at, if_form, while_form, statement_by, statement_at, statements_at}
-use Rattle.acpi_body.proofs.Allowed.{lead_of, Allowed, allowed_at}
+use Rattle.acpi_values.specs.Declarations.{named_opcode, units_opcode}
+use Rattle.acpi_body.specs.Statements.{MayDeclare, locals_after, locals_after_all, IsStatement, IsElse, AreStatements}
+use Rattle.acpi_values.specs.Refusals.{refusal_at}
+use Rattle.acpi_values.specs.steps.Reading.{Reader, operands_at, placed_by, term_at}
+use Rattle.acpi_body.specs.steps.Reading.{Statements, declared_if, declared_at, named_form, names_at, units_form, statements_with, else_at, if_form, while_form, statement_by, statement_at, statements_at}
+use Rattle.acpi_values.proofs.Allowed.{lead_of, Allowed, allowed_at}
 use Rattle.acpi_code.proofs.Fields.{fields_complete}
-use Rattle.acpi_body.proofs.TermComplete.{listed, terms_of-listed, spelled_long, suits_high, placed_made, term_complete, operands_complete, form_complete}
+use Rattle.acpi_values.proofs.Declarations.{named_spelled, units_spelled, named_long, units_long}
+use Rattle.acpi_values.proofs.TermComplete.{listed, terms_of-listed, spelled_long, suits_high, placed_made, term_complete, operands_complete, form_complete}
 
 -- ---- what begins with an Else
 
@@ -67,20 +70,6 @@ no_else_lead loads opcodes.Else h = absurd cc
 no_else_lead loads opcodes.Str h = refl
 no_else_lead loads _ h = refl
 
--- one for each declaration
-named_spelled : (form : NamedForm) (x : List ℕ) → (end : ℕ) → opcode_at end (opcode_bytes (named_opcode form) ++ x) ≡ Ok (named_opcode form, x)
-named_spelled named.Name x end = opens end opcodes.DeclareName x refl
-named_spelled (named.Create w) x end = opens end (opcodes.Create w) x refl
-named_spelled named.CreateField x end = opens end opcodes.CreateField x refl
-named_spelled named.Region x end = opens end opcodes.Region x refl
-named_spelled named.Mutex x end = opens end opcodes.Mutex x refl
-named_spelled named.Event x end = opens end opcodes.Event x refl
-
-units_spelled : (form : UnitsForm) (x : List ℕ) → (end : ℕ) → opcode_at end (opcode_bytes (units_opcode form) ++ x) ≡ Ok (units_opcode form, x)
-units_spelled units.Field x end = opens end opcodes.Field x refl
-units_spelled units.IndexField x end = opens end opcodes.IndexField x refl
-units_spelled units.BankField x end = opens end opcodes.BankField x refl
-
 named_no_else : (form : NamedForm) → is_else (named_opcode form) ≡ false
 named_no_else named.Name = refl
 named_no_else _ = refl
@@ -88,17 +77,6 @@ named_no_else _ = refl
 units_no_else : (form : UnitsForm) → is_else (units_opcode form) ≡ false
 units_no_else units.Field = refl
 units_no_else _ = refl
-
-opened_some : (end : ℕ) (bytes : List ℕ) (x : Opcode × List ℕ) → opcode_at end bytes ≡ Ok x → 0 < length bytes
-unfolding opcode_at byte_at
-opened_some end [] x e = absurd cc
-opened_some end (b ∷ bytes) x e = omega arith
-
-pub named_long : (form : NamedForm) → 0 < length (opcode_bytes (named_opcode form))
-named_long form = let some = opened_some 0 (opcode_bytes (named_opcode form) ++ []) _ (named_spelled form [] 0) in omega (arith, some, length-append (opcode_bytes (named_opcode form)) [])
-
-pub units_long : (form : UnitsForm) → 0 < length (opcode_bytes (units_opcode form))
-units_long form = let some = opened_some 0 (opcode_bytes (units_opcode form) ++ []) _ (units_spelled form [] 0) in omega (arith, some, length-append (opcode_bytes (units_opcode form)) [])
 
 abbrev Starts : List ℕ → List ℕ → Type 0
 Starts a rest = (begins_else (a ++ rest) ≡ false) × (0 < length a)

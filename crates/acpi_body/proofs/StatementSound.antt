@@ -17,25 +17,28 @@ use Rattle.acpi_code.specs.declared.opcode.Opcode.{Opcode}
 use Rattle.acpi_code.specs.declared.opcode.Opcode.TheVariants as opcodes
 use Rattle.acpi_code.specs.Opcodes.{opcode_bytes}
 use Rattle.acpi_code.specs.Faults.{has_package}
-use Rattle.acpi_body.specs.Faults.{BeginsFieldList}
+use Rattle.acpi_values.specs.Faults.{BeginsFieldList}
 use Rattle.acpi_code.specs.Spelling.{SpellsEach, Packs}
 use Rattle.acpi_code.specs.steps.Reading.{◌>>=◌, Reading, Package, package_at, name_in, opcode_at}
 use Rattle.acpi_code.proofs.Readings.{Judge, judge_bind, judge_into, judge_if, Source, Position, Front, Read, stands_at, position_deeper, position_up, no_level_shows}
 use Rattle.acpi_code.proofs.Names.{name_sound}
 use Rattle.acpi_code.proofs.Opcodes.{Opened, opcode_sound}
 use Rattle.acpi_code.proofs.Packages.{PackageFront, GoodPackage, package_sound, AtPackage, at_package, deeper_package}
-use Rattle.acpi_body.specs.declared.fault.BodyFault.{BodyFault}
-use Rattle.acpi_body.specs.declared.fault.BodyReason.TheVariants.{BadPlace}
-use Rattle.acpi_body.specs.Arguments.{Locals, Arguments}
-use Rattle.acpi_body.specs.Grammars.{body_grammar}
-use Rattle.acpi_body.specs.Spelling.{Stands, Spells, height, else_height, heights}
+use Rattle.acpi_values.specs.declared.fault.BodyFault.{BodyFault}
+use Rattle.acpi_values.specs.declared.fault.BodyReason.TheVariants.{BadPlace}
+use Rattle.acpi_values.specs.Arguments.{Locals, Arguments}
+use Rattle.acpi_values.specs.Grammars.{body_grammar}
+use Rattle.acpi_values.specs.Spelling.{Stands, Spells, height, else_height, heights}
 use Rattle.acpi_code.specs.Fields.{SpellsFields}
-use Rattle.acpi_body.specs.Refusals.{refusal_at}
-use Rattle.acpi_body.specs.Statements.{named_opcode, units_opcode, MayDeclare, locals_after, locals_after_all, IsStatement, IsElse, AreStatements}
-use Rattle.acpi_body.specs.steps.Reading.{Reader, Statements, part, fault_at, operands_at, placed_by, term_at, declared_if, declared_at, named_form, names_at, fields_in, units_form, statements_with, else_at, if_form, while_form, statement_by, statement_at, statements_at}
-use Rattle.acpi_body.proofs.Places.{Bad, part_bad, part_sound, fields_sound}
-use Rattle.acpi_body.proofs.StatementComplete.{statement_starts, units_long}
-use Rattle.acpi_body.proofs.TermSound.{is_block, are_inner, Within, Operands, Inner, operands_sound, placed_sound, term_sound}
+use Rattle.acpi_values.specs.Refusals.{refusal_at}
+use Rattle.acpi_values.specs.Declarations.{named_opcode, units_opcode}
+use Rattle.acpi_body.specs.Statements.{MayDeclare, locals_after, locals_after_all, IsStatement, IsElse, AreStatements}
+use Rattle.acpi_values.specs.steps.Reading.{Reader, part, fault_at, operands_at, placed_by, term_at, fields_in}
+use Rattle.acpi_body.specs.steps.Reading.{Statements, declared_if, declared_at, named_form, names_at, units_form, statements_with, else_at, if_form, while_form, statement_by, statement_at, statements_at}
+use Rattle.acpi_values.proofs.Places.{Bad, part_bad, part_sound, fields_sound}
+use Rattle.acpi_body.proofs.StatementComplete.{statement_starts}
+use Rattle.acpi_values.proofs.Declarations.{units_long, units_inner}
+use Rattle.acpi_values.proofs.TermSound.{is_block, are_inner, Within, Operands, Inner, operands_sound, placed_sound, term_sound}
 
 -- ---- what was read
 
@@ -72,10 +75,6 @@ behind_inner _ = refl
 units_packed : (form : UnitsForm) → has_package (units_opcode form) ≡ true
 units_packed units.BankField = refl
 units_packed _ = refl
-
-pub units_inner : (form : UnitsForm) → are_inner (operands_of_units form) ≡ true
-units_inner units.BankField = refl
-units_inner _ = refl
 
 module _ (m : List Segment) (s : Source) (args : Arguments) where
   -- statements one level deeper are judged

@@ -8,6 +8,7 @@ use Rattle.acpi_space.specs.Lookups.{Lookup, is_defined_in}
 use Rattle.acpi_space.specs.Search.{answer}
 use Rattle.acpi_tree.specs.declared.object.Object.{Object}
 use Rattle.acpi_tree.specs.Objects.{ObjectTree, object_view, args_of}
+pub use Rattle.acpi_values.specs.Arguments.{Locals, Arguments}
 
 -- the object at each path, and the namespace that a map of objects holds
 abbrev pub Namespace : Type 0
@@ -16,16 +17,9 @@ Namespace = Lookup ObjectTree
 abbrev pub namespace_of : PathMap Object → Namespace
 namespace_of m p = option_map object_view (get m p)
 
--- the paths that a body has declared so far
-abbrev pub Locals : Type 0
-Locals = PathMap (Unit {0})
-
+-- the paths behind the declaration of one
 abbrev pub with_path : Locals → List Segment → Locals
 with_path locals p = cond (is_defined locals p) locals (insert locals p tt)
-
--- how many values follow a name, by what the body has declared before it; None where that isn't sure
-abbrev pub Arguments : Type 0
-Arguments = Locals → NameParts → Option ℕ
 
 -- what the search of a name finds, with the locals laid over the namespace
 abbrev pub defined_with : Namespace → Locals → List Segment → Bool

@@ -4,7 +4,7 @@ use Rattle.acpi_name.specs.Names.{Segment}
 use Rattle.acpi_tree.specs.Terms.{TermTrees}
 use Rattle.acpi_tree.specs.TermView.{terms_tree}
 use Rattle.acpi_tree.specs.TermFits.{terms_fit}
-use Rattle.acpi_body.specs.Arguments.{Arguments}
+use Rattle.acpi_values.specs.Arguments.{Arguments}
 use Rattle.acpi_body.specs.Statements.{ReadsBody}
 use Rattle.acpi_body.specs.declared.body.Body.{Body}
 use Rattle.acpi_body.specs.declared.body.Body.TheVariants.{Terms, Opaque}

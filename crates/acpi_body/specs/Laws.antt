@@ -3,7 +3,7 @@ use Rattle.std.specs.Prelude.{◌≡◌, ◌⊎◌, ℕ, List}
 use Rattle.std.specs.List.{AllByRecursion}
 use Rattle.acpi_name.specs.Names.{Segment, NameParts}
 use Rattle.acpi_tree.specs.Terms.{TermTrees}
-use Rattle.acpi_body.specs.Arguments.{Locals, Arguments}
+use Rattle.acpi_values.specs.Arguments.{Locals, Arguments}
 use Rattle.acpi_body.specs.Statements.{AreStatements, ReadsBody}
 use Rattle.acpi_body.specs.Searches.{all_searches, IsSpelledIn}
 

@@ -7,7 +7,8 @@ use Rattle.acpi_space.specs.Lookups.{Lookup, is_defined_in}
 use Rattle.acpi_space.specs.Search.{answer, missed}
 use Rattle.acpi_space.specs.Laws.{Among}
 use Rattle.acpi_tree.specs.Terms.{TermTrees}
-use Rattle.acpi_body.specs.Arguments.{Namespace, Locals, defined_with, expected_place}
+use Rattle.acpi_values.specs.Arguments.{Locals}
+use Rattle.acpi_body.specs.Arguments.{Namespace, defined_with, expected_place}
 use Rattle.acpi_body.specs.Searches.{all_searches, IsSpelledIn}
 use Rattle.acpi_body.specs.Bodies.{BodyTree, read, unread}
 

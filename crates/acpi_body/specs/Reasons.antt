@@ -2,13 +2,13 @@
 use Rattle.std.specs.Prelude.{◌≡◌, ◌↔◌, ℕ, List, ◌++◌, length, Option, Some, None, IfSome}
 use Rattle.acpi_name.specs.Names.{Segment}
 use Rattle.acpi_tree.specs.Terms.{TermTrees}
-use Rattle.acpi_body.specs.declared.fault.BodyReason.{BodyReason}
-use Rattle.acpi_body.specs.declared.fault.BodyFault.{BodyFault}
-use Rattle.acpi_body.specs.declared.fault.BodyError.{BodyError}
-use Rattle.acpi_body.specs.declared.fault.BodyError.TheVariants as stops
-use Rattle.acpi_body.specs.Arguments.{Arguments}
+use Rattle.acpi_values.specs.declared.fault.BodyReason.{BodyReason}
+use Rattle.acpi_values.specs.declared.fault.BodyFault.{BodyFault}
+use Rattle.acpi_values.specs.declared.fault.BodyError.{BodyError}
+use Rattle.acpi_values.specs.declared.fault.BodyError.TheVariants as stops
+use Rattle.acpi_values.specs.Arguments.{Arguments}
 use Rattle.acpi_body.specs.Statements.{ReadsBody}
-use Rattle.acpi_body.specs.Faults.{ShowsBody, IsNoStatement}
+use Rattle.acpi_values.specs.Faults.{ShowsBody, IsNoStatement}
 
 -- What may be told of the body's bytes: nothing exactly where they have a reading; else a fault that is true of them,
 -- and behind statements, what can't begin one, at its place.

@@ -4,7 +4,7 @@ use Rattle.std.specs.Prelude.{◌≡◌, ℕ, List, [], ◌∷◌, ◌++◌}
 use Rattle.acpi_name.specs.Names.{Segment, NameParts}
 use Rattle.acpi_name.specs.Spelling.{SpellsName}
 use Rattle.acpi_tree.specs.Terms.{TermTree, TermTrees, buffer, pkg, var_pkg, call, apply, ElseTree, if_do, no_else, else_do, while_do, declare, declare_units, no_terms, more}
-use Rattle.acpi_body.specs.Arguments.{Locals}
+use Rattle.acpi_values.specs.Arguments.{Locals}
 use Rattle.acpi_body.specs.Statements.{locals_after, locals_after_all}
 
 abbrev pub Searched : Type 0

@@ -5,36 +5,19 @@ use Rattle.acpi_name.specs.Names.{Segment, NameParts}
 use Rattle.acpi_name.specs.Paths.{place_of}
 use Rattle.acpi_name.specs.Spelling.{SpellsName}
 use Rattle.acpi_tree.specs.declared.place.Place.TheVariants.{Value, Statement}
-use Rattle.acpi_tree.specs.declared.place.NamedForm.{NamedForm}
-use Rattle.acpi_tree.specs.declared.place.NamedForm.TheVariants as named
-use Rattle.acpi_tree.specs.declared.place.UnitsForm.{UnitsForm}
-use Rattle.acpi_tree.specs.declared.place.UnitsForm.TheVariants as units
 use Rattle.acpi_tree.specs.Tree.{FieldTree, unit}
 use Rattle.acpi_tree.specs.Terms.{TermTree, TermTrees, ElseTree, if_do, no_else, else_do, while_do, declare, declare_units, no_terms, more}
 use Rattle.acpi_tree.specs.Operators.{operands_before, operands_behind, names_of_units, operands_of_units}
-use Rattle.acpi_code.specs.declared.opcode.Opcode.{Opcode}
-use Rattle.acpi_code.specs.declared.opcode.Opcode.TheVariants as opcodes
 use Rattle.acpi_code.specs.Opcodes.{opcode_bytes}
 use Rattle.acpi_code.specs.Spelling.{SpellsEach, Packs}
-use Rattle.acpi_body.specs.Arguments.{Locals, with_path, Arguments}
-use Rattle.acpi_body.specs.Grammars.{body_grammar}
-use Rattle.acpi_body.specs.Spelling.{Stands, Spells, AreOperands, heights}
+use Rattle.acpi_values.specs.Arguments.{Locals, Arguments}
+use Rattle.acpi_body.specs.Arguments.{with_path}
+use Rattle.acpi_values.specs.Grammars.{body_grammar}
+use Rattle.acpi_values.specs.Spelling.{Stands, Spells, AreOperands, heights}
 use Rattle.acpi_code.specs.Fields.{SpellsFields}
+pub use Rattle.acpi_values.specs.Declarations.{named_opcode, units_opcode}
 
 -- ---- declarations (20.2.5.1 and 20.2.5.2)
-
-abbrev pub named_opcode : NamedForm → Opcode
-named_opcode named.Name = opcodes.DeclareName
-named_opcode (named.Create w) = opcodes.Create w
-named_opcode named.CreateField = opcodes.CreateField
-named_opcode named.Region = opcodes.Region
-named_opcode named.Mutex = opcodes.Mutex
-named_opcode named.Event = opcodes.Event
-
-abbrev pub units_opcode : UnitsForm → Opcode
-units_opcode units.Field = opcodes.Field
-units_opcode units.IndexField = opcodes.IndexField
-units_opcode units.BankField = opcodes.BankField
 
 -- the name can be declared: it has segments, and a place in the scope
 pub record MayDeclare (s : List Segment) (n : NameParts) : Type 0 where

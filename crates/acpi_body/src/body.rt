@@ -5,11 +5,11 @@ ghost use Rattle.std.specs.FinMap as finite;
 ghost use Rattle.acpi_tree.specs.Terms.{TermTrees};
 ghost use Rattle.acpi_tree.specs.TermFits.{terms_fit};
 ghost use Rattle.acpi_tree.specs.TermView.{terms_tree};
-ghost use Rattle.acpi_body.specs.declared.fault.BodyReason.{BodyReason};
-ghost use Rattle.acpi_body.specs.declared.fault.BodyReason.TheVariants.{Unsure};
+ghost use Rattle.acpi_values.specs.declared.fault.BodyReason.{BodyReason};
+ghost use Rattle.acpi_values.specs.declared.fault.BodyReason.TheVariants.{Unsure};
 ghost use Rattle.acpi_body.specs.Arguments.{namespace_of, arguments};
 ghost use Rattle.acpi_body.specs.Statements.{ReadsBody};
-ghost use Rattle.acpi_body.specs.Faults.{ShowsBody, IsNoStatement};
+ghost use Rattle.acpi_values.specs.Faults.{ShowsBody, IsNoStatement};
 ghost use Rattle.acpi_body.specs.Reasons.{IfFault};
 ghost use Rattle.acpi_body.specs.Bodies.{read, body_view, body_fits, IsBodyOf};
 ghost use Rattle.acpi_body.specs.steps.Reading.{body_at};
@@ -17,13 +17,13 @@ ghost use Rattle.acpi_body.specs.steps.Answers.{body_of, fault_in};
 
 use crate::arguments::Context;
 use crate::counting::MethodCounting;
-use crate::fault::{BodyError, BodyFault};
 use crate::statement::body;
 use acpi_code::Depth;
 use acpi_counts::Counts;
 use acpi_name::Path;
 use acpi_space::Space;
 use acpi_tree::{Object, Term};
+use acpi_values::{BodyError, BodyFault};
 use std::alloc::{AllocError, Global};
 
 /// A method body (ACPI 6.5, 20.2.5.2 TermList of a DefMethod).

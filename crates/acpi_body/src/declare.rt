@@ -5,18 +5,19 @@ ghost use Rattle.acpi_tree.specs.View.{fields_view};
 ghost use Rattle.acpi_tree.specs.TermView.{term_view, decl_view};
 ghost use Rattle.acpi_code.specs.steps.Reading.{name_in};
 ghost use Rattle.acpi_body.specs.Statements.{locals_after};
-ghost use Rattle.acpi_body.specs.Grammars.{body_grammar};
-ghost use Rattle.acpi_body.specs.steps.Reading.{part, term_at, fields_in, declared_at, named_form, units_form};
-ghost use Rattle.acpi_body.specs.steps.Cursor.{Gives, Reads, ReadsAll};
+ghost use Rattle.acpi_values.specs.Grammars.{body_grammar};
+ghost use Rattle.acpi_values.specs.steps.Reading.{part, term_at, fields_in};
+ghost use Rattle.acpi_body.specs.steps.Reading.{declared_at, named_form, units_form};
+ghost use Rattle.acpi_values.specs.steps.Cursor.{Gives, Reads, ReadsAll};
 
 use crate::counting::{Here, MethodCounting};
-use crate::fault::{BodyError, BodyReason, refused};
 use crate::locals::declare;
-use crate::term::term;
 use acpi_code::{Code, field_elements};
 use acpi_name::{Name, PlaceFault, place};
 use acpi_space::TreeSpace;
 use acpi_tree::{Decl, FieldElem, NamedForm, Place, Term, UnitsForm};
+use acpi_values::term::term;
+use acpi_values::{BodyError, BodyReason, refused};
 
 /// A term at a place, which lies apart from the frame that asks for it.
 #[inline(never)]
@@ -41,7 +42,7 @@ pub(crate) fn term_apart<M: MethodCounting>(
 
 // A name that can be declared: it has segments, and a place.
 #[inline(never)]
-#[tactic(auto, using(crate::proofs::Parts::part_fails), unfolding(crate::specs::steps::Reading::declared_at))]
+#[tactic(auto, using(acpi_values::proofs::Parts::part_fails), unfolding(crate::specs::steps::Reading::declared_at))]
 fn new_name<M: MethodCounting>(counting: &M, code: &mut Code<'_>) -> Result<Name, BodyError>
     ensures { Reads (λ n. n) (declared_at (M.method counting.now)) code.old code.new result }
 {
@@ -57,7 +58,7 @@ fn new_name<M: MethodCounting>(counting: &M, code: &mut Code<'_>) -> Result<Name
 
 // A name, with memory of its own.
 #[inline(never)]
-#[tactic(auto, using(crate::proofs::Parts::part_fails))]
+#[tactic(auto, using(acpi_values::proofs::Parts::part_fails))]
 fn owned_name<M: MethodCounting>(counting: &M, code: &mut Code<'_>) -> Result<Name, BodyError>
     ensures { Reads (λ n. n) (λ end bytes. part (name_in end bytes)) code.old code.new result }
 {
@@ -66,7 +67,7 @@ fn owned_name<M: MethodCounting>(counting: &M, code: &mut Code<'_>) -> Result<Na
 
 // The elements that are left.
 #[inline(never)]
-#[tactic(auto, using(crate::proofs::Parts::field_fails))]
+#[tactic(auto, using(acpi_values::proofs::Parts::field_fails))]
 fn elements<M: MethodCounting>(
     counting: &M,
     code: &mut Code<'_>,
@@ -78,7 +79,7 @@ fn elements<M: MethodCounting>(
 
 // A declaration of one name.
 #[inline(never)]
-#[tactic(auto, using(crate::proofs::Parts::part_fails), unfolding(crate::specs::steps::Reading::named_form, crate::specs::steps::Reading::operands_at, crate::specs::steps::Reading::operand_at))]
+#[tactic(auto, using(acpi_values::proofs::Parts::part_fails), unfolding(crate::specs::steps::Reading::named_form, acpi_values::specs::steps::Reading::operands_at, acpi_values::specs::steps::Reading::operand_at))]
 fn named<M: MethodCounting>(
     counting: &M,
     locals: &TreeSpace<()>,
@@ -120,7 +121,7 @@ fn named<M: MethodCounting>(
 
 // A declaration of field units.
 #[inline(never)]
-#[tactic(auto, using(crate::proofs::Parts::part_fails), unfolding(crate::specs::steps::Reading::units_form, crate::specs::steps::Reading::names_at, crate::specs::steps::Reading::operands_at, crate::specs::steps::Reading::operand_at))]
+#[tactic(auto, using(acpi_values::proofs::Parts::part_fails), unfolding(crate::specs::steps::Reading::units_form, crate::specs::steps::Reading::names_at, acpi_values::specs::steps::Reading::operands_at, acpi_values::specs::steps::Reading::operand_at))]
 fn units<M: MethodCounting>(
     counting: &M,
     locals: &TreeSpace<()>,

@@ -5,8 +5,7 @@ ghost use Rattle.std.specs.Cmp.{partial_equiv_from_equiv, on_equiv};
 ghost use Rattle.acpi_tree.specs.TermView.{terms_view};
 ghost use Rattle.acpi_tree.specs.steps.Equality.{equivalence};
 ghost use Rattle.acpi_body.specs.Bodies.{body_view};
-ghost use Rattle.acpi_body.specs.BodyEqual.{body_eq};
-ghost use Rattle.acpi_body.specs.steps.BodyEquality.{body_tells};
+ghost use Rattle.acpi_body.specs.steps.BodyEquality.{body_eq, body_tells};
 
 use crate::body::Body;
 use acpi_tree::Term;

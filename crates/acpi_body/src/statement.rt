@@ -6,17 +6,18 @@ ghost use Rattle.std.specs.Prelude.{box_value, Some};
 ghost use Rattle.acpi_tree.specs.Terms.{if_do, else_do, no_else};
 ghost use Rattle.acpi_tree.specs.TermView.{term_view, terms_view, terms_tree, else_view};
 ghost use Rattle.acpi_body.specs.Statements.{locals_after, locals_after_else, locals_after_all};
-ghost use Rattle.acpi_body.specs.Grammars.{body_grammar};
-ghost use Rattle.acpi_body.specs.steps.Reading.{term_at, else_at, if_form, while_form, statement_by, statement_at, statements_at, body_at};
-ghost use Rattle.acpi_body.specs.steps.Cursor.{Gives, Reads, ReadsOn, ReadsAll};
+ghost use Rattle.acpi_values.specs.Grammars.{body_grammar};
+ghost use Rattle.acpi_values.specs.steps.Reading.{term_at};
+ghost use Rattle.acpi_body.specs.steps.Reading.{else_at, if_form, while_form, statement_by, statement_at, statements_at, body_at};
+ghost use Rattle.acpi_values.specs.steps.Cursor.{Gives, Reads, ReadsOn, ReadsAll};
 
 use crate::counting::{Here, MethodCounting};
 use crate::declare::{named_declaration, term_apart, units_declaration};
-use crate::fault::BodyError;
-use crate::term::{buffer, package, placed, var_package};
 use acpi_code::{Code, Opcode};
 use acpi_space::{Space, TreeSpace};
 use acpi_tree::{NamedForm, Place, Term, UnitsForm};
+use acpi_values::BodyError;
+use acpi_values::term::{buffer, package, placed, var_package};
 
 fn with_else(predicate: Box<Term>, then: Vec<Term>, other: Vec<Term>) -> Term
     ensures { term_view result ≡ if_do (term_view (box_value predicate)) (terms_tree then.items)
@@ -37,7 +38,7 @@ fn branch(predicate: Box<Term>, then: Vec<Term>, other: Option<Vec<Term>>) -> Te
 
 // The statements of an If, and of its Else where one follows.
 #[cycle(statement)]
-#[tactic(auto, using(crate::proofs::Parts::part_fails), unfolding(crate::specs::steps::Reading::if_form))]
+#[tactic(auto, using(acpi_values::proofs::Parts::part_fails), unfolding(crate::specs::steps::Reading::if_form))]
 #[inline(never)]
 fn if_statement<M: MethodCounting>(
     counting: &M,
@@ -60,7 +61,7 @@ fn if_statement<M: MethodCounting>(
 }
 
 #[cycle(statement)]
-#[tactic(auto, using(crate::proofs::Parts::part_fails), unfolding(crate::specs::steps::Reading::else_at))]
+#[tactic(auto, using(acpi_values::proofs::Parts::part_fails), unfolding(crate::specs::steps::Reading::else_at))]
 fn else_statements<M: MethodCounting>(
     counting: &M,
     locals: &mut TreeSpace<()>,
@@ -82,7 +83,7 @@ fn else_statements<M: MethodCounting>(
 }
 
 #[cycle(statement)]
-#[tactic(auto, using(crate::proofs::Parts::part_fails), unfolding(crate::specs::steps::Reading::while_form))]
+#[tactic(auto, using(acpi_values::proofs::Parts::part_fails), unfolding(crate::specs::steps::Reading::while_form))]
 #[inline(never)]
 fn while_statement<M: MethodCounting>(
     counting: &M,
@@ -132,7 +133,7 @@ fn statements<M: MethodCounting>(
 
 // The statement whose first opcode, behind `front`, was read; `level` levels are left inside it.
 #[cycle(statement)]
-#[tactic(auto, unfolding(crate::specs::steps::Reading::statement_by, crate::specs::steps::Reading::placed_by, crate::specs::steps::Reading::form_by))]
+#[tactic(auto, unfolding(crate::specs::steps::Reading::statement_by, acpi_values::specs::steps::Reading::placed_by, acpi_values::specs::steps::Reading::form_by))]
 fn form<'a, M: MethodCounting>(
     counting: &M,
     locals: &mut TreeSpace<()>,
@@ -211,7 +212,7 @@ fn form<'a, M: MethodCounting>(
 }
 
 #[cycle(statement)]
-#[tactic(auto, using(crate::proofs::Parts::part_fails), unfolding(crate::specs::steps::Reading::statement_at))]
+#[tactic(auto, using(acpi_values::proofs::Parts::part_fails), unfolding(crate::specs::steps::Reading::statement_at))]
 fn statement<M: MethodCounting>(
     counting: &M,
     locals: &mut TreeSpace<()>,

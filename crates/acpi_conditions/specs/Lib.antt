@@ -16,5 +16,4 @@ pub mod Views
 pub mod Met
 pub mod Here
 pub mod Examples
-pub mod ReasonEqual
 pub mod steps

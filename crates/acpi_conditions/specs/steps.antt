@@ -13,4 +13,3 @@ pub mod Settled
 pub mod Packages
 pub mod Walks
 pub mod Moves
-pub mod ReasonEquality

@@ -27,17 +27,19 @@ use Rattle.acpi_outline.specs.Nodes.{closed}
 use Rattle.acpi_outline.specs.View.{nodes_view}
 use Rattle.acpi_conditions.specs.Entries.{Path, Entry}
 use Rattle.acpi_conditions.proofs.Viewing.{get_behind}
-use Rattle.acpi_survey.specs.declared.body.BodyReading.{BodyReading}
-use Rattle.acpi_survey.specs.declared.body.BodyReading.TheVariants.{Terms, Opaque}
-use Rattle.acpi_survey.specs.declared.body.MethodBody.{MethodBody}
+use Rattle.acpi_entries.specs.declared.body.BodyReading.{BodyReading}
+use Rattle.acpi_entries.specs.declared.body.BodyReading.TheVariants.{Terms, Opaque}
+use Rattle.acpi_entries.specs.declared.body.MethodBody.{MethodBody}
 use Rattle.acpi_survey.specs.declared.machine_survey.SurveyedTable.{SurveyedTable}
 use Rattle.acpi_survey.specs.Bodies.{entry_count}
-use Rattle.acpi_survey.specs.EntryParts.{table_at, byte_at, part_in, part_declaring}
-use Rattle.acpi_survey.specs.EntryBodies.{IsBodyReading, IsBodyIn, IsBodyOf}
-use Rattle.acpi_survey.specs.Lookup.{Found, node_found, part_at}
+use Rattle.acpi_ranges.specs.Sites.{table_at, byte_at}
+use Rattle.acpi_ranges.specs.EntryParts.{part_in, part_declaring}
+use Rattle.acpi_entries.specs.EntryBodies.{IsBodyReading, IsBodyIn, IsBodyOf}
+use Rattle.acpi_ranges.specs.Lookup.{Found, node_found, part_at}
 use Rattle.acpi_survey.specs.Reading.{Reading}
 use Rattle.acpi_survey.specs.Predefined.{first_reading}
-use Rattle.acpi_survey.specs.Survey.{code_read, place_in, behind_table}
+use Rattle.acpi_pieces.specs.Tables.{code_read}
+use Rattle.acpi_survey.specs.Survey.{place_in, behind_table}
 use Rattle.acpi_survey.specs.Surveys.{AreTables, behind_nodes, bytes_of, nodes_of_each}
 use Rattle.acpi_survey.proofs.Surveys.{are_read}
 use Rattle.acpi_conservative.specs.Parts.{DeclaredPart, declared_by, declared, IsPartOf}

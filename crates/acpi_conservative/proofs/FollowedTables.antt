@@ -13,13 +13,13 @@ use Rattle.acpi_declare.specs.Listing.{Placement, objects_of, IsListing}
 use Rattle.acpi_declare.specs.Loads.{AreListings}
 use Rattle.acpi_declare.specs.Notes.{external_counts}
 use Rattle.acpi_declare.specs.Tables.{IsTableOf}
-use Rattle.acpi_declare.proofs.Unions.{counts-empty}
+use Rattle.acpi_pass.proofs.Unions.{counts-empty}
 use Rattle.acpi_outline.specs.Nodes.{NodeTrees}
-use Rattle.acpi_outline.specs.Strict.{AreItems}
+use Rattle.acpi_conservative.specs.StrictNodes.{AreItems}
 use Rattle.acpi_outline.specs.Tiling.{Tiles}
 use Rattle.acpi_outline.specs.View.{nodes_view}
 use Rattle.acpi_outline.proofs.One.{outline_tiles}
-use Rattle.acpi_outline.proofs.Strict.{strict_kept}
+use Rattle.acpi_conservative.proofs.StrictNodes.{strict_kept}
 use Rattle.acpi_conditions.specs.Entries.{Entry, HasNoCondition}
 use Rattle.acpi_conditions.specs.Survey.{Survey, survey, surveys, all_entries}
 use Rattle.acpi_conditions.specs.Laws.{IsAllOf}
@@ -27,11 +27,12 @@ use Rattle.acpi_conditions.specs.Walk.{Walk, passed, pass}
 use Rattle.acpi_conditions.proofs.Walks.{gives_nodes}
 use Rattle.acpi_survey.specs.declared.machine_survey.SurveyedTable.{SurveyedTable}
 use Rattle.acpi_survey.specs.Nodes.{nodes_of}
-use Rattle.acpi_survey.specs.Lookup.{Found, part_at}
+use Rattle.acpi_ranges.specs.Lookup.{Found, part_at}
 use Rattle.acpi_survey.specs.Laws.{IsAtStart, IsSurveyed}
 use Rattle.acpi_survey.specs.Reading.{Reading, survey_rules}
 use Rattle.acpi_survey.specs.Predefined.{first_reading, with_object}
-use Rattle.acpi_survey.specs.Survey.{code_read, place_in, at_table, behind_table, all_nodes}
+use Rattle.acpi_pieces.specs.Tables.{code_read}
+use Rattle.acpi_survey.specs.Survey.{place_in, at_table, behind_table, all_nodes}
 use Rattle.acpi_survey.specs.Surveys.{IsTable, AreTables, behind_nodes, bytes_of, nodes_of_each}
 use Rattle.acpi_survey.proofs.Surveys.{are_read, first_at_start}
 use Rattle.acpi_survey.proofs.TableWalks.{read_is_survey}

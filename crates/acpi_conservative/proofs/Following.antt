@@ -27,8 +27,8 @@ use Rattle.acpi_declare.specs.Sites.{declares, opens, expects, declares_alone, S
 use Rattle.acpi_declare.specs.Placing.{IsDeclared, IsOpened}
 use Rattle.acpi_declare.specs.Listing.{Placement, objects_of, IsJustified, paths_of}
 use Rattle.acpi_declare.specs.Notes.{count_at}
-use Rattle.acpi_declare.proofs.Unions.{union-nothing, union_assoc, counts_with_first}
-use Rattle.acpi_declare.proofs.Listings.{Inside, length-paths, length-justified, inside_later, inside_newest}
+use Rattle.acpi_pass.proofs.Unions.{union-nothing, union_assoc, counts_with_first}
+use Rattle.acpi_pass.proofs.Listings.{Inside, length-paths, length-justified, inside_later, inside_newest}
 use Rattle.acpi_outline.specs.declared.form.ContainerForm.{ContainerForm}
 use Rattle.acpi_outline.specs.declared.form.ContainerForm.TheVariants as containers
 use Rattle.acpi_outline.specs.Nodes as outline
@@ -36,14 +36,14 @@ use Rattle.acpi_outline.specs.Nodes.{FixedTree, container, if_so, units, FieldNo
 use Rattle.acpi_outline.specs.Rules.{after, after_all, after_fields}
 use Rattle.acpi_outline.specs.Outline.{bits_behind, AreFields, IsNode, AreNodes}
 use Rattle.acpi_outline.specs.Tiling.{TilesFields, TilesInside, Tiles}
-use Rattle.acpi_outline.specs.Strict.{data_term, AreExternals, AreFieldsOf, IsItem, AreItems}
+use Rattle.acpi_conservative.specs.StrictNodes.{data_term, AreExternals, AreFieldsOf, IsItem, AreItems}
 use Rattle.acpi_conditions.specs.Entries.{Path, Entry}
 use Rattle.acpi_conditions.specs.Walk as walks
 use Rattle.acpi_conditions.specs.Walk.{Walk, enter_first}
-use Rattle.acpi_survey.specs.Needs.{names_in_all, names_before}
+use Rattle.acpi_needs.specs.Needs.{names_in_all, names_before}
 use Rattle.acpi_survey.specs.Nodes.{term_at, unit_at, operands_of}
 use Rattle.acpi_survey.specs.Reading.{Reading, survey_rules, with_expected, passing, expecting, after_field, enter, leave}
-use Rattle.acpi_survey.specs.Lookup.{Found, node_found, element_found, first_field, element_at, first_node}
+use Rattle.acpi_ranges.specs.Lookup.{Found, node_found, element_found, first_field, element_at, first_node}
 use Rattle.acpi_conservative.specs.Parts.{IsTerm, IsPackage, before_fields, IsPartOf}
 use Rattle.acpi_conservative.proofs.Items.{Parts, parts}
 use Rattle.acpi_conservative.proofs.TableNodes.{data_none, externals_walked}

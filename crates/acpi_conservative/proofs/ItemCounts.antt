@@ -21,7 +21,7 @@ use Rattle.acpi_outline.specs.Nodes as outline
 use Rattle.acpi_outline.specs.Nodes.{FixedTree, container, if_so, units, FieldNodes, no_more_fields, field_node, NodeTree, plain, holds, holds_fields, closed, NodeTrees, no_more, node}
 use Rattle.acpi_outline.specs.Rules.{after, after_all, after_fields}
 use Rattle.acpi_outline.specs.Outline.{IsNode, AreNodes}
-use Rattle.acpi_outline.specs.Strict.{data_term, AreExternals, AreFieldsOf, IsItem, AreItems}
+use Rattle.acpi_conservative.specs.StrictNodes.{data_term, AreExternals, AreFieldsOf, IsItem, AreItems}
 use Rattle.acpi_conditions.specs.Nodes.{Term}
 use Rattle.acpi_conditions.specs.Entries.{Path, Why, Refusal}
 use Rattle.acpi_conditions.specs.Known.{declared_at, opened_at}
@@ -29,7 +29,7 @@ use Rattle.acpi_conditions.specs.Survey.{declaring_as, empty_survey}
 use Rattle.acpi_conditions.specs.Walk as walks
 use Rattle.acpi_conditions.specs.Walk.{Walk, Package, leave_from, passed, enter_term_as, enter_scope_as, through}
 use Rattle.acpi_conditions.proofs.Basics.{append_nothing}
-use Rattle.acpi_survey.specs.Needs.{names_in_all, names_before}
+use Rattle.acpi_needs.specs.Needs.{names_in_all, names_before}
 use Rattle.acpi_survey.specs.Nodes.{term_at, unit_at, operands_of}
 use Rattle.acpi_survey.specs.Reading.{Reading, survey_rules, declaring, entering, passing, expecting, after_field, enter, leave}
 

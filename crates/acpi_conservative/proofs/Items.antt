@@ -9,8 +9,8 @@ use Rattle.acpi_declare.specs.Namespace.{Namespace}
 use Rattle.acpi_declare.specs.Sites.{Effect, declares, opens, expects, Step, step, kind_object, scope_effect, own_steps, Site, site_in, item_sites, items_sites, sites}
 use Rattle.acpi_declare.specs.Placing.{IsPlaced}
 use Rattle.acpi_declare.specs.Listing.{Placement, object_of, objects_of, scope_within, IsJustified, IsListing, paths_of}
-use Rattle.acpi_declare.proofs.Unions.{union-nothing, union_assoc}
-use Rattle.acpi_declare.proofs.Listings.{length-paths, length-justified, inside_later, inside_now, inside_newest, Inside}
+use Rattle.acpi_pass.proofs.Unions.{union-nothing, union_assoc}
+use Rattle.acpi_pass.proofs.Listings.{length-paths, length-justified, inside_later, inside_now, inside_newest, Inside}
 use Rattle.acpi_conditions.specs.Nodes.{Nodes, no_nodes}
 use Rattle.acpi_conditions.specs.Entries as entries
 use Rattle.acpi_conditions.specs.Known.{Known}

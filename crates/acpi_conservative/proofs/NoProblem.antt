@@ -7,18 +7,21 @@ use Rattle.acpi_declare.specs.Predefined.{predefined}
 use Rattle.acpi_declare.specs.Tables.{code_of}
 use Rattle.acpi_outline.specs.declared.fault.LostFault.{LostFault}
 use Rattle.acpi_outline.specs.Nodes.{NodeTrees}
-use Rattle.acpi_outline.specs.Strict.{AreItems}
+use Rattle.acpi_conservative.specs.StrictNodes.{AreItems}
 use Rattle.acpi_outline.specs.View.{nodes_view}
 use Rattle.acpi_conditions.specs.Entries.{Why, Refusal}
 use Rattle.acpi_survey.specs.declared.machine_survey.SurveyedTable.{SurveyedTable}
-use Rattle.acpi_survey.specs.declared.notes.NoteReason.{NoteReason}
-use Rattle.acpi_survey.specs.declared.tables.TableContent.{TableContent}
-use Rattle.acpi_survey.specs.declared.tables.TableContent.TheVariants.{Read}
-use Rattle.acpi_survey.specs.Places.{last_at}
-use Rattle.acpi_survey.specs.Ranges.{Range, Entered, ranges_of}
-use Rattle.acpi_survey.specs.Problems.{ProblemParts, Refusals, why_lost, offset_of, lost_problem, refused_problem, range_problems, table_problems}
-use Rattle.acpi_survey.specs.Notes.{NoteParts, note_parts, Unknowns, range_notes, table_notes}
-use Rattle.acpi_survey.specs.Findings.{entered_in, refusals_in, problems_by, notes_by}
+use Rattle.acpi_findings.specs.declared.notes.NoteReason.{NoteReason}
+use Rattle.acpi_pieces.specs.declared.tables.TableContent.{TableContent}
+use Rattle.acpi_pieces.specs.declared.tables.TableContent.TheVariants.{Read}
+use Rattle.acpi_ranges.specs.Places.{last_at}
+use Rattle.acpi_ranges.specs.Ranges.{Range, Entered, ranges_of}
+use Rattle.acpi_findings.specs.Problems.{ProblemParts, why_lost, lost_problem, refused_problem, range_problems, table_problems}
+use Rattle.acpi_ranges.specs.Index.{Refusals}
+use Rattle.acpi_ranges.specs.Sites.{offset_of}
+use Rattle.acpi_findings.specs.Notes.{NoteParts, note_parts, Unknowns, range_notes, table_notes}
+use Rattle.acpi_ranges.specs.Index.{entered_in, refusals_in}
+use Rattle.acpi_findings.specs.Findings.{problems_by, notes_by}
 use Rattle.acpi_survey.specs.Reading.{Reading}
 use Rattle.acpi_survey.specs.Predefined.{first_reading}
 use Rattle.acpi_survey.specs.Survey.{behind_table, place_in}

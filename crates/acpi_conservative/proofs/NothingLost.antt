@@ -10,16 +10,17 @@ use Rattle.acpi_declare.specs.Predefined.{predefined}
 use Rattle.acpi_conditions.specs.Entries.{Path}
 use Rattle.acpi_outline.specs.Nodes.{FieldNodes, NodeTree, NodeTrees}
 use Rattle.acpi_outline.specs.Rules.{after_all}
-use Rattle.acpi_outline.specs.Strict.{data_term, elem_terms, AreExternals, AreFieldsOf, IsItem, AreItems}
-use Rattle.acpi_outline.proofs.Strict.{strict_kept}
-use Rattle.acpi_survey.specs.Spans.{Part, of_node}
-use Rattle.acpi_survey.specs.Ranges.{Range, Entered, element_ranges, first_place, inner_ranges, is_if, ranges_of}
-use Rattle.acpi_survey.specs.Problems.{why_lost}
-use Rattle.acpi_survey.specs.Marks.{MarkTree, marks_in, marks_in_all}
-use Rattle.acpi_survey.specs.Notes.{mark_reasons, part_reasons}
+use Rattle.acpi_conservative.specs.StrictNodes.{data_term, elem_terms, AreExternals, AreFieldsOf, IsItem, AreItems}
+use Rattle.acpi_conservative.proofs.StrictNodes.{strict_kept}
+use Rattle.acpi_ranges.specs.Spans.{Part, of_node}
+use Rattle.acpi_ranges.specs.Ranges.{Range, Entered, element_ranges, first_place, inner_ranges, is_if, ranges_of}
+use Rattle.acpi_findings.specs.Problems.{why_lost}
+use Rattle.acpi_findings.specs.Marks.{MarkTree, marks_in, marks_in_all}
+use Rattle.acpi_findings.specs.Notes.{mark_reasons, part_reasons}
 use Rattle.acpi_survey.specs.Reading.{Reading, survey_rules}
 use Rattle.acpi_survey.specs.Predefined.{first_reading}
-use Rattle.acpi_survey.specs.Survey.{code_read, at_table, behind_table, AreRead}
+use Rattle.acpi_pieces.specs.Tables.{code_read}
+use Rattle.acpi_survey.specs.Survey.{at_table, behind_table, AreRead}
 use Rattle.acpi_conservative.specs.Strict.{AreTablesOf}
 use Rattle.acpi_conservative.specs.Laws.{StrictReadIsItems}
 use Rattle.acpi_conservative.proofs.First.{items_of}

@@ -14,11 +14,12 @@ use Rattle.acpi_outline.specs.View.{nodes_view}
 use Rattle.acpi_conditions.specs.Entries.{Entry}
 use Rattle.acpi_conditions.proofs.Viewing.{get_behind}
 use Rattle.acpi_survey.specs.declared.machine_survey.SurveyedTable.{SurveyedTable}
-use Rattle.acpi_survey.specs.EntryParts.{table_at, byte_at}
-use Rattle.acpi_survey.specs.Lookup.{part_at}
+use Rattle.acpi_ranges.specs.Sites.{table_at, byte_at}
+use Rattle.acpi_ranges.specs.Lookup.{part_at}
 use Rattle.acpi_survey.specs.Reading.{Reading}
 use Rattle.acpi_survey.specs.Predefined.{first_reading}
-use Rattle.acpi_survey.specs.Survey.{code_read, place_in, behind_table}
+use Rattle.acpi_pieces.specs.Tables.{code_read}
+use Rattle.acpi_survey.specs.Survey.{place_in, behind_table}
 use Rattle.acpi_survey.specs.Surveys.{AreTables, behind_nodes, bytes_of}
 use Rattle.acpi_conservative.specs.Parts.{DeclaredPart, declared, all_declared, IsDeclaredAt, StrictReadIsDeclared}
 use Rattle.acpi_conservative.proofs.WholeTables.{strict_table_is_read}

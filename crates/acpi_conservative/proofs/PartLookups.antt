@@ -4,7 +4,7 @@ use Rattle.std.specs.Option.{option_or}
 use Rattle.std.proofs.lemmas.Bool.{eqb-true, eq-eqb, ne_eqb}
 use Rattle.acpi_outline.specs.Nodes.{FixedTree, FieldNodes, no_more_fields, fields_lost, field_node, NodeTree, holds, holds_fields, NodeTrees, no_more, lost, node}
 use Rattle.acpi_outline.specs.Tiling.{TilesFields, TilesInside, Tiles}
-use Rattle.acpi_survey.specs.Lookup.{Found, node_found, element_found, first_field, element_at, first_node, inside_at, part_at}
+use Rattle.acpi_ranges.specs.Lookup.{Found, node_found, element_found, first_field, element_at, first_node, inside_at, part_at}
 
 -- ---- what is found stands within the nodes
 

@@ -9,7 +9,7 @@ use Rattle.acpi_declare.specs.Predefined.{predefined}
 use Rattle.acpi_declare.specs.Tables.{IsTableOf, code_of}
 use Rattle.acpi_outline.specs.Nodes.{NodeTrees}
 use Rattle.acpi_outline.specs.Rules.{after_all}
-use Rattle.acpi_outline.proofs.Strict.{strict_kept}
+use Rattle.acpi_conservative.proofs.StrictNodes.{strict_kept}
 use Rattle.acpi_conditions.specs.Nodes.{Nodes}
 use Rattle.acpi_conditions.specs.Entries.{Entry}
 use Rattle.acpi_conditions.specs.Entries as entries
@@ -23,7 +23,8 @@ use Rattle.acpi_survey.specs.Nodes as read
 use Rattle.acpi_survey.specs.Reading.{Reading, survey_rules}
 use Rattle.acpi_survey.specs.Predefined.{first_reading, with_object}
 use Rattle.acpi_survey.specs.Survey as tables
-use Rattle.acpi_survey.specs.Survey.{code_read, place_in, at_table, AreRead, all_nodes}
+use Rattle.acpi_pieces.specs.Tables.{code_read}
+use Rattle.acpi_survey.specs.Survey.{place_in, at_table, AreRead, all_nodes}
 use Rattle.acpi_survey.specs.Laws.{IsAtStart, IsSurveyed}
 use Rattle.acpi_survey.proofs.TableWalks.{read_is_survey}
 use Rattle.acpi_conservative.specs.Strict.{nodes_of, all_placed, AreTablesOf, predefined_objects, placement_of, predefined_terms, predefined_known}

@@ -11,13 +11,13 @@ use Rattle.acpi_declare.specs.Sites.{declares, Step, step, Site, site_in}
 use Rattle.acpi_declare.specs.Placing.{IsDeclared, IsPlaced}
 use Rattle.acpi_declare.specs.Listing.{Placement, object_by, object_of, objects_of, IsJustified}
 use Rattle.acpi_declare.specs.Notes.{counts_by, external_counts}
-use Rattle.acpi_declare.proofs.Unions.{union-nothing, union_assoc}
-use Rattle.acpi_declare.proofs.Listings.{Inside, inside_now}
+use Rattle.acpi_pass.proofs.Unions.{union-nothing, union_assoc}
+use Rattle.acpi_pass.proofs.Listings.{Inside, inside_now}
 use Rattle.acpi_conditions.specs.Nodes.{Term}
 use Rattle.acpi_conditions.specs.Entries.{Path, Entry}
 use Rattle.acpi_survey.specs.Nodes.{term_at}
 use Rattle.acpi_survey.specs.Reading.{Reading, declaring}
-use Rattle.acpi_survey.specs.Lookup.{Found}
+use Rattle.acpi_ranges.specs.Lookup.{Found}
 use Rattle.acpi_conservative.specs.Parts.{DeclaredPart, declared_by, declared, IsPartOf}
 use Rattle.acpi_conservative.proofs.Standing.{StandsIn, made, stands_behind, entries_behind}
 

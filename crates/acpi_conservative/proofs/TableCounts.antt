@@ -16,13 +16,14 @@ use Rattle.acpi_declare.specs.Predefined.{predefined}
 use Rattle.acpi_body.specs.Arguments.{args_in}
 use Rattle.acpi_outline.specs.Nodes.{NodeTrees}
 use Rattle.acpi_outline.specs.Rules.{after_all}
-use Rattle.acpi_outline.specs.Strict.{AreItems}
+use Rattle.acpi_conservative.specs.StrictNodes.{AreItems}
 use Rattle.acpi_conditions.specs.Entries.{Path, Entry}
 use Rattle.acpi_conditions.specs.Listings as conditions
 use Rattle.acpi_conditions.proofs.Basics.{path_itself}
 use Rattle.acpi_survey.specs.Reading.{Reading, survey_rules}
 use Rattle.acpi_survey.specs.Predefined.{first_reading, with_object}
-use Rattle.acpi_survey.specs.Survey.{code_read, at_table, behind_table, AreRead}
+use Rattle.acpi_pieces.specs.Tables.{code_read}
+use Rattle.acpi_survey.specs.Survey.{at_table, behind_table, AreRead}
 use Rattle.acpi_conservative.specs.Strict.{placed_by, all_placed, AreItemListings}
 use Rattle.acpi_conservative.specs.Laws.{IsEntryOf, StrictCounts}
 use Rattle.acpi_conservative.proofs.First.{items_of}

@@ -21,12 +21,12 @@ use Rattle.acpi_outline.specs.Nodes as outline
 use Rattle.acpi_outline.specs.Nodes.{FixedTree, container, if_so, units, FieldNodes, no_more_fields, fields_lost, field_node, NodeTree, plain, holds, holds_fields, closed, NodeTrees, no_more, node}
 use Rattle.acpi_outline.specs.Rules.{after, after_all, after_fields}
 use Rattle.acpi_outline.specs.Outline.{IsNode, AreNodes}
-use Rattle.acpi_outline.specs.Strict.{data_term, elem_terms, AreExternals, AreFieldsOf, IsItem, AreItems}
+use Rattle.acpi_conservative.specs.StrictNodes.{data_term, elem_terms, AreExternals, AreFieldsOf, IsItem, AreItems}
 use Rattle.acpi_conditions.specs.Nodes.{Nodes, no_nodes, declares, opens, branch}
 use Rattle.acpi_conditions.specs.Survey.{survey}
 use Rattle.acpi_conditions.specs.Walk as walks
 use Rattle.acpi_conditions.specs.Walk.{Walk, pass, enter_first}
-use Rattle.acpi_survey.specs.Needs.{names_in, names_in_all, names_in_elements, names_before}
+use Rattle.acpi_needs.specs.Needs.{names_in, names_in_all, names_in_elements, names_before}
 use Rattle.acpi_survey.specs.Nodes as read
 use Rattle.acpi_survey.specs.Nodes.{term_at, operands_of, fields_at, Listed, no_else, listed_node, listed, if_before}
 use Rattle.acpi_survey.specs.Reading.{Reading, survey_rules, enter, passing, after_field}

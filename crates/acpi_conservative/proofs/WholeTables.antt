@@ -5,10 +5,10 @@ use Rattle.std.proofs.lemmas.Bool.{false_from_ne_true}
 use Rattle.acpi_table.specs.Tables.{length_field, sum_of, IsTable}
 use Rattle.acpi_table.specs.declared.tables.TableFault.TheVariants.{Short, BadLength, TooLong}
 use Rattle.acpi_declare.specs.Tables.{IsNumbered, code_of}
-use Rattle.acpi_survey.specs.declared.tables.TableReason.TheVariants.{Table, NotDsdt, NotSsdt}
-use Rattle.acpi_survey.specs.declared.tables.TableContent.{TableContent}
-use Rattle.acpi_survey.specs.declared.tables.TableContent.TheVariants.{Unread, Read}
-use Rattle.acpi_survey.specs.Tables.{IsDsdt, IsSsdt, IsOutOfPlace, IsJudged}
+use Rattle.acpi_pieces.specs.declared.tables.TableReason.TheVariants.{Table, NotDsdt, NotSsdt}
+use Rattle.acpi_pieces.specs.declared.tables.TableContent.{TableContent}
+use Rattle.acpi_pieces.specs.declared.tables.TableContent.TheVariants.{Unread, Read}
+use Rattle.acpi_pieces.specs.Tables.{IsDsdt, IsSsdt, IsOutOfPlace, IsJudged}
 use Rattle.acpi_conservative.specs.Laws.{StrictTableIsRead}
 
 no_signature : (number : ℕ) (bytes : List ℕ) → IsNumbered number bytes → (IsDsdt bytes → ⊥) → (IsSsdt bytes → ⊥) → ⊥

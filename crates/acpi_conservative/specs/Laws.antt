@@ -23,7 +23,7 @@ use Rattle.acpi_body.specs.Bodies.{BodyTree, read, unread}
 use Rattle.acpi_order.specs.Bodies as machines
 use Rattle.acpi_order.specs.Machines.{Machine, IsMachine}
 use Rattle.acpi_outline.specs.Nodes.{NodeTrees}
-use Rattle.acpi_outline.specs.Strict.{AreItems}
+use Rattle.acpi_conservative.specs.StrictNodes.{AreItems}
 use Rattle.acpi_conditions.specs.Entries as entries
 use Rattle.acpi_conditions.specs.Entries.{Path, Entry, HasNoCondition}
 use Rattle.acpi_conditions.specs.Known.{Known, is_certain_name}
@@ -31,20 +31,20 @@ use Rattle.acpi_conditions.specs.Survey.{surveys}
 use Rattle.acpi_conditions.specs.Laws.{IsAllOf, IsStrict}
 use Rattle.acpi_conditions.specs.Listings as conditions
 use Rattle.acpi_conditions.specs.Views.{seen_by, links_by}
-use Rattle.acpi_survey.specs.declared.tables.TableContent.{TableContent}
-use Rattle.acpi_survey.specs.declared.tables.TableContent.TheVariants.{Read}
+use Rattle.acpi_pieces.specs.declared.tables.TableContent.{TableContent}
+use Rattle.acpi_pieces.specs.declared.tables.TableContent.TheVariants.{Read}
 use Rattle.acpi_survey.specs.declared.machine_survey.SurveyedTable.{SurveyedTable}
-use Rattle.acpi_survey.specs.declared.body.BodyReading.{BodyReading}
-use Rattle.acpi_survey.specs.declared.body.BodyReading.TheVariants.{Terms, Opaque}
-use Rattle.acpi_survey.specs.declared.body.MethodBody.{MethodBody}
+use Rattle.acpi_entries.specs.declared.body.BodyReading.{BodyReading}
+use Rattle.acpi_entries.specs.declared.body.BodyReading.TheVariants.{Terms, Opaque}
+use Rattle.acpi_entries.specs.declared.body.MethodBody.{MethodBody}
 use Rattle.acpi_survey.specs.Bodies.{entry_count}
-use Rattle.acpi_survey.specs.EntryBodies.{IsBodyOf}
-use Rattle.acpi_survey.specs.Findings.{problems_in, notes_by}
-use Rattle.acpi_survey.specs.Notes.{Unknowns}
+use Rattle.acpi_entries.specs.EntryBodies.{IsBodyOf}
+use Rattle.acpi_findings.specs.Findings.{problems_in, notes_by}
+use Rattle.acpi_findings.specs.Notes.{Unknowns}
 use Rattle.acpi_pieces.specs.Pieces.{ArePieces}
-use Rattle.acpi_survey.specs.Ranges.{Entered}
+use Rattle.acpi_ranges.specs.Ranges.{Entered}
 use Rattle.acpi_survey.specs.Surveys.{AreTables, bytes_of}
-use Rattle.acpi_survey.specs.Tables.{IsJudged}
+use Rattle.acpi_pieces.specs.Tables.{IsJudged}
 use Rattle.acpi_survey.specs.Reading.{Reading}
 use Rattle.acpi_survey.specs.Predefined.{first_reading}
 use Rattle.acpi_survey.specs.Survey.{AreRead}

@@ -18,12 +18,12 @@ use Rattle.acpi_outline.specs.declared.form.ContainerForm.{ContainerForm}
 use Rattle.acpi_outline.specs.declared.form.ContainerForm.TheVariants as containers
 use Rattle.acpi_outline.specs.Nodes as nodes
 use Rattle.acpi_outline.specs.Nodes.{FixedTree, container, units, NodeTrees, holds, closed}
-use Rattle.acpi_outline.specs.Strict as strict
-use Rattle.acpi_outline.specs.Strict.{data_term}
+use Rattle.acpi_conservative.specs.StrictNodes as strict
+use Rattle.acpi_conservative.specs.StrictNodes.{data_term}
 use Rattle.acpi_conditions.specs.Entries.{Entry}
 use Rattle.acpi_survey.specs.declared.machine_survey.SurveyedTable.{SurveyedTable}
-use Rattle.acpi_survey.specs.EntryParts.{part_in}
-use Rattle.acpi_survey.specs.Lookup.{Found, node_found, element_found}
+use Rattle.acpi_ranges.specs.EntryParts.{part_in}
+use Rattle.acpi_ranges.specs.Lookup.{Found, node_found, element_found}
 use Rattle.acpi_survey.specs.Reading.{Reading}
 use Rattle.acpi_survey.specs.Predefined.{first_reading}
 use Rattle.acpi_survey.specs.Surveys.{AreTables, bytes_of}

@@ -1,6 +1,14 @@
 //! The law that the survey extends the strict load: the functions do nothing, and their contracts state the law.
 ghost use Rattle.acpi_conservative.specs.Parts.{StrictReadIsDeclared};
+ghost use Rattle.acpi_conservative.specs.StrictNodes.{StrictIsKept};
 ghost use Rattle.acpi_conservative.specs.Laws.{StrictIsListing, StrictLoadIsSurvey, StrictTablesAreSurvey, PredefinedAgrees, PredefinedIsKnown, StrictFileIsCut, StrictTableIsRead, StrictReadIsSurvey, StrictReadIsItems, StrictHasNoProblem, StrictHasNoNote, StrictLinks, StrictCertain, StrictCounts, StrictExternals, StrictBodies, StrictMachineBodies};
+
+use acpi_outline::Known;
+
+/// Where a code spells strict items, its outline is these: nothing is lost, and there is no statement.
+pub fn strict_is_kept<K: Known>()
+    ensures { StrictIsKept K.rules }
+{}
 
 /// Where item trees of tables have strict listings, their nodes have these listings, and the surveys are these: no
 /// entry has a condition, and nothing is refused. So it is where a list of byte strings has strict listings, as `load`

@@ -2,11 +2,11 @@
 use Rattle.std.proofs.Common.{◌≡◌, ℕ, List, [], ◌∷◌, refl}
 use Rattle.acpi_space.specs.Lookups.{union}
 use Rattle.acpi_declare.specs.Declaring.{State, HasTables, HasTableOver}
-use Rattle.acpi_declare.specs.Links.{pending_links}
-use Rattle.acpi_declare.specs.Listing.{Placement, objects_of}
+use Rattle.acpi_pass.specs.Links.{pending_links}
+use Rattle.acpi_pass.specs.Listing.{Placement, objects_of}
 use Rattle.acpi_declare.specs.Loads.{AreListings}
-use Rattle.acpi_declare.specs.Notes.{notes_on}
-use Rattle.acpi_declare.specs.Predefined.{predefined}
+use Rattle.acpi_pass.specs.Notes.{notes_on}
+use Rattle.acpi_pass.specs.Predefined.{predefined}
 
 -- the listings of the two, and what they give
 pub record OverOne (depth : ℕ) (dsdt ssdt : List ℕ) (before : List (List Placement)) (now : State) : Type 0 where

@@ -12,16 +12,16 @@ use Rattle.acpi_declare.specs.declared.fault.LoadFault.{LoadFault}
 use Rattle.acpi_declare.specs.declared.fault.LoadFault.TheVariants.{At, Memory}
 use Rattle.acpi_space.specs.Lookups.{union}
 use Rattle.acpi_declare.specs.Laws.{OneListing, OneListOfNotes, OneLoad}
-use Rattle.acpi_declare.specs.Links.{links_of, all_pending}
-use Rattle.acpi_declare.specs.Listing.{Placement, objects_of, IsListing, IsFirstRefusal}
+use Rattle.acpi_pass.specs.Links.{links_of, all_pending}
+use Rattle.acpi_pass.specs.Listing.{Placement, objects_of, IsListing, IsFirstRefusal}
 use Rattle.acpi_declare.specs.Loads.{AreListings, objects_after, HasNoLoad}
-use Rattle.acpi_declare.specs.Namespace.{Namespace}
-use Rattle.acpi_declare.specs.Notes.{all_notes}
-use Rattle.acpi_declare.specs.Predefined.{predefined}
+use Rattle.acpi_pass.specs.Namespace.{Namespace}
+use Rattle.acpi_pass.specs.Notes.{all_notes}
+use Rattle.acpi_pass.specs.Predefined.{predefined}
 use Rattle.acpi_declare.specs.Refusals.{IsLoadReason, IsLoadFault, HasOtherSignature}
-use Rattle.acpi_declare.specs.Sites.{sites}
+use Rattle.acpi_pass.specs.Sites.{sites}
 use Rattle.acpi_declare.specs.Tables.{IsTableOf}
-use Rattle.acpi_declare.proofs.OneListing.{justified_once, refused_alone}
+use Rattle.acpi_pass.proofs.OneListing.{justified_once, refused_alone}
 
 -- at most one tree stands for a code
 one : (code : List ℕ) (is js : ItemTrees) → SpellsItems is code → SpellsItems js code → is ≡ js

@@ -2,19 +2,19 @@
 use Rattle.std.proofs.Common.{◌≡◌, ℕ, List, [], ◌∷◌, ◌++◌, None, Ok, Err, refl, sym, ap, subst, ◌∙◌, append_assoc, append-nil}
 use Rattle.acpi_tree.specs.Tree.{ItemTrees}
 use Rattle.acpi_space.specs.Lookups.{union}
-use Rattle.acpi_declare.specs.declared.keep.Keep.{Keep}
-use Rattle.acpi_declare.specs.Keeping.{kept_of}
-use Rattle.acpi_declare.specs.Links.{pending_links, pending_by}
-use Rattle.acpi_declare.specs.Listing.{Placement, object_of, scope_within, paths_of, IsFirstRefusal}
-use Rattle.acpi_declare.specs.Namespace.{Namespace}
-use Rattle.acpi_declare.specs.Notes.{Notes, notes_on}
-use Rattle.acpi_declare.specs.Placing.{RefusedAt, placed_path}
-use Rattle.acpi_declare.specs.Sites.{sites}
+use Rattle.acpi_pass.specs.declared.keep.Keep.{Keep}
+use Rattle.acpi_pass.specs.Kept.{kept_of}
+use Rattle.acpi_pass.specs.Links.{pending_links, pending_by}
+use Rattle.acpi_pass.specs.Listing.{Placement, object_of, scope_within, paths_of, IsFirstRefusal}
+use Rattle.acpi_pass.specs.Namespace.{Namespace}
+use Rattle.acpi_pass.specs.Notes.{Notes, notes_on}
+use Rattle.acpi_pass.specs.Placing.{RefusedAt, placed_path}
+use Rattle.acpi_pass.specs.Sites.{sites}
 use Rattle.acpi_declare.specs.Tables.{IsTableOf}
 use Rattle.acpi_declare.specs.steps.Adding.{AddsTable}
-use Rattle.acpi_declare.specs.steps.Pass.{Pass, no_notes, note_of, all_notes, after, after_all, pass_items}
-use Rattle.acpi_declare.proofs.PassSteps.{nothing_joined, joined_assoc}
-use Rattle.acpi_declare.proofs.Listings.{Ran, Stopped, Outcome, objects_after, items_outcome}
+use Rattle.acpi_pass.specs.steps.Pass.{Pass, no_notes, note_of, all_notes, after, after_all, pass_items}
+use Rattle.acpi_pass.proofs.PassSteps.{nothing_joined, joined_assoc}
+use Rattle.acpi_pass.proofs.Listings.{Ran, Stopped, Outcome, objects_after, items_outcome}
 
 pub outcome : (t : Pass) (is : ItemTrees) → Outcome t [] (sites is) (pass_items t [] is)
 outcome t is = items_outcome is t [] 0 None [] refl (λ more. refl)

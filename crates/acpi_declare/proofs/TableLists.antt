@@ -3,20 +3,20 @@ use Rattle.std.proofs.Common.{◌≡◌, ℕ, suc, ◌+◌, List, [], ◌∷◌,
 use Rattle.acpi_declare.specs.Declaring.{State, HasTables, HasTableOver}
 use Rattle.std.proofs.lemmas.Result.{MatchResult-weaker}
 use Rattle.acpi_declare.specs.declared.fault.LoadFault.{LoadFault}
-use Rattle.acpi_declare.specs.declared.keep.Keep.{Keep}
-use Rattle.acpi_declare.specs.declared.keep.Keep.TheVariants.{All}
+use Rattle.acpi_pass.specs.declared.keep.Keep.{Keep}
+use Rattle.acpi_pass.specs.declared.keep.Keep.TheVariants.{All}
 use Rattle.acpi_declare.specs.declared.fault.LoadFault.TheVariants.{At, Memory}
 use Rattle.acpi_space.specs.Lookups.{union}
-use Rattle.acpi_declare.specs.Links.{PendingLink, pending_links, all_pending}
-use Rattle.acpi_declare.specs.Listing.{Placement, objects_of, IsListing}
+use Rattle.acpi_pass.specs.Links.{PendingLink, pending_links, all_pending}
+use Rattle.acpi_pass.specs.Listing.{Placement, objects_of, IsListing}
 use Rattle.acpi_declare.specs.Loads.{AreListings, objects_after}
-use Rattle.acpi_declare.specs.Namespace.{Namespace}
-use Rattle.acpi_declare.specs.Notes.{Notes, notes_on, all_notes}
-use Rattle.acpi_declare.specs.Predefined.{predefined}
+use Rattle.acpi_pass.specs.Namespace.{Namespace}
+use Rattle.acpi_pass.specs.Notes.{Notes, notes_on, all_notes}
+use Rattle.acpi_pass.specs.Predefined.{predefined}
 use Rattle.acpi_declare.specs.Refusals.{IsLoadReason, IsLoadFault}
-use Rattle.acpi_declare.specs.Sites.{sites}
+use Rattle.acpi_pass.specs.Sites.{sites}
 use Rattle.acpi_declare.specs.Tables.{IsTableOf}
-use Rattle.acpi_declare.specs.Keeping.{kept_of, all_kept}
+use Rattle.acpi_pass.specs.Kept.{kept_of, all_kept}
 use Rattle.acpi_declare.specs.steps.Adding.{AddsTable, HasKept, with_notes}
 use Rattle.acpi_declare.specs.steps.Outcomes.{IsTableFault}
 

@@ -1,8 +1,8 @@
 -- What a `Declared` holds.
 use Rattle.std.specs.Prelude.{List}
-use Rattle.acpi_declare.specs.declared.link_map.LinkMap.{LinkMap}
+use Rattle.acpi_pass.specs.declared.link_map.LinkMap.{LinkMap}
 use Rattle.acpi_declare.specs.declared.load.Declared.{Declared}
-use Rattle.acpi_declare.specs.declared.notes.TableNotes.{TableNotes}
+use Rattle.acpi_pass.specs.declared.notes.TableNotes.{TableNotes}
 
 abbrev pub objects_in : {S : Type 0} → Declared S → S
 objects_in d = d.objects

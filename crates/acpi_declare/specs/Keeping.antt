@@ -1,33 +1,11 @@
 -- What a load keeps of what its tables note (ACPI 6.5, 5.3 and 20.2.5.2).
-use Rattle.std.specs.Prelude.{◌≡◌, ℕ, List, [], ◌∷◌, ◌++◌}
-use Rattle.std.specs.List.{filter}
-use Rattle.acpi_name.specs.Names.{Segment}
-use Rattle.acpi_space.specs.Lookups.{is_same_path}
-use Rattle.acpi_declare.specs.declared.keep.Keep.{Keep}
-use Rattle.acpi_declare.specs.declared.keep.Keep.TheVariants.{All, MethodAt, Nothing}
-use Rattle.acpi_declare.specs.Listing.{Placement}
+use Rattle.std.specs.Prelude.{◌≡◌, ℕ, List}
+use Rattle.acpi_pass.specs.declared.keep.Keep.{Keep}
+use Rattle.acpi_pass.specs.Listing.{Placement}
+use Rattle.acpi_pass.specs.Notes.{Notes, all_notes}
+use Rattle.acpi_pass.specs.Kept.{all_kept}
+use Rattle.acpi_pass.specs.Predefined.{predefined}
 use Rattle.acpi_declare.specs.Loads.{AreListings}
-use Rattle.acpi_declare.specs.Notes.{Method, Notes, all_notes}
-use Rattle.acpi_declare.specs.Predefined.{predefined}
-
-abbrev pub methods_at : List Segment → List Method → List Method
-methods_at p ms = filter (λ m. is_same_path m.path p) ms
-
--- the notes with these methods in the place of all; nothing where there are none
-abbrev pub with_methods : Notes → List Method → List Notes
-with_methods n [] = []
-with_methods n (m ∷ ms) = record { counts = n.counts; methods = m ∷ ms; missed = n.missed } ∷ []
-
--- what is kept of a table's notes
-abbrev pub kept_of : Keep → Notes → List Notes
-kept_of All n = n ∷ []
-kept_of (MethodAt p) n = with_methods n (methods_at p.now n.methods)
-kept_of Nothing n = []
-
--- .. and of those of several tables
-abbrev pub all_kept : Keep → List Notes → List Notes
-all_kept keep [] = []
-all_kept keep (n ∷ ns) = kept_of keep n ++ all_kept keep ns
 
 -- the notes are what is kept of those of the tables
 pub record AreKeptNotes (depth : ℕ) (tables : List (List ℕ)) (keep : Keep)

@@ -1,11 +1,11 @@
 -- Laws of listings and loads.
 use Rattle.std.specs.Prelude.{◌≡◌, ℕ, List}
 use Rattle.acpi_space.specs.Lookups.{Lookup}
-use Rattle.acpi_declare.specs.Namespace.{Namespace}
-use Rattle.acpi_declare.specs.Sites.{Site}
-use Rattle.acpi_declare.specs.Listing.{Placement, IsListing}
-use Rattle.acpi_declare.specs.Links.{Links}
-use Rattle.acpi_declare.specs.Notes.{Notes}
+use Rattle.acpi_pass.specs.Namespace.{Namespace}
+use Rattle.acpi_pass.specs.Sites.{Site}
+use Rattle.acpi_pass.specs.Listing.{Placement, IsListing}
+use Rattle.acpi_pass.specs.Links.{Links}
+use Rattle.acpi_pass.specs.Notes.{Notes}
 use Rattle.acpi_declare.specs.Loads.{IsLoad, AreNotes}
 
 abbrev pub OneListing : Type 0

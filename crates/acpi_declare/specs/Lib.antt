@@ -1,10 +1,10 @@
-pub mod Namespace
-pub mod Predefined
-pub mod Sites
-pub mod Placing
-pub mod Listing
-pub mod Links
-pub mod Notes
+pub use Rattle.acpi_pass.specs.Namespace
+pub use Rattle.acpi_pass.specs.Sites
+pub use Rattle.acpi_pass.specs.Placing
+pub use Rattle.acpi_pass.specs.Listing
+pub use Rattle.acpi_pass.specs.Links
+pub use Rattle.acpi_pass.specs.Notes
+pub use Rattle.acpi_pass.specs.Predefined
 pub mod Keeping
 pub mod Tables
 pub mod Loads

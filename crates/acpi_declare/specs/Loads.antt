@@ -2,12 +2,12 @@
 use Rattle.std.specs.Prelude.{◌≡◌, ℕ, suc, List, [], ◌∷◌, ⊤}
 use Rattle.acpi_space.specs.Lookups.{Lookup, union}
 use Rattle.acpi_tree.specs.Tree.{ItemTrees}
-use Rattle.acpi_declare.specs.Namespace.{Namespace}
-use Rattle.acpi_declare.specs.Predefined.{predefined}
-use Rattle.acpi_declare.specs.Sites.{sites}
-use Rattle.acpi_declare.specs.Listing.{Placement, objects_of, IsListing}
-use Rattle.acpi_declare.specs.Links.{Links, links_of, all_pending}
-use Rattle.acpi_declare.specs.Notes.{Notes, all_notes}
+use Rattle.acpi_pass.specs.Namespace.{Namespace}
+use Rattle.acpi_pass.specs.Predefined.{predefined}
+use Rattle.acpi_pass.specs.Sites.{sites}
+use Rattle.acpi_pass.specs.Listing.{Placement, objects_of, IsListing}
+use Rattle.acpi_pass.specs.Links.{Links, links_of, all_pending}
+use Rattle.acpi_pass.specs.Notes.{Notes, all_notes}
 use Rattle.acpi_declare.specs.Tables.{IsTableOf}
 
 -- each table has a listing over the objects before it

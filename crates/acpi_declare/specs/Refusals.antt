@@ -11,10 +11,10 @@ use Rattle.acpi_declare.specs.declared.fault.LoadReason.{LoadReason}
 use Rattle.acpi_declare.specs.declared.fault.LoadReason.TheVariants.{Table, NotDsdt, NotSsdt, Trailing, Item, Refused}
 use Rattle.acpi_declare.specs.declared.fault.LoadFault.{LoadFault}
 use Rattle.acpi_declare.specs.declared.fault.LoadFault.TheVariants.{At, Memory}
-use Rattle.acpi_declare.specs.Namespace.{Namespace}
-use Rattle.acpi_declare.specs.Predefined.{predefined}
-use Rattle.acpi_declare.specs.Sites.{sites}
-use Rattle.acpi_declare.specs.Listing.{Placement, IsFirstRefusal}
+use Rattle.acpi_pass.specs.Namespace.{Namespace}
+use Rattle.acpi_pass.specs.Predefined.{predefined}
+use Rattle.acpi_pass.specs.Sites.{sites}
+use Rattle.acpi_pass.specs.Listing.{Placement, IsFirstRefusal}
 use Rattle.acpi_declare.specs.Tables.{signature_of, IsNumbered, code_of, IsTableOf}
 use Rattle.acpi_declare.specs.Loads.{AreListings, objects_after}
 

@@ -1,6 +1,2 @@
-pub mod Pass
-pub mod View
-pub mod Entering
 pub mod Outcomes
 pub mod Adding
-pub mod Missing

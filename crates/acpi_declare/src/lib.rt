@@ -22,23 +22,10 @@
 
 mod declaring;
 mod fault;
-mod field_list;
-mod items;
-mod keep;
 pub mod laws;
-mod link_map;
-mod links;
 mod load;
-mod notes;
-mod pass;
-mod pending;
-mod placing;
-mod predefined;
 
+pub use acpi_pass::{Keep, LinkMap, Method, Refusal, TableNotes, copy_answers};
 pub use declaring::Declaring;
-pub use fault::{LoadFault, LoadReason, Refusal};
-pub use keep::Keep;
-pub use link_map::LinkMap;
-pub use links::copy_answers;
+pub use fault::{LoadFault, LoadReason};
 pub use load::{Declared, declare, declare_keeping, declare_shared, shared_tables};
-pub use notes::{Method, TableNotes};

@@ -13,7 +13,7 @@ pub use Rattle.acpi_order.specs.Singles
 pub use Rattle.acpi_order.specs.Laws as OrderLaws
 pub use Rattle.acpi_machine.specs.MachineView
 pub use Rattle.acpi_machine.specs.Explaining
-pub use Rattle.acpi_verdict.specs.SingleView
+pub use Rattle.acpi_singles.specs.SingleView
 pub use Rattle.acpi_verdict.specs.VerdictView
 pub use Rattle.acpi_verdict.specs.SatisfiedView
 pub use Rattle.acpi_rewrite.specs.Rewriting

@@ -22,8 +22,8 @@
 //! }
 //! ```
 //!
-//! What is loaded stands in `acpi_machine`, what is said of an order in `acpi_verdict`, and rewriting in
-//! `acpi_rewrite`; this crate re-exports them all, and states in `laws` what holds of them.
+//! What is loaded stands in `acpi_machine`, single loads in `acpi_singles`, what is said of an order in `acpi_verdict`,
+//! and rewriting in `acpi_rewrite`; this crate re-exports them all, and states in `laws` what holds of them.
 //!
 //! `single` tells of the load with one SSDT what it declares, misses and awaits. `verdict` finds whether all SSDTs may
 //! be loaded in any order, or the first reason that they may not (`IsVerdict` of `acpi_order`), and `satisfied` which
@@ -48,7 +48,7 @@ pub use acpi_machine::{
     Machine, explain, explain_shared, load, load_objects, load_shared, load_with_body_at,
 };
 pub use acpi_rewrite::{rewrite, rewrite_shared};
+pub use acpi_singles::{Awaited, Single, join, single, single_shared};
 pub use acpi_verdict::{
-    Awaited, Checked, Satisfied, Single, Verdict, check_shared, join, satisfied, satisfied_shared,
-    single, single_shared, verdict, verdict_shared,
+    Checked, Satisfied, Verdict, check_shared, satisfied, satisfied_shared, verdict, verdict_shared,
 };

@@ -5,8 +5,8 @@ use Rattle.acpi_name.specs.Paths.{path_cmp}
 use Rattle.acpi_space.specs.Lookups.{Lookup, singleton, union}
 use Rattle.acpi_declare.specs.Namespace.{Namespace}
 use Rattle.acpi_declare.specs.Notes as notes
-use Rattle.acpi_declare.proofs.ValuesByPath.{get_inserted}
-use Rattle.acpi_declare.proofs.Unions.{union_assoc}
+use Rattle.acpi_pass.proofs.ValuesByPath.{get_inserted}
+use Rattle.acpi_pass.proofs.Unions.{union_assoc}
 use Rattle.acpi_body.specs.Arguments.{arguments}
 use Rattle.acpi_body.specs.Bodies.{BodyTree, IsBodyOf}
 use Rattle.acpi_order.specs.Bodies.{Method, with_counts, AreBodies, bodies_at}

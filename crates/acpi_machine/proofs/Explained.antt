@@ -8,24 +8,25 @@ use Rattle.acpi_space.proofs.Comparisons.{path_itself}
 use Rattle.acpi_space.proofs.Elements.{among_left, among_right, among_append}
 use Rattle.acpi_tree.specs.Terms.{TermTrees}
 use Rattle.acpi_declare.specs.Links.{Links}
-use Rattle.acpi_declare.specs.declared.keep.Keep.{Keep}
-use Rattle.acpi_declare.specs.Keeping.{methods_at, with_methods, kept_of, AreKeptNotes}
+use Rattle.acpi_pass.specs.declared.keep.Keep.{Keep}
+use Rattle.acpi_declare.specs.Keeping.{AreKeptNotes}
+use Rattle.acpi_pass.specs.Kept.{methods_at, with_methods, kept_of}
 use Rattle.acpi_declare.specs.Loads.{IsLoad}
 use Rattle.acpi_declare.specs.Namespace.{Namespace}
 use Rattle.acpi_declare.specs.Notes.{Notes, method_of, notes_of, all_notes}
 use Rattle.acpi_declare.specs.Predefined.{predefined}
-use Rattle.acpi_declare.specs.declared.notes.Method as code
-use Rattle.acpi_declare.specs.declared.notes.TableNotes.{TableNotes}
-use Rattle.acpi_declare.proofs.Unions.{path_same}
-use Rattle.acpi_body.specs.declared.fault.BodyFault.{BodyFault}
-use Rattle.acpi_body.specs.declared.fault.BodyReason.{BodyReason}
+use Rattle.acpi_pass.specs.declared.notes.Method as code
+use Rattle.acpi_pass.specs.declared.notes.TableNotes.{TableNotes}
+use Rattle.acpi_pass.proofs.Unions.{path_same}
+use Rattle.acpi_values.specs.declared.fault.BodyFault.{BodyFault}
+use Rattle.acpi_values.specs.declared.fault.BodyReason.{BodyReason}
 use Rattle.acpi_body.specs.Arguments.{Arguments, arguments}
 use Rattle.acpi_body.specs.Faults.{ShowsBody, IsNoStatement}
 use Rattle.acpi_body.specs.Reasons.{IsReason}
 use Rattle.acpi_body.specs.Statements.{ReadsBody}
 use Rattle.acpi_order.specs.Bodies.{Method, with_counts, count, all_methods}
 use Rattle.acpi_machine.specs.Explaining.{IsReasonAt, IsExplained}
-use Rattle.acpi_machine.specs.steps.Adding.{noted, all_noted}
+use Rattle.acpi_order.specs.steps.Noted.{noted, all_noted}
 use Rattle.acpi_machine.proofs.Machines.{noted_of_load}
 use Rattle.acpi_machine.proofs.OneBody.{noted_at, told_of_all}
 
@@ -77,10 +78,6 @@ pub reason_of : {E : Type 0} (args : Arguments) (s : List Segment) (depth : ℕ)
     → IfOk r (λ w. IsReason args s depth bytes w)
 reason_of args s depth bytes (Ok w) read shown next = record { read = read; shown = shown; next = next }
 reason_of args s depth bytes (Err e) read shown next = tt
-
-pub ok_by : {T E : Type 0} (r : Result T E) (P Q : T → Type 0) → ((x : T) → P x → Q x) → IfOk r P → IfOk r Q
-ok_by (Ok x) P Q so h = so x h
-ok_by (Err e) P Q so h = tt
 
 -- the reason of a method of the first of these tables
 pub told_here : {E : Type 0} (depth : ℕ) (objects : Namespace) (t : TableNotes) (later : List TableNotes) (p : List Segment) (methods : List code.Method) (m : code.Method) (bytes : List ℕ)

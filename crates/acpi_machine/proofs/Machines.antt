@@ -1,7 +1,7 @@
 -- Tables load to what was declared and read.
 use Rattle.std.proofs.Common.{◌≡◌, ℕ, List, [], ◌∷◌, ◌++◌, refl, ap, subst, ◌∙◌}
 use Rattle.acpi_space.specs.Lookups.{Lookup, nothing, union}
-use Rattle.acpi_declare.specs.declared.keep.Keep.TheVariants.{All}
+use Rattle.acpi_pass.specs.declared.keep.Keep.TheVariants.{All}
 use Rattle.acpi_declare.specs.Links.{Links}
 use Rattle.acpi_declare.specs.Listing.{Placement, objects_of}
 use Rattle.acpi_declare.specs.Loads.{IsLoad, AreNotes}
@@ -10,11 +10,12 @@ use Rattle.acpi_declare.specs.Notes.{Notes, all_notes}
 use Rattle.acpi_declare.specs.Predefined.{predefined}
 use Rattle.acpi_declare.proofs.Refusals.{same_listings}
 use Rattle.acpi_declare.proofs.TableLists.{all_are_kept}
-use Rattle.acpi_declare.proofs.Unions.{union-nothing}
+use Rattle.acpi_pass.proofs.Unions.{union-nothing}
 use Rattle.acpi_body.specs.Bodies.{BodyTree}
 use Rattle.acpi_order.specs.Bodies.{Method, methods_of, all_methods, bodies_at}
 use Rattle.acpi_order.specs.Machines.{Machine, IsMachine}
-use Rattle.acpi_machine.specs.steps.Adding.{all_noted, AddsBodies, HasBodies}
+use Rattle.acpi_order.specs.steps.Noted.{all_noted}
+use Rattle.acpi_machine.specs.steps.Adding.{AddsBodies, HasBodies}
 use Rattle.acpi_machine.proofs.AddedBodies.{Added, added}
 
 -- the methods of the notes are those of the tables

@@ -8,22 +8,24 @@ use Rattle.acpi_space.specs.Laws.{Among}
 use Rattle.acpi_space.specs.Lookups.{Lookup, is_same_path, nothing}
 use Rattle.acpi_space.proofs.Comparisons.{path_itself}
 use Rattle.acpi_space.proofs.AmongPaths.{filter_mapped}
-use Rattle.acpi_declare.specs.Keeping.{methods_at, with_methods, kept_of, all_kept, AreKeptNotes}
-use Rattle.acpi_declare.specs.declared.keep.Keep.{Keep}
+use Rattle.acpi_declare.specs.Keeping.{AreKeptNotes}
+use Rattle.acpi_pass.specs.Kept.{methods_at, with_methods, kept_of, all_kept}
+use Rattle.acpi_pass.specs.declared.keep.Keep.{Keep}
 use Rattle.acpi_declare.specs.Loads.{IsLoad}
 use Rattle.acpi_declare.specs.Namespace.{Namespace}
 use Rattle.acpi_declare.specs.Notes.{Notes, all_notes}
 use Rattle.acpi_declare.specs.Notes as notes
 use Rattle.acpi_declare.specs.Predefined.{predefined}
-use Rattle.acpi_declare.proofs.Unions.{path_same, union-nothing}
-use Rattle.acpi_body.specs.declared.fault.BodyFault.{BodyFault}
+use Rattle.acpi_pass.proofs.Unions.{path_same, union-nothing}
+use Rattle.acpi_values.specs.declared.fault.BodyFault.{BodyFault}
 use Rattle.acpi_body.specs.Bodies.{BodyTree}
 use Rattle.acpi_order.specs.Bodies.{Method, with_counts, all_methods, bodies_at}
 use Rattle.acpi_order.specs.Machines.{Machine}
 use Rattle.acpi_order.proofs.ReadBodies.{body_of, bodies_of, are_bodies, bodies_are}
 use Rattle.acpi_machine.specs.Explaining.{IsReasonAt}
 use Rattle.acpi_machine.specs.OneBody.{IsMachineAt}
-use Rattle.acpi_machine.specs.steps.Adding.{noted, all_noted, AddsBodies}
+use Rattle.acpi_order.specs.steps.Noted.{noted, all_noted}
+use Rattle.acpi_machine.specs.steps.Adding.{AddsBodies}
 use Rattle.acpi_machine.proofs.AddedBodies.{Added, added}
 use Rattle.acpi_machine.proofs.Machines.{noted_of_load}
 

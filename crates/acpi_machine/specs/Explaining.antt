@@ -6,7 +6,7 @@ use Rattle.acpi_declare.specs.Namespace.{Namespace}
 use Rattle.acpi_declare.specs.Predefined.{predefined}
 use Rattle.acpi_declare.specs.Listing.{Placement}
 use Rattle.acpi_declare.specs.Loads.{AreListings, objects_after}
-use Rattle.acpi_body.specs.declared.fault.BodyFault.{BodyFault}
+use Rattle.acpi_values.specs.declared.fault.BodyFault.{BodyFault}
 use Rattle.acpi_body.specs.Reasons.{IsReason}
 use Rattle.acpi_order.specs.Bodies.{Method, all_methods, count}
 

@@ -9,7 +9,7 @@ use Rattle.acpi_space.specs.Lookups.{Lookup}
 use Rattle.acpi_tree.specs.declared.object.Object.{Object}
 use Rattle.acpi_declare.specs.Namespace.{Namespace, namespace_of}
 use Rattle.acpi_declare.specs.Links.{Links, links_at}
-use Rattle.acpi_declare.specs.declared.link_map.LinkMap.{LinkMap}
+use Rattle.acpi_pass.specs.declared.link_map.LinkMap.{LinkMap}
 use Rattle.acpi_body.specs.declared.body.Body.{Body}
 use Rattle.acpi_body.specs.Bodies.{BodyTree, body_view}
 use Rattle.acpi_order.specs.Machines.{Machine, IsMachine}

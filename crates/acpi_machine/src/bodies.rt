@@ -7,7 +7,8 @@ ghost use Rattle.acpi_declare.specs.Namespace.{namespace_of};
 ghost use Rattle.acpi_declare.specs.Notes.{notes_of};
 ghost use Rattle.acpi_body.specs.Bodies.{body_view};
 ghost use Rattle.acpi_machine.specs.MachineView.{body_map, bodies_of};
-ghost use Rattle.acpi_machine.specs.steps.Adding.{noted, all_noted, AddsBodies};
+ghost use Rattle.acpi_order.specs.steps.Noted.{noted, all_noted};
+ghost use Rattle.acpi_machine.specs.steps.Adding.{AddsBodies};
 
 use acpi_body::{Body, read_body};
 use acpi_declare::{Method, TableNotes};

@@ -8,7 +8,7 @@ ghost use Rattle.acpi_declare.specs.Namespace.{namespace_of};
 ghost use Rattle.acpi_declare.specs.Notes.{notes_of};
 ghost use Rattle.acpi_declare.specs.Refusals.{IsLoadFault};
 ghost use Rattle.acpi_machine.specs.Explaining.{IsReasonAt, IsExplained};
-ghost use Rattle.acpi_machine.specs.steps.Adding.{all_noted};
+ghost use Rattle.acpi_order.specs.steps.Noted.{all_noted};
 
 use acpi_body::{BodyFault, why};
 use acpi_declare::{Declared, Keep, LoadFault, Method, TableNotes, declare_keeping, shared_tables};

@@ -2,9 +2,9 @@
 use Rattle.std.proofs.Common.{◌≡◌, ◌∙◌, ℕ, Option, Some, None, is_some, unwrap_or, true≢false, ap, sym}
 use Rattle.std.specs.Option.{option_and_then, option_map}
 use Rattle.acpi_tree.specs.Objects.{predefined_object}
-use Rattle.acpi_survey.specs.Lookup.{Found}
+use Rattle.acpi_ranges.specs.Lookup.{Found}
 use Rattle.acpi_objects.specs.Declaring.{object_in, object_of, predefined}
-use Rattle.acpi_objects.specs.Objects.{ObjectParts, constant}
+use Rattle.acpi_kinds.specs.Objects.{ObjectParts, constant}
 
 -- the object that a part declares, or one of which nothing more is known
 pub part_object : (p f : Option Found) (o : Option ObjectParts) (n : ℕ) → Some f ≡ option_map Some p → o ≡ option_and_then object_in f

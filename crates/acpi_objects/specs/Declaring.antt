@@ -12,8 +12,8 @@ use Rattle.acpi_outline.specs.declared.form.ContainerForm.{ContainerForm}
 use Rattle.acpi_outline.specs.declared.form.ContainerForm.TheVariants as containers
 use Rattle.acpi_outline.specs.Nodes.{PlainTree, term, FixedTree, container, method, units, NodeTree, plain, holds, closed, name_lost}
 use Rattle.acpi_outline.specs.Nodes.{table_region as region_of_table, alias as other_name}
-use Rattle.acpi_survey.specs.Lookup.{Found, node_found, element_found}
-use Rattle.acpi_objects.specs.Objects.{ObjectParts, constant, named, region, table_region, alias, bank_unit, create, create_bits}
+use Rattle.acpi_ranges.specs.Lookup.{Found, node_found, element_found}
+use Rattle.acpi_kinds.specs.Objects.{ObjectParts, constant, named, region, table_region, alias, bank_unit, create, create_bits}
 
 -- ---- terms
 

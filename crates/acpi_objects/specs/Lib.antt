@@ -1,3 +1,3 @@
-pub mod Objects
+pub use Rattle.acpi_kinds.specs.Objects
+pub use Rattle.acpi_kinds.specs.Views
 pub mod Declaring
-pub mod Views

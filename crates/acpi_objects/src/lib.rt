@@ -2,12 +2,11 @@
 //! and 20.2.5.2).
 //!
 //! ```text
-//! if let ObjectKind::Region { offset, length, .. } = object_kind(survey.part_of(number), number) { .. }
+//! if let ObjectKind::Region { offset, length, .. } = object_kind(part_of(&survey, number), number) { .. }
 //! ```
 #![tactic(auto)]
 
-mod kind;
 mod parts;
 
-pub use kind::{ObjectKind, UnitForm};
+pub use acpi_kinds::{ObjectKind, UnitForm};
 pub use parts::object_kind;

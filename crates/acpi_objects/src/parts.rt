@@ -5,13 +5,13 @@ ghost use Rattle.std.specs.Option.{option_map, option_and_then};
 ghost use Rattle.acpi_tree.specs.TermView.{term_view, decl_view};
 ghost use Rattle.acpi_tree.specs.View.{field_view};
 ghost use Rattle.acpi_outline.specs.View.{plain_view, fixed_view, node_view};
-ghost use Rattle.acpi_survey.specs.Lookup.{Found, found_of};
+ghost use Rattle.acpi_ranges.specs.Lookup.{Found, found_of};
 ghost use Rattle.acpi_objects.specs.Declaring.{computed as computed_term, term_object, plain_object, fixed_object, node_object, element_object, units_object, object_in, object_of, predefined as predefined_object};
-ghost use Rattle.acpi_objects.specs.Views.{kind_view, lent_view, unit_view};
+ghost use Rattle.acpi_kinds.specs.Views.{kind_view, lent_view, unit_view};
 
-use crate::kind::{ObjectKind, UnitForm};
+use acpi_kinds::{ObjectKind, UnitForm};
 use acpi_outline::{Fixed, Node, Plain};
-use acpi_survey::{Span, SpanContent};
+use acpi_ranges::{Span, SpanContent};
 use acpi_tree::{Decl, FieldElem, Term};
 
 // What the fixed arguments of a package declare, if they declare something.

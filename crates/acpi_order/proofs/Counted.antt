@@ -15,7 +15,7 @@ use Rattle.acpi_tree.specs.Objects.{ObjectTree, args_of, root_object, scope_obje
 use Rattle.acpi_tree.specs.Terms.{TermTrees}
 use Rattle.acpi_declare.specs.Namespace.{Namespace}
 use Rattle.acpi_declare.specs.Links.{answers}
-use Rattle.acpi_declare.proofs.Unions.{path_same}
+use Rattle.acpi_pass.proofs.Unions.{path_same}
 use Rattle.acpi_body.specs.Arguments.{Locals, defined_with, expected_place, expected_at, args_at, count_behind}
 use Rattle.acpi_body.specs.Bodies.{BodyTree, read, unread}
 use Rattle.acpi_order.specs.Bodies.{Method, count, IsReading, IsBody}

@@ -9,7 +9,7 @@ use Rattle.acpi_space.proofs.Elements.{among_all, one_some}
 use Rattle.acpi_space.proofs.LongestAnswer.{found_among}
 use Rattle.acpi_tree.specs.Objects.{ObjectTree}
 use Rattle.acpi_declare.specs.Namespace.{Namespace}
-use Rattle.acpi_declare.proofs.Unions.{path_same}
+use Rattle.acpi_pass.proofs.Unions.{path_same}
 use Rattle.std.specs.FinMap as finite
 use Rattle.acpi_tree.specs.Terms.{TermTrees}
 use Rattle.acpi_body.specs.Arguments.{Locals, defined_with}

@@ -12,7 +12,7 @@ use Rattle.acpi_declare.specs.Placing.{IsPlaced}
 use Rattle.acpi_declare.specs.Listing.{Placement, object_of, objects_of, IsJustified}
 use Rattle.acpi_declare.specs.Notes.{external_counts}
 use Rattle.acpi_declare.specs.Loads.{AreListings}
-use Rattle.acpi_declare.proofs.Unions.{path_same, or_assoc}
+use Rattle.acpi_pass.proofs.Unions.{path_same, or_assoc}
 use Rattle.acpi_order.specs.Misses.{Listing}
 use Rattle.acpi_order.proofs.Lists.{or_nones}
 use Rattle.acpi_order.proofs.Listings.{path_itself}

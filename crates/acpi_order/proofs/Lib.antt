@@ -11,7 +11,6 @@ pub mod Orders
 pub mod Told
 pub mod Verdicts
 pub mod Stays
-pub mod Sharing
 pub mod Singles
 pub mod Found
 pub mod Examples

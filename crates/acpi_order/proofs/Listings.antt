@@ -20,7 +20,7 @@ use Rattle.acpi_declare.specs.Listing.{Placement, object_by, object_of, objects_
 use Rattle.acpi_declare.specs.Notes.{missed_by, scope_misses}
 use Rattle.acpi_declare.specs.Loads.{AreListings}
 use Rattle.acpi_declare.specs.Predefined.{predefined}
-use Rattle.acpi_declare.proofs.Unions.{or_assoc}
+use Rattle.acpi_pass.proofs.Unions.{or_assoc}
 use Rattle.acpi_order.specs.Misses.{Listing, objects_of_first}
 use Rattle.acpi_order.specs.Independent.{AreSingleListings, IsApart}
 use Rattle.acpi_order.proofs.Lists.{all_among, skipped_fail, or_none}

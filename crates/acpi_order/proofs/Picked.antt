@@ -10,7 +10,7 @@ use Rattle.acpi_tree.specs.Objects.{ObjectTree}
 use Rattle.acpi_declare.specs.Namespace.{Namespace}
 use Rattle.acpi_declare.specs.Listing.{objects_of}
 use Rattle.acpi_declare.specs.Loads.{objects_after}
-use Rattle.acpi_declare.proofs.Unions.{or_assoc}
+use Rattle.acpi_pass.proofs.Unions.{or_assoc}
 use Rattle.acpi_order.specs.Misses.{Listing, objects_of_first, objects_of_both, IsMiss, IsAwaited}
 use Rattle.acpi_order.specs.Independent.{is_method_of, IsApart}
 use Rattle.acpi_order.proofs.Lists.{or_none, or_up, or_free, or_nones}

@@ -10,18 +10,16 @@ use Rattle.acpi_declare.specs.Namespace.{Namespace}
 use Rattle.acpi_declare.specs.Sites.{Effect, declares, opens, expects, Site, sites}
 use Rattle.acpi_declare.specs.Placing.{IsPlaced}
 use Rattle.acpi_declare.specs.Listing.{Placement, object_by, object_of, objects_of, IsJustified}
-use Rattle.acpi_declare.proofs.Unions.{path_same}
+use Rattle.acpi_pass.proofs.Unions.{path_same}
 use Rattle.acpi_order.specs.Bodies.{methods_of}
 use Rattle.acpi_order.specs.Machines.{Machine}
 use Rattle.acpi_order.specs.Misses.{Listing, objects_of_first, objects_of_both, IsAwaited}
 use Rattle.acpi_order.specs.Independent.{StandsAt, AreSingleListings, is_method_of}
 use Rattle.acpi_order.specs.Verdicts.{IsSsdt, IsSame, IsUnmet, IsMissed}
 use Rattle.acpi_order.specs.Singles.{IsUnmetBy, IsAwaitedBy, IsSingle}
-use Rattle.acpi_order.specs.Laws.{taken_away, TakenBack}
-use Rattle.acpi_order.proofs.Lists.{or_none, or_nones}
+use Rattle.acpi_order.proofs.Lists.{of_two, first_of, second_of, or_none, or_nones}
 use Rattle.acpi_order.proofs.Once.{same_first, same_second}
 use Rattle.acpi_order.proofs.Joined.{load_is}
-use Rattle.acpi_order.proofs.Sharing.{of_two, first_of, second_of}
 
 -- ---- what a table declares was free before
 
@@ -51,11 +49,18 @@ pub declared_there : (depth : ℕ) (dsdt b : List ℕ) (first t : Listing) → A
 declared_there depth dsdt b first t h p o e =
     ap (λ a. option_or a (objects_of t p)) (declared_free (objects_of_first first) [] (sites h.1.0.0) t h.1.0.2 p o e) ∙ e
 
+-- what stood there before an object of the SSDT was taken away
+abbrev pub taken_away : Option ObjectTree → Option ObjectTree → Option ObjectTree
+taken_away None there = there
+taken_away (Some o) there = None
+
 gone : (a there : Option ObjectTree) (o : Option ObjectTree) → ((x : ObjectTree) → a ≡ Some x → o ≡ None) → there ≡ option_or o a → taken_away a there ≡ o
 gone None there o free e = e ∙ sym (or_none o)
 gone (Some x) there o free e = sym (free x refl)
 
-pub taken_back : TakenBack
+-- an SSDT's objects taken away by their paths leave those of the DSDT, as they were
+pub taken_back : (depth : ℕ) (dsdt b : List ℕ) (first t : Listing) → AreSingleListings depth dsdt b first t → (p : List Segment)
+    → taken_away (objects_of t p) (objects_of_both first t p) ≡ objects_of_first first p
 taken_back depth dsdt b first t h p =
     gone (objects_of t p) (objects_of_both first t p) (objects_of_first first p) (λ x e. declared_free (objects_of_first first) [] (sites h.1.0.0) t h.1.0.2 p x e) refl
 
@@ -114,30 +119,16 @@ module _ (depth : ℕ) (dsdt : List ℕ) (ssdts : List (List ℕ)) (i j : ℕ) (
 
   pub same_by_lists : i < j → (p : List Segment) → IsSame depth dsdt ssdts i j p ↔ (Among ds p × Among ds' p)
   same_by_lists below p = (
-    (λ h. (
-      (s.defined_are p).1 (h.object, subst (λ (t : Listing). objects_of t p ≡ Some h.object) (table_is h.this h.first h.t h.is_this h.listings) h.declares),
-      (r.defined_are p).1
-          (h.other_object, subst (λ (t : Listing). objects_of t p ≡ Some h.other_object) (other_is h.other h.first h.u h.is_other h.other_listings) h.other_declares),
-    )),
+    (λ h.
+        let o = h.6 in
+        let x = h.7 in (
+          (s.defined_are p).1 (o, subst (λ (t : Listing). objects_of t p ≡ Some o) (table_is h.4.0 h.1 h.2 h.4.1 h.4.2) h.8),
+          (r.defined_are p).1 (x, subst (λ (t : Listing). objects_of t p ≡ Some x) (other_is h.5.0 h.1 h.3 h.5.1 h.5.2) h.9),
+        )),
     (λ g.
         let d = (s.defined_are p).0 g.0 in
         let e = (r.defined_are p).0 g.1 in
-        record {
-          below = below;
-          this = b;
-          other = c;
-          is_this = at;
-          is_other = there;
-          first = s.first;
-          t = s.t;
-          u = r.t;
-          listings = s.listings;
-          other_listings = other_listings;
-          object = d.0;
-          other_object = e.0;
-          declares = d.1;
-          other_declares = e.1;
-        }),
+        (below, s.first, s.t, r.t, (b, at, s.listings), (c, there, other_listings), d.0, e.0, d.1, e.1)),
   )
 
   unmet_to : (p : List Segment) (o : ObjectTree) → n.objects p ≡ Some o → IsUnmet depth s.first s.t p o
@@ -154,27 +145,13 @@ module _ (depth : ℕ) (dsdt : List ℕ) (ssdts : List (List ℕ)) (i j : ℕ) (
   pub missed_by_lists : i ≢ j → (p : List Segment) → IsMissed depth dsdt ssdts i j p ↔ IsUnmetBy ms ws ds' n.objects p
   missed_by_lists ne p = (
     (λ h.
-        let d : objects_of r.t p ≡ Some h.object =
-        subst (λ (t : Listing). objects_of t p ≡ Some h.object) (other_is h.definer h.first h.u h.is_definer h.definer_listings) h.declares in
-        let unmet : IsUnmet depth s.first s.t p h.object =
-        subst (λ (t : Listing). IsUnmet depth s.first t p h.object) (table_is h.searcher h.first h.t h.is_searcher h.listings)
-        (subst (λ (f : Listing). IsUnmet depth f h.t p h.object) (first_is h.searcher h.first h.t h.is_searcher h.listings) h.unmet) in
-        ((r.defined_are p).1 (h.object, d), unmet_to p h.object (other_objects p h.object d) unmet)),
+        let o = h.6 in
+        let d : objects_of r.t p ≡ Some o = subst (λ (t : Listing). objects_of t p ≡ Some o) (other_is h.5.0 h.1 h.3 h.5.1 h.5.2) h.7 in
+        let unmet : IsUnmet depth s.first s.t p o =
+        subst (λ (t : Listing). IsUnmet depth s.first t p o) (table_is h.4.0 h.1 h.2 h.4.1 h.4.2)
+        (subst (λ (f : Listing). IsUnmet depth f h.2 p o) (first_is h.4.0 h.1 h.2 h.4.1 h.4.2) h.8) in
+        ((r.defined_are p).1 (o, d), unmet_to p o (other_objects p o d) unmet)),
     (λ g.
         let d = (r.defined_are p).0 g.0 in
-        record {
-          different = ne;
-          searcher = b;
-          definer = c;
-          is_searcher = at;
-          is_definer = there;
-          first = s.first;
-          t = s.t;
-          u = r.t;
-          listings = s.listings;
-          definer_listings = other_listings;
-          object = d.0;
-          declares = d.1;
-          unmet = unmet_from p d.0 (other_objects p d.0 d.1) g.1;
-        }),
+        (ne, s.first, s.t, r.t, (b, at, s.listings), (c, there, other_listings), d.0, d.1, unmet_from p d.0 (other_objects p d.0 d.1) g.1)),
   )

@@ -15,7 +15,7 @@ use Rattle.acpi_tree.specs.Objects.{ObjectTree}
 use Rattle.acpi_tree.specs.Terms.{TermTrees}
 use Rattle.acpi_declare.specs.Namespace.{Namespace}
 use Rattle.acpi_declare.specs.Links.{answers, PendingLink}
-use Rattle.acpi_declare.proofs.Unions.{path_same}
+use Rattle.acpi_pass.proofs.Unions.{path_same}
 use Rattle.acpi_body.specs.Arguments.{Locals, defined_with, expected_place, args_in, args_at}
 use Rattle.acpi_body.specs.Bodies.{BodyTree, read, unread}
 use Rattle.acpi_body.specs.Searches.{all_searches, IsSpelledIn}

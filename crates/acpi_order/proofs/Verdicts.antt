@@ -114,76 +114,22 @@ module _ (depth : ℕ) (dsdt : List ℕ) (ssdts : List (List ℕ)) where
   to_independent h = record {
     alone = h.0;
     apart = λ i j b c ne at there first t u listings others p o d.
-        let either : (i < j) ⊎ (j < i) = grind arith in (
+        let either : (i < j) ⊎ (j < i) = grind arith in
+        let met : IsUnmet depth first t p o → ⊥ =
+        λ unmet. h.2 (suc i) (suc j) p ((λ e. ne (omega arith)), first, t, u, (b, at, listings), (c, there, others), o, d, unmet) in (
           none_of (objects_of t p) (λ x e. by i j b c ne at there first t u listings others p o d x e either),
-          (λ miss. h.2 (suc i) (suc j) p (record {
-            different = λ e. ne (omega arith);
-            searcher = b;
-            definer = c;
-            is_searcher = at;
-            is_definer = there;
-            first = first;
-            t = t;
-            u = u;
-            listings = listings;
-            definer_listings = others;
-            object = o;
-            declares = d;
-            unmet = inl miss;
-          })),
-          (λ args awaited. true_or_not (is_method_of o args) (λ other. h.2 (suc i) (suc j) p (record {
-            different = λ e. ne (omega arith);
-            searcher = b;
-            definer = c;
-            is_searcher = at;
-            is_definer = there;
-            first = first;
-            t = t;
-            u = u;
-            listings = listings;
-            definer_listings = others;
-            object = o;
-            declares = d;
-            unmet = inr (args, awaited, other);
-          }))),
+          (λ miss. met (inl miss)),
+          (λ args awaited. true_or_not (is_method_of o args) (λ other. met (inr (args, awaited, other)))),
         );
   }
     where
       by : (i j : ℕ) (b c : List ℕ) → i ≢ j → StandsAt ssdts i b → StandsAt ssdts j c → (first t u : Listing) → AreSingleListings depth dsdt b first t
           → AreSingleListings depth dsdt c first u
           → (p : List Segment) (o : ObjectTree) → objects_of u p ≡ Some o → (x : ObjectTree) → objects_of t p ≡ Some x → (i < j) ⊎ (j < i) → ⊥
-      by i j b c ne at there first t u listings others p o d x e (inl less) = h.1 (suc i) (suc j) p (record {
-        below = omega arith;
-        this = b;
-        other = c;
-        is_this = at;
-        is_other = there;
-        first = first;
-        t = t;
-        u = u;
-        listings = listings;
-        other_listings = others;
-        object = x;
-        other_object = o;
-        declares = e;
-        other_declares = d;
-      })
-      by i j b c ne at there first t u listings others p o d x e (inr more) = h.1 (suc j) (suc i) p (record {
-        below = omega arith;
-        this = c;
-        other = b;
-        is_this = there;
-        is_other = at;
-        first = first;
-        t = u;
-        u = t;
-        listings = others;
-        other_listings = listings;
-        object = o;
-        other_object = x;
-        declares = d;
-        other_declares = e;
-      })
+      by i j b c ne at there first t u listings others p o d x e (inl less) =
+          h.1 (suc i) (suc j) p (omega arith, first, t, u, (b, at, listings), (c, there, others), x, o, e, d)
+      by i j b c ne at there first t u listings others p o d x e (inr more) =
+          h.1 (suc j) (suc i) p (omega arith, first, u, t, (c, there, others), (b, at, listings), o, x, d, e)
 
   -- what independence says of two numbers
   apart_at : IsIndependent depth dsdt ssdts → (i j : ℕ) (b c : List ℕ) → i ≢ j → IsSsdt ssdts i b → IsSsdt ssdts j c → AreApart depth dsdt b c
@@ -192,18 +138,17 @@ module _ (depth : ℕ) (dsdt : List ℕ) (ssdts : List (List ℕ)) where
   apart_at h (suc i) (suc j) b c ne at there = h.apart i j b c (omega arith) at there
 
   none_same : IsIndependent depth dsdt ssdts → NoneSame depth dsdt ssdts
-  none_same h i j p s =
-      let both = apart_at h i j s.this s.other (λ e. let below = s.below in omega arith) s.is_this s.is_other in
-      let apart = both s.first s.t s.u s.listings s.other_listings p s.other_object s.other_declares in
-      not_both (objects_of s.t p) s.object s.declares apart.0
+  none_same h i j p (below, first, t, u, (b, at, listings), (c, there, others), o, x, declares, other_declares) =
+      let apart = apart_at h i j b c (λ e. omega arith) at there first t u listings others p x other_declares in not_both (objects_of t p) o declares apart.0
 
   none_missed : IsIndependent depth dsdt ssdts → NoneMissed depth dsdt ssdts
-  none_missed h i j p s = by s.unmet
+  none_missed h i j p (ne, first, t, u, (b, at, listings), (c, there, others), o, declares, unmet) =
+      by unmet
     where
-      apart : (objects_of s.t p ≡ None) × (IsMiss depth s.first s.t p → ⊥) × ((args : ℕ) → IsAwaited depth s.first s.t p args → IsTrue (is_method_of s.object args))
-      apart = apart_at h i j s.searcher s.definer s.different s.is_searcher s.is_definer s.first s.t s.u s.listings s.definer_listings p s.object s.declares
+      apart : (objects_of t p ≡ None) × (IsMiss depth first t p → ⊥) × ((args : ℕ) → IsAwaited depth first t p args → IsTrue (is_method_of o args))
+      apart = apart_at h i j b c ne at there first t u listings others p o declares
 
-      by : IsUnmet depth s.first s.t p s.object → ⊥
+      by : IsUnmet depth first t p o → ⊥
       by (inl miss) = apart.1 miss
       by (inr (args, awaited, other)) = let yes = apart.2 args awaited in let never : ⊥ = cc in never
 
@@ -221,7 +166,7 @@ commute_is_independent depth dsdt ssdts some = (
 )
 
 pub no_ssdts_commute : (depth : ℕ) (dsdt : List ℕ) → IsVerdict depth dsdt [] commute ↔ DsdtLoads depth dsdt
-no_ssdts_commute depth dsdt = ((λ h. h.0), (λ h. (h, (tt, (λ i j p s. none i s.this s.is_this), (λ i j p s. none i s.searcher s.is_searcher)))))
+no_ssdts_commute depth dsdt = ((λ h. h.0), (λ h. (h, (tt, (λ i j p s. none i s.4.0 s.4.1), (λ i j p s. none i s.4.0 s.4.1)))))
   where
     none : (i : ℕ) (b : List ℕ) → IsSsdt [] i b → ⊥
     none zero b h = h

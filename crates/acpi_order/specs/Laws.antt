@@ -1,5 +1,5 @@
 -- The laws of independent SSDTs, each as one statement (ACPI 6.5, 5.2.11 and 5.3).
-use Rattle.std.specs.Prelude.{◌≡◌, ◌≢◌, ◌↔◌, ℕ, ◌<◌, List, [], ◌∷◌, Option, None, Some, IsTrue, Result, IfOk, IfErr, IsPermutation}
+use Rattle.std.specs.Prelude.{◌≡◌, ◌≢◌, ◌↔◌, ℕ, ◌<◌, List, [], ◌∷◌, Some, IsTrue, Result, IfOk, IfErr, IsPermutation}
 use Rattle.std.specs.declared.cmp.Ordering.TheVariants.{Less}
 use Rattle.std.specs.FinMap as finite
 use Rattle.acpi_name.specs.Names.{Segment, NameParts}
@@ -13,7 +13,6 @@ use Rattle.acpi_declare.specs.declared.fault.LoadReason.{LoadReason}
 use Rattle.acpi_declare.specs.declared.fault.LoadFault.{LoadFault}
 use Rattle.acpi_declare.specs.declared.fault.LoadFault.TheVariants.{Memory}
 use Rattle.acpi_declare.specs.Namespace.{Namespace}
-use Rattle.acpi_declare.specs.Listing.{objects_of}
 use Rattle.acpi_declare.specs.Links.{PendingLink, answers}
 use Rattle.acpi_declare.specs.Loads.{HasNoLoad}
 use Rattle.acpi_body.specs.Arguments.{Locals, defined_with}
@@ -23,12 +22,11 @@ use Rattle.acpi_body.specs.Misses.{awaited_place}
 use Rattle.acpi_order.specs.Bodies.{Method, all_methods, IsReading, IsBody}
 use Rattle.acpi_order.specs.Machines.{Machine, IsMachine}
 use Rattle.acpi_order.specs.Joins.{AllAgree, IsJoin, IsSingleLoad}
-use Rattle.acpi_order.specs.Misses.{Listing, objects_of_first, objects_of_both, IsLinkMiss, IsBodyMiss, IsAwaiting, IsMiss, IsAwaited}
+use Rattle.acpi_order.specs.Misses.{Listing, objects_of_both, IsLinkMiss, IsBodyMiss, IsAwaiting}
 use Rattle.acpi_order.specs.Independent.{AreSingleListings, LoadsAlone, is_method_of, IsIndependent}
 use Rattle.acpi_order.specs.Orders.{AreReordered, LoadsToJoin, TellsOfJoin}
 use Rattle.acpi_order.specs.Verdicts.{VerdictTree, commute, not_alone, IsVerdict, DsdtLoads, IsSsdt, IsReasonAt, IsPairBefore, IsLeast, IsSame, IsMissed}
 use Rattle.acpi_order.specs.Singles.{IsSingle, IsUnmetBy}
-use Rattle.acpi_order.specs.Sharing.{objects_for, Keeping, IsMissKeeping, IsAwaitedKeeping}
 
 -- ---- loads
 
@@ -168,35 +166,6 @@ BodyStays = (depth : ℕ) (objects more : Namespace) (m : Method)
     → IsBodyMiss depth (union objects more) m p ↔ IsBodyMiss depth objects m p)
     × ((p : List Segment) (args : ℕ)
     → IsAwaiting depth (union objects more) m p args ↔ IsAwaiting depth objects m p args)
-
--- a single load misses and awaits what the load of the DSDT alone does with all that is kept, and what it does itself
--- with the rest
-abbrev pub MissesKeep : Type 0
-MissesKeep = (depth : ℕ) (first t : Listing) (k : Keeping depth first t)
-    → ((p : List Segment) → IsMiss depth first t p ↔ IsMissKeeping depth first t k p)
-    × ((p : List Segment) (args : ℕ)
-    → IsAwaited depth first t p args ↔ IsAwaitedKeeping depth first t k p args)
-
--- .. and so it has the answers of links, and the bodies
-abbrev pub ValuesKeep : Type 0
-ValuesKeep = (depth : ℕ) (first t : Listing) (k : Keeping depth first t)
-    → ((w : PendingLink)
-    → answers (objects_of_both first t) w.scope w.names
-    ≡ answers (objects_for (k.keeps_link w) first t) w.scope w.names)
-    × ((m : Method) (b : BodyTree)
-    → IsBody depth (objects_of_both first t) m b
-    ↔ IsBody depth (objects_for (k.keeps_body m) first t) m b)
-
--- an SSDT's objects taken away by their paths leave those of the DSDT, as they were
-abbrev pub taken_away : Option ObjectTree → Option ObjectTree → Option ObjectTree
-taken_away None there = there
-taken_away (Some o) there = None
-
-abbrev pub TakenBack : Type 0
-TakenBack =
-    (depth : ℕ) (dsdt b : List ℕ) (first t : Listing) → AreSingleListings depth dsdt b first t
-    → (p : List Segment)
-    → taken_away (objects_of t p) (objects_of_both first t p) ≡ objects_of_first first p
 
 -- ---- Externals
 

@@ -6,5 +6,5 @@ pub mod Independent
 pub mod Orders
 pub mod Verdicts
 pub mod Singles
-pub mod Sharing
 pub mod Laws
+pub mod steps

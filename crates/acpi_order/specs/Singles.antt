@@ -16,7 +16,7 @@ use Rattle.acpi_order.specs.Bodies.{Method, methods_of}
 use Rattle.acpi_order.specs.Machines.{Machine, IsMachine}
 use Rattle.acpi_order.specs.Misses.{Listing, objects_of_first, objects_of_both, IsAwaiting, IsMiss}
 use Rattle.acpi_order.specs.Independent.{AreSingleListings, is_method_of}
-use Rattle.acpi_order.specs.Verdicts.{IsSsdt}
+use Rattle.acpi_order.specs.Verdicts.{AreListingsAt}
 
 -- the path is one of those that the other SSDT declares, and was missed, or a method is awaited there and the other's
 -- object is none of so many arguments
@@ -64,28 +64,19 @@ pub record IsSingle (depth : ℕ) (dsdt ssdt : List ℕ) (m : Machine)
 
 -- ---- satisfied Externals
 
--- a body of the user awaits the method: the DSDT's, user 0, in the load of the DSDT alone, or an SSDT's in its single
--- load
-abbrev pub IsAwaitedOf : ℕ → List ℕ → List (List ℕ) → ℕ → List Segment → ℕ → Type 0
-IsAwaitedOf depth dsdt ssdts zero p args =
-    (first : Listing) × AreListings depth 0 predefined (dsdt ∷ []) (first ∷ [])
-    × IsAwaitedInTable depth (objects_of_first first) first p args
-IsAwaitedOf depth dsdt ssdts (suc i) p args =
-    (b : List ℕ) × (first : Listing) × (t : Listing) × IsSsdt ssdts (suc i) b
-    × AreSingleListings depth dsdt b first t
-    × IsAwaitedInTable depth (objects_of_both first t) t p args
+module _ (depth : ℕ) (dsdt : List ℕ) (ssdts : List (List ℕ)) where
+  -- a body of the user awaits the method: the DSDT's, user 0, in the load of the DSDT alone, or an SSDT's in its
+  -- single load
+  abbrev pub IsAwaitedOf : ℕ → List Segment → ℕ → Type 0
+  IsAwaitedOf zero p args =
+      (first : Listing) × AreListings depth 0 predefined (dsdt ∷ []) (first ∷ [])
+      × IsAwaitedInTable depth (objects_of_first first) first p args
+  IsAwaitedOf (suc i) p args = (first : Listing) × (t : Listing)
+      × AreListingsAt depth dsdt ssdts (suc i) first t
+      × IsAwaitedInTable depth (objects_of_both first t) t p args
 
--- .. and the definer, another SSDT, declares such a method there
-pub record IsSatisfied (depth : ℕ) (dsdt : List ℕ) (ssdts : List (List ℕ)) (user definer : ℕ)
-    (p : List Segment) : Type 0 where
-  pub different : user ≢ definer
-  pub args : ℕ
-  pub awaits : IsAwaitedOf depth dsdt ssdts user p args
-  pub ssdt : List ℕ
-  pub is_definer : IsSsdt ssdts definer ssdt
-  pub first : Listing
-  pub t : Listing
-  pub listings : AreSingleListings depth dsdt ssdt first t
-  pub object : ObjectTree
-  pub declares : objects_of t p ≡ Some object
-  pub method : IsTrue (is_method_of object args)
+  -- .. and the definer, another SSDT, declares such a method there
+  abbrev pub IsSatisfied : (user definer : ℕ) → List Segment → Type 0
+  IsSatisfied user definer p = (user ≢ definer) × (args : ℕ) × IsAwaitedOf user p args
+      × (first : Listing) × (t : Listing) × AreListingsAt depth dsdt ssdts definer first t
+      × (o : ObjectTree) × (objects_of t p ≡ Some o) × IsTrue (is_method_of o args)

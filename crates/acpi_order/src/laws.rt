@@ -1,5 +1,5 @@
 //! Laws of independent SSDTs, on the definitions alone: the functions do nothing, and their contracts state the laws.
-ghost use Rattle.acpi_order.specs.Laws.{OneMachine, IndependentTablesLoad, IndependentTablesJoin, AnyOrderLoadsAlike, LoadTellsJoin, EachOrderLoads, IndependentInAnyOrder, JoinInAnyOrder, OneJoin, AgreeingHaveJoin, JoinedAgree, CommuteIsIndependent, NoSsdtsCommute, OneVerdict, RefusedIsNotAlone, LeastSame, LeastMissed, SameByLists, MissedByLists, LinksStay, BodyStays, MissesKeep, ValuesKeep, TakenBack, AwaitedIsFound};
+ghost use Rattle.acpi_order.specs.Laws.{OneMachine, IndependentTablesLoad, IndependentTablesJoin, AnyOrderLoadsAlike, LoadTellsJoin, EachOrderLoads, IndependentInAnyOrder, JoinInAnyOrder, OneJoin, AgreeingHaveJoin, JoinedAgree, CommuteIsIndependent, NoSsdtsCommute, OneVerdict, RefusedIsNotAlone, LeastSame, LeastMissed, SameByLists, MissedByLists, LinksStay, BodyStays, AwaitedIsFound};
 
 /// Tables load to one machine at most.
 pub fn one_machine()
@@ -50,18 +50,11 @@ pub fn verdict_is_found_in_order()
 {}
 
 /// One more table leaves a link and a body of the others as they were, with what they miss and await, unless it
-/// declares a path that they missed or await.
+/// declares a path that they missed or await. So a load of the DSDT with one SSDT need search again, of the DSDT's
+/// links and bodies, only those for which the SSDT declares such a path.
 pub fn untouched_stays()
     ensures links { LinksStay }
     ensures bodies { BodyStays }
-{}
-
-/// So a load of the DSDT with one SSDT need search again, of the DSDT's links and bodies, only those for which the
-/// SSDT declares a path that they missed or await; and the SSDT's objects can be taken away again.
-pub fn single_loads_share()
-    ensures misses { MissesKeep }
-    ensures values { ValuesKeep }
-    ensures back { TakenBack }
 {}
 
 /// What two single loads tell decides whether their SSDTs declare one path, and whether one misses what the other

@@ -26,13 +26,13 @@ use Rattle.acpi_code.proofs.Names.{name_in_complete}
 use Rattle.acpi_code.proofs.Numbers.{byte_complete}
 use Rattle.acpi_code.proofs.Opcodes.{opens}
 use Rattle.acpi_code.proofs.Packages.{front_is, package_complete}
-use Rattle.acpi_terms.specs.Spelling.{SpellsExternal}
-use Rattle.acpi_body.specs.Grammars.{Grammar}
-use Rattle.acpi_body.specs.Spelling.{Stands, StandsFor, Spells, AreOperands, height, heights}
-use Rattle.acpi_body.specs.Statements.{named_opcode, units_opcode}
-use Rattle.acpi_body.specs.steps.Reading.{operands_at, placed_by, constant_form, form_by, term_at}
-use Rattle.acpi_body.proofs.Allowed.{lead_of, allowed_at}
-use Rattle.acpi_body.proofs.TermComplete.{listed, terms_of-listed, form_complete, operands_complete, term_complete}
+use Rattle.acpi_code.specs.FixedArguments.{SpellsExternal}
+use Rattle.acpi_values.specs.Grammars.{Grammar}
+use Rattle.acpi_values.specs.Spelling.{Stands, StandsFor, Spells, AreOperands, height, heights}
+use Rattle.acpi_values.specs.Declarations.{named_opcode, units_opcode}
+use Rattle.acpi_values.specs.steps.Reading.{operands_at, placed_by, constant_form, form_by, term_at}
+use Rattle.acpi_values.proofs.Allowed.{lead_of, allowed_at}
+use Rattle.acpi_values.proofs.TermComplete.{listed, terms_of-listed, form_complete, operands_complete, term_complete}
 use Rattle.acpi_outline.specs.declared.form.ContainerForm.{ContainerForm}
 use Rattle.acpi_outline.specs.declared.form.ContainerForm.TheVariants as containers
 use Rattle.acpi_outline.specs.declared.form.PackedForm.{PackedForm}

@@ -16,11 +16,11 @@ use Rattle.acpi_code.specs.steps.Reading.{Reading, Package, package_of, name_in,
 use Rattle.acpi_code.proofs.Names.{name_in_complete}
 use Rattle.acpi_code.proofs.Opcodes.{opens}
 use Rattle.acpi_code.proofs.Packages.{front_is, package_complete}
-use Rattle.acpi_body.specs.Grammars.{Grammar}
-use Rattle.acpi_body.specs.Spelling.{Stands, Spells, AreOperands, height}
-use Rattle.acpi_body.specs.Statements.{named_opcode}
-use Rattle.acpi_body.proofs.Allowed.{lead_of, allowed_at}
-use Rattle.acpi_body.proofs.TermComplete.{form_complete}
+use Rattle.acpi_values.specs.Grammars.{Grammar}
+use Rattle.acpi_values.specs.Spelling.{Stands, Spells, AreOperands, height}
+use Rattle.acpi_values.specs.Declarations.{named_opcode}
+use Rattle.acpi_values.proofs.Allowed.{lead_of, allowed_at}
+use Rattle.acpi_values.proofs.TermComplete.{form_complete}
 use Rattle.acpi_outline.specs.declared.form.DataForm.{DataForm}
 use Rattle.acpi_outline.specs.declared.form.DataForm.TheVariants as datas
 use Rattle.acpi_outline.specs.declared.fault.LostFault.{LostFault}

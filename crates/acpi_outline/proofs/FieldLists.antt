@@ -18,8 +18,8 @@ use Rattle.acpi_code.proofs.Fields.{ElementBad, shown_at, first_element, field_c
 use Rattle.acpi_code.proofs.Lists.{each_snoc}
 use Rattle.acpi_code.proofs.Packages.{PackageFront}
 use Rattle.acpi_code.proofs.Readings.{Judge, Source, Position, Front, Read, rest_behind, stands_at}
-use Rattle.acpi_body.specs.Faults.{reason_of}
-use Rattle.acpi_body.specs.Statements.{units_opcode}
+use Rattle.acpi_values.specs.Faults.{reason_of}
+use Rattle.acpi_values.specs.Declarations.{units_opcode}
 use Rattle.acpi_outline.specs.declared.fault.LostReason.TheVariants.{Term}
 use Rattle.acpi_outline.specs.declared.fault.LostFault.{LostFault}
 use Rattle.acpi_outline.specs.Nodes.{FixedTree, units, form_of, form_bytes, has_fields, FieldNodes, no_more_fields, fields_lost, field_node, fields_with_reason}

@@ -9,6 +9,5 @@ pub mod NodesSound
 pub mod One
 pub mod Going
 pub mod Containing
-pub mod Strict
 pub mod Answered
 pub mod Elements

@@ -4,13 +4,13 @@ use Rattle.std.specs.FinMap.{empty}
 use Rattle.acpi_tree.specs.declared.place.OperandKind.{OperandKind}
 use Rattle.acpi_code.specs.declared.fault.CodeFault.{CodeFault}
 use Rattle.acpi_code.proofs.Readings.{Judge, Source, Position, Read, Shown}
-use Rattle.acpi_body.specs.declared.fault.BodyFault.{BodyFault}
-use Rattle.acpi_body.specs.declared.fault.BodyReason.{BodyReason}
-use Rattle.acpi_body.specs.declared.fault.BodyReason.TheVariants.{BadName}
-use Rattle.acpi_body.specs.Faults.{reason_of, ShowsBody}
-use Rattle.acpi_body.specs.steps.Reading.{operands_at, term_at}
-use Rattle.acpi_body.proofs.Places as bodies
-use Rattle.acpi_body.proofs.TermSound.{are_inner, Operands, operands_sound, term_sound}
+use Rattle.acpi_values.specs.declared.fault.BodyFault.{BodyFault}
+use Rattle.acpi_values.specs.declared.fault.BodyReason.{BodyReason}
+use Rattle.acpi_values.specs.declared.fault.BodyReason.TheVariants.{BadName}
+use Rattle.acpi_values.specs.Faults.{reason_of, ShowsBody}
+use Rattle.acpi_values.specs.steps.Reading.{operands_at, term_at}
+use Rattle.acpi_values.proofs.Places as bodies
+use Rattle.acpi_values.proofs.TermSound.{are_inner, Operands, operands_sound, term_sound}
 use Rattle.acpi_outline.specs.declared.fault.LostReason.TheVariants.{Term}
 use Rattle.acpi_outline.specs.declared.fault.LostFault.{LostFault}
 use Rattle.acpi_outline.specs.Rules.{Rules, grammar_at}

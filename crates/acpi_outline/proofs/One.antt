@@ -10,7 +10,7 @@ use Rattle.acpi_code.specs.declared.opcode.Opcode.{Opcode}
 use Rattle.acpi_code.specs.declared.opcode.Opcode.TheVariants as opcodes
 use Rattle.acpi_code.proofs.Opcodes.{Opened, opcode_sound, opens}
 use Rattle.acpi_code.proofs.Packages.{front_is}
-use Rattle.acpi_body.proofs.ReadBodies.{good_of}
+use Rattle.acpi_values.proofs.Parts.{good_of}
 use Rattle.acpi_outline.proofs.FieldLists.{fields_again, fields_tile}
 use Rattle.acpi_outline.proofs.Data.{data_none, data_begins, data_front, name_front, data_opened, name_opened, data_given, name_read}
 use Rattle.acpi_outline.specs.declared.form.DataForm.TheVariants as datas

@@ -28,18 +28,18 @@ use Rattle.acpi_code.proofs.Readings.{Judge, judge_bind, judge_into, judge_if, S
 use Rattle.acpi_code.proofs.Names.{name_sound}
 use Rattle.acpi_code.proofs.Numbers.{byte_sound}
 use Rattle.acpi_code.proofs.Opcodes.{Opened, begins}
-use Rattle.acpi_terms.specs.Forms.{name_arg, byte_arg, count_arg}
-use Rattle.acpi_terms.specs.Faults.{Awaits}
-use Rattle.acpi_body.specs.Grammars.{Grammar}
-use Rattle.acpi_body.specs.Spelling.{Stands, Spells, height, heights}
-use Rattle.acpi_body.specs.Refusals.{refusal_at}
-use Rattle.acpi_body.specs.Statements.{named_opcode}
-use Rattle.acpi_body.specs.steps.Reading.{operands_at, term_at}
-use Rattle.acpi_body.proofs.Allowed.{lead_of, Suits, allowed_at}
-use Rattle.acpi_body.proofs.TermComplete.{spelled_long, form_complete}
-use Rattle.acpi_body.proofs.TermSound.{is_block, are_inner, Within, Operands, placed_sound, term_sound}
-use Rattle.acpi_body.proofs.StatementSound.{units_inner}
-use Rattle.acpi_body.proofs.StatementComplete.{named_long}
+use Rattle.acpi_code.specs.Forms.{name_arg, byte_arg, count_arg}
+use Rattle.acpi_code.specs.FixedArguments.{Awaits}
+use Rattle.acpi_values.specs.Grammars.{Grammar}
+use Rattle.acpi_values.specs.Spelling.{Stands, Spells, height, heights}
+use Rattle.acpi_values.specs.Refusals.{refusal_at}
+use Rattle.acpi_values.specs.Declarations.{named_opcode}
+use Rattle.acpi_values.specs.steps.Reading.{operands_at, term_at}
+use Rattle.acpi_values.proofs.Allowed.{lead_of, Suits, allowed_at}
+use Rattle.acpi_values.proofs.TermComplete.{spelled_long, form_complete}
+use Rattle.acpi_values.proofs.TermSound.{is_block, are_inner, Within, Operands, placed_sound, term_sound}
+use Rattle.acpi_values.proofs.Declarations.{units_inner}
+use Rattle.acpi_values.proofs.Declarations.{named_long}
 use Rattle.acpi_outline.specs.declared.form.ContainerForm.{ContainerForm}
 use Rattle.acpi_outline.specs.declared.form.ContainerForm.TheVariants as containers
 use Rattle.acpi_outline.specs.declared.form.PackedForm.{PackedForm}

@@ -20,12 +20,12 @@ use Rattle.acpi_code.specs.steps.Reading.{name_in, opcode_at}
 use Rattle.acpi_code.proofs.Readings.{Judge, judge_bind, judge_into, judge_if, Source, Position, Read, Shown}
 use Rattle.acpi_code.proofs.Names.{term_name_sound, name_in_complete}
 use Rattle.acpi_code.proofs.Opcodes.{Opened, opens_name, opcode_sound}
-use Rattle.acpi_body.specs.Grammars.{Grammar}
-use Rattle.acpi_body.specs.Spelling.{Stands, Spells, AreOperands, height}
-use Rattle.acpi_body.specs.steps.Reading.{operands_at, term_at}
-use Rattle.acpi_body.proofs.Allowed.{lead_of, allowed_at}
-use Rattle.acpi_body.proofs.TermComplete.{form_complete, listed, operands_complete, term_complete}
-use Rattle.acpi_body.proofs.TermSound.{are_inner, Within, Operands, term_sound}
+use Rattle.acpi_values.specs.Grammars.{Grammar}
+use Rattle.acpi_values.specs.Spelling.{Stands, Spells, AreOperands, height}
+use Rattle.acpi_values.specs.steps.Reading.{operands_at, term_at}
+use Rattle.acpi_values.proofs.Allowed.{lead_of, allowed_at}
+use Rattle.acpi_values.proofs.TermComplete.{form_complete, listed, operands_complete, term_complete}
+use Rattle.acpi_values.proofs.TermSound.{are_inner, Within, Operands, term_sound}
 use Rattle.acpi_outline.specs.declared.fault.LostFault.{LostFault}
 use Rattle.acpi_outline.specs.Rules.{Rules, grammar_at}
 use Rattle.acpi_outline.specs.Outline.{operands_first, source_height, first_heights}

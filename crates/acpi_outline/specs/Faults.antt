@@ -11,13 +11,13 @@ use Rattle.acpi_code.specs.declared.fault.ConstantFault.{ConstantFault}
 use Rattle.acpi_code.specs.declared.fault.ConstantFault.TheVariants.{Part, NotConstant}
 use Rattle.acpi_code.specs.Opcodes.{opcode_bytes}
 use Rattle.acpi_code.specs.Faults.{ByteAt, Begins, IsElementOf, IsConnectionSize, HasNoSegment}
-use Rattle.acpi_terms.specs.Forms.{count_arg}
-use Rattle.acpi_terms.specs.Faults.{is_computed, MustBegin}
-use Rattle.acpi_body.specs.declared.fault.BodyReason.TheVariants.{BadOpcode, BadName}
-use Rattle.acpi_body.specs.declared.fault.BodyFault.{BodyFault}
-use Rattle.acpi_body.specs.Arguments.{Arguments}
-use Rattle.acpi_body.specs.Faults.{fault_of, ShowsBody}
-use Rattle.acpi_body.specs.Statements.{units_opcode}
+use Rattle.acpi_code.specs.Forms.{count_arg}
+use Rattle.acpi_code.specs.FixedArguments.{is_computed, MustBegin}
+use Rattle.acpi_values.specs.declared.fault.BodyReason.TheVariants.{BadOpcode, BadName}
+use Rattle.acpi_values.specs.declared.fault.BodyFault.{BodyFault}
+use Rattle.acpi_values.specs.Arguments.{Arguments}
+use Rattle.acpi_values.specs.Faults.{fault_of, ShowsBody}
+use Rattle.acpi_values.specs.Declarations.{units_opcode}
 use Rattle.acpi_outline.specs.declared.fault.LostReason.{LostReason}
 use Rattle.acpi_outline.specs.declared.fault.LostReason.TheVariants.{Term, NoNode, ManyArguments, Computed}
 use Rattle.acpi_outline.specs.declared.fault.LostFault.{LostFault}

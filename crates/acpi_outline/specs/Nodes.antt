@@ -7,7 +7,7 @@ use Rattle.acpi_tree.specs.Terms.{TermTree, TermTrees}
 use Rattle.acpi_code.specs.declared.opcode.Opcode.{Opcode}
 use Rattle.acpi_code.specs.declared.opcode.Opcode.TheVariants as opcodes
 use Rattle.acpi_code.specs.Opcodes.{opcode_bytes}
-use Rattle.acpi_body.specs.Statements.{units_opcode}
+use Rattle.acpi_values.specs.Declarations.{units_opcode}
 use Rattle.acpi_outline.specs.declared.form.ContainerForm.{ContainerForm}
 use Rattle.acpi_outline.specs.declared.form.ContainerForm.TheVariants as containers
 use Rattle.acpi_outline.specs.declared.form.PackedForm.{PackedForm}

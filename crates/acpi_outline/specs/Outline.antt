@@ -16,9 +16,9 @@ use Rattle.acpi_tree.specs.Operators.{operands_behind, names_of_units, operands_
 use Rattle.acpi_code.specs.Opcodes.{opcode_bytes}
 use Rattle.acpi_code.specs.Spelling.{SpellsEach, Packs}
 use Rattle.acpi_code.specs.Fields.{SpellsField}
-use Rattle.acpi_terms.specs.Spelling.{SpellsExternal}
-use Rattle.acpi_body.specs.Spelling.{Stands, Spells, AreOperands, height, heights}
-use Rattle.acpi_body.specs.Statements.{named_opcode}
+use Rattle.acpi_code.specs.FixedArguments.{SpellsExternal}
+use Rattle.acpi_values.specs.Spelling.{Stands, Spells, AreOperands, height, heights}
+use Rattle.acpi_values.specs.Declarations.{named_opcode}
 use Rattle.acpi_outline.specs.declared.form.ContainerForm.{ContainerForm}
 use Rattle.acpi_outline.specs.declared.form.ContainerForm.TheVariants as containers
 use Rattle.acpi_outline.specs.declared.form.PackedForm.{PackedForm}

@@ -2,7 +2,7 @@
 use Rattle.std.specs.Prelude.{ℕ, Bool, true, false, List, Option, Some, None}
 use Rattle.acpi_name.specs.Names.{NameParts}
 use Rattle.acpi_tree.specs.Tree.{FieldTree}
-use Rattle.acpi_body.specs.Grammars.{Grammar}
+use Rattle.acpi_values.specs.Grammars.{Grammar}
 use Rattle.acpi_outline.specs.declared.form.PackedForm.{PackedForm}
 use Rattle.acpi_outline.specs.Nodes.{PlainTree, FixedTree, method, units, FieldNodes, no_more_fields, fields_lost, field_node}
 use Rattle.acpi_outline.specs.Nodes.{NodeTree, plain, holds, holds_fields, closed, package_lost, data_lost, name_lost, NodeTrees, no_more, lost, node}

@@ -32,7 +32,7 @@ fn test<K: Known>(known: &K, level: u32, code: &mut Code<'_>) -> Result<Box<Term
 
 // The name and the numbers of a package with a scope of its own.
 #[inline(never)]
-#[tactic(auto, using(crate::proofs::Parts::part_fails), unfolding(crate::specs::steps::Reading::container_in, acpi_body::specs::steps::Reading::operands_at, acpi_body::specs::steps::Reading::operand_at))]
+#[tactic(auto, using(crate::proofs::Parts::part_fails), unfolding(crate::specs::steps::Reading::container_in, acpi_values::specs::steps::Reading::operands_at, acpi_values::specs::steps::Reading::operand_at))]
 fn container<K: Known>(
     known: &K,
     level: u32,
@@ -62,7 +62,7 @@ fn container<K: Known>(
 
 // The names and operands of a declaration of field units.
 #[inline(never)]
-#[tactic(auto, using(crate::proofs::Parts::part_fails), unfolding(crate::specs::steps::Reading::units_in, crate::specs::steps::Reading::names_in, acpi_body::specs::steps::Reading::operands_at, acpi_body::specs::steps::Reading::operand_at))]
+#[tactic(auto, using(crate::proofs::Parts::part_fails), unfolding(crate::specs::steps::Reading::units_in, crate::specs::steps::Reading::names_in, acpi_values::specs::steps::Reading::operands_at, acpi_values::specs::steps::Reading::operand_at))]
 fn units<K: Known>(
     known: &K,
     level: u32,

@@ -8,9 +8,9 @@ ghost use Rattle.acpi_outline.specs.View.{fixed_view, plain_view};
 
 use crate::form::PackedForm;
 use crate::node::{Fixed, Plain};
-use acpi_body::Counting;
 use acpi_name::{Name, NameRef};
 use acpi_tree::FieldElem;
+use acpi_values::Counting;
 use bytes::Bytes;
 use std::alloc::{AllocError, Global};
 

@@ -2,7 +2,6 @@
 
 ghost use Rattle.acpi_outline.specs.Laws.{HasOutline, AtMostOneOutline, NodesTile};
 ghost use Rattle.acpi_outline.specs.Contained.{PackagesContain};
-ghost use Rattle.acpi_outline.specs.Strict.{StrictIsKept};
 
 use crate::known::Known;
 
@@ -25,9 +24,4 @@ pub fn nodes_tile<K: Known>()
 /// stays the same.
 pub fn packages_contain<K: Known>()
     ensures { PackagesContain K.rules }
-{}
-
-/// Where a code spells strict items, its outline is these: nothing is lost, and there is no statement.
-pub fn strict_is_kept<K: Known>()
-    ensures { StrictIsKept K.rules }
 {}

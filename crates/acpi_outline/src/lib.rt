@@ -16,8 +16,8 @@
 //!
 //! A contract sees nodes as a tree, and says of which bytes they are the outline by `specs/Outline.antt`, and of a
 //! lost range what its reason shows by `specs/Faults.antt`. `laws` says that each code has one outline
-//! (`has_outline`, `at_most_one_outline`), that its nodes tile the code (`nodes_tile`), that damage in a package stays
-//! in it (`packages_contain`), and that strict items are nodes (`strict_is_kept`).
+//! (`has_outline`, `at_most_one_outline`), that its nodes tile the code (`nodes_tile`), and that damage in a package
+//! stays in it (`packages_contain`).
 #![tactic(auto)]
 
 mod fault;

@@ -4,7 +4,7 @@ ghost use Rattle.std.specs.Prelude.{◌≡◌, ◌<◌, ◌-◌, length, None, b
 ghost use Rattle.acpi_tree.specs.TermView.{term_view, decl_view};
 ghost use Rattle.acpi_tree.specs.declared.place.Place.TheVariants.{Value};
 ghost use Rattle.acpi_code.specs.steps.Reading.{name_in};
-ghost use Rattle.acpi_body.specs.steps.Reading.{term_at};
+ghost use Rattle.acpi_values.specs.steps.Reading.{term_at};
 ghost use Rattle.acpi_outline.specs.Nodes as nodes;
 ghost use Rattle.acpi_outline.specs.Rules.{grammar_at};
 ghost use Rattle.acpi_outline.specs.View.{plain_view};
@@ -14,10 +14,10 @@ ghost use Rattle.acpi_outline.specs.steps.Cursor.{Reads};
 use crate::fault::{LostError, LostReason, stopped};
 use crate::known::{Counted, Known};
 use crate::node::Plain;
-use acpi_body::read_term;
 use acpi_code::{Code, Opcode, name_start};
 use acpi_name::Name;
 use acpi_tree::{Decl, External, NamedForm, Place, Term};
+use acpi_values::read_term;
 use std::alloc::Global;
 
 // A term at a place, which lies apart from the frame that asks for it.
@@ -85,7 +85,7 @@ fn source<K: Known>(known: &K, level: u32, code: &mut Code<'_>) -> Result<Box<Te
 
 // A declaration of one name.
 #[inline(never)]
-#[tactic(auto, using(crate::proofs::Parts::part_fails), unfolding(crate::specs::steps::Reading::named_in, crate::specs::steps::Reading::sourced_in, acpi_body::specs::steps::Reading::operands_at, acpi_body::specs::steps::Reading::operand_at))]
+#[tactic(auto, using(crate::proofs::Parts::part_fails), unfolding(crate::specs::steps::Reading::named_in, crate::specs::steps::Reading::sourced_in, acpi_values::specs::steps::Reading::operands_at, acpi_values::specs::steps::Reading::operand_at))]
 fn named<K: Known>(
     known: &K,
     level: u32,
@@ -164,7 +164,7 @@ fn alias(alloc: Global, code: &mut Code<'_>) -> Result<Plain, LostError>
 }
 
 #[inline(never)]
-#[tactic(auto, using(crate::proofs::Parts::part_fails), unfolding(crate::specs::steps::Reading::table_region_in, acpi_body::specs::steps::Reading::operands_at, acpi_body::specs::steps::Reading::operand_at))]
+#[tactic(auto, using(crate::proofs::Parts::part_fails), unfolding(crate::specs::steps::Reading::table_region_in, acpi_values::specs::steps::Reading::operands_at, acpi_values::specs::steps::Reading::operand_at))]
 fn table_region<K: Known>(known: &K, level: u32, code: &mut Code<'_>) -> Result<Plain, LostError>
     ensures { Reads plain_view (table_region_in K.rules level known.now)
         code.old code.new result }

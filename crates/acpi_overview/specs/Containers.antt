@@ -1,7 +1,7 @@
 -- Objects below which others stand (ACPI 6.5, 5.3).
 use Rattle.std.specs.Prelude.{Bool, true, false}
-use Rattle.acpi_objects.specs.declared.kind.ObjectKind.{ObjectKind}
-use Rattle.acpi_objects.specs.declared.kind.ObjectKind.TheVariants as objects
+use Rattle.acpi_kinds.specs.declared.kind.ObjectKind.{ObjectKind}
+use Rattle.acpi_kinds.specs.declared.kind.ObjectKind.TheVariants as objects
 
 -- The root, scopes, devices, processors, power resources and thermal zones.
 abbrev pub is_container : ObjectKind → Bool

@@ -2,7 +2,6 @@ pub mod Paths
 pub mod Numbers
 pub mod OspmMethods
 pub mod Regions
-pub mod Tables
 pub mod Containers
 pub mod HostBridges
 pub mod Claims

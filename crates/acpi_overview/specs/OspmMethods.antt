@@ -6,8 +6,8 @@ use Rattle.std.specs.Cmp.Lexicographic.{pointwise}
 use Rattle.acpi_overview.specs.Paths.{last_name}
 use Rattle.acpi_overview.specs.declared.ospm_methods.OspmKind.{OspmKind}
 use Rattle.acpi_overview.specs.declared.ospm_methods.OspmKind.TheVariants as kinds
-use Rattle.acpi_objects.specs.declared.kind.ObjectKind.{ObjectKind}
-use Rattle.acpi_objects.specs.declared.kind.ObjectKind.TheVariants as objects
+use Rattle.acpi_kinds.specs.declared.kind.ObjectKind.{ObjectKind}
+use Rattle.acpi_kinds.specs.declared.kind.ObjectKind.TheVariants as objects
 
 -- whether two names are the same
 abbrev pub is_name : List ℕ → List ℕ → Bool

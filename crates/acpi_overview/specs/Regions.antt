@@ -1,8 +1,6 @@
 -- Operation regions (ACPI 6.5, 19.6.100).
 use Rattle.std.specs.Prelude.{◌≡◌, ◌+◌, ◌*◌, ◌^◌, ◌-◌, ℕ, Bool, false, nat_eq, nat_lt, min, Option, Some, None, if◌then◌else◌}
 use Rattle.acpi_tree.specs.declared.term.Term.{Term}
-use Rattle.acpi_tree.specs.declared.term.Term.TheVariants as terms
-use Rattle.acpi_name.specs.declared.name.Name.{Name}
 use Rattle.acpi_overview.specs.Numbers.{term_number}
 use Rattle.acpi_overview.specs.declared.regions.Bound.{Bound}
 use Rattle.acpi_overview.specs.declared.regions.Bound.TheVariants as bounds

@@ -10,7 +10,11 @@ use acpi_tree::Term;
 /// Where a device stands on its parent's bus, as its `_ADR` says (ACPI 6.5, 6.1.1).
 #[derive(Debug, Clone, Copy, PartialEq, Eq)]
 pub enum Address {
-    /// It has no `_ADR`, or one that only running code tells.
+    /// It has no `_ADR`.
+    Missing,
+    /// A method tells it: the number of bytes of its code.
+    Method(usize),
+    /// Something else tells it.
     Unknown,
     /// The device and function on a PCI bus; function FFFF stands for all.
     Pci {
@@ -63,11 +67,21 @@ fn pci_address(number: u64, is_direct: bool) -> Address {
     }
 }
 
-fn address_of(number: u64, bus: Bus) -> Address {
+fn numbered_address(number: u64, bus: Bus) -> Address {
     match bus {
         Bus::Host => pci_address(number, true),
         Bus::Below => pci_address(number, false),
         Bus::Other => Address::Other(number),
+    }
+}
+
+// Where a device with this `_ADR` stands.
+fn address_of(adr: &Value<'_>, bus: Bus) -> Address {
+    match adr {
+        Value::Missing => Address::Missing,
+        Value::Number(number) => numbered_address(*number, bus),
+        Value::Method(code) => Address::Method(*code),
+        _ => Address::Unknown,
     }
 }
 
@@ -112,15 +126,8 @@ fn bus_around(containers: &[Container<'_>], parent: Option<usize>) -> Bus {
 /// Says where each of the containers stands; a container stands behind its parent.
 pub(crate) fn set_addresses(containers: &mut Vec<Container<'_>>) {
     for number in 0..containers.len() {
-        let Some(container) = containers.get(number) else {
-            return;
-        };
-        let Some(adr) = container.values.adr.number() else {
-            continue;
-        };
-        let address = address_of(adr, bus_around(containers, container.parent));
-        if let Some(container) = containers.get_mut(number) {
-            container.address = address;
-        }
+        let container = &containers[number];
+        let bus = bus_around(containers, container.parent);
+        containers[number].address = address_of(&container.values.adr, bus);
     }
 }

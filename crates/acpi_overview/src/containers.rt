@@ -5,11 +5,10 @@ ghost use Rattle.acpi_overview.specs.Containers.{is_container};
 ghost use Rattle.acpi_overview.specs.Paths.{is_directly_in, is_within, last_name};
 
 use crate::addresses::{Address, set_addresses};
-use crate::objects::{Object, has_own_condition};
+use crate::objects::Object;
 use crate::value::Value;
+use acpi_kinds::ObjectKind;
 use acpi_name::Path;
-use acpi_objects::ObjectKind;
-use acpi_survey::Survey;
 use std::alloc::{AllocError, Global};
 
 /// What is known of the objects of a device by which an operating system finds it (ACPI 6.5, 6.1 to 6.3 and 7.3).
@@ -160,25 +159,23 @@ impl MemberCounts {
 
 impl<'a> Container<'a> {
     // Adds an object that stands below it.
-    fn add(&mut self, survey: &Survey, object: &Object<'a>) -> Result<(), AllocError> {
+    fn add(&mut self, object: &Object<'a>) {
         if !is_directly_in(object.path, self.object.path) {
-            return Ok(());
+            return;
         }
-        let value = if has_own_condition(survey, &self.object, object)? {
+        let value = if object.has_own_condition {
             Value::Unknown
         } else {
             Value::of_object(object.kind, object.code)
         };
         self.values.add(&last_segment(object.path), value);
         self.counts.add(object.kind);
-        Ok(())
     }
 }
 
 /// The containers while the objects are gone through.
 #[derive(Drop)]
 struct Building<'a> {
-    survey: &'a Survey,
     containers: Vec<Container<'a>>,
     open: Vec<usize>,
 }
@@ -216,17 +213,16 @@ impl<'a> Building<'a> {
                 methods: 0,
                 units: 0,
             },
-            address: Address::Unknown,
+            address: Address::Missing,
         })?;
         self.open.push(number)?;
         Ok(())
     }
 
     // Adds an object to the container of that number, below which it stands.
-    fn add_to(&mut self, number: usize, object: &Object<'a>) -> Result<(), AllocError> {
-        match self.containers.get_mut(number) {
-            Some(container) => container.add(self.survey, object),
-            None => Ok(()),
+    fn add_to(&mut self, number: usize, object: &Object<'a>) {
+        if let Some(container) = self.containers.get_mut(number) {
+            container.add(object);
         }
     }
 
@@ -249,7 +245,7 @@ impl<'a> Building<'a> {
         let around = self.leave_to(object.path);
         if !is_container(object.kind) {
             if let Some(number) = around {
-                self.add_to(number, object)?;
+                self.add_to(number, object);
             }
             return Ok(around);
         }
@@ -265,15 +261,10 @@ impl<'a> Building<'a> {
 
 impl<'a> Tree<'a> {
     /// The tree of the objects, which stand in the order of their paths.
-    pub fn new(
-        alloc: Global,
-        survey: &'a Survey,
-        objects: &[Object<'a>],
-    ) -> Result<Tree<'a>, AllocError>
+    pub fn new(alloc: Global, objects: &[Object<'a>]) -> Result<Tree<'a>, AllocError>
         ensures { IfOk result (λ t. length t.around.items ≡ length objects.now) }
     {
         let mut building = Building {
-            survey,
             containers: Vec::new(alloc),
             open: Vec::new(alloc),
         };
@@ -285,5 +276,11 @@ impl<'a> Tree<'a> {
         let mut containers = building.containers;
         set_addresses(&mut containers);
         Ok(Tree { containers, around })
+    }
+
+    /// The container around the object at a place.
+    pub fn container_around(&self, place: usize) -> Option<&Container<'a>> {
+        let number = (*self.around.get(place)?)?;
+        self.containers.get(number)
     }
 }

@@ -1,9 +1,7 @@
 //! The headers of tables.
 
-ghost use Rattle.std.specs.Prelude.{◌≡◌, ◌≤◌, ◌↔◌, length, IsSome};
-ghost use Rattle.acpi_overview.specs.Tables.{sum_is_good};
+ghost use Rattle.std.specs.Prelude.{◌≤◌, ◌↔◌, length, IsSome};
 
-use acpi_survey::{SurveyedTable, TableContent};
 use acpi_table::HEADER_BYTES;
 use byteorder::{ByteOrder, LittleEndian};
 
@@ -52,18 +50,4 @@ pub fn header_of(bytes: &[u8]) -> Option<TableHeader<'_>>
         creator_id: trim_text(&bytes[28..32]),
         creator_revision: LittleEndian::read_u32(&bytes[32..36]),
     })
-}
-
-/// Whether the bytes of a table sum to 0; it is not asked of one that isn't whole.
-pub fn is_sum_good(table: &SurveyedTable) -> Option<bool>
-    ensures { result ≡ sum_is_good table.now.judged }
-{
-    match &table.judged {
-        TableContent::Read {
-            is_cut,
-            has_bad_sum,
-            ..
-        } => { if *is_cut { None } else { Some(!*has_bad_sum) } }
-        TableContent::Unread(_) => None,
-    }
 }

@@ -1,30 +1,68 @@
 //! What looks wrong in what the tables say.
 
-use crate::addresses::Address;
 use crate::claims::Claims;
 use crate::containers::Container;
-use crate::objects::Object;
-use crate::regions::{Region, kind_of, regions_at};
+use crate::objects::{Object, Site};
+use crate::regions::{Region, kind_of};
 use crate::value::Value;
-use acpi_objects::{ObjectKind, UnitForm};
+use acpi_kinds::ObjectKind;
+use acpi_name::Path;
 use acpi_resources::{Stop, Template};
-use acpi_survey::Survey;
 use std::alloc::{AllocError, Global};
 use std::collections::BTreeMap;
 
+/// What looks wrong of an object.
+#[derive(Debug, Clone, Copy)]
+pub enum LintReason<'a> {
+    /// The device has the `_HID` and the `_UID` of another (ACPI 6.5, 6.1.12).
+    SameId {
+        /// Where the other stands in the namespace.
+        other: &'a Path,
+        /// The `_HID`.
+        hid: Value<'a>,
+    },
+    /// The device has the `_ADR` of another below its parent (6.1.1).
+    SameAddress {
+        /// Where the other stands in the namespace.
+        other: &'a Path,
+    },
+    /// The field unit ends behind its region.
+    Beyond {
+        /// The first bit behind the unit.
+        end: u64,
+        /// Where the region stands in the namespace.
+        region: &'a Path,
+    },
+    /// No constant `_CRS` claims the region of memory or ports, or none from an address on.
+    Unclaimed {
+        /// RegionSpace of the region.
+        space: u8,
+        /// The first address that isn't claimed.
+        from: u64,
+    },
+    /// The `_CRS` of the device is no resource template (6.4): where it ends.
+    BadTemplate(Stop),
+}
+
 /// What looks wrong in what the tables say, and loses nothing.
 #[derive(Debug, Clone, Copy)]
-pub enum Lint<'a> {
-    /// Two devices have one `_HID` and one `_UID` (ACPI 6.5, 6.1.12): the numbers of their containers.
-    SameId(usize, usize),
-    /// Two devices of one parent have one `_ADR` (6.1.1): the numbers of their containers.
-    SameAddress(usize, usize),
-    /// A field unit ends behind its region: the unit, the number of the region, and the first bit behind the unit.
-    Beyond(Object<'a>, usize, u64),
-    /// A region of memory or ports that no constant `_CRS` claims, or from an address on: its number and the address.
-    Unclaimed(usize, u64),
-    /// A `_CRS` that is no resource template (6.4): the number of its container, and where it ends.
-    BadTemplate(usize, Stop),
+pub struct Lint<'a> {
+    /// Where the object stands in the namespace.
+    pub path: &'a Path,
+    /// Where its term begins; nowhere for what is there before all tables.
+    pub site: Option<Site>,
+    /// What looks wrong of it.
+    pub reason: LintReason<'a>,
+}
+
+impl<'a> Lint<'a> {
+    fn new(object: &Object<'a>, reason: LintReason<'a>) -> Lint<'a> {
+        Lint {
+            path: object.path,
+            site: object.site,
+            reason,
+        }
+    }
 }
 
 // ---- devices
@@ -59,60 +97,68 @@ fn key_of(alloc: Global, container: &Container<'_>) -> Result<Option<Vec<u8>>, A
     Ok(Some(key))
 }
 
-fn put_same_ids(
+fn put_same_ids<'a>(
     alloc: Global,
-    lints: &mut Vec<Lint<'_>>,
-    containers: &[Container<'_>],
+    lints: &mut Vec<Lint<'a>>,
+    containers: &[Container<'a>],
 ) -> Result<(), AllocError> {
-    let mut seen: BTreeMap<Vec<u8>, usize> = BTreeMap::new(alloc);
-    for number in 0..containers.len() {
-        let Some(key) = key_of(alloc, &containers[number])? else {
+    let mut seen: BTreeMap<Vec<u8>, &'a Path> = BTreeMap::new(alloc);
+    for container in containers {
+        let Some(key) = key_of(alloc, container)? else {
             continue;
         };
         match seen.get(key.as_slice()) {
-            Some(first) => lints.push(Lint::SameId(*first, number))?,
+            Some(other) => {
+                let hid = container.values.hid;
+                let reason = LintReason::SameId { other: *other, hid };
+                lints.push(Lint::new(&container.object, reason))?;
+            }
             None => {
-                seen.insert(key, number)?;
+                seen.insert(key, container.object.path)?;
             }
         }
     }
     Ok(())
 }
 
-fn put_same_addresses(
+fn put_same_addresses<'a>(
     alloc: Global,
-    lints: &mut Vec<Lint<'_>>,
-    containers: &[Container<'_>],
+    lints: &mut Vec<Lint<'a>>,
+    containers: &[Container<'a>],
 ) -> Result<(), AllocError> {
-    let mut seen: BTreeMap<(usize, u64), usize> = BTreeMap::new(alloc);
-    for number in 0..containers.len() {
-        let container = &containers[number];
+    let mut seen: BTreeMap<(usize, u64), &'a Path> = BTreeMap::new(alloc);
+    for container in containers {
         let (Some(parent), Some(adr)) = (container.parent, container.values.adr.number()) else {
             continue;
         };
-        if container.object.is_conditional || container.address == Address::Unknown {
+        if container.object.is_conditional {
             continue;
         }
         match seen.get(&(parent, adr)) {
-            Some(first) => lints.push(Lint::SameAddress(*first, number))?,
+            Some(other) => {
+                let reason = LintReason::SameAddress { other: *other };
+                lints.push(Lint::new(&container.object, reason))?;
+            }
             None => {
-                seen.insert((parent, adr), number)?;
+                seen.insert((parent, adr), container.object.path)?;
             }
         }
     }
     Ok(())
 }
 
-fn put_bad_templates(
-    lints: &mut Vec<Lint<'_>>,
-    resources: &[Option<Template<'_>>],
+fn put_bad_templates<'a>(
+    lints: &mut Vec<Lint<'a>>,
+    containers: &[Container<'a>],
+    resources: &[Option<Template<'a>>],
 ) -> Result<(), AllocError> {
-    for number in 0..resources.len() {
-        let Some(template) = &resources[number] else {
+    for (container, template) in containers.iter().zip(resources.iter()) {
+        let Some(template) = template else {
             continue;
         };
         if let Some(stop) = template.stop {
-            lints.push(Lint::BadTemplate(number, stop))?;
+            let reason = LintReason::BadTemplate(stop);
+            lints.push(Lint::new(&container.object, reason))?;
         }
     }
     Ok(())
@@ -120,94 +166,68 @@ fn put_bad_templates(
 
 // ---- regions
 
-// The bits of a field unit: its first, and the first behind it.
-fn bits_of(object: &Object<'_>) -> Option<(u64, u64)> {
+// The first bit behind a field unit.
+fn end_of(object: &Object<'_>) -> Option<u64> {
     match object.kind {
-        ObjectKind::Field {
-            form,
-            offset,
-            bits,
-            ..
-        } => match form {
-            UnitForm::Index => None,
-            _ => Some((offset, offset.saturating_add(u64::from(bits)))),
-        },
+        ObjectKind::Field { offset, bits, .. } => Some(offset.saturating_add(u64::from(bits))),
         _ => None,
     }
 }
 
-// Counts a field unit in the regions at which it may be, and tells where it ends behind one.
-fn hear_unit<'a>(
+// Tells the field units that end behind their region.
+fn put_beyond<'a>(
     lints: &mut Vec<Lint<'a>>,
-    regions: &mut Vec<Region<'a>>,
-    survey: &Survey,
-    object: &Object<'a>,
+    regions: &[Region<'a>],
+    objects: &[Object<'a>],
 ) -> Result<(), AllocError> {
-    let Some((_, end)) = bits_of(object) else {
-        return Ok(());
-    };
-    let links = survey.links(object.number)?;
-    let Some(link) = links.first() else {
-        return Ok(());
-    };
-    let is_alone = link.paths.len() == 1;
-    for path in &link.paths {
-        let (from, to) = regions_at(regions, path);
-        let is_only = is_alone && to.saturating_sub(from) == 1;
-        for number in from..to {
-            if let Some(region) = regions.get_mut(number) {
-                region.units = region.units.saturating_add(1);
-                if is_only && region.ends_before(end) {
-                    lints.push(Lint::Beyond(*object, number, end))?;
-                }
-            }
+    for object in objects {
+        let (Some(number), Some(end)) = (object.region, end_of(object)) else {
+            continue;
+        };
+        let Some(region) = regions.get(number) else {
+            continue;
+        };
+        if region.ends_before(end) {
+            let region = region.object.path;
+            lints.push(Lint::new(object, LintReason::Beyond { end, region }))?;
         }
     }
     Ok(())
 }
 
-/// Counts the field units of regions, and tells those that end behind their region.
-pub fn count_units<'a>(
+fn put_unclaimed<'a>(
     lints: &mut Vec<Lint<'a>>,
-    regions: &mut Vec<Region<'a>>,
-    survey: &Survey,
-    objects: &[Object<'a>],
-) -> Result<(), AllocError> {
-    for object in objects {
-        hear_unit(lints, regions, survey, object)?;
-    }
-    Ok(())
-}
-
-fn put_unclaimed(
-    lints: &mut Vec<Lint<'_>>,
-    regions: &[Region<'_>],
+    regions: &[Region<'a>],
     claims: &Claims,
 ) -> Result<(), AllocError> {
-    for number in 0..regions.len() {
-        let region = &regions[number];
+    for region in regions {
         let (Some(kind), Some((from, to))) = (kind_of(region.space), region.range()) else {
             continue;
         };
         let cover = claims.cover(kind, from, to)?;
         if cover.to < to {
-            lints.push(Lint::Unclaimed(number, cover.to))?;
+            let (space, from) = (region.space, cover.to);
+            let reason = LintReason::Unclaimed { space, from };
+            lints.push(Lint::new(&region.object, reason))?;
         }
     }
     Ok(())
 }
 
 /// What looks wrong in devices, their resources and regions.
-pub fn put_lints(
+pub(crate) fn lints_of<'a>(
     alloc: Global,
-    lints: &mut Vec<Lint<'_>>,
-    containers: &[Container<'_>],
-    resources: &[Option<Template<'_>>],
-    regions: &[Region<'_>],
+    objects: &[Object<'a>],
+    containers: &[Container<'a>],
+    resources: &[Option<Template<'a>>],
+    regions: &[Region<'a>],
     claims: &Claims,
-) -> Result<(), AllocError> {
-    put_same_ids(alloc, lints, containers)?;
-    put_same_addresses(alloc, lints, containers)?;
-    put_bad_templates(lints, resources)?;
-    put_unclaimed(lints, regions, claims)
+) -> Result<Vec<Lint<'a>>, AllocError> {
+    let mut lints = Vec::new(alloc);
+    put_beyond(&mut lints, regions, objects)?;
+    put_same_ids(alloc, &mut lints, containers)?;
+    put_same_addresses(alloc, &mut lints, containers)?;
+    put_bad_templates(&mut lints, containers, resources)?;
+    put_unclaimed(&mut lints, regions, claims)?;
+    Ok(lints)
 }

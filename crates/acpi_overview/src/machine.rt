@@ -2,15 +2,14 @@
 
 use crate::claims::Claims;
 use crate::containers::Tree;
-use crate::lints::{Lint, count_units, put_lints};
-use crate::objects::{Object, objects_of};
+use crate::facts::{Facts, Table};
+use crate::lints::{Lint, lints_of};
+use crate::objects::Object;
 use crate::ospm_methods::{OspmMethod, ospm_methods_of};
 use crate::regions::{Region, regions_of};
 use crate::resources::resources_of;
-use crate::store_targets::StoreTargets;
-use acpi_objects::ObjectKind;
+use acpi_kinds::ObjectKind;
 use acpi_resources::Template;
-use acpi_survey::{Note, Problem, Survey};
 use std::alloc::{AllocError, Global};
 
 /// How many objects of some kinds there are, and bytes of code.
@@ -30,15 +29,15 @@ pub struct Totals {
     pub names: usize,
     /// How many objects have a condition.
     pub conditional: usize,
-    /// How many bytes of tables are lost.
-    pub lost: usize,
+    /// How many of these stand in a container that has one too.
+    pub inside: usize,
 }
 
 /// What the tables of a machine say of it, without running any of their code.
 #[derive(Drop)]
 pub struct Overview<'a> {
-    /// The survey of the tables.
-    pub survey: &'a Survey,
+    /// The tables, in the order of their numbers.
+    pub tables: Vec<Table<'a>>,
     /// The objects in the order of their paths.
     pub objects: Vec<Object<'a>>,
     /// The devices and other objects below which others stand.
@@ -53,10 +52,6 @@ pub struct Overview<'a> {
     pub ospm_methods: Vec<OspmMethod<'a>>,
     /// What looks wrong.
     pub lints: Vec<Lint<'a>>,
-    /// What is lost or refused.
-    pub problems: &'a [Problem],
-    /// What is noticed and loses nothing.
-    pub notes: &'a [Note],
     /// How many there are.
     pub totals: Totals,
 }
@@ -83,65 +78,85 @@ impl Totals {
     }
 }
 
-fn lost_in(problems: &[Problem]) -> usize {
-    let mut lost = 0usize;
-    for problem in problems {
-        if let Some(range) = problem.lost {
-            lost = lost.saturating_add(range.to.saturating_sub(range.from));
-        }
-    }
-    lost
-}
-
-fn totals_of(objects: &[Object<'_>], problems: &[Problem], opaque: usize) -> Totals {
+// What there is of the objects of tables, with how many of them stand in a container that has a condition too.
+fn totals_of(facts: &Facts<'_>, tree: &Tree<'_>) -> Totals {
     let mut totals = Totals {
         devices: 0,
         units: 0,
         methods: 0,
         code: 0,
-        opaque,
+        opaque: facts.opaque,
         names: 0,
         conditional: 0,
-        lost: lost_in(problems),
+        inside: 0,
     };
-    for object in objects {
+    for place in 0..facts.objects.len() {
+        let object = &facts.objects[place];
         if object.site.is_some() {
             totals.add(object);
+        }
+        if is_inside(tree, object, place) {
+            increase(&mut totals.inside, 1);
         }
     }
     totals
 }
 
-/// The overview of the tables of a survey. Only an allocation failure is an error.
-pub fn overview_of(alloc: Global, survey: &Survey) -> Result<Overview<'_>, AllocError> {
-    let objects = objects_of(alloc, survey)?;
-    let tree = Tree::new(alloc, survey, &objects)?;
-    let store_targets = StoreTargets::new(alloc, survey, &objects)?;
-    let mut regions = regions_of(alloc, survey, &objects, &tree, &store_targets)?;
+// Whether the object at a place and the container around it have a condition.
+fn is_inside(tree: &Tree<'_>, object: &Object<'_>, place: usize) -> bool {
+    object.is_conditional
+        && tree
+            .container_around(place)
+            .is_some_and(|c| c.object.is_conditional)
+}
+
+impl<'a> Overview<'a> {
+    /// The objects that have a condition; of a limit as many of them at most, and none in a container that has one too.
+    pub fn conditional(
+        &self,
+        alloc: Global,
+        limit: Option<usize>,
+    ) -> Result<Vec<Object<'a>>, AllocError> {
+        let mut found = Vec::new(alloc);
+        for place in 0..self.objects.len() {
+            let object = &self.objects[place];
+            let is_told = match limit {
+                Some(limit) => found.len() < limit && !is_inside(&self.tree, object, place),
+                None => true,
+            };
+            if is_told && object.is_conditional {
+                found.push(*object)?;
+            }
+        }
+        Ok(found)
+    }
+}
+
+/// The overview of the tables of which these are the facts. Only an allocation failure is an error.
+pub fn overview_of<'a>(alloc: Global, facts: Facts<'a>) -> Result<Overview<'a>, AllocError> {
+    let tree = Tree::new(alloc, &facts.objects)?;
+    let regions = regions_of(alloc, &facts.regions, &tree)?;
     let resources = resources_of(alloc, &tree.containers)?;
     let claims = Claims::new(alloc, &tree.containers, &resources)?;
-    let mut lints = Vec::new(alloc);
-    count_units(&mut lints, &mut regions, survey, &objects)?;
-    put_lints(
+    let lints = lints_of(
         alloc,
-        &mut lints,
+        &facts.objects,
         &tree.containers,
         &resources,
         &regions,
         &claims,
     )?;
-    let totals = totals_of(&objects, survey.problems(), store_targets.opaque());
+    let ospm_methods = ospm_methods_of(alloc, &facts.objects)?;
+    let totals = totals_of(&facts, &tree);
     Ok(Overview {
-        survey,
-        ospm_methods: ospm_methods_of(alloc, &objects)?,
-        objects,
+        tables: facts.tables,
+        objects: facts.objects,
         tree,
         resources,
         claims,
         regions,
+        ospm_methods,
         lints,
-        problems: survey.problems(),
-        notes: survey.notes(),
         totals,
     })
 }

@@ -5,7 +5,7 @@ ghost use Rattle.acpi_overview.specs.OspmMethods.{is_hex_digit, named_kind, numb
 
 use crate::containers::last_segment;
 use crate::objects::Object;
-use acpi_objects::ObjectKind;
+use acpi_kinds::ObjectKind;
 use std::alloc::{AllocError, Global};
 
 /// A kind of methods that an operating system runs by itself (ACPI 6.5, 5.6, 6.2, 6.3, 6.5 and 7).

@@ -1,17 +1,16 @@
 //! Operation regions.
 
-ghost use Rattle.std.specs.Prelude.{◌≡◌, ◌≤◌, IfSome, IfOk};
+ghost use Rattle.std.specs.Prelude.{◌≡◌, ◌≤◌, IfSome};
 ghost use Rattle.acpi_overview.specs.Regions.{bound_number, claimed_kind, ends_before, region_mark, region_range, IsBoundOf};
 
+use crate::addresses::Address;
 use crate::containers::Tree;
-use crate::objects::{Object, objects_at};
+use crate::facts::{BoundTerm, RegionTerms};
+use crate::objects::Object;
 use crate::resources::AddressKind;
-use crate::store_targets::StoreTargets;
 use crate::value::Value;
-use acpi_conditions::Seen;
+use acpi_kinds::{ObjectKind, UnitForm};
 use acpi_name::{Name, Path};
-use acpi_objects::ObjectKind;
-use acpi_survey::Survey;
 use acpi_tree::Term;
 use std::alloc::{AllocError, Global};
 
@@ -37,24 +36,56 @@ pub enum Certainty {
     Read,
 }
 
+/// A field unit from which a bound of a region is read at run time.
+#[derive(Debug, Clone, Copy)]
+pub struct UnitSource<'a> {
+    /// Where the field unit stands in the namespace.
+    pub unit: &'a Path,
+    /// Its first bit, from the first of its region.
+    pub offset: u64,
+    /// Its width, in bits.
+    pub bits: u32,
+    /// Where its region stands in the namespace.
+    pub region: &'a Path,
+    /// RegionSpace of that region.
+    pub space: u8,
+    /// Where the device around that region stands.
+    pub device: Address,
+}
+
 /// An operation region.
 #[derive(Debug, Clone, Copy)]
 pub struct Region<'a> {
     /// The object that the region is.
     pub object: Object<'a>,
-    /// The number of the container around it.
-    pub around: Option<usize>,
+    /// Where the device around it stands.
+    pub device: Address,
     /// RegionSpace: 0 SystemMemory, 1 SystemIO and so on (ACPI 6.5, 20.2.5.2 DefOpRegion).
     pub space: u8,
     /// RegionOffset: its first byte in the space.
     pub offset: Bound<'a>,
     /// RegionLen: how many bytes it has.
     pub length: Bound<'a>,
-    /// How many field units are in it.
+    /// How many field units may be in it.
     pub units: usize,
+    /// The field unit from which its first byte is read.
+    pub source: Option<UnitSource<'a>>,
 }
 
 impl<'a> Bound<'a> {
+    /// The bound that a term gives, which may name a constant.
+    pub fn new(bound: &BoundTerm<'a>) -> Bound<'a>
+        ensures { IsBoundOf bound.now.term.now result }
+    {
+        if let Some(number) = Value::of_term(bound.term).number() {
+            return Bound::Constant(number);
+        }
+        match (bound.term, bound.constant) {
+            (Term::Call(name, _), Some(constant)) => Bound::Named(constant, name),
+            _ => Bound::Read(bound.term),
+        }
+    }
+
     /// The number, where it is known without running code.
     pub fn number(&self) -> Option<u64>
         ensures { result ≡ bound_number self.now }
@@ -101,107 +132,60 @@ impl<'a> Region<'a> {
     }
 }
 
-/// What the bounds of regions are looked up in.
-#[derive(Clone, Copy)]
-struct ConstantLookup<'a, 'b> {
-    alloc: Global,
-    survey: &'a Survey,
-    objects: &'b [Object<'a>],
-    store_targets: &'b StoreTargets,
-}
-
-impl<'a, 'b> ConstantLookup<'a, 'b> {
-    // The constant that a name in the term of an entry stands for, if nothing can change it.
-    fn constant_of(&self, number: usize, name: &Name) -> Result<Option<u64>, AllocError> {
-        let entries = self.survey.entries();
-        let Some(entry) = entries.paths.entries().get(number) else {
-            return Ok(None);
-        };
-        let seen = Seen::new(entries.paths, entries.ways, entry)?;
-        let found = seen.find(self.alloc, name.view())?;
-        let [path] = found.paths.as_slice() else {
-            return Ok(None);
-        };
-        let [object] = objects_at(self.objects, path) else {
-            return Ok(None);
-        };
-        let Some(segment) = path.segs().last() else {
-            return Ok(None);
-        };
-        if self.store_targets.may_store(*segment) {
-            return Ok(None);
-        }
-        Ok(Value::of_object(object.kind, 0).number())
-    }
-
-    // A bound in the term of an entry.
-    fn bound(&self, number: usize, term: &'a Term) -> Result<Bound<'a>, AllocError>
-        ensures { IfOk result (λ b. IsBoundOf term.now b) }
-    {
-        if let Some(constant) = Value::of_term(term).number() {
-            return Ok(Bound::Constant(constant));
-        }
-        let Term::Call(name, _) = term else {
-            return Ok(Bound::Read(term));
-        };
-        match self.constant_of(number, name)? {
-            Some(constant) => Ok(Bound::Named(constant, name)),
-            None => Ok(Bound::Read(term)),
-        }
-    }
-
-    fn region(
-        &self,
-        object: &Object<'a>,
-        around: Option<usize>,
-    ) -> Result<Option<Region<'a>>, AllocError> {
-        let ObjectKind::Region {
-            space,
-            offset,
-            length,
-        } = object.kind
-        else {
-            return Ok(None);
-        };
-        Ok(Some(Region {
-            object: *object,
-            around,
-            space,
-            offset: self.bound(object.number, offset)?,
-            length: self.bound(object.number, length)?,
-            units: 0,
-        }))
+// Where the device stands around the object at a place.
+fn device_around(tree: &Tree<'_>, place: usize) -> Address {
+    match tree.container_around(place) {
+        Some(container) => container.address,
+        None => Address::Missing,
     }
 }
 
-/// The regions in the order of their paths.
-pub fn regions_of<'a>(
-    alloc: Global,
-    survey: &'a Survey,
-    objects: &[Object<'a>],
+// The field unit from which the first byte of a region is read, where it is sure to be in one of the regions.
+fn source_of<'a>(
+    regions: &[RegionTerms<'a>],
     tree: &Tree<'a>,
-    store_targets: &StoreTargets,
-) -> Result<Vec<Region<'a>>, AllocError> {
-    let lookup = ConstantLookup {
-        alloc,
-        survey,
-        objects,
-        store_targets,
+    region: &RegionTerms<'a>,
+) -> Option<UnitSource<'a>> {
+    let unit = region.source?;
+    let ObjectKind::Field {
+        form: UnitForm::Field,
+        offset,
+        bits,
+        ..
+    } = unit.kind
+    else {
+        return None;
     };
-    let mut regions = Vec::new(alloc);
-    'each: for (object, around) in objects.iter().zip(tree.around.iter()) {
-        if let Some(region) = lookup.region(object, *around)? {
-            regions.push(region)?;
-        }
-    }
-    Ok(regions)
+    let region = regions.get(unit.region?)?;
+    Some(UnitSource {
+        unit: unit.path,
+        offset,
+        bits,
+        region: region.object.path,
+        space: region.space,
+        device: device_around(tree, region.place),
+    })
 }
 
-/// The numbers of the regions at a path: the first, and the first behind them.
-pub(crate) fn regions_at(regions: &[Region<'_>], path: &Path) -> (usize, usize) {
-    let from = regions.partition_point(|r| *r.object.path < *path);
-    let to = regions.partition_point(|r| *r.object.path <= *path);
-    (from, to)
+/// The regions, in their order.
+pub(crate) fn regions_of<'a>(
+    alloc: Global,
+    regions: &[RegionTerms<'a>],
+    tree: &Tree<'a>,
+) -> Result<Vec<Region<'a>>, AllocError> {
+    let mut all = Vec::new(alloc);
+    for region in regions {
+        all.push(Region {
+            object: region.object,
+            device: device_around(tree, region.place),
+            space: region.space,
+            offset: Bound::new(&region.offset),
+            length: Bound::new(&region.length),
+            units: region.units,
+            source: source_of(regions, tree, region),
+        })?;
+    }
+    Ok(all)
 }
 
 /// The kind of addresses of an address space, if devices claim such (ACPI 6.5, table 5.184): 0 SystemMemory, 1

@@ -2,10 +2,10 @@
 
 ghost use Rattle.std.specs.Prelude.{◌≡◌, ℕ};
 ghost use Rattle.acpi_overview.specs.Numbers.{integer_value, is_missing, term_number, value_number};
-ghost use Rattle.acpi_objects.specs.declared.kind.ObjectKind.TheVariants as objects;
+ghost use Rattle.acpi_kinds.specs.declared.kind.ObjectKind.TheVariants as objects;
 ghost use Rattle.acpi_overview.specs.declared.value.Value.TheVariants as known;
 
-use acpi_objects::ObjectKind;
+use acpi_kinds::ObjectKind;
 use acpi_tree::{Int, Term};
 
 /// What is known of an object's value without running code (ACPI 6.5, 19.6).

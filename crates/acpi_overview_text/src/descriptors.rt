@@ -1,12 +1,12 @@
 //! Texts of resource descriptors (ACPI 6.5, 6.4).
 
+use crate::forms::{put, put_decimal};
 use crate::words::put_hex;
 use acpi_overview::Value;
 use acpi_resources::{
     AddressSpace, Descriptor, ExtendedAddressSpace, ExtendedInterrupt, FixedDma, FixedMemory32,
     GenericRegister, Gpio, Io, Irq, Memory24, Memory32, SerialBus, Template, TemplateFault,
 };
-use acpi_text::{put, put_decimal};
 use std::alloc::AllocError;
 
 // A first address and a length.

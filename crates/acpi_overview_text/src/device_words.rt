@@ -1,10 +1,10 @@
 //! Texts of what is known of a device.
 
+use crate::forms::{put, put_decimal};
 use crate::words::{put_escaped, put_hex};
-use acpi_objects::ObjectKind;
+use acpi_kinds::ObjectKind;
 use acpi_overview::{Address, Container, Value, integer_value};
 use acpi_resources::{eisa_id, name_of};
-use acpi_text::{put, put_decimal};
 use acpi_tree::Term;
 use std::alloc::{AllocError, Global};
 
@@ -99,9 +99,10 @@ pub fn what_of(
     }
 }
 
-/// Puts where a device stands on its parent's bus: `1F.0`, or another address.
-pub fn put_address(text: &mut Vec<u8>, container: &Container<'_>) -> Result<(), AllocError> {
-    match container.address {
+/// Puts where a device stands on its parent's bus: `1F.0`, or another address; nothing where it has none.
+pub fn put_address(text: &mut Vec<u8>, address: Address) -> Result<(), AllocError> {
+    match address {
+        Address::Missing => Ok(()),
         Address::Pci { device, function } => {
             put_hex(text, u64::from(device), 2)?;
             put(text, ".")?;
@@ -115,15 +116,12 @@ pub fn put_address(text: &mut Vec<u8>, container: &Container<'_>) -> Result<(), 
             put(text, "adr ")?;
             put_hex(text, number, 1)
         }
-        Address::Unknown => match container.values.adr {
-            Value::Missing => Ok(()),
-            Value::Method(code) => {
-                put(text, "_ADR ")?;
-                put_decimal(text, code as u64)?;
-                put(text, " B")
-            }
-            _ => put(text, "_ADR ?"),
-        },
+        Address::Method(code) => {
+            put(text, "_ADR ")?;
+            put_decimal(text, code as u64)?;
+            put(text, " B")
+        }
+        Address::Unknown => put(text, "_ADR ?"),
     }
 }
 

@@ -1,8 +1,8 @@
 //! Terms that are read at run time, with the signs of arithmetic.
 
+use crate::forms::{put, put_decimal, put_name, put_term};
 use crate::words::put_hex;
 use acpi_overview::integer_value;
-use acpi_text::{put, put_decimal, put_name, put_term};
 use acpi_tree::{Op, Operand, Term};
 use std::alloc::AllocError;
 

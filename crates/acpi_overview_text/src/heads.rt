@@ -1,22 +1,25 @@
 //! Texts of tables and of all that they hold.
 
+use crate::forms::{put, put_decimal};
 use crate::words::{put_count, put_counted, put_escaped, put_hex};
-use acpi_overview::{Overview, TableHeader, Totals, header_of, is_sum_good};
-use acpi_survey::{SurveyedTable, TableContent, TableReason};
-use acpi_text::{put, put_decimal};
+use acpi_overview::{Lines, Overview, Table, TableHeader, TableState, Totals, header_of};
 use std::alloc::AllocError;
 
 /// Puts how many tables, problems and notes there are, and how many bytes are lost.
-pub fn put_first(text: &mut Vec<u8>, overview: &Overview<'_>) -> Result<(), AllocError> {
-    put_counted(text, overview.survey.tables.len(), "table")?;
+pub fn put_first(
+    text: &mut Vec<u8>,
+    overview: &Overview<'_>,
+    lines: &Lines<'_>,
+) -> Result<(), AllocError> {
+    put_counted(text, overview.tables.len(), "table")?;
     put(text, "  ")?;
-    put_counted(text, overview.problems.len(), "problem")?;
+    put_counted(text, lines.problems.len(), "problem")?;
     put(text, "  ")?;
-    put_counted(text, overview.notes.len(), "note")?;
+    put_counted(text, lines.notes.len(), "note")?;
     put(text, "  ")?;
     put_count(text, overview.totals.conditional as u64)?;
     put(text, " conditional  ")?;
-    put_count(text, overview.totals.lost as u64)?;
+    put_count(text, lines.lost as u64)?;
     put(text, " bytes lost")
 }
 
@@ -34,18 +37,23 @@ fn put_header(text: &mut Vec<u8>, header: &TableHeader<'_>) -> Result<(), AllocE
     put_hex(text, u64::from(header.creator_revision), 8)
 }
 
-// Says that nothing of a table is read, and of one that is neither a DSDT nor an SSDT what it is.
-fn put_unread(text: &mut Vec<u8>, table: &SurveyedTable) -> Result<(), AllocError> {
-    let TableContent::Unread(reason) = &table.judged else {
-        return Ok(());
-    };
-    put(text, "  ")?;
-    match (reason, header_of(&table.bytes)) {
-        (TableReason::Table(_), _) | (_, None) => put(text, "not read"),
-        (_, Some(header)) => {
+// Says whether the bytes of a table sum to 0, or that nothing of it is read; of one that is neither a DSDT nor an SSDT
+// what it is.
+fn put_state(
+    text: &mut Vec<u8>,
+    state: TableState,
+    header: Option<TableHeader<'_>>,
+) -> Result<(), AllocError> {
+    match (state, header) {
+        (TableState::Good, _) => put(text, "  sum good"),
+        (TableState::BadSum, _) => put(text, "  sum bad"),
+        (TableState::Cut, _) => Ok(()),
+        (TableState::Other, Some(header)) => {
+            put(text, "  ")?;
             put_escaped(text, header.signature)?;
             put(text, ": not read")
         }
+        (TableState::Other, None) | (TableState::Broken, _) => put(text, "  not read"),
     }
 }
 
@@ -54,7 +62,7 @@ pub fn put_table(
     text: &mut Vec<u8>,
     number: usize,
     file: Option<&&str>,
-    table: &SurveyedTable,
+    table: &Table<'_>,
 ) -> Result<(), AllocError> {
     put(text, "table ")?;
     put_decimal(text, number as u64)?;
@@ -63,17 +71,14 @@ pub fn put_table(
         put_escaped(text, file.as_bytes())?;
     }
     put(text, "  ")?;
-    match header_of(&table.bytes) {
-        Some(header) => put_header(text, &header)?,
+    let header = header_of(table.bytes);
+    match &header {
+        Some(header) => put_header(text, header)?,
         None => put(text, "no header")?,
     }
     put(text, "  ")?;
     put_counted(text, table.bytes.len(), "byte")?;
-    match is_sum_good(table) {
-        Some(true) => put(text, "  sum good"),
-        Some(false) => put(text, "  sum bad"),
-        None => put_unread(text, table),
-    }
+    put_state(text, table.state, header)
 }
 
 /// Puts how many objects there are.

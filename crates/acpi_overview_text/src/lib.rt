@@ -7,6 +7,7 @@
 mod descriptors;
 mod device_words;
 mod expressions;
+mod forms;
 mod heads;
 mod lint_words;
 mod region_words;
@@ -14,11 +15,12 @@ mod rows;
 mod words;
 
 pub use device_words::{put_id, put_status};
+pub use forms::{put, put_decimal, put_spaced};
 pub use heads::{put_first, put_table, put_totals};
-pub use lint_words::{put_lint, put_site, site_of};
+pub use lint_words::{put_lint, put_site};
 pub use region_words::{
     by_address, mark_of, put_addresses, put_length, put_origin, put_region_path, put_units,
     space_word,
 };
-pub use rows::{Order, Row, Rows};
+pub use rows::{Row, Rows};
 pub use words::{put_count, put_counted, put_hex, put_last, put_short_path, put_short_segment};

@@ -2,9 +2,11 @@
 
 use crate::device_words::put_address;
 use crate::expressions::put_expression;
+use crate::forms::{put, put_decimal, put_name};
 use crate::words::{put_hex, put_last, put_short_path, put_size};
-use acpi_overview::{Address, AddressKind, Bound, Certainty, Overview, Region, kind_of};
-use acpi_text::{put, put_decimal, put_name};
+use acpi_overview::{
+    Address, AddressKind, Bound, Certainty, Overview, Region, UnitSource, kind_of,
+};
 use std::alloc::{AllocError, Global};
 
 /// The word for an address space (ACPI 6.5, table 5.184).
@@ -36,41 +38,45 @@ fn digits_of(space: u8) -> u32 {
     }
 }
 
-// The device in whose configuration space a region lies.
-fn device_of(region: &Region<'_>, overview: &Overview<'_>) -> u64 {
-    match region.around.and_then(|n| overview.tree.containers.get(n)) {
-        Some(container) => match container.address {
-            Address::Pci { device, function } => {
-                u64::from(device) * 0x1_0000 + u64::from(function)
-            }
-            _ => u64::MAX,
-        },
-        None => u64::MAX,
+// A key for the device in whose configuration space a region lies.
+fn device_key(device: Address) -> u64 {
+    match device {
+        Address::Pci { device, function } => u64::from(device) * 0x1_0000 + u64::from(function),
+        _ => u64::MAX,
     }
 }
 
-/// The numbers of the regions by their spaces and addresses, those of which nothing is known before a run last.
-pub fn by_address(alloc: Global, overview: &Overview<'_>) -> Result<Vec<usize>, AllocError> {
+// A key by which regions are ordered: the space, the device, the address, and the place.
+fn order_key(region: &Region<'_>, place: usize) -> (u8, u64, u64, usize) {
+    let device = if region.space == 2 {
+        device_key(region.device)
+    } else {
+        0
+    };
+    let address = match region.offset.number() {
+        Some(address) => address,
+        None => u64::MAX,
+    };
+    (region.space, device, address, place)
+}
+
+/// The regions by their spaces and addresses, those of which nothing is known before a run last.
+pub fn by_address<'a, 'b>(
+    alloc: Global,
+    regions: &'b [Region<'a>],
+) -> Result<Vec<&'b Region<'a>>, AllocError> {
     let mut keys: Vec<(u8, u64, u64, usize)> = Vec::new(alloc);
-    for number in 0..overview.regions.len() {
-        let region = &overview.regions[number];
-        let device = if region.space == 2 {
-            device_of(region, overview)
-        } else {
-            0
-        };
-        let address = match region.offset.number() {
-            Some(address) => address,
-            None => u64::MAX,
-        };
-        keys.push((region.space, device, address, number))?;
+    for place in 0..regions.len() {
+        keys.push(order_key(&regions[place], place))?;
     }
     keys.sort_unstable();
-    let mut numbers = Vec::new(alloc);
-    for (_, _, _, number) in &keys {
-        numbers.push(*number)?;
+    let mut ordered = Vec::new(alloc);
+    for (_, _, _, place) in &keys {
+        if let Some(region) = regions.get(*place) {
+            ordered.push(region)?;
+        }
     }
-    Ok(numbers)
+    Ok(ordered)
 }
 
 /// The sign of how far the bounds of a region are known: `=` constants, `~` names of constants that are never stored
@@ -92,31 +98,18 @@ fn put_bound(text: &mut Vec<u8>, bound: &Bound<'_>, digits: u32) -> Result<(), A
 }
 
 // The device in whose configuration space a region lies.
-fn put_device(
-    text: &mut Vec<u8>,
-    overview: &Overview<'_>,
-    region: &Region<'_>,
-) -> Result<(), AllocError> {
-    match region.around.and_then(|n| overview.tree.containers.get(n)) {
-        Some(container) => {
-            if container.values.adr.is_missing() {
-                return put(text, "?");
-            }
-            put_address(text, container)
-        }
-        None => put(text, "?"),
+fn put_device(text: &mut Vec<u8>, device: Address) -> Result<(), AllocError> {
+    match device {
+        Address::Missing => put(text, "?"),
+        _ => put_address(text, device),
     }
 }
 
 /// Puts the addresses of a region: the first and the last, or what gives them.
-pub fn put_addresses(
-    text: &mut Vec<u8>,
-    overview: &Overview<'_>,
-    region: &Region<'_>,
-) -> Result<(), AllocError> {
+pub fn put_addresses(text: &mut Vec<u8>, region: &Region<'_>) -> Result<(), AllocError> {
     let digits = digits_of(region.space);
     if region.space == 2 {
-        put_device(text, overview, region)?;
+        put_device(text, region.device)?;
         put(text, " ")?;
     }
     match region.range() {
@@ -194,26 +187,15 @@ fn put_claimed(
 }
 
 // The field unit from which the first byte of a region is read: `MHBR: config 00.0 bit 591+24`.
-fn put_unit(
-    alloc: Global,
-    text: &mut Vec<u8>,
-    overview: &Overview<'_>,
-    number: usize,
-) -> Result<(), AllocError> {
-    let Some(source) = overview.source_of(alloc, number)? else {
-        return Ok(());
-    };
-    let Some(region) = overview.regions.get(source.region) else {
-        return Ok(());
-    };
-    put_last(text, source.unit.path)?;
+fn put_unit(text: &mut Vec<u8>, source: &UnitSource<'_>) -> Result<(), AllocError> {
+    put_last(text, source.unit)?;
     put(text, ": ")?;
-    put(text, space_word(region.space))?;
+    put(text, space_word(source.space))?;
     put(text, " ")?;
-    if region.space == 2 {
-        put_device(text, overview, region)?;
+    if source.space == 2 {
+        put_device(text, source.device)?;
     } else {
-        put_last(text, region.object.path)?;
+        put_last(text, source.region)?;
     }
     put(text, " bit ")?;
     put_decimal(text, source.offset)?;
@@ -221,19 +203,17 @@ fn put_unit(
     put_decimal(text, u64::from(source.bits))
 }
 
-/// Puts what gives the bounds of the region of that number, and whose `_CRS` claims it.
+/// Puts what gives the bounds of a region, and whose `_CRS` claims it.
 pub fn put_origin(
-    alloc: Global,
     text: &mut Vec<u8>,
     overview: &Overview<'_>,
-    number: usize,
+    region: &Region<'_>,
 ) -> Result<(), AllocError> {
-    let Some(region) = overview.regions.get(number) else {
-        return Ok(());
-    };
     put_source(text, &region.offset)?;
     put_source(text, &region.length)?;
-    put_unit(alloc, text, overview, number)?;
+    if let Some(source) = &region.source {
+        put_unit(text, source)?;
+    }
     let (Some(kind), Some((from, to))) = (kind_of(region.space), region.range()) else {
         return Ok(());
     };

@@ -4,17 +4,20 @@ use crate::descriptors::put_resources;
 use crate::device_words::{
     put_address, put_counts, put_id, put_mark, put_status, put_wake, what_of,
 };
+use crate::forms::{put, put_decimal};
 use crate::words::{put_last, put_short_path};
-use acpi_objects::ObjectKind;
+use acpi_kinds::ObjectKind;
 use acpi_overview::{Address, Container, Overview};
-use acpi_text::{put, put_decimal};
+use acpi_resources::Template;
 use std::alloc::{AllocError, Global};
 
 /// A row of the tree: what is shown of a container.
 #[derive(Drop)]
-pub struct Row {
-    /// How deep it stands.
-    pub depth: usize,
+pub struct Row<'a, 'b> {
+    /// The number of the container.
+    pub number: usize,
+    /// The container.
+    pub container: &'b Container<'a>,
     /// The last segment of its path.
     pub names: Vec<u8>,
     /// The hardware id, and those of compatible devices.
@@ -42,45 +45,22 @@ fn order_key(container: &Container<'_>, number: usize) -> (usize, u64, usize) {
     let address = match container.address {
         Address::Pci { device, function } => u64::from(device) * 0x1_0000 + u64::from(function),
         Address::Other(number) => number,
-        Address::Unknown => u64::MAX,
+        _ => u64::MAX,
     };
     (parent, address, number)
 }
 
-/// The containers by their parents, those of one parent by their addresses.
-#[derive(Drop)]
-pub struct Order {
-    keys: Vec<(usize, u64, usize)>,
-}
-
-impl Order {
-    /// The order of containers.
-    pub fn new(alloc: Global, containers: &[Container<'_>]) -> Result<Order, AllocError> {
-        let mut keys = Vec::new(alloc);
-        for number in 0..containers.len() {
-            keys.push(order_key(&containers[number], number))?;
-        }
-        keys.sort_unstable();
-        Ok(Order { keys })
+// The keys of containers, in their order.
+fn order_of(
+    alloc: Global,
+    containers: &[Container<'_>],
+) -> Result<Vec<(usize, u64, usize)>, AllocError> {
+    let mut keys = Vec::new(alloc);
+    for number in 0..containers.len() {
+        keys.push(order_key(&containers[number], number))?;
     }
-
-    /// The containers by their parents, those of one parent in their order: each behind its parent's number and its
-    /// address.
-    pub fn numbers(&self) -> &[(usize, u64, usize)] {
-        &self.keys
-    }
-
-    /// The containers below one, in their order.
-    pub fn below(&self, container: usize) -> &[(usize, u64, usize)] {
-        let parent = container.saturating_add(1);
-        let from = self.keys.partition_point(|k| k.0 < parent);
-        let to = self.keys.partition_point(|k| k.0 <= parent);
-        if from <= to {
-            &self.keys[from..to]
-        } else {
-            &[]
-        }
-    }
+    keys.sort_unstable();
+    Ok(keys)
 }
 
 // ---- texts
@@ -107,7 +87,7 @@ fn ids_of(alloc: Global, container: &Container<'_>) -> Result<Vec<u8>, AllocErro
 
 fn place_of(alloc: Global, container: &Container<'_>) -> Result<Vec<u8>, AllocError> {
     let mut place = Vec::new(alloc);
-    put_address(&mut place, container)?;
+    put_address(&mut place, container.address)?;
     put_mark(&mut place, "bus ", &container.values.bbn)?;
     put_mark(&mut place, "uid ", &container.values.uid)?;
     Ok(place)
@@ -150,13 +130,13 @@ fn has_of(alloc: Global, container: &Container<'_>) -> Result<Vec<u8>, AllocErro
     Ok(has)
 }
 
-// The row of a container.
-fn row_of(
+// The row of the container of that number.
+fn row_of<'a, 'b>(
     alloc: Global,
-    overview: &Overview<'_>,
-    container: &Container<'_>,
+    container: &'b Container<'a>,
+    template: &Option<Template<'_>>,
     number: usize,
-) -> Result<Row, AllocError> {
+) -> Result<Row<'a, 'b>, AllocError> {
     let mut names = Vec::new(alloc);
     if container.object.path.len() == 1 {
         put_short_path(&mut names, container.object.path)?;
@@ -164,11 +144,10 @@ fn row_of(
         put_last(&mut names, container.object.path)?;
     }
     let mut resources = Vec::new(alloc);
-    if let Some(template) = overview.resources.get(number) {
-        put_resources(&mut resources, &container.values.crs, template)?;
-    }
+    put_resources(&mut resources, &container.values.crs, template)?;
     Ok(Row {
-        depth: container.depth,
+        number,
+        container,
         names,
         ids: ids_of(alloc, container)?,
         what: what_words(alloc, container)?,
@@ -181,22 +160,58 @@ fn row_of(
 
 /// The rows of the tree of devices.
 #[derive(Drop)]
-pub struct Rows {
+pub struct Rows<'a, 'b> {
     /// By the number of a container, its row.
-    pub rows: Vec<Row>,
-    /// The order of siblings.
-    pub order: Order,
+    pub rows: Vec<Row<'a, 'b>>,
+    /// For each container its parent, if any behind 0, its address and its number: those of one parent stand together,
+    /// by their addresses.
+    pub order: Vec<(usize, u64, usize)>,
 }
 
-impl Rows {
+impl<'a, 'b> Rows<'a, 'b> {
     /// The rows of the containers of an overview. Only an allocation failure is an error.
-    pub fn new(alloc: Global, overview: &Overview<'_>) -> Result<Rows, AllocError> {
+    pub fn new(alloc: Global, overview: &'b Overview<'a>) -> Result<Rows<'a, 'b>, AllocError> {
         let containers = &overview.tree.containers;
         let mut rows = Vec::new(alloc);
-        for number in 0..containers.len() {
-            rows.push(row_of(alloc, overview, &containers[number], number)?)?;
+        for (container, template) in containers.iter().zip(overview.resources.iter()) {
+            let number = rows.len();
+            rows.push(row_of(alloc, container, template, number)?)?;
         }
-        let order = Order::new(alloc, containers)?;
+        let order = order_of(alloc, containers)?;
         Ok(Rows { rows, order })
+    }
+
+    // What stands directly below a container, in the order of the addresses.
+    fn below(&self, number: usize) -> &[(usize, u64, usize)] {
+        let parent = number.saturating_add(1);
+        let from = self.order.partition_point(|k| k.0 < parent);
+        let to = self.order.partition_point(|k| k.0 <= parent);
+        if from <= to {
+            &self.order[from..to]
+        } else {
+            &[]
+        }
+    }
+
+    /// Whether nothing stands below a container.
+    pub fn is_leaf(&self, row: &Row<'_, '_>) -> bool {
+        self.below(row.number).is_empty()
+    }
+
+    /// The rows as they are shown: each container before those below it, these by their addresses.
+    pub fn shown<'c>(&'c self, alloc: Global) -> Result<Vec<&'c Row<'a, 'b>>, AllocError> {
+        let mut shown = Vec::new(alloc);
+        let mut stack: Vec<usize> = Vec::new(alloc);
+        stack.push(0)?;
+        for _ in 0..self.rows.len() {
+            let Some(row) = stack.pop().and_then(|n| self.rows.get(n)) else {
+                break;
+            };
+            shown.push(row)?;
+            for (_, _, below) in self.below(row.number).iter().rev() {
+                stack.push(*below)?;
+            }
+        }
+        Ok(shown)
     }
 }

@@ -1,7 +1,7 @@
 //! Words of the report: paths, numbers and sizes as an engineer writes them.
 
+use crate::forms::{put, put_char, put_decimal};
 use acpi_name::{Path, Seg};
-use acpi_text::{put, put_char, put_decimal};
 use std::alloc::AllocError;
 
 fn digit(n: u64) -> u8 {

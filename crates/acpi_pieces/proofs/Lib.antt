@@ -1,1 +1,3 @@
 pub mod FilePieces
+mod Judging
+pub mod Judgements

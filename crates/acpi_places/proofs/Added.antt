@@ -16,9 +16,9 @@ use Rattle.acpi_declare.specs.Notes.{Method, methods, Notes, all_notes, method_o
 use Rattle.acpi_declare.specs.Predefined.{predefined}
 use Rattle.acpi_declare.specs.Sites.{sites}
 use Rattle.acpi_declare.specs.Tables.{IsTableOf}
-use Rattle.acpi_declare.specs.declared.notes.Method as code
-use Rattle.acpi_declare.specs.declared.notes.TableNotes.{TableNotes}
-use Rattle.acpi_declare.proofs.Unions.{path_same, union-nothing, union_assoc}
+use Rattle.acpi_pass.specs.declared.notes.Method as code
+use Rattle.acpi_pass.specs.declared.notes.TableNotes.{TableNotes}
+use Rattle.acpi_pass.proofs.Unions.{path_same, union-nothing, union_assoc}
 use Rattle.acpi_declare.proofs.TableLists.{count_listings, count_notes}
 use Rattle.acpi_places.specs.declared.place.CodePlace.{CodePlace}
 use Rattle.acpi_places.specs.Places.{AreTablePlaces, AreAllPlaces, by_path, all_by_path, AreCodePlaces}

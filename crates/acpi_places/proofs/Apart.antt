@@ -14,7 +14,7 @@ use Rattle.acpi_declare.specs.Notes.{Method, methods_by, methods}
 use Rattle.acpi_declare.specs.Placing.{IsPlaced}
 use Rattle.acpi_declare.specs.Predefined.{predefined}
 use Rattle.acpi_declare.specs.Sites.{Effect, declares, opens, expects, Site, sites}
-use Rattle.acpi_declare.proofs.Unions.{path_same}
+use Rattle.acpi_pass.proofs.Unions.{path_same}
 use Rattle.acpi_places.specs.declared.place.CodePlace.{CodePlace}
 use Rattle.acpi_places.specs.Places.{IsCodeAt, AreAllPlaces, by_path, all_by_path}
 use Rattle.acpi_places.specs.Laws.{EachIsPlaced, IsPlaced as HasPlace, AreTablePlaced}

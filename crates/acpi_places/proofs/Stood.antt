@@ -17,7 +17,7 @@ use Rattle.acpi_declare.specs.Namespace.{Namespace}
 use Rattle.acpi_declare.specs.Notes.{Method, methods_by, methods}
 use Rattle.acpi_declare.specs.Sites.{Effect, declares, opens, expects, Step, step, kind_object, scope_effect, unit_steps, external_step, external_steps, Site, item_sites, items_sites, sites}
 use Rattle.acpi_declare.specs.Tables.{code_of, IsTableOf}
-use Rattle.acpi_declare.proofs.SiteCodes.{effect_codes, scope_codes, step_codes, site_codes, sites_appended, units_codes, external_codes, externals_codes, in_sites}
+use Rattle.acpi_pass.proofs.SiteCodes.{effect_codes, scope_codes, step_codes, site_codes, sites_appended, units_codes, external_codes, externals_codes, in_sites}
 use Rattle.acpi_places.specs.declared.place.CodePlace.{CodePlace}
 use Rattle.acpi_places.specs.Places.{place_of_last, SpellsItemAt, SpellsItemsAt, IsCodeAt, AreTablePlaces}
 

@@ -10,7 +10,7 @@ use Rattle.acpi_space.specs.Lookups.{union}
 use Rattle.acpi_declare.specs.Listing.{Placement, objects_of}
 use Rattle.acpi_declare.specs.Loads.{AreListings, IsLoad, AreNotes, objects_after}
 use Rattle.acpi_declare.specs.Predefined.{predefined}
-use Rattle.acpi_declare.specs.declared.notes.TableNotes.{TableNotes}
+use Rattle.acpi_pass.specs.declared.notes.TableNotes.{TableNotes}
 use Rattle.acpi_declare.specs.Namespace.{Namespace}
 use Rattle.acpi_declare.specs.Notes.{external_counts, methods, Notes, all_notes, notes_of}
 use Rattle.acpi_declare.specs.Notes as notes
@@ -22,7 +22,7 @@ use Rattle.acpi_write.specs.Canonical.{items_bytes}
 use Rattle.acpi_write.specs.Shortest.{HasWithin}
 use Rattle.acpi_order.specs.Bodies.{Method, with_counts, methods_of}
 use Rattle.acpi_rewrite.specs.Rewriting.{AreTablesOfBytes, item_codes, codes, item_without_code, without_code, IsNewCode, IsShortest, IsRewritten, AreEachRewritten, AreRewritten}
-use Rattle.acpi_machine.specs.steps.Adding.{noted}
+use Rattle.acpi_order.specs.steps.Noted.{noted}
 use Rattle.acpi_rewrite.specs.steps.Recoding.{IsNoted, IsRewrittenTo}
 use Rattle.acpi_rewrite.proofs.Recoded.{alike_item_count, alike_count}
 use Rattle.acpi_rewrite.proofs.Rewritten.{shorter_items}

@@ -15,7 +15,7 @@ use Rattle.acpi_declare.specs.Notes.{counts_by, external_counts, methods_by, met
 use Rattle.acpi_declare.specs.Notes as notes
 use Rattle.acpi_declare.specs.Placing.{IsPlaced}
 use Rattle.acpi_declare.specs.Sites.{Effect, declares, opens, expects, Step, step, kind_object, scope_effect, unit_step, unit_steps, external_step, external_steps, own_steps, Site, site_in, own_sites, item_sites, items_sites, sites}
-use Rattle.acpi_declare.proofs.SiteCodes.{effect_codes, scope_codes, step_codes, site_codes, sites_appended, units_codes, externals_codes, in_sites}
+use Rattle.acpi_pass.proofs.SiteCodes.{effect_codes, scope_codes, step_codes, site_codes, sites_appended, units_codes, externals_codes, in_sites}
 use Rattle.acpi_rewrite.specs.Rewriting.{item_codes, codes, item_without_code, without_code}
 
 -- ---- sites without code

@@ -23,7 +23,7 @@ use Rattle.acpi_declare.specs.Notes as notes
 use Rattle.acpi_declare.specs.Predefined.{predefined}
 use Rattle.acpi_declare.specs.Sites.{sites}
 use Rattle.acpi_declare.specs.Tables.{code_of, IsTableOf}
-use Rattle.acpi_declare.proofs.Unions.{union-nothing, union_assoc}
+use Rattle.acpi_pass.proofs.Unions.{union-nothing, union_assoc}
 use Rattle.acpi_body.specs.Bodies.{BodyTree, read, unread}
 use Rattle.acpi_body.specs.Statements.{ReadsBody}
 use Rattle.acpi_order.specs.Bodies.{Method, with_counts, methods_of, all_methods, count, IsBody}

@@ -17,7 +17,7 @@ ghost use Rattle.acpi_order.specs.Bodies.{with_counts};
 ghost use Rattle.acpi_order.specs.Machines.{Machine, IsMachine};
 ghost use Rattle.acpi_order.specs.Orders.{TellsOfJoin};
 ghost use Rattle.acpi_rewrite.specs.Rewriting.{AreTablesOfBytes, item_codes, codes, item_without_code, without_code, IsNewCode, IsRewritten, AreRewritten, LoadToJoin};
-ghost use Rattle.acpi_machine.specs.steps.Adding.{noted};
+ghost use Rattle.acpi_order.specs.steps.Noted.{noted};
 ghost use Rattle.acpi_rewrite.specs.steps.Recoding.{IsNoted};
 
 use crate::rewriting_laws::{none_grows, one_rewriting, rewritten_load_alike, rewritten_stay};

@@ -9,10 +9,12 @@ use Rattle.acpi_conditions.specs.Entries.{Path, Entry, Why, then_branch, else_br
 use Rattle.acpi_conditions.specs.Known.{Known, declared_at, opened_at}
 use Rattle.acpi_conditions.specs.Survey.{Around, Survey, Surveying, survey, declaring_as, declaring, opening_as, opening, branching, looping, stopping, entry_at, inside_of, known_inside, inside_scope, known_in_scope, turning, known_in_loop, behind, passing, at_root, behind_table, table_survey, surveys, all_entries}
 use Rattle.acpi_survey.specs.Reading.{Reading, survey_rules}
-use Rattle.acpi_survey.specs.Survey.{code_read, place_in, at_table, behind_table as behind_read, all_nodes}
+use Rattle.acpi_pieces.specs.Tables.{code_read}
+use Rattle.acpi_survey.specs.Survey.{place_in, at_table, behind_table as behind_read, all_nodes}
 use Rattle.acpi_survey.specs.Surveys.{AreTables, behind_nodes, bytes_of, nodes_of_each}
 use Rattle.acpi_survey.specs.Predefined.{first_reading, with_object}
-use Rattle.acpi_survey.specs.EntryParts.{AllTile, predefined_count}
+use Rattle.acpi_survey.specs.SurveyOrder.{AllTile}
+use Rattle.acpi_survey.specs.Predefined.{predefined_count}
 use Rattle.acpi_survey.specs.declared.machine_survey.SurveyedTable.{SurveyedTable}
 use Rattle.acpi_survey.proofs.Growing.{Grow, grow_from, grow_on, grow_within, tables_grow}
 use Rattle.acpi_survey.proofs.TableWalks.{read_is_survey}

@@ -16,12 +16,13 @@ use Rattle.acpi_outline.specs.Tiling.{TilesFields, TilesInside, Tiles}
 use Rattle.acpi_outline.proofs.One.{outline_tiles}
 use Rattle.acpi_conditions.specs.Nodes.{Nodes, no_nodes, declares, branch, places}
 use Rattle.acpi_conditions.specs.Laws.{AreDistinct}
-use Rattle.acpi_survey.specs.declared.tables.TableContent.{TableContent}
-use Rattle.acpi_survey.specs.declared.tables.TableContent.TheVariants.{Unread, Read}
-use Rattle.acpi_survey.specs.Tables.{IsJudged}
+use Rattle.acpi_pieces.specs.declared.tables.TableContent.{TableContent}
+use Rattle.acpi_pieces.specs.declared.tables.TableContent.TheVariants.{Unread, Read}
+use Rattle.acpi_pieces.specs.Tables.{IsJudged}
 use Rattle.acpi_survey.specs.Nodes.{term_at, operator_at, plain_at, package_at, element_at, operands_of, fields_at, Listed, no_else, with_else, if_before, holding_at, lost_package_at, listed_node, listed, nodes_of}
 use Rattle.acpi_survey.specs.Reading.{Reading, survey_rules}
-use Rattle.acpi_survey.specs.Survey.{code_read, place_in, at_table, behind_table, AreRead, all_nodes}
+use Rattle.acpi_pieces.specs.Tables.{code_read}
+use Rattle.acpi_survey.specs.Survey.{place_in, at_table, behind_table, AreRead, all_nodes}
 
 -- they grow, from a first one on, and stand before the last
 abbrev pub Grow : ℕ → ℕ → List ℕ → Type 0

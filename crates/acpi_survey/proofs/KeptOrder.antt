@@ -19,7 +19,8 @@ use Rattle.acpi_outline.proofs.One.{outline_tiles}
 use Rattle.acpi_conditions.specs.Entries.{Path, Why}
 use Rattle.acpi_conditions.specs.Known.{opened_at}
 use Rattle.acpi_survey.specs.Reading.{Reading, Source, survey_rules, source_at, passing, after_operator, after_plain, after_name, with_opened, enter, leave, after_field, after_closed, after_lost}
-use Rattle.acpi_survey.specs.Survey.{code_read, place_in, at_table, behind_table}
+use Rattle.acpi_pieces.specs.Tables.{code_read}
+use Rattle.acpi_survey.specs.Survey.{place_in, at_table, behind_table}
 use Rattle.acpi_survey.specs.Surveys.{AreTables, behind_nodes}
 use Rattle.acpi_survey.specs.SurveyOrder.{IsInOrder}
 use Rattle.acpi_survey.specs.Predefined.{first_reading, with_object}

@@ -6,9 +6,10 @@ use Rattle.acpi_outline.specs.Rules.{after_fields, after, after_all}
 use Rattle.acpi_outline.specs.Outline.{IsOutline}
 use Rattle.acpi_outline.proofs.One.{any_fault, at_most_one as one_outline, has_one}
 use Rattle.acpi_survey.specs.Reading.{Reading, survey_rules, after_field, enter, leave}
-use Rattle.acpi_survey.specs.Survey.{AreRead, at_table, behind_table, code_read}
+use Rattle.acpi_survey.specs.Survey.{AreRead, at_table, behind_table}
+use Rattle.acpi_pieces.specs.Tables.{code_read}
 use Rattle.acpi_survey.specs.Laws.{AtMostOneReading, TablesAreRead}
-use Rattle.acpi_survey.proofs.Judgements.{judged, one_code}
+use Rattle.acpi_pieces.proofs.Judgements.{judged, one_code}
 
 -- ---- what is known behind nodes doesn't depend on why something is lost
 

@@ -6,7 +6,8 @@ use Rattle.acpi_conditions.specs.Survey.{known_behind, surveys, all_entries, all
 use Rattle.acpi_conditions.specs.Walk.{Walk, started, end_table, walked_tables}
 use Rattle.acpi_conditions.proofs.Walks.{walk_is_surveys}
 use Rattle.acpi_survey.specs.Reading.{Reading, survey_rules}
-use Rattle.acpi_survey.specs.Survey.{code_read, at_table, behind_table, AreRead, all_nodes}
+use Rattle.acpi_pieces.specs.Tables.{code_read}
+use Rattle.acpi_survey.specs.Survey.{at_table, behind_table, AreRead, all_nodes}
 use Rattle.acpi_survey.specs.Laws.{IsSurveyed, IsAtStart}
 use Rattle.acpi_survey.proofs.Walking.{nodes_walked}
 

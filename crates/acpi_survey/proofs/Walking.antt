@@ -24,7 +24,7 @@ use Rattle.acpi_conditions.specs.Walk as walks
 use Rattle.acpi_conditions.specs.Walk.{Kind, of_term, of_scope, of_first, of_other, of_body, Package, Walk, passed, pass, package_at, into_other, if_of, leave_from, leave, through, walked_term, walked_scope, walked, lost_if, enter_first, enter_other, enter_term_as, enter_term, enter_scope_as, enter_scope}
 use Rattle.acpi_conditions.specs.Laws.{IsInFirst}
 use Rattle.acpi_conditions.proofs.Walks.{gives_nodes, empty_else_is_none}
-use Rattle.acpi_survey.specs.Needs.{names_in_all, names_before}
+use Rattle.acpi_needs.specs.Needs.{names_in_all, names_before}
 use Rattle.acpi_survey.specs.Nodes.{term_at, unit_at, operator_at, plain_at, package_at as package_at_place, element_at, operands_of, fields_at, Listed, no_else, listed, nodes_of}
 use Rattle.acpi_survey.specs.Reading.{Reading, survey_rules, count_at, declaring as declaring_in, passing, stopping, expecting, after_operator, after_plain, enter, after_field, after_closed, after_lost, with_source}
 

@@ -12,7 +12,7 @@ use Rattle.acpi_outline.specs.Nodes.{PlainTree, FixedTree, container, method, if
 use Rattle.acpi_outline.specs.Nodes.{NodeTree, plain, holds, holds_fields, closed, package_lost, data_lost, name_lost, NodeTrees, no_more, lost, node}
 use Rattle.acpi_conditions.specs.Nodes as nodes
 use Rattle.acpi_conditions.specs.Nodes.{Term, Nodes, no_nodes, declares, opens, branch, loop, stop}
-use Rattle.acpi_survey.specs.Needs.{names_in_all, names_before, with_names}
+use Rattle.acpi_needs.specs.Needs.{names_in_all, names_before, with_names}
 
 -- ---- terms that declare
 

@@ -63,3 +63,7 @@ predefined_root = record { path = []; is_scope = true; args = 0 }
 unfoldable pub first_reading : Reading
 first_reading = with_objects
     (with_objects (with_object nothing_read predefined_root) predefined_scopes) predefined_objects
+
+-- the ten objects that are there before all tables are the first entries; nothing in the tables declares them
+abbrev pub predefined_count : ℕ
+predefined_count = 10

@@ -25,7 +25,7 @@ use Rattle.acpi_conditions.specs.Here.{meeting, scopes_around}
 use Rattle.acpi_conditions.specs.Walk as walks
 use Rattle.acpi_conditions.specs.Walk.{Walk}
 use Rattle.acpi_survey.specs.Counts.{counts_numbered, count_of}
-use Rattle.acpi_survey.specs.Needs.{names_in_all, names_before}
+use Rattle.acpi_needs.specs.Needs.{names_in_all, names_before}
 use Rattle.acpi_survey.specs.Nodes.{term_at, unit_at, operands_of}
 
 -- An Alias, by its place: where its source may be found when it is read, and whether it is found for certain.

@@ -7,16 +7,10 @@ use Rattle.acpi_outline.specs.Outline.{IsOutline}
 use Rattle.acpi_conditions.specs.Nodes.{Nodes}
 use Rattle.acpi_conditions.specs.Walk as walks
 use Rattle.acpi_conditions.specs.Walk.{Walk}
-use Rattle.acpi_survey.specs.declared.tables.TableContent.{TableContent}
-use Rattle.acpi_survey.specs.declared.tables.TableContent.TheVariants.{Unread, Read}
-use Rattle.acpi_survey.specs.Tables.{IsJudged}
+use Rattle.acpi_pieces.specs.declared.tables.TableContent.{TableContent}
+use Rattle.acpi_pieces.specs.Tables.{IsJudged, code_read}
 use Rattle.acpi_survey.specs.Nodes.{nodes_of}
 use Rattle.acpi_survey.specs.Reading.{Reading, survey_rules}
-
--- the code of a table, of which nothing is read where the table isn't
-abbrev pub code_read : TableContent → List ℕ
-code_read (Unread why) = []
-code_read (Read code is_cut has_bad_sum is_out_of_place trailing) = code
 
 -- A place is a table's number and the number of bytes of its code before it, as one number.
 abbrev pub place_in : ℕ → ℕ → ℕ

@@ -1,14 +1,21 @@
 -- What a survey keeps stands in the order of places (ACPI 6.5, 5.2.11 and 20.2.5).
-use Rattle.std.specs.Prelude.{ℕ, List, drop}
+use Rattle.std.specs.Prelude.{ℕ, List, drop, length}
+use Rattle.std.specs.List.{AllByRecursion}
 use Rattle.std.specs.List.Sorted.{IsNonDecreasingBy}
 use Rattle.acpi_name.specs.Names.{Segment}
 use Rattle.acpi_conditions.specs.Entries.{Path, Entry}
+use Rattle.acpi_outline.specs.Tiling.{Tiles}
+use Rattle.acpi_outline.specs.View.{nodes_view}
 use Rattle.acpi_survey.specs.Reading.{Reading, Source}
-use Rattle.acpi_survey.specs.Predefined.{first_reading}
+use Rattle.acpi_survey.specs.Predefined.{first_reading, predefined_count}
+use Rattle.acpi_pieces.specs.Tables.{code_read}
 use Rattle.acpi_survey.specs.Surveys.{AreTables}
 use Rattle.acpi_survey.specs.declared.machine_survey.SurveyedTable.{SurveyedTable}
-use Rattle.acpi_survey.specs.EntryParts.{AllTile, predefined_count}
 use Rattle.acpi_survey.specs.declared.machine_survey.Survey.{Survey}
+
+-- the nodes of each table tile its code
+abbrev pub AllTile : List SurveyedTable → Type 0
+AllTile ts = AllByRecursion (λ t. Tiles 0 (length (code_read t.judged)) (nodes_view t.nodes)) ts
 
 -- What is kept of tables that were read has nodes that tile their codes, and the entries of tables stand in the order
 -- of their places.

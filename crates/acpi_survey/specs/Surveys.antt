@@ -9,9 +9,10 @@ use Rattle.acpi_outline.specs.Outline.{IsOutline}
 use Rattle.acpi_outline.specs.Faults.{HaveTrueFaults}
 use Rattle.acpi_outline.specs.Rules.{after_all}
 use Rattle.acpi_outline.specs.View.{nodes_view}
-use Rattle.acpi_survey.specs.Tables.{IsJudged}
+use Rattle.acpi_pieces.specs.Tables.{IsJudged}
 use Rattle.acpi_survey.specs.Reading.{Reading, survey_rules}
-use Rattle.acpi_survey.specs.Survey.{code_read, at_table, behind_table}
+use Rattle.acpi_pieces.specs.Tables.{code_read}
+use Rattle.acpi_survey.specs.Survey.{at_table, behind_table}
 use Rattle.acpi_survey.specs.declared.machine_survey.SurveyedTable.{SurveyedTable}
 
 -- the bytes of each table

@@ -1,11 +1,1 @@
 pub mod Readings
-pub mod ByPlace
-pub mod ReadTables
-pub mod Remainders
-pub mod Lookups
-pub mod PlacedItems
-pub mod MethodBodies
-pub mod MarkViews
-pub mod NoteSiteViews
-pub mod Indexes
-pub mod ValueEquality

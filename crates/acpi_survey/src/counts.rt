@@ -1,10 +1,15 @@
 //! How many values follow a name, by what it may be.
 
-ghost use Rattle.std.specs.Prelude.{◌≡◌, ◌++◌, ◌∷◌, None, slice_index_or, OnOk};
+ghost use Rattle.std.specs.Prelude.{◌≡◌, ◌++◌, ◌∷◌, None, slice_index_or, IfOk, OnOk};
+ghost use Rattle.std.specs.FinMap as finite;
 ghost use Rattle.std.specs.List.{list_all};
+ghost use Rattle.acpi_name.specs.NameRefs.{name_parts};
+ghost use Rattle.acpi_body.specs.Arguments.{expected_at, expected_place};
 ghost use Rattle.acpi_survey.specs.Counts.{is_count, agreed, counts_numbered};
 
-use std::alloc::AllocError;
+use acpi_counts::Counts;
+use acpi_name::{NameRef, Path};
+use std::alloc::{AllocError, Global};
 
 fn is_count(n: u8, count: Option<u8>) -> bool
     ensures { result ≡ is_count n count }
@@ -32,7 +37,7 @@ fn agreed_with(first: Option<u8>, rest: &[Option<u8>]) -> Option<u8>
 }
 
 /// The one count, if there is one and all are equal.
-pub(crate) fn agreed(counts: &[Option<u8>]) -> Option<u8>
+pub fn agreed(counts: &[Option<u8>]) -> Option<u8>
     ensures { result ≡ agreed counts.now }
 {
     match counts.split_first() {
@@ -51,7 +56,7 @@ fn numbered(counts: &[Option<u8>], number: usize) -> Option<u8>
 }
 
 /// Puts the counts of the entries of these numbers behind others.
-pub(crate) fn put_counts(
+pub fn put_counts(
     found: &mut Vec<Option<u8>>,
     counts: &[Option<u8>],
     numbers: &[usize],
@@ -63,4 +68,23 @@ pub(crate) fn put_counts(
         found.push(numbered(counts, *number))?;
     }
     Ok(())
+}
+
+/// How many values follow a name that is nowhere, as Externals say it.
+pub fn expected_count(
+    alloc: Global,
+    expected: &Counts,
+    scope: &Path,
+    name: NameRef<'_>,
+) -> Result<u8, AllocError>
+    ensures { IfOk result (λ n. n ≡ expected_at (finite.get expected.now)
+        (expected_place (finite.get expected.now) scope.now (name_parts name.entry))) }
+{
+    match expected.find(alloc, scope, name)? {
+        Some(path) => match expected.get(&path) {
+            Some(count) => Ok(count),
+            None => Ok(0),
+        },
+        None => Ok(0),
+    }
 }

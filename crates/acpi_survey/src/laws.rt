@@ -1,8 +1,6 @@
 //! Laws of the survey of tables, of the definitions alone: the functions do nothing, and their contracts state the
 //! laws.
 ghost use Rattle.acpi_survey.specs.Laws.{ReadIsSurvey, PlacesAreDistinct, TablesAreRead, AtMostOneReading, SureCountsHold};
-ghost use Rattle.acpi_survey.specs.Problems.{NameFrontsAreSpelled};
-ghost use Rattle.acpi_survey.specs.Findings.{EachRefusalIsTold, OnlyRefusalsAreTold};
 
 /// What the tables may declare, as they are read one after another, is the survey of what their nodes do.
 pub fn read_is_survey()
@@ -25,23 +23,8 @@ pub fn at_most_one_reading()
     ensures { AtMostOneReading }
 {}
 
-/// Each refusal of the tables is one of their problems, and tells where it stands.
-pub fn each_refusal_is_told()
-    ensures { EachRefusalIsTold }
-{}
-
-/// No problem tells a refusal that isn't one of the tables.
-pub fn only_refusals_are_told()
-    ensures { OnlyRefusalsAreTold }
-{}
-
 /// A count in the body of an entry that is sure holds in each run in which control came to the entry, outside of
 /// Whiles: what the name finds at the end was declared by the body before, or by an entry with this count.
 pub fn sure_counts_hold()
     ensures { SureCountsHold }
-{}
-
-/// The name with which bytes begin, as problems and bodies tell it, is the one that is spelled there.
-pub fn name_fronts_are_spelled()
-    ensures { NameFrontsAreSpelled }
 {}

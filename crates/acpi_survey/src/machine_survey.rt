@@ -3,19 +3,18 @@
 ghost use Rattle.std.specs.Prelude.{◌≡◌, [], map, slice_get, IfOk};
 ghost use Rattle.std.specs.Option.{option_map};
 ghost use Rattle.acpi_conditions.specs.EntryForms.{entry_view, refusal_of};
+ghost use Rattle.acpi_survey.specs.SourceViews.{source_of};
+ghost use Rattle.acpi_pieces.specs.Tables.{code_read};
 ghost use Rattle.acpi_survey.specs.Surveys.{lies_below, numbers_at, numbers_below, without_way};
 
-use crate::findings::Findings;
-use crate::notes::Note;
-use crate::problems::Problem;
 use crate::reading::Reading;
-use crate::scopes::OpenedScope;
-use crate::tables::TableContent;
+use crate::remarks::{OpenedScope, Source, Unknown};
 use acpi_code::Depth;
 use acpi_conditions::{Entries, Entry, Met, Refusal};
 use acpi_counts::Counts;
 use acpi_name::Path;
 use acpi_outline::Nodes;
+use acpi_pieces::TableContent;
 use bytes::Bytes;
 use std::alloc::{AllocError, Global};
 
@@ -29,7 +28,7 @@ pub struct SurveyedTable {
     /// The nodes of its code.
     pub nodes: Nodes,
     /// What its Externals say.
-    pub(crate) expected: Counts,
+    pub expected: Counts,
 }
 
 /// The survey of tables.
@@ -41,8 +40,6 @@ pub struct Survey {
     pub depth: Depth,
     /// What is known behind them.
     pub(crate) reading: Reading,
-    /// What is lost, refused and noticed in them.
-    pub(crate) found: Findings,
 }
 
 // Whether a path begins with the segments of another, and has more.
@@ -64,6 +61,15 @@ fn numbers_below(alloc: Global, path: &Path, entries: &[Entry]) -> Result<Vec<us
         }
     }
     Ok(found)
+}
+
+impl SurveyedTable {
+    /// Its code, of which nothing is read where the table isn't.
+    pub fn code(&self) -> &[u8]
+        ensures { result.now ≡ code_read self.now.judged }
+    {
+        self.judged.code()
+    }
 }
 
 impl Survey {
@@ -106,18 +112,28 @@ impl Survey {
         self.reading.remarks().opened()
     }
 
-    /// What is lost or refused in the tables, in the order of the sites.
-    pub fn problems(&self) -> &[Problem]
-        ensures { result.now ≡ self.now.found.problems.items }
-    {
-        &self.found.problems
+    /// The nodes with names of which nothing is known, in the order of their places.
+    pub fn unknown(&self) -> &[Unknown] {
+        self.reading.remarks().unknown()
     }
 
-    /// What is noticed in the tables and loses nothing, in the order of the sites.
-    pub fn notes(&self) -> &[Note]
-        ensures { result.now ≡ self.now.found.notes.items }
+    /// Where the sources of Aliases may be found, in the order of their places.
+    pub fn sources(&self) -> &[Source]
+        ensures { map source_of result.now ≡ self.now.reading.sources }
     {
-        &self.found.notes
+        self.reading.remarks().sources()
+    }
+
+    /// Of each entry how many values follow its name, where that is sure.
+    pub fn counts(&self) -> &[Option<u8>]
+        ensures { result.now ≡ self.now.reading.counts }
+    {
+        self.reading.counts()
+    }
+
+    /// Where memory comes from.
+    pub fn memory(&self) -> Global {
+        self.reading.memory()
     }
 
     /// The numbers, from 0 and in order, of the entries at a path.

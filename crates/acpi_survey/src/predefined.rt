@@ -10,7 +10,7 @@ use acpi_name::{Path, Seg};
 use std::alloc::{AllocError, Global};
 
 /// The number of objects that are there before any table.
-pub(crate) const PREDEFINED: usize = 10;
+pub const PREDEFINED: usize = 10;
 
 impl Reading {
     // Puts an object below the root.

@@ -13,11 +13,11 @@ ghost use Rattle.acpi_conditions.specs.Met.{met_by};
 ghost use Rattle.acpi_conditions.specs.Walk as walks;
 ghost use Rattle.acpi_survey.specs.Reading.{count_at, opened_behind, counts_at, is_heard, with_expected, declaring, stopping, passing, expecting, entering, leave, with_source};
 ghost use Rattle.acpi_survey.specs.Predefined.{nothing_read};
-ghost use Rattle.acpi_survey.specs.steps.Readings.{opened_pairs, source_of};
+ghost use Rattle.acpi_survey.specs.steps.Readings.{opened_pairs};
+ghost use Rattle.acpi_survey.specs.SourceViews.{source_of};
 ghost use Rattle.acpi_survey.specs.Survey.{place_in, at_table, behind_table};
 
-use crate::bodies::expected_count;
-use crate::counts::{agreed, put_counts};
+use crate::counts::{agreed, expected_count, put_counts};
 use crate::remarks::Remarks;
 use acpi_conditions::{Candidates, Entries, Met, Refusal, Stop, Term as Declaring, Walk};
 use acpi_counts::Counts;
@@ -50,8 +50,8 @@ impl Model for Reading {
     ghost view = { reading_of };
 }
 
-/// The place of a node, as one number.
-pub(crate) fn place_in(table: usize, offset: usize) -> u128
+/// The place of what stands at the offset of the code of the table of that number: one number among all tables.
+pub fn place_in(table: usize, offset: usize) -> u128
     ensures { result ≡ place_in table offset }
 {
     table as u128 * (1 << 64) + offset as u128

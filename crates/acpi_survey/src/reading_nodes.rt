@@ -8,15 +8,15 @@ ghost use Rattle.acpi_outline.specs.Nodes as outline;
 ghost use Rattle.acpi_outline.specs.View.{fixed_view, plain_view};
 ghost use Rattle.acpi_conditions.specs.EntryForms.{term_view as declaring_view};
 ghost use Rattle.acpi_conditions.specs.Walk as walks;
-ghost use Rattle.acpi_survey.specs.Needs.{names_in_all, with_names};
+ghost use Rattle.acpi_needs.specs.Needs.{names_in_all, with_names};
 ghost use Rattle.acpi_survey.specs.Nodes.{term_at, unit_at, operands_of};
 ghost use Rattle.acpi_survey.specs.Reading.{after_operator, after_plain, count_at, declaring, entering, opened_behind, passing};
 
 use crate::names::segment_name;
-use crate::needs::{needs_of, needs_of_three, needs_of_value, put};
 use crate::reading::Reading;
 use acpi_conditions::{Stop, Term as Declaring};
 use acpi_name::{Name, Seg};
+use acpi_needs::{needs_of, needs_of_three, needs_of_value};
 use acpi_outline::{Fixed, Plain};
 use acpi_tree::{Decl, Op, Term};
 use std::alloc::{AllocError, Global};
@@ -134,7 +134,7 @@ impl Reading {
         let count = self.count_at(source.view())?;
         self.keep_source(offset, source)?;
         let mut needs = Vec::new(self.memory());
-        put(&mut needs, source)?;
+        needs.push(source.copy()?)?;
         self.declare_named(offset, name.copy()?, needs, count)
     }
 

@@ -2,15 +2,31 @@
 
 ghost use Rattle.std.specs.Prelude.{◌≡◌, ◌++◌, ◌∷◌, [], OnOk};
 
-use crate::notes::Unknown;
-use crate::scopes::OpenedScope;
 use acpi_conditions::Candidates;
 use acpi_name::{Name, Path};
 use std::alloc::{AllocError, Global};
 
+/// A Scope that is entered.
+#[derive(Debug, Drop)]
+pub struct OpenedScope {
+    /// Where it stands: the table's number times 2^64, and the number of bytes of the table's code before it.
+    pub place: u128,
+    /// The path of its target.
+    pub path: Path,
+}
+
+/// Names of which nothing is known where a node is read.
+#[derive(Debug, Drop)]
+pub struct Unknown {
+    /// Where the node stands: the table's number times 2^64, and the number of bytes of the table's code before it.
+    pub place: u128,
+    /// The names, not resolved.
+    pub names: Vec<Name>,
+}
+
 /// Where the source of an Alias may be found.
 #[derive(Drop)]
-pub(crate) struct Source {
+pub struct Source {
     /// Where the Alias stands: the table's number times 2^64, and the number of bytes of the table's code before it.
     pub place: u128,
     /// Where its source may be found from there, when the Alias is read.

@@ -1,22 +1,18 @@
 //! The survey of tables.
 
-ghost use Rattle.std.specs.Prelude.{◌≡◌, map, IfOk};
+ghost use Rattle.std.specs.Prelude.{◌≡◌, IfOk};
 ghost use Rattle.acpi_survey.specs.Predefined.{first_reading};
 ghost use Rattle.acpi_survey.specs.Laws.{IsSurveyed, IsOnlyReading};
-ghost use Rattle.acpi_survey.specs.Survey.{AreRead, behind_table, code_read};
-ghost use Rattle.acpi_survey.specs.ProblemViews.{problem_view};
-ghost use Rattle.acpi_survey.specs.Findings.{entered_in, notes_by, problems_in};
-ghost use Rattle.acpi_survey.specs.Notes.{Unknowns};
-ghost use Rattle.acpi_survey.specs.NoteViews.{note_view};
+ghost use Rattle.acpi_survey.specs.Survey.{AreRead, behind_table};
+ghost use Rattle.acpi_pieces.specs.Tables.{code_read};
 ghost use Rattle.acpi_survey.specs.SurveyOrder.{IsInOrder};
 ghost use Rattle.acpi_survey.specs.Surveys.{AreTables, IsTable, behind_nodes, bytes_of, nodes_of_each};
 
-use crate::findings::found_in;
 use crate::machine_survey::{Survey, SurveyedTable};
 use crate::reading::Reading;
-use crate::tables::{TableContent, judge};
 use acpi_code::Depth;
 use acpi_outline::read_outline;
+use acpi_pieces::{TableContent, judge};
 use bytes::Bytes;
 use std::alloc::{AllocError, Global};
 
@@ -73,12 +69,6 @@ pub fn survey(alloc: Global, tables: &[Bytes], depth: Depth) -> Result<Survey, A
         (nodes_of_each s.tables.items)) }
     // What is kept of them stands in the order of places.
     ensures in_order { IfOk result IsInOrder }
-    // What is lost or refused in them is told.
-    ensures problems { IfOk result (λ s. map problem_view s.found.problems.items
-        ≡ problems_in s.reading s.tables.items) }
-    // What is noticed in them is told, by names of which nothing is known.
-    ensures notes { IfOk result (λ s. (unknowns : Unknowns) × (map note_view s.found.notes.items
-        ≡ notes_by (entered_in s.reading) unknowns 0 s.tables.items)) }
 {
     let mut reading = Reading::new(alloc)?;
     let mut read = Vec::new(alloc);
@@ -86,11 +76,9 @@ pub fn survey(alloc: Global, tables: &[Bytes], depth: Depth) -> Result<Survey, A
         let number = read.len();
         read.push(read_table(&mut reading, number, bytes, depth)?)?;
     }
-    let found = found_in(alloc, &read, &reading)?;
     Ok(Survey {
         tables: read,
         depth,
         reading,
-        found,
     })
 }

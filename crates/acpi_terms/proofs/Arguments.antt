@@ -14,7 +14,7 @@ use Rattle.acpi_code.proofs.Numbers.{byte_complete, byte_sound, number_complete,
 use Rattle.acpi_code.proofs.Packages.{package_complete, PackageFront, GoodPackage, package_sound, deeper_package}
 use Rattle.acpi_code.proofs.Names.{name_in_complete, name_sound}
 use Rattle.acpi_terms.specs.Faults.{IsLengthOf, Awaits, MustBegin}
-use Rattle.acpi_terms.specs.Forms.{FixedArgument, name_arg, source_arg, byte_arg, word_arg, dword_arg, count_arg, int_arg, Value, Values, fixed_arguments, ArgumentsOf}
+use Rattle.acpi_code.specs.Forms.{FixedArgument, name_arg, source_arg, byte_arg, word_arg, dword_arg, count_arg, int_arg, Value, Values, fixed_arguments, ArgumentsOf}
 use Rattle.acpi_terms.specs.Spelling.{SpellsArgument, SpellsArguments, SpellsPlain}
 use Rattle.acpi_terms.specs.steps.Reading.{Fault, part, int_at, source_at, args_in, argument_at, arguments_at, plain_at, packed_at}
 use Rattle.acpi_terms.proofs.Parts.{Bad, part_sound}

@@ -9,7 +9,7 @@ use Rattle.acpi_code.specs.Spelling.{SpellsEach}
 use Rattle.acpi_code.specs.steps.Reading.{byte_at, opcode_at, each_with, each_at}
 use Rattle.acpi_terms.proofs.Arguments.{plain_complete, awaits_all, plain_sound}
 use Rattle.acpi_terms.proofs.DataTrees.{opens_with}
-use Rattle.acpi_terms.specs.Forms.{fixed_arguments, external_parts}
+use Rattle.acpi_code.specs.Forms.{fixed_arguments, external_parts}
 use Rattle.acpi_terms.specs.Spelling.{SpellsArguments, SpellsExternal, block_height}
 use Rattle.acpi_terms.specs.steps.Reading.{Fault, parts_at, external_at, block_content, fault_at, external_by, part}
 use Rattle.acpi_terms.specs.declared.fault.ItemReason.{ItemReason}

@@ -14,7 +14,7 @@ use Rattle.acpi_code.proofs.Opcodes.{opens_name, Opened, opcode_sound, begins}
 use Rattle.acpi_code.proofs.Names.{name_in_complete, term_name_sound, nothing_begins}
 use Rattle.acpi_code.proofs.Constants as constants
 use Rattle.acpi_terms.specs.Faults.{MustBegin}
-use Rattle.acpi_terms.specs.Forms.{source_arg}
+use Rattle.acpi_code.specs.Forms.{source_arg}
 use Rattle.acpi_terms.specs.steps.Reading.{part, const_at, int_at, source_by, source_at}
 use Rattle.acpi_terms.proofs.Parts.{Bad, deep_bad, part_sound, constant_sound}
 

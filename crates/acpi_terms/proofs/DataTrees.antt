@@ -11,7 +11,7 @@ use Rattle.acpi_code.specs.Opcodes.{is_name_opcode}
 use Rattle.acpi_code.specs.Spelling.{SpellsInt, SpellsTermName, SpellsEach, SpellsText}
 use Rattle.acpi_code.specs.steps.Reading.{opcode_at, name_in, string_at, constant_at, each_at}
 use Rattle.acpi_terms.proofs.Arguments.{packed_complete, packed_sound}
-use Rattle.acpi_terms.specs.Forms.{byte_arg, int_arg}
+use Rattle.acpi_code.specs.Forms.{byte_arg, int_arg}
 use Rattle.acpi_terms.specs.Spelling.{SpellsData, SpellsElem, SpellsElems, data_height, elem_height, elems_height}
 use Rattle.acpi_terms.specs.steps.Reading.{Fault, bytes_in, data_by, elems_with, elem_at, data_at, string_data, buffer_data, package_data, var_package_data, elem_by, part}
 use Rattle.acpi_tree.specs.Tree.{DataTree, int, str, buffer, pkg, var_pkg, ElemTree, of_data, of_name, ElemTrees, no_elems, elem, elems_of}

@@ -3,7 +3,7 @@ use Rattle.std.proofs.Common.{◌≡◌, ℕ, true, List, [], ◌∷◌, ◌++�
 use Rattle.std.proofs.lemmas.Bool.{le-leb}
 use Rattle.acpi_code.specs.Spelling.{Packs}
 use Rattle.acpi_code.specs.Opcodes.{opcode_bytes}
-use Rattle.acpi_terms.specs.Forms.{kind_opcode}
+use Rattle.acpi_code.specs.Forms.{kind_opcode}
 use Rattle.acpi_terms.specs.Spelling.{SpellsData, SpellsElem, SpellsElems, SpellsExternal, SpellsItem, SpellsItems}
 use Rattle.acpi_tree.specs.Tree.{DataTree, int, str, buffer, pkg, var_pkg, ElemTree, of_data, of_name, ElemTrees, no_elems, elem, ExternalParts, ItemTree, name, scope, method, external, external_block, create, create_field, mutex, event, region, field, index_field, bank_field, ItemTrees, no_items, item}
 use Rattle.acpi_tree.specs.Fits.{data_fits, elem_fits, elems_fit, external_fits, item_fits, items_fit}

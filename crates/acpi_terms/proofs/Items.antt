@@ -20,7 +20,7 @@ use Rattle.acpi_terms.proofs.Arguments.{arguments_height, plain_complete, packed
 use Rattle.acpi_terms.proofs.DataTrees.{data_complete, DataWithin, data_sound, opens_with}
 use Rattle.acpi_terms.proofs.Fields.{fields_complete, fields_sound}
 use Rattle.acpi_code.specs.Fields.{SpellsFields}
-use Rattle.acpi_terms.specs.Forms.{fixed_arguments, ArgumentsOf, kind_opcode, kind_arguments}
+use Rattle.acpi_code.specs.Forms.{fixed_arguments, ArgumentsOf, kind_opcode, kind_arguments}
 use Rattle.acpi_terms.specs.Spelling.{SpellsArguments, SpellsExternal, SpellsItem, SpellsItems, data_height, block_height, item_height, items_height, SpellsFilled, SpellsForm}
 use Rattle.acpi_terms.specs.steps.Reading.{Fault, fields_in, bytes_in, plain_at, packed_at, parts_at, block_content, item_by, items_with, item_at, items_at, fault_at, data_at, block_fault, in_block, name_item, block_item, part}
 use Rattle.acpi_terms.proofs.ScopeKinds.{kind_form}

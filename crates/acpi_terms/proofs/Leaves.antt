@@ -5,7 +5,7 @@ use Rattle.acpi_code.specs.declared.opcode.Opcode.TheVariants as opcodes
 use Rattle.acpi_code.specs.steps.Reading.{◌>>=◌, Reading, name_in, package_at}
 use Rattle.acpi_tree.specs.Fits.{holds_items}
 use Rattle.acpi_tree.specs.Tree.{DataTree, ExternalParts, ItemTree, name, method, external, external_block, create, create_field, mutex, event, region, field, index_field, bank_field, ItemTrees}
-use Rattle.acpi_terms.specs.Forms.{FixedArgument, Values, fixed_arguments}
+use Rattle.acpi_code.specs.Forms.{FixedArgument, Values, fixed_arguments}
 use Rattle.acpi_terms.specs.declared.fault.ItemReason.TheVariants.{ModuleIf}
 use Rattle.acpi_terms.specs.steps.ScopeBlocks.{opens_items}
 use Rattle.acpi_terms.specs.steps.Reading.{Fault, part, fault_at, data_at, arguments_at, plain_at, packed_at, bytes_in, fields_in, parts_at, in_block, block_content, item_by}

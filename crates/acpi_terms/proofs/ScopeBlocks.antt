@@ -9,7 +9,7 @@ use Rattle.acpi_code.specs.declared.opcode.Opcode.TheVariants as opcodes
 use Rattle.acpi_code.specs.steps.Reading.{◌>>=◌, Reading, name_in, package_at, opcode_at, each_at}
 use Rattle.acpi_terms.specs.declared.scope_block.ScopeBlock.{ScopeBlock}
 use Rattle.acpi_terms.specs.declared.fault.ItemFault.{ItemFault}
-use Rattle.acpi_terms.specs.Forms.{byte_arg, word_arg, dword_arg}
+use Rattle.acpi_code.specs.Forms.{byte_arg, word_arg, dword_arg}
 use Rattle.acpi_terms.specs.steps.Cursor.{Fails}
 use Rattle.acpi_terms.specs.steps.ScopeBlocks.{opens_items, scope_with, scope_block_item, BeginsWith, ReadsNext}
 use Rattle.acpi_terms.specs.steps.Reading.{Fault, part, arguments_at, item_by, items_with, item_at}

@@ -8,7 +8,7 @@ use Rattle.acpi_code.proofs.Fields.{field_long}
 use Rattle.acpi_code.proofs.Fitting.{AreBytes, front_bytes, back_bytes, field_fit}
 use Rattle.acpi_code.specs.Fields.{SpellsField}
 use Rattle.acpi_code.specs.Opcodes.{opcode_bytes}
-use Rattle.acpi_terms.specs.Forms.{kind_opcode}
+use Rattle.acpi_code.specs.Forms.{kind_opcode}
 use Rattle.acpi_terms.specs.Spelling.{SpellsItem, SpellsItems}
 use Rattle.acpi_tree.specs.Offsets.{element_bits, list_bits, OffsetFits, OffsetsFit}
 

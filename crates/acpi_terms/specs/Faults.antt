@@ -13,15 +13,16 @@ use Rattle.acpi_code.specs.declared.fault.ConstantFault.{ConstantFault}
 use Rattle.acpi_code.specs.declared.fault.ConstantFault.TheVariants.{Part, NotConstant}
 use Rattle.acpi_code.specs.declared.fault.FieldFault.{FieldFault}
 use Rattle.acpi_code.specs.declared.fault.FieldFault.TheVariants as fields
-use Rattle.acpi_code.specs.Opcodes.{first_opcode, opcode_bytes}
+use Rattle.acpi_code.specs.Opcodes.{first_opcode}
 use Rattle.acpi_code.specs.Spelling.{SpellsEach}
-use Rattle.acpi_code.specs.Faults.{ByteAt, Begins, has_package, IsElementOf, ShowsPart, ShowsElementPart, ShowsElement}
+use Rattle.acpi_code.specs.Faults.{ByteAt, Begins, IsElementOf, ShowsPart, ShowsElementPart, ShowsElement}
 use Rattle.acpi_terms.specs.declared.fault.ItemReason.{ItemReason}
 use Rattle.acpi_terms.specs.declared.fault.ItemReason.TheVariants.{Cut, BadOpcode, ReservedBits, BadName, Overrun, Computed, Alias, ModuleIf, ModuleCode, Load, NotData, TooDeep, BadString, DataRegion}
 use Rattle.acpi_terms.specs.declared.fault.ItemFault.{ItemFault}
 use Rattle.acpi_terms.specs.declared.fault.ItemFault.TheVariants as errors
-use Rattle.acpi_terms.specs.Forms.{FixedArgument, source_arg, count_arg, Values, fixed_arguments}
-use Rattle.acpi_terms.specs.Spelling.{SpellsArguments, SpellsExternal}
+use Rattle.acpi_code.specs.Forms.{source_arg, count_arg}
+use Rattle.acpi_terms.specs.Spelling.{SpellsExternal}
+pub use Rattle.acpi_code.specs.FixedArguments.{is_computed, IsLengthOf, Awaits, MustBegin}
 
 -- ---- faults of parts, as faults of items
 
@@ -54,12 +55,6 @@ field_fault_of fields.Memory = errors.Memory
 abbrev pub is_constant : Opcode → Bool
 is_constant (opcodes.Constant form) = true
 is_constant _ = false
-
--- a term that is no constant
-abbrev pub is_computed : Opcode → Bool
-is_computed opcodes.Nothing = false
-is_computed (opcodes.Constant form) = false
-is_computed _ = true
 
 -- no data
 abbrev pub is_no_data : Opcode → Bool
@@ -99,32 +94,6 @@ Refused why code place =
     (lead : Opcode) × (first_opcode (drop place code) ≡ Some lead) × (refusal lead ≡ Some why)
 
 -- ---- what must begin at a place
-
--- the package length of a form that has a package; another form has none
-abbrev pub IsLengthOf : Bool → List ℕ → Type 0
-IsLengthOf true len = (n : ℕ) × SpellsPkgLength n len
-IsLengthOf false len = len ≡ []
-
--- These fixed arguments of a form must follow at the place: before it stand the form's opcode, its package length where
--- it has a package, and the arguments before these (20.2.5).
-pub record Awaits (opcode : Opcode) (kinds : List FixedArgument) (code : List ℕ)
-    (place : ℕ) : Type 0 where
-  pub before : List FixedArgument
-  pub all : fixed_arguments opcode ≡ before ++ kinds
-  pub at : ℕ
-  pub len : List ℕ
-  pub is_len : IsLengthOf (has_package opcode) len
-  pub values : Values before
-  pub front : List ℕ
-  pub rest : List ℕ
-  pub here : drop at code ≡ opcode_bytes opcode ++ (len ++ (front ++ rest))
-  pub spells : SpellsArguments before values front
-  pub behind : place ≡ at + (length (opcode_bytes opcode) + (length len + length front))
-
--- a fixed argument of that kind must begin at the place
-abbrev pub MustBegin : FixedArgument → List ℕ → ℕ → Type 0
-MustBegin kind code place =
-    (opcode : Opcode) × (kinds : List FixedArgument) × Awaits opcode (kind ∷ kinds) code place
 
 -- the forms whose fixed arguments a field list follows (20.2.5.2)
 abbrev pub has_fields : Opcode → Bool

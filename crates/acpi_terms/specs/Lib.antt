@@ -1,4 +1,4 @@
-pub mod Forms
+pub use Rattle.acpi_code.specs.Forms
 pub mod Spelling
 pub mod Faults
 pub mod Laws

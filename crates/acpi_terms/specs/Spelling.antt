@@ -1,51 +1,13 @@
 -- The bytes that spell a tree (ACPI 6.5, 20.2). A tree may have several spellings, since a package length
 -- and a name may be longer than needed.
-use Rattle.std.specs.Prelude.{◌≡◌, ◌≤◌, ℕ, suc, max, List, [], ◌∷◌, ◌++◌}
+use Rattle.std.specs.Prelude.{◌≡◌, ℕ, suc, max, List, [], ◌∷◌, ◌++◌}
 use Rattle.acpi_name.specs.Spelling.{SpellsName}
-use Rattle.acpi_code.specs.declared.opcode.Opcode.{Opcode}
 use Rattle.acpi_code.specs.declared.opcode.Opcode.TheVariants as opcodes
-use Rattle.acpi_code.specs.Opcodes.{opcode_bytes}
 use Rattle.acpi_code.specs.Fields.{SpellsFields}
-use Rattle.acpi_code.specs.Spelling.{SpellsByte, SpellsNumber, SpellsInt, SpellsTermName, SpellsText, SpellsEach, Packs}
+use Rattle.acpi_code.specs.Spelling.{SpellsInt, SpellsTermName, SpellsText, SpellsEach, Packs}
 use Rattle.acpi_tree.specs.Tree.{DataTree, int, str, buffer, pkg, var_pkg, ElemTree, of_data, of_name, ElemTrees, no_elems, elem, ExternalParts, ItemTree, name, scope, method, external, external_block, create, create_field, mutex, event, region, field, index_field, bank_field, ItemTrees, no_items, item}
-use Rattle.acpi_terms.specs.Forms.{FixedArgument, name_arg, source_arg, byte_arg, word_arg, dword_arg, count_arg, int_arg, Value, Values, fixed_arguments, ArgumentsOf, kind_opcode, kind_arguments}
-
--- ---- fixed arguments
-
--- NameString, a name in the place of a TermArg, ByteData, WordData, DWordData, ArgumentCount := ByteData (0 to 7), and
--- a TermArg that is a constant (20.2.2, 20.2.3, 20.2.5.2)
-abbrev pub SpellsArgument : (k : FixedArgument) → Value k → List ℕ → Type 0
-SpellsArgument name_arg n bytes = SpellsName n bytes
-SpellsArgument source_arg n bytes = SpellsTermName n bytes
-SpellsArgument byte_arg n bytes = SpellsByte n bytes
-SpellsArgument word_arg n bytes = SpellsNumber 2 n bytes
-SpellsArgument dword_arg n bytes = SpellsNumber 4 n bytes
-SpellsArgument count_arg n bytes = (n ≤ 7) × (bytes ≡ n ∷ [])
-SpellsArgument int_arg i bytes = SpellsInt i bytes
-
--- one after another
-abbrev pub SpellsArguments : (ks : List FixedArgument) → Values ks → List ℕ → Type 0
-SpellsArguments [] v bytes = bytes ≡ []
-SpellsArguments (k ∷ ks) v bytes = (a : List ℕ) × (b : List ℕ) × SpellsArgument k v.0 a
-    × SpellsArguments ks v.1 b × (bytes ≡ a ++ b)
-
--- an opcode and fixed arguments
-abbrev pub SpellsPlain : List ℕ → (ks : List FixedArgument) → Values ks → List ℕ → Type 0
-SpellsPlain opcode ks v bytes = (a : List ℕ) × SpellsArguments ks v a × (bytes ≡ opcode ++ a)
-
--- an opcode and a package of fixed arguments and of what fills it
-abbrev pub SpellsPacked : List ℕ → (ks : List FixedArgument) → Values ks → (List ℕ → Type 0)
-    → List ℕ → Type 0
-SpellsPacked opcode ks v Fills bytes =
-    (a : List ℕ) × (b : List ℕ) × SpellsArguments ks v a × Fills b × Packs opcode (a ++ b) bytes
-
--- the form of an opcode, which has fixed arguments alone
-abbrev pub SpellsForm : (o : Opcode) → ArgumentsOf o → List ℕ → Type 0
-SpellsForm o v bytes = SpellsPlain (opcode_bytes o) (fixed_arguments o) v bytes
-
--- the form of an opcode, whose package has fixed arguments and what fills it
-abbrev pub SpellsFilled : (o : Opcode) → ArgumentsOf o → (List ℕ → Type 0) → List ℕ → Type 0
-SpellsFilled o v Fills bytes = SpellsPacked (opcode_bytes o) (fixed_arguments o) v Fills bytes
+use Rattle.acpi_code.specs.Forms.{fixed_arguments, kind_opcode, kind_arguments}
+pub use Rattle.acpi_code.specs.FixedArguments.{SpellsArgument, SpellsArguments, SpellsPlain, SpellsPacked, SpellsForm, SpellsFilled, SpellsExternal}
 
 -- ---- data (20.2.3 and 20.2.5.4)
 
@@ -76,10 +38,6 @@ abbrev mutual
       (a : List ℕ) × (b : List ℕ) × SpellsElem e a × SpellsElems es b × (bytes ≡ a ++ b)
 
 -- ---- items (20.2.5.1 and 20.2.5.2)
-
--- DefExternal
-abbrev pub SpellsExternal : ExternalParts → List ℕ → Type 0
-SpellsExternal x bytes = SpellsForm opcodes.External (x.name, (x.kind, (x.args, tt))) bytes
 
 -- Module-level terms, by the rules that stand above each line of `fixed_arguments`. A block is `If (Zero)` round
 -- Externals alone; method code is any bytes; a Processor is as ACPI 6.3 and earlier have it.

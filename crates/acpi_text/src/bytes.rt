@@ -1,10 +1,10 @@
 //! Strings and bytes.
 
-ghost use Rattle.std.specs.Prelude.{◌≡◌, ◌++◌, OnOk, codes};
+ghost use Rattle.std.specs.Prelude.{◌≡◌, ◌++◌, codes};
 ghost use Rattle.acpi_text.specs.Constants.{hex_digits, is_plain, char_text, string_text, separated, bytes_text};
 
-use crate::numbers::{put, put_byte};
-use std::alloc::AllocError;
+use crate::numbers::put_byte;
+use text_buffer::Text;
 
 // A printable character of ASCII, but no quote and no backslash.
 fn plain(b: u8) -> bool
@@ -15,52 +15,49 @@ fn plain(b: u8) -> bool
 
 /// Puts a character of a string: itself, or `\x` and two digits where it is no printable one of ASCII, a quote or a
 /// backslash.
-pub fn put_char(text: &mut Vec<u8>, b: u8) -> Result<(), AllocError>
-    ensures { OnOk result (text.new.items ≡ text.old.items ++ char_text b) }
+pub fn put_char(text: &mut Text, b: u8)
+    ensures { text.new ≡ text.old ++ char_text b }
 {
     if plain(b) {
-        text.push(b)?;
-        Ok(())
+        text.put_one(b)
     } else {
-        put(text, "\\x")?;
+        text.put("\\x");
         put_byte(text, b)
     }
 }
 
 // A string between quotes.
-pub(crate) fn put_string(text: &mut Vec<u8>, bytes: &[u8]) -> Result<(), AllocError>
-    ensures { OnOk result (text.new.items ≡ text.old.items ++ string_text bytes.now) }
+pub(crate) fn put_string(text: &mut Text, bytes: &[u8])
+    ensures { text.new ≡ text.old ++ string_text bytes.now }
 {
-    put(text, "\"")?;
+    text.put("\"");
     for b in bytes {
-        put_char(text, *b)?;
+        put_char(text, *b);
     }
-    put(text, "\"")
+    text.put("\"")
 }
 
 /// Puts the two hexadecimal digits of each byte, with a blank between each two.
-pub fn put_spaced(text: &mut Vec<u8>, bytes: &[u8]) -> Result<(), AllocError>
-    ensures { OnOk result (text.new.items ≡ text.old.items
-        ++ separated (codes " ") (hex_digits 2) bytes.now) }
+pub fn put_spaced(text: &mut Text, bytes: &[u8])
+    ensures { text.new ≡ text.old ++ separated (codes " ") (hex_digits 2) bytes.now }
 {
     match bytes {
-        [] => Ok(()),
+        [] => {}
         [first, rest @ ..] => {
-            put_byte(text, *first)?;
+            put_byte(text, *first);
             for b in rest {
-                put(text, " ")?;
-                put_byte(text, *b)?;
+                text.put(" ");
+                put_byte(text, *b);
             }
-            Ok(())
         }
     }
 }
 
 // Bytes in braces, two digits each.
-pub(crate) fn put_bytes(text: &mut Vec<u8>, bytes: &[u8]) -> Result<(), AllocError>
-    ensures { OnOk result (text.new.items ≡ text.old.items ++ bytes_text bytes.now) }
+pub(crate) fn put_bytes(text: &mut Text, bytes: &[u8])
+    ensures { text.new ≡ text.old ++ bytes_text bytes.now }
 {
-    put(text, "{")?;
-    put_spaced(text, bytes)?;
-    put(text, "}")
+    text.put("{");
+    put_spaced(text, bytes);
+    text.put("}")
 }

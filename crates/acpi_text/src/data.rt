@@ -1,6 +1,6 @@
 //! Constant data.
 
-ghost use Rattle.std.specs.Prelude.{◌≡◌, ◌++◌, OnOk, codes, decimal};
+ghost use Rattle.std.specs.Prelude.{◌≡◌, ◌++◌, codes, decimal};
 ghost use Rattle.acpi_tree.specs.Tree.{elems_of};
 ghost use Rattle.acpi_tree.specs.View.{data_view, elem_view, elems_view};
 ghost use Rattle.acpi_text.specs.Constants.{int_text};
@@ -8,33 +8,31 @@ ghost use Rattle.acpi_text.specs.Objects.{data_text, elem_text, elems_text};
 
 use crate::bytes::{put_bytes, put_string};
 use crate::names::put_name;
-use crate::numbers::{put, put_int, put_number};
+use crate::numbers::{put_int, put_number};
 use acpi_tree::{Data, Elem, Int};
-use std::alloc::AllocError;
+use text_buffer::Text;
 
 // A word, and a constant in parentheses.
-pub(crate) fn put_sized(text: &mut Vec<u8>, word: &str, size: Int) -> Result<(), AllocError>
-    ensures { OnOk result (text.new.items ≡ text.old.items
-        ++ (word.now ++ codes "(" ++ int_text size ++ codes ")")) }
+pub(crate) fn put_sized(text: &mut Text, word: &str, size: Int)
+    ensures { text.new ≡ text.old ++ (word.now ++ codes "(" ++ int_text size ++ codes ")") }
 {
-    put(text, word)?;
-    put(text, "(")?;
-    put_int(text, size)?;
-    put(text, ")")
+    text.put(word);
+    text.put("(");
+    put_int(text, size);
+    text.put(")")
 }
 
 // The count of a package's elements.
-pub(crate) fn put_count(text: &mut Vec<u8>, count: u64) -> Result<(), AllocError>
-    ensures { OnOk result (text.new.items ≡ text.old.items
-        ++ (codes "Package(" ++ decimal count ++ codes ")")) }
+pub(crate) fn put_count(text: &mut Text, count: u64)
+    ensures { text.new ≡ text.old ++ (codes "Package(" ++ decimal count ++ codes ")") }
 {
-    put_number(text, "Package(", count)?;
-    put(text, ")")
+    put_number(text, "Package(", count);
+    text.put(")")
 }
 
 #[cycle(put_data)]
-fn put_elem(text: &mut Vec<u8>, elem: &Elem) -> Result<(), AllocError>
-    ensures { OnOk result (text.new.items ≡ text.old.items ++ elem_text (elem_view elem.now)) }
+fn put_elem(text: &mut Text, elem: &Elem)
+    ensures { text.new ≡ text.old ++ elem_text (elem_view elem.now) }
 {
     match elem {
         Elem::Data(data) => put_data(text, data),
@@ -44,20 +42,19 @@ fn put_elem(text: &mut Vec<u8>, elem: &Elem) -> Result<(), AllocError>
 
 // Elements in braces.
 #[cycle(put_data)]
-fn put_elems(text: &mut Vec<u8>, elems: &[Elem]) -> Result<(), AllocError>
-    ensures { OnOk result (text.new.items ≡ text.old.items
-        ++ elems_text (elems_of (elems_view elems.now))) }
+fn put_elems(text: &mut Text, elems: &[Elem])
+    ensures { text.new ≡ text.old ++ elems_text (elems_of (elems_view elems.now)) }
 {
     match elems {
-        [] => put(text, "{}"),
+        [] => text.put("{}"),
         [first, rest @ ..] => {
-            put(text, "{")?;
-            put_elem(text, first)?;
+            text.put("{");
+            put_elem(text, first);
             for elem in rest {
-                put(text, ", ")?;
-                put_elem(text, elem)?;
+                text.put(", ");
+                put_elem(text, elem);
             }
-            put(text, "}")
+            text.put("}")
         }
     }
 }
@@ -65,22 +62,22 @@ fn put_elems(text: &mut Vec<u8>, elems: &[Elem]) -> Result<(), AllocError>
 /// Puts data in the form in which it was written (ACPI 6.5, 20.2.3): a constant, a string between quotes,
 /// `Buffer(0x02){01 02}`, `Package(2){Zero, \_SB_.PCI0}` or `VarPackage(0x02){One}`.
 #[cycle(put_data)]
-pub fn put_data(text: &mut Vec<u8>, data: &Data) -> Result<(), AllocError>
-    ensures { OnOk result (text.new.items ≡ text.old.items ++ data_text (data_view «data».now)) }
+pub fn put_data(text: &mut Text, data: &Data)
+    ensures { text.new ≡ text.old ++ data_text (data_view «data».now) }
 {
     match data {
         Data::Int(int) => put_int(text, *int),
         Data::Str(bytes) => put_string(text, bytes),
         Data::Buffer(size, bytes) => {
-            put_sized(text, "Buffer", *size)?;
+            put_sized(text, "Buffer", *size);
             put_bytes(text, bytes)
         }
         Data::Package(count, elems) => {
-            put_count(text, u64::from(*count))?;
+            put_count(text, u64::from(*count));
             put_elems(text, elems)
         }
         Data::VarPackage(count, elems) => {
-            put_sized(text, "VarPackage", *count)?;
+            put_sized(text, "VarPackage", *count);
             put_elems(text, elems)
         }
     }

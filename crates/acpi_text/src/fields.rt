@@ -1,65 +1,64 @@
 //! Field lists of method bodies.
 
-ghost use Rattle.std.specs.Prelude.{◌≡◌, ◌++◌, OnOk, map, codes};
+ghost use Rattle.std.specs.Prelude.{◌≡◌, ◌++◌, map, codes};
 ghost use Rattle.acpi_tree.specs.View.{field_view, fields_view};
 ghost use Rattle.acpi_text.specs.Terms.{braces_text, field_text, raw_text};
 
 use crate::bytes::put_bytes;
 use crate::data::put_sized;
 use crate::names::{put_name, put_segment};
-use crate::numbers::{put, put_number, put_raw};
+use crate::numbers::{put_number, put_raw};
 use acpi_tree::FieldElem;
-use std::alloc::AllocError;
+use text_buffer::Text;
 
 // A word, access type and attribute of an element.
-fn put_access(text: &mut Vec<u8>, word: &str, kind: u8, attribute: u8) -> Result<(), AllocError>
-    ensures { OnOk result (text.new.items ≡ text.old.items
-        ++ (word.now ++ raw_text 1 kind ++ codes " " ++ raw_text 1 attribute)) }
+fn put_access(text: &mut Text, word: &str, kind: u8, attribute: u8)
+    ensures { text.new ≡ text.old ++ (word.now ++ raw_text 1 kind ++ codes " " ++ raw_text 1
+        attribute) }
 {
-    put_raw(text, word, kind)?;
+    put_raw(text, word, kind);
     put_raw(text, " ", attribute)
 }
 
-fn put_field_elem(text: &mut Vec<u8>, elem: &FieldElem) -> Result<(), AllocError>
-    ensures { OnOk result (text.new.items ≡ text.old.items ++ field_text (field_view elem.now)) }
+fn put_field_elem(text: &mut Text, elem: &FieldElem)
+    ensures { text.new ≡ text.old ++ field_text (field_view elem.now) }
 {
     match elem {
         FieldElem::Unit(seg, bits) => {
-            put_segment(text, *seg)?;
+            put_segment(text, *seg);
             put_number(text, " ", u64::from(*bits))
         }
         FieldElem::Reserved(bits) => put_number(text, "Reserved ", u64::from(*bits)),
         FieldElem::Access(kind, attribute) => put_access(text, "Access ", *kind, *attribute),
         FieldElem::ConnectName(name) => {
-            put(text, "Connect ")?;
+            text.put("Connect ");
             put_name(text, name.view())
         }
         FieldElem::ConnectBuffer(size, bytes) => {
-            put_sized(text, "Connect Buffer", *size)?;
+            put_sized(text, "Connect Buffer", *size);
             put_bytes(text, bytes)
         }
         FieldElem::Extended(kind, attribute, count) => {
-            put_access(text, "Extended ", *kind, *attribute)?;
+            put_access(text, "Extended ", *kind, *attribute);
             put_raw(text, " ", *count)
         }
     }
 }
 
 // The elements of a field list, in braces.
-pub(crate) fn put_fields(text: &mut Vec<u8>, elems: &[FieldElem]) -> Result<(), AllocError>
-    ensures { OnOk result (text.new.items ≡ text.old.items
-        ++ braces_text (map field_text (fields_view elems.now))) }
+pub(crate) fn put_fields(text: &mut Text, elems: &[FieldElem])
+    ensures { text.new ≡ text.old ++ braces_text (map field_text (fields_view elems.now)) }
 {
     match elems {
-        [] => put(text, "{}"),
+        [] => text.put("{}"),
         [first, rest @ ..] => {
-            put(text, "{")?;
-            put_field_elem(text, first)?;
+            text.put("{");
+            put_field_elem(text, first);
             for elem in rest {
-                put(text, ", ")?;
-                put_field_elem(text, elem)?;
+                text.put(", ");
+                put_field_elem(text, elem);
             }
-            put(text, "}")
+            text.put("}")
         }
     }
 }

@@ -6,12 +6,13 @@
 //! a line for each object:
 //!
 //! ```text
-//! let mut text = Vec::new(alloc);
-//! put_line(&mut text, &path, &object, links)?;    // \_SB_.PCI0._ADR Name Zero
-//! put_terms(&mut text, &statements)?;             // Return(MTH2(0x01, 0x02))
+//! let mut text = Text::new(alloc);
+//! put_line(&mut text, &path, &object, links);    // \_SB_.PCI0._ADR Name Zero
+//! put_terms(&mut text, &statements);             // Return(MTH2(0x01, 0x02))
+//! let bytes = text.into_bytes()?;
 //! ```
 //!
-//! Only an allocation failure is an error, and nothing is said of the text then.
+//! No call here fails: a text remembers where a growth of memory was refused, and `into_bytes` answers that.
 #![tactic(auto)]
 
 mod bytes;
@@ -29,7 +30,7 @@ pub use bytes::{put_char, put_spaced};
 pub use data::put_data;
 pub use lines::{put_line, put_links};
 pub use names::{put_name, put_path};
-pub use numbers::{put, put_byte, put_decimal, put_int};
+pub use numbers::{put_byte, put_decimal, put_int};
 pub use objects::put_object;
 pub use statements::{put_opaque, put_terms};
 pub use terms::put_term;

@@ -1,178 +1,157 @@
 //! Objects of a namespace.
 
-ghost use Rattle.std.specs.Prelude.{◌≡◌, ◌++◌, OnOk};
+ghost use Rattle.std.specs.Prelude.{◌≡◌, ◌++◌};
 ghost use Rattle.acpi_tree.specs.View.{data_view};
 ghost use Rattle.acpi_tree.specs.Objects.{object_view, processor_object, power_object, region_object, mutex_object, field_object, create_object, create_field_object, name_object};
 ghost use Rattle.acpi_text.specs.Constants.{hex_digits, int_text};
 ghost use Rattle.acpi_text.specs.Objects.{method_text, form_text, bank_text, width_text, object_text};
 
 use crate::data::put_data;
-use crate::numbers::{put, put_byte, put_dword, put_int, put_number, put_word};
+use crate::numbers::{put_byte, put_dword, put_int, put_number, put_word};
 use acpi_tree::{Data, FieldForm, Int, Object, Width};
-use std::alloc::AllocError;
+use text_buffer::Text;
 
 // A method: its arguments, whether it is serialized, and its sync level.
-fn put_method(text: &mut Vec<u8>, flags: u8) -> Result<(), AllocError>
-    ensures { OnOk result (text.new.items ≡ text.old.items ++ method_text flags) }
+fn put_method(text: &mut Text, flags: u8)
+    ensures { text.new ≡ text.old ++ method_text flags }
 {
     let (args, serialized, level) = (flags % 8, flags / 8 % 2 == 1, flags / 16);
-    put_number(text, "Method ", u64::from(args))?;
+    put_number(text, "Method ", u64::from(args));
     if serialized {
-        put(text, " Serialized")?;
+        text.put(" Serialized");
     }
     if level > 0 {
-        put_number(text, " Sync ", u64::from(level))?;
+        put_number(text, " Sync ", u64::from(level));
     }
-    Ok(())
 }
 
 // What stands before a byte, and its two digits.
-fn put_digits(text: &mut Vec<u8>, before: &str, n: u8) -> Result<(), AllocError>
-    ensures { OnOk result (text.new.items ≡ text.old.items ++ (before.now ++ hex_digits 2 n)) }
+fn put_digits(text: &mut Text, before: &str, n: u8)
+    ensures { text.new ≡ text.old ++ (before.now ++ hex_digits 2 n) }
 {
-    put(text, before)?;
+    text.put(before);
     put_byte(text, n)
 }
 
 // What stands before a constant, and the constant.
-fn put_constant(text: &mut Vec<u8>, before: &str, int: Int) -> Result<(), AllocError>
-    ensures { OnOk result (text.new.items ≡ text.old.items ++ (before.now ++ int_text int)) }
+fn put_constant(text: &mut Text, before: &str, int: Int)
+    ensures { text.new ≡ text.old ++ (before.now ++ int_text int) }
 {
-    put(text, before)?;
+    text.put(before);
     put_int(text, int)
 }
 
-fn put_processor(text: &mut Vec<u8>, id: u8, block: u32, length: u8) -> Result<(), AllocError>
-    ensures { OnOk result (text.new.items ≡ text.old.items
-        ++ object_text (processor_object id block length)) }
+fn put_processor(text: &mut Text, id: u8, block: u32, length: u8)
+    ensures { text.new ≡ text.old ++ object_text (processor_object id block length) }
 {
-    put_digits(text, "Processor id=", id)?;
-    put(text, " block=")?;
-    put_dword(text, block)?;
+    put_digits(text, "Processor id=", id);
+    text.put(" block=");
+    put_dword(text, block);
     put_digits(text, " length=", length)
 }
 
-fn put_power(text: &mut Vec<u8>, level: u8, order: u16) -> Result<(), AllocError>
-    ensures { OnOk result (text.new.items ≡ text.old.items
-        ++ object_text (power_object level order)) }
+fn put_power(text: &mut Text, level: u8, order: u16)
+    ensures { text.new ≡ text.old ++ object_text (power_object level order) }
 {
-    put_digits(text, "PowerResource level=", level)?;
-    put(text, " order=")?;
+    put_digits(text, "PowerResource level=", level);
+    text.put(" order=");
     put_word(text, order)
 }
 
-fn put_region(text: &mut Vec<u8>, space: u8, offset: Int, length: Int) -> Result<(), AllocError>
-    ensures { OnOk result (text.new.items ≡ text.old.items
-        ++ object_text (region_object space offset length)) }
+fn put_region(text: &mut Text, space: u8, offset: Int, length: Int)
+    ensures { text.new ≡ text.old ++ object_text (region_object space offset length) }
 {
-    put_digits(text, "OperationRegion space=", space)?;
-    put_constant(text, " offset=", offset)?;
+    put_digits(text, "OperationRegion space=", space);
+    put_constant(text, " offset=", offset);
     put_constant(text, " length=", length)
 }
 
 // The kind of a field unit.
-fn put_form(text: &mut Vec<u8>, form: FieldForm) -> Result<(), AllocError>
-    ensures { OnOk result (text.new.items ≡ text.old.items ++ form_text form) }
+fn put_form(text: &mut Text, form: FieldForm)
+    ensures { text.new ≡ text.old ++ form_text form }
 {
-    put(
-        text,
-        match form {
-            FieldForm::Field => "Field",
-            FieldForm::Index => "IndexField",
-            FieldForm::Bank(_) => "BankField",
-        },
-    )
+    text.put(match form {
+        FieldForm::Field => "Field",
+        FieldForm::Index => "IndexField",
+        FieldForm::Bank(_) => "BankField",
+    })
 }
 
 // The value that selects the bank.
-fn put_bank(text: &mut Vec<u8>, form: FieldForm) -> Result<(), AllocError>
-    ensures { OnOk result (text.new.items ≡ text.old.items ++ bank_text form) }
+fn put_bank(text: &mut Text, form: FieldForm)
+    ensures { text.new ≡ text.old ++ bank_text form }
 {
     match form {
-        FieldForm::Field | FieldForm::Index => Ok(()),
+        FieldForm::Field | FieldForm::Index => {}
         FieldForm::Bank(value) => put_constant(text, " value=", value),
     }
 }
 
-fn put_field(
-    text: &mut Vec<u8>,
-    form: FieldForm,
-    flags: u8,
-    offset: u64,
-    bits: u32,
-) -> Result<(), AllocError>
-    ensures { OnOk result (text.new.items ≡ text.old.items
-        ++ object_text (field_object form flags offset bits)) }
+fn put_field(text: &mut Text, form: FieldForm, flags: u8, offset: u64, bits: u32)
+    ensures { text.new ≡ text.old ++ object_text (field_object form flags offset bits) }
 {
-    put_form(text, form)?;
-    put_number(text, " offset=", offset)?;
-    put_number(text, " bits=", u64::from(bits))?;
-    put_digits(text, " flags=", flags)?;
+    put_form(text, form);
+    put_number(text, " offset=", offset);
+    put_number(text, " bits=", u64::from(bits));
+    put_digits(text, " flags=", flags);
     put_bank(text, form)
 }
 
 // The width of a Create field, as it stands in the field's kind.
-pub(crate) fn put_width(text: &mut Vec<u8>, width: Width) -> Result<(), AllocError>
-    ensures { OnOk result (text.new.items ≡ text.old.items ++ width_text width) }
+pub(crate) fn put_width(text: &mut Text, width: Width)
+    ensures { text.new ≡ text.old ++ width_text width }
 {
-    put(
-        text,
-        match width {
-            Width::DWord => "DWord",
-            Width::Word => "Word",
-            Width::Byte => "Byte",
-            Width::Bit => "Bit",
-            Width::QWord => "QWord",
-        },
-    )
+    text.put(match width {
+        Width::DWord => "DWord",
+        Width::Word => "Word",
+        Width::Byte => "Byte",
+        Width::Bit => "Bit",
+        Width::QWord => "QWord",
+    })
 }
 
-fn put_create(text: &mut Vec<u8>, width: Width, index: Int) -> Result<(), AllocError>
-    ensures { OnOk result (text.new.items ≡ text.old.items
-        ++ object_text (create_object width index)) }
+fn put_create(text: &mut Text, width: Width, index: Int)
+    ensures { text.new ≡ text.old ++ object_text (create_object width index) }
 {
-    put(text, "Create")?;
-    put_width(text, width)?;
+    text.put("Create");
+    put_width(text, width);
     put_constant(text, "Field index=", index)
 }
 
-fn put_create_field(text: &mut Vec<u8>, index: Int, bits: Int) -> Result<(), AllocError>
-    ensures { OnOk result (text.new.items ≡ text.old.items
-        ++ object_text (create_field_object index bits)) }
+fn put_create_field(text: &mut Text, index: Int, bits: Int)
+    ensures { text.new ≡ text.old ++ object_text (create_field_object index bits) }
 {
-    put_constant(text, "CreateField index=", index)?;
+    put_constant(text, "CreateField index=", index);
     put_constant(text, " bits=", bits)
 }
 
 // A name's data.
-fn put_named(text: &mut Vec<u8>, data: &Data) -> Result<(), AllocError>
-    ensures { OnOk result (text.new.items ≡ text.old.items
-        ++ object_text (name_object (data_view «data».now))) }
+fn put_named(text: &mut Text, data: &Data)
+    ensures { text.new ≡ text.old ++ object_text (name_object (data_view «data».now)) }
 {
-    put(text, "Name ")?;
+    text.put("Name ");
     put_data(text, data)
 }
 
-fn put_mutex(text: &mut Vec<u8>, flags: u8) -> Result<(), AllocError>
-    ensures { OnOk result (text.new.items ≡ text.old.items ++ object_text (mutex_object flags)) }
+fn put_mutex(text: &mut Text, flags: u8)
+    ensures { text.new ≡ text.old ++ object_text (mutex_object flags) }
 {
     put_digits(text, "Mutex ", flags)
 }
 
 /// Puts an object without its links (docs/COMMAND.md): its kind, and what is known of it. Offsets and widths
 /// of field units are in bits.
-pub fn put_object(text: &mut Vec<u8>, object: &Object) -> Result<(), AllocError>
-    ensures { OnOk result (text.new.items ≡ text.old.items
-        ++ object_text (object_view object.now)) }
+pub fn put_object(text: &mut Text, object: &Object)
+    ensures { text.new ≡ text.old ++ object_text (object_view object.now) }
 {
     match object {
-        Object::Root => put(text, "Root"),
-        Object::Scope => put(text, "Scope"),
-        Object::Predefined => put(text, "Predefined"),
-        Object::Device => put(text, "Device"),
+        Object::Root => text.put("Root"),
+        Object::Scope => text.put("Scope"),
+        Object::Predefined => text.put("Predefined"),
+        Object::Device => text.put("Device"),
         Object::Processor { id, block, length } => put_processor(text, *id, *block, *length),
         Object::Power { level, order } => put_power(text, *level, *order),
-        Object::Thermal => put(text, "ThermalZone"),
+        Object::Thermal => text.put("ThermalZone"),
         Object::Name(data) => put_named(text, data),
         Object::Method(flags) => put_method(text, *flags),
         Object::Region {
@@ -181,7 +160,7 @@ pub fn put_object(text: &mut Vec<u8>, object: &Object) -> Result<(), AllocError>
             length,
         } => put_region(text, *space, *offset, *length),
         Object::Mutex(flags) => put_mutex(text, *flags),
-        Object::Event => put(text, "Event"),
+        Object::Event => text.put("Event"),
         Object::Field {
             form,
             flags,

@@ -9,7 +9,7 @@ use Rattle.acpi_tree.specs.Tree.{elems_of, items_of}
 use Rattle.acpi_tree.specs.View.{elem_view, elems_view, item_view, items_view}
 use Rattle.std.specs.List.{list_all}
 use Rattle.acpi_tree.specs.Fits.{elem_fits, elems_fit, item_fits, items_fit}
-use Rattle.acpi_tree.specs.Equal.{elem_eq, elems_eq, item_eq, items_eq}
+use Rattle.acpi_tree.specs.steps.Equality.{elem_eq, elems_eq}
 
 pub unlike_lengths : {X : Type 0} (E : X → X → Bool) (xs ys : List X) → (length xs ≡ length ys → ⊥) → pointwise E xs ys ≡ false
 unlike_lengths E [] [] other = absurd (other refl)
@@ -39,12 +39,6 @@ elems_alike [] [] = refl
 elems_alike [] (y ∷ ys) = refl
 elems_alike (x ∷ xs) [] = refl
 elems_alike (x ∷ xs) (y ∷ ys) = ap (λ t. elem_eq (elem_view x) (elem_view y) && t) (elems_alike xs ys)
-
-pub items_alike : (xs ys : List Item) → items_eq (items_of (items_view xs)) (items_of (items_view ys)) ≡ pointwise (λ x y. item_eq (item_view x) (item_view y)) xs ys
-items_alike [] [] = refl
-items_alike [] (y ∷ ys) = refl
-items_alike (x ∷ xs) [] = refl
-items_alike (x ∷ xs) (y ∷ ys) = ap (λ t. item_eq (item_view x) (item_view y) && t) (items_alike xs ys)
 
 -- ---- one list, each of whose elements is tested
 

@@ -1,4 +1,4 @@
--- A tree tells which form of declaration it stands for, so a test against another form is false.
+-- A tree tells which form of declaration it stands for, so two of different forms aren't equal.
 use Rattle.std.proofs.Common.{◌≡◌, ℕ, Bool, true, false, refl, sym, ap, ◌∙◌, subst}
 use Rattle.std.specs.Global.{Box, Vec}
 use Rattle.acpi_name.specs.Names.{NameParts}
@@ -7,13 +7,12 @@ use Rattle.acpi_tree.specs.declared.tree.FieldElem.{FieldElem}
 use Rattle.acpi_tree.specs.declared.place.NamedForm.TheVariants as named
 use Rattle.acpi_tree.specs.declared.place.UnitsForm.TheVariants as units
 use Rattle.acpi_tree.specs.declared.term.Operand.{Operand}
-use Rattle.acpi_tree.specs.declared.term.Term.{Term, Term-F, fold-roll-Term, out-Term, roll-Term, roll-out-Term}
-use Rattle.acpi_tree.specs.declared.term.Term.TheVariants as term
+use Rattle.acpi_tree.specs.declared.term.Term.{Term}
 use Rattle.acpi_tree.specs.declared.term.Decl.{Decl, Decl-F, fold-roll-Decl, out-Decl, roll-Decl, roll-out-Decl}
 use Rattle.acpi_tree.specs.declared.term.Decl.TheVariants as decl
 use Rattle.acpi_tree.specs.Terms.{TermTree, declare, declare_units}
-use Rattle.acpi_tree.specs.TermView.{decl_step, operand_step, term_step, term_view, decl_view}
-use Rattle.acpi_tree.specs.TermEqual.{term_eq}
+use Rattle.acpi_tree.specs.TermView.{decl_step, operand_step, term_step, decl_view}
+use Rattle.acpi_tree.specs.steps.TermEquality.{term_eq}
 use Rattle.acpi_tree.specs.steps.TermEquality.{term_tells}
 
 pub unlike : (t u : TermTree) → (t ≡ u → ⊥) → false ≡ term_eq t u
@@ -90,67 +89,6 @@ layer (Decl-F.BankField r b t f v) = viewed (Decl-F.BankField r b t f v) of_bank
 declares : (d : Decl) → Declares (form_of (decl_view d)) d
 declares d = subst (λ e. Declares (form_of (decl_view e)) e) (roll-out-Decl d) (layer (out-Decl d))
 
--- a declaration of another form
-pub other_form : (t : TermTree) (d : Decl) → (Declares (form_of t) d → ⊥) → false ≡ term_eq t (decl_view d)
-other_form t d other = unlike t (decl_view d) (λ e. other (subst (λ u. Declares (form_of u) d) (sym e) (declares d)))
-
--- ---- declarations among terms
-
-abbrev pub declares_any : TermTree → Bool
-declares_any (declare form before n behind) = true
-declares_any (declare_units form ns ts es) = true
-declares_any _ = false
-
-abbrev If : Bool → Type 0 → Type 0
-If true P = P
-If false P = Unit {0}
-
-given : {P : Type 0} (s : Bool) → P → If s P
-given true p = p
-given false p = tt
-
-abbrev IsDeclaration : Term → Type 0
-IsDeclaration t = (b : Box Decl) × (t ≡ term.Declare b)
-
-not_declared : (o : Term-F Decl Operand Term) → declares_any (term_view (roll-Term o)) ≡ false → If (declares_any (term_view (roll-Term o))) (IsDeclaration (roll-Term o))
-not_declared o e = subst (λ s. If s (IsDeclaration (roll-Term o))) (sym e) tt
-
-term_layer : (o : Term-F Decl Operand Term) → If (declares_any (term_view (roll-Term o))) (IsDeclaration (roll-Term o))
-term_layer (Term-F.Int i) = not_declared (Term-F.Int i) (ap declares_any (fold-roll-Term TermTree TermTree TermTree decl_step operand_step term_step (Term-F.Int i)))
-term_layer (Term-F.Str v) = not_declared (Term-F.Str v) (ap declares_any (fold-roll-Term TermTree TermTree TermTree decl_step operand_step term_step (Term-F.Str v)))
-term_layer (Term-F.Buffer b v) = not_declared (Term-F.Buffer b v) (ap declares_any (fold-roll-Term TermTree TermTree TermTree decl_step operand_step term_step (Term-F.Buffer b v)))
-term_layer (Term-F.Package n v) = not_declared (Term-F.Package n v) (ap declares_any (fold-roll-Term TermTree TermTree TermTree decl_step operand_step term_step (Term-F.Package n v)))
-term_layer (Term-F.VarPackage b v) = not_declared (Term-F.VarPackage b v)
-    (ap declares_any (fold-roll-Term TermTree TermTree TermTree decl_step operand_step term_step (Term-F.VarPackage b v)))
-term_layer (Term-F.Local n) = not_declared (Term-F.Local n) (ap declares_any (fold-roll-Term TermTree TermTree TermTree decl_step operand_step term_step (Term-F.Local n)))
-term_layer (Term-F.Arg n) = not_declared (Term-F.Arg n) (ap declares_any (fold-roll-Term TermTree TermTree TermTree decl_step operand_step term_step (Term-F.Arg n)))
-term_layer Term-F.Debug = not_declared Term-F.Debug (ap declares_any (fold-roll-Term TermTree TermTree TermTree decl_step operand_step term_step Term-F.Debug))
-term_layer Term-F.NoTarget = not_declared Term-F.NoTarget (ap declares_any (fold-roll-Term TermTree TermTree TermTree decl_step operand_step term_step Term-F.NoTarget))
-term_layer (Term-F.Ref n) = not_declared (Term-F.Ref n) (ap declares_any (fold-roll-Term TermTree TermTree TermTree decl_step operand_step term_step (Term-F.Ref n)))
-term_layer (Term-F.Call n v) = not_declared (Term-F.Call n v) (ap declares_any (fold-roll-Term TermTree TermTree TermTree decl_step operand_step term_step (Term-F.Call n v)))
-term_layer (Term-F.Op op v) = not_declared (Term-F.Op op v) (ap declares_any (fold-roll-Term TermTree TermTree TermTree decl_step operand_step term_step (Term-F.Op op v)))
-term_layer (Term-F.If b v o) = not_declared (Term-F.If b v o) (ap declares_any (fold-roll-Term TermTree TermTree TermTree decl_step operand_step term_step (Term-F.If b v o)))
-term_layer (Term-F.While b v) = not_declared (Term-F.While b v) (ap declares_any (fold-roll-Term TermTree TermTree TermTree decl_step operand_step term_step (Term-F.While b v)))
-term_layer (Term-F.Declare b) = given (declares_any (term_view (roll-Term (Term-F.Declare b)))) (b, term.rolls-Declare b)
-
-declared : (t : Term) → If (declares_any (term_view t)) (IsDeclaration t)
-declared t = subst (λ u. If (declares_any (term_view u)) (IsDeclaration u)) (roll-out-Term t) (term_layer (out-Term t))
-
-decl_layer : (o : Decl-F Decl Operand Term) → declares_any (decl_view (roll-Decl o)) ≡ true
-decl_layer (Decl-F.Name n b) = ap declares_any (fold-roll-Decl TermTree TermTree TermTree decl_step operand_step term_step (Decl-F.Name n b))
-decl_layer (Decl-F.Create w s i n) = ap declares_any (fold-roll-Decl TermTree TermTree TermTree decl_step operand_step term_step (Decl-F.Create w s i n))
-decl_layer (Decl-F.CreateField s i b n) = ap declares_any (fold-roll-Decl TermTree TermTree TermTree decl_step operand_step term_step (Decl-F.CreateField s i b n))
-decl_layer (Decl-F.Mutex n f) = ap declares_any (fold-roll-Decl TermTree TermTree TermTree decl_step operand_step term_step (Decl-F.Mutex n f))
-decl_layer (Decl-F.Event n) = ap declares_any (fold-roll-Decl TermTree TermTree TermTree decl_step operand_step term_step (Decl-F.Event n))
-decl_layer (Decl-F.Region n s o l) = ap declares_any (fold-roll-Decl TermTree TermTree TermTree decl_step operand_step term_step (Decl-F.Region n s o l))
-decl_layer (Decl-F.Field r f v) = ap declares_any (fold-roll-Decl TermTree TermTree TermTree decl_step operand_step term_step (Decl-F.Field r f v))
-decl_layer (Decl-F.IndexField i e f v) = ap declares_any (fold-roll-Decl TermTree TermTree TermTree decl_step operand_step term_step (Decl-F.IndexField i e f v))
-decl_layer (Decl-F.BankField r b t f v) = ap declares_any (fold-roll-Decl TermTree TermTree TermTree decl_step operand_step term_step (Decl-F.BankField r b t f v))
-
-declares_one : (d : Decl) → declares_any (decl_view d) ≡ true
-declares_one d = subst (λ e. declares_any (decl_view e) ≡ true) (roll-out-Decl d) (decl_layer (out-Decl d))
-
--- a term that is no declaration
-pub other_term : (d : Decl) (t : Term) → (IsDeclaration t → ⊥) → false ≡ term_eq (decl_view d) (term_view t)
-other_term d t other =
-    unlike (decl_view d) (term_view t) (λ e. other (subst (λ s. If s (IsDeclaration t)) (sym (ap declares_any e) ∙ declares_one d) (declared t)))
+-- two declarations of different forms
+pub other_form : (a b : Decl) {t : TermTree} → decl_view a ≡ t → (Declares (form_of t) b → ⊥) → false ≡ term_eq (decl_view a) (decl_view b)
+other_form a b is other = unlike (decl_view a) (decl_view b) (λ e. other (subst (λ u. Declares (form_of u) b) (sym e ∙ is) (declares b)))

@@ -1,5 +1,5 @@
 -- Which trees have a spelling, but for the lengths of packages (ACPI 6.5, 20.2).
-use Rattle.std.specs.Prelude.{ℕ, Bool, true, false, not, ◌&&◌, nat_eq, nat_lt, nat_le, length}
+use Rattle.std.specs.Prelude.{ℕ, Bool, true, false, not, ◌&&◌, nat_lt, nat_le}
 use Rattle.std.specs.List.{list_all}
 use Rattle.acpi_name.specs.Names.{is_null_name}
 use Rattle.acpi_tree.specs.Tree.{DataTree, str, pkg, var_pkg, ElemTree, of_data, of_name, ElemTrees, no_elems, elem, FieldTree, unit, reserved, ExternalParts, ItemTree, name, scope, external, external_block, create, create_field, field, index_field, bank_field, ItemTrees, no_items, item}

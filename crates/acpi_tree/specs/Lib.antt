@@ -1,12 +1,10 @@
 pub mod Tree
 pub mod View
 pub mod Objects
-pub mod Equal
 pub mod Operators
 pub mod Terms
 pub mod Places
 pub mod TermFits
-pub mod TermEqual
 pub mod TermView
 pub mod Fits
 pub mod Offsets

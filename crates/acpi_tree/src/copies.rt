@@ -1,12 +1,11 @@
 //! Equal values with memory of their own.
 
 ghost use Rattle.std.specs.Prelude.{◌≡◌, IfOk};
-ghost use Rattle.acpi_tree.specs.View.{data_view, elem_view, elems_view, field_view, fields_view, external_view, externals_view, item_view, items_view};
+ghost use Rattle.acpi_tree.specs.View.{data_view, elem_view, elems_view, field_view, fields_view};
 ghost use Rattle.acpi_tree.specs.Objects.{object_view};
 
-use crate::item_copies::{copy_leaf, scope_of};
 use crate::object::Object;
-use crate::tree::{Data, Elem, External, FieldElem, Item, ScopeKind};
+use crate::tree::{Data, Elem, FieldElem};
 use std::alloc::{AllocError, Global};
 
 impl Data {
@@ -76,92 +75,6 @@ pub(crate) fn copy_fields(alloc: Global, elems: &[FieldElem]) -> Result<Vec<Fiel
 {
     let mut copies = Vec::new(alloc);
     for e in elems {
-        copies.push(e.copy(alloc)?)?;
-    }
-    Ok(copies)
-}
-
-impl External {
-    /// An equal External with memory of its own.
-    pub fn copy(&self) -> Result<External, AllocError>
-        ensures { IfOk result (λ x. external_view x ≡ external_view self.now) }
-    {
-        Ok(External {
-            name: self.name.copy()?,
-            kind: self.kind,
-            args: self.args,
-        })
-    }
-}
-
-pub(crate) fn copy_externals(
-    alloc: Global,
-    externals: &[External],
-) -> Result<Vec<External>, AllocError>
-    ensures { IfOk result (λ v. externals_view v.items ≡ externals_view externals.now) }
-{
-    let mut copies = Vec::new(alloc);
-    for e in externals {
-        copies.push(e.copy()?)?;
-    }
-    Ok(copies)
-}
-
-impl Item {
-    /// An equal item with memory of its own; a method's code is shared.
-    #[cycle(copy_item)]
-    pub fn copy(&self, alloc: Global) -> Result<Item, AllocError>
-        ensures { IfOk result (λ i. item_view i ≡ item_view self.now) }
-    {
-        match self {
-            Item::Scope(name, items) => scope_of(ScopeKind::Scope, name, copy_items(alloc, items)?),
-            Item::Device(name, items) => scope_of(
-                ScopeKind::Device,
-                name,
-                copy_items(alloc, items)?,
-            ),
-            Item::Processor {
-                name,
-                id,
-                block,
-                length,
-                items,
-            } => {
-                let kind = ScopeKind::Processor {
-                    id: *id,
-                    block: *block,
-                    length: *length,
-                };
-                scope_of(kind, name, copy_items(alloc, items)?)
-            }
-            Item::Power {
-                name,
-                level,
-                order,
-                items,
-            } => {
-                let kind = ScopeKind::Power {
-                    level: *level,
-                    order: *order,
-                };
-                scope_of(kind, name, copy_items(alloc, items)?)
-            }
-            Item::Thermal(name, items) => scope_of(
-                ScopeKind::Thermal,
-                name,
-                copy_items(alloc, items)?,
-            ),
-            _ => copy_leaf(alloc, self),
-        }
-    }
-}
-
-#[cycle(copy_item)]
-fn copy_items(alloc: Global, items: &[Item]) -> Result<Vec<Item>, AllocError>
-    ensures { IfOk result (λ v. items_view v.items ≡ items_view items.now) }
-{
-    let mut copies = Vec::new(alloc);
-    for e in items {
         copies.push(e.copy(alloc)?)?;
     }
     Ok(copies)

@@ -2,15 +2,12 @@
 //! they declare.
 //!
 //! The types hold `Vec`s and names of their own; a contract sees a value as a tree of `specs/Tree.antt`.
-//! Two values are equal where their trees are, and `copy` gives a value with the same tree.
+//! Data, objects and terms are equal where their trees are, and `copy` gives one with the same tree.
 #![tactic(auto)]
 
 mod copies;
 mod declaration_copies;
-mod declaration_same;
 mod fits;
-mod item_copies;
-mod item_same;
 mod object;
 mod op;
 mod place;

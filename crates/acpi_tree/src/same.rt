@@ -3,14 +3,12 @@
 ghost use Rattle.std.specs.Prelude.{◌≡◌, IsTrue, ◌↔◌};
 ghost use Rattle.std.specs.Cmp.{partial_equiv_from_equiv, on_equiv};
 ghost use Rattle.acpi_tree.specs.Tree.{elems_of};
-ghost use Rattle.acpi_tree.specs.View.{data_view, elem_view, elems_view, field_view, fields_view, external_view, externals_view, item_view};
+ghost use Rattle.acpi_tree.specs.View.{data_view, elem_view, elems_view, field_view, fields_view};
 ghost use Rattle.acpi_tree.specs.Objects.{object_view};
-ghost use Rattle.acpi_tree.specs.steps.Equality.{equivalence, data_tells, elem_tells, field_tells, external_tells, item_tells, object_tells};
-ghost use Rattle.acpi_tree.specs.Equal.{int_eq, width_eq, field_form_eq, data_eq, elem_eq, elems_eq, field_eq, fields_eq, external_eq, externals_eq, kind_eq, item_eq, object_eq};
+ghost use Rattle.acpi_tree.specs.steps.Equality.{equivalence, data_tells, elem_tells, field_tells, object_tells, int_eq, width_eq, field_form_eq, data_eq, elem_eq, elems_eq, field_eq, fields_eq, object_eq};
 
-use crate::item_same::same_item;
 use crate::object::{FieldForm, Object};
-use crate::tree::{Data, Elem, External, FieldElem, Int, Item, ScopeKind, Width};
+use crate::tree::{Data, Elem, FieldElem, Int, Width};
 
 pub(crate) fn same_int(a: Int, b: Int) -> bool
     ensures { result ≡ int_eq a b }
@@ -37,31 +35,6 @@ pub(crate) fn same_width(a: Width, b: Width) -> bool
         (Width::Byte, Width::Byte) => true,
         (Width::Bit, Width::Bit) => true,
         (Width::QWord, Width::QWord) => true,
-        _ => false,
-    }
-}
-
-pub(crate) fn same_kind(a: ScopeKind, b: ScopeKind) -> bool
-    ensures { result ≡ kind_eq a b }
-{
-    match (a, b) {
-        (ScopeKind::Scope, ScopeKind::Scope) => true,
-        (ScopeKind::Device, ScopeKind::Device) => true,
-        (
-            ScopeKind::Processor {
-                id: i,
-                block: b,
-                length: l,
-            },
-            ScopeKind::Processor {
-                id: j,
-                block: c,
-                length: k,
-            },
-        ) => i == j && b == c && l == k,
-        (ScopeKind::Power { level: l, order: o }, ScopeKind::Power { level: k, order: p }) => l == k
-            && o == p,
-        (ScopeKind::Thermal, ScopeKind::Thermal) => true,
         _ => false,
     }
 }
@@ -130,26 +103,6 @@ pub(crate) fn same_fields(a: &[FieldElem], b: &[FieldElem]) -> bool
     }
     for i in 0..a.len() {
         if !same_field(&a[i], &b[i]) {
-            return false;
-        }
-    }
-    true
-}
-
-pub(crate) fn same_external(a: &External, b: &External) -> bool
-    ensures { result ≡ external_eq (external_view a.now) (external_view b.now) }
-{
-    a.name == b.name && a.kind == b.kind && a.args == b.args
-}
-
-pub(crate) fn same_externals(a: &[External], b: &[External]) -> bool
-    ensures { result ≡ externals_eq (externals_view a.now) (externals_view b.now) }
-{
-    if a.len() != b.len() {
-        return false;
-    }
-    for i in 0..a.len() {
-        if !same_external(&a[i], &b[i]) {
             return false;
         }
     }
@@ -280,42 +233,6 @@ impl PartialEq for FieldElem {
 
 impl Eq for FieldElem {
     ghost laws = { on_equiv field_view (equivalence field_tells) };
-}
-
-impl PartialEq for External {
-    ghost eq = { λ a b. external_eq (external_view a) (external_view b) };
-
-    ghost laws = { partial_equiv_from_equiv (on_equiv external_view (equivalence external_tells)) };
-
-    // True exactly of equal values.
-    fn eq(&self, other: &External) -> bool
-        ensures test { result ≡ external_eq (external_view self.now) (external_view other.now) }
-        ensures same { IsTrue result ↔ (external_view self.now ≡ external_view other.now) }
-    {
-        same_external(self, other)
-    }
-}
-
-impl Eq for External {
-    ghost laws = { on_equiv external_view (equivalence external_tells) };
-}
-
-impl PartialEq for Item {
-    ghost eq = { λ a b. item_eq (item_view a) (item_view b) };
-
-    ghost laws = { partial_equiv_from_equiv (on_equiv item_view (equivalence item_tells)) };
-
-    // True exactly of equal values.
-    fn eq(&self, other: &Item) -> bool
-        ensures test { result ≡ item_eq (item_view self.now) (item_view other.now) }
-        ensures same { IsTrue result ↔ (item_view self.now ≡ item_view other.now) }
-    {
-        same_item(self, other)
-    }
-}
-
-impl Eq for Item {
-    ghost laws = { on_equiv item_view (equivalence item_tells) };
 }
 
 impl PartialEq for Object {

@@ -52,7 +52,7 @@ none_declared depth dsdt ssdts d no_first no_others no_same = record {
     no_ssdt p x h within = at_least_one x.number h.ssdt h.is_ssdt within
 
     no_same_yet : (i j : ℕ) (p : List Segment) → IsSame depth dsdt ssdts i j p → j ≤ 0 → ⊥
-    no_same_yet i j p h within = at_least_one j h.other h.is_other within
+    no_same_yet i j p h within = at_least_one j h.5.0 h.5.1 within
 
 -- ---- one SSDT more
 
@@ -155,22 +155,22 @@ module _ (depth : ℕ) (dsdt : List ℕ) (ssdts : List (List ℕ)) (n : ℕ) (d 
       let earlier = ((before.noted p x).0 (inl is)).0 in
       let o = (overlay.defined_are p).0 m in
       let one_first : earlier.first ≡ first = same_first depth dsdt earlier.ssdt b earlier.first first earlier.t t earlier.listings overlay.over.listings in (
-        record {
-          below = less;
-          this = earlier.ssdt;
-          other = b;
-          is_this = subst (λ (a : ℕ). IsSsdt ssdts a earlier.ssdt) k earlier.is_ssdt;
-          is_other = subst (λ (a : ℕ). IsSsdt ssdts a b) number is_ssdt;
-          first = earlier.first;
-          t = earlier.t;
-          u = t;
-          listings = earlier.listings;
-          other_listings = subst (λ (f : Listing). AreSingleListings depth dsdt b f t) (sym one_first) overlay.over.listings;
-          object = earlier.object;
-          other_object = o.0;
-          declares = earlier.declares;
-          other_declares = o.1;
-        },
+        (
+          less,
+          earlier.first,
+          earlier.t,
+          t,
+          (earlier.ssdt, subst (λ (a : ℕ). IsSsdt ssdts a earlier.ssdt) k earlier.is_ssdt, earlier.listings),
+          (
+            b,
+            subst (λ (a : ℕ). IsSsdt ssdts a b) number is_ssdt,
+            subst (λ (f : Listing). AreSingleListings depth dsdt b f t) (sym one_first) overlay.over.listings,
+          ),
+          earlier.object,
+          o.0,
+          earlier.declares,
+          o.1,
+        ),
         omega arith,
       )
 
@@ -179,15 +179,14 @@ module _ (depth : ℕ) (dsdt : List ℕ) (ssdts : List (List ℕ)) (n : ℕ) (d 
     where
       later : j ≡ n + 1 → (a : ℕ) × (c : ℕ) × (q : List Segment) × (Before a c q ⊎ Here a c q) × IsUpTo a c q i j p
       later is =
-          let below = h.below in
-          let this : Definer = record { number = i; args = method_args h.object } in
-          let that : Definer = record { number = j; args = method_args h.other_object } in
+          let below = h.0 in
+          let this : Definer = record { number = i; args = method_args h.6 } in
+          let that : Definer = record { number = j; args = method_args h.7 } in
           let noted : IsNoted d.definers p this = (before.noted p this).1 (
-            record { ssdt = h.this; is_ssdt = h.is_this; first = h.first; t = h.t; listings = h.listings; object = h.object; declares = h.declares; args_are = refl },
+            record { ssdt = h.4.0; is_ssdt = h.4.1; first = h.1; t = h.2; listings = h.4.2; object = h.6; declares = h.8; args_are = refl },
             omega arith,
           ) in
-          let new = new_definer p that
-          (record { ssdt = h.other; is_ssdt = h.is_other; first = h.first; t = h.u; listings = h.other_listings; object = h.other_object; declares = h.other_declares; args_are = refl }) is in
+          let new = new_definer p that (record { ssdt = h.5.0; is_ssdt = h.5.1; first = h.1; t = h.3; listings = h.5.2; object = h.7; declares = h.9; args_are = refl }) is in
           let r = before.firsts p this noted in
           let at_most = r.2 in
           (r.0.number, j, p, inr (sym is, omega arith, new.0, r.0, r.1, refl), up r.0.number at_most)
@@ -221,7 +220,7 @@ all_declared depth dsdt ssdts n d all h = record {
   alone = each ssdts (λ k b at. h.alone (suc k) b (let within = ssdt_within ssdts (suc k) b at in omega arith) at);
   definers = record { noted = λ p x. ((λ k. ((h.noted p x).0 k).0), (λ k. (h.noted p x).1 (k, let within = ssdt_within ssdts x.number k.ssdt k.is_ssdt in omega arith))); firsts = h.firsts };
   same = least_covers (λ i j p. IsSame depth dsdt ssdts i j p × (j ≤ n)) (IsSame depth dsdt ssdts) (λ i j p k. k.0)
-      (λ i j p k. (i, j, p, (k, let within = ssdt_within ssdts j k.other k.is_other in omega arith), inr (refl, refl, refl))) d.same h.same;
+      (λ i j p k. (i, j, p, (k, let within = ssdt_within ssdts j k.5.0 k.5.1 in omega arith), inr (refl, refl, refl))) d.same h.same;
 }
   where
     each : (bs : List (List ℕ)) → ((k : ℕ) (b : List ℕ) → StandsAt bs k b → LoadsAlone depth dsdt b) → AllByRecursion (LoadsAlone depth dsdt) bs

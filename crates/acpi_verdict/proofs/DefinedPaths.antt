@@ -18,10 +18,9 @@ use Rattle.acpi_declare.specs.Listing.{objects_of}
 use Rattle.acpi_declare.specs.Namespace.{Namespace, namespace_of}
 use Rattle.acpi_body.specs.steps.Gathering.{Paths, Grows}
 use Rattle.acpi_body.proofs.Grown.{from_none}
-use Rattle.acpi_order.specs.Laws.{taken_away}
 use Rattle.acpi_order.specs.Misses.{Listing, objects_of_first, objects_of_both}
 use Rattle.acpi_order.specs.Independent.{AreSingleListings}
-use Rattle.acpi_order.proofs.Singles.{taken_back}
+use Rattle.acpi_order.proofs.Singles.{taken_away, taken_back}
 
 -- whether an object is there
 pub there : (m : PathMap Object) (p : List Segment) → is_some (namespace_of m p) ≡ is_defined m p

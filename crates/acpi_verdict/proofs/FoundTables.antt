@@ -111,35 +111,33 @@ module _ (depth : ℕ) (dsdt : List ℕ) (ssdts : List (List ℕ)) (d : Definers
       → IsSatisfiedFor user Awaits (IsNoted d) s → IsSatisfied depth dsdt ssdts s.user s.definer s.path
   satisfied_of user Awaits s awaits (e, x, noted, at, ne, n, m, met) =
       let h = (definers.noted s.path x).0 noted in
-      let found : IsSatisfied depth dsdt ssdts user x.number s.path = record {
-        different = λ same. ne (sym same);
-        args = n;
-        awaits = awaits s.path n m;
-        ssdt = h.ssdt;
-        is_definer = h.is_ssdt;
-        first = h.first;
-        t = h.t;
-        listings = h.listings;
-        object = h.object;
-        declares = h.declares;
-        method = sym (definer_takes depth dsdt ssdts s.path x h n) ∙ met;
-      } in
+      let found : IsSatisfied depth dsdt ssdts user x.number s.path = (
+        (λ same. ne (sym same)),
+        n,
+        awaits s.path n m,
+        h.first,
+        h.t,
+        (h.ssdt, h.is_ssdt, h.listings),
+        h.object,
+        h.declares,
+        sym (definer_takes depth dsdt ssdts s.path x h n) ∙ met,
+      ) in
       subst (λ (k : ℕ). IsSatisfied depth dsdt ssdts k s.definer s.path) e (subst (λ (k : ℕ). IsSatisfied depth dsdt ssdts user k s.path) at found)
 
   of_satisfied : (user : ℕ) (Awaits : List Segment → ℕ → Type 0) (s : Satisfied) → s.user ≡ user → ((p : List Segment) (n : ℕ) → IsAwaitedOf depth dsdt ssdts user p n → Awaits p n)
       → IsSatisfied depth dsdt ssdts s.user s.definer s.path → IsSatisfiedFor user Awaits (IsNoted d) s
-  of_satisfied user Awaits s e awaits h =
-      let x : Definer = record { number = s.definer; args = method_args h.object } in
+  of_satisfied user Awaits s e awaits (different, args, waits, first, t, (ssdt, is_definer, listings), object, declares, method) =
+      let x : Definer = record { number = s.definer; args = method_args object } in
       let definer : IsDefiner depth dsdt ssdts s.path x =
-      record { ssdt = h.ssdt; is_ssdt = h.is_definer; first = h.first; t = h.t; listings = h.listings; object = h.object; declares = h.declares; args_are = refl } in (
+      record { ssdt = ssdt; is_ssdt = is_definer; first = first; t = t; listings = listings; object = object; declares = declares; args_are = refl } in (
         sym e,
         x,
         (definers.noted s.path x).1 definer,
         refl,
-        (λ same. h.different (e ∙ sym same)),
-        h.args,
-        awaits s.path h.args (subst (λ (k : ℕ). IsAwaitedOf depth dsdt ssdts k s.path h.args) e h.awaits),
-        takes_as h.object h.args ∙ h.method,
+        (λ same. different (e ∙ sym same)),
+        args,
+        awaits s.path args (subst (λ (k : ℕ). IsAwaitedOf depth dsdt ssdts k s.path args) e waits),
+        takes_as object args ∙ method,
       )
 
   -- what an SSDT of them declares is wanted, and where it isn't marked the DSDT missed and awaits none of it
@@ -261,7 +259,7 @@ module _ (depth : ℕ) (dsdt : List ℕ) (ssdts : List (List ℕ)) (d : Definers
 
     -- what its bodies await
     awaits_to : (p : List Segment) (k : ℕ) → IsAwaitedInTable depth (objects_of_both this u) u p k → IsAwaitedOf depth dsdt ssdts (n + 1) p k
-    awaits_to p k h = rw add-one (b, this, u, back, finds.listings, h)
+    awaits_to p k h = rw add-one (this, u, (b, back, finds.listings), h)
       where
         back : IsSsdt ssdts (suc n) b
         back = subst (λ (i : ℕ). IsSsdt ssdts i b) (add-one n) is_ssdt
@@ -270,7 +268,7 @@ module _ (depth : ℕ) (dsdt : List ℕ) (ssdts : List (List ℕ)) (d : Definers
     awaits_from p k h = by (subst (λ (i : ℕ). IsAwaitedOf depth dsdt ssdts i p k) (add-one n) h)
       where
         by : IsAwaitedOf depth dsdt ssdts (suc n) p k → IsAwaitedInTable depth (objects_of_both this u) u p k
-        by (c, one, two, is_c, listings, awaits) =
+        by (one, two, (c, is_c, listings), awaits) =
             let at : IsSsdt ssdts (n + 1) c = subst (λ (i : ℕ). IsSsdt ssdts i c) (sym (add-one n)) is_c in
             subst (λ (l : Listing). IsAwaitedInTable depth (objects_of_both this l) l p k) (t_is c one two at listings)
             (subst (λ (l : Listing). IsAwaitedInTable depth (objects_of_both l two) two p k) (first_is c one two at listings) awaits)
@@ -308,11 +306,11 @@ module _ (depth : ℕ) (dsdt : List ℕ) (ssdts : List (List ℕ)) (d : Definers
   -- ---- all
 
   user_within : (s : Satisfied) → IsSatisfied depth dsdt ssdts s.user s.definer s.path → s.user ≤ length ssdts
-  user_within s h = by s.user h.awaits
+  user_within s h = by s.user h.2
     where
-      by : (i : ℕ) → IsAwaitedOf depth dsdt ssdts i s.path h.args → i ≤ length ssdts
+      by : (i : ℕ) → IsAwaitedOf depth dsdt ssdts i s.path h.1 → i ≤ length ssdts
       by zero a = omega arith
-      by (suc i) a = ssdt_within ssdts (suc i) a.0 a.3
+      by (suc i) a = ssdt_within ssdts (suc i) a.2.0 a.2.1
 
   pub all_found : (n : ℕ) (f : Findings) → length ssdts ≤ n → AreFoundTo depth dsdt ssdts d n f → AreFound depth dsdt ssdts d f
   all_found n f all h = record {
@@ -330,41 +328,39 @@ module _ (depth : ℕ) (dsdt : List ℕ) (ssdts : List (List ℕ)) (d : Definers
     missed_to : (i j : ℕ) (p : List Segment) → IsUnmetAt depth dsdt ssdts d.first i j p → IsMissed depth dsdt ssdts i j p
     missed_to i j p (b, one, two, is_ssdt, listings, (e, x, is, at, ne, unmet)) =
         let h = (definers.noted p x).0 (inl is) in
-        record {
-          different = λ same. ne (sym same);
-          searcher = b;
-          definer = h.ssdt;
-          is_searcher = is_ssdt;
-          is_definer = subst (λ (k : ℕ). IsSsdt ssdts k h.ssdt) at h.is_ssdt;
-          first = one;
-          t = two;
-          u = h.t;
-          listings = listings;
-          definer_listings = subst (λ (l : Listing). AreSingleListings depth dsdt h.ssdt l h.t) (same_first depth dsdt h.ssdt b h.first one h.t two h.listings listings) h.listings;
-          object = h.object;
-          declares = h.declares;
-          unmet = by h unmet;
-        }
+        let behind : AreSingleListings depth dsdt h.ssdt one h.t =
+        subst (λ (l : Listing). AreSingleListings depth dsdt h.ssdt l h.t) (same_first depth dsdt h.ssdt b h.first one h.t two h.listings listings) h.listings in (
+          (λ same. ne (sym same)),
+          one,
+          two,
+          h.t,
+          (b, is_ssdt, listings),
+          (h.ssdt, subst (λ (k : ℕ). IsSsdt ssdts k h.ssdt) at h.is_ssdt, behind),
+          h.object,
+          h.declares,
+          by h unmet,
+        )
       where
         by : (h : IsDefiner depth dsdt ssdts p x) → IsMiss depth one two p ⊎ ((n : ℕ) × IsAwaited depth one two p n × (takes x n ≡ false)) → IsUnmet depth one two p h.object
         by h (inl m) = inl m
         by h (inr (n, m, fails)) = inr (n, m, sym (definer_takes depth dsdt ssdts p x h n) ∙ fails)
 
     missed_from : (i j : ℕ) (p : List Segment) → IsMissed depth dsdt ssdts i j p → IsUnmetAt depth dsdt ssdts d.first i j p
-    missed_from i j p h = (h.searcher, h.first, h.t, h.is_searcher, h.listings, (refl, x, r.1, number, (λ same. h.different (sym same)), unmet h.unmet))
+    missed_from i j p (different, first, t, u, (searcher, is_searcher, listings), (definer, is_definer, definer_listings), object, declares, is_unmet) =
+        (searcher, first, t, is_searcher, listings, (refl, x, r.1, number, (λ same. different (sym same)), unmet is_unmet))
       where
         y : Definer
-        y = record { number = j; args = method_args h.object }
+        y = record { number = j; args = method_args object }
 
         of_y : IsDefiner depth dsdt ssdts p y
         of_y = record {
-          ssdt = h.definer;
-          is_ssdt = h.is_definer;
-          first = h.first;
-          t = h.u;
-          listings = h.definer_listings;
-          object = h.object;
-          declares = h.declares;
+          ssdt = definer;
+          is_ssdt = is_definer;
+          first = first;
+          t = u;
+          listings = definer_listings;
+          object = object;
+          declares = declares;
           args_are = refl;
         }
 
@@ -386,34 +382,22 @@ module _ (depth : ℕ) (dsdt : List ℕ) (ssdts : List (List ℕ)) (d : Definers
             by : (x.number < j) ⊎ (x.number ≡ j) → x.number ≡ j
             by (inr is) = is
             by (inl less) =
-                absurd (unique x.number j p (record {
-                  below = less;
-                  this = of_x.ssdt;
-                  other = h.definer;
-                  is_this = of_x.is_ssdt;
-                  is_other = h.is_definer;
-                  first = of_x.first;
-                  t = of_x.t;
-                  u = h.u;
-                  listings = of_x.listings;
-                  other_listings = subst (λ (l : Listing). AreSingleListings depth dsdt h.definer l h.u)
-                      (same_first depth dsdt h.definer of_x.ssdt h.first of_x.first h.u of_x.t h.definer_listings of_x.listings) h.definer_listings;
-                  object = of_x.object;
-                  other_object = h.object;
-                  declares = of_x.declares;
-                  other_declares = h.declares;
-                }))
+                let behind : AreSingleListings depth dsdt definer of_x.first u =
+                subst (λ (l : Listing). AreSingleListings depth dsdt definer l u)
+                (same_first depth dsdt definer of_x.ssdt first of_x.first u of_x.t definer_listings of_x.listings) definer_listings in
+                absurd (unique x.number j p
+                (less, of_x.first, of_x.t, u, (of_x.ssdt, of_x.is_ssdt, of_x.listings), (definer, is_definer, behind), of_x.object, object, of_x.declares, declares))
 
-        same_object : of_x.object ≡ h.object
+        same_object : of_x.object ≡ object
         same_object =
-            let same : of_x.ssdt ≡ h.definer = one_ssdt ssdts j of_x.ssdt h.definer (subst (λ (k : ℕ). IsSsdt ssdts k of_x.ssdt) number of_x.is_ssdt) h.is_definer in
-            let listings : AreSingleListings depth dsdt h.definer of_x.first of_x.t = subst (λ (c : List ℕ). AreSingleListings depth dsdt c of_x.first of_x.t) same of_x.listings in
-            let one_first : of_x.first ≡ h.first = same_first depth dsdt h.definer h.definer of_x.first h.first of_x.t h.u listings h.definer_listings in
-            let one_t : of_x.t ≡ h.u =
-            same_second depth dsdt h.definer h.first of_x.t h.u (subst (λ (l : Listing). AreSingleListings depth dsdt h.definer l of_x.t) one_first listings) h.definer_listings in
-            one_some of_x.object h.object (sym of_x.declares ∙ ap (λ (l : Listing). objects_of l p) one_t ∙ h.declares)
+            let same : of_x.ssdt ≡ definer = one_ssdt ssdts j of_x.ssdt definer (subst (λ (k : ℕ). IsSsdt ssdts k of_x.ssdt) number of_x.is_ssdt) is_definer in
+            let own : AreSingleListings depth dsdt definer of_x.first of_x.t = subst (λ (c : List ℕ). AreSingleListings depth dsdt c of_x.first of_x.t) same of_x.listings in
+            let one_first : of_x.first ≡ first = same_first depth dsdt definer definer of_x.first first of_x.t u own definer_listings in
+            let one_t : of_x.t ≡ u =
+            same_second depth dsdt definer first of_x.t u (subst (λ (l : Listing). AreSingleListings depth dsdt definer l of_x.t) one_first own) definer_listings in
+            one_some of_x.object object (sym of_x.declares ∙ ap (λ (l : Listing). objects_of l p) one_t ∙ declares)
 
-        unmet : IsUnmet depth h.first h.t p h.object → IsMiss depth h.first h.t p ⊎ ((n : ℕ) × IsAwaited depth h.first h.t p n × (takes x n ≡ false))
+        unmet : IsUnmet depth first t p object → IsMiss depth first t p ⊎ ((n : ℕ) × IsAwaited depth first t p n × (takes x n ≡ false))
         unmet (inl m) = inl m
         unmet (inr (n, m, fails)) = inr (n, m, definer_takes depth dsdt ssdts p x of_x n ∙ ap (λ (o : ObjectTree). is_method_of o n) same_object ∙ fails)
 

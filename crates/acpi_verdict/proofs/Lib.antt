@@ -2,9 +2,6 @@ pub mod PathSets
 pub mod AwaitedCounts
 pub mod WantedPaths
 pub mod DefinedPaths
-pub mod MissedPaths
-pub mod AwaitedMethods
-pub mod SingleLoads
 pub mod AloneLoads
 pub mod Overlays
 pub mod TableMisses
@@ -20,5 +17,3 @@ pub mod PutExternals
 pub mod FoundTables
 pub mod FoundVerdict
 pub mod CheckedTables
-pub mod JoinedValues
-pub mod JoinedMachines

@@ -12,7 +12,7 @@ use Rattle.acpi_space.specs.Lookups.{is_same_path}
 use Rattle.acpi_space.specs.Spaces.{PathMap}
 use Rattle.acpi_space.proofs.Comparisons.{path_itself}
 use Rattle.acpi_space.proofs.Elements.{among_append, among_both, not_both, one_some}
-use Rattle.acpi_declare.proofs.Unions.{path_same}
+use Rattle.acpi_pass.proofs.Unions.{path_same}
 use Rattle.acpi_verdict.specs.declared.definers.Definer.{Definer}
 use Rattle.acpi_verdict.specs.declared.definers.Definers.{Definers}
 use Rattle.acpi_verdict.specs.steps.Defining.{IsOther, IsNoted, AddsOther, AddsDefiner}

@@ -20,7 +20,7 @@ use Rattle.acpi_body.specs.steps.Gathering.{Grows}
 use Rattle.acpi_body.proofs.Grown.{from_none}
 use Rattle.acpi_order.specs.Bodies.{Method, methods_of}
 use Rattle.acpi_order.specs.Misses.{Listing, objects_of_first, objects_of_both, IsLinkMiss, IsBodyMiss, IsAwaiting, IsMiss, IsAwaited}
-use Rattle.acpi_order.proofs.Sharing.{of_two, first_of, second_of}
+use Rattle.acpi_order.proofs.Lists.{of_two, first_of, second_of}
 use Rattle.acpi_order.proofs.Stays.{links_stay, body_stays}
 use Rattle.acpi_verdict.specs.steps.Overlays.{IsOver}
 use Rattle.acpi_verdict.specs.steps.PairMisses.{PairTree, ArePairMisses, IsMissedIn, IsAwaitedIn, AreLoadMisses, AreAwaitsAlone}

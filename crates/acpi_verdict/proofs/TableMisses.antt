@@ -7,7 +7,8 @@ use Rattle.acpi_name.specs.Names.{Segment}
 use Rattle.acpi_space.specs.Laws.{Among}
 use Rattle.acpi_space.specs.Lookups.{Lookup}
 use Rattle.acpi_space.specs.Wanted.{Wants}
-use Rattle.acpi_declare.specs.Declaring.{State, IsMissedLink}
+use Rattle.acpi_declare.specs.Declaring.{State}
+use Rattle.acpi_pass.specs.Pending.{IsMissedLink}
 use Rattle.acpi_declare.specs.Links.{PendingLink, pending_links}
 use Rattle.acpi_declare.specs.Namespace.{Namespace}
 use Rattle.acpi_declare.specs.Notes.{Notes, notes_on, external_counts}
@@ -20,7 +21,7 @@ use Rattle.acpi_body.proofs.Grown.{grows_not, grows_as, grows_then}
 use Rattle.acpi_order.specs.Bodies.{Method, methods_of, IsBody}
 use Rattle.acpi_order.specs.Misses.{Listing, IsBodyMiss, IsAwaiting}
 use Rattle.acpi_order.proofs.ReadBodies.{one_body_there}
-use Rattle.acpi_machine.specs.steps.Adding.{all_noted}
+use Rattle.acpi_order.specs.steps.Noted.{all_noted}
 use Rattle.acpi_verdict.specs.declared.misses.Misses.{Misses}
 use Rattle.acpi_verdict.specs.steps.Misses.{all_paths, IsMissedByAny, IsAwaitedByAny, IsTableMiss, AddsBody, AddsMethod, AddsMethods, AreMisses}
 use Rattle.acpi_verdict.proofs.AwaitedCounts.{alike, IsAwaitedHere, awaited_here}

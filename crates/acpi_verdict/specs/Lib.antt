@@ -1,4 +1,3 @@
-pub mod SingleView
 pub mod VerdictView
 pub mod SatisfiedView
 pub mod steps

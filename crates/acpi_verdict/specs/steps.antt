@@ -1,5 +1,4 @@
 pub mod Misses
-pub mod SingleMisses
 pub mod Overlays
 pub mod PairMisses
 pub mod Clashing
@@ -7,5 +6,4 @@ pub mod Defining
 pub mod AffectedSsdts
 pub mod Declaring
 pub mod Finding
-pub mod Joining
 pub mod Checking

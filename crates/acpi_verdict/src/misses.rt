@@ -12,11 +12,11 @@ use std::alloc::AllocError;
 
 /// The paths that searches missed, and the methods that bodies await.
 #[derive(Drop)]
-pub(crate) struct Misses {
+pub struct Misses {
     /// The paths that were missed.
-    pub(crate) missed: MapSpace<()>,
+    pub missed: MapSpace<()>,
     /// How many arguments the methods take that bodies await, by their paths.
-    pub(crate) awaited: MapSpace<u8>,
+    pub awaited: MapSpace<u8>,
 }
 
 // Adds the count of a path that has none.
@@ -42,7 +42,7 @@ fn add_open(awaited: &mut MapSpace<u8>, misses: Vec<OpenMiss>) -> Result<(), All
 
 impl Misses {
     /// Adds what one body misses and awaits.
-    pub(crate) fn add(&mut self, body: BodyMisses) -> Result<(), AllocError>
+    pub fn add(&mut self, body: BodyMisses) -> Result<(), AllocError>
         ensures { OnOk result (AddsBody body self.old self.new) }
     {
         let BodyMisses { firm, open } = body;

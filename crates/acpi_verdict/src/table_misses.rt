@@ -6,7 +6,7 @@ ghost use Rattle.acpi_declare.specs.Namespace.{namespace_of};
 ghost use Rattle.acpi_declare.specs.Notes.{method_of, notes_of};
 ghost use Rattle.acpi_body.specs.steps.Gathering.{Grows};
 ghost use Rattle.acpi_order.specs.Bodies.{with_counts};
-ghost use Rattle.acpi_machine.specs.steps.Adding.{noted};
+ghost use Rattle.acpi_order.specs.steps.Noted.{noted};
 ghost use Rattle.acpi_space.specs.Laws.{Among};
 ghost use Rattle.acpi_space.specs.Spaces.{is_defined};
 ghost use Rattle.acpi_verdict.specs.steps.Misses.{AddsMethod, AddsMethods, AreMisses, IsMissedScope};

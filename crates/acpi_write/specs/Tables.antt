@@ -4,14 +4,4 @@ use Rattle.acpi_table.specs.declared.tables.Header.{Header}
 
 -- the header with the Length and Checksum that stand in these bytes, and all else as it was
 abbrev pub header_for : Header → List ℕ → Header
-header_for h bytes = record {
-  signature = h.signature;
-  length = length bytes;
-  revision = h.revision;
-  checksum = slice_index bytes 9;
-  oem_id = h.oem_id;
-  oem_table_id = h.oem_table_id;
-  oem_revision = h.oem_revision;
-  creator_id = h.creator_id;
-  creator_revision = h.creator_revision;
-}
+header_for h bytes = record h { length = length bytes; checksum = slice_index bytes 9 }

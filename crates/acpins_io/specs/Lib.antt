@@ -3,4 +3,5 @@ pub mod Hexadecimal
 pub mod Dump
 pub mod steps
 pub mod FilesWritten
+pub mod Outputs
 pub mod Faults

@@ -5,7 +5,7 @@
 //! bytes ─ write_file ───► a file
 //! text ── from_hex ─────► bytes         HexDecoder: part by part
 //! text ── tables_in_dump ► tables       of the text that acpidump writes
-//! line ── PartWriter ───► a stream      UntilFailure: until a write fails; IntoText: into a text
+//! line ── PartWriter ───► a stream      UntilFailure: until a write fails; IntoText: into a `Text`
 //! ```
 #![tactic(auto)]
 

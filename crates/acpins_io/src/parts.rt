@@ -5,6 +5,7 @@ ghost use Rattle.std.specs.Io.KnownBytes.{Appends};
 ghost use Rattle.acpins_io.specs.PartsWritten.{AppendsBeginning, WritesUntilFailure};
 
 use std::io::{ErrorKind, Write};
+use text_buffer::Text;
 
 /// How the parts of a line are written to a stream. Contracts see the bytes that the stream holds, where they
 /// are known, and whether a write has failed.
@@ -100,37 +101,17 @@ impl<E: Write> PartWriter<E> for UntilFailure {
     }
 }
 
-/// Puts parts behind a text until a growth of memory is refused, and leaves out what comes after that.
+/// Puts parts behind a text, which remembers itself where memory was refused.
 #[derive(Debug, Drop)]
-pub struct IntoText {
-    failed: bool,
-}
+pub struct IntoText;
 
-impl IntoText {
-    /// No growth was refused.
-    pub fn new() -> IntoText
-        ensures { result.failed ≡ false }
-    {
-        IntoText { failed: false }
-    }
+impl PartWriter<Text> for IntoText {
+    ghost contents = { λ text. Some text };
 
-    /// Whether a growth was refused.
-    pub fn failed(&self) -> bool
-        ensures { result ≡ self.now.failed }
-    {
-        self.failed
-    }
-}
+    ghost failed = { λ _. false };
 
-impl PartWriter<Vec<u8>> for IntoText {
-    ghost contents = { λ text. Some text.items };
-
-    ghost failed = { λ parts. parts.failed };
-
-    fn write_part(&mut self, stream: &mut Vec<u8>, part: &[u8]) {
-        if !self.failed {
-            self.failed = stream.extend_from_slice(part).is_err();
-        }
+    fn write_part(&mut self, stream: &mut Text, part: &[u8]) {
+        stream.put_all(part)
     }
 }
 

@@ -11,12 +11,12 @@ use Rattle.acpi_name.specs.Paths.{path_cmp}
 use Rattle.acpi_space.specs.Spaces.{PathMap}
 use Rattle.acpi_tree.specs.Objects.{ObjectTree, object_view}
 use Rattle.acpi_tree.specs.declared.object.Object.{Object}
-use Rattle.acpi_load.specs.Namespace.{namespace_of}
-use Rattle.acpi_load.specs.Links.{Links, links_at}
+use Rattle.acpi_declare.specs.Namespace.{namespace_of}
+use Rattle.acpi_declare.specs.Links.{Links, links_at}
 use Rattle.acpi_text.specs.Lines.{line_text, listing_text}
 use Rattle.acpins_output.specs.declared.listing.Lines.{Lines}
-use Rattle.acpins_output.specs.steps.Lines.{AreLines}
-use Rattle.acpins_output.specs.Listings.{objects_by_path, Prints}
+use Rattle.acpins_output.specs.steps.Lines.{objects_by_path, AreLines}
+use Rattle.acpins_output.specs.Listings.{Prints}
 
 -- ---- line after line
 
@@ -26,22 +26,22 @@ listing_more es fs links = flat_map-append (λ (e : List Segment × ObjectTree).
 -- one line more
 pub line_put : (first now after : Lines) (pairs : List (List Segment × Object)) (path : List Segment) (object : Object) (own : Links)
     → AreLines first pairs now → after.links ≡ now.links → own ≡ unwrap_or (links_at now.links.now path) []
-    → after.text.items ≡ now.text.items ++ line_text path (object_view object) own
+    → after.text ≡ now.text ++ line_text path (object_view object) own
     → AreLines first (pairs ++ (path, object) ∷ []) after
 line_put first now after pairs path object own so same is put = record {
   links = same ∙ so.links;
   text = put
-      ∙ ap (λ o. now.text.items ++ line_text path (object_view object) o) (is ∙ ap (λ l. unwrap_or (links_at l.now path) []) so.links)
+      ∙ ap (λ o. now.text ++ line_text path (object_view object) o) (is ∙ ap (λ l. unwrap_or (links_at l.now path) []) so.links)
       ∙ ap (λ l. l ++ line_text path (object_view object) (unwrap_or (links_at first.links.now path) [])) so.text
-      ∙ append_assoc first.text.items _ _
-      ∙ ap (λ l. first.text.items ++ l) (ap (λ l. listing_text (map (λ e. (e.0, object_view e.1)) pairs) (links_at first.links.now) ++ l) (sym (append-nil _))
+      ∙ append_assoc first.text _ _
+      ∙ ap (λ l. first.text ++ l) (ap (λ l. listing_text (map (λ e. (e.0, object_view e.1)) pairs) (links_at first.links.now) ++ l) (sym (append-nil _))
       ∙ sym (listing_more (map (λ e. (e.0, object_view e.1)) pairs) ((path, object_view object) ∷ []) (links_at first.links.now))
       ∙ ap (λ l. listing_text l (links_at first.links.now)) (sym (map-append (λ e. (e.0, object_view e.1)) pairs ((path, object) ∷ []))));
 }
 
 -- no line yet
 pub no_line : (first : Lines) → AreLines first [] first
-no_line first = record { links = refl; text = sym (append-nil first.text.items) }
+no_line first = record { links = refl; text = sym (append-nil first.text) }
 
 -- ---- the same of a namespace
 

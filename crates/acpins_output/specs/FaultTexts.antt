@@ -4,8 +4,8 @@ use Rattle.acpi_name.specs.Text.{path_text}
 use Rattle.acpi_table.specs.Texts.{table_fault_text}
 use Rattle.acpi_terms.specs.declared.fault.ItemReason.{ItemReason}
 use Rattle.acpi_terms.specs.declared.fault.ItemReason.TheVariants as items
-use Rattle.acpi_declare.specs.declared.fault.Refusal.{Refusal}
-use Rattle.acpi_declare.specs.declared.fault.Refusal.TheVariants as refusals
+use Rattle.acpi_pass.specs.declared.refusal.Refusal.{Refusal}
+use Rattle.acpi_pass.specs.declared.refusal.Refusal.TheVariants as refusals
 use Rattle.acpi_declare.specs.declared.fault.LoadReason.{LoadReason}
 use Rattle.acpi_declare.specs.declared.fault.LoadReason.TheVariants as reasons
 

@@ -5,7 +5,7 @@ use Rattle.acpi_tree.specs.Objects.{ObjectTree}
 use Rattle.acpi_text.specs.Lines.{line_text}
 use Rattle.acpi_text.specs.Terms.{statements_text, opaque_text}
 use Rattle.acpi_body.specs.Texts.{body_reason_text}
-use Rattle.acpi_body.specs.declared.fault.BodyFault.{BodyFault}
+use Rattle.acpi_values.specs.declared.fault.BodyFault.{BodyFault}
 use Rattle.acpi_body.specs.Bodies.{BodyTree, read, unread}
 use Rattle.acpi_order.specs.Machines.{Machine, IsMachine}
 use Rattle.acpi_machine.specs.Explaining.{IsExplained}

@@ -6,7 +6,7 @@ ghost use Rattle.acpi_name.specs.Text.{path_text};
 ghost use Rattle.acpins_io.specs.PartsWritten.{WritesUntilFailure};
 ghost use Rattle.acpins_output.specs.FaultTexts.{item_reason_text, refusal_text, load_reason_text, fault_text};
 
-use acpi_load::{LoadReason, Refusal};
+use acpi_declare::{LoadReason, Refusal};
 use acpi_name::{Path, Seg};
 use acpi_table::HEADER_BYTES;
 use acpi_terms::ItemReason;

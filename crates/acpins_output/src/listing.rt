@@ -1,18 +1,18 @@
 //! The printed form of a namespace.
 
 ghost use Rattle.std.specs.Prelude.{◌≡◌, [], IfOk, unwrap_or};
-ghost use Rattle.acpi_text.specs.Lines.{listing_text};
-ghost use Rattle.acpi_load.specs.Namespace.{namespace_of};
-ghost use Rattle.acpi_load.specs.Links.{links_at};
-ghost use Rattle.acpins_output.specs.Listings.{objects_by_path, Prints};
+ghost use Rattle.acpi_declare.specs.Namespace.{namespace_of};
+ghost use Rattle.acpi_declare.specs.Links.{links_at};
+ghost use Rattle.acpins_output.specs.Listings.{Prints};
 ghost use Rattle.acpins_output.specs.steps.Lines.{AreLines};
 
-use acpi_load::LinkMap;
+use acpi_declare::LinkMap;
 use acpi_name::Path;
 use acpi_space::{Space, Visitor};
 use acpi_terms::Object;
 use acpi_text::put_line;
 use std::alloc::{AllocError, Global};
+use text_buffer::Text;
 
 /// The links of a path; none where it has none.
 pub fn links_of<'a>(path: &Path, links: &'a LinkMap) -> &'a [Option<Path>]
@@ -27,7 +27,7 @@ pub fn links_of<'a>(path: &Path, links: &'a LinkMap) -> &'a [Option<Path>]
 /// The lines so far, and the links of all fields.
 #[derive(Drop)]
 pub struct Lines<'a> {
-    text: Vec<u8>,
+    text: Text,
     links: &'a LinkMap,
 }
 
@@ -35,7 +35,8 @@ impl Visitor<Object> for Lines<'_> {
     ghost was_shown = { AreLines };
 
     fn visit(&mut self, path: &Path, object: &Object) -> Result<(), AllocError> {
-        put_line(&mut self.text, path, object, links_of(path, self.links))
+        put_line(&mut self.text, path, object, links_of(path, self.links));
+        Ok(())
     }
 }
 
@@ -45,15 +46,13 @@ pub fn list<S: Space<Object>>(
     objects: &S,
     links: &LinkMap,
 ) -> Result<Vec<u8>, AllocError>
-    ensures exact { IfOk result (λ text. text.items
-        ≡ listing_text (objects_by_path (S.contents objects.now)) (links_at links.now)) }
-    ensures namespace { IfOk result (λ text. Prints (namespace_of (S.contents objects.now))
+    ensures { IfOk result (λ text. Prints (namespace_of (S.contents objects.now))
         (links_at links.now) text.items) }
 {
     let mut lines = Lines {
-        text: Vec::new(alloc),
+        text: Text::new(alloc),
         links,
     };
     objects.visit_pairs(&mut lines)?;
-    Ok(lines.text)
+    lines.text.into_bytes()
 }

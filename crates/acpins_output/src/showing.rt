@@ -9,27 +9,28 @@ ghost use Rattle.acpins_output.specs.Shown.{reason_text, IsBodyText, ShowsOrNone
 
 use crate::listing::links_of;
 use acpi_body::{Body, BodyFault};
-use acpi_load::{LoadFault, Machine, explain_shared, load_with_body_at};
+use acpi_declare::LoadFault;
+use acpi_machine::{Machine, explain_shared, load_with_body_at};
 use acpi_name::Path;
 use acpi_space::Space;
 use acpi_terms::{Depth, Object};
-use acpi_text::{put, put_decimal, put_line, put_opaque, put_terms};
+use acpi_text::{put_decimal, put_line, put_opaque, put_terms};
 use bytes::Bytes;
-use std::alloc::{AllocError, Global};
+use std::alloc::Global;
 use std::collections::BTreeMap;
+use text_buffer::Text;
 
 // Puts the line that says why a body is not read, and where.
-fn put_reason(text: &mut Vec<u8>, fault: Option<BodyFault>) -> Result<(), AllocError>
-    ensures { OnOk result (text.new.items ≡ text.old.items ++ reason_text fault) }
+fn put_reason(text: &mut Text, fault: Option<BodyFault>)
+    ensures { text.new ≡ text.old ++ reason_text fault }
 {
     if let Some(fault) = fault {
-        put(text, "At ")?;
-        put_decimal(text, fault.place as u64)?;
-        put(text, ": ")?;
-        put(text, fault.reason.text())?;
-        put(text, "\n")?;
+        text.put("At ");
+        put_decimal(text, fault.place as u64);
+        text.put(": ");
+        text.put(fault.reason.text());
+        text.put("\n");
     }
-    Ok(())
 }
 
 /// The body of the method at the path, where a table declares one.
@@ -48,20 +49,24 @@ fn put_body<S: Space<Object>>(
     depth: Depth,
     bodies: &BTreeMap<Path, Body>,
     path: &Path,
-    text: &mut Vec<u8>,
+    text: &mut Text,
 ) -> Result<(), LoadFault>
     ensures ok { OnOk result ((added : List ℕ)
         × IsBodyText depth (dsdt.now ∷ ssdts.now) path.now (bodies_of bodies.now path.now) added
-        × (text.new.items ≡ text.old.items ++ added)) }
+        × (text.new ≡ text.old ++ added)) }
     ensures err { IfErr result (λ e. IsLoadFault depth (dsdt.now ∷ ssdts.now) e) }
 {
     match body_at(path, bodies) {
         None => Ok(()),
-        Some(Body::Terms(terms)) => Ok(put_terms(text, terms)?),
+        Some(Body::Terms(terms)) => {
+            put_terms(text, terms);
+            Ok(())
+        }
         Some(Body::Opaque(bytes)) => {
-            put_opaque(text, bytes)?;
+            put_opaque(text, bytes);
             let fault = explain_shared::<S>(alloc, dsdt, ssdts, path, depth)?;
-            Ok(put_reason(text, fault)?)
+            put_reason(text, fault);
+            Ok(())
         }
     }
 }
@@ -83,10 +88,10 @@ fn shown_of<S: Space<Object>>(
     let Some(object) = machine.objects().get(path) else {
         return Ok(None);
     };
-    let mut text = Vec::new(alloc);
-    put_line(&mut text, path, object, links_of(path, machine.links()))?;
+    let mut text = Text::new(alloc);
+    put_line(&mut text, path, object, links_of(path, machine.links()));
     put_body::<S>(alloc, dsdt, ssdts, depth, machine.bodies(), path, &mut text)?;
-    Ok(Some(text))
+    Ok(Some(text.into_bytes()?))
 }
 
 /// The line of the object at the path, and the body of the method there, of what the tables load to; None where no

@@ -3,9 +3,10 @@
 use crate::markup::{AttributeName, Element};
 use crate::parts::with_value;
 use crate::writer::{Page, digits};
-use acpi_overview::{Certainty, Overview, Region, kind_of};
-use acpi_overview_text::{by_address, put_addresses, put_length, put_region_path, space_word};
-use acpi_text::{put, put_decimal};
+use acpi_overview::{Certainty, Region, kind_of};
+use acpi_overview_text::{
+    by_address, put, put_addresses, put_decimal, put_length, put_region_path, space_word,
+};
 use std::alloc::{AllocError, Global};
 
 /// The height of a region in a picture.
@@ -28,16 +29,13 @@ struct MapBox<'a, 'b> {
 // The regions of a space from the top, and the height of the picture.
 fn map_boxes<'a, 'b>(
     alloc: Global,
-    overview: &'b Overview<'a>,
+    regions: &'b [Region<'a>],
     space: u8,
 ) -> Result<(Vec<MapBox<'a, 'b>>, usize), AllocError> {
     let mut boxes: Vec<MapBox<'a, 'b>> = Vec::new(alloc);
     let mut top = 2usize;
     let mut end: Option<u64> = None;
-    for number in &by_address(alloc, overview)? {
-        let Some(region) = overview.regions.get(*number) else {
-            continue;
-        };
+    for region in by_address(alloc, regions)? {
         if region.space != space || boxes.len() >= MOST {
             continue;
         }
@@ -127,12 +125,7 @@ fn put_frame(alloc: Global, page: &mut Page, map_box: &MapBox<'_, '_>) -> Result
 }
 
 // A region: its addresses and its size, and its path.
-fn put_box(
-    alloc: Global,
-    page: &mut Page,
-    overview: &Overview<'_>,
-    map_box: &MapBox<'_, '_>,
-) -> Result<(), AllocError> {
+fn put_box(alloc: Global, page: &mut Page, map_box: &MapBox<'_, '_>) -> Result<(), AllocError> {
     if map_box.has_gap {
         put_gap(alloc, page, map_box.top)?;
     }
@@ -142,7 +135,7 @@ fn put_box(
     page.element(Element::Title, &path)?;
     put_frame(alloc, page, map_box)?;
     let mut text = Vec::new(alloc);
-    put_addresses(&mut text, overview, map_box.region)?;
+    put_addresses(&mut text, map_box.region)?;
     put(&mut text, "   ")?;
     put_length(&mut text, map_box.region)?;
     put_line(alloc, page, map_box.top.saturating_add(15), "m", &text)?;
@@ -170,10 +163,10 @@ fn open_picture(alloc: Global, page: &mut Page, height: usize) -> Result<(), All
 fn put_map(
     alloc: Global,
     page: &mut Page,
-    overview: &Overview<'_>,
+    regions: &[Region<'_>],
     space: u8,
 ) -> Result<(), AllocError> {
-    let (boxes, height) = map_boxes(alloc, overview, space)?;
+    let (boxes, height) = map_boxes(alloc, regions, space)?;
     if boxes.is_empty() {
         return Ok(());
     }
@@ -181,7 +174,7 @@ fn put_map(
     page.element(Element::Figcaption, space_word(space).as_bytes())?;
     open_picture(alloc, page, height)?;
     for region in &boxes {
-        put_box(alloc, page, overview, region)?;
+        put_box(alloc, page, region)?;
     }
     page.close(Element::Svg)?;
     page.close_line(Element::Figure)
@@ -191,9 +184,9 @@ fn put_map(
 pub(crate) fn put_maps(
     alloc: Global,
     page: &mut Page,
-    overview: &Overview<'_>,
+    regions: &[Region<'_>],
 ) -> Result<(), AllocError> {
-    if !overview.regions.iter().any(|r| kind_of(r.space).is_some()) {
+    if !regions.iter().any(|r| kind_of(r.space).is_some()) {
         return Ok(());
     }
     page.heading(
@@ -202,7 +195,7 @@ pub(crate) fn put_maps(
     )?;
     page.open_class(Element::Div, "maps")?;
     page.end_line()?;
-    put_map(alloc, page, overview, 0)?;
-    put_map(alloc, page, overview, 1)?;
+    put_map(alloc, page, regions, 0)?;
+    put_map(alloc, page, regions, 1)?;
     page.close_line(Element::Div)
 }

@@ -3,10 +3,9 @@
 use crate::markup::{AttributeName, Element};
 use crate::parts::with_value;
 use crate::writer::Page;
-use acpi_objects::ObjectKind;
-use acpi_overview::{Container, Overview, is_container, objects_at};
+use acpi_kinds::ObjectKind;
+use acpi_overview::{Container, Lines, Overview, is_container};
 use acpi_overview_text::{Row, Rows, put_id, put_short_path, put_status};
-use acpins_survey_output::put_condition;
 use std::alloc::{AllocError, Global};
 
 // A badge of a class, with a text; nothing where the text is empty.
@@ -28,17 +27,13 @@ fn put_ids(alloc: Global, page: &mut Page, container: &Container<'_>) -> Result<
 
 // The conditions of all that declare the container.
 fn put_condition_badges(
-    alloc: Global,
     page: &mut Page,
-    overview: &Overview<'_>,
+    lines: &Lines<'_>,
     container: &Container<'_>,
 ) -> Result<(), AllocError> {
-    let mut condition = Vec::new(alloc);
-    for object in objects_at(&overview.objects, container.object.path) {
-        if object.is_conditional && is_container(object.kind) {
-            condition.clear();
-            put_condition(&mut condition, &overview.survey.condition(object.number)?)?;
-            put_badge(page, "f", &condition)?;
+    for line in lines.conditions_at(container.object.path) {
+        if is_container(line.object.kind) {
+            put_badge(page, "f", &line.text)?;
         }
     }
     Ok(())
@@ -70,10 +65,10 @@ fn put_small(page: &mut Page, class: &str, text: &[u8]) -> Result<(), AllocError
 fn put_container(
     alloc: Global,
     page: &mut Page,
-    overview: &Overview<'_>,
-    container: &Container<'_>,
-    row: &Row,
+    lines: &Lines<'_>,
+    row: &Row<'_, '_>,
 ) -> Result<(), AllocError> {
+    let container = row.container;
     let mut path = Vec::new(alloc);
     put_short_path(&mut path, container.object.path)?;
     let class = with_value(AttributeName::Class, b"name");
@@ -86,7 +81,7 @@ fn put_container(
     put_ids(alloc, page, container)?;
     put_badge(page, "a", &row.place)?;
     put_status_badge(alloc, page, container)?;
-    put_condition_badges(alloc, page, overview, container)?;
+    put_condition_badges(page, lines, container)?;
     put_small(page, "dim", row.what.as_bytes())?;
     put_small(page, "r", &row.resources)?;
     put_small(page, "dim m", &row.has)
@@ -113,29 +108,26 @@ fn put_closes(page: &mut Page, around: &mut Vec<usize>, depth: usize) -> Result<
 fn put_next(
     alloc: Global,
     page: &mut Page,
-    overview: &Overview<'_>,
-    rows: &Rows,
+    lines: &Lines<'_>,
+    row: &Row<'_, '_>,
+    is_leaf: bool,
     around: &mut Vec<usize>,
-    number: usize,
 ) -> Result<(), AllocError> {
-    let (Some(container), Some(row)) = (overview.tree.containers.get(number), rows.rows.get(number))
-    else {
-        return Ok(());
-    };
-    put_closes(page, around, row.depth)?;
-    if rows.order.below(number).is_empty() {
-        if let ObjectKind::Scope = container.object.kind {
+    let depth = row.container.depth;
+    put_closes(page, around, depth)?;
+    if is_leaf {
+        if let ObjectKind::Scope = row.container.object.kind {
             return Ok(());
         }
         page.open_class(Element::Div, "leaf")?;
-        put_container(alloc, page, overview, container, row)?;
+        put_container(alloc, page, lines, row)?;
         return page.close_line(Element::Div);
     }
     page.open(Element::Details, &[with_value(AttributeName::Open, b"")])?;
     page.open(Element::Summary, &[])?;
-    put_container(alloc, page, overview, container, row)?;
+    put_container(alloc, page, lines, row)?;
     page.close_line(Element::Summary)?;
-    around.push(row.depth)?;
+    around.push(depth)?;
     Ok(())
 }
 
@@ -144,24 +136,18 @@ pub(crate) fn put_devices(
     alloc: Global,
     page: &mut Page,
     overview: &Overview<'_>,
+    lines: &Lines<'_>,
 ) -> Result<(), AllocError> {
     let rows = &Rows::new(alloc, overview)?;
     page.heading(
         "Devices",
         "ids, address, _STA unless always there, resources of a constant _CRS, m methods, u field units",
     )?;
-    let mut stack: Vec<usize> = Vec::new(alloc);
     let mut around: Vec<usize> = Vec::new(alloc);
-    for (_, _, below) in rows.order.below(0).iter().rev() {
-        stack.push(*below)?;
-    }
-    for _ in 0..overview.tree.containers.len() {
-        let Some(number) = stack.pop() else {
-            break;
-        };
-        put_next(alloc, page, overview, rows, &mut around, number)?;
-        for (_, _, below) in rows.order.below(number).iter().rev() {
-            stack.push(*below)?;
+    for row in rows.shown(alloc)? {
+        let is_root = matches!(row.container.object.kind, ObjectKind::Root);
+        if !is_root {
+            put_next(alloc, page, lines, row, rows.is_leaf(row), &mut around)?;
         }
     }
     put_closes(page, &mut around, 0)

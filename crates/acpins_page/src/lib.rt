@@ -2,7 +2,7 @@
 //! declare, and where they touch it, as far as that is known without running any of their code (ACPI 6.5).
 //!
 //! ```text
-//! let page = html(alloc, &survey, &files)?;
+//! let page = html(alloc, &overview, &lines, &map, &files)?;
 //! ```
 //!
 //! Nothing here opens a file or reads an argument. Only an allocation failure is an error.

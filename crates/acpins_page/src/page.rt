@@ -11,32 +11,30 @@ use crate::regions::put_regions;
 use crate::style::HEAD;
 use crate::table_bytes::{Places, anchor_id, put_bytes};
 use crate::writer::Page;
-use acpi_overview::{Overview, overview_of};
+use acpi_overview::{ConditionLine, FoundLine, Lines, Overview, Site};
 use acpi_overview_text::{
-    put_first, put_lint, put_short_path, put_site, put_table, put_totals, site_of,
+    put, put_decimal, put_first, put_lint, put_short_path, put_site, put_table, put_totals,
 };
-use acpi_survey::{Site, Survey};
-use acpi_text::{put, put_decimal};
-use acpins_survey_output::{map, put_condition, put_note, put_problem};
 use std::alloc::{AllocError, Global};
 
 fn put_heads(
     alloc: Global,
     page: &mut Page,
     overview: &Overview<'_>,
+    lines: &Lines<'_>,
     files: &[&str],
 ) -> Result<(), AllocError> {
     page.element(Element::H1, b"What the tables say")?;
     page.end_line()?;
     let mut text = Vec::new(alloc);
-    put_first(&mut text, overview)?;
-    let class = if overview.problems.is_empty() {
+    put_first(&mut text, overview, lines)?;
+    let class = if lines.problems.is_empty() {
         "m good"
     } else {
         "m bad"
     };
     put_paragraph(page, class, &text)?;
-    let tables = &overview.survey.tables;
+    let tables = &overview.tables;
     for number in 0..tables.len() {
         text.clear();
         put_table(&mut text, number, files.get(number), &tables[number])?;
@@ -74,44 +72,45 @@ fn put_linked(
     page.close_line(Element::Li)
 }
 
+// Lines in a list of a class, each of which leads to the bytes at its site.
+fn put_found(
+    alloc: Global,
+    page: &mut Page,
+    places: &Places,
+    class: &str,
+    lines: &[FoundLine],
+) -> Result<(), AllocError> {
+    page.open_class(Element::Ul, class)?;
+    for line in lines {
+        put_linked(alloc, page, places, Some(line.site), &line.text)?;
+    }
+    page.close_line(Element::Ul)
+}
+
 fn put_problems(
     alloc: Global,
     page: &mut Page,
-    overview: &Overview<'_>,
+    lines: &[FoundLine],
     places: &Places,
 ) -> Result<(), AllocError> {
-    if overview.problems.is_empty() {
+    if lines.is_empty() {
         return Ok(());
     }
     page.heading("Problems", "table at offset: reason, what is lost")?;
-    page.open_class(Element::Ul, "bad")?;
-    let mut line = Vec::new(alloc);
-    for problem in overview.problems {
-        line.clear();
-        put_problem(&mut line, problem)?;
-        put_linked(alloc, page, places, Some(problem.site), &line)?;
-    }
-    page.close_line(Element::Ul)
+    put_found(alloc, page, places, "bad", lines)
 }
 
 fn put_notes(
     alloc: Global,
     page: &mut Page,
-    overview: &Overview<'_>,
+    lines: &[FoundLine],
     places: &Places,
 ) -> Result<(), AllocError> {
-    if overview.notes.is_empty() {
+    if lines.is_empty() {
         return Ok(());
     }
     page.heading("Notes", "nothing is lost by these")?;
-    page.open_class(Element::Ul, "odd")?;
-    let mut line = Vec::new(alloc);
-    for note in overview.notes {
-        line.clear();
-        put_note(&mut line, note)?;
-        put_linked(alloc, page, places, Some(note.site), &line)?;
-    }
-    page.close_line(Element::Ul)
+    put_found(alloc, page, places, "odd", lines)
 }
 
 // Opens a list that is folded, with the words that stand for it.
@@ -130,23 +129,20 @@ fn close_folded(page: &mut Page) -> Result<(), AllocError> {
 fn put_conditions(
     alloc: Global,
     page: &mut Page,
-    overview: &Overview<'_>,
+    conditions: &[ConditionLine<'_>],
     places: &Places,
 ) -> Result<(), AllocError> {
-    if overview.totals.conditional == 0 {
+    if conditions.is_empty() {
         return Ok(());
     }
     page.heading("Conditional", "what has to be so behind the ?")?;
     open_folded(page, "objects that have a condition")?;
     let mut line = Vec::new(alloc);
-    for object in &overview.objects {
-        if !object.is_conditional {
-            continue;
-        }
+    for condition in conditions {
         line.clear();
-        put_short_path(&mut line, object.path)?;
-        put_condition(&mut line, &overview.survey.condition(object.number)?)?;
-        put_linked(alloc, page, places, object.site, &line)?;
+        put_short_path(&mut line, condition.object.path)?;
+        line.extend_from_slice(&condition.text)?;
+        put_linked(alloc, page, places, condition.object.site, &line)?;
     }
     close_folded(page)
 }
@@ -191,13 +187,12 @@ fn put_lints(
     let mut line = Vec::new(alloc);
     for lint in &overview.lints {
         line.clear();
-        let site = site_of(overview, lint);
-        if let Some(site) = site {
+        if let Some(site) = lint.site {
             put_site(&mut line, site)?;
             put(&mut line, "  ")?;
         }
-        put_lint(&mut line, overview, lint)?;
-        put_linked(alloc, page, places, site, &line)?;
+        put_lint(&mut line, lint)?;
+        put_linked(alloc, page, places, lint.site, &line)?;
     }
     page.close_line(Element::Ul)
 }
@@ -207,20 +202,21 @@ fn put_sections(
     alloc: Global,
     page: &mut Page,
     overview: &Overview<'_>,
+    lines: &Lines<'_>,
+    map: &[u8],
     files: &[&str],
 ) -> Result<(), AllocError> {
-    let ranges = map(alloc, overview.survey)?;
-    let places = Places::new(alloc, &ranges)?;
-    put_heads(alloc, page, overview, files)?;
-    put_problems(alloc, page, overview, &places)?;
-    put_notes(alloc, page, overview, &places)?;
-    put_maps(alloc, page, overview)?;
+    let places = Places::new(alloc, map)?;
+    put_heads(alloc, page, overview, lines, files)?;
+    put_problems(alloc, page, &lines.problems, &places)?;
+    put_notes(alloc, page, &lines.notes, &places)?;
+    put_maps(alloc, page, &overview.regions)?;
     put_regions(alloc, page, overview)?;
-    put_devices(alloc, page, overview)?;
+    put_devices(alloc, page, overview, lines)?;
     put_ospm_methods(alloc, page, overview, &places)?;
-    put_conditions(alloc, page, overview, &places)?;
+    put_conditions(alloc, page, &lines.conditions, &places)?;
     put_lints(alloc, page, overview, &places)?;
-    put_bytes(alloc, page, overview, &ranges, files)?;
+    put_bytes(alloc, page, &overview.tables, map, files)?;
     page.close(Element::Body)?;
     page.close_line(Element::Html)
 }
@@ -235,15 +231,20 @@ fn with_head(alloc: Global, head: &str, body: &[u8]) -> Result<Vec<u8>, AllocErr
     Ok(page)
 }
 
-/// The overview of the tables of a survey, of which these are the names of the files, as one page that needs no other
-/// file and no script. Only an allocation failure is an error. Behind a head that is always the same the page is tags
-/// of some elements, which run and fetch nothing, with some attributes, and text: all that comes from tables and names
-/// of files is escaped.
-pub fn html(alloc: Global, survey: &Survey, files: &[&str]) -> Result<Vec<u8>, AllocError>
+/// An overview, with these lines, this map of the tables' bytes and these names of the files, as one page that needs no
+/// other file and no script. Only an allocation failure is an error. Behind a head that is always the same the page is
+/// tags of some elements, which run and fetch nothing, with some attributes, and text: all that comes from tables and
+/// names of files is escaped.
+pub fn html(
+    alloc: Global,
+    overview: &Overview<'_>,
+    lines: &Lines<'_>,
+    map: &[u8],
+    files: &[&str],
+) -> Result<Vec<u8>, AllocError>
     ensures { IfOk result (λ page. IsPage HEAD.now page.items) }
 {
-    let overview = overview_of(alloc, survey)?;
     let mut page = Page::new(alloc);
-    put_sections(alloc, &mut page, &overview, files)?;
+    put_sections(alloc, &mut page, overview, lines, map, files)?;
     with_head(alloc, HEAD, &page.into_bytes()?)
 }

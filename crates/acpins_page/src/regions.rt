@@ -2,7 +2,7 @@
 
 use crate::markup::Element;
 use crate::writer::Page;
-use acpi_overview::Overview;
+use acpi_overview::{Overview, Region};
 use acpi_overview_text::{
     by_address, mark_of, put_addresses, put_length, put_origin, put_region_path, put_units,
     space_word,
@@ -13,12 +13,9 @@ fn put_row(
     alloc: Global,
     page: &mut Page,
     overview: &Overview<'_>,
-    number: usize,
+    region: &Region<'_>,
     is_new_space: bool,
 ) -> Result<(), AllocError> {
-    let Some(region) = overview.regions.get(number) else {
-        return Ok(());
-    };
     page.open(Element::Tr, &[])?;
     let word = if is_new_space {
         space_word(region.space)
@@ -28,7 +25,7 @@ fn put_row(
     page.element(Element::Td, word.as_bytes())?;
     page.element(Element::Td, mark_of(region).as_bytes())?;
     let mut text = Vec::new(alloc);
-    put_addresses(&mut text, overview, region)?;
+    put_addresses(&mut text, region)?;
     page.element(Element::Td, &text)?;
     text.clear();
     put_length(&mut text, region)?;
@@ -40,7 +37,7 @@ fn put_row(
     put_units(&mut text, region)?;
     page.element(Element::Td, &text)?;
     text.clear();
-    put_origin(alloc, &mut text, overview, number)?;
+    put_origin(&mut text, overview, region)?;
     page.element(Element::Td, &text)?;
     page.close_line(Element::Tr)
 }
@@ -62,12 +59,10 @@ pub(crate) fn put_regions(
     page.open(Element::Table, &[])?;
     page.end_line()?;
     let mut before: Option<u8> = None;
-    for number in &by_address(alloc, overview)? {
-        if let Some(region) = overview.regions.get(*number) {
-            let is_new_space = before != Some(region.space);
-            put_row(alloc, page, overview, *number, is_new_space)?;
-            before = Some(region.space);
-        }
+    for region in &by_address(alloc, &overview.regions)? {
+        let is_new_space = before != Some(region.space);
+        put_row(alloc, page, overview, region, is_new_space)?;
+        before = Some(region.space);
     }
     page.close(Element::Table)?;
     page.close_line(Element::Div)

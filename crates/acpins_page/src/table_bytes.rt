@@ -3,10 +3,8 @@
 use crate::markup::{AttributeName, Element};
 use crate::parts::with_value;
 use crate::writer::{Page, digits};
-use acpi_overview::Overview;
-use acpi_overview_text::put_table;
-use acpi_survey::Site;
-use acpi_text::{put, put_decimal, put_spaced};
+use acpi_overview::{Site, Table};
+use acpi_overview_text::{put, put_decimal, put_spaced, put_table};
 use std::alloc::{AllocError, Global};
 
 /// A blank as wide as half a letter is high.
@@ -207,13 +205,12 @@ fn put_ranges(
 pub(crate) fn put_bytes(
     alloc: Global,
     page: &mut Page,
-    overview: &Overview<'_>,
+    tables: &[Table<'_>],
     map: &[u8],
     files: &[&str],
 ) -> Result<(), AllocError> {
     page.heading("Bytes", "offset, bytes, what they belong to")?;
     let lines = map_lines(alloc, map)?;
-    let tables = &overview.survey.tables;
     let mut text = Vec::new(alloc);
     for number in 0..tables.len() {
         text.clear();
@@ -222,7 +219,7 @@ pub(crate) fn put_bytes(
         page.class_element(Element::Summary, "m", &text)?;
         page.open(Element::Div, &[])?;
         page.end_line()?;
-        put_ranges(alloc, page, &lines, number, &tables[number].bytes)?;
+        put_ranges(alloc, page, &lines, number, tables[number].bytes)?;
         page.close(Element::Div)?;
         page.close_line(Element::Details)?;
     }

@@ -5,7 +5,7 @@ ghost use Rattle.acpins_page.specs.Page.{IsOfParts};
 
 use crate::markup::{AttributeName, Element};
 use crate::parts::{Attribute, Part, put_part, with_value};
-use acpi_text::put_decimal;
+use acpi_overview_text::put_decimal;
 use html_text::Html;
 use std::alloc::{AllocError, Global};
 

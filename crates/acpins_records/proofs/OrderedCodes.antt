@@ -9,7 +9,7 @@ use Rattle.acpi_space.specs.Lookups.{Lookup, is_same_path}
 use Rattle.acpi_declare.specs.Notes.{Method, methods}
 use Rattle.acpi_declare.specs.Predefined.{predefined}
 use Rattle.acpi_declare.proofs.Refusals.{same_listings}
-use Rattle.acpi_declare.proofs.Unions.{path_same}
+use Rattle.acpi_pass.proofs.Unions.{path_same}
 use Rattle.acpi_order.specs.Misses.{Listing}
 use Rattle.acpi_order.specs.Independent.{AreSingleListings, IsIndependent}
 use Rattle.acpi_order.specs.Orders.{AreReordered}

@@ -18,7 +18,7 @@ use Rattle.acpi_declare.specs.Listing.{Placement, object_by, object_of, objects_
 use Rattle.acpi_declare.specs.Links.{Links, PendingLink, pending_by, pending_links, all_pending, answers, one_link, links_of}
 use Rattle.acpi_declare.specs.Notes.{Method, methods_by, methods}
 use Rattle.acpi_declare.specs.Loads.{AreListings, objects_after}
-use Rattle.acpi_declare.proofs.Unions.{path_same}
+use Rattle.acpi_pass.proofs.Unions.{path_same}
 use Rattle.acpi_places.specs.declared.place.CodePlace.{CodePlace}
 use Rattle.acpi_places.specs.Places.{by_path, all_by_path}
 use Rattle.acpins_records.specs.steps.Kinds.{links_by, code_by, Suits}

@@ -24,7 +24,7 @@ use Rattle.acpi_declare.specs.Predefined.{predefined}
 use Rattle.acpi_declare.proofs.Refusals.{same_listings}
 use Rattle.acpi_places.specs.Places.{AreCodePlaces, all_by_path}
 use Rattle.acpi_places.specs.declared.place.CodePlace.{CodePlace}
-use Rattle.acpins_output.specs.Listings.{objects_by_path}
+use Rattle.acpins_output.specs.steps.Lines.{objects_by_path}
 use Rattle.acpins_output.proofs.Printing.{true_of, find_mapped, sorted_mapped}
 use Rattle.acpins_records.specs.declared.building.Records.{Records}
 use Rattle.acpins_records.specs.declared.building.Seen.{Seen}

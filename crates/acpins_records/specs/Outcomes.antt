@@ -4,8 +4,8 @@ use Rattle.acpi_table.specs.declared.tables.TableFault.{TableFault}
 use Rattle.acpi_table.specs.declared.tables.TableFault.TheVariants as faults
 use Rattle.acpi_terms.specs.declared.fault.ItemReason.{ItemReason}
 use Rattle.acpi_terms.specs.declared.fault.ItemReason.TheVariants as items
-use Rattle.acpi_declare.specs.declared.fault.Refusal.{Refusal}
-use Rattle.acpi_declare.specs.declared.fault.Refusal.TheVariants as refusals
+use Rattle.acpi_pass.specs.declared.refusal.Refusal.{Refusal}
+use Rattle.acpi_pass.specs.declared.refusal.Refusal.TheVariants as refusals
 use Rattle.acpi_declare.specs.declared.fault.LoadReason.{LoadReason}
 use Rattle.acpi_declare.specs.declared.fault.LoadReason.TheVariants.{Table, NotDsdt, NotSsdt, Trailing, Item, Refused}
 use Rattle.acpins_output.specs.FaultTexts.{place_in_table}

@@ -1,7 +1,7 @@
 //! The body of one method into the array of a caller.
 
 ghost use Rattle.std.specs.Prelude.{◌≡◌, ◌≢◌, ◌↔◌, ◌∷◌, ◌⊎◌, ◌≤◌, ◌<◌, [], length, IfOk, IfErr};
-ghost use Rattle.acpi_body.specs.declared.fault.BodyFault.{BodyFault};
+ghost use Rattle.acpi_values.specs.declared.fault.BodyFault.{BodyFault};
 ghost use Rattle.acpi_declare.specs.Loads.{HasNoLoad};
 ghost use Rattle.acpi_declare.specs.Refusals.{IsLoadFault};
 ghost use Rattle.acpi_name.specs.Text.{SpellsPathText, IsPathText};
@@ -14,7 +14,8 @@ use crate::outcome::{BAD_PATH, CALL, MEMORY, NO_METHOD, NO_ROOM, OK, Outcome, RE
 use crate::records::LentTable;
 use crate::refusing::{copy_tables, put_front, write_refusal};
 use acpi_body::{Body, BodyFault, BodyReason};
-use acpi_load::{LoadFault, Machine, explain_shared, load_with_body_at};
+use acpi_declare::LoadFault;
+use acpi_machine::{Machine, explain_shared, load_with_body_at};
 use acpi_name::{Path, PathFault};
 use acpi_space::TreeSpace;
 use acpi_terms::{Depth, Object};
@@ -23,6 +24,7 @@ use acpins_output::body_at;
 use bytes::Bytes;
 use std::alloc::Global;
 use std::str::from_utf8;
+use text_buffer::Text;
 
 /// How the body of a method is given (ACPI 6.5, 20.2.5.2 DefMethod).
 #[repr(C)]
@@ -128,10 +130,10 @@ fn load_body(
     match body_at(path, machine.bodies()) {
         None => Ok(None),
         Some(Body::Terms(terms)) => {
-            let mut text = Vec::new(alloc);
-            put_terms(&mut text, terms)?;
+            let mut text = Text::new(alloc);
+            put_terms(&mut text, terms);
             Ok(Some(Given {
-                text,
+                text: text.into_bytes()?,
                 record: BodyRecord::read(),
             }))
         }

@@ -4,7 +4,7 @@ ghost use Rattle.std.specs.Prelude.{◌≡◌, ◌++◌, [], map, length, IfOk, 
 ghost use Rattle.std.specs.FinMap.{get};
 ghost use Rattle.acpi_tree.specs.Objects.{object_view};
 ghost use Rattle.acpi_declare.specs.Links.{links_at};
-ghost use Rattle.acpins_output.specs.Listings.{objects_by_path};
+ghost use Rattle.acpins_output.specs.steps.Lines.{objects_by_path};
 ghost use Rattle.acpins_records.specs.Records.{part_of, code_table_of, code_place_of, code_length_of, own_links};
 ghost use Rattle.acpins_records.specs.steps.Adding.{PutsLine, PutsData, AddsEntry, AreRecords, placed, placed_from};
 ghost use Rattle.acpins_records.specs.steps.Kinds.{AllSuit, code_by, links_by};
@@ -24,6 +24,7 @@ use acpi_space::{Space, TreeSpace, Visitor};
 use acpi_terms::Object;
 use acpi_text::{put_links, put_object, put_path};
 use std::alloc::{AllocError, Global};
+use text_buffer::Text;
 
 /// What stands in the caller's arrays when a load is written.
 #[derive(Drop)]
@@ -125,13 +126,14 @@ fn put_line(
     ensures { IfOk result (λ n. PutsLine path.now
         (object_view object.now) links.now text.old.items text.new.items n) }
 {
-    let line = text.len();
-    put_path(text, path)?;
-    let path_length = text.len() - line;
-    text.push(b' ')?;
-    put_object(text, object)?;
-    put_links(text, links)?;
-    text.push(b'\n')?;
+    let mut line = Text::new(*text.allocator());
+    put_path(&mut line, path);
+    let path_length = line.bytes()?.len();
+    line.put(" ");
+    put_object(&mut line, object);
+    put_links(&mut line, links);
+    line.put("\n");
+    text.extend_from_slice(line.bytes()?)?;
     Ok(path_length)
 }
 

@@ -10,12 +10,12 @@ ghost use Rattle.acpins_records.specs.Written.{IsFront, IsRefusal, bytes_of};
 
 use crate::outcome::{CALL, MEMORY, NO_ROOM, OK, Outcome, REFUSED, place_of, reason_code};
 use crate::records::LentTable;
-use crate::refusing::{copy_tables, put_front, write_refusal};
-use acpi_load::{Checked, LoadFault, LoadReason, Satisfied, Verdict, check_shared};
+use crate::refusing::{copy_tables, path_bytes, put_front, write_refusal};
+use acpi_declare::{LoadFault, LoadReason};
 use acpi_name::Path;
 use acpi_space::TreeSpace;
 use acpi_terms::{Depth, Object};
-use acpi_text::put_path;
+use acpi_verdict::{Checked, Satisfied, Verdict, check_shared};
 use bytes::Bytes;
 use std::alloc::{AllocError, Global};
 
@@ -95,24 +95,16 @@ fn satisfied_records(
     let mut text = Vec::new(alloc);
     for triple in satisfied {
         let path = text.len();
-        put_path(&mut text, &triple.path)?;
+        let form = path_bytes(alloc, &triple.path)?;
+        text.extend_from_slice(&form)?;
         records.push(SatisfiedRecord {
             user: triple.user as u64,
             definer: triple.definer as u64,
             path: path as u64,
-            path_length: (text.len() - path) as u64,
+            path_length: form.len() as u64,
         })?;
     }
     Ok((records, text))
-}
-
-// The text of a path.
-fn text_of(alloc: Global, path: &Path) -> Result<Vec<u8>, AllocError>
-    ensures { IfOk result (λ v. v.items ≡ path_text path.now) }
-{
-    let mut text = Vec::new(alloc);
-    put_path(&mut text, path)?;
-    Ok(text)
 }
 
 // The path that a reason names; nothing where it names none.
@@ -120,7 +112,7 @@ fn path_of_reason(alloc: Global, reason: &LoadReason) -> Result<Vec<u8>, AllocEr
     ensures { IfOk result (λ v. v.items ≡ reason_path reason.now) }
 {
     match reason {
-        LoadReason::Refused { path, .. } => text_of(alloc, path),
+        LoadReason::Refused { path, .. } => path_bytes(alloc, path),
         _ => Ok(Vec::new(alloc)),
     }
 }
@@ -172,7 +164,7 @@ fn clashing(
     ensures satisfied { IfOk result (λ a. a.satisfied.items ≡ []) }
     ensures text { IfOk result (λ a. a.text.items ≡ path_text path.now) }
 {
-    let text = text_of(alloc, path)?;
+    let text = path_bytes(alloc, path)?;
     Ok(Answer {
         record: verdict(order, first, second, text.len(), 0),
         satisfied: Vec::new(alloc),

@@ -16,6 +16,7 @@ use acpi_name::Name;
 use acpi_text::put_name;
 use acpi_tree::{Data, Elem, Int};
 use std::alloc::{AllocError, Global};
+use text_buffer::Text;
 
 // The kinds of parts.
 const INTEGER: u64 = 0;
@@ -114,10 +115,9 @@ impl Parts {
     fn put_name(&mut self, name: &Name) -> Result<(), AllocError>
         ensures { OnOk result (AddsElem (of_name name.now) self.old self.new) }
     {
-        let byte = self.bytes.len();
-        put_name(&mut self.bytes, name.view())?;
-        let bytes = self.bytes.len() - byte;
-        self.put_part(NAME, Int::Zero, byte as u64, bytes as u64)
+        let mut form = Text::new(*self.bytes.allocator());
+        put_name(&mut form, name.view());
+        self.put_bytes(NAME, Int::Zero, form.bytes()?)
     }
 
     #[cycle(put_data)]

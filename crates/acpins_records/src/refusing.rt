@@ -12,6 +12,7 @@ use acpi_name::Path;
 use acpi_text::put_path;
 use bytes::Bytes;
 use std::alloc::{AllocError, Global};
+use text_buffer::Text;
 
 /// Copies of the tables.
 pub(crate) fn copy_tables(alloc: Global, tables: &[LentTable<'_>]) -> Result<Vec<Bytes>, AllocError>
@@ -33,13 +34,13 @@ pub(crate) fn put_front<T: Copy>(out: &mut [T], items: &[T])
     front.copy_from_slice(items);
 }
 
-// The text of a path.
-fn path_bytes(alloc: Global, path: &Path) -> Result<Vec<u8>, AllocError>
+/// The text of a path.
+pub(crate) fn path_bytes(alloc: Global, path: &Path) -> Result<Vec<u8>, AllocError>
     ensures { IfOk result (λ v. v.items ≡ path_text path.now) }
 {
-    let mut text = Vec::new(alloc);
-    put_path(&mut text, path)?;
-    Ok(text)
+    let mut text = Text::new(alloc);
+    put_path(&mut text, path);
+    text.into_bytes()
 }
 
 /// Writes the text of a path, where there is room for it, and gives its length.

@@ -1,7 +1,7 @@
 //! Which siblings of the tree of devices are alike.
 
-use acpi_overview::{Container, Overview};
-use acpi_overview_text::{Order, Row, Rows};
+use acpi_overview::Container;
+use acpi_overview_text::{Row, Rows};
 use std::alloc::{AllocError, Global};
 use std::collections::BTreeMap;
 
@@ -17,7 +17,7 @@ fn put_part(key: &mut Vec<u8>, part: &[u8]) -> Result<(), AllocError> {
 }
 
 // What siblings that are alike have in common, without what stands below them.
-fn shape_of(alloc: Global, row: &Row) -> Result<Vec<u8>, AllocError> {
+fn shape_of(alloc: Global, row: &Row<'_, '_>) -> Result<Vec<u8>, AllocError> {
     let mut key = Vec::new(alloc);
     put_part(&mut key, &row.ids)?;
     put_part(&mut key, row.what.as_bytes())?;
@@ -30,14 +30,13 @@ fn shape_of(alloc: Global, row: &Row) -> Result<Vec<u8>, AllocError> {
 // Puts the name and the key of a container behind the key of its parent; a key that grows too long is given up.
 fn put_below(
     keys: &mut Vec<Option<Vec<u8>>>,
-    rows: &[Row],
-    number: usize,
+    row: &Row<'_, '_>,
     parent: usize,
 ) -> Result<(), AllocError> {
-    let (Some(row), Some(own)) = (rows.get(number), keys.get_mut(number)) else {
-        return Ok(());
+    let own = match keys.get_mut(row.number) {
+        Some(slot) => slot.take(),
+        None => None,
     };
-    let own = own.take();
     let Some(slot) = keys.get_mut(parent) else {
         return Ok(());
     };
@@ -49,7 +48,7 @@ fn put_below(
             *slot = Some(above);
         }
     }
-    if let Some(slot) = keys.get_mut(number) {
+    if let Some(slot) = keys.get_mut(row.number) {
         *slot = own;
     }
     Ok(())
@@ -57,23 +56,14 @@ fn put_below(
 
 // By the number of a container, what it and all below it have; nothing where that is long. Each stands behind its
 // parent.
-fn keys_of(
-    alloc: Global,
-    containers: &[Container<'_>],
-    rows: &[Row],
-) -> Result<Vec<Option<Vec<u8>>>, AllocError> {
+fn keys_of(alloc: Global, rows: &[Row<'_, '_>]) -> Result<Vec<Option<Vec<u8>>>, AllocError> {
     let mut keys = Vec::new(alloc);
     for row in rows {
         keys.push(Some(shape_of(alloc, row)?))?;
     }
-    let count = containers.len();
-    for i in 0..count {
-        let number = count - 1 - i;
-        let Some(container) = containers.get(number) else {
-            continue;
-        };
-        if let Some(parent) = container.parent {
-            put_below(&mut keys, rows, number, parent)?;
+    for row in rows.iter().rev() {
+        if let Some(parent) = row.container.parent {
+            put_below(&mut keys, row, parent)?;
         }
     }
     Ok(keys)
@@ -82,18 +72,14 @@ fn keys_of(
 // ---- groups
 
 // By the number of a container, the first of its siblings that are like it.
-fn firsts_of(
-    alloc: Global,
-    containers: &[Container<'_>],
-    rows: &Rows,
-) -> Result<Vec<usize>, AllocError> {
-    let keys = keys_of(alloc, containers, &rows.rows)?;
+fn firsts_of(alloc: Global, rows: &Rows<'_, '_>) -> Result<Vec<usize>, AllocError> {
+    let keys = keys_of(alloc, &rows.rows)?;
     let mut firsts = Vec::new(alloc);
-    for number in 0..containers.len() {
+    for number in 0..rows.rows.len() {
         firsts.push(number)?;
     }
     let mut seen: BTreeMap<Vec<u8>, usize> = BTreeMap::new(alloc);
-    for (parent, _, number) in rows.order.numbers() {
+    for (parent, _, number) in &rows.order {
         let Some(Some(key)) = keys.get(*number) else {
             continue;
         };
@@ -114,12 +100,12 @@ fn firsts_of(
 // The first of siblings that are alike, the place in their order, and the number of each container, in this order.
 fn members_of(
     alloc: Global,
-    order: &Order,
+    rows: &Rows<'_, '_>,
     firsts: &[usize],
 ) -> Result<Vec<(usize, usize, usize)>, AllocError> {
     let mut members = Vec::new(alloc);
     let mut place = 0usize;
-    for (_, _, number) in order.numbers() {
+    for (_, _, number) in &rows.order {
         if let Some(first) = firsts.get(*number) {
             members.push((*first, place, *number))?;
         }
@@ -139,14 +125,10 @@ pub(crate) struct Groups {
 }
 
 impl Groups {
-    /// The groups of the containers of an overview, which have these rows.
-    pub(crate) fn new(
-        alloc: Global,
-        overview: &Overview<'_>,
-        rows: &Rows,
-    ) -> Result<Groups, AllocError> {
-        let firsts = firsts_of(alloc, &overview.tree.containers, rows)?;
-        let members = members_of(alloc, &rows.order, &firsts)?;
+    /// The groups of the containers that have these rows.
+    pub(crate) fn new(alloc: Global, rows: &Rows<'_, '_>) -> Result<Groups, AllocError> {
+        let firsts = firsts_of(alloc, rows)?;
+        let members = members_of(alloc, rows, &firsts)?;
         Ok(Groups { firsts, members })
     }
 
@@ -169,17 +151,17 @@ impl Groups {
         }
     }
 
-    /// The containers that are like the first of them.
+    /// The containers that are like the first of them, which have these rows.
     pub(crate) fn containers<'a, 'b>(
         &self,
         alloc: Global,
-        overview: &'b Overview<'a>,
+        rows: &Rows<'a, 'b>,
         first: usize,
     ) -> Result<Vec<&'b Container<'a>>, AllocError> {
         let mut found = Vec::new(alloc);
         for (_, _, number) in self.members(first) {
-            if let Some(container) = overview.tree.containers.get(*number) {
-                found.push(container)?;
+            if let Some(row) = rows.rows.get(*number) {
+                found.push(row.container)?;
             }
         }
         Ok(found)

@@ -3,7 +3,7 @@
 use crate::alike::Groups;
 use crate::folding::group_cells;
 use crate::sheet::Sheet;
-use acpi_objects::ObjectKind;
+use acpi_kinds::ObjectKind;
 use acpi_overview::{Container, Overview};
 use acpi_overview_text::{Row, Rows};
 use std::alloc::{AllocError, Global};
@@ -88,12 +88,12 @@ fn put_some_words(sheet: &mut Sheet, words: &[u8], end: usize) -> Result<(), All
 
 fn put_cells(
     sheet: &mut Sheet,
-    row: &Row,
+    row: &Row<'_, '_>,
     names: &[u8],
     place: &[u8],
     at: Columns,
 ) -> Result<(), AllocError> {
-    for _ in 1..row.depth.min(12) {
+    for _ in 1..row.container.depth.min(12) {
         sheet.put(" ")?;
     }
     sheet.put_bytes(names)?;
@@ -116,13 +116,13 @@ fn put_cells(
 fn put_row(
     alloc: Global,
     sheet: &mut Sheet,
-    row: &Row,
+    row: &Row<'_, '_>,
     alike: &[&Container<'_>],
     at: Columns,
     is_verbose: bool,
 ) -> Result<(), AllocError> {
     if alike.len() > 1 {
-        let cells = group_cells(alloc, alike, at.ids.saturating_sub(row.depth))?;
+        let cells = group_cells(alloc, alike, at.ids.saturating_sub(row.container.depth))?;
         put_cells(sheet, row, &cells.names, &cells.place, at)?;
     } else {
         put_cells(sheet, row, &row.names, &row.place, at)?;
@@ -135,20 +135,12 @@ fn put_row(
 }
 
 // Whether a container is shown: a scope is only where something stands in it.
-fn is_shown(rows: &Rows, container: &Container<'_>, number: usize) -> bool {
-    match container.object.kind {
+fn is_shown(rows: &Rows<'_, '_>, row: &Row<'_, '_>) -> bool {
+    match row.container.object.kind {
         ObjectKind::Root => false,
-        ObjectKind::Scope => !rows.order.below(number).is_empty(),
+        ObjectKind::Scope => !rows.is_leaf(row),
         _ => true,
     }
-}
-
-// Puts those below a container on the stack, the first on top.
-fn put_below(stack: &mut Vec<usize>, rows: &Rows, number: usize) -> Result<(), AllocError> {
-    for (_, _, below) in rows.order.below(number).iter().rev() {
-        stack.push(*below)?;
-    }
-    Ok(())
 }
 
 // The line that names the columns.
@@ -168,6 +160,48 @@ fn put_head(sheet: &mut Sheet, at: Columns) -> Result<(), AllocError> {
     sheet.head("resources")
 }
 
+// Puts the rows of all containers.
+fn put_all(
+    alloc: Global,
+    sheet: &mut Sheet,
+    rows: &Rows<'_, '_>,
+    at: Columns,
+) -> Result<(), AllocError> {
+    for row in rows.shown(alloc)? {
+        if is_shown(rows, row) {
+            put_row(alloc, sheet, row, &[], at, true)?;
+        }
+    }
+    Ok(())
+}
+
+// Puts a row for siblings that are alike, in place of those behind the first of them and of all below these.
+fn put_folded(
+    alloc: Global,
+    sheet: &mut Sheet,
+    rows: &Rows<'_, '_>,
+    at: Columns,
+) -> Result<(), AllocError> {
+    let groups = Groups::new(alloc, rows)?;
+    let mut folded = usize::MAX;
+    for row in rows.shown(alloc)? {
+        let depth = row.container.depth;
+        if depth > folded {
+            continue;
+        }
+        if groups.first_of(row.number) != row.number {
+            folded = depth;
+            continue;
+        }
+        folded = usize::MAX;
+        if is_shown(rows, row) {
+            let alike = groups.containers(alloc, rows, row.number)?;
+            put_row(alloc, sheet, row, &alike, at, false)?;
+        }
+    }
+    Ok(())
+}
+
 /// Puts the tree of devices; without `is_verbose` siblings that are alike stand in one row.
 pub(crate) fn put_devices(
     alloc: Global,
@@ -176,32 +210,11 @@ pub(crate) fn put_devices(
     is_verbose: bool,
 ) -> Result<(), AllocError> {
     let rows = &Rows::new(alloc, overview)?;
-    let groups = Groups::new(alloc, overview, rows)?;
     let at = columns_of(sheet.width());
     put_head(sheet, at)?;
-    let containers = &overview.tree.containers;
-    let mut stack = Vec::new(alloc);
-    stack.push(0usize)?;
-    for _ in 0..containers.len() {
-        let Some(number) = stack.pop() else {
-            return Ok(());
-        };
-        let (Some(container), Some(row)) = (containers.get(number), rows.rows.get(number)) else {
-            return Ok(());
-        };
-        let is_folded = !is_verbose && groups.first_of(number) != number;
-        if is_folded {
-            continue;
-        }
-        if is_shown(rows, container, number) {
-            if is_verbose {
-                put_row(alloc, sheet, row, &[], at, true)?;
-            } else {
-                let alike = groups.containers(alloc, overview, number)?;
-                put_row(alloc, sheet, row, &alike, at, false)?;
-            }
-        }
-        put_below(&mut stack, rows, number)?;
+    if is_verbose {
+        put_all(alloc, sheet, rows, at)
+    } else {
+        put_folded(alloc, sheet, rows, at)
     }
-    Ok(())
 }

@@ -1,8 +1,7 @@
 //! Siblings that are alike, in one row.
 
 use acpi_overview::{Address, Container, Value, last_segment};
-use acpi_overview_text::{put_hex, put_last};
-use acpi_text::{put, put_decimal};
+use acpi_overview_text::{put, put_decimal, put_hex, put_last};
 use std::alloc::{AllocError, Global};
 
 /// What is shown of siblings that are alike: their names, and where they stand.

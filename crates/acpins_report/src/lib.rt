@@ -2,7 +2,7 @@
 //! is known without running any of their code (ACPI 6.5).
 //!
 //! ```text
-//! let text = report(alloc, &survey, &files, options)?;
+//! let text = report(alloc, &overview, &lines, &files, options)?;
 //! ```
 //!
 //! Nothing here opens a file or reads an argument. Only an allocation failure is an error.

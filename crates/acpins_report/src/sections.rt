@@ -3,15 +3,15 @@
 use crate::devices::put_devices;
 use crate::power::put_powers;
 use crate::sheet::{Sheet, Style};
-use acpi_overview::{OSPM_KINDS, Object, OspmKind, OspmMethod, Overview, overview_of};
-use acpi_overview_text::{
-    by_address, mark_of, put_addresses, put_count, put_counted, put_first, put_length, put_lint,
-    put_origin, put_region_path, put_short_path, put_site, put_table, put_totals, put_units,
-    site_of, space_word,
+use acpi_overview::{
+    ConditionLine, FoundLine, Lines, Lint, OSPM_KINDS, OspmKind, OspmMethod, Overview, Region,
+    Totals,
 };
-use acpi_survey::Survey;
-use acpi_text::{put, put_decimal};
-use acpins_survey_output::{put_condition, put_note, put_problem};
+use acpi_overview_text::{
+    by_address, mark_of, put, put_addresses, put_count, put_counted, put_decimal, put_first,
+    put_length, put_lint, put_origin, put_region_path, put_short_path, put_site, put_table,
+    put_totals, put_units, space_word,
+};
 use std::alloc::{AllocError, Global};
 
 /// How a report looks.
@@ -28,12 +28,23 @@ pub struct ReportOptions {
 /// The most lines of a list that isn't shown whole.
 const SHORT_LIST: usize = 24;
 
+/// What stands over problems.
+const PROBLEMS: &str = "PROBLEMS  (table at offset: reason, what is lost)";
+
+/// What stands over notes.
+const NOTES: &str = "NOTES  (nothing is lost by these)";
+
 // ---- tables, problems and notes
 
-fn put_heads(sheet: &mut Sheet, overview: &Overview<'_>, files: &[&str]) -> Result<(), AllocError> {
-    put_first(&mut sheet.line, overview)?;
+fn put_heads(
+    sheet: &mut Sheet,
+    overview: &Overview<'_>,
+    lines: &Lines<'_>,
+    files: &[&str],
+) -> Result<(), AllocError> {
+    put_first(&mut sheet.line, overview, lines)?;
     sheet.end_as(Style::Head)?;
-    let tables = &overview.survey.tables;
+    let tables = &overview.tables;
     for number in 0..tables.len() {
         sheet.put("  ")?;
         put_table(&mut sheet.line, number, files.get(number), &tables[number])?;
@@ -44,38 +55,22 @@ fn put_heads(sheet: &mut Sheet, overview: &Overview<'_>, files: &[&str]) -> Resu
     sheet.end()
 }
 
-// Ends a line that was put with its line end.
-fn end_line(sheet: &mut Sheet, style: Style) -> Result<(), AllocError> {
-    if sheet.line.last() == Some(&b'\n') {
-        sheet.line.pop();
-    }
-    sheet.end_as(style)
-}
-
-fn put_problems(sheet: &mut Sheet, overview: &Overview<'_>) -> Result<(), AllocError> {
-    if overview.problems.is_empty() {
+// Lines in a style, if there are any, behind the head of their section.
+fn put_found(
+    sheet: &mut Sheet,
+    head: &str,
+    lines: &[FoundLine],
+    style: Style,
+) -> Result<(), AllocError> {
+    if lines.is_empty() {
         return Ok(());
     }
     sheet.end()?;
-    sheet.head("PROBLEMS  (table at offset: reason, what is lost)")?;
-    for problem in overview.problems {
+    sheet.head(head)?;
+    for line in lines {
         sheet.put("  ")?;
-        put_problem(&mut sheet.line, problem)?;
-        end_line(sheet, Style::Bad)?;
-    }
-    Ok(())
-}
-
-fn put_notes(sheet: &mut Sheet, overview: &Overview<'_>) -> Result<(), AllocError> {
-    if overview.notes.is_empty() {
-        return Ok(());
-    }
-    sheet.end()?;
-    sheet.head("NOTES  (nothing is lost by these)")?;
-    for note in overview.notes {
-        sheet.put("  ")?;
-        put_note(&mut sheet.line, note)?;
-        end_line(sheet, Style::Odd)?;
+        sheet.put_bytes(line.text.trim_ascii_end())?;
+        sheet.end_as(style)?;
     }
     Ok(())
 }
@@ -93,64 +88,46 @@ fn put_more(sheet: &mut Sheet, count: usize) -> Result<(), AllocError> {
 
 // ---- conditions
 
-// Whether the container around an object has a condition too, which the object shares.
-fn is_inside_conditional(overview: &Overview<'_>, place: usize) -> bool {
-    let Some(Some(number)) = overview.tree.around.get(place) else {
-        return false;
-    };
-    match overview.tree.containers.get(*number) {
-        Some(container) => container.object.is_conditional,
-        None => false,
-    }
+fn put_condition(sheet: &mut Sheet, line: &ConditionLine<'_>) -> Result<(), AllocError> {
+    sheet.put("  ")?;
+    put_short_path(&mut sheet.line, line.object.path)?;
+    sheet.tab(24)?;
+    sheet.put_bytes(&line.text)?;
+    sheet.end()
 }
 
-fn put_conditional(
-    sheet: &mut Sheet,
-    overview: &Overview<'_>,
-    object: &Object<'_>,
-) -> Result<(), AllocError> {
-    sheet.put("  ")?;
-    put_short_path(&mut sheet.line, object.path)?;
-    sheet.tab(24)?;
-    put_condition(&mut sheet.line, &overview.survey.condition(object.number)?)?;
+// Says how many objects with a condition are left out.
+fn put_left_out(sheet: &mut Sheet, totals: &Totals, shown: usize) -> Result<(), AllocError> {
+    let outside = totals.conditional.saturating_sub(totals.inside);
+    put_more(sheet, outside.saturating_sub(shown))?;
+    if totals.inside == 0 {
+        return Ok(());
+    }
+    sheet.put("  and ")?;
+    put_counted(&mut sheet.line, totals.inside, "object")?;
+    sheet.put(" inside of these (-v tells them)")?;
     sheet.end()
 }
 
 fn put_conditions(
     sheet: &mut Sheet,
-    overview: &Overview<'_>,
+    totals: &Totals,
+    lines: &[ConditionLine<'_>],
     is_verbose: bool,
 ) -> Result<(), AllocError> {
-    if overview.totals.conditional == 0 {
+    if totals.conditional == 0 {
         return Ok(());
     }
     sheet.end()?;
     sheet.head("CONDITIONAL  (? before all that has to be so)")?;
-    let mut shown = 0usize;
-    let mut inside = 0usize;
-    let mut more = 0usize;
-    for place in 0..overview.objects.len() {
-        let object = &overview.objects[place];
-        if !object.is_conditional {
-            continue;
-        }
-        if !is_verbose && is_inside_conditional(overview, place) {
-            inside = inside.saturating_add(1);
-        } else if !is_verbose && shown >= SHORT_LIST {
-            more = more.saturating_add(1);
-        } else {
-            shown = shown.saturating_add(1);
-            put_conditional(sheet, overview, object)?;
-        }
+    for line in lines {
+        put_condition(sheet, line)?;
     }
-    put_more(sheet, more)?;
-    if inside > 0 {
-        sheet.put("  and ")?;
-        put_counted(&mut sheet.line, inside, "object")?;
-        sheet.put(" inside of these (-v tells them)")?;
-        sheet.end()?;
+    if is_verbose {
+        Ok(())
+    } else {
+        put_left_out(sheet, totals, lines.len())
     }
-    Ok(())
 }
 
 // ---- methods that an operating system runs by itself
@@ -257,12 +234,10 @@ fn put_regions(
     sheet.end()?;
     sheet.head("WHERE IT TOUCHES THE MACHINE  (= constant  ~ named constant  ? read at run time)")?;
     let mut before: Option<u8> = None;
-    for number in &by_address(alloc, overview)? {
-        if let Some(region) = overview.regions.get(*number) {
-            let is_new_space = before != Some(region.space);
-            put_region(alloc, sheet, overview, *number, is_new_space)?;
-            before = Some(region.space);
-        }
+    for region in &by_address(alloc, &overview.regions)? {
+        let is_new_space = before != Some(region.space);
+        put_region(alloc, sheet, overview, region, is_new_space)?;
+        before = Some(region.space);
     }
     Ok(())
 }
@@ -273,12 +248,9 @@ fn put_region(
     alloc: Global,
     sheet: &mut Sheet,
     overview: &Overview<'_>,
-    number: usize,
+    region: &Region<'_>,
     is_new_space: bool,
 ) -> Result<(), AllocError> {
-    let Some(region) = overview.regions.get(number) else {
-        return Ok(());
-    };
     sheet.put("  ")?;
     if is_new_space {
         sheet.put(space_word(region.space))?;
@@ -287,7 +259,7 @@ fn put_region(
     sheet.put(mark_of(region))?;
     sheet.put(" ")?;
     let mut addresses = Vec::new(alloc);
-    put_addresses(&mut addresses, overview, region)?;
+    put_addresses(&mut addresses, region)?;
     sheet.put_bytes(&addresses)?;
     sheet.tab(33)?;
     put_length(&mut sheet.line, region)?;
@@ -296,7 +268,7 @@ fn put_region(
     sheet.tab(62)?;
     put_units(&mut sheet.line, region)?;
     sheet.tab(74)?;
-    put_origin_behind(alloc, sheet, overview, number)?;
+    put_origin_behind(alloc, sheet, overview, region)?;
     sheet.end()
 }
 
@@ -304,10 +276,10 @@ fn put_origin_behind(
     alloc: Global,
     sheet: &mut Sheet,
     overview: &Overview<'_>,
-    number: usize,
+    region: &Region<'_>,
 ) -> Result<(), AllocError> {
     let mut origin = Vec::new(alloc);
-    put_origin(alloc, &mut origin, overview, number)?;
+    put_origin(&mut origin, overview, region)?;
     if origin.is_empty() {
         return Ok(());
     }
@@ -320,54 +292,69 @@ fn put_origin_behind(
 
 // ---- lint
 
+fn put_lint_line(sheet: &mut Sheet, lint: &Lint<'_>) -> Result<(), AllocError> {
+    sheet.put("  ")?;
+    if let Some(site) = lint.site {
+        put_site(&mut sheet.line, site)?;
+    }
+    sheet.tab(16)?;
+    put_lint(&mut sheet.line, lint)?;
+    sheet.end_as(Style::Odd)
+}
+
 fn put_lints(
     sheet: &mut Sheet,
-    overview: &Overview<'_>,
-    is_verbose: bool,
+    lints: &[Lint<'_>],
+    limit: Option<usize>,
 ) -> Result<(), AllocError> {
-    if overview.lints.is_empty() {
+    if lints.is_empty() {
         return Ok(());
     }
     sheet.end()?;
     sheet.head("LOOKS WRONG  (nothing is lost by these)")?;
-    let mut shown = 0usize;
-    for lint in &overview.lints {
-        if !is_verbose && shown >= SHORT_LIST {
-            break;
-        }
-        shown = shown.saturating_add(1);
-        sheet.put("  ")?;
-        if let Some(site) = site_of(overview, lint) {
-            put_site(&mut sheet.line, site)?;
-        }
-        sheet.tab(16)?;
-        put_lint(&mut sheet.line, overview, lint)?;
-        sheet.end_as(Style::Odd)?;
+    let count = match limit {
+        Some(limit) => limit.min(lints.len()),
+        None => lints.len(),
+    };
+    for lint in &lints[..count] {
+        put_lint_line(sheet, lint)?;
     }
-    put_more(sheet, overview.lints.len().saturating_sub(shown))
+    put_more(sheet, lints.len() - count)
 }
 
-/// The report of the tables of a survey, of which these are the names of the files: problems and notes, what has a
-/// condition, the methods that an operating system runs by itself, devices, power and thermal objects, regions, and
-/// what looks wrong. Only an allocation failure is an error.
+impl ReportOptions {
+    /// The most lines of a list of conditions or of what looks wrong; none where it is shown whole.
+    pub fn limit(&self) -> Option<usize> {
+        if self.is_verbose {
+            None
+        } else {
+            Some(SHORT_LIST)
+        }
+    }
+}
+
+/// The report of an overview, with these lines and these names of the files: problems and notes, what has a condition,
+/// the methods that an operating system runs by itself, devices, power and thermal objects, regions, and what looks
+/// wrong. Only an allocation failure is an error.
 pub fn report(
     alloc: Global,
-    survey: &Survey,
+    overview: &Overview<'_>,
+    lines: &Lines<'_>,
     files: &[&str],
     options: ReportOptions,
 ) -> Result<Vec<u8>, AllocError> {
-    let overview = overview_of(alloc, survey)?;
+    let is_verbose = options.is_verbose;
     let width = options.width.max(80).min(120);
     let mut sheet = Sheet::new(alloc, width, options.is_coloured);
-    put_heads(&mut sheet, &overview, files)?;
-    put_problems(&mut sheet, &overview)?;
-    put_notes(&mut sheet, &overview)?;
-    put_conditions(&mut sheet, &overview, options.is_verbose)?;
-    put_ospm_methods(alloc, &mut sheet, &overview, options.is_verbose)?;
+    put_heads(&mut sheet, overview, lines, files)?;
+    put_found(&mut sheet, PROBLEMS, &lines.problems, Style::Bad)?;
+    put_found(&mut sheet, NOTES, &lines.notes, Style::Odd)?;
+    put_conditions(&mut sheet, &overview.totals, &lines.conditions, is_verbose)?;
+    put_ospm_methods(alloc, &mut sheet, overview, is_verbose)?;
     sheet.end()?;
-    put_devices(alloc, &mut sheet, &overview, options.is_verbose)?;
-    put_powers(alloc, &mut sheet, &overview)?;
-    put_regions(alloc, &mut sheet, &overview)?;
-    put_lints(&mut sheet, &overview, options.is_verbose)?;
+    put_devices(alloc, &mut sheet, overview, is_verbose)?;
+    put_powers(&mut sheet, overview)?;
+    put_regions(alloc, &mut sheet, overview)?;
+    put_lints(&mut sheet, &overview.lints, options.limit())?;
     Ok(sheet.into_bytes())
 }

@@ -1,6 +1,6 @@
 //! Text in lines of a width.
 
-use acpi_text::put;
+use acpi_overview_text::put;
 use std::alloc::{AllocError, Global};
 use std::mem;
 

@@ -1,18 +1,12 @@
 -- What the files of a run hold: definition blocks, one after another (ACPI 6.5, 5.2.6).
-use Rattle.std.specs.Prelude.{◌≡◌, ◌≢◌, ◌+◌, ℕ, Bool, true, false, IsTrue, List, [], ◌∷◌, ◌++◌, length, map, All, Option, IfSome, Result, Err}
+use Rattle.std.specs.Prelude.{◌≡◌, ◌≢◌, ◌+◌, ℕ, Bool, true, false, IsTrue, List, [], ◌∷◌, ◌++◌, length, All, Option, IfSome}
 use Rattle.std.specs.List.{concat}
-use Rattle.acpi_table.specs.Sources.{one_more}
 use Rattle.acpi_table.specs.Tables.{IsTable, IsRefusedAs}
 use Rattle.acpi_table.specs.declared.tables.TableFault.{TableFault}
 use Rattle.acpi_order.specs.Machines.{Machine, IsMachine}
 use Rattle.acpins_io.specs.Hexadecimal.{SpellsInHex}
 use Rattle.acpins_run.specs.declared.failure.Failure.{Failure}
 use Rattle.acpins_run.specs.declared.failure.Failure.TheVariants.{Read, BadHex, Table, Memory}
-use Rattle.acpins_words.specs.declared.words.Request.{Request}
-
--- the names of the files that a request has, in order
-abbrev pub files_of : Request → List (List ℕ)
-files_of request = map (λ name. name.now) request.files.items
 
 -- the bytes of the file of each name, where they are known
 abbrev pub FileBytes : Type 0
@@ -51,11 +45,6 @@ pub record BreaksOff (hex : Bool) (known : Option (List ℕ)) (tables : List (Li
   pub refused : IfSome known
       (λ content. (rest : List ℕ) × Stores hex content (concat tables ++ rest) × (rest ≢ [])
       × IsRefusedAs fault rest)
-
--- one failed read more where the file can't be read, and none else
-abbrev pub CountsFailedRead : {A : Type 0} → Result A Failure → ℕ → ℕ → Type 0
-CountsFailedRead (Err (Read word)) old new = new ≡ one_more old
-CountsFailedRead _ old new = new ≡ old
 
 -- Why a file gives no tables, where so many came before: it is said not to be read, its text spells no bytes,
 -- it breaks off after some more, or there is no memory.

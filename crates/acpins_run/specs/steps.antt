@@ -1,1 +1,2 @@
 pub mod HexFiles
+pub mod Reading

@@ -4,7 +4,7 @@ ghost use Rattle.std.specs.Prelude.{◌≡◌};
 ghost use Rattle.acpins_run.specs.Failures.{failure_of, failure_of_words, status_of};
 ghost use Rattle.acpins_run.specs.declared.failure.Failure.{Failure};
 
-use acpi_load::{LoadFault, LoadReason};
+use acpi_declare::{LoadFault, LoadReason};
 use acpi_table::{HEADER_BYTES, TableFault};
 use acpi_terms::ItemReason;
 use acpins_words::WordsFault;

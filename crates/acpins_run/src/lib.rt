@@ -2,7 +2,7 @@
 //!
 //! ```text
 //! words ── acpins_words ──► what they ask for
-//! files by name (Files) ──► tables ── acpi_load ──► text, whole or not at all ──► standard output
+//! files by name (Files) ──► tables ── the load ──► text, whole or not at all ──► standard output
 //!                                                   rewritten tables ───────────► a file
 //!                                                   the line of a failure ──────► standard error
 //! ```

@@ -8,14 +8,16 @@ ghost use Rattle.acpins_run.specs.Failures.{status_of};
 ghost use Rattle.acpins_run.specs.FailureLines.{failure_line};
 ghost use Rattle.acpins_io.specs.PartsWritten.{AppendsBeginning, WritesUntilFailure};
 ghost use Rattle.acpins_words.specs.Words.{texts, listing, showing, checking, rewriting, asked_in, asked_of};
-ghost use Rattle.acpins_run.specs.Input.{files_of, AreTablesOf, IsFilesFault};
+ghost use Rattle.acpins_run.specs.Input.{AreTablesOf, IsFilesFault};
+ghost use Rattle.acpins_run.specs.steps.Reading.{files_of};
 ghost use Rattle.acpins_run.specs.Runs.{IsListing, IsShowing, IsChecking, IsRewriting, IsWrong, IsOutput, GetsOutput, GetsBeginning, IsFailureOf, IsRunFailure, IsStored, StoresOutput, LeavesFiles, FailsWith};
 
 use crate::failure::Failure;
 use crate::lines::put_line;
 use crate::rewriting::{put_file, rewritten_text};
 use crate::tables::add_tables;
-use acpi_load::{Declared, Keep, load_objects};
+use acpi_declare::{Declared, Keep};
+use acpi_machine::load_objects;
 use acpi_name::{Path, PathFault};
 use acpi_space::{Space, TreeSpace};
 use acpi_terms::{Depth, Object};

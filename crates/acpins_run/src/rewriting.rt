@@ -7,7 +7,8 @@ ghost use Rattle.acpins_run.specs.Rewritten.{file_text, table_text, IsFileOf, Is
 ghost use Rattle.acpins_io.specs.FilesWritten.{Holds};
 
 use crate::failure::Failure;
-use acpi_load::{LoadFault, rewrite_shared};
+use acpi_declare::LoadFault;
+use acpi_rewrite::rewrite_shared;
 use acpi_space::Space;
 use acpi_terms::{Depth, Object};
 use acpins_io::{FileFault, Files, write_file};

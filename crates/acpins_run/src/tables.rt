@@ -2,7 +2,8 @@
 
 ghost use Rattle.std.specs.Prelude.{◌≡◌, ◌++◌, ◌∷◌, [], false, IfOk, IfErr, OnOk, IfSome, vec_len};
 ghost use Rattle.acpins_io.specs.Hexadecimal.{SpellsInHex};
-ghost use Rattle.acpins_run.specs.Input.{AddsTablesOf, IsFileFault, CountsFailedRead};
+ghost use Rattle.acpins_run.specs.Input.{AddsTablesOf, IsFileFault};
+ghost use Rattle.acpins_run.specs.steps.Reading.{CountsFailedRead};
 ghost use Rattle.acpins_run.specs.steps.HexFiles.{IsHexFault};
 
 use crate::failure::Failure;

@@ -1,13 +1,5 @@
 pub mod Separating
 pub mod Merging
-pub mod Ordering
-pub mod Zipping
 pub mod Lines
 pub mod AllLines
-pub mod JsonPutting
 pub mod Mapping
-pub mod JsonPlaces
-pub mod JsonReasons
-pub mod JsonLines
-pub mod JsonLabels
-pub mod JsonFraming

@@ -3,13 +3,13 @@ use Rattle.std.proofs.Common.{◌≡◌, ◌∙◌, ℕ, suc, ◌+◌, ◌≤◌
 use Rattle.std.proofs.lemmas.List.{drop_all}
 use Rattle.acpi_outline.specs.View.{nodes_view}
 use Rattle.acpi_text.proofs.Pieces.{next_said}
-use Rattle.acpi_survey.specs.Findings.{entered_in, refusals_in}
-use Rattle.acpi_survey.specs.Problems.{Refusals}
-use Rattle.acpi_survey.specs.Ranges.{Entered}
-use Rattle.acpi_survey.specs.declared.index.PlaceIndex.{PlaceIndex}
+use Rattle.acpi_ranges.specs.Index.{entered_in, refusals_in}
+use Rattle.acpi_ranges.specs.Index.{Refusals}
+use Rattle.acpi_ranges.specs.Ranges.{Entered}
+use Rattle.acpi_ranges.specs.declared.index.PlaceIndex.{PlaceIndex}
 use Rattle.acpi_survey.specs.declared.machine_survey.Survey.{Survey}
 use Rattle.acpi_survey.specs.declared.machine_survey.SurveyedTable.{SurveyedTable}
-use Rattle.acpi_survey.specs.steps.Indexes.{index_entered, index_refusals}
+use Rattle.acpi_ranges.specs.steps.Indexes.{index_entered, index_refusals}
 use Rattle.acpins_survey_output.specs.Maps.{indent, map_by, map_text, table_lines, table_parts}
 
 -- ---- lines

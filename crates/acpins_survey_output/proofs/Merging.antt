@@ -3,8 +3,8 @@ use Rattle.std.proofs.Common.{◌≡◌, ◌∙◌, ℕ, ◌-◌, ◌+◌, ◌<�
 use Rattle.std.specs.List.{flat_map}
 use Rattle.std.proofs.Math.Seq.{drop-cons}
 use Rattle.std.proofs.lemmas.List.{drop_all, length-drop}
-use Rattle.acpi_survey.specs.declared.problems.Problem.{Problem}
-use Rattle.acpi_survey.specs.declared.notes.Note.{Note}
+use Rattle.acpi_findings.specs.declared.problems.Problem.{Problem}
+use Rattle.acpi_findings.specs.declared.notes.Note.{Note}
 use Rattle.acpins_survey_output.specs.Found.{is_met_first, note_line, problem_line, notes_before, notes_behind, found_text}
 
 -- a list but its first, as a slice has it

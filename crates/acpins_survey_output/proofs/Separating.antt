@@ -1,21 +1,18 @@
--- Texts of lists, with something between each two or before each.
-use Rattle.std.proofs.Common.{◌≡◌, ℕ, ◌≤◌, List, [], ◌∷◌, ◌++◌, length, take, get_or, map, codes, arith, ap, sym, refl}
-use Rattle.std.proofs.lemmas.List.{append-nil}
+-- Texts that are put piece by piece, and texts of lists.
+use Rattle.std.proofs.Common.{◌≡◌, ◌∙◌, ℕ, ◌≤◌, List, [], ◌∷◌, ◌++◌, length, map, codes, append_assoc, arith, ap, sym, refl}
 use Rattle.std.specs.List.{flat_map}
 use Rattle.acpi_text.specs.Constants.{separated}
-use Rattle.acpi_text.proofs.Pieces.{all_said, others, separated_said}
-use Rattle.acpi_survey.specs.declared.condition.PlacedLiteral.{PlacedLiteral}
-use Rattle.acpi_survey.specs.declared.links.Link.{Link}
-use Rattle.acpi_survey.specs.ConditionViews.{link_view, link_views, placed_view, placed_views}
+use Rattle.acpi_text.proofs.Pieces.{next_said}
+use Rattle.acpi_entries.specs.declared.condition.PlacedLiteral.{PlacedLiteral}
+use Rattle.acpi_entries.specs.declared.links.Link.{Link}
+use Rattle.acpi_entries.specs.ConditionViews.{link_view, link_views, placed_view, placed_views}
 use Rattle.acpins_survey_output.specs.Conditions.{condition_text, literal_text}
 use Rattle.acpins_survey_output.specs.Links.{link_text, links_text}
 
--- after a loop that puts the others behind the first
-pub all_put : {X : Type 0} (between : List ℕ) (f : X → List ℕ) (xs : List X) (x : X) (i : ℕ) (old mid new : List ℕ)
-    → 1 ≤ length xs → x ≡ get_or xs 0 x → length (others xs) ≤ i → mid ≡ old ++ f x
-    → new ≡ mid ++ flat_map (λ y. between ++ f y) (take i (others xs)) → new ≡ old ++ separated between f xs
-all_put between f xs x i old mid new some is past one more =
-    all_said between f xs x i (separated between f xs) old [] old mid new (separated_said between f xs x x some is) past (sym (append-nil old)) one more
+-- a piece of two parts behind another
+pub pair_said : (old first label piece mid new : List ℕ) → mid ≡ old ++ first → new ≡ mid ++ (label ++ piece) → new ≡ old ++ (first ++ label ++ piece)
+pair_said old first label piece mid new before last =
+    next_said old first (label ++ piece) mid new before last ∙ ap (λ t. old ++ t) (sym (append_assoc first label piece))
 
 -- ---- texts of views
 

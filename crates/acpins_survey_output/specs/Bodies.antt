@@ -4,10 +4,10 @@ use Rattle.acpi_name.specs.Names.{Segment}
 use Rattle.acpi_name.specs.Text.{path_text}
 use Rattle.acpi_tree.specs.TermView.{terms_tree}
 use Rattle.acpi_text.specs.Terms.{statements_text, opaque_text}
-use Rattle.acpi_survey.specs.declared.body.BodyReading.{BodyReading}
-use Rattle.acpi_survey.specs.declared.body.BodyReading.TheVariants.{Terms, Opaque}
-use Rattle.acpi_survey.specs.declared.body.MethodBody.{MethodBody}
-use Rattle.acpins_survey_output.specs.Reasons.{body_fault_text}
+use Rattle.acpi_entries.specs.declared.body.BodyReading.{BodyReading}
+use Rattle.acpi_entries.specs.declared.body.BodyReading.TheVariants.{Terms, Opaque}
+use Rattle.acpi_entries.specs.declared.body.MethodBody.{MethodBody}
+use Rattle.acpins_survey_reasons.specs.Reasons.{body_fault_text}
 
 -- the lines of a code: its statements, or its bytes and why and where they can't be read
 abbrev pub reading_text : (code : List ℕ) → BodyReading → List ℕ

@@ -4,8 +4,8 @@ use Rattle.std.specs.List.{flat_map}
 use Rattle.acpi_name.specs.Text.{name_text, path_text}
 use Rattle.acpi_tree.specs.Terms.{TermTree}
 use Rattle.acpi_text.specs.Terms.{term_text}
-use Rattle.acpi_survey.specs.declared.problems.Site.{Site}
-use Rattle.acpi_survey.specs.Condition.{LiteralParts, if_taken, if_missed, while_taken, stop_missed, has, free, needs, PlacedParts}
+use Rattle.acpi_ranges.specs.declared.sites.Site.{Site}
+use Rattle.acpi_entries.specs.Condition.{LiteralParts, if_taken, if_missed, while_taken, stop_missed, has, free, needs, PlacedParts}
 
 -- a predicate, which may be lost
 abbrev pub test_text : Option TermTree → List ℕ

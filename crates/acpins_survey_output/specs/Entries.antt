@@ -2,8 +2,8 @@
 use Rattle.std.specs.Prelude.{ℕ, List, [], ◌∷◌, ◌++◌, codes}
 use Rattle.acpi_name.specs.Names.{Segment}
 use Rattle.acpi_name.specs.Text.{path_text}
-use Rattle.acpi_survey.specs.EntryLinks.{LinkParts}
-use Rattle.acpi_survey.specs.Condition.{PlacedParts}
+use Rattle.acpi_entries.specs.EntryLinks.{LinkParts}
+use Rattle.acpi_entries.specs.Condition.{PlacedParts}
 use Rattle.acpins_survey_output.specs.Conditions.{condition_text}
 use Rattle.acpins_survey_output.specs.Links.{sourced_text}
 use Rattle.acpi_objects.specs.Objects.{ObjectParts}

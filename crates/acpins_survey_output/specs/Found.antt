@@ -3,13 +3,13 @@ use Rattle.std.specs.Prelude.{ℕ, List, [], ◌∷◌, ◌++◌, Option, Some, 
 use Rattle.std.specs.List.{flat_map}
 use Rattle.acpi_name.specs.Names.{Segment}
 use Rattle.acpi_name.specs.Text.{path_text}
-use Rattle.acpi_survey.specs.declared.problems.Site.{Site}
-use Rattle.acpi_survey.specs.declared.problems.LostRange.{LostRange}
-use Rattle.acpi_survey.specs.declared.problems.Problem.{Problem}
-use Rattle.acpi_survey.specs.declared.problems.ProblemReason.{ProblemReason}
-use Rattle.acpi_survey.specs.declared.problems.ProblemReason.TheVariants.{Refused}
-use Rattle.acpi_survey.specs.declared.notes.Note.{Note}
-use Rattle.acpins_survey_output.specs.Reasons.{problem_reason_text, note_reason_text}
+use Rattle.acpi_ranges.specs.declared.sites.Site.{Site}
+use Rattle.acpi_ranges.specs.declared.lost_ranges.LostRange.{LostRange}
+use Rattle.acpi_findings.specs.declared.problems.Problem.{Problem}
+use Rattle.acpi_findings.specs.declared.problems.ProblemReason.{ProblemReason}
+use Rattle.acpi_findings.specs.declared.problems.ProblemReason.TheVariants.{Refused}
+use Rattle.acpi_findings.specs.declared.notes.Note.{Note}
+use Rattle.acpins_survey_reasons.specs.Reasons.{problem_reason_text, note_reason_text}
 
 -- a table's number and an offset, in bytes
 abbrev pub site_text : Site → List ℕ

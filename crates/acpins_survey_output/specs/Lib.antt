@@ -1,4 +1,3 @@
-pub mod Reasons
 pub mod Found
 pub mod Links
 pub mod Conditions
@@ -8,12 +7,4 @@ pub mod Bodies
 pub mod Listings
 pub mod Shown
 pub mod Maps
-pub mod Json
-pub mod JsonValues
-pub mod JsonObjects
-pub mod JsonFound
-pub mod JsonEntries
-pub mod JsonBodies
-pub mod JsonTables
-pub mod JsonFrame
 pub mod steps

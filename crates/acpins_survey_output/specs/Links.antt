@@ -5,7 +5,7 @@ use Rattle.acpi_name.specs.Text.{path_text}
 use Rattle.acpi_tree.specs.Terms.{TermTree}
 use Rattle.acpi_text.specs.Constants.{separated}
 use Rattle.acpi_text.specs.Terms.{term_text}
-use Rattle.acpi_survey.specs.EntryLinks.{LinkParts}
+use Rattle.acpi_entries.specs.EntryLinks.{LinkParts}
 
 -- the candidates with a bar between each two, and behind them `|-` where the name isn't certain; `-` where there are
 -- none

@@ -10,19 +10,22 @@ use Rattle.acpi_outline.specs.declared.form.PackedForm.TheVariants as forms
 use Rattle.acpi_outline.specs.Nodes.{PlainTree, term, external, FixedTree, scope, if_so, otherwise, while_so, NodeTree, plain, holds, holds_fields, closed, package_lost, data_lost, name_lost, NodeTrees}
 use Rattle.acpi_outline.specs.View.{nodes_view}
 use Rattle.acpi_conditions.specs.Entries.{Path, Why}
-use Rattle.acpi_survey.specs.Findings.{entered_in, refusals_in}
-use Rattle.acpi_survey.specs.NestedRanges.{NestedRange, nested_nodes}
-use Rattle.acpi_survey.specs.Problems.{Refusals, bytes_from, offset_of, range_lost, unsure_name}
-use Rattle.acpi_survey.specs.Ranges.{Entered, range}
-use Rattle.acpi_survey.specs.Spans.{Part, of_node, of_element, of_lost}
-use Rattle.acpi_survey.specs.Survey.{code_read, place_in}
+use Rattle.acpi_ranges.specs.Index.{entered_in, refusals_in}
+use Rattle.acpi_ranges.specs.NestedRanges.{NestedRange, nested_nodes}
+use Rattle.acpi_ranges.specs.Index.{Refusals}
+use Rattle.acpi_ranges.specs.LostRanges.{bytes_from, range_lost, unsure_name}
+use Rattle.acpi_ranges.specs.Sites.{offset_of}
+use Rattle.acpi_ranges.specs.Ranges.{Entered, range}
+use Rattle.acpi_ranges.specs.Spans.{Part, of_node, of_element, of_lost}
+use Rattle.acpi_pieces.specs.Tables.{code_read}
+use Rattle.acpi_survey.specs.Survey.{place_in}
 use Rattle.acpi_survey.specs.declared.machine_survey.Survey.{Survey}
 use Rattle.acpi_survey.specs.declared.machine_survey.SurveyedTable.{SurveyedTable}
-use Rattle.acpi_survey.specs.declared.problems.LostRange.{LostRange}
-use Rattle.acpi_survey.specs.declared.tables.TableContent.{TableContent}
-use Rattle.acpi_survey.specs.declared.tables.TableContent.TheVariants as judged
+use Rattle.acpi_ranges.specs.declared.lost_ranges.LostRange.{LostRange}
+use Rattle.acpi_pieces.specs.declared.tables.TableContent.{TableContent}
+use Rattle.acpi_pieces.specs.declared.tables.TableContent.TheVariants as judged
 use Rattle.acpins_survey_output.specs.Found.{range_text}
-use Rattle.acpins_survey_output.specs.Reasons.{lost_reason_text, named_text, table_reason_text, why_text}
+use Rattle.acpins_survey_reasons.specs.Reasons.{lost_reason_text, named_text, table_reason_text, why_text}
 
 -- A table's number; at each place of its code the path that is declared or entered there; and why what begins at a
 -- place is refused.

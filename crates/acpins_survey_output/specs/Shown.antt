@@ -1,24 +1,14 @@
 -- What `show` and `bodies` print of a survey (ACPI 6.5, 20.2.5.2).
-use Rattle.std.specs.Prelude.{◌≡◌, ℕ, List, [], ◌∷◌, ◌++◌, Option, Some, None, map}
+use Rattle.std.specs.Prelude.{◌≡◌, ℕ, List, [], ◌++◌, Option, Some, None, map}
 use Rattle.std.specs.List.{AllZip}
 use Rattle.acpi_conditions.specs.Entries.{Path, Entry}
-use Rattle.acpi_survey.specs.EntryBodies.{IsBodyOf}
 use Rattle.acpi_survey.specs.Surveys.{numbers_at}
-use Rattle.acpi_survey.specs.declared.body.MethodBody.{MethodBody}
+use Rattle.acpi_entries.specs.declared.body.MethodBody.{MethodBody}
 use Rattle.acpi_survey.specs.declared.machine_survey.Survey.{Survey}
 use Rattle.acpins_survey_output.specs.Bodies.{body_text, method_line}
 use Rattle.acpi_conditions.specs.ByPath.{AreByPath}
-use Rattle.acpins_survey_output.specs.Listings.{entries_of, numbered_line}
-
--- the texts of pairs, or other lists, one after another
-abbrev pub zip_text : {X Y Z : Type 0} → (X → Y → List Z) → List X → List Y → List Z
-zip_text text [] ys = []
-zip_text text (x ∷ xs) [] = []
-zip_text text (x ∷ xs) (y ∷ ys) = text x y ++ zip_text text xs ys
-
--- the body of the entry of that number; None where it is no method of a table
-abbrev pub IsBodyAt : Survey → ℕ → Option MethodBody → Type 0
-IsBodyAt s n b = IsBodyOf (entries_of s) s.reading.counts s.tables.items s.depth n b
+use Rattle.acpins_survey_output.specs.Listings.{numbered_line}
+use Rattle.acpins_survey_reasons.specs.Numbered.{IsBodyAt, entries_of, zip_text}
 
 -- ---- show
 

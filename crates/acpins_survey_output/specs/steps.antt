@@ -1,2 +1,1 @@
-pub mod JsonPuts
 pub mod MapViews

@@ -1,12 +1,11 @@
 //! What the commands of the survey print of tables: the objects that they may declare with their conditions, what is lost
-//! and noticed, the bodies of methods, what each byte belongs to, and all of it as JSON (ACPI 6.5, 5.3 and 20.2.5).
+//! and noticed, the bodies of methods, and what each byte belongs to (ACPI 6.5, 5.3 and 20.2.5).
 //!
 //! ```text
 //! Survey ── list ────► a line for each entry, then each problem and note
 //!        ── show ────► the lines of the entries at one path, with the bodies of their methods
 //!        ── bodies ──► a line for each method: read, or why not
 //!        ── map ─────► what each byte of each table belongs to
-//!        ── json ────► all of it, for programs
 //! ```
 //!
 //! Nothing here opens a file or reads an argument. Only an allocation failure is an error.
@@ -15,30 +14,19 @@
 mod condition;
 mod entries;
 mod found;
-mod json_bodies;
-mod json_entries;
-mod json_found;
-mod json_frame;
-mod json_members;
-mod json_objects;
-mod json_tables;
-mod json_values;
 mod links;
 mod listing;
 mod method_lines;
 mod objects;
 mod ranges;
-mod reasons;
 mod showing;
 
 pub use condition::{put_condition, put_literal};
 pub use entries::put_entry;
 pub use found::{put_note, put_problem};
-pub use json_frame::json;
 pub use links::{put_link, put_links};
 pub use listing::{has_problem, list};
 pub use method_lines::bodies;
 pub use objects::put_kind;
 pub use ranges::map;
-pub use reasons::{put_note_reason, put_problem_reason};
 pub use showing::show;

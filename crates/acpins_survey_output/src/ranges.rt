@@ -1,28 +1,32 @@
 //! What each byte of tables belongs to.
 
-ghost use Rattle.std.specs.Prelude.{◌≡◌, ◌<◌, ◌+◌, ◌^◌, ◌++◌, suc, OnOk, IfOk, codes, length};
+ghost use Rattle.std.specs.Prelude.{◌≡◌, ◌<◌, ◌+◌, ◌-◌, ◌^◌, ◌++◌, suc, OnOk, IfOk, codes, length};
 ghost use Rattle.std.specs.List.{flat_map};
 ghost use Rattle.acpi_outline.specs.View.{fixed_view, node_view, nodes_view, plain_view};
-ghost use Rattle.acpi_survey.specs.NestedRanges.{nested_nodes};
-ghost use Rattle.acpi_survey.specs.NestedViews.{nested_view};
-ghost use Rattle.acpi_survey.specs.SpanViews.{part_of};
-ghost use Rattle.acpi_survey.specs.Survey.{code_read};
-ghost use Rattle.acpi_survey.specs.steps.Indexes.{index_entered, index_refusals};
+ghost use Rattle.acpi_ranges.specs.LostRanges.{bytes_from};
+ghost use Rattle.acpi_ranges.specs.NestedRanges.{nested_nodes};
+ghost use Rattle.acpi_ranges.specs.NestedViews.{nested_view};
+ghost use Rattle.acpi_ranges.specs.SpanViews.{part_of};
+ghost use Rattle.acpi_pieces.specs.Tables.{code_read};
+ghost use Rattle.acpi_ranges.specs.steps.Indexes.{index_entered, index_refusals};
 ghost use Rattle.acpi_tree.specs.TermView.{decl_view, term_view};
 ghost use Rattle.acpi_tree.specs.View.{field_view};
 ghost use Rattle.acpins_survey_output.specs.Maps.{indent, start_text, declaring_text, term_in_map, plain_in_map, package_in_map, node_in_map, element_in_map, part_in_map, kept_line, lost_line, lost_in_map, node_lines, range_lines, code_lines, table_lines, map_by, map_text};
 ghost use Rattle.acpins_survey_output.specs.steps.MapViews.{places_view};
 
 use crate::found::put_range;
-use crate::reasons::{lost_reason_name, put_named, put_refusal, table_reason_name};
 use acpi_outline::{Fixed, LostFault, Node, PackedForm, Plain};
-use acpi_survey::{
-    LostRange, PlaceIndex, Span, SpanContent, Spans, Survey, SurveyedTable, TableContent,
+use acpi_pieces::TableContent;
+use acpi_ranges::{
+    LostRange, PlaceIndex, Span, SpanContent, Spans, index_of, range_lost, unsure_name,
 };
+use acpi_survey::{Survey, SurveyedTable};
 use acpi_table::HEADER_BYTES;
-use acpi_text::{put, put_decimal, put_path, put_term};
+use acpi_text::{put_decimal, put_path, put_term};
 use acpi_tree::{Decl, FieldElem, Term};
+use acpins_survey_reasons::{lost_reason_name, put_named, put_refusal, table_reason_name};
 use std::alloc::{AllocError, Global};
+use text_buffer::Text;
 
 /// A table's number, and what begins at the places of tables.
 #[derive(Clone, Copy)]
@@ -36,37 +40,26 @@ pub(crate) struct TablePlaces<'b, 'a> {
 // ---- what stands in a range
 
 // Why what begins at a place is refused, or a word and the path that it declares or enters.
-fn put_declaring(
-    text: &mut Vec<u8>,
-    places: TablePlaces<'_, '_>,
-    word: &str,
-    place: usize,
-) -> Result<(), AllocError>
-    ensures { OnOk result (text.new.items
-        ≡ text.old.items ++ declaring_text (places_view places.entry) word.now place) }
+fn put_declaring(text: &mut Text, places: TablePlaces<'_, '_>, word: &str, place: usize)
+    ensures { text.new ≡ text.old ++ declaring_text (places_view places.entry) word.now place }
 {
     if let Some(reason) = places.index.refusal_at(places.number, place) {
-        put(text, "Refused ")?;
+        text.put("Refused ");
         return put_refusal(text, reason);
     }
     match places.index.path_at(places.number, place) {
         Some(path) => {
-            put(text, word)?;
+            text.put(word);
             put_path(text, path)
         }
-        None => Ok(()),
+        None => {},
     }
 }
 
 // What a declaration declares; whatever its form is, its place tells.
-fn put_decl(
-    text: &mut Vec<u8>,
-    places: TablePlaces<'_, '_>,
-    place: usize,
-    decl: &Decl,
-) -> Result<(), AllocError>
-    ensures { OnOk result (text.new.items
-        ≡ text.old.items ++ term_in_map (places_view places.entry) place (decl_view decl.now)) }
+fn put_decl(text: &mut Text, places: TablePlaces<'_, '_>, place: usize, decl: &Decl)
+    ensures { text.new
+        ≡ text.old ++ term_in_map (places_view places.entry) place (decl_view decl.now) }
 {
     match decl {
         Decl::Name(_, _) => put_declaring(text, places, "Declares ", place),
@@ -81,228 +74,178 @@ fn put_decl(
     }
 }
 
-fn put_term_part(
-    text: &mut Vec<u8>,
-    places: TablePlaces<'_, '_>,
-    place: usize,
-    term: &Term,
-) -> Result<(), AllocError>
-    ensures { OnOk result (text.new.items
-        ≡ text.old.items ++ term_in_map (places_view places.entry) place (term_view term.now)) }
+fn put_term_part(text: &mut Text, places: TablePlaces<'_, '_>, place: usize, term: &Term)
+    ensures { text.new
+        ≡ text.old ++ term_in_map (places_view places.entry) place (term_view term.now) }
 {
     match term {
         Term::Declare(decl) => put_decl(text, places, place, decl),
         _ => {
-            put(text, "Statement ")?;
+            text.put("Statement ");
             put_term(text, term)
         }
     }
 }
 
-fn put_plain(
-    text: &mut Vec<u8>,
-    places: TablePlaces<'_, '_>,
-    place: usize,
-    plain: &Plain,
-) -> Result<(), AllocError>
-    ensures { OnOk result (text.new.items
-        ≡ text.old.items ++ plain_in_map (places_view places.entry) place (plain_view plain.now)) }
+fn put_plain(text: &mut Text, places: TablePlaces<'_, '_>, place: usize, plain: &Plain)
+    ensures { text.new
+        ≡ text.old ++ plain_in_map (places_view places.entry) place (plain_view plain.now) }
 {
     match plain {
         Plain::Term(term) => put_term_part(text, places, place, term),
-        Plain::External(_) => put(text, "External"),
+        Plain::External(_) => text.put("External"),
         _ => put_declaring(text, places, "Declares ", place),
     }
 }
 
-fn put_package(
-    text: &mut Vec<u8>,
-    places: TablePlaces<'_, '_>,
-    place: usize,
-    fixed: &Fixed,
-) -> Result<(), AllocError>
-    ensures { OnOk result (text.new.items
-        ≡ text.old.items ++ package_in_map (places_view places.entry) place
-        (fixed_view fixed.now)) }
+fn put_package(text: &mut Text, places: TablePlaces<'_, '_>, place: usize, fixed: &Fixed)
+    ensures { text.new ≡ text.old ++ package_in_map (places_view places.entry) place
+        (fixed_view fixed.now) }
 {
     match fixed {
         Fixed::Scope(_) => put_declaring(text, places, "Scope ", place),
-        Fixed::If(_) => put(text, "If"),
-        Fixed::Else => put(text, "Else"),
-        Fixed::While(_) => put(text, "While"),
+        Fixed::If(_) => text.put("If"),
+        Fixed::Else => text.put("Else"),
+        Fixed::While(_) => text.put("While"),
         _ => put_declaring(text, places, "Declares ", place),
     }
 }
 
-fn put_node(
-    text: &mut Vec<u8>,
-    places: TablePlaces<'_, '_>,
-    place: usize,
-    node: &Node,
-) -> Result<(), AllocError>
-    ensures { OnOk result (text.new.items
-        ≡ text.old.items ++ node_in_map (places_view places.entry) place (node_view node.now)) }
+fn put_node(text: &mut Text, places: TablePlaces<'_, '_>, place: usize, node: &Node)
+    ensures { text.new
+        ≡ text.old ++ node_in_map (places_view places.entry) place (node_view node.now) }
 {
     match node {
         Node::Plain(plain) => put_plain(text, places, place, plain),
         Node::Holds(fixed, _) => put_package(text, places, place, fixed),
         Node::Closed(fixed, _) => put_package(text, places, place, fixed),
-        Node::Fields(_, _, _) => put(text, "Fields"),
-        Node::PackageLost(PackedForm::While, _) => put(text, "While"),
-        Node::PackageLost(_, _) => put(text, "If"),
-        Node::DataLost(_, _) => Ok(()),
+        Node::Fields(_, _, _) => text.put("Fields"),
+        Node::PackageLost(PackedForm::While, _) => text.put("While"),
+        Node::PackageLost(_, _) => text.put("If"),
+        Node::DataLost(_, _) => {},
         Node::NameLost(_, _, _) => put_declaring(text, places, "Declares ", place),
     }
 }
 
-fn put_element(
-    text: &mut Vec<u8>,
-    places: TablePlaces<'_, '_>,
-    place: usize,
-    element: &FieldElem,
-) -> Result<(), AllocError>
-    ensures { OnOk result (text.new.items
-        ≡ text.old.items ++ element_in_map (places_view places.entry) place
-        (field_view element.now)) }
+fn put_element(text: &mut Text, places: TablePlaces<'_, '_>, place: usize, element: &FieldElem)
+    ensures { text.new ≡ text.old ++ element_in_map (places_view places.entry) place
+        (field_view element.now) }
 {
     match element {
         FieldElem::Unit(_, _) => put_declaring(text, places, "Declares ", place),
-        _ => put(text, "Layout"),
+        _ => text.put("Layout"),
     }
 }
 
 // What stands in a range of which not all is lost.
-fn put_part(
-    text: &mut Vec<u8>,
-    places: TablePlaces<'_, '_>,
-    place: usize,
-    what: SpanContent<'_>,
-) -> Result<(), AllocError>
-    ensures { OnOk result (text.new.items
-        ≡ text.old.items ++ part_in_map (places_view places.entry) place (part_of what.entry)) }
+fn put_part(text: &mut Text, places: TablePlaces<'_, '_>, place: usize, what: SpanContent<'_>)
+    ensures { text.new
+        ≡ text.old ++ part_in_map (places_view places.entry) place (part_of what.entry) }
 {
     match what {
         SpanContent::Node(node) => put_node(text, places, place, node),
         SpanContent::Element(_, element, _) => put_element(text, places, place, element),
-        SpanContent::Lost(_) => Ok(()),
+        SpanContent::Lost(_) => {},
     }
 }
 
 // ---- lines
 
 // Two blanks for each range around.
-fn put_indent(text: &mut Vec<u8>, depth: usize) -> Result<(), AllocError>
-    ensures { OnOk result (text.new.items ≡ text.old.items ++ indent depth) }
+fn put_indent(text: &mut Text, depth: usize)
+    ensures { text.new ≡ text.old ++ indent depth }
 {
     for _ in 0..depth {
-        put(text, "  ")?;
+        text.put("  ");
     }
-    Ok(())
 }
 
 // What stands before the text of a range.
-fn put_start(
-    text: &mut Vec<u8>,
-    depth: usize,
-    number: usize,
-    range: LostRange,
-) -> Result<(), AllocError>
-    ensures { OnOk result (text.new.items
-        ≡ text.old.items ++ start_text depth number range.from range.to) }
+fn put_start(text: &mut Text, depth: usize, number: usize, range: LostRange)
+    ensures { text.new ≡ text.old ++ start_text depth number range.from range.to }
 {
-    put_indent(text, depth)?;
-    put_decimal(text, number as u64)?;
-    put(text, " ")?;
-    put_range(text, range.from, range.to)?;
-    put(text, " ")
+    put_indent(text, depth);
+    put_decimal(text, number as u64);
+    text.put(" ");
+    put_range(text, range.from, range.to);
+    text.put(" ")
 }
 
 // The line of a range of which not all is lost.
-fn put_kept(
-    text: &mut Vec<u8>,
-    places: TablePlaces<'_, '_>,
-    span: &Span<'_>,
-) -> Result<(), AllocError>
-    ensures { OnOk result (text.new.items
-        ≡ text.old.items ++ kept_line (places_view places.entry) (nested_view span.now)) }
+fn put_kept(text: &mut Text, places: TablePlaces<'_, '_>, span: &Span<'_>)
+    ensures { text.new ≡ text.old ++ kept_line (places_view places.entry) (nested_view span.now) }
 {
     let range = LostRange {
         from: span.from.saturating_add(HEADER_BYTES),
         to: span.to.saturating_add(HEADER_BYTES),
     };
-    put_start(text, span.depth, places.number, range)?;
-    put_part(text, places, span.from, span.what)?;
-    put(text, "\n")
+    put_start(text, span.depth, places.number, range);
+    put_part(text, places, span.from, span.what);
+    text.put("\n")
 }
 
 // The line of bytes that are lost; none where there are none.
-fn put_lost_bytes(
-    text: &mut Vec<u8>,
-    depth: usize,
-    number: usize,
-    lost: LostRange,
-    reason: &[u8],
-) -> Result<(), AllocError>
-    ensures { OnOk result (text.new.items
-        ≡ text.old.items ++ lost_line depth number lost reason.now) }
+fn put_lost_bytes(text: &mut Text, depth: usize, number: usize, lost: LostRange, reason: &Text)
+    ensures { text.new ≡ text.old ++ lost_line depth number lost reason.now }
 {
     if lost.from == lost.to {
-        return Ok(());
+        return;
     }
-    put_start(text, depth, number, lost)?;
-    put(text, "Lost ")?;
-    text.extend_from_slice(reason)?;
-    put(text, "\n")
+    put_start(text, depth, number, lost);
+    text.put("Lost ");
+    text.put_text(reason);
+    text.put("\n")
 }
 
 // The line of what is lost of a range of the code of the table of that number.
 fn put_lost(
-    text: &mut Vec<u8>,
+    text: &mut Text,
     number: usize,
     table: &SurveyedTable,
     depth: usize,
     span: &Span<'_>,
     fault: LostFault,
 ) -> Result<(), AllocError>
-    ensures { OnOk result (text.new.items ≡ text.old.items
+    ensures { OnOk result (text.new ≡ text.old
         ++ lost_in_map number (code_read table.now.judged) depth (nested_view span.now) fault) }
 {
-    let name = table.unsure_name(*text.allocator(), fault)?;
-    let mut reason = Vec::new(*text.allocator());
-    put(&mut reason, lost_reason_name(fault.reason))?;
-    put_named(&mut reason, name.as_ref())?;
-    put_lost_bytes(text, depth, number, table.lost_range(span), &reason)
+    let name = unsure_name(text.alloc(), table.code(), fault.place, fault.reason)?;
+    let mut reason = Text::new(text.alloc());
+    reason.put(lost_reason_name(fault.reason));
+    put_named(&mut reason, name.as_ref());
+    put_lost_bytes(text, depth, number, range_lost(table.code(), span), &reason);
+    Ok(())
 }
 
 // The line of an If or While of which a part is lost, and that of the part.
 fn put_branch(
-    text: &mut Vec<u8>,
+    text: &mut Text,
     places: TablePlaces<'_, '_>,
     table: &SurveyedTable,
     span: &Span<'_>,
     fault: LostFault,
 ) -> Result<(), AllocError>
     requires { span.now.depth + 1 < 2 ^ 64 }
-    ensures { OnOk result (text.new.items ≡ text.old.items
+    ensures { OnOk result (text.new ≡ text.old
         ++ (kept_line (places_view places.entry) (nested_view span.now)
         ++ lost_in_map places.entry.number (code_read table.now.judged)
         (suc span.now.depth) (nested_view span.now) fault)) }
 {
-    put_kept(text, places, span)?;
+    put_kept(text, places, span);
     let depth = span.depth + 1;
     put_lost(text, places.number, table, depth, span, fault)
 }
 
 // The lines of a node.
 fn put_node_lines(
-    text: &mut Vec<u8>,
+    text: &mut Text,
     places: TablePlaces<'_, '_>,
     table: &SurveyedTable,
     span: &Span<'_>,
     node: &Node,
 ) -> Result<(), AllocError>
     requires { span.now.depth + 1 < 2 ^ 64 }
-    ensures { OnOk result (text.new.items ≡ text.old.items
+    ensures { OnOk result (text.new ≡ text.old
         ++ node_lines (places_view places.entry) (code_read table.now.judged)
         (nested_view span.now) (node_view node.now)) }
 {
@@ -319,25 +262,31 @@ fn put_node_lines(
         Node::DataLost(_, fault) => {
             put_lost(text, places.number, table, span.depth, span, *fault)
         }
-        _ => put_kept(text, places, span),
+        _ => {
+            put_kept(text, places, span);
+            Ok(())
+        }
     }
 }
 
 // The lines of a range.
 fn put_span(
-    text: &mut Vec<u8>,
+    text: &mut Text,
     places: TablePlaces<'_, '_>,
     table: &SurveyedTable,
     span: &Span<'_>,
 ) -> Result<(), AllocError>
     requires { span.now.depth + 1 < 2 ^ 64 }
-    ensures { OnOk result (text.new.items ≡ text.old.items
+    ensures { OnOk result (text.new ≡ text.old
         ++ range_lines (places_view places.entry) (code_read table.now.judged)
         (nested_view span.now)) }
 {
     match span.what {
         SpanContent::Node(node) => put_node_lines(text, places, table, span, node),
-        SpanContent::Element(_, _, _) => put_kept(text, places, span),
+        SpanContent::Element(_, _, _) => {
+            put_kept(text, places, span);
+            Ok(())
+        }
         SpanContent::Lost(fault) => put_lost(text, places.number, table, span.depth, span, fault),
     }
 }
@@ -347,11 +296,11 @@ fn put_span(
 // The lines of the ranges of a table's code.
 fn put_spans(
     alloc: Global,
-    text: &mut Vec<u8>,
+    text: &mut Text,
     places: TablePlaces<'_, '_>,
     table: &SurveyedTable,
 ) -> Result<(), AllocError>
-    ensures { OnOk result (text.new.items ≡ text.old.items
+    ensures { OnOk result (text.new ≡ text.old
         ++ flat_map (range_lines (places_view places.entry) (code_read table.now.judged))
         (nested_nodes 0 (length (code_read table.now.judged)) (nodes_view table.now.nodes))) }
 {
@@ -365,11 +314,11 @@ fn put_spans(
 // The lines of a table's header and code.
 fn put_code(
     alloc: Global,
-    text: &mut Vec<u8>,
+    text: &mut Text,
     places: TablePlaces<'_, '_>,
     table: &SurveyedTable,
 ) -> Result<(), AllocError>
-    ensures { OnOk result (text.new.items ≡ text.old.items
+    ensures { OnOk result (text.new ≡ text.old
         ++ code_lines (places_view places.entry) (code_read table.now.judged)
         (nodes_view table.now.nodes)) }
 {
@@ -377,19 +326,31 @@ fn put_code(
         from: 0,
         to: HEADER_BYTES,
     };
-    put_start(text, 0, places.number, header)?;
-    put(text, "Header\n")?;
+    put_start(text, 0, places.number, header);
+    text.put("Header\n");
     put_spans(alloc, text, places, table)
+}
+
+// The line of the bytes behind a table, which are so many.
+fn put_trailing(text: &mut Text, number: usize, table: &SurveyedTable, trailing: usize)
+    ensures { text.new ≡ text.old ++ lost_line 0 number
+        (bytes_from (length table.now.bytes - trailing) table.now.bytes) (codes "L3 Trailing") }
+{
+    let to = table.bytes.len();
+    let from = to.saturating_sub(trailing);
+    let mut why = Text::new(text.alloc());
+    why.put("L3 Trailing");
+    put_lost_bytes(text, 0, number, LostRange { from, to }, &why)
 }
 
 // The lines of a table.
 fn put_table(
     alloc: Global,
-    text: &mut Vec<u8>,
+    text: &mut Text,
     places: TablePlaces<'_, '_>,
     table: &SurveyedTable,
 ) -> Result<(), AllocError>
-    ensures { OnOk result (text.new.items ≡ text.old.items
+    ensures { OnOk result (text.new ≡ text.old
         ++ table_lines (places_view places.entry) table.now.bytes table.now.judged
         (nodes_view table.now.nodes)) }
 {
@@ -397,14 +358,15 @@ fn put_table(
     match &table.judged {
         TableContent::Unread(reason) => {
             let lost = LostRange { from: 0, to };
-            let reason = table_reason_name(*reason);
-            put_lost_bytes(text, 0, places.number, lost, reason.as_bytes())
+            let mut why = Text::new(alloc);
+            why.put(table_reason_name(*reason));
+            put_lost_bytes(text, 0, places.number, lost, &why);
+            Ok(())
         }
         TableContent::Read { trailing, .. } => {
             put_code(alloc, text, places, table)?;
-            let from = to.saturating_sub(*trailing);
-            let lost = LostRange { from, to };
-            put_lost_bytes(text, 0, places.number, lost, b"L3 Trailing")
+            put_trailing(text, places.number, table, *trailing);
+            Ok(())
         }
     }
 }
@@ -412,11 +374,11 @@ fn put_table(
 // The lines of tables.
 fn put_tables(
     alloc: Global,
-    text: &mut Vec<u8>,
+    text: &mut Text,
     index: &PlaceIndex<'_>,
     tables: &[SurveyedTable],
 ) -> Result<(), AllocError>
-    ensures { OnOk result (text.new.items ≡ text.old.items
+    ensures { OnOk result (text.new ≡ text.old
         ++ map_by (index_entered index.now) (index_refusals index.now) 0 tables.now) }
 {
     for number in 0..tables.len() {
@@ -431,8 +393,8 @@ fn put_tables(
 pub fn map(alloc: Global, survey: &Survey) -> Result<Vec<u8>, AllocError>
     ensures { IfOk result (λ text. text.items ≡ map_text survey.now) }
 {
-    let index = survey.places()?;
-    let mut text = Vec::new(alloc);
+    let index = index_of(survey)?;
+    let mut text = Text::new(alloc);
     put_tables(alloc, &mut text, &index, &survey.tables)?;
-    Ok(text)
+    text.into_bytes()
 }

@@ -4,9 +4,9 @@ use Rattle.std.specs.Borrow.{Bor}
 use Rattle.std.specs.Prelude.{IfSome}
 use Rattle.std.proofs.lemmas.List.{map-append, take_more}
 use Rattle.std.proofs.lemmas.Simd.{map-map}
+use Rattle.acpins_io.specs.Outputs.{FileBytes}
 use Rattle.acpins_survey_run.specs.Folders.{AreFilesAt, AreFilesBy, AreSsdtFiles, AreSsdtsAmong, FolderNames, path_in}
 use Rattle.acpins_survey_run.specs.Input.{AreOfEach, IsFileFault, IsFilesFault}
-use Rattle.acpins_survey_run.specs.Stored.{FileBytes}
 use Rattle.acpins_survey_run.specs.steps.Adding.{Adds}
 use Rattle.acpins_survey_run.specs.declared.failure.Failure.{Failure}
 use Rattle.acpins_survey_run.specs.declared.failure.Failure.TheVariants.{WrongArguments, NotUtf8, BadPath, NoSuchPath, NoTable, Read, BadHex, HoldsTables, Out, Output, Memory}

@@ -1,3 +1,4 @@
+pub mod Failing
 pub mod Gathering
 pub mod Ssdts
 pub mod Digits

@@ -3,9 +3,9 @@ use Rattle.std.specs.Prelude.{◌≡◌, ◌≢◌, ℕ, Bool, true, false, IsTr
 use Rattle.acpi_pieces.specs.Pieces.{ArePieces}
 use Rattle.acpins_io.specs.Dump.{is_header, tables_of_dump}
 use Rattle.acpins_io.specs.Hexadecimal.{SpellsInHex}
+use Rattle.acpins_io.specs.Outputs.{FileBytes}
 use Rattle.acpins_survey_run.specs.FailureLines.{printed_name}
 use Rattle.acpins_survey_run.specs.Folders.{FolderNames, AreFilesAt}
-use Rattle.acpins_survey_run.specs.Stored.{FileBytes}
 use Rattle.acpins_survey_run.specs.declared.failure.Failure.{Failure}
 use Rattle.acpins_survey_run.specs.declared.failure.Failure.TheVariants.{NoTable, Read, BadHex, Memory}
 

@@ -2,15 +2,14 @@
 
 ghost use Rattle.std.specs.Prelude.{◌≡◌, ◌≢◌, ◌≤◌, ◌⊎◌, [], IfOk, IfErr, OnOk, OnErr, option_map, true};
 ghost use Rattle.std.specs.Io.KnownBytes.{Appends};
+ghost use Rattle.acpins_io.specs.Outputs.{GetsBeginning, GetsOutput, IsHeldIn, printed_of};
 ghost use Rattle.acpins_io.specs.PartsWritten.{AppendsBeginning, WritesUntilFailure};
 ghost use Rattle.acpins_words.specs.Words.{texts};
-ghost use Rattle.acpins_survey_words.specs.Words.{asked_in, command_in, survey as surveying};
+ghost use Rattle.acpins_survey_words.specs.Words.{asked_in, command_in};
 ghost use Rattle.acpins_survey_run.specs.FailureLines.{failure_line};
 ghost use Rattle.acpins_survey_run.specs.Failures.{status_of};
-ghost use Rattle.acpins_survey_run.specs.Runs.{AreTablesOf, FailsWith, GetsBeginning, GetsOutput, IsInputFault};
-ghost use Rattle.acpins_survey_run.specs.Runs.{IsFailureOf, IsHeldIn, IsOutput, IsRunFailure, IsStoredFor};
-ghost use Rattle.acpins_survey_run.specs.Runs.{IsSurveyed, IsUnwrittenIn, LeavesFiles};
-ghost use Rattle.acpins_survey_run.specs.Runs.{StoresOutput, page_file, printed_of};
+ghost use Rattle.acpins_survey_run.specs.Runs.{AreTablesOf, FailsWith, IsFailureOf, IsOutput, IsRunFailure, LeavesFiles, StoresOutput, page_file};
+ghost use Rattle.acpins_survey_run.specs.steps.Refusals.{IsInputFault, IsPrinted, IsStored, IsUnwritten};
 ghost use Rattle.acpins_survey_run.specs.declared.failure.Failure.{Failure};
 
 use crate::console::Console;
@@ -86,7 +85,7 @@ fn deliver<F: Files>(
         printed.items ≡ printed_of (option_map (λ name. name.now) out.entry) text.items) }
     ensures held { OnOk result (IsHeldIn (option_map (λ name. name.now) out.entry) text.items
         (F.written_to files.old) (F.written_to files.new)) }
-    ensures err { IfErr result (IsUnwrittenIn (option_map (λ name. name.now) out.entry)) }
+    ensures err { IfErr result (IsUnwritten (option_map (λ name. name.now) out.entry)) }
     ensures left { OnErr result (F.written_to files.new ≡ F.written_to files.old) }
 {
     match out {
@@ -107,13 +106,12 @@ fn survey_output<T: Printer, F: Files, D: Folders, C: Console>(
     folders: &mut D,
     console: &mut C,
 ) -> Result<Output, Failure>
-    ensures ok { IfOk result (λ m. IsSurveyed (F.bytes_of files.old) (D.names_in folders.old)
+    ensures ok { IfOk result (λ m. IsPrinted (F.bytes_of files.old) (D.names_in folders.old)
         T.makes (asked_in request.now) m.status m.text.items) }
     ensures err { IfErr result (IsFailureOf (F.bytes_of files.old) (D.names_in folders.old)
         T.makes T.has_nothing (asked_in request.now)) }
-    ensures stored { OnOk result (IsStoredFor (F.bytes_of files.old) (D.names_in folders.old)
-        T.makes (surveying (asked_in request.now)) (F.written_to files.old)
-        (F.written_to files.new)) }
+    ensures stored { OnOk result (IsStored (F.bytes_of files.old) (D.names_in folders.old)
+        T.makes (asked_in request.now) (F.written_to files.old) (F.written_to files.new)) }
     ensures left { OnErr result (F.written_to files.new ≡ F.written_to files.old) }
 {
     let print = print_of(alloc, &request.command)?;
@@ -194,10 +192,11 @@ fn print_output<'a, T: Printer, F: Files, D: Folders, C: Console, O: Write>(
     out: &mut O,
 ) -> Result<Ending, Failure>
     ensures ok { IfOk result (λ e. e.is_whole ≡ true
-        → GetsOutput (F.bytes_of files.old) (D.names_in folders.old)
-        T.makes (texts words.now) e.status (O.contents out.old) (O.contents out.new)) }
-    ensures part { OnOk result (GetsBeginning (F.bytes_of files.old) (D.names_in folders.old)
-        T.makes (texts words.now) (O.contents out.old) (O.contents out.new)) }
+        → GetsOutput (IsOutput (F.bytes_of files.old) (D.names_in folders.old)
+        T.makes (texts words.now)) e.status (O.contents out.old) (O.contents out.new)) }
+    ensures part { OnOk result (GetsBeginning
+        (IsOutput (F.bytes_of files.old) (D.names_in folders.old) T.makes (texts words.now))
+        (O.contents out.old) (O.contents out.new)) }
     ensures statuses { IfOk result (λ e. (e.status ≡ 0) ⊎ (e.status ≡ 3)) }
     ensures err { IfErr result
         (IsRunFailure (F.bytes_of files.old) (D.names_in folders.old)
@@ -205,8 +204,8 @@ fn print_output<'a, T: Printer, F: Files, D: Folders, C: Console, O: Write>(
     ensures kept { IfErr result (λ f.
         f ≢ Failure.Output → O.contents out.new ≡ O.contents out.old) }
     ensures begun { IfErr result (λ f. f ≡ Failure.Output
-        → GetsBeginning (F.bytes_of files.old) (D.names_in folders.old)
-        T.makes (texts words.now) (O.contents out.old) (O.contents out.new)) }
+        → GetsBeginning (IsOutput (F.bytes_of files.old) (D.names_in folders.old)
+        T.makes (texts words.now)) (O.contents out.old) (O.contents out.new)) }
     ensures stored { OnOk result (StoresOutput (F.bytes_of files.old) (D.names_in folders.old)
         T.makes (texts words.now) (F.written_to files.old) (F.written_to files.new)) }
     ensures left { IfErr result (λ f. LeavesFiles (F.bytes_of files.old) (D.names_in folders.old)
@@ -251,11 +250,11 @@ pub fn run<'a, T: Printer, F: Files, D: Folders, C: Console, O: Write, E: Write>
 ) -> Ending
     // All that the words ask for is printed, and nothing else; or a beginning of it, where nobody reads it.
     ensures done { result.status ≢ 1 → result.status ≢ 2 → result.is_whole ≡ true
-        → GetsOutput (F.bytes_of files.old) (D.names_in folders.old)
-        T.makes (texts words.now) result.status (O.contents out.old) (O.contents out.new) }
+        → GetsOutput (IsOutput (F.bytes_of files.old) (D.names_in folders.old)
+        T.makes (texts words.now)) result.status (O.contents out.old) (O.contents out.new) }
     ensures part { result.status ≢ 1 → result.status ≢ 2
-        → GetsBeginning (F.bytes_of files.old) (D.names_in folders.old)
-        T.makes (texts words.now) (O.contents out.old) (O.contents out.new) }
+        → GetsBeginning (IsOutput (F.bytes_of files.old) (D.names_in folders.old)
+        T.makes (texts words.now)) (O.contents out.old) (O.contents out.new) }
     ensures quiet { result.status ≢ 1 → result.status ≢ 2 → err.new ≡ err.old }
     // The page that the words ask for stands in its file, whole. No other file is written, and none that was read.
     ensures stored { result.status ≢ 1 → result.status ≢ 2

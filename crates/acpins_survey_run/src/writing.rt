@@ -1,11 +1,11 @@
 //! A file that is written.
 
-ghost use Rattle.std.specs.Prelude.{◌≡◌, ◌≢◌, ℕ, List, IfOk, IfErr, OnOk, OnErr, IsTrue, true, false, map, option_map, string_bytes};
+ghost use Rattle.std.specs.Prelude.{◌≡◌, ◌≢◌, ℕ, List, IfOk, IfErr, OnOk, OnErr, IsTrue, Some, true, false, map, option_map, string_bytes};
 ghost use Rattle.std.specs.List.{All, Contains};
 ghost use Rattle.acpins_io.specs.FilesWritten.{Holds};
 ghost use Rattle.acpins_survey_run.specs.Runs.{AreSpared};
-ghost use Rattle.acpins_survey_run.specs.Stored.{IsSpared, IsUnspared, IsUnwritten};
-ghost use Rattle.acpins_survey_run.specs.steps.Refusals.{IsRefused};
+ghost use Rattle.acpins_survey_run.specs.Stored.{IsSpared, IsUnspared};
+ghost use Rattle.acpins_survey_run.specs.steps.Refusals.{IsRefused, IsUnwritten};
 
 use crate::failure::Failure;
 use crate::lines::printed_name;
@@ -65,7 +65,7 @@ pub fn spare_tables<F: Files>(
 
 // Why the file of that name isn't written.
 fn write_failure(alloc: Global, name: &str, fault: FileFault) -> Failure
-    ensures { IsUnwritten name.now result }
+    ensures { IsUnwritten (Some name.now) result }
 {
     match fault {
         FileFault::Host(kind) => match printed_name(alloc, name) {
@@ -87,7 +87,7 @@ pub fn put_file<F: Files>(
         (Holds (F.written_to files.old name.now) (F.written_to files.new name.now) bytes.now) }
     ensures others { (other : List ℕ) → other ≢ name.now
         → F.written_to files.new other ≡ F.written_to files.old other }
-    ensures err { IfErr result (IsUnwritten name.now) }
+    ensures err { IfErr result (IsUnwritten (Some name.now)) }
     ensures left { OnErr result (F.written_to files.new ≡ F.written_to files.old) }
 {
     match write_file(files, name, bytes) {

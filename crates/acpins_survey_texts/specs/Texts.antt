@@ -2,14 +2,16 @@
 use Rattle.std.specs.Prelude.{◌≡◌, ◌⊎◌, ◌↔◌, ℕ, List, [], map, Some, None}
 use Rattle.acpi_name.specs.Names.{Segment}
 use Rattle.acpi_name.specs.Text.{SpellsPathText}
-use Rattle.acpi_survey.specs.Findings.{entered_in, problems_in, notes_by}
-use Rattle.acpi_survey.specs.Notes.{Unknowns}
-use Rattle.acpi_survey.specs.NoteViews.{note_view}
+use Rattle.acpi_ranges.specs.Index.{entered_in}
+use Rattle.acpi_findings.specs.Findings.{problems_in, notes_by}
+use Rattle.acpi_findings.specs.Notes.{Unknowns}
+use Rattle.acpi_findings.specs.NoteViews.{note_view}
 use Rattle.acpi_survey.specs.Predefined.{first_reading}
-use Rattle.acpi_survey.specs.ProblemViews.{problem_view}
+use Rattle.acpi_findings.specs.ProblemViews.{problem_view}
 use Rattle.acpi_survey.specs.Surveys.{AreTables, bytes_of}
+use Rattle.acpi_findings.specs.declared.findings.Findings.{Findings}
 use Rattle.acpi_survey.specs.declared.machine_survey.Survey.{Survey}
-use Rattle.acpins_survey_output.specs.JsonFrame.{IsJson}
+use Rattle.acpins_survey_json.specs.JsonFrame.{IsJson}
 use Rattle.acpins_survey_output.specs.Listings.{IsListing}
 use Rattle.acpins_survey_output.specs.Maps.{map_text}
 use Rattle.acpins_survey_output.specs.Shown.{IsBodyListing, IsShownOrNone}
@@ -17,27 +19,29 @@ use Rattle.acpins_page.specs.Page.{IsPage}
 use Rattle.acpins_page.specs.declared.style.TheConstants.{HEAD}
 use Rattle.acpins_survey_words.specs.Words.{Command, listing, showing, mapping, telling_bodies, json, paging}
 
--- The survey of these tables, with this limit, tells what is lost, refused and noticed in them.
+-- the survey of these tables, with this limit
 pub record IsSurvey (depth : ℕ) (tables : List (List ℕ)) (s : Survey) : Type 0 where
   pub kept : bytes_of s.tables.items ≡ tables
   pub limit : s.depth ≡ depth
   pub read : AreTables depth 0 first_reading s.tables.items s.reading
-  pub problems : map problem_view s.found.problems.items ≡ problems_in s.reading s.tables.items
-  pub notes : (unknowns : Unknowns)
-      × (map note_view s.found.notes.items
-      ≡ notes_by (entered_in s.reading) unknowns 0 s.tables.items)
 
--- The text that a command makes of a survey. Nothing is said of `report`; of `html`, what its page is made of, in which
--- all that comes from tables is escaped.
-abbrev pub IsTextOf : Command → Survey → List ℕ → Type 0
-IsTextOf listing s text = IsListing s text
-IsTextOf (showing word) s text =
+-- These findings tell what is lost, refused and noticed in the tables of a survey.
+pub record AreFindings (s : Survey) (f : Findings) : Type 0 where
+  pub problems : map problem_view f.problems.items ≡ problems_in s.reading s.tables.items
+  pub notes : (unknowns : Unknowns)
+      × (map note_view f.notes.items ≡ notes_by (entered_in s.reading) unknowns 0 s.tables.items)
+
+-- The text that a command makes of a survey and its findings. Nothing is said of `report`; of `html`, what its page is
+-- made of, in which all that comes from tables is escaped.
+abbrev pub IsTextOf : Command → Survey → Findings → List ℕ → Type 0
+IsTextOf listing s f text = IsListing s f text
+IsTextOf (showing word) s f text =
     (path : List Segment) × SpellsPathText path word × IsShownOrNone s path (Some text)
-IsTextOf mapping s text = text ≡ map_text s
-IsTextOf telling_bodies s text = IsBodyListing s text
-IsTextOf json s text = IsJson s text
-IsTextOf (paging out) s text = IsPage HEAD.now text
-IsTextOf _ s text = Unit {0}
+IsTextOf mapping s f text = text ≡ map_text s
+IsTextOf telling_bodies s f text = IsBodyListing s text
+IsTextOf json s f text = IsJson s f text
+IsTextOf (paging out) s f text = IsPage HEAD.now text
+IsTextOf _ s f text = Unit {0}
 
 -- the word of `show` spells a path at which no object may be
 abbrev pub HasNothingAt : Command → Survey → Type 0
@@ -50,9 +54,11 @@ pub record IsMade (command : Command) (depth : ℕ) (tables : List (List ℕ)) (
     (text : List ℕ) : Type 0 where
   pub survey : Survey
   pub is : IsSurvey depth tables survey
-  pub made : IsTextOf command survey text
+  pub findings : Findings
+  pub told : AreFindings survey findings
+  pub made : IsTextOf command survey findings text
   pub status_is : (status ≡ 0) ⊎ (status ≡ 3)
-  pub problems : (status ≡ 0) ↔ (survey.found.problems.items ≡ [])
+  pub problems : (status ≡ 0) ↔ (findings.problems.items ≡ [])
 
 -- the word of `show` spells a path at which no object of these tables may be
 abbrev pub HasNothingIn : Command → ℕ → List (List ℕ) → Type 0

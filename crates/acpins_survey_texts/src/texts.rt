@@ -6,13 +6,18 @@ ghost use Rattle.acpins_page.specs.Page.{IsPage};
 ghost use Rattle.acpins_survey_words.specs.Words.{Command as AskedCommand};
 ghost use Rattle.acpins_survey_run.specs.Prints.{IsPrintOf};
 ghost use Rattle.acpins_survey_run.specs.declared.failure.PrintFault.{PrintFault};
-ghost use Rattle.acpins_survey_texts.specs.Texts.{HasNothingAt, HasNothingIn, IsMade, IsSurvey, IsTextOf};
+ghost use Rattle.acpins_survey_texts.specs.Texts.{AreFindings, HasNothingAt, HasNothingIn, IsMade, IsSurvey, IsTextOf};
 
+use crate::lines::lines_of;
 use acpi_code::Depth;
+use acpi_facts::facts_of;
+use acpi_findings::{Findings, found_in};
+use acpi_overview::overview_of;
 use acpi_survey::{Survey, survey};
 use acpins_page::{HEAD, html};
 use acpins_report::{ReportOptions, report};
-use acpins_survey_output::{bodies, has_problem, json, list, map, show};
+use acpins_survey_json::json;
+use acpins_survey_output::{bodies, has_problem, list, map, show};
 use acpins_survey_run::{FoundTables, Output, Print, PrintFault, Printer};
 use std::alloc::{AllocError, Global};
 use std::mem;
@@ -28,10 +33,18 @@ fn survey_of(alloc: Global, found: &FoundTables, depth: Depth) -> Result<Survey,
     survey(alloc, &found.tables, depth)
 }
 
+// What is lost, refused and noticed in its tables.
+fn findings_in(alloc: Global, survey: &Survey) -> Result<Findings, AllocError>
+    ensures { IfOk result (AreFindings survey.now) }
+{
+    found_in(alloc, survey)
+}
+
 // The report, which names the file beside each table.
 fn report_of(
     alloc: Global,
     survey: &Survey,
+    findings: &Findings,
     found: &FoundTables,
     is_coloured: bool,
     is_verbose: bool,
@@ -42,15 +55,26 @@ fn report_of(
         is_coloured,
         is_verbose,
     };
-    report(alloc, survey, &names, options)
+    let overview = overview_of(alloc, facts_of(alloc, survey)?)?;
+    let conditional = overview.conditional(alloc, options.limit())?;
+    let lines = lines_of(alloc, survey, findings, &conditional)?;
+    report(alloc, &overview, &lines, &names, options)
 }
 
 // The page, which names them so too.
-fn page_of(alloc: Global, survey: &Survey, found: &FoundTables) -> Result<Vec<u8>, AllocError>
+fn page_of(
+    alloc: Global,
+    survey: &Survey,
+    findings: &Findings,
+    found: &FoundTables,
+) -> Result<Vec<u8>, AllocError>
     ensures { IfOk result (λ page. IsPage HEAD.now page.items) }
 {
     let names = found.names(alloc)?;
-    html(alloc, survey, &names)
+    let overview = overview_of(alloc, facts_of(alloc, survey)?)?;
+    let conditional = overview.conditional(alloc, None)?;
+    let lines = lines_of(alloc, survey, findings, &conditional)?;
+    html(alloc, &overview, &lines, &map(alloc, survey)?, &names)
 }
 
 // The text that is made of a survey; a report has colours or not.
@@ -58,18 +82,19 @@ fn text_of(
     alloc: Global,
     print: &Print,
     survey: &Survey,
+    findings: &Findings,
     found: &FoundTables,
     is_coloured: bool,
 ) -> Result<Vec<u8>, PrintFault>
     ensures ok { IfOk result (λ text. (command : AskedCommand)
         → IsPrintOf command print.now → IsInOrder survey.now
-        → IsTextOf command survey.now text.items) }
+        → IsTextOf command survey.now findings.now text.items) }
     ensures nothing { result ≡ Err PrintFault.NoSuchPath → (command : AskedCommand)
         → IsPrintOf command print.now → IsInOrder survey.now
         → HasNothingAt command survey.now }
 {
     match print {
-        Print::List => Ok(list(alloc, survey)?),
+        Print::List => Ok(list(alloc, survey, findings)?),
         Print::Show(path) => match show(alloc, survey, path)? {
             Some(text) => Ok(text),
             None => Err(PrintFault::NoSuchPath),
@@ -77,10 +102,10 @@ fn text_of(
         Print::Map => Ok(map(alloc, survey)?),
         Print::Bodies => Ok(bodies(alloc, survey)?),
         Print::Report { is_verbose } => {
-            Ok(report_of(alloc, survey, found, is_coloured, *is_verbose)?)
+            Ok(report_of(alloc, survey, findings, found, is_coloured, *is_verbose)?)
         }
-        Print::Json => Ok(json(alloc, survey)?),
-        Print::Html => Ok(page_of(alloc, survey, found)?),
+        Print::Json => Ok(json(alloc, survey, findings)?),
+        Print::Html => Ok(page_of(alloc, survey, findings, found)?),
     }
 }
 
@@ -102,9 +127,11 @@ impl Printer for SurveyPrinter {
         is_coloured: bool,
     ) -> Result<Output, PrintFault> {
         let survey = survey_of(alloc, found, depth)?;
-        let text = text_of(alloc, print, &survey, found, is_coloured)?;
-        let status = if has_problem(&survey) { 3 } else { 0 };
-        // The process ends soon and gives all memory back at once; to take the survey apart first costs time.
+        let findings = findings_in(alloc, &survey)?;
+        let text = text_of(alloc, print, &survey, &findings, found, is_coloured)?;
+        let status = if has_problem(&findings) { 3 } else { 0 };
+        // The process ends soon and gives all memory back at once; to take these apart first costs time.
+        mem::forget(findings);
         mem::forget(survey);
         Ok(Output { text, status })
     }

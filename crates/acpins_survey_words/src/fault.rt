@@ -2,8 +2,9 @@
 
 use crate::words::topic_of;
 use acpi_code::Depth;
-use acpi_text::{put, put_byte};
+use acpi_text::put_byte;
 use std::alloc::{AllocError, Global};
+use text_buffer::Text;
 
 // Why arguments ask for nothing.
 #[derive(Debug, Drop)]
@@ -242,28 +243,26 @@ fn check<'a>(arguments: &[&'a str]) -> Result<(), Fault<'a>> {
 }
 
 // Puts an argument as it is printed: `\x` and two digits stand for a control character.
-fn put_printed(text: &mut Vec<u8>, argument: &str) -> Result<(), AllocError> {
+fn put_printed(text: &mut Text, argument: &str) {
     for byte in argument.as_bytes() {
         if byte.is_ascii_control() {
-            put(text, "\\x")?;
-            put_byte(text, *byte)?;
+            text.put("\\x");
+            put_byte(text, *byte);
         } else {
-            text.push(*byte)?;
+            text.put_one(*byte);
         }
     }
-    Ok(())
 }
 
-fn put_each(text: &mut Vec<u8>, parts: &[&str]) -> Result<(), AllocError> {
+fn put_each(text: &mut Text, parts: &[&str]) {
     for part in parts {
-        put_printed(text, part)?;
+        put_printed(text, part);
     }
-    Ok(())
 }
 
-fn put_fault(text: &mut Vec<u8>, fault: &Fault<'_>) -> Result<(), AllocError> {
+fn put_fault(text: &mut Text, fault: &Fault<'_>) {
     match fault {
-        Fault::NoCommand => put(text, "a command is missing"),
+        Fault::NoCommand => text.put("a command is missing"),
         Fault::UnknownCommand(name) => put_each(text, &["unknown command ", name]),
         Fault::UnknownOption(option) => put_each(text, &["unknown option ", option]),
         Fault::NotOfCommand { option, command } => {
@@ -271,24 +270,24 @@ fn put_fault(text: &mut Vec<u8>, fault: &Fault<'_>) -> Result<(), AllocError> {
         }
         Fault::Twice(name) => put_each(text, &[name, " is given twice"]),
         Fault::TakesNoValue(name) => put_each(text, &[name, " takes no value"]),
-        Fault::NoDepth => put(text, "--depth needs a number"),
+        Fault::NoDepth => text.put("--depth needs a number"),
         Fault::BadDepth(value) => put_each(text, &["--depth ", value, ": from 1 to 4096"]),
         Fault::Missing { command, operand } => {
             put_each(text, &[command, ": ", operand, " is missing"])
         }
-        Fault::ManyCommands => put(text, "help takes one command"),
-        Fault::MoreThanVersion => put(text, "--version takes no arguments"),
+        Fault::ManyCommands => text.put("help takes one command"),
+        Fault::MoreThanVersion => text.put("--version takes no arguments"),
     }
 }
 
 /// Why these arguments ask for nothing, as one line says it, with no line end: for arguments of which `read_words` answers
 /// `WordsFault::Wrong`. Control characters of arguments are `\x` and their two digits.
 pub fn fault_text(alloc: Global, arguments: &[&str]) -> Result<Vec<u8>, AllocError> {
-    let mut text = Vec::new(alloc);
+    let mut text = Text::new(alloc);
     match check(arguments) {
-        Err(fault) => put_fault(&mut text, &fault)?,
-        Ok(()) => put(&mut text, "wrong arguments")?,
+        Err(fault) => put_fault(&mut text, &fault),
+        Ok(()) => text.put("wrong arguments"),
     }
-    put(&mut text, " (see acpins-survey --help)")?;
-    Ok(text)
+    text.put(" (see acpins-survey --help)");
+    text.into_bytes()
 }

@@ -1,7 +1,7 @@
 -- What is answered of a reading.
 use Rattle.std.specs.Prelude.{ℕ, List, Option, Some, None, Result, Ok, Err}
 use Rattle.acpi_tree.specs.Terms.{TermTree, terms_of}
-use Rattle.acpi_body.specs.declared.fault.BodyFault.{BodyFault}
+use Rattle.acpi_values.specs.declared.fault.BodyFault.{BodyFault}
 use Rattle.acpi_body.specs.Bodies.{BodyTree, read, unread}
 
 -- the terms that were read, or the bytes

@@ -1,10 +1,14 @@
--- The test of bodies decides equality, and so is an equivalence.
-use Rattle.std.proofs.Common.{◌≡◌, true, ap}
+-- Whether two bodies are equal, as a test, which decides equality and so is an equivalence.
+use Rattle.std.proofs.Common.{◌≡◌, true, ap, Bool, false}
 use Rattle.acpi_tree.specs.Terms.{TermTrees, pkg}
-use Rattle.acpi_tree.specs.steps.Equality.{Tells, bytes_tell, never}
-use Rattle.acpi_tree.specs.steps.TermEquality.{term_tells}
+use Rattle.acpi_tree.specs.steps.Equality.{bytes_eq, Tells, bytes_tell, never}
+use Rattle.acpi_tree.specs.steps.TermEquality.{terms_eq, term_tells}
 use Rattle.acpi_body.specs.Bodies.{BodyTree, read, unread}
-use Rattle.acpi_body.specs.BodyEqual.{body_eq}
+
+abbrev pub body_eq : BodyTree → BodyTree → Bool
+body_eq (read ts) (read us) = terms_eq ts us
+body_eq (unread a) (unread b) = bytes_eq a b
+body_eq _ _ = false
 
 packed_is : (ts us : TermTrees) → pkg 0 ts ≡ pkg 0 us → ts ≡ us
 packed_is ts us e = cc

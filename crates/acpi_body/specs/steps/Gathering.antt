@@ -14,7 +14,8 @@ use Rattle.acpi_space.specs.Laws.{Among}
 use Rattle.acpi_tree.specs.Terms.{TermTree, TermTrees, buffer, pkg, var_pkg, call, apply, ElseTree, if_do, no_else, else_do, while_do, declare, declare_units, no_terms, more}
 use Rattle.acpi_counts.specs.Counts.{with_first}
 use Rattle.acpi_body.specs.declared.gathered.Gathered.{Gathered}
-use Rattle.acpi_body.specs.Arguments.{Namespace, namespace_of, Locals, with_path, defined_with}
+use Rattle.acpi_values.specs.Arguments.{Locals}
+use Rattle.acpi_body.specs.Arguments.{Namespace, namespace_of, with_path, defined_with}
 use Rattle.acpi_body.specs.Searches.{Searched}
 use Rattle.acpi_body.specs.Statements.{locals_after, locals_after_all}
 use Rattle.acpi_body.specs.Misses.{awaited_place}

@@ -6,7 +6,8 @@ use Rattle.acpi_name.specs.Names.{Segment, NameParts}
 use Rattle.acpi_space.specs.Spaces.{PathMap, coded_path}
 use Rattle.acpi_tree.specs.declared.object.Object.{Object}
 use Rattle.acpi_tree.specs.contracts.object.Object as object
-use Rattle.acpi_body.specs.Arguments.{Locals, Arguments, namespace_of, count_behind}
+use Rattle.acpi_values.specs.Arguments.{Locals, Arguments}
+use Rattle.acpi_body.specs.Arguments.{namespace_of, count_behind}
 
 -- the objects of the namespace, what the table's Externals say, and the method's path
 pub record Setting : Type 0 where

@@ -2,13 +2,13 @@
 use Rattle.std.specs.Prelude.{◌≡◌, ℕ, List, ◌++◌}
 use Rattle.acpi_space.specs.Lookups.{union}
 use Rattle.acpi_tree.specs.Tree.{ItemTrees}
-use Rattle.acpi_declare.specs.declared.keep.Keep.{Keep}
+use Rattle.acpi_pass.specs.declared.keep.Keep.{Keep}
 use Rattle.acpi_declare.specs.Declaring.{State, HasTables}
-use Rattle.acpi_declare.specs.Keeping.{kept_of, all_kept}
-use Rattle.acpi_declare.specs.Sites.{sites}
-use Rattle.acpi_declare.specs.Listing.{Placement, objects_of, IsListing}
-use Rattle.acpi_declare.specs.Links.{pending_links}
-use Rattle.acpi_declare.specs.Notes.{Notes, notes_on}
+use Rattle.acpi_pass.specs.Kept.{kept_of, all_kept}
+use Rattle.acpi_pass.specs.Sites.{sites}
+use Rattle.acpi_pass.specs.Listing.{Placement, objects_of, IsListing}
+use Rattle.acpi_pass.specs.Links.{pending_links}
+use Rattle.acpi_pass.specs.Notes.{Notes, notes_on}
 use Rattle.acpi_declare.specs.Tables.{IsTableOf}
 
 -- a table's listing goes over what is there, and so much of its notes is kept

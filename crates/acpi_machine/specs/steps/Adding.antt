@@ -1,22 +1,15 @@
 -- Bodies, one method after another.
-use Rattle.std.specs.Prelude.{◌≡◌, ℕ, List, [], ◌∷◌, ◌++◌, map}
+use Rattle.std.specs.Prelude.{◌≡◌, ℕ, List, [], ◌∷◌}
 use Rattle.acpi_space.specs.Lookups.{Lookup, nothing, singleton, union}
-use Rattle.acpi_declare.specs.declared.keep.Keep.{Keep}
+use Rattle.acpi_pass.specs.declared.keep.Keep.{Keep}
 use Rattle.acpi_declare.specs.Keeping.{AreKeptNotes}
 use Rattle.acpi_declare.specs.Loads.{IsLoad}
 use Rattle.acpi_declare.specs.Namespace.{Namespace}
 use Rattle.acpi_declare.specs.Notes.{Notes}
 use Rattle.acpi_body.specs.Bodies.{BodyTree}
-use Rattle.acpi_order.specs.Bodies.{Method, with_counts, IsBody}
+use Rattle.acpi_order.specs.Bodies.{Method, IsBody}
 use Rattle.acpi_order.specs.Machines.{Machine}
-
--- the methods that are noted of a table, and of all tables
-abbrev pub noted : Notes → List Method
-noted n = map (with_counts n.counts) n.methods
-
-abbrev pub all_noted : List Notes → List Method
-all_noted [] = []
-all_noted (n ∷ ns) = noted n ++ all_noted ns
+use Rattle.acpi_order.specs.steps.Noted.{all_noted}
 
 -- each method's body goes over what is there
 abbrev pub AddsBodies : ℕ → Namespace → List Method → Lookup BodyTree → Lookup BodyTree → Type 0

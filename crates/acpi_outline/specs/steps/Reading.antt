@@ -22,8 +22,8 @@ use Rattle.acpi_code.specs.declared.opcode.Opcode.TheVariants as opcodes
 use Rattle.acpi_code.specs.Opcodes.{is_name_start}
 use Rattle.acpi_code.specs.steps.Reading.{◌>>=◌, Reading, Package, with_fault, no_level, byte_at, package_at, name_in, opcode_at}
 use Rattle.acpi_code.specs.steps.Fields.{field_at}
-use Rattle.acpi_body.specs.declared.fault.BodyFault.{BodyFault}
-use Rattle.acpi_body.specs.steps.Reading.{operands_at, term_at}
+use Rattle.acpi_values.specs.declared.fault.BodyFault.{BodyFault}
+use Rattle.acpi_values.specs.steps.Reading.{operands_at, term_at}
 use Rattle.acpi_outline.specs.declared.form.ContainerForm.{ContainerForm}
 use Rattle.acpi_outline.specs.declared.form.ContainerForm.TheVariants as containers
 use Rattle.acpi_outline.specs.declared.form.PackedForm.{PackedForm}

@@ -9,7 +9,7 @@ use Rattle.acpi_declare.specs.Notes.{Notes, all_notes}
 use Rattle.acpi_declare.specs.Sites.{sites}
 use Rattle.acpi_declare.specs.Tables.{IsTableOf}
 use Rattle.acpi_order.specs.Bodies.{methods_of}
-use Rattle.acpi_machine.specs.steps.Adding.{noted}
+use Rattle.acpi_order.specs.steps.Noted.{noted}
 use Rattle.acpi_rewrite.specs.Rewriting.{AreEachRewritten}
 
 -- the bytes are a table of a load, with this listing, and its methods are noted

@@ -4,19 +4,15 @@ use Rattle.std.specs.FinMap as finite
 use Rattle.std.specs.Coded.{Coded, coded_ℕ}
 use Rattle.acpi_space.specs.Spaces.{PathMap, coded_path}
 use Rattle.acpi_conditions.specs.Entries.{Path}
-use Rattle.acpi_survey.specs.Reading.{Reading, Source}
+use Rattle.acpi_survey.specs.Reading.{Reading}
+use Rattle.acpi_survey.specs.SourceViews.{source_of}
 use Rattle.acpi_survey.specs.Survey.{place_in}
-use Rattle.acpi_survey.specs.declared.scopes.OpenedScope.{OpenedScope}
-use Rattle.acpi_survey.specs.declared.remarks.Source.{Source as SourceForm}
+use Rattle.acpi_survey.specs.declared.remarks.OpenedScope.{OpenedScope}
 use Rattle.acpi_survey.specs.declared.reading.Reading.TheInside.{Inside}
 
 -- the Scopes that were entered, as the code keeps them
 abbrev pub opened_pairs : List OpenedScope → List (ℕ × Path)
 opened_pairs os = map (λ o. (o.place, o.path)) os
-
-abbrev pub source_of : SourceForm → Source
-source_of s =
-    record { place = s.place; paths = s.found.paths.items; is_certain = s.found.is_certain }
 
 abbrev pub reading_of : Inside → Reading
 reading_of s =

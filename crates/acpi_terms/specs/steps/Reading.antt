@@ -21,7 +21,7 @@ use Rattle.acpi_terms.specs.declared.fault.ItemReason.TheVariants.{BadOpcode, Re
 use Rattle.acpi_terms.specs.declared.fault.ItemFault.{ItemFault}
 use Rattle.acpi_terms.specs.declared.fault.ItemFault.TheVariants as errors
 use Rattle.acpi_terms.specs.Faults.{reason_of, no_constant, operator_reason}
-use Rattle.acpi_terms.specs.Forms.{FixedArgument, name_arg, source_arg, byte_arg, word_arg, dword_arg, count_arg, int_arg, Value, Values, fixed_arguments, external_parts}
+use Rattle.acpi_code.specs.Forms.{FixedArgument, name_arg, source_arg, byte_arg, word_arg, dword_arg, count_arg, int_arg, Value, Values, fixed_arguments, external_parts}
 
 -- ---- faults
 

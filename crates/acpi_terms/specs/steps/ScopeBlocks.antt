@@ -17,7 +17,7 @@ use Rattle.acpi_terms.specs.declared.fault.ItemFault.{ItemFault}
 use Rattle.acpi_code.specs.steps.Remaining.{Remaining, Advances}
 use Rattle.acpi_terms.specs.steps.Cursor.{Fails}
 use Rattle.acpi_terms.specs.steps.Reading.{Fault, part, plain_at, items_with, item_at}
-use Rattle.acpi_terms.specs.Forms.{byte_arg, word_arg, dword_arg}
+use Rattle.acpi_code.specs.Forms.{byte_arg, word_arg, dword_arg}
 
 -- the opcode is that of an item that holds items
 abbrev pub opens_items : Opcode → Bool

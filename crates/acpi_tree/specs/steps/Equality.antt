@@ -1,5 +1,5 @@
--- The tests of `Equal` decide equality, and so are equivalences.
-use Rattle.std.proofs.Common.{◌≡◌, Bool, true, false, ◌&&◌, eqb, List, [], ◌∷◌, refl, sym, ap, ap₂, subst}
+-- Whether two trees are equal, as tests, which decide equality and so are equivalences.
+use Rattle.std.proofs.Common.{◌≡◌, Bool, true, false, ◌&&◌, eqb, List, [], ◌∷◌, refl, sym, ap, ap₂, subst, ℕ, nat_eq}
 use Rattle.std.proofs.lemmas.Bool.{eqb-true}
 use Rattle.std.proofs.lemmas.Bool.Decides.{Decides-eqb}
 use Rattle.std.specs.Bool.{Decides}
@@ -12,13 +12,88 @@ use Rattle.acpi_tree.specs.declared.tree.Int.{Int}
 use Rattle.acpi_tree.specs.declared.tree.Int.TheVariants.{Zero, One, Ones, Revision, Byte, Word, DWord, QWord}
 use Rattle.acpi_tree.specs.declared.tree.Width.{Width}
 use Rattle.acpi_tree.specs.declared.tree.Width.TheVariants as widths
-use Rattle.acpi_tree.specs.declared.tree.ScopeKind.{ScopeKind}
-use Rattle.acpi_tree.specs.declared.tree.ScopeKind.TheVariants as kinds
-use Rattle.acpi_tree.specs.Tree.{DataTree, int, str, buffer, pkg, var_pkg, ElemTree, of_data, of_name, ElemTrees, no_elems, elem, FieldTree, unit, reserved, access, connect_name, connect_buffer, extended, ExternalParts, ItemTree, name, scope, method, external, external_block, create, create_field, mutex, event, region, field, index_field, bank_field, ItemTrees, no_items, item}
-use Rattle.acpi_tree.specs.Equal.{int_eq, width_eq, bytes_eq, data_eq, elem_eq, elems_eq, field_eq, fields_eq, external_eq, externals_eq, kind_eq, item_eq, items_eq, field_form_eq, object_eq}
+use Rattle.acpi_tree.specs.Tree.{DataTree, int, str, buffer, pkg, var_pkg, ElemTree, of_data, of_name, ElemTrees, no_elems, elem, FieldTree, unit, reserved, access, connect_name, connect_buffer, extended}
 use Rattle.acpi_tree.specs.declared.object.FieldForm.{FieldForm}
 use Rattle.acpi_tree.specs.declared.object.FieldForm.TheVariants as forms
 use Rattle.acpi_tree.specs.Objects.{ObjectTree, root_object, scope_object, predefined_object, device_object, processor_object, power_object, thermal_object, name_object, method_object, region_object, mutex_object, event_object, field_object, create_object, create_field_object}
+
+abbrev pub int_eq : Int → Int → Bool
+int_eq Zero Zero = true
+int_eq One One = true
+int_eq Ones Ones = true
+int_eq Revision Revision = true
+int_eq (Byte m) (Byte n) = nat_eq m n
+int_eq (Word m) (Word n) = nat_eq m n
+int_eq (DWord m) (DWord n) = nat_eq m n
+int_eq (QWord m) (QWord n) = nat_eq m n
+int_eq _ _ = false
+
+abbrev pub width_eq : Width → Width → Bool
+width_eq widths.DWord widths.DWord = true
+width_eq widths.Word widths.Word = true
+width_eq widths.Byte widths.Byte = true
+width_eq widths.Bit widths.Bit = true
+width_eq widths.QWord widths.QWord = true
+width_eq _ _ = false
+
+abbrev pub bytes_eq : List ℕ → List ℕ → Bool
+bytes_eq = pointwise nat_eq
+
+abbrev mutual
+  pub data_eq : DataTree → DataTree → Bool
+  data_eq (int i) (int j) = int_eq i j
+  data_eq (str s) (str t) = bytes_eq s t
+  data_eq (buffer i s) (buffer j t) = int_eq i j && bytes_eq s t
+  data_eq (pkg m es) (pkg n fs) = nat_eq m n && elems_eq es fs
+  data_eq (var_pkg i es) (var_pkg j fs) = int_eq i j && elems_eq es fs
+  data_eq _ _ = false
+
+  pub elem_eq : ElemTree → ElemTree → Bool
+  elem_eq (of_data d) (of_data e) = data_eq d e
+  elem_eq (of_name m) (of_name n) = name_eq m n
+  elem_eq _ _ = false
+
+  pub elems_eq : ElemTrees → ElemTrees → Bool
+  elems_eq no_elems no_elems = true
+  elems_eq (elem d ds) (elem e es) = elem_eq d e && elems_eq ds es
+  elems_eq _ _ = false
+
+abbrev pub field_eq : FieldTree → FieldTree → Bool
+field_eq (unit s m) (unit t n) = bytes_eq s t && nat_eq m n
+field_eq (reserved m) (reserved n) = nat_eq m n
+field_eq (access k l) (access m n) = nat_eq k m && nat_eq l n
+field_eq (connect_name m) (connect_name n) = name_eq m n
+field_eq (connect_buffer i s) (connect_buffer j t) = int_eq i j && bytes_eq s t
+field_eq (extended j k l) (extended m n o) = nat_eq j m && nat_eq k n && nat_eq l o
+field_eq _ _ = false
+
+abbrev pub fields_eq : List FieldTree → List FieldTree → Bool
+fields_eq = pointwise field_eq
+
+abbrev pub field_form_eq : FieldForm → FieldForm → Bool
+field_form_eq forms.Field forms.Field = true
+field_form_eq forms.Index forms.Index = true
+field_form_eq (forms.Bank i) (forms.Bank j) = int_eq i j
+field_form_eq _ _ = false
+
+abbrev pub object_eq : ObjectTree → ObjectTree → Bool
+object_eq root_object root_object = true
+object_eq scope_object scope_object = true
+object_eq predefined_object predefined_object = true
+object_eq device_object device_object = true
+object_eq (processor_object i b l) (processor_object j c k) = nat_eq i j && nat_eq b c && nat_eq l k
+object_eq (power_object l o) (power_object k p) = nat_eq l k && nat_eq o p
+object_eq thermal_object thermal_object = true
+object_eq (name_object d) (name_object e) = data_eq d e
+object_eq (method_object f) (method_object g) = nat_eq f g
+object_eq (region_object s o l) (region_object t p k) = nat_eq s t && int_eq o p && int_eq l k
+object_eq (mutex_object f) (mutex_object g) = nat_eq f g
+object_eq event_object event_object = true
+object_eq (field_object w f o b) (field_object v g p c) =
+    field_form_eq w v && nat_eq f g && nat_eq o p && nat_eq b c
+object_eq (create_object w i) (create_object v j) = width_eq w v && int_eq i j
+object_eq (create_field_object i b) (create_field_object j c) = int_eq i j && int_eq b c
+object_eq _ _ = false
 
 abbrev IsTruth : Bool → Type 0
 IsTruth true = Unit {0}
@@ -184,175 +259,6 @@ field_tells = record { is = field_is; same = field_same }
 
 pub fields_tell : Tells fields_eq
 fields_tell = lists_tell field_tells
-
-external_is : (x y : ExternalParts) → external_eq x y ≡ true → x ≡ y
-external_is x y h =
-    let p = and_true (name_eq x.name y.name && eqb x.kind y.kind) (eqb x.args y.args) h in
-    let q = and_true (name_eq x.name y.name) (eqb x.kind y.kind) p.0 in
-    let a = names_tell.is x.name y.name q.0 in
-    let b = eqb-true x.kind y.kind q.1 in
-    let c = eqb-true x.args y.args p.1 in
-    λ k. record { name = a k; kind = b k; args = c k }
-
-pub external_tells : Tells external_eq
-external_tells =
-    record {
-      is = external_is;
-      same = λ x. both (both (names_tell.same x.name) (numbers_tell.same x.kind))
-          (numbers_tell.same x.args);
-    }
-
-pub externals_tell : Tells externals_eq
-externals_tell = lists_tell external_tells
-
-kind_is : (k l : ScopeKind) → kind_eq k l ≡ true → k ≡ l
-kind_is kinds.Scope kinds.Scope h = refl
-kind_is kinds.Device kinds.Device h = refl
-kind_is (kinds.Processor i b l) (kinds.Processor j c k) h =
-    let p2 = and_true (eqb i j && eqb b c) (eqb l k) h in
-    let p1 = and_true (eqb i j) (eqb b c) p2.0 in
-    let e0 = eqb-true i j p1.0 in
-    let e1 = eqb-true b c p1.1 in
-    let e2 = eqb-true l k p2.1 in
-    λ x. kinds.Processor (e0 x) (e1 x) (e2 x)
-kind_is (kinds.Power l o) (kinds.Power k p) h =
-    let p1 = and_true (eqb l k) (eqb o p) h in
-    let e0 = eqb-true l k p1.0 in
-    let e1 = eqb-true o p p1.1 in
-    λ x. kinds.Power (e0 x) (e1 x)
-kind_is kinds.Thermal kinds.Thermal h = refl
-kind_is k l h = never h
-
-kind_same : (k : ScopeKind) → kind_eq k k ≡ true
-kind_same kinds.Scope = refl
-kind_same kinds.Device = refl
-kind_same (kinds.Processor i b l) =
-    both (both (numbers_tell.same i) (numbers_tell.same b)) (numbers_tell.same l)
-kind_same (kinds.Power l o) = both (numbers_tell.same l) (numbers_tell.same o)
-kind_same kinds.Thermal = refl
-
-mutual
-  item_is : (i j : ItemTree) → item_eq i j ≡ true → i ≡ j
-  item_is (name m d) (name n e) h =
-      let p1 = and_true (name_eq m n) (data_eq d e) h in
-      let e0 = names_tell.is m n p1.0 in
-      let e1 = data_is d e p1.1 in
-      λ x. name (e0 x) (e1 x)
-  item_is (scope k m is) (scope l n js) h =
-      let p2 = and_true (kind_eq k l && name_eq m n) (items_eq is js) h in
-      let p1 = and_true (kind_eq k l) (name_eq m n) p2.0 in
-      let e0 = kind_is k l p1.0 in
-      let e1 = names_tell.is m n p1.1 in
-      let e2 = items_is is js p2.1 in
-      λ x. scope (e0 x) (e1 x) (e2 x)
-  item_is (method m f s) (method n g t) h =
-      let p2 = and_true (name_eq m n && eqb f g) (bytes_eq s t) h in
-      let p1 = and_true (name_eq m n) (eqb f g) p2.0 in
-      let e0 = names_tell.is m n p1.0 in
-      let e1 = eqb-true f g p1.1 in
-      let e2 = bytes_tell.is s t p2.1 in
-      λ x. method (e0 x) (e1 x) (e2 x)
-  item_is (external a) (external b) h = ap external (external_is a b h)
-  item_is (external_block a) (external_block b) h = ap external_block (externals_tell.is a b h)
-  item_is (create w s i m) (create v t j n) h =
-      let p3 = and_true (width_eq w v && name_eq s t && int_eq i j) (name_eq m n) h in
-      let p2 = and_true (width_eq w v && name_eq s t) (int_eq i j) p3.0 in
-      let p1 = and_true (width_eq w v) (name_eq s t) p2.0 in
-      let e0 = width_is w v p1.0 in
-      let e1 = names_tell.is s t p1.1 in
-      let e2 = int_is i j p2.1 in
-      let e3 = names_tell.is m n p3.1 in
-      λ x. create (e0 x) (e1 x) (e2 x) (e3 x)
-  item_is (create_field s i b m) (create_field t j c n) h =
-      let p3 = and_true (name_eq s t && int_eq i j && int_eq b c) (name_eq m n) h in
-      let p2 = and_true (name_eq s t && int_eq i j) (int_eq b c) p3.0 in
-      let p1 = and_true (name_eq s t) (int_eq i j) p2.0 in
-      let e0 = names_tell.is s t p1.0 in
-      let e1 = int_is i j p1.1 in
-      let e2 = int_is b c p2.1 in
-      let e3 = names_tell.is m n p3.1 in
-      λ x. create_field (e0 x) (e1 x) (e2 x) (e3 x)
-  item_is (mutex m f) (mutex n g) h =
-      let p1 = and_true (name_eq m n) (eqb f g) h in
-      let e0 = names_tell.is m n p1.0 in
-      let e1 = eqb-true f g p1.1 in
-      λ x. mutex (e0 x) (e1 x)
-  item_is (event m) (event n) h = ap event (names_tell.is m n h)
-  item_is (region m s o l) (region n t p k) h =
-      let p3 = and_true (name_eq m n && eqb s t && int_eq o p) (int_eq l k) h in
-      let p2 = and_true (name_eq m n && eqb s t) (int_eq o p) p3.0 in
-      let p1 = and_true (name_eq m n) (eqb s t) p2.0 in
-      let e0 = names_tell.is m n p1.0 in
-      let e1 = eqb-true s t p1.1 in
-      let e2 = int_is o p p2.1 in
-      let e3 = int_is l k p3.1 in
-      λ x. region (e0 x) (e1 x) (e2 x) (e3 x)
-  item_is (field r f es) (field q g fs) h =
-      let p2 = and_true (name_eq r q && eqb f g) (fields_eq es fs) h in
-      let p1 = and_true (name_eq r q) (eqb f g) p2.0 in
-      let e0 = names_tell.is r q p1.0 in
-      let e1 = eqb-true f g p1.1 in
-      let e2 = fields_tell.is es fs p2.1 in
-      λ x. field (e0 x) (e1 x) (e2 x)
-  item_is (index_field i d f es) (index_field j e g fs) h =
-      let p3 = and_true (name_eq i j && name_eq d e && eqb f g) (fields_eq es fs) h in
-      let p2 = and_true (name_eq i j && name_eq d e) (eqb f g) p3.0 in
-      let p1 = and_true (name_eq i j) (name_eq d e) p2.0 in
-      let e0 = names_tell.is i j p1.0 in
-      let e1 = names_tell.is d e p1.1 in
-      let e2 = eqb-true f g p2.1 in
-      let e3 = fields_tell.is es fs p3.1 in
-      λ x. index_field (e0 x) (e1 x) (e2 x) (e3 x)
-  item_is (bank_field r b v f es) (bank_field q c w g fs) h =
-      let p4 = and_true (name_eq r q && name_eq b c && int_eq v w && eqb f g) (fields_eq es fs) h in
-      let p3 = and_true (name_eq r q && name_eq b c && int_eq v w) (eqb f g) p4.0 in
-      let p2 = and_true (name_eq r q && name_eq b c) (int_eq v w) p3.0 in
-      let p1 = and_true (name_eq r q) (name_eq b c) p2.0 in
-      let e0 = names_tell.is r q p1.0 in
-      let e1 = names_tell.is b c p1.1 in
-      let e2 = int_is v w p2.1 in
-      let e3 = eqb-true f g p3.1 in
-      let e4 = fields_tell.is es fs p4.1 in
-      λ x. bank_field (e0 x) (e1 x) (e2 x) (e3 x) (e4 x)
-  item_is i j h = never h
-
-  items_is : (is js : ItemTrees) → items_eq is js ≡ true → is ≡ js
-  items_is no_items no_items h = refl
-  items_is (item i is) (item j js) h = let p = and_true (item_eq i j) (items_eq is js) h in
-      ap₂ item (item_is i j p.0) (items_is is js p.1)
-  items_is is js h = never h
-
-mutual
-  item_same : (i : ItemTree) → item_eq i i ≡ true
-  item_same (name m d) = both (names_tell.same m) (data_same d)
-  item_same (scope k m is) = both (both (kind_same k) (names_tell.same m)) (items_same is)
-  item_same (method m f s) =
-      both (both (names_tell.same m) (numbers_tell.same f)) (bytes_tell.same s)
-  item_same (external a) = external_tells.same a
-  item_same (external_block a) = externals_tell.same a
-  item_same (create w s i m) =
-      both (both (both (width_same w) (names_tell.same s)) (int_same i)) (names_tell.same m)
-  item_same (create_field s i b m) =
-      both (both (both (names_tell.same s) (int_same i)) (int_same b)) (names_tell.same m)
-  item_same (mutex m f) = both (names_tell.same m) (numbers_tell.same f)
-  item_same (event m) = names_tell.same m
-  item_same (region m s o l) =
-      both (both (both (names_tell.same m) (numbers_tell.same s)) (int_same o)) (int_same l)
-  item_same (field r f es) =
-      both (both (names_tell.same r) (numbers_tell.same f)) (fields_tell.same es)
-  item_same (index_field i d f es) = both
-      (both (both (names_tell.same i) (names_tell.same d)) (numbers_tell.same f))
-      (fields_tell.same es)
-  item_same (bank_field r b v f es) = both
-      (both (both (both (names_tell.same r) (names_tell.same b)) (int_same v))
-      (numbers_tell.same f)) (fields_tell.same es)
-
-  items_same : (is : ItemTrees) → items_eq is is ≡ true
-  items_same no_items = refl
-  items_same (item i is) = both (item_same i) (items_same is)
-
-pub item_tells : Tells item_eq
-item_tells = record { is = item_is; same = item_same }
 
 field_form_is : (w v : FieldForm) → field_form_eq w v ≡ true → w ≡ v
 field_form_is forms.Field forms.Field h = refl

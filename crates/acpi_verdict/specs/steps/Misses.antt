@@ -6,7 +6,8 @@ use Rattle.acpi_space.specs.Spaces.{PathMap}
 use Rattle.acpi_space.specs.Laws.{Among}
 use Rattle.acpi_space.specs.Wanted.{Wants}
 use Rattle.acpi_counts.specs.Counts.{with_first}
-use Rattle.acpi_declare.specs.Declaring.{State, IsMissedLink}
+use Rattle.acpi_declare.specs.Declaring.{State}
+use Rattle.acpi_pass.specs.Pending.{IsMissedLink}
 use Rattle.acpi_declare.specs.Links.{pending_links}
 use Rattle.acpi_declare.specs.Namespace.{Namespace}
 use Rattle.acpi_declare.specs.Notes.{Notes}
@@ -15,7 +16,7 @@ use Rattle.acpi_body.specs.declared.misses.OpenMiss.{OpenMiss}
 use Rattle.acpi_body.specs.steps.Gathering.{Paths, Grows}
 use Rattle.acpi_order.specs.Bodies.{Method, methods_of}
 use Rattle.acpi_order.specs.Misses.{Listing, IsBodyMiss, IsAwaiting}
-use Rattle.acpi_machine.specs.steps.Adding.{all_noted}
+use Rattle.acpi_order.specs.steps.Noted.{all_noted}
 use Rattle.acpi_verdict.specs.declared.misses.Misses.{Misses}
 
 -- every path is asked for

@@ -1,5 +1,5 @@
 -- What the code knows of a table, by place.
-use Rattle.acpi_survey.specs.steps.Indexes.{index_entered, index_refusals}
+use Rattle.acpi_ranges.specs.steps.Indexes.{index_entered, index_refusals}
 use Rattle.acpins_survey_output.specs.declared.ranges.TablePlaces.{TablePlaces}
 use Rattle.acpins_survey_output.specs.Maps.{TableParts, table_parts}
 

@@ -1,16 +1,21 @@
--- Why a part of a run fails.
-use Rattle.std.specs.Prelude.{◌≡◌, ℕ, List, Option}
+-- Why a part of a run fails, and what a survey prints and writes.
+use Rattle.std.specs.Prelude.{◌≡◌, ℕ, List, Option, Some}
+use Rattle.acpi_name.specs.Text.{IsPathText}
+use Rattle.acpins_io.specs.Outputs.{FileBytes, IsHeldIn, printed_of}
 use Rattle.acpins_words.specs.Words.{Text}
-use Rattle.acpins_survey_words.specs.Words.{Command}
+use Rattle.acpins_survey_words.specs.Words.{Asked, Command, showing, survey}
 use Rattle.acpins_survey_run.specs.FailureLines.{printed_name}
-use Rattle.acpins_survey_run.specs.Runs.{AreUnspared, IsBadPath}
-use Rattle.acpins_survey_run.specs.Stored.{FileBytes}
+use Rattle.acpins_survey_run.specs.Folders.{FolderNames}
+use Rattle.acpins_survey_run.specs.Input.{AreFilesOf, IsFilesFault}
+use Rattle.acpins_survey_run.specs.Runs.{IsMadeOf, Makes, page_file}
+use Rattle.acpins_survey_run.specs.Stored.{IsUnspared}
 use Rattle.acpins_survey_run.specs.declared.failure.Failure.{Failure}
-use Rattle.acpins_survey_run.specs.declared.failure.Failure.TheVariants.{BadPath, Read, HoldsTables, Memory}
+use Rattle.acpins_survey_run.specs.declared.failure.Failure.TheVariants.{BadPath, Read, HoldsTables, Out, Memory}
 
 -- the command's word spells no path, or there is no memory
 abbrev pub IsUnprinted : Command → Failure → Type 0
-IsUnprinted command (BadPath word) = IsBadPath command word.items
+IsUnprinted command (BadPath printed) = (word : Text) × (command ≡ showing word)
+    × ¬ IsPathText word × (printed.items ≡ printed_name word)
 IsUnprinted command Memory = Unit {0}
 IsUnprinted command _ = ⊥
 
@@ -22,6 +27,33 @@ IsUnread _ = ⊥
 
 -- the file that is to be written is one of these, or holds tables, or there is no memory
 abbrev pub IsRefused : FileBytes → Option Text → List (List ℕ) → Failure → Type 0
-IsRefused bytes_of out files (HoldsTables file) = AreUnspared bytes_of out files file.items
+IsRefused bytes_of out files (HoldsTables printed) = (name : Text) × (out ≡ Some name)
+    × (printed.items ≡ printed_name name) × IsUnspared bytes_of files name
 IsRefused bytes_of out files Memory = Unit {0}
 IsRefused bytes_of out files _ = ⊥
+
+-- the failure says that the file can't be written, or that there is no memory for it
+abbrev pub IsUnwritten : Option Text → Failure → Type 0
+IsUnwritten out (Out printed kind) =
+    (name : Text) × (out ≡ Some name) × (printed.items ≡ printed_name name)
+IsUnwritten out Memory = Unit {0}
+IsUnwritten out _ = ⊥
+
+-- why the tables that the arguments stand for aren't had
+abbrev pub IsInputFault : FileBytes → FolderNames → Asked → Failure → Type 0
+IsInputFault files folders asked (HoldsTables printed) = (out : Text) × (sources : List (List ℕ))
+    × (page_file asked.command ≡ Some out) × (printed.items ≡ printed_name out)
+    × AreFilesOf folders asked.files sources × IsUnspared files sources out
+IsInputFault files folders asked failure = IsFilesFault files asked.hex failure
+
+-- what a survey prints
+abbrev pub IsPrinted : FileBytes → FolderNames → Makes → Asked → ℕ → List ℕ → Type 0
+IsPrinted files folders makes asked status text = (made : List ℕ)
+    × IsMadeOf files folders makes (survey asked) status made
+    × (text ≡ printed_of (page_file asked.command) made)
+
+-- .. and what it writes to files
+abbrev pub IsStored : FileBytes → FolderNames → Makes → Asked → FileBytes → FileBytes → Type 0
+IsStored files folders makes asked old new = (status : ℕ) × (made : List ℕ)
+    × IsMadeOf files folders makes (survey asked) status made
+    × IsHeldIn (page_file asked.command) made old new

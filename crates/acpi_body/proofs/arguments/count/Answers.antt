@@ -5,7 +5,8 @@ use Rattle.acpi_name.specs.Names.{Segment, NameParts, plain_segment}
 use Rattle.acpi_name.specs.NameRefs.{name_parts}
 use Rattle.acpi_name.specs.Paths.{place_of}
 use Rattle.acpi_space.specs.Lookups.{Lookup}
-use Rattle.acpi_body.specs.Arguments.{Namespace, namespace_of, Locals, count_behind}
+use Rattle.acpi_values.specs.Arguments.{Locals}
+use Rattle.acpi_body.specs.Arguments.{Namespace, namespace_of, count_behind}
 use Rattle.acpi_body.specs.steps.Setting.{count_in}
 use Rattle.acpi_body.proofs.arguments.count.Goals as goal
 

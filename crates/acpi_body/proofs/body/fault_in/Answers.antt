@@ -4,7 +4,7 @@ use Rattle.std.specs.FinMap.{get, empty}
 use Rattle.acpi_tree.specs.TermView.{terms_view}
 use Rattle.acpi_body.specs.Arguments.{namespace_of, arguments}
 use Rattle.acpi_body.specs.steps.Setting.{count_in}
-use Rattle.acpi_body.specs.steps.Cursor.{Gives}
+use Rattle.acpi_values.specs.steps.Cursor.{Gives}
 use Rattle.acpi_body.specs.steps.Reading.{body_at}
 use Rattle.acpi_body.proofs.body.fault_in.Goals as goal
 

@@ -3,11 +3,12 @@ use Rattle.std.proofs.lemmas.Result.{err_from_is_err_and}
 use Rattle.std.proofs.lemmas.List.{map_push}
 use Rattle.acpi_tree.specs.TermView.{term_view, terms_view}
 use Rattle.acpi_tree.specs.declared.place.Place.TheVariants.{Statement}
-use Rattle.acpi_body.specs.steps.Cursor.{Reads}
-use Rattle.acpi_body.specs.Grammars.{body_grammar}
-use Rattle.acpi_body.specs.steps.Reading.{Reader, Statements, buffer_form, package_form, var_package_form, placed_by, term_at, statement_by, statement_at, statements_at}
+use Rattle.acpi_values.specs.steps.Cursor.{Reads}
+use Rattle.acpi_values.specs.Grammars.{body_grammar}
+use Rattle.acpi_values.specs.steps.Reading.{Reader, buffer_form, package_form, var_package_form, placed_by, term_at}
+use Rattle.acpi_body.specs.steps.Reading.{Statements, statement_by, statement_at, statements_at}
 use Rattle.acpi_body.proofs.Branches.{else_fails, if_made, then_fails, while_fails}
-use Rattle.acpi_body.proofs.Parts.{reads_as}
+use Rattle.acpi_values.proofs.Parts.{reads_as}
 use Rattle.acpi_body.proofs.Plain.{buffer_keeps, package_keeps, var_package_keeps, placed_keeps, locals_kept}
 use Rattle.acpi_body.proofs.Opened.{statement_opened, statement_unopened}
 use Rattle.acpi_body.proofs.Stated.{One, stated_goes_on, stated_ends, stated_is_done}

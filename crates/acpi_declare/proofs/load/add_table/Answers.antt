@@ -2,15 +2,17 @@ use Rattle.std.proofs.Common.{◌≡◌, ◌∙◌, ◌++◌, [], List, map, ap,
 use Rattle.std.proofs.lemmas.Result.{err_from_is_err_and}
 use Rattle.acpi_name.specs.Names.{Segment}
 use Rattle.acpi_tree.specs.View.{items_tree}
-use Rattle.acpi_declare.specs.Declaring.{all_pending_of, state_of}
-use Rattle.acpi_declare.specs.Keeping.{kept_of}
-use Rattle.acpi_declare.specs.Namespace.{namespace_of}
-use Rattle.acpi_declare.specs.Notes.{Notes, notes_of}
+use Rattle.acpi_declare.specs.Declaring.{state_of}
+use Rattle.acpi_pass.specs.Pending.{all_pending_of}
+use Rattle.acpi_pass.specs.Kept.{kept_of}
+use Rattle.acpi_pass.specs.Namespace.{namespace_of}
+use Rattle.acpi_pass.specs.Notes.{Notes, notes_of}
 use Rattle.acpi_declare.specs.steps.Adding.{AddsTable}
-use Rattle.acpi_declare.specs.steps.Pass.{pass_items}
-use Rattle.acpi_declare.specs.steps.Outcomes.{IsTableFault, IsPassErrorOf}
-use Rattle.acpi_declare.specs.steps.View.{PassState, pass_of}
-use Rattle.acpi_declare.proofs.PassSteps.{passed}
+use Rattle.acpi_pass.specs.steps.Pass.{pass_items}
+use Rattle.acpi_declare.specs.steps.Outcomes.{IsTableFault}
+use Rattle.acpi_pass.specs.steps.Outcomes.{IsPassErrorOf}
+use Rattle.acpi_pass.specs.steps.View.{PassState, pass_of}
+use Rattle.acpi_pass.proofs.PassSteps.{passed}
 use Rattle.acpi_declare.proofs.TableListings.{pass_refused, pass_adds}
 use Rattle.acpi_declare.proofs.load.add_table.Goals as goal
 

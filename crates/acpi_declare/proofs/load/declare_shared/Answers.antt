@@ -1,7 +1,7 @@
 use Rattle.std.proofs.Common.{◌∙◌}
 use Rattle.std.proofs.lemmas.Result.{IfOk-weaker}
-use Rattle.acpi_declare.specs.Notes.{all_notes}
-use Rattle.acpi_declare.specs.Predefined.{predefined}
+use Rattle.acpi_pass.specs.Notes.{all_notes}
+use Rattle.acpi_pass.specs.Predefined.{predefined}
 use Rattle.acpi_declare.proofs.TableLists.{all_are_kept}
 use Rattle.acpi_declare.proofs.load.declare_shared.Goals as goal
 

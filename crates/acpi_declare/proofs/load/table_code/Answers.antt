@@ -3,7 +3,7 @@ use Rattle.std.proofs.lemmas.List.{nil_from_length}
 use Rattle.acpi_table.specs.Tables.{IsTable}
 use Rattle.acpi_declare.specs.Tables.{signature_of}
 use Rattle.acpi_declare.specs.steps.Outcomes.{IsTableFault}
-use Rattle.acpi_declare.proofs.Ranges.{range_to_end}
+use Rattle.acpi_pass.proofs.Ranges.{range_to_end}
 use Rattle.acpi_declare.proofs.load.table_code.Goals as goal
 
 pub returns-then-not-is_signed-clause-err : goal.returns-then-not-is_signed-clause-err

@@ -1,5 +1,5 @@
 use Rattle.acpi_body.specs.Bodies.{body_view}
-use Rattle.acpi_declare.proofs.ValuesByPath.{put_mapped}
+use Rattle.acpi_pass.proofs.ValuesByPath.{put_mapped}
 use Rattle.acpi_machine.proofs.bodies.put_body.Goals as goal
 
 pub returns-in-Ok : goal.returns-in-Ok

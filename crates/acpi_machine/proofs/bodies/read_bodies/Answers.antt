@@ -1,13 +1,14 @@
 use Rattle.std.proofs.Common.{◌≡◌, ◌∷◌, List, map, ap, sym, subst, rules}
 use Rattle.std.specs.Vec.Iter.{into_iter_items}
 use Rattle.acpi_space.specs.Lookups.{Lookup}
-use Rattle.acpi_declare.specs.declared.notes.TableNotes.{TableNotes}
+use Rattle.acpi_pass.specs.declared.notes.TableNotes.{TableNotes}
 use Rattle.acpi_declare.specs.Namespace.{namespace_of}
 use Rattle.acpi_declare.specs.Notes.{notes_of}
-use Rattle.acpi_declare.proofs.ValuesByPath.{get_none}
+use Rattle.acpi_pass.proofs.ValuesByPath.{get_none}
 use Rattle.acpi_body.specs.Bodies.{BodyTree, body_view}
 use Rattle.acpi_machine.specs.MachineView.{bodies_of}
-use Rattle.acpi_machine.specs.steps.Adding.{noted, all_noted, AddsBodies}
+use Rattle.acpi_order.specs.steps.Noted.{noted, all_noted}
+use Rattle.acpi_machine.specs.steps.Adding.{AddsBodies}
 use Rattle.acpi_machine.proofs.AddedBodies.{adds_both}
 use Rattle.acpi_machine.proofs.bodies.read_bodies.Goals as goal
 

@@ -5,7 +5,8 @@ use Rattle.acpi_declare.specs.Namespace.{namespace_of}
 use Rattle.acpi_declare.specs.Notes.{notes_of}
 use Rattle.acpi_body.specs.Bodies.{BodyTree}
 use Rattle.acpi_machine.specs.MachineView.{bodies_of}
-use Rattle.acpi_machine.specs.steps.Adding.{all_noted, AddsBodies}
+use Rattle.acpi_order.specs.steps.Noted.{all_noted}
+use Rattle.acpi_machine.specs.steps.Adding.{AddsBodies}
 use Rattle.acpi_machine.proofs.bodies.read_bodies.Given as goal
 
 -- what the tables that are left add, all of them add

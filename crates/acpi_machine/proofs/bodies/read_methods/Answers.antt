@@ -1,7 +1,7 @@
 use Rattle.std.proofs.Common.{◌≡◌, ◌∷◌, List, map, sym, subst, rules}
 use Rattle.std.specs.FinMap.{get}
 use Rattle.std.specs.Vec.Iter.{into_iter_items}
-use Rattle.acpi_declare.specs.declared.notes.Method.{Method}
+use Rattle.acpi_pass.specs.declared.notes.Method.{Method}
 use Rattle.acpi_declare.specs.Namespace.{namespace_of}
 use Rattle.acpi_declare.specs.Notes.{method_of}
 use Rattle.acpi_body.specs.Bodies.{body_view}

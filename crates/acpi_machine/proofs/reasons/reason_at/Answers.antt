@@ -4,11 +4,12 @@ use Rattle.std.specs.FinMap.{get}
 use Rattle.std.specs.Option.{option_copied}
 use Rattle.acpi_declare.specs.Namespace.{Namespace, namespace_of}
 use Rattle.acpi_declare.specs.Notes.{notes_of}
-use Rattle.acpi_declare.specs.declared.notes.TableNotes.{TableNotes}
+use Rattle.acpi_pass.specs.declared.notes.TableNotes.{TableNotes}
 use Rattle.acpi_body.specs.Arguments.{arguments}
 use Rattle.acpi_machine.specs.Explaining.{IsReasonAt}
-use Rattle.acpi_machine.specs.steps.Adding.{all_noted}
-use Rattle.acpi_machine.proofs.Explained.{ok_by, reason_of, told_here, told_later}
+use Rattle.acpi_order.specs.steps.Noted.{all_noted}
+use Rattle.acpi_order.proofs.Lists.{ok_by}
+use Rattle.acpi_machine.proofs.Explained.{reason_of, told_here, told_later}
 use Rattle.acpi_machine.proofs.reasons.reason_at.Goals as goal
 
 pub returns-in-Some : goal.returns-in-Some

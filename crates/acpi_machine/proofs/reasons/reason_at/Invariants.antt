@@ -1,9 +1,9 @@
 use Rattle.std.proofs.Common.{Option, drop, map}
 use Rattle.acpi_declare.specs.Namespace.{namespace_of}
 use Rattle.acpi_declare.specs.Notes.{notes_of}
-use Rattle.acpi_body.specs.declared.fault.BodyFault.{BodyFault}
+use Rattle.acpi_values.specs.declared.fault.BodyFault.{BodyFault}
 use Rattle.acpi_machine.specs.Explaining.{IsReasonAt}
-use Rattle.acpi_machine.specs.steps.Adding.{all_noted}
+use Rattle.acpi_order.specs.steps.Noted.{all_noted}
 use Rattle.acpi_machine.proofs.reasons.reason_at.Given as goal
 
 -- what is told by the tables that are left, all of them tell

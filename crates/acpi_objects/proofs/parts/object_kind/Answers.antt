@@ -1,7 +1,7 @@
 use Rattle.std.proofs.Common.{◌∙◌, Some, None, sym, ap}
 use Rattle.std.specs.Option.{option_map}
-use Rattle.acpi_survey.specs.Lookup.{found_of}
-use Rattle.acpi_objects.specs.Views.{kind_view}
+use Rattle.acpi_ranges.specs.Lookup.{found_of}
+use Rattle.acpi_kinds.specs.Views.{kind_view}
 use Rattle.acpi_objects.proofs.Entries.{part_object, predefined_object_of}
 use Rattle.acpi_objects.proofs.parts.object_kind.Goals as goal
 

@@ -3,7 +3,7 @@ use Rattle.std.proofs.lemmas.Result.{on_ok_weaker}
 use Rattle.std.specs.FinMap.{get}
 use Rattle.acpi_space.specs.Lookups.{union}
 use Rattle.acpi_declare.specs.Notes.{method_of}
-use Rattle.acpi_declare.specs.declared.notes.Method as code
+use Rattle.acpi_pass.specs.declared.notes.Method as code
 use Rattle.acpi_places.specs.declared.place.CodePlace.{CodePlace}
 use Rattle.acpi_places.specs.Places.{by_path}
 use Rattle.acpi_places.proofs.tables.add_table.Goals as goal

@@ -4,7 +4,7 @@ use Rattle.std.specs.List.{AllZip}
 use Rattle.std.proofs.lemmas.List.{take_all}
 use Rattle.acpi_declare.specs.Namespace.{namespace_of}
 use Rattle.acpi_declare.specs.Notes.{method_of}
-use Rattle.acpi_declare.specs.declared.notes.Method.{Method}
+use Rattle.acpi_pass.specs.declared.notes.Method.{Method}
 use Rattle.acpi_order.specs.Bodies.{with_counts}
 use Rattle.acpi_rewrite.specs.Rewriting.{IsNewCode}
 use Rattle.acpi_rewrite.proofs.Recoding.{zip_more, zip_mapped}

@@ -6,7 +6,7 @@ use Rattle.acpi_declare.specs.Loads.{IsLoad, AreNotes}
 use Rattle.acpi_declare.specs.Namespace.{namespace_of}
 use Rattle.acpi_declare.specs.Notes.{notes_of}
 use Rattle.acpi_declare.specs.DeclaredView.{links_in}
-use Rattle.acpi_declare.specs.declared.notes.TableNotes.{TableNotes}
+use Rattle.acpi_pass.specs.declared.notes.TableNotes.{TableNotes}
 use Rattle.acpi_rewrite.specs.Rewriting.{AreTablesOfBytes}
 use Rattle.acpi_rewrite.specs.steps.Recoding.{IsRewrittenTo}
 use Rattle.acpi_rewrite.proofs.Recoding.{none_rewritten, as_many_notes, all_rewritten, next_left, next_noted, next_rewritten, none_left, more_old, more_new}

@@ -1,7 +1,7 @@
 use Rattle.std.proofs.Common.{◌≡◌, ℕ, Err, sym, subst, ◌∙◌}
 use Rattle.acpi_terms.specs.Spelling.{SpellsItems}
 use Rattle.acpi_declare.specs.Tables.{code_of}
-use Rattle.acpi_declare.proofs.Ranges.{range_to_end}
+use Rattle.acpi_pass.proofs.Ranges.{range_to_end}
 use Rattle.acpi_terms.specs.Faults.{OrMemory}
 use Rattle.acpi_terms.specs.declared.fault.ItemFault.{ItemFault}
 use Rattle.acpi_terms.specs.declared.fault.ItemFault.TheVariants.{At}

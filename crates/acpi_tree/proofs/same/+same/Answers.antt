@@ -1,6 +1,6 @@
 use Rattle.std.proofs.Common.{◌≡◌, ◌≤◌, length, sym, ◌∙◌, arith, false}
 use Rattle.acpi_tree.specs.View.{elem_view}
-use Rattle.acpi_tree.specs.Equal.{elem_eq}
+use Rattle.acpi_tree.specs.steps.Equality.{elem_eq}
 use Rattle.acpi_tree.proofs.Alike.{unlike_lengths, unlike_at, alike_all, elems_alike}
 use Rattle.acpi_tree.proofs.same.+same.Goals as goal
 

@@ -1,7 +1,7 @@
 use Rattle.std.proofs.Common.{◌≡◌, drop}
 use Rattle.std.specs.Cmp.Lexicographic.{pointwise}
 use Rattle.acpi_tree.specs.View.{elem_view}
-use Rattle.acpi_tree.specs.Equal.{elem_eq}
+use Rattle.acpi_tree.specs.steps.Equality.{elem_eq}
 use Rattle.acpi_tree.proofs.same.+same.Given as goal
 
 abbrev pub invariant-same_elems-loop-i : goal.invariant-same_elems-loop-i

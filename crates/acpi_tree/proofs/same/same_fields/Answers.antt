@@ -1,7 +1,7 @@
 use Rattle.std.proofs.Common.{◌≡◌, ◌≤◌, length, sym, ◌∙◌, arith, false}
 use Rattle.std.specs.Cmp.Derive.Mapped.{pointwise-map}
 use Rattle.acpi_tree.specs.View.{field_view}
-use Rattle.acpi_tree.specs.Equal.{field_eq}
+use Rattle.acpi_tree.specs.steps.Equality.{field_eq}
 use Rattle.acpi_tree.proofs.Alike.{unlike_at, alike_all}
 use Rattle.acpi_tree.proofs.same.same_fields.Goals as goal
 

@@ -1,7 +1,7 @@
 use Rattle.std.proofs.Common.{◌≡◌, drop}
 use Rattle.std.specs.Cmp.Lexicographic.{pointwise}
 use Rattle.acpi_tree.specs.View.{field_view}
-use Rattle.acpi_tree.specs.Equal.{field_eq}
+use Rattle.acpi_tree.specs.steps.Equality.{field_eq}
 use Rattle.acpi_tree.proofs.same.same_fields.Given as goal
 
 abbrev pub invariant-loop-i : goal.invariant-loop-i

@@ -1,7 +1,7 @@
 use Rattle.std.proofs.Common.{[], ◌∷◌}
 use Rattle.std.proofs.lemmas.Result.{err_from_is_err_and}
 use Rattle.acpi_declare.proofs.Refusals.{refused_has_no_load}
-use Rattle.acpi_machine.proofs.Explained.{ok_by}
+use Rattle.acpi_order.proofs.Lists.{ok_by}
 use Rattle.acpi_verdict.proofs.CheckedTables.{memory_so, told_commute_so, told_orders_so, told_no_load}
 use Rattle.acpi_verdict.proofs.checking.check_shared.Goals as goal
 

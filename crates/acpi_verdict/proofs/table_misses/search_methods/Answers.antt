@@ -1,7 +1,7 @@
 use Rattle.std.proofs.Common.{◌≡◌, ◌∷◌, ◌+◌, List, get_or, drop, map, sym, ap, subst, ◌∙◌, arith}
 use Rattle.std.proofs.lemmas.List.{drop_more}
 use Rattle.std.specs.FinMap.{get}
-use Rattle.acpi_declare.specs.declared.notes.Method.{Method}
+use Rattle.acpi_pass.specs.declared.notes.Method.{Method}
 use Rattle.acpi_declare.specs.Namespace.{namespace_of}
 use Rattle.acpi_declare.specs.Notes.{method_of}
 use Rattle.acpi_space.specs.Spaces.{is_defined}

@@ -2,14 +2,15 @@ use Rattle.std.proofs.Common.{◌≡◌, ◌∷◌, [], ◌+◌, List, drop, map
 use Rattle.std.specs.Prelude.{IsTrue}
 use Rattle.std.proofs.lemmas.List.{drop_more, drop_all}
 use Rattle.std.specs.FinMap.{empty}
-use Rattle.acpi_declare.specs.declared.notes.TableNotes.{TableNotes}
-use Rattle.acpi_declare.specs.Declaring.{IsMissedLink, state_of}
+use Rattle.acpi_pass.specs.declared.notes.TableNotes.{TableNotes}
+use Rattle.acpi_declare.specs.Declaring.{state_of}
+use Rattle.acpi_pass.specs.Pending.{IsMissedLink}
 use Rattle.acpi_declare.specs.Namespace.{namespace_of}
 use Rattle.acpi_declare.specs.Notes.{notes_of}
 use Rattle.acpi_space.specs.Laws.{Among}
 use Rattle.acpi_space.specs.Spaces.{PathMap, is_defined}
 use Rattle.acpi_body.proofs.Grown.{grows_as}
-use Rattle.acpi_machine.specs.steps.Adding.{noted, all_noted}
+use Rattle.acpi_order.specs.steps.Noted.{noted, all_noted}
 use Rattle.acpi_verdict.specs.declared.misses.Misses.{Misses}
 use Rattle.acpi_verdict.specs.steps.Misses.{AddsMethods}
 use Rattle.acpi_verdict.proofs.TableMisses.{adds_methods_both}

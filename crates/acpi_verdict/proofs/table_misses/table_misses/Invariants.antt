@@ -2,7 +2,7 @@ use Rattle.std.proofs.Common.{map, drop}
 use Rattle.acpi_declare.specs.Namespace.{namespace_of}
 use Rattle.acpi_declare.specs.Notes.{notes_of}
 use Rattle.acpi_space.specs.Spaces.{is_defined}
-use Rattle.acpi_machine.specs.steps.Adding.{all_noted}
+use Rattle.acpi_order.specs.steps.Noted.{all_noted}
 use Rattle.acpi_verdict.specs.declared.misses.Misses.{Misses}
 use Rattle.acpi_verdict.specs.steps.Misses.{AddsMethods}
 use Rattle.acpi_verdict.proofs.table_misses.table_misses.Given as goal

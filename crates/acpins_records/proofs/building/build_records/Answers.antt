@@ -6,7 +6,7 @@ use Rattle.std.proofs.lemmas.List.{with_items_is}
 use Rattle.acpi_declare.specs.Links.{links_at}
 use Rattle.acpins_records.specs.declared.building.Records.{Records}
 use Rattle.acpins_records.specs.declared.building.Seen.{Seen}
-use Rattle.acpins_output.specs.Listings.{objects_by_path}
+use Rattle.acpins_output.specs.steps.Lines.{objects_by_path}
 use Rattle.acpins_records.specs.steps.Adding.{AddsTargets, placed_from}
 use Rattle.acpins_records.specs.steps.Kinds.{AllSuit}
 use Rattle.acpins_records.specs.steps.Seeing.{AreFirst}

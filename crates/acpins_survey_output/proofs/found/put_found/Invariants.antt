@@ -5,4 +5,4 @@ use Rattle.acpins_survey_output.proofs.found.put_found.Given as goal
 -- the lines so far, and those of what is left
 abbrev pub invariant-loop-problem : goal.invariant-loop-problem
 invariant-loop-problem l =
-    l.text.items ++ found_text (drop l.problem-index l.problems) l.rest ≡ l.initial.text.items ++ found_text l.problems l.notes
+    l.text ++ found_text (drop l.problem-index l.problems) l.rest ≡ l.initial.text ++ found_text l.problems l.notes

@@ -6,4 +6,4 @@ use Rattle.acpins_survey_output.proofs.listing.put_entries.Given as goal
 
 abbrev pub invariant-loop-numbered : goal.invariant-loop-numbered
 invariant-loop-numbered l = IsInOrder l.survey
-    → l.text.items ≡ l.initial.text.items ++ flat_map (λ x. numbered_line l.survey x.0.now x.1) (take l.numbered-index l.order)
+    → l.text ≡ l.initial.text ++ flat_map (λ x. numbered_line l.survey x.0.now x.1) (take l.numbered-index l.order)

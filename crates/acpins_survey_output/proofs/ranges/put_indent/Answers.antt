@@ -2,4 +2,4 @@ use Rattle.acpins_survey_output.proofs.Mapping.{indent_more}
 use Rattle.acpins_survey_output.proofs.ranges.put_indent.Goals as goal
 
 pub loop-preserved : goal.loop-preserved
-loop-preserved c = indent_more c.loop.counter c.args.text.now.items c.loop.text.items _ c.loop.invariant c.in_ok-put.ensures
+loop-preserved c = indent_more c.loop.counter c.args.text.now c.loop.text _ c.loop.invariant c.put.ensures

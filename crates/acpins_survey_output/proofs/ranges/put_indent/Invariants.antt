@@ -3,4 +3,4 @@ use Rattle.acpins_survey_output.specs.Maps.{indent}
 use Rattle.acpins_survey_output.proofs.ranges.put_indent.Given as goal
 
 abbrev pub invariant-loop : goal.invariant-loop
-invariant-loop l = l.text.items ≡ l.initial.text.items ++ indent l.counter
+invariant-loop l = l.text ≡ l.initial.text ++ indent l.counter

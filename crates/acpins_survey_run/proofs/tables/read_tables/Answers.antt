@@ -1,7 +1,7 @@
 use Rattle.std.proofs.Common.{◌≢◌, ◌∙◌, ◌<◌, ℕ, List, [], length, ap, arith, string_bytes, subst}
 use Rattle.std.proofs.lemmas.Result.{err_from_is_err_and}
+use Rattle.acpins_io.specs.Outputs.{FileBytes}
 use Rattle.acpins_survey_run.specs.Input.{AreTablesIn, IsFilesFault}
-use Rattle.acpins_survey_run.specs.Stored.{FileBytes}
 use Rattle.acpins_survey_run.proofs.Gathering.{next_of, some_file}
 use Rattle.acpins_survey_run.proofs.tables.read_tables.Goals as goal
 

@@ -3,8 +3,8 @@ use Rattle.std.specs.Prelude.{IfOk, IsTrue}
 use Rattle.acpi_name.specs.Names.{Segment}
 use Rattle.acpi_space.specs.Laws.{Among}
 use Rattle.acpi_space.specs.Wanted.{Wants}
-use Rattle.acpi_declare.specs.Declaring.{IsMissedLink, all_pending_of}
-use Rattle.acpi_declare.specs.Namespace.{namespace_of}
+use Rattle.acpi_pass.specs.Pending.{IsMissedLink, all_pending_of}
+use Rattle.acpi_pass.specs.Namespace.{namespace_of}
 use Rattle.acpi_declare.proofs.declaring.Declaring.link_misses_over.Goals as goal
 
 pub returns : goal.returns

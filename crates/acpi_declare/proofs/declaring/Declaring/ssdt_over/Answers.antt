@@ -1,9 +1,10 @@
 use Rattle.std.proofs.Common.{◌≡◌, ◌∙◌, IfErr, length, map, ap, sym, subst, rules}
 use Rattle.std.proofs.lemmas.List.{length-map}
 use Rattle.acpi_space.specs.Overlays.{contents_over}
-use Rattle.acpi_declare.specs.Declaring.{State, all_pending_of, state_of}
-use Rattle.acpi_declare.specs.Namespace.{Namespace, namespace_of}
-use Rattle.acpi_declare.specs.Notes.{notes_of}
+use Rattle.acpi_declare.specs.Declaring.{State, state_of}
+use Rattle.acpi_pass.specs.Pending.{all_pending_of}
+use Rattle.acpi_pass.specs.Namespace.{Namespace, namespace_of}
+use Rattle.acpi_pass.specs.Notes.{notes_of}
 use Rattle.acpi_declare.specs.steps.Outcomes.{IsTableFault}
 use Rattle.acpi_declare.proofs.TableLists.{count_tables, adds_over, adds_err}
 use Rattle.acpi_declare.proofs.declaring.Declaring.ssdt_over.Goals as goal

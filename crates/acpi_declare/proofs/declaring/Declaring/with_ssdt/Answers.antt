@@ -1,7 +1,7 @@
 use Rattle.std.proofs.Common.{◌≡◌, ◌∙◌, length, sym, rules}
 use Rattle.std.proofs.lemmas.List.{length-map}
 use Rattle.acpi_declare.specs.Declaring.{state_of}
-use Rattle.acpi_declare.specs.Notes.{notes_of}
+use Rattle.acpi_pass.specs.Notes.{notes_of}
 use Rattle.acpi_declare.proofs.TableLists.{count_tables, adds_ok, adds_err}
 use Rattle.acpi_declare.proofs.declaring.Declaring.with_ssdt.Goals as goal
 

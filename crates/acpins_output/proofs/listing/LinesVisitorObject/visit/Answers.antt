@@ -1,9 +1,7 @@
 use Rattle.std.proofs.Common.{refl}
-use Rattle.std.proofs.lemmas.Result.{MatchResult-weaker}
 use Rattle.acpins_output.proofs.Printing.{line_put}
 use Rattle.acpins_output.proofs.listing.LinesVisitorObject.visit.Goals as goal
 
 pub returns : goal.returns
 returns c first pairs so =
-    MatchResult-weaker c.put_line.result c.put_line.ensures
-    (λ _ put. line_put first c.args.self.now _ pairs c.args.path.now c.args.object.now c.links_of.result.now so refl c.links_of.ensures put) (λ _ u. u)
+    line_put first c.args.self.now _ pairs c.args.path.now c.args.object.now c.links_of.result.now so refl c.links_of.ensures c.put_line.ensures

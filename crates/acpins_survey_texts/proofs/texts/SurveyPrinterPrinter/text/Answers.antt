@@ -7,12 +7,14 @@ pub returns-clause-made : goal.returns-clause-made
 returns-clause-made c = λ command is_print. record {
   survey = c.in_ok-survey.survey;
   is = c.in_ok-survey.ensures.is;
+  findings = c.in_ok-findings.findings;
+  told = c.in_ok-findings.ensures;
   made = c.in_ok-text.ensures.ok command is_print c.in_ok-survey.ensures.in_order;
   status_is = elim c.if-has_problem.branch [ then-has_problem w ↦ inr w.status-is | else-has_problem w ↦ inl w.status-is ];
   problems = elim c.if-has_problem.branch [
-    | then-has_problem w ↦ with_problem c.has_problem.result c.if-has_problem.status (c.in_ok-survey.survey.found.problems.items ≡ []) c.has_problem.ensures
+    | then-has_problem w ↦ with_problem c.has_problem.result c.if-has_problem.status (c.in_ok-findings.findings.problems.items ≡ []) c.has_problem.ensures
         w.if-has_problem.true w.status-is
-    | else-has_problem w ↦ without_problem c.has_problem.result c.if-has_problem.status (c.in_ok-survey.survey.found.problems.items ≡ []) c.has_problem.ensures
+    | else-has_problem w ↦ without_problem c.has_problem.result c.if-has_problem.status (c.in_ok-findings.findings.problems.items ≡ []) c.has_problem.ensures
         w.if-has_problem.false w.status-is
   ];
 }

@@ -1,0 +1,422 @@
+-- Where a code spells strict items, its outline is these.
+use Rattle.std.proofs.Common.{◌≡◌, ℕ, suc, ◌-◌, ◌≤◌, ◌<◌, Bool, true, false, List, [], ◌∷◌, ◌++◌, length, refl, sym, ap, subst, ◌∙◌, append_assoc, arith, inl, inr}
+use Rattle.std.proofs.lemmas.List.{append-nil}
+use Rattle.acpi_name.specs.Names.{NameParts}
+use Rattle.acpi_name.specs.Spelling.{SpellsName}
+use Rattle.acpi_tree.specs.declared.tree.Int.TheVariants.{Zero}
+use Rattle.acpi_tree.specs.declared.place.Place.TheVariants.{Value, Element}
+use Rattle.acpi_tree.specs.declared.place.NamedForm.TheVariants as named
+use Rattle.acpi_tree.specs.declared.place.UnitsForm.TheVariants as fields
+use Rattle.acpi_tree.specs.Tree.{DataTree, int, str, buffer, pkg, var_pkg, ElemTree, of_data, of_name, ElemTrees, no_elems, elem, ExternalParts, FieldTree}
+use Rattle.acpi_tree.specs.Tree.{ItemTree, name, scope, method, external, external_block, create, create_field, mutex, event, region, field, index_field, bank_field, ItemTrees, no_items, item}
+use Rattle.acpi_tree.specs.Terms as terms
+use Rattle.acpi_tree.specs.Terms.{TermTree, TermTrees, no_terms, more}
+use Rattle.acpi_tree.specs.declared.tree.ScopeKind.{ScopeKind}
+use Rattle.acpi_tree.specs.declared.tree.ScopeKind.TheVariants as kinds
+use Rattle.acpi_code.specs.Opcodes.{opcode_bytes}
+use Rattle.acpi_code.specs.Spelling.{SpellsByte, SpellsNumber, SpellsEach, Packs}
+use Rattle.acpi_code.specs.Fields.{SpellsField}
+use Rattle.acpi_code.specs.Forms.{fixed_arguments, kind_opcode, kind_arguments}
+use Rattle.acpi_terms.specs.Spelling.{SpellsArguments, SpellsData, SpellsElem, SpellsElems, SpellsExternal, SpellsItem, SpellsItems, data_height, elem_height, elems_height, block_height, item_height, items_height}
+use Rattle.acpi_values.specs.Grammars.{Grammar}
+use Rattle.acpi_values.specs.Spelling.{Stands, Spells, AreElements, height, heights}
+use Rattle.acpi_outline.specs.declared.form.ContainerForm.TheVariants as containers
+use Rattle.acpi_outline.specs.declared.fault.LostFault.{LostFault}
+use Rattle.acpi_outline.specs.Nodes as nodes
+use Rattle.acpi_outline.specs.Nodes.{PlainTree, FixedTree, container, if_so, units, FieldNodes, no_more_fields, fields_lost, field_node, fields_with_reason, form_of, form_bytes, has_fields}
+use Rattle.acpi_outline.specs.Nodes.{NodeTree, plain, holds, holds_fields, closed, package_lost, data_lost, name_lost, NodeTrees, no_more, lost, node, with_reason, all_with_reason}
+use Rattle.acpi_outline.specs.Rules.{Rules, grammar_at, goes_into, after}
+use Rattle.acpi_outline.specs.Outline.{IsPlain, IsFixed, bits_behind, AreFields, IsNode, AreNodes}
+use Rattle.acpi_conservative.specs.StrictNodes.{data_term, elem_term, elem_terms, declares, AreExternals, AreFieldsOf, Holds, HoldsFields, kind_fixed, IsItem, AreItems, StrictIsKept}
+use Rattle.acpi_outline.proofs.One.{any_fault, at_most_one}
+
+-- ---- constant data is a value
+
+data_stands : (d : DataTree) → Stands Value (data_term d)
+data_stands (int i) = refl
+data_stands (str text) = refl
+data_stands (buffer size content) = refl
+data_stands (pkg count es) = refl
+data_stands (var_pkg count es) = refl
+
+elem_stands : (e : ElemTree) → Stands Element (elem_term e)
+elem_stands (of_name n) = refl
+elem_stands (of_data (int i)) = refl
+elem_stands (of_data (str text)) = refl
+elem_stands (of_data (buffer size content)) = refl
+elem_stands (of_data (pkg count es)) = refl
+elem_stands (of_data (var_pkg count es)) = refl
+
+-- one argument and no more
+only : (a x y : List ℕ) → y ≡ [] → a ≡ x ++ y → a ≡ x
+only a x y none split = rw (split, none) (append-nil x)
+
+mutual
+  data_spelled : (g : Grammar) (d : DataTree) (b : List ℕ) → SpellsData d b → Spells g (data_term d) b
+  data_spelled g (int i) b h = h
+  data_spelled g (str text) b h = h
+  data_spelled g (buffer size content) b (a, c, (x, y, hi, none, split), same, packs) =
+      (x, refl, hi, subst (λ l. Packs (0x11 ∷ []) (x ++ l) b) same (subst (λ l. Packs (0x11 ∷ []) (l ++ c) b) (only a x y none split) packs))
+  data_spelled g (pkg count es) b (a, c, (x, y, hc, none, split), he, packs) =
+      (c, elems_spelled g es c he, subst (λ l. Packs (0x12 ∷ []) (l ++ c) b) (only a x y none split ∙ hc) packs)
+  data_spelled g (var_pkg count es) b (a, c, (x, y, hi, none, split), he, packs) =
+      (x, c, refl, hi, elems_spelled g es c he, subst (λ l. Packs (0x13 ∷ []) (l ++ c) b) (only a x y none split) packs)
+
+  elem_spelled : (g : Grammar) (e : ElemTree) (b : List ℕ) → SpellsElem e b → Spells g (elem_term e) b
+  elem_spelled g (of_data d) b h = data_spelled g d b h
+  elem_spelled g (of_name n) b h = h
+
+  elems_spelled : (g : Grammar) (es : ElemTrees) (b : List ℕ) → SpellsElems es b → AreElements g (elem_terms es) b
+  elems_spelled g no_elems b h = h
+  elems_spelled g (elem e es) b (x, y, he, hes, whole) = (x, y, elem_stands e, elem_spelled g e x he, elems_spelled g es y hes, whole)
+
+mutual
+  data_high : (d : DataTree) → height (data_term d) ≡ data_height d
+  data_high (int i) = refl
+  data_high (str text) = refl
+  data_high (buffer size content) = omega arith
+  data_high (pkg count es) = ap suc (elems_high es)
+  data_high (var_pkg count es) = omega (arith, elems_high es)
+
+  elem_high : (e : ElemTree) → height (elem_term e) ≡ elem_height e
+  elem_high (of_data d) = data_high d
+  elem_high (of_name n) = refl
+
+  elems_high : (es : ElemTrees) → heights (elem_terms es) ≡ elems_height es
+  elems_high no_elems = refl
+  elems_high (elem e es) = rw (elem_high e, elems_high es) refl
+
+-- ---- items are nodes
+
+byte_is : (n : ℕ) (a : List ℕ) → SpellsByte n a → SpellsNumber 1 n a
+byte_is n a h = rw h (refl, omega arith)
+
+block_low : (xs : List ExternalParts) → block_height xs ≤ 2
+block_low [] = omega arith
+block_low (x ∷ xs) = omega arith
+
+block_some : (xs : List ExternalParts) → 0 < block_height xs
+block_some [] = omega arith
+block_some (x ∷ xs) = omega arith
+
+item_high : (i : ItemTree) → 0 < item_height i
+item_high (external_block xs) = block_some xs
+item_high _ = omega arith
+
+fields_nodes : (es : List FieldTree) (end offset : ℕ) (b : List ℕ) → SpellsEach SpellsField es b → (us : FieldNodes) × AreFields end offset us b × AreFieldsOf es us
+fields_nodes [] end offset b h = (no_more_fields, h, refl)
+fields_nodes (e ∷ es) end offset b (a, c, he, hs, whole) =
+    let place = end - length b in
+    let rest = fields_nodes es end (bits_behind offset e) c hs in
+    (field_node place offset e rest.0, (a, c, refl, refl, he, rest.1, whole), (place, offset, rest.0, refl, rest.2))
+
+module _ {S : Type 0} (r : Rules S) where
+  externals_nodes : (xs : List ExternalParts) (left : ℕ) (known : S) (end : ℕ) (b : List ℕ) → SpellsEach SpellsExternal xs b → block_height xs ≤ suc left
+      → (ns : NodeTrees) × AreNodes r left end known ns b × AreExternals xs ns
+  externals_nodes [] left known end b h le = (no_more, h, refl)
+  externals_nodes (x ∷ xs) left known end b (a, c, hx, hs, whole) le =
+      let place = end - length b in
+      let n = plain (nodes.external x) in
+      let rest = externals_nodes xs left (after r place known n) end c hs (omega (arith, block_low xs)) in
+      let is : IsPlain r (suc (left - 1)) known (nodes.external x) a = record { spells = hx; within = omega arith } in
+      let levels : left ≡ suc (left - 1) = omega arith in
+      (node place n rest.0, (a, c, left - 1, levels, refl, is, rest.1, whole), (place, rest.0, refl, rest.2))
+
+  -- a package that is gone into or not
+  held_node : (f : FixedTree) (Are : NodeTrees → Type 0) (Fills : List ℕ → Type 0) (inside : ℕ) (known : S) (place end : ℕ) (a q b : List ℕ) → Fills b → has_fields f ≡ false
+      → IsFixed r inside known f q → Packs (form_bytes (form_of f)) (q ++ b) a → (ns : NodeTrees) × AreNodes r inside end (r.enter known place f) ns b × Are ns
+      → (t : Bool) → goes_into r known f ≡ t → (m : NodeTree) × IsNode r inside place end known m a × Holds f Are Fills m
+  held_node f Are Fills inside known place end a q b fills has fixed packs inner true goes = (holds f inner.0, (q, b, fixed, goes, inner.1, packs), inl (inner.0, refl, inner.2))
+  held_node f Are Fills inside known place end a q b fills has fixed packs inner false goes = (closed f b, (q, fixed, goes, packs, has), inr (b, refl, fills))
+
+  fields_node : (f : FixedTree) (es : List FieldTree) (inside : ℕ) (known : S) (place end : ℕ) (a q b : List ℕ) → SpellsEach SpellsField es b → has_fields f ≡ true
+      → goes_into r known f ≡ false → IsFixed r inside known f q → Packs (form_bytes (form_of f)) (q ++ b) a
+      → (m : NodeTree) × IsNode r inside place end known m a × HoldsFields f es m
+  fields_node f es inside known place end a q b hs has goes fixed packs =
+      let us = fields_nodes es end 0 b hs in
+      (holds_fields f us.0, (q, b, fixed, goes, us.1, packs, has), (us.0, refl, us.2))
+
+  -- what stands before the items of what opens a scope
+  record KindFront (kind : ScopeKind) (n : NameParts) (inside : ℕ) (known : S) (q : List ℕ) : Type 0 where
+    is_fixed : IsFixed r inside known (kind_fixed kind n) q
+    bytes : form_bytes (form_of (kind_fixed kind n)) ≡ opcode_bytes (kind_opcode kind)
+    no_fields : has_fields (kind_fixed kind n) ≡ false
+
+  kind_front : (kind : ScopeKind) (n : NameParts) (inside : ℕ) (known : S) (q : List ℕ) → SpellsArguments (fixed_arguments (kind_opcode kind)) (kind_arguments kind n) q
+      → KindFront kind n inside known q
+  kind_front kinds.Scope n inside known q (x, y, hn, none, split) = record { is_fixed = rw (only q x y none split) hn; bytes = refl; no_fields = refl }
+  kind_front kinds.Device n inside known q h = record { is_fixed = h; bytes = refl; no_fields = refl }
+  kind_front (kinds.Processor id block len) n inside known q (x, y, hn, (i, y2, hi, (c, y3, hc, (l, y4, hl, none, e4), e3), e2), e1) =
+      record { is_fixed = (x, y, hn, (i, y2, refl, byte_is id i hi, (c, y3, refl, hc, (l, y4, refl, byte_is len l hl, none, e4), e3), e2), e1); bytes = refl; no_fields = refl }
+  kind_front (kinds.Power deepest order) n inside known q (x, y, hn, (d, y2, hd, (o, y3, ho, none, e3), e2), e1) =
+      record { is_fixed = (x, y, hn, (d, y2, refl, byte_is deepest d hd, (o, y3, refl, ho, none, e3), e2), e1); bytes = refl; no_fields = refl }
+  kind_front kinds.Thermal n inside known q h = record { is_fixed = h; bytes = refl; no_fields = refl }
+
+  mutual
+    item_node : (i : ItemTree) (inside : ℕ) (known : S) (place end : ℕ) (a : List ℕ) → SpellsItem i a → item_height i ≤ suc inside
+        → (m : NodeTree) × IsNode r inside place end known m a × IsItem i m
+    item_node (name n d) inside known place end a (x, y, hn, hd, whole) le = (
+      declares named.Name no_terms n (more (data_term d) no_terms),
+      record {
+        spells = ([], x, y, refl, hn, (y, [], data_stands d, data_spelled (grammar_at r known) d y hd, refl, sym (append-nil y)), whole);
+        within = omega (arith, data_high d);
+      },
+      refl,
+    )
+    item_node (scope kind n is) inside known place end a (q, b, spelled, hs, packs) le =
+        let f = kind_fixed kind n in
+        let k = kind_front kind n inside known q spelled in
+        held_node f (λ ns. AreItems is ns) (λ b. SpellsItems is b) inside known place end a q b hs k.no_fields k.is_fixed (subst (λ op. Packs op (q ++ b) a) (sym k.bytes) packs)
+        (items_nodes is inside (r.enter known place f) end b hs (omega arith)) (goes_into r known f) refl
+    item_node (method n flags code) inside known place end a (q, b, (x, y, hn, (c, d, hc, none, split2), split), same, packs) le =
+        let is : q ≡ x ++ flags ∷ [] = split ∙ ap (λ (l : List ℕ). x ++ l) (only y c d none split2 ∙ hc) in
+        (closed (nodes.method n flags) code, (q, (x, hn, is), refl, subst (λ l. Packs (0x14 ∷ []) (q ++ l) a) same packs, refl), refl)
+    item_node (external x) inside known place end a h le = (plain (nodes.external x), record { spells = h; within = omega arith }, refl)
+    item_node (external_block xs) inside known place end a (b, hs, packs) le =
+        let f = if_so (terms.int Zero) in
+        let inner = externals_nodes xs inside (r.enter known place f) end b hs (omega arith) in
+        held_node f (λ ns. AreExternals xs ns) (λ b. SpellsEach SpellsExternal xs b) inside known place end a (0x00 ∷ []) b hs refl
+        (record { stands = refl; spells = refl; within = omega arith }) packs inner (goes_into r known f) refl
+    item_node (mutex n flags) inside known place end a (q, (x, y, hn, (c, d, hc, none, split2), split), whole) le = (
+      declares named.Mutex no_terms n (more (terms.raw 1 flags) no_terms),
+      record { spells = ([], x, y, refl, hn, (c, d, refl, byte_is flags c hc, none, split2), rw (sym split) whole); within = omega arith },
+      refl,
+    )
+    item_node (event n) inside known place end a (q, (x, y, hn, none, split), whole) le = (
+      declares named.Event no_terms n no_terms,
+      record { spells = ([], x, y, refl, hn, none, rw (sym split) whole); within = omega arith },
+      refl,
+    )
+    item_node (region n space offset len) inside known place end a (q, (x, y, hn, (s, y2, hs, (o, y3, ho, (l, y4, hl, none, e4), e3), e2), e1), whole) le = (
+      declares named.Region no_terms n (more (terms.raw 1 space) (more (terms.int offset) (more (terms.int len) no_terms))),
+      record { spells = ([], x, y, refl, hn, (s, y2, refl, byte_is space s hs, (o, y3, refl, ho, (l, y4, refl, hl, none, e4), e3), e2), rw (sym e1) whole); within = omega arith },
+      refl,
+    )
+    item_node (field n flags es) inside known place end a (q, b, (x, y, hn, (c, d, hc, none, split2), split), hs, packs) le =
+        fields_node (units fields.Field (n ∷ []) (more (terms.raw 1 flags) no_terms)) es inside known place end a q b hs refl refl
+        (record {
+          names = x;
+          operands = y;
+          all_names = refl;
+          are_names = (x, [], hn, refl, sym (append-nil x));
+          are_operands = (c, d, refl, byte_is flags c hc, none, split2);
+          within = omega arith;
+          whole = split;
+        }) packs
+    item_node (index_field i k flags es) inside known place end a (q, b, (x, y, hi, (d, y2, hk, (c, y3, hc, none, e3), e2), e1), hs, packs) le =
+        fields_node (units fields.IndexField (i ∷ k ∷ []) (more (terms.raw 1 flags) no_terms)) es inside known place end a q b hs refl refl
+        (record {
+          names = x ++ d;
+          operands = y2;
+          all_names = refl;
+          are_names = (x, d, hi, (d, [], hk, refl, sym (append-nil d)), refl);
+          are_operands = (c, y3, refl, byte_is flags c hc, none, e3);
+          within = omega arith;
+          whole = e1 ∙ ap (λ (l : List ℕ). x ++ l) e2 ∙ sym (append_assoc x d y2);
+        }) packs
+    item_node (bank_field n bank value flags es) inside known place end a (q, b, (x, y, hn, (d, y2, hk, (v, y3, hv, (c, y4, hc, none, e4), e3), e2), e1), hs, packs) le =
+        fields_node (units fields.BankField (n ∷ bank ∷ []) (more (terms.int value) (more (terms.raw 1 flags) no_terms))) es inside known place end a q b hs refl refl
+        (record {
+          names = x ++ d;
+          operands = y2;
+          all_names = refl;
+          are_names = (x, d, hn, (d, [], hk, refl, sym (append-nil d)), refl);
+          are_operands = (v, y3, refl, hv, (c, y4, refl, byte_is flags c hc, none, e4), e3);
+          within = omega arith;
+          whole = e1 ∙ ap (λ (l : List ℕ). x ++ l) e2 ∙ sym (append_assoc x d y2);
+        }) packs
+    item_node (create w source index n) inside known place end a (q, (x, y, hs, (i, y2, hi, (m, y3, hn, none, e3), e2), e1), whole) le = (
+      declares (named.Create w) (more (terms.ref source) (more (terms.int index) no_terms)) n no_terms,
+      record {
+        spells = (
+          x ++ i,
+          m,
+          [],
+          (x, i, refl, hs, (i, [], refl, hi, refl, sym (append-nil i)), refl),
+          hn,
+          refl,
+          rw (whole, e1, e2, e3, none) (simp append_assoc),
+        );
+        within = omega arith;
+      },
+      refl,
+    )
+    item_node (create_field source index bits n) inside known place end a (q, (x, y, hs, (i, y2, hi, (c, y3, hc, (m, y4, hn, none, e4), e3), e2), e1), whole) le = (
+      declares named.CreateField (more (terms.ref source) (more (terms.int index) (more (terms.int bits) no_terms))) n no_terms,
+      record {
+        spells = (
+          x ++ (i ++ c),
+          m,
+          [],
+          (x, i ++ c, refl, hs, (i, c, refl, hi, (c, [], refl, hc, refl, sym (append-nil c)), refl), refl),
+          hn,
+          refl,
+          rw (whole, e1, e2, e3, e4, none) (simp append_assoc),
+        );
+        within = omega arith;
+      },
+      refl,
+    )
+
+    items_nodes : (is : ItemTrees) (left : ℕ) (known : S) (end : ℕ) (bytes : List ℕ) → SpellsItems is bytes → items_height is ≤ left
+        → (ns : NodeTrees) × AreNodes r left end known ns bytes × AreItems is ns
+    items_nodes no_items left known end bytes h le = (no_more, h, refl)
+    items_nodes (item i is) left known end bytes (x, y, hi, hs, whole) le =
+        let place = end - length bytes in
+        let levels : left ≡ suc (left - 1) = omega (arith, item_high i) in
+        let m = item_node i (left - 1) known place (end - length y) x hi (omega (arith, item_high i)) in
+        let rest = items_nodes is left (after r place known m.0) end y hs (omega arith) in
+        (node place m.0 rest.0, (x, y, left - 1, levels, refl, m.1, rest.1, whole), (place, m.0, rest.0, refl, m.2, rest.2))
+
+-- ---- in items nothing is lost, so they are the same whatever is told of what is lost
+
+plain_told : (why : LostFault) (m : NodeTree) (p : PlainTree) → with_reason why m ≡ plain p → m ≡ plain p
+plain_told why (plain q) p e = e
+plain_told why (holds f ns) p e = absurd cc
+plain_told why (closed f content) p e = absurd cc
+plain_told why (holds_fields g us) p e = absurd cc
+plain_told why (package_lost form w) p e = absurd cc
+plain_told why (data_lost form w) p e = absurd cc
+plain_told why (name_lost n form w) p e = absurd cc
+
+closed_told : (why : LostFault) (m : NodeTree) (f : FixedTree) (content : List ℕ) → with_reason why m ≡ closed f content → m ≡ closed f content
+closed_told why (closed g other) f content e = e
+closed_told why (plain p) f content e = absurd cc
+closed_told why (holds g ns) f content e = absurd cc
+closed_told why (holds_fields g us) f content e = absurd cc
+closed_told why (package_lost form w) f content e = absurd cc
+closed_told why (data_lost form w) f content e = absurd cc
+closed_told why (name_lost n form w) f content e = absurd cc
+
+-- a node that holds others, but for what is told of what is lost in them
+holds_told : (why : LostFault) (m : NodeTree) (f : FixedTree) (ns : NodeTrees) → with_reason why m ≡ holds f ns → (ms : NodeTrees) × (m ≡ holds f ms) × (all_with_reason why ms ≡ ns)
+holds_told why (holds g ms) f ns e = let same : g ≡ f = cc in (ms, ap (λ h. holds h ms) same, cc)
+holds_told why (plain p) f ns e = absurd cc
+holds_told why (closed g content) f ns e = absurd cc
+holds_told why (holds_fields g us) f ns e = absurd cc
+holds_told why (package_lost form w) f ns e = absurd cc
+holds_told why (data_lost form w) f ns e = absurd cc
+holds_told why (name_lost n form w) f ns e = absurd cc
+
+fields_held_told : (why : LostFault) (m : NodeTree) (f : FixedTree) (us : FieldNodes) → with_reason why m ≡ holds_fields f us → (vs : FieldNodes) × (m ≡ holds_fields f vs) × (fields_with_reason why vs ≡ us)
+fields_held_told why (holds_fields g vs) f us e = let same : g ≡ f = cc in (vs, ap (λ h. holds_fields h vs) same, cc)
+fields_held_told why (plain p) f us e = absurd cc
+fields_held_told why (holds g ms) f us e = absurd cc
+fields_held_told why (closed g content) f us e = absurd cc
+fields_held_told why (package_lost form w) f us e = absurd cc
+fields_held_told why (data_lost form w) f us e = absurd cc
+fields_held_told why (name_lost n form w) f us e = absurd cc
+
+no_fields_told : (why : LostFault) (us : FieldNodes) → fields_with_reason why us ≡ no_more_fields → us ≡ no_more_fields
+no_fields_told why no_more_fields e = refl
+no_fields_told why (fields_lost place w) e = absurd cc
+no_fields_told why (field_node place offset x us) e = absurd cc
+
+field_reason : (why : LostFault) (us : FieldNodes) (place offset : ℕ) (x : FieldTree) (rest : FieldNodes) → fields_with_reason why us ≡ field_node place offset x rest
+    → (vs : FieldNodes) × (us ≡ field_node place offset x vs) × (fields_with_reason why vs ≡ rest)
+field_reason why (field_node p o y vs) place offset x rest e =
+    let at : p ≡ place = cc in
+    let starts : o ≡ offset = cc in
+    let same : y ≡ x = cc in
+    (vs, ap (λ q. field_node q o y vs) at ∙ ap (λ q. field_node place q y vs) starts ∙ ap (λ z. field_node place offset z vs) same, cc)
+field_reason why no_more_fields place offset x rest e = absurd cc
+field_reason why (fields_lost p w) place offset x rest e = absurd cc
+
+fields_told : (why : LostFault) (es : List FieldTree) (us : FieldNodes) → AreFieldsOf es (fields_with_reason why us) → AreFieldsOf es us
+fields_told why [] us h = no_fields_told why us h
+fields_told why (x ∷ es) us (place, offset, rest, e, h) =
+    let t = field_reason why us place offset x rest e in
+    (place, offset, t.0, t.1, fields_told why es t.0 (subst (AreFieldsOf es) (sym t.2) h))
+
+fields_of_with_reason : (why : LostFault) (es : List FieldTree) (us : FieldNodes) → AreFieldsOf es us → AreFieldsOf es (fields_with_reason why us)
+fields_of_with_reason why [] us h = ap (fields_with_reason why) h
+fields_of_with_reason why (x ∷ es) us (place, offset, rest, e, h) = (place, offset, fields_with_reason why rest, ap (fields_with_reason why) e, fields_of_with_reason why es rest h)
+
+node_told : (why : LostFault) (ms : NodeTrees) (place : ℕ) (n : NodeTree) (ns : NodeTrees) → all_with_reason why ms ≡ node place n ns
+    → (m : NodeTree) × (rest : NodeTrees) × (ms ≡ node place m rest) × (with_reason why m ≡ n) × (all_with_reason why rest ≡ ns)
+node_told why (node p m rest) place n ns e = let same : p ≡ place = cc in (m, rest, ap (λ q. node q m rest) same, cc, cc)
+node_told why no_more place n ns e = absurd cc
+node_told why (lost p w) place n ns e = absurd cc
+
+none_told : (why : LostFault) (ms : NodeTrees) → all_with_reason why ms ≡ no_more → ms ≡ no_more
+none_told why no_more e = refl
+none_told why (lost place w) e = absurd cc
+none_told why (node place n ns) e = absurd cc
+
+externals_told : (why : LostFault) (xs : List ExternalParts) (ms : NodeTrees) → AreExternals xs (all_with_reason why ms) → AreExternals xs ms
+externals_told why [] ms h = none_told why ms h
+externals_told why (x ∷ xs) ms (place, ns, e, h) =
+    let t = node_told why ms place (plain (nodes.external x)) ns e in
+    (place, t.1, t.2 ∙ ap (λ n. node place n t.1) (plain_told why t.0 (nodes.external x) t.3), externals_told why xs t.1 (subst (AreExternals xs) (sym t.4) h))
+
+held_told : (why : LostFault) (f : FixedTree) (Are : NodeTrees → Type 0) (Fills : List ℕ → Type 0) (m : NodeTree) → ((ns : NodeTrees) → Are (all_with_reason why ns) → Are ns)
+    → Holds f Are Fills (with_reason why m) → Holds f Are Fills m
+held_told why f Are Fills m back (inl (ns, e, h)) = let t = holds_told why m f ns e in inl (t.0, t.1, back t.0 (subst Are (sym t.2) h))
+held_told why f Are Fills m back (inr (b, e, h)) = inr (b, closed_told why m f b e, h)
+
+held_fields_told : (why : LostFault) (f : FixedTree) (es : List FieldTree) (m : NodeTree) → HoldsFields f es (with_reason why m) → HoldsFields f es m
+held_fields_told why f es m (us, e, h) = let t = fields_held_told why m f us e in (t.0, t.1, fields_told why es t.0 (subst (AreFieldsOf es) (sym t.2) h))
+
+mutual
+  item_told : (why : LostFault) (i : ItemTree) (m : NodeTree) → IsItem i (with_reason why m) → IsItem i m
+  item_told why (name n d) m h = plain_told why m _ h
+  item_told why (scope kind n is) m h = held_told why (kind_fixed kind n) (λ ns. AreItems is ns) (λ b. SpellsItems is b) m (λ ns k. items_told why is ns k) h
+  item_told why (method n flags code) m h = closed_told why m (nodes.method n flags) code h
+  item_told why (external x) m h = plain_told why m _ h
+  item_told why (external_block xs) m h = held_told why (if_so (terms.int Zero)) (λ ns. AreExternals xs ns) (λ b. SpellsEach SpellsExternal xs b) m (λ ns k. externals_told why xs ns k) h
+  item_told why (mutex n flags) m h = plain_told why m _ h
+  item_told why (event n) m h = plain_told why m _ h
+  item_told why (region n space offset len) m h = plain_told why m _ h
+  item_told why (field n flags es) m h = held_fields_told why (units fields.Field (n ∷ []) (more (terms.raw 1 flags) no_terms)) es m h
+  item_told why (index_field i k flags es) m h = held_fields_told why (units fields.IndexField (i ∷ k ∷ []) (more (terms.raw 1 flags) no_terms)) es m h
+  item_told why (bank_field n bank value flags es) m h =
+      held_fields_told why (units fields.BankField (n ∷ bank ∷ []) (more (terms.int value) (more (terms.raw 1 flags) no_terms))) es m h
+  item_told why (create w source index n) m h = plain_told why m _ h
+  item_told why (create_field source index bits n) m h = plain_told why m _ h
+
+  items_told : (why : LostFault) (is : ItemTrees) (ms : NodeTrees) → AreItems is (all_with_reason why ms) → AreItems is ms
+  items_told why no_items ms h = none_told why ms h
+  items_told why (item i is) ms (place, n, ns, e, hi, hs) =
+      let t = node_told why ms place n ns e in
+      (place, t.0, t.1, t.2, item_told why i t.0 (subst (IsItem i) (sym t.3) hi), items_told why is t.1 (subst (AreItems is) (sym t.4) hs))
+
+externals_with_reason : (why : LostFault) (xs : List ExternalParts) (ms : NodeTrees) → AreExternals xs ms → AreExternals xs (all_with_reason why ms)
+externals_with_reason why [] ms h = ap (all_with_reason why) h
+externals_with_reason why (x ∷ xs) ms (place, ns, e, h) = (place, all_with_reason why ns, ap (all_with_reason why) e, externals_with_reason why xs ns h)
+
+held_with_reason : (why : LostFault) (f : FixedTree) (Are : NodeTrees → Type 0) (Fills : List ℕ → Type 0) (m : NodeTree) → ((ns : NodeTrees) → Are ns → Are (all_with_reason why ns))
+    → Holds f Are Fills m → Holds f Are Fills (with_reason why m)
+held_with_reason why f Are Fills m forth (inl (ns, e, h)) = inl (all_with_reason why ns, ap (with_reason why) e, forth ns h)
+held_with_reason why f Are Fills m forth (inr (b, e, h)) = inr (b, ap (with_reason why) e, h)
+
+held_fields_with_reason : (why : LostFault) (f : FixedTree) (es : List FieldTree) (m : NodeTree) → HoldsFields f es m → HoldsFields f es (with_reason why m)
+held_fields_with_reason why f es m (us, e, h) = (fields_with_reason why us, ap (with_reason why) e, fields_of_with_reason why es us h)
+
+mutual
+  item_with_reason : (why : LostFault) (i : ItemTree) (m : NodeTree) → IsItem i m → IsItem i (with_reason why m)
+  item_with_reason why (name n d) m h = ap (with_reason why) h
+  item_with_reason why (scope kind n is) m h = held_with_reason why (kind_fixed kind n) (λ ns. AreItems is ns) (λ b. SpellsItems is b) m (λ ns k. items_with_reason why is ns k) h
+  item_with_reason why (method n flags code) m h = ap (with_reason why) h
+  item_with_reason why (external x) m h = ap (with_reason why) h
+  item_with_reason why (external_block xs) m h =
+      held_with_reason why (if_so (terms.int Zero)) (λ ns. AreExternals xs ns) (λ b. SpellsEach SpellsExternal xs b) m (λ ns k. externals_with_reason why xs ns k) h
+  item_with_reason why (mutex n flags) m h = ap (with_reason why) h
+  item_with_reason why (event n) m h = ap (with_reason why) h
+  item_with_reason why (region n space offset len) m h = ap (with_reason why) h
+  item_with_reason why (field n flags es) m h = held_fields_with_reason why (units fields.Field (n ∷ []) (more (terms.raw 1 flags) no_terms)) es m h
+  item_with_reason why (index_field i k flags es) m h = held_fields_with_reason why (units fields.IndexField (i ∷ k ∷ []) (more (terms.raw 1 flags) no_terms)) es m h
+  item_with_reason why (bank_field n bank value flags es) m h =
+      held_fields_with_reason why (units fields.BankField (n ∷ bank ∷ []) (more (terms.int value) (more (terms.raw 1 flags) no_terms))) es m h
+  item_with_reason why (create w source index n) m h = ap (with_reason why) h
+  item_with_reason why (create_field source index bits n) m h = ap (with_reason why) h
+
+  items_with_reason : (why : LostFault) (is : ItemTrees) (ms : NodeTrees) → AreItems is ms → AreItems is (all_with_reason why ms)
+  items_with_reason why no_items ms h = ap (all_with_reason why) h
+  items_with_reason why (item i is) ms (place, n, ns, e, hi, hs) =
+      (place, with_reason why n, all_with_reason why ns, ap (all_with_reason why) e, item_with_reason why i n hi, items_with_reason why is ns hs)
+
+pub strict_kept : {S : Type 0} (r : Rules S) → StrictIsKept r
+strict_kept r known depth code is ns h le outline =
+    let ms = items_nodes r is depth known (length code) code h le in
+    let same = at_most_one r known depth code ms.0 ns any_fault ms.1 outline in
+    items_told any_fault is ns (subst (AreItems is) same (items_with_reason any_fault is ms.0 ms.2))

@@ -1,6 +1,0 @@
-use Rattle.std.proofs.Common.{ap, ◌∙◌}
-use Rattle.acpi_declare.proofs.Unions.{seen_at, seen-empty}
-use Rattle.acpi_declare.proofs.link_map.LinkMap.new.Goals as goal
-
-pub returns : goal.returns
-returns c = ap (seen_at (λ a. a.value.items)) c.new.ensures ∙ seen-empty (λ a. a.value.items)

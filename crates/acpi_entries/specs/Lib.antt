@@ -1,0 +1,5 @@
+pub mod Condition
+pub mod ConditionViews
+pub mod EntryLinks
+pub mod EntryBodies
+pub mod steps

@@ -1,0 +1,21 @@
+//! What is asked of an entry of a survey: its condition, where the names of its term may be found, and the body of its
+//! method.
+//!
+//! ```text
+//! let condition = condition_of(&survey, number)?;   // what has to be so for the term to declare its object
+//! let links = links_of(&survey, number)?;           // where the names of the term may be found
+//! let body = body_of(&survey, number)?;             // what the code of a method is read as
+//! ```
+#![tactic(auto)]
+
+mod body;
+mod condition;
+mod links;
+mod locals;
+mod method_bodies;
+mod placed;
+mod setting;
+
+pub use body::{BodyReading, MethodBody, body_of};
+pub use condition::{Literal, PlacedLiteral, condition_of};
+pub use links::{Link, links_in, links_of};

@@ -1,0 +1,23 @@
+//! What a survey of tables gives as plain values, of which an overview is made (ACPI 6.5).
+//!
+//! ```text
+//! Survey ──► tables, objects by path, regions with what their names find ──► Facts of acpi_overview
+//! ```
+//!
+//! ```text
+//! let overview = overview_of(alloc, facts_of(alloc, &survey)?)?;
+//! ```
+#![tactic(auto)]
+
+mod conditions;
+mod facts;
+mod names;
+mod objects;
+mod regions;
+mod store_targets;
+mod tables;
+mod units;
+
+pub use facts::facts_of;
+pub use objects::plain_site;
+pub use tables::table_of;

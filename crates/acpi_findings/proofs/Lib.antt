@@ -1,0 +1,4 @@
+pub mod Finding
+pub mod Refusals
+pub mod Standing
+pub mod Telling

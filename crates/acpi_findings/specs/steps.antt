@@ -1,0 +1,3 @@
+pub mod ReadTables
+pub mod MarkViews
+pub mod NoteSiteViews

@@ -1,0 +1,10 @@
+pub mod Namespace
+pub mod Sites
+pub mod Placing
+pub mod Listing
+pub mod Links
+pub mod Notes
+pub mod Predefined
+pub mod Pending
+pub mod Kept
+pub mod steps

@@ -1,0 +1,5 @@
+pub mod Pass
+pub mod View
+pub mod Outcomes
+pub mod Entering
+pub mod Missing

@@ -1,0 +1,8 @@
+pub mod Codes
+pub mod Parts
+pub mod Places
+pub mod PlacedLists
+pub mod DeclaringParts
+pub mod Lookups
+pub mod Indexing
+mod NameFronts

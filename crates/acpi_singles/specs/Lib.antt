@@ -1,0 +1,2 @@
+pub mod SingleView
+pub mod steps

@@ -1,0 +1,2 @@
+pub mod SingleMisses
+pub mod Joining

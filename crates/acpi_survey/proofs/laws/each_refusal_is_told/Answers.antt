@@ -1,5 +1,0 @@
-use Rattle.acpi_survey.proofs.Telling.{each_refusal_is_told}
-use Rattle.acpi_survey.proofs.laws.each_refusal_is_told.Goals as goal
-
-pub returns : goal.returns
-returns c = each_refusal_is_told

@@ -1,5 +1,0 @@
-use Rattle.acpi_survey.proofs.Telling.{only_refusals_are_told}
-use Rattle.acpi_survey.proofs.laws.only_refusals_are_told.Goals as goal
-
-pub returns : goal.returns
-returns c = only_refusals_are_told

@@ -1,7 +1,0 @@
-use Rattle.std.proofs.Common.{◌≡◌, ◌++◌, map, drop}
-use Rattle.acpi_survey.specs.EntryLinks.{seen_link}
-use Rattle.acpi_survey.specs.ConditionViews.{link_views}
-use Rattle.acpi_survey.proofs.links.seen_by_names.Given as goal
-
-abbrev pub invariant-each : goal.invariant-each
-invariant-each l = link_views l.links.items ++ map (seen_link l.seen) (map (λ n. n.now) (drop l.name-index l.names)) ≡ map (seen_link l.seen) (map (λ n. n.now) l.names)

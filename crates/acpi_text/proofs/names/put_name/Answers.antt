@@ -1,7 +1,0 @@
--- What a wrong body leaves open is named here: its refusal then names it, and needs no second search.
-use Rattle.std.proofs.Common.{arith}
-use Rattle.std.proofs.lemmas.Grind.{common_steps}
-use Rattle.acpi_text.proofs.names.put_name.Goals as goal
-
-pub returns : goal.returns
-returns c = grind (arith, common_steps)

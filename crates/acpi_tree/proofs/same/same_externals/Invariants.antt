@@ -1,8 +1,0 @@
-use Rattle.std.proofs.Common.{◌≡◌, drop}
-use Rattle.std.specs.Cmp.Lexicographic.{pointwise}
-use Rattle.acpi_tree.specs.View.{external_view}
-use Rattle.acpi_tree.specs.Equal.{external_eq}
-use Rattle.acpi_tree.proofs.same.same_externals.Given as goal
-
-abbrev pub invariant-loop-i : goal.invariant-loop-i
-invariant-loop-i l = pointwise (λ x y. external_eq (external_view x) (external_view y)) l.a l.b ≡ pointwise (λ x y. external_eq (external_view x) (external_view y)) (drop l.i l.a) (drop l.i l.b)

@@ -1,0 +1,9 @@
+pub mod Parts
+pub mod InOrder
+pub mod Opened
+pub mod Allowed
+pub mod Places
+pub mod TermComplete
+pub mod Declarations
+pub mod Registers
+pub mod TermSound

@@ -1,0 +1,8 @@
+use Rattle.std.specs.Option.{option_map}
+use Rattle.acpins_survey_json.specs.JsonValues.{name_value, value_or_null}
+use Rattle.acpins_survey_json.proofs.JsonPutting.{member_said}
+use Rattle.acpins_survey_json.proofs.members.put_some_name_member.Goals as goal
+
+pub returns : goal.returns
+returns c =
+    member_said c.args.start.now c.args.name.now (value_or_null name_value (option_map (λ n. n.now) c.args.name_of)) c.args.text.now _ _ c.put_member.ensures c.put_some_name.ensures

@@ -1,0 +1,9 @@
+pub mod Json
+pub mod JsonValues
+pub mod JsonObjects
+pub mod JsonFound
+pub mod JsonEntries
+pub mod JsonBodies
+pub mod JsonTables
+pub mod JsonFrame
+pub mod steps

@@ -1,9 +1,0 @@
-use Rattle.std.specs.Option.{option_map}
-use Rattle.acpi_tree.specs.TermView.{term_view}
-use Rattle.acpins_survey_output.specs.JsonValues.{printed_term, value_or_null}
-use Rattle.acpins_survey_output.proofs.JsonPutting.{member_put}
-use Rattle.acpins_survey_output.proofs.json_members.put_some_term_member.Goals as goal
-
-pub returns : goal.returns
-returns c =
-    member_put c.put_some_term.result c.args.start.now c.args.name.now (value_or_null printed_term (option_map (λ t. term_view t.now) c.args.term)) c.args.text.now.items _ _ c.in_ok-put_member.ensures c.put_some_term.ensures

@@ -1,6 +1,0 @@
-use Rattle.acpins_survey_output.specs.Json.{string}
-use Rattle.acpins_survey_output.proofs.JsonPutting.{member_put}
-use Rattle.acpins_survey_output.proofs.json_members.put_word_member.Goals as goal
-
-pub returns : goal.returns
-returns c = member_put c.put_word.result c.args.start.now c.args.name.now (string c.args.word.now) c.args.text.now.items _ _ c.in_ok-put_member.ensures c.put_word.ensures

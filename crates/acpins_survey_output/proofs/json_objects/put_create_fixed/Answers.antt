@@ -1,9 +1,0 @@
-use Rattle.std.proofs.Common.{codes}
-use Rattle.acpins_survey_output.specs.Json.{no_members}
-use Rattle.acpins_survey_output.proofs.JsonPutting.{closed_put}
-use Rattle.acpins_survey_output.proofs.json_objects.put_create_fixed.Goals as goal
-
-pub returns : goal.returns
-returns c =
-    closed_put c.put.result c.args.text.now.items _ _ (codes "}") _
-    (c.in_ok-put_create.ensures no_members) c.put.ensures

@@ -1,9 +1,0 @@
-use Rattle.std.proofs.Common.{◌≡◌, ◌++◌, true, drop}
-use Rattle.acpins_survey_output.specs.Json.{lines_behind}
-use Rattle.acpins_survey_output.specs.JsonTables.{table_values}
-use Rattle.acpins_survey_output.proofs.json_tables.put_tables.Given as goal
-
--- the elements so far and those that are left
-abbrev pub invariant-loop-number : goal.invariant-loop-number
-invariant-loop-number l =
-    l.text.items ++ lines_behind l.is_first (table_values l.number (drop l.number l.tables)) ≡ l.initial.text.items ++ lines_behind true (table_values 0 l.tables)

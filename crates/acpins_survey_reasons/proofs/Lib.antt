@@ -1,0 +1,3 @@
+pub mod Separating
+pub mod Zipping
+pub mod Ordering
