@@ -2,7 +2,8 @@
 """Runs the gate, and writes down what its proofs take: times.py FILE COMMAND..
 
 Its lines go on to standard output as they come. FILE gets, in seconds since its start, when each crate was proved and when the gate
-ended. The processor minutes of each crate that was proved from nothing go into .ci/minutes.txt, from which `./prove` reckons how long it
+ended, and how many processor minutes the proofs took: of each crate, of all, and along the longest chain of crates that wait for one
+another. The processor minutes of each crate that was proved from nothing go into .ci/minutes.txt, from which `./prove` reckons how long it
 takes; those of crates that were kept stay as they are.
 """
 import glob
@@ -14,7 +15,7 @@ import threading
 import time
 
 sys.dont_write_bytecode = True
-from kit import TOP, bytes_of, write  # noqa: E402
+from kit import TOP, bytes_of, crate_of, write  # noqa: E402
 from prove import additions  # noqa: E402
 
 TABLE = f"{TOP}/.ci/minutes.txt"
@@ -61,6 +62,23 @@ def put_minutes(measured):
     write(TABLE, HEAD + "".join(f"{name} {number:.1f}\n" for name, number in sorted(table.items())))
 
 
+def lines_of(minutes):
+    """What the proofs of these crates took, in lines: of each, of all, and along the longest chain."""
+
+    def chain(crate):
+        below = max(map(chains.get, crate.below()), default=0)
+        return minutes.get(crate.name, 0) + below
+
+    chains = {}
+    for crate in map(crate_of, sorted(minutes)):
+        for it in [*crate.below(), crate]:
+            chains[it] = chain(it)
+    words = [f"{name} {number:.1f}" for name, number in sorted(minutes.items(), key=lambda it: -it[1])]
+    for at in range(0, len(words), 6):
+        yield f"processor minutes: {', '.join(words[at : at + 6])}\n"
+    yield f"processor minutes of all: {sum(minutes.values()):.0f}; along the longest chain: {max(chains.values(), default=0):.0f}\n"
+
+
 def main():
     file, *command = sys.argv[1:]
     start, told, proved, proofs = time.time(), [], [], Proofs()
@@ -73,8 +91,11 @@ def main():
             told.append(f"{time.time() - start:7.0f} s  {found[1]}{'  its tests' if found[2] else ''} proved\n")
             proved += [] if found[2] else [found[1]]
     status = gate.wait()
-    write(file, "".join(told) + f"{time.time() - start:7.0f} s  the gate ended\n")
-    put_minutes({name: proofs.seconds[name] for name in proved if name in proofs.seconds})
+    seconds = {name: proofs.seconds[name] for name in proved if name in proofs.seconds}
+    told.append(f"{time.time() - start:7.0f} s  the gate ended\n")
+    told += lines_of({name: number / 60 for name, number in seconds.items()})
+    write(file, "".join(told))
+    put_minutes(seconds)
     sys.exit(status)
 
 

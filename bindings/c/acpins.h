@@ -244,7 +244,8 @@ struct acpins_body {
 /* Writes the body of the method at a path, as `\_SB_.PCI0._STA`, at the front of `text`; outcome->text is its length in
  * bytes. A segment may be short: it is filled with `_`, so that `\_SB.PCI0._STA` is the same path. *body is written where the
  * status is ACPINS_OK or ACPINS_NO_ROOM, so whether the body is read is known without room for its text; of any other status
- * it is as it was. */
+ * it is as it was. The path that a refusal for an E names stands at the front of `text`, outcome->text bytes long, where there
+ * is room for it. */
 uint32_t acpins_body(const struct acpins_table *tables, size_t table_count, uint32_t depth, const uint8_t *path,
                      size_t path_length, uint8_t *text, size_t text_room, struct acpins_body *body,
                      struct acpins_outcome *outcome);
@@ -279,7 +280,8 @@ struct acpins_satisfied {
 /* Writes the verdict on the SSDTs, and where they commute the Externals that are satisfied. *verdict is written where the
  * status is ACPINS_OK or ACPINS_NO_ROOM, so who wants the verdict alone passes no arrays; of any other status it is as it was.
  * For the sizes of the arrays see verdict->satisfied and outcome->text. Of ACPINS_REFUSED the outcome is about the DSDT,
- * table 0: an SSDT that can't be loaded is a verdict. */
+ * table 0: an SSDT that can't be loaded is a verdict. The path that a refusal for an E names stands at the front of `text`,
+ * outcome->text bytes long, where there is room for it. */
 uint32_t acpins_check(const struct acpins_table *tables, size_t table_count, uint32_t depth, struct acpins_satisfied *satisfied,
                       size_t satisfied_room, uint8_t *text, size_t text_room, struct acpins_verdict *verdict,
                       struct acpins_outcome *outcome);

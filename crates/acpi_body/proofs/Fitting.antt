@@ -16,7 +16,7 @@ use Rattle.acpi_values.specs.Arguments.{Locals, Arguments}
 use Rattle.acpi_values.specs.Grammars.{body_grammar}
 use Rattle.acpi_values.specs.Spelling.{values, Spells, AreOperands, AreElements}
 use Rattle.acpi_body.specs.Bodies.{BodyTree, read, unread, IsBodyOf, body_fits}
-use Rattle.acpi_values.specs.Declarations.{units_opcode}
+use Rattle.acpi_code.specs.Forms.{units_opcode}
 use Rattle.acpi_body.specs.Statements.{locals_after, locals_after_all, IsStatement, IsElse, AreStatements, ReadsBody}
 
 -- ---- terms

@@ -11,7 +11,7 @@ use Rattle.acpi_code.specs.Spelling.{Packs}
 use Rattle.acpi_values.specs.Arguments.{Locals, Arguments}
 use Rattle.acpi_values.specs.Grammars.{Grammar, body_grammar}
 use Rattle.acpi_values.specs.Spelling.{values, Spells, AreOperands, AreElements}
-use Rattle.acpi_values.specs.Declarations.{named_opcode, units_opcode}
+use Rattle.acpi_code.specs.Forms.{named_opcode, units_opcode}
 use Rattle.acpi_body.specs.Statements.{locals_after, locals_after_all, IsStatement, IsElse, AreStatements}
 use Rattle.acpi_body.specs.Searches.{Searched, term_searches, terms_searches, searches, else_searches, all_searches, IsSpelledIn}
 use Rattle.acpi_body.specs.Laws.{AgreeAt}

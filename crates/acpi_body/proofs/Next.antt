@@ -1,5 +1,5 @@
 -- What is told of a body that begins with statements and goes on with what is refused by itself.
-use Rattle.std.proofs.Common.{◌≡◌, ℕ, zero, suc, ◌-◌, ◌≤◌, ◌<◌, Bool, true, false, cond, eqb, Option, Some, None, List, [], ◌∷◌, ◌++◌, length, Ok, Err, refl, sym, ap, ◌∙◌, append_assoc, arith}
+use Rattle.std.proofs.Common.{◌≡◌, ℕ, zero, suc, ◌-◌, ◌≤◌, ◌<◌, Bool, true, false, eqb, Option, Some, None, List, [], ◌∷◌, ◌++◌, length, Ok, Err, refl, sym, ap, ◌∙◌, append_assoc, arith}
 use Rattle.std.proofs.lemmas.List.{length-append}
 use Rattle.std.proofs.lemmas.Bool.{eqb-true}
 use Rattle.acpi_name.specs.Names.{Segment, NameParts}
@@ -7,8 +7,10 @@ use Rattle.acpi_tree.specs.declared.place.Place.TheVariants.{Statement}
 use Rattle.acpi_tree.specs.Terms.{TermTree, TermTrees, no_terms, more}
 use Rattle.acpi_code.specs.declared.opcode.Opcode.{Opcode}
 use Rattle.acpi_code.specs.declared.opcode.Opcode.TheVariants as opcodes
-use Rattle.acpi_code.specs.Opcodes.{plain_opcode_of, extended_opcode_of, extended_opcode, first_opcode}
-use Rattle.acpi_code.specs.steps.Reading.{Reading, byte_at, extended_opcode_at, opcode_at}
+use Rattle.acpi_code.specs.Opcodes.{BeginsWith}
+use Rattle.acpi_code.specs.steps.Opcodes.{first_opcode}
+use Rattle.acpi_code.specs.steps.Reading.{Reading}
+use Rattle.acpi_code.proofs.Opcodes.{begins_first, opcode_found, some_begin}
 use Rattle.acpi_values.specs.declared.fault.BodyFault.{BodyFault}
 use Rattle.acpi_values.specs.declared.fault.BodyReason.{BodyReason}
 use Rattle.acpi_values.specs.Arguments.{Locals, Arguments}
@@ -30,32 +32,14 @@ known_is x y e = cc
 none_known : {A : Type 0} (x : A) → None ≡ known x → ⊥
 none_known x e = cc
 
--- what begins there is read
-first_opens : (end : ℕ) (w : List ℕ) (o : Opcode) → first_opcode w ≡ known o → (rest : List ℕ) × (opcode_at end w ≡ Ok (o, rest))
-unfolding opcode_at byte_at
-first_opens end [] o e = absurd (none_known o e)
-first_opens end (b ∷ w) o e = by_test (eqb b 0x5B) refl e
-  where
-    extended_opens : (w : List ℕ) → extended_opcode w ≡ known o → (rest : List ℕ) × (extended_opcode_at end w ≡ Ok (o, rest))
-    extended_opens [] e = absurd (none_known o e)
-    extended_opens (c ∷ w) e = (w, ap (λ (o : Opcode). Ok (o, w)) (known_is (extended_opcode_of c) o e))
-
-    by_test : (t : Bool) → eqb b 0x5B ≡ t → cond t (extended_opcode w) (known (plain_opcode_of b)) ≡ known o → (rest : List ℕ) × (opcode_at end (b ∷ w) ≡ Ok (o, rest))
-    by_test true d e = let r = extended_opens w e in (r.0, rw d r.1)
-    by_test false d e = (w, rw d (ap (λ (o : Opcode). Ok (o, w)) (known_is (plain_opcode_of b) o e)))
-
-some_byte : (w : List ℕ) (o : Opcode) → first_opcode w ≡ known o → 0 < length w
-some_byte [] o e = absurd (none_known o e)
-some_byte (b ∷ w) o e = omega arith
-
 -- it is no Else
-no_else_there : (w : List ℕ) (o : Opcode) (why : BodyReason) → first_opcode w ≡ known o → never_begins o ≡ known why → begins_else w ≡ false
+no_else_there : (w : List ℕ) (o : Opcode) (why : BodyReason) → BeginsWith o w → never_begins o ≡ known why → begins_else w ≡ false
 no_else_there [] o why e r = refl
 no_else_there (b ∷ w) o why e r = by_test (eqb b 0xA1) refl
   where
     by_test : (t : Bool) → eqb b 0xA1 ≡ t → eqb b 0xA1 ≡ false
     by_test true t =
-        let is : first_opcode (0xA1 ∷ w) ≡ known o = ap (λ k. first_opcode (k ∷ w)) (sym (eqb-true b 0xA1 t)) ∙ e in
+        let is : first_opcode (0xA1 ∷ w) ≡ known o = ap (λ k. first_opcode (k ∷ w)) (sym (eqb-true b 0xA1 t)) ∙ begins_first (b ∷ w) o e in
         absurd (none_known why (ap never_begins (known_is opcodes.Else o is) ∙ r))
     by_test false t = t
 
@@ -86,10 +70,10 @@ unfolding placed_by
 placed_refused args value end w r o why e = rw e refl
 
 stops_there : (args : Arguments) (s : List Segment) (level : ℕ) (locals : Locals) (end : ℕ) (w : List ℕ) (o : Opcode) (why : BodyReason)
-    → first_opcode w ≡ known o → never_begins o ≡ known why → statement_at args s (suc level) locals end w ≡ Err (fault_at end w why)
+    → BeginsWith o w → never_begins o ≡ known why → statement_at args s (suc level) locals end w ≡ Err (fault_at end w why)
 unfolding statement_at
 stops_there args s level locals end w o why opens refuses =
-    let r = first_opens end w o opens in
+    let r = opcode_found end w o opens in
     rw r.1 (is_placed (body_grammar (args locals)) (term_at (body_grammar (args locals)) level) (statements_at args s level) s locals end w r.0 o why refuses
     ∙ placed_refused (args locals) (term_at (body_grammar (args locals)) level) end w r.0 o why (as_refusal o why refuses))
 
@@ -129,7 +113,7 @@ pub next_told : (args : Arguments) (s : List Segment) (depth : ℕ) (locals : Lo
 next_told args s zero locals u w ts why some h le r = absurd (omega arith)
 next_told args s (suc level) locals u w ts why some h le r =
     let end = length (u ++ w) in
-    let all = stops_behind_statements args s ts (suc level) locals end u w (fault_at end w why) h le (some_byte w r.0 r.1)
+    let all = stops_behind_statements args s ts (suc level) locals end u w (fault_at end w why) h le (some_begin w r.0 r.1)
     (no_else_there w r.0 why r.1 r.2) (λ locals. stops_there args s level locals end w r.0 why r.1 r.2) in
     let place : end - length w ≡ length u = omega (arith, length-append u w) in
     rw (all end (omega arith), place) refl

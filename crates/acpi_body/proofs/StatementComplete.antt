@@ -28,7 +28,7 @@ use Rattle.acpi_values.specs.Arguments.{Locals, Arguments}
 use Rattle.acpi_values.specs.Grammars.{Grammar, body_grammar}
 use Rattle.acpi_values.specs.Spelling.{Spells, height, else_height, heights}
 use Rattle.acpi_code.specs.Fields.{SpellsFields}
-use Rattle.acpi_values.specs.Declarations.{named_opcode, units_opcode}
+use Rattle.acpi_code.specs.Forms.{named_opcode, units_opcode}
 use Rattle.acpi_body.specs.Statements.{MayDeclare, locals_after, locals_after_all, IsStatement, IsElse, AreStatements}
 use Rattle.acpi_values.specs.Refusals.{refusal_at}
 use Rattle.acpi_values.specs.steps.Reading.{Reader, operands_at, placed_by, term_at}

@@ -17,7 +17,8 @@ use Rattle.acpi_code.specs.declared.opcode.Opcode.{Opcode}
 use Rattle.acpi_code.specs.declared.opcode.Opcode.TheVariants as opcodes
 use Rattle.acpi_code.specs.Opcodes.{opcode_bytes}
 use Rattle.acpi_code.specs.Faults.{has_package}
-use Rattle.acpi_values.specs.Faults.{BeginsFieldList}
+use Rattle.acpi_values.specs.Declarations.{AreUnitArguments}
+use Rattle.acpi_code.specs.FixedArguments.{FollowsForm}
 use Rattle.acpi_code.specs.Spelling.{SpellsEach, Packs}
 use Rattle.acpi_code.specs.steps.Reading.{◌>>=◌, Reading, Package, package_at, name_in, opcode_at}
 use Rattle.acpi_code.proofs.Readings.{Judge, judge_bind, judge_into, judge_if, Source, Position, Front, Read, stands_at, position_deeper, position_up, no_level_shows}
@@ -31,13 +32,13 @@ use Rattle.acpi_values.specs.Grammars.{body_grammar}
 use Rattle.acpi_values.specs.Spelling.{Stands, Spells, height, else_height, heights}
 use Rattle.acpi_code.specs.Fields.{SpellsFields}
 use Rattle.acpi_values.specs.Refusals.{refusal_at}
-use Rattle.acpi_values.specs.Declarations.{named_opcode, units_opcode}
+use Rattle.acpi_code.specs.Forms.{named_opcode, units_opcode}
 use Rattle.acpi_body.specs.Statements.{MayDeclare, locals_after, locals_after_all, IsStatement, IsElse, AreStatements}
 use Rattle.acpi_values.specs.steps.Reading.{Reader, part, fault_at, operands_at, placed_by, term_at, fields_in}
 use Rattle.acpi_body.specs.steps.Reading.{Statements, declared_if, declared_at, named_form, names_at, units_form, statements_with, else_at, if_form, while_form, statement_by, statement_at, statements_at}
 use Rattle.acpi_values.proofs.Places.{Bad, part_bad, part_sound, fields_sound}
 use Rattle.acpi_body.proofs.StatementComplete.{statement_starts}
-use Rattle.acpi_values.proofs.Declarations.{units_long, units_inner}
+use Rattle.acpi_values.proofs.Declarations.{units_long, units_inner, units_length}
 use Rattle.acpi_values.proofs.TermSound.{is_block, are_inner, Within, Operands, Inner, operands_sound, placed_sound, term_sound}
 
 -- ---- what was read
@@ -260,27 +261,21 @@ module _ (m : List Segment) (s : Source) (args : Arguments) where
   -- the field list behind the names and operands
   field_list : (level : ℕ) (locals : Locals) (form : UnitsForm) (end : ℕ) (bytes rest : List ℕ) (p : Package) (ns : List NameParts × List ℕ) (vs : List TermTree × List ℕ)
       → bytes ≡ opcode_bytes (units_opcode form) ++ rest → Position s.depth (suc level) s.code end bytes → PackageFront end rest p → Front (AreNames (names_of_units form)) p.content ns
-      → Front (Operands (body_grammar (args locals)) level (operands_of_units form)) ns.1 vs → BeginsFieldList s.code (p.end - length vs.1)
+      → Front (Operands (body_grammar (args locals)) level (operands_of_units form)) ns.1 vs
+      → FollowsForm (units_opcode form) (AreUnitArguments (body_grammar (args locals)) form ns.0 (terms_of vs.0)) s.code (p.end - length vs.1)
   field_list level locals form end bytes rest p ns vs is h g n v =
       let op = opcode_bytes (units_opcode form) in
       record {
-        form = form;
-        grammar = body_grammar (args locals);
         at = end - length bytes;
-        n = length g.len + length p.content;
         len = g.len;
-        names = ns.0;
-        values = terms_of vs.0;
-        a = n.front;
-        b = v.front;
+        is_len = units_length form g.len (length g.len + length p.content) g.spells_len;
+        front = n.front ++ v.front;
         rest = vs.1 ++ (p.rest ++ h.after);
         here = stands_at s (suc level) end bytes h ∙ rw (is, g.whole, n.whole, v.whole) (simp append_assoc);
-        spells_len = g.spells_len;
-        all_names = n.spells.0;
-        are_names = n.spells.1;
-        are_values = v.spells.are;
-        starts = omega (
+        are = record { names = n.front; operands = v.front; all_names = n.spells.0; are_names = n.spells.1; are_operands = v.spells.are; whole = refl };
+        behind = omega (
           arith,
+          length-append n.front v.front,
           h.ends,
           ap length is,
           length-append op rest,
@@ -307,7 +302,7 @@ module _ (m : List Segment) (s : Source) (args : Arguments) where
       then_read level p.end (Operands (body_grammar (args locals)) level (operands_of_units form)) Good ns.1 (operands_at value (operands_of_units form) p.end ns.1)
       _ (operands_sound args m s locals false level value i (operands_of_units form) p.end ns.1 (units_inner form) n.1) (λ vs v.
       judge_bind (λ es. SpellsFields es vs.1) Good (Bad args m s) (fields_in p.end vs.1) _
-      (fields_sound args m s level p.end vs.1 (field_list level locals form end bytes rest p ns vs is h g.0 n.0 v.0) v.1) (λ es e.
+      (fields_sound args m s level p.end (body_grammar (args locals)) form ns.0 (terms_of vs.0) vs.1 (field_list level locals form end bytes rest p ns vs is h g.0 n.0 v.0) v.1) (λ es e.
       let content : p.content ≡ n.0.front ++ (v.0.front ++ vs.1) = n.0.whole ∙ ap (λ (l : List ℕ). n.0.front ++ l) v.0.whole in
       let x : List ℕ = op ++ (g.0.len ++ p.content) in (
         record {

@@ -15,7 +15,7 @@ use Rattle.acpi_body.specs.Arguments.{with_path}
 use Rattle.acpi_values.specs.Grammars.{body_grammar}
 use Rattle.acpi_values.specs.Spelling.{Stands, Spells, AreOperands, heights}
 use Rattle.acpi_code.specs.Fields.{SpellsFields}
-pub use Rattle.acpi_values.specs.Declarations.{named_opcode, units_opcode}
+pub use Rattle.acpi_code.specs.Forms.{named_opcode, units_opcode}
 
 -- ---- declarations (20.2.5.1 and 20.2.5.2)
 

@@ -32,12 +32,12 @@ pub trait MethodCounting {
 
 /// A place of a method body: what it is read against, and what the body has declared before it.
 #[derive(Drop)]
-pub(crate) struct Here<'a, M: MethodCounting> {
+pub(crate) struct BodyPlace<'a, M: MethodCounting> {
     pub(crate) counting: &'a M,
     pub(crate) locals: &'a TreeSpace<()>,
 }
 
-impl<'a, M: MethodCounting> Counting for Here<'a, M> {
+impl<'a, M: MethodCounting> Counting for BodyPlace<'a, M> {
     ghost grammar = { λ h. body_grammar (M.arguments h.counting.now h.locals.now) };
 
     fn alloc(&self) -> Global {

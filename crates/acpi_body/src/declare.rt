@@ -10,7 +10,7 @@ ghost use Rattle.acpi_values.specs.steps.Reading.{part, term_at, fields_in};
 ghost use Rattle.acpi_body.specs.steps.Reading.{declared_at, named_form, units_form};
 ghost use Rattle.acpi_values.specs.steps.Cursor.{Gives, Reads, ReadsAll};
 
-use crate::counting::{Here, MethodCounting};
+use crate::counting::{BodyPlace, MethodCounting};
 use crate::locals::declare;
 use acpi_code::{Code, field_elements};
 use acpi_name::{Name, PlaceFault, place};
@@ -32,7 +32,7 @@ pub(crate) fn term_apart<M: MethodCounting>(
         (term_at (body_grammar (M.arguments counting.now locals.now)) level place) code.old
         code.new result }
 {
-    let here = Here {
+    let here = BodyPlace {
         counting: &*counting,
         locals: &*locals,
     };

@@ -11,7 +11,7 @@ ghost use Rattle.acpi_values.specs.steps.Reading.{term_at};
 ghost use Rattle.acpi_body.specs.steps.Reading.{else_at, if_form, while_form, statement_by, statement_at, statements_at, body_at};
 ghost use Rattle.acpi_values.specs.steps.Cursor.{Gives, Reads, ReadsOn, ReadsAll};
 
-use crate::counting::{Here, MethodCounting};
+use crate::counting::{BodyPlace, MethodCounting};
 use crate::declare::{named_declaration, term_apart, units_declaration};
 use acpi_code::{Code, Opcode};
 use acpi_space::{Space, TreeSpace};
@@ -174,7 +174,7 @@ fn form<'a, M: MethodCounting>(
             units_declaration(counting, locals, level, UnitsForm::BankField, code)
         }
         Opcode::Buffer => buffer(
-            &Here {
+            &BodyPlace {
                 counting: &*counting,
                 locals: &*locals,
             },
@@ -182,7 +182,7 @@ fn form<'a, M: MethodCounting>(
             code,
         ),
         Opcode::Package => package(
-            &Here {
+            &BodyPlace {
                 counting: &*counting,
                 locals: &*locals,
             },
@@ -190,7 +190,7 @@ fn form<'a, M: MethodCounting>(
             code,
         ),
         Opcode::VarPackage => var_package(
-            &Here {
+            &BodyPlace {
                 counting: &*counting,
                 locals: &*locals,
             },
@@ -198,7 +198,7 @@ fn form<'a, M: MethodCounting>(
             code,
         ),
         _ => placed(
-            &Here {
+            &BodyPlace {
                 counting: &*counting,
                 locals: &*locals,
             },

@@ -9,13 +9,13 @@ use Rattle.acpi_code.specs.declared.opcode.Opcode.TheVariants as opcodes
 use Rattle.acpi_code.specs.declared.fault.CodeFault.{CodeFault}
 use Rattle.acpi_code.specs.declared.fault.ConstantFault.{ConstantFault}
 use Rattle.acpi_code.specs.declared.fault.ConstantFault.TheVariants.{Part, NotConstant}
-use Rattle.acpi_code.specs.Opcodes.{first_opcode, opcode_bytes}
+use Rattle.acpi_code.specs.Opcodes.{opcode_bytes}
 use Rattle.acpi_code.specs.Faults.{ShowsConstant}
 use Rattle.acpi_code.specs.Spelling.{SpellsByte, SpellsNumber, SpellsInt}
 use Rattle.acpi_code.specs.steps.Reading.{byte_at, number_at, opcode_at, constant_at}
 use Rattle.acpi_code.specs.steps.Fields.{part, int_by, int_in}
-use Rattle.acpi_code.proofs.Readings.{Judge, judge_bind, judge_into, judge_told, Position, Source, Shown, Bare, bare_shown, bare_fault, Read, stands_at, position_after, read_as, read_behind}
-use Rattle.acpi_code.proofs.Opcodes.{opens, Opened, opcode_bare}
+use Rattle.acpi_code.proofs.Readings.{Judge, judge_bind, judge_into, judge_told, Position, Source, Shown, Bare, bare_shown, bare_fault, Read, position_after, read_as, read_behind}
+use Rattle.acpi_code.proofs.Opcodes.{opens, Opened, opcode_bare, begins_there}
 use Rattle.acpi_code.proofs.Numbers.{byte_bare, number_complete, number_bare}
 
 -- ---- complete
@@ -117,7 +117,7 @@ int_by_bare : (s : Source) (level end : ℕ) (opcode : Opcode) (bytes rest : Lis
     → Opened bytes (opcode, rest) → Judge (Read s level end SpellsInt bytes) (BareConstant s (end - length bytes)) (int_by end bytes opcode rest)
 int_by_bare s level end (opcodes.Constant form) bytes rest h o =
     part_bare s (end - length bytes) (Read s level end SpellsInt bytes) (constant_at form end rest) (whole_bare s level end form bytes rest h o)
-int_by_bare s level end opcode bytes rest h o = ((ap first_opcode (stands_at s level end bytes h) ∙ o.is_opcode h.after, refl), refl)
+int_by_bare s level end opcode bytes rest h o = ((begins_there s level end bytes (opcode, rest) h o, refl), refl)
 
 pub int_bare : (s : Source) (level end : ℕ) (bytes : List ℕ) → Position s.depth level s.code end bytes
     → Judge (Read s level end SpellsInt bytes) (BareConstant s (end - length bytes)) (int_in end bytes)

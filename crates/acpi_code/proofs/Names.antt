@@ -15,11 +15,12 @@ use Rattle.acpi_code.specs.declared.opcode.Opcode.TheVariants as opcodes
 use Rattle.acpi_code.specs.declared.fault.CodeFault.{CodeFault}
 use Rattle.acpi_code.specs.Faults.{ShowsElementPart}
 use Rattle.acpi_code.specs.declared.opcode.ConstantForm.TheVariants as forms
-use Rattle.acpi_code.specs.Opcodes.{is_name_start, plain_opcode_of, extended_opcode, first_opcode}
+use Rattle.acpi_code.specs.Opcodes.{is_name_start, BeginsWith}
+use Rattle.acpi_code.specs.steps.Opcodes.{plain_opcode_of, extended_opcode}
 use Rattle.acpi_code.specs.Spelling.{SpellsTermName, SpellsSegment}
 use Rattle.acpi_code.specs.steps.Reading.{or_name_fault, name_in, segment_in}
 use Rattle.acpi_code.proofs.Readings.{Judge, judge_into, Position, Source, Shown, Bare, bare_shown, Read, stands_at, position_after, cut_bare}
-use Rattle.acpi_code.proofs.Opcodes.{Opened}
+use Rattle.acpi_code.proofs.Opcodes.{Opened, begins_first}
 
 -- ---- complete
 
@@ -123,9 +124,9 @@ no_start b h = (by_start (is_name_start b) refl h, by_zero (eqb b 0x00) refl)
     by_zero true e = let zero : plain_opcode_of b ≡ opcodes.Constant forms.Zero = ap plain_opcode_of (eqb-true b 0x00 e) in absurd cc
 
 -- no name begins where no opcode is known, however the bytes go on
-pub nothing_begins : (bytes : List ℕ) → first_opcode bytes ≡ Some opcodes.Nothing → HasBadChar bytes
-nothing_begins [] h = absurd cc
-nothing_begins (b ∷ rest) h = by_lead (eqb b 0x5B) refl h
+pub nothing_begins : (bytes : List ℕ) → BeginsWith opcodes.Nothing bytes → HasBadChar bytes
+nothing_begins [] h = absurd (h.0 refl)
+nothing_begins (b ∷ rest) h = by_lead (eqb b 0x5B) refl (begins_first (b ∷ rest) opcodes.Nothing h)
   where
     bad : (b : ℕ) → is_name_start b ≡ false → eqb b 0x00 ≡ false → HasBadChar (b ∷ rest)
     bad b start zero = (fault_bad (b ∷ rest) names.BadChar (no_name b rest start zero)).0 refl

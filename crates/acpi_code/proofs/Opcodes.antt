@@ -1,5 +1,5 @@
 -- What begins with which bytes.
-use Rattle.std.proofs.Common.{◌≡◌, ℕ, zero, suc, ◌+◌, ◌-◌, ◌<◌, Bool, true, false, cond, eqb, ltb, ◌&&◌, Option, Some, List, [], ◌∷◌, ◌++◌, length, slice_index, Ok, refl, ap, subst, ◌∙◌, arith}
+use Rattle.std.proofs.Common.{◌≡◌, ℕ, zero, suc, ◌+◌, ◌-◌, ◌<◌, Bool, true, false, cond, eqb, ltb, ◌&&◌, ◌⊎◌, Option, Some, None, List, [], ◌∷◌, ◌++◌, length, drop, slice_index, Ok, refl, sym, ap, subst, ◌∙◌, arith, inl, inr}
 use Rattle.std.proofs.lemmas.Bool.{eqb-true, ltb-true, lt-ltb}
 use Rattle.std.specs.List.{list_all}
 use Rattle.acpi_name.proofs.NameAgain.{and_true, neq}
@@ -10,7 +10,9 @@ use Rattle.acpi_tree.specs.declared.tree.Width.TheVariants as widths
 use Rattle.acpi_code.specs.declared.opcode.ConstantForm.TheVariants as forms
 use Rattle.acpi_code.specs.declared.opcode.Opcode.{Opcode}
 use Rattle.acpi_code.specs.declared.opcode.Opcode.TheVariants as opcodes
-use Rattle.acpi_code.specs.Opcodes.{fixed_opcodes, are_same, opcode_with, is_name_start, plain_opcode_of, extended_opcode_of, extended_opcode, first_opcode, width_bytes, operator_bytes, opcode_bytes, is_spelled}
+use Rattle.acpi_code.specs.Opcodes.{is_name_start, width_bytes, operator_bytes, opcode_bytes, BeginsTerm, BeginsWith}
+use Rattle.acpi_code.specs.Laws.{OneOpcodeBegins}
+use Rattle.acpi_code.specs.steps.Opcodes.{fixed_opcodes, are_same, opcode_with, plain_opcode_of, extended_opcode_of, extended_opcode, first_opcode, is_spelled, FindsWhatBegins}
 use Rattle.acpi_code.specs.Faults.{Begins}
 use Rattle.acpi_code.specs.steps.Reading.{byte_at, extended_opcode_at, opcode_at}
 use Rattle.acpi_code.proofs.Readings.{Judge, judge_if, Position, Source, Shown, Bare, bare_shown, stands_at, cut_bare}
@@ -150,8 +152,132 @@ first_is end (b ∷ more) rest o h = by_lead (eqb b 0x5B) h
     by_lead false h = let pair : (plain_opcode_of b, more) ≡ (o, rest) = cc in ap (λ (y : Opcode × List ℕ). known y.0) pair
 
 -- the bytes of each opcode begin it
-pub bytes_begin : (o : Opcode) (rest : List ℕ) → is_spelled o ≡ true → first_opcode (opcode_bytes o ++ rest) ≡ known o
+bytes_begin : (o : Opcode) (rest : List ℕ) → is_spelled o ≡ true → first_opcode (opcode_bytes o ++ rest) ≡ known o
 bytes_begin o rest spelled = first_is 0 (opcode_bytes o ++ rest) rest o (opens 0 o rest spelled)
+
+-- ---- what the bytes begin with
+
+known_is : (o p : Opcode) → known o ≡ known p → o ≡ p
+known_is o p e = cc
+
+none_known : (o : Opcode) → None ≡ known o → ⊥
+none_known o e = cc
+
+-- a term that begins the bytes is found
+term_first : (o : Opcode) (bytes : List ℕ) → BeginsTerm o bytes → first_opcode bytes ≡ known o
+term_first opcodes.Name [] h = absurd cc
+term_first opcodes.Name (b ∷ rest) h = first_is 0 (b ∷ rest) rest opcodes.Name (opens_name 0 b rest h)
+term_first opcodes.Nothing bytes h = absurd h
+term_first (opcodes.Local n) bytes h = rw h.2 (bytes_begin (opcodes.Local n) h.1 (lt-ltb _ _ h.0))
+term_first (opcodes.Arg n) bytes h = rw h.2 (bytes_begin (opcodes.Arg n) h.1 (lt-ltb _ _ h.0))
+term_first o bytes h = rw h.1 (bytes_begin o h.0 refl)
+
+-- what is found is a term that begins the bytes, or nothing
+abbrev IsTermOrNone : Opcode → List ℕ → Type 0
+IsTermOrNone o bytes = (o ≡ opcodes.Nothing) ⊎ BeginsTerm o bytes
+
+told_begins : (o : Opcode) (front rest : List ℕ) → 0 < length front → Told o front → IsTermOrNone o (front ++ rest)
+told_begins opcodes.Name [] rest some t = absurd (omega arith)
+told_begins opcodes.Name (b ∷ front) rest some t = inr t
+told_begins opcodes.Nothing front rest some t = inl refl
+told_begins (opcodes.Local n) front rest some t = inr (ltb-true _ _ t.0, rest, ap (λ (l : List ℕ). l ++ rest) t.1)
+told_begins (opcodes.Arg n) front rest some t = inr (ltb-true _ _ t.0, rest, ap (λ (l : List ℕ). l ++ rest) t.1)
+told_begins o front rest some t = inr (rest, ap (λ (l : List ℕ). l ++ rest) t.1)
+
+first_term : (bytes : List ℕ) (o : Opcode) → first_opcode bytes ≡ known o → IsTermOrNone o bytes
+first_term [] o e = absurd (none_known o e)
+first_term (b ∷ rest) o e = by_lead (eqb b 0x5B) refl e
+  where
+    extended : b ≡ 0x5B → (more : List ℕ) → extended_opcode more ≡ known o → IsTermOrNone o (b ∷ more)
+    extended is [] e = absurd (none_known o e)
+    extended is (c ∷ more) e =
+        let there = told_begins (extended_opcode_of c) (0x5B ∷ c ∷ []) more (omega arith) (extended_told c) in
+        rw is (subst (λ p. IsTermOrNone p (0x5B ∷ c ∷ more)) (known_is (extended_opcode_of c) o e) there)
+
+    by_lead : (t : Bool) → eqb b 0x5B ≡ t → cond t (extended_opcode rest) (known (plain_opcode_of b)) ≡ known o → IsTermOrNone o (b ∷ rest)
+    by_lead true d e = extended (eqb-true b 0x5B d) rest e
+    by_lead false d e = subst (λ p. IsTermOrNone p (b ∷ rest)) (known_is (plain_opcode_of b) o e) (told_begins (plain_opcode_of b) (b ∷ []) rest (omega arith) (plain_told b))
+
+first_none : (bytes : List ℕ) → first_opcode bytes ≡ None → (bytes ≡ []) ⊎ (bytes ≡ 0x5B ∷ [])
+first_none [] e = inl refl
+first_none (b ∷ rest) e = by_lead (eqb b 0x5B) refl e
+  where
+    extended : b ≡ 0x5B → (more : List ℕ) → extended_opcode more ≡ None → (b ∷ more ≡ []) ⊎ (b ∷ more ≡ 0x5B ∷ [])
+    extended is [] e = inr (rw is refl)
+    extended is (c ∷ more) e = absurd (none_known (extended_opcode_of c) (sym e))
+
+    by_lead : (t : Bool) → eqb b 0x5B ≡ t → cond t (extended_opcode rest) (known (plain_opcode_of b)) ≡ None → (b ∷ rest ≡ []) ⊎ (b ∷ rest ≡ 0x5B ∷ [])
+    by_lead true d e = extended (eqb-true b 0x5B d) rest e
+    by_lead false d e = absurd (none_known (plain_opcode_of b) (sym e))
+
+with_term : (o : Opcode) (bytes : List ℕ) → BeginsTerm o bytes → BeginsWith o bytes
+with_term opcodes.Nothing bytes h = absurd h
+with_term o bytes h = h
+
+with_none : (bytes : List ℕ) → first_opcode bytes ≡ known opcodes.Nothing → BeginsWith opcodes.Nothing bytes
+with_none bytes e = (
+  λ is. none_known opcodes.Nothing (sym (ap first_opcode is) ∙ e),
+  λ is. none_known opcodes.Nothing (sym (ap first_opcode is) ∙ e),
+  λ o h. subst (λ p. BeginsTerm p bytes) (known_is o opcodes.Nothing (sym (term_first o bytes h) ∙ e)) h,
+)
+
+pub first_begins : (bytes : List ℕ) (o : Opcode) → first_opcode bytes ≡ known o → BeginsWith o bytes
+first_begins bytes o e = by_term (first_term bytes o e)
+  where
+    by_term : IsTermOrNone o bytes → BeginsWith o bytes
+    by_term (inl is) = subst (λ p. BeginsWith p bytes) (sym is) (with_none bytes (e ∙ ap known is))
+    by_term (inr h) = with_term o bytes h
+
+none_first : (bytes : List ℕ) → BeginsWith opcodes.Nothing bytes → first_opcode bytes ≡ known opcodes.Nothing
+none_first bytes (some, more, none) = by_first (first_opcode bytes) refl
+  where
+    by_first : (q : Option Opcode) → first_opcode bytes ≡ q → first_opcode bytes ≡ known opcodes.Nothing
+    by_first None e = absurd (by_none (first_none bytes e))
+      where
+        by_none : (bytes ≡ []) ⊎ (bytes ≡ 0x5B ∷ []) → ⊥
+        by_none (inl is) = some is
+        by_none (inr is) = more is
+    by_first (Some o) e = by_term (first_term bytes o e)
+      where
+        by_term : IsTermOrNone o bytes → first_opcode bytes ≡ known opcodes.Nothing
+        by_term (inl is) = e ∙ ap known is
+        by_term (inr h) = absurd (none o h)
+
+pub begins_first : (bytes : List ℕ) (o : Opcode) → BeginsWith o bytes → first_opcode bytes ≡ known o
+begins_first bytes opcodes.Nothing h = none_first bytes h
+begins_first bytes o h = term_first o bytes h
+
+-- .. and read
+pub opcode_found : (end : ℕ) (bytes : List ℕ) (o : Opcode) → BeginsWith o bytes → (rest : List ℕ) × (opcode_at end bytes ≡ Ok (o, rest))
+unfolding opcode_at byte_at
+opcode_found end [] o h = absurd (none_known o (begins_first [] o h))
+opcode_found end (b ∷ rest) o h = by_lead (eqb b 0x5B) refl (begins_first (b ∷ rest) o h)
+  where
+    extended : (more : List ℕ) → extended_opcode more ≡ known o → (rest : List ℕ) × (extended_opcode_at end more ≡ Ok (o, rest))
+    extended [] e = absurd (none_known o e)
+    extended (c ∷ more) e = (more, ap (λ (o : Opcode). Ok (o, more)) (known_is (extended_opcode_of c) o e))
+
+    by_lead : (t : Bool) → eqb b 0x5B ≡ t → cond t (extended_opcode rest) (known (plain_opcode_of b)) ≡ known o → (more : List ℕ) × (opcode_at end (b ∷ rest) ≡ Ok (o, more))
+    by_lead true d e = let r = extended rest e in (r.0, rw d r.1)
+    by_lead false d e = (rest, rw d (ap (λ (o : Opcode). Ok (o, rest)) (known_is (plain_opcode_of b) o e)))
+
+pub some_begin : (bytes : List ℕ) (o : Opcode) → BeginsWith o bytes → 0 < length bytes
+some_begin [] o h = absurd (none_known o (begins_first [] o h))
+some_begin (b ∷ rest) o h = omega arith
+
+pub finds : FindsWhatBegins
+finds bytes o = (first_begins bytes o, begins_first bytes o)
+
+pub one_begins : OneOpcodeBegins
+one_begins bytes some more = by_first (first_opcode bytes) refl
+  where
+    by_first : (q : Option Opcode) → first_opcode bytes ≡ q → (o : Opcode) × BeginsWith o bytes × ((p : Opcode) → BeginsWith p bytes → p ≡ o)
+    by_first None e = absurd (by_none (first_none bytes e))
+      where
+        by_none : (bytes ≡ []) ⊎ (bytes ≡ 0x5B ∷ []) → ⊥
+        by_none (inl is) = some is
+        by_none (inr is) = more is
+    by_first (Some o) e = (o, first_begins bytes o e, λ p h. known_is p o (sym (begins_first bytes p h) ∙ e))
 
 -- ---- what was read
 
@@ -179,7 +305,12 @@ opcode_bare s level end (b ∷ rest) h =
 pub opcode_sound : (s : Source) (level end : ℕ) (bytes : List ℕ) → Position s.depth level s.code end bytes → Judge (Opened bytes) (Shown s) (opcode_at end bytes)
 opcode_sound s level end bytes h = bare_shown s (Opened bytes) (opcode_at end bytes) (opcode_bare s level end bytes h)
 
--- what begins there passes a test
+-- it begins there
+pub begins_there : (s : Source) (level end : ℕ) (bytes : List ℕ) (x : Opcode × List ℕ) → Position s.depth level s.code end bytes → Opened bytes x
+    → BeginsWith x.0 (drop (end - length bytes) s.code)
+begins_there s level end bytes x h o = first_begins _ x.0 (ap first_opcode (stands_at s level end bytes h) ∙ o.is_opcode h.after)
+
+-- .. and passes a test
 pub begins : (s : Source) (level end : ℕ) (bytes : List ℕ) (x : Opcode × List ℕ) (test : Opcode → Bool) → Position s.depth level s.code end bytes
     → Opened bytes x → test x.0 ≡ true → Begins test s.code (end - length bytes)
-begins s level end bytes x test h o passes = (x.0, ap first_opcode (stands_at s level end bytes h) ∙ o.is_opcode h.after, passes)
+begins s level end bytes x test h o passes = (x.0, begins_there s level end bytes x h o, passes)

@@ -1,5 +1,5 @@
 -- What the fault of a part of code shows of the code (ACPI 6.5, 20.2).
-use Rattle.std.specs.Prelude.{◌≡◌, ◌⊎◌, ◌+◌, ◌%◌, ◌<◌, ◌≤◌, ℕ, zero, suc, true, false, Bool, Some, List, ◌∷◌, ◌++◌, length, drop}
+use Rattle.std.specs.Prelude.{◌≡◌, ◌⊎◌, ◌+◌, ◌%◌, ◌<◌, ◌≤◌, ℕ, zero, suc, true, false, Bool, List, ◌∷◌, ◌++◌, length, drop}
 use Rattle.std.specs.List.{AllByRecursion}
 use Rattle.acpi_name.specs.Names.{is_segment_front}
 use Rattle.acpi_name.specs.Spelling.{HasBadChar, HasZeroCount, HasTooManyUps}
@@ -11,7 +11,7 @@ use Rattle.acpi_code.specs.declared.fault.ConstantFault.{ConstantFault}
 use Rattle.acpi_code.specs.declared.fault.ConstantFault.TheVariants.{Part, NotConstant}
 use Rattle.acpi_code.specs.declared.opcode.Opcode.{Opcode}
 use Rattle.acpi_code.specs.declared.opcode.Opcode.TheVariants as opcodes
-use Rattle.acpi_code.specs.Opcodes.{first_opcode, opcode_bytes}
+use Rattle.acpi_code.specs.Opcodes.{opcode_bytes, BeginsWith, is_constant}
 use Rattle.acpi_code.specs.Spelling.{IsText}
 use Rattle.acpi_code.specs.Fields.{SpellsFields}
 
@@ -24,7 +24,7 @@ ByteAt Is code place = (b : ℕ) × (rest : List ℕ) × (drop place code ≡ b 
 -- what begins at the place passes the test (20.3)
 abbrev pub Begins : (Opcode → Bool) → List ℕ → ℕ → Type 0
 Begins test code place =
-    (opcode : Opcode) × (first_opcode (drop place code) ≡ Some opcode) × (test opcode ≡ true)
+    (opcode : Opcode) × BeginsWith opcode (drop place code) × (test opcode ≡ true)
 
 -- directly before the place stands an opcode that passes the test (20.3)
 pub record FollowsOpcode (test : Opcode → Bool) (code : List ℕ) (place : ℕ) : Type 0 where
@@ -135,15 +135,11 @@ ShowsPart depth code TooDeep place = (depth ≤ place) × (place < length code)
 
 -- ---- what the fault of a constant shows
 
-abbrev pub is_no_constant : Opcode → Bool
-is_no_constant (opcodes.Constant form) = false
-is_no_constant _ = true
-
 -- The same of a constant. NotConstant: this opcode begins there, and is no constant's.
 abbrev pub ShowsConstant : ℕ → List ℕ → ConstantFault → Type 0
 ShowsConstant depth code (Part f) = ShowsPart depth code f.reason f.place
 ShowsConstant depth code (NotConstant opcode place) =
-    (first_opcode (drop place code) ≡ Some opcode) × (is_no_constant opcode ≡ true)
+    BeginsWith opcode (drop place code) × (is_constant opcode ≡ false)
 
 -- ---- what the fault of a field element shows
 

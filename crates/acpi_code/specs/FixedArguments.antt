@@ -58,21 +58,24 @@ abbrev pub IsLengthOf : Bool → List ℕ → Type 0
 IsLengthOf true len = (n : ℕ) × SpellsPkgLength n len
 IsLengthOf false len = len ≡ []
 
--- These fixed arguments of a form must follow at the place: before it stand the form's opcode, its package length where
--- it has a package, and the arguments before these (20.2.5).
-pub record Awaits (opcode : Opcode) (kinds : List FixedArgument) (code : List ℕ)
+-- Such bytes stand before the place, directly behind the opcode of a form, and behind its package length where it has a
+-- package (20.2.5).
+pub record FollowsForm (opcode : Opcode) (Are : List ℕ → Type 0) (code : List ℕ)
     (place : ℕ) : Type 0 where
-  pub before : List FixedArgument
-  pub all : fixed_arguments opcode ≡ before ++ kinds
   pub at : ℕ
   pub len : List ℕ
   pub is_len : IsLengthOf (has_package opcode) len
-  pub values : Values before
   pub front : List ℕ
   pub rest : List ℕ
   pub here : drop at code ≡ opcode_bytes opcode ++ (len ++ (front ++ rest))
-  pub spells : SpellsArguments before values front
+  pub are : Are front
   pub behind : place ≡ at + (length (opcode_bytes opcode) + (length len + length front))
+
+-- these fixed arguments of a form must follow at the place: before it stand the arguments before these
+abbrev pub Awaits : Opcode → List FixedArgument → List ℕ → ℕ → Type 0
+Awaits opcode kinds code place = (before : List FixedArgument) × (values : Values before)
+    × (fixed_arguments opcode ≡ before ++ kinds)
+    × FollowsForm opcode (SpellsArguments before values) code place
 
 -- a fixed argument of that kind must begin at the place
 abbrev pub MustBegin : FixedArgument → List ℕ → ℕ → Type 0

@@ -4,6 +4,10 @@ use Rattle.acpi_name.specs.Names.{NameParts}
 use Rattle.acpi_tree.specs.declared.tree.Int.{Int}
 use Rattle.acpi_tree.specs.declared.tree.ScopeKind.{ScopeKind}
 use Rattle.acpi_tree.specs.declared.tree.ScopeKind.TheVariants as kinds
+use Rattle.acpi_tree.specs.declared.place.NamedForm.{NamedForm}
+use Rattle.acpi_tree.specs.declared.place.NamedForm.TheVariants as named
+use Rattle.acpi_tree.specs.declared.place.UnitsForm.{UnitsForm}
+use Rattle.acpi_tree.specs.declared.place.UnitsForm.TheVariants as units
 use Rattle.acpi_tree.specs.Tree.{ExternalParts}
 use Rattle.acpi_code.specs.declared.opcode.Opcode.{Opcode}
 use Rattle.acpi_code.specs.declared.opcode.Opcode.TheVariants as opcodes
@@ -81,6 +85,20 @@ fixed_arguments _ = []
 -- their values
 abbrev pub ArgumentsOf : Opcode → Type 0
 ArgumentsOf opcode = Values (fixed_arguments opcode)
+
+-- the opcodes of declarations (20.2.5.1, 20.2.5.2)
+abbrev pub named_opcode : NamedForm → Opcode
+named_opcode named.Name = opcodes.DeclareName
+named_opcode (named.Create w) = opcodes.Create w
+named_opcode named.CreateField = opcodes.CreateField
+named_opcode named.Region = opcodes.Region
+named_opcode named.Mutex = opcodes.Mutex
+named_opcode named.Event = opcodes.Event
+
+abbrev pub units_opcode : UnitsForm → Opcode
+units_opcode units.Field = opcodes.Field
+units_opcode units.IndexField = opcodes.IndexField
+units_opcode units.BankField = opcodes.BankField
 
 -- the opcode of what opens a scope for items (20.2.5.1, 20.2.5.2)
 abbrev pub kind_opcode : ScopeKind → Opcode

@@ -1,9 +1,9 @@
 -- Laws on what begins with which bytes.
-use Rattle.std.specs.Prelude.{◌≡◌, ℕ, true, Some, List, ◌++◌}
+use Rattle.std.specs.Prelude.{◌≡◌, ◌≢◌, ℕ, List, [], ◌∷◌}
 use Rattle.acpi_code.specs.declared.opcode.Opcode.{Opcode}
-use Rattle.acpi_code.specs.Opcodes.{first_opcode, opcode_bytes, is_spelled}
+use Rattle.acpi_code.specs.Opcodes.{BeginsWith}
 
--- the bytes of each opcode that has some begin it
-abbrev pub BytesBeginOpcodes : Type 0
-BytesBeginOpcodes = (o : Opcode) (rest : List ℕ) → is_spelled o ≡ true
-    → first_opcode (opcode_bytes o ++ rest) ≡ Some o
+-- bytes begin with one opcode, or with nothing that is known, if there are some and they are no lone 5B
+abbrev pub OneOpcodeBegins : Type 0
+OneOpcodeBegins = (bytes : List ℕ) → bytes ≢ [] → bytes ≢ 0x5B ∷ []
+    → (o : Opcode) × BeginsWith o bytes × ((p : Opcode) → BeginsWith p bytes → p ≡ o)

@@ -1,5 +1,5 @@
 -- The opcodes (ACPI 6.5, 20.3).
-use Rattle.std.specs.Prelude.{ℕ, ◌+◌, ◌-◌, Bool, true, false, ◌&&◌, ◌||◌, Option, Some, None, List, [], ◌∷◌, map, nat_lt, ◌==◌, if◌then◌else◌}
+use Rattle.std.specs.Prelude.{◌≡◌, ◌≢◌, ◌+◌, ◌<◌, ℕ, Bool, true, false, ◌||◌, List, [], ◌∷◌, ◌++◌, slice_index, ◌==◌}
 use Rattle.acpi_name.specs.Names.{is_lead_char}
 use Rattle.acpi_code.specs.declared.opcode.Opcode.{Opcode}
 use Rattle.acpi_code.specs.declared.opcode.Opcode.TheVariants as opcodes
@@ -7,7 +7,7 @@ use Rattle.acpi_code.specs.declared.opcode.ConstantForm.TheVariants as forms
 use Rattle.acpi_tree.specs.declared.tree.Width.{Width}
 use Rattle.acpi_tree.specs.declared.tree.Width.TheVariants as widths
 use Rattle.acpi_tree.specs.declared.op.Op.{Op}
-use Rattle.acpi_tree.specs.Operators.{row_of, operators}
+use Rattle.acpi_tree.specs.Operators.{row_of}
 
 -- ---- the bytes of each opcode
 
@@ -69,66 +69,49 @@ opcode_bytes opcodes.Nothing = []
 
 -- ---- what begins with which bytes
 
--- the opcodes that have bytes of their own: all but names, Local0 to Local7 and Arg0 to Arg6
-abbrev pub fixed_opcodes : List Opcode
-fixed_opcodes =
-    opcodes.Constant forms.Zero ∷ opcodes.Constant forms.One ∷ opcodes.Constant forms.Ones ∷
-    opcodes.Constant forms.Byte ∷ opcodes.Constant forms.Word ∷ opcodes.Constant forms.DWord ∷
-    opcodes.Constant forms.QWord ∷ opcodes.Str ∷ opcodes.Buffer ∷ opcodes.Package ∷
-    opcodes.VarPackage ∷ opcodes.DeclareName ∷ opcodes.Scope ∷ opcodes.Method ∷
-    opcodes.External ∷ opcodes.Create widths.DWord ∷ opcodes.Create widths.Word ∷
-    opcodes.Create widths.Byte ∷ opcodes.Create widths.Bit ∷ opcodes.Create widths.QWord ∷
-    opcodes.If ∷ opcodes.Else ∷ opcodes.While ∷ opcodes.Alias ∷
-    opcodes.Constant forms.Revision ∷ opcodes.Debug ∷ opcodes.Mutex ∷ opcodes.Event ∷
-    opcodes.CreateField ∷ opcodes.Region ∷ opcodes.Field ∷ opcodes.Device ∷ opcodes.Processor ∷
-    opcodes.Power ∷ opcodes.Thermal ∷ opcodes.IndexField ∷ opcodes.BankField ∷
-    opcodes.DataRegion ∷
-    map opcodes.Operator operators
-
--- these are the same bytes
-abbrev pub are_same : List ℕ → List ℕ → Bool
-are_same [] [] = true
-are_same (b ∷ bs) (c ∷ cs) = are_same bs cs && b == c
-are_same _ _ = false
-
--- that of these opcodes which has the bytes
-abbrev pub opcode_with : List ℕ → List Opcode → Opcode
-opcode_with bytes [] = opcodes.Nothing
-opcode_with bytes (o ∷ os) = if are_same bytes (opcode_bytes o) then o else opcode_with bytes os
-
 -- a name in the place of a term begins so: with '\', '^', '.', '/' or a lead character (20.2.2 NameString)
 abbrev pub is_name_start : ℕ → Bool
 is_name_start b = b == 0x5C || b == 0x5E || b == 0x2E || b == 0x2F || is_lead_char b
 
--- what begins with a byte that is not 5B: names, Local0 to Local7, Arg0 to Arg6, and the opcodes of that byte alone
-abbrev pub plain_opcode_of : ℕ → Opcode
-plain_opcode_of b =
-    if is_name_start b then opcodes.Name else
-    if nat_lt 0x5F b && nat_lt b 0x68 then opcodes.Local (b - 0x60) else
-    if nat_lt 0x67 b && nat_lt b 0x6F then opcodes.Arg (b - 0x68) else
-    opcode_with (b ∷ []) fixed_opcodes
+-- the bytes begin so: with the first character of a name, or with the bytes of an opcode; Local0 to Local7, Arg0 to Arg6
+abbrev pub BeginsTerm : Opcode → List ℕ → Type 0
+BeginsTerm opcodes.Name bytes = is_name_start (slice_index bytes 0) ≡ true
+BeginsTerm opcodes.Nothing bytes = ⊥
+BeginsTerm (opcodes.Local n) bytes = (n < 8) × (rest : List ℕ) × (bytes ≡ (n + 0x60) ∷ rest)
+BeginsTerm (opcodes.Arg n) bytes = (n < 7) × (rest : List ℕ) × (bytes ≡ (n + 0x68) ∷ rest)
+BeginsTerm o bytes = (rest : List ℕ) × (bytes ≡ opcode_bytes o ++ rest)
 
--- what begins with 5B and a byte
-abbrev pub extended_opcode_of : ℕ → Opcode
-extended_opcode_of b = opcode_with (0x5B ∷ b ∷ []) fixed_opcodes
+-- What the bytes begin with: nothing that is known where they begin in none of these ways, and are more than a lone 5B.
+abbrev pub BeginsWith : Opcode → List ℕ → Type 0
+BeginsWith opcodes.Nothing bytes =
+    (bytes ≢ []) × (bytes ≢ 0x5B ∷ []) × ((o : Opcode) → ¬ BeginsTerm o bytes)
+BeginsWith o bytes = BeginsTerm o bytes
 
-abbrev pub extended_opcode : List ℕ → Option Opcode
-extended_opcode [] = None
-extended_opcode (b ∷ rest) = Some (extended_opcode_of b)
-
--- what the bytes begin with, if they are no lone 5B
-abbrev pub first_opcode : List ℕ → Option Opcode
-first_opcode [] = None
-first_opcode (b ∷ rest) = if b == 0x5B then extended_opcode rest else Some (plain_opcode_of b)
+-- ---- kinds of opcodes
 
 abbrev pub is_name_opcode : Opcode → Bool
 is_name_opcode opcodes.Name = true
 is_name_opcode _ = false
 
--- its bytes begin this opcode and no other; Local0 to Local7, Arg0 to Arg6
-abbrev pub is_spelled : Opcode → Bool
-is_spelled opcodes.Name = false
-is_spelled opcodes.Nothing = false
-is_spelled (opcodes.Local n) = nat_lt n 8
-is_spelled (opcodes.Arg n) = nat_lt n 7
-is_spelled _ = true
+-- SimpleName := NameString | ArgObj | LocalObj (20.2.2)
+abbrev pub is_simple_name_opcode : Opcode → Bool
+is_simple_name_opcode (opcodes.Local n) = true
+is_simple_name_opcode (opcodes.Arg n) = true
+is_simple_name_opcode o = is_name_opcode o
+
+-- ConstObj, and the numbers and RevisionOp of ComputationalData (20.2.3)
+abbrev pub is_constant : Opcode → Bool
+is_constant (opcodes.Constant form) = true
+is_constant _ = false
+
+-- data that is no constant: a string, Buffer, Package, VarPackage (20.2.3)
+abbrev pub is_other_data : Opcode → Bool
+is_other_data opcodes.Str = true
+is_other_data opcodes.Buffer = true
+is_other_data opcodes.Package = true
+is_other_data opcodes.VarPackage = true
+is_other_data _ = false
+
+-- DataObject (20.2.3)
+abbrev pub is_data_opcode : Opcode → Bool
+is_data_opcode o = is_constant o || is_other_data o

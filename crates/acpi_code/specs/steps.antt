@@ -1,3 +1,4 @@
+pub mod Opcodes
 pub mod Remaining
 pub mod Within
 pub mod Reading

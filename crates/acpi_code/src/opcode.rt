@@ -1,7 +1,8 @@
 //! What begins with which bytes.
 
 ghost use Rattle.std.specs.Prelude.{◌≡◌};
-ghost use Rattle.acpi_code.specs.Opcodes.{is_name_opcode, is_name_start, plain_opcode_of, extended_opcode_of};
+ghost use Rattle.acpi_code.specs.Opcodes.{is_name_opcode, is_name_start};
+ghost use Rattle.acpi_code.specs.steps.Opcodes.{plain_opcode_of, extended_opcode_of};
 ghost use Rattle.acpi_code.specs.steps.Reading.{opcode_at};
 ghost use Rattle.acpi_code.specs.steps.Cursor.{Finds};
 

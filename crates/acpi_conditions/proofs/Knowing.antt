@@ -8,12 +8,12 @@ use Rattle.acpi_space.specs.Search.{answer, tries}
 use Rattle.acpi_space.specs.Laws.{Among}
 use Rattle.acpi_space.proofs.Elements.{one_some, not_both, none_of, some_is}
 use Rattle.acpi_conditions.specs.Nodes.{Term}
-use Rattle.acpi_conditions.specs.Entries.{Path, Namespace, HasObject, IsScopeIn, IsFoundIn}
+use Rattle.acpi_conditions.specs.Entries.{Path, Namespace, IsScopeIn, IsFoundIn}
 use Rattle.acpi_conditions.specs.Known.{Known, is_certain, is_certain_scope, is_possible, is_possible_scope, up_to_certain, candidates, is_certain_name, IsTrueOf}
 use Rattle.acpi_conditions.proofs.Basics.{and_left, and_right, never, any_some, some_any, some_found, same_path, path_itself}
 
 module _ (objects : Namespace) (k : Known) (h : IsTrueOf objects k) where
-  pub certain_made : (p : Path) → is_certain k p ≡ true → HasObject objects p
+  pub certain_made : (p : Path) → is_certain k p ≡ true → (t : Term) × (objects p ≡ Some t)
   certain_made p e =
       let c = any_some (λ c. is_same_path c.path p) k.certain e in
       let m = h.certain c.0 c.1 in

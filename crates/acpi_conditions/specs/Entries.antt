@@ -16,9 +16,6 @@ Path = List Segment
 abbrev pub Namespace : Type 0
 Namespace = Lookup Term
 
-abbrev pub HasObject : Namespace → Path → Type 0
-HasObject objects p = (t : Term) × (objects p ≡ Some t)
-
 -- an object below which others may be declared stands there
 abbrev pub IsScopeIn : Namespace → Path → Type 0
 IsScopeIn objects p = (t : Term) × (objects p ≡ Some t) × IsTrue t.is_scope

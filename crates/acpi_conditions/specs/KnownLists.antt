@@ -56,10 +56,4 @@ lists_behind m keeps k =
 
 -- the lists as they stood at the mark
 abbrev pub lists_at : Mark → KnownLists → KnownLists
-lists_at m k =
-    record {
-      entries = take m.entries k.entries;
-      certain = oldest m.certain k.certain;
-      hidden = take m.hidden k.hidden;
-      in_loop = m.in_loop;
-    }
+lists_at m k = record (lists_behind m false k) { entries = take m.entries k.entries }

@@ -7,7 +7,7 @@ use Rattle.acpi_space.specs.Lookups.{is_defined_in}
 use Rattle.acpi_space.specs.Search.{answer}
 use Rattle.acpi_space.specs.Laws.{Among}
 use Rattle.acpi_conditions.specs.Nodes.{Place, Term, Nodes, places}
-use Rattle.acpi_conditions.specs.Entries.{Path, Namespace, IsFoundIn, Turn, then_branch, else_branch, in_round, within, past, Entry, Holds, HasNoCondition, Why, empty_name, above_root, missing, no_parent, not_a_scope, taken, unsure, Refusal}
+use Rattle.acpi_conditions.specs.Entries.{Path, Namespace, IsFoundIn, Turn, in_round, past, Entry, Holds, HasNoCondition, Why, unsure, Refusal}
 use Rattle.acpi_conditions.specs.Known.{Known, is_certain, is_certain_scope, is_possible, is_possible_scope, candidates, is_certain_name, IsTrueOf}
 use Rattle.acpi_conditions.specs.Survey.{Around, Survey, behind, survey, known_behind, surveys, all_entries, all_refused}
 use Rattle.acpi_conditions.specs.Walk.{of_first, Package, Walk, passed, pass, enter_other, leave, started, walked, walked_tables}
@@ -20,11 +20,8 @@ use Rattle.acpi_conditions.specs.Listings.{Placement, AreListings, entry_of}
 
 -- the way has the turn; a turn past a stop is none of a run's way, since the stop would have ended the run
 abbrev pub HasTurn : List Turn → Turn → Type 0
-HasTurn w (then_branch place) = Among w (then_branch place)
-HasTurn w (else_branch place) = Among w (else_branch place)
-HasTurn w (in_round place) = Among w (in_round place)
-HasTurn w (within place) = Among w (within place)
 HasTurn w (past place) = Unit {0}
+HasTurn w turn = Among w turn
 
 -- The entry of an event: it has the term, the scope and the path of that moment; control came by each turn of its way;
 -- and the term declared its object exactly where what the entry asks was so.
@@ -46,13 +43,8 @@ IsMatched es rs ev = ((e : Entry) × Among es e × MatchesEntry ev e)
 
 -- it is known at which path each Scope is opened, if it is
 abbrev pub IsSure : Why → Type 0
-IsSure (empty_name p) = Unit {0}
-IsSure (above_root p) = Unit {0}
-IsSure (missing p) = Unit {0}
-IsSure (no_parent p) = Unit {0}
-IsSure (not_a_scope p) = Unit {0}
-IsSure (taken p) = Unit {0}
 IsSure (unsure ps) = ⊥
+IsSure _ = Unit {0}
 
 abbrev pub AreSure : List Refusal → Type 0
 AreSure rs = (r : Refusal) → Among rs r → IsSure r.why
@@ -89,42 +81,38 @@ abbrev pub AreDistinct : List Place → Type 0
 AreDistinct [] = ⊤
 AreDistinct (p ∷ ps) = (Among ps p → ⊥) × AreDistinct ps
 
+-- This is so of each entry, behind each run of tables whose nodes stand at distinct places.
+abbrev pub OfEntries : (Known → List Nodes → State → Entry → Type 0) → Type 0
+OfEntries IsSo = (k : Known) (tables : List Nodes) (S S' : State) → IsRunOf k tables S S'
+    → AreDistinct (flat_map places tables)
+    → (e : Entry) → Among (all_entries (surveys k tables)) e → IsSo k tables S' e
+
 -- control has come to the entry's term
 abbrev pub IsReached : State → Entry → Type 0
 IsReached S e = (ev : Event) × Among S.events ev × (ev.term ≡ e.term)
 
 -- control hasn't taken the turn; past a stop, it was stopped there
 abbrev pub IsMissed : State → Turn → Type 0
-IsMissed S (then_branch place) = Among S.turns (then_branch place) → ⊥
-IsMissed S (else_branch place) = Among S.turns (else_branch place) → ⊥
-IsMissed S (in_round place) = Among S.turns (in_round place) → ⊥
-IsMissed S (within place) = Among S.turns (within place) → ⊥
 IsMissed S (past place) = Among S.stop_places place
+IsMissed S turn = Among S.turns turn → ⊥
 
 -- Control comes to the term of each entry, unless it misses a turn of the entry's way. (Of entries inside a While,
 -- where one round may miss one turn and another round another, nothing is said.)
 abbrev pub ComesByWay : Type 0
-ComesByWay = (k : Known) (tables : List Nodes) (S S' : State) → IsRunOf k tables S S'
-    → AreDistinct (flat_map places tables)
-    → (e : Entry) → Among (all_entries (surveys k tables)) e
-    → IsReached S' e ⊎ ((turn : Turn) × Among e.way turn × IsMissed S' turn)
-    ⊎ ((place : Place) × Among e.way (in_round place))
+ComesByWay = OfEntries (λ k tables S e.
+    IsReached S e ⊎ ((turn : Turn) × Among e.way turn × IsMissed S turn)
+    ⊎ ((place : Place) × Among e.way (in_round place)))
 
 -- control has taken the turn; past a stop, it was not stopped there
 abbrev pub IsTaken : State → Turn → Type 0
-IsTaken S (then_branch place) = Among S.turns (then_branch place)
-IsTaken S (else_branch place) = Among S.turns (else_branch place)
-IsTaken S (in_round place) = Among S.turns (in_round place)
-IsTaken S (within place) = Among S.turns (within place)
 IsTaken S (past place) = Among S.stop_places place → ⊥
+IsTaken S turn = Among S.turns turn
 
 -- .. and where it comes to the term, it has taken each turn of the way
 abbrev pub TakesTheWay : Type 0
-TakesTheWay = (k : Known) (tables : List Nodes) (S S' : State) → IsRunOf k tables S S'
-    → AreDistinct (flat_map places tables)
-    → (e : Entry) → Among (all_entries (surveys k tables)) e → IsReached S' e
-    → ((turn : Turn) → Among e.way turn → IsTaken S' turn)
-    ⊎ ((place : Place) × Among e.way (in_round place))
+TakesTheWay = OfEntries (λ k tables S e. IsReached S e
+    → ((turn : Turn) → Among e.way turn → IsTaken S turn)
+    ⊎ ((place : Place) × Among e.way (in_round place)))
 
 -- ---- links
 
@@ -138,23 +126,19 @@ CandidatesCover =
 -- where control came to the term of an entry outside of Whiles, what is seen from the entry is true of the namespace at
 -- the end
 abbrev pub SeenIsTrue : Type 0
-SeenIsTrue = (k : Known) (tables : List Nodes) (S S' : State) → IsRunOf k tables S S'
-    → AreDistinct (flat_map places tables)
-    → (e : Entry) → Among (all_entries (surveys k tables)) e
-    → IsTrue (not (list_any is_round e.way)) → IsReached S' e
-    → IsTrueOf S'.objects (seen_from k (all_entries (surveys k tables)) e)
+SeenIsTrue = OfEntries (λ k tables S e.
+    IsTrue (not (list_any is_round e.way)) → IsReached S e
+    → IsTrueOf S.objects (seen_from k (all_entries (surveys k tables)) e))
 
 -- so a name that is searched from the entry's scope at the end is found at one of its candidates, if it is; and it is
 -- found where one is certain
 abbrev pub LinksCover : Type 0
-LinksCover = (k : Known) (tables : List Nodes) (S S' : State) → IsRunOf k tables S S'
-    → AreDistinct (flat_map places tables)
-    → (e : Entry) → Among (all_entries (surveys k tables)) e
-    → IsTrue (not (list_any is_round e.way)) → IsReached S' e → (n : NameParts)
-    → ((p : Path) → answer (is_defined_in S'.objects) e.scope n ≡ Some p
+LinksCover = OfEntries (λ k tables S e.
+    IsTrue (not (list_any is_round e.way)) → IsReached S e → (n : NameParts)
+    → ((p : Path) → answer (is_defined_in S.objects) e.scope n ≡ Some p
     → Among (candidates (seen_from k (all_entries (surveys k tables)) e) e.scope n) p)
     × (IsTrue (is_certain_name (seen_from k (all_entries (surveys k tables)) e) e.scope n)
-    → IsFoundIn S'.objects e.scope n)
+    → IsFoundIn S.objects e.scope n))
 
 -- ---- behind tables
 

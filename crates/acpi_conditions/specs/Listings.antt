@@ -2,7 +2,7 @@
 -- without If, While and stops have one (ACPI 6.5, 5.3).
 use Rattle.std.specs.Prelude.{◌≡◌, false, List, [], ◌∷◌, ◌++◌, ⊤}
 use Rattle.acpi_space.specs.Lookups.{singleton, union}
-use Rattle.acpi_conditions.specs.Nodes.{Term, Nodes, no_nodes, declares, opens, branch, loop, stop}
+use Rattle.acpi_conditions.specs.Nodes.{Term, Nodes, no_nodes, declares, opens}
 use Rattle.acpi_conditions.specs.Entries.{Path, Namespace, Asks, Entry}
 use Rattle.acpi_conditions.specs.Runs.{Makes, Finds}
 
@@ -31,17 +31,14 @@ IsListing (opens place n inside rest) s objects ds =
     (p : Path) × (xs : List Placement) × (ys : List Placement) × Finds objects s n p
     × IsListing inside p objects xs × IsListing rest s (made_behind objects xs) ys
     × (ds ≡ xs ++ ys)
-IsListing (branch place first other rest) s objects ds = ⊥
-IsListing (loop place body rest) s objects ds = ⊥
-IsListing (stop place kind rest) s objects ds = ⊥
+IsListing _ s objects ds = ⊥
 
 -- .. of tables, one after another
 abbrev pub AreListings : List Nodes → Namespace → List (List Placement) → Type 0
 AreListings [] objects [] = ⊤
 AreListings (t ∷ ts) objects (ds ∷ dss) =
     IsListing t [] objects ds × AreListings ts (made_behind objects ds) dss
-AreListings [] objects (ds ∷ dss) = ⊥
-AreListings (t ∷ ts) objects [] = ⊥
+AreListings _ objects _ = ⊥
 
 abbrev pub nothing_asked : Asks
 nothing_asked = record { has = false; no = false; needs = [] }

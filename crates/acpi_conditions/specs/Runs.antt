@@ -41,22 +41,20 @@ with_turn turn S = record S { turns = turn ∷ S.turns }
 abbrev pub with_stop : Place → State → State
 with_stop place S = record S { stop_places = place ∷ S.stop_places }
 
+abbrev pub with_event : Path → List Turn → Term → Option Path → State → State
+with_event s w t o S = record S {
+  events =
+      record { term = t; scope = s; way = w; objects = S.objects; object_path = o } ∷ S.events;
+}
+
 -- the term declares its object, and control goes into it; or it declares nothing
 abbrev pub state_inside : Path → List Turn → Term → Path → State → State
-state_inside s w t p S = record S {
+state_inside s w t p S = record (with_turn (within t.place) (with_event s w t (Some p) S)) {
   objects = union S.objects (singleton p t);
-  events =
-      record { term = t; scope = s; way = w; objects = S.objects; object_path = Some p } ∷ S.events;
-  turns = within t.place ∷ S.turns;
 }
 
 abbrev pub state_past : Path → List Turn → Term → State → State
-state_past s w t S =
-    record S {
-      events =
-          record { term = t; scope = s; way = w; objects = S.objects; object_path = None }
-          ∷ S.events;
-    }
+state_past s w t S = with_event s w t None S
 
 pub data Ending : Type 0 where
   goes_on : Ending

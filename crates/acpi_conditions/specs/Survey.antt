@@ -50,12 +50,7 @@ empty_survey a k = record { entries = []; refused = []; stops = []; certain = k.
 
 abbrev pub refusing : Place → Why → Surveying
 refusing place why a k =
-    record {
-      entries = [];
-      refused = record { place = place; why = why } ∷ [];
-      stops = [];
-      certain = k.certain;
-    }
+    record (empty_survey a k) { refused = record { place = place; why = why } ∷ [] }
 
 -- ---- each node
 
@@ -114,13 +109,7 @@ opening place n inside a k = opening_as place inside a k (opened_at k a.scope n)
 
 -- behind an If; neither branch knows of the other's entries
 abbrev pub either : Known → Survey → Survey → Survey
-either k x y =
-    record {
-      entries = x.entries ++ y.entries;
-      refused = x.refused ++ y.refused;
-      stops = x.stops ++ y.stops;
-      certain = k.certain;
-    }
+either k x y = record (joined x y) { certain = k.certain }
 
 abbrev pub branching : Place → Surveying → Surveying → Surveying
 branching place first other a k =
@@ -143,12 +132,7 @@ looping place body a k = left_loop k (body (turning a (in_round place)) (known_i
 
 abbrev pub stopping : Place → Stop → Surveying
 stopping place kind a k =
-    record {
-      entries = [];
-      refused = [];
-      stops = record { place = place; kind = kind } ∷ [];
-      certain = k.certain;
-    }
+    record (empty_survey a k) { stops = record { place = place; kind = kind } ∷ [] }
 
 -- ---- all nodes
 

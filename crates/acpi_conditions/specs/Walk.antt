@@ -134,15 +134,18 @@ enter_body place w =
 
 -- ---- out of a package
 
--- what stands inside of it gives
-abbrev pub given_inside : Package → Walk → Survey
-given_inside p w =
+-- what has come behind so many entries and stops gives
+abbrev pub given_behind : (entries stops : ℕ) → Walk → Survey
+given_behind entries stops w =
     record {
-      entries = drop p.entries w.entries;
+      entries = drop entries w.entries;
       refused = [];
-      stops = drop p.stops w.stops;
+      stops = drop stops w.stops;
       certain = w.known.certain;
     }
+
+abbrev pub given_inside : Package → Walk → Survey
+given_inside p w = given_behind p.entries p.stops w
 
 -- certain behind a term
 abbrev pub certain_after : Known → List Entry → List Certain → List Certain
@@ -153,17 +156,13 @@ certain_after k (e ∷ es) inside = cond (asks_nothing e.asks) inside (settled e
 abbrev pub given_by : Kind → Known → Survey → Survey
 given_by of_term k x = record x { certain = certain_after k x.entries x.certain }
 given_by (of_scope is_certain) k x = record x { certain = cond is_certain x.certain k.certain }
-given_by of_first k x = record x { certain = k.certain }
-given_by of_other k x = record x { certain = k.certain }
 given_by of_body k x = left_loop k x
+given_by _ k x = record x { certain = k.certain }
 
 -- an If, where the package is its first branch
 abbrev pub if_of : Kind → Package → Option Package
 if_of of_first p = Some p
-if_of of_term p = None
-if_of (of_scope is_certain) p = None
-if_of of_other p = None
-if_of of_body p = None
+if_of _ p = None
 
 abbrev pub out_of : Package → List Package → Survey → Walk → Walk
 out_of p outer x w = record w {
@@ -196,13 +195,7 @@ started w =
 
 -- what the table gives
 abbrev pub given_since : Start → Walk → Survey
-given_since start w =
-    record {
-      entries = drop start.entries w.entries;
-      refused = [];
-      stops = w.stops;
-      certain = w.known.certain;
-    }
+given_since start w = given_behind start.entries 0 w
 
 abbrev pub end_table : Walk → Walk
 end_table w = started (record w { known = behind_table w.start.known (given_since w.start w) })

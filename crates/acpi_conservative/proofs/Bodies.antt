@@ -36,6 +36,7 @@ use Rattle.acpi_ranges.specs.Sites.{table_at, byte_at}
 use Rattle.acpi_ranges.specs.EntryParts.{part_in, part_declaring}
 use Rattle.acpi_entries.specs.EntryBodies.{IsBodyReading, IsBodyIn, IsBodyOf}
 use Rattle.acpi_ranges.specs.Lookup.{Found, node_found, part_at}
+use Rattle.acpi_ranges.proofs.Searching.{part_is_searched}
 use Rattle.acpi_survey.specs.Reading.{Reading}
 use Rattle.acpi_survey.specs.Predefined.{first_reading}
 use Rattle.acpi_pieces.specs.Tables.{code_read}
@@ -146,6 +147,7 @@ module _ (depth number : ℕ) (kept : List SurveyedTable) (last : Reading) (k : 
       ap (λ b. cond b None (option_and_then (λ (e : Entry). part_in kept e.term.place) (slice_get last.walk.entries n))) (le-ltb n 10 behind)
       ∙ ap (option_and_then (λ (e : Entry). part_in kept e.term.place)) is
       ∙ ap (option_and_then (λ (t : SurveyedTable). part_at (byte_at e.term.place) (length (code_read t.judged)) (nodes_view t.nodes))) table_is
+      ∙ part_is_searched (byte_at e.term.place) (length (code_read k.judged)) (nodes_view k.nodes)
       ∙ ap (part_of k) (ap byte_at at.stands ∙ at_byte number at.place short)
       ∙ at.found
 

@@ -27,7 +27,8 @@ use Rattle.acpi_conditions.specs.Walk.{Walk, passed, pass}
 use Rattle.acpi_conditions.proofs.Walks.{gives_nodes}
 use Rattle.acpi_survey.specs.declared.machine_survey.SurveyedTable.{SurveyedTable}
 use Rattle.acpi_survey.specs.Nodes.{nodes_of}
-use Rattle.acpi_ranges.specs.Lookup.{Found, part_at}
+use Rattle.acpi_ranges.specs.Lookup.{Found}
+use Rattle.acpi_ranges.specs.steps.Search.{search_nodes}
 use Rattle.acpi_survey.specs.Laws.{IsAtStart, IsSurveyed}
 use Rattle.acpi_survey.specs.Reading.{Reading, survey_rules}
 use Rattle.acpi_survey.specs.Predefined.{first_reading, with_object}
@@ -52,7 +53,7 @@ use Rattle.acpi_conservative.proofs.BehindTables.{all_behind, known_behind_table
 
 -- what the search finds in the table's nodes
 abbrev pub part_of : SurveyedTable → ℕ → Option Found
-part_of k p = part_at p (length (code_read k.judged)) (nodes_view k.nodes)
+part_of k p = search_nodes p (length (code_read k.judged)) (nodes_view k.nodes)
 
 module _ (depth number : ℕ) (s : Reading) (k : SurveyedTable) (table : IsTable depth number s k) (is : ItemTrees) (t : IsTableOf depth number k.bytes is) where
   abbrev ns : NodeTrees

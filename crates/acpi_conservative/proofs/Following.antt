@@ -36,14 +36,17 @@ use Rattle.acpi_outline.specs.Nodes.{FixedTree, container, if_so, units, FieldNo
 use Rattle.acpi_outline.specs.Rules.{after, after_all, after_fields}
 use Rattle.acpi_outline.specs.Outline.{bits_behind, AreFields, IsNode, AreNodes}
 use Rattle.acpi_outline.specs.Tiling.{TilesFields, TilesInside, Tiles}
-use Rattle.acpi_conservative.specs.StrictNodes.{data_term, AreExternals, AreFieldsOf, IsItem, AreItems}
+use Rattle.acpi_tree.specs.DataTerms.{data_term}
+use Rattle.acpi_conservative.specs.StrictNodes.{AreExternals, AreFieldsOf, IsItem, AreItems}
 use Rattle.acpi_conditions.specs.Entries.{Path, Entry}
 use Rattle.acpi_conditions.specs.Walk as walks
 use Rattle.acpi_conditions.specs.Walk.{Walk, enter_first}
 use Rattle.acpi_needs.specs.Needs.{names_in_all, names_before}
 use Rattle.acpi_survey.specs.Nodes.{term_at, unit_at, operands_of}
 use Rattle.acpi_survey.specs.Reading.{Reading, survey_rules, with_expected, passing, expecting, after_field, enter, leave}
-use Rattle.acpi_ranges.specs.Lookup.{Found, node_found, element_found, first_field, element_at, first_node}
+use Rattle.acpi_ranges.specs.Ranges.{first_place, first_field_place}
+use Rattle.acpi_ranges.specs.Lookup.{Found, node_found, element_found}
+use Rattle.acpi_ranges.specs.steps.Search.{search_fields}
 use Rattle.acpi_conservative.specs.Parts.{IsTerm, IsPackage, before_fields, IsPartOf}
 use Rattle.acpi_conservative.proofs.Items.{Parts, parts}
 use Rattle.acpi_conservative.proofs.TableNodes.{data_none, externals_walked}
@@ -55,15 +58,15 @@ use Rattle.acpi_conservative.proofs.Steps.{Follows, none_justified, stays, both_
 
 -- the elements are found at their places
 abbrev FindsFields : (look : ℕ → Option Found) → (end : ℕ) → FixedTree → FieldNodes → Type 0
-FindsFields look end f us = (p : ℕ) (x : Found) → element_at p end f us ≡ Some x → look p ≡ Some x
+FindsFields look end f us = (p : ℕ) (x : Found) → search_fields p end f us ≡ Some x → look p ≡ Some x
 
 module _ (look : ℕ → Option Found) (end start stop : ℕ) (f : FixedTree) (place first_bit : ℕ) (e : FieldTree) (us : FieldNodes) (t : TilesFields start stop (field_node place first_bit e us))
     (finds : FindsFields look end f (field_node place first_bit e us)) where
   abbrev element : Bool → ℕ → Option Found
-  element b p = cond b (Some (element_found (first_field end us) f first_bit e)) (element_at p end f us)
+  element b p = cond b (Some (element_found (first_field_place end us) f first_bit e)) (search_fields p end f us)
 
-  finds_field : look place ≡ Some (element_found (first_field end us) f first_bit e)
-  finds_field = finds place (element_found (first_field end us) f first_bit e) (ap (λ b. element b place) (eq-eqb place place refl))
+  finds_field : look place ≡ Some (element_found (first_field_place end us) f first_bit e)
+  finds_field = finds place (element_found (first_field_place end us) f first_bit e) (ap (λ b. element b place) (eq-eqb place place refl))
 
   finds_fields : FindsFields look end f us
   finds_fields p x is =
@@ -114,13 +117,13 @@ fields_follow look f none form flags links same offset (e ∷ es) us (place, fir
         let m : Reading = after_field s place f (unit g bits) in
         let next : ℕ = offset + element_bits (unit g bits) in
         let x : Step = step (unit_name g) (declares o links None) in
-        let part : Found = element_found (first_field end rest) f first_bit (unit g bits) in
+        let part : Found = element_found (first_field_place end rest) f first_bit (unit g bits) in
         let later : AreFields last (counted next) rest are.1 = subst (λ (k : ℕ). AreFields last k rest are.1) (counted_behind offset (unit g bits)) are.5 in
         by_site objects before inside around at x (map (site_in inside) (unit_steps form flags links next es)) (Follows look objects around s (after_fields survey_rules m f rest))
         (λ p d fs k.
         let here : Follows look objects around s m (placement x around p ∷ []) =
         term_follows look objects around s h place (unit_name g) o links None (unit_at (s.base + place) g (operands_of f)) (no_names (s.base + place) (unit_name g) (names_in_all (operands_of f)) none) refl (Some 0) p d
-        part (finds_field look end start stop f place first_bit (unit g bits) rest tiles finds) (first_field end rest, g, (λ i. element_found (first_field end rest) (same i) (are.3 i) (unit g bits))) in
+        part (finds_field look end start stop f place first_bit (unit g bits) rest tiles finds) (first_field_place end rest, g, (λ i. element_found (first_field_place end rest) (same i) (are.3 i) (unit g bits))) in
         both_follow look objects around s m (after_fields survey_rules m f rest) (placement x around p ∷ []) fs here
         (behind next (union objects (objects_of (placement x around p ∷ []))) (before ++ p ∷ []) inside around (inside_later before (p ∷ []) inside around at) fs
         (subst (λ (l : Namespace). IsJustified (union objects l) (before ++ p ∷ []) (map (site_in inside) (unit_steps form flags links next es)) fs) (sym (union-nothing (singleton p o))) k)
@@ -351,7 +354,7 @@ one_more i is place n ns here behind look objects before inside around at es j l
     let count : length r.front ≡ length xs = length-justified objects before xs r.front r.justified_front in
     let long : length before + length xs ≡ length (before ++ paths_of r.front) = omega (arith, length-append before (paths_of r.front), length-paths r.front, count) in
     let f : Follows look objects around s m r.front =
-    here look objects before inside around at r.front r.justified_front are.2 place (end - length are.1) (first_node to ns) tiles.0 s are.0 are.5 tiles.4 (finds_node look to start stop place n ns tiles finds) h in
+    here look objects before inside around at r.front r.justified_front are.2 place (end - length are.1) (first_place to ns) tiles.0 s are.0 are.5 tiles.4 (finds_node look to start stop place n ns tiles finds) h in
     let g : Follows look later around m (after_all survey_rules m ns) r.back =
     behind look later (before ++ paths_of r.front) inside around (inside_later before (paths_of r.front) inside around at) r.back
     (subst (λ (k : ℕ). IsJustified later (before ++ paths_of r.front) (items_sites k inside is) r.back) long r.justified_back)

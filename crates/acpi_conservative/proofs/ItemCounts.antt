@@ -21,7 +21,8 @@ use Rattle.acpi_outline.specs.Nodes as outline
 use Rattle.acpi_outline.specs.Nodes.{FixedTree, container, if_so, units, FieldNodes, no_more_fields, field_node, NodeTree, plain, holds, holds_fields, closed, NodeTrees, no_more, node}
 use Rattle.acpi_outline.specs.Rules.{after, after_all, after_fields}
 use Rattle.acpi_outline.specs.Outline.{IsNode, AreNodes}
-use Rattle.acpi_conservative.specs.StrictNodes.{data_term, AreExternals, AreFieldsOf, IsItem, AreItems}
+use Rattle.acpi_tree.specs.DataTerms.{data_term}
+use Rattle.acpi_conservative.specs.StrictNodes.{AreExternals, AreFieldsOf, IsItem, AreItems}
 use Rattle.acpi_conditions.specs.Nodes.{Term}
 use Rattle.acpi_conditions.specs.Entries.{Path, Why, Refusal}
 use Rattle.acpi_conditions.specs.Known.{declared_at, opened_at}

@@ -15,7 +15,7 @@ use Rattle.acpi_findings.specs.declared.notes.NoteReason.{NoteReason}
 use Rattle.acpi_pieces.specs.declared.tables.TableContent.{TableContent}
 use Rattle.acpi_pieces.specs.declared.tables.TableContent.TheVariants.{Read}
 use Rattle.acpi_ranges.specs.Places.{last_at}
-use Rattle.acpi_ranges.specs.Ranges.{Range, Entered, ranges_of}
+use Rattle.acpi_ranges.specs.Ranges.{Range, Entered, code_ranges}
 use Rattle.acpi_findings.specs.Problems.{ProblemParts, why_lost, lost_problem, refused_problem, range_problems, table_problems}
 use Rattle.acpi_ranges.specs.Index.{Refusals}
 use Rattle.acpi_ranges.specs.Sites.{offset_of}
@@ -49,7 +49,7 @@ ranges_without refusals none code number (r ∷ rs) h =
 table_without : (entered : Entered) (refusals : Refusals) → NoneRefused refusals → (number : ℕ) (bytes : List ℕ) (is : ItemTrees) (ns : NodeTrees) → AreItems is ns
     → (code : List ℕ) → table_problems entered refusals number bytes (Read code false false false 0) ns ≡ []
 table_without entered refusals none number bytes is ns h code =
-    ap (λ (ps : List ProblemParts). ps ++ []) (ranges_without refusals none code number (ranges_of entered [] (length code) false ns) (items_kept is ns h entered [] (length code) false))
+    ap (λ (ps : List ProblemParts). ps ++ []) (ranges_without refusals none code number (code_ranges entered (length code) ns) (items_kept is ns h entered 0 [] (length code) false))
 
 tables_without : (entered : ℕ → Entered) (refusals : Refusals) → NoneRefused refusals → (depth number : ℕ) (s last : Reading) (kept : List SurveyedTable) (iss : List ItemTrees)
     → AreTables depth number s kept last → AreTablesOf depth number (bytes_of kept) iss → AllZip AreItems iss (nodes_of_each kept) → problems_by entered refusals number kept ≡ []
@@ -89,8 +89,8 @@ tables_unnoted entered unknowns depth number s last (k ∷ kept) (is ∷ iss) a 
     let judged_is = strict_table_is_read depth number k.bytes is t.0 k.judged a.0.judged in
     ap (λ (j : TableContent). table_notes (entered number) unknowns number j (nodes_view k.nodes) ++ rest) judged_is
     ∙ ap (λ (ns : List NoteParts). ns ++ rest)
-    (ranges_unnoted unknowns number (ranges_of (entered number) [] (length (code_of k.bytes)) false (nodes_view k.nodes))
-    (items_kept is (nodes_view k.nodes) h.0 (entered number) [] (length (code_of k.bytes)) false))
+    (ranges_unnoted unknowns number (code_ranges (entered number) (length (code_of k.bytes)) (nodes_view k.nodes))
+    (items_kept is (nodes_view k.nodes) h.0 (entered number) 0 [] (length (code_of k.bytes)) false))
     ∙ ap (λ (n : ℕ). notes_by entered unknowns n kept) (add-one number)
     ∙ tables_unnoted entered unknowns depth (suc number) (behind_table (behind_nodes number s k)) last kept iss a.1 t.1 h.1
 

@@ -8,12 +8,12 @@ use Rattle.acpi_tree.specs.Tree.{ItemTree, name, scope, method, external, extern
 use Rattle.acpi_terms.specs.Spelling.{SpellsItems}
 use Rattle.acpi_declare.specs.Predefined.{predefined}
 use Rattle.acpi_conditions.specs.Entries.{Path}
-use Rattle.acpi_outline.specs.Nodes.{FieldNodes, NodeTree, NodeTrees}
+use Rattle.acpi_outline.specs.Nodes.{FixedTree, FieldNodes, NodeTree, NodeTrees}
 use Rattle.acpi_outline.specs.Rules.{after_all}
-use Rattle.acpi_conservative.specs.StrictNodes.{data_term, elem_terms, AreExternals, AreFieldsOf, IsItem, AreItems}
+use Rattle.acpi_tree.specs.DataTerms.{data_term, elem_terms}
+use Rattle.acpi_conservative.specs.StrictNodes.{AreExternals, AreFieldsOf, IsItem, AreItems}
 use Rattle.acpi_conservative.proofs.StrictNodes.{strict_kept}
-use Rattle.acpi_ranges.specs.Spans.{Part, of_node}
-use Rattle.acpi_ranges.specs.Ranges.{Range, Entered, element_ranges, first_place, inner_ranges, is_if, ranges_of}
+use Rattle.acpi_ranges.specs.Ranges.{Part, of_node, Range, Entered, element_ranges, first_place, inner_ranges, is_if, ranges_of}
 use Rattle.acpi_findings.specs.Problems.{why_lost}
 use Rattle.acpi_findings.specs.Marks.{MarkTree, marks_in, marks_in_all}
 use Rattle.acpi_findings.specs.Notes.{mark_reasons, part_reasons}
@@ -57,52 +57,52 @@ mutual
 
 -- ---- in items
 
-externals_kept : (xs : List ExternalParts) (ns : NodeTrees) → AreExternals xs ns → (entered : Entered) (s : Path) (end : ℕ) (b : Bool) → AreKept (ranges_of entered s end b ns)
-externals_kept [] ns h entered s end b = subst (λ (ns : NodeTrees). AreKept (ranges_of entered s end b ns)) (sym h) tt
-externals_kept (x ∷ xs) ms (place, ns, e, h) entered s end b =
-    subst (λ (ms : NodeTrees). AreKept (ranges_of entered s end b ms)) (sym e) ((refl, λ unknown b. refl), externals_kept xs ns h entered s end false)
+externals_kept : (xs : List ExternalParts) (ns : NodeTrees) → AreExternals xs ns → (entered : Entered) (depth : ℕ) (s : Path) (end : ℕ) (b : Bool) → AreKept (ranges_of entered depth s end b ns)
+externals_kept [] ns h entered depth s end b = subst (λ (ns : NodeTrees). AreKept (ranges_of entered depth s end b ns)) (sym h) tt
+externals_kept (x ∷ xs) ms (place, ns, e, h) entered depth s end b =
+    subst (λ (ms : NodeTrees). AreKept (ranges_of entered depth s end b ms)) (sym e) ((refl, λ unknown b. refl), externals_kept xs ns h entered depth s end false)
 
-fields_kept : (es : List FieldTree) (us : FieldNodes) → AreFieldsOf es us → (s : Path) (end : ℕ) → AreKept (element_ranges s end us)
-fields_kept [] us h s end = subst (λ (us : FieldNodes). AreKept (element_ranges s end us)) (sym h) tt
-fields_kept (e ∷ es) us (place, offset, rest, is, h) s end = subst (λ (us : FieldNodes). AreKept (element_ranges s end us)) (sym is) ((refl, λ unknown b. refl), fields_kept es rest h s end)
+fields_kept : (es : List FieldTree) (us : FieldNodes) → AreFieldsOf es us → (depth : ℕ) (s : Path) (end : ℕ) (f : FixedTree) → AreKept (element_ranges depth s end f us)
+fields_kept [] us h depth s end f = subst (λ (us : FieldNodes). AreKept (element_ranges depth s end f us)) (sym h) tt
+fields_kept (e ∷ es) us (place, offset, rest, is, h) depth s end f = subst (λ (us : FieldNodes). AreKept (element_ranges depth s end f us)) (sym is) ((refl, λ unknown b. refl), fields_kept es rest h depth s end f)
 
 -- neither the node nor anything in it
-abbrev IsNodeKept : Entered → ℕ → Path → ℕ → NodeTree → Type 0
-IsNodeKept entered place s end m = IsPartKept (of_node m) × AreKept (inner_ranges entered place s end m)
+abbrev IsNodeKept : Entered → (depth place : ℕ) → Path → ℕ → NodeTree → Type 0
+IsNodeKept entered depth place s end m = IsPartKept (of_node m) × AreKept (inner_ranges entered depth place s end m)
 
 mutual
-  item_kept : (i : ItemTree) (m : NodeTree) → IsItem i m → (entered : Entered) (place : ℕ) (s : Path) (end : ℕ) → IsNodeKept entered place s end m
-  item_kept (name n d) m h entered place s end = subst (IsNodeKept entered place s end) (sym h) ((refl, λ unknown b. ap (λ (ms : List MarkTree). flat_map (mark_reasons unknown) (ms ++ [])) (data_marks d)), tt)
-  item_kept (scope kinds.Scope n is) m (inl (ms, e, h)) entered place s end = subst (IsNodeKept entered place s end) (sym e) ((refl, λ unknown b. refl), items_kept is ms h entered _ end false)
-  item_kept (scope kinds.Scope n is) m (inr (b, e, h)) entered place s end = subst (IsNodeKept entered place s end) (sym e) ((refl, λ unknown b. refl), tt)
-  item_kept (scope kinds.Device n is) m (inl (ms, e, h)) entered place s end = subst (IsNodeKept entered place s end) (sym e) ((refl, λ unknown b. refl), items_kept is ms h entered _ end false)
-  item_kept (scope kinds.Device n is) m (inr (b, e, h)) entered place s end = subst (IsNodeKept entered place s end) (sym e) ((refl, λ unknown b. refl), tt)
-  item_kept (scope (kinds.Processor id block len) n is) m (inl (ms, e, h)) entered place s end = subst (IsNodeKept entered place s end) (sym e) ((refl, λ unknown b. refl), items_kept is ms h entered _ end false)
-  item_kept (scope (kinds.Processor id block len) n is) m (inr (b, e, h)) entered place s end = subst (IsNodeKept entered place s end) (sym e) ((refl, λ unknown b. refl), tt)
-  item_kept (scope (kinds.Power deepest order) n is) m (inl (ms, e, h)) entered place s end = subst (IsNodeKept entered place s end) (sym e) ((refl, λ unknown b. refl), items_kept is ms h entered _ end false)
-  item_kept (scope (kinds.Power deepest order) n is) m (inr (b, e, h)) entered place s end = subst (IsNodeKept entered place s end) (sym e) ((refl, λ unknown b. refl), tt)
-  item_kept (scope kinds.Thermal n is) m (inl (ms, e, h)) entered place s end = subst (IsNodeKept entered place s end) (sym e) ((refl, λ unknown b. refl), items_kept is ms h entered _ end false)
-  item_kept (scope kinds.Thermal n is) m (inr (b, e, h)) entered place s end = subst (IsNodeKept entered place s end) (sym e) ((refl, λ unknown b. refl), tt)
-  item_kept (method n flags code) m h entered place s end = subst (IsNodeKept entered place s end) (sym h) ((refl, λ unknown b. refl), tt)
-  item_kept (external x) m h entered place s end = subst (IsNodeKept entered place s end) (sym h) ((refl, λ unknown b. refl), tt)
-  item_kept (external_block xs) m (inl (ms, e, h)) entered place s end = subst (IsNodeKept entered place s end) (sym e) ((refl, λ unknown b. refl), externals_kept xs ms h entered _ end false)
-  item_kept (external_block xs) m (inr (b, e, h)) entered place s end = subst (IsNodeKept entered place s end) (sym e) ((refl, λ unknown b. refl), tt)
-  item_kept (mutex n flags) m h entered place s end = subst (IsNodeKept entered place s end) (sym h) ((refl, λ unknown b. refl), tt)
-  item_kept (event n) m h entered place s end = subst (IsNodeKept entered place s end) (sym h) ((refl, λ unknown b. refl), tt)
-  item_kept (region n space offset len) m h entered place s end = subst (IsNodeKept entered place s end) (sym h) ((refl, λ unknown b. refl), tt)
-  item_kept (field n flags es) m (us, e, h) entered place s end = subst (IsNodeKept entered place s end) (sym e) ((refl, λ unknown b. refl), fields_kept es us h s end)
-  item_kept (index_field i k flags es) m (us, e, h) entered place s end = subst (IsNodeKept entered place s end) (sym e) ((refl, λ unknown b. refl), fields_kept es us h s end)
-  item_kept (bank_field n bank value flags es) m (us, e, h) entered place s end = subst (IsNodeKept entered place s end) (sym e) ((refl, λ unknown b. refl), fields_kept es us h s end)
-  item_kept (create w source index n) m h entered place s end = subst (IsNodeKept entered place s end) (sym h) ((refl, λ unknown b. refl), tt)
-  item_kept (create_field source index bits n) m h entered place s end = subst (IsNodeKept entered place s end) (sym h) ((refl, λ unknown b. refl), tt)
+  item_kept : (i : ItemTree) (m : NodeTree) → IsItem i m → (entered : Entered) (depth place : ℕ) (s : Path) (end : ℕ) → IsNodeKept entered depth place s end m
+  item_kept (name n d) m h entered depth place s end = subst (IsNodeKept entered depth place s end) (sym h) ((refl, λ unknown b. ap (λ (ms : List MarkTree). flat_map (mark_reasons unknown) (ms ++ [])) (data_marks d)), tt)
+  item_kept (scope kinds.Scope n is) m (inl (ms, e, h)) entered depth place s end = subst (IsNodeKept entered depth place s end) (sym e) ((refl, λ unknown b. refl), items_kept is ms h entered depth _ end false)
+  item_kept (scope kinds.Scope n is) m (inr (b, e, h)) entered depth place s end = subst (IsNodeKept entered depth place s end) (sym e) ((refl, λ unknown b. refl), tt)
+  item_kept (scope kinds.Device n is) m (inl (ms, e, h)) entered depth place s end = subst (IsNodeKept entered depth place s end) (sym e) ((refl, λ unknown b. refl), items_kept is ms h entered depth _ end false)
+  item_kept (scope kinds.Device n is) m (inr (b, e, h)) entered depth place s end = subst (IsNodeKept entered depth place s end) (sym e) ((refl, λ unknown b. refl), tt)
+  item_kept (scope (kinds.Processor id block len) n is) m (inl (ms, e, h)) entered depth place s end = subst (IsNodeKept entered depth place s end) (sym e) ((refl, λ unknown b. refl), items_kept is ms h entered depth _ end false)
+  item_kept (scope (kinds.Processor id block len) n is) m (inr (b, e, h)) entered depth place s end = subst (IsNodeKept entered depth place s end) (sym e) ((refl, λ unknown b. refl), tt)
+  item_kept (scope (kinds.Power deepest order) n is) m (inl (ms, e, h)) entered depth place s end = subst (IsNodeKept entered depth place s end) (sym e) ((refl, λ unknown b. refl), items_kept is ms h entered depth _ end false)
+  item_kept (scope (kinds.Power deepest order) n is) m (inr (b, e, h)) entered depth place s end = subst (IsNodeKept entered depth place s end) (sym e) ((refl, λ unknown b. refl), tt)
+  item_kept (scope kinds.Thermal n is) m (inl (ms, e, h)) entered depth place s end = subst (IsNodeKept entered depth place s end) (sym e) ((refl, λ unknown b. refl), items_kept is ms h entered depth _ end false)
+  item_kept (scope kinds.Thermal n is) m (inr (b, e, h)) entered depth place s end = subst (IsNodeKept entered depth place s end) (sym e) ((refl, λ unknown b. refl), tt)
+  item_kept (method n flags code) m h entered depth place s end = subst (IsNodeKept entered depth place s end) (sym h) ((refl, λ unknown b. refl), tt)
+  item_kept (external x) m h entered depth place s end = subst (IsNodeKept entered depth place s end) (sym h) ((refl, λ unknown b. refl), tt)
+  item_kept (external_block xs) m (inl (ms, e, h)) entered depth place s end = subst (IsNodeKept entered depth place s end) (sym e) ((refl, λ unknown b. refl), externals_kept xs ms h entered depth _ end false)
+  item_kept (external_block xs) m (inr (b, e, h)) entered depth place s end = subst (IsNodeKept entered depth place s end) (sym e) ((refl, λ unknown b. refl), tt)
+  item_kept (mutex n flags) m h entered depth place s end = subst (IsNodeKept entered depth place s end) (sym h) ((refl, λ unknown b. refl), tt)
+  item_kept (event n) m h entered depth place s end = subst (IsNodeKept entered depth place s end) (sym h) ((refl, λ unknown b. refl), tt)
+  item_kept (region n space offset len) m h entered depth place s end = subst (IsNodeKept entered depth place s end) (sym h) ((refl, λ unknown b. refl), tt)
+  item_kept (field n flags es) m (us, e, h) entered depth place s end = subst (IsNodeKept entered depth place s end) (sym e) ((refl, λ unknown b. refl), fields_kept es us h depth s end _)
+  item_kept (index_field i k flags es) m (us, e, h) entered depth place s end = subst (IsNodeKept entered depth place s end) (sym e) ((refl, λ unknown b. refl), fields_kept es us h depth s end _)
+  item_kept (bank_field n bank value flags es) m (us, e, h) entered depth place s end = subst (IsNodeKept entered depth place s end) (sym e) ((refl, λ unknown b. refl), fields_kept es us h depth s end _)
+  item_kept (create w source index n) m h entered depth place s end = subst (IsNodeKept entered depth place s end) (sym h) ((refl, λ unknown b. refl), tt)
+  item_kept (create_field source index bits n) m h entered depth place s end = subst (IsNodeKept entered depth place s end) (sym h) ((refl, λ unknown b. refl), tt)
 
-  pub items_kept : (is : ItemTrees) (ms : NodeTrees) → AreItems is ms → (entered : Entered) (s : Path) (end : ℕ) (b : Bool) → AreKept (ranges_of entered s end b ms)
-  items_kept no_items ms h entered s end b = subst (λ (ms : NodeTrees). AreKept (ranges_of entered s end b ms)) (sym h) tt
-  items_kept (item i is) ms (place, n, ns, e, hi, hs) entered s end b =
+  pub items_kept : (is : ItemTrees) (ms : NodeTrees) → AreItems is ms → (entered : Entered) (depth : ℕ) (s : Path) (end : ℕ) (b : Bool) → AreKept (ranges_of entered depth s end b ms)
+  items_kept no_items ms h entered depth s end b = subst (λ (ms : NodeTrees). AreKept (ranges_of entered depth s end b ms)) (sym h) tt
+  items_kept (item i is) ms (place, n, ns, e, hi, hs) entered depth s end b =
       let to : ℕ = first_place end ns in
-      let k : IsNodeKept entered place s to n = item_kept i n hi entered place s to in
-      subst (λ (ms : NodeTrees). AreKept (ranges_of entered s end b ms)) (sym e)
-      (k.0, both_kept (inner_ranges entered place s to n) (ranges_of entered s end (is_if n) ns) k.1 (items_kept is ns hs entered s end (is_if n)))
+      let k : IsNodeKept entered (suc depth) place s to n = item_kept i n hi entered (suc depth) place s to in
+      subst (λ (ms : NodeTrees). AreKept (ranges_of entered depth s end b ms)) (sym e)
+      (k.0, both_kept (inner_ranges entered (suc depth) place s to n) (ranges_of entered depth s end (is_if n) ns) k.1 (items_kept is ns hs entered depth s end (is_if n)))
 
 -- ---- in tables
 

@@ -16,6 +16,7 @@ use Rattle.acpi_conditions.proofs.Viewing.{get_behind}
 use Rattle.acpi_survey.specs.declared.machine_survey.SurveyedTable.{SurveyedTable}
 use Rattle.acpi_ranges.specs.Sites.{table_at, byte_at}
 use Rattle.acpi_ranges.specs.Lookup.{part_at}
+use Rattle.acpi_ranges.proofs.Searching.{part_is_searched}
 use Rattle.acpi_survey.specs.Reading.{Reading}
 use Rattle.acpi_survey.specs.Predefined.{first_reading}
 use Rattle.acpi_pieces.specs.Tables.{code_read}
@@ -43,6 +44,7 @@ module _ (kept : List SurveyedTable) (number : ℕ) (k : SurveyedTable) (here : 
         stands =
             ap (option_and_then (λ (t : SurveyedTable). part_at (byte_at e.term.place) (length (code_read t.judged)) (nodes_view t.nodes)))
             (ap (slice_get kept) (ap table_at at.stands ∙ in_table number at.place low) ∙ here)
+            ∙ part_is_searched (byte_at e.term.place) (length (code_read k.judged)) (nodes_view k.nodes)
             ∙ ap (part_of k) (ap byte_at at.stands ∙ at_byte number at.place low)
             ∙ at.found;
         is_part = at.is_part;

@@ -4,22 +4,23 @@ use Rattle.std.proofs.lemmas.List.{append-nil}
 use Rattle.acpi_name.specs.Names.{NameParts}
 use Rattle.acpi_name.specs.Spelling.{SpellsName}
 use Rattle.acpi_tree.specs.declared.tree.Int.TheVariants.{Zero}
-use Rattle.acpi_tree.specs.declared.place.Place.TheVariants.{Value, Element}
+use Rattle.acpi_tree.specs.declared.place.Place.TheVariants.{Value}
 use Rattle.acpi_tree.specs.declared.place.NamedForm.TheVariants as named
 use Rattle.acpi_tree.specs.declared.place.UnitsForm.TheVariants as fields
-use Rattle.acpi_tree.specs.Tree.{DataTree, int, str, buffer, pkg, var_pkg, ElemTree, of_data, of_name, ElemTrees, no_elems, elem, ExternalParts, FieldTree}
+use Rattle.acpi_tree.specs.Tree.{DataTree, int, str, buffer, pkg, var_pkg, ExternalParts, FieldTree}
 use Rattle.acpi_tree.specs.Tree.{ItemTree, name, scope, method, external, external_block, create, create_field, mutex, event, region, field, index_field, bank_field, ItemTrees, no_items, item}
+use Rattle.acpi_tree.specs.DataTerms.{data_term}
 use Rattle.acpi_tree.specs.Terms as terms
-use Rattle.acpi_tree.specs.Terms.{TermTree, TermTrees, no_terms, more}
+use Rattle.acpi_tree.specs.Terms.{no_terms, more}
 use Rattle.acpi_tree.specs.declared.tree.ScopeKind.{ScopeKind}
 use Rattle.acpi_tree.specs.declared.tree.ScopeKind.TheVariants as kinds
 use Rattle.acpi_code.specs.Opcodes.{opcode_bytes}
 use Rattle.acpi_code.specs.Spelling.{SpellsByte, SpellsNumber, SpellsEach, Packs}
 use Rattle.acpi_code.specs.Fields.{SpellsField}
 use Rattle.acpi_code.specs.Forms.{fixed_arguments, kind_opcode, kind_arguments}
-use Rattle.acpi_terms.specs.Spelling.{SpellsArguments, SpellsData, SpellsElem, SpellsElems, SpellsExternal, SpellsItem, SpellsItems, data_height, elem_height, elems_height, block_height, item_height, items_height}
-use Rattle.acpi_values.specs.Grammars.{Grammar}
-use Rattle.acpi_values.specs.Spelling.{Stands, Spells, AreElements, height, heights}
+use Rattle.acpi_terms.specs.Spelling.{data_grammar, SpellsArguments, SpellsExternal, SpellsItem, SpellsItems, block_height, item_height, items_height}
+use Rattle.acpi_terms.proofs.DataSpelling.{data_spelled, spelled_data}
+use Rattle.acpi_values.specs.Spelling.{Stands}
 use Rattle.acpi_outline.specs.declared.form.ContainerForm.TheVariants as containers
 use Rattle.acpi_outline.specs.declared.fault.LostFault.{LostFault}
 use Rattle.acpi_outline.specs.Nodes as nodes
@@ -27,7 +28,7 @@ use Rattle.acpi_outline.specs.Nodes.{PlainTree, FixedTree, container, if_so, uni
 use Rattle.acpi_outline.specs.Nodes.{NodeTree, plain, holds, holds_fields, closed, package_lost, data_lost, name_lost, NodeTrees, no_more, lost, node, with_reason, all_with_reason}
 use Rattle.acpi_outline.specs.Rules.{Rules, grammar_at, goes_into, after}
 use Rattle.acpi_outline.specs.Outline.{IsPlain, IsFixed, bits_behind, AreFields, IsNode, AreNodes}
-use Rattle.acpi_conservative.specs.StrictNodes.{data_term, elem_term, elem_terms, declares, AreExternals, AreFieldsOf, Holds, HoldsFields, kind_fixed, IsItem, AreItems, StrictIsKept}
+use Rattle.acpi_conservative.specs.StrictNodes.{declares, AreExternals, AreFieldsOf, Holds, HoldsFields, kind_fixed, IsItem, AreItems, StrictIsKept}
 use Rattle.acpi_outline.proofs.One.{any_fault, at_most_one}
 
 -- ---- constant data is a value
@@ -38,53 +39,6 @@ data_stands (str text) = refl
 data_stands (buffer size content) = refl
 data_stands (pkg count es) = refl
 data_stands (var_pkg count es) = refl
-
-elem_stands : (e : ElemTree) → Stands Element (elem_term e)
-elem_stands (of_name n) = refl
-elem_stands (of_data (int i)) = refl
-elem_stands (of_data (str text)) = refl
-elem_stands (of_data (buffer size content)) = refl
-elem_stands (of_data (pkg count es)) = refl
-elem_stands (of_data (var_pkg count es)) = refl
-
--- one argument and no more
-only : (a x y : List ℕ) → y ≡ [] → a ≡ x ++ y → a ≡ x
-only a x y none split = rw (split, none) (append-nil x)
-
-mutual
-  data_spelled : (g : Grammar) (d : DataTree) (b : List ℕ) → SpellsData d b → Spells g (data_term d) b
-  data_spelled g (int i) b h = h
-  data_spelled g (str text) b h = h
-  data_spelled g (buffer size content) b (a, c, (x, y, hi, none, split), same, packs) =
-      (x, refl, hi, subst (λ l. Packs (0x11 ∷ []) (x ++ l) b) same (subst (λ l. Packs (0x11 ∷ []) (l ++ c) b) (only a x y none split) packs))
-  data_spelled g (pkg count es) b (a, c, (x, y, hc, none, split), he, packs) =
-      (c, elems_spelled g es c he, subst (λ l. Packs (0x12 ∷ []) (l ++ c) b) (only a x y none split ∙ hc) packs)
-  data_spelled g (var_pkg count es) b (a, c, (x, y, hi, none, split), he, packs) =
-      (x, c, refl, hi, elems_spelled g es c he, subst (λ l. Packs (0x13 ∷ []) (l ++ c) b) (only a x y none split) packs)
-
-  elem_spelled : (g : Grammar) (e : ElemTree) (b : List ℕ) → SpellsElem e b → Spells g (elem_term e) b
-  elem_spelled g (of_data d) b h = data_spelled g d b h
-  elem_spelled g (of_name n) b h = h
-
-  elems_spelled : (g : Grammar) (es : ElemTrees) (b : List ℕ) → SpellsElems es b → AreElements g (elem_terms es) b
-  elems_spelled g no_elems b h = h
-  elems_spelled g (elem e es) b (x, y, he, hes, whole) = (x, y, elem_stands e, elem_spelled g e x he, elems_spelled g es y hes, whole)
-
-mutual
-  data_high : (d : DataTree) → height (data_term d) ≡ data_height d
-  data_high (int i) = refl
-  data_high (str text) = refl
-  data_high (buffer size content) = omega arith
-  data_high (pkg count es) = ap suc (elems_high es)
-  data_high (var_pkg count es) = omega (arith, elems_high es)
-
-  elem_high : (e : ElemTree) → height (elem_term e) ≡ elem_height e
-  elem_high (of_data d) = data_high d
-  elem_high (of_name n) = refl
-
-  elems_high : (es : ElemTrees) → heights (elem_terms es) ≡ elems_height es
-  elems_high no_elems = refl
-  elems_high (elem e es) = rw (elem_high e, elems_high es) refl
 
 -- ---- items are nodes
 
@@ -144,7 +98,7 @@ module _ {S : Type 0} (r : Rules S) where
 
   kind_front : (kind : ScopeKind) (n : NameParts) (inside : ℕ) (known : S) (q : List ℕ) → SpellsArguments (fixed_arguments (kind_opcode kind)) (kind_arguments kind n) q
       → KindFront kind n inside known q
-  kind_front kinds.Scope n inside known q (x, y, hn, none, split) = record { is_fixed = rw (only q x y none split) hn; bytes = refl; no_fields = refl }
+  kind_front kinds.Scope n inside known q (x, y, hn, none, split) = record { is_fixed = rw (split ∙ ap (λ (l : List ℕ). x ++ l) none ∙ append-nil x) hn; bytes = refl; no_fields = refl }
   kind_front kinds.Device n inside known q h = record { is_fixed = h; bytes = refl; no_fields = refl }
   kind_front (kinds.Processor id block len) n inside known q (x, y, hn, (i, y2, hi, (c, y3, hc, (l, y4, hl, none, e4), e3), e2), e1) =
       record { is_fixed = (x, y, hn, (i, y2, refl, byte_is id i hi, (c, y3, refl, hc, (l, y4, refl, byte_is len l hl, none, e4), e3), e2), e1); bytes = refl; no_fields = refl }
@@ -158,8 +112,8 @@ module _ {S : Type 0} (r : Rules S) where
     item_node (name n d) inside known place end a (x, y, hn, hd, whole) le = (
       declares named.Name no_terms n (more (data_term d) no_terms),
       record {
-        spells = ([], x, y, refl, hn, (y, [], data_stands d, data_spelled (grammar_at r known) d y hd, refl, sym (append-nil y)), whole);
-        within = omega (arith, data_high d);
+        spells = ([], x, y, refl, hn, (y, [], data_stands d, data_spelled (grammar_at r known) d y (spelled_data data_grammar d y hd), refl, sym (append-nil y)), whole);
+        within = omega arith;
       },
       refl,
     )
@@ -169,7 +123,7 @@ module _ {S : Type 0} (r : Rules S) where
         held_node f (λ ns. AreItems is ns) (λ b. SpellsItems is b) inside known place end a q b hs k.no_fields k.is_fixed (subst (λ op. Packs op (q ++ b) a) (sym k.bytes) packs)
         (items_nodes is inside (r.enter known place f) end b hs (omega arith)) (goes_into r known f) refl
     item_node (method n flags code) inside known place end a (q, b, (x, y, hn, (c, d, hc, none, split2), split), same, packs) le =
-        let is : q ≡ x ++ flags ∷ [] = split ∙ ap (λ (l : List ℕ). x ++ l) (only y c d none split2 ∙ hc) in
+        let is : q ≡ x ++ flags ∷ [] = split ∙ ap (λ (l : List ℕ). x ++ l) (split2 ∙ ap (λ (l : List ℕ). c ++ l) none ∙ append-nil c ∙ hc) in
         (closed (nodes.method n flags) code, (q, (x, hn, is), refl, subst (λ l. Packs (0x14 ∷ []) (q ++ l) a) same packs, refl), refl)
     item_node (external x) inside known place end a h le = (plain (nodes.external x), record { spells = h; within = omega arith }, refl)
     item_node (external_block xs) inside known place end a (b, hs, packs) le =
@@ -193,38 +147,41 @@ module _ {S : Type 0} (r : Rules S) where
       refl,
     )
     item_node (field n flags es) inside known place end a (q, b, (x, y, hn, (c, d, hc, none, split2), split), hs, packs) le =
-        fields_node (units fields.Field (n ∷ []) (more (terms.raw 1 flags) no_terms)) es inside known place end a q b hs refl refl
-        (record {
-          names = x;
-          operands = y;
-          all_names = refl;
-          are_names = (x, [], hn, refl, sym (append-nil x));
-          are_operands = (c, d, refl, byte_is flags c hc, none, split2);
-          within = omega arith;
-          whole = split;
-        }) packs
+        fields_node (units fields.Field (n ∷ []) (more (terms.raw 1 flags) no_terms)) es inside known place end a q b hs refl refl (
+          record {
+            names = x;
+            operands = y;
+            all_names = refl;
+            are_names = (x, [], hn, refl, sym (append-nil x));
+            are_operands = (c, d, refl, byte_is flags c hc, none, split2);
+            whole = split;
+          },
+          omega arith,
+        ) packs
     item_node (index_field i k flags es) inside known place end a (q, b, (x, y, hi, (d, y2, hk, (c, y3, hc, none, e3), e2), e1), hs, packs) le =
-        fields_node (units fields.IndexField (i ∷ k ∷ []) (more (terms.raw 1 flags) no_terms)) es inside known place end a q b hs refl refl
-        (record {
-          names = x ++ d;
-          operands = y2;
-          all_names = refl;
-          are_names = (x, d, hi, (d, [], hk, refl, sym (append-nil d)), refl);
-          are_operands = (c, y3, refl, byte_is flags c hc, none, e3);
-          within = omega arith;
-          whole = e1 ∙ ap (λ (l : List ℕ). x ++ l) e2 ∙ sym (append_assoc x d y2);
-        }) packs
+        fields_node (units fields.IndexField (i ∷ k ∷ []) (more (terms.raw 1 flags) no_terms)) es inside known place end a q b hs refl refl (
+          record {
+            names = x ++ d;
+            operands = y2;
+            all_names = refl;
+            are_names = (x, d, hi, (d, [], hk, refl, sym (append-nil d)), refl);
+            are_operands = (c, y3, refl, byte_is flags c hc, none, e3);
+            whole = e1 ∙ ap (λ (l : List ℕ). x ++ l) e2 ∙ sym (append_assoc x d y2);
+          },
+          omega arith,
+        ) packs
     item_node (bank_field n bank value flags es) inside known place end a (q, b, (x, y, hn, (d, y2, hk, (v, y3, hv, (c, y4, hc, none, e4), e3), e2), e1), hs, packs) le =
-        fields_node (units fields.BankField (n ∷ bank ∷ []) (more (terms.int value) (more (terms.raw 1 flags) no_terms))) es inside known place end a q b hs refl refl
-        (record {
-          names = x ++ d;
-          operands = y2;
-          all_names = refl;
-          are_names = (x, d, hn, (d, [], hk, refl, sym (append-nil d)), refl);
-          are_operands = (v, y3, refl, hv, (c, y4, refl, byte_is flags c hc, none, e4), e3);
-          within = omega arith;
-          whole = e1 ∙ ap (λ (l : List ℕ). x ++ l) e2 ∙ sym (append_assoc x d y2);
-        }) packs
+        fields_node (units fields.BankField (n ∷ bank ∷ []) (more (terms.int value) (more (terms.raw 1 flags) no_terms))) es inside known place end a q b hs refl refl (
+          record {
+            names = x ++ d;
+            operands = y2;
+            all_names = refl;
+            are_names = (x, d, hn, (d, [], hk, refl, sym (append-nil d)), refl);
+            are_operands = (v, y3, refl, hv, (c, y4, refl, byte_is flags c hc, none, e4), e3);
+            whole = e1 ∙ ap (λ (l : List ℕ). x ++ l) e2 ∙ sym (append_assoc x d y2);
+          },
+          omega arith,
+        ) packs
     item_node (create w source index n) inside known place end a (q, (x, y, hs, (i, y2, hi, (m, y3, hn, none, e3), e2), e1), whole) le = (
       declares (named.Create w) (more (terms.ref source) (more (terms.int index) no_terms)) n no_terms,
       record {

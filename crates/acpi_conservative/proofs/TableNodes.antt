@@ -21,7 +21,8 @@ use Rattle.acpi_outline.specs.Nodes as outline
 use Rattle.acpi_outline.specs.Nodes.{FixedTree, container, if_so, units, FieldNodes, no_more_fields, fields_lost, field_node, NodeTree, plain, holds, holds_fields, closed, NodeTrees, no_more, node}
 use Rattle.acpi_outline.specs.Rules.{after, after_all, after_fields}
 use Rattle.acpi_outline.specs.Outline.{IsNode, AreNodes}
-use Rattle.acpi_conservative.specs.StrictNodes.{data_term, elem_terms, AreExternals, AreFieldsOf, IsItem, AreItems}
+use Rattle.acpi_tree.specs.DataTerms.{data_term, elem_terms}
+use Rattle.acpi_conservative.specs.StrictNodes.{AreExternals, AreFieldsOf, IsItem, AreItems}
 use Rattle.acpi_conditions.specs.Nodes.{Nodes, no_nodes, declares, opens, branch}
 use Rattle.acpi_conditions.specs.Survey.{survey}
 use Rattle.acpi_conditions.specs.Walk as walks

@@ -19,7 +19,7 @@ use Rattle.acpi_outline.specs.declared.form.ContainerForm.TheVariants as contain
 use Rattle.acpi_outline.specs.Nodes as nodes
 use Rattle.acpi_outline.specs.Nodes.{FixedTree, container, units, NodeTrees, holds, closed}
 use Rattle.acpi_conservative.specs.StrictNodes as strict
-use Rattle.acpi_conservative.specs.StrictNodes.{data_term}
+use Rattle.acpi_tree.specs.DataTerms.{data_term}
 use Rattle.acpi_conditions.specs.Entries.{Entry}
 use Rattle.acpi_survey.specs.declared.machine_survey.SurveyedTable.{SurveyedTable}
 use Rattle.acpi_ranges.specs.EntryParts.{part_in}

@@ -5,12 +5,13 @@ use Rattle.acpi_name.specs.Names.{NameParts}
 use Rattle.acpi_tree.specs.declared.place.NamedForm.{NamedForm}
 use Rattle.acpi_tree.specs.declared.place.NamedForm.TheVariants as named
 use Rattle.acpi_tree.specs.declared.place.UnitsForm.TheVariants as fields
-use Rattle.acpi_tree.specs.Tree.{DataTree, int, str, buffer, pkg, var_pkg, ElemTree, of_data, of_name, ElemTrees, no_elems, elem, ExternalParts, FieldTree}
+use Rattle.acpi_tree.specs.Tree.{ExternalParts, FieldTree}
+use Rattle.acpi_tree.specs.DataTerms.{data_term}
 use Rattle.acpi_tree.specs.declared.tree.ScopeKind.{ScopeKind}
 use Rattle.acpi_tree.specs.declared.tree.ScopeKind.TheVariants as kinds
 use Rattle.acpi_tree.specs.Tree.{ItemTree, name, scope, method, external, external_block, create, create_field, mutex, event, region, field, index_field, bank_field, ItemTrees, no_items, item}
 use Rattle.acpi_tree.specs.Terms as terms
-use Rattle.acpi_tree.specs.Terms.{TermTree, TermTrees, declare, no_terms, more, raw, ref}
+use Rattle.acpi_tree.specs.Terms.{TermTrees, declare, no_terms, more, raw, ref}
 use Rattle.acpi_code.specs.Spelling.{SpellsEach}
 use Rattle.acpi_terms.specs.Spelling.{SpellsExternal, SpellsItems, items_height}
 use Rattle.acpi_outline.specs.declared.form.ContainerForm.TheVariants as containers
@@ -18,24 +19,6 @@ use Rattle.acpi_outline.specs.Nodes as nodes
 use Rattle.acpi_outline.specs.Nodes.{FixedTree, container, if_so, units, FieldNodes, no_more_fields, field_node, NodeTree, plain, holds, holds_fields, closed, NodeTrees, no_more, node}
 use Rattle.acpi_outline.specs.Rules.{Rules}
 use Rattle.acpi_outline.specs.Outline.{IsOutline}
-
--- ---- constant data as a value
-
-abbrev mutual
-  pub data_term : DataTree → TermTree
-  data_term (int i) = terms.int i
-  data_term (str text) = terms.str text
-  data_term (buffer size content) = terms.buffer (terms.int size) content
-  data_term (pkg count es) = terms.pkg count (elem_terms es)
-  data_term (var_pkg count es) = terms.var_pkg (terms.int count) (elem_terms es)
-
-  pub elem_term : ElemTree → TermTree
-  elem_term (of_data d) = data_term d
-  elem_term (of_name n) = ref n
-
-  pub elem_terms : ElemTrees → TermTrees
-  elem_terms no_elems = no_terms
-  elem_terms (elem e es) = more (elem_term e) (elem_terms es)
 
 -- ---- items as nodes
 

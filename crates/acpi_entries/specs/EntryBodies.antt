@@ -50,8 +50,7 @@ abbrev pub IsBodyIn : List Entry → List (Option ℕ) → (depth : ℕ) → Opt
     → Option SurveyedTable → Option Found → Option MethodBody → Type 0
 IsBodyIn es counts depth (Some e) (Some t) part b =
     IsBody (entry_count es counts t.expected e) e.path depth (option_and_then method_code part) b
-IsBodyIn es counts depth (Some e) None part b = b ≡ None
-IsBodyIn es counts depth None t part b = b ≡ None
+IsBodyIn es counts depth _ _ part b = b ≡ None
 
 -- of the entry of that number
 abbrev pub IsBodyOf : List Entry → List (Option ℕ) → List SurveyedTable → (depth number : ℕ)

@@ -9,7 +9,7 @@ use Rattle.acpi_conditions.specs.Entries.{Path, Entry}
 use Rattle.acpi_conditions.specs.Known.{candidates, is_certain_name}
 use Rattle.acpi_conditions.specs.Views.{View, seen_by}
 use Rattle.acpi_ranges.specs.Lookup.{Found, node_found, element_found}
-use Rattle.acpi_survey.specs.Reading.{Source}
+use Rattle.acpi_survey.specs.Reading.{AliasSource}
 
 -- a name, the paths at which it may be found, and whether it is found for certain
 pub record LinkParts : Type 0 where
@@ -58,7 +58,7 @@ seen_link v n =
 
 -- ---- an Alias, where it is read
 
-abbrev pub source_link : NameParts → Source → LinkParts
+abbrev pub source_link : NameParts → AliasSource → LinkParts
 source_link n s = record { name = n; paths = s.paths; is_certain = s.is_certain }
 
 -- the name of which it is another
@@ -66,7 +66,7 @@ abbrev pub alias_name : Found → Option NameParts
 alias_name (node_found to (plain (alias source n))) = Some source
 alias_name _ = None
 
-abbrev pub alias_links : List Source → ℕ → NameParts → List LinkParts
+abbrev pub alias_links : List AliasSource → ℕ → NameParts → List LinkParts
 alias_links sources place n =
     option_to_list (option_map (source_link n) (find (λ s. s.place == place) sources))
 
@@ -75,16 +75,15 @@ alias_links sources place n =
 abbrev pub seen_links : List Entry → Entry → List NameParts → List LinkParts
 seen_links es e names = map (seen_link (view_of es e)) names
 
-abbrev pub links_by_name : List Entry → List Source → Entry → Option NameParts → List NameParts
+abbrev pub links_by_name : List Entry → List AliasSource → Entry → Option NameParts → List NameParts
     → List LinkParts
 links_by_name es sources e None names = seen_links es e names
 links_by_name es sources e (Some n) names = alias_links sources e.term.place n
 
 -- the links of an entry whose term is this part, by all entries and the Aliases
-abbrev pub links_in : List Entry → List Source → Entry → Found → List LinkParts
+abbrev pub links_in : List Entry → List AliasSource → Entry → Found → List LinkParts
 links_in es sources e part = links_by_name es sources e (alias_name part) (searched part)
 
-abbrev pub links_of_part : List Entry → List Source → Option Entry → Option Found → List LinkParts
+abbrev pub links_of_part : List Entry → List AliasSource → Option Entry → Option Found → List LinkParts
 links_of_part es sources (Some e) (Some part) = links_in es sources e part
-links_of_part es sources (Some e) None = []
-links_of_part es sources None part = []
+links_of_part es sources _ _ = []

@@ -4,7 +4,7 @@ ghost use Rattle.std.specs.Prelude.{◌≡◌, ◌==◌, ℕ, drop, map, slice_g
 ghost use Rattle.std.specs.Option.{option_and_then, option_copied, option_map};
 ghost use Rattle.acpi_conditions.specs.Entries.{Path, Entry as EntryParts};
 ghost use Rattle.acpi_conditions.specs.EntryForms.{entry_view};
-ghost use Rattle.acpi_survey.specs.Reading.{Source as SourceParts};
+ghost use Rattle.acpi_survey.specs.Reading.{AliasSource as SourceParts};
 ghost use Rattle.acpi_entries.specs.Condition.{entry_at};
 ghost use Rattle.acpi_survey.specs.Predefined.{predefined_count};
 ghost use Rattle.acpi_survey.specs.steps.Readings.{opened_pairs};
@@ -14,7 +14,7 @@ ghost use Rattle.std.specs.List.{find};
 ghost use Rattle.std.specs.List.Sorted.{IsNonDecreasingBy};
 
 use acpi_conditions::{Entries, Entry};
-use acpi_survey::{OpenedScope, PREDEFINED, Source};
+use acpi_survey::{AliasSource, OpenedScope, PREDEFINED};
 
 /// What stands at a place: a table's number times 2^64, and the number of bytes of the table's code before it.
 pub(crate) trait Placed {
@@ -41,7 +41,7 @@ impl Placed for OpenedScope {
     }
 }
 
-impl Placed for Source {
+impl Placed for AliasSource {
     ghost place = { λ s. s.place };
 
     fn place(&self) -> u128 {
@@ -98,7 +98,7 @@ pub(crate) fn scope_at(opened: &[OpenedScope], place: u128) -> Option<&OpenedSco
 }
 
 /// The Alias at a place.
-pub(crate) fn source_at(sources: &[Source], place: u128) -> Option<&Source>
+pub(crate) fn source_at(sources: &[AliasSource], place: u128) -> Option<&AliasSource>
     ensures { IsNonDecreasingBy (λ (s : SourceParts). s.place) (map source_of sources.now)
         → option_map (λ s. source_of s.now) result
         ≡ find (λ (s : SourceParts). s.place == place) (map source_of sources.now) }

@@ -1,7 +1,7 @@
 //! What the names in an entry's term find.
 
 use crate::store_targets::StoreTargets;
-use acpi_conditions::Seen;
+use acpi_conditions::{Entry, Seen};
 use acpi_name::Name;
 use acpi_overview::{Object, Value, objects_at};
 use acpi_survey::Survey;
@@ -41,7 +41,8 @@ pub(crate) struct Names<'a, 'b> {
 }
 
 impl<'a, 'b> Names<'a, 'b> {
-    // The only object at the only path at which a name in the term of an entry may be found.
+    // The only object at the only path at which a name in the term of an entry may be found, if it is declared before: of
+    // one behind it nobody knows that the name found it where the term stands.
     fn object_named(&self, number: usize, name: &Name) -> Result<Option<Object<'a>>, AllocError> {
         let entries = self.survey.entries();
         let Some(entry) = self.survey.entry(number) else {
@@ -53,8 +54,18 @@ impl<'a, 'b> Names<'a, 'b> {
             return Ok(None);
         };
         match objects_at(self.objects, path) {
-            [object] => Ok(Some(*object)),
+            [object] => Ok(self.declared_before(entry, *object)),
             _ => Ok(None),
+        }
+    }
+
+    // The object, if its term stands before that of the entry.
+    fn declared_before(&self, entry: &Entry, object: Object<'a>) -> Option<Object<'a>> {
+        let declared = self.survey.entry(object.number)?;
+        if declared.term.place <= entry.term.place {
+            Some(object)
+        } else {
+            None
         }
     }
 

@@ -75,10 +75,10 @@ impl StoreTargets {
     fn put_nodes(&mut self, alloc: Global, nodes: &Nodes) -> Result<(), AllocError> {
         let mut spans = Spans::new(alloc, nodes, 0)?;
         for _ in 0..u64::MAX {
-            let Some(span) = spans.next()? else {
+            let Some(range) = spans.next()? else {
                 return Ok(());
             };
-            self.put_span(alloc, &span)?;
+            self.put_span(alloc, &range.span)?;
         }
         Ok(())
     }

@@ -1,5 +1,5 @@
 -- Each place of what the nodes of a code do is the first of one of the code's ranges.
-use Rattle.std.proofs.Common.{◌≡◌, ◌+◌, ◌⊎◌, ℕ, Bool, false, List, [], ◌∷◌, ◌++◌, inl, inr, refl, sym, ap, ◌∙◌}
+use Rattle.std.proofs.Common.{◌≡◌, ◌+◌, ◌⊎◌, ℕ, suc, Bool, false, List, [], ◌∷◌, ◌++◌, inl, inr, refl, sym, ap, ◌∙◌}
 use Rattle.acpi_space.specs.Laws.{Among}
 use Rattle.acpi_space.proofs.Elements.{among_left, among_right, among_append}
 use Rattle.acpi_tree.specs.declared.op.Op.{Op}
@@ -14,8 +14,7 @@ use Rattle.acpi_outline.specs.Nodes.{NodeTree, plain, holds, holds_fields, close
 use Rattle.acpi_conditions.specs.Entries.{Path}
 use Rattle.acpi_conditions.specs.Nodes.{Nodes, no_nodes, declares, branch, places}
 use Rattle.acpi_survey.specs.Nodes.{term_at, operator_at, plain_at, package_at, element_at, operands_of, fields_at, Listed, no_else, with_else, if_before, holding_at, lost_package_at, listed_node, listed, nodes_of}
-use Rattle.acpi_ranges.specs.Spans.{of_node, of_element, of_lost}
-use Rattle.acpi_ranges.specs.Ranges.{Range, range, Entered, scope_inside, first_place, first_field_place, is_if, element_ranges, inner_ranges, ranges_of}
+use Rattle.acpi_ranges.specs.Ranges.{of_node, of_element, of_lost, Range, range, Entered, scope_inside, first_place, first_field_place, is_if, element_ranges, inner_ranges, ranges_of, code_ranges}
 
 -- a range begins at the place
 abbrev pub Stands : ℕ → List Range → ℕ → Type 0
@@ -84,13 +83,13 @@ both_stand base rs ps qs h n p m = by (among_append ps qs p m)
     by (inl m) = h p m
     by (inr m) = n p m
 
-stand_fields : (base : ℕ) (s : Path) (end : ℕ) (vs : TermTrees) (es : FieldNodes) (rest : Nodes) (behind : List Range) → AllStand base behind (places rest)
-    → AllStand base (element_ranges s end es ++ behind) (places (fields_at base vs es rest))
-stand_fields base s end vs no_more_fields rest behind h = h
-stand_fields base s end vs (fields_lost place why) rest behind h = λ p m. stand_more base behind (range place end s false (of_lost why) ∷ []) p (h p m)
-stand_fields base s end vs (field_node place offset e es) rest behind h =
-    stand_element base place (range place (first_field_place end es) s false (of_element e)) refl (element_ranges s end es ++ behind) (fields_at base vs es rest)
-    (stand_fields base s end vs es rest behind h) vs e
+stand_fields : (base depth : ℕ) (s : Path) (end : ℕ) (f : FixedTree) (vs : TermTrees) (es : FieldNodes) (rest : Nodes) (behind : List Range) → AllStand base behind (places rest)
+    → AllStand base (element_ranges depth s end f es ++ behind) (places (fields_at base vs es rest))
+stand_fields base depth s end f vs no_more_fields rest behind h = h
+stand_fields base depth s end f vs (fields_lost place why) rest behind h = λ p m. stand_more base behind (range depth place end s false (of_lost why) ∷ []) p (h p m)
+stand_fields base depth s end f vs (field_node place offset e es) rest behind h =
+    stand_element base place (range depth place (first_field_place end es) s false (of_element f offset e)) refl (element_ranges depth s end f es ++ behind) (fields_at base vs es rest)
+    (stand_fields base depth s end f vs es rest behind h) vs e
 
 -- ---- lists
 
@@ -103,7 +102,7 @@ else_less : (base : ℕ) (rs : List Range) (ns : Nodes) → AllStand base rs (pl
 else_less base rs ns h = record { nodes = h; behind_if = h }
 
 abbrev AllListed : NodeTrees → Type 0
-AllListed ns = (base : ℕ) (entered : Entered) (s : Path) (end : ℕ) (b : Bool) → StandListed base (ranges_of entered s end b ns) (listed base ns)
+AllListed ns = (base : ℕ) (entered : Entered) (depth : ℕ) (s : Path) (end : ℕ) (b : Bool) → StandListed base (ranges_of entered depth s end b ns) (listed base ns)
 
 abbrev AllInside : NodeTree → Type 0
 AllInside (holds f ms) = AllListed ms
@@ -149,23 +148,23 @@ module _ (base place : ℕ) (first : Range) (at : first.from ≡ place) (inner b
   held_stands (units form ns vs) = else_less base (first ∷ inner ++ behind) rest.nodes
       (all_later base place first at (inner ++ behind) (places rest.nodes) (in_behind (places rest.nodes) h.nodes))
 
-module _ (base place : ℕ) (entered : Entered) (s : Path) (end next : ℕ) (b : Bool) (behind : List Range) (rest : Listed) (h : StandListed base behind rest) where
+module _ (base place : ℕ) (entered : Entered) (depth : ℕ) (s : Path) (end next : ℕ) (b : Bool) (behind : List Range) (rest : Listed) (h : StandListed base behind rest) where
   abbrev own_range : NodeTree → Range
-  own_range n = range place next s b (of_node n)
+  own_range n = range depth place next s b (of_node n)
 
   lost_stands : (form : PackedForm) (first : Range) → first.from ≡ place → StandListed base (first ∷ behind) (lost_package_at (base + place) form rest)
   lost_stands forms.If first at = if_stands base place first at [] behind no_nodes rest (none_stand base []) h
   lost_stands form first at = else_less base (first ∷ behind) rest.nodes (all_later base place first at behind (places rest.nodes) h.nodes)
 
-  node_stands : (n : NodeTree) → AllInside n → StandListed base (own_range n ∷ inner_ranges entered place s next n ++ behind) (listed_node base place n rest)
+  node_stands : (n : NodeTree) → AllInside n → StandListed base (own_range n ∷ inner_ranges entered (suc depth) place s next n ++ behind) (listed_node base place n rest)
   node_stands (plain p) hm = else_less base (own_range (plain p) ∷ behind) (plain_at (base + place) p rest.nodes) (stand_plain base place (own_range (plain p)) refl behind rest.nodes h.nodes p)
   node_stands (holds f ms) hm =
-      held_stands base place (own_range (holds f ms)) refl (ranges_of entered (scope_inside entered place f s) next false ms) behind (listed base ms).nodes rest
-      (hm base entered (scope_inside entered place f s) next false).nodes h f
+      held_stands base place (own_range (holds f ms)) refl (ranges_of entered (suc depth) (scope_inside entered place f s) next false ms) behind (listed base ms).nodes rest
+      (hm base entered (suc depth) (scope_inside entered place f s) next false).nodes h f
   node_stands (holds_fields f es) hm =
-      else_less base (own_range (holds_fields f es) ∷ element_ranges s next es ++ behind) (fields_at base (operands_of f) es rest.nodes)
-      (all_later base place (own_range (holds_fields f es)) refl (element_ranges s next es ++ behind) (places (fields_at base (operands_of f) es rest.nodes))
-      (stand_fields base s next (operands_of f) es rest.nodes behind h.nodes))
+      else_less base (own_range (holds_fields f es) ∷ element_ranges (suc depth) s next f es ++ behind) (fields_at base (operands_of f) es rest.nodes)
+      (all_later base place (own_range (holds_fields f es)) refl (element_ranges (suc depth) s next f es ++ behind) (places (fields_at base (operands_of f) es rest.nodes))
+      (stand_fields base (suc depth) s next f (operands_of f) es rest.nodes behind h.nodes))
   node_stands (closed f content) hm = else_less base (own_range (closed f content) ∷ behind) (package_at (base + place) f no_nodes rest.nodes)
       (stand_closed base place (own_range (closed f content)) refl behind rest.nodes h.nodes f)
   node_stands (package_lost form why) hm = lost_stands form (own_range (package_lost form why)) refl
@@ -179,10 +178,10 @@ mutual
   inside_stand n = tt
 
   all_stand : (ns : NodeTrees) → AllListed ns
-  all_stand no_more base entered s end b = else_less base [] no_nodes (none_stand base [])
-  all_stand (lost place why) base entered s end b = else_less base (range place end s b (of_lost why) ∷ []) no_nodes (none_stand base (range place end s b (of_lost why) ∷ []))
-  all_stand (node place n ns) base entered s end b =
-      node_stands base place entered s end (first_place end ns) b (ranges_of entered s end (is_if n) ns) (listed base ns) (all_stand ns base entered s end (is_if n)) n (inside_stand n)
+  all_stand no_more base entered depth s end b = else_less base [] no_nodes (none_stand base [])
+  all_stand (lost place why) base entered depth s end b = else_less base (range depth place end s b (of_lost why) ∷ []) no_nodes (none_stand base (range depth place end s b (of_lost why) ∷ []))
+  all_stand (node place n ns) base entered depth s end b =
+      node_stands base place entered depth s end (first_place end ns) b (ranges_of entered depth s end (is_if n) ns) (listed base ns) (all_stand ns base entered depth s end (is_if n)) n (inside_stand n)
 
-pub places_stand : (base : ℕ) (entered : Entered) (s : Path) (end : ℕ) (ns : NodeTrees) (p : ℕ) → Among (places (nodes_of base ns)) p → Stands base (ranges_of entered s end false ns) p
-places_stand base entered s end ns p m = (all_stand ns base entered s end false).nodes p m
+pub places_stand : (base : ℕ) (entered : Entered) (end : ℕ) (ns : NodeTrees) (p : ℕ) → Among (places (nodes_of base ns)) p → Stands base (code_ranges entered end ns) p
+places_stand base entered end ns p m = (all_stand ns base entered 0 [] end false).nodes p m

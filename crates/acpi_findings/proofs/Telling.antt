@@ -14,7 +14,7 @@ use Rattle.acpi_conditions.proofs.Strict.{flat_among, among_map}
 use Rattle.acpi_conditions.proofs.Basics.{among_flat}
 use Rattle.acpi_ranges.specs.Places.{last_or, last_at}
 use Rattle.acpi_survey.specs.Nodes.{nodes_of}
-use Rattle.acpi_ranges.specs.Ranges.{Range, ranges_of}
+use Rattle.acpi_ranges.specs.Ranges.{Range}
 use Rattle.acpi_findings.specs.Problems.{ReasonParts, unread, cut, trailing, unreadable, refused, ProblemParts, refused_problem, lost_problem, refused_in, lost_in, why_lost, range_problems, table_ranges, table_problem, front_problems, trailing_problems, table_problems}
 use Rattle.acpi_ranges.specs.Index.{Refusals}
 use Rattle.acpi_ranges.specs.Sites.{site_at}
@@ -80,7 +80,7 @@ told_either : (s : Reading) (number : ℕ) (t : SurveyedTable) (ts : List Survey
     → (StandsIn (number + 1) ts r → IsTold s (number + 1) ts r) → Among (places (nodes_of (place_in number 0) (nodes_view t.nodes))) r.place ⊎ StandsIn (suc number) ts r
     → IsTold s number (t ∷ ts) r
 told_either s number t ts r last later (inl n) =
-    let told = told_in s number t r (places_stand (place_in number 0) (entered_in s number) [] (length (code_read t.judged)) (nodes_view t.nodes) r.place n) last in (
+    let told = told_in s number t r (places_stand (place_in number 0) (entered_in s number) (length (code_read t.judged)) (nodes_view t.nodes) r.place n) last in (
       told.0,
       among_left (table_problems (entered_in s number) (refusals_in s) number t.bytes t.judged (nodes_view t.nodes)) (problems_by (entered_in s) (refusals_in s) (number + 1) ts) told.0
           told.1,

@@ -2,14 +2,13 @@
 use Rattle.std.specs.Prelude.{◌==◌, ◌&&◌, not, ℕ, Bool, true, false, cond, List, [], ◌∷◌, ◌++◌, map, Option, Some, None}
 use Rattle.std.specs.List.{flat_map}
 use Rattle.acpi_name.specs.Names.{NameParts}
-use Rattle.acpi_outline.specs.Nodes.{PlainTree, term, external, alias, table_region, FixedTree, otherwise, NodeTree, plain, holds, holds_fields, NodeTrees}
+use Rattle.acpi_outline.specs.Nodes.{PlainTree, term, alias, FixedTree, otherwise, NodeTree, plain, holds, holds_fields, NodeTrees}
 use Rattle.acpi_outline.specs.Outline.{is_stray}
 use Rattle.acpi_conditions.specs.Entries.{Path}
 use Rattle.acpi_needs.specs.Needs.{is_among}
 use Rattle.acpi_findings.specs.Marks.{MarkTree, called, load, marks_in_plain, marks_in_fixed}
 use Rattle.acpi_survey.specs.Survey.{place_in}
-use Rattle.acpi_ranges.specs.Spans.{Part, of_node, of_element, of_lost}
-use Rattle.acpi_ranges.specs.Ranges.{Range, Entered}
+use Rattle.acpi_ranges.specs.Ranges.{Part, of_node, Range, Entered}
 use Rattle.acpi_ranges.specs.Sites.{offset_of}
 use Rattle.acpi_findings.specs.Problems.{table_ranges}
 use Rattle.acpi_pieces.specs.declared.tables.TableContent.{TableContent}
@@ -59,9 +58,8 @@ mark_reasons unknown load = Loads ∷ []
 
 abbrev pub own_reasons : List NameParts → PlainTree → List NoteReason
 own_reasons unknown (term t) = cond (is_stray t) (Stray ∷ []) []
-own_reasons unknown (external x) = []
 own_reasons unknown (alias source n) = mark_reasons unknown (called source)
-own_reasons unknown (table_region n vs) = []
+own_reasons unknown _ = []
 
 abbrev pub plain_reasons : List NameParts → PlainTree → List NoteReason
 plain_reasons unknown p =
@@ -86,8 +84,7 @@ else_reasons behind_if n = cond (is_else n && not behind_if) (StrayElse ∷ []) 
 
 abbrev pub part_reasons : List NameParts → (behind_if : Bool) → Part → List NoteReason
 part_reasons unknown behind_if (of_node n) = else_reasons behind_if n ++ node_reasons unknown n
-part_reasons unknown behind_if (of_element e) = []
-part_reasons unknown behind_if (of_lost why) = []
+part_reasons unknown behind_if _ = []
 
 -- of what begins at a place, among the bytes of all tables, the names of which nothing is known there
 abbrev pub Unknowns : Type 0

@@ -1,5 +1,5 @@
 -- What is lost or refused in a table, and where (ACPI 6.5, 5.2.6, 5.3 and 20.2.5).
-use Rattle.std.specs.Prelude.{◌-◌, ℕ, false, cond, nat_lt, List, [], ◌∷◌, ◌++◌, length, map, Option, Some, None}
+use Rattle.std.specs.Prelude.{◌-◌, ℕ, cond, nat_lt, List, [], ◌∷◌, ◌++◌, length, map, Option, Some, None}
 use Rattle.std.specs.Option.{option_to_list}
 use Rattle.std.specs.List.{flat_map}
 use Rattle.acpi_name.specs.Names.{NameParts}
@@ -13,9 +13,8 @@ use Rattle.acpi_pieces.specs.declared.tables.TableContent.{TableContent}
 use Rattle.acpi_pieces.specs.declared.tables.TableContent.TheVariants as judged
 use Rattle.acpi_ranges.specs.Index.{Refusals}
 use Rattle.acpi_ranges.specs.LostRanges.{bytes_between, bytes_from, range_lost, unsure_name}
-use Rattle.acpi_ranges.specs.Ranges.{Range, Entered, ranges_of}
+use Rattle.acpi_ranges.specs.Ranges.{Part, of_node, of_lost, Range, Entered, code_ranges}
 use Rattle.acpi_ranges.specs.Sites.{site_at}
-use Rattle.acpi_ranges.specs.Spans.{Part, of_node, of_element, of_lost}
 use Rattle.acpi_ranges.specs.declared.lost_ranges.LostRange.{LostRange}
 use Rattle.acpi_ranges.specs.declared.sites.Site.{Site}
 
@@ -71,9 +70,8 @@ abbrev pub why_lost : Part → List LostFault
 why_lost (of_node (package_lost form why)) = why ∷ []
 why_lost (of_node (data_lost form why)) = why ∷ []
 why_lost (of_node (name_lost n form why)) = why ∷ []
-why_lost (of_node n) = []
-why_lost (of_element e) = []
 why_lost (of_lost why) = why ∷ []
+why_lost _ = []
 
 abbrev pub lost_problem : List ℕ → (number : ℕ) → Range → LostFault → ProblemParts
 lost_problem code number r why = record {
@@ -106,7 +104,7 @@ range_problems refusals code number r = refused_in refusals number r ++ lost_in 
 
 -- the ranges of a table's nodes
 abbrev pub table_ranges : Entered → TableContent → NodeTrees → List Range
-table_ranges entered j ns = ranges_of entered [] (length (code_read j)) false ns
+table_ranges entered j ns = code_ranges entered (length (code_read j)) ns
 
 -- the problems of the table of that number, by what is entered at the places of its code
 abbrev pub table_problems : Entered → Refusals → (number : ℕ) → (bytes : List ℕ) → TableContent

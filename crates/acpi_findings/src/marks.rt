@@ -15,7 +15,7 @@ use std::alloc::{AllocError, Global};
 
 /// A name that is called, or LoadTable, Load or Unload, which has no name.
 #[derive(Debug, Clone, Copy)]
-pub(crate) struct Mark<'a> {
+pub(crate) struct CalledName<'a> {
     /// Where it stands, in bytes from the code's first.
     pub place: usize,
     /// The name that is called, not resolved; none of LoadTable, Load and Unload.
@@ -24,8 +24,8 @@ pub(crate) struct Mark<'a> {
 
 /// The calls and loads in terms that were read from a code, in the order of their places.
 #[derive(Drop)]
-pub(crate) struct Marks<'a> {
-    found: Vec<Mark<'a>>,
+pub(crate) struct CalledNames<'a> {
+    found: Vec<CalledName<'a>>,
 }
 
 /// What of a code is behind its first bytes.
@@ -90,12 +90,12 @@ fn package_in<'b>(code: &mut Code<'b>) -> Code<'b> {
     }
 }
 
-impl<'a> Marks<'a> {
+impl<'a> CalledNames<'a> {
     // None.
-    fn new(alloc: Global) -> Marks<'a>
+    fn new(alloc: Global) -> CalledNames<'a>
         ensures { marks_told result ≡ [] }
     {
-        Marks {
+        CalledNames {
             found: Vec::new(alloc),
         }
     }
@@ -105,10 +105,10 @@ impl<'a> Marks<'a> {
         alloc: Global,
         plain: &'a Plain,
         code: &mut Code<'_>,
-    ) -> Result<Vec<Mark<'a>>, AllocError>
+    ) -> Result<Vec<CalledName<'a>>, AllocError>
         ensures { IfOk result (λ v. map mark_view v.items ≡ marks_in_plain (plain_view plain.now)) }
     {
-        let mut marks = Marks::new(alloc);
+        let mut marks = CalledNames::new(alloc);
         match plain {
             Plain::Term(term) => marks.term(term, code)?,
             Plain::External(_) => {}
@@ -129,10 +129,10 @@ impl<'a> Marks<'a> {
         alloc: Global,
         fixed: &'a Fixed,
         code: &mut Code<'_>,
-    ) -> Result<Vec<Mark<'a>>, AllocError>
+    ) -> Result<Vec<CalledName<'a>>, AllocError>
         ensures { IfOk result (λ v. map mark_view v.items ≡ marks_in_fixed (fixed_view fixed.now)) }
     {
-        let mut marks = Marks::new(alloc);
+        let mut marks = CalledNames::new(alloc);
         skip_opcode(code);
         let mut inner = package_in(code);
         match fixed {
@@ -164,7 +164,7 @@ impl<'a> Marks<'a> {
                 Ok(())
             }
             Term::Call(name, args) => {
-                self.found.push(Mark {
+                self.found.push(CalledName {
                     place,
                     name: Some(name),
                 })?;
@@ -173,7 +173,7 @@ impl<'a> Marks<'a> {
             }
             Term::Op(op, operands) => {
                 if op.is_load() {
-                    self.found.push(Mark { place, name: None })?;
+                    self.found.push(CalledName { place, name: None })?;
                 }
                 skip_opcode(code);
                 self.operands(operands, code)

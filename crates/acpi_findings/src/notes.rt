@@ -18,7 +18,7 @@ ghost use Rattle.acpi_findings.specs.steps.MarkViews.{mark_view};
 ghost use Rattle.acpi_findings.specs.steps.NoteSiteViews.{notes_at};
 ghost use Rattle.acpi_findings.specs.steps.ReadTables.{entered_at, unknowns_of};
 
-use crate::marks::{Mark, Marks, code_at};
+use crate::marks::{CalledName, CalledNames, code_at};
 use crate::problems::{ReadTable, scope_copy};
 use acpi_name::{Name, Path};
 use acpi_needs::is_among;
@@ -172,7 +172,7 @@ impl<'a> NoteSite<'a> {
         self,
         alloc: Global,
         found: &mut Vec<Note>,
-        mark: &Mark<'_>,
+        mark: &CalledName<'_>,
     ) -> Result<(), AllocError>
         ensures { OnOk result (map note_view found.new.items ≡ map note_view found.old.items
             ++ notes_at self.entry (mark_reasons self.entry.unknown.now (mark_view mark.now))) }
@@ -188,7 +188,7 @@ impl<'a> NoteSite<'a> {
         self,
         alloc: Global,
         found: &mut Vec<Note>,
-        marks: &[Mark<'_>],
+        marks: &[CalledName<'_>],
     ) -> Result<(), AllocError>
         ensures { OnOk result (map note_view found.new.items ≡ map note_view found.old.items
             ++ notes_at self.entry
@@ -229,7 +229,7 @@ impl<'a> NoteSite<'a> {
             ++ notes_at self.entry (plain_reasons self.entry.unknown.now (plain_view plain.now))) }
     {
         self.put_own(alloc, found, plain)?;
-        let marks = Marks::of_plain(alloc, plain, &mut code_at(code, self.place))?;
+        let marks = CalledNames::of_plain(alloc, plain, &mut code_at(code, self.place))?;
         self.put_marks(alloc, found, &marks)
     }
 
@@ -243,7 +243,7 @@ impl<'a> NoteSite<'a> {
         ensures { OnOk result (map note_view found.new.items ≡ map note_view found.old.items
             ++ notes_at self.entry (fixed_reasons self.entry.unknown.now (fixed_view fixed.now))) }
     {
-        let marks = Marks::of_fixed(alloc, fixed, &mut code_at(code, self.place))?;
+        let marks = CalledNames::of_fixed(alloc, fixed, &mut code_at(code, self.place))?;
         self.put_marks(alloc, found, &marks)
     }
 

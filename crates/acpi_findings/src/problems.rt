@@ -10,7 +10,7 @@ ghost use Rattle.acpi_findings.specs.Problems.{front_problems, lost_in, range_pr
 ghost use Rattle.acpi_ranges.specs.Sites.{offset_of, site_at};
 ghost use Rattle.acpi_pieces.specs.Tables.{code_read};
 ghost use Rattle.acpi_findings.specs.ProblemViews.{problem_view, reason_view};
-ghost use Rattle.acpi_ranges.specs.Spans.{of_node};
+ghost use Rattle.acpi_ranges.specs.Ranges.{of_node};
 ghost use Rattle.acpi_ranges.specs.SpanViews.{part_of, range_of, ranges_left, scope_of, with_first_range};
 ghost use Rattle.acpi_findings.specs.steps.ReadTables.{entered_at, refusals_of};
 

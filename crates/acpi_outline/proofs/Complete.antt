@@ -29,7 +29,7 @@ use Rattle.acpi_code.proofs.Packages.{front_is, package_complete}
 use Rattle.acpi_code.specs.FixedArguments.{SpellsExternal}
 use Rattle.acpi_values.specs.Grammars.{Grammar}
 use Rattle.acpi_values.specs.Spelling.{Stands, StandsFor, Spells, AreOperands, height, heights}
-use Rattle.acpi_values.specs.Declarations.{named_opcode, units_opcode}
+use Rattle.acpi_code.specs.Forms.{named_opcode, units_opcode}
 use Rattle.acpi_values.specs.steps.Reading.{operands_at, placed_by, constant_form, form_by, term_at}
 use Rattle.acpi_values.proofs.Allowed.{lead_of, allowed_at}
 use Rattle.acpi_values.proofs.TermComplete.{listed, terms_of-listed, form_complete, operands_complete, term_complete}
@@ -40,7 +40,7 @@ use Rattle.acpi_outline.specs.declared.form.PackedForm.TheVariants as forms
 use Rattle.acpi_outline.specs.declared.fault.LostFault.{LostFault}
 use Rattle.acpi_outline.specs.Nodes.{PlainTree, term, external, alias, table_region, FixedTree, scope, container, method, if_so, otherwise, while_so, units, NodeTree, plain, form_of, container_opcode, form_opcode, form_bytes}
 use Rattle.acpi_outline.specs.Rules.{Rules, grammar_at}
-use Rattle.acpi_outline.specs.Outline.{operands_after, is_stray, SpellsPlain, first_heights, container_operands, IsPlain, IsTest, AreUnitArguments, IsFixed}
+use Rattle.acpi_outline.specs.Outline.{operands_after, is_stray, SpellsPlain, first_heights, container_operands, IsPlain, IsTest, IsFixed}
 use Rattle.acpi_outline.specs.steps.Reading.{first_in, named_in, external_in, term_in, alias_in, table_region_in, plain_by, plain_in, value_in, test_in, names_in, container_in, units_in, fixed_in, packed_by, packed_in, packed_form, nodes_at, node_at}
 use Rattle.acpi_outline.proofs.Sources.{first_complete}
 
@@ -308,13 +308,13 @@ container_complete r level known end form n vs a rest (x, y, hn, ho, whole) =
     rw (whole, append_assoc x y rest, name_in_complete end n x (y ++ rest) hn, o) (ap (λ ts. Ok (container form n ts, rest)) (terms_of-listed vs))
 
 units_complete : {S : Type 0} (r : Rules S) (level : ℕ) (known : S) (end : ℕ) (form : UnitsForm) (ns : List NameParts) (vs : TermTrees) (a rest : List ℕ)
-    → AreUnitArguments r level known form ns vs a → units_in r level known form end (a ++ rest) ≡ Ok (units form ns vs, rest)
+    → IsFixed r level known (units form ns vs) a → units_in r level known form end (a ++ rest) ≡ Ok (units form ns vs, rest)
 unfolding units_in
-units_complete r level known end form ns vs a rest h =
+units_complete r level known end form ns vs a rest (h, within) =
     let whole : a ++ rest ≡ h.names ++ (h.operands ++ rest) = ap (λ (l : List ℕ). l ++ rest) h.whole ∙ append_assoc h.names h.operands rest in
     let n : names_in (names_of_units form) end (h.names ++ (h.operands ++ rest)) ≡ Ok (ns, h.operands ++ rest) =
     ap (λ k. names_in k end (h.names ++ (h.operands ++ rest))) (sym h.all_names) ∙ names_complete ns end h.names (h.operands ++ rest) h.are_names in
-    let o = operands_complete (grammar_at r known) (operands_of_units form) vs level end h.operands rest h.are_operands h.within in
+    let o = operands_complete (grammar_at r known) (operands_of_units form) vs level end h.operands rest h.are_operands within in
     rw (whole, n, o) (ap (λ ts. Ok (units form ns ts, rest)) (terms_of-listed vs))
 
 pub fixed_complete : {S : Type 0} (r : Rules S) (level : ℕ) (known : S) (end : ℕ) (f : FixedTree) (a rest : List ℕ) → IsFixed r level known f a

@@ -18,7 +18,7 @@ use Rattle.acpi_code.proofs.Opcodes.{opens}
 use Rattle.acpi_code.proofs.Packages.{front_is, package_complete}
 use Rattle.acpi_values.specs.Grammars.{Grammar}
 use Rattle.acpi_values.specs.Spelling.{Stands, Spells, AreOperands, height}
-use Rattle.acpi_values.specs.Declarations.{named_opcode}
+use Rattle.acpi_code.specs.Forms.{named_opcode}
 use Rattle.acpi_values.proofs.Allowed.{lead_of, allowed_at}
 use Rattle.acpi_values.proofs.TermComplete.{form_complete}
 use Rattle.acpi_outline.specs.declared.form.DataForm.{DataForm}

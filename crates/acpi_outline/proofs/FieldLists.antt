@@ -1,7 +1,10 @@
 -- The elements of a field list: what is read stands for the bytes, and what stands for them is read.
-use Rattle.std.proofs.Common.{◌≡◌, ℕ, zero, suc, ◌-◌, ◌+◌, ◌≤◌, ◌<◌, true, Some, List, [], ◌∷◌, ◌++◌, length, drop, Ok, Err, refl, sym, ap, subst, ◌∙◌, append_assoc, arith, inl, inr}
+use Rattle.std.proofs.Common.{◌≡◌, ℕ, zero, suc, ◌-◌, ◌+◌, ◌≤◌, ◌<◌, true, false, List, [], ◌∷◌, ◌++◌, length, drop, Ok, Err, refl, sym, ap, subst, ◌∙◌, append_assoc, arith, inl, inr}
 use Rattle.std.proofs.lemmas.List.{length-append}
+use Rattle.acpi_name.specs.Names.{NameParts}
 use Rattle.acpi_tree.specs.declared.place.Place.TheVariants.{Value}
+use Rattle.acpi_tree.specs.declared.place.UnitsForm.{UnitsForm}
+use Rattle.acpi_tree.specs.Terms.{TermTrees}
 use Rattle.acpi_tree.specs.Tree.{FieldTree}
 use Rattle.acpi_code.specs.declared.fault.CodeReason.{CodeReason}
 use Rattle.acpi_code.specs.declared.fault.CodeReason.TheVariants as codes
@@ -9,8 +12,8 @@ use Rattle.acpi_code.specs.declared.fault.ConstantFault.{ConstantFault}
 use Rattle.acpi_code.specs.declared.fault.ConstantFault.TheVariants.{Part, NotConstant}
 use Rattle.acpi_code.specs.declared.opcode.Opcode.{Opcode}
 use Rattle.acpi_code.specs.declared.opcode.Opcode.TheVariants as opcodes
-use Rattle.acpi_code.specs.Opcodes.{first_opcode, opcode_bytes}
-use Rattle.acpi_code.specs.Faults.{is_no_constant, IsElementOf, IsConnectionSize, ShowsElementPart, ShowsElement}
+use Rattle.acpi_code.specs.Opcodes.{BeginsWith, opcode_bytes, is_constant}
+use Rattle.acpi_code.specs.Faults.{IsElementOf, IsConnectionSize, ShowsElementPart, ShowsElement}
 use Rattle.acpi_code.specs.Fields.{SpellsField}
 use Rattle.acpi_code.specs.steps.Reading.{Reading, Package}
 use Rattle.acpi_code.specs.steps.Fields.{field_at}
@@ -18,21 +21,24 @@ use Rattle.acpi_code.proofs.Fields.{ElementBad, shown_at, first_element, field_c
 use Rattle.acpi_code.proofs.Lists.{each_snoc}
 use Rattle.acpi_code.proofs.Packages.{PackageFront}
 use Rattle.acpi_code.proofs.Readings.{Judge, Source, Position, Front, Read, rest_behind, stands_at}
+use Rattle.acpi_code.specs.FixedArguments.{FollowsForm}
 use Rattle.acpi_values.specs.Faults.{reason_of}
-use Rattle.acpi_values.specs.Declarations.{units_opcode}
+use Rattle.acpi_values.specs.Declarations.{AreUnitArguments, IsUnitElement}
+use Rattle.acpi_values.proofs.Declarations.{units_length}
+use Rattle.acpi_code.specs.Forms.{units_opcode}
 use Rattle.acpi_outline.specs.declared.fault.LostReason.TheVariants.{Term}
 use Rattle.acpi_outline.specs.declared.fault.LostFault.{LostFault}
 use Rattle.acpi_outline.specs.Nodes.{FixedTree, units, form_of, form_bytes, has_fields, FieldNodes, no_more_fields, fields_lost, field_node, fields_with_reason}
-use Rattle.acpi_outline.specs.Rules.{Rules}
+use Rattle.acpi_outline.specs.Rules.{Rules, grammar_at}
 use Rattle.acpi_outline.specs.Outline.{IsFixed, BeginsField, bits_behind, AreFields}
 use Rattle.acpi_outline.specs.Tiling.{TilesFields}
-use Rattle.acpi_outline.specs.Faults.{no_constant, element_fault, BeginsFields, IsFieldElement, ShowsLost, FieldsHaveTrueFaults}
+use Rattle.acpi_outline.specs.Faults.{no_constant, element_fault, ShowsLost, FieldsHaveTrueFaults}
 use Rattle.acpi_outline.specs.steps.Reading.{then_fields, fields_with, fields_at}
 use Rattle.acpi_outline.proofs.LostFaults.{Bad}
 
 -- ---- what the fault of an element shows
 
-element_shows : {S : Type 0} (r : Rules S) (known : S) (depth : ℕ) (code : List ℕ) (why : CodeReason) (place : ℕ) → ShowsElementPart (IsFieldElement r known code) code why place
+element_shows : {S : Type 0} (r : Rules S) (known : S) (depth : ℕ) (code : List ℕ) (why : CodeReason) (place : ℕ) → ShowsElementPart (IsUnitElement (grammar_at r known) code) code why place
     → ShowsLost r known depth code (Term (reason_of why)) place
 element_shows r known depth code codes.Cut place h = h
 element_shows r known depth code codes.ReservedBits place h = h
@@ -42,48 +48,51 @@ element_shows r known depth code codes.Overrun place h = h
 element_shows r known depth code codes.BadString place h = absurd h
 element_shows r known depth code codes.TooDeep place h = absurd h
 
-no_size : {S : Type 0} (r : Rules S) (known : S) (depth : ℕ) (code : List ℕ) (opcode : Opcode) (place : ℕ) → is_no_constant opcode ≡ true → first_opcode (drop place code) ≡ Some opcode
+no_size : {S : Type 0} (r : Rules S) (known : S) (depth : ℕ) (code : List ℕ) (opcode : Opcode) (place : ℕ) → is_constant opcode ≡ false → BeginsWith opcode (drop place code)
     → IsConnectionSize code place → ShowsLost r known depth code (no_constant opcode) place
 no_size r known depth code (opcodes.Constant form) place computed begins size = absurd cc
 no_size r known depth code opcodes.Nothing place computed begins size = record { kind = Value; opcode = opcodes.Nothing; begins = begins; refused = refl }
 no_size r known depth code opcode place computed begins size = (size, (opcode, begins, refl))
 
-element_bad : {S : Type 0} (s : Source) (r : Rules S) (known : S) (f : ConstantFault) → ShowsElement (IsFieldElement r known s.code) s.code f → Bad s r known (element_fault f)
+element_bad : {S : Type 0} (s : Source) (r : Rules S) (known : S) (f : ConstantFault) → ShowsElement (IsUnitElement (grammar_at r known) s.code) s.code f → Bad s r known (element_fault f)
 element_bad s r known (Part f) h = element_shows r known s.depth s.code f.reason f.place h
 element_bad s r known (NotConstant opcode place) h = no_size r known s.depth s.code opcode place h.0.1 h.0.0 h.1
 
--- a field list begins behind the fixed arguments of its form
+-- a field list begins there, behind its names and operands
+abbrev pub BeginsFields : {S : Type 0} → Rules S → S → List ℕ → ℕ → Type 0
+BeginsFields r known code start = (form : UnitsForm) × (ns : List NameParts) × (vs : TermTrees) × FollowsForm (units_opcode form) (AreUnitArguments (grammar_at r known) form ns vs) code start
+
+-- .. and behind the fixed arguments of its form
 pub field_list : {S : Type 0} (s : Source) (r : Rules S) (level : ℕ) (known : S) (end : ℕ) (bytes rest : List ℕ) (p : Package) (f : FixedTree) (front behind : List ℕ)
     → bytes ≡ form_bytes (form_of f) ++ rest → Position s.depth (suc level) s.code end bytes → PackageFront end rest p → p.content ≡ front ++ behind
     → IsFixed r level known f front → has_fields f ≡ true → BeginsFields r known s.code (p.end - length behind)
 field_list s r level known end bytes rest p (units form ns vs) front behind is h g split are has =
-    let op : List ℕ = opcode_bytes (units_opcode form) in
-    record {
-      level = level;
-      form = form;
-      names = ns;
-      operands = vs;
-      at = end - length bytes;
-      n = length g.len + length p.content;
-      len = g.len;
-      front = front;
-      rest = behind ++ (p.rest ++ h.after);
-      here = stands_at s (suc level) end bytes h ∙ rw (is, g.whole, split) (simp append_assoc);
-      spells_len = g.spells_len;
-      are_arguments = are;
-      starts = omega (
-        arith,
-        h.ends,
-        ap length is,
-        length-append op rest,
-        ap length g.whole,
-        length-append g.len (p.content ++ p.rest),
-        length-append p.content p.rest,
-        ap length split,
-        length-append front behind,
-        g.ends,
-      );
-    }
+    let op : List ℕ = opcode_bytes (units_opcode form) in (
+      form,
+      ns,
+      vs,
+      record {
+        at = end - length bytes;
+        len = g.len;
+        is_len = units_length form g.len (length g.len + length p.content) g.spells_len;
+        front = front;
+        rest = behind ++ (p.rest ++ h.after);
+        here = stands_at s (suc level) end bytes h ∙ rw (is, g.whole, split) (simp append_assoc);
+        are = are.0;
+        behind = omega (
+          arith,
+          h.ends,
+          ap length is,
+          length-append op rest,
+          ap length g.whole,
+          length-append g.len (p.content ++ p.rest),
+          length-append p.content p.rest,
+          ap length split,
+          length-append front behind,
+          g.ends,
+        );
+      },
+    )
 field_list s r level known end bytes rest p _ front behind is h g split is_fixed has = absurd cc
 
 -- behind an element stands the place of the next one
@@ -138,7 +147,7 @@ module _ {S : Type 0} (s : Source) (r : Rules S) (known : S) (level start end : 
           ((g.0.front, x.1, refl, refl, g.0.spells, behind.0, g.0.whole), behind.1)
       by_read (Err f) same bad go_on =
           let place = end - length (b ∷ rest) in
-          let there = shown_at (λ k. k ≡ place) (IsFieldElement r known s.code) (λ k at. (start, list, subst (IsElementOf s.code start) (sym at) e)) s.code f bad in
+          let there = shown_at (λ k. k ≡ place) (IsUnitElement (grammar_at r known) s.code) (λ k at. (list.0, list.1, list.2, start, list.3, subst (IsElementOf s.code start) (sym at) e)) s.code f bad in
           ((refl, omega arith, no_field end (b ∷ rest) f same), element_bad s r known f there)
 
 pub fields_sound : {S : Type 0} (s : Source) (r : Rules S) (known : S) (level end : ℕ) (bytes : List ℕ) → BeginsFields r known s.code (end - length bytes) → Position s.depth level s.code end bytes

@@ -14,7 +14,7 @@ use Rattle.acpi_tree.specs.declared.place.UnitsForm.TheVariants as fields
 use Rattle.acpi_name.specs.Names.{NameParts}
 use Rattle.acpi_name.specs.Spelling.{SpellsName}
 use Rattle.acpi_code.proofs.Names.{name_sound}
-use Rattle.acpi_outline.proofs.FieldLists.{fields_sound, field_list}
+use Rattle.acpi_outline.proofs.FieldLists.{BeginsFields, fields_sound, field_list}
 use Rattle.acpi_outline.proofs.Data.{no_plain, data_opened, name_opened, data_given, name_read}
 use Rattle.acpi_outline.specs.declared.form.DataForm.TheVariants as datas
 use Rattle.acpi_outline.specs.declared.form.DataForm.{DataForm}
@@ -25,7 +25,7 @@ use Rattle.acpi_outline.specs.declared.fault.LostFault.{LostFault}
 use Rattle.acpi_outline.specs.Nodes.{PlainTree, FixedTree, NodeTree, plain, form_of, form_opcode, form_bytes, data_opcode, data_bytes, data_lost, name_lost, has_fields}
 use Rattle.acpi_outline.specs.Rules.{Rules, goes_into, after}
 use Rattle.acpi_outline.specs.Outline.{IsFixed, BeginsNode, BeginsFixed, IsNode, AreNodes, IsPlain, AreFields}
-use Rattle.acpi_outline.specs.Faults.{BeginsFields, HasTrueFaults, HaveTrueFaults}
+use Rattle.acpi_outline.specs.Faults.{HasTrueFaults, HaveTrueFaults}
 use Rattle.acpi_outline.specs.steps.Reading.{part, plain_by, plain_in, fixed_in, Nodes, filled_by, packed_by, packed_in, packed_form, node_by, then_nodes, nodes_with, nodes_at, node_at, packed_as, data_form, data_by, opened_data, named_data, name_at_level, contained_by, or_contained, unentered, fields_at}
 use Rattle.acpi_outline.proofs.Complete.{plain_complete, fixed_complete, packed, packed_complete}
 use Rattle.acpi_outline.proofs.LostFaults.{Bad, part_bad}
@@ -53,8 +53,8 @@ not_found why x e = cc
 no_fixed : {S : Type 0} (r : Rules S) (level : ℕ) (known : S) (form : PackedForm) (end : ℕ) (bytes : List ℕ) (why : LostFault)
     → fixed_in r level known form end bytes ≡ Err why → BeginsFixed r level known form bytes → ⊥
 no_fixed r level known form end bytes why e b =
-    let read : fixed_in r level known (form_of b.tree) end (b.front ++ b.rest) ≡ fixed_found (b.tree, b.rest) = fixed_complete r level known end b.tree b.front b.rest b.is_fixed in
-    let same : fixed_in r level known form end bytes ≡ fixed_found (b.tree, b.rest) = rw (b.whole, sym b.same_form) read in
+    let read : fixed_in r level known (form_of b.tree) end (b.front ++ b.rest) ≡ fixed_found (b.tree, b.rest) = fixed_complete r level known end b.tree b.front b.rest b.spells.1 in
+    let same : fixed_in r level known form end bytes ≡ fixed_found (b.tree, b.rest) = rw (b.whole, sym b.spells.0) read in
     not_found why (b.tree, b.rest) (sym same ∙ e)
 
 form_has_package : (form : PackedForm) → has_package (form_opcode form) ≡ true
@@ -368,21 +368,21 @@ held_found level end o rest (Err why) made given = (made why, given why)
 pub no_node : {S : Type 0} (r : Rules S) (left : ℕ) (known : S) (end : ℕ) (bytes : List ℕ) (why : LostFault) → node_at r left known end bytes ≡ Err why → BeginsNode r left known bytes → ⊥
 no_node r zero known end bytes why e h = absurd (omega (arith, h.0))
 no_node r (suc level) known end bytes why e (some, inl p) =
-    let read : node_at r (suc level) known end bytes ≡ node_found (plain p.tree, p.rest) = rw p.whole (plain_complete r level known end p.tree p.front p.rest p.is_plain) in
+    let read : node_at r (suc level) known end bytes ≡ node_found (plain p.tree, p.rest) = rw p.whole (plain_complete r level known end p.tree p.front p.rest p.spells) in
     not_node why (plain p.tree, p.rest) (sym read ∙ e)
 no_node r (suc level) known end bytes why e (some, inr (inl p)) =
-    let made = packed r level (end - length (p.front ++ p.rest)) (end - length p.rest) known p.form p.content in
-    let read : node_at r (suc level) known end bytes ≡ node_found (made, p.rest) = rw p.whole (packed_complete r level known end p.form p.content p.front p.rest p.packs) in
+    let made = packed r level (end - length (p.front ++ p.rest)) (end - length p.rest) known p.tree.0 p.tree.1 in
+    let read : node_at r (suc level) known end bytes ≡ node_found (made, p.rest) = rw p.whole (packed_complete r level known end p.tree.0 p.tree.1 p.front p.rest p.spells) in
     not_node why (made, p.rest) (sym read ∙ e)
 no_node r (suc level) known end bytes why e (some, inr (inr (inl p))) =
-    let y = p.packs.len ++ (p.content ++ p.rest) in
-    let read = data_opened r level known end p.form p.content p.front p.rest p.packs in
-    let k = held_found level end (data_opcode p.form) y (plain_in r level known end (p.front ++ p.rest) (data_opcode p.form) y) (λ why. (data_lost p.form why, p.rest)) (λ why. data_given p.form level why end p.content p.front p.rest p.packs) in
+    let y = p.spells.len ++ (p.tree.1 ++ p.rest) in
+    let read = data_opened r level known end p.tree.0 p.tree.1 p.front p.rest p.spells in
+    let k = held_found level end (data_opcode p.tree.0) y (plain_in r level known end (p.front ++ p.rest) (data_opcode p.tree.0) y) (λ why. (data_lost p.tree.0 why, p.rest)) (λ why. data_given p.tree.0 level why end p.tree.1 p.front p.rest p.spells) in
     not_node why k.0 (sym k.1 ∙ sym read ∙ ap (node_at r (suc level) known end) (sym p.whole) ∙ e)
 no_node r (suc level) known end bytes why e (some, inr (inr (inr (more, p)))) =
-    let y = p.is_name.spelled ++ (p.is_name.packed ++ p.rest) in
-    let read = name_opened r level known end p.name p.form p.front p.rest p.is_name in
-    let k = held_found level end opcodes.DeclareName y (plain_in r level known end (p.front ++ p.rest) opcodes.DeclareName y) (λ why. (name_lost p.name p.form why, p.rest)) (λ why. name_read p.name p.form level why end p.front p.rest (omega (arith, more)) p.is_name) in
+    let y = p.spells.spelled ++ (p.spells.packed ++ p.rest) in
+    let read = name_opened r level known end p.tree.0 p.tree.1 p.front p.rest p.spells in
+    let k = held_found level end opcodes.DeclareName y (plain_in r level known end (p.front ++ p.rest) opcodes.DeclareName y) (λ why. (name_lost p.tree.0 p.tree.1 why, p.rest)) (λ why. name_read p.tree.0 p.tree.1 level why end p.front p.rest (omega (arith, more)) p.spells) in
     not_node why k.0 (sym k.1 ∙ sym read ∙ ap (node_at r (suc level) known end) (sym p.whole) ∙ e)
 
 pub node_at_sound : {S : Type 0} (s : Source) (r : Rules S) (left : ℕ) (known : S) (end : ℕ) (bytes : List ℕ) → Position s.depth left s.code end bytes

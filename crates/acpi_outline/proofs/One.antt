@@ -61,7 +61,7 @@ fixed_of : {S : Type 0} (r : Rules S) (level : ℕ) (known : S) (form : PackedFo
 fixed_of r level known form end bytes f fits e =
     let s : Source = record { depth = 0; code = replicate (end - length bytes) 0 ++ bytes } in
     let g = good_of (Read s level end (FixedOf s r level known form) bytes) (Bad s r known) (fixed_in r level known form end bytes) f (fixed_sound s r level known form end bytes (here level end bytes fits)) e in
-    record { tree = f.0; front = g.0.front; rest = f.1; same_form = g.0.spells.0; is_fixed = g.0.spells.1; whole = g.0.whole }
+    record { tree = f.0; front = g.0.front; rest = f.1; spells = g.0.spells; whole = g.0.whole }
 
 -- a plain node that was read
 record PlainThere {S : Type 0} (r : Rules S) (level : ℕ) (known : S) (bytes : List ℕ) : Type 0 where
@@ -83,13 +83,13 @@ plain_of {S} r level known end bytes o rest x fits none opened e =
 -- what is a node begins there
 node_begins : {S : Type 0} (r : Rules S) (level place end : ℕ) (known : S) (n : NodeTree) (bytes a b : List ℕ) → bytes ≡ a ++ b → IsNode r level place end known n a
     → BeginsNode r (suc level) known bytes
-node_begins r level place end known (plain p) bytes a b is h = (omega arith, inl (record { tree = p; front = a; rest = b; is_plain = h; whole = is }))
-node_begins r level place end known (holds f ns) bytes a b is h = (omega arith, inr (inl (record { form = form_of f; content = h.0 ++ h.1; front = a; rest = b; packs = h.5; whole = is })))
-node_begins r level place end known (holds_fields f es) bytes a b is h = (omega arith, inr (inl (record { form = form_of f; content = h.0 ++ h.1; front = a; rest = b; packs = h.5; whole = is })))
-node_begins r level place end known (closed f content) bytes a b is h = (omega arith, inr (inl (record { form = form_of f; content = h.0 ++ content; front = a; rest = b; packs = h.3; whole = is })))
-node_begins r level place end known (package_lost form why) bytes a b is h = (omega arith, inr (inl (record { form = form; content = h.0; front = a; rest = b; packs = h.2; whole = is })))
-node_begins r level place end known (data_lost form why) bytes a b is h = (omega arith, inr (inr (inl (record { form = form; content = h.0; front = a; rest = b; packs = h.1; whole = is }))))
-node_begins r level place end known (name_lost n form why) bytes a b is h = (omega arith, inr (inr (inr (omega (arith, h.0), record { name = n; form = form; front = a; rest = b; is_name = h.1; whole = is }))))
+node_begins r level place end known (plain p) bytes a b is h = (omega arith, inl (record { tree = p; front = a; rest = b; spells = h; whole = is }))
+node_begins r level place end known (holds f ns) bytes a b is h = (omega arith, inr (inl (record { tree = (form_of f, h.0 ++ h.1); front = a; rest = b; spells = h.5; whole = is })))
+node_begins r level place end known (holds_fields f es) bytes a b is h = (omega arith, inr (inl (record { tree = (form_of f, h.0 ++ h.1); front = a; rest = b; spells = h.5; whole = is })))
+node_begins r level place end known (closed f content) bytes a b is h = (omega arith, inr (inl (record { tree = (form_of f, h.0 ++ content); front = a; rest = b; spells = h.3; whole = is })))
+node_begins r level place end known (package_lost form why) bytes a b is h = (omega arith, inr (inl (record { tree = (form, h.0); front = a; rest = b; spells = h.2; whole = is })))
+node_begins r level place end known (data_lost form why) bytes a b is h = (omega arith, inr (inr (inl (record { tree = (form, h.0); front = a; rest = b; spells = h.1; whole = is }))))
+node_begins r level place end known (name_lost n form why) bytes a b is h = (omega arith, inr (inr (inr (omega (arith, h.0), record { tree = (n, form); front = a; rest = b; spells = h.1; whole = is }))))
 
 -- ---- the state behind a node doesn't depend on why something is lost
 

@@ -27,13 +27,13 @@ use Rattle.acpi_code.specs.steps.Reading.{Reading, byte_at, name_in, opcode_at}
 use Rattle.acpi_code.proofs.Readings.{Judge, judge_bind, judge_into, judge_if, Source, Position, Front, Read, stands_at, position_after, position_deeper}
 use Rattle.acpi_code.proofs.Names.{name_sound}
 use Rattle.acpi_code.proofs.Numbers.{byte_sound}
-use Rattle.acpi_code.proofs.Opcodes.{Opened, begins}
+use Rattle.acpi_code.proofs.Opcodes.{Opened, begins_there}
 use Rattle.acpi_code.specs.Forms.{name_arg, byte_arg, count_arg}
 use Rattle.acpi_code.specs.FixedArguments.{Awaits}
 use Rattle.acpi_values.specs.Grammars.{Grammar}
 use Rattle.acpi_values.specs.Spelling.{Stands, Spells, height, heights}
 use Rattle.acpi_values.specs.Refusals.{refusal_at}
-use Rattle.acpi_values.specs.Declarations.{named_opcode}
+use Rattle.acpi_code.specs.Forms.{named_opcode}
 use Rattle.acpi_values.specs.steps.Reading.{operands_at, term_at}
 use Rattle.acpi_values.proofs.Allowed.{lead_of, Suits, allowed_at}
 use Rattle.acpi_values.proofs.TermComplete.{spelled_long, form_complete}
@@ -47,7 +47,7 @@ use Rattle.acpi_outline.specs.declared.form.PackedForm.TheVariants as forms
 use Rattle.acpi_outline.specs.Nodes.{PlainTree, term, external, alias, table_region, FixedTree, form_of}
 use Rattle.acpi_outline.specs.Rules.{Rules, grammar_at}
 use Rattle.acpi_outline.specs.Outline.{operands_first, operands_after, is_stray, SpellsPlain, first_heights, plain_height, test_height, IsTest, container_operands, IsFixed}
-use Rattle.acpi_outline.specs.Faults.{begins_none, args_at}
+use Rattle.acpi_outline.specs.Faults.{args_at}
 use Rattle.acpi_outline.specs.steps.Reading.{part, of_term, first_in, named_in, external_in, term_in, alias_in, table_region_in, plain_by, value_in, test_in, names_in, container_in, units_in, fixed_in, packed_form}
 use Rattle.acpi_outline.proofs.LostFaults.{Bad, part_sound, of_term_sound, terms_sound}
 use Rattle.acpi_outline.proofs.Sources.{AreSourced, source_low, first_sound}
@@ -160,20 +160,22 @@ module _ {S : Type 0} (s : Source) (r : Rules S) (level : ℕ) (known : S) where
   -- the number of arguments must stand behind the name and the type of an External
   count_place : (end : ℕ) (bytes rest : List ℕ) (n : NameParts × List ℕ) (kind : ℕ × List ℕ) → bytes ≡ 0x15 ∷ rest → Front SpellsName rest n → n.1 ≡ kind.0 ∷ kind.1
       → Position s.depth (suc level) s.code end bytes → Awaits opcodes.External (count_arg ∷ []) s.code (end - length kind.1)
-  count_place end bytes rest n kind is f kind_is h = record {
-    before = name_arg ∷ byte_arg ∷ [];
-    all = refl;
-    at = end - length bytes;
-    len = [];
-    is_len = refl;
-    values = (n.0, (kind.0, tt));
-    front = f.front ++ kind.0 ∷ [];
-    rest = kind.1 ++ h.after;
-    here = stands_at s (suc level) end bytes h ∙ rw (is, f.whole, kind_is)
-        (ap (λ (l : List ℕ). 0x15 ∷ l) (append_assoc f.front (kind.0 ∷ kind.1) h.after ∙ sym (append_assoc f.front (kind.0 ∷ []) (kind.1 ++ h.after))));
-    spells = (f.front, kind.0 ∷ [], f.spells, (kind.0 ∷ [], [], refl, refl, refl), refl);
-    behind = omega (arith, ap length is, ap length f.whole, length-append f.front n.1, ap length kind_is, length-append f.front (kind.0 ∷ []), h.ends);
-  }
+  count_place end bytes rest n kind is f kind_is h = (
+    name_arg ∷ byte_arg ∷ [],
+    (n.0, (kind.0, tt)),
+    refl,
+    record {
+      at = end - length bytes;
+      len = [];
+      is_len = refl;
+      front = f.front ++ kind.0 ∷ [];
+      rest = kind.1 ++ h.after;
+      here = stands_at s (suc level) end bytes h ∙ rw (is, f.whole, kind_is)
+          (ap (λ (l : List ℕ). 0x15 ∷ l) (append_assoc f.front (kind.0 ∷ kind.1) h.after ∙ sym (append_assoc f.front (kind.0 ∷ []) (kind.1 ++ h.after))));
+      are = (f.front, kind.0 ∷ [], f.spells, (kind.0 ∷ [], [], refl, refl, refl), refl);
+      behind = omega (arith, ap length is, ap length f.whole, length-append f.front n.1, ap length kind_is, length-append f.front (kind.0 ∷ []), h.ends);
+    },
+  )
 
   external_sound : (end : ℕ) (bytes rest : List ℕ) → bytes ≡ 0x15 ∷ rest → Position s.depth (suc level) s.code end bytes → Position s.depth level s.code end rest → Judge (Plain end bytes) (Bad s r known) (external_in end rest)
   unfolding external_in
@@ -312,7 +314,7 @@ module _ {S : Type 0} (s : Source) (r : Rules S) (level : ℕ) (known : S) where
   plain_sound end bytes rest opcodes.If n e h o = absurd cc
   plain_sound end bytes rest opcodes.Else n e h o = absurd cc
   plain_sound end bytes rest opcodes.Field n e h o = absurd cc
-  plain_sound end bytes rest _ n e h o = begins s (suc level) end bytes _ begins_none h o refl
+  plain_sound end bytes rest _ n e h o = begins_there s (suc level) end bytes _ h o
 
   -- ---- fixed arguments
 
@@ -405,15 +407,17 @@ module _ {S : Type 0} (s : Source) (r : Rules S) (level : ℕ) (known : S) where
           front = f.0.front ++ o.0.front;
           spells = (
             refl,
-            record {
-              names = f.0.front;
-              operands = o.0.front;
-              all_names = f.0.spells.0;
-              are_names = f.0.spells.1;
-              are_operands = o.0.spells.are;
-              within = o.0.spells.within;
-              whole = refl;
-            },
+            (
+              record {
+                names = f.0.front;
+                operands = o.0.front;
+                all_names = f.0.spells.0;
+                are_names = f.0.spells.1;
+                are_operands = o.0.spells.are;
+                whole = refl;
+              },
+              o.0.spells.within,
+            ),
           );
           whole = f.0.whole ∙ ap (λ (l : List ℕ). f.0.front ++ l) o.0.whole ∙ sym (append_assoc f.0.front o.0.front vs.1);
         },

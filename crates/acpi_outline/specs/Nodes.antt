@@ -7,7 +7,7 @@ use Rattle.acpi_tree.specs.Terms.{TermTree, TermTrees}
 use Rattle.acpi_code.specs.declared.opcode.Opcode.{Opcode}
 use Rattle.acpi_code.specs.declared.opcode.Opcode.TheVariants as opcodes
 use Rattle.acpi_code.specs.Opcodes.{opcode_bytes}
-use Rattle.acpi_values.specs.Declarations.{units_opcode}
+use Rattle.acpi_code.specs.Forms.{units_opcode}
 use Rattle.acpi_outline.specs.declared.form.ContainerForm.{ContainerForm}
 use Rattle.acpi_outline.specs.declared.form.ContainerForm.TheVariants as containers
 use Rattle.acpi_outline.specs.declared.form.PackedForm.{PackedForm}
@@ -116,13 +116,12 @@ fields_with_reason why (field_node place offset e es) =
 
 abbrev mutual
   pub with_reason : LostFault → NodeTree → NodeTree
-  with_reason why (plain p) = plain p
   with_reason why (holds f ns) = holds f (all_with_reason why ns)
   with_reason why (holds_fields f es) = holds_fields f (fields_with_reason why es)
-  with_reason why (closed f content) = closed f content
   with_reason why (package_lost form w) = package_lost form why
   with_reason why (data_lost form w) = data_lost form why
   with_reason why (name_lost n form w) = name_lost n form why
+  with_reason why n = n
 
   -- the same nodes, with one reason for all that is lost
   pub all_with_reason : LostFault → NodeTrees → NodeTrees

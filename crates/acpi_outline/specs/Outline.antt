@@ -8,17 +8,17 @@ use Rattle.acpi_tree.specs.declared.place.OperandKind.{OperandKind}
 use Rattle.acpi_tree.specs.declared.place.OperandKind.TheVariants.{At, Byte, Word, DWord}
 use Rattle.acpi_tree.specs.declared.place.NamedForm.{NamedForm}
 use Rattle.acpi_tree.specs.declared.place.NamedForm.TheVariants as named
-use Rattle.acpi_tree.specs.declared.place.UnitsForm.{UnitsForm}
 use Rattle.acpi_tree.specs.Tree.{FieldTree}
 use Rattle.acpi_tree.specs.Terms.{TermTree, TermTrees, int, str, local, arg, debug, ref, declare, no_terms, more}
 use Rattle.acpi_tree.specs.Offsets.{element_bits}
-use Rattle.acpi_tree.specs.Operators.{operands_behind, names_of_units, operands_of_units}
+use Rattle.acpi_tree.specs.Operators.{operands_behind}
 use Rattle.acpi_code.specs.Opcodes.{opcode_bytes}
-use Rattle.acpi_code.specs.Spelling.{SpellsEach, Packs}
+use Rattle.acpi_code.specs.Spelling.{Packs}
 use Rattle.acpi_code.specs.Fields.{SpellsField}
+use Rattle.acpi_code.specs.Forms.{named_opcode}
 use Rattle.acpi_code.specs.FixedArguments.{SpellsExternal}
 use Rattle.acpi_values.specs.Spelling.{Stands, Spells, AreOperands, height, heights}
-use Rattle.acpi_values.specs.Declarations.{named_opcode}
+use Rattle.acpi_values.specs.Declarations.{AreUnitArguments}
 use Rattle.acpi_outline.specs.declared.form.ContainerForm.{ContainerForm}
 use Rattle.acpi_outline.specs.declared.form.ContainerForm.TheVariants as containers
 use Rattle.acpi_outline.specs.declared.form.PackedForm.{PackedForm}
@@ -117,17 +117,6 @@ container_operands containers.Power = Byte ∷ Word ∷ []
 -- DefThermalZone := ThermalZoneOp PkgLength NameString TermList (20.2.5.2)
 container_operands containers.Thermal = []
 
--- the names and operands of a declaration of field units
-pub record AreUnitArguments {S : Type 0} (r : Rules S) (level : ℕ) (known : S) (form : UnitsForm)
-    (ns : List NameParts) (vs : TermTrees) (bytes : List ℕ) : Type 0 where
-  pub names : List ℕ
-  pub operands : List ℕ
-  pub all_names : length ns ≡ names_of_units form
-  pub are_names : SpellsEach SpellsName ns names
-  pub are_operands : AreOperands (grammar_at r known) (operands_of_units form) vs operands
-  pub within : heights vs ≤ level
-  pub whole : bytes ≡ names ++ operands
-
 -- `level` levels are left inside the package
 abbrev pub IsFixed : {S : Type 0} → Rules S → ℕ → S → FixedTree → List ℕ → Type 0
 -- DefScope := ScopeOp PkgLength NameString TermList (20.2.5.1)
@@ -144,37 +133,20 @@ IsFixed r level known (if_so v) bytes = IsTest r level known v bytes
 IsFixed r level known otherwise bytes = bytes ≡ []
 -- DefWhile := WhileOp PkgLength Predicate TermList (20.2.5.3)
 IsFixed r level known (while_so v) bytes = IsTest r level known v bytes
-IsFixed r level known (units form ns vs) bytes = AreUnitArguments r level known form ns vs bytes
+IsFixed r level known (units form ns vs) bytes =
+    AreUnitArguments (grammar_at r known) form ns vs bytes × (heights vs ≤ level)
 
 -- ---- what begins at the front of bytes
 
-pub record BeginsPlain {S : Type 0} (r : Rules S) (level : ℕ) (known : S)
-    (bytes : List ℕ) : Type 0 where
-  pub tree : PlainTree
+-- something that is spelled so
+pub record BeginsWith {X : Type 0} (Is : X → List ℕ → Type 0) (bytes : List ℕ) : Type 0 where
+  pub tree : X
   pub front : List ℕ
   pub rest : List ℕ
-  pub is_plain : IsPlain r level known tree front
+  pub spells : Is tree front
   pub whole : bytes ≡ front ++ rest
 
--- a package, that ends where the bytes do or before
-pub record BeginsPackage (bytes : List ℕ) : Type 0 where
-  pub form : PackedForm
-  pub content : List ℕ
-  pub front : List ℕ
-  pub rest : List ℕ
-  pub packs : Packs (form_bytes form) content front
-  pub whole : bytes ≡ front ++ rest
-
--- so is a statement that is data
-pub record BeginsData (bytes : List ℕ) : Type 0 where
-  pub form : DataForm
-  pub content : List ℕ
-  pub front : List ℕ
-  pub rest : List ℕ
-  pub packs : Packs (data_bytes form) content front
-  pub whole : bytes ≡ front ++ rest
-
--- a Name with such data, which has a level more
+-- a Name with data of that form
 pub record IsNameOf (n : NameParts) (form : DataForm) (bytes : List ℕ) : Type 0 where
   pub content : List ℕ
   pub spelled : List ℕ
@@ -183,29 +155,19 @@ pub record IsNameOf (n : NameParts) (form : DataForm) (bytes : List ℕ) : Type 
   pub packs : Packs (data_bytes form) content packed
   pub whole : bytes ≡ 0x08 ∷ (spelled ++ packed)
 
-pub record BeginsName (bytes : List ℕ) : Type 0 where
-  pub name : NameParts
-  pub form : DataForm
-  pub front : List ℕ
-  pub rest : List ℕ
-  pub is_name : IsNameOf name form front
-  pub whole : bytes ≡ front ++ rest
-
--- a node
+-- a node: a plain one; a package, whatever it holds; so a statement that is data; or a Name with such data, which has a
+-- level more
 abbrev pub BeginsNode : {S : Type 0} → Rules S → ℕ → S → List ℕ → Type 0
 BeginsNode r level known bytes = (0 < level)
-    × (BeginsPlain r level known bytes
-    ⊎ (BeginsPackage bytes ⊎ (BeginsData bytes ⊎ ((1 < level) × BeginsName bytes))))
+    × (BeginsWith (IsPlain r level known) bytes
+    ⊎ (BeginsWith (λ (x : PackedForm × List ℕ). Packs (form_bytes x.0) x.1) bytes
+    ⊎ (BeginsWith (λ (x : DataForm × List ℕ). Packs (data_bytes x.0) x.1) bytes
+    ⊎ ((1 < level) × BeginsWith (λ (x : NameParts × DataForm). IsNameOf x.0 x.1) bytes))))
 
 -- the fixed arguments of a package of that form
-pub record BeginsFixed {S : Type 0} (r : Rules S) (level : ℕ) (known : S) (form : PackedForm)
-    (bytes : List ℕ) : Type 0 where
-  pub tree : FixedTree
-  pub front : List ℕ
-  pub rest : List ℕ
-  pub same_form : form_of tree ≡ form
-  pub is_fixed : IsFixed r level known tree front
-  pub whole : bytes ≡ front ++ rest
+abbrev pub BeginsFixed : {S : Type 0} → Rules S → ℕ → S → PackedForm → List ℕ → Type 0
+BeginsFixed r level known form bytes =
+    BeginsWith (λ f front. (form_of f ≡ form) × IsFixed r level known f front) bytes
 
 -- the bytes are a plain node
 abbrev pub ArePlain : {S : Type 0} → Rules S → ℕ → S → List ℕ → Type 0
@@ -213,12 +175,8 @@ ArePlain r level known bytes = (p : PlainTree) × IsPlain r level known p bytes
 
 -- ---- the elements of a field list, which have no level (20.2.5.2)
 
-pub record BeginsField (bytes : List ℕ) : Type 0 where
-  pub tree : FieldTree
-  pub front : List ℕ
-  pub rest : List ℕ
-  pub spells : SpellsField tree front
-  pub whole : bytes ≡ front ++ rest
+abbrev pub BeginsField : List ℕ → Type 0
+BeginsField bytes = BeginsWith SpellsField bytes
 
 -- the number of bits before the next element, a number of 64 bits
 abbrev pub bits_behind : (offset : ℕ) → FieldTree → ℕ

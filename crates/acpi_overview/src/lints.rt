@@ -7,7 +7,7 @@ use crate::regions::{Region, kind_of};
 use crate::value::Value;
 use acpi_kinds::ObjectKind;
 use acpi_name::Path;
-use acpi_resources::{Stop, Template};
+use acpi_resources::{Template, TemplateStop};
 use std::alloc::{AllocError, Global};
 use std::collections::BTreeMap;
 
@@ -41,7 +41,7 @@ pub enum LintReason<'a> {
         from: u64,
     },
     /// The `_CRS` of the device is no resource template (6.4): where it ends.
-    BadTemplate(Stop),
+    BadTemplate(TemplateStop),
 }
 
 /// What looks wrong in what the tables say, and loses nothing.

@@ -1,69 +1,69 @@
 //! Texts of what is known of a device.
 
-use crate::forms::{put, put_decimal};
-use crate::words::{put_escaped, put_hex};
+use crate::words::{put_between, put_code_size, put_escaped, put_hex};
 use acpi_kinds::ObjectKind;
 use acpi_overview::{Address, Container, Value, integer_value};
 use acpi_resources::{eisa_id, name_of};
+use acpi_text::put_decimal;
 use acpi_tree::Term;
 use std::alloc::{AllocError, Global};
+use text_buffer::Text;
 
-fn put_method(text: &mut Vec<u8>, code: usize) -> Result<(), AllocError> {
-    put(text, "method ")?;
-    put_decimal(text, code as u64)?;
-    put(text, " B")
+// Puts that a method gives a value, and the size of its code.
+fn put_method(text: &mut Text, code: usize) {
+    text.put("method ");
+    put_code_size(text, code)
 }
 
-// An id by its number: that of an EISA id, or any other.
-fn put_number_id(text: &mut Vec<u8>, number: u64) -> Result<(), AllocError> {
+// Puts an id by its number: that of an EISA id, or any other.
+fn put_number_id(text: &mut Text, number: u64) {
     if number < 0x1_0000_0000 {
         if let Some(id) = eisa_id(number as u32) {
-            return text.extend_from_slice(&id);
+            return text.put_all(&id);
         }
     }
-    put(text, "0x")?;
+    text.put("0x");
     put_hex(text, number, 2)
 }
 
-// The ids of a package with blanks between them.
-fn put_ids(text: &mut Vec<u8>, elements: &[Term]) -> Result<(), AllocError> {
-    let mut is_first = true;
+// Puts the ids of a package with blanks between them.
+fn put_ids(text: &mut Text, elements: &[Term]) {
+    let mut separator = "";
     for element in elements {
-        if !is_first {
-            put(text, " ")?;
-        }
-        is_first = false;
-        put_single_id(text, &Value::of_term(element))?;
+        text.put(separator);
+        separator = " ";
+        put_single_id(text, &Value::of_term(element));
     }
-    Ok(())
 }
 
-fn put_single_id(text: &mut Vec<u8>, value: &Value<'_>) -> Result<(), AllocError> {
+fn put_single_id(text: &mut Text, value: &Value<'_>) {
     match value {
         Value::Number(number) => put_number_id(text, *number),
         Value::Text(bytes) => put_escaped(text, bytes),
-        _ => put(text, "?"),
+        _ => text.put("?"),
     }
 }
 
 /// Puts an id of a device (ACPI 6.5, 6.1.2 and 6.1.5), or the ids of a package; nothing where there is none.
-pub fn put_id(text: &mut Vec<u8>, value: &Value<'_>) -> Result<(), AllocError> {
+pub fn put_id(text: &mut Text, value: &Value<'_>) {
     match value {
-        Value::Missing => Ok(()),
+        Value::Missing => {}
         Value::Package(elements) => put_ids(text, elements),
         Value::Method(code) => put_method(text, *code),
         _ => put_single_id(text, value),
     }
 }
 
-// The name of the first id that has one.
+// The name of an id, if it has one.
 fn known_name(alloc: Global, value: &Value<'_>) -> Result<Option<&'static str>, AllocError> {
-    let mut id = Vec::new(alloc);
     match value {
-        Value::Number(_) | Value::Text(_) => put_single_id(&mut id, value)?,
-        _ => return Ok(None),
+        Value::Number(_) | Value::Text(_) => {
+            let mut id = Text::new(alloc);
+            put_single_id(&mut id, value);
+            Ok(name_of(id.bytes()?))
+        }
+        _ => Ok(None),
     }
-    Ok(name_of(&id))
 }
 
 // The name of the first id of a package that has one.
@@ -90,125 +90,108 @@ pub fn what_of(
     if let Some(name) = known_name(alloc, &container.values.hid)? {
         return Ok(Some(name));
     }
-    if let Some(name) = known_name(alloc, &container.values.cid)? {
-        return Ok(Some(name));
-    }
     match container.values.cid {
         Value::Package(elements) => known_name_in(alloc, elements),
-        _ => Ok(None),
+        _ => known_name(alloc, &container.values.cid),
     }
 }
 
 /// Puts where a device stands on its parent's bus: `1F.0`, or another address; nothing where it has none.
-pub fn put_address(text: &mut Vec<u8>, address: Address) -> Result<(), AllocError> {
+pub fn put_address(text: &mut Text, address: Address) {
     match address {
-        Address::Missing => Ok(()),
+        Address::Missing => {}
         Address::Pci { device, function } => {
-            put_hex(text, u64::from(device), 2)?;
-            put(text, ".")?;
+            put_hex(text, u64::from(device), 2);
+            text.put(".");
             if function == 0xFFFF {
-                put(text, "*")
+                text.put("*")
             } else {
                 put_hex(text, u64::from(function), 1)
             }
         }
         Address::Other(number) => {
-            put(text, "adr ")?;
+            text.put("adr ");
             put_hex(text, number, 1)
         }
         Address::Method(code) => {
-            put(text, "_ADR ")?;
-            put_decimal(text, code as u64)?;
-            put(text, " B")
+            text.put("_ADR ");
+            put_code_size(text, code)
         }
-        Address::Unknown => put(text, "_ADR ?"),
+        Address::Unknown => text.put("_ADR ?"),
     }
 }
 
 /// Puts a value that tells devices apart, with a word before it; nothing where there is none.
-pub fn put_mark(text: &mut Vec<u8>, word: &str, value: &Value<'_>) -> Result<(), AllocError> {
+pub fn put_mark(text: &mut Text, word: &str, value: &Value<'_>) {
     if value.is_missing() {
-        return Ok(());
+        return;
     }
-    if !text.is_empty() {
-        put(text, " ")?;
-    }
-    put(text, word)?;
+    put_between(text, " ");
+    text.put(word);
     match value {
         Value::Number(number) => put_hex(text, *number, 1),
         Value::Text(bytes) => put_escaped(text, bytes),
         Value::Method(code) => put_method(text, *code),
-        _ => put(text, "?"),
+        _ => text.put("?"),
     }
 }
 
 /// Puts whether a device is there (ACPI 6.5, 6.3.7).
-pub fn put_status(text: &mut Vec<u8>, value: &Value<'_>) -> Result<(), AllocError> {
+pub fn put_status(text: &mut Text, value: &Value<'_>) {
     match value {
-        Value::Missing => put(text, "always"),
-        Value::Number(0) => put(text, "never"),
+        Value::Missing => text.put("always"),
+        Value::Number(0) => text.put("never"),
         Value::Number(number) => {
-            put(text, "_STA ")?;
+            text.put("_STA ");
             put_hex(text, *number, 2)
         }
         Value::Method(code) => {
-            put(text, "_STA ")?;
-            put_decimal(text, *code as u64)?;
-            put(text, " B")
+            text.put("_STA ");
+            put_code_size(text, *code)
         }
-        _ => put(text, "_STA ?"),
+        _ => text.put("_STA ?"),
     }
 }
 
-// The event by which a device wakes the machine: a number, or that of another device.
-fn put_event(text: &mut Vec<u8>, term: &Term) -> Result<(), AllocError> {
-    match term {
-        Term::Int(int) => match integer_value(*int) {
-            Some(number) => put_hex(text, number, 2),
-            None => put(text, "?"),
-        },
-        Term::Package(_, elements) => match elements.as_slice() {
-            [_, Term::Int(int)] => match integer_value(*int) {
-                Some(number) => put_hex(text, number, 2),
-                None => put(text, "?"),
-            },
-            _ => put(text, "?"),
-        },
-        _ => put(text, "?"),
+// Puts the number of an event, where it is known.
+fn put_event_number(text: &mut Text, term: &Term) {
+    match Value::of_term(term) {
+        Value::Number(number) => put_hex(text, number, 2),
+        _ => text.put("?"),
+    }
+}
+
+// Puts the event by which a device wakes the machine: a number, or that of another device.
+fn put_event(text: &mut Text, term: &Term) {
+    match Value::of_term(term) {
+        Value::Package([_, number]) => put_event_number(text, number),
+        _ => put_event_number(text, term),
     }
 }
 
 /// Puts by which event a device wakes the machine (ACPI 6.5, 7.3.13); nothing where it doesn't.
-pub fn put_wake(text: &mut Vec<u8>, value: &Value<'_>) -> Result<(), AllocError> {
+pub fn put_wake(text: &mut Text, value: &Value<'_>) {
     if value.is_missing() {
-        return Ok(());
+        return;
     }
-    if !text.is_empty() {
-        put(text, " ")?;
-    }
-    put(text, "wake ")?;
+    put_between(text, " ");
+    text.put("wake ");
     match value {
-        Value::Package(elements) => match elements.first() {
-            Some(event) => put_event(text, event),
-            None => put(text, "?"),
-        },
+        Value::Package([event, ..]) => put_event(text, event),
         Value::Method(code) => put_method(text, *code),
-        _ => put(text, "?"),
+        _ => text.put("?"),
     }
 }
 
 /// Puts how many methods and field units stand directly below a container: `3 m 42 u`.
-pub fn put_counts(text: &mut Vec<u8>, container: &Container<'_>) -> Result<(), AllocError> {
+pub fn put_counts(text: &mut Text, container: &Container<'_>) {
     if container.counts.methods > 0 {
-        put_decimal(text, container.counts.methods as u64)?;
-        put(text, " m")?;
+        put_decimal(text, container.counts.methods as u64);
+        text.put(" m");
     }
     if container.counts.units > 0 {
-        if !text.is_empty() {
-            put(text, " ")?;
-        }
-        put_decimal(text, container.counts.units as u64)?;
-        put(text, " u")?;
+        put_between(text, " ");
+        put_decimal(text, container.counts.units as u64);
+        text.put(" u");
     }
-    Ok(())
 }

@@ -1,10 +1,10 @@
 //! Terms that are read at run time, with the signs of arithmetic.
 
-use crate::forms::{put, put_decimal, put_name, put_term};
 use crate::words::put_hex;
 use acpi_overview::integer_value;
+use acpi_text::{put_decimal, put_name, put_term};
 use acpi_tree::{Op, Operand, Term};
-use std::alloc::AllocError;
+use text_buffer::Text;
 
 // The sign of an operator.
 fn sign_of(op: Op) -> Option<&'static str> {
@@ -21,19 +21,19 @@ fn sign_of(op: Op) -> Option<&'static str> {
     }
 }
 
-// The sign of an operator of two operands whose result is put nowhere.
-fn sign_between(op: Op, operands: &[Operand]) -> Option<&'static str> {
-    match operands {
-        [
-            Operand::Term(_),
-            Operand::Term(_),
-            Operand::Term(Term::NoTarget),
-        ] => sign_of(op),
-        _ => None,
+// Puts a number: small ones in decimal, others with their hexadecimal digits, those near the greatest by their complement.
+fn put_number(text: &mut Text, number: u64) {
+    if number > u64::MAX - 0x1_0000 {
+        text.put("~");
+        return put_hex(text, u64::MAX - number, 1);
     }
+    if number > 9 {
+        text.put("0x");
+    }
+    put_hex(text, number, 1)
 }
 
-// By how many bits a shift moves.
+// By how many bits a shift moves, where its second operand is a number.
 fn shift_count(op: Op, term: &Term) -> Option<u64> {
     match (op, term) {
         (Op::ShiftLeft | Op::ShiftRight, Term::Int(int)) => integer_value(*int),
@@ -41,73 +41,46 @@ fn shift_count(op: Op, term: &Term) -> Option<u64> {
     }
 }
 
-// A number: small ones in decimal, others with their hexadecimal digits, those near the greatest by their complement.
-fn put_number(text: &mut Vec<u8>, number: u64) -> Result<(), AllocError> {
-    if number > u64::MAX - 0x1_0000 {
-        put(text, "~")?;
-        return put_hex(text, u64::MAX - number, 1);
-    }
-    if number > 9 {
-        put(text, "0x")?;
-    }
-    put_hex(text, number, 1)
-}
-
 /// Puts a term: `BAR0 & ~F` for And(BAR0, 0xFFFFFFFFFFFFFFF0), and terms without a sign as they are printed elsewhere.
+/// So is an operator whose result is put somewhere.
 #[cycle(put_expression)]
-pub fn put_expression(text: &mut Vec<u8>, term: &Term) -> Result<(), AllocError> {
+pub fn put_expression(text: &mut Text, term: &Term) {
     match term {
         Term::Int(int) => match integer_value(*int) {
             Some(number) => put_number(text, number),
             None => put_term(text, term),
         },
-        Term::Op(op, operands) => match sign_between(*op, operands) {
-            Some(sign) => put_operation(text, *op, sign, operands),
-            None => put_term(text, term),
-        },
-        Term::Call(name, args) => {
-            if args.is_empty() {
-                put_name(text, name.view())
-            } else {
-                put_term(text, term)
+        Term::Op(op, operands) => match (sign_of(*op), operands.as_slice()) {
+            (
+                Some(sign),
+                [
+                    Operand::Term(left),
+                    Operand::Term(right),
+                    Operand::Term(Term::NoTarget),
+                ],
+            ) => {
+                put_operand(text, left);
+                text.put(sign);
+                match shift_count(*op, right) {
+                    Some(count) => put_decimal(text, count),
+                    None => put_operand(text, right),
+                }
             }
-        }
+            _ => put_term(text, term),
+        },
+        Term::Call(name, args) if args.is_empty() => put_name(text, name.view()),
         _ => put_term(text, term),
     }
 }
 
-// The operands of an operator with its sign between them, those that are operators' in parentheses.
+// Puts an operand, in parentheses where it is an operator's.
 #[cycle(put_expression)]
-fn put_operation(
-    text: &mut Vec<u8>,
-    op: Op,
-    sign: &str,
-    operands: &[Operand],
-) -> Result<(), AllocError> {
-    let mut is_first = true;
-    for operand in operands {
-        let Operand::Term(term) = operand else {
-            continue;
-        };
-        if let Term::NoTarget = term {
-            continue;
-        }
-        if !is_first {
-            put(text, sign)?;
-            if let Some(count) = shift_count(op, term) {
-                put_decimal(text, count)?;
-                continue;
-            }
-        }
-        is_first = false;
-        let is_nested = matches!(term, Term::Op(_, _));
-        if is_nested {
-            put(text, "(")?;
-        }
-        put_expression(text, term)?;
-        if is_nested {
-            put(text, ")")?;
-        }
+fn put_operand(text: &mut Text, term: &Term) {
+    if let Term::Op(_, _) = term {
+        text.put("(");
+        put_expression(text, term);
+        text.put(")")
+    } else {
+        put_expression(text, term)
     }
-    Ok(())
 }

@@ -1,13 +1,13 @@
 //! Printed forms of what an overview says of a machine: ids, addresses, resources, regions and what looks wrong, as an
 //! engineer writes them (ACPI 6.5). The report as text and as a page is made of them.
 //!
-//! A call `put_..` puts a text behind another. Only an allocation failure is an error.
+//! A call `put_..` puts one form behind a text, which remembers where a growth of memory was refused. Only `put_origin`,
+//! which asks for the claims of addresses, and the lists of rows and regions answer an allocation failure themselves.
 #![tactic(auto)]
 
 mod descriptors;
 mod device_words;
 mod expressions;
-mod forms;
 mod heads;
 mod lint_words;
 mod region_words;
@@ -15,7 +15,6 @@ mod rows;
 mod words;
 
 pub use device_words::{put_id, put_status};
-pub use forms::{put, put_decimal, put_spaced};
 pub use heads::{put_first, put_table, put_totals};
 pub use lint_words::{put_lint, put_site};
 pub use region_words::{
@@ -23,4 +22,7 @@ pub use region_words::{
     space_word,
 };
 pub use rows::{Row, Rows};
-pub use words::{put_count, put_counted, put_hex, put_last, put_short_path, put_short_segment};
+pub use words::{
+    is_empty, length_of, put_between, put_code_size, put_count, put_counted, put_hex, put_last,
+    put_path_around, put_short_path,
+};

@@ -2,12 +2,13 @@
 
 use crate::device_words::put_address;
 use crate::expressions::put_expression;
-use crate::forms::{put, put_decimal, put_name};
-use crate::words::{put_hex, put_last, put_short_path, put_size};
+use crate::words::{put_between, put_hex, put_last, put_short_path, put_size};
 use acpi_overview::{
     Address, AddressKind, Bound, Certainty, Overview, Region, UnitSource, kind_of,
 };
+use acpi_text::{put_decimal, put_name};
 use std::alloc::{AllocError, Global};
+use text_buffer::Text;
 
 /// The word for an address space (ACPI 6.5, table 5.184).
 pub fn space_word(space: u8) -> &'static str {
@@ -89,141 +90,132 @@ pub fn mark_of(region: &Region<'_>) -> &'static str {
     }
 }
 
-fn put_bound(text: &mut Vec<u8>, bound: &Bound<'_>, digits: u32) -> Result<(), AllocError> {
+// Puts the number of a bound, or the term that gives it at run time.
+fn put_bound(text: &mut Text, bound: &Bound<'_>, digits: u32) {
     match bound {
-        Bound::Constant(number) => put_hex(text, *number, digits),
-        Bound::Named(number, _) => put_hex(text, *number, digits),
+        Bound::Constant(number) | Bound::Named(number, _) => put_hex(text, *number, digits),
         Bound::Read(term) => put_expression(text, term),
     }
 }
 
-// The device in whose configuration space a region lies.
-fn put_device(text: &mut Vec<u8>, device: Address) -> Result<(), AllocError> {
+// Puts the device in whose configuration space a region lies.
+fn put_device(text: &mut Text, device: Address) {
     match device {
-        Address::Missing => put(text, "?"),
+        Address::Missing => text.put("?"),
         _ => put_address(text, device),
     }
 }
 
 /// Puts the addresses of a region: the first and the last, or what gives them.
-pub fn put_addresses(text: &mut Vec<u8>, region: &Region<'_>) -> Result<(), AllocError> {
+pub fn put_addresses(text: &mut Text, region: &Region<'_>) {
     let digits = digits_of(region.space);
     if region.space == 2 {
-        put_device(text, region.device)?;
-        put(text, " ")?;
+        put_device(text, region.device);
+        text.put(" ");
     }
-    match region.range() {
-        Some((from, to)) => {
-            put_hex(text, from, digits)?;
-            put(text, "-")?;
-            put_hex(text, to.saturating_sub(1), digits)
-        }
-        None => {
-            put_bound(text, &region.offset, digits)?;
-            match region.length.number() {
-                Some(_) => Ok(()),
-                None => {
-                    put(text, " +")?;
-                    put_bound(text, &region.length, 1)
-                }
-            }
-        }
+    if let Some((from, to)) = region.range() {
+        put_hex(text, from, digits);
+        text.put("-");
+        return put_hex(text, to.saturating_sub(1), digits);
+    }
+    put_bound(text, &region.offset, digits);
+    if region.length.number().is_none() {
+        text.put(" +");
+        put_bound(text, &region.length, 1);
     }
 }
 
-/// Puts the number of bytes of a region; nothing where only a run tells.
-pub fn put_length(text: &mut Vec<u8>, region: &Region<'_>) -> Result<(), AllocError> {
+/// Puts the number of bytes of a region; `?` where only a run tells.
+pub fn put_length(text: &mut Text, region: &Region<'_>) {
     match region.length.number() {
         Some(length) => put_size(text, length),
-        None => put(text, "?"),
+        None => text.put("?"),
     }
 }
 
 /// Puts how many field units are in a region.
-pub fn put_units(text: &mut Vec<u8>, region: &Region<'_>) -> Result<(), AllocError> {
-    put_decimal(text, region.units as u64)?;
-    put(text, if region.units == 1 { " unit" } else { " units" })
+pub fn put_units(text: &mut Text, region: &Region<'_>) {
+    put_decimal(text, region.units as u64);
+    text.put(if region.units == 1 { " unit" } else { " units" })
 }
 
-fn put_source(text: &mut Vec<u8>, bound: &Bound<'_>) -> Result<(), AllocError> {
+// Puts the name that gives a bound, where one does.
+fn put_source(text: &mut Text, bound: &Bound<'_>) {
     if let Bound::Named(_, name) = bound {
-        if !text.is_empty() {
-            put(text, ", ")?;
-        }
-        put_name(text, name.view())?;
+        put_between(text, ", ");
+        put_name(text, name.view());
     }
-    Ok(())
 }
 
-// By which devices a range is claimed, and from where on by none.
+// Puts by which devices a range is claimed, and from where on by none.
 fn put_claimed(
-    text: &mut Vec<u8>,
+    text: &mut Text,
     overview: &Overview<'_>,
     kind: AddressKind,
-    from: u64,
-    to: u64,
+    (from, to): (u64, u64),
     digits: u32,
 ) -> Result<(), AllocError> {
     let cover = overview.claims.cover(kind, from, to)?;
     if cover.to <= from {
-        return put(text, "no _CRS");
+        text.put("no _CRS");
+        return Ok(());
     }
-    let mut is_first = true;
+    let mut before = "_CRS of ";
     for number in &cover.containers {
         if let Some(container) = overview.tree.containers.get(*number) {
-            put(text, if is_first { "_CRS of " } else { ", " })?;
-            is_first = false;
-            put_last(text, container.object.path)?;
+            text.put(before);
+            before = ", ";
+            put_last(text, container.object.path);
         }
     }
     if cover.to < to {
-        put(text, ", ")?;
-        put_hex(text, cover.to, digits)?;
-        put(text, "-")?;
-        put_hex(text, to.saturating_sub(1), digits)?;
-        put(text, " none")?;
+        text.put(", ");
+        put_hex(text, cover.to, digits);
+        text.put("-");
+        put_hex(text, to.saturating_sub(1), digits);
+        text.put(" none");
     }
     Ok(())
 }
 
-// The field unit from which the first byte of a region is read: `MHBR: config 00.0 bit 591+24`.
-fn put_unit(text: &mut Vec<u8>, source: &UnitSource<'_>) -> Result<(), AllocError> {
-    put_last(text, source.unit)?;
-    put(text, ": ")?;
-    put(text, space_word(source.space))?;
-    put(text, " ")?;
+// Puts the field unit from which the first byte of a region is read: `MHBR: config 00.0 bit 591+24`.
+fn put_unit(text: &mut Text, source: &UnitSource<'_>) {
+    put_last(text, source.unit);
+    text.put(": ");
+    text.put(space_word(source.space));
+    text.put(" ");
     if source.space == 2 {
-        put_device(text, source.device)?;
+        put_device(text, source.device);
     } else {
-        put_last(text, source.region)?;
+        put_last(text, source.region);
     }
-    put(text, " bit ")?;
-    put_decimal(text, source.offset)?;
-    put(text, "+")?;
+    text.put(" bit ");
+    put_decimal(text, source.offset);
+    text.put("+");
     put_decimal(text, u64::from(source.bits))
 }
 
-/// Puts what gives the bounds of a region, and whose `_CRS` claims it.
+/// Puts what gives the bounds of a region, and whose `_CRS` claims it. Only an allocation failure is an error.
 pub fn put_origin(
-    text: &mut Vec<u8>,
+    text: &mut Text,
     overview: &Overview<'_>,
     region: &Region<'_>,
 ) -> Result<(), AllocError> {
-    put_source(text, &region.offset)?;
-    put_source(text, &region.length)?;
+    put_source(text, &region.offset);
+    put_source(text, &region.length);
     if let Some(source) = &region.source {
-        put_unit(text, source)?;
+        put_unit(text, source);
     }
-    let (Some(kind), Some((from, to))) = (kind_of(region.space), region.range()) else {
-        return Ok(());
-    };
-    if !text.is_empty() {
-        put(text, "; ")?;
+    match (kind_of(region.space), region.range()) {
+        (Some(kind), Some(range)) => {
+            put_between(text, "; ");
+            put_claimed(text, overview, kind, range, digits_of(region.space))
+        }
+        _ => Ok(()),
     }
-    put_claimed(text, overview, kind, from, to, digits_of(region.space))
 }
 
 /// Puts the path of a region.
-pub fn put_region_path(text: &mut Vec<u8>, region: &Region<'_>) -> Result<(), AllocError> {
+pub fn put_region_path(text: &mut Text, region: &Region<'_>) {
     put_short_path(text, region.object.path)
 }

@@ -4,12 +4,13 @@ use crate::descriptors::put_resources;
 use crate::device_words::{
     put_address, put_counts, put_id, put_mark, put_status, put_wake, what_of,
 };
-use crate::forms::{put, put_decimal};
-use crate::words::{put_last, put_short_path};
+use crate::words::{put_between, put_last, put_short_path};
 use acpi_kinds::ObjectKind;
 use acpi_overview::{Address, Container, Overview};
 use acpi_resources::Template;
+use acpi_text::put_decimal;
 use std::alloc::{AllocError, Global};
+use text_buffer::Text;
 
 /// A row of the tree: what is shown of a container.
 #[derive(Drop)]
@@ -65,69 +66,68 @@ fn order_of(
 
 // ---- texts
 
-// What a container is called where its id has no name.
-fn what_words(alloc: Global, container: &Container<'_>) -> Result<&'static str, AllocError> {
-    match what_of(alloc, container)? {
-        Some(words) => Ok(words),
-        None => Ok(""),
+// The last segment of a container's path; the whole path where it has one segment.
+fn names_of(alloc: Global, container: &Container<'_>) -> Result<Vec<u8>, AllocError> {
+    let mut names = Text::new(alloc);
+    if container.object.path.len() == 1 {
+        put_short_path(&mut names, container.object.path);
+    } else {
+        put_last(&mut names, container.object.path);
     }
+    names.into_bytes()
 }
 
 fn ids_of(alloc: Global, container: &Container<'_>) -> Result<Vec<u8>, AllocError> {
-    let mut ids = Vec::new(alloc);
-    put_id(&mut ids, &container.values.hid)?;
+    let mut ids = Text::new(alloc);
+    put_id(&mut ids, &container.values.hid);
     if !container.values.cid.is_missing() {
-        if !ids.is_empty() {
-            ids.push(b' ')?;
-        }
-        put_id(&mut ids, &container.values.cid)?;
+        put_between(&mut ids, " ");
+        put_id(&mut ids, &container.values.cid);
     }
-    Ok(ids)
+    ids.into_bytes()
 }
 
 fn place_of(alloc: Global, container: &Container<'_>) -> Result<Vec<u8>, AllocError> {
-    let mut place = Vec::new(alloc);
-    put_address(&mut place, container.address)?;
-    put_mark(&mut place, "bus ", &container.values.bbn)?;
-    put_mark(&mut place, "uid ", &container.values.uid)?;
-    Ok(place)
+    let mut place = Text::new(alloc);
+    put_address(&mut place, container.address);
+    put_mark(&mut place, "bus ", &container.values.bbn);
+    put_mark(&mut place, "uid ", &container.values.uid);
+    place.into_bytes()
 }
 
 fn status_of(alloc: Global, container: &Container<'_>) -> Result<Vec<u8>, AllocError> {
-    let mut status = Vec::new(alloc);
-    match container.object.kind {
-        ObjectKind::Device | ObjectKind::Processor { .. } => {
-            put_status(&mut status, &container.values.sta)?
-        }
-        _ => {}
+    let mut status = Text::new(alloc);
+    if let ObjectKind::Device | ObjectKind::Processor { .. } = container.object.kind {
+        put_status(&mut status, &container.values.sta);
     }
-    Ok(status)
+    status.into_bytes()
 }
 
-// In how many ways a container may be declared, where there are several.
-fn put_ways(has: &mut Vec<u8>, container: &Container<'_>) -> Result<(), AllocError> {
-    if container.count < 2 {
-        return Ok(());
-    }
-    if !has.is_empty() {
-        has.push(b' ')?;
-    }
-    put_decimal(has, container.count as u64)?;
-    put(has, " ways")
-}
-
+// What a container has; in how many ways it may be declared, where there are several.
 fn has_of(alloc: Global, container: &Container<'_>) -> Result<Vec<u8>, AllocError> {
-    let mut has = Vec::new(alloc);
-    put_counts(&mut has, container)?;
-    put_wake(&mut has, &container.values.prw)?;
+    let mut has = Text::new(alloc);
+    put_counts(&mut has, container);
+    put_wake(&mut has, &container.values.prw);
     if container.object.is_conditional {
-        if !has.is_empty() {
-            has.push(b' ')?;
-        }
-        has.extend_from_slice(b"(if)")?;
+        put_between(&mut has, " ");
+        has.put("(if)");
     }
-    put_ways(&mut has, container)?;
-    Ok(has)
+    if container.count > 1 {
+        put_between(&mut has, " ");
+        put_decimal(&mut has, container.count as u64);
+        has.put(" ways");
+    }
+    has.into_bytes()
+}
+
+fn resources_of(
+    alloc: Global,
+    container: &Container<'_>,
+    template: &Option<Template<'_>>,
+) -> Result<Vec<u8>, AllocError> {
+    let mut resources = Text::new(alloc);
+    put_resources(&mut resources, &container.values.crs, template);
+    resources.into_bytes()
 }
 
 // The row of the container of that number.
@@ -137,24 +137,16 @@ fn row_of<'a, 'b>(
     template: &Option<Template<'_>>,
     number: usize,
 ) -> Result<Row<'a, 'b>, AllocError> {
-    let mut names = Vec::new(alloc);
-    if container.object.path.len() == 1 {
-        put_short_path(&mut names, container.object.path)?;
-    } else {
-        put_last(&mut names, container.object.path)?;
-    }
-    let mut resources = Vec::new(alloc);
-    put_resources(&mut resources, &container.values.crs, template)?;
     Ok(Row {
         number,
         container,
-        names,
+        names: names_of(alloc, container)?,
         ids: ids_of(alloc, container)?,
-        what: what_words(alloc, container)?,
+        what: what_of(alloc, container)?.unwrap_or(""),
         place: place_of(alloc, container)?,
         status: status_of(alloc, container)?,
         has: has_of(alloc, container)?,
-        resources,
+        resources: resources_of(alloc, container, template)?,
     })
 }
 
@@ -198,8 +190,17 @@ impl<'a, 'b> Rows<'a, 'b> {
         self.below(row.number).is_empty()
     }
 
-    /// The rows as they are shown: each container before those below it, these by their addresses.
-    pub fn shown<'c>(&'c self, alloc: Global) -> Result<Vec<&'c Row<'a, 'b>>, AllocError> {
+    /// Whether a row is shown: not that of the root, and that of a scope only where something stands in it.
+    pub fn is_shown(&self, row: &Row<'_, '_>) -> bool {
+        match row.container.object.kind {
+            ObjectKind::Root => false,
+            ObjectKind::Scope => !self.is_leaf(row),
+            _ => true,
+        }
+    }
+
+    /// All rows in the order in which they are shown: each container before those below it, these by their addresses.
+    pub fn in_order<'c>(&'c self, alloc: Global) -> Result<Vec<&'c Row<'a, 'b>>, AllocError> {
         let mut shown = Vec::new(alloc);
         let mut stack: Vec<usize> = Vec::new(alloc);
         stack.push(0)?;

@@ -6,7 +6,8 @@ use Rattle.acpi_tree.specs.declared.tree.ScopeKind.{ScopeKind}
 use Rattle.acpi_tree.specs.Tree.{ItemTree, scope, method, ItemTrees, no_items, item}
 use Rattle.acpi_code.specs.declared.fault.CodeFault.{CodeFault}
 use Rattle.acpi_code.specs.declared.opcode.Opcode.{Opcode}
-use Rattle.acpi_code.specs.Opcodes.{opcode_bytes, is_spelled}
+use Rattle.acpi_code.specs.Opcodes.{opcode_bytes}
+use Rattle.acpi_code.specs.steps.Opcodes.{is_spelled}
 use Rattle.acpi_code.specs.steps.Remaining.{Remaining}
 use Rattle.acpi_code.specs.steps.Reading.{opcode_at}
 use Rattle.acpi_code.proofs.Opcodes.{opens}

@@ -4,5 +4,6 @@ pub mod Places
 pub mod PlacedLists
 pub mod DeclaringParts
 pub mod Lookups
+pub mod Searching
 pub mod Indexing
 mod NameFronts

@@ -1,11 +1,8 @@
 pub mod Sites
 pub mod Places
-pub mod Spans
 pub mod Lookup
 pub mod Ranges
 pub mod SpanViews
-pub mod NestedRanges
-pub mod NestedViews
 pub mod LostRanges
 pub mod Index
 pub mod EntryParts

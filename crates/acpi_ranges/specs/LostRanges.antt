@@ -10,9 +10,8 @@ use Rattle.acpi_outline.specs.declared.fault.LostReason.{LostReason}
 use Rattle.acpi_outline.specs.declared.fault.LostReason.TheVariants.{Term}
 use Rattle.acpi_outline.specs.declared.form.PackedForm.TheVariants as forms
 use Rattle.acpi_outline.specs.Nodes.{package_lost, name_lost}
-use Rattle.acpi_ranges.specs.Ranges.{Range}
+use Rattle.acpi_ranges.specs.Ranges.{Part, of_node, Range}
 use Rattle.acpi_ranges.specs.Sites.{offset_of}
-use Rattle.acpi_ranges.specs.Spans.{Part, of_node}
 use Rattle.acpi_ranges.specs.declared.lost_ranges.LostRange.{LostRange}
 
 -- from an offset to the end of the bytes

@@ -1,13 +1,12 @@
 -- The range of a code that a span stands for, and the ranges that are still to come.
-use Rattle.std.specs.Prelude.{ℕ, Bool, List, [], ◌∷◌, ◌++◌, map, Option, Some, None, unwrap_or}
+use Rattle.std.specs.Prelude.{ℕ, suc, Bool, List, [], ◌∷◌, ◌++◌, Option, Some, None, unwrap_or}
 use Rattle.std.specs.Option.{option_copied}
 use Rattle.std.specs.Borrow.{Bor}
 use Rattle.acpi_tree.specs.View.{field_view}
-use Rattle.acpi_outline.specs.View.{node_view, placed_views, put_before, end_view, placed_fields, fields_before, fields_end}
+use Rattle.acpi_outline.specs.View.{node_view, fixed_view, placed_views, put_before, end_view, placed_fields, fields_before, fields_end}
 use Rattle.acpi_outline.specs.declared.node.Lost.{Lost}
 use Rattle.acpi_conditions.specs.Entries.{Path}
-use Rattle.acpi_ranges.specs.Spans.{Part, of_node, of_element, of_lost, PlacedPart, part_at}
-use Rattle.acpi_ranges.specs.Ranges.{Range, range, Entered, ranges_of, element_ranges}
+use Rattle.acpi_ranges.specs.Ranges.{Part, of_node, of_element, of_lost, Range, range, Entered, ranges_of, element_ranges}
 use Rattle.acpi_ranges.specs.declared.spans.SpanContent.{SpanContent}
 use Rattle.acpi_ranges.specs.declared.spans.SpanContent.TheVariants as whats
 use Rattle.acpi_ranges.specs.declared.spans.Span.{Span}
@@ -19,16 +18,8 @@ use Rattle.acpi_ranges.specs.declared.spans.Spans.{Spans}
 
 abbrev pub part_of : SpanContent → Part
 part_of (whats.Node n) = of_node (node_view n.now)
-part_of (whats.Element fixed e offset) = of_element (field_view e.now)
+part_of (whats.Element f e offset) = of_element (fixed_view f.now) offset (field_view e.now)
 part_of (whats.Lost why) = of_lost why
-
-abbrev pub placed_part : Span → PlacedPart
-placed_part s = part_at s.from (part_of s.what)
-
--- a span that comes first, and the parts behind it; without one there are no parts
-abbrev pub with_first_span : Option Span → List PlacedPart → List PlacedPart
-with_first_span None parts = []
-with_first_span (Some s) parts = placed_part s ∷ parts
 
 -- ---- scopes
 
@@ -39,7 +30,7 @@ scope_of around = unwrap_or (option_copied around) []
 -- ---- ranges
 
 abbrev pub span_range : Path → Bool → Span → Range
-span_range s behind_if x = range x.from x.to s behind_if (part_of x.what)
+span_range s behind_if x = range x.depth x.from x.to s behind_if (part_of x.what)
 
 abbrev pub range_of : ScopedSpan → Range
 range_of x = span_range (scope_of x.around) x.is_behind_if x.span
@@ -49,28 +40,23 @@ abbrev pub with_first_range : Option ScopedSpan → List Range → List Range
 with_first_range None ranges = []
 with_first_range (Some x) ranges = range_of x ∷ ranges
 
-abbrev pub placed_range : Range → PlacedPart
-placed_range r = part_at r.from r.part
-
 -- ---- what is still to come
 
-abbrev pub items_left : Entered → Path → ℕ → Bool → Items → Option Lost → List Range
-items_left entered s end behind_if (items.Nodes ns) l =
-    ranges_of entered s end behind_if (put_before (placed_views ns.now) (end_view l))
-items_left entered s end behind_if (items.Fields fixed es) l =
-    element_ranges s end (fields_before (placed_fields es.now) (fields_end l))
+abbrev pub items_left : Entered → (depth : ℕ) → Path → (end : ℕ) → Bool → Items → Option Lost
+    → List Range
+items_left entered depth s end behind_if (items.Nodes ns) l =
+    ranges_of entered depth s end behind_if (put_before (placed_views ns.now) (end_view l))
+items_left entered depth s end behind_if (items.Fields f es) l =
+    element_ranges depth s end (fixed_view f.now) (fields_before (placed_fields es.now) (fields_end l))
 
-abbrev pub left_in : Entered → Remainder → List Range
-left_in entered r = items_left entered (scope_of r.around) r.end r.is_behind_if r.items r.lost
+abbrev pub left_in : Entered → (depth : ℕ) → Remainder → List Range
+left_in entered depth r =
+    items_left entered depth (scope_of r.around) r.end r.is_behind_if r.items r.lost
 
--- of lists one inside the other, the innermost last
-abbrev pub all_left : Entered → List Remainder → List Range
-all_left entered [] = []
-all_left entered (r ∷ rs) = all_left entered rs ++ left_in entered r
+-- of lists one inside the other, the innermost last; so many nodes stand around the first
+abbrev pub all_left : Entered → (depth : ℕ) → List Remainder → List Range
+all_left entered depth [] = []
+all_left entered depth (r ∷ rs) = all_left entered (suc depth) rs ++ left_in entered depth r
 
 abbrev pub ranges_left : Entered → Spans → List Range
-ranges_left entered s = all_left entered s.lists.items
-
--- which parts stand in them doesn't depend on scopes
-abbrev pub parts_left : Spans → List PlacedPart
-parts_left s = map placed_range (ranges_left (λ place. None) s)
+ranges_left entered s = all_left entered 0 s.lists.items

@@ -1,6 +1,7 @@
 pub mod ByPlace
 pub mod Indexes
-pub mod Parts
+pub mod NodeCounts
 pub mod Remainders
+pub mod Search
 pub mod Lookups
 pub mod PlacedItems

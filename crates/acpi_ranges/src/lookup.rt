@@ -7,8 +7,9 @@ ghost use Rattle.acpi_outline.specs.Tiling.{Tiles, TilesFields};
 ghost use Rattle.acpi_outline.specs.View.{node_view, nodes_view, fixed_view};
 ghost use Rattle.acpi_outline.specs.declared.node.PlacedNode.{PlacedNode as PlacedForm};
 ghost use Rattle.acpi_outline.specs.declared.node.PlacedField.{PlacedField as FieldForm};
-ghost use Rattle.acpi_ranges.specs.Lookup.{element_at, found_of, part_at};
-ghost use Rattle.acpi_ranges.specs.steps.Parts.{inner_parts, parts_of};
+ghost use Rattle.acpi_ranges.specs.Lookup.{found_of, part_at};
+ghost use Rattle.acpi_ranges.specs.steps.NodeCounts.{count_inside, count_nodes};
+ghost use Rattle.acpi_ranges.specs.steps.Search.{search_fields, search_nodes};
 ghost use Rattle.acpi_ranges.specs.steps.Lookups.{end_behind, nodes_before, elements_before, IsBefore};
 
 use crate::spans::{Span, SpanContent};
@@ -68,9 +69,9 @@ fn node_before<'a>(
     place: usize,
 ) -> Option<NodeRange<'a>>
     ensures found { (start : ℕ) → Tiles start end (nodes_before nodes.now lost)
-        → IsBefore place result (part_at place end (nodes_before nodes.now lost)) }
-    ensures smaller { IfSome result (λ r. length (inner_parts (node_view r.node.now))
-        < length (parts_of (nodes_before nodes.now lost))) }
+        → IsBefore place result (search_nodes place end (nodes_before nodes.now lost)) }
+    ensures smaller { IfSome result (λ r. count_inside (node_view r.node.now)
+        < count_nodes (nodes_before nodes.now lost)) }
 {
     let count = count_before(nodes, place);
     if count == 0 {
@@ -87,9 +88,9 @@ fn node_before<'a>(
 
 fn last_in(nodes: &Nodes, end: usize, place: usize) -> Option<NodeRange<'_>>
     ensures found { (start : ℕ) → Tiles start end (nodes_view nodes.now)
-        → IsBefore place result (part_at place end (nodes_view nodes.now)) }
-    ensures smaller { IfSome result (λ r. length (inner_parts (node_view r.node.now))
-        < length (parts_of (nodes_view nodes.now))) }
+        → IsBefore place result (search_nodes place end (nodes_view nodes.now)) }
+    ensures smaller { IfSome result (λ r. count_inside (node_view r.node.now)
+        < count_nodes (nodes_view nodes.now)) }
 {
     node_before(&nodes.read, nodes.lost, end, place)
 }
@@ -124,7 +125,7 @@ fn element_at<'a>(
 ) -> Option<Span<'a>>
     ensures from { IfSome result (λ s. s.from ≡ place) }
     ensures found { (start : ℕ) → TilesFields start end (elements_before fields.now lost)
-        → option_map found_of result ≡ option_map Some (element_at place end
+        → option_map found_of result ≡ option_map Some (search_fields place end
         (fixed_view fixed.now) (elements_before fields.now lost)) }
 {
     let number = fields_before(fields, place);
@@ -140,11 +141,12 @@ fn element_at<'a>(
     })
 }
 
-/// The node or the element that begins at the place, in bytes from the code's first, of nodes that end there.
-pub fn node_at(nodes: &Nodes, end: usize, place: usize) -> Option<Span<'_>>
+// What begins at the place, list by list.
+fn find_part(nodes: &Nodes, end: usize, place: usize) -> Option<Span<'_>>
     ensures from { IfSome result (λ s. s.from ≡ place) }
     ensures found { Tiles 0 end (nodes_view nodes.now)
-        → option_map found_of result ≡ option_map Some (part_at place end (nodes_view nodes.now)) }
+        → option_map found_of result
+        ≡ option_map Some (search_nodes place end (nodes_view nodes.now)) }
 {
     let mut list = nodes;
     let mut list_end = end;
@@ -171,4 +173,13 @@ pub fn node_at(nodes: &Nodes, end: usize, place: usize) -> Option<Span<'_>>
         }
     }
     None
+}
+
+/// The node or the element that begins at the place, in bytes from the code's first, of nodes that end there.
+pub fn node_at(nodes: &Nodes, end: usize, place: usize) -> Option<Span<'_>>
+    ensures from { IfSome result (λ s. s.from ≡ place) }
+    ensures found { Tiles 0 end (nodes_view nodes.now)
+        → option_map found_of result ≡ option_map Some (part_at place end (nodes_view nodes.now)) }
+{
+    find_part(nodes, end, place)
 }

@@ -60,7 +60,7 @@ pub(crate) fn entered_paths<'a>(
 
 /// What is entered at the places of one table's code: the table's number, and the paths by the places of all tables.
 #[derive(Clone, Copy)]
-pub(crate) struct Places<'b, 'a> {
+pub(crate) struct EnteredPaths<'b, 'a> {
     /// The number of the table, the first being 0.
     pub table: usize,
     /// The paths that are entered, by place.
@@ -81,7 +81,7 @@ fn has_scope(fixed: &Fixed) -> bool
     }
 }
 
-impl<'b, 'a> Places<'b, 'a> {
+impl<'b, 'a> EnteredPaths<'b, 'a> {
     /// The scope in the package at the place with these fixed arguments, if it is another than the one around.
     pub(crate) fn inside(self, fixed: &Fixed, place: usize) -> Option<&'a Path>
         ensures { (s : Path) → unwrap_or (option_copied result) s

@@ -1,18 +1,15 @@
 //! What each byte of a table's code belongs to.
 
-ghost use Rattle.std.specs.Prelude.{◌≡◌, ◌<◌, ◌+◌, ◌^◌, ◌++◌, ℕ, suc, false, [], length, map, IfOk, IfSome, OnOk, None};
-ghost use Rattle.std.specs.Option.{option_map};
+ghost use Rattle.std.specs.Prelude.{◌≡◌, ◌<◌, ◌+◌, ◌^◌, ◌++◌, ℕ, suc, false, [], length, IfOk, IfSome, OnOk, None};
 ghost use Rattle.acpi_outline.specs.View.{node_view, nodes_view, fixed_view, placed_views, put_before, end_view, placed_fields, fields_before, fields_end};
-ghost use Rattle.acpi_ranges.specs.Ranges.{Entered, first_place, first_field_place, inner_ranges, is_if, ranges_of, scope_inside};
-ghost use Rattle.acpi_ranges.specs.SpanViews.{left_in, part_of, parts_left, placed_range, ranges_left, scope_of, with_first_range, with_first_span};
-ghost use Rattle.acpi_ranges.specs.NestedRanges.{nested_inside, nested_nodes};
-ghost use Rattle.acpi_ranges.specs.NestedViews.{nested_in, nested_left, with_first_nested};
+ghost use Rattle.acpi_ranges.specs.Ranges.{Entered, code_ranges, first_place, first_field_place, inner_ranges, is_if, nothing_entered, ranges_of, scope_inside};
+ghost use Rattle.acpi_ranges.specs.SpanViews.{left_in, ranges_left, scope_of, with_first_range};
 ghost use Rattle.acpi_ranges.specs.steps.Indexes.{index_entered};
-ghost use Rattle.acpi_ranges.specs.steps.Remainders.{HasNoItems, behind_if_in, entered_by, inside_span, left_in_some, nested_in_part, nested_in_some, with_first_inside, with_first_item};
+ghost use Rattle.acpi_ranges.specs.steps.Remainders.{HasNoItems, behind_if_in, entered_by, inside_span, left_in_some, with_first_item};
 ghost use Rattle.acpi_ranges.specs.declared.spans.Items.TheVariants as items;
 
 use crate::index::PlaceIndex;
-use crate::scopes::Places;
+use crate::scopes::EnteredPaths;
 use acpi_name::Path;
 use acpi_outline::{Fixed, Lost, LostFault, Node, Nodes, PackedForm, PlacedField, PlacedNode};
 use acpi_tree::FieldElem;
@@ -134,11 +131,9 @@ impl<'a> Remainder<'a> {
 
     // The next range of the list.
     fn next(&mut self, depth: usize) -> Option<Span<'a>>
-        ensures left { (entered : Entered) → left_in entered self.old
+        ensures left { (entered : Entered) → left_in entered depth self.old
             ≡ with_first_item entered (scope_of self.old.around) (behind_if_in self.old) result
-            (left_in entered self.new) }
-        ensures nested { nested_in depth self.old
-            ≡ with_first_inside result (nested_in depth self.new) }
+            (left_in entered depth self.new) }
         ensures depth { IfSome result (λ x. x.depth ≡ depth) }
     {
         match self.items {
@@ -149,11 +144,9 @@ impl<'a> Remainder<'a> {
 
     fn next_node(&mut self, depth: usize, nodes: &'a [PlacedNode]) -> Option<Span<'a>>
         requires { self.old.items ≡ items.Nodes nodes }
-        ensures left { (entered : Entered) → left_in entered self.old
+        ensures left { (entered : Entered) → left_in entered depth self.old
             ≡ with_first_item entered (scope_of self.old.around) (behind_if_in self.old) result
-            (left_in entered self.new) }
-        ensures nested { nested_in depth self.old
-            ≡ with_first_inside result (nested_in depth self.new) }
+            (left_in entered depth self.new) }
         ensures depth { IfSome result (λ x. x.depth ≡ depth) }
     {
         let [first, rest @ ..] = nodes else {
@@ -176,11 +169,9 @@ impl<'a> Remainder<'a> {
         fields: &'a [PlacedField],
     ) -> Option<Span<'a>>
         requires items { self.old.items ≡ items.Fields fixed fields }
-        ensures left { (entered : Entered) → left_in entered self.old
+        ensures left { (entered : Entered) → left_in entered depth self.old
             ≡ with_first_item entered (scope_of self.old.around) (behind_if_in self.old) result
-            (left_in entered self.new) }
-        ensures nested { nested_in depth self.old
-            ≡ with_first_inside result (nested_in depth self.new) }
+            (left_in entered depth self.new) }
         ensures depth { IfSome result (λ x. x.depth ≡ depth) }
     {
         let [first, rest @ ..] = fields else {
@@ -198,11 +189,9 @@ impl<'a> Remainder<'a> {
     // What is lost behind the items.
     fn rest(&mut self, depth: usize) -> Option<Span<'a>>
         requires { HasNoItems self.old.items }
-        ensures left { (entered : Entered) → left_in entered self.old
+        ensures left { (entered : Entered) → left_in entered depth self.old
             ≡ with_first_item entered (scope_of self.old.around) (behind_if_in self.old) result
-            (left_in entered self.new) }
-        ensures nested { nested_in depth self.old
-            ≡ with_first_inside result (nested_in depth self.new) }
+            (left_in entered depth self.new) }
         ensures depth { IfSome result (λ x. x.depth ≡ depth) }
     {
         let lost = self.lost.take()?;
@@ -217,10 +206,8 @@ impl<'a> Remainder<'a> {
 
 // The list of nodes that ends there and stands in a scope.
 fn list_of<'a>(nodes: &'a Nodes, end: usize, around: Option<&'a Path>) -> Remainder<'a>
-    ensures ranges { (entered : Entered) → left_in entered result
-        ≡ ranges_of entered (scope_of around.entry) end false (nodes_view nodes.now) }
-    ensures nested { (depth : ℕ) → nested_in depth result
-        ≡ nested_nodes depth end (nodes_view nodes.now) }
+    ensures { (entered : Entered) (depth : ℕ) → left_in entered depth result
+        ≡ ranges_of entered depth (scope_of around.entry) end false (nodes_view nodes.now) }
 {
     Remainder {
         items: Items::Nodes(&nodes.read),
@@ -233,7 +220,7 @@ fn list_of<'a>(nodes: &'a Nodes, end: usize, around: Option<&'a Path>) -> Remain
 
 // The scope inside the package at the place with these fixed arguments.
 fn scope_inside<'a>(
-    places: Option<Places<'_, 'a>>,
+    places: Option<EnteredPaths<'_, 'a>>,
     fixed: &Fixed,
     place: usize,
     around: Option<&'a Path>,
@@ -252,12 +239,10 @@ fn scope_inside<'a>(
 
 impl<'a> ScopedSpan<'a> {
     // The list in a node that stands in the range.
-    fn in_node(&self, places: Option<Places<'_, 'a>>, node: &'a Node) -> Option<Remainder<'a>>
-        ensures ranges { left_in_some (entered_by places.entry) result
-            ≡ inner_ranges (entered_by places.entry) self.now.span.from
+    fn in_node(&self, places: Option<EnteredPaths<'_, 'a>>, node: &'a Node) -> Option<Remainder<'a>>
+        ensures { (depth : ℕ) → left_in_some (entered_by places.entry) depth result
+            ≡ inner_ranges (entered_by places.entry) depth self.now.span.from
             (scope_of self.now.around) self.now.span.to (node_view node.now) }
-        ensures nested { (depth : ℕ) → nested_in_some depth result
-            ≡ nested_inside depth self.now.span.to (node_view node.now) }
     {
         let end = self.span.to;
         match node {
@@ -278,11 +263,9 @@ impl<'a> ScopedSpan<'a> {
     }
 
     // The list in what stands in the range.
-    fn inside(&self, places: Option<Places<'_, 'a>>) -> Option<Remainder<'a>>
-        ensures ranges { left_in_some (entered_by places.entry) result
+    fn inside(&self, places: Option<EnteredPaths<'_, 'a>>) -> Option<Remainder<'a>>
+        ensures { left_in_some (entered_by places.entry) (suc self.now.span.depth) result
             ≡ inside_span (entered_by places.entry) (scope_of self.now.around) self.now.span }
-        ensures nested { (depth : ℕ) → nested_in_some depth result
-            ≡ nested_in_part depth self.now.span.to (part_of self.now.span.what) }
     {
         match self.span.what {
             SpanContent::Node(node) => self.in_node(places, node),
@@ -294,10 +277,8 @@ impl<'a> ScopedSpan<'a> {
 impl<'a> Spans<'a> {
     /// The ranges of nodes that end there.
     pub fn new(alloc: Global, nodes: &'a Nodes, end: usize) -> Result<Spans<'a>, AllocError>
-        ensures ranges { IfOk result (λ s. (entered : Entered) → ranges_left entered s
-            ≡ ranges_of entered [] end false (nodes_view nodes.now)) }
-        ensures nested { IfOk result (λ s. nested_left s
-            ≡ nested_nodes 0 end (nodes_view nodes.now)) }
+        ensures { IfOk result (λ s. (entered : Entered) → ranges_left entered s
+            ≡ code_ranges entered end (nodes_view nodes.now)) }
     {
         let mut lists = Vec::new(alloc);
         lists.push(list_of(nodes, end, None))?;
@@ -305,12 +286,11 @@ impl<'a> Spans<'a> {
     }
 
     // Puts a list behind others.
-    #[tactic(auto, using(crate::proofs::Parts::left_behind, crate::proofs::Parts::nested_behind))]
+    #[tactic(auto, using(crate::proofs::Parts::left_behind))]
     fn put(&mut self, list: Remainder<'a>) -> Result<(), AllocError>
         ensures ranges { OnOk result ((entered : Entered) → ranges_left entered self.new
-            ≡ left_in entered list.entry ++ ranges_left entered self.old) }
-        ensures nested { OnOk result (nested_left self.new
-            ≡ nested_in (length self.old.lists.items) list.entry ++ nested_left self.old) }
+            ≡ left_in entered (length self.old.lists.items) list.entry
+            ++ ranges_left entered self.old) }
         ensures more { OnOk result (length self.new.lists.items
             ≡ suc (length self.old.lists.items)) }
         ensures room { OnOk result (length self.old.lists.items + 1 < 2 ^ 64) }
@@ -321,10 +301,9 @@ impl<'a> Spans<'a> {
 
     // Puts the list in a range behind the others, if there is one.
     fn put_inside(&mut self, list: Option<Remainder<'a>>) -> Result<(), AllocError>
-        ensures ranges { OnOk result ((entered : Entered) → ranges_left entered self.new
-            ≡ left_in_some entered list.entry ++ ranges_left entered self.old) }
-        ensures nested { OnOk result (nested_left self.new
-            ≡ nested_in_some (length self.old.lists.items) list.entry ++ nested_left self.old) }
+        ensures { OnOk result ((entered : Entered) → ranges_left entered self.new
+            ≡ left_in_some entered (length self.old.lists.items) list.entry
+            ++ ranges_left entered self.old) }
     {
         match list {
             Some(list) => self.put(list),
@@ -333,16 +312,14 @@ impl<'a> Spans<'a> {
     }
 
     // The last of the lists, which is taken.
-    #[tactic(auto, using(crate::proofs::Parts::left_behind, crate::proofs::Parts::nested_behind))]
+    #[tactic(auto, using(crate::proofs::Parts::left_behind))]
     fn take(&mut self) -> Option<Remainder<'a>>
         ensures left { (entered : Entered) → ranges_left entered self.old
-            ≡ left_in_some entered result ++ ranges_left entered self.new }
-        ensures nested { nested_left self.old
-            ≡ nested_in_some (length self.new.lists.items) result ++ nested_left self.new }
+            ≡ left_in_some entered (length self.new.lists.items) result
+            ++ ranges_left entered self.new }
         ensures fewer { IfSome result
             (λ _. length self.new.lists.items < length self.old.lists.items) }
         ensures none { result ≡ None → (entered : Entered) → ranges_left entered self.old ≡ [] }
-        ensures none_nested { result ≡ None → nested_left self.old ≡ [] }
     {
         self.lists.pop()
     }
@@ -350,12 +327,10 @@ impl<'a> Spans<'a> {
     // The next range, and where it stands, in a table with these scopes.
     fn next_scoped(
         &mut self,
-        places: Option<Places<'_, 'a>>,
+        places: Option<EnteredPaths<'_, 'a>>,
     ) -> Result<Option<ScopedSpan<'a>>, AllocError>
         ensures ranges { IfOk result (λ range. ranges_left (entered_by places.entry) self.old
             ≡ with_first_range range (ranges_left (entered_by places.entry) self.new)) }
-        ensures nested { IfOk result (λ range. nested_left self.old
-            ≡ with_first_nested (option_map (λ x. x.span) range) (nested_left self.new)) }
         ensures depth { IfOk result (λ range. IfSome range (λ x. x.span.depth + 1 < 2 ^ 64)) }
     {
         while let Some(taken) = self.take() {
@@ -386,23 +361,18 @@ impl<'a> Spans<'a> {
         ensures { IfOk result (λ range. ranges_left (index_entered index.now table) self.old
             ≡ with_first_range range (ranges_left (index_entered index.now table) self.new)) }
     {
-        self.next_scoped(Some(Places {
+        self.next_scoped(Some(EnteredPaths {
             table,
             paths: &index.paths,
         }))
     }
 
-    /// The next range.
-    pub fn next(&mut self) -> Result<Option<Span<'a>>, AllocError>
-        ensures parts { IfOk result (λ span. parts_left self.old
-            ≡ with_first_span span (parts_left self.new)) }
-        ensures nested { IfOk result (λ span. nested_left self.old
-            ≡ with_first_nested span (nested_left self.new)) }
-        ensures depth { IfOk result (λ span. IfSome span (λ s. s.depth + 1 < 2 ^ 64)) }
+    /// The next range, and where it stands, in a table that enters no scopes.
+    pub fn next(&mut self) -> Result<Option<ScopedSpan<'a>>, AllocError>
+        ensures ranges { IfOk result (λ range. ranges_left nothing_entered self.old
+            ≡ with_first_range range (ranges_left nothing_entered self.new)) }
+        ensures depth { IfOk result (λ range. IfSome range (λ x. x.span.depth + 1 < 2 ^ 64)) }
     {
-        match self.next_scoped(None)? {
-            Some(range) => Ok(Some(range.span)),
-            None => Ok(None),
-        }
+        self.next_scoped(None)
     }
 }

@@ -9,7 +9,7 @@ use Rattle.acpi_resources.specs.Templates.{HasEndTag, HasNoEndTag, EndsAs, Decod
 use Rattle.acpi_resources.specs.steps.TemplateRead.{Splits}
 use Rattle.std.proofs.Math.Seq.{drop-length}
 use Rattle.acpi_resources.specs.declared.descriptor.Descriptor.{Descriptor}
-use Rattle.acpi_resources.specs.declared.template.Stop.{Stop}
+use Rattle.acpi_resources.specs.declared.template.TemplateStop.{TemplateStop}
 
 -- none is read yet
 pub starts : (bytes : List ℕ) → Splits [] bytes bytes
@@ -41,7 +41,7 @@ left_is front left bytes e =
     ap (drop (length bytes - length left)) e ∙ drop_at front left (length bytes - length left) place
 
 -- where reading stops
-pub decoded : (ds : List Descriptor) (left bytes : List ℕ) (stop : Option Stop) → Splits ds left bytes → EndsAs stop ds left
+pub decoded : (ds : List Descriptor) (left bytes : List ℕ) (stop : Option TemplateStop) → Splits ds left bytes → EndsAs stop ds left
     → IfSome stop (λ s. s.place ≡ length bytes - length left) → IfNone stop (left ≡ []) → Decodes ds stop bytes
 decoded ds left bytes None so ends place none =
     let empty : drop (length bytes) bytes ≡ left = drop-length bytes ∙ sym none in

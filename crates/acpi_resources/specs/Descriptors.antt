@@ -24,12 +24,6 @@ number_bytes Word n = to_le_bytes w16 n
 number_bytes DWord n = to_le_bytes w32 n
 number_bytes QWord n = to_le_bytes w64 n
 
--- how many bytes it has
-abbrev pub number_size : AddressWidth → ℕ
-number_size Word = 2
-number_size DWord = 4
-number_size QWord = 8
-
 -- the tag of an address range (6.4.3.5.1 to 6.4.3.5.3)
 abbrev pub address_tag : AddressWidth → ℕ
 address_tag Word = 0x88
@@ -159,12 +153,6 @@ is_other _ = false
 abbrev pub is_end_tag : Descriptor → Bool
 is_end_tag (d.EndTag sum) = true
 is_end_tag _ = false
-
--- The descriptor is of a described kind, and spells an item of this tag and body.
-pub record Describes (tag : ℕ) (body : List ℕ) (d : Descriptor) : Type 0 where
-  pub has_tag : tag_of d ≡ tag
-  pub has_body : body_of d ≡ body
-  pub has_kind : is_other d ≡ false
 
 -- The descriptor is one that is read: its length can be told, and it is described if its tag and length are.
 pub record IsProper (d : Descriptor) : Type 0 where

@@ -4,7 +4,7 @@ use Rattle.std.specs.List.{All}
 use Rattle.acpi_resources.specs.Items.{IsCut}
 use Rattle.acpi_resources.specs.Descriptors.{template_bytes, is_end_tag, IsProper}
 use Rattle.acpi_resources.specs.declared.descriptor.Descriptor.{Descriptor}
-use Rattle.acpi_resources.specs.declared.template.Stop.{Stop}
+use Rattle.acpi_resources.specs.declared.template.TemplateStop.{TemplateStop}
 use Rattle.acpi_resources.specs.declared.template.TemplateFault.{TemplateFault}
 use Rattle.acpi_resources.specs.declared.template.TemplateFault.TheVariants.{NoEndTag, Cut, BehindEndTag}
 
@@ -27,17 +27,17 @@ HasFault Cut ds left = HasNoEndTag ds × (0 < length left) × IsCut left
 HasFault BehindEndTag ds left = HasEndTag ds × (0 < length left)
 
 -- how reading ends
-abbrev pub EndsAs : Option Stop → List Descriptor → List ℕ → Type 0
+abbrev pub EndsAs : Option TemplateStop → List Descriptor → List ℕ → Type 0
 EndsAs None ds left = HasEndTag ds × (left ≡ [])
 EndsAs (Some s) ds left = HasFault s.fault ds left
 
 -- how many bytes are read
-abbrev pub place_of : Option Stop → List ℕ → ℕ
+abbrev pub place_of : Option TemplateStop → List ℕ → ℕ
 place_of None bytes = length bytes
 place_of (Some s) bytes = s.place
 
 -- The bytes up to the place are the descriptors', and what is behind it ends the reading so.
-pub record Decodes (ds : List Descriptor) (stop : Option Stop) (bytes : List ℕ) : Type 0 where
+pub record Decodes (ds : List Descriptor) (stop : Option TemplateStop) (bytes : List ℕ) : Type 0 where
   pub spelled : template_bytes ds ++ drop (place_of stop bytes) bytes ≡ bytes
   pub proper : All IsProper ds
   pub ends : EndsAs stop ds (drop (place_of stop bytes) bytes)

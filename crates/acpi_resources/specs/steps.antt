@@ -1,1 +1,2 @@
 pub mod TemplateRead
+pub mod Descriptors

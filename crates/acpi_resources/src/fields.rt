@@ -2,7 +2,8 @@
 
 ghost use Rattle.std.specs.Prelude.{◌≡◌, ◌+◌, ◌≤◌, ◌∷◌, ◌++◌, length};
 ghost use Rattle.std.specs.Int.{w16, w32, w64, to_le_bytes};
-ghost use Rattle.acpi_resources.specs.Descriptors.{number_bytes, number_size};
+ghost use Rattle.acpi_resources.specs.Descriptors.{number_bytes};
+ghost use Rattle.acpi_resources.specs.steps.Descriptors.{number_size};
 
 use crate::descriptor::AddressWidth;
 use std::marker::Model;

@@ -2,7 +2,8 @@
 
 ghost use Rattle.std.specs.Prelude.{◌≡◌, ◌+◌, ◌<◌, ◌++◌, length, drop, is_some, IfSome, IfNone};
 ghost use Rattle.acpi_resources.specs.Items.{IsItem, IsCut, item_bytes};
-ghost use Rattle.acpi_resources.specs.Descriptors.{Describes, IsProper, descriptor_bytes, is_known, is_end_tag};
+ghost use Rattle.acpi_resources.specs.steps.Descriptors.{Describes};
+ghost use Rattle.acpi_resources.specs.Descriptors.{IsProper, descriptor_bytes, is_known, is_end_tag};
 
 use crate::descriptor::{AddressWidth, Descriptor, Item};
 use crate::{large, small};

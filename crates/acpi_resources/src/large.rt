@@ -2,7 +2,8 @@
 
 ghost use Rattle.std.specs.Prelude.{◌≡◌, ◌==◌, ◌+◌, ◌*◌, ◌≤◌, ◌++◌, ◌&&◌, true, length, is_some, IfSome, nat_le, slice_index};
 ghost use Rattle.std.specs.List.{flat_map};
-ghost use Rattle.acpi_resources.specs.Descriptors.{Describes, address_tag, number_size};
+ghost use Rattle.acpi_resources.specs.Descriptors.{address_tag};
+ghost use Rattle.acpi_resources.specs.steps.Descriptors.{Describes, number_size};
 
 use crate::descriptor::{
     AddressSpace, AddressWidth, Descriptor, ExtendedAddressSpace, ExtendedInterrupt, FixedMemory32,

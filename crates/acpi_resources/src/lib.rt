@@ -35,4 +35,4 @@ pub use eisa::{eisa_id, eisa_number};
 pub use item::split_descriptor;
 pub use meaning::{AddressKind, BusKind, InterruptMode, ItemKind};
 pub use names::name_of;
-pub use template::{Stop, Template, TemplateFault, decode};
+pub use template::{Template, TemplateFault, TemplateStop, decode};

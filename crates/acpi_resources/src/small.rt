@@ -1,7 +1,7 @@
 //! Small items (ACPI 6.5, 6.4.2).
 
 ghost use Rattle.std.specs.Prelude.{◌≡◌, ◌==◌, ◌+◌, true, length, is_some, IfSome};
-ghost use Rattle.acpi_resources.specs.Descriptors.{Describes};
+ghost use Rattle.acpi_resources.specs.steps.Descriptors.{Describes};
 
 use crate::descriptor::{Descriptor, Dma, FixedDma, FixedIo, Io, Irq};
 use crate::fields::Fields;

@@ -26,7 +26,7 @@ pub enum TemplateFault {
 
 /// Where reading stops before the end of a template, and why.
 #[derive(Debug, Clone, Copy, PartialEq, Eq)]
-pub struct Stop {
+pub struct TemplateStop {
     /// The number of bytes that were read.
     pub place: usize,
     /// Why the bytes behind it are not read.
@@ -39,7 +39,7 @@ pub struct Template<'a> {
     /// The descriptors in their order, the end tag among them.
     pub descriptors: Vec<Descriptor<'a>>,
     /// Where reading stopped; `None` where all bytes are a template.
-    pub stop: Option<Stop>,
+    pub stop: Option<TemplateStop>,
 }
 
 /// The descriptors that the bytes spell, up to the end tag or to where reading stops (ACPI 6.5, 6.4). Their
@@ -71,7 +71,7 @@ fn read(alloc: Global, bytes: &[u8]) -> Result<(Vec<Descriptor<'_>>, &[u8], bool
 }
 
 // Why reading stops at the place, where these bytes are left.
-fn stop_of(place: usize, left: &[u8], ended: bool) -> Option<Stop>
+fn stop_of(place: usize, left: &[u8], ended: bool) -> Option<TemplateStop>
     ensures place { IfSome result (λ s. s.place ≡ place) }
     ensures none { IfNone result (left.now ≡ []) }
     ensures ends { (ds : List Descriptor) → IsRead ended ds left.now → EndsAs result ds left.now }
@@ -82,5 +82,5 @@ fn stop_of(place: usize, left: &[u8], ended: bool) -> Option<Stop>
         (false, true) => TemplateFault::NoEndTag,
         (false, false) => TemplateFault::Cut,
     };
-    Some(Stop { place, fault })
+    Some(TemplateStop { place, fault })
 }

@@ -18,7 +18,7 @@ use Rattle.acpi_declare.specs.Sites.{sites}
 use Rattle.acpi_declare.specs.Tables.{code_of}
 use Rattle.acpi_declare.proofs.Refusals.{same_listings}
 use Rattle.acpi_declare.proofs.TableLists.{count_listings, count_notes}
-use Rattle.acpi_write.specs.Canonical.{items_bytes}
+use Rattle.acpi_write.specs.CanonicalItems.{items_bytes}
 use Rattle.acpi_write.specs.Shortest.{HasWithin}
 use Rattle.acpi_order.specs.Bodies.{Method, with_counts, methods_of}
 use Rattle.acpi_rewrite.specs.Rewriting.{AreTablesOfBytes, item_codes, codes, item_without_code, without_code, IsNewCode, IsShortest, IsRewritten, AreEachRewritten, AreRewritten}

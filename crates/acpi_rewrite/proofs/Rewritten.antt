@@ -32,12 +32,12 @@ use Rattle.acpi_order.specs.Orders.{TellsOfJoin}
 use Rattle.acpi_order.proofs.Told.{told_of_join}
 use Rattle.acpi_order.proofs.Joined.{machine_of, machine_is, load_is}
 use Rattle.acpi_order.proofs.ReadBodies.{body_of, body_is, one_body_there, bodies_of}
-use Rattle.acpi_write.specs.Canonical.{items_bytes}
+use Rattle.acpi_write.specs.CanonicalItems.{items_bytes}
 use Rattle.acpi_write.specs.Tables.{header_for}
 use Rattle.acpi_write.specs.Shortest.{HasWithin}
-use Rattle.acpi_write.proofs.Shorter.{items_are_shortest, items_are_typed}
+use Rattle.acpi_write.proofs.ItemsShorter.{items_are_shortest, items_are_typed}
 use Rattle.acpi_write.proofs.TermsShorter.{read_terms_are_written}
-use Rattle.acpi_write.proofs.Written.{items_written}
+use Rattle.acpi_write.proofs.ItemsWritten.{items_written}
 use Rattle.acpi_rewrite.specs.Rewriting.{codes, without_code, body_bytes, IsNewCode, IsRewritten, AreEachRewritten, AreRewritten, AreTablesOfBytes, LoadToJoin}
 use Rattle.acpi_rewrite.proofs.Recoded.{alike_height, alike_fit, alike_typed}
 use Rattle.acpi_rewrite.proofs.Shortened.{AreNoLonger, alike_shortened}

@@ -13,7 +13,7 @@ use Rattle.acpi_body.specs.Bodies.{BodyTree, read, unread}
 use Rattle.acpi_order.specs.Bodies.{Method, methods_of, IsBody}
 use Rattle.acpi_order.specs.Joins.{IsJoin}
 use Rattle.acpi_order.specs.Machines.{Machine, IsMachine}
-use Rattle.acpi_write.specs.Canonical.{items_bytes}
+use Rattle.acpi_write.specs.CanonicalItems.{items_bytes}
 use Rattle.acpi_write.specs.CanonicalTerms.{terms_bytes}
 use Rattle.acpi_write.specs.Tables.{header_for}
 

@@ -6,7 +6,7 @@ use Rattle.std.specs.Cmp.Lexicographic.{pointwise}
 use Rattle.acpi_name.specs.Names.{Segment}
 use Rattle.acpi_space.specs.declared.nodes.Node.{Node}
 use Rattle.acpi_space.specs.declared.trail.Fork.{Fork}
-use Rattle.acpi_space.specs.declared.trail.Mark.{Mark}
+use Rattle.acpi_space.specs.declared.trail.TrailNode.{TrailNode}
 use Rattle.acpi_space.specs.steps.Grown.{IsGrown, HasPut}
 use Rattle.acpi_space.specs.steps.Trail.{IsTrail, trail_end, fork_from}
 use Rattle.acpi_space.specs.steps.Tree.{IsTree, child_at, node_children, node_value, reached, value_below}
@@ -15,23 +15,23 @@ use Rattle.acpi_space.proofs.Growth.{same_child}
 use Rattle.acpi_space.proofs.Walks.{reached-append, reached_grown}
 use Rattle.acpi_space.proofs.Tree.{child_within}
 
-pub trail_grown : {V : Type 0} (old new : List (Node V)) (n : ℕ) (marks : List Mark) → IsGrown old new → IsTrail old n marks → IsTrail new n marks
+pub trail_grown : {V : Type 0} (old new : List (Node V)) (n : ℕ) (marks : List TrailNode) → IsGrown old new → IsTrail old n marks → IsTrail new n marks
 trail_grown old new n [] grown t = tt
 trail_grown old new n (m ∷ marks) grown t = (grown.children n m.seg m.number t.0, trail_grown old new m.number marks grown t.1)
 
-pub trail_cut : {V : Type 0} (nodes : List (Node V)) (n k : ℕ) (marks : List Mark) → IsTrail nodes n marks → IsTrail nodes n (take k marks)
+pub trail_cut : {V : Type 0} (nodes : List (Node V)) (n k : ℕ) (marks : List TrailNode) → IsTrail nodes n marks → IsTrail nodes n (take k marks)
 trail_cut nodes n zero [] t = tt
 trail_cut nodes n zero (m ∷ marks) t = tt
 trail_cut nodes n (suc k) [] t = tt
 trail_cut nodes n (suc k) (m ∷ marks) t = (t.0, trail_cut nodes m.number k marks t.1)
 
-longer : {V : Type 0} (nodes : List (Node V)) (n : ℕ) (marks : List Mark) (mark : Mark) → IsTrail nodes n marks
+longer : {V : Type 0} (nodes : List (Node V)) (n : ℕ) (marks : List TrailNode) (mark : TrailNode) → IsTrail nodes n marks
     → child_at nodes (trail_end n marks) mark.seg ≡ Some mark.number → IsTrail nodes n (marks ++ mark ∷ [])
 longer nodes n [] mark t e = (e, tt)
 longer nodes n (m ∷ marks) mark t e = (t.0, longer nodes m.number marks mark t.1 e)
 
 -- a child of the node at its end is put, or nothing
-pub trail_extended : {V : Type 0} (nodes : List (Node V)) (n : ℕ) (marks marks' : List Mark) (number : ℕ) (g : Segment) (next : ℕ) → IsTrail nodes n marks
+pub trail_extended : {V : Type 0} (nodes : List (Node V)) (n : ℕ) (marks marks' : List TrailNode) (number : ℕ) (g : Segment) (next : ℕ) → IsTrail nodes n marks
     → child_at nodes number g ≡ Some next
     → (marks' ≡ marks) ⊎ (trail_end n marks ≡ number) × (marks' ≡ marks ++ record { seg = g; number = next } ∷ []) → IsTrail nodes n marks'
 trail_extended nodes n marks marks' number g next t e (inl same) = subst (IsTrail nodes n) (sym same) t
@@ -40,30 +40,30 @@ trail_extended nodes n marks marks' number g next t e (inr put) =
 
 -- ---- the mark at the end
 
-last_mark : (n k : ℕ) (marks : List Mark) (m : Mark) → length marks ≡ k + 1 → slice_get marks k ≡ Some m → trail_end n marks ≡ m.number
+last_mark : (n k : ℕ) (marks : List TrailNode) (m : TrailNode) → length marks ≡ k + 1 → slice_get marks k ≡ Some m → trail_end n marks ≡ m.number
 last_mark n k [] m l e = absurd (omega arith)
 last_mark n zero (x ∷ []) m l e = let at : x ≡ m = cc in ap (λ y. y.number) at
 last_mark n zero (x ∷ y ∷ marks) m l e = absurd (omega arith)
 last_mark n (suc k) (x ∷ marks) m l e = last_mark x.number k marks m (omega arith) e
 
-pub trail_end-last : (n : ℕ) (marks : List Mark) (m : Mark) → slice_get marks (length marks - 1) ≡ Some m → trail_end n marks ≡ m.number
+pub trail_end-last : (n : ℕ) (marks : List TrailNode) (m : TrailNode) → slice_get marks (length marks - 1) ≡ Some m → trail_end n marks ≡ m.number
 trail_end-last n [] m e = cc
 trail_end-last n (x ∷ marks) m e = last_mark n (length (x ∷ marks) - 1) (x ∷ marks) m (omega arith) e
 
 -- ---- the loop that looks for the fork
 
-module _ (marks : List Mark) (path : List Segment) (depth n : ℕ) (inv : fork_from depth n (drop depth marks) (drop depth path) ≡ fork_from 0 0 marks path) where
+module _ (marks : List TrailNode) (path : List Segment) (depth n : ℕ) (inv : fork_from depth n (drop depth marks) (drop depth path) ≡ fork_from 0 0 marks path) where
   abbrev pub here : Fork
   here = record { depth = depth; number = n }
 
   pub path_ended : length path ≡ depth → record { depth = length path; number = n } ≡ fork_from 0 0 marks path
   path_ended h = ap (λ d. record { depth = d; number = n }) h ∙ by (drop depth marks) (ap (fork_from depth n (drop depth marks)) (sym (drop_all depth path (omega arith))) ∙ inv)
     where
-      by : (ms : List Mark) → fork_from depth n ms [] ≡ fork_from 0 0 marks path → here ≡ fork_from 0 0 marks path
+      by : (ms : List TrailNode) → fork_from depth n ms [] ≡ fork_from 0 0 marks path → here ≡ fork_from 0 0 marks path
       by [] e = e
       by (m ∷ ms) e = e
 
-  module _ (m : Mark) (x : Segment) (more : depth < length marks) (at : m ≡ slice_index_or marks depth m) (h : depth < length path) (is : x ≡ slice_index_or path depth x) where
+  module _ (m : TrailNode) (x : Segment) (more : depth < length marks) (at : m ≡ slice_index_or marks depth m) (h : depth < length path) (is : x ≡ slice_index_or path depth x) where
     both : fork_from 0 0 marks path ≡ cond (pointwise nat_eq m.seg x) (fork_from (depth + 1) m.number (drop (depth + 1) marks) (drop (depth + 1) path)) here
     both = sym inv ∙ ap (fork_from depth n (drop depth marks)) (drop_more path depth x h ∙ ap (λ y. y ∷ drop (depth + 1) path) (sym is))
         ∙ ap (λ ms. fork_from depth n ms (x ∷ drop (depth + 1) path)) (drop_more marks depth m more ∙ ap (λ y. y ∷ drop (depth + 1) marks) (sym at))
@@ -86,7 +86,7 @@ pub record IsFork {V : Type 0} (nodes : List (Node V)) (depth n : ℕ) (path : L
 stays : {V : Type 0} (nodes : List (Node V)) (depth n : ℕ) (path : List Segment) → IsFork nodes depth n path (record { depth = depth; number = n })
 stays nodes depth n path = record { count = 0; at = omega arith; within = omega arith; reached = refl }
 
-pub forked : {V : Type 0} (nodes : List (Node V)) (depth n : ℕ) (marks : List Mark) (path : List Segment) → IsTrail nodes n marks → IsFork nodes depth n path (fork_from depth n marks path)
+pub forked : {V : Type 0} (nodes : List (Node V)) (depth n : ℕ) (marks : List TrailNode) (path : List Segment) → IsTrail nodes n marks → IsFork nodes depth n path (fork_from depth n marks path)
 forked nodes depth n [] path t = stays nodes depth n path
 forked nodes depth n (m ∷ marks) [] t = stays nodes depth n []
 forked {V} nodes depth n (m ∷ marks) (g ∷ path) t = by (pointwise nat_eq m.seg g) refl (forked nodes (depth + 1) m.number marks path t.1)
@@ -115,7 +115,7 @@ reached_within {V} nodes n k (g ∷ q) t w e = by (λ j v f. reached_within node
 abbrev pub rest : ℕ → List Segment → List Segment
 rest depth path = take (length path - depth) (drop depth path)
 
-pub fork_here : {V : Type 0} (nodes : List (Node V)) (marks lent : List Mark) (path : List Segment) (fork : Fork) → IsTrail nodes 0 marks → lent ≡ marks → fork ≡ fork_from 0 0 lent path
+pub fork_here : {V : Type 0} (nodes : List (Node V)) (marks lent : List TrailNode) (path : List Segment) (fork : Fork) → IsTrail nodes 0 marks → lent ≡ marks → fork ≡ fork_from 0 0 lent path
     → reached nodes 0 (take fork.depth path) ≡ Some fork.number
 fork_here nodes marks lent path fork t same is =
     subst (λ f. reached nodes 0 (take f.depth path) ≡ Some f.number) (sym (is ∙ ap (λ ms. fork_from 0 0 ms path) same))
@@ -129,7 +129,7 @@ below_fork nodes path depth number e =
     ∙ sym (ap (value_below nodes 0) (sym (take-append-drop depth path))
     ∙ ap (option_and_then (λ k. node_value (slice_get nodes k))) (reached-append nodes 0 (take depth path) (drop depth path) ∙ ap (option_and_then (λ m. reached nodes m (drop depth path))) e))
 
-pub value_at_fork : {V : Type 0} (nodes : List (Node V)) (marks lent : List Mark) (path : List Segment) (fork : Fork) → IsTrail nodes 0 marks → lent ≡ marks → fork ≡ fork_from 0 0 lent path
+pub value_at_fork : {V : Type 0} (nodes : List (Node V)) (marks lent : List TrailNode) (path : List Segment) (fork : Fork) → IsTrail nodes 0 marks → lent ≡ marks → fork ≡ fork_from 0 0 lent path
     → value_below nodes fork.number (rest fork.depth path) ≡ value_below nodes 0 path
 value_at_fork nodes marks lent path fork t same is = below_fork nodes path fork.depth fork.number (fork_here nodes marks lent path fork t same is)
 
@@ -153,11 +153,11 @@ module _ {V E : Type 0} (old mid new : List (Node V)) (path : List Segment) (dep
 
 -- a value that is put moves no child
 same_trail : {V : Type 0} (old new : List (Node V)) → ((n : ℕ) → node_children (slice_get new n) ≡ node_children (slice_get old n))
-    → (n : ℕ) (marks : List Mark) → IsTrail old n marks → IsTrail new n marks
+    → (n : ℕ) (marks : List TrailNode) → IsTrail old n marks → IsTrail new n marks
 same_trail old new kids n [] t = tt
 same_trail old new kids n (m ∷ marks) t = (same_child old new kids n m.seg ∙ t.0, same_trail old new kids m.number marks t.1)
 
-pub put_trail : {V A E : Type 0} (mid new : List (Node V)) (k : ℕ) (v : V) (marks : List Mark) (r : Result A E) → OnOk r (HasPut mid new k v)
+pub put_trail : {V A E : Type 0} (mid new : List (Node V)) (k : ℕ) (v : V) (marks : List TrailNode) (r : Result A E) → OnOk r (HasPut mid new k v)
     → OnErr r (new ≡ mid) → IsTrail mid 0 marks → IsTrail new 0 marks
 put_trail mid new k v marks (Ok x) h e t = same_trail mid new h.children 0 marks t
 put_trail mid new k v marks (Err x) h e t = subst (λ nodes. IsTrail nodes 0 marks) (sym e) t

@@ -8,7 +8,7 @@ use Rattle.std.proofs.lemmas.Grind.{flat_map-append}
 use Rattle.acpi_name.specs.Names.{Segment}
 use Rattle.acpi_space.specs.declared.nodes.Node.{Node}
 use Rattle.acpi_space.specs.declared.walk.Step.{Step}
-use Rattle.acpi_space.specs.declared.walk.Walk.{Walk}
+use Rattle.acpi_space.specs.declared.walk.PairWalk.{PairWalk}
 use Rattle.acpi_space.specs.Spaces.{PathMap}
 use Rattle.acpi_space.specs.steps.Tree.{node_children, node_value, own_pair, node_pairs, pairs_below, tree_map, IsTree}
 use Rattle.acpi_space.specs.steps.Walk.{ahead, next_ahead, enter, pair_at, under, pairs_of, places, places_of, left_of, with_given}
@@ -146,7 +146,7 @@ started nodes path steps q s =
 -- ---- walks
 
 -- the next node is visited
-visited_next : {V : Type 0} (before entered : Walk V) (next : Option ℕ) (n : ℕ) (steps : List Step)
+visited_next : {V : Type 0} (before entered : PairWalk V) (next : Option ℕ) (n : ℕ) (steps : List Step)
     → IsTree entered.nodes.now → entered.nodes ≡ before.nodes → entered.entered ≡ None
     → places_of before ≡ next_ahead next entered.path (reverse entered.steps.items) → next ≡ Some n
     → reverse steps ≡ map enter (node_children (slice_get entered.nodes.now n)) ++ reverse entered.steps.items
@@ -157,7 +157,7 @@ visited_next before entered next n steps t same none e is s =
     ∙ visited entered.nodes.now t entered.path n (reverse entered.steps.items) (reverse steps) s
     ∙ ap (λ o. map (pair_at entered.path) (option_to_list (node_value (slice_get entered.nodes.now n))) ++ pairs_of entered.nodes.now (places o entered.path (reverse steps))) (sym none)
 
-pub visited_fewer_left : {V : Type 0} (before entered : Walk V) (next : Option ℕ) (n : ℕ) (steps : List Step)
+pub visited_fewer_left : {V : Type 0} (before entered : PairWalk V) (next : Option ℕ) (n : ℕ) (steps : List Step)
     → IsTree before.nodes.now → entered.nodes ≡ before.nodes → entered.entered ≡ None
     → places_of before ≡ next_ahead next entered.path (reverse entered.steps.items) → next ≡ Some n
     → reverse steps ≡ map enter (node_children (slice_get entered.nodes.now n)) ++ reverse entered.steps.items
@@ -170,7 +170,7 @@ visited_fewer_left before entered next n steps t same none e is s =
     (visited_fewer entered.nodes.now tree entered.path n (reverse entered.steps.items) (reverse steps) s))
 
 -- .. and gives its value
-pub visited_value : {V : Type 0} (before entered : Walk V) (next : Option ℕ) (n : ℕ) (steps : List Step) (given : Option (Bor V)) (value : Bor V)
+pub visited_value : {V : Type 0} (before entered : PairWalk V) (next : Option ℕ) (n : ℕ) (steps : List Step) (given : Option (Bor V)) (value : Bor V)
     → IsTree before.nodes.now → entered.nodes ≡ before.nodes → entered.entered ≡ None
     → places_of before ≡ next_ahead next entered.path (reverse entered.steps.items) → next ≡ Some n
     → reverse steps ≡ map enter (node_children (slice_get entered.nodes.now n)) ++ reverse entered.steps.items
@@ -181,7 +181,7 @@ visited_value before entered next n steps given value t same none e is s v found
     ∙ ap (λ o. map (pair_at entered.path) (option_to_list o) ++ pairs_of entered.nodes.now (places entered.entered entered.path (reverse steps))) (sym v ∙ ap option_copied found)
 
 -- .. or has none, and the walk goes on
-pub visited_none : {V : Type 0} (first before entered : Walk V) (next : Option ℕ) (n : ℕ) (steps : List Step) (given : Option (Bor V))
+pub visited_none : {V : Type 0} (first before entered : PairWalk V) (next : Option ℕ) (n : ℕ) (steps : List Step) (given : Option (Bor V))
     → IsTree before.nodes.now × (left_of first ≡ left_of before) → entered.nodes ≡ before.nodes → entered.entered ≡ None
     → places_of before ≡ next_ahead next entered.path (reverse entered.steps.items) → next ≡ Some n
     → reverse steps ≡ map enter (node_children (slice_get entered.nodes.now n)) ++ reverse entered.steps.items
@@ -198,14 +198,14 @@ abbrev pub shown : {V : Type 0} → List (List Segment × Bor V) → List (List 
 shown pairs = map (λ p. (p.0, p.1.now)) pairs
 
 -- a visitor was shown what a walk gave
-pub record Showing {V T : Type 0} (Shown : T → List (List Segment × V) → T → Type 0) (first walk : Walk V) (start visitor : T) : Type 0 where
+pub record Showing {V T : Type 0} (Shown : T → List (List Segment × V) → T → Type 0) (first walk : PairWalk V) (start visitor : T) : Type 0 where
   pub done : List (List Segment × V)
   pub tree : IsTree walk.nodes.now
   pub whole : done ++ left_of walk ≡ left_of first
   pub shown : (earliest : T) (pairs : List (List Segment × V)) → Shown earliest pairs start → Shown earliest (pairs ++ done) visitor
 
 -- one pair more
-pub shown_more : {V T : Type 0} (Shown : T → List (List Segment × V) → T → Type 0) (first before walk : Walk V)
+pub shown_more : {V T : Type 0} (Shown : T → List (List Segment × V) → T → Type 0) (first before walk : PairWalk V)
     (start visitor after : T) (given : Option (Bor V)) (value : Bor V) (path : List Segment)
     → Showing Shown first before start visitor → IsTree walk.nodes.now → left_of before ≡ with_given (option_copied given) walk → given ≡ Some value → path ≡ walk.path
     → ((earliest : T) (pairs : List (List Segment × V)) → Shown earliest pairs visitor → Shown earliest (pairs ++ (path, value.now) ∷ []) after)
@@ -219,12 +219,12 @@ shown_more {V} {T} Shown first before walk start visitor after given value path 
 }
 
 -- nothing is left, so all was given
-pub none_left : {V : Type 0} (done : List (List Segment × V)) (before walk : Walk V) (given : Option (Bor V)) (whole : List (List Segment × V))
+pub none_left : {V : Type 0} (done : List (List Segment × V)) (before walk : PairWalk V) (given : Option (Bor V)) (whole : List (List Segment × V))
     → done ++ left_of before ≡ whole → left_of before ≡ with_given (option_copied given) walk → given ≡ None → done ≡ whole
 none_left done before walk given whole h e is = sym (append-nil done) ∙ ap (λ l. done ++ l) (sym (e ∙ ap (λ o. with_given (option_copied o) walk) is)) ∙ h
 
 -- all pairs were shown
-pub shown_all : {V T : Type 0} (Shown : T → List (List Segment × V) → T → Type 0) (first before walk : Walk V)
+pub shown_all : {V T : Type 0} (Shown : T → List (List Segment × V) → T → Type 0) (first before walk : PairWalk V)
     (start visitor : T) (given : Option (Bor V)) (m : PathMap V) (lent nodes : List (Node V))
     → Showing Shown first before start visitor → left_of before ≡ with_given (option_copied given) walk → given ≡ None → left_of first ≡ pairs_below (length lent) lent 0
     → lent ≡ nodes

@@ -12,7 +12,7 @@ ghost use Rattle.acpi_space.specs.steps.Tree.{IsTree, child_at, node_children, n
 use crate::children::Children;
 use crate::nodes::{Node, child};
 use crate::space::Refused;
-use crate::trail::{Mark, extend, follow};
+use crate::trail::{TrailNode, extend, follow};
 use acpi_name::Seg;
 use std::alloc::{AllocError, Global};
 
@@ -22,7 +22,7 @@ use std::alloc::{AllocError, Global};
 pub(crate) fn reach<V: Drop>(
     alloc: Global,
     nodes: &mut Vec<Node<V>>,
-    trail: &mut Vec<Mark>,
+    trail: &mut Vec<TrailNode>,
     path: &[Seg],
 ) -> Result<usize, AllocError>
     requires tree { IsTree nodes.old.items }
@@ -43,7 +43,7 @@ pub(crate) fn reach<V: Drop>(
 fn reach_from<V: Drop>(
     alloc: Global,
     nodes: &mut Vec<Node<V>>,
-    trail: &mut Vec<Mark>,
+    trail: &mut Vec<TrailNode>,
     from: usize,
     path: &[Seg],
 ) -> Result<usize, AllocError>

@@ -7,7 +7,7 @@ use std::alloc::Global;
 
 /// One segment of the way, and the number of the node to which it leads.
 #[derive(Clone, Copy)]
-pub struct Mark {
+pub struct TrailNode {
     /// The segment that stands here in the path.
     pub seg: Seg,
     /// The number of the node to which it leads.
@@ -24,7 +24,7 @@ pub struct Fork {
 }
 
 /// Where a path leaves a trail, both from the root.
-pub(crate) fn follow(trail: &[Mark], path: &[Seg]) -> Fork
+pub(crate) fn follow(trail: &[TrailNode], path: &[Seg]) -> Fork
     ensures fork { result ≡ fork_from 0 0 trail.now path.now }
     ensures within { result.depth ≤ length path.now }
 {
@@ -43,17 +43,17 @@ pub(crate) fn follow(trail: &[Mark], path: &[Seg]) -> Fork
 
 /// Puts a mark at the end of a trail from the root, if the trail ends at the node `number`. Where memory is
 /// refused, the trail stays as it was: shorter than it might be.
-pub(crate) fn extend(trail: &mut Vec<Mark>, number: usize, seg: Seg, next: usize)
+pub(crate) fn extend(trail: &mut Vec<TrailNode>, number: usize, seg: Seg, next: usize)
     ensures { (trail.new.items ≡ trail.old.items) ⊎ (trail_end 0 trail.old.items ≡ number)
         × (trail.new.items ≡ trail.old.items ++ record { seg = seg; number = next } ∷ []) }
 {
     if end(trail) == number {
-        let _ = trail.push(Mark { seg, number: next });
+        let _ = trail.push(TrailNode { seg, number: next });
     }
 }
 
 // The number of the node at the end of a trail from the root.
-fn end(trail: &[Mark]) -> usize
+fn end(trail: &[TrailNode]) -> usize
     ensures { result ≡ trail_end 0 trail.now }
 {
     match trail.last() {

@@ -7,8 +7,8 @@ ghost use Rattle.acpi_space.specs.Spaces.{is_defined};
 use crate::grown::{put, reach};
 use crate::nodes::{Node, nearest_to, value_at};
 use crate::space::{Refused, Space, Visitor};
-use crate::trail::{Mark, follow};
-use crate::walk::Walk;
+use crate::trail::{TrailNode, follow};
+use crate::walk::PairWalk;
 use acpi_name::{Path, Seg};
 use std::alloc::{AllocError, Global};
 use std::marker::Model;
@@ -22,7 +22,7 @@ use std::marker::Model;
 pub struct TreeSpace<V> {
     alloc: Global,
     nodes: Vec<Node<V>>,
-    trail: Vec<Mark>,
+    trail: Vec<TrailNode>,
 }
 
 impl<V> Model for TreeSpace<V> {
@@ -67,7 +67,7 @@ impl<V: Drop> Space<V> for TreeSpace<V> {
 
     fn pairs(&self) -> Result<Vec<(Path, &V)>, AllocError> {
         let mut pairs = Vec::new(self.alloc);
-        let mut walk = Walk::through(self.alloc, &self.nodes);
+        let mut walk = PairWalk::through(self.alloc, &self.nodes);
         while let Some(value) = walk.next()? {
             pairs.push((walk.path().copy()?, value))?;
         }
@@ -76,7 +76,7 @@ impl<V: Drop> Space<V> for TreeSpace<V> {
 
     // It keeps one path, that of the pair that it shows.
     fn visit_pairs<T: Visitor<V>>(&self, visitor: &mut T) -> Result<(), AllocError> {
-        let mut walk = Walk::through(self.alloc, &self.nodes);
+        let mut walk = PairWalk::through(self.alloc, &self.nodes);
         while let Some(value) = walk.next()? {
             visitor.visit(walk.path(), value)?;
         }

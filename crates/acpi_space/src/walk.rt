@@ -20,7 +20,7 @@ pub enum Step {
 /// A walk through a tree that gives its pairs, in the order of the paths. It keeps its own steps, so a deep
 /// tree needs no deep stack.
 #[derive(Drop)]
-pub struct Walk<'a, V> {
+pub struct PairWalk<'a, V> {
     nodes: &'a [Node<V>],
     // The node that was entered and has not been visited.
     entered: Option<usize>,
@@ -28,16 +28,16 @@ pub struct Walk<'a, V> {
     steps: Vec<Step>,
 }
 
-impl<'a, V> Walk<'a, V> {
+impl<'a, V> PairWalk<'a, V> {
     ghost use Rattle.acpi_space.specs.steps.Walk.{left_of, places_of, with_given};
 
     /// A walk from the root on.
-    pub(crate) fn through(alloc: Global, nodes: &'a [Node<V>]) -> Walk<'a, V>
+    pub(crate) fn through(alloc: Global, nodes: &'a [Node<V>]) -> PairWalk<'a, V>
         requires { IsTree nodes.now }
         ensures all { left_of result ≡ pairs_below (length nodes.now) nodes.now 0 }
         ensures tree { IsTree result.nodes.now }
     {
-        Walk {
+        PairWalk {
             nodes,
             entered: Some(0),
             path: Path::root(alloc),

@@ -16,9 +16,11 @@ use Rattle.acpi_outline.specs.Rules.{after_fields, after, after_all}
 use Rattle.acpi_outline.specs.Tiling.{TilesInside, Tiles}
 use Rattle.acpi_outline.specs.View.{nodes_view}
 use Rattle.acpi_outline.proofs.One.{outline_tiles}
+use Rattle.acpi_conditions.specs.Nodes.{no_nodes}
 use Rattle.acpi_conditions.specs.Entries.{Path, Why}
 use Rattle.acpi_conditions.specs.Known.{opened_at}
-use Rattle.acpi_survey.specs.Reading.{Reading, Source, survey_rules, source_at, passing, after_operator, after_plain, after_name, with_opened, enter, leave, after_field, after_closed, after_lost}
+use Rattle.acpi_survey.specs.Nodes.{operator_at}
+use Rattle.acpi_survey.specs.Reading.{Reading, AliasSource, survey_rules, source_at, passing, after_doing, after_plain, after_name, with_opened, enter, leave, after_field, after_closed, after_lost}
 use Rattle.acpi_pieces.specs.Tables.{code_read}
 use Rattle.acpi_survey.specs.Survey.{place_in, at_table, behind_table}
 use Rattle.acpi_survey.specs.Surveys.{AreTables, behind_nodes}
@@ -135,7 +137,7 @@ opened_added : (place : ℕ) (o : Result Path Why) (os : List (ℕ × Path)) →
 opened_added place (Ok p) os = inr (map_push (λ (o : ℕ × Path). o.0) os (place, p))
 opened_added place (Err why) os = inl refl
 
-opened_operator : (place : ℕ) (op : Op) (s : Reading) → opened_places (after_operator place op s) ≡ opened_places s
+opened_operator : (place : ℕ) (op : Op) (s : Reading) → opened_places (after_doing (operator_at place op no_nodes) (Some 0) s) ≡ opened_places s
 opened_operator place ops.Return s = refl
 opened_operator place ops.Break s = refl
 opened_operator place ops.Continue s = refl
@@ -197,9 +199,9 @@ scopes_in_order depth last ts h =
 -- ---- Aliases
 
 abbrev source_places : Reading → List ℕ
-source_places s = map (λ (x : Source). x.place) s.sources
+source_places s = map (λ (x : AliasSource). x.place) s.sources
 
-sources_operator : (place : ℕ) (op : Op) (s : Reading) → source_places (after_operator place op s) ≡ source_places s
+sources_operator : (place : ℕ) (op : Op) (s : Reading) → source_places (after_doing (operator_at place op no_nodes) (Some 0) s) ≡ source_places s
 sources_operator place ops.Return s = refl
 sources_operator place ops.Break s = refl
 sources_operator place ops.Continue s = refl
@@ -210,7 +212,7 @@ sources_plain place (outline.term (declare form before n behind)) s = inl refl
 sources_plain place (outline.term (apply op vs)) s = inl (sources_operator (s.base + place) op s)
 sources_plain place (outline.term t) s = inl refl
 sources_plain place (outline.external x) s = inl refl
-sources_plain place (outline.alias source n) s = inr (map_push (λ (x : Source). x.place) s.sources (source_at s (s.base + place) source))
+sources_plain place (outline.alias source n) s = inr (map_push (λ (x : AliasSource). x.place) s.sources (source_at s (s.base + place) source))
 sources_plain place (outline.table_region n vs) s = inl refl
 
 sources_enter : (place : ℕ) (f : FixedTree) (s : Reading) → source_places (enter s place f) ≡ source_places s
@@ -253,10 +255,10 @@ sources_first : source_places first_reading ≡ []
 unfolding first_reading with_object
 sources_first = refl
 
-pub aliases_in_order : (depth : ℕ) (last : Reading) (ts : List SurveyedTable) → AreTables depth 0 first_reading ts last → IsNonDecreasingBy (λ (x : Source). x.place) last.sources
+pub aliases_in_order : (depth : ℕ) (last : Reading) (ts : List SurveyedTable) → AreTables depth 0 first_reading ts last → IsNonDecreasingBy (λ (x : AliasSource). x.place) last.sources
 aliases_in_order depth last ts h =
     let grow = first_kept source_places sources_own sources_first depth last ts h in
-    in_order (λ (x : Source). x.place) 0 grow.0 last.sources grow.1
+    in_order (λ (x : AliasSource). x.place) 0 grow.0 last.sources grow.1
 
 -- ---- a survey
 

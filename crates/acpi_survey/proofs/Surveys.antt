@@ -77,11 +77,13 @@ pub all_kept : (depth i : ℕ) (read : List SurveyedTable) (s : Reading) (all : 
     → AreTables depth 0 first_reading read s
 all_kept depth i read s all h k = kept_all depth read s all (kept_behind depth i read s all h k)
 
+pub all_bytes : (depth i : ℕ) (read : List SurveyedTable) (s : Reading) (all : List (List ℕ)) → length all ≤ i → Kept depth read s (drop i all) all → bytes_of read ≡ all
+all_bytes depth i read s all h k = sym (append-nil (bytes_of read)) ∙ (kept_behind depth i read s all h k).bytes
+
 pub all_read : (depth i : ℕ) (read : List SurveyedTable) (s : Reading) (all : List (List ℕ)) → length all ≤ i → Kept depth read s (drop i all) all
     → AreRead depth 0 first_reading all (nodes_of_each read) s
 all_read depth i read s all h k =
-    let bytes : bytes_of read ≡ all = sym (append-nil (bytes_of read)) ∙ (kept_behind depth i read s all h k).bytes in
-    subst (λ (bs : List (List ℕ)). AreRead depth 0 first_reading bs (nodes_of_each read) s) bytes (are_read depth 0 first_reading s read (all_kept depth i read s all h k))
+    subst (λ (bs : List (List ℕ)). AreRead depth 0 first_reading bs (nodes_of_each read) s) (all_bytes depth i read s all h k) (are_read depth 0 first_reading s read (all_kept depth i read s all h k))
 
 pub all_surveyed : (depth i : ℕ) (read : List SurveyedTable) (s : Reading) (all : List (List ℕ)) → length all ≤ i → Kept depth read s (drop i all) all
     → IsSurveyed 0 first_reading s (nodes_of_each read)

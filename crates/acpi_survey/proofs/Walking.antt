@@ -26,7 +26,7 @@ use Rattle.acpi_conditions.specs.Laws.{IsInFirst}
 use Rattle.acpi_conditions.proofs.Walks.{gives_nodes, empty_else_is_none}
 use Rattle.acpi_needs.specs.Needs.{names_in_all, names_before}
 use Rattle.acpi_survey.specs.Nodes.{term_at, unit_at, operator_at, plain_at, package_at as package_at_place, element_at, operands_of, fields_at, Listed, no_else, listed, nodes_of}
-use Rattle.acpi_survey.specs.Reading.{Reading, survey_rules, count_at, declaring as declaring_in, passing, stopping, expecting, after_operator, after_plain, enter, after_field, after_closed, after_lost, with_source}
+use Rattle.acpi_survey.specs.Reading.{Reading, survey_rules, count_at, declaring as declaring_in, passing, stopping, expecting, after_doing, after_plain, enter, after_field, after_closed, after_lost, with_source}
 
 -- ---- walks that differ in whether an If stands directly before
 
@@ -121,7 +121,7 @@ passing_step s s' walk base = record {
 two_steps : (s m s' : Reading) (put before : Nodes → Nodes) → IsStep s m put → IsStep m s' before → IsStep s s' (λ rest. put (before rest))
 two_steps s m s' put before h n = record { fresh = n.fresh; base = n.base ∙ h.base; on = λ rest. h.on (before rest) ∙ n.on rest }
 
-operator_step : (place : ℕ) (op : Op) (s : Reading) → IsStep s (after_operator place op s) (operator_at place op)
+operator_step : (place : ℕ) (op : Op) (s : Reading) → IsStep s (after_doing (operator_at place op no_nodes) (Some 0) s) (operator_at place op)
 operator_step place ops.Return s = stopping_step place nodes.returns s
 operator_step place ops.Break s = stopping_step place nodes.breaks s
 operator_step place ops.Continue s = stopping_step place nodes.continues s

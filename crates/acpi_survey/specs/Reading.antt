@@ -1,23 +1,20 @@
 -- How the nodes of tables are read: what is known so far (ACPI 6.5, 5.3 and 20.2.5).
-use Rattle.std.specs.Prelude.{◌+◌, ◌%◌, ◌==◌, ◌&&◌, nat_le, ℕ, Bool, true, false, cond, is_ok, List, [], ◌∷◌, ◌++◌, Option, Some, None, Result, Ok, Err}
+use Rattle.std.specs.Prelude.{◌+◌, ◌%◌, ◌==◌, ◌&&◌, nat_le, ℕ, Bool, true, false, cond, is_ok, List, [], ◌∷◌, ◌++◌, Option, Some, Result, Ok, Err}
 use Rattle.std.specs.List.{list_any}
 use Rattle.std.specs.FinMap as finite
 use Rattle.acpi_name.specs.Names.{Segment, NameParts}
 use Rattle.acpi_name.specs.Paths.{place_of}
 use Rattle.acpi_space.specs.Lookups.{is_same_path}
 use Rattle.acpi_space.specs.Spaces.{PathMap}
-use Rattle.acpi_tree.specs.declared.op.Op.{Op}
-use Rattle.acpi_tree.specs.declared.op.Op.TheVariants as ops
-use Rattle.acpi_tree.specs.Tree.{ExternalParts, FieldTree, unit}
-use Rattle.acpi_tree.specs.Terms.{apply, declare}
+use Rattle.acpi_tree.specs.Tree.{ExternalParts, FieldTree}
 use Rattle.acpi_counts.specs.Counts.{with_first}
 use Rattle.acpi_outline.specs.declared.form.PackedForm.{PackedForm}
 use Rattle.acpi_outline.specs.declared.form.PackedForm.TheVariants as forms
 use Rattle.acpi_outline.specs.Nodes as outline
-use Rattle.acpi_outline.specs.Nodes.{PlainTree, FixedTree, container, method, if_so, otherwise, while_so, units}
+use Rattle.acpi_outline.specs.Nodes.{PlainTree, FixedTree, container, method, if_so, otherwise, while_so}
 use Rattle.acpi_outline.specs.Rules.{Rules}
 use Rattle.acpi_conditions.specs.Nodes as nodes
-use Rattle.acpi_conditions.specs.Nodes.{Term}
+use Rattle.acpi_conditions.specs.Nodes.{Term, Nodes, no_nodes, declares, stop}
 use Rattle.acpi_conditions.specs.Entries.{Path, Why}
 use Rattle.acpi_conditions.specs.Known.{candidates, is_certain_name, declared_at, opened_at}
 use Rattle.acpi_conditions.specs.Met.{met_by, numbers_met}
@@ -25,11 +22,10 @@ use Rattle.acpi_conditions.specs.Here.{meeting, scopes_around}
 use Rattle.acpi_conditions.specs.Walk as walks
 use Rattle.acpi_conditions.specs.Walk.{Walk}
 use Rattle.acpi_survey.specs.Counts.{counts_numbered, count_of}
-use Rattle.acpi_needs.specs.Needs.{names_in_all, names_before}
-use Rattle.acpi_survey.specs.Nodes.{term_at, unit_at, operands_of}
+use Rattle.acpi_survey.specs.Nodes.{term_at, plain_at, package_at, element_at, operands_of}
 
 -- An Alias, by its place: where its source may be found when it is read, and whether it is found for certain.
-pub record Source : Type 0 where
+pub record AliasSource : Type 0 where
   pub place : ℕ
   pub paths : List Path
   pub is_certain : Bool
@@ -43,7 +39,7 @@ pub record Reading : Type 0 where
   pub counts : List (Option ℕ)
   pub expected : PathMap ℕ
   pub opened : List (ℕ × Path)
-  pub sources : List Source
+  pub sources : List AliasSource
 
 -- ---- how many values follow a name
 
@@ -72,7 +68,7 @@ abbrev pub entering : Term → Reading → Reading
 entering t s = record s { walk = walks.enter_term t s.walk; counts = with_count t (Some 0) s }
 
 -- the Aliases, and one whose source has that name
-abbrev pub source_at : Reading → (place : ℕ) → NameParts → Source
+abbrev pub source_at : Reading → (place : ℕ) → NameParts → AliasSource
 source_at s place n = record {
   place = place;
   paths = candidates (met_by (meeting s.walk)) s.walk.around.scope n;
@@ -93,9 +89,8 @@ abbrev pub is_heard : ExternalParts → Bool
 is_heard x = x.kind == 8 && nat_le x.args 7
 
 abbrev pub with_expected : PathMap ℕ → ℕ → List Segment → Option Path → PathMap ℕ
-with_expected counts n [] place = counts
-with_expected counts n (g ∷ gs) None = counts
 with_expected counts n (g ∷ gs) (Some p) = with_first counts p n
+with_expected counts n _ _ = counts
 
 abbrev pub expecting : ExternalParts → Reading → Reading
 expecting x s =
@@ -105,23 +100,31 @@ expecting x s =
           s.expected;
     }
 
-abbrev pub after_operator : ℕ → Op → Reading → Reading
-after_operator place ops.Return s = stopping place nodes.returns s
-after_operator place ops.Break s = stopping place nodes.breaks s
-after_operator place ops.Continue s = stopping place nodes.continues s
-after_operator place _ s = passing s
+-- the Scopes, and one of the name that opens a scope
+abbrev pub with_opened : (place : ℕ) → Result Path Why → List (ℕ × Path) → List (ℕ × Path)
+with_opened place (Ok p) opened = opened ++ (place, p) ∷ []
+with_opened place (Err why) opened = opened
+
+abbrev pub opened_behind : Reading → (place : ℕ) → NameParts → List (ℕ × Path)
+opened_behind s place n = with_opened place (opened_at s.walk.known s.walk.around.scope n) s.opened
+
+-- past a node that does this, with nothing inside; the entry of a term has that count
+abbrev pub after_doing : Nodes → Option ℕ → Reading → Reading
+after_doing (declares t inside rest) c s = declaring t c s
+after_doing (nodes.opens place n inside rest) c s =
+    record s {
+      walk = walks.walked_scope place n (λ w. w) s.walk;
+      opened = opened_behind s place n;
+    }
+after_doing (stop place kind rest) c s = stopping place kind s
+after_doing _ c s = passing s
 
 abbrev pub after_plain : Reading → ℕ → PlainTree → Reading
-after_plain s place (outline.term (declare form before n behind)) = declaring
-    (term_at (s.base + place) n false (names_before before ++ names_in_all behind)) (Some 0) s
-after_plain s place (outline.term (apply op vs)) = after_operator (s.base + place) op s
-after_plain s place (outline.term t) = passing s
 after_plain s place (outline.external x) = expecting x s
-after_plain s place (outline.alias source n) = declaring
-    (term_at (s.base + place) n false (source ∷ [])) (count_at s source)
+after_plain s place (outline.alias source n) =
+    after_doing (plain_at (s.base + place) (outline.alias source n) no_nodes) (count_at s source)
     (with_source (s.base + place) source s)
-after_plain s place (outline.table_region n vs) =
-    declaring (term_at (s.base + place) n false (names_in_all vs)) (Some 0) s
+after_plain s place p = after_doing (plain_at (s.base + place) p no_nodes) (Some 0) s
 
 abbrev pub after_name : Reading → ℕ → NameParts → Reading
 after_name s place n = declaring (term_at (s.base + place) n false []) (Some 0) s
@@ -130,14 +133,6 @@ abbrev pub opens : Reading → FixedTree → Bool
 opens s (outline.scope n) = is_ok (opened_at s.walk.known s.walk.around.scope n)
 opens s (container form n vs) = is_ok (declared_at s.walk.known s.walk.around.scope n)
 opens s _ = true
-
--- the Scopes, and one of the name that opens a scope
-abbrev pub with_opened : (place : ℕ) → Result Path Why → List (ℕ × Path) → List (ℕ × Path)
-with_opened place (Ok p) opened = opened ++ (place, p) ∷ []
-with_opened place (Err why) opened = opened
-
-abbrev pub opened_behind : Reading → (place : ℕ) → NameParts → List (ℕ × Path)
-opened_behind s place n = with_opened place (opened_at s.walk.known s.walk.around.scope n) s.opened
 
 abbrev pub enter : Reading → ℕ → FixedTree → Reading
 enter s place (outline.scope n) =
@@ -156,22 +151,15 @@ leave s = record s { walk = walks.leave s.walk }
 
 -- an element of a field list
 abbrev pub after_field : Reading → ℕ → FixedTree → FieldTree → Reading
-after_field s place f (unit g bits) =
-    declaring (unit_at (s.base + place) g (operands_of f)) (Some 0) s
-after_field s place f e = passing s
+after_field s place f e =
+    after_doing (element_at (s.base + place) (operands_of f) e no_nodes) (Some 0) s
 
 -- a package that isn't gone into: a method, by the number of its arguments, or what is refused
 abbrev pub after_closed : Reading → ℕ → FixedTree → List ℕ → Reading
-after_closed s place (outline.scope n) content =
-    record s {
-      walk = walks.walked_scope (s.base + place) n (λ w. w) s.walk;
-      opened = opened_behind s (s.base + place) n;
-    }
-after_closed s place (container form n vs) content =
-    declaring (term_at (s.base + place) n true []) (Some 0) s
-after_closed s place (method n flags) content =
-    declaring (term_at (s.base + place) n false []) (Some (flags % 8)) s
-after_closed s place f content = passing s
+after_closed s place (method n flags) content = after_doing
+    (package_at (s.base + place) (method n flags) no_nodes no_nodes) (Some (flags % 8)) s
+after_closed s place f content =
+    after_doing (package_at (s.base + place) f no_nodes no_nodes) (Some 0) s
 
 -- behind an If whose test is lost an Else belongs to it
 abbrev pub after_lost : Reading → ℕ → Option PackedForm → Reading

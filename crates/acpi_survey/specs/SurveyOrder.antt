@@ -6,7 +6,7 @@ use Rattle.acpi_name.specs.Names.{Segment}
 use Rattle.acpi_conditions.specs.Entries.{Path, Entry}
 use Rattle.acpi_outline.specs.Tiling.{Tiles}
 use Rattle.acpi_outline.specs.View.{nodes_view}
-use Rattle.acpi_survey.specs.Reading.{Reading, Source}
+use Rattle.acpi_survey.specs.Reading.{Reading, AliasSource}
 use Rattle.acpi_survey.specs.Predefined.{first_reading, predefined_count}
 use Rattle.acpi_pieces.specs.Tables.{code_read}
 use Rattle.acpi_survey.specs.Surveys.{AreTables}
@@ -38,7 +38,7 @@ ScopesStandInOrder = (depth : ℕ) (last : Reading) (ts : List SurveyedTable)
 abbrev pub AliasesStandInOrder : Type 0
 AliasesStandInOrder = (depth : ℕ) (last : Reading) (ts : List SurveyedTable)
     → AreTables depth 0 first_reading ts last
-    → IsNonDecreasingBy (λ (s : Source). s.place) last.sources
+    → IsNonDecreasingBy (λ (s : AliasSource). s.place) last.sources
 
 -- ---- of a survey
 
@@ -49,4 +49,4 @@ pub record IsInOrder (s : Survey) : Type 0 where
   pub entries : IsNonDecreasingBy (λ (e : Entry). e.term.place)
       (drop predefined_count s.reading.walk.entries)
   pub opened : IsNonDecreasingBy (λ (o : ℕ × Path). o.0) s.reading.opened
-  pub sources : IsNonDecreasingBy (λ (s : Source). s.place) s.reading.sources
+  pub sources : IsNonDecreasingBy (λ (s : AliasSource). s.place) s.reading.sources

@@ -2,8 +2,8 @@
 use Rattle.std.specs.Prelude.{◌≡◌, ◌&&◌, nat_eq, nat_lt, ℕ, suc, Bool, cond, List, [], ◌∷◌, map, length}
 use Rattle.std.specs.Cmp.Lexicographic.{pointwise}
 use Rattle.std.specs.List.{starts_with}
-use Rattle.acpi_space.specs.Lookups.{is_same_path}
 use Rattle.acpi_conditions.specs.Entries.{Path, Entry}
+use Rattle.acpi_conditions.specs.Met.{numbers_beyond}
 use Rattle.acpi_outline.specs.Nodes.{NodeTrees}
 use Rattle.acpi_outline.specs.Outline.{IsOutline}
 use Rattle.acpi_outline.specs.Faults.{HaveTrueFaults}
@@ -13,7 +13,9 @@ use Rattle.acpi_pieces.specs.Tables.{IsJudged}
 use Rattle.acpi_survey.specs.Reading.{Reading, survey_rules}
 use Rattle.acpi_pieces.specs.Tables.{code_read}
 use Rattle.acpi_survey.specs.Survey.{at_table, behind_table}
+use Rattle.acpi_survey.specs.Predefined.{first_reading}
 use Rattle.acpi_survey.specs.declared.machine_survey.SurveyedTable.{SurveyedTable}
+use Rattle.acpi_survey.specs.declared.machine_survey.Survey.{Survey}
 
 -- the bytes of each table
 abbrev pub bytes_of : List SurveyedTable → List (List ℕ)
@@ -43,17 +45,21 @@ AreTables depth number s [] last = last ≡ s
 AreTables depth number s (t ∷ ts) last = IsTable depth number s t
     × AreTables depth (suc number) (behind_table (behind_nodes number s t)) ts last
 
+-- The survey of these tables, with this limit: each is kept, as it is read behind those before it.
+pub record IsSurvey (depth : ℕ) (tables : List (List ℕ)) (s : Survey) : Type 0 where
+  pub kept : bytes_of s.tables.items ≡ tables
+  pub limit : s.depth ≡ depth
+  pub read : AreTables depth 0 first_reading s.tables.items s.reading
+
 -- ---- entries
 
 -- an entry but for its way
 abbrev pub without_way : Entry → Entry
 without_way e = record e { way = [] }
 
--- the numbers of the entries at a path, of those from a number on
-abbrev pub numbers_at : Path → ℕ → List Entry → List ℕ
-numbers_at p n [] = []
-numbers_at p n (e ∷ es) =
-    cond (is_same_path e.path p) (n ∷ numbers_at p (suc n) es) (numbers_at p (suc n) es)
+-- the numbers of the entries at a path: control that comes by no turns may have met each of them
+abbrev pub numbers_at : Path → List Entry → List ℕ
+numbers_at p es = numbers_beyond [] p 0 es
 
 -- a path begins with the segments of another, and has more
 abbrev pub lies_below : (above : Path) → Path → Bool

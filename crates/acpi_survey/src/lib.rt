@@ -33,5 +33,5 @@ pub use machine_survey::{Survey, SurveyedTable};
 pub use name_uses::{NameUse, names_in_fixed, names_in_plain, names_in_terms};
 pub use predefined::PREDEFINED;
 pub use reading::place_in;
-pub use remarks::{OpenedScope, Source, Unknown};
+pub use remarks::{AliasSource, OpenedScope, Unknown};
 pub use table_reader::survey;

@@ -8,7 +8,7 @@ ghost use Rattle.acpi_pieces.specs.Tables.{code_read};
 ghost use Rattle.acpi_survey.specs.Surveys.{lies_below, numbers_at, numbers_below, without_way};
 
 use crate::reading::Reading;
-use crate::remarks::{OpenedScope, Source, Unknown};
+use crate::remarks::{AliasSource, OpenedScope, Unknown};
 use acpi_code::Depth;
 use acpi_conditions::{Entries, Entry, Met, Refusal};
 use acpi_counts::Counts;
@@ -118,7 +118,7 @@ impl Survey {
     }
 
     /// Where the sources of Aliases may be found, in the order of their places.
-    pub fn sources(&self) -> &[Source]
+    pub fn sources(&self) -> &[AliasSource]
         ensures { map source_of result.now ≡ self.now.reading.sources }
     {
         self.reading.remarks().sources()
@@ -139,7 +139,7 @@ impl Survey {
     /// The numbers, from 0 and in order, of the entries at a path.
     pub fn at(&self, path: &Path) -> Result<Vec<usize>, AllocError>
         ensures { IfOk result (λ v. v.items
-            ≡ numbers_at path.now 0 self.now.reading.walk.entries) }
+            ≡ numbers_at path.now self.now.reading.walk.entries) }
     {
         let entries = self.reading.entries();
         let met = Met::new(entries.paths, entries.ways, entries.ways.empty())?;

@@ -7,10 +7,11 @@ ghost use Rattle.acpi_tree.specs.TermView.{term_view, decl_view};
 ghost use Rattle.acpi_outline.specs.Nodes as outline;
 ghost use Rattle.acpi_outline.specs.View.{fixed_view, plain_view};
 ghost use Rattle.acpi_conditions.specs.EntryForms.{term_view as declaring_view};
+ghost use Rattle.acpi_conditions.specs.Nodes.{no_nodes};
 ghost use Rattle.acpi_conditions.specs.Walk as walks;
 ghost use Rattle.acpi_needs.specs.Needs.{names_in_all, with_names};
-ghost use Rattle.acpi_survey.specs.Nodes.{term_at, unit_at, operands_of};
-ghost use Rattle.acpi_survey.specs.Reading.{after_operator, after_plain, count_at, declaring, entering, opened_behind, passing};
+ghost use Rattle.acpi_survey.specs.Nodes.{operator_at, term_at, unit_at, operands_of};
+ghost use Rattle.acpi_survey.specs.Reading.{after_doing, after_plain, count_at, declaring, entering, opened_behind, passing};
 
 use crate::names::segment_name;
 use crate::reading::Reading;
@@ -104,7 +105,8 @@ impl Reading {
     }
 
     fn pass_operator(&mut self, offset: usize, op: Op) -> Result<(), AllocError>
-        ensures { OnOk result (self.new ≡ after_operator (self.old.base + offset) op self.old) }
+        ensures { OnOk result (self.new ≡ after_doing
+            (operator_at (self.old.base + offset) op no_nodes) (Some 0) self.old) }
     {
         let place = self.place(offset);
         match op {

@@ -26,7 +26,7 @@ pub struct Unknown {
 
 /// Where the source of an Alias may be found.
 #[derive(Drop)]
-pub struct Source {
+pub struct AliasSource {
     /// Where the Alias stands: the table's number times 2^64, and the number of bytes of the table's code before it.
     pub place: u128,
     /// Where its source may be found from there, when the Alias is read.
@@ -39,7 +39,7 @@ pub struct Source {
 pub(crate) struct Remarks {
     opened: Vec<OpenedScope>,
     unknown: Vec<Unknown>,
-    sources: Vec<Source>,
+    sources: Vec<AliasSource>,
 }
 
 impl Remarks {
@@ -70,7 +70,7 @@ impl Remarks {
     }
 
     /// The sources of Aliases.
-    pub(crate) fn sources(&self) -> &[Source]
+    pub(crate) fn sources(&self) -> &[AliasSource]
         ensures { result.now ≡ self.now.sources.items }
     {
         &self.sources
@@ -104,7 +104,7 @@ impl Remarks {
         ensures sources { OnOk result (self.new.sources.items
             ≡ self.old.sources.items ++ record { place = place; found = found } ∷ []) }
     {
-        self.sources.push(Source { place, found })?;
+        self.sources.push(AliasSource { place, found })?;
         Ok(())
     }
 }

@@ -6,7 +6,7 @@ ghost use Rattle.acpi_survey.specs.Laws.{IsSurveyed, IsOnlyReading};
 ghost use Rattle.acpi_survey.specs.Survey.{AreRead, behind_table};
 ghost use Rattle.acpi_pieces.specs.Tables.{code_read};
 ghost use Rattle.acpi_survey.specs.SurveyOrder.{IsInOrder};
-ghost use Rattle.acpi_survey.specs.Surveys.{AreTables, IsTable, behind_nodes, bytes_of, nodes_of_each};
+ghost use Rattle.acpi_survey.specs.Surveys.{IsSurvey, IsTable, behind_nodes, nodes_of_each};
 
 use crate::machine_survey::{Survey, SurveyedTable};
 use crate::reading::Reading;
@@ -54,11 +54,8 @@ fn read_table(
 /// The survey of tables, whatever their bytes are, with at most `depth` levels of terms. Only an allocation failure is
 /// an error.
 pub fn survey(alloc: Global, tables: &[Bytes], depth: Depth) -> Result<Survey, AllocError>
-    // Each table is kept, as it is read behind those before it.
-    ensures bytes { IfOk result (λ s. bytes_of s.tables.items ≡ tables.now) }
-    ensures tables { IfOk result (λ s. AreTables depth 0 first_reading s.tables.items s.reading) }
-    // The limit is kept.
-    ensures depth { IfOk result (λ s. s.depth ≡ depth) }
+    // Each table is kept, as it is read behind those before it; and so is the limit.
+    ensures is { IfOk result (IsSurvey depth tables.now) }
     // So they have these nodes, and no others, but for the reasons of what is lost.
     ensures read { IfOk result (λ s. AreRead depth 0 first_reading tables.now
         (nodes_of_each s.tables.items) s.reading) }

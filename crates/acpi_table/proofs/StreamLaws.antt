@@ -4,7 +4,7 @@ use Rattle.std.proofs.lemmas.List.{length-append, take_at}
 use Rattle.std.specs.Io.KnownBytes.{Consumes, IsAtEnd}
 use Rattle.std.proofs.KnownBytes.{Consumes-trans}
 use Rattle.acpi_table.proofs.TableLaws.{length_field-append, table_again}
-use Rattle.acpi_table.specs.Sources.{TakesOnto}
+use Rattle.acpi_table.specs.steps.Taking.{TakesOnto}
 use Rattle.acpi_table.specs.Tables.{sum_of, length_field, IsTable, IsRefusedAs, table_at}
 use Rattle.acpi_table.specs.declared.streams.ReadFault.{ReadFault}
 use Rattle.acpi_table.specs.declared.streams.ReadFault.TheVariants.{Table}

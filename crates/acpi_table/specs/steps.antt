@@ -1,1 +1,2 @@
 pub mod PkgLengthRead
+pub mod Taking

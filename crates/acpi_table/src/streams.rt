@@ -3,7 +3,8 @@
 ghost use Rattle.std.specs.Prelude.{◌≡◌, ◌≢◌, ◌+◌, ◌≤◌, ◌<◌, [], IfOk, IfSome, IfNone, OnOk, IfErr, IsErrOf, vec_len};
 ghost use Rattle.std.specs.Io.KnownBytes.{Consumes, IsAtEnd};
 ghost use Rattle.acpi_table.specs.Tables.{IsTable, IsRefusedAs};
-ghost use Rattle.acpi_table.specs.Sources.{CountsFailures, IsNoTableFault, TakesOnto};
+ghost use Rattle.acpi_table.specs.Sources.{CountsFailures};
+ghost use Rattle.acpi_table.specs.steps.Taking.{IsNoTableFault, TakesOnto};
 
 use crate::sources::{Source, SourceFault};
 use crate::sums::byte_sum;

@@ -130,65 +130,68 @@ spells_snoc (j ∷ ks) k v x a b h s = (h.0, h.1 ++ b, h.2, spells_snoc ks k v.1
 -- behind an argument the next ones must follow
 next_argument : (s : Source) (level end : ℕ) (opcode : Opcode) (k : FixedArgument) (ks : List FixedArgument) (bytes : List ℕ) (x : Value k × List ℕ)
     → Awaits opcode (k ∷ ks) s.code (end - length bytes) → Position s.depth level s.code end bytes → Front (SpellsArgument k) bytes x → Awaits opcode ks s.code (end - length x.1)
-next_argument s level end opcode k ks bytes x w h t =
+next_argument s level end opcode k ks bytes x (before, values, all, w) h t =
     let op = opcode_bytes opcode in
     let whole : drop w.at s.code ≡ (op ++ (w.len ++ w.front)) ++ w.rest = w.here ∙ simp append_assoc in
     let size : length (op ++ (w.len ++ w.front)) ≡ length op + (length w.len + length w.front) = omega (arith, length-append op (w.len ++ w.front), length-append w.len w.front) in
     let place : end - length bytes ≡ w.at + length (op ++ (w.len ++ w.front)) = w.behind ∙ ap (λ n. w.at + n) (sym size) in
     let back : w.rest ≡ bytes ++ h.after = sym (rest_behind s.code (op ++ (w.len ++ w.front)) w.rest w.at whole) ∙ ap (λ n. drop n s.code) (sym place) ∙ stands_at s level end bytes h in
-    let more : bytes ++ h.after ≡ t.front ++ (x.1 ++ h.after) = ap (λ (l : List ℕ). l ++ h.after) t.whole ∙ append_assoc t.front x.1 h.after in
-    record {
-      before = w.before ++ k ∷ [];
-      all = w.all ∙ sym (append_assoc w.before (k ∷ []) ks);
-      at = w.at;
-      len = w.len;
-      is_len = w.is_len;
-      values = values_snoc w.before k w.values x.0;
-      front = w.front ++ t.front;
-      rest = x.1 ++ h.after;
-      here = w.here ∙ ap (λ (l : List ℕ). op ++ (w.len ++ (w.front ++ l))) (back ∙ more) ∙ ap (λ (l : List ℕ). op ++ (w.len ++ l)) (sym (append_assoc w.front t.front (x.1 ++ h.after)));
-      spells = spells_snoc w.before k w.values x.0 w.front t.front w.spells t.spells;
-      behind = omega (arith, w.behind, h.ends, ap length t.whole, length-append t.front x.1, length-append w.front t.front);
-    }
+    let more : bytes ++ h.after ≡ t.front ++ (x.1 ++ h.after) = ap (λ (l : List ℕ). l ++ h.after) t.whole ∙ append_assoc t.front x.1 h.after in (
+      before ++ k ∷ [],
+      values_snoc before k values x.0,
+      all ∙ sym (append_assoc before (k ∷ []) ks),
+      record {
+        at = w.at;
+        len = w.len;
+        is_len = w.is_len;
+        front = w.front ++ t.front;
+        rest = x.1 ++ h.after;
+        here = w.here ∙ ap (λ (l : List ℕ). op ++ (w.len ++ (w.front ++ l))) (back ∙ more) ∙ ap (λ (l : List ℕ). op ++ (w.len ++ l)) (sym (append_assoc w.front t.front (x.1 ++ h.after)));
+        are = spells_snoc before k values x.0 w.front t.front w.are t.spells;
+        behind = omega (arith, w.behind, h.ends, ap length t.whole, length-append t.front x.1, length-append w.front t.front);
+      },
+    )
 
 -- behind the opcode of a form without a package all its arguments must follow
 pub awaits_all : (s : Source) (level end : ℕ) (opcode : Opcode) (bytes rest : List ℕ) → has_package opcode ≡ false → bytes ≡ opcode_bytes opcode ++ rest
     → Position s.depth level s.code end bytes → Awaits opcode (fixed_arguments opcode) s.code (end - length rest)
 awaits_all s level end opcode bytes rest plain is h =
-    let op = opcode_bytes opcode in
-    record {
-      before = [];
-      all = refl;
-      at = end - length bytes;
-      len = [];
-      is_len = rw plain refl;
-      values = tt;
-      front = [];
-      rest = rest ++ h.after;
-      here = stands_at s level end bytes h ∙ ap (λ (l : List ℕ). l ++ h.after) is ∙ append_assoc op rest h.after;
-      spells = refl;
-      behind = omega (arith, h.ends, ap length is, length-append op rest);
-    }
+    let op = opcode_bytes opcode in (
+      [],
+      tt,
+      refl,
+      record {
+        at = end - length bytes;
+        len = [];
+        is_len = rw plain refl;
+        front = [];
+        rest = rest ++ h.after;
+        here = stands_at s level end bytes h ∙ ap (λ (l : List ℕ). l ++ h.after) is ∙ append_assoc op rest h.after;
+        are = refl;
+        behind = omega (arith, h.ends, ap length is, length-append op rest);
+      },
+    )
 
 -- the same of a form with a package, whose arguments stand first in it
 awaits_packed : (s : Source) (level end : ℕ) (opcode : Opcode) (bytes rest : List ℕ) (p : Package) → has_package opcode ≡ true → bytes ≡ opcode_bytes opcode ++ rest
     → Position s.depth level s.code end bytes → PackageFront end rest p → Awaits opcode (fixed_arguments opcode) s.code (p.end - length p.content)
 awaits_packed s level end opcode bytes rest p packs is h g =
     let op = opcode_bytes opcode in
-    let some : IsLengthOf true g.len = (length g.len + length p.content, g.spells_len) in
-    record {
-      before = [];
-      all = refl;
-      at = end - length bytes;
-      len = g.len;
-      is_len = rw packs some;
-      values = tt;
-      front = [];
-      rest = p.content ++ (p.rest ++ h.after);
-      here = stands_at s level end bytes h ∙ rw (is, g.whole) (simp append_assoc);
-      spells = refl;
-      behind = omega (arith, h.ends, ap length is, length-append op rest, ap length g.whole, length-append g.len (p.content ++ p.rest), length-append p.content p.rest, g.ends);
-    }
+    let some : IsLengthOf true g.len = (length g.len + length p.content, g.spells_len) in (
+      [],
+      tt,
+      refl,
+      record {
+        at = end - length bytes;
+        len = g.len;
+        is_len = rw packs some;
+        front = [];
+        rest = p.content ++ (p.rest ++ h.after);
+        here = stands_at s level end bytes h ∙ rw (is, g.whole) (simp append_assoc);
+        are = refl;
+        behind = omega (arith, h.ends, ap length is, length-append op rest, ap length g.whole, length-append g.len (p.content ++ p.rest), length-append p.content p.rest, g.ends);
+      },
+    )
 
 -- ---- all of them
 

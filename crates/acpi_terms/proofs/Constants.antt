@@ -1,5 +1,5 @@
 -- Constants and sources at their places: what is spelled is read, what is read is spelled, or the fault is true.
-use Rattle.std.proofs.Common.{◌≡◌, ℕ, zero, suc, ◌-◌, ◌<◌, List, [], ◌∷◌, ◌++◌, length, Ok, refl, ap, ◌∙◌, arith, inl, inr}
+use Rattle.std.proofs.Common.{◌≡◌, ℕ, zero, suc, ◌-◌, ◌<◌, List, [], ◌∷◌, ◌++◌, length, Ok, refl, arith, inl, inr}
 use Rattle.acpi_name.specs.Names.{NameParts}
 use Rattle.acpi_name.proofs.NameAgain.{name_long}
 use Rattle.acpi_tree.specs.declared.tree.Int.{Int}
@@ -8,9 +8,8 @@ use Rattle.acpi_code.specs.declared.opcode.Opcode.TheVariants as opcodes
 use Rattle.acpi_code.specs.Spelling.{SpellsInt, SpellsTermName}
 use Rattle.acpi_code.specs.steps.Reading.{name_in, opcode_at}
 use Rattle.acpi_code.specs.steps.Fields.{int_in}
-use Rattle.acpi_code.specs.Opcodes.{first_opcode}
-use Rattle.acpi_code.proofs.Readings.{Judge, judge_bind, judge_into, Source, Position, Read, stands_at}
-use Rattle.acpi_code.proofs.Opcodes.{opens_name, Opened, opcode_sound, begins}
+use Rattle.acpi_code.proofs.Readings.{Judge, judge_bind, judge_into, Source, Position, Read}
+use Rattle.acpi_code.proofs.Opcodes.{opens_name, Opened, opcode_sound, begins_there, begins}
 use Rattle.acpi_code.proofs.Names.{name_in_complete, term_name_sound, nothing_begins}
 use Rattle.acpi_code.proofs.Constants as constants
 use Rattle.acpi_terms.specs.Faults.{MustBegin}
@@ -54,7 +53,7 @@ int_sound s (suc level) end bytes h =
 source_by_sound : (s : Source) (level end : ℕ) (opcode : Opcode) (bytes rest : List ℕ) → MustBegin source_arg s.code (end - length bytes)
     → Position s.depth level s.code end bytes → Opened bytes (opcode, rest) → Judge (Read s level end SpellsTermName bytes) (Bad s) (source_by end bytes opcode)
 source_by_sound s level end opcodes.Name bytes rest must h o = part_sound s (Read s level end SpellsTermName bytes) (name_in end bytes) (term_name_sound s level end bytes rest h o)
-source_by_sound s level end opcodes.Nothing bytes rest must h o = inl (inl (nothing_begins _ (ap first_opcode (stands_at s level end bytes h) ∙ o.is_opcode h.after)))
+source_by_sound s level end opcodes.Nothing bytes rest must h o = inl (inl (nothing_begins _ (begins_there s level end bytes (opcodes.Nothing, rest) h o)))
 source_by_sound s level end (opcodes.Constant form) bytes rest must h o = inr (must, begins s level end bytes (opcodes.Constant form, rest) _ h o refl)
 source_by_sound s level end opcode bytes rest must h o = inl (begins s level end bytes (opcode, rest) _ h o refl)
 

@@ -1,5 +1,5 @@
 -- Data: what is spelled is read, what is read is spelled, or the fault is true.
-use Rattle.std.proofs.Common.{◌≡◌, ℕ, zero, suc, ◌-◌, ◌≤◌, ◌<◌, false, List, [], ◌∷◌, ◌++◌, length, Result, Ok, refl, ap, append_assoc, arith, ◌∙◌, inr}
+use Rattle.std.proofs.Common.{◌≡◌, ℕ, zero, suc, ◌-◌, ◌≤◌, ◌<◌, false, List, [], ◌∷◌, ◌++◌, length, Result, Ok, refl, ap, append_assoc, arith, ◌∙◌}
 use Rattle.acpi_name.specs.Names.{NameParts}
 use Rattle.acpi_name.proofs.NameAgain.{name_long}
 use Rattle.acpi_code.specs.declared.opcode.Opcode.{Opcode}
@@ -12,12 +12,12 @@ use Rattle.acpi_code.specs.Spelling.{SpellsInt, SpellsTermName, SpellsEach, Spel
 use Rattle.acpi_code.specs.steps.Reading.{opcode_at, name_in, string_at, constant_at, each_at}
 use Rattle.acpi_terms.proofs.Arguments.{packed_complete, packed_sound}
 use Rattle.acpi_code.specs.Forms.{byte_arg, int_arg}
-use Rattle.acpi_terms.specs.Spelling.{SpellsData, SpellsElem, SpellsElems, data_height, elem_height, elems_height}
+use Rattle.acpi_terms.specs.steps.Data.{SpellsData, SpellsElem, SpellsElems, data_height, elem_height, elems_height}
 use Rattle.acpi_terms.specs.steps.Reading.{Fault, bytes_in, data_by, elems_with, elem_at, data_at, string_data, buffer_data, package_data, var_package_data, elem_by, part}
 use Rattle.acpi_tree.specs.Tree.{DataTree, int, str, buffer, pkg, var_pkg, ElemTree, of_data, of_name, ElemTrees, no_elems, elem, elems_of}
 use Rattle.acpi_code.proofs.Constants.{form_of, int_long, int_opens, whole_constant}
 use Rattle.acpi_code.proofs.Strings.{string_complete, after_prefix, string_sound}
-use Rattle.acpi_code.proofs.Readings.{Judge, judge_bind, judge_up, Position, Source, Read, position_after, position_deeper, read_as, read_behind}
+use Rattle.acpi_code.proofs.Readings.{Judge, judge_bind, judge_up, Position, Source, Read, position_after, read_as, read_behind}
 use Rattle.acpi_terms.proofs.Parts.{Bad, deep_bad, part_sound}
 use Rattle.acpi_code.specs.declared.opcode.Opcode.TheVariants as opcodes
 

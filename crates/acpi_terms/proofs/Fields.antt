@@ -1,5 +1,5 @@
 -- Field elements among items: what is spelled is read, what is read is spelled, or the fault is true.
-use Rattle.std.proofs.Common.{◌≡◌, ℕ, ◌-◌, true, List, [], ◌++◌, length, Ok, refl, inl}
+use Rattle.std.proofs.Common.{◌≡◌, ℕ, ◌-◌, List, [], ◌++◌, length, Ok, refl, inl}
 use Rattle.acpi_tree.specs.Tree.{FieldTree}
 use Rattle.acpi_code.specs.Fields.{SpellsField, SpellsFields}
 use Rattle.acpi_code.specs.steps.Fields as codes
@@ -8,11 +8,12 @@ use Rattle.acpi_code.specs.declared.fault.CodeReason.{CodeReason}
 use Rattle.acpi_code.specs.declared.fault.CodeReason.TheVariants.{Cut, ReservedBits, BadName, Overrun, BadString, TooDeep}
 use Rattle.acpi_code.specs.declared.fault.ConstantFault.{ConstantFault}
 use Rattle.acpi_code.specs.declared.fault.ConstantFault.TheVariants.{Part, NotConstant}
-use Rattle.acpi_code.specs.declared.opcode.Opcode.{Opcode}
+use Rattle.acpi_tree.specs.declared.place.UnitsForm.{UnitsForm}
+use Rattle.acpi_code.specs.Forms.{units_opcode}
 use Rattle.acpi_code.specs.Faults.{IsElementOf, ShowsElementPart, ShowsElement}
 use Rattle.acpi_code.proofs.Fields.{ListBad, shown_at, first_element}
 use Rattle.acpi_code.proofs.Readings.{Judge, judge_told, Position, Source}
-use Rattle.acpi_terms.specs.Faults.{reason_of, has_fields, Awaits, IsItemElement, ShowsItems}
+use Rattle.acpi_terms.specs.Faults.{reason_of, Awaits, IsItemElement, ShowsItems}
 use Rattle.acpi_terms.specs.steps.Reading.{constant_fault, field_at, fields_in}
 use Rattle.acpi_terms.proofs.Parts.{Bad, constant_bad}
 
@@ -35,10 +36,10 @@ element_bad s (Part f) h = part_shows s.depth s.code f.reason f.place h
 element_bad s (NotConstant opcode place) h = constant_bad s (NotConstant opcode place) h.0
 
 -- the field list of a form, behind its fixed arguments
-pub fields_sound : (s : Source) (level end : ℕ) (opcode : Opcode) (bytes : List ℕ) → has_fields opcode ≡ true → Awaits opcode [] s.code (end - length bytes)
+pub fields_sound : (s : Source) (level end : ℕ) (form : UnitsForm) (bytes : List ℕ) → Awaits (units_opcode form) [] s.code (end - length bytes)
     → Position s.depth level s.code end bytes → Judge (λ es. SpellsFields es bytes) (Bad s) (fields_in end bytes)
-fields_sound s level end opcode bytes has w h =
+fields_sound s level end form bytes w h =
     let start = end - length bytes in
     judge_told (λ es. SpellsFields es bytes) (ListBad s start) (Bad s) constant_fault (codes.fields_in end bytes)
-    (λ f b. element_bad s f (shown_at (IsElementOf s.code start) (IsItemElement s.code) (λ k e. (opcode, has, start, w, e)) s.code f b))
+    (λ f b. element_bad s f (shown_at (IsElementOf s.code start) (IsItemElement s.code) (λ k e. (form, start, w, e)) s.code f b))
     (fields.fields_sound s level start end bytes (first_element s.code start) h)

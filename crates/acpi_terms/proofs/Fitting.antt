@@ -4,7 +4,9 @@ use Rattle.std.proofs.lemmas.Bool.{le-leb}
 use Rattle.acpi_code.specs.Spelling.{Packs}
 use Rattle.acpi_code.specs.Opcodes.{opcode_bytes}
 use Rattle.acpi_code.specs.Forms.{kind_opcode}
-use Rattle.acpi_terms.specs.Spelling.{SpellsData, SpellsElem, SpellsElems, SpellsExternal, SpellsItem, SpellsItems}
+use Rattle.acpi_terms.specs.Spelling.{data_grammar, SpellsExternal, SpellsItem, SpellsItems}
+use Rattle.acpi_terms.specs.steps.Data.{SpellsData, SpellsElem, SpellsElems}
+use Rattle.acpi_terms.proofs.DataSpelling.{spelled_data}
 use Rattle.acpi_tree.specs.Tree.{DataTree, int, str, buffer, pkg, var_pkg, ElemTree, of_data, of_name, ElemTrees, no_elems, elem, ExternalParts, ItemTree, name, scope, method, external, external_block, create, create_field, mutex, event, region, field, index_field, bank_field, ItemTrees, no_items, item}
 use Rattle.acpi_tree.specs.Fits.{data_fits, elem_fits, elems_fit, external_fits, item_fits, items_fit}
 use Rattle.acpi_code.proofs.Fitting.{AreBytes, both, parts, packed, term_name_fits, text_all, each_fits, fields_fit}
@@ -40,7 +42,7 @@ filled opcode a b bytes p all = (parts a b (a ++ b) refl (packed opcode (a ++ b)
 mutual
   item_fit : (i : ItemTree) (bytes : List ℕ) → SpellsItem i bytes → AreBytes bytes → item_fits i ≡ true
   item_fit (name n d) bytes h all =
-      let inner = (parts (8 ∷ []) (h.0 ++ h.1) bytes h.4 all).1 in data_fit d h.1 h.3 (parts h.0 h.1 (h.0 ++ h.1) refl inner).1
+      let inner = (parts (8 ∷ []) (h.0 ++ h.1) bytes h.4 all).1 in data_fit d h.1 (spelled_data data_grammar d h.1 h.3) (parts h.0 h.1 (h.0 ++ h.1) refl inner).1
   item_fit (scope kind n is) bytes h all = items_are_fit is h.1 h.3 (filled (opcode_bytes (kind_opcode kind)) h.0 h.1 bytes h.4 all)
   item_fit (method n flags code) bytes h all = refl
   item_fit (external x) bytes h all = external_fit x bytes h all

@@ -13,15 +13,18 @@ use Rattle.acpi_code.proofs.Names.{name_in_complete, name_sound}
 use Rattle.acpi_code.proofs.Opcodes.{opens, Opened, opcode_sound}
 use Rattle.acpi_code.specs.Faults.{has_package}
 use Rattle.acpi_code.proofs.Packages.{package_complete, GoodPackage, package_sound, deeper_package}
-use Rattle.acpi_code.specs.Opcodes.{width_bytes, opcode_bytes, is_spelled}
+use Rattle.acpi_code.specs.Opcodes.{width_bytes, opcode_bytes}
+use Rattle.acpi_code.specs.steps.Opcodes.{is_spelled}
 use Rattle.acpi_code.specs.Spelling.{SpellsEach, Packs}
 use Rattle.acpi_code.specs.steps.Reading.{◌>>=◌, opcode_at, name_in, Package, package_at, each_at}
 use Rattle.acpi_terms.proofs.Arguments.{arguments_height, plain_complete, packed_complete, awaits_all, plain_sound, packed_sound}
+use Rattle.acpi_terms.proofs.DataSpelling.{data_spelled, spelled_data, data_levels}
 use Rattle.acpi_terms.proofs.DataTrees.{data_complete, DataWithin, data_sound, opens_with}
 use Rattle.acpi_terms.proofs.Fields.{fields_complete, fields_sound}
 use Rattle.acpi_code.specs.Fields.{SpellsFields}
 use Rattle.acpi_code.specs.Forms.{fixed_arguments, ArgumentsOf, kind_opcode, kind_arguments}
-use Rattle.acpi_terms.specs.Spelling.{SpellsArguments, SpellsExternal, SpellsItem, SpellsItems, data_height, block_height, item_height, items_height, SpellsFilled, SpellsForm}
+use Rattle.acpi_terms.specs.steps.Data.{data_height}
+use Rattle.acpi_terms.specs.Spelling.{data_grammar, SpellsArguments, SpellsExternal, SpellsItem, SpellsItems, block_height, item_height, items_height, SpellsFilled, SpellsForm}
 use Rattle.acpi_terms.specs.steps.Reading.{Fault, fields_in, bytes_in, plain_at, packed_at, parts_at, block_content, item_by, items_with, item_at, items_at, fault_at, data_at, block_fault, in_block, name_item, block_item, part}
 use Rattle.acpi_terms.proofs.ScopeKinds.{kind_form}
 use Rattle.acpi_terms.proofs.Blocks.{parts_complete, content_complete, BlockShows, BlockBad, InBlock, content_sound, no_block, failed, parts_sound}
@@ -29,11 +32,12 @@ use Rattle.acpi_table.specs.PkgLength.{SpellsPkgLength}
 use Rattle.acpi_name.specs.Spelling.{SpellsName}
 use Rattle.acpi_terms.specs.declared.fault.ItemReason.{ItemReason}
 use Rattle.acpi_terms.specs.declared.fault.ItemReason.TheVariants.{BadOpcode, Alias, ModuleIf, ModuleCode, Load, TooDeep, DataRegion}
-use Rattle.acpi_code.proofs.Readings.{Judge, judge_bind, judge_up, Position, Source, Read, stands_at, position_after, position_deeper, read_as}
+use Rattle.acpi_code.proofs.Readings.{Judge, judge_bind, judge_up, Position, Source, Read, stands_at, position_deeper, read_as}
 use Rattle.acpi_terms.proofs.Parts.{Bad, deep_bad, part_sound, refused}
 use Rattle.acpi_terms.specs.Faults.{operator_reason, Awaits, ShowsItems}
 use Rattle.acpi_code.specs.declared.opcode.Opcode.TheVariants as opcodes
 use Rattle.acpi_tree.specs.declared.tree.Width.TheVariants as widths
+use Rattle.acpi_tree.specs.declared.place.UnitsForm.TheVariants as units
 
 -- ==== what is spelled is read
 
@@ -70,7 +74,7 @@ packed_item opcode made inner Fills level end v x bytes rest some le form fills 
 name_item_complete : (level end : ℕ) (n : NameParts) (d : DataTree) (a rest : List ℕ) → SpellsItem (name n d) a → data_height d ≤ level → item_at (suc level) end (a ++ rest) ≡ Ok (name n d, rest)
 name_item_complete level end n d a rest h le =
     rw (h.4, append_assoc h.0 h.1 rest)
-    (opened level end opcodes.DeclareName (h.0 ++ (h.1 ++ rest)) refl ∙ rw (name_in_complete end n h.0 (h.1 ++ rest) h.2, data_complete d level end h.1 rest h.3 le) refl)
+    (opened level end opcodes.DeclareName (h.0 ++ (h.1 ++ rest)) refl ∙ rw (name_in_complete end n h.0 (h.1 ++ rest) h.2, data_complete d level end h.1 rest (spelled_data data_grammar d h.1 h.3) le) refl)
 
 block_complete : (level end : ℕ) (xs : List ExternalParts) (a rest : List ℕ) → SpellsItem (external_block xs) a → block_height xs ≤ suc level
     → item_at (suc level) end (a ++ rest) ≡ Ok (external_block xs, rest)
@@ -145,7 +149,7 @@ scope_complete kind level end n is a rest inside h =
 
 mutual
   one_complete : (i : ItemTree) (level end : ℕ) (a rest : List ℕ) → SpellsItem i a → item_height i ≤ suc level → item_at (suc level) end (a ++ rest) ≡ Ok (i, rest)
-  one_complete (name n d) level end a rest h le = name_item_complete level end n d a rest h (omega arith)
+  one_complete (name n d) level end a rest h le = name_item_complete level end n d a rest h (omega (arith, data_levels d))
   one_complete (scope kind n is) level end a rest h le =
       scope_complete kind level end n is a rest (λ b s. are_items level (end - length rest) is b (items_complete is level (end - length rest) b s (omega arith))) h
   one_complete (method n flags code) level end a rest h le =
@@ -262,7 +266,7 @@ name_item_sound s level end bytes rest is h =
     judge_bind (Read s level end (DataWithin level) n.1) G (Bad s) (data_at level end n.1) _ (data_sound s level end n.1 r.1) (λ d q.
     let t = r.0 in
     let u = q.0 in
-    (record { front = 8 ∷ (t.front ++ u.front); spells = ((t.front, u.front, t.spells, u.spells.0, refl), omega (arith, u.spells.1)); whole = rw (is, t.whole, u.whole) (simp append_assoc) }, q.1)))
+    (record { front = 8 ∷ (t.front ++ u.front); spells = ((t.front, u.front, t.spells, data_spelled data_grammar d.0 u.front u.spells.0, refl), omega (arith, u.spells.1, data_levels d.0)); whole = rw (is, t.whole, u.whole) (simp append_assoc) }, q.1)))
 
 plain_form : (s : Source) (level end : ℕ) (opcode : Opcode) (made : ArgumentsOf opcode → ItemTree) (bytes rest : List ℕ)
     (o : Opened bytes (opcode, rest)) → has_package opcode ≡ false → o.front ≡ opcode_bytes opcode → Position s.depth (suc level) s.code end bytes
@@ -331,13 +335,13 @@ item_by_sound s level end opcodes.Region bytes rest inner h o =
     (λ v front k le. (k, omega (arith, le)))
 item_by_sound s level end opcodes.Field bytes rest inner h o =
     packed_form s level end opcodes.Field (λ v es. field v.0 v.1.0 es) fields_in (λ es b. SpellsFields es b) bytes rest o refl o.told.1 h
-    (λ v x front a b k le fills p. ((a, b, k, fills, p), omega arith)) (λ end b w k. fields_sound s level end opcodes.Field b refl w k)
+    (λ v x front a b k le fills p. ((a, b, k, fills, p), omega arith)) (λ end b w k. fields_sound s level end units.Field b w k)
 item_by_sound s level end opcodes.IndexField bytes rest inner h o =
     packed_form s level end opcodes.IndexField (λ v es. index_field v.0 v.1.0 v.1.1.0 es) fields_in (λ es b. SpellsFields es b) bytes rest o refl o.told.1 h
-    (λ v x front a b k le fills p. ((a, b, k, fills, p), omega arith)) (λ end b w k. fields_sound s level end opcodes.IndexField b refl w k)
+    (λ v x front a b k le fills p. ((a, b, k, fills, p), omega arith)) (λ end b w k. fields_sound s level end units.IndexField b w k)
 item_by_sound s level end opcodes.BankField bytes rest inner h o =
     packed_form s level end opcodes.BankField (λ v es. bank_field v.0 v.1.0 v.1.1.0 v.1.1.1.0 es) fields_in (λ es b. SpellsFields es b) bytes rest o refl o.told.1 h
-    (λ v x front a b k le fills p. ((a, b, k, fills, p), omega (arith, le))) (λ end b w k. fields_sound s level end opcodes.BankField b refl w k)
+    (λ v x front a b k le fills p. ((a, b, k, fills, p), omega (arith, le))) (λ end b w k. fields_sound s level end units.BankField b w k)
 item_by_sound s level end opcodes.Device bytes rest inner h o =
     packed_form s level end opcodes.Device (λ v is. scope kinds.Device v.0 is) (items_with (item_at level)) (ItemsWithin level) bytes rest o refl o.told.1 h
     (λ v x front a b k le fills p. ((a, b, k, fills.0, p), omega (arith, fills.1))) (λ end b w k. inner end b k)

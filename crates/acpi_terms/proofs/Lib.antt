@@ -1,6 +1,7 @@
 pub mod Parts
 pub mod Constants
 pub mod Arguments
+pub mod DataSpelling
 pub mod DataTrees
 pub mod Fields
 pub mod Blocks

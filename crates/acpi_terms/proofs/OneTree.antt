@@ -4,7 +4,9 @@ use Rattle.acpi_tree.specs.Tree.{DataTree}
 use Rattle.acpi_terms.proofs.DataTrees.{data_complete}
 use Rattle.acpi_terms.proofs.Fields.{fields_complete}
 use Rattle.acpi_terms.proofs.Items.{code_complete}
-use Rattle.acpi_terms.specs.Spelling.{data_height, items_height}
+use Rattle.acpi_terms.specs.Spelling.{data_grammar, items_height}
+use Rattle.acpi_terms.specs.steps.Data.{data_height}
+use Rattle.acpi_terms.proofs.DataSpelling.{spelled_data}
 use Rattle.acpi_terms.specs.steps.Reading.{Fault}
 use Rattle.acpi_terms.specs.Laws.{OneItemTree, OneDataTree, OneFieldList}
 
@@ -26,7 +28,7 @@ one_item_tree code is js h k =
 pub one_data_tree : OneDataTree
 one_data_tree bytes d e h k =
     let level = data_height d + data_height e in
-    let both : alone d ≡ alone e = sym (data_complete d level 0 bytes [] h (omega arith)) ∙ data_complete e level 0 bytes [] k (omega arith) in
+    let both : alone d ≡ alone e = sym (data_complete d level 0 bytes [] (spelled_data data_grammar d bytes h) (omega arith)) ∙ data_complete e level 0 bytes [] (spelled_data data_grammar e bytes k) (omega arith) in
     let pair : end d ≡ end e = cc in
     ap (λ p. p.0) pair
 

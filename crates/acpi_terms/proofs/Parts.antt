@@ -1,5 +1,5 @@
 -- Readings of parts, with their faults as faults of items.
-use Rattle.std.proofs.Common.{◌≡◌, ℕ, ◌-◌, ◌<◌, List, [], length, Some, Result, Err, refl, ap, ◌∙◌, inl}
+use Rattle.std.proofs.Common.{◌≡◌, ℕ, ◌-◌, ◌<◌, List, [], length, Some, Result, Err, refl, inl}
 use Rattle.acpi_code.specs.declared.fault.CodeFault.{CodeFault}
 use Rattle.acpi_code.specs.declared.fault.ConstantFault.{ConstantFault}
 use Rattle.acpi_code.specs.declared.fault.ConstantFault.TheVariants.{Part, NotConstant}
@@ -9,15 +9,14 @@ use Rattle.acpi_code.specs.declared.fault.CodeReason.{CodeReason}
 use Rattle.acpi_code.specs.declared.fault.CodeReason.TheVariants as codes
 use Rattle.acpi_code.specs.declared.opcode.Opcode.{Opcode}
 use Rattle.acpi_code.specs.declared.opcode.Opcode.TheVariants as opcodes
-use Rattle.acpi_code.specs.Opcodes.{first_opcode}
 use Rattle.acpi_code.specs.Faults.{ShowsPart, ShowsConstant, ShowsElementPart, IsElementOf}
 use Rattle.acpi_code.specs.steps.Remaining.{Remaining}
 use Rattle.acpi_code.specs.steps.Reading.{◌>>=◌, Reading, with_fault, each_at, fault_at, no_level}
 use Rattle.acpi_code.specs.steps.Cursor.{Stops}
 use Rattle.acpi_code.proofs.Lists.{Turns, stopped}
 use Rattle.acpi_code.proofs.Constants.{NoConstant}
-use Rattle.acpi_code.proofs.Readings.{Judge, judge_told, Source, Position, Shown, stands_at, cut_shows, no_level_shows}
-use Rattle.acpi_code.proofs.Opcodes.{Opened}
+use Rattle.acpi_code.proofs.Readings.{Judge, judge_told, Source, Position, Shown, cut_shows, no_level_shows}
+use Rattle.acpi_code.proofs.Opcodes.{Opened, begins_there}
 use Rattle.acpi_terms.specs.declared.fault.ItemReason.{ItemReason}
 use Rattle.acpi_terms.specs.declared.fault.ItemFault.{ItemFault}
 use Rattle.acpi_terms.specs.declared.fault.ItemFault.TheVariants as errors
@@ -93,4 +92,4 @@ constant_sound s Good r h = judge_told Good (NoConstant s) (Bad s) constant_faul
 -- what begins there is refused by itself
 pub refused : (s : Source) (level end : ℕ) (bytes : List ℕ) (x : Opcode × List ℕ) (why : ItemReason) → Position s.depth level s.code end bytes
     → Opened bytes x → refusal x.0 ≡ Some why → Refused why s.code (end - length bytes)
-refused s level end bytes x why h o passes = (x.0, ap first_opcode (stands_at s level end bytes h) ∙ o.is_opcode h.after, passes)
+refused s level end bytes x why h o passes = (x.0, begins_there s level end bytes x h o, passes)

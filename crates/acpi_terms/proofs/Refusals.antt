@@ -1,12 +1,13 @@
 -- What is told of code that begins with items and goes on with a term that is refused by itself.
-use Rattle.std.proofs.Common.{◌≡◌, ℕ, zero, suc, ◌-◌, ◌≤◌, ◌<◌, Bool, true, false, cond, eqb, Option, Some, None, List, [], ◌∷◌, ◌++◌, length, Result, Ok, Err, refl, ap, append_assoc, arith}
+use Rattle.std.proofs.Common.{◌≡◌, ℕ, zero, suc, ◌-◌, ◌≤◌, ◌<◌, Option, Some, None, List, ◌++◌, length, Result, Err, refl, ap, append_assoc, arith}
 use Rattle.std.proofs.lemmas.List.{length-append}
 use Rattle.acpi_terms.specs.declared.fault.ItemReason.{ItemReason}
 use Rattle.acpi_code.specs.declared.opcode.Opcode.{Opcode}
 use Rattle.acpi_code.specs.declared.opcode.Opcode.TheVariants as opcodes
 use Rattle.acpi_code.proofs.Lists.{StopsAt, stops_here, stops_behind}
-use Rattle.acpi_code.specs.Opcodes.{plain_opcode_of, extended_opcode_of, extended_opcode, first_opcode}
-use Rattle.acpi_code.specs.steps.Reading.{Reading, byte_at, extended_opcode_at, opcode_at}
+use Rattle.acpi_code.specs.Opcodes.{BeginsWith}
+use Rattle.acpi_code.specs.steps.Reading.{Reading}
+use Rattle.acpi_code.proofs.Opcodes.{opcode_found, some_begin}
 use Rattle.acpi_terms.proofs.Items.{item_long, item_complete}
 use Rattle.acpi_terms.specs.Faults.{refusal, Refused}
 use Rattle.acpi_terms.specs.Spelling.{SpellsItems, items_height}
@@ -21,20 +22,6 @@ known_is x y e = cc
 
 none_known : {A : Type 0} (x : A) → None ≡ known x → ⊥
 none_known x e = cc
-
--- what begins there is read
-opcode_opens : (end : ℕ) (w : List ℕ) (first : Opcode) → first_opcode w ≡ known first → (rest : List ℕ) × (opcode_at end w ≡ Ok (first, rest))
-unfolding opcode_at byte_at
-opcode_opens end [] first e = absurd (none_known first e)
-opcode_opens end (b ∷ w) first e = by_test (eqb b 91) refl e
-  where
-    extended_opens : (w : List ℕ) → extended_opcode w ≡ known first → (rest : List ℕ) × (extended_opcode_at end w ≡ Ok (first, rest))
-    extended_opens [] e = absurd (none_known first e)
-    extended_opens (c ∷ w) e = (w, ap (λ (l : Opcode). Ok (l, w)) (known_is (extended_opcode_of c) first e))
-
-    by_test : (t : Bool) → eqb b 91 ≡ t → cond t (extended_opcode w) (known (plain_opcode_of b)) ≡ known first → (rest : List ℕ) × (opcode_at end (b ∷ w) ≡ Ok (first, rest))
-    by_test true d e = let r = extended_opens w e in (r.0, rw d r.1)
-    by_test false d e = (w, rw d (ap (λ (l : Opcode). Ok (l, w)) (known_is (plain_opcode_of b) first e)))
 
 abbrev stop : Fault → Reading Fault ItemTree
 stop f = Err f
@@ -63,15 +50,11 @@ refused_there inner level end w rest opcodes.IndexField why e = absurd (none_kno
 refused_there inner level end w rest opcodes.BankField why e = absurd (none_known why e)
 refused_there inner level end w rest term why e = told end w _ why e
 
-stops_there : (level end : ℕ) (w : List ℕ) (first : Opcode) (why : ItemReason) → first_opcode w ≡ known first → refusal first ≡ known why → item_at (suc level) end w ≡ Err (fault_at end w why)
+stops_there : (level end : ℕ) (w : List ℕ) (first : Opcode) (why : ItemReason) → BeginsWith first w → refusal first ≡ known why → item_at (suc level) end w ≡ Err (fault_at end w why)
 unfolding item_at
 stops_there level end w first why opens refuses =
-    let r = opcode_opens end w first opens in
+    let r = opcode_found end w first opens in
     rw r.1 (refused_there (items_with (item_at level)) level end w r.0 first why refuses)
-
-some_byte : (w : List ℕ) (first : Opcode) → first_opcode w ≡ known first → 0 < length w
-some_byte [] first e = absurd (none_known first e)
-some_byte (b ∷ w) first e = omega arith
 
 stops_behind_items : (is : ItemTrees) (level end : ℕ) (u w : List ℕ) (f : Fault) → SpellsItems is u → items_height is ≤ level → 0 < length w
     → item_at level end w ≡ Err f → StopsAt (item_at level end) (u ++ w) f
@@ -87,7 +70,7 @@ pub next_told : (depth : ℕ) (u w : List ℕ) (is : ItemTrees) (why : ItemReaso
 next_told zero u w is why some h le r = absurd (omega arith)
 next_told (suc level) u w is why some h le r =
     let end = length (u ++ w) in
-    let begins = some_byte w r.0 r.1 in
+    let begins = some_begin w r.0 r.1 in
     let stops = stops_there level end w r.0 why r.1 r.2 in
     let all = stops_behind_items is (suc level) end u w (fault_at end w why) h le begins stops end (omega arith) in
     let place : end - length w ≡ length u = omega (arith, length-append u w) in

@@ -4,7 +4,8 @@ use Rattle.acpi_name.specs.Names.{NameParts}
 use Rattle.acpi_tree.specs.declared.tree.ScopeKind.{ScopeKind}
 use Rattle.acpi_tree.specs.declared.tree.ScopeKind.TheVariants as kinds
 use Rattle.acpi_tree.specs.Tree.{ItemTree, ItemTrees, scope}
-use Rattle.acpi_code.specs.Opcodes.{opcode_bytes, is_spelled}
+use Rattle.acpi_code.specs.Opcodes.{opcode_bytes}
+use Rattle.acpi_code.specs.steps.Opcodes.{is_spelled}
 use Rattle.acpi_code.specs.Forms.{fixed_arguments, ArgumentsOf, kind_opcode, kind_arguments}
 use Rattle.acpi_terms.specs.steps.ScopeBlocks.{opens_items}
 use Rattle.acpi_terms.specs.steps.Reading.{Fault, packed_at, item_by}

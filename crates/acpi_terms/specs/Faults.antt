@@ -1,7 +1,8 @@
 -- What a fault shows of the code (ACPI 6.5, 20.2).
-use Rattle.std.specs.Prelude.{◌≡◌, ◌⊎◌, ◌+◌, ◌<◌, ℕ, true, false, Bool, Option, Some, None, List, [], ◌∷◌, ◌++◌, length, drop, Result, Ok, Err, if◌then◌else◌}
+use Rattle.std.specs.Prelude.{◌≡◌, ◌⊎◌, ◌+◌, ◌<◌, ℕ, not, ◌||◌, Option, Some, None, List, [], ◌∷◌, ◌++◌, length, drop, Result, Ok, Err, if◌then◌else◌}
 use Rattle.acpi_table.specs.PkgLength.{SpellsPkgLength}
 use Rattle.acpi_tree.specs.declared.op.Op.{Op}
+use Rattle.acpi_tree.specs.declared.place.UnitsForm.{UnitsForm}
 use Rattle.acpi_tree.specs.Operators.{is_load}
 use Rattle.acpi_tree.specs.Tree.{ExternalParts}
 use Rattle.acpi_code.specs.declared.opcode.Opcode.{Opcode}
@@ -13,14 +14,14 @@ use Rattle.acpi_code.specs.declared.fault.ConstantFault.{ConstantFault}
 use Rattle.acpi_code.specs.declared.fault.ConstantFault.TheVariants.{Part, NotConstant}
 use Rattle.acpi_code.specs.declared.fault.FieldFault.{FieldFault}
 use Rattle.acpi_code.specs.declared.fault.FieldFault.TheVariants as fields
-use Rattle.acpi_code.specs.Opcodes.{first_opcode}
+use Rattle.acpi_code.specs.Opcodes.{BeginsWith, is_simple_name_opcode, is_constant, is_data_opcode}
 use Rattle.acpi_code.specs.Spelling.{SpellsEach}
 use Rattle.acpi_code.specs.Faults.{ByteAt, Begins, IsElementOf, ShowsPart, ShowsElementPart, ShowsElement}
 use Rattle.acpi_terms.specs.declared.fault.ItemReason.{ItemReason}
 use Rattle.acpi_terms.specs.declared.fault.ItemReason.TheVariants.{Cut, BadOpcode, ReservedBits, BadName, Overrun, Computed, Alias, ModuleIf, ModuleCode, Load, NotData, TooDeep, BadString, DataRegion}
 use Rattle.acpi_terms.specs.declared.fault.ItemFault.{ItemFault}
 use Rattle.acpi_terms.specs.declared.fault.ItemFault.TheVariants as errors
-use Rattle.acpi_code.specs.Forms.{source_arg, count_arg}
+use Rattle.acpi_code.specs.Forms.{source_arg, count_arg, units_opcode}
 use Rattle.acpi_terms.specs.Spelling.{SpellsExternal}
 pub use Rattle.acpi_code.specs.FixedArguments.{is_computed, IsLengthOf, Awaits, MustBegin}
 
@@ -52,19 +53,6 @@ field_fault_of fields.Memory = errors.Memory
 
 -- ---- what begins at a place (20.3)
 
-abbrev pub is_constant : Opcode → Bool
-is_constant (opcodes.Constant form) = true
-is_constant _ = false
-
--- no data
-abbrev pub is_no_data : Opcode → Bool
-is_no_data (opcodes.Constant form) = false
-is_no_data opcodes.Str = false
-is_no_data opcodes.Buffer = false
-is_no_data opcodes.Package = false
-is_no_data opcodes.VarPackage = false
-is_no_data _ = true
-
 -- why an operator is no item
 abbrev pub operator_reason : Op → ItemReason
 operator_reason op = if is_load op then Load else ModuleCode
@@ -76,36 +64,22 @@ refusal opcodes.Alias = Some Alias
 refusal opcodes.Else = Some ModuleIf
 refusal opcodes.While = Some ModuleIf
 refusal opcodes.DataRegion = Some DataRegion
-refusal opcodes.Name = Some ModuleCode
-refusal (opcodes.Constant form) = Some ModuleCode
-refusal opcodes.Str = Some ModuleCode
-refusal opcodes.Buffer = Some ModuleCode
-refusal opcodes.Package = Some ModuleCode
-refusal opcodes.VarPackage = Some ModuleCode
-refusal (opcodes.Local n) = Some ModuleCode
-refusal (opcodes.Arg n) = Some ModuleCode
 refusal opcodes.Debug = Some ModuleCode
 refusal (opcodes.Operator op) = Some (operator_reason op)
-refusal _ = None
+refusal o = if is_data_opcode o || is_simple_name_opcode o then Some ModuleCode else None
 
 -- such a term begins at the place
 abbrev pub Refused : ItemReason → List ℕ → ℕ → Type 0
 Refused why code place =
-    (lead : Opcode) × (first_opcode (drop place code) ≡ Some lead) × (refusal lead ≡ Some why)
+    (lead : Opcode) × BeginsWith lead (drop place code) × (refusal lead ≡ Some why)
 
 -- ---- what must begin at a place
 
--- the forms whose fixed arguments a field list follows (20.2.5.2)
-abbrev pub has_fields : Opcode → Bool
-has_fields opcodes.Field = true
-has_fields opcodes.IndexField = true
-has_fields opcodes.BankField = true
-has_fields _ = false
-
--- a field element must begin at the place: behind others, in the field list of a form
+-- a field element must begin at the place: behind others, in the field list of a form, behind its fixed arguments
+-- (20.2.5.2)
 abbrev pub IsItemElement : List ℕ → ℕ → Type 0
-IsItemElement code place = (opcode : Opcode) × (has_fields opcode ≡ true) × (start : ℕ)
-    × Awaits opcode [] code start × IsElementOf code start place
+IsItemElement code place = (form : UnitsForm) × (start : ℕ)
+    × Awaits (units_opcode form) [] code start × IsElementOf code start place
 
 -- ---- what a fault shows
 
@@ -141,7 +115,7 @@ ShowsItems depth code Alias place = Refused Alias code place
 ShowsItems depth code ModuleIf place = Refused ModuleIf code place ⊎ IsOtherIf (drop place code)
 ShowsItems depth code ModuleCode place = Refused ModuleCode code place
 ShowsItems depth code Load place = Refused Load code place
-ShowsItems depth code NotData place = Begins is_no_data code place
+ShowsItems depth code NotData place = Begins (λ o. not (is_data_opcode o)) code place
 ShowsItems depth code TooDeep place = ShowsPart depth code codes.TooDeep place
 ShowsItems depth code BadString place = ShowsPart depth code codes.BadString place
 ShowsItems depth code DataRegion place = Refused DataRegion code place

@@ -1,8 +1,10 @@
 -- Laws on what bytes spell.
 use Rattle.std.specs.Prelude.{◌≡◌, ℕ, List}
 use Rattle.acpi_tree.specs.Tree.{DataTree, FieldTree, ItemTrees}
+use Rattle.acpi_tree.specs.DataTerms.{data_term}
+use Rattle.acpi_values.specs.Spelling.{Spells}
 use Rattle.acpi_code.specs.Fields.{SpellsFields}
-use Rattle.acpi_terms.specs.Spelling.{SpellsData, SpellsItems}
+use Rattle.acpi_terms.specs.Spelling.{data_grammar, SpellsItems}
 
 -- at most one item tree stands for a code
 abbrev pub OneItemTree : Type 0
@@ -11,7 +13,8 @@ OneItemTree =
 
 -- at most one data tree is spelled by some bytes
 abbrev pub OneDataTree : Type 0
-OneDataTree = (bytes : List ℕ) (d e : DataTree) → SpellsData d bytes → SpellsData e bytes → d ≡ e
+OneDataTree = (bytes : List ℕ) (d e : DataTree) → Spells data_grammar (data_term d) bytes
+    → Spells data_grammar (data_term e) bytes → d ≡ e
 
 -- at most one list of field elements is spelled by some bytes
 abbrev pub OneFieldList : Type 0

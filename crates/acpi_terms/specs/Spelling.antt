@@ -1,41 +1,23 @@
 -- The bytes that spell a tree (ACPI 6.5, 20.2). A tree may have several spellings, since a package length
 -- and a name may be longer than needed.
-use Rattle.std.specs.Prelude.{◌≡◌, ℕ, suc, max, List, [], ◌∷◌, ◌++◌}
+use Rattle.std.specs.Prelude.{◌≡◌, ℕ, suc, max, List, [], ◌∷◌, ◌++◌, None}
 use Rattle.acpi_name.specs.Spelling.{SpellsName}
 use Rattle.acpi_code.specs.declared.opcode.Opcode.TheVariants as opcodes
 use Rattle.acpi_code.specs.Fields.{SpellsFields}
-use Rattle.acpi_code.specs.Spelling.{SpellsInt, SpellsTermName, SpellsText, SpellsEach, Packs}
-use Rattle.acpi_tree.specs.Tree.{DataTree, int, str, buffer, pkg, var_pkg, ElemTree, of_data, of_name, ElemTrees, no_elems, elem, ExternalParts, ItemTree, name, scope, method, external, external_block, create, create_field, mutex, event, region, field, index_field, bank_field, ItemTrees, no_items, item}
-use Rattle.acpi_code.specs.Forms.{fixed_arguments, kind_opcode, kind_arguments}
+use Rattle.acpi_code.specs.Spelling.{SpellsEach, Packs}
+use Rattle.acpi_tree.specs.DataTerms.{data_term}
+use Rattle.acpi_values.specs.Grammars.{Grammar, body_grammar}
+use Rattle.acpi_values.specs.Spelling.{Spells, height}
+use Rattle.acpi_tree.specs.Tree.{ExternalParts, ItemTree, name, scope, method, external, external_block, create, create_field, mutex, event, region, field, index_field, bank_field, ItemTrees, no_items, item}
+use Rattle.acpi_code.specs.Forms.{kind_opcode, kind_arguments}
 pub use Rattle.acpi_code.specs.FixedArguments.{SpellsArgument, SpellsArguments, SpellsPlain, SpellsPacked, SpellsForm, SpellsFilled, SpellsExternal}
 
 -- ---- data (20.2.3 and 20.2.5.4)
 
 -- DataObject := ComputationalData | DefPackage | DefVarPackage, with a ConstObj, a number or RevisionOp, a String or a
--- DefBuffer as ComputationalData (20.2.3). What stands in the packages of these is said above `fixed_arguments`.
-abbrev mutual
-  pub SpellsData : DataTree → List ℕ → Type 0
-  SpellsData (int i) bytes = SpellsInt i bytes
-  -- String := StringPrefix AsciiCharList NullChar, where StringPrefix := 0x0D (20.2.3)
-  SpellsData (str text) bytes = (b : List ℕ) × SpellsText text b × (bytes ≡ 0x0D ∷ b)
-  -- ByteList := Nothing | <ByteData ByteList> (20.2.3)
-  SpellsData (buffer size content) bytes =
-      SpellsFilled opcodes.Buffer (size, tt) (λ b. b ≡ content) bytes
-  SpellsData (pkg count es) bytes =
-      SpellsFilled opcodes.Package (count, tt) (λ b. SpellsElems es b) bytes
-  SpellsData (var_pkg count es) bytes =
-      SpellsFilled opcodes.VarPackage (count, tt) (λ b. SpellsElems es b) bytes
-
-  -- PackageElement := DataRefObject | NameString (20.2.5.4)
-  pub SpellsElem : ElemTree → List ℕ → Type 0
-  SpellsElem (of_data d) bytes = SpellsData d bytes
-  SpellsElem (of_name n) bytes = SpellsTermName n bytes
-
-  -- PackageElementList := Nothing | <PackageElement PackageElementList> (20.2.5.4)
-  pub SpellsElems : ElemTrees → List ℕ → Type 0
-  SpellsElems no_elems bytes = bytes ≡ []
-  SpellsElems (elem e es) bytes =
-      (a : List ℕ) × (b : List ℕ) × SpellsElem e a × SpellsElems es b × (bytes ≡ a ++ b)
+-- DefBuffer as ComputationalData (20.2.3). It is spelled as it is in a method body, where no name calls.
+abbrev pub data_grammar : Grammar
+data_grammar = body_grammar (λ n. None)
 
 -- ---- items (20.2.5.1 and 20.2.5.2)
 
@@ -45,7 +27,8 @@ abbrev mutual
   pub SpellsItem : ItemTree → List ℕ → Type 0
   -- DefName := NameOp NameString DataRefObject, where NameOp := 0x08 (20.2.5.1)
   SpellsItem (name n d) bytes =
-      (a : List ℕ) × (b : List ℕ) × SpellsName n a × SpellsData d b × (bytes ≡ 0x08 ∷ (a ++ b))
+      (a : List ℕ) × (b : List ℕ) × SpellsName n a × Spells data_grammar (data_term d) b
+      × (bytes ≡ 0x08 ∷ (a ++ b))
   SpellsItem (scope kind n is) bytes =
       SpellsFilled (kind_opcode kind) (kind_arguments kind n) (λ b. SpellsItems is b) bytes
   SpellsItem (method n flags code) bytes =
@@ -80,29 +63,13 @@ abbrev mutual
 -- of Create sources, flags and raw bytes, the 00 of a block, and field elements with all that stands in
 -- them have no level.
 
-abbrev mutual
-  pub data_height : DataTree → ℕ
-  data_height (int i) = 1
-  data_height (str text) = 1
-  data_height (buffer size content) = 2
-  data_height (pkg count es) = suc (elems_height es)
-  data_height (var_pkg count es) = suc (max 1 (elems_height es))
-
-  pub elem_height : ElemTree → ℕ
-  elem_height (of_data d) = data_height d
-  elem_height (of_name n) = 1
-
-  pub elems_height : ElemTrees → ℕ
-  elems_height no_elems = 0
-  elems_height (elem e es) = max (elem_height e) (elems_height es)
-
 abbrev pub block_height : List ExternalParts → ℕ
 block_height [] = 1
 block_height (x ∷ xs) = 2
 
 abbrev mutual
   pub item_height : ItemTree → ℕ
-  item_height (name n d) = suc (data_height d)
+  item_height (name n d) = suc (height (data_term d))
   item_height (scope kind n is) = suc (items_height is)
   item_height (method n flags code) = 1
   item_height (external x) = 1

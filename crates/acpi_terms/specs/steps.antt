@@ -1,3 +1,4 @@
+pub mod Data
 pub mod Reading
 pub mod Cursor
 pub mod ScopeBlocks

@@ -2,9 +2,10 @@
 
 ghost use Rattle.std.specs.Prelude.{◌≡◌, ◌++◌, codes, decimal};
 ghost use Rattle.acpi_tree.specs.Tree.{elems_of};
+ghost use Rattle.acpi_tree.specs.DataTerms.{data_term, elem_term, elem_terms};
 ghost use Rattle.acpi_tree.specs.View.{data_view, elem_view, elems_view};
 ghost use Rattle.acpi_text.specs.Constants.{int_text};
-ghost use Rattle.acpi_text.specs.Objects.{data_text, elem_text, elems_text};
+ghost use Rattle.acpi_text.specs.Terms.{braces_text, term_text, term_texts};
 
 use crate::bytes::{put_bytes, put_string};
 use crate::names::put_name;
@@ -32,7 +33,7 @@ pub(crate) fn put_count(text: &mut Text, count: u64)
 
 #[cycle(put_data)]
 fn put_elem(text: &mut Text, elem: &Elem)
-    ensures { text.new ≡ text.old ++ elem_text (elem_view elem.now) }
+    ensures { text.new ≡ text.old ++ term_text (elem_term (elem_view elem.now)) }
 {
     match elem {
         Elem::Data(data) => put_data(text, data),
@@ -43,7 +44,8 @@ fn put_elem(text: &mut Text, elem: &Elem)
 // Elements in braces.
 #[cycle(put_data)]
 fn put_elems(text: &mut Text, elems: &[Elem])
-    ensures { text.new ≡ text.old ++ elems_text (elems_of (elems_view elems.now)) }
+    ensures { text.new ≡ text.old
+        ++ braces_text (term_texts (elem_terms (elems_of (elems_view elems.now)))) }
 {
     match elems {
         [] => text.put("{}"),
@@ -63,7 +65,7 @@ fn put_elems(text: &mut Text, elems: &[Elem])
 /// `Buffer(0x02){01 02}`, `Package(2){Zero, \_SB_.PCI0}` or `VarPackage(0x02){One}`.
 #[cycle(put_data)]
 pub fn put_data(text: &mut Text, data: &Data)
-    ensures { text.new ≡ text.old ++ data_text (data_view «data».now) }
+    ensures { text.new ≡ text.old ++ term_text (data_term (data_view «data».now)) }
 {
     match data {
         Data::Int(int) => put_int(text, *int),

@@ -8,7 +8,7 @@ ghost use Rattle.acpi_tree.specs.TermView.{term_view, decl_view};
 ghost use Rattle.acpi_tree.specs.declared.place.NamedForm.TheVariants as named;
 ghost use Rattle.acpi_tree.specs.declared.place.UnitsForm.TheVariants as units;
 ghost use Rattle.acpi_text.specs.Terms.{braces_text, field_text, term_text, raw_text};
-ghost use Rattle.acpi_text.specs.Objects.{width_text};
+ghost use Rattle.acpi_text.specs.Terms.{width_text};
 
 use crate::fields::put_fields;
 use crate::names::put_name;

@@ -4,7 +4,8 @@ ghost use Rattle.std.specs.Prelude.{◌≡◌, ◌++◌};
 ghost use Rattle.acpi_tree.specs.View.{data_view};
 ghost use Rattle.acpi_tree.specs.Objects.{object_view, processor_object, power_object, region_object, mutex_object, field_object, create_object, create_field_object, name_object};
 ghost use Rattle.acpi_text.specs.Constants.{hex_digits, int_text};
-ghost use Rattle.acpi_text.specs.Objects.{method_text, form_text, bank_text, width_text, object_text};
+ghost use Rattle.acpi_text.specs.Objects.{method_text, form_text, bank_text, object_text};
+ghost use Rattle.acpi_text.specs.Terms.{width_text};
 
 use crate::data::put_data;
 use crate::numbers::{put_byte, put_dword, put_int, put_number, put_word};

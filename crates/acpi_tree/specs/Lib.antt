@@ -3,6 +3,7 @@ pub mod View
 pub mod Objects
 pub mod Operators
 pub mod Terms
+pub mod DataTerms
 pub mod Places
 pub mod TermFits
 pub mod TermView

@@ -1,11 +1,13 @@
 -- What the faults of places and of parts show of a body.
 use Rattle.std.proofs.Common.{◌≡◌, ℕ, ◌-◌, Bool, true, false, cond, ◌⊎◌, Option, Some, None, List, length, drop, Result, Ok, Err, refl, sym, ap, ◌∙◌, inl, inr}
-use Rattle.acpi_name.specs.Names.{Segment}
+use Rattle.acpi_name.specs.Names.{NameParts, Segment}
 use Rattle.acpi_tree.specs.Operators.{is_expression, is_reference}
 use Rattle.acpi_tree.specs.declared.op.Op.{Op}
 use Rattle.acpi_tree.specs.declared.place.Place.{Place}
 use Rattle.acpi_tree.specs.declared.place.Place.TheVariants.{Value, SuperName, SimpleName, Element, Data, Statement}
 use Rattle.acpi_tree.specs.declared.place.Place.TheVariants as places
+use Rattle.acpi_tree.specs.declared.place.UnitsForm.{UnitsForm}
+use Rattle.acpi_tree.specs.Terms.{TermTrees}
 use Rattle.acpi_code.specs.declared.fault.CodeFault.{CodeFault}
 use Rattle.acpi_code.specs.declared.fault.ConstantFault.{ConstantFault}
 use Rattle.acpi_code.specs.declared.fault.ConstantFault.TheVariants.{Part, NotConstant}
@@ -13,20 +15,23 @@ use Rattle.acpi_code.specs.declared.fault.CodeReason.{CodeReason}
 use Rattle.acpi_code.specs.declared.fault.CodeReason.TheVariants as codes
 use Rattle.acpi_code.specs.declared.opcode.Opcode.{Opcode}
 use Rattle.acpi_code.specs.declared.opcode.Opcode.TheVariants as opcodes
-use Rattle.acpi_code.specs.Opcodes.{first_opcode}
-use Rattle.acpi_code.specs.Faults.{Begins, is_no_constant, IsConnectionSize, IsElementOf, ShowsPart, ShowsElementPart, ShowsElement}
+use Rattle.acpi_code.specs.Opcodes.{BeginsWith, is_constant, is_other_data}
+use Rattle.acpi_code.specs.Forms.{units_opcode}
+use Rattle.acpi_code.specs.FixedArguments.{FollowsForm}
+use Rattle.acpi_code.specs.Faults.{Begins, IsConnectionSize, IsElementOf, ShowsPart, ShowsElementPart, ShowsElement}
 use Rattle.acpi_code.specs.Fields.{SpellsFields}
 use Rattle.acpi_code.specs.steps.Fields as fields
 use Rattle.acpi_code.proofs.Fields as elements
-use Rattle.acpi_code.proofs.Readings.{Judge, judge_told, Source, Position, Shown, stands_at}
-use Rattle.acpi_code.proofs.Opcodes.{Opened}
+use Rattle.acpi_code.proofs.Readings.{Judge, judge_told, Source, Position, Shown}
+use Rattle.acpi_code.proofs.Opcodes.{Opened, begins_there}
 use Rattle.acpi_values.specs.declared.fault.BodyReason.{BodyReason}
 use Rattle.acpi_values.specs.declared.fault.BodyReason.TheVariants.{BadOpcode, NotStatement, NotValue, NotTarget, LeftOut, NotData}
 use Rattle.acpi_values.specs.declared.fault.BodyFault.{BodyFault}
 use Rattle.acpi_values.specs.Arguments.{Arguments}
-use Rattle.acpi_values.specs.Grammars.{is_allowed}
+use Rattle.acpi_values.specs.Grammars.{Grammar, is_allowed}
+use Rattle.acpi_values.specs.Declarations.{AreUnitArguments}
 use Rattle.acpi_values.specs.Refusals.{load_refusal, refusal_at}
-use Rattle.acpi_values.specs.Faults.{reason_of, fault_of, constant_fault_of, IsMisplaced, BeginsFieldList, IsBodyElement, is_other_data, ShowsBody}
+use Rattle.acpi_values.specs.Faults.{reason_of, fault_of, constant_fault_of, IsMisplaced, IsBodyElement, ShowsBody}
 use Rattle.acpi_values.specs.steps.Reading.{part, fields_in, unless}
 
 -- ---- parts
@@ -59,7 +64,7 @@ element_shows args m depth code codes.Overrun place h = h
 element_shows args m depth code codes.BadString place h = absurd h
 element_shows args m depth code codes.TooDeep place h = absurd h
 
-no_size : (code : List ℕ) (opcode : Opcode) (place : ℕ) → is_no_constant opcode ≡ true → first_opcode (drop place code) ≡ Some opcode → IsConnectionSize code place
+no_size : (code : List ℕ) (opcode : Opcode) (place : ℕ) → is_constant opcode ≡ false → BeginsWith opcode (drop place code) → IsConnectionSize code place
     → IsMisplaced NotData (drop place code) ⊎ (IsConnectionSize code place × Begins is_other_data code place)
 no_size code (opcodes.Constant form) place computed begins size = absurd cc
 no_size code opcodes.Str place computed begins size = inr (size, (opcodes.Str, begins, refl))
@@ -73,12 +78,13 @@ element_bad args m s (Part f) h = element_shows args m s.depth s.code f.reason f
 element_bad args m s (NotConstant opcode place) h = no_size s.code opcode place h.0.1 h.0.0 h.1
 
 -- what is judged of a field list is judged of it in a body
-pub fields_sound : (args : Arguments) (m : List Segment) (s : Source) (level end : ℕ) (bytes : List ℕ) → BeginsFieldList s.code (end - length bytes) → Position s.depth level s.code end bytes
+pub fields_sound : (args : Arguments) (m : List Segment) (s : Source) (level end : ℕ) (g : Grammar) (form : UnitsForm) (ns : List NameParts) (vs : TermTrees) (bytes : List ℕ)
+    → FollowsForm (units_opcode form) (AreUnitArguments g form ns vs) s.code (end - length bytes) → Position s.depth level s.code end bytes
     → Judge (λ es. SpellsFields es bytes) (Bad args m s) (fields_in end bytes)
-fields_sound args m s level end bytes list h =
+fields_sound args m s level end g form ns vs bytes list h =
     let start = end - length bytes in
     judge_told (λ es. SpellsFields es bytes) (elements.ListBad s start) (Bad args m s) constant_fault_of (fields.fields_in end bytes)
-    (λ f b. element_bad args m s f (elements.shown_at (IsElementOf s.code start) (IsBodyElement s.code) (λ k e. (start, list, e)) s.code f b))
+    (λ f b. element_bad args m s f (elements.shown_at (IsElementOf s.code start) (IsBodyElement s.code) (λ k e. (g, (form, ns, vs, start, list, e))) s.code f b))
     (elements.fields_sound s level start end bytes (elements.first_element s.code start) h)
 
 -- ---- the reasons of places
@@ -159,4 +165,4 @@ unless_sound args m s loads level end bytes p x Good r h o k = by_refusal (refus
     by_refusal None is = k is
     by_refusal (Some why) is =
         shows_misplaced args m s why (end - length bytes) (ap of_place (sym is) ∙ refusals loads p x.0)
-        (record { kind = p; opcode = x.0; begins = ap first_opcode (stands_at s level end bytes h) ∙ o.is_opcode h.after; refused = in_body loads p x.0 why is })
+        (record { kind = p; opcode = x.0; begins = begins_there s level end bytes x h o; refused = in_body loads p x.0 why is })

@@ -1,20 +1,29 @@
--- The opcodes of declarations (ACPI 6.5, 20.2.5.1 and 20.2.5.2).
-use Rattle.acpi_tree.specs.declared.place.NamedForm.{NamedForm}
-use Rattle.acpi_tree.specs.declared.place.NamedForm.TheVariants as named
+-- The names and operands of declarations of field units, and the elements behind them (ACPI 6.5, 20.2.5.2).
+use Rattle.std.specs.Prelude.{◌≡◌, ℕ, List, ◌++◌, length}
+use Rattle.acpi_name.specs.Names.{NameParts}
+use Rattle.acpi_name.specs.Spelling.{SpellsName}
 use Rattle.acpi_tree.specs.declared.place.UnitsForm.{UnitsForm}
-use Rattle.acpi_tree.specs.declared.place.UnitsForm.TheVariants as units
-use Rattle.acpi_code.specs.declared.opcode.Opcode.{Opcode}
-use Rattle.acpi_code.specs.declared.opcode.Opcode.TheVariants as opcodes
+use Rattle.acpi_tree.specs.Operators.{names_of_units, operands_of_units}
+use Rattle.acpi_tree.specs.Terms.{TermTrees}
+use Rattle.acpi_code.specs.Forms.{units_opcode}
+use Rattle.acpi_code.specs.Faults.{IsElementOf}
+use Rattle.acpi_code.specs.FixedArguments.{FollowsForm}
+use Rattle.acpi_code.specs.Spelling.{SpellsEach}
+use Rattle.acpi_values.specs.Grammars.{Grammar}
+use Rattle.acpi_values.specs.Spelling.{AreOperands}
 
-abbrev pub named_opcode : NamedForm → Opcode
-named_opcode named.Name = opcodes.DeclareName
-named_opcode (named.Create w) = opcodes.Create w
-named_opcode named.CreateField = opcodes.CreateField
-named_opcode named.Region = opcodes.Region
-named_opcode named.Mutex = opcodes.Mutex
-named_opcode named.Event = opcodes.Event
+-- its names, and behind them its operands
+pub record AreUnitArguments (g : Grammar) (form : UnitsForm) (ns : List NameParts)
+    (vs : TermTrees) (bytes : List ℕ) : Type 0 where
+  pub names : List ℕ
+  pub operands : List ℕ
+  pub all_names : length ns ≡ names_of_units form
+  pub are_names : SpellsEach SpellsName ns names
+  pub are_operands : AreOperands g (operands_of_units form) vs operands
+  pub whole : bytes ≡ names ++ operands
 
-abbrev pub units_opcode : UnitsForm → Opcode
-units_opcode units.Field = opcodes.Field
-units_opcode units.IndexField = opcodes.IndexField
-units_opcode units.BankField = opcodes.BankField
+-- a field element must begin at the place: behind others, in the field list that follows names and operands
+abbrev pub IsUnitElement : Grammar → List ℕ → ℕ → Type 0
+IsUnitElement g code place = (form : UnitsForm) × (ns : List NameParts) × (vs : TermTrees)
+    × (start : ℕ) × FollowsForm (units_opcode form) (AreUnitArguments g form ns vs) code start
+    × IsElementOf code start place

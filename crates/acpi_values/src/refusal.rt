@@ -1,7 +1,8 @@
 //! What may not stand where.
 
-ghost use Rattle.std.specs.Prelude.{◌≡◌};
-ghost use Rattle.acpi_values.specs.Refusals.{load_refusal, value_refusal, simple_name_refusal, super_name_refusal, data_refusal, element_refusal, statement_refusal, refusal_at};
+ghost use Rattle.std.specs.Prelude.{◌≡◌, false};
+ghost use Rattle.acpi_tree.specs.declared.place.Place.TheVariants as places;
+ghost use Rattle.acpi_values.specs.Refusals.{load_refusal, value_refusal, statement_refusal, refusal_at};
 
 use crate::fault::BodyReason;
 use acpi_code::Opcode;
@@ -56,7 +57,7 @@ fn of_value(loads: bool, opcode: Opcode) -> Option<BodyReason>
 }
 
 fn of_simple_name(opcode: Opcode) -> Option<BodyReason>
-    ensures { result ≡ simple_name_refusal opcode }
+    ensures { result ≡ refusal_at false places.SimpleName opcode }
 {
     match opcode {
         Opcode::Name => None,
@@ -67,7 +68,7 @@ fn of_simple_name(opcode: Opcode) -> Option<BodyReason>
 }
 
 fn of_super_name(opcode: Opcode) -> Option<BodyReason>
-    ensures { result ≡ super_name_refusal opcode }
+    ensures { result ≡ refusal_at false places.SuperName opcode }
 {
     match opcode {
         Opcode::Debug => None,
@@ -83,7 +84,7 @@ fn of_super_name(opcode: Opcode) -> Option<BodyReason>
 }
 
 fn of_data(opcode: Opcode) -> Option<BodyReason>
-    ensures { result ≡ data_refusal opcode }
+    ensures { result ≡ refusal_at false places.Data opcode }
 {
     match opcode {
         Opcode::Constant(_) => None,
@@ -96,7 +97,7 @@ fn of_data(opcode: Opcode) -> Option<BodyReason>
 }
 
 fn of_element(opcode: Opcode) -> Option<BodyReason>
-    ensures { result ≡ element_refusal opcode }
+    ensures { result ≡ refusal_at false places.Element opcode }
 {
     match opcode {
         Opcode::Name => None,

@@ -15,7 +15,7 @@ use Rattle.acpi_order.specs.Verdicts.{not_alone, DsdtLoads, AllAlone, IsReasonAt
 use Rattle.acpi_order.proofs.Told.{each_order_loads}
 use Rattle.acpi_verdict.specs.declared.clashes.Clash.{Clash}
 use Rattle.acpi_verdict.specs.declared.ssdt_paths.SsdtPaths.{SsdtPaths}
-use Rattle.acpi_verdict.specs.declared.findings.Findings.{Findings}
+use Rattle.acpi_verdict.specs.declared.findings.PairFindings.{PairFindings}
 use Rattle.acpi_verdict.specs.declared.verdicts.Checked.{Checked}
 use Rattle.acpi_verdict.specs.declared.verdicts.Satisfied.{Satisfied}
 use Rattle.acpi_verdict.specs.declared.verdicts.Verdict.{Verdict}
@@ -56,7 +56,7 @@ not_all_alone depth dsdt ssdts i reason h all =
 
 -- ---- what is found
 
-module _ (depth : ℕ) (dsdt : List ℕ) (ssdts : List (List ℕ)) (loads : DsdtLoads depth dsdt) (d : SsdtPaths) (declared : AreDeclared depth dsdt ssdts d) (f : Findings)
+module _ (depth : ℕ) (dsdt : List ℕ) (ssdts : List (List ℕ)) (loads : DsdtLoads depth dsdt) (d : SsdtPaths) (declared : AreDeclared depth dsdt ssdts d) (f : PairFindings)
     (found : AreFound depth dsdt ssdts d.definers f) where
   same_at : (o : Option Clash) → d.same ≡ o → IsLeastOf (IsSame depth dsdt ssdts) o
   same_at o is = subst (λ (x : Option Clash). IsLeastOf (IsSame depth dsdt ssdts) x) is declared.same

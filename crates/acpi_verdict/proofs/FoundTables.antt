@@ -23,7 +23,7 @@ use Rattle.acpi_order.proofs.Singles.{one_ssdt}
 use Rattle.acpi_verdict.specs.declared.clashes.Clash.{Clash}
 use Rattle.acpi_verdict.specs.declared.definers.Definer.{Definer}
 use Rattle.acpi_verdict.specs.declared.definers.Definers.{Definers}
-use Rattle.acpi_verdict.specs.declared.findings.Findings.{Findings}
+use Rattle.acpi_verdict.specs.declared.findings.PairFindings.{PairFindings}
 use Rattle.acpi_verdict.specs.declared.verdicts.Satisfied.{Satisfied}
 use Rattle.acpi_verdict.specs.SatisfiedView.{satisfied_cmp}
 use Rattle.acpi_verdict.specs.steps.Clashing.{Clashes, IsLeastOf}
@@ -57,7 +57,7 @@ definer_takes depth dsdt ssdts p x h n = ap (λ a. are_args a n) (sym h.args_are
 noted_wanted : (d : Definers) → AreFirst d → (p : List Segment) (x : Definer) → IsNoted d p x → IsTrue (is_defined d.first p)
 noted_wanted d firsts p x k = ap is_some (firsts p x k).1
 
-module _ (depth : ℕ) (dsdt b : List ℕ) (d : Definers) (firsts : AreFirst d) (number : ℕ) (pair : PairTree) (tells : AreLoadMisses (is_defined d.first) depth dsdt b pair) (old new : Findings)
+module _ (depth : ℕ) (dsdt b : List ℕ) (d : Definers) (firsts : AreFirst d) (number : ℕ) (pair : PairTree) (tells : AreLoadMisses (is_defined d.first) depth dsdt b pair) (old new : PairFindings)
     (finds : FindsPair d number pair old new) where
   abbrev first : Listing
   first = tells.first
@@ -191,7 +191,7 @@ module _ (depth : ℕ) (dsdt : List ℕ) (ssdts : List (List ℕ)) (d : Definers
           puts_ascend start now (IsSatisfiedOf d 0 (entries alone)) puts (subst (IsStrictlySortedBy satisfied_cmp) (sym none) tt)
           (λ a b m h. absurd (subst (λ (l : List Satisfied). Among l a) none m))
 
-      pub none_found : (f : Findings) → f.clash ≡ None → f.satisfied.items ≡ now → AreFoundTo depth dsdt ssdts d 0 f
+      pub none_found : (f : PairFindings) → f.clash ≡ None → f.satisfied.items ≡ now → AreFoundTo depth dsdt ssdts d 0 f
       none_found f no_clash is_now = record {
         clash = subst (λ (o : Option Clash). IsLeastOf (λ i j p. IsUnmetAt depth dsdt ssdts d.first i j p × (i ≤ 0)) o) (sym no_clash) (λ i j p h. none_yet i j p h.0 h.1);
         ascend = subst (IsStrictlySortedBy satisfied_cmp) (sym is_now) first_ascend;
@@ -207,7 +207,7 @@ module _ (depth : ℕ) (dsdt : List ℕ) (ssdts : List (List ℕ)) (d : Definers
   up_to : (k n : ℕ) → k ≤ n + 1 → (k ≤ n) ⊎ (k ≡ n + 1)
   up_to k n h = grind arith
 
-  module _ (n : ℕ) (b : List ℕ) (is_ssdt : IsSsdt ssdts (n + 1) b) (f now : Findings) (before : AreFoundTo depth dsdt ssdts d n f) (finds : FindsSsdt depth dsdt b d (n + 1) f now) where
+  module _ (n : ℕ) (b : List ℕ) (is_ssdt : IsSsdt ssdts (n + 1) b) (f now : PairFindings) (before : AreFoundTo depth dsdt ssdts d n f) (finds : FindsSsdt depth dsdt b d (n + 1) f now) where
     abbrev this : Listing
     this = finds.first
 
@@ -312,7 +312,7 @@ module _ (depth : ℕ) (dsdt : List ℕ) (ssdts : List (List ℕ)) (d : Definers
       by zero a = omega arith
       by (suc i) a = ssdt_within ssdts (suc i) a.2.0 a.2.1
 
-  pub all_found : (n : ℕ) (f : Findings) → length ssdts ≤ n → AreFoundTo depth dsdt ssdts d n f → AreFound depth dsdt ssdts d f
+  pub all_found : (n : ℕ) (f : PairFindings) → length ssdts ≤ n → AreFoundTo depth dsdt ssdts d n f → AreFound depth dsdt ssdts d f
   all_found n f all h = record {
     clash = least_same (λ i j p. IsUnmetAt depth dsdt ssdts d.first i j p × (i ≤ n)) (IsUnmetAt depth dsdt ssdts d.first) (λ i j p k. k.0)
         (λ i j p k. (k, let within = ssdt_within ssdts i k.0 k.3 in omega arith)) f.clash h.clash;

@@ -13,7 +13,7 @@ ghost use Rattle.acpi_verdict.specs.steps.Checking.{IsChecked, verdict_from};
 ghost use Rattle.acpi_verdict.specs.steps.Declaring.{AreDeclared};
 
 use crate::clashes::Clash;
-use crate::findings::{Findings, find_all};
+use crate::findings::{PairFindings, find_all};
 use crate::ssdt_paths::{SsdtPaths, lay_all_overlays};
 use crate::verdicts::{Checked, Verdict};
 use acpi_declare::{Declaring, LoadFault};
@@ -75,7 +75,7 @@ fn checked_declared<S: Space<Object>>(
         → AreDeclared depth bytes ssdts.now declared → IfErr result (λ e. e ≡ LoadFault.Memory) }
 {
     let SsdtPaths { definers, same } = declared;
-    let Findings { clash, satisfied } = find_all(alloc, dsdt, ssdts, depth, &definers)?;
+    let PairFindings { clash, satisfied } = find_all(alloc, dsdt, ssdts, depth, &definers)?;
     let verdict = verdict_of(same, clash);
     Ok(Checked { verdict, satisfied })
 }

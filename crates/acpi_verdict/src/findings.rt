@@ -27,7 +27,7 @@ use std::alloc::{AllocError, Global};
 
 /// What the loads of SSDTs over a DSDT tell of one another.
 #[derive(Drop)]
-pub(crate) struct Findings {
+pub(crate) struct PairFindings {
     /// The first two of which the load of the one missed what the other declares, where no two declare one path.
     pub(crate) clash: Option<Clash>,
     /// The Externals that SSDTs satisfy, by user, definer and path.
@@ -37,7 +37,7 @@ pub(crate) struct Findings {
 // Adds what the load of the SSDT of that number missed and awaits.
 fn add_pair(
     alloc: Global,
-    found: &mut Findings,
+    found: &mut PairFindings,
     definers: &Definers,
     number: usize,
     pair: &PairMisses<'_>,
@@ -63,7 +63,7 @@ fn add_pair(
 // Adds what the load of the SSDT of that number tells.
 fn record_findings<S: Space<Object>>(
     alloc: Global,
-    found: &mut Findings,
+    found: &mut PairFindings,
     dsdt: &Declaring<S>,
     number: usize,
     ssdt: &Bytes,
@@ -103,7 +103,7 @@ pub(crate) fn find_all<S: Space<Object>>(
     ssdts: &[Bytes],
     depth: Depth,
     definers: &Definers,
-) -> Result<Findings, LoadFault>
+) -> Result<PairFindings, LoadFault>
     ensures ok { (bytes : List ℕ) → HasTables depth (bytes ∷ []) (state_of S.contents dsdt.now)
         → AreDefiners depth bytes ssdts.now definers.now
         → IfOk result (λ f. AreFound depth bytes ssdts.now definers.now f) }
@@ -115,7 +115,7 @@ pub(crate) fn find_all<S: Space<Object>>(
     let alone = DsdtMisses { misses, affected };
     let mut satisfied = Vec::new(alloc);
     put_user(alloc, &mut satisfied, definers, 0, &alone.misses.awaited)?;
-    let mut found = Findings {
+    let mut found = PairFindings {
         clash: None,
         satisfied,
     };

@@ -13,8 +13,10 @@ use Rattle.acpi_tree.specs.declared.term.Term.{Term}
 use Rattle.acpi_tree.specs.Tree.{elems_of}
 use Rattle.acpi_tree.specs.Terms.{terms_of}
 use Rattle.acpi_tree.specs.TermView.{term_view, terms_tree, operand_view, operands_view}
+use Rattle.acpi_tree.specs.DataTerms.{elem_term, elem_terms}
 use Rattle.acpi_tree.specs.View.{elem_view, elems_view, item_view, items_tree}
-use Rattle.acpi_write.specs.Canonical.{each_bytes, elem_bytes, elems_bytes, item_bytes, items_bytes}
+use Rattle.acpi_write.specs.Canonical.{each_bytes}
+use Rattle.acpi_write.specs.CanonicalItems.{item_bytes, items_bytes}
 use Rattle.acpi_write.specs.CanonicalTerms.{term_bytes, terms_bytes}
 use Rattle.acpi_write.specs.steps.Writing.{Puts, Ahead, argument_piece, pieces}
 
@@ -99,9 +101,9 @@ pub each_map : {A B : Type 0} (f : B → Bytes) (g : A → B) (xs : List A) → 
 each_map f g [] = refl
 each_map f g (x ∷ xs) = ap (option_append (f (g x))) (each_map f g xs)
 
-pub elems_each : (xs : List Elem) → elems_bytes (elems_of (elems_view xs)) ≡ each_bytes (λ x. elem_bytes (elem_view x)) xs
+pub elems_each : (xs : List Elem) → terms_bytes (elem_terms (elems_of (elems_view xs))) ≡ each_bytes (λ x. term_bytes (elem_term (elem_view x))) xs
 elems_each [] = refl
-elems_each (x ∷ xs) = ap (option_append (elem_bytes (elem_view x))) (elems_each xs)
+elems_each (x ∷ xs) = ap (option_append (term_bytes (elem_term (elem_view x)))) (elems_each xs)
 
 pub items_each : (xs : List Item) → items_bytes (items_tree xs) ≡ each_bytes (λ x. item_bytes (item_view x)) xs
 items_each [] = refl

@@ -1,8 +1,11 @@
 pub mod Fronts
 pub mod Declared
+pub mod DataForms
 pub mod Framed
 pub mod Written
 pub mod TermsWritten
+pub mod ItemsWritten
 pub mod Shorter
 pub mod TermsShorter
+pub mod ItemsShorter
 pub mod Seen

@@ -9,10 +9,10 @@ use Rattle.acpi_tree.specs.declared.term.Operand.{Operand}
 use Rattle.acpi_tree.specs.declared.term.Term.{Term}
 use Rattle.acpi_tree.specs.Tree.{elems_of}
 use Rattle.acpi_tree.specs.Terms.{terms_of}
+use Rattle.acpi_tree.specs.DataTerms.{elem_term, elem_terms}
 use Rattle.acpi_tree.specs.View.{elem_view, elems_view, item_view, items_tree}
 use Rattle.acpi_tree.specs.TermView.{term_view, terms_tree, operand_view, operands_view}
-use Rattle.acpi_write.specs.Laws.{IsElemTyped, AreElemsTyped, IsItemTyped, AreItemsTyped}
-use Rattle.acpi_write.specs.TermLaws.{IsTermTyped, AreTermsTyped}
+use Rattle.acpi_write.specs.Laws.{IsItemTyped, AreItemsTyped, IsTermTyped, AreTermsTyped}
 
 module _ {A : Type 0} (P : A → Type 0) where
   -- it holds of the elements from the i-th on
@@ -36,7 +36,7 @@ pub seen_map : {A B : Type 0} (P : B → Type 0) (f : A → B) (xs : List A) →
 seen_map P f [] h = tt
 seen_map P f (x ∷ xs) h = (h.0, seen_map P f xs h.1)
 
-pub seen_elems : (xs : List Elem) → AllByRecursion (λ x. IsElemTyped (elem_view x)) xs → AreElemsTyped (elems_of (elems_view xs))
+pub seen_elems : (xs : List Elem) → AllByRecursion (λ x. IsTermTyped (elem_term (elem_view x))) xs → AreTermsTyped (elem_terms (elems_of (elems_view xs)))
 seen_elems [] h = tt
 seen_elems (x ∷ xs) h = (h.0, seen_elems xs h.1)
 

@@ -1,7 +1,7 @@
--- No spelling is shorter: parts and items.
-use Rattle.std.proofs.Common.{◌≡◌, ◌<◌, ◌≤◌, ◌+◌, ◌^◌, ℕ, zero, suc, Bool, true, false, cond, ltb, List, [], ◌∷◌, ◌++◌, length, slice_index, Option, Some, None, All, refl, sym, ap, subst, arith}
+-- No spelling is shorter: the parts of forms.
+use Rattle.std.proofs.Common.{◌≡◌, ◌<◌, ◌≤◌, ◌+◌, ◌^◌, ℕ, zero, suc, Bool, true, false, cond, ltb, List, [], ◌∷◌, ◌++◌, length, slice_index, Option, Some, None, All, refl, ap, subst, arith}
 use Rattle.std.proofs.lemmas.List.{length-append}
-use Rattle.std.proofs.lemmas.List.Elements.{All-from_recursion, recursion_from_All}
+use Rattle.std.proofs.lemmas.List.Elements.{All-from_recursion}
 use Rattle.std.proofs.lemmas.Bool.{ltb-true, ltb-false, le-leb}
 use Rattle.std.specs.List.{AllByRecursion}
 use Rattle.std.specs.Fmt.{option_append}
@@ -11,20 +11,17 @@ use Rattle.acpi_name.specs.Spelling.{name_bytes}
 use Rattle.acpi_name.proofs.NameWritten.{name_shortest}
 use Rattle.acpi_table.specs.PkgLength.{SpellsPkgLength, shortest_pkg_length, package_number}
 use Rattle.acpi_table.proofs.PkgLengths.{number_counts, number_least, shortest_least, spelled_fits, Fits}
-use Rattle.acpi_code.specs.declared.opcode.Opcode.{Opcode}
-use Rattle.acpi_code.specs.declared.opcode.Opcode.TheVariants as opcodes
-use Rattle.acpi_code.specs.Opcodes.{opcode_bytes}
 use Rattle.acpi_code.specs.Fields.{SpellsField, SpellsFields}
 use Rattle.acpi_code.specs.Spelling.{SpellsNumber, SpellsInt, SpellsEach, Packs}
 use Rattle.acpi_code.proofs.Fitting.{AreBytes, parts, packed}
 use Rattle.acpi_tree.specs.declared.tree.Int.{Int}
 use Rattle.acpi_tree.specs.declared.tree.Int.TheVariants.{Zero, One, Ones, Revision, Byte, Word, DWord, QWord}
-use Rattle.acpi_tree.specs.Tree.{DataTree, int, str, buffer, pkg, var_pkg, ElemTree, of_data, of_name, ElemTrees, no_elems, elem, FieldTree, unit, reserved, access, connect_name, connect_buffer, extended, ExternalParts, ItemTree, name, scope, method, external, external_block, create, create_field, mutex, event, region, field, index_field, bank_field, ItemTrees, no_items, item}
-use Rattle.acpi_terms.specs.Forms.{FixedArgument, name_arg, source_arg, byte_arg, word_arg, dword_arg, count_arg, int_arg, Value, Values, fixed_arguments, ArgumentsOf, kind_opcode, kind_arguments}
-use Rattle.acpi_terms.specs.Spelling.{SpellsArgument, SpellsArguments, SpellsPlain, SpellsPacked, SpellsForm, SpellsData, SpellsElem, SpellsElems, SpellsExternal, SpellsItem, SpellsItems}
-use Rattle.acpi_write.specs.Canonical.{int_bytes, argument_bytes, arguments_bytes, form_bytes, filled_with, each_bytes, data_bytes, elem_bytes, elems_bytes, bits_bytes, field_bytes, fields_bytes, external_bytes, item_bytes, items_bytes}
-use Rattle.acpi_write.specs.Laws.{IsIntTyped, IsTyped, AreTyped, IsDataTyped, IsElemTyped, AreElemsTyped, IsFieldTyped, IsExternalTyped, IsItemTyped, AreItemsTyped}
-use Rattle.acpi_write.specs.Shortest.{HasWithin, IsShortened, AreShortened, NoItemsAreShorter, SpelledItemsAreTyped}
+use Rattle.acpi_tree.specs.Tree.{FieldTree, unit, reserved, access, connect_name, connect_buffer, extended, field}
+use Rattle.acpi_terms.specs.Forms.{FixedArgument, name_arg, source_arg, byte_arg, word_arg, dword_arg, count_arg, int_arg, Value, Values}
+use Rattle.acpi_terms.specs.Spelling.{SpellsArgument, SpellsArguments, SpellsPlain, SpellsPacked}
+use Rattle.acpi_write.specs.Canonical.{int_bytes, argument_bytes, arguments_bytes, filled_with, each_bytes, bits_bytes, field_bytes, fields_bytes}
+use Rattle.acpi_write.specs.Laws.{IsIntTyped, IsTyped, AreTyped, IsFieldTyped}
+use Rattle.acpi_write.specs.Shortest.{HasWithin}
 
 -- ---- package lengths
 
@@ -120,12 +117,12 @@ arguments_short (k ∷ ks) v b all (x, y, one, rest, whole) =
 
 -- ---- forms
 
-plain_short : (op : List ℕ) (ks : List FixedArgument) (v : Values ks) (bytes : List ℕ) → AreBytes bytes → SpellsPlain op ks v bytes → length (op ++ arguments_bytes ks v) ≤ length bytes
+pub plain_short : (op : List ℕ) (ks : List FixedArgument) (v : Values ks) (bytes : List ℕ) → AreBytes bytes → SpellsPlain op ks v bytes → length (op ++ arguments_bytes ks v) ≤ length bytes
 plain_short op ks v bytes all h =
     let split = parts op h.0 bytes h.2 all in
     within_both (Some op) (Some (arguments_bytes ks v)) op h.0 bytes (omega arith) (arguments_short ks v h.0 split.1 h.1) h.2
 
-filled_short : (op : List ℕ) (ks : List FixedArgument) (v : Values ks) (Fills : List ℕ → Type 0) (content : Option (List ℕ)) (bytes : List ℕ)
+pub filled_short : (op : List ℕ) (ks : List FixedArgument) (v : Values ks) (Fills : List ℕ → Type 0) (content : Option (List ℕ)) (bytes : List ℕ)
     → AreBytes bytes → SpellsPacked op ks v Fills bytes
     → ((b : List ℕ) → AreBytes b → Fills b → HasWithin content b) → HasWithin (filled_with op (arguments_bytes ks v) content) bytes
 filled_short op ks v Fills content bytes all (a, b, front, fills, packs) one =
@@ -139,26 +136,6 @@ each_short f Spells one [] bytes all h = rw h (omega arith)
 each_short f Spells one (x ∷ xs) bytes all (a, b, first, rest, whole) =
     let split = parts a b bytes whole all in
     within_both (f x) (each_bytes f xs) a b bytes (one x a split.0 first) (each_short f Spells one xs b split.1 rest) whole
-
--- ---- data
-
-mutual
-  data_short : (d : DataTree) (bytes : List ℕ) → AreBytes bytes → SpellsData d bytes → HasWithin (data_bytes d) bytes
-  data_short (int i) bytes all h = int_short i bytes h
-  data_short (str text) bytes all h = rw (h.2, h.1.1) (omega arith)
-  data_short (buffer size content) bytes all h = filled_short (17 ∷ []) (int_arg ∷ []) (size, tt) (λ b. b ≡ content) (Some content) bytes all h (λ b small e. omega (arith, ap length e))
-  data_short (pkg count es) bytes all h = filled_short (18 ∷ []) (byte_arg ∷ []) (count, tt) (λ b. SpellsElems es b) (elems_bytes es) bytes all h (λ b small e. elems_short es b small e)
-  data_short (var_pkg count es) bytes all h = filled_short (19 ∷ []) (int_arg ∷ []) (count, tt) (λ b. SpellsElems es b) (elems_bytes es) bytes all h (λ b small e. elems_short es b small e)
-
-  elem_short : (e : ElemTree) (bytes : List ℕ) → AreBytes bytes → SpellsElem e bytes → HasWithin (elem_bytes e) bytes
-  elem_short (of_data d) bytes all h = data_short d bytes all h
-  elem_short (of_name n) bytes all h = name_shortest n bytes h.0
-
-  elems_short : (es : ElemTrees) (bytes : List ℕ) → AreBytes bytes → SpellsElems es bytes → HasWithin (elems_bytes es) bytes
-  elems_short no_elems bytes all h = rw h (omega arith)
-  elems_short (elem e es) bytes all (a, b, first, rest, whole) =
-      let split = parts a b bytes whole all in
-      within_both (elem_bytes e) (elems_bytes es) a b bytes (elem_short e a split.0 first) (elems_short es b split.1 rest) whole
 
 -- ---- field elements
 
@@ -181,58 +158,6 @@ field_short (extended kind attribute len) bytes all h = rw h (omega arith)
 
 pub fields_short : (es : List FieldTree) (b : List ℕ) → AreBytes b → SpellsFields es b → HasWithin (fields_bytes es) b
 fields_short es b all h = each_short field_bytes SpellsField field_short es b all h
-
--- ---- items
-
-external_short : (x : ExternalParts) (bytes : List ℕ) → AreBytes bytes → SpellsExternal x bytes → HasWithin (Some (external_bytes x)) bytes
-external_short x bytes all h = plain_short (21 ∷ []) (fixed_arguments opcodes.External) (x.name, (x.kind, (x.args, tt))) bytes all h
-
-form_short : (o : Opcode) (v : ArgumentsOf o) (i j : ItemTree) (bytes : List ℕ) → AreBytes bytes → SpellsForm o v bytes
-    → item_bytes i ≡ Some (form_bytes o v) → j ≡ i → HasWithin (item_bytes j) bytes
-form_short o v i j bytes all h is e = subst (λ x. HasWithin (item_bytes x) bytes) (sym e) (subst (λ x. HasWithin x bytes) (sym is) (plain_short (opcode_bytes o) (fixed_arguments o) v bytes all h))
-
-mutual
-  item_short : (i j : ItemTree) (bytes : List ℕ) → AreBytes bytes → SpellsItem i bytes → IsShortened i j → HasWithin (item_bytes j) bytes
-  item_short (name n d) j bytes all (a, b, named, fills, whole) e =
-      let split = parts (8 ∷ a) b bytes whole all in
-      let le : length (name_bytes n) ≤ length a = name_shortest n a named in
-      subst (λ x. HasWithin (item_bytes x) bytes) (sym e) (within_both (Some (8 ∷ name_bytes n)) (data_bytes d) (8 ∷ a) b bytes (omega (arith, le)) (data_short d b split.1 fills) whole)
-  item_short (scope kind n is) j bytes all h (js, s, e) = subst (λ x. HasWithin (item_bytes x) bytes) (sym e)
-      (filled_short (opcode_bytes (kind_opcode kind)) (fixed_arguments (kind_opcode kind)) (kind_arguments kind n) (λ b. SpellsItems is b) (items_bytes js)
-      bytes all h (λ b small k. items_short is js b small k s))
-  item_short (method n flags code) j bytes all h (short, le, e) =
-      subst (λ x. HasWithin (item_bytes x) bytes) (sym e) (filled_short (20 ∷ []) (name_arg ∷ byte_arg ∷ []) (n, (flags, tt)) (λ b. b ≡ code)
-      (Some short) bytes all h (λ b small k. omega (arith, ap length k, le)))
-  item_short (external x) j bytes all h e = subst (λ x. HasWithin (item_bytes x) bytes) (sym e) (external_short x bytes all h)
-  item_short (external_block xs) j bytes all (b, each, packs) e =
-      let inner = parts (0 ∷ []) b (0 ∷ b) refl (packed (160 ∷ []) (0 ∷ b) bytes packs all) in
-      let content = each_short (λ x. Some (external_bytes x)) SpellsExternal external_short xs b inner.1 each in
-      subst (λ x. HasWithin (item_bytes x) bytes) (sym e) (within_packed (160 ∷ []) (0 ∷ []) (each_bytes (λ x. Some (external_bytes x)) xs) (0 ∷ b)
-      bytes all packs (within_both (Some (0 ∷ [])) _ (0 ∷ []) b (0 ∷ b) (omega arith) content refl))
-  item_short (create w source index n) j bytes all h e = form_short (opcodes.Create w) (source, (index, (n, tt))) (create w source index n) j bytes all h refl e
-  item_short (create_field source index bits n) j bytes all h e = form_short opcodes.CreateField (source, (index, (bits, (n, tt)))) (create_field source index bits n) j bytes all h refl e
-  item_short (mutex n flags) j bytes all h e = form_short opcodes.Mutex (n, (flags, tt)) (mutex n flags) j bytes all h refl e
-  item_short (event n) j bytes all h e = form_short opcodes.Event (n, tt) (event n) j bytes all h refl e
-  item_short (region n space offset len) j bytes all h e = form_short opcodes.Region (n, (space, (offset, (len, tt)))) (region n space offset len) j bytes all h refl e
-  item_short (field r flags es) j bytes all h e =
-      subst (λ x. HasWithin (item_bytes x) bytes) (sym e) (filled_short (91 ∷ 129 ∷ []) (name_arg ∷ byte_arg ∷ []) (r, (flags, tt))
-      (λ b. SpellsFields es b) (fields_bytes es) bytes all h (λ b small k. fields_short es b small k))
-  item_short (index_field i d flags es) j bytes all h e =
-      subst (λ x. HasWithin (item_bytes x) bytes) (sym e) (filled_short (91 ∷ 134 ∷ []) (name_arg ∷ name_arg ∷ byte_arg ∷ []) (i, (d, (flags, tt)))
-      (λ b. SpellsFields es b) (fields_bytes es) bytes all h (λ b small k. fields_short es b small k))
-  item_short (bank_field r bank value flags es) j bytes all h e =
-      subst (λ x. HasWithin (item_bytes x) bytes) (sym e)
-      (filled_short (91 ∷ 135 ∷ []) (name_arg ∷ name_arg ∷ int_arg ∷ byte_arg ∷ []) (r, (bank, (value, (flags, tt)))) (λ b. SpellsFields es b)
-      (fields_bytes es) bytes all h (λ b small k. fields_short es b small k))
-
-  items_short : (is js : ItemTrees) (bytes : List ℕ) → AreBytes bytes → SpellsItems is bytes → AreShortened is js → HasWithin (items_bytes js) bytes
-  items_short no_items js bytes all h e = rw (e, h) (omega arith)
-  items_short (item i is) js bytes all (a, b, first, rest, whole) (k, ks, s, t, e) =
-      let split = parts a b bytes whole all in
-      subst (λ x. HasWithin (items_bytes x) bytes) (sym e) (within_both (item_bytes k) (items_bytes ks) a b bytes (item_short i k a split.0 first s) (items_short is ks b split.1 rest t) whole)
-
-pub items_are_shortest : NoItemsAreShorter
-items_are_shortest is js bytes all h s = items_short is js bytes (recursion_from_All (λ b. b < 256) bytes all) h s
 
 -- ---- what is spelled has the values that a value in memory has
 
@@ -263,13 +188,13 @@ arguments_typed : (ks : List FixedArgument) (v : Values ks) (b : List ℕ) → A
 arguments_typed [] v b all h = tt
 arguments_typed (k ∷ ks) v b all (x, y, one, rest, whole) = let split = parts x y b whole all in (argument_typed k v.0 x split.0 one, arguments_typed ks v.1 y split.1 rest)
 
-plain_typed : (op : List ℕ) (ks : List FixedArgument) (v : Values ks) (bytes : List ℕ) → AreBytes bytes → SpellsPlain op ks v bytes → AreTyped ks v
+pub plain_typed : (op : List ℕ) (ks : List FixedArgument) (v : Values ks) (bytes : List ℕ) → AreBytes bytes → SpellsPlain op ks v bytes → AreTyped ks v
 plain_typed op ks v bytes all h = arguments_typed ks v h.0 (parts op h.0 bytes h.2 all).1 h.1
 
-front_typed : (op : List ℕ) (ks : List FixedArgument) (v : Values ks) (Fills : List ℕ → Type 0) (bytes : List ℕ) → AreBytes bytes → SpellsPacked op ks v Fills bytes → AreTyped ks v
+pub front_typed : (op : List ℕ) (ks : List FixedArgument) (v : Values ks) (Fills : List ℕ → Type 0) (bytes : List ℕ) → AreBytes bytes → SpellsPacked op ks v Fills bytes → AreTyped ks v
 front_typed op ks v Fills bytes all (a, b, front, fills, packs) = arguments_typed ks v a (parts a b (a ++ b) refl (packed op (a ++ b) bytes packs all)).0 front
 
-content_of : (op : List ℕ) (ks : List FixedArgument) (v : Values ks) (Fills : List ℕ → Type 0) (bytes : List ℕ) → AreBytes bytes
+pub content_of : (op : List ℕ) (ks : List FixedArgument) (v : Values ks) (Fills : List ℕ → Type 0) (bytes : List ℕ) → AreBytes bytes
     → SpellsPacked op ks v Fills bytes → (b : List ℕ) × AreBytes b × Fills b
 content_of op ks v Fills bytes all (a, b, front, fills, packs) = (b, (parts a b (a ++ b) refl (packed op (a ++ b) bytes packs all)).1, fills)
 
@@ -277,24 +202,6 @@ pub each_typed : {A : Type 0} (Spells : A → List ℕ → Type 0) (Holds : A �
     → (xs : List A) (bytes : List ℕ) → AreBytes bytes → SpellsEach Spells xs bytes → AllByRecursion Holds xs
 each_typed Spells Holds one [] bytes all h = tt
 each_typed Spells Holds one (x ∷ xs) bytes all (a, b, first, rest, whole) = let split = parts a b bytes whole all in (one x a split.0 first, each_typed Spells Holds one xs b split.1 rest)
-
-mutual
-  data_typed : (d : DataTree) (bytes : List ℕ) → AreBytes bytes → SpellsData d bytes → IsDataTyped d
-  data_typed (int i) bytes all h = int_typed i bytes all h
-  data_typed (str text) bytes all h = tt
-  data_typed (buffer size content) bytes all h = (front_typed (17 ∷ []) (int_arg ∷ []) (size, tt) (λ b. b ≡ content) bytes all h).0
-  data_typed (pkg count es) bytes all h = let c = content_of (18 ∷ []) (byte_arg ∷ []) (count, tt) (λ b. SpellsElems es b) bytes all h in elems_typed es c.0 c.1 c.2
-  data_typed (var_pkg count es) bytes all h =
-      let c = content_of (19 ∷ []) (int_arg ∷ []) (count, tt) (λ b. SpellsElems es b) bytes all h in
-      ((front_typed (19 ∷ []) (int_arg ∷ []) (count, tt) (λ b. SpellsElems es b) bytes all h).0, elems_typed es c.0 c.1 c.2)
-
-  elem_typed : (e : ElemTree) (bytes : List ℕ) → AreBytes bytes → SpellsElem e bytes → IsElemTyped e
-  elem_typed (of_data d) bytes all h = data_typed d bytes all h
-  elem_typed (of_name n) bytes all h = h.0.is_name
-
-  elems_typed : (es : ElemTrees) (bytes : List ℕ) → AreBytes bytes → SpellsElems es bytes → AreElemsTyped es
-  elems_typed no_elems bytes all h = tt
-  elems_typed (elem e es) bytes all (a, b, first, rest, whole) = let split = parts a b bytes whole all in (elem_typed e a split.0 first, elems_typed es b split.1 rest)
 
 field_typed : (x : FieldTree) (bytes : List ℕ) → AreBytes bytes → SpellsField x bytes → IsFieldTyped x
 field_typed (unit g bits) bytes all h = h.2.0
@@ -306,45 +213,3 @@ field_typed (extended kind attribute len) bytes all h = tt
 
 pub fields_typed : (es : List FieldTree) (bytes : List ℕ) → AreBytes bytes → SpellsFields es bytes → AllByRecursion IsFieldTyped es
 fields_typed es bytes all h = each_typed SpellsField IsFieldTyped field_typed es bytes all h
-
-external_typed : (x : ExternalParts) (bytes : List ℕ) → AreBytes bytes → SpellsExternal x bytes → IsExternalTyped x
-external_typed x bytes all h = (plain_typed (21 ∷ []) (fixed_arguments opcodes.External) (x.name, (x.kind, (x.args, tt))) bytes all h).0
-
-units_typed : (op : List ℕ) (ks : List FixedArgument) (v : Values ks) (es : List FieldTree) (bytes : List ℕ) → AreBytes bytes
-    → SpellsPacked op ks v (λ b. SpellsFields es b) bytes → AreTyped ks v × AllByRecursion IsFieldTyped es
-units_typed op ks v es bytes all h =
-    let c = content_of op ks v (λ b. SpellsFields es b) bytes all h in
-    (front_typed op ks v (λ b. SpellsFields es b) bytes all h, fields_typed es c.0 c.1 c.2)
-
--- a package of items
-held_typed : (op : List ℕ) (ks : List FixedArgument) (v : Values ks) (is : ItemTrees) (bytes : List ℕ) → AreBytes bytes
-    → SpellsPacked op ks v (λ b. SpellsItems is b) bytes → ((b : List ℕ) → AreBytes b → SpellsItems is b → AreItemsTyped is)
-    → AreTyped ks v × AreItemsTyped is
-held_typed op ks v is bytes all h each =
-    let c = content_of op ks v (λ b. SpellsItems is b) bytes all h in
-    (front_typed op ks v (λ b. SpellsItems is b) bytes all h, each c.0 c.1 c.2)
-
-mutual
-  item_typed : (i : ItemTree) (bytes : List ℕ) → AreBytes bytes → SpellsItem i bytes → IsItemTyped i
-  item_typed (name n d) bytes all (a, b, named, fills, whole) = (named.is_name, data_typed d b (parts (8 ∷ a) b bytes whole all).1 fills)
-  item_typed (scope kind n is) bytes all h =
-      held_typed (opcode_bytes (kind_opcode kind)) (fixed_arguments (kind_opcode kind)) (kind_arguments kind n) is bytes all h (λ b small k. items_typed is b small k)
-  item_typed (method n flags code) bytes all h = front_typed (20 ∷ []) (name_arg ∷ byte_arg ∷ []) (n, (flags, tt)) (λ b. b ≡ code) bytes all h
-  item_typed (external x) bytes all h = external_typed x bytes all h
-  item_typed (external_block xs) bytes all (b, each, packs) = each_typed SpellsExternal IsExternalTyped external_typed xs b
-      (parts (0 ∷ []) b (0 ∷ b) refl (packed (160 ∷ []) (0 ∷ b) bytes packs all)).1 each
-  item_typed (create w source index n) bytes all h = plain_typed (opcode_bytes (opcodes.Create w)) (fixed_arguments (opcodes.Create w)) (source, (index, (n, tt))) bytes all h
-  item_typed (create_field source index bits n) bytes all h = plain_typed (91 ∷ 19 ∷ []) (fixed_arguments opcodes.CreateField) (source, (index, (bits, (n, tt)))) bytes all h
-  item_typed (mutex n flags) bytes all h = plain_typed (91 ∷ 1 ∷ []) (fixed_arguments opcodes.Mutex) (n, (flags, tt)) bytes all h
-  item_typed (event n) bytes all h = plain_typed (91 ∷ 2 ∷ []) (fixed_arguments opcodes.Event) (n, tt) bytes all h
-  item_typed (region n space offset len) bytes all h = plain_typed (91 ∷ 128 ∷ []) (fixed_arguments opcodes.Region) (n, (space, (offset, (len, tt)))) bytes all h
-  item_typed (field r flags es) bytes all h = units_typed (91 ∷ 129 ∷ []) (name_arg ∷ byte_arg ∷ []) (r, (flags, tt)) es bytes all h
-  item_typed (index_field i d flags es) bytes all h = units_typed (91 ∷ 134 ∷ []) (name_arg ∷ name_arg ∷ byte_arg ∷ []) (i, (d, (flags, tt))) es bytes all h
-  item_typed (bank_field r bank value flags es) bytes all h = units_typed (91 ∷ 135 ∷ []) (name_arg ∷ name_arg ∷ int_arg ∷ byte_arg ∷ []) (r, (bank, (value, (flags, tt)))) es bytes all h
-
-  items_typed : (is : ItemTrees) (bytes : List ℕ) → AreBytes bytes → SpellsItems is bytes → AreItemsTyped is
-  items_typed no_items bytes all h = tt
-  items_typed (item i is) bytes all (a, b, first, rest, whole) = let split = parts a b bytes whole all in (item_typed i a split.0 first, items_typed is b split.1 rest)
-
-pub items_are_typed : SpelledItemsAreTyped
-items_are_typed is bytes all h = items_typed is bytes (recursion_from_All (λ b. b < 256) bytes all) h

@@ -19,7 +19,8 @@ use Rattle.acpi_body.specs.Statements.{named_opcode, units_opcode, locals_after,
 use Rattle.acpi_body.proofs.Fitting.{statements_fit}
 use Rattle.acpi_write.specs.Canonical.{filled_with, fields_bytes}
 use Rattle.acpi_write.specs.CanonicalTerms.{names_bytes, term_bytes, else_bytes, terms_bytes}
-use Rattle.acpi_write.specs.TermLaws.{IsTermTyped, IsElseTyped, AreTermsTyped, count_of, IsCounted, AreCounted, MayStandIn, ElseMayStandIn, AllMayStandIn}
+use Rattle.acpi_write.specs.TermLaws.{count_of, IsCounted, AreCounted, MayStandIn, ElseMayStandIn, AllMayStandIn}
+use Rattle.acpi_write.specs.Laws.{IsTermTyped, IsElseTyped, AreTermsTyped}
 use Rattle.acpi_write.specs.Shortest.{HasWithin, IsWritten, ReadTermsAreWritten}
 use Rattle.acpi_write.proofs.TermsWritten.{terms_written}
 use Rattle.acpi_write.proofs.Shorter.{within_both, within_packed, number_short, int_short, fields_short, number_below, int_typed, each_typed, fields_typed}
@@ -35,7 +36,7 @@ within_package op content inner bytes all packs h = within_packed op [] content 
 -- ---- values
 
 mutual
-  term_short : (args : NameParts → Option ℕ) (t : TermTree) (bytes : List ℕ) → AreBytes bytes → Spells (body_grammar args) t bytes → HasWithin (term_bytes t) bytes
+  pub term_short : (args : NameParts → Option ℕ) (t : TermTree) (bytes : List ℕ) → AreBytes bytes → Spells (body_grammar args) t bytes → HasWithin (term_bytes t) bytes
   term_short args (int i) bytes all h = int_short i bytes h
   term_short args (str text) bytes all h = rw (h.2, h.1.1) (omega arith)
   term_short args (buffer size content) bytes all (s, stands, hs, packs) =
@@ -83,7 +84,7 @@ mutual
       within_both (term_bytes t) (terms_bytes ts) a b bytes (term_short args t a split.0 first) (elements_short args ts b split.1 rest) whole
 
 mutual
-  term_typed : (args : NameParts → Option ℕ) (t : TermTree) (bytes : List ℕ) → AreBytes bytes → Spells (body_grammar args) t bytes → IsTermTyped t
+  pub term_typed : (args : NameParts → Option ℕ) (t : TermTree) (bytes : List ℕ) → AreBytes bytes → Spells (body_grammar args) t bytes → IsTermTyped t
   term_typed args (int i) bytes all h = int_typed i bytes all h
   term_typed args (str text) bytes all h = tt
   term_typed args (buffer size content) bytes all (s, stands, hs, packs) = term_typed args size s (parts s content (s ++ content) refl (packed (17 ∷ []) (s ++ content) bytes packs all)).0 hs

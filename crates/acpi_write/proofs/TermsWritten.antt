@@ -24,7 +24,8 @@ use Rattle.acpi_body.specs.Spelling.{values, Spells, AreOperands, AreElements}
 use Rattle.acpi_body.specs.Statements.{named_opcode, units_opcode, locals_after, locals_after_all, IsStatement, IsElse, AreStatements}
 use Rattle.acpi_write.specs.Canonical.{int_bytes, filled_with, fields_bytes}
 use Rattle.acpi_write.specs.CanonicalTerms.{names_bytes, term_bytes, else_bytes, terms_bytes}
-use Rattle.acpi_write.specs.TermLaws.{IsTermTyped, IsElseTyped, AreTermsTyped, count_of, IsCounted, AreCounted, MayStandIn, ElseMayStandIn, AllMayStandIn, TermsAreSpelled}
+use Rattle.acpi_write.specs.TermLaws.{count_of, IsCounted, AreCounted, MayStandIn, ElseMayStandIn, AllMayStandIn, TermsAreSpelled}
+use Rattle.acpi_write.specs.Laws.{IsTermTyped, IsElseTyped, AreTermsTyped}
 use Rattle.acpi_write.proofs.Written.{first_of, second_of, both_of, some_is, filled_is, front_is, number_written, int_written, term_name_written, text_written, fields_written}
 
 -- arguments of a call are operands, each of which is a value
@@ -35,7 +36,7 @@ as_operands (more t ts) = ap (λ b. may_stand Value t && term_fits t && b) (as_o
 -- ---- values
 
 mutual
-  term_written : (args : NameParts → Option ℕ) (t : TermTree) (bytes : List ℕ) → IsTermTyped t → term_fits t ≡ true → IsCounted args t → term_bytes t ≡ Some bytes → Spells (body_grammar args) t bytes
+  pub term_written : (args : NameParts → Option ℕ) (t : TermTree) (bytes : List ℕ) → IsTermTyped t → term_fits t ≡ true → IsCounted args t → term_bytes t ≡ Some bytes → Spells (body_grammar args) t bytes
   term_written args (int i) bytes h fit k e = subst (SpellsInt i) (some_is (int_bytes i) bytes e) (int_written i h)
   term_written args (str text) bytes h fit k e = (text ++ 0 ∷ [], (text_written text fit, refl), sym (some_is (13 ∷ (text ++ 0 ∷ [])) bytes e))
   term_written args (buffer size content) bytes h fit k e =

@@ -1,9 +1,9 @@
--- What is written spells its tree.
+-- What is written spells its tree: the parts of forms.
 use Rattle.std.proofs.Common.{◌≡◌, ℕ, zero, suc, ◌<◌, ◌≤◌, ◌^◌, Bool, true, false, ◌&&◌, ◌||◌, ◌==◌, not, List, [], ◌∷◌, ◌++◌, length, slice_index, append-nil, Option, Some, None, refl, sym, ap, subst, ◌∙◌, arith}
 use Rattle.std.specs.List.{AllByRecursion, list_all}
 use Rattle.std.specs.Fmt.{option_append}
 use Rattle.std.specs.Prelude.{nat_le, nat_lt, nat_eq, cond}
-use Rattle.std.proofs.lemmas.Bool.{ltb-true, leb-true, not-true}
+use Rattle.std.proofs.lemmas.Bool.{ltb-true, leb-true}
 use Rattle.byteorder.specs.Endian.{little_number, little_bytes}
 use Rattle.byteorder.specs.Numbers.{little_number-reads_back, length-bytes_low_first}
 use Rattle.acpi_name.specs.Names.{NameParts, IsName, Segment, is_segment, is_lead_char, is_name_char, is_null_name}
@@ -11,21 +11,18 @@ use Rattle.acpi_name.specs.Spelling.{name_bytes, prefix_of, path_bytes}
 use Rattle.acpi_name.proofs.NameWritten.{name_written}
 use Rattle.acpi_table.specs.PkgLength.{SpellsPkgLength, shortest_pkg_length, package_number}
 use Rattle.acpi_table.proofs.PkgLengths.{shortest_spells, number_counts}
-use Rattle.acpi_code.specs.Opcodes.{is_name_start, opcode_bytes}
+use Rattle.acpi_code.specs.Opcodes.{is_name_start}
 use Rattle.acpi_code.specs.declared.opcode.Opcode.{Opcode}
-use Rattle.acpi_code.specs.declared.opcode.Opcode.TheVariants as opcodes
 use Rattle.acpi_code.specs.Fields.{SpellsField, SpellsFields}
 use Rattle.acpi_code.specs.Spelling.{SpellsNumber, SpellsInt, SpellsTermName, SpellsEach, IsText, Packs}
 use Rattle.acpi_tree.specs.declared.tree.Int.{Int}
 use Rattle.acpi_tree.specs.declared.tree.Int.TheVariants.{Zero, One, Ones, Revision, Byte, Word, DWord, QWord}
-use Rattle.acpi_tree.specs.declared.tree.ScopeKind.{ScopeKind}
-use Rattle.acpi_tree.specs.declared.tree.ScopeKind.TheVariants as kinds
-use Rattle.acpi_tree.specs.Tree.{DataTree, int, str, buffer, pkg, var_pkg, ElemTree, of_data, of_name, ElemTrees, no_elems, elem, FieldTree, unit, reserved, access, connect_name, connect_buffer, extended, ExternalParts, ItemTree, name, scope, method, external, external_block, create, create_field, mutex, event, region, field, index_field, bank_field, ItemTrees, no_items, item}
-use Rattle.acpi_tree.specs.Fits.{text_fits, data_fits, elem_fits, elems_fit, bits_fit, field_fits, external_fits, item_fits, items_fit}
-use Rattle.acpi_terms.specs.Forms.{FixedArgument, name_arg, source_arg, byte_arg, word_arg, dword_arg, count_arg, int_arg, Value, Values, fixed_arguments, ArgumentsOf, kind_opcode, kind_arguments}
-use Rattle.acpi_terms.specs.Spelling.{SpellsArgument, SpellsArguments, SpellsPacked, SpellsForm, SpellsData, SpellsElem, SpellsElems, SpellsExternal, SpellsItem, SpellsItems}
-use Rattle.acpi_write.specs.Canonical.{int_bytes, argument_bytes, arguments_bytes, form_bytes, packed_bytes, filled_with, each_bytes, data_bytes, elem_bytes, elems_bytes, bits_bytes, field_bytes, fields_bytes, external_bytes, item_bytes, items_bytes}
-use Rattle.acpi_write.specs.Laws.{IsIntTyped, IsTyped, AreTyped, IsDataTyped, IsElemTyped, AreElemsTyped, IsFieldTyped, IsExternalTyped, IsItemTyped, AreItemsTyped}
+use Rattle.acpi_tree.specs.Tree.{FieldTree, unit, reserved, access, connect_name, connect_buffer, extended, field}
+use Rattle.acpi_tree.specs.Fits.{text_fits, bits_fit, field_fits}
+use Rattle.acpi_terms.specs.Forms.{FixedArgument, name_arg, source_arg, byte_arg, word_arg, dword_arg, count_arg, int_arg, Value, Values, fixed_arguments, ArgumentsOf}
+use Rattle.acpi_terms.specs.Spelling.{SpellsArgument, SpellsArguments, SpellsPacked, SpellsForm}
+use Rattle.acpi_write.specs.Canonical.{int_bytes, argument_bytes, arguments_bytes, form_bytes, packed_bytes, filled_with, each_bytes, bits_bytes, field_bytes, fields_bytes}
+use Rattle.acpi_write.specs.Laws.{IsIntTyped, IsTyped, AreTyped, IsFieldTyped}
 
 -- ---- both tests of an `&&`, and both parts of a pair of spellings
 
@@ -68,12 +65,12 @@ int_written (DWord n) f = (little_bytes 4 n, number_written 4 n f, refl)
 int_written (QWord n) f = (little_bytes 8 n, number_written 8 n f, refl)
 
 -- what an argument must be besides, to have a spelling
-abbrev Stands : (k : FixedArgument) → Value k → Type 0
+abbrev pub Stands : (k : FixedArgument) → Value k → Type 0
 Stands source_arg n = is_null_name n ≡ false
 Stands count_arg n = n ≤ 7
 Stands _ v = Unit {0}
 
-abbrev AllStand : (ks : List FixedArgument) → Values ks → Type 0
+abbrev pub AllStand : (ks : List FixedArgument) → Values ks → Type 0
 AllStand [] v = Unit {0}
 AllStand (k ∷ ks) v = Stands k v.0 × AllStand ks v.1
 
@@ -121,7 +118,7 @@ arguments_written (k ∷ ks) v f s = (argument_bytes k v.0, arguments_bytes ks v
 
 -- ---- forms
 
-form_written : (o : Opcode) (v : ArgumentsOf o) (bytes : List ℕ) → AreTyped (fixed_arguments o) v → AllStand (fixed_arguments o) v → Some (form_bytes o v) ≡ Some bytes → SpellsForm o v bytes
+pub form_written : (o : Opcode) (v : ArgumentsOf o) (bytes : List ℕ) → AreTyped (fixed_arguments o) v → AllStand (fixed_arguments o) v → Some (form_bytes o v) ≡ Some bytes → SpellsForm o v bytes
 form_written o v bytes f s e = (arguments_bytes (fixed_arguments o) v, arguments_written (fixed_arguments o) v f s, sym (some_is (form_bytes o v) bytes e))
 
 pub packs : (opcode content : List ℕ) → length content < 268435452 → Packs opcode content (opcode ++ (shortest_pkg_length (package_number (length content)) ++ content))
@@ -144,7 +141,7 @@ packed_written opcode content bytes e = by_test (nat_le (length content) 2684354
     by_test true few e = let le : length content ≤ 268435451 = leb-true _ _ few in subst (Packs opcode content) (some_is spelled bytes e) (packs opcode content (omega (arith, le)))
     by_test false few e = absurd cc
 
-filled_written : (opcode : List ℕ) (ks : List FixedArgument) (v : Values ks) (Fills : List ℕ → Type 0) (content : Option (List ℕ)) (bytes : List ℕ) → AreTyped ks v → AllStand ks v
+pub filled_written : (opcode : List ℕ) (ks : List FixedArgument) (v : Values ks) (Fills : List ℕ → Type 0) (content : Option (List ℕ)) (bytes : List ℕ) → AreTyped ks v → AllStand ks v
     → ((b : List ℕ) → content ≡ Some b → Fills b) → filled_with opcode (arguments_bytes ks v) content ≡ Some bytes → SpellsPacked opcode ks v Fills bytes
 filled_written opcode ks v Fills None bytes f s fills e = absurd cc
 filled_written opcode ks v Fills (Some b) bytes f s fills e = (arguments_bytes ks v, b, arguments_written ks v f s, fills b refl, packed_written opcode (arguments_bytes ks v ++ b) bytes e)
@@ -172,34 +169,13 @@ each_written f Spells Holds fits one (x ∷ xs) bytes h all e =
       b.whole,
     )
 
--- ---- data
+-- ---- strings
 
 pub text_written : (text : List ℕ) → list_all text_fits text ≡ true → AllByRecursion IsText text
 text_written [] e = tt
 text_written (b ∷ text) e =
     let one : (nat_lt 0 b && nat_lt b 128) ≡ true = first_of (text_fits b) (list_all text_fits text) e in
     ((ltb-true 0 b (first_of (nat_lt 0 b) (nat_lt b 128) one), ltb-true b 128 (second_of (nat_lt 0 b) (nat_lt b 128) one)), text_written text (second_of (text_fits b) (list_all text_fits text) e))
-
-mutual
-  data_written : (d : DataTree) (bytes : List ℕ) → IsDataTyped d → data_fits d ≡ true → data_bytes d ≡ Some bytes → SpellsData d bytes
-  data_written (int i) bytes h fit e = subst (SpellsInt i) (some_is (int_bytes i) bytes e) (int_written i h)
-  data_written (str text) bytes h fit e = (text ++ 0 ∷ [], (text_written text fit, refl), sym (some_is (13 ∷ (text ++ 0 ∷ [])) bytes e))
-  data_written (buffer size content) bytes h fit e = filled_written (17 ∷ []) (int_arg ∷ []) (size, tt) (λ b. b ≡ content) (Some content) bytes
-      (h, tt) (tt, tt) (λ b e. sym (some_is content b e)) e
-  data_written (pkg count es) bytes h fit e = filled_written (18 ∷ []) (byte_arg ∷ []) (count, tt) (λ b. SpellsElems es b) (elems_bytes es) bytes
-      (tt, tt) (tt, tt) (λ b e. elems_written es b h fit e) e
-  data_written (var_pkg count es) bytes h fit e = filled_written (19 ∷ []) (int_arg ∷ []) (count, tt) (λ b. SpellsElems es b) (elems_bytes es) bytes
-      (h.0, tt) (tt, tt) (λ b e. elems_written es b h.1 fit e) e
-
-  elem_written : (e : ElemTree) (bytes : List ℕ) → IsElemTyped e → elem_fits e ≡ true → elem_bytes e ≡ Some bytes → SpellsElem e bytes
-  elem_written (of_data d) bytes h fit e = data_written d bytes h fit e
-  elem_written (of_name n) bytes h fit e = subst (SpellsTermName n) (some_is (name_bytes n) bytes e) (term_name_written n h (not-true (is_null_name n) fit))
-
-  elems_written : (es : ElemTrees) (bytes : List ℕ) → AreElemsTyped es → elems_fit es ≡ true → elems_bytes es ≡ Some bytes → SpellsElems es bytes
-  elems_written no_elems bytes h fit e = sym (some_is [] bytes e)
-  elems_written (elem x es) bytes h fit e =
-      let b = both_of (elem_bytes x) (elems_bytes es) bytes e in
-      (b.front, b.back, elem_written x b.front h.0 (first_of (elem_fits x) (elems_fit es) fit) b.is_front, elems_written es b.back h.1 (second_of (elem_fits x) (elems_fit es) fit) b.is_back, b.whole)
 
 -- ---- field elements
 
@@ -228,56 +204,3 @@ field_written (extended kind attribute len) bytes h fit e = sym (some_is (3 ∷ 
 
 pub fields_written : (es : List FieldTree) (bytes : List ℕ) → AllByRecursion IsFieldTyped es → list_all field_fits es ≡ true → fields_bytes es ≡ Some bytes → SpellsFields es bytes
 fields_written es bytes h fit e = each_written field_bytes SpellsField IsFieldTyped field_fits field_written es bytes h fit e
-
--- ---- items
-
-external_written : (x : ExternalParts) (bytes : List ℕ) → IsExternalTyped x → external_fits x ≡ true → Some (external_bytes x) ≡ Some bytes → SpellsExternal x bytes
-external_written x bytes h fit e = form_written opcodes.External (x.name, (x.kind, (x.args, tt))) bytes (h, (tt, (tt, tt))) (tt, (tt, (leb-true x.args 7 fit, tt))) e
-
-kind_stands : (kind : ScopeKind) (n : NameParts) → AllStand (fixed_arguments (kind_opcode kind)) (kind_arguments kind n)
-kind_stands kinds.Scope n = (tt, tt)
-kind_stands kinds.Device n = (tt, tt)
-kind_stands (kinds.Processor id block len) n = (tt, (tt, (tt, (tt, tt))))
-kind_stands (kinds.Power level order) n = (tt, (tt, (tt, tt)))
-kind_stands kinds.Thermal n = (tt, tt)
-
-mutual
-  item_written : (i : ItemTree) (bytes : List ℕ) → IsItemTyped i → item_fits i ≡ true → item_bytes i ≡ Some bytes → SpellsItem i bytes
-  item_written (name n d) bytes h fit e =
-      let b = both_of (Some (8 ∷ name_bytes n)) (data_bytes d) bytes e in
-      (name_bytes n, b.back, name_written n h.0, data_written d b.back h.1 fit b.is_back, b.whole ∙ ap (λ a. a ++ b.back) (sym (some_is (8 ∷ name_bytes n) b.front b.is_front)))
-  item_written (scope kind n is) bytes h fit e = filled_written (opcode_bytes (kind_opcode kind)) (fixed_arguments (kind_opcode kind)) (kind_arguments kind n)
-      (λ b. SpellsItems is b) (items_bytes is) bytes h.0 (kind_stands kind n) (λ b e. items_written is b h.1 fit e) e
-  item_written (method n flags code) bytes h fit e = filled_written (20 ∷ []) (name_arg ∷ byte_arg ∷ []) (n, (flags, tt)) (λ b. b ≡ code) (Some code)
-      bytes h (tt, (tt, tt)) (λ b e. sym (some_is code b e)) e
-  item_written (external x) bytes h fit e = external_written x bytes h fit e
-  item_written (external_block xs) bytes h fit e = block_written (each_bytes (λ x. Some (external_bytes x)) xs) refl e
-    where
-      block_written : (content : Option (List ℕ)) → each_bytes (λ x. Some (external_bytes x)) xs ≡ content → filled_with (160 ∷ []) (0 ∷ []) content ≡ Some bytes
-          → (b : List ℕ) × SpellsEach SpellsExternal xs b × Packs (160 ∷ []) (0 ∷ b) bytes
-      block_written None is e = absurd cc
-      block_written (Some b) is e = (
-        b,
-        each_written (λ x. Some (external_bytes x)) SpellsExternal IsExternalTyped external_fits external_written xs b
-            h fit is,
-        packed_written (160 ∷ []) (0 ∷ b) bytes e,
-      )
-  item_written (create w source index n) bytes h fit e = form_written (opcodes.Create w) (source, (index, (n, tt))) bytes h (not-true (is_null_name source) fit, (tt, (tt, tt))) e
-  item_written (create_field source index bits n) bytes h fit e = form_written opcodes.CreateField (source, (index, (bits, (n, tt)))) bytes h
-      (not-true (is_null_name source) fit, (tt, (tt, (tt, tt)))) e
-  item_written (mutex n flags) bytes h fit e = form_written opcodes.Mutex (n, (flags, tt)) bytes h (tt, (tt, tt)) e
-  item_written (event n) bytes h fit e = form_written opcodes.Event (n, tt) bytes h (tt, tt) e
-  item_written (region n space offset len) bytes h fit e = form_written opcodes.Region (n, (space, (offset, (len, tt)))) bytes h (tt, (tt, (tt, (tt, tt)))) e
-  item_written (field r flags es) bytes h fit e = filled_written (91 ∷ 129 ∷ []) (name_arg ∷ byte_arg ∷ []) (r, (flags, tt)) (λ b. SpellsFields es b)
-      (fields_bytes es) bytes h.0 (tt, (tt, tt)) (λ b e. fields_written es b h.1 fit e) e
-  item_written (index_field i d flags es) bytes h fit e = filled_written (91 ∷ 134 ∷ []) (name_arg ∷ name_arg ∷ byte_arg ∷ []) (i, (d, (flags, tt)))
-      (λ b. SpellsFields es b) (fields_bytes es) bytes h.0 (tt, (tt, (tt, tt))) (λ b e. fields_written es b h.1 fit e) e
-  item_written (bank_field r bank value flags es) bytes h fit e = filled_written (91 ∷ 135 ∷ []) (name_arg ∷ name_arg ∷ int_arg ∷ byte_arg ∷ [])
-      (r, (bank, (value, (flags, tt)))) (λ b. SpellsFields es b) (fields_bytes es) bytes h.0 (tt, (tt, (tt, (tt, tt))))
-      (λ b e. fields_written es b h.1 fit e) e
-
-  pub items_written : (is : ItemTrees) (bytes : List ℕ) → AreItemsTyped is → items_fit is ≡ true → items_bytes is ≡ Some bytes → SpellsItems is bytes
-  items_written no_items bytes h fit e = sym (some_is [] bytes e)
-  items_written (item i is) bytes h fit e =
-      let b = both_of (item_bytes i) (items_bytes is) bytes e in
-      (b.front, b.back, item_written i b.front h.0 (first_of (item_fits i) (items_fit is) fit) b.is_front, items_written is b.back h.1 (second_of (item_fits i) (items_fit is) fit) b.is_back, b.whole)

@@ -1,17 +1,16 @@
--- The one spelling of a tree that is written (ACPI 6.5, 20.2): the shortest of each part. The rules of the grammar stand
--- above the lines of `fixed_arguments`, `SpellsData`, `SpellsItem`, `SpellsField` and `SpellsInt`.
+-- The one spelling of the parts of a form that is written (ACPI 6.5, 20.2): the shortest of each. The rules of the grammar
+-- stand above the lines of `fixed_arguments`, `SpellsField` and `SpellsInt`.
 use Rattle.std.specs.Prelude.{ℕ, List, [], ◌∷◌, ◌++◌, length, nat_le, if◌then◌else◌, Option, Some, None}
 use Rattle.std.specs.Fmt.{option_append}
 use Rattle.byteorder.specs.Endian.{little_bytes}
 use Rattle.acpi_name.specs.Spelling.{name_bytes}
 use Rattle.acpi_table.specs.PkgLength.{shortest_pkg_length, package_number}
 use Rattle.acpi_code.specs.declared.opcode.Opcode.{Opcode}
-use Rattle.acpi_code.specs.declared.opcode.Opcode.TheVariants as opcodes
 use Rattle.acpi_code.specs.Opcodes.{opcode_bytes}
 use Rattle.acpi_tree.specs.declared.tree.Int.{Int}
 use Rattle.acpi_tree.specs.declared.tree.Int.TheVariants.{Zero, One, Ones, Revision, Byte, Word, DWord, QWord}
-use Rattle.acpi_tree.specs.Tree.{DataTree, int, str, buffer, pkg, var_pkg, ElemTree, of_data, of_name, ElemTrees, no_elems, elem, FieldTree, unit, reserved, access, connect_name, connect_buffer, extended, ExternalParts, ItemTree, name, scope, method, external, external_block, create, create_field, mutex, event, region, field, index_field, bank_field, ItemTrees, no_items, item}
-use Rattle.acpi_terms.specs.Forms.{FixedArgument, name_arg, source_arg, byte_arg, word_arg, dword_arg, count_arg, int_arg, Value, Values, fixed_arguments, ArgumentsOf, kind_opcode, kind_arguments}
+use Rattle.acpi_tree.specs.Tree.{FieldTree, unit, reserved, access, connect_name, connect_buffer, extended}
+use Rattle.acpi_terms.specs.Forms.{FixedArgument, name_arg, source_arg, byte_arg, word_arg, dword_arg, count_arg, int_arg, Value, Values, fixed_arguments, ArgumentsOf}
 
 -- ---- fixed arguments
 
@@ -66,25 +65,6 @@ abbrev pub each_bytes : {A : Type 0} → (A → Option (List ℕ)) → List A �
 each_bytes f [] = Some []
 each_bytes f (x ∷ xs) = option_append (f x) (each_bytes f xs)
 
--- ---- data (20.2.3 and 20.2.5.4)
-
--- None where a package is too long, here and below.
-abbrev mutual
-  pub data_bytes : DataTree → Option (List ℕ)
-  data_bytes (int i) = Some (int_bytes i)
-  data_bytes (str text) = Some (0x0D ∷ (text ++ 0x00 ∷ []))
-  data_bytes (buffer size content) = filled_bytes opcodes.Buffer (size, tt) (Some content)
-  data_bytes (pkg count es) = filled_bytes opcodes.Package (count, tt) (elems_bytes es)
-  data_bytes (var_pkg count es) = filled_bytes opcodes.VarPackage (count, tt) (elems_bytes es)
-
-  pub elem_bytes : ElemTree → Option (List ℕ)
-  elem_bytes (of_data d) = data_bytes d
-  elem_bytes (of_name n) = Some (name_bytes n)
-
-  pub elems_bytes : ElemTrees → Option (List ℕ)
-  elems_bytes no_elems = Some []
-  elems_bytes (elem e es) = option_append (elem_bytes e) (elems_bytes es)
-
 -- ---- field elements (20.2.5.2 FieldElement)
 
 -- a number of bits, which counts no bytes of its own, and has at most 28 bits (20.2.4)
@@ -102,36 +82,3 @@ field_bytes (extended kind attribute len) = Some (0x03 ∷ kind ∷ attribute �
 
 abbrev pub fields_bytes : List FieldTree → Option (List ℕ)
 fields_bytes es = each_bytes field_bytes es
-
--- ---- items (20.2.5.1 and 20.2.5.2)
-
-abbrev pub external_bytes : ExternalParts → List ℕ
-external_bytes x = form_bytes opcodes.External (x.name, (x.kind, (x.args, tt)))
-
-abbrev mutual
-  pub item_bytes : ItemTree → Option (List ℕ)
-  item_bytes (name n d) = option_append (Some (0x08 ∷ name_bytes n)) (data_bytes d)
-  item_bytes (scope kind n is) =
-      filled_bytes (kind_opcode kind) (kind_arguments kind n) (items_bytes is)
-  item_bytes (method n flags code) = filled_bytes opcodes.Method (n, (flags, tt)) (Some code)
-  item_bytes (external x) = Some (external_bytes x)
-  item_bytes (external_block xs) =
-      filled_with (0xA0 ∷ []) (0x00 ∷ []) (each_bytes (λ x. Some (external_bytes x)) xs)
-  item_bytes (create w source index n) =
-      Some (form_bytes (opcodes.Create w) (source, (index, (n, tt))))
-  item_bytes (create_field source index bits n) =
-      Some (form_bytes opcodes.CreateField (source, (index, (bits, (n, tt)))))
-  item_bytes (mutex n flags) = Some (form_bytes opcodes.Mutex (n, (flags, tt)))
-  item_bytes (event n) = Some (form_bytes opcodes.Event (n, tt))
-  item_bytes (region n space offset len) =
-      Some (form_bytes opcodes.Region (n, (space, (offset, (len, tt)))))
-  item_bytes (field r flags es) = filled_bytes opcodes.Field (r, (flags, tt)) (fields_bytes es)
-  item_bytes (index_field i d flags es) =
-      filled_bytes opcodes.IndexField (i, (d, (flags, tt))) (fields_bytes es)
-  item_bytes (bank_field r bank value flags es) =
-      filled_bytes opcodes.BankField (r, (bank, (value, (flags, tt)))) (fields_bytes es)
-
-  -- one after another
-  pub items_bytes : ItemTrees → Option (List ℕ)
-  items_bytes no_items = Some []
-  items_bytes (item i is) = option_append (item_bytes i) (items_bytes is)

@@ -1,16 +1,18 @@
 -- What is written is read again.
-use Rattle.std.specs.Prelude.{◌≡◌, ◌<◌, ℕ, true, List, [], ◌∷◌, Some}
+use Rattle.std.specs.Prelude.{◌≡◌, ◌<◌, ◌^◌, ℕ, true, List, [], ◌∷◌, Some}
 use Rattle.std.specs.List.{AllByRecursion}
 use Rattle.acpi_name.specs.Names.{IsName, is_segment}
 use Rattle.acpi_tree.specs.declared.tree.Int.{Int}
 use Rattle.acpi_tree.specs.declared.tree.Int.TheVariants.{Word, DWord, QWord}
-use Rattle.acpi_tree.specs.Tree.{DataTree, int, str, buffer, pkg, var_pkg, ElemTree, of_data, of_name, ElemTrees, no_elems, elem, FieldTree, unit, connect_name, connect_buffer, ExternalParts, ItemTree, name, scope, method, external, external_block, create, create_field, mutex, event, region, field, index_field, bank_field, ItemTrees, no_items, item}
+use Rattle.acpi_tree.specs.DataTerms.{data_term}
+use Rattle.acpi_tree.specs.Terms.{TermTree, TermTrees, int, buffer, pkg, var_pkg, raw, ref, call, apply, ElseTree, if_do, no_else, else_do, while_do, declare, declare_units, no_terms, more}
+use Rattle.acpi_tree.specs.Tree.{FieldTree, unit, connect_name, connect_buffer, ExternalParts, ItemTree, name, scope, method, external, external_block, create, create_field, mutex, event, region, field, index_field, bank_field, ItemTrees, no_items, item}
 use Rattle.acpi_tree.specs.Fits.{items_fit}
 use Rattle.acpi_terms.specs.Forms.{FixedArgument, name_arg, source_arg, word_arg, dword_arg, int_arg, Value, Values, fixed_arguments, ArgumentsOf, kind_opcode, kind_arguments}
 use Rattle.acpi_code.specs.declared.opcode.Opcode.{Opcode}
 use Rattle.acpi_code.specs.declared.opcode.Opcode.TheVariants as opcodes
 use Rattle.acpi_terms.specs.Spelling.{SpellsItems}
-use Rattle.acpi_write.specs.Canonical.{items_bytes}
+use Rattle.acpi_write.specs.CanonicalItems.{items_bytes}
 
 -- A tree apart from memory has numbers of any size and names of any length. These trees have values of the
 -- types that a value in memory has: numbers of their width, names, segments.
@@ -36,34 +38,44 @@ AreTyped (k ∷ ks) v = IsTyped k v.0 × AreTyped ks v.1
 abbrev pub IsFormTyped : (o : Opcode) → ArgumentsOf o → Type 0
 IsFormTyped o v = AreTyped (fixed_arguments o) v
 
-abbrev mutual
-  pub IsDataTyped : DataTree → Type 0
-  IsDataTyped (int i) = IsIntTyped i
-  IsDataTyped (str text) = Unit {0}
-  IsDataTyped (buffer size content) = IsIntTyped size
-  IsDataTyped (pkg count es) = AreElemsTyped es
-  IsDataTyped (var_pkg count es) = IsIntTyped count × AreElemsTyped es
-
-  pub IsElemTyped : ElemTree → Type 0
-  IsElemTyped (of_data d) = IsDataTyped d
-  IsElemTyped (of_name n) = IsName n
-
-  pub AreElemsTyped : ElemTrees → Type 0
-  AreElemsTyped no_elems = Unit {0}
-  AreElemsTyped (elem e es) = IsElemTyped e × AreElemsTyped es
-
 abbrev pub IsFieldTyped : FieldTree → Type 0
 IsFieldTyped (unit s bits) = is_segment s ≡ true
 IsFieldTyped (connect_name n) = IsName n
 IsFieldTyped (connect_buffer size content) = IsIntTyped size
 IsFieldTyped _ = Unit {0}
 
+abbrev mutual
+  pub IsTermTyped : TermTree → Type 0
+  IsTermTyped (int i) = IsIntTyped i
+  IsTermTyped (buffer size content) = IsTermTyped size
+  IsTermTyped (pkg count es) = AreTermsTyped es
+  IsTermTyped (var_pkg count es) = IsTermTyped count × AreTermsTyped es
+  IsTermTyped (raw k n) = n < 256 ^ k
+  IsTermTyped (ref n) = IsName n
+  IsTermTyped (call n vs) = IsName n × AreTermsTyped vs
+  IsTermTyped (apply op vs) = AreTermsTyped vs
+  IsTermTyped (if_do v ts e) = IsTermTyped v × AreTermsTyped ts × IsElseTyped e
+  IsTermTyped (while_do v ts) = IsTermTyped v × AreTermsTyped ts
+  IsTermTyped (declare form before n behind) =
+      AreTermsTyped before × IsName n × AreTermsTyped behind
+  IsTermTyped (declare_units form ns vs es) =
+      AllByRecursion IsName ns × AreTermsTyped vs × AllByRecursion IsFieldTyped es
+  IsTermTyped _ = Unit {0}
+
+  pub IsElseTyped : ElseTree → Type 0
+  IsElseTyped no_else = Unit {0}
+  IsElseTyped (else_do ts) = AreTermsTyped ts
+
+  pub AreTermsTyped : TermTrees → Type 0
+  AreTermsTyped no_terms = Unit {0}
+  AreTermsTyped (more t ts) = IsTermTyped t × AreTermsTyped ts
+
 abbrev pub IsExternalTyped : ExternalParts → Type 0
 IsExternalTyped x = IsName x.name
 
 abbrev mutual
   pub IsItemTyped : ItemTree → Type 0
-  IsItemTyped (name n d) = IsName n × IsDataTyped d
+  IsItemTyped (name n d) = IsName n × IsTermTyped (data_term d)
   IsItemTyped (scope kind n is) =
       IsFormTyped (kind_opcode kind) (kind_arguments kind n) × AreItemsTyped is
   IsItemTyped (method n flags code) = IsFormTyped opcodes.Method (n, (flags, tt))

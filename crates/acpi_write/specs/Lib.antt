@@ -1,5 +1,6 @@
 pub mod Canonical
 pub mod CanonicalTerms
+pub mod CanonicalItems
 pub mod Tables
 pub mod Laws
 pub mod TermLaws

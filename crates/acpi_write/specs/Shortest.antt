@@ -6,7 +6,7 @@ use Rattle.acpi_tree.specs.Terms.{TermTrees}
 use Rattle.acpi_terms.specs.Spelling.{SpellsItems}
 use Rattle.acpi_body.specs.Arguments.{Arguments}
 use Rattle.acpi_body.specs.Statements.{ReadsBody}
-use Rattle.acpi_write.specs.Canonical.{items_bytes}
+use Rattle.acpi_write.specs.CanonicalItems.{items_bytes}
 use Rattle.acpi_write.specs.CanonicalTerms.{terms_bytes}
 use Rattle.acpi_write.specs.Laws.{AreItemsTyped}
 

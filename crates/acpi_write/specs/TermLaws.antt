@@ -1,43 +1,14 @@
 -- What is written of terms is read again (ACPI 6.5, 20.2.5).
-use Rattle.std.specs.Prelude.{◌≡◌, ◌<◌, ◌≤◌, ◌^◌, ℕ, zero, suc, true, List, Option, Some}
+use Rattle.std.specs.Prelude.{◌≡◌, ◌≤◌, ℕ, zero, suc, true, List, Option, Some}
 use Rattle.std.specs.FinMap as finite
-use Rattle.std.specs.List.{AllByRecursion}
-use Rattle.acpi_name.specs.Names.{IsName, Segment, NameParts}
-use Rattle.acpi_tree.specs.Terms.{TermTree, TermTrees, int, buffer, pkg, var_pkg, raw, ref, call, apply, ElseTree, if_do, no_else, else_do, while_do, declare, declare_units, no_terms, more}
+use Rattle.acpi_name.specs.Names.{Segment, NameParts}
+use Rattle.acpi_tree.specs.Terms.{TermTree, TermTrees, buffer, pkg, var_pkg, call, apply, ElseTree, if_do, no_else, else_do, while_do, declare, declare_units, no_terms, more}
 use Rattle.acpi_tree.specs.TermFits.{terms_fit}
 use Rattle.acpi_body.specs.Arguments.{Locals, Arguments}
 use Rattle.acpi_body.specs.Spelling.{heights}
 use Rattle.acpi_body.specs.Statements.{MayDeclare, locals_after, locals_after_all, ReadsBody}
-use Rattle.acpi_write.specs.Laws.{IsIntTyped, IsFieldTyped}
+use Rattle.acpi_write.specs.Laws.{AreTermsTyped}
 use Rattle.acpi_write.specs.CanonicalTerms.{terms_bytes}
-
--- ---- values of the types that a value in memory has: numbers of their width, names, segments
-
-abbrev mutual
-  pub IsTermTyped : TermTree → Type 0
-  IsTermTyped (int i) = IsIntTyped i
-  IsTermTyped (buffer size content) = IsTermTyped size
-  IsTermTyped (pkg count es) = AreTermsTyped es
-  IsTermTyped (var_pkg count es) = IsTermTyped count × AreTermsTyped es
-  IsTermTyped (raw k n) = n < 256 ^ k
-  IsTermTyped (ref n) = IsName n
-  IsTermTyped (call n vs) = IsName n × AreTermsTyped vs
-  IsTermTyped (apply op vs) = AreTermsTyped vs
-  IsTermTyped (if_do v ts e) = IsTermTyped v × AreTermsTyped ts × IsElseTyped e
-  IsTermTyped (while_do v ts) = IsTermTyped v × AreTermsTyped ts
-  IsTermTyped (declare form before n behind) =
-      AreTermsTyped before × IsName n × AreTermsTyped behind
-  IsTermTyped (declare_units form ns vs es) =
-      AllByRecursion IsName ns × AreTermsTyped vs × AllByRecursion IsFieldTyped es
-  IsTermTyped _ = Unit {0}
-
-  pub IsElseTyped : ElseTree → Type 0
-  IsElseTyped no_else = Unit {0}
-  IsElseTyped (else_do ts) = AreTermsTyped ts
-
-  pub AreTermsTyped : TermTrees → Type 0
-  AreTermsTyped no_terms = Unit {0}
-  AreTermsTyped (more t ts) = IsTermTyped t × AreTermsTyped ts
 
 -- ---- calls and declared names
 

@@ -3,10 +3,12 @@
 ghost use Rattle.std.specs.Prelude.{◌++◌, ◌∷◌, [], Some, OnOk};
 ghost use Rattle.acpi_tree.specs.View.{data_view, elem_view, elems_view, field_view, fields_view};
 ghost use Rattle.acpi_tree.specs.Tree.{elems_of};
-ghost use Rattle.acpi_write.specs.Canonical.{int_bytes, filled_with, data_bytes, elem_bytes, elems_bytes, bits_bytes, field_bytes, fields_bytes};
+ghost use Rattle.acpi_tree.specs.DataTerms.{data_term, elem_term, elem_terms};
+ghost use Rattle.acpi_write.specs.Canonical.{int_bytes, filled_with, bits_bytes, field_bytes, fields_bytes};
+ghost use Rattle.acpi_write.specs.CanonicalTerms.{term_bytes, terms_bytes};
 ghost use Rattle.acpi_write.specs.steps.Writing.{Puts};
 ghost use Rattle.std.specs.List.{AllByRecursion};
-ghost use Rattle.acpi_write.specs.Laws.{IsIntTyped, IsDataTyped, IsElemTyped, AreElemsTyped, IsFieldTyped};
+ghost use Rattle.acpi_write.specs.Laws.{IsIntTyped, IsTermTyped, AreTermsTyped, IsFieldTyped};
 
 use crate::fault::WriteFault;
 use crate::writer::{Argument, Writer};
@@ -37,8 +39,9 @@ impl Writer {
     /// Data (20.2.3, 20.2.5.4).
     #[cycle(data)]
     pub(crate) fn data(&mut self, data: &Data) -> Result<(), WriteFault>
-        ensures put { Puts result (data_bytes (data_view «data».now)) self.old self.new }
-        ensures typed { OnOk result (IsDataTyped (data_view «data».now)) }
+        ensures put { Puts result (term_bytes (data_term (data_view «data».now))) self.old
+            self.new }
+        ensures typed { OnOk result (IsTermTyped (data_term (data_view «data».now))) }
     {
         match data {
             Data::Int(int) => {
@@ -62,8 +65,8 @@ impl Writer {
 
     #[cycle(data)]
     fn elem(&mut self, elem: &Elem) -> Result<(), WriteFault>
-        ensures put { Puts result (elem_bytes (elem_view elem.now)) self.old self.new }
-        ensures typed { OnOk result (IsElemTyped (elem_view elem.now)) }
+        ensures put { Puts result (term_bytes (elem_term (elem_view elem.now))) self.old self.new }
+        ensures typed { OnOk result (IsTermTyped (elem_term (elem_view elem.now))) }
     {
         match elem {
             Elem::Data(data) => self.data(data),
@@ -76,9 +79,9 @@ impl Writer {
 
     #[cycle(data)]
     fn elems(&mut self, elems: &[Elem]) -> Result<(), WriteFault>
-        ensures put { Puts result (elems_bytes (elems_of (elems_view elems.now))) self.old
-            self.new }
-        ensures typed { OnOk result (AreElemsTyped (elems_of (elems_view elems.now))) }
+        ensures put { Puts result (terms_bytes (elem_terms (elems_of (elems_view elems.now))))
+            self.old self.new }
+        ensures typed { OnOk result (AreTermsTyped (elem_terms (elems_of (elems_view elems.now)))) }
     {
         for i in (0..elems.len()).rev() {
             self.elem(&elems[i])?;

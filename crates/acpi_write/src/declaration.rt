@@ -11,8 +11,7 @@ ghost use Rattle.acpi_write.specs.CanonicalTerms.{term_bytes};
 ghost use Rattle.acpi_write.specs.steps.Writing.{Puts};
 ghost use Rattle.std.specs.List.{AllByRecursion};
 ghost use Rattle.acpi_name.specs.Names.{IsName};
-ghost use Rattle.acpi_write.specs.Laws.{IsFieldTyped};
-ghost use Rattle.acpi_write.specs.TermLaws.{IsTermTyped};
+ghost use Rattle.acpi_write.specs.Laws.{IsFieldTyped, IsTermTyped};
 
 use crate::fault::WriteFault;
 use crate::item::width_opcode;

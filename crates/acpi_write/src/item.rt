@@ -4,12 +4,14 @@ ghost use Rattle.std.specs.Prelude.{◌≡◌, ◌∷◌, [], Some, false, OnOk}
 ghost use Rattle.acpi_code.specs.Opcodes.{width_bytes};
 ghost use Rattle.acpi_tree.specs.Tree.{name as named_item, method as method_item, external_block as external_block_item, create as create_item, create_field as create_field_item, region as region_item};
 ghost use Rattle.acpi_tree.specs.View.{data_view, external_view, externals_view, fields_view, item_view, items_tree};
+ghost use Rattle.acpi_tree.specs.DataTerms.{data_term};
 ghost use Rattle.acpi_tree.specs.Fits.{holds_items};
-ghost use Rattle.acpi_write.specs.Canonical.{each_bytes, filled_with, external_bytes, fields_bytes, item_bytes, items_bytes};
+ghost use Rattle.acpi_write.specs.Canonical.{each_bytes, filled_with, fields_bytes};
+ghost use Rattle.acpi_write.specs.CanonicalItems.{external_bytes, item_bytes, items_bytes};
 ghost use Rattle.acpi_write.specs.steps.Writing.{Puts, pieces, AreArgumentsTyped};
 ghost use Rattle.std.specs.List.{AllByRecursion};
 ghost use Rattle.acpi_name.specs.Names.{IsName};
-ghost use Rattle.acpi_write.specs.Laws.{IsDataTyped, IsFieldTyped, IsExternalTyped, IsItemTyped, AreItemsTyped};
+ghost use Rattle.acpi_write.specs.Laws.{IsTermTyped, IsFieldTyped, IsExternalTyped, IsItemTyped, AreItemsTyped};
 
 use crate::fault::WriteFault;
 use crate::writer::{Argument, Writer};
@@ -179,7 +181,8 @@ impl Writer {
     fn named(&mut self, name: &Name, data: &Data) -> Result<(), WriteFault>
         ensures put { Puts result (item_bytes (named_item name.now (data_view «data».now)))
             self.old self.new }
-        ensures typed { OnOk result (IsName name.now × IsDataTyped (data_view «data».now)) }
+        ensures typed { OnOk result (IsName name.now
+            × IsTermTyped (data_term (data_view «data».now))) }
     {
         self.data(data)?;
         self.name(name)?;

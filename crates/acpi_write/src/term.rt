@@ -10,8 +10,7 @@ ghost use Rattle.acpi_write.specs.Canonical.{int_bytes, filled_with};
 ghost use Rattle.acpi_write.specs.CanonicalTerms.{term_bytes, terms_bytes};
 ghost use Rattle.acpi_write.specs.steps.Writing.{Puts};
 ghost use Rattle.acpi_name.specs.Names.{IsName};
-ghost use Rattle.acpi_write.specs.Laws.{IsIntTyped};
-ghost use Rattle.acpi_write.specs.TermLaws.{IsTermTyped, AreTermsTyped};
+ghost use Rattle.acpi_write.specs.Laws.{IsIntTyped, IsTermTyped, AreTermsTyped};
 
 use crate::fault::WriteFault;
 use crate::writer::{Argument, Writer};

@@ -12,7 +12,7 @@ ghost use Rattle.acpi_terms.specs.Spelling.{SpellsItems};
 ghost use Rattle.acpi_body.specs.Arguments.{Arguments};
 ghost use Rattle.acpi_body.specs.Spelling.{heights};
 ghost use Rattle.acpi_body.specs.Statements.{ReadsBody};
-ghost use Rattle.acpi_write.specs.Canonical.{items_bytes};
+ghost use Rattle.acpi_write.specs.CanonicalItems.{items_bytes};
 ghost use Rattle.acpi_write.specs.CanonicalTerms.{terms_bytes};
 ghost use Rattle.acpi_write.specs.TermLaws.{AllMayStandIn};
 ghost use Rattle.acpi_write.specs.Tables.{header_for};

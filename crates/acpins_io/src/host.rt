@@ -33,11 +33,11 @@ pub struct HostFiles<'a> {
 /// A file of the host that is read, or its standard input.
 #[derive(Drop)]
 pub struct HostReader {
-    source: Source,
+    source: HostInput,
 }
 
 #[derive(Drop)]
-enum Source {
+enum HostInput {
     Stdin(Stdin),
     File(File),
 }
@@ -76,8 +76,8 @@ enum Target {
 impl Read for HostReader {
     fn read(&mut self, bytes: &mut [u8]) -> io::Result<usize> {
         match &mut self.source {
-            Source::Stdin(stdin) => stdin.read(bytes),
-            Source::File(file) => file.read(bytes),
+            HostInput::Stdin(stdin) => stdin.read(bytes),
+            HostInput::File(file) => file.read(bytes),
         }
     }
 }
@@ -227,9 +227,9 @@ impl<'a> Files for HostFiles<'a> {
 
     fn open(&mut self, name: &str) -> Result<HostReader, FileFault> {
         let source = if self.is_standard(name) {
-            Source::Stdin(self.rt.stdin())
+            HostInput::Stdin(self.rt.stdin())
         } else {
-            Source::File(File::open(self.rt, name)?)
+            HostInput::File(File::open(self.rt, name)?)
         };
         Ok(HostReader { source })
     }

@@ -78,10 +78,6 @@ part_text (plain_text bytes) = escaped bytes
 part_text (closing_tag element) = codes "</" ++ element_name element ++ codes ">"
 part_text line_end = codes "\n"
 
--- some parts one after another
-abbrev pub IsOfParts : List ℕ → Type 0
-IsOfParts bytes = ∥ ((parts : List Part) × (bytes ≡ flat_map part_text parts)) ∥₁
-
 -- a head, and parts behind it
 abbrev pub IsPage : List ℕ → List ℕ → Type 0
 IsPage head bytes = ∥ ((parts : List Part) × (bytes ≡ head ++ flat_map part_text parts)) ∥₁

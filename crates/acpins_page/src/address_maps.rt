@@ -1,13 +1,13 @@
 //! Maps of addresses, as pictures.
 
 use crate::markup::{AttributeName, Element};
-use crate::parts::with_value;
+use crate::parts::{with_text, with_words};
 use crate::writer::{Page, digits};
 use acpi_overview::{Certainty, Region, kind_of};
-use acpi_overview_text::{
-    by_address, put, put_addresses, put_decimal, put_length, put_region_path, space_word,
-};
+use acpi_overview_text::{by_address, put_addresses, put_length, put_region_path, space_word};
+use acpi_text::put_decimal;
 use std::alloc::{AllocError, Global};
+use text_buffer::Text;
 
 /// The height of a region in a picture.
 const BOX: usize = 38;
@@ -39,10 +39,7 @@ fn map_boxes<'a, 'b>(
         if region.space != space || boxes.len() >= MOST {
             continue;
         }
-        let from = match region.range() {
-            Some((from, _)) => Some(from),
-            None => None,
-        };
+        let from = region.range().map(|r| r.0);
         let has_gap = !boxes.is_empty() && (from.is_none() || from != end);
         if has_gap {
             top = top.saturating_add(GAP);
@@ -53,10 +50,7 @@ fn map_boxes<'a, 'b>(
             has_gap,
         })?;
         top = top.saturating_add(BOX);
-        end = match region.range() {
-            Some((_, to)) => Some(to),
-            None => None,
-        };
+        end = region.range().map(|r| r.1);
     }
     Ok((boxes, top.saturating_add(2)))
 }
@@ -70,96 +64,91 @@ fn class_of(mark: Certainty) -> &'static str {
     }
 }
 
-// A line of text in a picture.
-fn put_line(
-    alloc: Global,
-    page: &mut Page,
-    top: usize,
-    class: &str,
-    text: &[u8],
-) -> Result<(), AllocError> {
+// Begins a line of text in a picture.
+fn open_line(page: &mut Page, top: usize, class: &str) {
+    let top = digits(page.alloc(), top);
     page.open(
         Element::Text,
         &[
-            with_value(AttributeName::X, b"8"),
-            with_value(AttributeName::Y, &digits(alloc, top)?),
-            with_value(AttributeName::Class, class.as_bytes()),
+            with_words(AttributeName::X, "8"),
+            with_text(AttributeName::Y, &top),
+            with_words(AttributeName::Class, class),
         ],
-    )?;
-    page.text(text)?;
-    page.close(Element::Text)
+    )
 }
 
-// A line between two regions that don't touch.
-fn put_gap(alloc: Global, page: &mut Page, top: usize) -> Result<(), AllocError> {
+// Puts a line between two regions that don't touch.
+fn put_gap(page: &mut Page, top: usize) {
+    let from = digits(page.alloc(), top.saturating_sub(GAP));
+    let to = digits(page.alloc(), top);
     page.open(
         Element::Line,
         &[
-            with_value(AttributeName::Class, b"g"),
-            with_value(AttributeName::X1, b"170"),
-            with_value(AttributeName::X2, b"170"),
-            with_value(AttributeName::Y1, &digits(alloc, top.saturating_sub(GAP))?),
-            with_value(AttributeName::Y2, &digits(alloc, top)?),
+            with_words(AttributeName::Class, "g"),
+            with_words(AttributeName::X1, "170"),
+            with_words(AttributeName::X2, "170"),
+            with_text(AttributeName::Y1, &from),
+            with_text(AttributeName::Y2, &to),
         ],
-    )?;
+    );
     page.close(Element::Line)
 }
 
-// The frame of a region.
-fn put_frame(alloc: Global, page: &mut Page, map_box: &MapBox<'_, '_>) -> Result<(), AllocError> {
+// Puts the frame of a region.
+fn put_frame(page: &mut Page, map_box: &MapBox<'_, '_>) {
+    let top = digits(page.alloc(), map_box.top);
     page.open(
         Element::Rect,
         &[
-            with_value(AttributeName::X, b"1"),
-            with_value(AttributeName::Y, &digits(alloc, map_box.top)?),
-            with_value(AttributeName::Width, b"338"),
-            with_value(AttributeName::Height, b"36"),
-            with_value(AttributeName::Rx, b"3"),
-            with_value(
-                AttributeName::Class,
-                class_of(map_box.region.mark()).as_bytes(),
-            ),
+            with_words(AttributeName::X, "1"),
+            with_text(AttributeName::Y, &top),
+            with_words(AttributeName::Width, "338"),
+            with_words(AttributeName::Height, "36"),
+            with_words(AttributeName::Rx, "3"),
+            with_words(AttributeName::Class, class_of(map_box.region.mark())),
         ],
-    )?;
+    );
     page.close(Element::Rect)
 }
 
-// A region: its addresses and its size, and its path.
-fn put_box(alloc: Global, page: &mut Page, map_box: &MapBox<'_, '_>) -> Result<(), AllocError> {
+// Puts a region: its addresses and its size, and its path.
+fn put_box(page: &mut Page, map_box: &MapBox<'_, '_>) {
     if map_box.has_gap {
-        put_gap(alloc, page, map_box.top)?;
+        put_gap(page, map_box.top);
     }
-    let mut path = Vec::new(alloc);
-    put_region_path(&mut path, map_box.region)?;
-    page.open(Element::G, &[])?;
-    page.element(Element::Title, &path)?;
-    put_frame(alloc, page, map_box)?;
-    let mut text = Vec::new(alloc);
-    put_addresses(&mut text, map_box.region)?;
-    put(&mut text, "   ")?;
-    put_length(&mut text, map_box.region)?;
-    put_line(alloc, page, map_box.top.saturating_add(15), "m", &text)?;
-    put_line(alloc, page, map_box.top.saturating_add(29), "t", &path)?;
+    page.open(Element::G, &[]);
+    page.open(Element::Title, &[]);
+    put_region_path(&mut page.text, map_box.region);
+    page.close(Element::Title);
+    put_frame(page, map_box);
+    open_line(page, map_box.top.saturating_add(15), "m");
+    put_addresses(&mut page.text, map_box.region);
+    page.text.put("   ");
+    put_length(&mut page.text, map_box.region);
+    page.close(Element::Text);
+    open_line(page, map_box.top.saturating_add(29), "t");
+    put_region_path(&mut page.text, map_box.region);
+    page.close(Element::Text);
     page.close_line(Element::G)
 }
 
-// Opens a picture of that height.
-fn open_picture(alloc: Global, page: &mut Page, height: usize) -> Result<(), AllocError> {
-    let mut shown = Vec::new(alloc);
-    put(&mut shown, "0 0 340 ")?;
-    put_decimal(&mut shown, height as u64)?;
+// Begins a picture of that height.
+fn open_picture(page: &mut Page, height: usize) {
+    let mut shown = Text::new(page.alloc());
+    shown.put("0 0 340 ");
+    put_decimal(&mut shown, height as u64);
     page.open(
         Element::Svg,
         &[
-            with_value(AttributeName::Role, b"img"),
-            with_value(AttributeName::Width, b"340"),
-            with_value(AttributeName::ViewBox, &shown),
+            with_words(AttributeName::Role, "img"),
+            with_words(AttributeName::Width, "340"),
+            with_text(AttributeName::ViewBox, &shown),
         ],
-    )?;
+    );
     page.end_line()
 }
 
-// The picture of an address space, if some region lies in it.
+// Puts the picture of an address space, if some region lies in it.
 fn put_map(
     alloc: Global,
     page: &mut Page,
@@ -170,17 +159,18 @@ fn put_map(
     if boxes.is_empty() {
         return Ok(());
     }
-    page.open(Element::Figure, &[])?;
-    page.element(Element::Figcaption, space_word(space).as_bytes())?;
-    open_picture(alloc, page, height)?;
+    page.open(Element::Figure, &[]);
+    page.element(Element::Figcaption, space_word(space));
+    open_picture(page, height);
     for region in &boxes {
-        put_box(alloc, page, region)?;
+        put_box(page, region);
     }
-    page.close(Element::Svg)?;
-    page.close_line(Element::Figure)
+    page.close(Element::Svg);
+    page.close_line(Element::Figure);
+    Ok(())
 }
 
-/// Puts a picture of the regions in memory, and one of those in ports.
+/// Puts a picture of the regions in memory, and one of those in ports. Only an allocation failure is an error.
 pub(crate) fn put_maps(
     alloc: Global,
     page: &mut Page,
@@ -192,10 +182,11 @@ pub(crate) fn put_maps(
     page.heading(
         "Where it touches the machine",
         "solid: constant bounds; dashed: read at run time",
-    )?;
-    page.open_class(Element::Div, "maps")?;
-    page.end_line()?;
+    );
+    page.open_class(Element::Div, "maps");
+    page.end_line();
     put_map(alloc, page, regions, 0)?;
     put_map(alloc, page, regions, 1)?;
-    page.close_line(Element::Div)
+    page.close_line(Element::Div);
+    Ok(())
 }

@@ -1,112 +1,98 @@
 //! The tree of devices, as HTML.
 
 use crate::markup::{AttributeName, Element};
-use crate::parts::with_value;
+use crate::parts::{with_text, with_words};
 use crate::writer::Page;
-use acpi_kinds::ObjectKind;
-use acpi_overview::{Container, Lines, Overview, is_container};
-use acpi_overview_text::{Row, Rows, put_id, put_short_path, put_status};
+use acpi_overview::{Container, Lines, Overview, Value, is_container};
+use acpi_overview_text::{Row, Rows, is_empty, put_id, put_short_path, put_status};
 use std::alloc::{AllocError, Global};
+use text_buffer::Text;
 
-// A badge of a class, with a text; nothing where the text is empty.
-fn put_badge(page: &mut Page, class: &str, text: &[u8]) -> Result<(), AllocError> {
-    if text.is_empty() {
-        return Ok(());
+// Puts a badge of a class, with bytes as its text; nothing where there are none.
+fn put_badge(page: &mut Page, class: &str, bytes: &[u8]) {
+    if !bytes.is_empty() {
+        page.class_element(Element::B, class, bytes);
     }
-    page.class_element(Element::B, class, text)
 }
 
-fn put_ids(alloc: Global, page: &mut Page, container: &Container<'_>) -> Result<(), AllocError> {
-    let mut id = Vec::new(alloc);
-    put_id(&mut id, &container.values.hid)?;
-    put_badge(page, "i", &id)?;
-    id.clear();
-    put_id(&mut id, &container.values.cid)?;
-    put_badge(page, "c", &id)
+// Puts a badge of a class with an id of a device; nothing where there is none.
+fn put_id_badge(page: &mut Page, class: &str, value: &Value<'_>) {
+    let mut id = Text::new(page.alloc());
+    put_id(&mut id, value);
+    if !is_empty(&id) {
+        page.open_class(Element::B, class);
+        page.text.put_text(&id);
+        page.close(Element::B);
+    }
 }
 
-// The conditions of all that declare the container.
-fn put_condition_badges(
-    page: &mut Page,
-    lines: &Lines<'_>,
-    container: &Container<'_>,
-) -> Result<(), AllocError> {
+// Puts whether a device is there, where that isn't sure.
+fn put_status_badge(page: &mut Page, value: &Value<'_>) {
+    if !value.is_missing() {
+        page.open_class(Element::B, "s");
+        put_status(&mut page.text, value);
+        page.close(Element::B);
+    }
+}
+
+// Puts the conditions of all that declare the container.
+fn put_condition_badges(page: &mut Page, lines: &Lines<'_>, container: &Container<'_>) {
     for line in lines.conditions_at(container.object.path) {
         if is_container(line.object.kind) {
-            put_badge(page, "f", &line.text)?;
+            put_badge(page, "f", &line.text);
         }
     }
-    Ok(())
 }
 
-fn put_status_badge(
-    alloc: Global,
-    page: &mut Page,
-    container: &Container<'_>,
-) -> Result<(), AllocError> {
-    if container.values.sta.is_missing() {
-        return Ok(());
+// Puts a small text of a class; nothing where it is empty.
+fn put_small(page: &mut Page, class: &str, bytes: &[u8]) {
+    if !bytes.is_empty() {
+        page.text.put(" ");
+        page.class_element(Element::Span, class, bytes);
     }
-    let mut status = Vec::new(alloc);
-    put_status(&mut status, &container.values.sta)?;
-    put_badge(page, "s", &status)
 }
 
-// A small text of a class.
-fn put_small(page: &mut Page, class: &str, text: &[u8]) -> Result<(), AllocError> {
-    if text.is_empty() {
-        return Ok(());
-    }
-    page.text(b" ")?;
-    page.class_element(Element::Span, class, text)
-}
-
-// What is said of a container.
-fn put_container(
-    alloc: Global,
-    page: &mut Page,
-    lines: &Lines<'_>,
-    row: &Row<'_, '_>,
-) -> Result<(), AllocError> {
+// Puts the name of a container, and its path where the name is pointed at.
+fn put_name(page: &mut Page, row: &Row<'_, '_>) {
     let container = row.container;
-    let mut path = Vec::new(alloc);
-    put_short_path(&mut path, container.object.path)?;
-    let class = with_value(AttributeName::Class, b"name");
+    let mut path = Text::new(page.alloc());
+    put_short_path(&mut path, container.object.path);
     page.open(
         Element::Span,
-        &[class, with_value(AttributeName::Title, &path)],
-    )?;
-    page.text(&row.names)?;
-    page.close(Element::Span)?;
-    put_ids(alloc, page, container)?;
-    put_badge(page, "a", &row.place)?;
-    put_status_badge(alloc, page, container)?;
-    put_condition_badges(page, lines, container)?;
-    put_small(page, "dim", row.what.as_bytes())?;
-    put_small(page, "r", &row.resources)?;
+        &[
+            with_words(AttributeName::Class, "name"),
+            with_text(AttributeName::Title, &path),
+        ],
+    );
+    page.text.put_all(&row.names);
+    page.close(Element::Span)
+}
+
+// Puts what is said of a container.
+fn put_container(page: &mut Page, lines: &Lines<'_>, row: &Row<'_, '_>) {
+    let container = row.container;
+    put_name(page, row);
+    put_id_badge(page, "i", &container.values.hid);
+    put_id_badge(page, "c", &container.values.cid);
+    put_badge(page, "a", &row.place);
+    put_status_badge(page, &container.values.sta);
+    put_condition_badges(page, lines, container);
+    put_small(page, "dim", row.what.as_bytes());
+    put_small(page, "r", &row.resources);
     put_small(page, "dim m", &row.has)
 }
 
 // Closes the details of the page that stand as deep as a container or deeper.
-fn put_closes(page: &mut Page, around: &mut Vec<usize>, depth: usize) -> Result<(), AllocError> {
-    for _ in 0..around.len() {
-        match around.last() {
-            Some(last) => {
-                if *last < depth {
-                    return Ok(());
-                }
-            }
-            None => return Ok(()),
-        }
-        around.pop();
-        page.close_line(Element::Details)?;
+fn put_closes(page: &mut Page, around: &mut Vec<usize>, depth: usize) {
+    let count = around.partition_point(|d| *d < depth);
+    for _ in count..around.len() {
+        page.close_line(Element::Details);
     }
-    Ok(())
+    around.truncate(count)
 }
 
-// A container with its details of the page around it.
+// Puts a container; one below which others stand begins details of the page, which end behind them.
 fn put_next(
-    alloc: Global,
     page: &mut Page,
     lines: &Lines<'_>,
     row: &Row<'_, '_>,
@@ -114,24 +100,22 @@ fn put_next(
     around: &mut Vec<usize>,
 ) -> Result<(), AllocError> {
     let depth = row.container.depth;
-    put_closes(page, around, depth)?;
+    put_closes(page, around, depth);
     if is_leaf {
-        if let ObjectKind::Scope = row.container.object.kind {
-            return Ok(());
-        }
-        page.open_class(Element::Div, "leaf")?;
-        put_container(alloc, page, lines, row)?;
-        return page.close_line(Element::Div);
+        page.open_class(Element::Div, "leaf");
+        put_container(page, lines, row);
+        page.close_line(Element::Div);
+        return Ok(());
     }
-    page.open(Element::Details, &[with_value(AttributeName::Open, b"")])?;
-    page.open(Element::Summary, &[])?;
-    put_container(alloc, page, lines, row)?;
-    page.close_line(Element::Summary)?;
+    page.open(Element::Details, &[with_words(AttributeName::Open, "")]);
+    page.open(Element::Summary, &[]);
+    put_container(page, lines, row);
+    page.close_line(Element::Summary);
     around.push(depth)?;
     Ok(())
 }
 
-/// Puts the tree of devices.
+/// Puts the tree of devices. Only an allocation failure is an error.
 pub(crate) fn put_devices(
     alloc: Global,
     page: &mut Page,
@@ -142,13 +126,13 @@ pub(crate) fn put_devices(
     page.heading(
         "Devices",
         "ids, address, _STA unless always there, resources of a constant _CRS, m methods, u field units",
-    )?;
+    );
     let mut around: Vec<usize> = Vec::new(alloc);
-    for row in rows.shown(alloc)? {
-        let is_root = matches!(row.container.object.kind, ObjectKind::Root);
-        if !is_root {
-            put_next(alloc, page, lines, row, rows.is_leaf(row), &mut around)?;
+    for row in rows.in_order(alloc)? {
+        if rows.is_shown(row) {
+            put_next(page, lines, row, rows.is_leaf(row), &mut around)?;
         }
     }
-    put_closes(page, &mut around, 0)
+    put_closes(page, &mut around, 0);
+    Ok(())
 }

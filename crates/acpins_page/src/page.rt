@@ -1,234 +1,156 @@
 //! The page: the overview of a machine as one file of HTML.
 
-ghost use Rattle.std.specs.Prelude.{◌≡◌, ◌++◌, IfOk};
+ghost use Rattle.std.specs.Prelude.{IfOk};
 ghost use Rattle.acpins_page.specs.Page.{IsPage};
 
 use crate::address_maps::put_maps;
 use crate::devices::put_devices;
 use crate::markup::{AttributeName, Element};
-use crate::parts::with_value;
+use crate::parts::with_text;
 use crate::regions::put_regions;
 use crate::style::HEAD;
-use crate::table_bytes::{Places, anchor_id, put_bytes};
+use crate::table_bytes::{TableMap, anchor_id, put_bytes};
 use crate::writer::Page;
-use acpi_overview::{ConditionLine, FoundLine, Lines, Overview, Site};
+use acpi_overview::{ConditionLine, FoundLine, Lines, Lint, OspmMethod, Overview, Site};
 use acpi_overview_text::{
-    put, put_decimal, put_first, put_lint, put_short_path, put_site, put_table, put_totals,
+    put_code_size, put_first, put_lint, put_short_path, put_site, put_table, put_totals,
 };
 use std::alloc::{AllocError, Global};
+use text_buffer::Text;
 
-fn put_heads(
-    alloc: Global,
-    page: &mut Page,
-    overview: &Overview<'_>,
-    lines: &Lines<'_>,
-    files: &[&str],
-) -> Result<(), AllocError> {
-    page.element(Element::H1, b"What the tables say")?;
-    page.end_line()?;
-    let mut text = Vec::new(alloc);
-    put_first(&mut text, overview, lines)?;
+// Puts how much there is of what, the tables with the names of their files, and what they hold.
+fn put_heads(page: &mut Page, overview: &Overview<'_>, lines: &Lines<'_>, files: &[&str]) {
+    page.element(Element::H1, "What the tables say");
+    page.end_line();
     let class = if lines.problems.is_empty() {
         "m good"
     } else {
         "m bad"
     };
-    put_paragraph(page, class, &text)?;
-    let tables = &overview.tables;
-    for number in 0..tables.len() {
-        text.clear();
-        put_table(&mut text, number, files.get(number), &tables[number])?;
-        put_paragraph(page, "m", &text)?;
+    page.open_class(Element::P, class);
+    put_first(&mut page.text, overview, lines);
+    page.close_line(Element::P);
+    for (number, table) in overview.tables.iter().enumerate() {
+        page.open_class(Element::P, "m");
+        put_table(&mut page.text, number, files.get(number), table);
+        page.close_line(Element::P);
     }
-    text.clear();
-    put(&mut text, "holds ")?;
-    put_totals(&mut text, &overview.totals, overview.regions.len())?;
-    put_paragraph(page, "m dim", &text)
+    page.open_class(Element::P, "m dim");
+    page.text.put("holds ");
+    put_totals(&mut page.text, &overview.totals, overview.regions.len());
+    page.close_line(Element::P)
 }
 
-fn put_paragraph(page: &mut Page, class: &str, text: &[u8]) -> Result<(), AllocError> {
-    page.class_element(Element::P, class, text)?;
-    page.end_line()
-}
-
-// A line that leads to the bytes at a site.
-fn put_linked(
-    alloc: Global,
-    page: &mut Page,
-    places: &Places,
-    site: Option<Site>,
-    line: &[u8],
-) -> Result<(), AllocError> {
-    page.open_class(Element::Li, "m")?;
-    match site.and_then(|s| places.anchor(s)) {
+// Puts a line of a list, which leads to the range of the map in which its site lies.
+fn put_linked(page: &mut Page, map: &TableMap<'_>, site: Option<Site>, line: &Text) {
+    page.open_class(Element::Li, "m");
+    match site.and_then(|s| map.anchor(s)) {
         Some(anchor) => {
-            let id = anchor_id(alloc, anchor)?;
-            page.open(Element::A, &[with_value(AttributeName::Href, &id)])?;
-            page.text(line)?;
-            page.close(Element::A)?;
+            let id = anchor_id(page.alloc(), anchor);
+            page.open(Element::A, &[with_text(AttributeName::Href, &id)]);
+            page.text.put_text(line);
+            page.close(Element::A);
         }
-        None => page.text(line)?,
+        None => page.text.put_text(line),
     }
     page.close_line(Element::Li)
 }
 
-// Lines in a list of a class, each of which leads to the bytes at its site.
-fn put_found(
-    alloc: Global,
-    page: &mut Page,
-    places: &Places,
-    class: &str,
-    lines: &[FoundLine],
-) -> Result<(), AllocError> {
-    page.open_class(Element::Ul, class)?;
+// Puts lines in a list of a class, each of which leads to the bytes at its site.
+fn put_found(page: &mut Page, map: &TableMap<'_>, class: &str, lines: &[FoundLine]) {
+    page.open_class(Element::Ul, class);
+    let mut text = Text::new(page.alloc());
     for line in lines {
-        put_linked(alloc, page, places, Some(line.site), &line.text)?;
+        text.clear();
+        text.put_all(&line.text);
+        put_linked(page, map, Some(line.site), &text);
     }
     page.close_line(Element::Ul)
 }
 
-fn put_problems(
-    alloc: Global,
-    page: &mut Page,
-    lines: &[FoundLine],
-    places: &Places,
-) -> Result<(), AllocError> {
-    if lines.is_empty() {
-        return Ok(());
+fn put_problems(page: &mut Page, map: &TableMap<'_>, lines: &[FoundLine]) {
+    if !lines.is_empty() {
+        page.heading("Problems", "table at offset: reason, what is lost");
+        put_found(page, map, "bad", lines);
     }
-    page.heading("Problems", "table at offset: reason, what is lost")?;
-    put_found(alloc, page, places, "bad", lines)
 }
 
-fn put_notes(
-    alloc: Global,
-    page: &mut Page,
-    lines: &[FoundLine],
-    places: &Places,
-) -> Result<(), AllocError> {
-    if lines.is_empty() {
-        return Ok(());
+fn put_notes(page: &mut Page, map: &TableMap<'_>, lines: &[FoundLine]) {
+    if !lines.is_empty() {
+        page.heading("Notes", "nothing is lost by these");
+        put_found(page, map, "odd", lines);
     }
-    page.heading("Notes", "nothing is lost by these")?;
-    put_found(alloc, page, places, "odd", lines)
 }
 
 // Opens a list that is folded, with the words that stand for it.
-fn open_folded(page: &mut Page, words: &str) -> Result<(), AllocError> {
-    page.open_class(Element::Details, "bytes")?;
-    page.element(Element::Summary, words.as_bytes())?;
-    page.open(Element::Ul, &[])?;
+fn open_folded(page: &mut Page, words: &str) {
+    page.open_class(Element::Details, "bytes");
+    page.element(Element::Summary, words);
+    page.open(Element::Ul, &[]);
     page.end_line()
 }
 
-fn close_folded(page: &mut Page) -> Result<(), AllocError> {
-    page.close(Element::Ul)?;
+fn close_folded(page: &mut Page) {
+    page.close(Element::Ul);
     page.close_line(Element::Details)
 }
 
-fn put_conditions(
-    alloc: Global,
-    page: &mut Page,
-    conditions: &[ConditionLine<'_>],
-    places: &Places,
-) -> Result<(), AllocError> {
+// Puts the objects that have a condition, if there are any, each with its condition.
+fn put_conditions(page: &mut Page, map: &TableMap<'_>, conditions: &[ConditionLine<'_>]) {
     if conditions.is_empty() {
-        return Ok(());
+        return;
     }
-    page.heading("Conditional", "what has to be so behind the ?")?;
-    open_folded(page, "objects that have a condition")?;
-    let mut line = Vec::new(alloc);
+    page.heading("Conditional", "what has to be so behind the ?");
+    open_folded(page, "objects that have a condition");
+    let mut line = Text::new(page.alloc());
     for condition in conditions {
         line.clear();
-        put_short_path(&mut line, condition.object.path)?;
-        line.extend_from_slice(&condition.text)?;
-        put_linked(alloc, page, places, condition.object.site, &line)?;
+        put_short_path(&mut line, condition.object.path);
+        line.put_all(&condition.text);
+        put_linked(page, map, condition.object.site, &line);
     }
     close_folded(page)
 }
 
-fn put_ospm_methods(
-    alloc: Global,
-    page: &mut Page,
-    overview: &Overview<'_>,
-    places: &Places,
-) -> Result<(), AllocError> {
-    if overview.ospm_methods.is_empty() {
-        return Ok(());
+// Puts the methods that an operating system runs by itself, if there are any, each with its size.
+fn put_ospm_methods(page: &mut Page, map: &TableMap<'_>, methods: &[OspmMethod<'_>]) {
+    if methods.is_empty() {
+        return;
     }
     page.heading(
         "Run by the OS unasked",
         "sizes of the methods; nothing was run",
-    )?;
-    open_folded(page, "methods that an operating system runs by itself")?;
-    let mut line = Vec::new(alloc);
-    for method in &overview.ospm_methods {
+    );
+    open_folded(page, "methods that an operating system runs by itself");
+    let mut line = Text::new(page.alloc());
+    for method in methods {
         line.clear();
-        put_short_path(&mut line, method.object.path)?;
-        put(&mut line, "  ")?;
-        put_decimal(&mut line, method.object.code as u64)?;
-        put(&mut line, " B")?;
-        put_linked(alloc, page, places, method.object.site, &line)?;
+        put_short_path(&mut line, method.object.path);
+        line.put("  ");
+        put_code_size(&mut line, method.object.code);
+        put_linked(page, map, method.object.site, &line);
     }
     close_folded(page)
 }
 
-fn put_lints(
-    alloc: Global,
-    page: &mut Page,
-    overview: &Overview<'_>,
-    places: &Places,
-) -> Result<(), AllocError> {
-    if overview.lints.is_empty() {
-        return Ok(());
+// Puts what looks wrong, if anything does, each with the place of its term.
+fn put_lints(page: &mut Page, map: &TableMap<'_>, lints: &[Lint<'_>]) {
+    if lints.is_empty() {
+        return;
     }
-    page.heading("Looks wrong", "nothing is lost by these")?;
-    page.open_class(Element::Ul, "odd")?;
-    let mut line = Vec::new(alloc);
-    for lint in &overview.lints {
+    page.heading("Looks wrong", "nothing is lost by these");
+    page.open_class(Element::Ul, "odd");
+    let mut line = Text::new(page.alloc());
+    for lint in lints {
         line.clear();
         if let Some(site) = lint.site {
-            put_site(&mut line, site)?;
-            put(&mut line, "  ")?;
+            put_site(&mut line, site);
+            line.put("  ");
         }
-        put_lint(&mut line, lint)?;
-        put_linked(alloc, page, places, lint.site, &line)?;
+        put_lint(&mut line, lint);
+        put_linked(page, map, lint.site, &line);
     }
     page.close_line(Element::Ul)
-}
-
-// What stands behind the head of the page.
-fn put_sections(
-    alloc: Global,
-    page: &mut Page,
-    overview: &Overview<'_>,
-    lines: &Lines<'_>,
-    map: &[u8],
-    files: &[&str],
-) -> Result<(), AllocError> {
-    let places = Places::new(alloc, map)?;
-    put_heads(alloc, page, overview, lines, files)?;
-    put_problems(alloc, page, &lines.problems, &places)?;
-    put_notes(alloc, page, &lines.notes, &places)?;
-    put_maps(alloc, page, &overview.regions)?;
-    put_regions(alloc, page, overview)?;
-    put_devices(alloc, page, overview, lines)?;
-    put_ospm_methods(alloc, page, overview, &places)?;
-    put_conditions(alloc, page, &lines.conditions, &places)?;
-    put_lints(alloc, page, overview, &places)?;
-    put_bytes(alloc, page, &overview.tables, map, files)?;
-    page.close(Element::Body)?;
-    page.close_line(Element::Html)
-}
-
-// The head of the page and what stands behind it.
-fn with_head(alloc: Global, head: &str, body: &[u8]) -> Result<Vec<u8>, AllocError>
-    ensures { IfOk result (λ page. page.items ≡ head.now ++ body.now) }
-{
-    let mut page = Vec::new(alloc);
-    page.extend_from_slice(head.as_bytes())?;
-    page.extend_from_slice(body)?;
-    Ok(page)
 }
 
 /// An overview, with these lines, this map of the tables' bytes and these names of the files, as one page that needs no
@@ -244,7 +166,19 @@ pub fn html(
 ) -> Result<Vec<u8>, AllocError>
     ensures { IfOk result (λ page. IsPage HEAD.now page.items) }
 {
+    let map = TableMap::new(alloc, map)?;
     let mut page = Page::new(alloc);
-    put_sections(alloc, &mut page, overview, lines, map, files)?;
-    with_head(alloc, HEAD, &page.into_bytes()?)
+    put_heads(&mut page, overview, lines, files);
+    put_problems(&mut page, &map, &lines.problems);
+    put_notes(&mut page, &map, &lines.notes);
+    put_maps(alloc, &mut page, &overview.regions)?;
+    put_regions(alloc, &mut page, overview)?;
+    put_devices(alloc, &mut page, overview, lines)?;
+    put_ospm_methods(&mut page, &map, &overview.ospm_methods);
+    put_conditions(&mut page, &map, &lines.conditions);
+    put_lints(&mut page, &map, &overview.lints);
+    put_bytes(&mut page, &overview.tables, &map, files);
+    page.close(Element::Body);
+    page.close_line(Element::Html);
+    page.into_bytes()
 }

@@ -9,40 +9,41 @@ use acpi_overview_text::{
 };
 use std::alloc::{AllocError, Global};
 
+// Puts a region: its address space where that is another than before, its bounds, its path, its field units, and what
+// gives its bounds.
 fn put_row(
-    alloc: Global,
     page: &mut Page,
     overview: &Overview<'_>,
     region: &Region<'_>,
     is_new_space: bool,
 ) -> Result<(), AllocError> {
-    page.open(Element::Tr, &[])?;
-    let word = if is_new_space {
-        space_word(region.space)
-    } else {
-        ""
-    };
-    page.element(Element::Td, word.as_bytes())?;
-    page.element(Element::Td, mark_of(region).as_bytes())?;
-    let mut text = Vec::new(alloc);
-    put_addresses(&mut text, region)?;
-    page.element(Element::Td, &text)?;
-    text.clear();
-    put_length(&mut text, region)?;
-    page.element(Element::Td, &text)?;
-    text.clear();
-    put_region_path(&mut text, region)?;
-    page.element(Element::Td, &text)?;
-    text.clear();
-    put_units(&mut text, region)?;
-    page.element(Element::Td, &text)?;
-    text.clear();
-    put_origin(&mut text, overview, region)?;
-    page.element(Element::Td, &text)?;
-    page.close_line(Element::Tr)
+    page.open(Element::Tr, &[]);
+    page.open(Element::Td, &[]);
+    if is_new_space {
+        page.text.put(space_word(region.space));
+    }
+    page.close(Element::Td);
+    page.element(Element::Td, mark_of(region));
+    page.open(Element::Td, &[]);
+    put_addresses(&mut page.text, region);
+    page.close(Element::Td);
+    page.open(Element::Td, &[]);
+    put_length(&mut page.text, region);
+    page.close(Element::Td);
+    page.open(Element::Td, &[]);
+    put_region_path(&mut page.text, region);
+    page.close(Element::Td);
+    page.open(Element::Td, &[]);
+    put_units(&mut page.text, region);
+    page.close(Element::Td);
+    page.open(Element::Td, &[]);
+    put_origin(&mut page.text, overview, region)?;
+    page.close(Element::Td);
+    page.close_line(Element::Tr);
+    Ok(())
 }
 
-/// Puts the regions by address space, in the order of their addresses.
+/// Puts the regions by address space, in the order of their addresses. Only an allocation failure is an error.
 pub(crate) fn put_regions(
     alloc: Global,
     page: &mut Page,
@@ -54,16 +55,17 @@ pub(crate) fn put_regions(
     page.heading(
         "Regions",
         "= constant  ~ name of a constant, never stored to  ? read at run time",
-    )?;
-    page.open_class(Element::Div, "scroll")?;
-    page.open(Element::Table, &[])?;
-    page.end_line()?;
+    );
+    page.open_class(Element::Div, "scroll");
+    page.open(Element::Table, &[]);
+    page.end_line();
     let mut before: Option<u8> = None;
-    for region in &by_address(alloc, &overview.regions)? {
+    for region in by_address(alloc, &overview.regions)? {
         let is_new_space = before != Some(region.space);
-        put_row(alloc, page, overview, region, is_new_space)?;
+        put_row(page, overview, region, is_new_space)?;
         before = Some(region.space);
     }
-    page.close(Element::Table)?;
-    page.close_line(Element::Div)
+    page.close(Element::Table);
+    page.close_line(Element::Div);
+    Ok(())
 }

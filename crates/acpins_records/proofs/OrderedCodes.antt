@@ -1,5 +1,5 @@
 -- The places of methods' code are the same for every order of independent SSDTs, but for the numbers of tables.
-use Rattle.std.proofs.Common.{◌≡◌, ◌≢◌, ◌⊎◌, inl, inr, ℕ, suc, Bool, true, false, cond, List, [], ◌∷◌, map, Option, Some, None, IsPermutation, refl, sym, ap, subst, ◌∙◌}
+use Rattle.std.proofs.Common.{◌≡◌, ◌≢◌, ◌⊎◌, inl, inr, ℕ, suc, Bool, true, false, cond, List, [], ◌∷◌, map, Option, Some, None, unwrap_or, IsPermutation, refl, sym, ap, subst, ◌∙◌}
 use Rattle.std.specs.List.{AllZip}
 use Rattle.std.specs.Option.{option_or}
 use Rattle.std.proofs.lemmas.List.Sorted.{IsPermutation-sym}
@@ -21,7 +21,7 @@ use Rattle.acpi_places.specs.Places.{AreTablePlaces, AreAllPlaces, AreCodePlaces
 use Rattle.acpi_places.specs.Laws.{IsPlaced, AreTablePlaced}
 use Rattle.acpi_places.proofs.Apart.{each_is_placed}
 use Rattle.acpi_places.proofs.Numbered.{in_table, same_but_numbers}
-use Rattle.acpins_records.specs.Records.{code_place_of, code_length_of}
+use Rattle.acpins_records.specs.Records.{no_code}
 
 -- ---- methods with the places of their code
 
@@ -179,6 +179,12 @@ module _ (depth : ℕ) (dsdt : List ℕ) where
       let here : HasListing (dsdt ∷ cs) k.placements found.bytes found.listing =
       subst (λ (x : List Listing). HasListing (dsdt ∷ cs) x found.bytes found.listing) (sym us) there in
       code_placed others 0 found.number (dsdt ∷ cs) k.placements k.codes found.bytes found.listing found.places p c k.are (each_is_placed depth (dsdt ∷ cs) others k) here found.are found.is
+
+abbrev pub code_place_of : Option CodePlace → ℕ
+code_place_of code = (unwrap_or code no_code).place
+
+abbrev pub code_length_of : Option CodePlace → ℕ
+code_length_of code = (unwrap_or code no_code).length
 
 -- two places are the same but for the number of the table
 pub record AreSamePlace (a b : Option CodePlace) : Type 0 where

@@ -20,11 +20,11 @@ use Rattle.acpi_places.specs.declared.place.CodePlace.{CodePlace}
 use Rattle.acpins_records.specs.declared.records.ObjectRecord.{ObjectRecord}
 use Rattle.acpins_records.specs.Contents.{Contents, IsTarget, AreContents, paths_in, all_links}
 use Rattle.acpins_records.specs.Orders.{without_table, AreAlike, IsWrittenInAnyOrder}
-use Rattle.acpins_records.specs.Records.{code_place_of, code_length_of, record_of, own_links, records_from, part_count}
+use Rattle.acpins_records.specs.Records.{record_of, own_links, records_from, part_count}
 use Rattle.acpins_records.specs.Tree.{IsPlaceOf, path_round, IsBelow, EndsBelow}
 use Rattle.acpins_records.specs.Written.{IsContentsOf, IsWritten}
 use Rattle.acpins_records.specs.declared.outcome.Outcome.{Outcome}
-use Rattle.acpins_records.proofs.OrderedCodes.{AreSamePlace, codes_in_any_order}
+use Rattle.acpins_records.proofs.OrderedCodes.{AreSamePlace, code_place_of, code_length_of, codes_in_any_order}
 use Rattle.acpins_records.proofs.Prefixes.{ascends, not_back, there}
 
 -- ---- one place

@@ -11,7 +11,7 @@ use Rattle.acpi_text.specs.Lines.{line_text, listing_text}
 use Rattle.acpi_declare.specs.Links.{Links, links_at}
 use Rattle.acpi_places.specs.declared.place.CodePlace.{CodePlace}
 use Rattle.acpins_records.specs.declared.building.Entry.{Entry}
-use Rattle.acpins_records.specs.declared.building.Seen.{Seen}
+use Rattle.acpins_records.specs.declared.building.RecordCollector.{RecordCollector}
 use Rattle.acpins_records.specs.declared.records.ObjectRecord.{ObjectRecord}
 use Rattle.acpins_records.specs.Records.{record_of, own_links, records_from, data_of, parts_from, bytes_of_data, part_count}
 use Rattle.acpins_records.specs.Contents.{all_links, all_data}
@@ -89,7 +89,7 @@ record_alike line target target' part path object own own' code code' a b c =
     ap (λ n. record_of line n part 0 0 path object own code) a ∙ ap (λ l. record_of line target' part 0 0 path object l code) b ∙ ap (λ o. record_of line target' part 0 0 path object own' o) c
 
 module _ (links : Lookup Links) (codes : Lookup CodePlace) where
-  first_more : (es : List (List Segment × ObjectTree)) (e : Entry) (old new : Seen)
+  first_more : (es : List (List Segment × ObjectTree)) (e : Entry) (old new : RecordCollector)
       → e.links.now ≡ own_links links e.path.now → e.code ≡ codes e.path.now → e.target ≡ length old.wanted.items
       → AreFirst es links codes old → AddsEntry e old.records new.records → map (λ a. a.now) new.wanted.items ≡ map (λ a. a.now) old.wanted.items ++ e.links.now
       → AreFirst (es ++ (e.path.now, object_view e.object.now) ∷ []) links codes new
@@ -127,7 +127,7 @@ module _ (links : Lookup Links) (codes : Lookup CodePlace) where
             ∙ ap bytes_of_data (sym (data_more es path object));
       }
 
-pub seen_more : (first old new : Seen) (pairs : List (List Segment × Object)) (e : Entry)
+pub seen_more : (first old new : RecordCollector) (pairs : List (List Segment × Object)) (e : Entry)
     → AreSeen first pairs old → new.links ≡ old.links → new.codes ≡ old.codes
     → e.links.now ≡ links_by (object_view e.object.now) (own_links (links_at old.links.now) e.path.now) → e.code ≡ code_by (object_view e.object.now) (get old.codes e.path.now)
     → e.target ≡ length old.wanted.items → AddsEntry e old.records new.records → map (λ a. a.now) new.wanted.items ≡ map (λ a. a.now) old.wanted.items ++ e.links.now

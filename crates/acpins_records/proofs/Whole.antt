@@ -27,7 +27,7 @@ use Rattle.acpi_places.specs.declared.place.CodePlace.{CodePlace}
 use Rattle.acpins_output.specs.steps.Lines.{objects_by_path}
 use Rattle.acpins_output.proofs.Printing.{true_of, find_mapped, sorted_mapped}
 use Rattle.acpins_records.specs.declared.building.Records.{Records}
-use Rattle.acpins_records.specs.declared.building.Seen.{Seen}
+use Rattle.acpins_records.specs.declared.building.RecordCollector.{RecordCollector}
 use Rattle.acpins_records.specs.Contents.{all_links, paths_in}
 use Rattle.acpins_records.specs.Written.{IsContentsOf}
 use Rattle.acpins_records.specs.steps.Adding.{AddsTargets, AreRecords, contents_in, placed_from}
@@ -42,7 +42,7 @@ use Rattle.acpins_records.proofs.Prefixes.{ascends, both_first, both_second, les
 
 -- ---- the walk
 
-pub nothing_seen : (first : Seen) → first.records.objects.items ≡ [] → first.records.targets.items ≡ [] → first.records.text.items ≡ [] → first.records.«data».parts.items ≡ []
+pub nothing_seen : (first : RecordCollector) → first.records.objects.items ≡ [] → first.records.targets.items ≡ [] → first.records.text.items ≡ [] → first.records.«data».parts.items ≡ []
     → first.records.«data».bytes.items ≡ [] → first.paths ≡ [] → first.wanted.items ≡ [] → AreSeen first [] first
 nothing_seen first objects targets text parts bytes paths wanted = record {
   links_stay = refl;
@@ -66,7 +66,7 @@ pub paths_ascend : (m : PathMap Object) (paths : List (List Segment)) → paths 
 paths_ascend m paths are = subst Ascend (sym are) (ascends (entries m) (entries_ascend m))
 
 -- as many records as paths
-pub as_many : (first now : Seen) (pairs : List (List Segment × Object)) → AreSeen first pairs now → length now.paths ≡ length now.records.objects.items
+pub as_many : (first now : RecordCollector) (pairs : List (List Segment × Object)) → AreSeen first pairs now → length now.paths ≡ length now.records.objects.items
 as_many first now pairs so = ap length so.paths_are ∙ length-map pairs (λ e. e.0) ∙ sym so.count_is
 
 paths_viewed : (pairs : List (List Segment × Object)) → paths_of pairs ≡ paths_in (map {A = List Segment × Object} {B = List Segment × ObjectTree} (λ e. (e.0, object_view e.1)) pairs)
@@ -74,7 +74,7 @@ paths_viewed [] = refl
 paths_viewed (p ∷ pairs) = ap (λ l. p.0 ∷ l) (paths_viewed pairs)
 
 -- the records that were seen, with their places and targets
-pub records_whole : (m : PathMap Object) (links : Lookup Links) (codes : Lookup CodePlace) (s : Seen) (parents belows : ℕ → ℕ) (r : Records)
+pub records_whole : (m : PathMap Object) (links : Lookup Links) (codes : Lookup CodePlace) (s : RecordCollector) (parents belows : ℕ → ℕ) (r : Records)
     → s.paths ≡ paths_of (entries m)
     → ((k : ℕ) → k < length s.paths → IsParent s.paths k (parents k)) → ((k : ℕ) → k < length s.paths → EndsBelow s.paths k (belows k))
     → r.objects.items ≡ placed_from 0 parents belows s.records.objects.items

@@ -3,14 +3,13 @@ use Rattle.std.specs.Prelude.{◌≡◌, ◌⊎◌, ◌<◌, ◌+◌, ℕ, List,
 use Rattle.std.specs.List.{flat_map}
 use Rattle.acpi_name.specs.Text.{path_text}
 use Rattle.acpi_declare.specs.declared.fault.LoadReason.{LoadReason}
-use Rattle.acpi_declare.specs.declared.fault.LoadReason.TheVariants.{Refused}
 use Rattle.acpi_order.specs.Verdicts.{VerdictTree, commute, not_alone, same, missed, IsReasonAt, IsVerdict}
 use Rattle.acpi_verdict.specs.declared.verdicts.Satisfied.{Satisfied}
 use Rattle.acpi_verdict.specs.SatisfiedView.{AreSatisfied}
 use Rattle.acpins_records.specs.declared.check.VerdictRecord.{VerdictRecord}
 use Rattle.acpins_records.specs.declared.check.SatisfiedRecord.{SatisfiedRecord}
 use Rattle.acpins_records.specs.declared.outcome.Outcome.{Outcome}
-use Rattle.acpins_records.specs.Outcomes.{text_outcome, reason_code, place_of}
+use Rattle.acpins_records.specs.Outcomes.{text_outcome, reason_code, place_of, reason_path}
 use Rattle.acpins_records.specs.Written.{IsFront}
 
 -- the paths of satisfied Externals, one behind the other
@@ -28,11 +27,6 @@ satisfied_from begin (t ∷ ts) =
       path_length = length (path_text t.path);
     }
     ∷ satisfied_from (begin + length (path_text t.path)) ts
-
--- the text of the path that a reason names; nothing where it names none
-abbrev pub reason_path : LoadReason → List ℕ
-reason_path (Refused refusal path) = path_text path
-reason_path _ = []
 
 abbrev pub verdict_record : (order first second reason place path_length satisfied : ℕ)
     → VerdictRecord

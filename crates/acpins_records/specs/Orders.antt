@@ -8,21 +8,7 @@ use Rattle.acpins_records.specs.Written.{AreFronts, IsContentsOf}
 
 -- the record without the number of its table
 abbrev pub without_table : ObjectRecord → ObjectRecord
-without_table r = record {
-  kind = r.kind;
-  line = r.line;
-  line_length = r.line_length;
-  path_length = r.path_length;
-  target = r.target;
-  targets = r.targets;
-  numbers = r.numbers;
-  parent = r.parent;
-  below = r.below;
-  part = r.part;
-  code_table = none;
-  code_place = r.code_place;
-  code_length = r.code_length;
-}
+without_table r = record r { code_table = none }
 
 -- the same but for the numbers of tables
 pub record AreAlike (c d : Contents) : Type 0 where

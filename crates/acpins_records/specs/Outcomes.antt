@@ -1,5 +1,6 @@
 -- How a call ended, as numbers (docs/LIBRARY.md).
-use Rattle.std.specs.Prelude.{ℕ, length}
+use Rattle.std.specs.Prelude.{ℕ, List, [], length}
+use Rattle.acpi_name.specs.Text.{path_text}
 use Rattle.acpi_table.specs.declared.tables.TableFault.{TableFault}
 use Rattle.acpi_table.specs.declared.tables.TableFault.TheVariants as faults
 use Rattle.acpi_terms.specs.declared.fault.ItemReason.{ItemReason}
@@ -57,26 +58,18 @@ abbrev pub place_of : LoadReason → ℕ
 place_of (Item reason place) = place_in_table place
 place_of _ = 0
 
--- how much of each there is
-abbrev pub counted : Contents → Outcome
-counted c = record {
-  objects = length c.objects;
-  targets = length c.targets;
-  text = length c.text;
-  parts = length c.parts;
-  bytes = length c.bytes;
-  table = 0;
-  reason = 0;
-  place = 0;
-}
+-- the text of the path that a reason names; nothing where it names none
+abbrev pub reason_path : LoadReason → List ℕ
+reason_path (Refused refusal path) = path_text path
+reason_path _ = []
 
--- so many bytes of text
-abbrev pub text_outcome : ℕ → Outcome
-text_outcome n =
+-- nothing is said
+abbrev pub no_outcome : Outcome
+no_outcome =
     record {
       objects = 0;
       targets = 0;
-      text = n;
+      text = 0;
       parts = 0;
       bytes = 0;
       table = 0;
@@ -84,32 +77,28 @@ text_outcome n =
       place = 0;
     }
 
--- nothing is said
-abbrev pub no_outcome : Outcome
-no_outcome = text_outcome 0
+-- how much of each there is
+abbrev pub counted : Contents → Outcome
+counted c = record no_outcome {
+  objects = length c.objects;
+  targets = length c.targets;
+  text = length c.text;
+  parts = length c.parts;
+  bytes = length c.bytes;
+}
+
+-- so many bytes of text
+abbrev pub text_outcome : ℕ → Outcome
+text_outcome n = record no_outcome { text = n }
 
 -- so many bytes
 abbrev pub bytes_outcome : ℕ → Outcome
-bytes_outcome n =
-    record {
-      objects = 0;
-      targets = 0;
-      text = 0;
-      parts = 0;
-      bytes = n;
-      table = 0;
-      reason = 0;
-      place = 0;
-    }
+bytes_outcome n = record no_outcome { bytes = n }
 
 -- which table is refused, why and where, and how many bytes the path has that the refusal names
 abbrev pub refused_as : (table : ℕ) → LoadReason → (text : ℕ) → Outcome
-refused_as table reason text = record {
-  objects = 0;
-  targets = 0;
+refused_as table reason text = record no_outcome {
   text = text;
-  parts = 0;
-  bytes = 0;
   table = table;
   reason = reason_code reason;
   place = place_of reason;

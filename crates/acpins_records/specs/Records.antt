@@ -1,11 +1,13 @@
 -- What C sees of objects (ACPI 6.5, 5.3).
-use Rattle.std.specs.Prelude.{ℕ, suc, ◌+◌, List, [], ◌∷◌, ◌++◌, length, Option, Some, None, unwrap_or}
+use Rattle.std.specs.Prelude.{ℕ, suc, ◌+◌, List, [], ◌∷◌, ◌++◌, length, Option, unwrap_or}
 use Rattle.std.specs.List.{flat_map}
 use Rattle.acpi_name.specs.Names.{Segment}
 use Rattle.acpi_name.specs.Text.{path_text}
 use Rattle.acpi_space.specs.Lookups.{Lookup}
 use Rattle.acpi_tree.specs.Tree.{DataTree, int, str, buffer, pkg, var_pkg}
 use Rattle.acpi_tree.specs.Objects.{ObjectTree, root_object, scope_object, predefined_object, device_object, processor_object, power_object, thermal_object, name_object, method_object, region_object, mutex_object, event_object, field_object, create_object, create_field_object}
+use Rattle.acpi_tree.specs.declared.tree.Int.{Int}
+use Rattle.acpi_tree.specs.declared.tree.Int.TheVariants.{Zero}
 use Rattle.acpi_tree.specs.declared.tree.Width.{Width}
 use Rattle.acpi_tree.specs.declared.tree.Width.TheVariants as widths
 use Rattle.acpi_tree.specs.declared.object.FieldForm.{FieldForm}
@@ -26,14 +28,10 @@ bits_of widths.Word = 16
 bits_of widths.DWord = 32
 bits_of widths.QWord = 64
 
--- the value that selects the bank; zeros where there is no bank
-abbrev pub bank_form_of : FieldForm → ℕ
-bank_form_of (forms.Bank i) = form_of i
-bank_form_of _ = 0
-
-abbrev pub bank_value_of : FieldForm → ℕ
-bank_value_of (forms.Bank i) = value_of i
-bank_value_of _ = 0
+-- the value that selects the bank; Zero where there is no bank
+abbrev pub bank_of : FieldForm → Int
+bank_of (forms.Bank i) = i
+bank_of _ = Zero
 
 abbrev pub field_kind_of : FieldForm → ℕ
 field_kind_of forms.Field = 12
@@ -77,7 +75,7 @@ numbers_of (region_object space offset len) =
     six space (form_of offset) (value_of offset) (form_of len) (value_of len) 0
 numbers_of (mutex_object flags) = six flags 0 0 0 0 0
 numbers_of (field_object form flags offset bits) =
-    six flags offset bits (bank_form_of form) (bank_value_of form) 0
+    six flags offset bits (form_of (bank_of form)) (value_of (bank_of form)) 0
 numbers_of (create_object width index) = six (bits_of width) (form_of index) (value_of index) 0 0 0
 numbers_of (create_field_object index bits) =
     six (form_of index) (value_of index) (form_of bits) (value_of bits) 0 0
@@ -85,17 +83,9 @@ numbers_of _ = six 0 0 0 0 0 0
 
 -- ---- code
 
-abbrev pub code_table_of : Option CodePlace → ℕ
-code_table_of (Some c) = c.table
-code_table_of None = none
-
-abbrev pub code_place_of : Option CodePlace → ℕ
-code_place_of (Some c) = c.place
-code_place_of None = 0
-
-abbrev pub code_length_of : Option CodePlace → ℕ
-code_length_of (Some c) = c.length
-code_length_of None = 0
+-- that of an object that has none
+abbrev pub no_code : CodePlace
+no_code = record { table = none; place = 0; length = 0 }
 
 -- ---- data
 
@@ -139,9 +129,9 @@ record_of line target part parent below path object own code = record {
   parent = parent;
   below = below;
   part = part_of object part;
-  code_table = code_table_of code;
-  code_place = code_place_of code;
-  code_length = code_length_of code;
+  code_table = (unwrap_or code no_code).table;
+  code_place = (unwrap_or code no_code).place;
+  code_length = (unwrap_or code no_code).length;
 }
 
 -- the links of a path; none where it has none

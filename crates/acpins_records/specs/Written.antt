@@ -3,7 +3,6 @@ use Rattle.std.specs.Prelude.{◌≡◌, ◌⊎◌, ◌<◌, ◌≤◌, ℕ, Lis
 use Rattle.std.specs.FinMap.{find, is_sorted}
 use Rattle.acpi_name.specs.Names.{Segment}
 use Rattle.acpi_name.specs.Paths.{path_cmp}
-use Rattle.acpi_name.specs.Text.{path_text}
 use Rattle.acpi_space.specs.Lookups.{Lookup}
 use Rattle.acpi_tree.specs.Objects.{ObjectTree}
 use Rattle.acpi_declare.specs.Namespace.{Namespace}
@@ -11,7 +10,6 @@ use Rattle.acpi_declare.specs.Links.{Links}
 use Rattle.acpi_declare.specs.Loads.{IsLoad, HasNoLoad}
 use Rattle.acpi_declare.specs.Refusals.{IsLoadFault}
 use Rattle.acpi_declare.specs.declared.fault.LoadReason.{LoadReason}
-use Rattle.acpi_declare.specs.declared.fault.LoadReason.TheVariants.{Refused}
 use Rattle.acpi_declare.specs.declared.fault.LoadFault.TheVariants.{At}
 use Rattle.acpi_places.specs.Places.{AreCodePlaces}
 use Rattle.acpi_places.specs.declared.place.CodePlace.{CodePlace}
@@ -19,7 +17,7 @@ use Rattle.acpins_records.specs.declared.records.Arrays.{Arrays}
 use Rattle.acpins_records.specs.declared.records.LentTable.{LentTable}
 use Rattle.acpins_records.specs.declared.outcome.Outcome.{Outcome}
 use Rattle.acpins_records.specs.Contents.{Contents, AreContents}
-use Rattle.acpins_records.specs.Outcomes.{counted, refused_as}
+use Rattle.acpins_records.specs.Outcomes.{counted, refused_as, reason_path}
 
 -- the bytes of lent tables
 abbrev pub bytes_of : List LentTable → List (List ℕ)
@@ -84,14 +82,6 @@ IsShort c old =
     ⊎ (length old.text < length c.text)
     ⊎ (length old.parts < length c.parts) ⊎ (length old.bytes < length c.bytes)
 
--- none is
-pub record Fits (c old : Contents) : Type 0 where
-  pub objects : length c.objects ≤ length old.objects
-  pub targets : length c.targets ≤ length old.targets
-  pub text : length c.text ≤ length old.text
-  pub parts : length c.parts ≤ length old.parts
-  pub bytes : length c.bytes ≤ length old.bytes
-
 -- the tables load, but one of the arrays is too short for what they load to
 pub record NeedsRoom (depth : ℕ) (tables : List (List ℕ)) (old : Contents)
     (outcome : Outcome) : Type 0 where
@@ -109,10 +99,8 @@ StayButText old new = (new.objects ≡ old.objects) × (new.targets ≡ old.targ
 
 -- the path that a refusal names stands at the front of the text, where there is room for it; the outcome has its bytes
 abbrev pub TellsPath : LoadReason → ℕ → (old new : List ℕ) → Type 0
-TellsPath (Refused refusal path) n old new =
-    (n ≡ length (path_text path)) × (n ≤ length old → new ≡ path_text path ++ drop n old)
-    × (length old < n → new ≡ old)
-TellsPath _ n old new = (n ≡ 0) × (new ≡ old)
+TellsPath reason n old new = (n ≡ length (reason_path reason))
+    × (IsFront (reason_path reason) old new ⊎ ((length old < n) × (new ≡ old)))
 
 -- the tables have no load, and the outcome has a true reason
 pub record IsRefusal (depth : ℕ) (tables : List (List ℕ)) (old new : List ℕ)

@@ -5,7 +5,7 @@ ghost use Rattle.std.specs.FinMap.{get};
 ghost use Rattle.acpi_tree.specs.Objects.{object_view};
 ghost use Rattle.acpi_declare.specs.Links.{links_at};
 ghost use Rattle.acpins_output.specs.steps.Lines.{objects_by_path};
-ghost use Rattle.acpins_records.specs.Records.{part_of, code_table_of, code_place_of, code_length_of, own_links};
+ghost use Rattle.acpins_records.specs.Records.{part_of, no_code, own_links};
 ghost use Rattle.acpins_records.specs.steps.Adding.{PutsLine, PutsData, AddsEntry, AreRecords, placed, placed_from};
 ghost use Rattle.acpins_records.specs.steps.Kinds.{AllSuit, code_by, links_by};
 ghost use Rattle.acpins_records.specs.steps.Seeing.{AreSeen};
@@ -80,7 +80,7 @@ fn code_of(path: &Path, object: &Object, codes: &mut InOrder<'_, CodePlace>) -> 
 }
 
 fn code_table_of(code: Option<CodePlace>) -> u64
-    ensures { result ≡ code_table_of code }
+    ensures { result ≡ (unwrap_or code no_code).table }
 {
     match code {
         Some(code) => code.table as u64,
@@ -89,7 +89,7 @@ fn code_table_of(code: Option<CodePlace>) -> u64
 }
 
 fn code_place_of(code: Option<CodePlace>) -> u64
-    ensures { result ≡ code_place_of code }
+    ensures { result ≡ (unwrap_or code no_code).place }
 {
     match code {
         Some(code) => code.place as u64,
@@ -98,7 +98,7 @@ fn code_place_of(code: Option<CodePlace>) -> u64
 }
 
 fn code_length_of(code: Option<CodePlace>) -> u64
-    ensures { result ≡ code_length_of code }
+    ensures { result ≡ (unwrap_or code no_code).length }
 {
     match code {
         Some(code) => code.length as u64,
@@ -193,7 +193,7 @@ impl Records {
 
 /// The objects so far: their records, their paths, and what their links find.
 #[derive(Drop)]
-pub(crate) struct Seen<'a> {
+pub(crate) struct RecordCollector<'a> {
     // Each without its parent and the end of what is below it; there are no targets yet.
     records: Records,
     paths: Paths,
@@ -217,7 +217,7 @@ fn put_wanted<'a>(
     Ok(())
 }
 
-impl Visitor<Object> for Seen<'_> {
+impl Visitor<Object> for RecordCollector<'_> {
     ghost was_shown = { AreSeen };
 
     fn visit(&mut self, path: &Path, object: &Object) -> Result<(), AllocError> {
@@ -267,7 +267,7 @@ pub(crate) fn build_records<'a>(
         (get codes.now) r) }
 {
     let in_order = InOrder::of(codes)?;
-    let mut seen = Seen {
+    let mut seen = RecordCollector {
         records: Records::new(alloc),
         paths: Paths::new(alloc),
         wanted: Vec::new(alloc),
@@ -275,7 +275,7 @@ pub(crate) fn build_records<'a>(
         codes: in_order,
     };
     objects.visit_pairs(&mut seen)?;
-    let Seen {
+    let RecordCollector {
         mut records,
         paths,
         wanted,

@@ -4,8 +4,8 @@ ghost use Rattle.std.specs.Prelude.{◌≡◌, ◌≢◌, ◌↔◌, ◌∷◌, 
 ghost use Rattle.acpi_declare.specs.Loads.{HasNoLoad};
 ghost use Rattle.acpi_declare.specs.Refusals.{IsLoadFault};
 ghost use Rattle.acpi_name.specs.Text.{path_text};
-ghost use Rattle.acpins_records.specs.Checks.{IsAnswer, IsAnswerOf, IsVerdictWritten, NeedsAnswerRoom, reason_path, satisfied_from, satisfied_text, verdict_record};
-ghost use Rattle.acpins_records.specs.Outcomes.{text_outcome, reason_code, place_of};
+ghost use Rattle.acpins_records.specs.Checks.{IsAnswer, IsAnswerOf, IsVerdictWritten, NeedsAnswerRoom, satisfied_from, satisfied_text, verdict_record};
+ghost use Rattle.acpins_records.specs.Outcomes.{text_outcome, reason_code, place_of, reason_path};
 ghost use Rattle.acpins_records.specs.Written.{IsFront, IsRefusal, bytes_of};
 
 use crate::outcome::{CALL, MEMORY, NO_ROOM, OK, Outcome, REFUSED, place_of, reason_code};

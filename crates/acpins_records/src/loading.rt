@@ -10,7 +10,8 @@ ghost use Rattle.acpi_places.specs.Places.{AreCodePlaces};
 ghost use Rattle.acpins_records.specs.Orders.{IsWrittenInAnyOrder};
 ghost use Rattle.acpins_records.specs.Outcomes.{counted};
 ghost use Rattle.acpins_records.specs.steps.Adding.{contents_in};
-ghost use Rattle.acpins_records.specs.Written.{AreFronts, Fits, IsContentsOf, IsRefusal, IsShort, IsWritten, NeedsRoom, SamePlaces, StayButText, bytes_of, contents_of};
+ghost use Rattle.acpins_records.specs.steps.Room.{Fits};
+ghost use Rattle.acpins_records.specs.Written.{AreFronts, IsContentsOf, IsRefusal, IsShort, IsWritten, NeedsRoom, SamePlaces, StayButText, bytes_of, contents_of};
 
 use crate::building::{Records, build_records};
 use crate::outcome::{CALL, MEMORY, NO_ROOM, OK, Outcome, REFUSED};

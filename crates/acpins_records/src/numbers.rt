@@ -4,7 +4,7 @@ ghost use Rattle.std.specs.Prelude.{◌≡◌};
 ghost use Rattle.acpi_tree.specs.Objects.{object_view};
 ghost use Rattle.acpi_tree.specs.View.{data_view};
 ghost use Rattle.acpins_records.specs.Constants.{form_of, value_of};
-ghost use Rattle.acpins_records.specs.Records.{bits_of, bank_form_of, bank_value_of, field_kind_of, kind_of, data_numbers, numbers_of};
+ghost use Rattle.acpins_records.specs.Records.{bits_of, bank_of, field_kind_of, kind_of, data_numbers, numbers_of};
 
 use acpi_tree::{Data, FieldForm, Int, Object, Width};
 
@@ -51,21 +51,13 @@ fn bits_of(width: Width) -> u64
     }
 }
 
-fn bank_form_of(form: FieldForm) -> u64
-    ensures { result ≡ bank_form_of form }
+// The value that selects the bank.
+fn bank_of(form: FieldForm) -> Int
+    ensures { result ≡ bank_of form }
 {
     match form {
-        FieldForm::Field | FieldForm::Index => 0,
-        FieldForm::Bank(value) => form_of(value),
-    }
-}
-
-fn bank_value_of(form: FieldForm) -> u64
-    ensures { result ≡ bank_value_of form }
-{
-    match form {
-        FieldForm::Field | FieldForm::Index => 0,
-        FieldForm::Bank(value) => value_of(value),
+        FieldForm::Field | FieldForm::Index => Int::Zero,
+        FieldForm::Bank(value) => value,
     }
 }
 
@@ -153,8 +145,8 @@ pub(crate) fn numbers_of(object: &Object) -> [u64; 6]
             u64::from(*flags),
             *offset,
             u64::from(*bits),
-            bank_form_of(*form),
-            bank_value_of(*form),
+            form_of(bank_of(*form)),
+            value_of(bank_of(*form)),
             0,
         ],
         Object::Create { width, index } => [

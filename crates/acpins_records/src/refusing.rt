@@ -1,6 +1,6 @@
 //! Refusals, and what all calls share.
 
-ghost use Rattle.std.specs.Prelude.{◌≡◌, ◌≢◌, ◌++◌, ◌⊎◌, ◌≤◌, ◌<◌, length, drop, IfOk, OnErr};
+ghost use Rattle.std.specs.Prelude.{◌≡◌, ◌≢◌, ◌⊎◌, ◌≤◌, ◌<◌, length, IfOk, OnErr};
 ghost use Rattle.acpi_name.specs.Text.{path_text};
 ghost use Rattle.acpins_records.specs.Outcomes.{refused_as};
 ghost use Rattle.acpins_records.specs.Written.{IsFront, TellsPath, bytes_of};
@@ -46,9 +46,8 @@ pub(crate) fn path_bytes(alloc: Global, path: &Path) -> Result<Vec<u8>, AllocErr
 /// Writes the text of a path, where there is room for it, and gives its length.
 pub(crate) fn write_path(alloc: Global, path: &Path, text: &mut [u8]) -> Result<usize, AllocError>
     ensures count { IfOk result (λ n. n ≡ length (path_text path.now)) }
-    ensures put { IfOk result (λ n. n ≤ length text.old → text.new ≡ path_text path.now
-        ++ drop n text.old) }
-    ensures short { IfOk result (λ n. length text.old < n → text.new ≡ text.old) }
+    ensures put { IfOk result (λ n. IsFront (path_text path.now) text.old text.new
+        ⊎ ((length text.old < n) × (text.new ≡ text.old))) }
     ensures err { OnErr result (text.new ≡ text.old) }
 {
     let bytes = path_bytes(alloc, path)?;

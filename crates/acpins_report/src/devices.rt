@@ -3,7 +3,6 @@
 use crate::alike::Groups;
 use crate::folding::group_cells;
 use crate::sheet::Sheet;
-use acpi_kinds::ObjectKind;
 use acpi_overview::{Container, Overview};
 use acpi_overview_text::{Row, Rows};
 use std::alloc::{AllocError, Global};
@@ -52,124 +51,108 @@ fn fitting(cell: &[u8], room: usize) -> usize {
 }
 
 // Puts a text up to a column; what is longer ends with a dot.
-fn put_cell(sheet: &mut Sheet, cell: &[u8], end: usize) -> Result<(), AllocError> {
-    let room = end.saturating_sub(sheet.line.len()).saturating_sub(1);
+fn put_cell(sheet: &mut Sheet, cell: &[u8], end: usize) {
+    let room = end.saturating_sub(sheet.column()).saturating_sub(1);
     if cell.len() <= room {
-        return sheet.put_bytes(cell);
+        return sheet.line.put_all(cell);
     }
     let count = room.saturating_sub(1).min(cell.len());
-    sheet.put_bytes(&cell[..count])?;
+    sheet.line.put_all(&cell[..count]);
     sheet.put(".")
 }
 
 // Puts the words of a text that come before a column; where not even the first fits, it ends with a dot.
-fn put_words(sheet: &mut Sheet, words: &[u8], end: usize) -> Result<(), AllocError> {
-    let room = end.saturating_sub(sheet.line.len()).saturating_sub(1);
+fn put_words(sheet: &mut Sheet, words: &[u8], end: usize) {
+    let room = end.saturating_sub(sheet.column()).saturating_sub(1);
     let count = fitting(words, room).min(words.len());
-    if count > 0 {
-        return sheet.put_bytes(&words[..count]);
+    if count == 0 {
+        return put_cell(sheet, words, end);
     }
-    put_cell(sheet, words, end)
+    sheet.line.put_all(&words[..count])
 }
 
 // The same, where two dots tell that words are left out.
-fn put_some_words(sheet: &mut Sheet, words: &[u8], end: usize) -> Result<(), AllocError> {
-    let room = end.saturating_sub(sheet.line.len()).saturating_sub(1);
+fn put_some_words(sheet: &mut Sheet, words: &[u8], end: usize) {
+    let room = end.saturating_sub(sheet.column()).saturating_sub(1);
     if words.len() <= room {
-        return sheet.put_bytes(words);
+        return sheet.line.put_all(words);
     }
     let count = fitting(words, room.saturating_sub(3)).min(words.len());
     if count == 0 {
         return put_cell(sheet, words, end);
     }
-    sheet.put_bytes(&words[..count])?;
+    sheet.line.put_all(&words[..count]);
     sheet.put(" ..")
 }
 
-fn put_cells(
-    sheet: &mut Sheet,
-    row: &Row<'_, '_>,
-    names: &[u8],
-    place: &[u8],
-    at: Columns,
-) -> Result<(), AllocError> {
+// Puts a row with these names and this place, as deep as its container stands.
+fn put_cells(sheet: &mut Sheet, row: &Row<'_, '_>, names: &[u8], place: &[u8], at: Columns) {
     for _ in 1..row.container.depth.min(12) {
-        sheet.put(" ")?;
+        sheet.put(" ");
     }
-    sheet.put_bytes(names)?;
+    sheet.line.put_all(names);
     if !row.ids.is_empty() || !row.what.is_empty() {
-        sheet.tab(at.ids)?;
-        put_words(sheet, &row.ids, at.what)?;
-        sheet.tab(at.what)?;
-        put_cell(sheet, row.what.as_bytes(), at.place)?;
+        sheet.tab(at.ids);
+        put_words(sheet, &row.ids, at.what);
+        sheet.tab(at.what);
+        put_cell(sheet, row.what.as_bytes(), at.place);
     }
-    sheet.tab(at.place)?;
-    put_some_words(sheet, place, at.status)?;
-    sheet.tab(at.status)?;
-    put_cell(sheet, &row.status, at.has)?;
-    sheet.tab(at.has)?;
-    sheet.put_bytes(&row.has)?;
-    sheet.tab(at.resources)?;
-    sheet.put_bytes(&row.resources)
+    sheet.tab(at.place);
+    put_some_words(sheet, place, at.status);
+    sheet.tab(at.status);
+    put_cell(sheet, &row.status, at.has);
+    sheet.tab(at.has);
+    sheet.line.put_all(&row.has);
+    sheet.tab(at.resources);
+    sheet.line.put_all(&row.resources)
 }
 
-fn put_row(
+// Puts a row for containers that are alike; for its own where there is no other.
+fn put_alike(
     alloc: Global,
     sheet: &mut Sheet,
     row: &Row<'_, '_>,
     alike: &[&Container<'_>],
     at: Columns,
-    is_verbose: bool,
 ) -> Result<(), AllocError> {
     if alike.len() > 1 {
         let cells = group_cells(alloc, alike, at.ids.saturating_sub(row.container.depth))?;
-        put_cells(sheet, row, &cells.names, &cells.place, at)?;
+        put_cells(sheet, row, &cells.names, &cells.place, at);
     } else {
-        put_cells(sheet, row, &row.names, &row.place, at)?;
+        put_cells(sheet, row, &row.names, &row.place, at);
     }
-    if is_verbose {
-        sheet.end()
-    } else {
-        sheet.end_cut()
-    }
+    sheet.end_cut();
+    Ok(())
 }
 
-// Whether a container is shown: a scope is only where something stands in it.
-fn is_shown(rows: &Rows<'_, '_>, row: &Row<'_, '_>) -> bool {
-    match row.container.object.kind {
-        ObjectKind::Root => false,
-        ObjectKind::Scope => !rows.is_leaf(row),
-        _ => true,
-    }
-}
-
-// The line that names the columns.
-fn put_head(sheet: &mut Sheet, at: Columns) -> Result<(), AllocError> {
-    sheet.put("DEVICES")?;
-    sheet.tab(at.ids)?;
-    sheet.put("id")?;
-    sheet.tab(at.what)?;
-    sheet.put("what")?;
-    sheet.tab(at.place)?;
-    sheet.put("where")?;
-    sheet.tab(at.status)?;
-    sheet.put("there")?;
-    sheet.tab(at.has)?;
-    sheet.put("has")?;
-    sheet.tab(at.resources)?;
+// Puts the line that names the columns.
+fn put_head(sheet: &mut Sheet, at: Columns) {
+    sheet.put("DEVICES");
+    sheet.tab(at.ids);
+    sheet.put("id");
+    sheet.tab(at.what);
+    sheet.put("what");
+    sheet.tab(at.place);
+    sheet.put("where");
+    sheet.tab(at.status);
+    sheet.put("there");
+    sheet.tab(at.has);
+    sheet.put("has");
+    sheet.tab(at.resources);
     sheet.head("resources")
 }
 
-// Puts the rows of all containers.
+// Puts the rows of all containers, whole.
 fn put_all(
     alloc: Global,
     sheet: &mut Sheet,
     rows: &Rows<'_, '_>,
     at: Columns,
 ) -> Result<(), AllocError> {
-    for row in rows.shown(alloc)? {
-        if is_shown(rows, row) {
-            put_row(alloc, sheet, row, &[], at, true)?;
+    for row in rows.in_order(alloc)? {
+        if rows.is_shown(row) {
+            put_cells(sheet, row, &row.names, &row.place, at);
+            sheet.end();
         }
     }
     Ok(())
@@ -184,7 +167,7 @@ fn put_folded(
 ) -> Result<(), AllocError> {
     let groups = Groups::new(alloc, rows)?;
     let mut folded = usize::MAX;
-    for row in rows.shown(alloc)? {
+    for row in rows.in_order(alloc)? {
         let depth = row.container.depth;
         if depth > folded {
             continue;
@@ -194,15 +177,16 @@ fn put_folded(
             continue;
         }
         folded = usize::MAX;
-        if is_shown(rows, row) {
+        if rows.is_shown(row) {
             let alike = groups.containers(alloc, rows, row.number)?;
-            put_row(alloc, sheet, row, &alike, at, false)?;
+            put_alike(alloc, sheet, row, &alike, at)?;
         }
     }
     Ok(())
 }
 
-/// Puts the tree of devices; without `is_verbose` siblings that are alike stand in one row.
+/// Puts the tree of devices; without `is_verbose` siblings that are alike stand in one row, and rows are cut at the width.
+/// Only an allocation failure is an error.
 pub(crate) fn put_devices(
     alloc: Global,
     sheet: &mut Sheet,
@@ -211,7 +195,7 @@ pub(crate) fn put_devices(
 ) -> Result<(), AllocError> {
     let rows = &Rows::new(alloc, overview)?;
     let at = columns_of(sheet.width());
-    put_head(sheet, at)?;
+    put_head(sheet, at);
     if is_verbose {
         put_all(alloc, sheet, rows, at)
     } else {

@@ -1,8 +1,10 @@
 //! Siblings that are alike, in one row.
 
 use acpi_overview::{Address, Container, Value, last_segment};
-use acpi_overview_text::{put, put_decimal, put_hex, put_last};
+use acpi_overview_text::{length_of, put_between, put_hex, put_last};
+use acpi_text::put_decimal;
 use std::alloc::{AllocError, Global};
+use text_buffer::Text;
 
 /// What is shown of siblings that are alike: their names, and where they stand.
 #[derive(Drop)]
@@ -32,37 +34,33 @@ fn are_in_order(containers: &[&Container<'_>]) -> bool {
     true
 }
 
-// Names: the first and the last of three or more that follow each other, else all, as far as they fit.
-fn put_names(
-    text: &mut Vec<u8>,
-    containers: &[&Container<'_>],
-    width: usize,
-) -> Result<(), AllocError> {
-    let [first, .., last] = containers else {
-        return Ok(());
-    };
-    if containers.len() > 2 && are_in_order(containers) {
-        put_last(text, first.object.path)?;
-        put(text, "-")?;
-        return put_last(text, last.object.path);
-    }
-    if containers.len().saturating_mul(5) > width {
-        put_last(text, first.object.path)?;
-        put(text, "..")?;
-        put_last(text, last.object.path)?;
-        put(text, " (")?;
-        put_decimal(text, containers.len() as u64)?;
-        return put(text, ")");
-    }
-    let mut is_first = true;
-    for container in containers {
-        if !is_first {
-            put(text, " ")?;
+// Puts two names with something between them.
+fn put_both(text: &mut Text, first: &Container<'_>, between: &str, last: &Container<'_>) {
+    put_last(text, first.object.path);
+    text.put(between);
+    put_last(text, last.object.path)
+}
+
+// Puts names: the first and the last of three or more that follow each other; else all, or where they don't fit the
+// first, the last and how many there are.
+fn put_names(text: &mut Text, containers: &[&Container<'_>], width: usize) {
+    match containers {
+        [first, _, .., last] if are_in_order(containers) => put_both(text, first, "-", last),
+        [first, .., last] if containers.len().saturating_mul(5) > width => {
+            put_both(text, first, "..", last);
+            text.put(" (");
+            put_decimal(text, containers.len() as u64);
+            text.put(")")
         }
-        is_first = false;
-        put_last(text, container.object.path)?;
+        _ => {
+            let mut separator = "";
+            for container in containers {
+                text.put(separator);
+                separator = " ";
+                put_last(text, container.object.path);
+            }
+        }
     }
-    Ok(())
 }
 
 // Whether each number is one more than the one before.
@@ -79,28 +77,25 @@ fn are_consecutive(numbers: &[u64]) -> bool {
     true
 }
 
-// Puts numbers: the first and the last where each is one more than the one before, else all, as far as they fit.
-fn put_numbers(text: &mut Vec<u8>, numbers: &[u64], width: usize) -> Result<(), AllocError> {
-    let [first, .., last] = numbers else {
-        return Ok(());
-    };
-    if numbers.len() > 2 && are_consecutive(numbers) {
-        put_hex(text, *first, 1)?;
-        put(text, "-")?;
-        return put_hex(text, *last, 1);
+// Puts numbers: the first and the last of three or more where each is one more than the one before, else all, as far as
+// they fit.
+fn put_numbers(text: &mut Text, numbers: &[u64], width: usize) {
+    if let [first, _, .., last] = numbers {
+        if are_consecutive(numbers) {
+            put_hex(text, *first, 1);
+            text.put("-");
+            return put_hex(text, *last, 1);
+        }
     }
-    let mut is_first = true;
+    let mut separator = "";
     for number in numbers {
-        if text.len() > width {
-            return put(text, "..");
+        if length_of(text) > width {
+            return text.put("..");
         }
-        if !is_first {
-            put(text, " ")?;
-        }
-        is_first = false;
-        put_hex(text, *number, 1)?;
+        text.put(separator);
+        separator = " ";
+        put_hex(text, *number, 1);
     }
-    Ok(())
 }
 
 /// Functions of a PCI device that follow each other.
@@ -121,49 +116,38 @@ fn functions_of(
         let Address::Pci { device, function } = container.address else {
             return Ok(Vec::new(alloc));
         };
-        let next = Functions {
-            device,
-            first: function,
-            last: function,
-        };
-        match runs.pop() {
-            Some(run) => {
-                if run.device == device && run.last.saturating_add(1) == function {
-                    runs.push(Functions {
-                        last: function,
-                        ..run
-                    })?;
-                } else {
-                    runs.push(run)?;
-                    runs.push(next)?;
-                }
+        match runs.last_mut() {
+            Some(run) if run.device == device && run.last.saturating_add(1) == function => {
+                run.last = function;
             }
-            None => runs.push(next)?,
+            _ => runs.push(Functions {
+                device,
+                first: function,
+                last: function,
+            })?,
         }
     }
     Ok(runs)
 }
 
-// Devices and functions, as far as they fit.
-fn put_addresses(text: &mut Vec<u8>, runs: &[Functions], width: usize) -> Result<(), AllocError> {
+// Puts devices and functions, as far as they fit: `1C.0-3 1D.0`.
+fn put_addresses(text: &mut Text, runs: &[Functions], width: usize) {
     for run in runs {
-        if text.len() > width {
-            return put(text, " ..");
+        if length_of(text) > width {
+            return text.put(" ..");
         }
-        if !text.is_empty() {
-            put(text, " ")?;
-        }
-        put_hex(text, u64::from(run.device), 2)?;
-        put(text, ".")?;
-        put_hex(text, u64::from(run.first), 1)?;
+        put_between(text, " ");
+        put_hex(text, u64::from(run.device), 2);
+        text.put(".");
+        put_hex(text, u64::from(run.first), 1);
         if run.last != run.first {
-            put(text, "-")?;
-            put_hex(text, u64::from(run.last), 1)?;
+            text.put("-");
+            put_hex(text, u64::from(run.last), 1);
         }
     }
-    Ok(())
 }
 
+// The unique ids of the containers; nothing where one has none that is a number.
 fn uids_of(alloc: Global, containers: &[&Container<'_>]) -> Result<Option<Vec<u64>>, AllocError> {
     let mut numbers = Vec::new(alloc);
     for container in containers {
@@ -181,16 +165,17 @@ pub(crate) fn group_cells(
     containers: &[&Container<'_>],
     width: usize,
 ) -> Result<GroupCells, AllocError> {
-    let mut names = Vec::new(alloc);
-    put_names(&mut names, containers, width)?;
-    let mut place = Vec::new(alloc);
-    put_addresses(&mut place, &functions_of(alloc, containers)?, 10)?;
+    let mut names = Text::new(alloc);
+    put_names(&mut names, containers, width);
+    let mut place = Text::new(alloc);
+    put_addresses(&mut place, &functions_of(alloc, containers)?, 10);
     if let Some(numbers) = uids_of(alloc, containers)? {
-        if !place.is_empty() {
-            put(&mut place, " ")?;
-        }
-        put(&mut place, "uid ")?;
-        put_numbers(&mut place, &numbers, 12)?;
+        put_between(&mut place, " ");
+        place.put("uid ");
+        put_numbers(&mut place, &numbers, 12);
     }
-    Ok(GroupCells { names, place })
+    Ok(GroupCells {
+        names: names.into_bytes()?,
+        place: place.into_bytes()?,
+    })
 }

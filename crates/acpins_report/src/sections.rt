@@ -8,11 +8,12 @@ use acpi_overview::{
     Totals,
 };
 use acpi_overview_text::{
-    by_address, mark_of, put, put_addresses, put_count, put_counted, put_decimal, put_first,
-    put_length, put_lint, put_origin, put_region_path, put_short_path, put_site, put_table,
-    put_totals, put_units, space_word,
+    by_address, is_empty, length_of, mark_of, put_addresses, put_code_size, put_count, put_counted,
+    put_first, put_length, put_lint, put_origin, put_path_around, put_region_path, put_short_path,
+    put_site, put_table, put_totals, put_units, space_word,
 };
 use std::alloc::{AllocError, Global};
+use text_buffer::Text;
 
 /// How a report looks.
 #[derive(Debug, Clone, Copy, PartialEq, Eq)]
@@ -36,97 +37,86 @@ const NOTES: &str = "NOTES  (nothing is lost by these)";
 
 // ---- tables, problems and notes
 
-fn put_heads(
-    sheet: &mut Sheet,
-    overview: &Overview<'_>,
-    lines: &Lines<'_>,
-    files: &[&str],
-) -> Result<(), AllocError> {
-    put_first(&mut sheet.line, overview, lines)?;
-    sheet.end_as(Style::Head)?;
-    let tables = &overview.tables;
-    for number in 0..tables.len() {
-        sheet.put("  ")?;
-        put_table(&mut sheet.line, number, files.get(number), &tables[number])?;
-        sheet.end()?;
+// Puts how much there is of what, the tables with the names of their files, and what they hold.
+fn put_heads(sheet: &mut Sheet, overview: &Overview<'_>, lines: &Lines<'_>, files: &[&str]) {
+    put_first(&mut sheet.line, overview, lines);
+    sheet.end_as(Style::Head);
+    for (number, table) in overview.tables.iter().enumerate() {
+        sheet.put("  ");
+        put_table(&mut sheet.line, number, files.get(number), table);
+        sheet.end();
     }
-    sheet.put("  holds    ")?;
-    put_totals(&mut sheet.line, &overview.totals, overview.regions.len())?;
+    sheet.put("  holds    ");
+    put_totals(&mut sheet.line, &overview.totals, overview.regions.len());
     sheet.end()
 }
 
-// Lines in a style, if there are any, behind the head of their section.
-fn put_found(
-    sheet: &mut Sheet,
-    head: &str,
-    lines: &[FoundLine],
-    style: Style,
-) -> Result<(), AllocError> {
+// Puts lines in a style, if there are any, behind the head of their section.
+fn put_found(sheet: &mut Sheet, head: &str, lines: &[FoundLine], style: Style) {
     if lines.is_empty() {
-        return Ok(());
+        return;
     }
-    sheet.end()?;
-    sheet.head(head)?;
+    sheet.end();
+    sheet.head(head);
     for line in lines {
-        sheet.put("  ")?;
-        sheet.put_bytes(line.text.trim_ascii_end())?;
-        sheet.end_as(style)?;
+        sheet.put("  ");
+        sheet.line.put_all(line.text.trim_ascii_end());
+        sheet.end_as(style);
     }
-    Ok(())
 }
 
 // Says how many more there are.
-fn put_more(sheet: &mut Sheet, count: usize) -> Result<(), AllocError> {
+fn put_more(sheet: &mut Sheet, count: usize) {
     if count == 0 {
-        return Ok(());
+        return;
     }
-    sheet.put("  .. and ")?;
-    put_count(&mut sheet.line, count as u64)?;
-    sheet.put(" more (-v tells all)")?;
+    sheet.put("  .. and ");
+    put_count(&mut sheet.line, count as u64);
+    sheet.put(" more (-v tells all)");
     sheet.end()
 }
 
 // ---- conditions
 
-fn put_condition(sheet: &mut Sheet, line: &ConditionLine<'_>) -> Result<(), AllocError> {
-    sheet.put("  ")?;
-    put_short_path(&mut sheet.line, line.object.path)?;
-    sheet.tab(24)?;
-    sheet.put_bytes(&line.text)?;
+// Puts the path of an object, and its condition.
+fn put_condition(sheet: &mut Sheet, line: &ConditionLine<'_>) {
+    sheet.put("  ");
+    put_short_path(&mut sheet.line, line.object.path);
+    sheet.tab(24);
+    sheet.line.put_all(&line.text);
     sheet.end()
 }
 
 // Says how many objects with a condition are left out.
-fn put_left_out(sheet: &mut Sheet, totals: &Totals, shown: usize) -> Result<(), AllocError> {
+fn put_left_out(sheet: &mut Sheet, totals: &Totals, shown: usize) {
     let outside = totals.conditional.saturating_sub(totals.inside);
-    put_more(sheet, outside.saturating_sub(shown))?;
+    put_more(sheet, outside.saturating_sub(shown));
     if totals.inside == 0 {
-        return Ok(());
+        return;
     }
-    sheet.put("  and ")?;
-    put_counted(&mut sheet.line, totals.inside, "object")?;
-    sheet.put(" inside of these (-v tells them)")?;
+    sheet.put("  and ");
+    put_counted(&mut sheet.line, totals.inside, "object");
+    sheet.put(" inside of these (-v tells them)");
     sheet.end()
 }
 
+// Puts the objects that have a condition, if there are any; without `is_verbose` also how many of them are left out.
 fn put_conditions(
     sheet: &mut Sheet,
     totals: &Totals,
     lines: &[ConditionLine<'_>],
     is_verbose: bool,
-) -> Result<(), AllocError> {
+) {
     if totals.conditional == 0 {
-        return Ok(());
+        return;
     }
-    sheet.end()?;
-    sheet.head("CONDITIONAL  (? before all that has to be so)")?;
+    sheet.end();
+    sheet.head("CONDITIONAL  (? before all that has to be so)");
     for line in lines {
-        put_condition(sheet, line)?;
+        put_condition(sheet, line);
     }
-    if is_verbose {
-        Ok(())
-    } else {
-        put_left_out(sheet, totals, lines.len())
+    if !is_verbose {
+        put_left_out(sheet, totals, lines.len());
     }
 }
 
@@ -153,76 +143,64 @@ fn is_single(kind: OspmKind) -> bool {
     )
 }
 
-// A method and its size: the path of its device where the kind says its name.
-fn put_method(alloc: Global, sheet: &mut Sheet, method: &OspmMethod<'_>) -> Result<(), AllocError> {
-    let mut word = Vec::new(alloc);
+// Puts a method and its size: the path of its device where the kind says its name.
+fn put_method(sheet: &mut Sheet, method: &OspmMethod<'_>) {
+    let mut word = Text::new(sheet.line.alloc());
     if is_single(method.kind) {
-        let mut path = method.object.path.copy()?;
-        path.pop();
-        put_short_path(&mut word, &path)?;
+        put_path_around(&mut word, method.object.path);
     } else {
-        put_short_path(&mut word, method.object.path)?;
+        put_short_path(&mut word, method.object.path);
     }
-    put(&mut word, " ")?;
-    put_decimal(&mut word, method.object.code as u64)?;
-    put(&mut word, " B")?;
+    word.put(" ");
+    put_code_size(&mut word, method.object.code);
     sheet.put_word(&word, 12)
 }
 
-fn put_kind(
-    alloc: Global,
-    sheet: &mut Sheet,
-    overview: &Overview<'_>,
-    kind: OspmKind,
-    is_verbose: bool,
-) -> Result<(), AllocError> {
+// Puts the methods of a kind, if there are any; without `is_verbose` of more than six their number and size alone.
+fn put_kind(sheet: &mut Sheet, methods: &[OspmMethod<'_>], kind: OspmKind, is_verbose: bool) {
     let mut count = 0usize;
     let mut code = 0usize;
-    for method in &overview.ospm_methods {
+    for method in methods {
         if method.kind == kind {
             count = count.saturating_add(1);
             code = code.saturating_add(method.object.code);
         }
     }
     if count == 0 {
-        return Ok(());
+        return;
     }
-    sheet.put("  ")?;
-    sheet.put(kind_word(kind))?;
-    sheet.tab(12)?;
+    sheet.put("  ");
+    sheet.put(kind_word(kind));
+    sheet.tab(12);
     if count > 6 && !is_verbose {
-        put_counted(&mut sheet.line, count, "method")?;
-        sheet.put(", ")?;
-        put_counted(&mut sheet.line, code, "byte")?;
+        put_counted(&mut sheet.line, count, "method");
+        sheet.put(", ");
+        put_counted(&mut sheet.line, code, "byte");
         return sheet.end();
     }
-    for method in &overview.ospm_methods {
+    for method in methods {
         if method.kind == kind {
-            put_method(alloc, sheet, method)?;
+            put_method(sheet, method);
         }
     }
     sheet.end()
 }
 
-fn put_ospm_methods(
-    alloc: Global,
-    sheet: &mut Sheet,
-    overview: &Overview<'_>,
-    is_verbose: bool,
-) -> Result<(), AllocError> {
-    if overview.ospm_methods.is_empty() {
-        return Ok(());
+// Puts the methods that an operating system runs by itself, if there are any, by their kinds.
+fn put_ospm_methods(sheet: &mut Sheet, methods: &[OspmMethod<'_>], is_verbose: bool) {
+    if methods.is_empty() {
+        return;
     }
-    sheet.end()?;
-    sheet.head("RUN BY THE OS UNASKED  (sizes of the methods; nothing was run)")?;
+    sheet.end();
+    sheet.head("RUN BY THE OS UNASKED  (sizes of the methods; nothing was run)");
     for kind in &OSPM_KINDS {
-        put_kind(alloc, sheet, overview, *kind, is_verbose)?;
+        put_kind(sheet, methods, *kind, is_verbose);
     }
-    Ok(())
 }
 
 // ---- regions
 
+// Puts the regions, if there are any, by address space and in the order of their addresses.
 fn put_regions(
     alloc: Global,
     sheet: &mut Sheet,
@@ -231,93 +209,87 @@ fn put_regions(
     if overview.regions.is_empty() {
         return Ok(());
     }
-    sheet.end()?;
-    sheet.head("WHERE IT TOUCHES THE MACHINE  (= constant  ~ named constant  ? read at run time)")?;
+    sheet.end();
+    sheet.head("WHERE IT TOUCHES THE MACHINE  (= constant  ~ named constant  ? read at run time)");
     let mut before: Option<u8> = None;
-    for region in &by_address(alloc, &overview.regions)? {
+    for region in by_address(alloc, &overview.regions)? {
         let is_new_space = before != Some(region.space);
-        put_region(alloc, sheet, overview, region, is_new_space)?;
+        put_region(sheet, overview, region, is_new_space)?;
         before = Some(region.space);
     }
     Ok(())
 }
 
-// A region: its address space where that is another than before, its bounds, its path, its field units, and what gives
-// its bounds.
+// Puts a region: its address space where that is another than before, its bounds, its path, its field units, and what
+// gives its bounds.
 fn put_region(
-    alloc: Global,
     sheet: &mut Sheet,
     overview: &Overview<'_>,
     region: &Region<'_>,
     is_new_space: bool,
 ) -> Result<(), AllocError> {
-    sheet.put("  ")?;
+    sheet.put("  ");
     if is_new_space {
-        sheet.put(space_word(region.space))?;
+        sheet.put(space_word(region.space));
     }
-    sheet.tab(11)?;
-    sheet.put(mark_of(region))?;
-    sheet.put(" ")?;
-    let mut addresses = Vec::new(alloc);
-    put_addresses(&mut addresses, region)?;
-    sheet.put_bytes(&addresses)?;
-    sheet.tab(33)?;
-    put_length(&mut sheet.line, region)?;
-    sheet.tab(40)?;
-    put_region_path(&mut sheet.line, region)?;
-    sheet.tab(62)?;
-    put_units(&mut sheet.line, region)?;
-    sheet.tab(74)?;
-    put_origin_behind(alloc, sheet, overview, region)?;
-    sheet.end()
+    sheet.tab(11);
+    sheet.put(mark_of(region));
+    sheet.put(" ");
+    put_addresses(&mut sheet.line, region);
+    sheet.tab(33);
+    put_length(&mut sheet.line, region);
+    sheet.tab(40);
+    put_region_path(&mut sheet.line, region);
+    sheet.tab(62);
+    put_units(&mut sheet.line, region);
+    sheet.tab(74);
+    put_origin_behind(sheet, overview, region)?;
+    sheet.end();
+    Ok(())
 }
 
+// Puts what gives the bounds of a region, and whose `_CRS` claims it, on a further line where it doesn't fit.
 fn put_origin_behind(
-    alloc: Global,
     sheet: &mut Sheet,
     overview: &Overview<'_>,
     region: &Region<'_>,
 ) -> Result<(), AllocError> {
-    let mut origin = Vec::new(alloc);
+    let mut origin = Text::new(sheet.line.alloc());
     put_origin(&mut origin, overview, region)?;
-    if origin.is_empty() {
+    if is_empty(&origin) {
         return Ok(());
     }
-    if sheet.line.len().saturating_add(origin.len()) > sheet.width() {
-        sheet.end()?;
-        sheet.tab(13)?;
+    if sheet.column().saturating_add(length_of(&origin)) > sheet.width() {
+        sheet.end();
+        sheet.tab(13);
     }
-    sheet.put_bytes(&origin)
+    sheet.line.put_text(&origin);
+    Ok(())
 }
 
 // ---- lint
 
-fn put_lint_line(sheet: &mut Sheet, lint: &Lint<'_>) -> Result<(), AllocError> {
-    sheet.put("  ")?;
+// Puts what looks wrong, and where.
+fn put_lint_line(sheet: &mut Sheet, lint: &Lint<'_>) {
+    sheet.put("  ");
     if let Some(site) = lint.site {
-        put_site(&mut sheet.line, site)?;
+        put_site(&mut sheet.line, site);
     }
-    sheet.tab(16)?;
-    put_lint(&mut sheet.line, lint)?;
+    sheet.tab(16);
+    put_lint(&mut sheet.line, lint);
     sheet.end_as(Style::Odd)
 }
 
-fn put_lints(
-    sheet: &mut Sheet,
-    lints: &[Lint<'_>],
-    limit: Option<usize>,
-) -> Result<(), AllocError> {
+// Puts what looks wrong, if anything does: as many lines as the limit allows, and how many more there are.
+fn put_lints(sheet: &mut Sheet, lints: &[Lint<'_>], limit: Option<usize>) {
     if lints.is_empty() {
-        return Ok(());
+        return;
     }
-    sheet.end()?;
-    sheet.head("LOOKS WRONG  (nothing is lost by these)")?;
-    let count = match limit {
-        Some(limit) => limit.min(lints.len()),
-        None => lints.len(),
-    };
+    sheet.end();
+    sheet.head("LOOKS WRONG  (nothing is lost by these)");
+    let count = limit.unwrap_or(lints.len()).min(lints.len());
     for lint in &lints[..count] {
-        put_lint_line(sheet, lint)?;
+        put_lint_line(sheet, lint);
     }
     put_more(sheet, lints.len() - count)
 }
@@ -346,15 +318,15 @@ pub fn report(
     let is_verbose = options.is_verbose;
     let width = options.width.max(80).min(120);
     let mut sheet = Sheet::new(alloc, width, options.is_coloured);
-    put_heads(&mut sheet, overview, lines, files)?;
-    put_found(&mut sheet, PROBLEMS, &lines.problems, Style::Bad)?;
-    put_found(&mut sheet, NOTES, &lines.notes, Style::Odd)?;
-    put_conditions(&mut sheet, &overview.totals, &lines.conditions, is_verbose)?;
-    put_ospm_methods(alloc, &mut sheet, overview, is_verbose)?;
-    sheet.end()?;
+    put_heads(&mut sheet, overview, lines, files);
+    put_found(&mut sheet, PROBLEMS, &lines.problems, Style::Bad);
+    put_found(&mut sheet, NOTES, &lines.notes, Style::Odd);
+    put_conditions(&mut sheet, &overview.totals, &lines.conditions, is_verbose);
+    put_ospm_methods(&mut sheet, &overview.ospm_methods, is_verbose);
+    sheet.end();
     put_devices(alloc, &mut sheet, overview, is_verbose)?;
-    put_powers(&mut sheet, overview)?;
+    put_powers(&mut sheet, overview);
     put_regions(alloc, &mut sheet, overview)?;
-    put_lints(&mut sheet, &overview.lints, options.limit())?;
-    Ok(sheet.into_bytes())
+    put_lints(&mut sheet, &overview.lints, options.limit());
+    sheet.into_bytes()
 }

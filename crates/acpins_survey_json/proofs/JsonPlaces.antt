@@ -1,13 +1,14 @@
 -- Where the terms of entries stand.
 use Rattle.std.proofs.Common.{◌≡◌, ℕ, List, [], ◌++◌, Option, Some, None, is_some, option_map, unwrap_or, true≢false, ap, sym, subst}
 use Rattle.acpi_ranges.specs.Lookup.{Found, found_to}
+use Rattle.acpi_ranges.specs.SpanViews.{part_of}
 use Rattle.acpi_ranges.specs.declared.spans.SpanContent.{SpanContent}
 use Rattle.acpi_ranges.specs.declared.spans.SpanContent.TheVariants as whats
 use Rattle.acpins_survey_json.specs.Json.{more_members_text}
 use Rattle.acpins_survey_json.specs.JsonEntries.{end_of, term_members}
 
 -- where a part ends
-pub end_known : (to : ℕ) (w : SpanContent) (f : Found) → found_to to w ≡ Some f → to ≡ end_of f
+pub end_known : (to : ℕ) (w : SpanContent) (f : Found) → found_to to (part_of w) ≡ Some f → to ≡ end_of f
 end_known to (whats.Node n) f h = ap (λ (o : Option Found). unwrap_or (option_map end_of o) to) h
 end_known to (whats.Element fixed e offset) f h = ap (λ (o : Option Found). unwrap_or (option_map end_of o) to) h
 end_known to (whats.Lost why) f h = ap (λ (o : Option Found). unwrap_or (option_map end_of o) to) h

@@ -1,5 +1,5 @@
 -- What `map` prints of a survey: to what each byte of each table belongs (ACPI 6.5, 5.2.6, 5.3 and 20.2.5).
-use Rattle.std.specs.Prelude.{◌+◌, ◌-◌, nat_eq, false, if◌then◌else◌, ℕ, zero, suc, List, [], ◌∷◌, ◌++◌, length, Option, Some, None, codes, decimal}
+use Rattle.std.specs.Prelude.{◌+◌, ◌-◌, nat_eq, if◌then◌else◌, ℕ, zero, suc, List, [], ◌∷◌, ◌++◌, length, Option, Some, None, codes, decimal}
 use Rattle.std.specs.List.{flat_map}
 use Rattle.acpi_name.specs.Text.{path_text}
 use Rattle.acpi_text.specs.Terms.{term_text}
@@ -11,12 +11,10 @@ use Rattle.acpi_outline.specs.Nodes.{PlainTree, term, external, FixedTree, scope
 use Rattle.acpi_outline.specs.View.{nodes_view}
 use Rattle.acpi_conditions.specs.Entries.{Path, Why}
 use Rattle.acpi_ranges.specs.Index.{entered_in, refusals_in}
-use Rattle.acpi_ranges.specs.NestedRanges.{NestedRange, nested_nodes}
 use Rattle.acpi_ranges.specs.Index.{Refusals}
 use Rattle.acpi_ranges.specs.LostRanges.{bytes_from, range_lost, unsure_name}
 use Rattle.acpi_ranges.specs.Sites.{offset_of}
-use Rattle.acpi_ranges.specs.Ranges.{Entered, range}
-use Rattle.acpi_ranges.specs.Spans.{Part, of_node, of_element, of_lost}
+use Rattle.acpi_ranges.specs.Ranges.{Part, of_node, of_element, of_lost, Range, Entered, nothing_entered, code_ranges}
 use Rattle.acpi_pieces.specs.Tables.{code_read}
 use Rattle.acpi_survey.specs.Survey.{place_in}
 use Rattle.acpi_survey.specs.declared.machine_survey.Survey.{Survey}
@@ -80,7 +78,7 @@ element_in_map t place _ = codes "Layout"
 
 abbrev pub part_in_map : TableParts → (place : ℕ) → Part → List ℕ
 part_in_map t place (of_node n) = node_in_map t place n
-part_in_map t place (of_element e) = element_in_map t place e
+part_in_map t place (of_element f offset e) = element_in_map t place e
 part_in_map t place (of_lost why) = []
 
 -- ---- lines
@@ -96,7 +94,7 @@ start_text depth number from to =
     indent depth ++ decimal number ++ codes " " ++ range_text from to ++ codes " "
 
 -- the line of a range of which not all is lost; offsets count the table's header
-abbrev pub kept_line : TableParts → NestedRange → List ℕ
+abbrev pub kept_line : TableParts → Range → List ℕ
 kept_line t r = start_text r.depth t.number (offset_of r.from) (offset_of r.to)
     ++ part_in_map t r.from r.part ++ 10 ∷ []
 
@@ -106,14 +104,14 @@ lost_line depth number l reason = if nat_eq l.from l.to then [] else
     start_text depth number l.from l.to ++ codes "Lost " ++ reason ++ 10 ∷ []
 
 -- of what is lost of a range of a code
-abbrev pub lost_in_map : (number : ℕ) → (code : List ℕ) → (depth : ℕ) → NestedRange → LostFault
+abbrev pub lost_in_map : (number : ℕ) → (code : List ℕ) → (depth : ℕ) → Range → LostFault
     → List ℕ
 lost_in_map number code depth r why =
-    lost_line depth number (range_lost code (range r.from r.to [] false r.part))
+    lost_line depth number (range_lost code r)
     (lost_reason_text why.reason ++ named_text (unsure_name code why.place why.reason))
 
 -- An If or While of which a part is lost has a line, and the part one inside it. The lost data of a Name has none.
-abbrev pub node_lines : TableParts → (code : List ℕ) → NestedRange → NodeTree → List ℕ
+abbrev pub node_lines : TableParts → (code : List ℕ) → Range → NodeTree → List ℕ
 node_lines t code r (package_lost forms.If why) =
     kept_line t r ++ lost_in_map t.number code (suc r.depth) r why
 node_lines t code r (package_lost forms.While why) =
@@ -122,12 +120,12 @@ node_lines t code r (package_lost form why) = lost_in_map t.number code r.depth 
 node_lines t code r (data_lost form why) = lost_in_map t.number code r.depth r why
 node_lines t code r n = kept_line t r
 
-abbrev pub part_lines : TableParts → (code : List ℕ) → NestedRange → Part → List ℕ
+abbrev pub part_lines : TableParts → (code : List ℕ) → Range → Part → List ℕ
 part_lines t code r (of_node n) = node_lines t code r n
-part_lines t code r (of_element e) = kept_line t r
+part_lines t code r (of_element f offset e) = kept_line t r
 part_lines t code r (of_lost why) = lost_in_map t.number code r.depth r why
 
-abbrev pub range_lines : TableParts → (code : List ℕ) → NestedRange → List ℕ
+abbrev pub range_lines : TableParts → (code : List ℕ) → Range → List ℕ
 range_lines t code r = part_lines t code r r.part
 
 -- ---- tables
@@ -135,7 +133,7 @@ range_lines t code r = part_lines t code r r.part
 -- the header and the ranges of a code
 abbrev pub code_lines : TableParts → (code : List ℕ) → NodeTrees → List ℕ
 code_lines t code ns = start_text 0 t.number 0 36 ++ codes "Header\n"
-    ++ flat_map (range_lines t code) (nested_nodes 0 (length code) ns)
+    ++ flat_map (range_lines t code) (code_ranges nothing_entered (length code) ns)
 
 -- .. and what stands behind the table; of a table of which nothing is read all bytes are lost
 abbrev pub table_lines : TableParts → (bytes : List ℕ) → TableContent → NodeTrees → List ℕ

@@ -2,7 +2,8 @@
 use Rattle.std.specs.Prelude.{ℕ, List, ◌++◌, Option, Some, None, codes, decimal}
 use Rattle.acpi_tree.specs.Terms.{TermTree}
 use Rattle.acpi_text.specs.Constants.{hex_digits}
-use Rattle.acpi_text.specs.Objects.{object_text, width_text}
+use Rattle.acpi_text.specs.Objects.{object_text}
+use Rattle.acpi_text.specs.Terms.{width_text}
 use Rattle.acpi_text.specs.Terms.{term_text}
 use Rattle.acpi_objects.specs.Objects.{ObjectParts, constant, named, region, table_region, alias, bank_unit, create, create_bits}
 

@@ -23,12 +23,12 @@ shown_lines s p n b = numbered_line s p n ++ body_lines b
 -- the text has them for each entry at the path, in the order of the numbers
 pub record IsShown (s : Survey) (p : Path) (text : List ℕ) : Type 0 where
   pub bodies : List (Option MethodBody)
-  pub are_bodies : AllZip (IsBodyAt s) (numbers_at p 0 (entries_of s)) bodies
-  pub text_is : text ≡ zip_text (shown_lines s p) (numbers_at p 0 (entries_of s)) bodies
+  pub are_bodies : AllZip (IsBodyAt s) (numbers_at p (entries_of s)) bodies
+  pub text_is : text ≡ zip_text (shown_lines s p) (numbers_at p (entries_of s)) bodies
 
 -- .. or no entry is there
 abbrev pub IsShownOrNone : Survey → Path → Option (List ℕ) → Type 0
-IsShownOrNone s p None = numbers_at p 0 (entries_of s) ≡ []
+IsShownOrNone s p None = numbers_at p (entries_of s) ≡ []
 IsShownOrNone s p (Some text) = IsShown s p text
 
 -- ---- bodies

@@ -4,7 +4,7 @@ ghost use Rattle.std.specs.Prelude.{◌≡◌, ◌++◌, codes};
 ghost use Rattle.std.specs.Option.{option_map};
 ghost use Rattle.acpi_tree.specs.TermView.{term_view};
 ghost use Rattle.acpi_text.specs.Terms.{term_text};
-ghost use Rattle.acpi_text.specs.Objects.{width_text};
+ghost use Rattle.acpi_text.specs.Terms.{width_text};
 ghost use Rattle.acpi_objects.specs.Objects.{region, table_region, bank_unit};
 ghost use Rattle.acpi_objects.specs.Views.{kind_view, lent_view, unit_view};
 ghost use Rattle.acpins_survey_output.specs.Objects.{named_text, parts_text, source_of};

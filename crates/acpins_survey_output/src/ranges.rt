@@ -4,9 +4,8 @@ ghost use Rattle.std.specs.Prelude.{◌≡◌, ◌<◌, ◌+◌, ◌-◌, ◌^�
 ghost use Rattle.std.specs.List.{flat_map};
 ghost use Rattle.acpi_outline.specs.View.{fixed_view, node_view, nodes_view, plain_view};
 ghost use Rattle.acpi_ranges.specs.LostRanges.{bytes_from};
-ghost use Rattle.acpi_ranges.specs.NestedRanges.{nested_nodes};
-ghost use Rattle.acpi_ranges.specs.NestedViews.{nested_view};
-ghost use Rattle.acpi_ranges.specs.SpanViews.{part_of};
+ghost use Rattle.acpi_ranges.specs.Ranges.{code_ranges, nothing_entered};
+ghost use Rattle.acpi_ranges.specs.SpanViews.{part_of, range_of};
 ghost use Rattle.acpi_pieces.specs.Tables.{code_read};
 ghost use Rattle.acpi_ranges.specs.steps.Indexes.{index_entered, index_refusals};
 ghost use Rattle.acpi_tree.specs.TermView.{decl_view, term_view};
@@ -18,7 +17,7 @@ use crate::found::put_range;
 use acpi_outline::{Fixed, LostFault, Node, PackedForm, Plain};
 use acpi_pieces::TableContent;
 use acpi_ranges::{
-    LostRange, PlaceIndex, Span, SpanContent, Spans, index_of, range_lost, unsure_name,
+    LostRange, PlaceIndex, ScopedSpan, SpanContent, Spans, index_of, range_lost, unsure_name,
 };
 use acpi_survey::{Survey, SurveyedTable};
 use acpi_table::HEADER_BYTES;
@@ -172,14 +171,15 @@ fn put_start(text: &mut Text, depth: usize, number: usize, range: LostRange)
 }
 
 // The line of a range of which not all is lost.
-fn put_kept(text: &mut Text, places: TablePlaces<'_, '_>, span: &Span<'_>)
-    ensures { text.new ≡ text.old ++ kept_line (places_view places.entry) (nested_view span.now) }
+fn put_kept(text: &mut Text, places: TablePlaces<'_, '_>, range: &ScopedSpan<'_>)
+    ensures { text.new ≡ text.old ++ kept_line (places_view places.entry) (range_of range.now) }
 {
-    let range = LostRange {
+    let span = range.span;
+    let bytes = LostRange {
         from: span.from.saturating_add(HEADER_BYTES),
         to: span.to.saturating_add(HEADER_BYTES),
     };
-    put_start(text, span.depth, places.number, range);
+    put_start(text, span.depth, places.number, bytes);
     put_part(text, places, span.from, span.what);
     text.put("\n")
 }
@@ -203,17 +203,23 @@ fn put_lost(
     number: usize,
     table: &SurveyedTable,
     depth: usize,
-    span: &Span<'_>,
+    range: &ScopedSpan<'_>,
     fault: LostFault,
 ) -> Result<(), AllocError>
     ensures { OnOk result (text.new ≡ text.old
-        ++ lost_in_map number (code_read table.now.judged) depth (nested_view span.now) fault) }
+        ++ lost_in_map number (code_read table.now.judged) depth (range_of range.now) fault) }
 {
     let name = unsure_name(text.alloc(), table.code(), fault.place, fault.reason)?;
     let mut reason = Text::new(text.alloc());
     reason.put(lost_reason_name(fault.reason));
     put_named(&mut reason, name.as_ref());
-    put_lost_bytes(text, depth, number, range_lost(table.code(), span), &reason);
+    put_lost_bytes(
+        text,
+        depth,
+        number,
+        range_lost(table.code(), &range.span),
+        &reason,
+    );
     Ok(())
 }
 
@@ -222,18 +228,18 @@ fn put_branch(
     text: &mut Text,
     places: TablePlaces<'_, '_>,
     table: &SurveyedTable,
-    span: &Span<'_>,
+    range: &ScopedSpan<'_>,
     fault: LostFault,
 ) -> Result<(), AllocError>
-    requires { span.now.depth + 1 < 2 ^ 64 }
+    requires { range.now.span.depth + 1 < 2 ^ 64 }
     ensures { OnOk result (text.new ≡ text.old
-        ++ (kept_line (places_view places.entry) (nested_view span.now)
+        ++ (kept_line (places_view places.entry) (range_of range.now)
         ++ lost_in_map places.entry.number (code_read table.now.judged)
-        (suc span.now.depth) (nested_view span.now) fault)) }
+        (suc range.now.span.depth) (range_of range.now) fault)) }
 {
-    put_kept(text, places, span);
-    let depth = span.depth + 1;
-    put_lost(text, places.number, table, depth, span, fault)
+    put_kept(text, places, range);
+    let depth = range.span.depth + 1;
+    put_lost(text, places.number, table, depth, range, fault)
 }
 
 // The lines of a node.
@@ -241,29 +247,29 @@ fn put_node_lines(
     text: &mut Text,
     places: TablePlaces<'_, '_>,
     table: &SurveyedTable,
-    span: &Span<'_>,
+    range: &ScopedSpan<'_>,
     node: &Node,
 ) -> Result<(), AllocError>
-    requires { span.now.depth + 1 < 2 ^ 64 }
+    requires { range.now.span.depth + 1 < 2 ^ 64 }
     ensures { OnOk result (text.new ≡ text.old
         ++ node_lines (places_view places.entry) (code_read table.now.judged)
-        (nested_view span.now) (node_view node.now)) }
+        (range_of range.now) (node_view node.now)) }
 {
     match node {
         Node::PackageLost(PackedForm::If, fault) => {
-            put_branch(text, places, table, span, *fault)
+            put_branch(text, places, table, range, *fault)
         }
         Node::PackageLost(PackedForm::While, fault) => {
-            put_branch(text, places, table, span, *fault)
+            put_branch(text, places, table, range, *fault)
         }
         Node::PackageLost(_, fault) => {
-            put_lost(text, places.number, table, span.depth, span, *fault)
+            put_lost(text, places.number, table, range.span.depth, range, *fault)
         }
         Node::DataLost(_, fault) => {
-            put_lost(text, places.number, table, span.depth, span, *fault)
+            put_lost(text, places.number, table, range.span.depth, range, *fault)
         }
         _ => {
-            put_kept(text, places, span);
+            put_kept(text, places, range);
             Ok(())
         }
     }
@@ -274,20 +280,27 @@ fn put_span(
     text: &mut Text,
     places: TablePlaces<'_, '_>,
     table: &SurveyedTable,
-    span: &Span<'_>,
+    range: &ScopedSpan<'_>,
 ) -> Result<(), AllocError>
-    requires { span.now.depth + 1 < 2 ^ 64 }
+    requires { range.now.span.depth + 1 < 2 ^ 64 }
     ensures { OnOk result (text.new ≡ text.old
         ++ range_lines (places_view places.entry) (code_read table.now.judged)
-        (nested_view span.now)) }
+        (range_of range.now)) }
 {
-    match span.what {
-        SpanContent::Node(node) => put_node_lines(text, places, table, span, node),
+    match range.span.what {
+        SpanContent::Node(node) => put_node_lines(text, places, table, range, node),
         SpanContent::Element(_, _, _) => {
-            put_kept(text, places, span);
+            put_kept(text, places, range);
             Ok(())
         }
-        SpanContent::Lost(fault) => put_lost(text, places.number, table, span.depth, span, fault),
+        SpanContent::Lost(fault) => put_lost(
+            text,
+            places.number,
+            table,
+            range.span.depth,
+            range,
+            fault,
+        ),
     }
 }
 
@@ -302,11 +315,12 @@ fn put_spans(
 ) -> Result<(), AllocError>
     ensures { OnOk result (text.new ≡ text.old
         ++ flat_map (range_lines (places_view places.entry) (code_read table.now.judged))
-        (nested_nodes 0 (length (code_read table.now.judged)) (nodes_view table.now.nodes))) }
+        (code_ranges nothing_entered (length (code_read table.now.judged))
+        (nodes_view table.now.nodes))) }
 {
     let mut spans = Spans::new(alloc, &table.nodes, table.code().len())?;
-    while let Some(span) = spans.next()? {
-        put_span(text, places, table, &span)?;
+    while let Some(range) = spans.next()? {
+        put_span(text, places, table, &range)?;
     }
     Ok(())
 }

@@ -38,4 +38,4 @@ pub use folders::Folders;
 pub use host::{HostConsole, HostFolders, arguments};
 pub use printing::{Output, Print, Printer};
 pub use program::{Ending, output_of, report_failure, run};
-pub use tables::{FoundTables, Source};
+pub use tables::{FoundTables, TableFile};

@@ -17,7 +17,7 @@ use std::io::Read;
 
 /// A file that holds tables.
 #[derive(Debug, Drop)]
-pub struct Source {
+pub struct TableFile {
     /// The name of the file.
     pub name: String,
     /// How many tables stand in it and in the files before it.
@@ -30,7 +30,7 @@ pub struct FoundTables {
     /// The tables.
     pub tables: Vec<Bytes>,
     /// The files.
-    pub sources: Vec<Source>,
+    pub sources: Vec<TableFile>,
 }
 
 impl FoundTables {
@@ -52,7 +52,7 @@ impl FoundTables {
         self.tables.append(tables)?;
         let name = String::from_str(alloc, name)?;
         let end = self.tables.len();
-        self.sources.push(Source { name, end })?;
+        self.sources.push(TableFile { name, end })?;
         Ok(())
     }
 

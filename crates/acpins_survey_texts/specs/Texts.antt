@@ -6,9 +6,8 @@ use Rattle.acpi_ranges.specs.Index.{entered_in}
 use Rattle.acpi_findings.specs.Findings.{problems_in, notes_by}
 use Rattle.acpi_findings.specs.Notes.{Unknowns}
 use Rattle.acpi_findings.specs.NoteViews.{note_view}
-use Rattle.acpi_survey.specs.Predefined.{first_reading}
 use Rattle.acpi_findings.specs.ProblemViews.{problem_view}
-use Rattle.acpi_survey.specs.Surveys.{AreTables, bytes_of}
+use Rattle.acpi_survey.specs.Surveys.{IsSurvey}
 use Rattle.acpi_findings.specs.declared.findings.Findings.{Findings}
 use Rattle.acpi_survey.specs.declared.machine_survey.Survey.{Survey}
 use Rattle.acpins_survey_json.specs.JsonFrame.{IsJson}
@@ -18,12 +17,6 @@ use Rattle.acpins_survey_output.specs.Shown.{IsBodyListing, IsShownOrNone}
 use Rattle.acpins_page.specs.Page.{IsPage}
 use Rattle.acpins_page.specs.declared.style.TheConstants.{HEAD}
 use Rattle.acpins_survey_words.specs.Words.{Command, listing, showing, mapping, telling_bodies, json, paging}
-
--- the survey of these tables, with this limit
-pub record IsSurvey (depth : ℕ) (tables : List (List ℕ)) (s : Survey) : Type 0 where
-  pub kept : bytes_of s.tables.items ≡ tables
-  pub limit : s.depth ≡ depth
-  pub read : AreTables depth 0 first_reading s.tables.items s.reading
 
 -- These findings tell what is lost, refused and noticed in the tables of a survey.
 pub record AreFindings (s : Survey) (f : Findings) : Type 0 where

@@ -2,11 +2,12 @@
 
 ghost use Rattle.std.specs.Prelude.{◌≡◌, IfOk, Err};
 ghost use Rattle.acpi_survey.specs.SurveyOrder.{IsInOrder};
+ghost use Rattle.acpi_survey.specs.Surveys.{IsSurvey};
 ghost use Rattle.acpins_page.specs.Page.{IsPage};
 ghost use Rattle.acpins_survey_words.specs.Words.{Command as AskedCommand};
 ghost use Rattle.acpins_survey_run.specs.Prints.{IsPrintOf};
 ghost use Rattle.acpins_survey_run.specs.declared.failure.PrintFault.{PrintFault};
-ghost use Rattle.acpins_survey_texts.specs.Texts.{AreFindings, HasNothingAt, HasNothingIn, IsMade, IsSurvey, IsTextOf};
+ghost use Rattle.acpins_survey_texts.specs.Texts.{AreFindings, HasNothingAt, HasNothingIn, IsMade, IsTextOf};
 
 use crate::lines::lines_of;
 use acpi_code::Depth;

@@ -1,7 +1,6 @@
 -- Escaped data.
-use Rattle.std.proofs.Common.{◌≡◌, ◌∙◌, ℕ, ◌+◌, ◌<◌, Bool, true, false, cond, not, ◌&&◌, nat_eq, List, [], ◌∷◌, ◌++◌, length, take, get_or, codes, refl, ap, sym}
-use Rattle.std.specs.List.{flat_map, list_all}
-use Rattle.std.proofs.lemmas.List.{flat_map_more, take_more}
+use Rattle.std.proofs.Common.{◌≡◌, ◌∙◌, ℕ, Bool, true, false, cond, not, ◌&&◌, nat_eq, List, [], ◌∷◌, codes, refl, ap}
+use Rattle.std.specs.List.{list_all}
 use Rattle.std.proofs.lemmas.List.Folds.{list_all-append}
 use Rattle.std.proofs.lemmas.Bool.{and_from}
 use Rattle.html_text.specs.Escape.{entity_of, escaped, is_no_markup}
@@ -23,10 +22,3 @@ pub escaped-no_markup : (bytes : List ℕ) → list_all is_no_markup (escaped by
 escaped-no_markup [] = refl
 escaped-no_markup (b ∷ bs) = list_all-append is_no_markup (entity_of b) (escaped bs)
     ∙ and_from (list_all is_no_markup (entity_of b)) (list_all is_no_markup (escaped bs)) (entity-no_markup b) (escaped-no_markup bs)
-
--- one byte more
-pub one_more : (bytes : List ℕ) (i b : ℕ) (old mid new : List ℕ) → i < length bytes → b ≡ get_or bytes i 0
-    → mid ≡ old ++ escaped (take i bytes) → new ≡ mid ++ entity_of b → new ≡ old ++ escaped (take (i + 1) bytes)
-one_more bytes i b old mid new within is before last =
-    last ∙ ap (λ t. t ++ entity_of b) before ∙ flat_map_more entity_of old (take i bytes) b
-    ∙ ap (λ ys. old ++ flat_map entity_of ys) (sym (take_more bytes i 0 within ∙ ap (λ y. take i bytes ++ y ∷ []) (sym is)))

@@ -1,15 +1,36 @@
 //! HTML that is written.
 
-ghost use Rattle.std.specs.Prelude.{◌≡◌, ◌++◌, [], OnOk};
+ghost use Rattle.std.specs.Prelude.{◌≡◌, ◌++◌, [], IfOk};
 ghost use Rattle.html_text.specs.Escape.{entity_of, escaped};
 
 use std::alloc::{AllocError, Global};
 use std::marker::Model;
+use text_buffer::{Spelled, Spelling, Text};
+
+/// The spelling of data: entities for `<`, `>`, `&`, `"` and `'`.
+struct Escaped;
+
+impl Spelled for Escaped {
+    ghost spelled = { entity_of };
+}
+
+impl Spelling for Escaped {
+    fn spell(text: &mut Text, byte: u8) {
+        match byte {
+            b'<' => text.put("&lt;"),
+            b'>' => text.put("&gt;"),
+            b'&' => text.put("&amp;"),
+            b'"' => text.put("&quot;"),
+            b'\'' => text.put("&#39;"),
+            _ => text.put_one(byte),
+        }
+    }
+}
 
 /// HTML that is written, seen as its bytes.
 #[derive(Drop)]
 pub struct Html {
-    bytes: Vec<u8>,
+    written: Text,
 }
 
 impl Model for Html {
@@ -17,7 +38,7 @@ impl Model for Html {
 
     ghost Value = { List ℕ };
 
-    ghost view = { λ h. h.bytes.items };
+    ghost view = { λ h. h.written };
 }
 
 impl Html {
@@ -26,50 +47,36 @@ impl Html {
         ensures { result ≡ [] }
     {
         Html {
-            bytes: Vec::new(alloc),
+            written: Text::new(alloc),
         }
     }
 
     /// Puts markup behind what is written.
-    pub fn markup(&mut self, markup: &'static str) -> Result<(), AllocError>
-        ensures { OnOk result (self.new ≡ self.old ++ markup.now) }
+    pub fn markup(&mut self, markup: &'static str)
+        ensures { self.new ≡ self.old ++ markup.now }
     {
-        self.bytes.extend_from_slice(markup.as_bytes())
-    }
-
-    // Puts one byte of data.
-    fn put(&mut self, byte: u8) -> Result<(), AllocError>
-        ensures { OnOk result (self.new ≡ self.old ++ entity_of byte) }
-    {
-        match byte {
-            b'<' => self.markup("&lt;"),
-            b'>' => self.markup("&gt;"),
-            b'&' => self.markup("&amp;"),
-            b'"' => self.markup("&quot;"),
-            b'\'' => self.markup("&#39;"),
-            _ => {
-                self.bytes.push(byte)?;
-                Ok(())
-            }
-        }
+        self.written.put(markup)
     }
 
     /// Puts data behind what is written, in content or in an attribute's value between quotes: `<`, `>`, `&`, `"` and
     /// `'` as entities, other bytes as they are.
-    pub fn text(&mut self, bytes: &[u8]) -> Result<(), AllocError>
-        ensures { OnOk result (self.new ≡ self.old ++ escaped bytes.now) }
+    pub fn text(&mut self, bytes: &[u8])
+        ensures { self.new ≡ self.old ++ escaped bytes.now }
     {
-        for byte in bytes {
-            self.put(*byte)?;
-        }
-        Ok(())
+        self.written.put_spelled::<Escaped>(bytes)
     }
 
-    /// The bytes.
-    pub fn into_bytes(self) -> Vec<u8>
-        ensures { result.items ≡ self }
+    /// Puts what a text says as data.
+    pub fn text_of(&mut self, text: &Text)
+        ensures { self.new ≡ self.old ++ escaped text.now }
     {
-        let Html { bytes } = self;
-        bytes
+        self.written.put_spelled_text::<Escaped>(text)
+    }
+
+    /// The bytes; an error where a growth of memory was refused.
+    pub fn into_bytes(self) -> Result<Vec<u8>, AllocError>
+        ensures { IfOk result (λ bytes. bytes.items ≡ self) }
+    {
+        self.written.into_bytes()
     }
 }

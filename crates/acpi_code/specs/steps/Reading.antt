@@ -19,7 +19,7 @@ use Rattle.acpi_code.specs.declared.fault.CodeFault.{CodeFault}
 use Rattle.acpi_code.specs.declared.opcode.ConstantForm.{ConstantForm}
 use Rattle.acpi_code.specs.declared.opcode.ConstantForm.TheVariants as forms
 use Rattle.acpi_code.specs.declared.opcode.Opcode.{Opcode}
-use Rattle.acpi_code.specs.Opcodes.{plain_opcode_of, extended_opcode_of}
+use Rattle.acpi_code.specs.steps.Opcodes.{plain_opcode_of, extended_opcode_of}
 
 -- ---- readings, whatever their faults are
 

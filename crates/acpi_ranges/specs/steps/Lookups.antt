@@ -6,7 +6,8 @@ use Rattle.acpi_outline.specs.declared.node.PlacedNode.{PlacedNode}
 use Rattle.acpi_outline.specs.declared.node.PlacedField.{PlacedField}
 use Rattle.acpi_outline.specs.Tiling.{TilesInside}
 use Rattle.acpi_outline.specs.declared.node.Lost.{Lost}
-use Rattle.acpi_ranges.specs.Lookup.{Found, node_found, inside_at}
+use Rattle.acpi_ranges.specs.Lookup.{Found, node_found}
+use Rattle.acpi_ranges.specs.steps.Search.{search_node}
 use Rattle.acpi_ranges.specs.declared.lookup.NodeRange.{NodeRange}
 
 -- where an item ends that this place follows, if one does
@@ -28,5 +29,5 @@ abbrev pub IsBefore : ℕ → Option NodeRange → Option Found → Type 0
 IsBefore place None found = found ≡ None
 IsBefore place (Some r) found =
     (found ≡ cond (r.from == place) (Some (node_found r.to (node_view r.node.now)))
-    (inside_at place r.to (node_view r.node.now)))
+    (search_node place r.to (node_view r.node.now)))
     × TilesInside r.from r.to (node_view r.node.now)

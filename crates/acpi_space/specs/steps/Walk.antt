@@ -4,7 +4,7 @@ use Rattle.std.specs.List.{flat_map}
 use Rattle.acpi_name.specs.Names.{Segment}
 use Rattle.acpi_name.specs.Paths.{parent_of}
 use Rattle.acpi_space.specs.declared.nodes.Node.{Node}
-use Rattle.acpi_space.specs.declared.walk.Walk.{Walk}
+use Rattle.acpi_space.specs.declared.walk.PairWalk.{PairWalk}
 use Rattle.acpi_space.specs.declared.walk.Step.{Step}
 use Rattle.acpi_space.specs.declared.walk.Step.TheVariants.{Enter, Leave}
 use Rattle.acpi_space.specs.steps.Tree.{pairs_below}
@@ -29,7 +29,7 @@ abbrev pub places : Option ℕ → List Segment → List Step → List (List Seg
 places None path steps = ahead path steps
 places (Some n) path steps = (path, n) ∷ ahead path steps
 
-abbrev pub places_of : {V : Type 0} → Walk V → List (List Segment × ℕ)
+abbrev pub places_of : {V : Type 0} → PairWalk V → List (List Segment × ℕ)
 places_of walk = places walk.entered walk.path (reverse walk.steps.items)
 
 -- pairs, with their paths from the root
@@ -42,11 +42,11 @@ abbrev pub pairs_of : {V : Type 0} → List (Node V) → List (List Segment × �
 pairs_of nodes places = flat_map (λ e. under e.0 (pairs_below (length nodes) nodes e.1)) places
 
 -- the pairs that a walk has still to give
-abbrev pub left_of : {V : Type 0} → Walk V → List (List Segment × V)
+abbrev pub left_of : {V : Type 0} → PairWalk V → List (List Segment × V)
 left_of walk = pairs_of walk.nodes.now (places_of walk)
 
 -- .. with the one that it gave last, if it gave one
-abbrev pub with_given : {V : Type 0} → Option V → Walk V → List (List Segment × V)
+abbrev pub with_given : {V : Type 0} → Option V → PairWalk V → List (List Segment × V)
 with_given None walk = []
 with_given (Some value) walk = (walk.path, value) ∷ left_of walk
 

@@ -11,7 +11,7 @@ use Rattle.acpi_order.specs.Singles.{IsAwaitedInTable, IsSatisfied}
 use Rattle.acpi_order.specs.Verdicts.{IsSsdt}
 use Rattle.acpi_verdict.specs.declared.definers.Definer.{Definer}
 use Rattle.acpi_verdict.specs.declared.definers.Definers.{Definers}
-use Rattle.acpi_verdict.specs.declared.findings.Findings.{Findings}
+use Rattle.acpi_verdict.specs.declared.findings.PairFindings.{PairFindings}
 use Rattle.acpi_verdict.specs.declared.verdicts.Satisfied.{Satisfied}
 use Rattle.acpi_verdict.specs.SatisfiedView.{satisfied_cmp, AreSatisfied}
 use Rattle.acpi_verdict.specs.steps.Clashing.{Clashes, IsLeastOf, Offers}
@@ -90,7 +90,7 @@ IsSatisfiedOf d user es = IsSatisfiedFor user (λ p n. Among es (p, n)) (IsNoted
 
 -- what its misses say, over what was found before
 pub record FindsPair (d : Definers) (number : ℕ) (pair : PairTree)
-    (old new : Findings) : Type 0 where
+    (old new : PairFindings) : Type 0 where
   pub clash : Offers old.clash new.clash
       (λ i j p. IsUnmetOf d.first number pair.own i j p ⊎ IsUnmetOf d.first number pair.under i j p)
   pub satisfied : PutsSatisfied old.satisfied.items new.satisfied.items
@@ -98,7 +98,7 @@ pub record FindsPair (d : Definers) (number : ℕ) (pair : PairTree)
 
 -- .. of its single load
 pub record FindsSsdt (depth : ℕ) (dsdt ssdt : List ℕ) (d : Definers) (number : ℕ)
-    (old new : Findings) : Type 0 where
+    (old new : PairFindings) : Type 0 where
   pub first : Listing
   pub t : Listing
   pub listings : AreSingleListings depth dsdt ssdt first t
@@ -110,7 +110,7 @@ pub record FindsSsdt (depth : ℕ) (dsdt ssdt : List ℕ) (d : Definers) (number
 
 -- what is found of the SSDTs up to that number
 pub record AreFoundTo (depth : ℕ) (dsdt : List ℕ) (ssdts : List (List ℕ)) (d : Definers) (n : ℕ)
-    (f : Findings) : Type 0 where
+    (f : PairFindings) : Type 0 where
   pub clash : IsLeastOf (λ i j p. IsUnmetAt depth dsdt ssdts d.first i j p × (i ≤ n)) f.clash
   pub ascend : IsStrictlySortedBy satisfied_cmp f.satisfied.items
   pub satisfied : (s : Satisfied)
@@ -118,6 +118,6 @@ pub record AreFoundTo (depth : ℕ) (dsdt : List ℕ) (ssdts : List (List ℕ)) 
       ↔ (IsSatisfied depth dsdt ssdts s.user s.definer s.path × (s.user ≤ n))
 
 pub record AreFound (depth : ℕ) (dsdt : List ℕ) (ssdts : List (List ℕ)) (d : Definers)
-    (f : Findings) : Type 0 where
+    (f : PairFindings) : Type 0 where
   pub clash : IsLeastOf (IsUnmetAt depth dsdt ssdts d.first) f.clash
   pub satisfied : AreSatisfied depth dsdt ssdts f.satisfied.items

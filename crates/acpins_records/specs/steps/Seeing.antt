@@ -8,7 +8,7 @@ use Rattle.acpi_tree.specs.declared.object.Object.{Object}
 use Rattle.acpi_text.specs.Lines.{listing_text}
 use Rattle.acpi_declare.specs.Links.{Links, links_at}
 use Rattle.acpi_places.specs.declared.place.CodePlace.{CodePlace}
-use Rattle.acpins_records.specs.declared.building.Seen.{Seen}
+use Rattle.acpins_records.specs.declared.building.RecordCollector.{RecordCollector}
 use Rattle.acpins_records.specs.Records.{parts_from, bytes_of_data, records_from}
 use Rattle.acpins_records.specs.Contents.{all_links, all_data}
 use Rattle.acpins_records.specs.steps.Kinds.{AllSuit}
@@ -22,7 +22,7 @@ no_places k = 0
 
 -- the records of the first objects, without their places, and what their links find
 pub record AreFirst (es : List (List Segment × ObjectTree)) (links : Lookup Links)
-    (codes : Lookup CodePlace) (s : Seen) : Type 0 where
+    (codes : Lookup CodePlace) (s : RecordCollector) : Type 0 where
   pub objects_are : s.records.objects.items
       ≡ records_from 0 0 0 0 no_places no_places es links codes
   pub no_targets : s.records.targets.items ≡ []
@@ -33,7 +33,7 @@ pub record AreFirst (es : List (List Segment × ObjectTree)) (links : Lookup Lin
 
 -- It was shown these pairs from the start on: it has their paths, and, where no other objects have links or code than
 -- those that are asked for some, their records.
-pub record AreSeen (first : Seen) (pairs : List (List Segment × Object)) (now : Seen) : Type 0 where
+pub record AreSeen (first : RecordCollector) (pairs : List (List Segment × Object)) (now : RecordCollector) : Type 0 where
   pub links_stay : now.links ≡ first.links
   pub codes_stay : now.codes ≡ first.codes
   pub paths_are : now.paths ≡ map (λ e. e.0) pairs

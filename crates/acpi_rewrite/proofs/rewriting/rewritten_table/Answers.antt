@@ -8,7 +8,7 @@ use Rattle.acpi_tree.specs.View.{items_tree}
 use Rattle.acpi_tree.specs.declared.tree.Item.{Item}
 use Rattle.acpi_declare.specs.Namespace.{namespace_of}
 use Rattle.acpi_declare.specs.Notes.{notes_of}
-use Rattle.acpi_write.specs.Canonical.{items_bytes}
+use Rattle.acpi_write.specs.CanonicalItems.{items_bytes}
 use Rattle.acpi_write.specs.Tables.{header_for}
 use Rattle.acpi_write.specs.declared.fault.WriteFault.{WriteFault}
 use Rattle.acpi_write.specs.declared.fault.WriteFault.TheVariants.{TooLong}

@@ -1,6 +1,6 @@
-use Rattle.std.proofs.Common.{◌≡◌, ◌∙◌, ℕ, ◌+◌, List, ◌∷◌, drop, sym, ap, arith}
+use Rattle.std.proofs.Common.{◌≡◌, ◌∙◌, ℕ, ◌+◌, List, ◌∷◌, drop, refl, sym, ap, arith}
 use Rattle.std.proofs.lemmas.List.{drop_more}
-use Rattle.acpi_survey.proofs.Surveys.{kept_next, all_kept, all_read, all_only, all_surveyed}
+use Rattle.acpi_survey.proofs.Surveys.{kept_next, all_bytes, all_kept, all_read, all_only, all_surveyed}
 use Rattle.acpi_survey.proofs.KeptOrder.{survey_in_order}
 use Rattle.acpi_survey.proofs.table_reader.survey.Goals as goal
 
@@ -13,8 +13,12 @@ each-preserved c =
     kept_next c.args.depth c.len-number.result l.bytes-index l.read.items c.push.new.self.items l.reading c.read_table.new.reading c.in_ok-read_table.field-0 c.bytes-item.result all l.invariant
     (grind arith) here c.in_ok-read_table.ensures.bytes c.in_ok-read_table.ensures.table c.in_ok-read_table.ensures.behind c.in_ok-push.ensures.items
 
-pub returns-clause-tables : goal.returns-clause-tables
-returns-clause-tables c = all_kept c.args.depth c.each.bytes-index c.each.read.items c.each.reading c.args.tables.now (grind arith) c.each.invariant
+pub returns-clause-is : goal.returns-clause-is
+returns-clause-is c = record {
+  kept = all_bytes c.args.depth c.each.bytes-index c.each.read.items c.each.reading c.args.tables.now (grind arith) c.each.invariant;
+  limit = refl;
+  read = all_kept c.args.depth c.each.bytes-index c.each.read.items c.each.reading c.args.tables.now (grind arith) c.each.invariant;
+}
 
 pub returns-clause-read : goal.returns-clause-read
 returns-clause-read c = all_read c.args.depth c.each.bytes-index c.each.read.items c.each.reading c.args.tables.now (grind arith) c.each.invariant

@@ -1,4 +1,4 @@
-use Rattle.acpi_write.proofs.Shorter.{items_are_shortest, items_are_typed}
+use Rattle.acpi_write.proofs.ItemsShorter.{items_are_shortest, items_are_typed}
 use Rattle.acpi_write.proofs.laws.no_items_are_shorter.Goals as goal
 
 pub returns-clause-within : goal.returns-clause-within

@@ -1,8 +1,8 @@
 use Rattle.std.proofs.Common.{◌∙◌, sym, ap, Some}
 use Rattle.acpi_tree.specs.View.{items_tree}
-use Rattle.acpi_write.specs.Canonical.{items_bytes}
+use Rattle.acpi_write.specs.CanonicalItems.{items_bytes}
 use Rattle.acpi_write.proofs.Fronts.{put_alone}
-use Rattle.acpi_write.proofs.Written.{items_written}
+use Rattle.acpi_write.proofs.ItemsWritten.{items_written}
 use Rattle.acpi_write.proofs.writing.write_items.Goals as goal
 
 pub returns-clause-ok : goal.returns-clause-ok

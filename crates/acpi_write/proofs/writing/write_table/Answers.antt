@@ -1,9 +1,9 @@
 use Rattle.std.proofs.Common.{◌≡◌, ◌+◌, ℕ, ◌∙◌, sym, ap, Some, arith}
 use Rattle.acpi_tree.specs.View.{items_tree}
-use Rattle.acpi_write.specs.Canonical.{items_bytes}
+use Rattle.acpi_write.specs.CanonicalItems.{items_bytes}
 use Rattle.acpi_write.proofs.Fronts.{put_alone}
 use Rattle.acpi_write.proofs.Framed.{tabled}
-use Rattle.acpi_write.proofs.Written.{items_written}
+use Rattle.acpi_write.proofs.ItemsWritten.{items_written}
 use Rattle.acpi_write.proofs.writing.write_table.Goals as goal
 
 pub returns-clause-table : goal.returns-clause-table

@@ -5,7 +5,7 @@ use Rattle.std.specs.Vec.{with_items}
 use Rattle.std.proofs.lemmas.List.{with_items_is}
 use Rattle.acpi_declare.specs.Links.{links_at}
 use Rattle.acpins_records.specs.declared.building.Records.{Records}
-use Rattle.acpins_records.specs.declared.building.Seen.{Seen}
+use Rattle.acpins_records.specs.declared.building.RecordCollector.{RecordCollector}
 use Rattle.acpins_output.specs.steps.Lines.{objects_by_path}
 use Rattle.acpins_records.specs.steps.Adding.{AddsTargets, placed_from}
 use Rattle.acpins_records.specs.steps.Kinds.{AllSuit}
@@ -16,35 +16,35 @@ use Rattle.acpins_records.proofs.building.build_records.Goals as goal
 
 pub put_targets-requires : goal.put_targets-requires
 put_targets-requires c =
-    let first : Seen = record { records = c.new.result; paths = c.new-2.result; wanted = c.new-3.result; links = c.args.links; codes = c.in_ok-in_order.in_order } in
+    let first : RecordCollector = record { records = c.new.result; paths = c.new-2.result; wanted = c.new-3.result; links = c.args.links; codes = c.in_ok-in_order.in_order } in
     let seen =
     c.in_ok-visit_pairs.ensures first [] (nothing_seen first c.new.ensures.objects c.new.ensures.targets c.new.ensures.text c.new.ensures.parts c.new.ensures.bytes c.new-2.ensures c.new-3.ensures.items) in
     paths_ascend c.args.objects.now c.visit_pairs.new.visitor.paths seen.paths_are
 
 pub tree_of-requires : goal.tree_of-requires
 tree_of-requires c =
-    let first : Seen = record { records = c.new.result; paths = c.new-2.result; wanted = c.new-3.result; links = c.args.links; codes = c.in_ok-in_order.in_order } in
+    let first : RecordCollector = record { records = c.new.result; paths = c.new-2.result; wanted = c.new-3.result; links = c.args.links; codes = c.in_ok-in_order.in_order } in
     let seen =
     c.in_ok-visit_pairs.ensures first [] (nothing_seen first c.new.ensures.objects c.new.ensures.targets c.new.ensures.text c.new.ensures.parts c.new.ensures.bytes c.new-2.ensures c.new-3.ensures.items) in
     paths_ascend c.args.objects.now c.visit_pairs.new.visitor.paths seen.paths_are
 
 pub set_places-requires-clause-parents : goal.set_places-requires-clause-parents
 set_places-requires-clause-parents c =
-    let first : Seen = record { records = c.new.result; paths = c.new-2.result; wanted = c.new-3.result; links = c.args.links; codes = c.in_ok-in_order.in_order } in
+    let first : RecordCollector = record { records = c.new.result; paths = c.new-2.result; wanted = c.new-3.result; links = c.args.links; codes = c.in_ok-in_order.in_order } in
     let seen =
     c.in_ok-visit_pairs.ensures first [] (nothing_seen first c.new.ensures.objects c.new.ensures.targets c.new.ensures.text c.new.ensures.parts c.new.ensures.bytes c.new-2.ensures c.new-3.ensures.items) in
     c.in_ok-tree.ensures.counts.0 ∙ as_many first c.visit_pairs.new.visitor (entries c.args.objects.now) seen ∙ sym (ap length c.deref_mut.ensures.value)
 
 pub set_places-requires-clause-ends : goal.set_places-requires-clause-ends
 set_places-requires-clause-ends c =
-    let first : Seen = record { records = c.new.result; paths = c.new-2.result; wanted = c.new-3.result; links = c.args.links; codes = c.in_ok-in_order.in_order } in
+    let first : RecordCollector = record { records = c.new.result; paths = c.new-2.result; wanted = c.new-3.result; links = c.args.links; codes = c.in_ok-in_order.in_order } in
     let seen =
     c.in_ok-visit_pairs.ensures first [] (nothing_seen first c.new.ensures.objects c.new.ensures.targets c.new.ensures.text c.new.ensures.parts c.new.ensures.bytes c.new-2.ensures c.new-3.ensures.items) in
     c.in_ok-tree.ensures.counts.1 ∙ as_many first c.visit_pairs.new.visitor (entries c.args.objects.now) seen ∙ sym (ap length c.deref_mut.ensures.value)
 
 pub returns : goal.returns
 returns c suits =
-    let first : Seen = record { records = c.new.result; paths = c.new-2.result; wanted = c.new-3.result; links = c.args.links; codes = c.in_ok-in_order.in_order } in
+    let first : RecordCollector = record { records = c.new.result; paths = c.new-2.result; wanted = c.new-3.result; links = c.args.links; codes = c.in_ok-in_order.in_order } in
     let seen =
     c.in_ok-visit_pairs.ensures first [] (nothing_seen first c.new.ensures.objects c.new.ensures.targets c.new.ensures.text c.new.ensures.parts c.new.ensures.bytes c.new-2.ensures c.new-3.ensures.items) in
     let parents = slice_index c.in_ok-tree.tree.parents.items in

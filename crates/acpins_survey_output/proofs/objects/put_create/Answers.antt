@@ -1,6 +1,6 @@
 use Rattle.std.proofs.Common.{◌∙◌, ◌++◌, ap, append_assoc, codes, sym}
 use Rattle.acpi_tree.specs.TermView.{term_view}
-use Rattle.acpi_text.specs.Objects.{width_text}
+use Rattle.acpi_text.specs.Terms.{width_text}
 use Rattle.acpi_text.specs.Terms.{term_text}
 use Rattle.acpi_text.proofs.Pieces.{next_said}
 use Rattle.acpins_survey_output.proofs.objects.put_create.Goals as goal

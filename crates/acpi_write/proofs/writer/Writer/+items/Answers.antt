@@ -2,7 +2,7 @@ use Rattle.std.proofs.Common.{◌-◌, ap, ◌∙◌, arith, Some}
 use Rattle.std.proofs.lemmas.Result.{err_from_is_err_and}
 use Rattle.std.specs.Fmt.{option_append}
 use Rattle.acpi_tree.specs.View.{item_view}
-use Rattle.acpi_write.specs.Canonical.{item_bytes}
+use Rattle.acpi_write.specs.CanonicalItems.{item_bytes}
 use Rattle.acpi_write.proofs.Fronts.{one_ahead, none_ahead, all_ahead, puts_fault, items_each}
 use Rattle.acpi_write.specs.Laws.{IsItemTyped}
 use Rattle.acpi_write.proofs.Seen.{behind_one, behind_all, seen_items}

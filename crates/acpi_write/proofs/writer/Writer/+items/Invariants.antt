@@ -1,5 +1,5 @@
 use Rattle.acpi_tree.specs.View.{item_view}
-use Rattle.acpi_write.specs.Canonical.{item_bytes}
+use Rattle.acpi_write.specs.CanonicalItems.{item_bytes}
 use Rattle.acpi_write.specs.steps.Writing.{Ahead}
 use Rattle.acpi_write.specs.Laws.{IsItemTyped}
 use Rattle.acpi_write.proofs.Seen.{Behind}

@@ -12,7 +12,7 @@ use Rattle.acpi_write.specs.CanonicalTerms.{term_bytes, terms_bytes, else_bytes}
 use Rattle.acpi_write.specs.steps.Writing.{Puts}
 use Rattle.acpi_write.proofs.Fronts.{one_ahead, none_ahead, all_ahead, puts_fault, terms_each, operands_each}
 use Rattle.acpi_write.proofs.Declared.{onto, longer, puts_onto, puts_as, none_first, none_under, none_within, puts_round, name_is, create_is, create_field_is, mutex_is, region_is, bank_field_is, buffer_is, pkg_is, var_pkg_is, while_is, if_is, else_put, no_else_put}
-use Rattle.acpi_write.specs.TermLaws.{IsTermTyped}
+use Rattle.acpi_write.specs.Laws.{IsTermTyped}
 use Rattle.acpi_write.proofs.Seen.{behind_one, behind_all, seen_terms, seen_operands}
 use Rattle.acpi_write.proofs.writer.Writer.+terms.Goals.{term-in-Some+in_ok-alternative-in-If, term-in_default}
 use Rattle.acpi_write.proofs.writer.Writer.+terms.Goals as goal

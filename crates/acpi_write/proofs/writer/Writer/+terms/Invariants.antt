@@ -1,7 +1,7 @@
 use Rattle.acpi_tree.specs.TermView.{term_view, operand_view}
 use Rattle.acpi_write.specs.CanonicalTerms.{term_bytes}
 use Rattle.acpi_write.specs.steps.Writing.{Ahead}
-use Rattle.acpi_write.specs.TermLaws.{IsTermTyped}
+use Rattle.acpi_write.specs.Laws.{IsTermTyped}
 use Rattle.acpi_write.proofs.Seen.{Behind}
 use Rattle.acpi_write.proofs.writer.Writer.+terms.Given as goal
 

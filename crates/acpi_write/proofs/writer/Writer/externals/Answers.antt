@@ -2,7 +2,7 @@ use Rattle.std.proofs.Common.{◌-◌, ap, ◌∙◌, arith, Some}
 use Rattle.std.proofs.lemmas.Result.{err_from_is_err_and}
 use Rattle.std.specs.Fmt.{option_append}
 use Rattle.acpi_tree.specs.View.{external_view}
-use Rattle.acpi_write.specs.Canonical.{external_bytes}
+use Rattle.acpi_write.specs.CanonicalItems.{external_bytes}
 use Rattle.acpi_write.proofs.Fronts.{one_ahead, all_ahead, puts_fault, each_map}
 use Rattle.acpi_write.specs.Laws.{IsExternalTyped}
 use Rattle.acpi_write.proofs.Seen.{behind_one, behind_all, seen_map}

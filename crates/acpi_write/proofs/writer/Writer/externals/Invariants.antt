@@ -1,6 +1,6 @@
 use Rattle.std.proofs.Common.{Some}
 use Rattle.acpi_tree.specs.View.{external_view}
-use Rattle.acpi_write.specs.Canonical.{external_bytes}
+use Rattle.acpi_write.specs.CanonicalItems.{external_bytes}
 use Rattle.acpi_write.specs.steps.Writing.{Ahead}
 use Rattle.acpi_write.specs.Laws.{IsExternalTyped}
 use Rattle.acpi_write.proofs.Seen.{Behind}
