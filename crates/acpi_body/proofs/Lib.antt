@@ -10,7 +10,8 @@ pub mod Plain
 pub mod Stated
 pub mod Branches
 pub mod StatementComplete
-pub mod StatementSound
+pub mod StatementExact
+pub mod Sure
 pub mod Next
 pub mod Kept
 pub mod ReadBodies

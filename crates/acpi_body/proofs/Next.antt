@@ -18,10 +18,10 @@ use Rattle.acpi_values.specs.Grammars.{Grammar, body_grammar}
 use Rattle.acpi_values.specs.Spelling.{heights}
 use Rattle.acpi_body.specs.Statements.{locals_after, AreStatements}
 use Rattle.acpi_values.specs.Refusals.{statement_refusal, never_begins}
-use Rattle.acpi_values.specs.Faults.{IsNoStatement}
+use Rattle.acpi_body.specs.Faults.{IsNoStatement}
 use Rattle.acpi_values.specs.steps.Reading.{Reader, fault_at, placed_by, term_at}
 use Rattle.acpi_body.specs.steps.Reading.{Statements, statements_with, statement_by, statement_at, statements_at, body_at}
-use Rattle.acpi_body.proofs.StatementComplete.{begins_else, statement_starts, statements_start, statement_complete}
+use Rattle.acpi_body.proofs.StatementComplete.{begins_else, ends, statement_starts, statements_start, statement_complete}
 
 abbrev known : {A : Type 0} → A → Option A
 known x = Some x
@@ -80,16 +80,16 @@ stops_there args s level locals end w o why opens refuses =
 -- ---- behind statements
 
 -- the fault that ends them, however many turns more are left
-abbrev Stops : (Locals → List ℕ → Reading BodyFault TermTree) → List Segment → Locals → List ℕ → BodyFault → Type 0
+abbrev pub Stops : (Locals → List ℕ → Reading BodyFault TermTree) → List Segment → Locals → List ℕ → BodyFault → Type 0
 Stops one s locals bytes f = (n : ℕ) → length bytes ≤ n → statements_with one s n locals bytes ≡ Err f
 
-stops_here : (one : Locals → List ℕ → Reading BodyFault TermTree) (s : List Segment) (locals : Locals) (w : List ℕ) (f : BodyFault) → 0 < length w → one locals w ≡ Err f → Stops one s locals w f
+pub stops_here : (one : Locals → List ℕ → Reading BodyFault TermTree) (s : List Segment) (locals : Locals) (w : List ℕ) (f : BodyFault) → 0 < length w → one locals w ≡ Err f → Stops one s locals w f
 unfolding statements_with
 stops_here one s locals [] f some e n le = absurd (omega arith)
 stops_here one s locals (b ∷ w) f some e zero le = absurd (omega arith)
 stops_here one s locals (b ∷ w) f some e (suc n) le = rw e refl
 
-stops_behind : (one : Locals → List ℕ → Reading BodyFault TermTree) (s : List Segment) (locals : Locals) (a b : List ℕ) (x : TermTree) (f : BodyFault)
+pub stops_behind : (one : Locals → List ℕ → Reading BodyFault TermTree) (s : List Segment) (locals : Locals) (a b : List ℕ) (x : TermTree) (f : BodyFault)
     → 0 < length a → one locals (a ++ b) ≡ Ok (x, b) → Stops one s (locals_after s locals x) b f → Stops one s locals (a ++ b) f
 unfolding statements_with
 stops_behind one s locals [] b x f long h then n le = absurd (omega arith)
@@ -103,7 +103,7 @@ stops_behind_statements args s no_terms level locals end u w f h le some none st
 stops_behind_statements args s (more t ts) level locals end u w f (x, y, ht, hs, whole) le some none stops =
     rw (whole, append_assoc x y w)
     (stops_behind (λ locals. statement_at args s level locals end) s locals x (y ++ w) t f ((statement_starts args s locals t x [] ht).1)
-    (statement_complete args s t level locals end x (y ++ w) ht (omega arith) (statements_start args s (locals_after s locals t) ts y w hs none))
+    (statement_complete args s t level locals end x (y ++ w) ht (omega arith) (ends t (y ++ w) (statements_start args s (locals_after s locals t) ts y w hs none)))
     (stops_behind_statements args s ts level (locals_after s locals t) end y w f hs (omega arith) some none stops))
 
 -- what is refused by itself is told, at its place

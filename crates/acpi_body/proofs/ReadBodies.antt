@@ -1,11 +1,12 @@
 -- What is read of a body, by the relation of bodies.
-use Rattle.std.proofs.Common.{◌≡◌, ℕ, ◌<◌, ◌⊎◌, ◌↔◌, List, [], ◌++◌, length, Option, Some, None, Result, Ok, Err, refl, sym, ap, subst, ◌∙◌, arith, inl, inr}
-use Rattle.std.specs.Prelude.{◌≢◌, IfOk, IfErr, IsErrAnd, IfSome, drop}
+use Rattle.std.proofs.Common.{◌≡◌, ℕ, zero, suc, ◌<◌, ◌⊎◌, ◌↔◌, List, [], ◌∷◌, ◌++◌, length, Option, Some, None, Result, Ok, Err, refl, sym, ap, subst, ◌∙◌, arith, inl, inr}
+use Rattle.std.specs.Prelude.{◌≢◌, IfOk, IfErr, IsErrAnd, IfSome}
 use Rattle.std.specs.FinMap as finite
-use Rattle.std.proofs.lemmas.List.{append-nil}
 use Rattle.acpi_name.specs.Names.{Segment, NameParts}
-use Rattle.acpi_tree.specs.Terms.{TermTree, TermTrees, terms_of}
-use Rattle.acpi_code.proofs.Readings.{Judge, Source, Position}
+use Rattle.acpi_tree.specs.declared.op.Op.TheVariants as ops
+use Rattle.acpi_tree.specs.Terms.{TermTree, TermTrees, no_terms, terms_of}
+use Rattle.acpi_code.specs.declared.opcode.Opcode.TheVariants as opcodes
+use Rattle.acpi_code.proofs.Readings.{Judge}
 use Rattle.acpi_values.specs.declared.fault.BodyFault.{BodyFault}
 use Rattle.acpi_values.specs.declared.fault.BodyReason.{BodyReason}
 use Rattle.acpi_values.specs.declared.fault.BodyReason.TheVariants.{Unsure}
@@ -15,7 +16,9 @@ use Rattle.acpi_space.specs.Lookups.{Lookup}
 use Rattle.acpi_values.specs.Arguments.{Locals, Arguments}
 use Rattle.acpi_body.specs.Arguments.{Namespace, arguments}
 use Rattle.acpi_body.specs.Statements.{ReadsBody}
-use Rattle.acpi_values.specs.Faults.{IsUnsure, ShowsBody, IsNoStatement}
+use Rattle.acpi_values.specs.Faults.{body_fault}
+use Rattle.acpi_body.specs.Faults.{AreStatementsIn, ShowsBody, IsNoStatement}
+use Rattle.acpi_body.specs.Laws.{OneRefusal, ReadOrRefused, ReturnsNoValue}
 use Rattle.acpi_body.specs.Reasons.{IfFault}
 use Rattle.acpi_body.specs.Bodies.{BodyTree, read, unread, IsBodyOf}
 use Rattle.acpi_body.specs.steps.Reading.{body_at}
@@ -23,37 +26,29 @@ use Rattle.acpi_body.specs.steps.Answers.{body_of, fault_in}
 use Rattle.acpi_values.specs.steps.Cursor.{Gives}
 use Rattle.acpi_values.proofs.TermComplete.{listed, terms_of-listed}
 use Rattle.acpi_body.proofs.StatementComplete.{statements_complete}
-use Rattle.acpi_body.proofs.StatementSound.{AreStanding, statements_sound}
+use Rattle.acpi_body.proofs.StatementExact.{exact_statements}
+use Rattle.acpi_body.proofs.Sure.{sure_statements}
 use Rattle.acpi_values.proofs.Parts.{good_of}
-use Rattle.acpi_values.proofs.Places.{Bad}
 use Rattle.acpi_body.proofs.Next.{next_told}
 
 abbrev pub reading : Arguments → List Segment → ℕ → List ℕ → Result (List TermTree) BodyFault
 reading args s depth bytes = body_at args s depth finite.empty bytes
 
 judged : (args : Arguments) (s : List Segment) (depth : ℕ) (bytes : List ℕ)
-    → Judge (AreStanding args s depth finite.empty bytes) (Bad args s (record { depth = depth; code = bytes })) (reading args s depth bytes)
-judged args s depth bytes =
-    let source : Source = record { depth = depth; code = bytes } in
-    let here : Position depth depth bytes (length bytes) bytes = record {
-      before = [];
-      after = [];
-      whole = sym (append-nil bytes);
-      ends = omega arith;
-      start = 0;
-      is_list = (0, (refl, refl));
-      begun = omega arith;
-      deep = omega arith;
-    } in
-    statements_sound s source args depth finite.empty (length bytes) bytes here
+    → Judge (λ ts. AreStatementsIn args s depth finite.empty (terms_of ts) bytes) (λ f. ShowsBody args s depth bytes f.reason f.place) (reading args s depth bytes)
+judged args s depth bytes = (exact_statements s args depth).judged finite.empty (length bytes) bytes
 
-bad_of : {A F : Type 0} (Good : A → Type 0) (Bad : F → Type 0) (r : Result A F) (f : F) → Judge Good Bad r → r ≡ Err f → Bad f
-bad_of Good Bad r f h e = subst (Judge Good Bad) e h
+shows : (args : Arguments) (s : List Segment) (depth : ℕ) (bytes : List ℕ) (f : BodyFault) → reading args s depth bytes ≡ Err f → ShowsBody args s depth bytes f.reason f.place
+shows args s depth bytes f e = subst (Judge (λ ts. AreStatementsIn args s depth finite.empty (terms_of ts) bytes) (λ f. ShowsBody args s depth bytes f.reason f.place)) e (judged args s depth bytes)
+
+-- where a fault is true of the bytes, reading them stops with it
+stops_with : (args : Arguments) (s : List Segment) (depth : ℕ) (bytes : List ℕ) (why : BodyReason) (place : ℕ) → ShowsBody args s depth bytes why place → reading args s depth bytes ≡ Err (body_fault why place)
+stops_with args s depth bytes why place h = (exact_statements s args depth).stops finite.empty (length bytes) bytes (body_fault why place) h
 
 took : (args : Arguments) (s : List Segment) (depth : ℕ) (bytes : List ℕ) (ts : List TermTree) → reading args s depth bytes ≡ Ok ts → ReadsBody args s depth bytes (terms_of ts)
 took args s depth bytes ts e =
-    let t = good_of (AreStanding args s depth finite.empty bytes) (Bad args s (record { depth = depth; code = bytes })) (reading args s depth bytes) ts (judged args s depth bytes) e in
-    record { spelled = t.are; within = t.within }
+    let t = good_of (λ ts. AreStatementsIn args s depth finite.empty (terms_of ts) bytes) (λ f. ShowsBody args s depth bytes f.reason f.place) (reading args s depth bytes) ts (judged args s depth bytes) e in
+    record { spelled = t.0; within = t.1 }
 
 again : (args : Arguments) (s : List Segment) (depth : ℕ) (bytes : List ℕ) (ts : TermTrees) → ReadsBody args s depth bytes ts → reading args s depth bytes ≡ Ok (listed ts)
 again args s depth bytes ts h = statements_complete args s ts depth finite.empty (length bytes) bytes h.spelled h.within (length bytes) (omega arith)
@@ -91,6 +86,27 @@ read_or_none args s depth bytes = by_reading (reading args s depth bytes) refl
     by_reading : (r : Result (List TermTree) BodyFault) → reading args s depth bytes ≡ r → ((ts : TermTrees) × ReadsBody args s depth bytes ts) ⊎ ((ts : TermTrees) → ReadsBody args s depth bytes ts → ⊥)
     by_reading (Ok ts) e = inl (terms_of ts, took args s depth bytes ts e)
     by_reading (Err f) e = inr (λ ts h. not_both f (listed ts) (sym e ∙ again args s depth bytes ts h))
+
+-- ---- at most one fault is true
+
+fault_is : (f g : BodyFault) → refused f ≡ refused g → f ≡ g
+fault_is f g e = cc
+
+pub one_refusal : OneRefusal
+one_refusal args s depth bytes why place h = (
+  λ other elsewhere k.
+      let same = fault_is (body_fault other elsewhere) (body_fault why place) (sym (stops_with args s depth bytes other elsewhere k) ∙ stops_with args s depth bytes why place h) in
+      (ap (λ f. f.reason) same, ap (λ f. f.place) same),
+  λ ts r. not_both (body_fault why place) (listed ts) (sym (stops_with args s depth bytes why place h) ∙ again args s depth bytes ts r),
+)
+
+pub read_or_refused : ReadOrRefused
+read_or_refused args s depth bytes = by_reading (reading args s depth bytes) refl
+  where
+    by_reading : (r : Result (List TermTree) BodyFault) → reading args s depth bytes ≡ r
+        → ((ts : TermTrees) × ReadsBody args s depth bytes ts) ⊎ ((why : BodyReason) × (place : ℕ) × ShowsBody args s depth bytes why place)
+    by_reading (Ok ts) e = inl (terms_of ts, took args s depth bytes ts e)
+    by_reading (Err f) e = inr (f.reason, f.place, shows args s depth bytes f e)
 
 -- ---- what is given is the body
 
@@ -135,8 +151,7 @@ next_law args s depth bytes (Err e) h some u w ts reason whole reads refused = t
 faults_just : (args : Arguments) (s : List Segment) (depth : ℕ) (bytes : List ℕ) (r : Result (List TermTree) BodyFault)
     → reading args s depth bytes ≡ r → IfSome (fault_in r) (λ f. ShowsBody args s depth bytes f.reason f.place)
 faults_just args s depth bytes (Ok ts) e = tt
-faults_just args s depth bytes (Err f) e = bad_of (AreStanding args s depth finite.empty bytes) (Bad args s (record { depth = depth; code = bytes }))
-    (reading args s depth bytes) f (judged args s depth bytes) e
+faults_just args s depth bytes (Err f) e = shows args s depth bytes f e
 
 pub faults_law : {E : Type 0} (args : Arguments) (s : List Segment) (depth : ℕ) (bytes : List ℕ) (result : Result (Option BodyFault) E)
     → IfOk result (λ w. w ≡ fault_in (reading args s depth bytes)) → IfOk result (λ w. IfSome w (λ f. ShowsBody args s depth bytes f.reason f.place))
@@ -150,9 +165,7 @@ always_sure objects externals s locals n e = cc
 pub sure_law : {E : Type 0} (objects : Namespace) (externals : Lookup ℕ) (s : List Segment) (depth : ℕ) (bytes : List ℕ) (result : Result (Option BodyFault) E)
     → IfOk result (λ w. IfSome w (λ f. ShowsBody (arguments objects externals s) s depth bytes f.reason f.place)) → IfOk result (λ w. IfSome w (λ f. f.reason ≢ Unsure))
 sure_law objects externals s depth bytes (Ok None) h = tt
-sure_law objects externals s depth bytes (Ok (Some f)) h = λ e.
-    let u : IsUnsure (arguments objects externals s) (drop f.place bytes) = subst (λ why. ShowsBody (arguments objects externals s) s depth bytes why f.place) e h in
-    always_sure objects externals s u.locals u.name u.unsure
+sure_law objects externals s depth bytes (Ok (Some f)) h = sure_statements (arguments objects externals s) s (always_sure objects externals s) depth finite.empty (length bytes) bytes f h
 sure_law objects externals s depth bytes (Err e) h = tt
 
 -- ---- what is answered of any counting
@@ -168,17 +181,13 @@ pub shown_law : {V : Type 0} (view : V → List TermTree) (args : Arguments) (s 
     → Gives view result (reading args s depth bytes) → IfErr result (λ e. IfFault e (λ f. ShowsBody args s depth bytes f.reason f.place))
 shown_law view args s depth bytes (Ok v) h = tt
 shown_law view args s depth bytes (Err stops.Memory) h = tt
-shown_law view args s depth bytes (Err (stops.Fault f)) h = bad_of (AreStanding args s depth finite.empty bytes) (Bad args s (record { depth = depth; code = bytes }))
-    (reading args s depth bytes) f (judged args s depth bytes) h
+shown_law view args s depth bytes (Err (stops.Fault f)) h = shows args s depth bytes f h
 
 pub unread_law : {V : Type 0} (view : V → List TermTree) (args : Arguments) (s : List Segment) (depth : ℕ) (bytes : List ℕ) (result : Result V BodyError)
     → Gives view result (reading args s depth bytes) → IfErr result (λ e. IfFault e (λ f. (ts : TermTrees) → ¬ ReadsBody args s depth bytes ts))
 unread_law view args s depth bytes (Ok v) h = tt
 unread_law view args s depth bytes (Err stops.Memory) h = tt
 unread_law view args s depth bytes (Err (stops.Fault f)) h = λ ts k. not_both f (listed ts) (sym h ∙ again args s depth bytes ts k)
-
-fault_is : (f g : BodyFault) → refused f ≡ refused g → f ≡ g
-fault_is f g e = cc
 
 stops_as : {V : Type 0} (view : V → List TermTree) (r : Result (List TermTree) BodyFault) (result : Result V BodyError) (f : BodyFault)
     → Gives view result r → r ≡ Err f → IsErrAnd result (λ e. IfFault e (λ g. g ≡ f))
@@ -192,3 +201,22 @@ pub stops_law : {V : Type 0} (view : V → List TermTree) (args : Arguments) (s 
 stops_law view args s depth bytes result h some u w ts reason whole reads refused =
     stops_as view (reading args s depth bytes) result (record { reason = reason; place = length u }) h
     (ap (reading args s depth) whole ∙ next_told args s depth finite.empty u w ts reason some reads.spelled reads.within refused)
+
+-- ---- an example
+
+some_bytes : (b : ℕ) (rest : List ℕ) → b ∷ rest ≢ []
+some_bytes b rest e = cc
+
+pub returns_no_value : ReturnsNoValue
+returns_no_value args s zero le = absurd (omega (arith, le))
+returns_no_value args s (suc zero) le = absurd (omega (arith, le))
+returns_no_value args s (suc (suc n)) le = (
+  no_terms,
+  [],
+  0xA4 ∷ 0xA3 ∷ [],
+  (refl, omega arith),
+  refl,
+  some_bytes 0xA4 (0xA3 ∷ []),
+  λ bare rest. absurd cc,
+  inr (opcodes.Operator ops.Return, (0xA3 ∷ [], refl), (0xA3 ∷ [], refl, inl (inr (opcodes.Operator ops.Noop, ([], refl), refl)))),
+)

@@ -78,6 +78,24 @@ units_no_else : (form : UnitsForm) → is_else (units_opcode form) ≡ false
 units_no_else units.Field = refl
 units_no_else _ = refl
 
+-- an Else that follows would belong to the statement
+abbrev pub Closes : ElseTree → List ℕ → Type 0
+Closes no_else rest = begins_else rest ≡ false
+Closes (else_do ts) rest = Unit {0}
+
+-- .. which ends before the rest
+abbrev pub Ends : TermTree → List ℕ → Type 0
+Ends (if_do v ts e) rest = Closes e rest
+Ends _ rest = Unit {0}
+
+closes : (e : ElseTree) (rest : List ℕ) → begins_else rest ≡ false → Closes e rest
+closes no_else rest h = h
+closes (else_do ts) rest h = tt
+
+pub ends : (t : TermTree) (rest : List ℕ) → begins_else rest ≡ false → Ends t rest
+ends (if_do v ts e) rest h = closes e rest h
+ends _ rest h = tt
+
 abbrev Starts : List ℕ → List ℕ → Type 0
 Starts a rest = (begins_else (a ++ rest) ≡ false) × (0 < length a)
 
@@ -158,7 +176,7 @@ declared p None gs end bytes r e h = absurd cc
 declared p (Some q) [] end bytes r e h = absurd (omega arith)
 declared p (Some q) (g ∷ gs) end bytes r e h = refl
 
-declared_read : (s : List Segment) (end : ℕ) (n : NameParts) (w y : List ℕ) → MayDeclare s n → SpellsName n w → declared_at s end (w ++ y) ≡ Ok (n, y)
+pub declared_read : (s : List Segment) (end : ℕ) (n : NameParts) (w y : List ℕ) → MayDeclare s n → SpellsName n w → declared_at s end (w ++ y) ≡ Ok (n, y)
 unfolding declared_at
 declared_read s end n w y may h = rw (name_in_complete end n w y h) (declared may.path (place_of s n) n.segments end (w ++ y) (Ok (n, y)) may.place may.some)
 
@@ -168,7 +186,7 @@ named_read : (inner : Reader) (s : List Segment) (form : NamedForm) (end : ℕ) 
 unfolding named_form
 named_read inner s form end n before behind w y after rest may h i k = rw (i, declared_read s end n w after may h, k) refl
 
-names_read : (ns : List NameParts) (end : ℕ) (a rest : List ℕ) → SpellsEach SpellsName ns a → names_at (length ns) end (a ++ rest) ≡ Ok (ns, rest)
+pub names_read : (ns : List NameParts) (end : ℕ) (a rest : List ℕ) → SpellsEach SpellsName ns a → names_at (length ns) end (a ++ rest) ≡ Ok (ns, rest)
 unfolding names_at
 names_read [] end a rest h = rw h refl
 names_read (n ∷ ns) end a rest (x, y, hn, hs, whole) = rw (whole, append_assoc x y rest, name_in_complete end n x (y ++ rest) hn, names_read ns end y rest hs) refl
@@ -231,7 +249,7 @@ mutual
   unfolding statement_by
 
   pub statement_complete : (args : Arguments) (s : List Segment) (t : TermTree) (level : ℕ) (locals : Locals) (end : ℕ) (b rest : List ℕ)
-      → IsStatement args s locals t b → height t ≤ level → begins_else rest ≡ false
+      → IsStatement args s locals t b → height t ≤ level → Ends t rest
       → statement_at args s level locals end (b ++ rest) ≡ Ok (t, rest)
   statement_complete args s t zero locals end b rest h le none = absurd (omega (arith, high args s locals t b h))
   statement_complete args s (if_do v ts e) (suc level) locals end b rest (x, y, f, g, here, hv, hs, packs, other, whole) le none =
@@ -281,7 +299,7 @@ mutual
       ∙ placed_made (body_grammar (args locals)) (term_at (body_grammar (args locals)) level) Statement end (b ++ rest) f.0 (lead_of t) (t, rest) al.allowed f.2)
 
   else_complete : (args : Arguments) (s : List Segment) (e : ElseTree) (level : ℕ) (locals : Locals) (end : ℕ) (b rest : List ℕ)
-      → IsElse args s locals e b → else_height e ≤ level → begins_else rest ≡ false
+      → IsElse args s locals e b → else_height e ≤ level → Closes e rest
       → else_at (statements_at args s level locals) end (b ++ rest) ≡ Ok (e, rest)
   else_complete args s no_else level locals end b rest h le none = rw h (no_else_read (statements_at args s level locals) end rest none)
   else_complete args s (else_do ts) level locals end b rest (c, hs, packs) le none =
@@ -295,5 +313,5 @@ mutual
   statements_complete args s (more t ts) level locals end b (x, y, ht, hs, whole) le =
       let behind : begins_else y ≡ false = ap begins_else (sym (append-nil y)) ∙ statements_start args s (locals_after s locals t) ts y [] hs refl in
       rw whole (one_stated (λ locals. statement_at args s level locals end) s locals x y t (listed ts) ((statement_starts args s locals t x [] ht).1)
-      (statement_complete args s t level locals end x y ht (omega arith) behind)
+      (statement_complete args s t level locals end x y ht (omega arith) (ends t y behind))
       (statements_complete args s ts level (locals_after s locals t) end y hs (omega arith)))

@@ -1,10 +1,13 @@
 -- Laws of the readings of method bodies.
-use Rattle.std.specs.Prelude.{◌≡◌, ◌⊎◌, ℕ, List}
+use Rattle.std.specs.Prelude.{◌≡◌, ◌⊎◌, ◌<◌, ℕ, List, [], ◌∷◌}
 use Rattle.std.specs.List.{AllByRecursion}
 use Rattle.acpi_name.specs.Names.{Segment, NameParts}
 use Rattle.acpi_tree.specs.Terms.{TermTrees}
+use Rattle.acpi_values.specs.declared.fault.BodyReason.{BodyReason}
+use Rattle.acpi_values.specs.declared.fault.BodyReason.TheVariants.{NotValue}
 use Rattle.acpi_values.specs.Arguments.{Locals, Arguments}
 use Rattle.acpi_body.specs.Statements.{AreStatements, ReadsBody}
+use Rattle.acpi_body.specs.Faults.{ShowsBody}
 use Rattle.acpi_body.specs.Searches.{all_searches, IsSpelledIn}
 
 -- Bytes have at most one reading.
@@ -18,6 +21,25 @@ abbrev pub ReadOrNot : Type 0
 ReadOrNot = (args : Arguments) (s : List Segment) (depth : ℕ) (bytes : List ℕ)
     → ((ts : TermTrees) × ReadsBody args s depth bytes ts)
     ⊎ ((ts : TermTrees) → ¬ ReadsBody args s depth bytes ts)
+
+-- Bytes that have a fault have no other, and no reading.
+abbrev pub OneRefusal : Type 0
+OneRefusal = (args : Arguments) (s : List Segment) (depth : ℕ) (bytes : List ℕ) (why : BodyReason)
+    (place : ℕ) → ShowsBody args s depth bytes why place
+    → ((other : BodyReason) (elsewhere : ℕ) → ShowsBody args s depth bytes other elsewhere
+    → (other ≡ why) × (elsewhere ≡ place))
+    × ((ts : TermTrees) → ¬ ReadsBody args s depth bytes ts)
+
+-- Bytes are read, or have a fault.
+abbrev pub ReadOrRefused : Type 0
+ReadOrRefused = (args : Arguments) (s : List Segment) (depth : ℕ) (bytes : List ℕ)
+    → ((ts : TermTrees) × ReadsBody args s depth bytes ts)
+    ⊎ ((why : BodyReason) × (place : ℕ) × ShowsBody args s depth bytes why place)
+
+-- Return(Noop), whose bytes are A4 A3: Noop has no value (20.2.5.3).
+abbrev pub ReturnsNoValue : Type 0
+ReturnsNoValue = (args : Arguments) (s : List Segment) (depth : ℕ) → 1 < depth
+    → ShowsBody args s depth (0xA4 ∷ 0xA3 ∷ []) NotValue 1
 
 abbrev pub AgreeAt : Arguments → Arguments → Locals × NameParts → Type 0
 AgreeAt a b e = a e.0 e.1 ≡ b e.0 e.1

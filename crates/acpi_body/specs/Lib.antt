@@ -1,7 +1,7 @@
 pub use Rattle.acpi_values.specs.Grammars
 pub use Rattle.acpi_values.specs.Spelling
 pub use Rattle.acpi_values.specs.Refusals
-pub use Rattle.acpi_values.specs.Faults
+pub mod Faults
 pub use Rattle.acpi_values.specs.Texts
 pub mod Arguments
 pub mod Statements

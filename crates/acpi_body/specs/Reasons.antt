@@ -8,10 +8,10 @@ use Rattle.acpi_values.specs.declared.fault.BodyError.{BodyError}
 use Rattle.acpi_values.specs.declared.fault.BodyError.TheVariants as stops
 use Rattle.acpi_values.specs.Arguments.{Arguments}
 use Rattle.acpi_body.specs.Statements.{ReadsBody}
-use Rattle.acpi_values.specs.Faults.{ShowsBody, IsNoStatement}
+use Rattle.acpi_body.specs.Faults.{ShowsBody, IsNoStatement}
 
--- What may be told of the body's bytes: nothing exactly where they have a reading; else a fault that is true of them,
--- and behind statements, what can't begin one, at its place.
+-- What may be told of the body's bytes: nothing exactly where they have a reading; else their fault, which behind
+-- statements is that of what can't begin one, at its place.
 pub record IsReason (args : Arguments) (s : List Segment) (depth : ℕ) (bytes : List ℕ)
     (w : Option BodyFault) : Type 0 where
   pub read : (w ≡ None) ↔ ((ts : TermTrees) × ReadsBody args s depth bytes ts)

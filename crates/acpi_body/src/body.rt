@@ -9,7 +9,7 @@ ghost use Rattle.acpi_values.specs.declared.fault.BodyReason.{BodyReason};
 ghost use Rattle.acpi_values.specs.declared.fault.BodyReason.TheVariants.{Unsure};
 ghost use Rattle.acpi_body.specs.Arguments.{namespace_of, arguments};
 ghost use Rattle.acpi_body.specs.Statements.{ReadsBody};
-ghost use Rattle.acpi_values.specs.Faults.{ShowsBody, IsNoStatement};
+ghost use Rattle.acpi_body.specs.Faults.{ShowsBody, IsNoStatement};
 ghost use Rattle.acpi_body.specs.Reasons.{IfFault};
 ghost use Rattle.acpi_body.specs.Bodies.{read, body_view, body_fits, IsBodyOf};
 ghost use Rattle.acpi_body.specs.steps.Reading.{body_at};

@@ -9,3 +9,6 @@ pub mod Constants
 pub mod Strings
 pub mod Fitting
 pub mod Fields
+pub mod Exact
+pub mod ExactParts
+pub mod ExactFields

@@ -4,7 +4,7 @@ use Rattle.std.proofs.lemmas.List.{append-nil, length-append}
 use Rattle.acpi_code.specs.Spelling.{SpellsEach}
 use Rattle.acpi_code.specs.steps.Remaining.{Remaining, Advances}
 use Rattle.acpi_code.specs.steps.Reading.{◌>>=◌, Reading, each_with, each_at}
-use Rattle.acpi_code.proofs.Readings.{Judge, judge_bind, Source, Position, Front, Read}
+use Rattle.acpi_code.proofs.Readings.{Judge, judge_bind, Front}
 
 -- ---- as a loop does
 
@@ -169,9 +169,3 @@ each_sound {A} Where Spells Bad one long judged (suc n) (b ∷ rest) le h =
     let sizes : suc (length rest) ≡ length t.front + length x.1 = ap length t.whole ∙ length-append t.front x.1 in
     judge_bind (λ xs. SpellsEach Spells xs x.1) G Bad (each_with one n x.1) _
     (each_sound Where Spells Bad one long judged n x.1 (omega arith) p.1) (λ xs q. (t.front, x.1, t.spells, q, t.whole)))
-
--- the same, where what is left stands in the code
-pub all_sound : {A F : Type 0} (s : Source) (level end : ℕ) (Spells : A → List ℕ → Type 0) (Bad : F → Type 0) (one : List ℕ → Reading F A) → ((x : A) (a : List ℕ) → Spells x a → 0 < length a)
-    → ((bytes : List ℕ) → Position s.depth level s.code end bytes → Judge (Read s level end Spells bytes) Bad (one bytes))
-    → (bytes : List ℕ) → Position s.depth level s.code end bytes → Judge (λ xs. SpellsEach Spells xs bytes) Bad (each_at one bytes)
-all_sound s level end Spells Bad one long judged bytes h = each_sound (Position s.depth level s.code end) Spells Bad one long judged (length bytes) bytes (omega arith) h

@@ -1,5 +1,5 @@
 -- What begins with which bytes.
-use Rattle.std.proofs.Common.{◌≡◌, ℕ, zero, suc, ◌+◌, ◌-◌, ◌<◌, Bool, true, false, cond, eqb, ltb, ◌&&◌, ◌⊎◌, Option, Some, None, List, [], ◌∷◌, ◌++◌, length, drop, slice_index, Ok, refl, sym, ap, subst, ◌∙◌, arith, inl, inr}
+use Rattle.std.proofs.Common.{◌≡◌, ℕ, zero, suc, ◌+◌, ◌-◌, ◌<◌, Bool, true, false, cond, eqb, ltb, ◌&&◌, ◌⊎◌, Option, Some, None, List, [], ◌∷◌, ◌++◌, length, slice_index, Ok, refl, sym, ap, subst, ◌∙◌, arith, inl, inr}
 use Rattle.std.proofs.lemmas.Bool.{eqb-true, ltb-true, lt-ltb}
 use Rattle.std.specs.List.{list_all}
 use Rattle.acpi_name.proofs.NameAgain.{and_true, neq}
@@ -13,9 +13,9 @@ use Rattle.acpi_code.specs.declared.opcode.Opcode.TheVariants as opcodes
 use Rattle.acpi_code.specs.Opcodes.{is_name_start, width_bytes, operator_bytes, opcode_bytes, BeginsTerm, BeginsWith}
 use Rattle.acpi_code.specs.Laws.{OneOpcodeBegins}
 use Rattle.acpi_code.specs.steps.Opcodes.{fixed_opcodes, are_same, opcode_with, plain_opcode_of, extended_opcode_of, extended_opcode, first_opcode, is_spelled, FindsWhatBegins}
-use Rattle.acpi_code.specs.Faults.{Begins}
+use Rattle.acpi_code.specs.Faults.{FailsOpcode}
 use Rattle.acpi_code.specs.steps.Reading.{byte_at, extended_opcode_at, opcode_at}
-use Rattle.acpi_code.proofs.Readings.{Judge, judge_if, Position, Source, Shown, Bare, bare_shown, stands_at, cut_bare}
+use Rattle.acpi_code.proofs.Readings.{Judge, judge_if}
 
 -- ---- what is spelled is read
 
@@ -289,28 +289,16 @@ pub record Opened (bytes : List ℕ) (x : Opcode × List ℕ) : Type 0 where
   pub is_opcode : (more : List ℕ) → first_opcode (bytes ++ more) ≡ Some x.0
   pub told : Told x.0 front
 
-pub opcode_bare : (s : Source) (level end : ℕ) (bytes : List ℕ) → Position s.depth level s.code end bytes → Judge (Opened bytes) (Bare s) (opcode_at end bytes)
+-- what is read is opened
+pub opcode_opened : (end : ℕ) (bytes : List ℕ) → Judge (Opened bytes) (FailsOpcode end bytes) (opcode_at end bytes)
 unfolding opcode_at byte_at
-opcode_bare s level end [] h = cut_bare s level end [] h
-opcode_bare s level end (b ∷ rest) h =
-    judge_if (Opened (b ∷ rest)) (Bare s) (eqb b 0x5B) (extended_opcode_at end rest) (Ok (plain_opcode_of b, rest)) (extended_case rest h)
+opcode_opened end [] = (inl refl, refl)
+opcode_opened end (b ∷ rest) =
+    judge_if (Opened (b ∷ rest)) (FailsOpcode end (b ∷ rest)) (eqb b 0x5B) (extended_opcode_at end rest) (Ok (plain_opcode_of b, rest)) (extended_case rest)
     (λ plain. record { front = b ∷ []; whole = refl; some = omega arith; is_opcode = λ more. rw plain refl; told = plain_told b })
   where
-    extended_case : (r : List ℕ) → Position s.depth level s.code end (b ∷ r) → eqb b 0x5B ≡ true → Judge (Opened (b ∷ r)) (Bare s) (extended_opcode_at end r)
-    extended_case [] k e = cut_bare s level end (b ∷ []) k
-    extended_case (c ∷ r) k e =
+    extended_case : (r : List ℕ) → eqb b 0x5B ≡ true → Judge (Opened (b ∷ r)) (FailsOpcode end (b ∷ r)) (extended_opcode_at end r)
+    extended_case [] e = (inr (rw (eqb-true b 0x5B e) refl), refl)
+    extended_case (c ∷ r) e =
         let is = eqb-true b 0x5B e in
         record { front = 0x5B ∷ c ∷ []; whole = rw is refl; some = omega arith; is_opcode = λ more. rw is refl; told = extended_told c }
-
-pub opcode_sound : (s : Source) (level end : ℕ) (bytes : List ℕ) → Position s.depth level s.code end bytes → Judge (Opened bytes) (Shown s) (opcode_at end bytes)
-opcode_sound s level end bytes h = bare_shown s (Opened bytes) (opcode_at end bytes) (opcode_bare s level end bytes h)
-
--- it begins there
-pub begins_there : (s : Source) (level end : ℕ) (bytes : List ℕ) (x : Opcode × List ℕ) → Position s.depth level s.code end bytes → Opened bytes x
-    → BeginsWith x.0 (drop (end - length bytes) s.code)
-begins_there s level end bytes x h o = first_begins _ x.0 (ap first_opcode (stands_at s level end bytes h) ∙ o.is_opcode h.after)
-
--- .. and passes a test
-pub begins : (s : Source) (level end : ℕ) (bytes : List ℕ) (x : Opcode × List ℕ) (test : Opcode → Bool) → Position s.depth level s.code end bytes
-    → Opened bytes x → test x.0 ≡ true → Begins test s.code (end - length bytes)
-begins s level end bytes x test h o passes = (x.0, begins_there s level end bytes x h o, passes)

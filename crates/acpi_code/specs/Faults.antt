@@ -1,182 +1,167 @@
--- What the fault of a part of code shows of the code (ACPI 6.5, 20.2).
-use Rattle.std.specs.Prelude.{◌≡◌, ◌⊎◌, ◌+◌, ◌%◌, ◌<◌, ◌≤◌, ℕ, zero, suc, true, false, Bool, List, ◌∷◌, ◌++◌, length, drop}
+-- By which fault bytes fail that spell no part of code (ACPI 6.5, 20.2).
+use Rattle.std.specs.Prelude.{◌≡◌, ◌≢◌, ◌⊎◌, ◌+◌, ◌-◌, ◌<◌, ℕ, zero, suc, true, false, Option, Some, None, List, [], ◌∷◌, ◌++◌, length}
 use Rattle.std.specs.List.{AllByRecursion}
 use Rattle.acpi_name.specs.Names.{is_segment_front}
-use Rattle.acpi_name.specs.Spelling.{HasBadChar, HasZeroCount, HasTooManyUps}
-use Rattle.acpi_table.specs.PkgLength.{SpellsPkgLength}
-use Rattle.acpi_tree.specs.Tree.{FieldTree}
+use Rattle.acpi_name.specs.Spelling.{IsCutName, HasBadChar, HasZeroCount, HasTooManyUps}
+use Rattle.acpi_table.specs.PkgLength.{SpellsPkgLength, HasReservedBits, EndsInPkgLength}
 use Rattle.acpi_code.specs.declared.fault.CodeReason.{CodeReason}
 use Rattle.acpi_code.specs.declared.fault.CodeReason.TheVariants.{Cut, ReservedBits, BadName, Overrun, BadString, TooDeep}
+use Rattle.acpi_code.specs.declared.fault.CodeFault.{CodeFault}
 use Rattle.acpi_code.specs.declared.fault.ConstantFault.{ConstantFault}
 use Rattle.acpi_code.specs.declared.fault.ConstantFault.TheVariants.{Part, NotConstant}
 use Rattle.acpi_code.specs.declared.opcode.Opcode.{Opcode}
 use Rattle.acpi_code.specs.declared.opcode.Opcode.TheVariants as opcodes
-use Rattle.acpi_code.specs.Opcodes.{opcode_bytes, BeginsWith, is_constant}
-use Rattle.acpi_code.specs.Spelling.{IsText}
-use Rattle.acpi_code.specs.Fields.{SpellsFields}
+use Rattle.acpi_code.specs.declared.opcode.ConstantForm.{ConstantForm}
+use Rattle.acpi_code.specs.declared.opcode.ConstantForm.TheVariants as forms
+use Rattle.acpi_code.specs.Opcodes.{opcode_bytes, BeginsWith}
+use Rattle.acpi_code.specs.Spelling.{IsText, SpellsSegment, SpellsEach}
+use Rattle.acpi_code.specs.Fields.{SpellsField}
 
--- ---- what stands at a place
+-- Bytes are a list that ends at the place `end` of the code, so they begin at the place `end - length bytes`. They fail
+-- by a fault where the first part of them, from the left, that is not spelled is at its place, for its reason.
+abbrev pub Failure : Type 0 → Type 1
+Failure F = ℕ → List ℕ → F → Type 0
 
--- at the place stands a byte of which this is so
-abbrev pub ByteAt : (ℕ → Type 0) → List ℕ → ℕ → Type 0
-ByteAt Is code place = (b : ℕ) × (rest : List ℕ) × (drop place code ≡ b ∷ rest) × Is b
+-- the fault at the first of these bytes, or at their end where there are none
+abbrev pub fault_at : ℕ → List ℕ → CodeReason → CodeFault
+fault_at end bytes why = record { reason = why; place = end - length bytes }
 
--- what begins at the place passes the test (20.3)
-abbrev pub Begins : (Opcode → Bool) → List ℕ → ℕ → Type 0
-Begins test code place =
-    (opcode : Opcode) × BeginsWith opcode (drop place code) × (test opcode ≡ true)
+-- a term must begin there, and no level is left
+abbrev pub no_level : ℕ → List ℕ → CodeFault
+no_level end [] = fault_at end [] Cut
+no_level end (b ∷ rest) = fault_at end (b ∷ rest) TooDeep
 
--- directly before the place stands an opcode that passes the test (20.3)
-pub record FollowsOpcode (test : Opcode → Bool) (code : List ℕ) (place : ℕ) : Type 0 where
-  pub opcode : Opcode
-  pub passes : test opcode ≡ true
-  pub at : ℕ
-  pub rest : List ℕ
-  pub here : drop at code ≡ opcode_bytes opcode ++ rest
-  pub behind : place ≡ at + length (opcode_bytes opcode)
+-- the fault of a part, as one of what holds it
+abbrev pub FailsAs : {F G : Type 0} → (F → G) → Failure F → Failure G
+FailsAs {F} into Fails end bytes g = (f : F) × Fails end bytes f × (g ≡ into f)
 
--- a package length that stands at a place (20.2.4)
-pub record HasLength (code : List ℕ) (place n : ℕ) : Type 0 where
-  pub len : List ℕ
-  pub rest : List ℕ
-  pub here : drop place code ≡ len ++ rest
-  pub spells_len : SpellsPkgLength n len
+-- behind these bytes
+abbrev pub FailsBehind : {F : Type 0} → List ℕ → Failure F → Failure F
+FailsBehind front Fails end bytes f = (rest : List ℕ) × (bytes ≡ front ++ rest) × Fails end rest f
 
--- ---- lists of terms
+-- a part and others behind it: the first fails; or it is spelled, and what is behind it fails
+abbrev pub FailsInTurn : {A F : Type 0} → Failure F → (A → List ℕ → Type 0) → (A → Failure F)
+    → Failure F
+FailsInTurn {A} First Spells Then end bytes f = First end bytes f
+    ⊎ ((x : A) × (a : List ℕ) × (b : List ℕ) × Spells x a × (bytes ≡ a ++ b) × Then x end b f)
 
--- The forms that have a package (20.2.5). The buffer of a connection begins with 02 and BufferOp (20.2.5.2).
-abbrev pub has_package : Opcode → Bool
-has_package opcodes.Buffer = true
-has_package opcodes.Package = true
-has_package opcodes.VarPackage = true
-has_package opcodes.If = true
-has_package opcodes.Else = true
-has_package opcodes.While = true
-has_package opcodes.Scope = true
-has_package opcodes.Method = true
-has_package opcodes.Field = true
-has_package opcodes.IndexField = true
-has_package opcodes.BankField = true
-has_package opcodes.Device = true
-has_package opcodes.Processor = true
-has_package opcodes.Power = true
-has_package opcodes.Thermal = true
-has_package _ = false
+-- parts one after another to the end of the bytes: some are spelled, bytes are left, and there one fails
+abbrev pub FailsEach : {A F : Type 0} → (A → List ℕ → Type 0) → Failure F → Failure F
+FailsEach {A} Spells One end bytes f = (xs : List A) × (a : List ℕ) × (b : List ℕ)
+    × SpellsEach Spells xs a × (bytes ≡ a ++ b) × (b ≢ []) × One end b f
 
--- What a package holds, from `start` to `end`. It stands in a list that goes from `outer` to `outer_end`: directly
--- behind the opcode of a form that has a package stands its length, which counts its own bytes too and ends within that
--- list.
-pub record IsPackage (code : List ℕ) (outer outer_end start end : ℕ) : Type 0 where
-  pub place : ℕ
-  pub n : ℕ
-  pub stands : HasLength code place n
-  pub is_behind : FollowsOpcode has_package code place
-  pub begun : outer ≤ is_behind.at
-  pub starts : start ≡ place + length stands.len
-  pub ends : end ≡ place + n
-  pub ordered : start ≤ end
-  pub within : end ≤ outer_end
+-- ---- numbers, lengths, names and strings
 
--- a list of terms from `start` to `end` with so many packages round it: all of the code, or what a package holds
-abbrev pub IsListWithin : ℕ → List ℕ → ℕ → ℕ → Type 0
-IsListWithin zero code start end = (start ≡ 0) × (end ≡ length code)
-IsListWithin (suc n) code start end = (outer : ℕ) × (outer_end : ℕ)
-    × IsListWithin n code outer outer_end × IsPackage code outer outer_end start end
+-- ByteData, WordData, DWordData, QWordData: n bytes (20.2.3)
+abbrev pub FailsNumber : ℕ → Failure CodeFault
+FailsNumber n end bytes f = (length bytes < n) × (f ≡ fault_at end [] Cut)
 
--- a list of terms from `start` to `end`
-abbrev pub IsList : List ℕ → ℕ → ℕ → Type 0
-IsList code start end = (n : ℕ) × IsListWithin n code start end
+-- PkgLength (20.2.4)
+abbrev pub FailsPkgLength : Failure CodeFault
+FailsPkgLength end bytes f = (EndsInPkgLength bytes × (f ≡ fault_at end [] Cut))
+    ⊎ (HasReservedBits bytes × (f ≡ fault_at end bytes ReservedBits))
 
--- a package length in a list, directly behind an opcode, that is less than its own number of bytes or goes past the end
--- of the list
-pub record IsOverrun (code : List ℕ) (place : ℕ) : Type 0 where
-  pub n : ℕ
-  pub stands : HasLength code place n
-  pub is_behind : FollowsOpcode has_package code place
-  pub start : ℕ
-  pub end : ℕ
-  pub is_list : IsList code start end
-  pub begun : start ≤ is_behind.at
-  pub before : place < end
-  pub bad : (n < length stands.len) ⊎ (end < place + n)
+-- a package length that is less than its own number of bytes or goes past the end of the bytes (20.2.4)
+abbrev pub Overruns : List ℕ → Type 0
+Overruns bytes = (n : ℕ) × (len : List ℕ) × (rest : List ℕ) × SpellsPkgLength n len
+    × (bytes ≡ len ++ rest) × ((n < length len) ⊎ (length bytes < n))
 
--- ---- names, lengths and strings
+-- A package: its length fails; or the length is less than its own bytes, or goes past the end of the bytes; or what the
+-- package holds fails, whose list ends where the package does (20.2.4).
+abbrev pub FailsPackage : {F : Type 0} → (CodeFault → F) → Failure F → Failure F
+FailsPackage into Inside end bytes f = FailsAs into FailsPkgLength end bytes f
+    ⊎ (Overruns bytes × (f ≡ into (fault_at end bytes Overrun)))
+    ⊎ ((len : List ℕ) × (content : List ℕ) × (rest : List ℕ)
+    × SpellsPkgLength (length len + length content) len × (bytes ≡ len ++ (content ++ rest))
+    × Inside (end - length rest) content f)
 
 -- no name begins there, however the bytes go on (20.2.2)
 abbrev pub HasNoName : List ℕ → Type 0
 HasNoName bytes = HasBadChar bytes ⊎ HasZeroCount bytes ⊎ HasTooManyUps bytes
 
--- a package length or a bit count whose lead byte says that bytes follow and has bit 5 or 4 set (20.2.4)
-abbrev pub IsReserved : ℕ → Type 0
-IsReserved lead = (0x40 ≤ lead) × (0x0F < lead % 0x40)
+-- NameString (20.2.2): the bytes end within one, or none begins there, however they go on
+abbrev pub FailsName : Failure CodeFault
+FailsName end bytes f = (IsCutName bytes × (f ≡ fault_at end [] Cut))
+    ⊎ (HasNoName bytes × (f ≡ fault_at end bytes BadName))
 
--- the place of a string's next byte: behind StringPrefix and characters (20.2.3)
-pub record IsInString (code : List ℕ) (place : ℕ) : Type 0 where
-  pub at : ℕ
-  pub text : List ℕ
-  pub rest : List ℕ
-  pub here : drop at code ≡ 0x0D ∷ (text ++ rest)
-  pub are_text : AllByRecursion IsText text
-  pub behind : place ≡ at + (1 + length text)
+-- NameSeg (20.2.2)
+abbrev pub FailsSegment : Failure CodeFault
+FailsSegment end bytes f =
+    ((is_segment_front bytes ≡ true) × (length bytes < 4) × (f ≡ fault_at end [] Cut))
+    ⊎ ((is_segment_front bytes ≡ false) × (f ≡ fault_at end bytes BadName))
 
--- ---- what a fault of a part shows
+-- AsciiCharList and NullChar (20.2.3): behind characters stands nothing, or a byte that is neither
+abbrev pub FailsText : Failure CodeFault
+FailsText end bytes f = (text : List ℕ) × (rest : List ℕ) × AllByRecursion IsText text
+    × (bytes ≡ text ++ rest)
+    × (((rest ≡ []) × (f ≡ fault_at end [] Cut))
+    ⊎ (((b : ℕ) × (more : List ℕ) × (rest ≡ b ∷ more) × (0x7F < b))
+    × (f ≡ fault_at end rest BadString)))
 
--- What the reason says is true of the code at that place; `depth` is the number of levels that are allowed.
--- Cut: a list ends there. ReservedBits: a package length with reserved bits. BadName: no name begins there. Overrun: a
--- package length below its own number of bytes, or past the end of the list that it stands in. BadString: a byte above
--- 7F in a string. TooDeep: a byte, behind at least as many bytes as there are levels.
-abbrev pub ShowsPart : ℕ → List ℕ → CodeReason → ℕ → Type 0
-ShowsPart depth code Cut place = (start : ℕ) × IsList code start place
-ShowsPart depth code ReservedBits place = ByteAt IsReserved code place
-ShowsPart depth code BadName place = HasNoName (drop place code)
-ShowsPart depth code Overrun place = IsOverrun code place
-ShowsPart depth code BadString place = IsInString code place × ByteAt (λ b. 0x7F < b) code place
-ShowsPart depth code TooDeep place = (depth ≤ place) × (place < length code)
+-- ---- terms, by their opcodes
 
--- ---- what the fault of a constant shows
+-- an opcode (20.3): nothing is left, or ExtOpPrefix alone
+abbrev pub FailsOpcode : Failure CodeFault
+FailsOpcode end bytes f = ((bytes ≡ []) ⊎ (bytes ≡ 0x5B ∷ [])) × (f ≡ fault_at end [] Cut)
 
--- The same of a constant. NotConstant: this opcode begins there, and is no constant's.
-abbrev pub ShowsConstant : ℕ → List ℕ → ConstantFault → Type 0
-ShowsConstant depth code (Part f) = ShowsPart depth code f.reason f.place
-ShowsConstant depth code (NotConstant opcode place) =
-    BeginsWith opcode (drop place code) × (is_constant opcode ≡ false)
+-- a term: its opcode fails; or it begins with an opcode, and fails by that
+abbrev pub FailsByOpcode : {F : Type 0} → (CodeFault → F) → (Opcode → Failure F) → Failure F
+FailsByOpcode into Term end bytes f = FailsAs into FailsOpcode end bytes f
+    ⊎ ((o : Opcode) × BeginsWith o bytes × Term o end bytes f)
 
--- ---- what the fault of a field element shows
+-- a term is refused for a reason at its first byte; or, if there is none, it fails so
+abbrev pub FailsUnless : {R F : Type 0} → (R → ℕ → F) → Option R → Failure F → Failure F
+FailsUnless fault (Some why) Fails end bytes f = f ≡ fault why (end - length bytes)
+FailsUnless fault None Fails end bytes f = Fails end bytes f
 
--- a field element must begin at the place: behind others, in a field list that begins at `start` (20.2.5.2)
-pub record IsElementOf (code : List ℕ) (start place : ℕ) : Type 0 where
-  pub elements : List FieldTree
-  pub front : List ℕ
-  pub rest : List ℕ
-  pub here : drop start code ≡ front ++ rest
-  pub spells : SpellsFields elements front
-  pub behind : place ≡ start + length front
+-- a term for which so many levels are left: none is, or else it fails so
+abbrev pub FailsWithin : {F : Type 0} → (CodeFault → F) → ℕ → Failure F → Failure F
+FailsWithin into zero Fails end bytes f = f ≡ into (no_level end bytes)
+FailsWithin into (suc level) Fails end bytes f = Fails end bytes f
 
--- the size of a connection's buffer must begin at the place: directly behind 02, BufferOp and a package length
--- (20.2.5.2)
-pub record IsConnectionSize (code : List ℕ) (place : ℕ) : Type 0 where
-  pub at : ℕ
-  pub n : ℕ
-  pub len : List ℕ
-  pub rest : List ℕ
-  pub here : drop at code ≡ 0x02 ∷ 0x11 ∷ (len ++ rest)
-  pub spells_len : SpellsPkgLength n len
-  pub behind : place ≡ at + (2 + length len)
+-- how many bytes follow the opcode of a constant (20.2.3)
+abbrev pub number_size : ConstantForm → ℕ
+number_size forms.Byte = 1
+number_size forms.Word = 2
+number_size forms.DWord = 4
+number_size forms.QWord = 8
+number_size _ = 0
 
--- no segment begins at a place where a field element must begin; `IsElement` says of a place whether one must
-abbrev pub HasNoSegment : (ℕ → Type 0) → List ℕ → ℕ → Type 0
-HasNoSegment IsElement code place = IsElement place × (is_segment_front (drop place code) ≡ false)
+-- the number of a constant, behind its opcode; or no constant begins so
+abbrev pub FailsConstant : Opcode → Failure ConstantFault
+FailsConstant (opcodes.Constant form) = FailsBehind (opcode_bytes (opcodes.Constant form))
+    (FailsAs Part (FailsNumber (number_size form)))
+FailsConstant opcode = λ end bytes f. f ≡ NotConstant opcode (end - length bytes)
 
--- What a reason says of a part of a field element, which has no level and no string.
-abbrev pub ShowsElementPart : (ℕ → Type 0) → List ℕ → CodeReason → ℕ → Type 0
-ShowsElementPart IsElement code BadName place =
-    ShowsPart 0 code BadName place ⊎ HasNoSegment IsElement code place
-ShowsElementPart IsElement code BadString place = ⊥
-ShowsElementPart IsElement code TooDeep place = ⊥
-ShowsElementPart IsElement code why place = ShowsPart 0 code why place
+-- a constant (20.2.3)
+abbrev pub FailsInt : Failure ConstantFault
+FailsInt = FailsByOpcode Part FailsConstant
 
--- The same of a field element. NotConstant: the size of a connection's buffer is no constant.
-abbrev pub ShowsElement : (ℕ → Type 0) → List ℕ → ConstantFault → Type 0
-ShowsElement IsElement code (Part f) = ShowsElementPart IsElement code f.reason f.place
-ShowsElement IsElement code (NotConstant opcode place) =
-    ShowsConstant 0 code (NotConstant opcode place) × IsConnectionSize code place
+-- ---- field elements (20.2.5.2 FieldElement)
+
+-- NamedField := NameSeg PkgLength
+abbrev pub FailsUnit : Failure ConstantFault
+FailsUnit =
+    FailsInTurn (FailsAs Part FailsSegment) SpellsSegment (λ g. FailsAs Part FailsPkgLength)
+
+-- ConnectField behind its 02: BufferData, whose size is a constant, or else NameString
+abbrev pub FailsConnect : Failure ConstantFault
+FailsConnect end bytes f =
+    FailsBehind (0x11 ∷ []) (FailsPackage Part FailsInt) end bytes f
+    ⊎ ((¬ BeginsWith opcodes.Buffer bytes) × FailsAs Part FailsName end bytes f)
+
+-- the bytes begin with none of 00 to 03, which begin other elements
+abbrev pub BeginsUnit : List ℕ → Type 0
+BeginsUnit bytes = (b : ℕ) (rest : List ℕ) → bytes ≡ b ∷ rest → 0x03 < b
+
+-- ReservedField, AccessField, ConnectField, ExtendedAccessField, or else NamedField
+abbrev pub FailsField : Failure ConstantFault
+FailsField end bytes f = FailsBehind (0x00 ∷ []) (FailsAs Part FailsPkgLength) end bytes f
+    ⊎ FailsBehind (0x01 ∷ []) (FailsAs Part (FailsNumber 2)) end bytes f
+    ⊎ FailsBehind (0x02 ∷ []) FailsConnect end bytes f
+    ⊎ FailsBehind (0x03 ∷ []) (FailsAs Part (FailsNumber 3)) end bytes f
+    ⊎ (BeginsUnit bytes × FailsUnit end bytes f)
+
+-- FieldList
+abbrev pub FailsFields : Failure ConstantFault
+FailsFields = FailsEach SpellsField FailsField

@@ -26,7 +26,7 @@ below_is k q p r true true false x y z e = cc
 below_is k q p r true false c x y z e = cc
 below_is k q p r false b c x y z e = cc
 
-declared_in_is : (k : Known) (s : Path) (gs : List Segment) (place : Option Path) (p : Path) → declared_in k s gs place ≡ Ok p → (gs ≢ []) × (place ≡ Some p)
+pub declared_in_is : (k : Known) (s : Path) (gs : List Segment) (place : Option Path) (p : Path) → declared_in k s gs place ≡ Ok p → (gs ≢ []) × (place ≡ Some p)
 declared_in_is k s [] place p e = cc
 declared_in_is k s (g ∷ gs) None p e = cc
 declared_in_is k s (g ∷ gs) (Some q) p e =

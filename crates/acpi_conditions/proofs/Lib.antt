@@ -19,6 +19,10 @@ pub mod Pieces
 pub mod Taken
 pub mod Opposed
 pub mod SeenIsTrue
+pub mod Singles
+pub mod Standing
+pub mod CertainKept
+pub mod Origins
 pub mod KeptSlots
 pub mod ByPath
 pub mod Tries

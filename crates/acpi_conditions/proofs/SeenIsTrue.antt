@@ -81,14 +81,14 @@ part_has v w e t m =
     let u = any_some (is_same_turn t) w (all_is (λ t. list_any (is_same_turn t) w) v t e m) in
     subst (λ (x : Turn). Among w x) (sym (same_turn_is t u.0 u.2)) u.1
 
-taken_not_missed : (S : State) (t : Turn) → IsTaken S t → IsMissed S t → ⊥
+pub taken_not_missed : (S : State) (t : Turn) → IsTaken S t → IsMissed S t → ⊥
 taken_not_missed S (then_branch p) k m = m k
 taken_not_missed S (else_branch p) k m = m k
 taken_not_missed S (in_round p) k m = m k
 taken_not_missed S (within p) k m = m k
 taken_not_missed S (past p) k m = k m
 
-outside_round : (w : List Turn) → not (list_any is_round w) ≡ true → (p : Place) → Among w (in_round p) → ⊥
+pub outside_round : (w : List Turn) → not (list_any is_round w) ≡ true → (p : Place) → Among w (in_round p) → ⊥
 outside_round w e p m = never (list_any is_round w) (some_any is_round w (in_round p) m refl) (not-true (list_any is_round w) e)
 
 among_skipped : {X : Type 0} (test : X → Bool) (xs : List X) (x : X) → Among (skipped test xs) x → Among xs x

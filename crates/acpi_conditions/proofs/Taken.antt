@@ -9,7 +9,7 @@ use Rattle.acpi_conditions.specs.Entries.{Path, Turn, then_branch, else_branch, 
 use Rattle.acpi_conditions.specs.Known.{Known, is_certain_scope, declared_at, opened_at, IsTrueOf}
 use Rattle.acpi_conditions.specs.Survey.{Around, turning, at_root, Survey, Surveying, behind, passing, followed_by, entry_at, inside_of, known_inside, declaring_as, declaring, inside_scope, known_in_scope, opening_as, opening, branching, leaves_table, known_in_loop, looping, stopping, behind_table, table_survey, surveys, all_entries, all_refused, survey}
 use Rattle.acpi_conditions.specs.Runs.{Makes, Event, State, with_turn, state_inside, state_past, Ending, goes_on, stops, Running, Continues, IsFollowed, IsDeclaring, Finds, IsOpening, IsBranching, NextRound, AreRounds, IsRound, IsLooping, IsStopping, IsRun, AreRuns}
-use Rattle.acpi_conditions.specs.Laws.{HasTurn, AreSure, AreDistinct, IsTaken}
+use Rattle.acpi_conditions.specs.Laws.{HasTurn, AreSure, AreDistinct, IsTaken, AllTaken}
 use Rattle.acpi_conditions.proofs.Knowing.{one_found}
 use Rattle.acpi_conditions.proofs.Declaring.{AreCertain, makes_allowed, true_inside, true_in_scope, opened_is}
 use Rattle.acpi_conditions.proofs.Outcomes.{Outcome, IsCovered, certain_grow, covered_here, covered_rest, past_turns, true_behind}
@@ -22,9 +22,6 @@ use Rattle.acpi_conditions.proofs.Pieces.{Piece, piece_nodes, piece_declaring, p
 
 abbrev pub HasRound : Entry → Type 0
 HasRound en = (place : Place) × Among en.way (in_round place)
-
-abbrev pub AllTaken : State → Entry → Type 0
-AllTaken S en = (turn : Turn) → Among en.way turn → IsTaken S turn
 
 pub taken_grows : (qs : List Place) (M S' : State) → Logged qs M S' → (turn : Turn) → (Among qs (turn_place turn) → ⊥) → IsTaken M turn → IsTaken S' turn
 taken_grows qs M S' l (then_branch p) out is = l.keeps (then_branch p) is

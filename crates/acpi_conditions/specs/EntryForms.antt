@@ -1,7 +1,7 @@
 -- Entries and refusals as the code keeps them (ACPI 6.5, 5.3).
 use Rattle.std.specs.Prelude.{List}
 use Rattle.acpi_conditions.specs.Nodes.{Term}
-use Rattle.acpi_conditions.specs.Entries.{Path, Turn, Asks, Entry, Refusal, Why, empty_name, above_root, missing, no_parent, not_a_scope, taken, unsure}
+use Rattle.acpi_conditions.specs.Entries.{Turn, Asks, Entry, Refusal, Why, empty_name, above_root, missing, no_parent, not_a_scope, taken, unsure}
 use Rattle.acpi_conditions.specs.Turns.{way_of}
 use Rattle.acpi_conditions.specs.declared.entry.Term.{Term as TermForm}
 use Rattle.acpi_conditions.specs.declared.entry.Asks.{Asks as AsksForm}

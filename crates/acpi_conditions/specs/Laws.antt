@@ -1,5 +1,5 @@
 -- The laws of the survey, each as one statement (ACPI 6.5, 5.3, 19.6 and 20.2.5).
-use Rattle.std.specs.Prelude.{◌≡◌, ◌⊎◌, ◌↔◌, false, not, IsTrue, List, [], ◌∷◌, ◌++◌, map, Some, None, ⊤}
+use Rattle.std.specs.Prelude.{◌≡◌, ◌≢◌, ◌⊎◌, ◌↔◌, false, not, IsTrue, List, [], ◌∷◌, ◌++◌, map, Some, None, ⊤}
 use Rattle.std.specs.List.{AllByRecursion, AllZip, flat_map, list_any}
 use Rattle.acpi_name.specs.Names.{NameParts}
 use Rattle.acpi_name.specs.Paths.{place_of}
@@ -113,6 +113,40 @@ abbrev pub TakesTheWay : Type 0
 TakesTheWay = OfEntries (λ k tables S e. IsReached S e
     → ((turn : Turn) → Among e.way turn → IsTaken S turn)
     ⊎ ((place : Place) × Among e.way (in_round place)))
+
+-- ---- what stands at the end
+
+-- an object stays once it is declared
+abbrev pub ObjectsStay : Type 0
+ObjectsStay = (tables : List Nodes) (S S' : State) → AreRuns tables S S'
+    → (p : Path) (t : Term) → S.objects p ≡ Some t → S'.objects p ≡ Some t
+
+-- control has taken each turn of the entry's way
+abbrev pub AllTaken : State → Entry → Type 0
+AllTaken S e = (turn : Turn) → Among e.way turn → IsTaken S turn
+
+-- what the entry asks was so when control came to its term
+abbrev pub HoldsWhenReached : State → Entry → Type 0
+HoldsWhenReached S e = (ev : Event) × Among S.events ev × (ev.term ≡ e.term) × Holds ev.objects e
+
+-- Control has come to the entry's term exactly where it has taken each turn of the way; and the term's object stands
+-- exactly where, moreover, what the entry asks was so when control came.
+pub record StandsExactly (S : State) (e : Entry) : Type 0 where
+  pub comes : IsReached S e ↔ AllTaken S e
+  pub stands : (S.objects e.path ≡ Some e.term) ↔ (AllTaken S e × HoldsWhenReached S e)
+
+-- This is so of each entry outside of Whiles whose object doesn't stand there before: at the end of a run of the tables
+-- and of more tables behind them. (No Scope of the tables is unsure; of those behind them nothing is asked.)
+abbrev pub ObjectsStandExactly : Type 0
+ObjectsStandExactly = (k : Known) (tables more : List Nodes) (S M S' : State)
+    → IsRunOf k tables S M → AreRuns more M S' → AreDistinct (flat_map places (tables ++ more))
+    → (e : Entry) → Among (all_entries (surveys k tables)) e
+    → IsTrue (not (list_any is_round e.way)) → S.objects e.path ≢ Some e.term → StandsExactly S' e
+
+-- what is certain before tables isn't declared by them
+abbrev pub CertainIsNotDeclared : Type 0
+CertainIsNotDeclared = (k : Known) (tables : List Nodes) (e : Entry)
+    → Among (all_entries (surveys k tables)) e → is_certain k e.path ≡ false
 
 -- ---- links
 

@@ -1,5 +1,5 @@
 //! Laws of the survey, of the definitions alone: the functions do nothing, and their contracts state the laws.
-ghost use Rattle.acpi_conditions.specs.Laws.{SurveyIsExact, MadeIsEntry, UnconditionalIsMade, KnownStaysTrue, RunsExist, ComesByWay, TakesTheWay, CandidatesCover, SeenIsTrue, LinksCover, StrictIsSurvey, TestsDecide, LongerBegins, WalkIsSurvey, EmptyElseIsNone, TableWalkIsSurveys, SeenAmongAll, NamesAmongAll, LinksAmongAll};
+ghost use Rattle.acpi_conditions.specs.Laws.{SurveyIsExact, MadeIsEntry, UnconditionalIsMade, KnownStaysTrue, RunsExist, ComesByWay, TakesTheWay, ObjectsStay, ObjectsStandExactly, CertainIsNotDeclared, CandidatesCover, SeenIsTrue, LinksCover, StrictIsSurvey, TestsDecide, LongerBegins, WalkIsSurvey, EmptyElseIsNone, TableWalkIsSurveys, SeenAmongAll, NamesAmongAll, LinksAmongAll};
 ghost use Rattle.acpi_conditions.specs.Examples.{InBothBranches, ScopeBehindBoth, NameThrice, ThirdIsRefused, NeedsLater, NeedsEarlier, BreakInWhile, ReturnInIf, MadeBetween, SecondRound, BranchesInWhile, ElseAlone, ElseOfLostIf, FieldSeesItsBranch, RoundsSeeBothBranches};
 
 /// In every run of tables whose survey refuses no Scope as unsure, with any choice at each If and any number of rounds
@@ -20,6 +20,15 @@ pub fn survey_is_sound()
 pub fn control_comes_by_the_way()
     ensures unless_missed { ComesByWay }
     ensures taken { TakesTheWay }
+{}
+
+/// So the object of an entry outside of Whiles stands at the end of a run exactly where control took each turn of its
+/// way, and what the entry asks was so when control came to its term. Tables behind the entry's own change nothing of
+/// that, whatever they refuse: objects stay. What is certain before the tables is declared by none of them.
+pub fn objects_stand_exactly()
+    ensures stay { ObjectsStay }
+    ensures exact { ObjectsStandExactly }
+    ensures certain { CertainIsNotDeclared }
 {}
 
 /// A name is found at one of its candidates, if it is found, and it is found where one of them is certain. Where

@@ -1,9 +1,8 @@
 -- The bodies of strict tables are read as the strict load reads them.
-use Rattle.std.proofs.Common.{◌≡◌, ◌+◌, ◌*◌, ◌^◌, ◌<◌, ◌≤◌, ℕ, suc, cond, List, [], ◌∷◌, ◌++◌, append_assoc, length, length-append, slice_get, inl, inr, Option, Some, None, refl, sym, ap, subst, ◌∙◌, arith}
+use Rattle.std.proofs.Common.{◌≡◌, ◌+◌, ◌^◌, ◌<◌, ◌≤◌, ℕ, suc, cond, List, [], ◌∷◌, ◌++◌, append_assoc, length, length-append, slice_get, inl, inr, Option, Some, None, refl, sym, ap, subst, ◌∙◌, arith}
 use Rattle.std.specs.List.{AllByRecursion}
 use Rattle.std.specs.Option.{option_and_then}
 use Rattle.std.specs.FinMap as finite
-use Rattle.std.proofs.Math.Arith.{digits_div, digits_mod}
 use Rattle.std.proofs.lemmas.Bool.{le-ltb}
 use Rattle.std.proofs.lemmas.List.{length-drop}
 use Rattle.acpi_name.specs.Names.{NameParts}
@@ -37,6 +36,7 @@ use Rattle.acpi_ranges.specs.EntryParts.{part_in, part_declaring}
 use Rattle.acpi_entries.specs.EntryBodies.{IsBodyReading, IsBodyIn, IsBodyOf}
 use Rattle.acpi_ranges.specs.Lookup.{Found, node_found, part_at}
 use Rattle.acpi_ranges.proofs.Searching.{part_is_searched}
+use Rattle.acpi_ranges.proofs.PartLookups.{part_within, in_table, at_byte}
 use Rattle.acpi_survey.specs.Reading.{Reading}
 use Rattle.acpi_survey.specs.Predefined.{first_reading}
 use Rattle.acpi_pieces.specs.Tables.{code_read}
@@ -47,7 +47,6 @@ use Rattle.acpi_conservative.specs.Parts.{DeclaredPart, declared_by, declared, I
 use Rattle.acpi_conservative.specs.Laws.{IsSameBody, HasBodyOf, HaveBodies, StrictBodies}
 use Rattle.acpi_conservative.proofs.WholeTables.{strict_table_is_read}
 use Rattle.acpi_conservative.proofs.TableCounts.{strict_counts}
-use Rattle.acpi_conservative.proofs.PartLookups.{part_within}
 use Rattle.acpi_conservative.proofs.Steps.{IsObjectAt, HaveEntries}
 use Rattle.acpi_conservative.proofs.FollowedTables.{part_of, IsFollowed, AreFollowed, strict_tables_follow}
 
@@ -121,16 +120,6 @@ numbered before xs later x m =
           ∙ ap (λ l. slice_get l (length (before ++ r.0))) (sym (append_assoc before r.0 (x ∷ (r.1 ++ later))))
           ∙ get_behind (before ++ r.0) (r.1 ++ later) x,
     )
-
-module _ (number place : ℕ) (short : place < 2 ^ 64) where
-  as_digits : place_in number 0 + place ≡ number * 2 ^ 64 + place
-  as_digits = omega arith
-
-  pub in_table : table_at (place_in number 0 + place) ≡ number
-  in_table = ap table_at as_digits ∙ digits_div number short
-
-  pub at_byte : byte_at (place_in number 0 + place) ≡ place
-  at_byte = ap byte_at as_digits ∙ digits_mod number short
 
 -- ---- the body of one entry
 

@@ -43,14 +43,16 @@ use Rattle.acpi_conditions.specs.Walk as walks
 use Rattle.acpi_conditions.specs.Walk.{Walk, enter_first}
 use Rattle.acpi_needs.specs.Needs.{names_in_all, names_before}
 use Rattle.acpi_survey.specs.Nodes.{term_at, unit_at, operands_of}
-use Rattle.acpi_survey.specs.Reading.{Reading, survey_rules, with_expected, passing, expecting, after_field, enter, leave}
+use Rattle.acpi_survey.specs.NameUses.{names_used_in_plain}
+use Rattle.acpi_survey.specs.declared.name_uses.NameUse.TheVariants.{Call}
+use Rattle.acpi_survey.specs.Reading.{Reading, survey_rules, with_expected, noticing, begin_fields, expecting, after_field, enter, leave}
 use Rattle.acpi_ranges.specs.Ranges.{first_place, first_field_place}
 use Rattle.acpi_ranges.specs.Lookup.{Found, node_found, element_found}
 use Rattle.acpi_ranges.specs.steps.Search.{search_fields}
 use Rattle.acpi_conservative.specs.Parts.{IsTerm, IsPackage, before_fields, IsPartOf}
 use Rattle.acpi_conservative.proofs.Items.{Parts, parts}
 use Rattle.acpi_conservative.proofs.TableNodes.{data_none, externals_walked}
-use Rattle.acpi_conservative.proofs.PartLookups.{element_within, FindsParts, FindsNode, finds_node, finds_rest}
+use Rattle.acpi_ranges.proofs.PartLookups.{element_within, FindsParts, FindsNode, finds_node, finds_rest}
 use Rattle.acpi_conservative.proofs.Standing.{StandsIn, stands_on, entries_left, made, allowed, stands_inside, entries_inside, stands_left, opened, stands_in_scope, entries_in_scope, stands_out_of_scope}
 use Rattle.acpi_conservative.proofs.Steps.{Follows, none_justified, stays, both_follow, placement, by_site, by_one, term_follows, no_names, same_start, same_end}
 
@@ -227,9 +229,11 @@ declaration_follows : (i : ItemTree) (form : NamedForm) (bs : TermTrees) (n : Na
     → ((part : Found) → IsTerm form bs vs part → IsPartOf o links None part)
     → ((k : ℕ) (inside : Option ℕ) → item_sites k inside i ≡ site_in inside (step n (declares o links None)) ∷ []) → ItemFollows i (plain (outline.term (declare form bs n vs)))
 declaration_follows i form bs n vs none o alone links is_part sites_are look objects before inside around at es j level place end to stop s bytes is_node tiles finds h =
+    let m : Reading = noticing (s.base + place) (names_used_in_plain Call (outline.term (declare form bs n vs))) s in
     by_one objects before inside around at (step n (declares o links None)) (Follows look objects around s (after survey_rules place s (plain (outline.term (declare form bs n vs)))))
-    (λ p d. term_follows look objects around s h place n o links None (term_at (s.base + place) n false (names_before bs ++ names_in_all vs)) (no_names (s.base + place) n (names_before bs ++ names_in_all vs) none) alone
-    (Some 0) p d (node_found to (plain (outline.term (declare form bs n vs)))) finds.itself (is_part (node_found to (plain (outline.term (declare form bs n vs)))) (to, n, refl)))
+    (λ p d. same_start look objects around (placement (step n (declares o links None)) around p ∷ []) s m (after survey_rules place s (plain (outline.term (declare form bs n vs)))) refl refl refl
+    (term_follows look objects around m (stands_on objects around s m refl refl h) place n o links None (term_at (s.base + place) n false (names_before bs ++ names_in_all vs)) (no_names (s.base + place) n (names_before bs ++ names_in_all vs) none) alone
+    (Some 0) p d (node_found to (plain (outline.term (declare form bs n vs)))) finds.itself (is_part (node_found to (plain (outline.term (declare form bs n vs)))) (to, n, refl))))
     es (subst (λ (xs : List Site). IsJustified objects before xs es) (sites_are (length before) inside) j)
 
 method_follows : (n : NameParts) (flags : ℕ) (code : List ℕ) → ItemFollows (method n flags code) (closed (outline.method n flags) code)
@@ -241,9 +245,9 @@ method_follows n flags code look objects before inside around at es j level plac
 list_follows : (i : ItemTree) (f : FixedTree) → names_in_all (operands_of f) ≡ [] → (form : FieldForm) (flags : ℕ) (links : List NameParts) → f ≡ before_fields form flags links → (fs : List FieldTree) (us : FieldNodes) → AreFieldsOf fs us
     → ((k : ℕ) (inside : Option ℕ) → item_sites k inside i ≡ map (site_in inside) (unit_steps form flags links 0 fs)) → ItemFollows i (holds_fields f us)
 list_follows i f none form flags links same fs us is sites_are look objects before inside around at es j level place end to stop s bytes is_node tiles finds h =
-    same_start look objects around es s (passing s) (after_fields survey_rules (passing s) f us) refl refl refl
+    same_start look objects around es s (begin_fields s place f) (after_fields survey_rules (begin_fields s place f) f us) refl refl refl
     (fields_follow look f none form flags links same 0 fs us is objects before inside around at es (subst (λ (xs : List Site). IsJustified objects before xs es) (sites_are (length before) inside) j)
-    to tiles.0 stop end tiles.2 finds.inside is_node.1 (subst (λ (k : ℕ). AreFields end k us is_node.1) (sym (zero-min (2 ^ 64 - 1))) is_node.4) (passing s) (stands_on objects around s (passing s) refl refl h))
+    to tiles.0 stop end tiles.2 finds.inside is_node.1 (subst (λ (k : ℕ). AreFields end k us is_node.1) (sym (zero-min (2 ^ 64 - 1))) is_node.4) (begin_fields s place f) (stands_on objects around s (begin_fields s place f) refl refl h))
 
 block_follows : (xs : List ExternalParts) (ms : NodeTrees) → AreExternals xs ms → ItemFollows (external_block xs) (holds (if_so (terms.int Zero)) ms)
 block_follows xs ms are look objects before inside around at es j level place end to stop s bytes is_node tiles finds h =

@@ -32,7 +32,7 @@ use Rattle.acpi_conditions.specs.Walk.{Walk, Package, leave_from, passed, enter_
 use Rattle.acpi_conditions.proofs.Basics.{append_nothing}
 use Rattle.acpi_needs.specs.Needs.{names_in_all, names_before}
 use Rattle.acpi_survey.specs.Nodes.{term_at, unit_at, operands_of}
-use Rattle.acpi_survey.specs.Reading.{Reading, survey_rules, declaring, entering, passing, expecting, after_field, enter, leave}
+use Rattle.acpi_survey.specs.Reading.{Reading, survey_rules, declaring, entering, begin_fields, expecting, after_field, enter, leave}
 
 -- ---- what items count
 
@@ -213,10 +213,11 @@ declaration_counts i form before n behind is level place end s bytes is_node =
     subst (Counts s (declaring t (Some 0) s)) (sym is) (counts_term t (Some 0) s)
 
 counts_list : (f : FixedTree) (form : FieldForm) (flags : ℕ) (links : List NameParts) (es : List FieldTree) (us : FieldNodes) → AreFieldsOf es us
-    → (s : Reading) → Counts s (after_fields survey_rules (passing s) f us) (counted (unit_steps form flags links 0 es))
-counts_list f form flags links es us h s =
-    two_counts s (passing s) (after_fields survey_rules (passing s) f us) [] (counted (unit_steps form flags links 0 es))
-    (counts_none s (passing s) refl refl) (counts_fields f form flags links 0 es us h (passing s))
+    → (place : ℕ) (s : Reading) → Counts s (after_fields survey_rules (begin_fields s place f) f us) (counted (unit_steps form flags links 0 es))
+counts_list f form flags links es us h place s =
+    let m : Reading = begin_fields s place f in
+    two_counts s m (after_fields survey_rules m f us) [] (counted (unit_steps form flags links 0 es))
+    (counts_none s m refl refl) (counts_fields f form flags links 0 es us h m)
 
 one_more : (i : ItemTree) (is : ItemTrees) (place : ℕ) (n : NodeTree) (ns : NodeTrees) → ItemCounts i n → AllCounted is ns → AllCounted (item i is) (node place n ns)
 one_more i is place n ns here behind level end s bytes (a, b, inside, levels, at, is_node, are, whole) =
@@ -247,11 +248,11 @@ mutual
   item_counts (event n) m h = subst (ItemCounts (event n)) (sym h) (declaration_counts (event n) named.Event no_terms n no_terms refl)
   item_counts (region n space offset len) m h = subst (ItemCounts (region n space offset len)) (sym h) (declaration_counts (region n space offset len) named.Region no_terms n _ refl)
   item_counts (field n flags es) m (us, e, h) =
-      subst (ItemCounts (field n flags es)) (sym e) (λ level place end s bytes is_node. counts_list (units fields.Field (n ∷ []) (more (raw 1 flags) no_terms)) FieldForm.Field flags (n ∷ []) es us h s)
+      subst (ItemCounts (field n flags es)) (sym e) (λ level place end s bytes is_node. counts_list (units fields.Field (n ∷ []) (more (raw 1 flags) no_terms)) FieldForm.Field flags (n ∷ []) es us h place s)
   item_counts (index_field i k flags es) m (us, e, h) =
-      subst (ItemCounts (index_field i k flags es)) (sym e) (λ level place end s bytes is_node. counts_list (units fields.IndexField (i ∷ k ∷ []) (more (raw 1 flags) no_terms)) FieldForm.Index flags (i ∷ k ∷ []) es us h s)
+      subst (ItemCounts (index_field i k flags es)) (sym e) (λ level place end s bytes is_node. counts_list (units fields.IndexField (i ∷ k ∷ []) (more (raw 1 flags) no_terms)) FieldForm.Index flags (i ∷ k ∷ []) es us h place s)
   item_counts (bank_field n bank value flags es) m (us, e, h) =
-      subst (ItemCounts (bank_field n bank value flags es)) (sym e) (λ level place end s bytes is_node. counts_list (units fields.BankField (n ∷ bank ∷ []) (more (terms.int value) (more (raw 1 flags) no_terms))) (FieldForm.Bank value) flags (n ∷ bank ∷ []) es us h s)
+      subst (ItemCounts (bank_field n bank value flags es)) (sym e) (λ level place end s bytes is_node. counts_list (units fields.BankField (n ∷ bank ∷ []) (more (terms.int value) (more (raw 1 flags) no_terms))) (FieldForm.Bank value) flags (n ∷ bank ∷ []) es us h place s)
   item_counts (create w source index n) m h = subst (ItemCounts (create w source index n)) (sym h) (declaration_counts (create w source index n) (named.Create w) _ n no_terms refl)
   item_counts (create_field source index bits n) m h = subst (ItemCounts (create_field source index bits n)) (sym h) (declaration_counts (create_field source index bits n) named.CreateField _ n no_terms refl)
 

@@ -11,16 +11,15 @@ use Rattle.acpi_conservative.specs.StrictNodes.{AreItems}
 use Rattle.acpi_outline.specs.View.{nodes_view}
 use Rattle.acpi_conditions.specs.Entries.{Why, Refusal}
 use Rattle.acpi_survey.specs.declared.machine_survey.SurveyedTable.{SurveyedTable}
-use Rattle.acpi_findings.specs.declared.notes.NoteReason.{NoteReason}
+use Rattle.acpi_findings.specs.declared.notes.Note.{Note}
 use Rattle.acpi_pieces.specs.declared.tables.TableContent.{TableContent}
 use Rattle.acpi_pieces.specs.declared.tables.TableContent.TheVariants.{Read}
 use Rattle.acpi_ranges.specs.Places.{last_at}
 use Rattle.acpi_ranges.specs.Ranges.{Range, Entered, code_ranges}
 use Rattle.acpi_findings.specs.Problems.{ProblemParts, why_lost, lost_problem, refused_problem, range_problems, table_problems}
 use Rattle.acpi_ranges.specs.Index.{Refusals}
-use Rattle.acpi_ranges.specs.Sites.{offset_of}
-use Rattle.acpi_findings.specs.Notes.{NoteParts, note_parts, Unknowns, range_notes, table_notes}
-use Rattle.acpi_ranges.specs.Index.{entered_in, refusals_in}
+use Rattle.acpi_findings.specs.Notes.{Noticed, note_at, range_notes, table_notes}
+use Rattle.acpi_ranges.specs.Index.{Unknowns, entered_in, refusals_in}
 use Rattle.acpi_findings.specs.Findings.{problems_by, notes_by}
 use Rattle.acpi_survey.specs.Reading.{Reading}
 use Rattle.acpi_survey.specs.Predefined.{first_reading}
@@ -73,23 +72,23 @@ strict_has_no_problem depth kept last a ts l =
 
 -- ---- notes
 
-ranges_unnoted : (unknowns : Unknowns) (number : ℕ) (rs : List Range) → AreKept rs → flat_map (range_notes unknowns number) rs ≡ []
-ranges_unnoted unknowns number [] h = refl
-ranges_unnoted unknowns number (r ∷ rs) h =
-    ap (λ (ws : List NoteReason). map (λ why. note_parts number (offset_of r.from) why (Some r.scope)) ws ++ flat_map (range_notes unknowns number) rs)
-    (h.0.1 (unknowns (place_in number r.from)) r.behind_if)
-    ∙ ranges_unnoted unknowns number rs h.1
+ranges_unnoted : (unknowns : Unknowns) (code : List ℕ) (number : ℕ) (rs : List Range) → AreKept rs → flat_map (range_notes unknowns code number) rs ≡ []
+ranges_unnoted unknowns code number [] h = refl
+ranges_unnoted unknowns code number (r ∷ rs) h =
+    ap (λ (xs : List Noticed). map (note_at number r.scope) xs ++ flat_map (range_notes unknowns code number) rs)
+    (h.0.1 (unknowns (place_in number r.from)) code r.from r.behind_if)
+    ∙ ranges_unnoted unknowns code number rs h.1
 
 tables_unnoted : (entered : ℕ → Entered) (unknowns : Unknowns) (depth number : ℕ) (s last : Reading) (kept : List SurveyedTable) (iss : List ItemTrees)
     → AreTables depth number s kept last → AreTablesOf depth number (bytes_of kept) iss → AllZip AreItems iss (nodes_of_each kept) → notes_by entered unknowns number kept ≡ []
 tables_unnoted entered unknowns depth number s last [] iss a t h = refl
 tables_unnoted entered unknowns depth number s last (k ∷ kept) [] a t h = absurd t
 tables_unnoted entered unknowns depth number s last (k ∷ kept) (is ∷ iss) a t h =
-    let rest : List NoteParts = notes_by entered unknowns (number + 1) kept in
+    let rest : List Note = notes_by entered unknowns (number + 1) kept in
     let judged_is = strict_table_is_read depth number k.bytes is t.0 k.judged a.0.judged in
     ap (λ (j : TableContent). table_notes (entered number) unknowns number j (nodes_view k.nodes) ++ rest) judged_is
-    ∙ ap (λ (ns : List NoteParts). ns ++ rest)
-    (ranges_unnoted unknowns number (code_ranges (entered number) (length (code_of k.bytes)) (nodes_view k.nodes))
+    ∙ ap (λ (ns : List Note). ns ++ rest)
+    (ranges_unnoted unknowns (code_of k.bytes) number (code_ranges (entered number) (length (code_of k.bytes)) (nodes_view k.nodes))
     (items_kept is (nodes_view k.nodes) h.0 (entered number) 0 [] (length (code_of k.bytes)) false))
     ∙ ap (λ (n : ℕ). notes_by entered unknowns n kept) (add-one number)
     ∙ tables_unnoted entered unknowns depth (suc number) (behind_table (behind_nodes number s k)) last kept iss a.1 t.1 h.1

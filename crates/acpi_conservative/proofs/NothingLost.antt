@@ -1,10 +1,11 @@
 -- Nothing is lost in the nodes of strict items, and nothing noticed.
-use Rattle.std.proofs.Common.{◌≡◌, ◌∙◌, ℕ, suc, Bool, false, List, [], ◌∷◌, ◌++◌, inl, inr, ap, sym, subst, refl}
+use Rattle.std.proofs.Common.{◌≡◌, ◌∙◌, ℕ, suc, Bool, false, List, [], ◌∷◌, ◌++◌, length, drop, inl, inr, ap, sym, subst, refl}
 use Rattle.std.specs.List.{AllZip, AllByRecursion, flat_map}
 use Rattle.acpi_name.specs.Names.{NameParts}
 use Rattle.acpi_tree.specs.Tree.{DataTree, int, str, buffer, pkg, var_pkg, ElemTrees, no_elems, elem, of_data, of_name, ExternalParts, FieldTree}
 use Rattle.acpi_tree.specs.declared.tree.ScopeKind.TheVariants as kinds
 use Rattle.acpi_tree.specs.Tree.{ItemTree, name, scope, method, external, external_block, create, create_field, mutex, event, region, field, index_field, bank_field, ItemTrees, no_items, item}
+use Rattle.acpi_tree.specs.Terms as terms
 use Rattle.acpi_terms.specs.Spelling.{SpellsItems}
 use Rattle.acpi_declare.specs.Predefined.{predefined}
 use Rattle.acpi_conditions.specs.Entries.{Path}
@@ -15,7 +16,7 @@ use Rattle.acpi_conservative.specs.StrictNodes.{AreExternals, AreFieldsOf, IsIte
 use Rattle.acpi_conservative.proofs.StrictNodes.{strict_kept}
 use Rattle.acpi_ranges.specs.Ranges.{Part, of_node, Range, Entered, element_ranges, first_place, inner_ranges, is_if, ranges_of}
 use Rattle.acpi_findings.specs.Problems.{why_lost}
-use Rattle.acpi_findings.specs.Marks.{MarkTree, marks_in, marks_in_all}
+use Rattle.acpi_findings.specs.Marks.{PlacedMark, behind, behind_name, in_package, marks_in, marks_in_all}
 use Rattle.acpi_findings.specs.Notes.{mark_reasons, part_reasons}
 use Rattle.acpi_survey.specs.Reading.{Reading, survey_rules}
 use Rattle.acpi_survey.specs.Predefined.{first_reading}
@@ -26,9 +27,9 @@ use Rattle.acpi_conservative.specs.Laws.{StrictReadIsItems}
 use Rattle.acpi_conservative.proofs.First.{items_of}
 use Rattle.acpi_conservative.proofs.WholeTables.{strict_table_is_read}
 
--- nothing of a part is lost, and nothing of it is noticed, whatever names are unknown and whether an If stands before it
+-- nothing of a part is lost, and nothing of it is noticed, wherever it stands and whatever names are unknown
 abbrev IsPartKept : Part → Type 0
-IsPartKept p = (why_lost p ≡ []) × ((unknown : List NameParts) (behind_if : Bool) → part_reasons unknown behind_if p ≡ [])
+IsPartKept p = (why_lost p ≡ []) × ((unknown : List NameParts) (code : List ℕ) (place : ℕ) (behind_if : Bool) → part_reasons unknown code place behind_if p ≡ [])
 
 abbrev pub IsKept : Range → Type 0
 IsKept r = IsPartKept r.part
@@ -43,28 +44,30 @@ both_kept (r ∷ rs) us h k = (h.0, both_kept rs us h.1 k)
 -- ---- constants have no calls and no loads
 
 mutual
-  data_marks : (d : DataTree) → marks_in (data_term d) ≡ []
-  data_marks (int i) = refl
-  data_marks (str text) = refl
-  data_marks (buffer size content) = refl
-  data_marks (pkg count es) = elems_marks es
-  data_marks (var_pkg count es) = elems_marks es
+  data_marks : (end : ℕ) (d : DataTree) (bytes : List ℕ) → marks_in end (data_term d) bytes ≡ []
+  data_marks end (int i) bytes = refl
+  data_marks end (str text) bytes = refl
+  data_marks end (buffer size content) bytes = refl
+  data_marks end (pkg count es) bytes = elems_marks end es (drop 1 (in_package bytes))
+  data_marks end (var_pkg count es) bytes = elems_marks end es (behind (terms.int count) (in_package bytes))
 
-  elems_marks : (es : ElemTrees) → marks_in_all (elem_terms es) ≡ []
-  elems_marks no_elems = refl
-  elems_marks (elem (of_data d) es) = ap (λ (ms : List MarkTree). ms ++ marks_in_all (elem_terms es)) (data_marks d) ∙ elems_marks es
-  elems_marks (elem (of_name n) es) = elems_marks es
+  elems_marks : (end : ℕ) (es : ElemTrees) (bytes : List ℕ) → marks_in_all end (elem_terms es) bytes ≡ []
+  elems_marks end no_elems bytes = refl
+  elems_marks end (elem (of_data d) es) bytes =
+      let rest : List ℕ = behind (data_term d) bytes in
+      ap (λ (ms : List PlacedMark). ms ++ marks_in_all end (elem_terms es) rest) (data_marks end d bytes) ∙ elems_marks end es rest
+  elems_marks end (elem (of_name n) es) bytes = elems_marks end es (behind_name bytes)
 
 -- ---- in items
 
 externals_kept : (xs : List ExternalParts) (ns : NodeTrees) → AreExternals xs ns → (entered : Entered) (depth : ℕ) (s : Path) (end : ℕ) (b : Bool) → AreKept (ranges_of entered depth s end b ns)
 externals_kept [] ns h entered depth s end b = subst (λ (ns : NodeTrees). AreKept (ranges_of entered depth s end b ns)) (sym h) tt
 externals_kept (x ∷ xs) ms (place, ns, e, h) entered depth s end b =
-    subst (λ (ms : NodeTrees). AreKept (ranges_of entered depth s end b ms)) (sym e) ((refl, λ unknown b. refl), externals_kept xs ns h entered depth s end false)
+    subst (λ (ms : NodeTrees). AreKept (ranges_of entered depth s end b ms)) (sym e) ((refl, λ unknown code q b. refl), externals_kept xs ns h entered depth s end false)
 
 fields_kept : (es : List FieldTree) (us : FieldNodes) → AreFieldsOf es us → (depth : ℕ) (s : Path) (end : ℕ) (f : FixedTree) → AreKept (element_ranges depth s end f us)
 fields_kept [] us h depth s end f = subst (λ (us : FieldNodes). AreKept (element_ranges depth s end f us)) (sym h) tt
-fields_kept (e ∷ es) us (place, offset, rest, is, h) depth s end f = subst (λ (us : FieldNodes). AreKept (element_ranges depth s end f us)) (sym is) ((refl, λ unknown b. refl), fields_kept es rest h depth s end f)
+fields_kept (e ∷ es) us (place, offset, rest, is, h) depth s end f = subst (λ (us : FieldNodes). AreKept (element_ranges depth s end f us)) (sym is) ((refl, λ unknown code q b. refl), fields_kept es rest h depth s end f)
 
 -- neither the node nor anything in it
 abbrev IsNodeKept : Entered → (depth place : ℕ) → Path → ℕ → NodeTree → Type 0
@@ -72,29 +75,29 @@ IsNodeKept entered depth place s end m = IsPartKept (of_node m) × AreKept (inne
 
 mutual
   item_kept : (i : ItemTree) (m : NodeTree) → IsItem i m → (entered : Entered) (depth place : ℕ) (s : Path) (end : ℕ) → IsNodeKept entered depth place s end m
-  item_kept (name n d) m h entered depth place s end = subst (IsNodeKept entered depth place s end) (sym h) ((refl, λ unknown b. ap (λ (ms : List MarkTree). flat_map (mark_reasons unknown) (ms ++ [])) (data_marks d)), tt)
-  item_kept (scope kinds.Scope n is) m (inl (ms, e, h)) entered depth place s end = subst (IsNodeKept entered depth place s end) (sym e) ((refl, λ unknown b. refl), items_kept is ms h entered depth _ end false)
-  item_kept (scope kinds.Scope n is) m (inr (b, e, h)) entered depth place s end = subst (IsNodeKept entered depth place s end) (sym e) ((refl, λ unknown b. refl), tt)
-  item_kept (scope kinds.Device n is) m (inl (ms, e, h)) entered depth place s end = subst (IsNodeKept entered depth place s end) (sym e) ((refl, λ unknown b. refl), items_kept is ms h entered depth _ end false)
-  item_kept (scope kinds.Device n is) m (inr (b, e, h)) entered depth place s end = subst (IsNodeKept entered depth place s end) (sym e) ((refl, λ unknown b. refl), tt)
-  item_kept (scope (kinds.Processor id block len) n is) m (inl (ms, e, h)) entered depth place s end = subst (IsNodeKept entered depth place s end) (sym e) ((refl, λ unknown b. refl), items_kept is ms h entered depth _ end false)
-  item_kept (scope (kinds.Processor id block len) n is) m (inr (b, e, h)) entered depth place s end = subst (IsNodeKept entered depth place s end) (sym e) ((refl, λ unknown b. refl), tt)
-  item_kept (scope (kinds.Power deepest order) n is) m (inl (ms, e, h)) entered depth place s end = subst (IsNodeKept entered depth place s end) (sym e) ((refl, λ unknown b. refl), items_kept is ms h entered depth _ end false)
-  item_kept (scope (kinds.Power deepest order) n is) m (inr (b, e, h)) entered depth place s end = subst (IsNodeKept entered depth place s end) (sym e) ((refl, λ unknown b. refl), tt)
-  item_kept (scope kinds.Thermal n is) m (inl (ms, e, h)) entered depth place s end = subst (IsNodeKept entered depth place s end) (sym e) ((refl, λ unknown b. refl), items_kept is ms h entered depth _ end false)
-  item_kept (scope kinds.Thermal n is) m (inr (b, e, h)) entered depth place s end = subst (IsNodeKept entered depth place s end) (sym e) ((refl, λ unknown b. refl), tt)
-  item_kept (method n flags code) m h entered depth place s end = subst (IsNodeKept entered depth place s end) (sym h) ((refl, λ unknown b. refl), tt)
-  item_kept (external x) m h entered depth place s end = subst (IsNodeKept entered depth place s end) (sym h) ((refl, λ unknown b. refl), tt)
-  item_kept (external_block xs) m (inl (ms, e, h)) entered depth place s end = subst (IsNodeKept entered depth place s end) (sym e) ((refl, λ unknown b. refl), externals_kept xs ms h entered depth _ end false)
-  item_kept (external_block xs) m (inr (b, e, h)) entered depth place s end = subst (IsNodeKept entered depth place s end) (sym e) ((refl, λ unknown b. refl), tt)
-  item_kept (mutex n flags) m h entered depth place s end = subst (IsNodeKept entered depth place s end) (sym h) ((refl, λ unknown b. refl), tt)
-  item_kept (event n) m h entered depth place s end = subst (IsNodeKept entered depth place s end) (sym h) ((refl, λ unknown b. refl), tt)
-  item_kept (region n space offset len) m h entered depth place s end = subst (IsNodeKept entered depth place s end) (sym h) ((refl, λ unknown b. refl), tt)
-  item_kept (field n flags es) m (us, e, h) entered depth place s end = subst (IsNodeKept entered depth place s end) (sym e) ((refl, λ unknown b. refl), fields_kept es us h depth s end _)
-  item_kept (index_field i k flags es) m (us, e, h) entered depth place s end = subst (IsNodeKept entered depth place s end) (sym e) ((refl, λ unknown b. refl), fields_kept es us h depth s end _)
-  item_kept (bank_field n bank value flags es) m (us, e, h) entered depth place s end = subst (IsNodeKept entered depth place s end) (sym e) ((refl, λ unknown b. refl), fields_kept es us h depth s end _)
-  item_kept (create w source index n) m h entered depth place s end = subst (IsNodeKept entered depth place s end) (sym h) ((refl, λ unknown b. refl), tt)
-  item_kept (create_field source index bits n) m h entered depth place s end = subst (IsNodeKept entered depth place s end) (sym h) ((refl, λ unknown b. refl), tt)
+  item_kept (name n d) m h entered depth place s end = subst (IsNodeKept entered depth place s end) (sym h) ((refl, λ unknown code q b. ap (λ (ms : List PlacedMark). flat_map (mark_reasons unknown) (ms ++ [])) (data_marks (length code) d (behind_name (drop 1 (drop q code))))), tt)
+  item_kept (scope kinds.Scope n is) m (inl (ms, e, h)) entered depth place s end = subst (IsNodeKept entered depth place s end) (sym e) ((refl, λ unknown code q b. refl), items_kept is ms h entered depth _ end false)
+  item_kept (scope kinds.Scope n is) m (inr (b, e, h)) entered depth place s end = subst (IsNodeKept entered depth place s end) (sym e) ((refl, λ unknown code q b. refl), tt)
+  item_kept (scope kinds.Device n is) m (inl (ms, e, h)) entered depth place s end = subst (IsNodeKept entered depth place s end) (sym e) ((refl, λ unknown code q b. refl), items_kept is ms h entered depth _ end false)
+  item_kept (scope kinds.Device n is) m (inr (b, e, h)) entered depth place s end = subst (IsNodeKept entered depth place s end) (sym e) ((refl, λ unknown code q b. refl), tt)
+  item_kept (scope (kinds.Processor id block len) n is) m (inl (ms, e, h)) entered depth place s end = subst (IsNodeKept entered depth place s end) (sym e) ((refl, λ unknown code q b. refl), items_kept is ms h entered depth _ end false)
+  item_kept (scope (kinds.Processor id block len) n is) m (inr (b, e, h)) entered depth place s end = subst (IsNodeKept entered depth place s end) (sym e) ((refl, λ unknown code q b. refl), tt)
+  item_kept (scope (kinds.Power deepest order) n is) m (inl (ms, e, h)) entered depth place s end = subst (IsNodeKept entered depth place s end) (sym e) ((refl, λ unknown code q b. refl), items_kept is ms h entered depth _ end false)
+  item_kept (scope (kinds.Power deepest order) n is) m (inr (b, e, h)) entered depth place s end = subst (IsNodeKept entered depth place s end) (sym e) ((refl, λ unknown code q b. refl), tt)
+  item_kept (scope kinds.Thermal n is) m (inl (ms, e, h)) entered depth place s end = subst (IsNodeKept entered depth place s end) (sym e) ((refl, λ unknown code q b. refl), items_kept is ms h entered depth _ end false)
+  item_kept (scope kinds.Thermal n is) m (inr (b, e, h)) entered depth place s end = subst (IsNodeKept entered depth place s end) (sym e) ((refl, λ unknown code q b. refl), tt)
+  item_kept (method n flags code) m h entered depth place s end = subst (IsNodeKept entered depth place s end) (sym h) ((refl, λ unknown code q b. refl), tt)
+  item_kept (external x) m h entered depth place s end = subst (IsNodeKept entered depth place s end) (sym h) ((refl, λ unknown code q b. refl), tt)
+  item_kept (external_block xs) m (inl (ms, e, h)) entered depth place s end = subst (IsNodeKept entered depth place s end) (sym e) ((refl, λ unknown code q b. refl), externals_kept xs ms h entered depth _ end false)
+  item_kept (external_block xs) m (inr (b, e, h)) entered depth place s end = subst (IsNodeKept entered depth place s end) (sym e) ((refl, λ unknown code q b. refl), tt)
+  item_kept (mutex n flags) m h entered depth place s end = subst (IsNodeKept entered depth place s end) (sym h) ((refl, λ unknown code q b. refl), tt)
+  item_kept (event n) m h entered depth place s end = subst (IsNodeKept entered depth place s end) (sym h) ((refl, λ unknown code q b. refl), tt)
+  item_kept (region n space offset len) m h entered depth place s end = subst (IsNodeKept entered depth place s end) (sym h) ((refl, λ unknown code q b. refl), tt)
+  item_kept (field n flags es) m (us, e, h) entered depth place s end = subst (IsNodeKept entered depth place s end) (sym e) ((refl, λ unknown code q b. refl), fields_kept es us h depth s end _)
+  item_kept (index_field i k flags es) m (us, e, h) entered depth place s end = subst (IsNodeKept entered depth place s end) (sym e) ((refl, λ unknown code q b. refl), fields_kept es us h depth s end _)
+  item_kept (bank_field n bank value flags es) m (us, e, h) entered depth place s end = subst (IsNodeKept entered depth place s end) (sym e) ((refl, λ unknown code q b. refl), fields_kept es us h depth s end _)
+  item_kept (create w source index n) m h entered depth place s end = subst (IsNodeKept entered depth place s end) (sym h) ((refl, λ unknown code q b. refl), tt)
+  item_kept (create_field source index bits n) m h entered depth place s end = subst (IsNodeKept entered depth place s end) (sym h) ((refl, λ unknown code q b. refl), tt)
 
   pub items_kept : (is : ItemTrees) (ms : NodeTrees) → AreItems is ms → (entered : Entered) (depth : ℕ) (s : Path) (end : ℕ) (b : Bool) → AreKept (ranges_of entered depth s end b ms)
   items_kept no_items ms h entered depth s end b = subst (λ (ms : NodeTrees). AreKept (ranges_of entered depth s end b ms)) (sym h) tt

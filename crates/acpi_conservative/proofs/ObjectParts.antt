@@ -17,6 +17,7 @@ use Rattle.acpi_survey.specs.declared.machine_survey.SurveyedTable.{SurveyedTabl
 use Rattle.acpi_ranges.specs.Sites.{table_at, byte_at}
 use Rattle.acpi_ranges.specs.Lookup.{part_at}
 use Rattle.acpi_ranges.proofs.Searching.{part_is_searched}
+use Rattle.acpi_ranges.proofs.PartLookups.{part_within, in_table, at_byte}
 use Rattle.acpi_survey.specs.Reading.{Reading}
 use Rattle.acpi_survey.specs.Predefined.{first_reading}
 use Rattle.acpi_pieces.specs.Tables.{code_read}
@@ -24,10 +25,8 @@ use Rattle.acpi_survey.specs.Survey.{place_in, behind_table}
 use Rattle.acpi_survey.specs.Surveys.{AreTables, behind_nodes, bytes_of}
 use Rattle.acpi_conservative.specs.Parts.{DeclaredPart, declared, all_declared, IsDeclaredAt, StrictReadIsDeclared}
 use Rattle.acpi_conservative.proofs.WholeTables.{strict_table_is_read}
-use Rattle.acpi_conservative.proofs.PartLookups.{part_within}
 use Rattle.acpi_conservative.proofs.Steps.{both_zip, IsObjectAt, HaveEntries}
 use Rattle.acpi_conservative.proofs.FollowedTables.{part_of, AreFollowed, strict_tables_follow}
-use Rattle.acpi_conservative.proofs.Bodies.{in_table, at_byte}
 
 -- ---- one table
 

@@ -2,7 +2,6 @@
 use Rattle.std.proofs.Common.{◌≡◌, ℕ, suc, ◌-◌, ◌≤◌, ◌<◌, Bool, true, false, List, [], ◌∷◌, ◌++◌, length, refl, sym, ap, subst, ◌∙◌, append_assoc, arith, inl, inr}
 use Rattle.std.proofs.lemmas.List.{append-nil}
 use Rattle.acpi_name.specs.Names.{NameParts}
-use Rattle.acpi_name.specs.Spelling.{SpellsName}
 use Rattle.acpi_tree.specs.declared.tree.Int.TheVariants.{Zero}
 use Rattle.acpi_tree.specs.declared.place.Place.TheVariants.{Value}
 use Rattle.acpi_tree.specs.declared.place.NamedForm.TheVariants as named
@@ -22,14 +21,13 @@ use Rattle.acpi_terms.specs.Spelling.{data_grammar, SpellsArguments, SpellsExter
 use Rattle.acpi_terms.proofs.DataSpelling.{data_spelled, spelled_data}
 use Rattle.acpi_values.specs.Spelling.{Stands}
 use Rattle.acpi_outline.specs.declared.form.ContainerForm.TheVariants as containers
-use Rattle.acpi_outline.specs.declared.fault.LostFault.{LostFault}
 use Rattle.acpi_outline.specs.Nodes as nodes
-use Rattle.acpi_outline.specs.Nodes.{PlainTree, FixedTree, container, if_so, units, FieldNodes, no_more_fields, fields_lost, field_node, fields_with_reason, form_of, form_bytes, has_fields}
-use Rattle.acpi_outline.specs.Nodes.{NodeTree, plain, holds, holds_fields, closed, package_lost, data_lost, name_lost, NodeTrees, no_more, lost, node, with_reason, all_with_reason}
+use Rattle.acpi_outline.specs.Nodes.{FixedTree, if_so, units, FieldNodes, no_more_fields, field_node, form_of, form_bytes, has_fields}
+use Rattle.acpi_outline.specs.Nodes.{NodeTree, plain, holds, holds_fields, closed, NodeTrees, no_more, node}
 use Rattle.acpi_outline.specs.Rules.{Rules, grammar_at, goes_into, after}
 use Rattle.acpi_outline.specs.Outline.{IsPlain, IsFixed, bits_behind, AreFields, IsNode, AreNodes}
 use Rattle.acpi_conservative.specs.StrictNodes.{declares, AreExternals, AreFieldsOf, Holds, HoldsFields, kind_fixed, IsItem, AreItems, StrictIsKept}
-use Rattle.acpi_outline.proofs.One.{any_fault, at_most_one}
+use Rattle.acpi_outline.proofs.One.{at_most_one}
 
 -- ---- constant data is a value
 
@@ -225,155 +223,7 @@ module _ {S : Type 0} (r : Rules S) where
         let rest = items_nodes is left (after r place known m.0) end y hs (omega arith) in
         (node place m.0 rest.0, (x, y, left - 1, levels, refl, m.1, rest.1, whole), (place, m.0, rest.0, refl, m.2, rest.2))
 
--- ---- in items nothing is lost, so they are the same whatever is told of what is lost
-
-plain_told : (why : LostFault) (m : NodeTree) (p : PlainTree) → with_reason why m ≡ plain p → m ≡ plain p
-plain_told why (plain q) p e = e
-plain_told why (holds f ns) p e = absurd cc
-plain_told why (closed f content) p e = absurd cc
-plain_told why (holds_fields g us) p e = absurd cc
-plain_told why (package_lost form w) p e = absurd cc
-plain_told why (data_lost form w) p e = absurd cc
-plain_told why (name_lost n form w) p e = absurd cc
-
-closed_told : (why : LostFault) (m : NodeTree) (f : FixedTree) (content : List ℕ) → with_reason why m ≡ closed f content → m ≡ closed f content
-closed_told why (closed g other) f content e = e
-closed_told why (plain p) f content e = absurd cc
-closed_told why (holds g ns) f content e = absurd cc
-closed_told why (holds_fields g us) f content e = absurd cc
-closed_told why (package_lost form w) f content e = absurd cc
-closed_told why (data_lost form w) f content e = absurd cc
-closed_told why (name_lost n form w) f content e = absurd cc
-
--- a node that holds others, but for what is told of what is lost in them
-holds_told : (why : LostFault) (m : NodeTree) (f : FixedTree) (ns : NodeTrees) → with_reason why m ≡ holds f ns → (ms : NodeTrees) × (m ≡ holds f ms) × (all_with_reason why ms ≡ ns)
-holds_told why (holds g ms) f ns e = let same : g ≡ f = cc in (ms, ap (λ h. holds h ms) same, cc)
-holds_told why (plain p) f ns e = absurd cc
-holds_told why (closed g content) f ns e = absurd cc
-holds_told why (holds_fields g us) f ns e = absurd cc
-holds_told why (package_lost form w) f ns e = absurd cc
-holds_told why (data_lost form w) f ns e = absurd cc
-holds_told why (name_lost n form w) f ns e = absurd cc
-
-fields_held_told : (why : LostFault) (m : NodeTree) (f : FixedTree) (us : FieldNodes) → with_reason why m ≡ holds_fields f us → (vs : FieldNodes) × (m ≡ holds_fields f vs) × (fields_with_reason why vs ≡ us)
-fields_held_told why (holds_fields g vs) f us e = let same : g ≡ f = cc in (vs, ap (λ h. holds_fields h vs) same, cc)
-fields_held_told why (plain p) f us e = absurd cc
-fields_held_told why (holds g ms) f us e = absurd cc
-fields_held_told why (closed g content) f us e = absurd cc
-fields_held_told why (package_lost form w) f us e = absurd cc
-fields_held_told why (data_lost form w) f us e = absurd cc
-fields_held_told why (name_lost n form w) f us e = absurd cc
-
-no_fields_told : (why : LostFault) (us : FieldNodes) → fields_with_reason why us ≡ no_more_fields → us ≡ no_more_fields
-no_fields_told why no_more_fields e = refl
-no_fields_told why (fields_lost place w) e = absurd cc
-no_fields_told why (field_node place offset x us) e = absurd cc
-
-field_reason : (why : LostFault) (us : FieldNodes) (place offset : ℕ) (x : FieldTree) (rest : FieldNodes) → fields_with_reason why us ≡ field_node place offset x rest
-    → (vs : FieldNodes) × (us ≡ field_node place offset x vs) × (fields_with_reason why vs ≡ rest)
-field_reason why (field_node p o y vs) place offset x rest e =
-    let at : p ≡ place = cc in
-    let starts : o ≡ offset = cc in
-    let same : y ≡ x = cc in
-    (vs, ap (λ q. field_node q o y vs) at ∙ ap (λ q. field_node place q y vs) starts ∙ ap (λ z. field_node place offset z vs) same, cc)
-field_reason why no_more_fields place offset x rest e = absurd cc
-field_reason why (fields_lost p w) place offset x rest e = absurd cc
-
-fields_told : (why : LostFault) (es : List FieldTree) (us : FieldNodes) → AreFieldsOf es (fields_with_reason why us) → AreFieldsOf es us
-fields_told why [] us h = no_fields_told why us h
-fields_told why (x ∷ es) us (place, offset, rest, e, h) =
-    let t = field_reason why us place offset x rest e in
-    (place, offset, t.0, t.1, fields_told why es t.0 (subst (AreFieldsOf es) (sym t.2) h))
-
-fields_of_with_reason : (why : LostFault) (es : List FieldTree) (us : FieldNodes) → AreFieldsOf es us → AreFieldsOf es (fields_with_reason why us)
-fields_of_with_reason why [] us h = ap (fields_with_reason why) h
-fields_of_with_reason why (x ∷ es) us (place, offset, rest, e, h) = (place, offset, fields_with_reason why rest, ap (fields_with_reason why) e, fields_of_with_reason why es rest h)
-
-node_told : (why : LostFault) (ms : NodeTrees) (place : ℕ) (n : NodeTree) (ns : NodeTrees) → all_with_reason why ms ≡ node place n ns
-    → (m : NodeTree) × (rest : NodeTrees) × (ms ≡ node place m rest) × (with_reason why m ≡ n) × (all_with_reason why rest ≡ ns)
-node_told why (node p m rest) place n ns e = let same : p ≡ place = cc in (m, rest, ap (λ q. node q m rest) same, cc, cc)
-node_told why no_more place n ns e = absurd cc
-node_told why (lost p w) place n ns e = absurd cc
-
-none_told : (why : LostFault) (ms : NodeTrees) → all_with_reason why ms ≡ no_more → ms ≡ no_more
-none_told why no_more e = refl
-none_told why (lost place w) e = absurd cc
-none_told why (node place n ns) e = absurd cc
-
-externals_told : (why : LostFault) (xs : List ExternalParts) (ms : NodeTrees) → AreExternals xs (all_with_reason why ms) → AreExternals xs ms
-externals_told why [] ms h = none_told why ms h
-externals_told why (x ∷ xs) ms (place, ns, e, h) =
-    let t = node_told why ms place (plain (nodes.external x)) ns e in
-    (place, t.1, t.2 ∙ ap (λ n. node place n t.1) (plain_told why t.0 (nodes.external x) t.3), externals_told why xs t.1 (subst (AreExternals xs) (sym t.4) h))
-
-held_told : (why : LostFault) (f : FixedTree) (Are : NodeTrees → Type 0) (Fills : List ℕ → Type 0) (m : NodeTree) → ((ns : NodeTrees) → Are (all_with_reason why ns) → Are ns)
-    → Holds f Are Fills (with_reason why m) → Holds f Are Fills m
-held_told why f Are Fills m back (inl (ns, e, h)) = let t = holds_told why m f ns e in inl (t.0, t.1, back t.0 (subst Are (sym t.2) h))
-held_told why f Are Fills m back (inr (b, e, h)) = inr (b, closed_told why m f b e, h)
-
-held_fields_told : (why : LostFault) (f : FixedTree) (es : List FieldTree) (m : NodeTree) → HoldsFields f es (with_reason why m) → HoldsFields f es m
-held_fields_told why f es m (us, e, h) = let t = fields_held_told why m f us e in (t.0, t.1, fields_told why es t.0 (subst (AreFieldsOf es) (sym t.2) h))
-
-mutual
-  item_told : (why : LostFault) (i : ItemTree) (m : NodeTree) → IsItem i (with_reason why m) → IsItem i m
-  item_told why (name n d) m h = plain_told why m _ h
-  item_told why (scope kind n is) m h = held_told why (kind_fixed kind n) (λ ns. AreItems is ns) (λ b. SpellsItems is b) m (λ ns k. items_told why is ns k) h
-  item_told why (method n flags code) m h = closed_told why m (nodes.method n flags) code h
-  item_told why (external x) m h = plain_told why m _ h
-  item_told why (external_block xs) m h = held_told why (if_so (terms.int Zero)) (λ ns. AreExternals xs ns) (λ b. SpellsEach SpellsExternal xs b) m (λ ns k. externals_told why xs ns k) h
-  item_told why (mutex n flags) m h = plain_told why m _ h
-  item_told why (event n) m h = plain_told why m _ h
-  item_told why (region n space offset len) m h = plain_told why m _ h
-  item_told why (field n flags es) m h = held_fields_told why (units fields.Field (n ∷ []) (more (terms.raw 1 flags) no_terms)) es m h
-  item_told why (index_field i k flags es) m h = held_fields_told why (units fields.IndexField (i ∷ k ∷ []) (more (terms.raw 1 flags) no_terms)) es m h
-  item_told why (bank_field n bank value flags es) m h =
-      held_fields_told why (units fields.BankField (n ∷ bank ∷ []) (more (terms.int value) (more (terms.raw 1 flags) no_terms))) es m h
-  item_told why (create w source index n) m h = plain_told why m _ h
-  item_told why (create_field source index bits n) m h = plain_told why m _ h
-
-  items_told : (why : LostFault) (is : ItemTrees) (ms : NodeTrees) → AreItems is (all_with_reason why ms) → AreItems is ms
-  items_told why no_items ms h = none_told why ms h
-  items_told why (item i is) ms (place, n, ns, e, hi, hs) =
-      let t = node_told why ms place n ns e in
-      (place, t.0, t.1, t.2, item_told why i t.0 (subst (IsItem i) (sym t.3) hi), items_told why is t.1 (subst (AreItems is) (sym t.4) hs))
-
-externals_with_reason : (why : LostFault) (xs : List ExternalParts) (ms : NodeTrees) → AreExternals xs ms → AreExternals xs (all_with_reason why ms)
-externals_with_reason why [] ms h = ap (all_with_reason why) h
-externals_with_reason why (x ∷ xs) ms (place, ns, e, h) = (place, all_with_reason why ns, ap (all_with_reason why) e, externals_with_reason why xs ns h)
-
-held_with_reason : (why : LostFault) (f : FixedTree) (Are : NodeTrees → Type 0) (Fills : List ℕ → Type 0) (m : NodeTree) → ((ns : NodeTrees) → Are ns → Are (all_with_reason why ns))
-    → Holds f Are Fills m → Holds f Are Fills (with_reason why m)
-held_with_reason why f Are Fills m forth (inl (ns, e, h)) = inl (all_with_reason why ns, ap (with_reason why) e, forth ns h)
-held_with_reason why f Are Fills m forth (inr (b, e, h)) = inr (b, ap (with_reason why) e, h)
-
-held_fields_with_reason : (why : LostFault) (f : FixedTree) (es : List FieldTree) (m : NodeTree) → HoldsFields f es m → HoldsFields f es (with_reason why m)
-held_fields_with_reason why f es m (us, e, h) = (fields_with_reason why us, ap (with_reason why) e, fields_of_with_reason why es us h)
-
-mutual
-  item_with_reason : (why : LostFault) (i : ItemTree) (m : NodeTree) → IsItem i m → IsItem i (with_reason why m)
-  item_with_reason why (name n d) m h = ap (with_reason why) h
-  item_with_reason why (scope kind n is) m h = held_with_reason why (kind_fixed kind n) (λ ns. AreItems is ns) (λ b. SpellsItems is b) m (λ ns k. items_with_reason why is ns k) h
-  item_with_reason why (method n flags code) m h = ap (with_reason why) h
-  item_with_reason why (external x) m h = ap (with_reason why) h
-  item_with_reason why (external_block xs) m h =
-      held_with_reason why (if_so (terms.int Zero)) (λ ns. AreExternals xs ns) (λ b. SpellsEach SpellsExternal xs b) m (λ ns k. externals_with_reason why xs ns k) h
-  item_with_reason why (mutex n flags) m h = ap (with_reason why) h
-  item_with_reason why (event n) m h = ap (with_reason why) h
-  item_with_reason why (region n space offset len) m h = ap (with_reason why) h
-  item_with_reason why (field n flags es) m h = held_fields_with_reason why (units fields.Field (n ∷ []) (more (terms.raw 1 flags) no_terms)) es m h
-  item_with_reason why (index_field i k flags es) m h = held_fields_with_reason why (units fields.IndexField (i ∷ k ∷ []) (more (terms.raw 1 flags) no_terms)) es m h
-  item_with_reason why (bank_field n bank value flags es) m h =
-      held_fields_with_reason why (units fields.BankField (n ∷ bank ∷ []) (more (terms.int value) (more (terms.raw 1 flags) no_terms))) es m h
-  item_with_reason why (create w source index n) m h = ap (with_reason why) h
-  item_with_reason why (create_field source index bits n) m h = ap (with_reason why) h
-
-  items_with_reason : (why : LostFault) (is : ItemTrees) (ms : NodeTrees) → AreItems is ms → AreItems is (all_with_reason why ms)
-  items_with_reason why no_items ms h = ap (all_with_reason why) h
-  items_with_reason why (item i is) ms (place, n, ns, e, hi, hs) =
-      (place, with_reason why n, all_with_reason why ns, ap (all_with_reason why) e, item_with_reason why i n hi, items_with_reason why is ns hs)
-
 pub strict_kept : {S : Type 0} (r : Rules S) → StrictIsKept r
 strict_kept r known depth code is ns h le outline =
     let ms = items_nodes r is depth known (length code) code h le in
-    let same = at_most_one r known depth code ms.0 ns any_fault ms.1 outline in
-    items_told any_fault is ns (subst (AreItems is) same (items_with_reason any_fault is ms.0 ms.2))
+    subst (AreItems is) (at_most_one r known depth code ms.0 ns ms.1 outline) ms.2

@@ -30,7 +30,7 @@ use Rattle.acpi_conditions.specs.Walk.{Walk, pass, enter_first}
 use Rattle.acpi_needs.specs.Needs.{names_in, names_in_all, names_in_elements, names_before}
 use Rattle.acpi_survey.specs.Nodes as read
 use Rattle.acpi_survey.specs.Nodes.{term_at, operands_of, fields_at, Listed, no_else, listed_node, listed, if_before}
-use Rattle.acpi_survey.specs.Reading.{Reading, survey_rules, enter, passing, after_field}
+use Rattle.acpi_survey.specs.Reading.{Reading, survey_rules, enter, begin_fields, after_field}
 use Rattle.acpi_conservative.specs.Strict.{term_of, node_of, steps_nodes, item_nodes, items_nodes, nodes_of}
 use Rattle.acpi_conservative.proofs.Places.{without_places}
 use Rattle.acpi_conservative.proofs.GoingOn.{GoesOn, two_go_on, stays, branch_stays, term_goes_on, scope_goes_on, closed_scope, container_goes_on, closed_container}
@@ -316,10 +316,10 @@ fields_node base place i form ns vs none units_form flags links es us h of_field
   whole = fields_at base vs us;
   of_item = λ rest. fields_without base vs none units_form flags links rest es us h 0 ∙ sym (of_fields (without_places rest));
   listed_as = λ l e. refl;
-  same_base = λ s. fields_base (units form ns vs) us (passing s);
+  same_base = λ s. fields_base (units form ns vs) us (begin_fields s place (units form ns vs));
   goes_on = λ level end s bytes e is_node.
-      two_go_on s (passing s) (after survey_rules place s (holds_fields (units form ns vs) us)) (λ rest. rest) (fields_at base vs us) (λ rest. rest) (fields_at base vs us)
-      (stays s (passing s) refl refl) (fields_go_on (units form ns vs) us base (passing s) e);
+      two_go_on s (begin_fields s place (units form ns vs)) (after survey_rules place s (holds_fields (units form ns vs) us)) (λ rest. rest) (fields_at base vs us) (λ rest. rest) (fields_at base vs us)
+      (stays s (begin_fields s place (units form ns vs)) refl refl) (fields_go_on (units form ns vs) us base (begin_fields s place (units form ns vs)) e);
 }
 
 -- ---- all items

@@ -40,7 +40,7 @@ use Rattle.acpi_entries.specs.declared.body.MethodBody.{MethodBody}
 use Rattle.acpi_survey.specs.Bodies.{entry_count}
 use Rattle.acpi_entries.specs.EntryBodies.{IsBodyOf}
 use Rattle.acpi_findings.specs.Findings.{problems_in, notes_by}
-use Rattle.acpi_findings.specs.Notes.{Unknowns}
+use Rattle.acpi_ranges.specs.Index.{Unknowns}
 use Rattle.acpi_pieces.specs.Pieces.{ArePieces}
 use Rattle.acpi_ranges.specs.Ranges.{Entered}
 use Rattle.acpi_survey.specs.Surveys.{AreTables, bytes_of}

@@ -20,8 +20,9 @@ use Rattle.acpi_entries.specs.declared.body.BodyReading.{BodyReading}
 use Rattle.acpi_entries.specs.declared.body.BodyReading.TheVariants.{Terms, Opaque}
 use Rattle.acpi_entries.specs.declared.body.MethodBody.{MethodBody}
 
--- The code of a method at a path is read as its terms; or it is opaque, and has no reading, for a reason that is true
--- of it. Where that is that it isn't sure how many values follow a name, the name is told that stands there.
+-- The code of a method at a path is read as its terms; or it is opaque, and has no reading, for the reason and at the
+-- place at which reading stops. Where that is that it isn't sure how many values follow a name, the name is told that
+-- stands there.
 abbrev pub IsBodyReading : Arguments → Path → (depth : ℕ) → (code : List ℕ) → BodyReading → Type 0
 IsBodyReading counts p depth code (Terms v) =
     (ts : TermTrees) → (terms_tree v.items ≡ ts) ↔ ReadsBody counts p depth code ts

@@ -2,4 +2,5 @@ pub mod Condition
 pub mod ConditionViews
 pub mod EntryLinks
 pub mod EntryBodies
+pub mod Laws
 pub mod steps

@@ -10,6 +10,7 @@
 
 mod body;
 mod condition;
+pub mod laws;
 mod links;
 mod locals;
 mod method_bodies;

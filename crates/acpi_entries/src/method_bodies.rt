@@ -36,7 +36,7 @@ pub(crate) fn terms_of(
     // Terms are the reading of the body.
     ensures read { IfOk result (λ v. (ts : TermTrees) → (terms_tree v.items ≡ ts)
         ↔ ReadsBody (method_count methods.now entry.now) entry.now.path depth body.now ts) }
-    // What a fault says is true of the body ..
+    // A fault is the one at which reading the body stops ..
     ensures faults { IfErr result (λ e. IfFault e (λ f.
         ShowsBody (method_count methods.now entry.now) entry.now.path depth body.now
         f.reason f.place)) }

@@ -2,3 +2,8 @@ pub mod Finding
 pub mod Refusals
 pub mod Standing
 pub mod Telling
+pub mod MarksStand
+pub mod NodeMarks
+pub mod Rising
+pub mod NotesOrder
+pub mod ProblemsOrder

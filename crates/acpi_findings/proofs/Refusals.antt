@@ -1,10 +1,9 @@
 -- Each refusal of what is read of tables stands at a place of its own, and at that of a range.
-use Rattle.std.proofs.Common.{◌≡◌, ◌==◌, ◌+◌, ◌⊎◌, ℕ, suc, Bool, true, false, cond, List, [], ◌∷◌, ◌++◌, map, flat_map, Option, Some, None, Result, Ok, Err, inl, inr, refl, sym, ap, subst, ◌∙◌, arith}
+use Rattle.std.proofs.Common.{◌≡◌, ◌==◌, ◌⊎◌, ℕ, Bool, true, false, cond, List, [], ◌∷◌, ◌++◌, map, flat_map, Option, Some, Result, Ok, Err, inl, inr, refl, sym, ap, subst, ◌∙◌, arith}
 use Rattle.std.proofs.lemmas.Bool.Decides.{nat_tests}
 use Rattle.std.proofs.lemmas.List.{map-append}
-use Rattle.acpi_name.specs.Names.{NameParts}
 use Rattle.acpi_space.specs.Laws.{Among}
-use Rattle.acpi_conditions.specs.Nodes.{Place, Term, Stop, Nodes, no_nodes, declares, opens, branch, loop, stop, places}
+use Rattle.acpi_conditions.specs.Nodes.{Term, Nodes, no_nodes, declares, opens, branch, loop, stop, places}
 use Rattle.acpi_conditions.specs.Entries.{Path, then_branch, else_branch, in_round, Why, Refusal}
 use Rattle.acpi_conditions.specs.Known.{Known, declared_at, opened_at}
 use Rattle.acpi_conditions.specs.Survey.{Around, Survey, turning, behind, passing, declaring_as, opening_as, known_in_loop, left_loop, stopping, inside_of, entry_at, known_inside, inside_scope, known_in_scope, behind_table, table_survey, at_root, survey, surveys, all_refused}

@@ -1,5 +1,5 @@
 -- Each place of what the nodes of a code do is the first of one of the code's ranges.
-use Rattle.std.proofs.Common.{◌≡◌, ◌+◌, ◌⊎◌, ℕ, suc, Bool, false, List, [], ◌∷◌, ◌++◌, inl, inr, refl, sym, ap, ◌∙◌}
+use Rattle.std.proofs.Common.{◌≡◌, ◌+◌, ◌⊎◌, ℕ, suc, Bool, false, List, [], ◌∷◌, ◌++◌, inl, inr, refl, ap, ◌∙◌}
 use Rattle.acpi_space.specs.Laws.{Among}
 use Rattle.acpi_space.proofs.Elements.{among_left, among_right, among_append}
 use Rattle.acpi_tree.specs.declared.op.Op.{Op}

@@ -1,11 +1,10 @@
 -- Each refusal of what is read of tables is told as a problem, and no other is.
-use Rattle.std.proofs.Common.{◌≡◌, ◌==◌, ◌+◌, ◌*◌, ◌^◌, ◌⊎◌, ℕ, suc, Bool, true, false, true≢false, cond, nat_lt, List, [], ◌∷◌, ◌++◌, map, flat_map, Option, Some, None, option_to_list, length, ◌-◌, inl, inr, refl, sym, ap, subst, ◌∙◌, add-one, arith}
+use Rattle.std.proofs.Common.{◌≡◌, ◌==◌, ◌+◌, ◌⊎◌, ℕ, suc, Bool, true, false, true≢false, cond, nat_lt, List, [], ◌∷◌, ◌++◌, map, flat_map, Option, Some, None, option_to_list, length, ◌-◌, inl, inr, refl, sym, ap, subst, ◌∙◌, add-one, arith}
 use Rattle.std.proofs.lemmas.Bool.Decides.{nat_tests}
 use Rattle.acpi_space.specs.Laws.{Among}
 use Rattle.acpi_space.proofs.Elements.{among_left, among_right, among_append}
 use Rattle.acpi_outline.specs.Nodes.{NodeTrees}
 use Rattle.acpi_outline.specs.View.{nodes_view}
-use Rattle.acpi_outline.specs.declared.fault.LostFault.{LostFault}
 use Rattle.acpi_conditions.specs.Entries.{Why, Refusal}
 use Rattle.acpi_conditions.specs.Nodes.{places}
 use Rattle.acpi_conditions.specs.Survey.{surveys, all_refused}
@@ -15,17 +14,15 @@ use Rattle.acpi_conditions.proofs.Basics.{among_flat}
 use Rattle.acpi_ranges.specs.Places.{last_or, last_at}
 use Rattle.acpi_survey.specs.Nodes.{nodes_of}
 use Rattle.acpi_ranges.specs.Ranges.{Range}
-use Rattle.acpi_findings.specs.Problems.{ReasonParts, unread, cut, trailing, unreadable, refused, ProblemParts, refused_problem, lost_problem, refused_in, lost_in, why_lost, range_problems, table_ranges, table_problem, front_problems, trailing_problems, table_problems}
-use Rattle.acpi_ranges.specs.Index.{Refusals}
-use Rattle.acpi_ranges.specs.Sites.{site_at}
+use Rattle.acpi_findings.specs.Problems.{ReasonParts, unread, cut, trailing, refused, ProblemParts, refused_problem, lost_problem, refused_in, lost_in, why_lost, range_problems, table_ranges, table_problem, front_problems, trailing_problems, table_problems}
 use Rattle.acpi_ranges.specs.LostRanges.{bytes_from}
 use Rattle.acpi_survey.specs.Reading.{Reading}
 use Rattle.acpi_survey.specs.Predefined.{Predefined, with_object, with_objects, first_reading, predefined_root, predefined_scopes, predefined_objects, nothing_read}
 use Rattle.acpi_survey.specs.Survey.{place_in, all_nodes}
 use Rattle.acpi_pieces.specs.Tables.{code_read}
-use Rattle.acpi_survey.specs.Surveys.{AreTables, bytes_of, nodes_of_each}
-use Rattle.acpi_ranges.specs.Index.{refused_pairs, entered_in, refusals_in}
-use Rattle.acpi_findings.specs.Findings.{problems_by, problems_in, TellsRefusal, EachRefusalIsTold, OnlyRefusalsAreTold}
+use Rattle.acpi_survey.specs.Surveys.{bytes_of, nodes_of_each}
+use Rattle.acpi_ranges.specs.Index.{entered_in, refusals_in}
+use Rattle.acpi_findings.specs.Findings.{problems_by, TellsRefusal, EachRefusalIsTold, OnlyRefusalsAreTold}
 use Rattle.acpi_pieces.specs.declared.tables.TableContent.{TableContent}
 use Rattle.acpi_pieces.specs.declared.tables.TableContent.TheVariants as judged
 use Rattle.acpi_survey.specs.declared.machine_survey.SurveyedTable.{SurveyedTable}

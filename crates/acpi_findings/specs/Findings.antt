@@ -1,14 +1,14 @@
 -- What is lost, refused and noticed in tables that were read one after another (ACPI 6.5, 5.2.6, 5.3 and 20.2.5).
-use Rattle.std.specs.Prelude.{◌≡◌, ◌+◌, ℕ, List, [], ◌∷◌, ◌++◌, map}
+use Rattle.std.specs.Prelude.{◌≡◌, ◌+◌, ℕ, List, [], ◌∷◌, ◌++◌}
 use Rattle.acpi_space.specs.Laws.{Among}
 use Rattle.acpi_outline.specs.View.{nodes_view}
-use Rattle.acpi_conditions.specs.Entries.{Path, Why, Refusal}
-use Rattle.acpi_ranges.specs.Places.{last_at}
+use Rattle.acpi_conditions.specs.Entries.{Why, Refusal}
 use Rattle.acpi_ranges.specs.Ranges.{Entered}
 use Rattle.acpi_findings.specs.Problems.{ProblemParts, refused, table_problems}
-use Rattle.acpi_ranges.specs.Index.{Refusals, entered_in, refusals_in}
+use Rattle.acpi_ranges.specs.Index.{Refusals, Unknowns, entered_in, refusals_in, unknowns_in}
 use Rattle.acpi_ranges.specs.Sites.{site_at}
-use Rattle.acpi_findings.specs.Notes.{NoteParts, Unknowns, table_notes}
+use Rattle.acpi_findings.specs.Notes.{table_notes}
+use Rattle.acpi_findings.specs.declared.notes.Note.{Note}
 use Rattle.acpi_survey.specs.Reading.{Reading}
 use Rattle.acpi_survey.specs.Predefined.{first_reading}
 use Rattle.acpi_survey.specs.Survey.{place_in}
@@ -23,7 +23,7 @@ problems_by entered refusals number (t ∷ ts) =
     table_problems (entered number) refusals number t.bytes t.judged (nodes_view t.nodes)
     ++ problems_by entered refusals (number + 1) ts
 
-abbrev pub notes_by : (ℕ → Entered) → Unknowns → (number : ℕ) → List SurveyedTable → List NoteParts
+abbrev pub notes_by : (ℕ → Entered) → Unknowns → (number : ℕ) → List SurveyedTable → List Note
 notes_by entered unknowns number [] = []
 notes_by entered unknowns number (t ∷ ts) = table_notes (entered number) unknowns number t.judged
     (nodes_view t.nodes) ++ notes_by entered unknowns (number + 1) ts
@@ -32,6 +32,9 @@ notes_by entered unknowns number (t ∷ ts) = table_notes (entered number) unkno
 
 abbrev pub problems_in : Reading → List SurveyedTable → List ProblemParts
 problems_in s ts = problems_by (entered_in s) (refusals_in s) 0 ts
+
+abbrev pub notes_in : Reading → List SurveyedTable → List Note
+notes_in s ts = notes_by (entered_in s) (unknowns_in s) 0 ts
 
 -- ---- laws
 

@@ -1,9 +1,6 @@
 -- Problems as the code keeps them.
-use Rattle.std.specs.Prelude.{ℕ, Option}
-use Rattle.std.specs.Option.{option_map}
 use Rattle.acpi_conditions.specs.EntryForms.{why_of}
 use Rattle.acpi_findings.specs.Problems.{ReasonParts, unread, cut, trailing, unreadable, refused, ProblemParts}
-use Rattle.acpi_ranges.specs.Index.{Refusals}
 use Rattle.acpi_findings.specs.declared.problems.Problem.{Problem}
 use Rattle.acpi_findings.specs.declared.problems.ProblemReason.{ProblemReason}
 use Rattle.acpi_findings.specs.declared.problems.ProblemReason.TheVariants.{Unread, Cut, Trailing, Lost, Refused}

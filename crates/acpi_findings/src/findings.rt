@@ -3,11 +3,9 @@
 ghost use Rattle.std.specs.Prelude.{◌≡◌, ◌++◌, map, IfOk, OnOk};
 ghost use Rattle.acpi_outline.specs.View.{nodes_view};
 ghost use Rattle.acpi_findings.specs.Problems.{table_problems};
-ghost use Rattle.acpi_findings.specs.Notes.{Unknowns, table_notes};
-ghost use Rattle.acpi_findings.specs.NoteViews.{note_view};
+ghost use Rattle.acpi_findings.specs.Notes.{table_notes};
 ghost use Rattle.acpi_findings.specs.ProblemViews.{problem_view};
-ghost use Rattle.acpi_ranges.specs.Index.{entered_in};
-ghost use Rattle.acpi_findings.specs.Findings.{notes_by, problems_by, problems_in};
+ghost use Rattle.acpi_findings.specs.Findings.{notes_by, notes_in, problems_by, problems_in};
 ghost use Rattle.acpi_ranges.specs.steps.Indexes.{index_entered, index_refusals, index_unknowns};
 
 use crate::notes::{Note, put_notes};
@@ -50,8 +48,7 @@ impl Findings {
             ≡ map problem_view self.old.problems.items
             ++ table_problems (index_entered index.now number) (index_refusals index.now)
             number table.now.bytes table.now.judged (nodes_view table.now.nodes)) }
-        ensures notes { OnOk result (map note_view self.new.notes.items
-            ≡ map note_view self.old.notes.items
+        ensures notes { OnOk result (self.new.notes.items ≡ self.old.notes.items
             ++ table_notes (index_entered index.now number) (index_unknowns index.now) number
             table.now.judged (nodes_view table.now.nodes)) }
     {
@@ -75,7 +72,7 @@ fn found_by<'a>(
 ) -> Result<Findings, AllocError>
     ensures problems { IfOk result (λ f. map problem_view f.problems.items
         ≡ problems_by (index_entered index.now) (index_refusals index.now) 0 tables.now) }
-    ensures notes { IfOk result (λ f. map note_view f.notes.items
+    ensures notes { IfOk result (λ f. f.notes.items
         ≡ notes_by (index_entered index.now) (index_unknowns index.now) 0 tables.now) }
 {
     let mut found = Findings {
@@ -93,9 +90,9 @@ pub fn found_in(alloc: Global, survey: &Survey) -> Result<Findings, AllocError>
     // What is lost or refused in them is told.
     ensures problems { IfOk result (λ f. map problem_view f.problems.items
         ≡ problems_in survey.now.reading survey.now.tables.items) }
-    // What is noticed in them is told, by names of which nothing is known.
-    ensures notes { IfOk result (λ f. (unknowns : Unknowns) × (map note_view f.notes.items
-        ≡ notes_by (entered_in survey.now.reading) unknowns 0 survey.now.tables.items)) }
+    // What is noticed in them is told.
+    ensures notes { IfOk result (λ f. f.notes.items
+        ≡ notes_in survey.now.reading survey.now.tables.items) }
 {
     let index = index_of(survey)?;
     found_by(alloc, &survey.tables, &index)

@@ -1,30 +1,28 @@
 //! What is noticed of a table that loses nothing.
 
-ghost use Rattle.std.specs.Prelude.{◌≡◌, ◌++◌, ◌∷◌, [], map, IfSome, OnOk, Some, None};
-ghost use Rattle.std.specs.Option.{option_to_list};
+ghost use Rattle.std.specs.Prelude.{◌≡◌, ◌++◌, ◌∷◌, [], drop, length, Some, None, IfSome, OnOk};
 ghost use Rattle.std.specs.List.{flat_map};
 ghost use Rattle.acpi_tree.specs.TermView.{term_view};
 ghost use Rattle.acpi_outline.specs.Outline.{is_stray};
 ghost use Rattle.acpi_outline.specs.View.{fixed_view, node_view, nodes_view, plain_view};
 ghost use Rattle.acpi_findings.specs.Marks.{called};
 ghost use Rattle.acpi_needs.specs.Needs.{is_among};
-ghost use Rattle.acpi_findings.specs.Notes.{else_reasons, fixed_reasons, is_else, mark_reasons, misplaced, node_reasons, note_parts, offset_told, own_reasons, part_reasons, plain_reasons, range_notes, table_notes, whole_notes};
-ghost use Rattle.acpi_findings.specs.NoteViews.{note_view};
-ghost use Rattle.acpi_ranges.specs.Sites.{offset_of};
+ghost use Rattle.acpi_findings.specs.Notes.{all_mark_reasons, else_reasons, fixed_reasons, is_else, mark_reasons, misplaced, node_reasons, note_at, part_reasons, plain_reasons, range_notes, stray_reasons, table_notes, whole_note, whole_notes};
+ghost use Rattle.acpi_pieces.specs.Tables.{code_read};
 ghost use Rattle.acpi_findings.specs.Problems.{table_ranges};
 ghost use Rattle.acpi_ranges.specs.SpanViews.{part_of, range_of, scope_of};
 ghost use Rattle.acpi_survey.specs.Survey.{place_in};
-ghost use Rattle.acpi_findings.specs.steps.MarkViews.{mark_view};
+ghost use Rattle.acpi_findings.specs.steps.MarkViews.{mark_view, mark_views};
 ghost use Rattle.acpi_findings.specs.steps.NoteSiteViews.{notes_at};
 ghost use Rattle.acpi_findings.specs.steps.ReadTables.{entered_at, unknowns_of};
 
-use crate::marks::{CalledName, CalledNames, code_at};
+use crate::marks::{CalledName, marks_of_fixed, marks_of_plain};
 use crate::problems::{ReadTable, scope_copy};
 use acpi_name::{Name, Path};
 use acpi_needs::is_among;
 use acpi_outline::{Fixed, Node, Plain};
 use acpi_pieces::TableContent;
-use acpi_ranges::{ScopedSpan, Site, SpanContent, site_at};
+use acpi_ranges::{ScopedSpan, Site, SpanContent, bytes_behind, site_at};
 use acpi_tree::Term;
 use std::alloc::{AllocError, Global};
 
@@ -61,7 +59,7 @@ pub struct Note {
 // ---- the table as a whole
 
 fn of_table(number: usize, reason: NoteReason) -> Note
-    ensures { note_view result ≡ note_parts number 0 reason None }
+    ensures { result ≡ whole_note number reason }
 {
     Note {
         site: Site {
@@ -84,7 +82,7 @@ fn place_reason(number: usize) -> NoteReason
 }
 
 fn put_whole(found: &mut Vec<Note>, table: &ReadTable<'_, '_>) -> Result<(), AllocError>
-    ensures { OnOk result (map note_view found.new.items ≡ map note_view found.old.items
+    ensures { OnOk result (found.new.items ≡ found.old.items
         ++ whole_notes table.now.number table.now.judged.now) }
 {
     if let TableContent::Read {
@@ -119,11 +117,12 @@ fn is_stray(term: &Term) -> bool
     }
 }
 
-// The node in which notes are made: the number of its table, its place in the code, the names in it of which nothing is
-// known, and the scope around.
+// The node in which notes are made: the number of its table, the table's code, its place there, the names in it of which
+// nothing is known, and the scope around.
 #[derive(Clone, Copy)]
 struct NoteSite<'a> {
     number: usize,
+    code: &'a [u8],
     place: usize,
     unknown: &'a [Name],
     around: Option<&'a Path>,
@@ -138,9 +137,8 @@ impl<'a> NoteSite<'a> {
         place: usize,
         reason: NoteReason,
     ) -> Result<(), AllocError>
-        ensures { OnOk result (map note_view found.new.items ≡ map note_view found.old.items
-            ++ note_parts self.entry.number (offset_of place) reason
-            (Some (scope_of self.entry.around)) ∷ []) }
+        ensures { OnOk result (found.new.items ≡ found.old.items
+            ++ note_at self.entry.number (scope_of self.entry.around) (place, reason) ∷ []) }
     {
         found.push(Note {
             site: site_at(self.number, place),
@@ -158,8 +156,8 @@ impl<'a> NoteSite<'a> {
         place: usize,
         name: &Name,
     ) -> Result<(), AllocError>
-        ensures { OnOk result (map note_view found.new.items ≡ map note_view found.old.items
-            ++ notes_at self.entry (mark_reasons self.entry.unknown.now (called name.now))) }
+        ensures { OnOk result (found.new.items ≡ found.old.items
+            ++ notes_at self.entry (mark_reasons self.entry.unknown.now (place, called name.now))) }
     {
         if is_among(self.unknown, name) {
             self.put(alloc, found, place, NoteReason::Unknown(name.copy()?))?;
@@ -174,7 +172,7 @@ impl<'a> NoteSite<'a> {
         found: &mut Vec<Note>,
         mark: &CalledName<'_>,
     ) -> Result<(), AllocError>
-        ensures { OnOk result (map note_view found.new.items ≡ map note_view found.old.items
+        ensures { OnOk result (found.new.items ≡ found.old.items
             ++ notes_at self.entry (mark_reasons self.entry.unknown.now (mark_view mark.now))) }
     {
         match mark.name {
@@ -190,9 +188,9 @@ impl<'a> NoteSite<'a> {
         found: &mut Vec<Note>,
         marks: &[CalledName<'_>],
     ) -> Result<(), AllocError>
-        ensures { OnOk result (map note_view found.new.items ≡ map note_view found.old.items
+        ensures { OnOk result (found.new.items ≡ found.old.items
             ++ notes_at self.entry
-            (flat_map (mark_reasons self.entry.unknown.now) (map mark_view marks.now))) }
+            (all_mark_reasons self.entry.unknown.now (mark_views marks.now))) }
     {
         'each: for mark in marks {
             self.put_mark(alloc, found, mark)?;
@@ -200,10 +198,15 @@ impl<'a> NoteSite<'a> {
         Ok(())
     }
 
-    // Puts the notes of a plain node, but for calls and loads.
-    fn put_own(self, alloc: Global, found: &mut Vec<Note>, plain: &Plain) -> Result<(), AllocError>
-        ensures { OnOk result (map note_view found.new.items ≡ map note_view found.old.items
-            ++ notes_at self.entry (own_reasons self.entry.unknown.now (plain_view plain.now))) }
+    // Puts that a plain node has no effect, if it has none.
+    fn put_stray(
+        self,
+        alloc: Global,
+        found: &mut Vec<Note>,
+        plain: &Plain,
+    ) -> Result<(), AllocError>
+        ensures { OnOk result (found.new.items ≡ found.old.items
+            ++ notes_at self.entry (stray_reasons self.entry.place (plain_view plain.now))) }
     {
         match plain {
             Plain::Term(term) => {
@@ -212,24 +215,31 @@ impl<'a> NoteSite<'a> {
                 }
                 Ok(())
             }
-            Plain::Alias(source, _) => self.put_name(alloc, found, self.place, source),
+            Plain::Alias(_, _) => Ok(()),
             Plain::External(_) => Ok(()),
             Plain::TableRegion(_, _, _, _) => Ok(()),
         }
+    }
+
+    // The bytes of the code from the node on.
+    fn bytes(self) -> &'a [u8]
+        ensures { result.now ≡ drop self.entry.place self.entry.code.now }
+    {
+        bytes_behind(self.code, self.place)
     }
 
     fn put_plain(
         self,
         alloc: Global,
         found: &mut Vec<Note>,
-        code: &[u8],
         plain: &Plain,
     ) -> Result<(), AllocError>
-        ensures { OnOk result (map note_view found.new.items ≡ map note_view found.old.items
-            ++ notes_at self.entry (plain_reasons self.entry.unknown.now (plain_view plain.now))) }
+        ensures { OnOk result (found.new.items ≡ found.old.items
+            ++ notes_at self.entry (plain_reasons self.entry.unknown.now
+            self.entry.code.now self.entry.place (plain_view plain.now))) }
     {
-        self.put_own(alloc, found, plain)?;
-        let marks = CalledNames::of_plain(alloc, plain, &mut code_at(code, self.place))?;
+        self.put_stray(alloc, found, plain)?;
+        let marks = marks_of_plain(alloc, self.code.len(), plain, self.bytes())?;
         self.put_marks(alloc, found, &marks)
     }
 
@@ -237,31 +247,26 @@ impl<'a> NoteSite<'a> {
         self,
         alloc: Global,
         found: &mut Vec<Note>,
-        code: &[u8],
         fixed: &Fixed,
     ) -> Result<(), AllocError>
-        ensures { OnOk result (map note_view found.new.items ≡ map note_view found.old.items
-            ++ notes_at self.entry (fixed_reasons self.entry.unknown.now (fixed_view fixed.now))) }
+        ensures { OnOk result (found.new.items ≡ found.old.items
+            ++ notes_at self.entry (fixed_reasons self.entry.unknown.now
+            self.entry.code.now self.entry.place (fixed_view fixed.now))) }
     {
-        let marks = CalledNames::of_fixed(alloc, fixed, &mut code_at(code, self.place))?;
+        let marks = marks_of_fixed(alloc, self.code.len(), fixed, self.bytes())?;
         self.put_marks(alloc, found, &marks)
     }
 
     // Puts the notes of a node, but for what is noticed of an Else.
-    fn put_node(
-        self,
-        alloc: Global,
-        found: &mut Vec<Note>,
-        code: &[u8],
-        node: &Node,
-    ) -> Result<(), AllocError>
-        ensures { OnOk result (map note_view found.new.items ≡ map note_view found.old.items
-            ++ notes_at self.entry (node_reasons self.entry.unknown.now (node_view node.now))) }
+    fn put_node(self, alloc: Global, found: &mut Vec<Note>, node: &Node) -> Result<(), AllocError>
+        ensures { OnOk result (found.new.items ≡ found.old.items
+            ++ notes_at self.entry (node_reasons self.entry.unknown.now
+            self.entry.code.now self.entry.place (node_view node.now))) }
     {
         match node {
-            Node::Plain(plain) => self.put_plain(alloc, found, code, plain),
-            Node::Holds(fixed, _) => self.put_fixed(alloc, found, code, fixed),
-            Node::Fields(fixed, _, _) => self.put_fixed(alloc, found, code, fixed),
+            Node::Plain(plain) => self.put_plain(alloc, found, plain),
+            Node::Holds(fixed, _) => self.put_fixed(alloc, found, fixed),
+            Node::Fields(fixed, _, _) => self.put_fixed(alloc, found, fixed),
             _ => Ok(()),
         }
     }
@@ -274,8 +279,9 @@ impl<'a> NoteSite<'a> {
         node: &Node,
         is_behind_if: bool,
     ) -> Result<(), AllocError>
-        ensures { OnOk result (map note_view found.new.items ≡ map note_view found.old.items
-            ++ notes_at self.entry (else_reasons is_behind_if (node_view node.now))) }
+        ensures { OnOk result (found.new.items ≡ found.old.items
+            ++ notes_at self.entry (else_reasons self.entry.place is_behind_if
+            (node_view node.now))) }
     {
         if is_else(node) && !is_behind_if {
             self.put(alloc, found, self.place, NoteReason::StrayElse)?;
@@ -288,17 +294,17 @@ impl<'a> NoteSite<'a> {
         self,
         alloc: Global,
         found: &mut Vec<Note>,
-        code: &[u8],
         range: &ScopedSpan<'_>,
     ) -> Result<(), AllocError>
-        ensures { OnOk result (map note_view found.new.items ≡ map note_view found.old.items
-            ++ notes_at self.entry (part_reasons self.entry.unknown.now range.now.is_behind_if
+        ensures { OnOk result (found.new.items ≡ found.old.items
+            ++ notes_at self.entry (part_reasons self.entry.unknown.now
+            self.entry.code.now self.entry.place range.now.is_behind_if
             (part_of range.now.span.what))) }
     {
         match range.span.what {
             SpanContent::Node(node) => {
                 self.put_else(alloc, found, node, range.is_behind_if)?;
-                self.put_node(alloc, found, code, node)
+                self.put_node(alloc, found, node)
             }
             _ => Ok(()),
         }
@@ -324,16 +330,18 @@ fn put_of_range(
     table: &ReadTable<'_, '_>,
     range: &ScopedSpan<'_>,
 ) -> Result<(), AllocError>
-    ensures { OnOk result (map note_view found.new.items ≡ map note_view found.old.items
-        ++ range_notes (unknowns_of table.now) table.now.number (range_of range.now)) }
+    ensures { OnOk result (found.new.items ≡ found.old.items
+        ++ range_notes (unknowns_of table.now) (code_read table.now.judged.now)
+        table.now.number (range_of range.now)) }
 {
     let noted = NoteSite {
         number: table.number,
+        code: table.judged.code(),
         place: range.span.from,
         unknown: table.index.unknown_at(table.number, range.span.from),
         around: range.around,
     };
-    noted.put_part(alloc, found, table.judged.code(), range)
+    noted.put_part(alloc, found, range)
 }
 
 // Puts the notes of the table's code.
@@ -342,8 +350,9 @@ fn put_of_code(
     found: &mut Vec<Note>,
     table: &ReadTable<'_, '_>,
 ) -> Result<(), AllocError>
-    ensures { OnOk result (map note_view found.new.items ≡ map note_view found.old.items
-        ++ flat_map (range_notes (unknowns_of table.now) table.now.number)
+    ensures { OnOk result (found.new.items ≡ found.old.items
+        ++ flat_map (range_notes (unknowns_of table.now) (code_read table.now.judged.now)
+        table.now.number)
         (table_ranges (entered_at table.now) table.now.judged.now
         (nodes_view table.now.nodes.now))) }
 {
@@ -360,7 +369,7 @@ pub(crate) fn put_notes(
     found: &mut Vec<Note>,
     table: &ReadTable<'_, '_>,
 ) -> Result<(), AllocError>
-    ensures { OnOk result (map note_view found.new.items ≡ map note_view found.old.items
+    ensures { OnOk result (found.new.items ≡ found.old.items
         ++ table_notes (entered_at table.now) (unknowns_of table.now) table.now.number
         table.now.judged.now (nodes_view table.now.nodes.now)) }
 {

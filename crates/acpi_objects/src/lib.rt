@@ -6,6 +6,7 @@
 //! ```
 #![tactic(auto)]
 
+pub mod laws;
 mod parts;
 
 pub use acpi_kinds::{ObjectKind, UnitForm};

@@ -258,7 +258,7 @@ test_complete : {S : Type 0} (r : Rules S) (level : ℕ) (known : S) (end : ℕ)
 test_complete r level known end (int Zero) a rest h = rw h.spells refl
 test_complete r level known end v a rest h = value_is_test r level known end (a ++ rest) (v, rest) (value_complete r level known end v a rest h h.within)
 
-names_complete : (ns : List NameParts) (end : ℕ) (a rest : List ℕ) → SpellsEach SpellsName ns a → names_in (length ns) end (a ++ rest) ≡ Ok (ns, rest)
+pub names_complete : (ns : List NameParts) (end : ℕ) (a rest : List ℕ) → SpellsEach SpellsName ns a → names_in (length ns) end (a ++ rest) ≡ Ok (ns, rest)
 unfolding names_in
 names_complete [] end a rest h = rw h refl
 names_complete (n ∷ ns) end a rest (x, y, hn, hs, whole) =
@@ -351,7 +351,7 @@ form_opens forms.Else end x = opens end opcodes.Else x refl
 form_opens forms.While end x = opens end opcodes.While x refl
 form_opens (forms.Units form) end x = units_open form end x
 
-form_packs : (form : PackedForm) → packed_form (form_opcode form) ≡ Some form
+pub form_packs : (form : PackedForm) → packed_form (form_opcode form) ≡ Some form
 form_packs forms.Scope = refl
 form_packs (forms.Container containers.Device) = refl
 form_packs (forms.Container containers.Processor) = refl

@@ -1,9 +1,9 @@
 pub mod Parts
-pub mod LostFaults
 pub mod Sources
 pub mod Complete
 pub mod Data
 pub mod Sound
+pub mod FixedArguments
 pub mod FieldLists
 pub mod NodesSound
 pub mod One
@@ -11,3 +11,4 @@ pub mod Going
 pub mod Containing
 pub mod Answered
 pub mod Elements
+pub mod Lying

@@ -1,6 +1,5 @@
--- What stands before a declared name: what is read is spelled so, and what is spelled is read.
-use Rattle.std.proofs.Common.{◌≡◌, ℕ, ◌-◌, ◌≤◌, Bool, true, false, List, [], ◌∷◌, ◌++◌, Result, Ok, Err, refl, sym, ap, ◌∙◌, append_assoc, arith, subst}
-use Rattle.std.specs.FinMap.{empty}
+-- What stands before a declared name: it is read exactly where it is spelled, and reading stops exactly where it fails.
+use Rattle.std.proofs.Common.{◌≡◌, ℕ, ◌≤◌, Bool, true, false, cond, List, [], ◌∷◌, ◌++◌, Result, Ok, Err, refl, sym, ap, ◌∙◌, append_assoc, arith, inl, inr}
 use Rattle.acpi_name.specs.Names.{NameParts}
 use Rattle.acpi_name.specs.Spelling.{SpellsName}
 use Rattle.acpi_name.proofs.NameAgain.{name_long}
@@ -14,99 +13,32 @@ use Rattle.acpi_tree.specs.Terms.{TermTree, TermTrees, int, str, local, arg, ref
 use Rattle.acpi_code.specs.declared.fault.CodeFault.{CodeFault}
 use Rattle.acpi_code.specs.declared.opcode.Opcode.{Opcode}
 use Rattle.acpi_code.specs.declared.opcode.Opcode.TheVariants as opcodes
-use Rattle.acpi_code.specs.Opcodes.{is_name_start, is_name_opcode}
+use Rattle.acpi_code.specs.Faults.{FailsName}
+use Rattle.acpi_code.specs.Opcodes.{BeginsWith, is_name_start, is_name_opcode}
 use Rattle.acpi_code.specs.Spelling.{SpellsTermName}
 use Rattle.acpi_code.specs.steps.Reading.{name_in, opcode_at}
-use Rattle.acpi_code.proofs.Readings.{Judge, judge_bind, judge_into, judge_if, Source, Position, Read, Shown}
-use Rattle.acpi_code.proofs.Names.{term_name_sound, name_in_complete}
-use Rattle.acpi_code.proofs.Opcodes.{Opened, opens_name, opcode_sound}
+use Rattle.acpi_code.proofs.Exact.{Exact, turn_judged, turn_stops}
+use Rattle.acpi_code.proofs.Lists.{fails_on}
+use Rattle.acpi_code.proofs.Readings.{Judge, judge_bind, judge_into, judge_if, Front}
+use Rattle.acpi_code.proofs.Names.{name_in_complete}
+use Rattle.acpi_code.proofs.Opcodes.{opens_name}
 use Rattle.acpi_values.specs.Grammars.{Grammar}
+use Rattle.acpi_values.specs.Faults.{IsTermAt, AreOperandsIn}
 use Rattle.acpi_values.specs.Spelling.{Stands, Spells, AreOperands, height}
 use Rattle.acpi_values.specs.steps.Reading.{operands_at, term_at}
 use Rattle.acpi_values.proofs.Allowed.{lead_of, allowed_at}
 use Rattle.acpi_values.proofs.TermComplete.{form_complete, listed, operands_complete, term_complete}
-use Rattle.acpi_values.proofs.TermSound.{are_inner, Within, Operands, term_sound}
+use Rattle.acpi_values.proofs.TermExact.{are_inner}
 use Rattle.acpi_outline.specs.declared.fault.LostFault.{LostFault}
 use Rattle.acpi_outline.specs.Rules.{Rules, grammar_at}
-use Rattle.acpi_outline.specs.Outline.{operands_first, source_height, first_heights}
-use Rattle.acpi_outline.specs.Faults.{args_at}
+use Rattle.acpi_outline.specs.Spelling.{operands_first, source_height, first_heights, IsSource, AreFirst}
+use Rattle.acpi_outline.specs.Faults.{FailsPart, FailsTermAt, FailsInOrder, FailsSource, FailsFirst}
 use Rattle.acpi_outline.specs.steps.Reading.{part, of_term, source_at, reference_in, source_in, sourced_in, first_in}
-use Rattle.acpi_outline.proofs.LostFaults.{Bad, part_sound, of_term_sound, terms_sound}
-
--- a source within the levels that are left
-record IsSource (grammar : Grammar) (level : ℕ) (v : TermTree) (bytes : List ℕ) : Type 0 where
-  stands : Stands places.Source v
-  spells : Spells grammar v bytes
-  within : source_height v ≤ level
-
--- operands of these kinds, the first of which is a source
-pub record AreSourced (grammar : Grammar) (level : ℕ) (ks : List OperandKind) (us : List TermTree) (bytes : List ℕ) : Type 0 where
-  pub are : AreOperands grammar ks (terms_of us) bytes
-  pub within : first_heights (terms_of us) ≤ level
+use Rattle.acpi_outline.proofs.Parts.{name_part, term_part, terms_part}
 
 pub source_low : (v : TermTree) → source_height v ≤ height v
 source_low (ref n) = omega arith
 source_low _ = omega arith
-
-module _ {S : Type 0} (s : Source) (r : Rules S) (level : ℕ) (known : S) where
-  value_source_sound : (end : ℕ) (bytes : List ℕ) → Position s.depth level s.code end bytes
-      → Judge (Read s level end (IsSource (grammar_at r known) level) bytes) (Bad s r known) (source_at r level known end bytes)
-  value_source_sound end bytes h =
-      let grammar = grammar_at r known in
-      let Good = Read s level end (Within grammar level places.Source) bytes in
-      judge_into Good (Read s level end (IsSource grammar level) bytes) (Bad s r known) (Bad s r known) (source_at r level known end bytes) (λ v g. (
-        record {
-          front = g.0.front;
-          spells = record { stands = g.0.spells.stands; spells = g.0.spells.spells; within = omega (arith, g.0.spells.within, source_low v.0) };
-          whole = g.0.whole;
-        },
-        g.1,
-      )) (λ f bad. bad)
-      (of_term_sound s r known Good (term_at grammar level places.Source end bytes) (term_sound (args_at r known) [] s empty true level places.Source end bytes refl h))
-
-  reference_sound : (end b : ℕ) (rest : List ℕ) → is_name_start b ≡ true → Position s.depth level s.code end (b ∷ rest)
-      → Judge (Read s level end (IsSource (grammar_at r known) level) (b ∷ rest)) (Bad s r known) (reference_in end (b ∷ rest))
-  unfolding reference_in
-  reference_sound end b rest starts h =
-      let bytes = b ∷ rest in
-      let Name = Read s level end SpellsTermName bytes in
-      let o : Opened bytes (opcodes.Name, rest) = subst (Judge (Opened bytes) (Shown s)) (opens_name end b rest starts) (opcode_sound s level end bytes h) in
-      judge_bind Name (Read s level end (IsSource (grammar_at r known) level) bytes) (Bad s r known) (part (name_in end bytes)) _
-      (part_sound s r known Name (name_in end bytes) (term_name_sound s level end bytes rest h o))
-      (λ n f. (record { front = f.0.front; spells = record { stands = refl; spells = f.0.spells; within = omega arith }; whole = f.0.whole }, f.1))
-
-  source_sound : (end : ℕ) (bytes : List ℕ) → Position s.depth level s.code end bytes
-      → Judge (Read s level end (IsSource (grammar_at r known) level) bytes) (Bad s r known) (source_in r level known end bytes)
-  source_sound end [] h = value_source_sound end [] h
-  source_sound end (b ∷ rest) h =
-      judge_if (Read s level end (IsSource (grammar_at r known) level) (b ∷ rest)) (Bad s r known) (is_name_start b) (reference_in end (b ∷ rest)) (source_at r level known end (b ∷ rest))
-      (λ starts. reference_sound end b rest starts h) (λ other. value_source_sound end (b ∷ rest) h)
-
-  sourced_sound : (ks : List OperandKind) (end : ℕ) (bytes : List ℕ) → are_inner ks ≡ true → Position s.depth level s.code end bytes
-      → Judge (Read s level end (AreSourced (grammar_at r known) level (At places.Source ∷ ks)) bytes) (Bad s r known) (sourced_in r level known ks end bytes)
-  unfolding sourced_in
-  sourced_sound ks end bytes ok h =
-      let grammar = grammar_at r known in
-      let Good = Read s level end (AreSourced grammar level (At places.Source ∷ ks)) bytes in
-      judge_bind (Read s level end (IsSource grammar level) bytes) Good (Bad s r known) (source_in r level known end bytes) _ (source_sound end bytes h) (λ v f.
-      judge_bind (Read s level end (Operands grammar level ks) v.1) Good (Bad s r known) (of_term (operands_at (term_at grammar level) ks end v.1)) _
-      (terms_sound s r level known ks end v.1 ok f.1) (λ vs o. (
-        record {
-          front = f.0.front ++ o.0.front;
-          spells = record {
-            are = (f.0.front, o.0.front, f.0.spells.stands, f.0.spells.spells, o.0.spells.are, refl);
-            within = omega (arith, f.0.spells.within, o.0.spells.within);
-          };
-          whole = f.0.whole ∙ ap (λ (l : List ℕ). f.0.front ++ l) o.0.whole ∙ sym (append_assoc f.0.front o.0.front vs.1);
-        },
-        o.1,
-      )))
-
-  pub first_sound : (form : NamedForm) (end : ℕ) (bytes : List ℕ) → Position s.depth level s.code end bytes
-      → Judge (Read s level end (AreSourced (grammar_at r known) level (operands_first form)) bytes) (Bad s r known) (first_in r level known form end bytes)
-  first_sound (named.Create w) end bytes h = sourced_sound (At Value ∷ []) end bytes refl h
-  first_sound named.CreateField end bytes h = sourced_sound (At Value ∷ At Value ∷ []) end bytes refl h
-  first_sound _ end bytes h = (record { front = []; spells = record { are = refl; within = omega arith }; whole = refl }, h)
 
 -- ---- what is spelled is read
 
@@ -191,3 +123,108 @@ pub first_complete : {S : Type 0} (r : Rules S) (level : ℕ) (known : S) (form 
 first_complete r level known (named.Create w) end ts b rest h le = sourced_complete r level known (At Value ∷ []) end ts b rest h le
 first_complete r level known named.CreateField end ts b rest h le = sourced_complete r level known (At Value ∷ At Value ∷ []) end ts b rest h le
 first_complete r level known _ end ts b rest h le = none_first (grammar_at r known) ts b rest h
+
+-- ---- exactly
+
+listed_terms : (ts : List TermTree) → listed (terms_of ts) ≡ ts
+listed_terms [] = refl
+listed_terms (t ∷ ts) = ap (λ us. t ∷ us) (listed_terms ts)
+
+module _ {S : Type 0} (r : Rules S) (level : ℕ) (known : S) where
+  value_judged : (end : ℕ) (bytes : List ℕ) → Judge (Front (IsSource r level known) bytes) (FailsTermAt r level known places.Source end bytes) (source_at r level known end bytes)
+  value_judged end bytes =
+      judge_into (Front (IsTermAt (grammar_at r known) level places.Source) bytes) (Front (IsSource r level known) bytes) (FailsTermAt r level known places.Source end bytes) (FailsTermAt r level known places.Source end bytes)
+      (source_at r level known end bytes)
+      (λ v t. record { front = t.front; spells = (t.spells.0, t.spells.1, omega (arith, t.spells.2, source_low v.0)); whole = t.whole }) (λ f b. b)
+      ((term_part r level known places.Source refl).judged end bytes)
+
+  -- the name begins as these bytes do
+  first_is : (b : ℕ) (rest front behind : List ℕ) (n : NameParts) → is_name_start b ≡ true → SpellsName n front → b ∷ rest ≡ front ++ behind → SpellsTermName n front
+  first_is b rest [] behind n starts h whole = absurd (omega (arith, name_long n [] h))
+  first_is b rest (c ∷ front) behind n starts h whole = let same : b ≡ c = cc in (h, rw (sym same) starts)
+
+  reference_judged : (end b : ℕ) (rest : List ℕ) → is_name_start b ≡ true → Judge (Front (IsSource r level known) (b ∷ rest)) (FailsPart FailsName end (b ∷ rest)) (reference_in end (b ∷ rest))
+  unfolding reference_in
+  reference_judged end b rest starts =
+      let bytes = b ∷ rest in
+      judge_bind (Front SpellsName bytes) (Front (IsSource r level known) bytes) (FailsPart FailsName end bytes) (part (name_in end bytes)) _ (name_part.judged end bytes)
+      (λ n t. record { front = t.front; spells = (refl, first_is b rest t.front n.1 n.0 starts t.spells t.whole, omega arith); whole = t.whole })
+
+  no_name : (b : ℕ) (rest : List ℕ) → is_name_start b ≡ false → ¬ BeginsWith opcodes.Name (b ∷ rest)
+  no_name b rest other starts = let both : true ≡ false = sym starts ∙ other in cc
+
+  none_begins : ¬ BeginsWith opcodes.Name []
+  none_begins starts = cc
+
+  source_judged : (end : ℕ) (bytes : List ℕ) → Judge (Front (IsSource r level known) bytes) (FailsSource r level known end bytes) (source_in r level known end bytes)
+  source_judged end [] =
+      judge_into (Front (IsSource r level known) []) (Front (IsSource r level known) []) (FailsTermAt r level known places.Source end []) (FailsSource r level known end []) (source_at r level known end [])
+      (λ v t. t) (λ f h. inr (none_begins, h)) (value_judged end [])
+  source_judged end (b ∷ rest) =
+      let bytes = b ∷ rest in
+      let Good = Front (IsSource r level known) bytes in
+      judge_if Good (FailsSource r level known end bytes) (is_name_start b) (reference_in end bytes) (source_at r level known end bytes)
+      (λ starts. judge_into Good Good (FailsPart FailsName end bytes) (FailsSource r level known end bytes) (reference_in end bytes) (λ v t. t) (λ f h. inl (starts, h)) (reference_judged end b rest starts))
+      (λ other. judge_into Good Good (FailsTermAt r level known places.Source end bytes) (FailsSource r level known end bytes) (source_at r level known end bytes) (λ v t. t) (λ f h. inr (no_name b rest other, h)) (value_judged end bytes))
+
+  reference_stops : (end : ℕ) (bytes : List ℕ) (f : LostFault) → FailsPart FailsName end bytes f → reference_in end bytes ≡ Err f
+  unfolding reference_in
+  reference_stops end bytes f h = fails_on f (part (name_in end bytes)) _ (name_part.stops end bytes f h)
+
+  value_stops : (end : ℕ) (bytes : List ℕ) (f : LostFault) → FailsTermAt r level known places.Source end bytes f → source_at r level known end bytes ≡ Err f
+  value_stops end bytes f h = (term_part r level known places.Source refl).stops end bytes f h
+
+  source_stops : (end : ℕ) (bytes : List ℕ) (f : LostFault) → FailsSource r level known end bytes f → source_in r level known end bytes ≡ Err f
+  source_stops end [] f (inl h) = absurd (none_begins h.0)
+  source_stops end [] f (inr h) = value_stops end [] f h.1
+  source_stops end (b ∷ rest) f (inl h) = let starts : is_name_start b ≡ true = h.0 in rw starts (reference_stops end (b ∷ rest) f h.1)
+  source_stops end (b ∷ rest) f (inr h) = by_start (is_name_start b) refl
+    where
+      by_start : (t : Bool) → is_name_start b ≡ t → cond t (reference_in end (b ∷ rest)) (source_at r level known end (b ∷ rest)) ≡ Err f
+      by_start true starts = absurd (h.0 starts)
+      by_start false other = value_stops end (b ∷ rest) f h.1
+
+  exact_source : Exact (IsSource r level known) (FailsSource r level known) (source_in r level known)
+  exact_source = record {
+    found = λ end v a rest h. source_complete r level known end v a rest h.0 h.1 h.2;
+    judged = source_judged;
+    stops = source_stops;
+  }
+
+  sourced_judged : (ks : List OperandKind) (end : ℕ) (bytes : List ℕ) → are_inner ks ≡ true
+      → Judge (Front (AreFirst r level known (At places.Source ∷ ks)) bytes) (FailsFirst r level known (At places.Source ∷ ks) end bytes) (sourced_in r level known ks end bytes)
+  unfolding sourced_in
+  sourced_judged ks end bytes ok =
+      let g = grammar_at r known in
+      let Good = Front (AreFirst r level known (At places.Source ∷ ks)) bytes in
+      turn_judged (IsSource r level known) (FailsSource r level known) (λ v. FailsInOrder r level known ks) (source_in r level known) Good end bytes _ exact_source (λ v t.
+      judge_bind (Front (AreOperandsIn g level ks) v.1) Good (FailsInOrder r level known ks end v.1) (of_term (operands_at (term_at g level) ks end v.1)) _
+      ((terms_part r level known ks ok).judged end v.1) (λ vs u. record {
+        front = t.front ++ u.front;
+        spells = ((t.front, u.front, t.spells.0, t.spells.1, u.spells.0, refl), omega (arith, t.spells.2, u.spells.1));
+        whole = t.whole ∙ ap (λ (l : List ℕ). t.front ++ l) u.whole ∙ sym (append_assoc t.front u.front vs.1);
+      }))
+
+  sourced_stops : (ks : List OperandKind) (end : ℕ) (bytes : List ℕ) (f : LostFault) → are_inner ks ≡ true → FailsFirst r level known (At places.Source ∷ ks) end bytes f → sourced_in r level known ks end bytes ≡ Err f
+  unfolding sourced_in
+  sourced_stops ks end bytes f ok h =
+      let g = grammar_at r known in
+      turn_stops (IsSource r level known) (FailsSource r level known) (λ v. FailsInOrder r level known ks) (source_in r level known) end bytes _ f exact_source
+      (λ v b more. fails_on f (of_term (operands_at (term_at g level) ks end b)) _ ((terms_part r level known ks ok).stops end b f more)) h
+
+  first_judged : (form : NamedForm) (end : ℕ) (bytes : List ℕ) → Judge (Front (AreFirst r level known (operands_first form)) bytes) (FailsFirst r level known (operands_first form) end bytes) (first_in r level known form end bytes)
+  first_judged (named.Create w) end bytes = sourced_judged (At Value ∷ []) end bytes refl
+  first_judged named.CreateField end bytes = sourced_judged (At Value ∷ At Value ∷ []) end bytes refl
+  first_judged _ end bytes = record { front = []; spells = (refl, omega arith); whole = refl }
+
+  first_stops : (form : NamedForm) (end : ℕ) (bytes : List ℕ) (f : LostFault) → FailsFirst r level known (operands_first form) end bytes f → first_in r level known form end bytes ≡ Err f
+  first_stops (named.Create w) end bytes f h = sourced_stops (At Value ∷ []) end bytes f refl h
+  first_stops named.CreateField end bytes f h = sourced_stops (At Value ∷ At Value ∷ []) end bytes f refl h
+  first_stops _ end bytes f h = absurd h
+
+  pub exact_first : (form : NamedForm) → Exact (AreFirst r level known (operands_first form)) (FailsFirst r level known (operands_first form)) (first_in r level known form)
+  exact_first form = record {
+    found = λ end us a rest h. first_complete r level known form end (terms_of us) a rest h.0 h.1 ∙ ap (λ vs. Ok (vs, rest)) (listed_terms us);
+    judged = first_judged form;
+    stops = first_stops form;
+  }

@@ -1,6 +1,8 @@
 -- Damage in a package stays in it: what a package holds may become any other bytes, as many.
-use Rattle.std.specs.Prelude.{◌≡◌, ℕ, Bool, true, false, List, ◌++◌, length}
-use Rattle.acpi_outline.specs.Nodes.{FixedTree, NodeTree, plain, holds, data_lost, name_lost, NodeTrees, node}
+use Rattle.std.specs.Prelude.{◌≡◌, ℕ, List, ◌++◌, length, Option, Some, None}
+use Rattle.acpi_code.specs.Spelling.{Packs}
+use Rattle.acpi_outline.specs.declared.form.PackedForm.{PackedForm}
+use Rattle.acpi_outline.specs.Nodes.{FixedTree, NodeTree, holds, holds_fields, closed, package_lost, NodeTrees, node, form_of, form_bytes}
 use Rattle.acpi_outline.specs.Rules.{Rules, after}
 use Rattle.acpi_outline.specs.Outline.{IsOutline}
 
@@ -23,29 +25,35 @@ known_at r known first = known
 known_at r known (behind p m c) = known_at r (after r p known m) c
 known_at r known (inside p f c ms) = known_at r (r.enter known p f) c
 
-abbrev pub is_package : NodeTree → Bool
-is_package (plain p) = false
-is_package (data_lost form why) = false
-is_package (name_lost n form why) = false
-is_package _ = true
+-- the form of the package that a node is, if it is one
+abbrev pub package_form : NodeTree → Option PackedForm
+package_form (holds f ns) = Some (form_of f)
+package_form (holds_fields f es) = Some (form_of f)
+package_form (closed f content) = Some (form_of f)
+package_form (package_lost form why) = Some form
+package_form _ = None
 
--- Where a node is a package, some bytes of the code are what it holds. With any others, as many, in their place it is
--- another node, and all that stand around it are the same, if what is known behind it is.
+-- A node is a package of that form, which stands at the node's place of the code and holds these bytes (20.2.4). With
+-- any others, as many, in their place it is another node, and all that stand around it are the same, if what is known
+-- behind it is.
 pub record IsContained {S : Type 0} (r : Rules S) (known : S) (depth : ℕ) (code : List ℕ)
-    (c : Around) (place : ℕ) (n : NodeTree) (ns : NodeTrees) : Type 0 where
+    (c : Around) (place : ℕ) (n : NodeTree) (ns : NodeTrees) (form : PackedForm) : Type 0 where
   pub before : List ℕ
   pub content : List ℕ
+  pub packed : List ℕ
   pub after_it : List ℕ
-  pub whole : code ≡ before ++ (content ++ after_it)
+  pub packs : Packs (form_bytes form) content packed
+  pub at : length before ≡ place
+  pub whole : code ≡ before ++ (packed ++ after_it)
   pub changed : (other : List ℕ) → length other ≡ length content → NodeTree
   pub stays : (other : List ℕ) (same : length other ≡ length content)
       → after r place (known_at r known c) (changed other same)
       ≡ after r place (known_at r known c) n
       → IsOutline r known depth (put_at c place (changed other same) ns)
-      (before ++ (other ++ after_it))
+      (before ++ ((form_bytes form ++ (packs.len ++ other)) ++ after_it))
 
 abbrev pub PackagesContain : {S : Type 0} → Rules S → Type 0
 PackagesContain {S} r =
     (known : S) (depth : ℕ) (code : List ℕ) (c : Around) (place : ℕ) (n : NodeTree) (ns : NodeTrees)
-    → IsOutline r known depth (put_at c place n ns) code → is_package n ≡ true
-    → IsContained r known depth code c place n ns
+    (form : PackedForm) → IsOutline r known depth (put_at c place n ns) code
+    → package_form n ≡ Some form → IsContained r known depth code c place n ns form

@@ -105,26 +105,3 @@ data_opcode datas.VarPackage = opcodes.VarPackage
 
 abbrev pub data_bytes : DataForm → List ℕ
 data_bytes form = opcode_bytes (data_opcode form)
-
--- ---- nodes, whatever the reasons of what is lost are
-
-abbrev pub fields_with_reason : LostFault → FieldNodes → FieldNodes
-fields_with_reason why no_more_fields = no_more_fields
-fields_with_reason why (fields_lost place w) = fields_lost place why
-fields_with_reason why (field_node place offset e es) =
-    field_node place offset e (fields_with_reason why es)
-
-abbrev mutual
-  pub with_reason : LostFault → NodeTree → NodeTree
-  with_reason why (holds f ns) = holds f (all_with_reason why ns)
-  with_reason why (holds_fields f es) = holds_fields f (fields_with_reason why es)
-  with_reason why (package_lost form w) = package_lost form why
-  with_reason why (data_lost form w) = data_lost form why
-  with_reason why (name_lost n form w) = name_lost n form why
-  with_reason why n = n
-
-  -- the same nodes, with one reason for all that is lost
-  pub all_with_reason : LostFault → NodeTrees → NodeTrees
-  all_with_reason why no_more = no_more
-  all_with_reason why (lost place w) = lost place why
-  all_with_reason why (node place n ns) = node place (with_reason why n) (all_with_reason why ns)

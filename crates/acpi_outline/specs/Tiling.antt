@@ -2,6 +2,17 @@
 use Rattle.std.specs.Prelude.{◌≡◌, ◌<◌, ◌≤◌, ℕ}
 use Rattle.acpi_outline.specs.Nodes.{NodeTree, holds, NodeTrees, no_more, lost, node, FieldNodes, no_more_fields, fields_lost, field_node, holds_fields}
 
+-- the place of the first of these, or else the end of their list
+abbrev pub first_place : (end : ℕ) → NodeTrees → ℕ
+first_place end no_more = end
+first_place end (lost place why) = place
+first_place end (node place n ns) = place
+
+abbrev pub first_field_place : (end : ℕ) → FieldNodes → ℕ
+first_field_place end no_more_fields = end
+first_field_place end (fields_lost place why) = place
+first_field_place end (field_node place offset e es) = place
+
 abbrev pub TilesFields : ℕ → ℕ → FieldNodes → Type 0
 TilesFields start end no_more_fields = start ≡ end
 TilesFields start end (fields_lost place why) = (place ≡ start) × (start < end)

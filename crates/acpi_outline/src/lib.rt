@@ -14,10 +14,10 @@
 //! let nodes = read_outline(&mut known, code, depth)?;
 //! ```
 //!
-//! A contract sees nodes as a tree, and says of which bytes they are the outline by `specs/Outline.antt`, and of a
-//! lost range what its reason shows by `specs/Faults.antt`. `laws` says that each code has one outline
-//! (`has_outline`, `at_most_one_outline`), that its nodes tile the code (`nodes_tile`), and that damage in a package
-//! stays in it (`packages_contain`).
+//! A contract sees nodes as a tree, and says of which bytes they are the outline by `specs/Outline.antt`, and for which
+//! reason a range is lost by `specs/Faults.antt`. `laws` says that each code has one outline (`has_outline`,
+//! `at_most_one_outline`), that its nodes tile the code (`nodes_tile`), where its reasons lie
+//! (`reasons_lie_in_their_ranges`), and that damage in a package stays in it (`packages_contain`).
 #![tactic(auto)]
 
 mod fault;

@@ -1,12 +1,10 @@
 //! The outline of a code.
 
 ghost use Rattle.std.specs.Prelude.{◌≡◌, IfOk, length};
-ghost use Rattle.acpi_outline.specs.declared.fault.LostFault.{LostFault};
-ghost use Rattle.acpi_outline.specs.Nodes.{NodeTrees, all_with_reason};
+ghost use Rattle.acpi_outline.specs.Nodes.{NodeTrees};
 ghost use Rattle.acpi_outline.specs.View.{nodes_view};
 ghost use Rattle.acpi_outline.specs.Rules.{after_all};
 ghost use Rattle.acpi_outline.specs.Outline.{IsOutline};
-ghost use Rattle.acpi_outline.specs.Faults.{HaveTrueFaults};
 ghost use Rattle.acpi_outline.specs.steps.Reading.{nodes_at};
 
 use crate::known::Known;
@@ -31,16 +29,12 @@ pub fn read_outline<K: Known>(
     code: &Bytes,
     depth: Depth,
 ) -> Result<Nodes, AllocError>
-    // The nodes are the outline.
+    // The nodes are the outline, and where something is lost that is why.
     ensures found { IfOk result (λ ns. IsOutline K.rules known.old depth (nodes_view ns)
         code.now) }
-    // There is no other, but for the reasons of what is lost.
-    ensures only { (ms : NodeTrees) (why : LostFault)
-        → IsOutline K.rules known.old depth ms code.now
-        → IfOk result (λ ns. all_with_reason why ms ≡ all_with_reason why (nodes_view ns)) }
-    // The reason of each lost range is true of the code.
-    ensures faults { IfOk result (λ ns. HaveTrueFaults K.rules known.old depth code.now
-        (nodes_view ns)) }
+    // There is no other.
+    ensures only { (ms : NodeTrees) → IsOutline K.rules known.old depth ms code.now
+        → IfOk result (λ ns. ms ≡ nodes_view ns) }
     // What is known goes on as the nodes say.
     ensures state { IfOk result (λ ns. known.new ≡ after_all K.rules known.old (nodes_view ns)) }
 {

@@ -1,13 +1,10 @@
 -- The pairs of a map of links, as they are lent.
-use Rattle.std.proofs.Common.{◌≡◌, List, [], ◌∷◌, ◌++◌, map, Bor, Option, append_assoc, refl, sym, ap, ◌∙◌}
+use Rattle.std.proofs.Common.{◌≡◌, List, [], ◌∷◌, ◌++◌, map, Bor, append_assoc, append-nil, refl, sym, ap, subst, ◌∙◌}
 use Rattle.std.proofs.lemmas.List.{map-append}
-use Rattle.std.specs.declared.sync.Arc.{Arc}
-use Rattle.std.specs.Global.{Vec, Global}
 use Rattle.acpi_name.specs.Names.{Segment}
 use Rattle.acpi_pass.specs.Links.{Links}
-
-abbrev pub Shared : Type 0
-Shared = Arc (Vec (Option (List Segment))) Global
+use Rattle.acpi_pass.specs.declared.link_map.SharedLinks.{SharedLinks}
+use Rattle.acpi_pass.specs.steps.Showing.{Shared, ShowsOn}
 
 abbrev pub lent : List (List Segment × Bor Links) → List (List Segment × Links)
 lent es = map (λ e. (e.0, e.1.now)) es
@@ -32,3 +29,8 @@ seen es = map (λ e. (e.0, e.1.value.items)) es
 pub seen_of_lent : (es : List (List Segment × Bor Shared)) → lent_shared es ≡ seen (map (λ e. (e.0, e.1.now)) es)
 seen_of_lent [] = refl
 seen_of_lent (e ∷ es) = ap (λ (l : List (List Segment × Links)). (e.0, e.1.now.value.items) ∷ l) (seen_of_lent es)
+
+-- ---- shown on
+
+pub begins : {T : Type 0} (was_shown : T → List (List Segment × Links) → T → Type 0) (s : SharedLinks T) → ShowsOn was_shown s [] s
+begins was_shown s = record { same = refl; shown = λ start before h. subst (λ (es : List (List Segment × Links)). was_shown start es s.visitor.now) (sym (append-nil before)) h }

@@ -3,3 +3,4 @@ pub mod View
 pub mod Outcomes
 pub mod Entering
 pub mod Missing
+pub mod Showing

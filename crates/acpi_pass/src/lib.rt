@@ -22,7 +22,7 @@ mod predefined;
 mod refusal;
 
 pub use keep::{Keep, put_kept};
-pub use link_map::LinkMap;
+pub use link_map::{LinkMap, LinkVisitor};
 pub use links::{copy_answers, misses_of_links, search_links};
 pub use notes::{Method, TableNotes};
 pub use pass::Pass;

@@ -1,5 +1,5 @@
 -- What the parts that declare entries give.
-use Rattle.std.proofs.Common.{◌≡◌, List, Option, Some, None, option_map, unwrap_or, refl, sym, ap, ◌∙◌}
+use Rattle.std.proofs.Common.{◌≡◌, Option, Some, None, option_map, unwrap_or, refl, sym, ap, ◌∙◌}
 use Rattle.std.specs.Option.{option_and_then}
 use Rattle.acpi_ranges.specs.Lookup.{Found, found_of}
 use Rattle.acpi_ranges.specs.declared.spans.Span.{Span}

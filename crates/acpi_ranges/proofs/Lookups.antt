@@ -1,11 +1,11 @@
 -- What a search for a place finds.
-use Rattle.std.proofs.Common.{◌≡◌, ◌-◌, ◌<◌, ◌≤◌, ◌==◌, ℕ, zero, suc, true, false, Bool, cond, List, [], ◌∷◌, length, slice_get, slice_index_or, Option, Some, None, option_map, refl, sym, ap, subst, ◌∙◌, arith, rules, nat_le, nat_lt}
+use Rattle.std.proofs.Common.{◌≡◌, ◌<◌, ◌≤◌, ◌==◌, ℕ, zero, suc, true, false, cond, List, [], ◌∷◌, length, slice_get, slice_index_or, Option, Some, None, option_map, refl, sym, ap, subst, ◌∙◌, arith, nat_le, nat_lt}
 use Rattle.std.specs.Option.{option_or}
 use Rattle.std.specs.List.{AllWithin}
 use Rattle.std.specs.List.Sorted.{IsNonDecreasingBy, IsPartitionPoint}
 use Rattle.std.proofs.lemmas.Bool.{ne_eqb, eq-eqb, leb-true, leb-false, ltb-true, ltb-false}
 use Rattle.std.proofs.lemmas.Option.{get_or_from_slice_get, slice_get-get_or, slice_get_within, slice_get-map}
-use Rattle.acpi_outline.specs.Nodes.{NodeTree, plain, holds, holds_fields, closed, package_lost, data_lost, name_lost, NodeTrees, no_more, lost, node, FixedTree, FieldNodes, no_more_fields, fields_lost, field_node}
+use Rattle.acpi_outline.specs.Nodes.{NodeTree, holds, holds_fields, NodeTrees, no_more, lost, node, FixedTree, FieldNodes, no_more_fields, fields_lost, field_node}
 use Rattle.acpi_outline.specs.Tiling.{TilesFields, TilesInside, Tiles}
 use Rattle.acpi_outline.specs.View.{Placed, node_view, node_step, nodes_step, placed_step, placed_view, placed_views, put_before, end_view}
 use Rattle.acpi_outline.specs.declared.node.Lost.{Lost}

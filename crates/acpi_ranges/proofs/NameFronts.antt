@@ -1,5 +1,5 @@
 -- The name with which bytes begin is the one that is spelled there.
-use Rattle.std.proofs.Common.{◌≡◌, ◌↔◌, ℕ, ◌-◌, List, length, drop, Option, Some, None, Result, Ok, Err, refl, sym, ap, ◌∙◌, subst, arith}
+use Rattle.std.proofs.Common.{◌≡◌, ℕ, ◌-◌, List, length, drop, Option, Some, Result, Ok, Err, refl, ap, ◌∙◌, subst, arith}
 use Rattle.std.proofs.lemmas.List.{length-drop}
 use Rattle.std.specs.Option.{option_map}
 use Rattle.std.specs.Result.{result_ok}
@@ -8,7 +8,7 @@ use Rattle.acpi_name.specs.Spelling.{BeginsWithName}
 use Rattle.acpi_name.specs.declared.reading.NameFault.{NameFault}
 use Rattle.acpi_name.specs.Reading.{name_at}
 use Rattle.acpi_name.proofs.NameTold.{begins_read, ok_told}
-use Rattle.acpi_ranges.specs.LostRanges.{name_front, NameFrontsAreSpelled}
+use Rattle.acpi_ranges.specs.LostRanges.{NameFrontsAreSpelled}
 use Rattle.acpi_ranges.proofs.DeclaringParts.{some_is}
 
 abbrev front_of : List ℕ → Result (NameParts × List ℕ) NameFault → Option (NameParts × ℕ)

@@ -1,5 +1,6 @@
 -- What the reading of tables gave, by place (ACPI 6.5, 5.3).
-use Rattle.std.specs.Prelude.{ℕ, List, ◌++◌, map, Option}
+use Rattle.std.specs.Prelude.{ℕ, List, [], ◌++◌, map, Option, unwrap_or}
+use Rattle.acpi_name.specs.Names.{NameParts}
 use Rattle.acpi_conditions.specs.Entries.{Path, Why}
 use Rattle.acpi_survey.specs.Reading.{Reading}
 use Rattle.acpi_survey.specs.Survey.{place_in}
@@ -18,8 +19,15 @@ refused_pairs s = map (λ r. (r.place, r.why)) s.walk.refused
 abbrev pub Refusals : Type 0
 Refusals = ℕ → Option Why
 
+-- the called names of which nothing was known in what begins at a place, among the bytes of all tables
+abbrev pub Unknowns : Type 0
+Unknowns = ℕ → List NameParts
+
 abbrev pub entered_in : Reading → (number : ℕ) → Entered
 entered_in s number place = last_at (entered_pairs s) (place_in number place)
 
 abbrev pub refusals_in : Reading → Refusals
 refusals_in s place = last_at (refused_pairs s) place
+
+abbrev pub unknowns_in : Reading → Unknowns
+unknowns_in s place = unwrap_or (last_at s.unknown place) []

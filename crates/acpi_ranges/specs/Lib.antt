@@ -6,4 +6,5 @@ pub mod SpanViews
 pub mod LostRanges
 pub mod Index
 pub mod EntryParts
+pub mod Laws
 pub mod steps

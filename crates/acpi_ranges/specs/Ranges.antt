@@ -4,6 +4,7 @@ use Rattle.acpi_tree.specs.Tree.{FieldTree}
 use Rattle.acpi_outline.specs.declared.fault.LostFault.{LostFault}
 use Rattle.acpi_outline.specs.declared.form.PackedForm.TheVariants as forms
 use Rattle.acpi_outline.specs.Nodes.{FixedTree, scope, container, if_so, NodeTree, holds, holds_fields, package_lost, NodeTrees, no_more, lost, node, FieldNodes, no_more_fields, fields_lost, field_node}
+pub use Rattle.acpi_outline.specs.Tiling.{first_place, first_field_place}
 use Rattle.acpi_conditions.specs.Entries.{Path}
 
 -- What stands in a part of the code: a node; an element of the field list behind these fixed arguments, and the number
@@ -53,17 +54,6 @@ abbrev pub is_if : NodeTree → Bool
 is_if (holds (if_so v) ns) = true
 is_if (package_lost forms.If why) = true
 is_if _ = false
-
--- the place of the first of these, or else the end of their list
-abbrev pub first_place : (end : ℕ) → NodeTrees → ℕ
-first_place end no_more = end
-first_place end (lost place why) = place
-first_place end (node place n ns) = place
-
-abbrev pub first_field_place : (end : ℕ) → FieldNodes → ℕ
-first_field_place end no_more_fields = end
-first_field_place end (fields_lost place why) = place
-first_field_place end (field_node place offset e es) = place
 
 -- a field list in a scope, up to its end
 abbrev pub element_ranges : (depth : ℕ) → Path → (end : ℕ) → FixedTree → FieldNodes → List Range

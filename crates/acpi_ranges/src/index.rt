@@ -3,7 +3,7 @@
 ghost use Rattle.std.specs.Prelude.{◌≡◌, ◌++◌, ℕ, map, IfOk, OnOk};
 ghost use Rattle.std.specs.Option.{option_copied, option_map};
 ghost use Rattle.acpi_conditions.specs.EntryForms.{why_of};
-ghost use Rattle.acpi_ranges.specs.Index.{entered_in, refusals_in};
+ghost use Rattle.acpi_ranges.specs.Index.{entered_in, refusals_in, unknowns_in};
 ghost use Rattle.acpi_ranges.specs.Places.{last_at, last_or};
 ghost use Rattle.acpi_survey.specs.Survey.{place_in};
 ghost use Rattle.acpi_ranges.specs.steps.Indexes.{index_entered, index_refusals, index_unknowns};
@@ -98,6 +98,7 @@ impl<'a> PlaceIndex<'a> {
     {
         self.refused.at(place_in(table, place))
     }
+
     /// The names in the node that begins at a place of a table's code of which nothing is known there.
     pub fn unknown_at(&self, table: usize, place: usize) -> &'a [Name]
         ensures { result.now ≡ index_unknowns self.now (place_in table place) }
@@ -109,13 +110,15 @@ impl<'a> PlaceIndex<'a> {
     }
 }
 
-/// What the tables of a survey declare, enter and refuse, by place.
+/// What the tables of a survey declare, enter and refuse, and the names of which nothing is known, by place.
 #[tactic(auto, using(crate::proofs::Indexing::entry_pairs, crate::proofs::Indexing::last_refused))]
 pub fn index_of(survey: &Survey) -> Result<PlaceIndex<'_>, AllocError>
     ensures paths { IfOk result (λ x. (number place : ℕ) → index_entered x number place
         ≡ entered_in survey.now.reading number place) }
     ensures refused { IfOk result (λ x. (place : ℕ) → index_refusals x place
         ≡ refusals_in survey.now.reading place) }
+    ensures unknown { IfOk result (λ x. (place : ℕ) → index_unknowns x place
+        ≡ unknowns_in survey.now.reading place) }
 {
     PlaceIndex::new(
         survey.memory(),

@@ -21,6 +21,8 @@ mod spans;
 pub use entry_parts::{entry_numbered, part_at, part_of, table_in};
 pub use index::{PlaceIndex, index_of};
 pub use lookup::node_at;
-pub use lost_ranges::{LostRange, bytes_between, range_lost, unsure_name};
+pub use lost_ranges::{
+    LostRange, bytes_behind, bytes_between, name_front, package_front, range_lost, unsure_name,
+};
 pub use sites::{Site, byte_at, offset_of, site_at, site_of, table_at};
 pub use spans::{ScopedSpan, Span, SpanContent, Spans};

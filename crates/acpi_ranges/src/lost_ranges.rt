@@ -32,16 +32,16 @@ pub fn bytes_between(from: usize, to: usize) -> LostRange
     }
 }
 
-// What of a code is behind its first bytes.
+/// The bytes behind the first so many, or none where there are fewer.
 #[tactic(auto, using(std::proofs::lemmas::List::drop_min))]
-fn code_behind(code: &[u8], place: usize) -> &[u8]
-    ensures { result.now ≡ drop place code.now }
+pub fn bytes_behind(bytes: &[u8], count: usize) -> &[u8]
+    ensures { result.now ≡ drop count bytes.now }
 {
-    &code[place.min(code.len())..]
+    &bytes[count.min(bytes.len())..]
 }
 
-// The name that bytes begin with, and how many of them spell it.
-fn name_front<'a>(bytes: &'a [u8]) -> Option<(NameRef<'a>, usize)>
+/// The name that bytes begin with, and how many of them spell it.
+pub fn name_front<'a>(bytes: &'a [u8]) -> Option<(NameRef<'a>, usize)>
     ensures { option_map (λ x. (name_parts x.0, x.1)) result ≡ name_front bytes.now }
 {
     match read_name(bytes) {
@@ -50,8 +50,8 @@ fn name_front<'a>(bytes: &'a [u8]) -> Option<(NameRef<'a>, usize)>
     }
 }
 
-// How many bytes an opcode of one byte and a package length take.
-fn package_front(bytes: &[u8]) -> usize
+/// How many bytes an opcode of one byte and a package length take; none where bytes are too few.
+pub fn package_front(bytes: &[u8]) -> usize
     ensures { result ≡ package_front bytes.now }
 {
     match bytes {
@@ -93,7 +93,7 @@ fn front_kept(bytes: &[u8], what: SpanContent<'_>) -> usize
 pub fn range_lost(code: &[u8], span: &Span<'_>) -> LostRange
     ensures { result ≡ range_lost code.now (span_range [] false span.now) }
 {
-    let kept = front_kept(code_behind(code, span.from), span.what);
+    let kept = front_kept(bytes_behind(code, span.from), span.what);
     bytes_between(span.from.saturating_add(kept), span.to)
 }
 
@@ -108,7 +108,7 @@ pub fn unsure_name(
 {
     match reason {
         LostReason::Term(BodyReason::Unsure) => {
-            match name_front(code_behind(code, place)) {
+            match name_front(bytes_behind(code, place)) {
                 Some((name, _)) => Ok(Some(name.own(alloc)?)),
                 None => Ok(None),
             }

@@ -109,7 +109,7 @@ all_tile depth number s last (t ∷ ts) h =
     (outline_tiles survey_rules (at_table number s) depth (code_read t.judged) (nodes_view t.nodes) h.0.outline, all_tile depth (suc number) (behind_read (behind_nodes number s t)) last ts h.1)
 
 -- the predefined objects are first
-after_first : (es : List Entry) → drop predefined_count (first_reading.walk.entries ++ es) ≡ es
+pub after_first : (es : List Entry) → drop predefined_count (first_reading.walk.entries ++ es) ≡ es
 unfolding first_reading with_object
 after_first es = refl
 

@@ -39,7 +39,7 @@ pub grow_on : (first middle last : ℕ) (ps qs : List ℕ) → Grow first middle
 grow_on first middle last [] qs h n = grow_from first middle last qs h n
 grow_on first middle last (p ∷ ps) qs h n = (h.0, grow_on (suc p) middle last ps qs h.1 n)
 
-is_later : (first last : ℕ) (ps : List ℕ) (p : ℕ) → Grow first last ps → Among ps p → first ≤ p
+pub is_later : (first last : ℕ) (ps : List ℕ) (p : ℕ) → Grow first last ps → Among ps p → first ≤ p
 is_later first last [] p h m = absurd m
 is_later first last (q ∷ ps) p h (inl same) = subst (λ p. first ≤ p) same h.0
 is_later first last (q ∷ ps) p h (inr m) = let le : suc q ≤ p = is_later (suc q) last ps p h.1 m in omega (arith, le, h.0)
@@ -47,6 +47,11 @@ is_later first last (q ∷ ps) p h (inr m) = let le : suc q ≤ p = is_later (su
 pub grow_within : (first last : ℕ) (ps : List ℕ) → Grow first last ps → first ≤ last
 grow_within first last [] h = h
 grow_within first last (p ∷ ps) h = let le : suc p ≤ last = grow_within (suc p) last ps h.1 in omega (arith, h.0, le)
+
+pub is_earlier : (first last : ℕ) (ps : List ℕ) (p : ℕ) → Grow first last ps → Among ps p → p < last
+is_earlier first last [] p h m = absurd m
+is_earlier first last (q ∷ ps) p h (inl same) = let le : suc q ≤ last = grow_within (suc q) last ps h.1 in subst (λ p. p < last) same (omega (arith, le))
+is_earlier first last (q ∷ ps) p h (inr m) = is_earlier (suc q) last ps p h.1 m
 
 grow_distinct : (first last : ℕ) (ps : List ℕ) → Grow first last ps → AreDistinct ps
 grow_distinct first last [] h = tt
@@ -119,14 +124,14 @@ grow_held first place inner next last f inside rest from before h m =
 -- ---- lists of nodes
 
 -- the places of the nodes; and, where an Else begins the list, those inside it and behind it
-record IsGrowing (first last : ℕ) (l : Listed) : Type 0 where
-  nodes : Grow first last (places l.nodes)
-  behind_if : Grow first last (places l.inside_else ++ places l.behind_else)
+pub record IsGrowing (first last : ℕ) (l : Listed) : Type 0 where
+  pub nodes : Grow first last (places l.nodes)
+  pub behind_if : Grow first last (places l.inside_else ++ places l.behind_else)
 
 else_less : (first last : ℕ) (ns : Nodes) → Grow first last (places ns) → IsGrowing first last (no_else ns)
 else_less first last ns h = record { nodes = h; behind_if = h }
 
-abbrev AreGrowing : NodeTrees → Type 0
+abbrev pub AreGrowing : NodeTrees → Type 0
 AreGrowing ns = (base start end : ℕ) → Tiles start end ns → IsGrowing (base + start) (base + end) (listed base ns)
 
 abbrev AreGrowingInside : NodeTree → Type 0
@@ -176,7 +181,7 @@ mutual
   inside_grows (holds f ms) = all_grow ms
   inside_grows n = tt
 
-  all_grow : (ns : NodeTrees) → AreGrowing ns
+  pub all_grow : (ns : NodeTrees) → AreGrowing ns
   all_grow no_more base start end t = else_less (base + start) (base + end) no_nodes (omega (arith, t))
   all_grow (lost place why) base start end t = else_less (base + start) (base + end) no_nodes (omega (arith, t.1))
   all_grow (node place n ns) base start end t =

@@ -20,7 +20,9 @@ use Rattle.acpi_conditions.specs.Nodes.{no_nodes}
 use Rattle.acpi_conditions.specs.Entries.{Path, Why}
 use Rattle.acpi_conditions.specs.Known.{opened_at}
 use Rattle.acpi_survey.specs.Nodes.{operator_at}
-use Rattle.acpi_survey.specs.Reading.{Reading, AliasSource, survey_rules, source_at, passing, after_doing, after_plain, after_name, with_opened, enter, leave, after_field, after_closed, after_lost}
+use Rattle.acpi_survey.specs.NameUses.{names_used_in_plain}
+use Rattle.acpi_survey.specs.declared.name_uses.NameUse.TheVariants.{Call}
+use Rattle.acpi_survey.specs.Reading.{Reading, AliasSource, survey_rules, source_at, passing, after_doing, past_plain, after_plain, after_name, with_opened, noticing, enter, begin_fields, leave, after_field, after_closed, after_lost}
 use Rattle.acpi_pieces.specs.Tables.{code_read}
 use Rattle.acpi_survey.specs.Survey.{place_in, at_table, behind_table}
 use Rattle.acpi_survey.specs.Surveys.{AreTables, behind_nodes}
@@ -46,7 +48,7 @@ record AddsOwn (kept : Reading → List ℕ) : Type 0 where
   on_name : (place : ℕ) (n : NameParts) (s : Reading) → kept (after_name s place n) ≡ kept s
   on_lost : (place : ℕ) (form : Option PackedForm) (s : Reading) → kept (after_lost s place form) ≡ kept s
   on_field : (place : ℕ) (f : FixedTree) (e : FieldTree) (s : Reading) → kept (after_field s place f e) ≡ kept s
-  on_pass : (s : Reading) → kept (passing s) ≡ kept s
+  on_begin : (place : ℕ) (f : FixedTree) (s : Reading) → kept (begin_fields s place f) ≡ kept s
   on_leave : (s : Reading) → kept (leave s) ≡ kept s
   on_table : (number : ℕ) (s : Reading) → kept (at_table number s) ≡ kept s
   on_behind : (s : Reading) → kept (behind_table s) ≡ kept s
@@ -88,7 +90,8 @@ mutual
       subst (Grow 0 (base + next)) (sym (own.on_leave (after_all survey_rules s1 ns)))
       (grow_nodes kept own base t.0 next ns s1 (base_enter place f s ∙ is) t.2 (node_added kept base place t.0 s s1 is t.1 (own.on_enter place f s) h))
   grow_node kept own base place next (holds_fields f es) s is before t h =
-      node_same kept base place next s (after_fields survey_rules (passing s) f es) before (fields_same kept own f es (passing s) ∙ own.on_pass s) h
+      let s1 : Reading = begin_fields s place f in
+      node_same kept base place next s (after_fields survey_rules s1 f es) before (fields_same kept own f es s1 ∙ own.on_begin place f s) h
   grow_node kept own base place next (closed f content) s is before t h =
       node_added kept base place next s (after_closed s place f content) is before (own.on_closed place f content s) h
   grow_node kept own base place next (package_lost form why) s is before t h =
@@ -143,13 +146,16 @@ opened_operator place ops.Break s = refl
 opened_operator place ops.Continue s = refl
 opened_operator place op s = refl
 
+opened_past : (place : ℕ) (p : PlainTree) (s : Reading) → opened_places (past_plain s place p) ≡ opened_places s
+opened_past place (outline.term (declare form before n behind)) s = refl
+opened_past place (outline.term (apply op vs)) s = opened_operator (s.base + place) op s
+opened_past place (outline.term t) s = refl
+opened_past place (outline.external x) s = refl
+opened_past place (outline.alias source n) s = refl
+opened_past place (outline.table_region n vs) s = refl
+
 opened_plain : (place : ℕ) (p : PlainTree) (s : Reading) → opened_places (after_plain s place p) ≡ opened_places s
-opened_plain place (outline.term (declare form before n behind)) s = refl
-opened_plain place (outline.term (apply op vs)) s = opened_operator (s.base + place) op s
-opened_plain place (outline.term t) s = refl
-opened_plain place (outline.external x) s = refl
-opened_plain place (outline.alias source n) s = refl
-opened_plain place (outline.table_region n vs) s = refl
+opened_plain place p s = opened_past place p (noticing (s.base + place) (names_used_in_plain Call p) s)
 
 opened_enter : (place : ℕ) (f : FixedTree) (s : Reading) → IsAdded (opened_places s) (s.base + place) (opened_places (enter s place f))
 opened_enter place (outline.scope n) s = opened_added (s.base + place) (opened_at s.walk.known s.walk.around.scope n) s.opened
@@ -181,7 +187,7 @@ opened_own = record {
   on_name = λ place n s. refl;
   on_lost = opened_lost;
   on_field = opened_field;
-  on_pass = λ s. refl;
+  on_begin = λ place f s. refl;
   on_leave = λ s. refl;
   on_table = λ number s. refl;
   on_behind = λ s. refl;
@@ -207,13 +213,16 @@ sources_operator place ops.Break s = refl
 sources_operator place ops.Continue s = refl
 sources_operator place op s = refl
 
+sources_past : (place : ℕ) (p : PlainTree) (s : Reading) → IsAdded (source_places s) (s.base + place) (source_places (past_plain s place p))
+sources_past place (outline.term (declare form before n behind)) s = inl refl
+sources_past place (outline.term (apply op vs)) s = inl (sources_operator (s.base + place) op s)
+sources_past place (outline.term t) s = inl refl
+sources_past place (outline.external x) s = inl refl
+sources_past place (outline.alias source n) s = inr (map_push (λ (x : AliasSource). x.place) s.sources (source_at s (s.base + place) source))
+sources_past place (outline.table_region n vs) s = inl refl
+
 sources_plain : (place : ℕ) (p : PlainTree) (s : Reading) → IsAdded (source_places s) (s.base + place) (source_places (after_plain s place p))
-sources_plain place (outline.term (declare form before n behind)) s = inl refl
-sources_plain place (outline.term (apply op vs)) s = inl (sources_operator (s.base + place) op s)
-sources_plain place (outline.term t) s = inl refl
-sources_plain place (outline.external x) s = inl refl
-sources_plain place (outline.alias source n) s = inr (map_push (λ (x : AliasSource). x.place) s.sources (source_at s (s.base + place) source))
-sources_plain place (outline.table_region n vs) s = inl refl
+sources_plain place p s = sources_past place p (noticing (s.base + place) (names_used_in_plain Call p) s)
 
 sources_enter : (place : ℕ) (f : FixedTree) (s : Reading) → source_places (enter s place f) ≡ source_places s
 sources_enter place (outline.scope n) s = refl
@@ -245,7 +254,7 @@ sources_own = record {
   on_name = λ place n s. refl;
   on_lost = sources_lost;
   on_field = sources_field;
-  on_pass = λ s. refl;
+  on_begin = λ place f s. refl;
   on_leave = λ s. refl;
   on_table = λ number s. refl;
   on_behind = λ s. refl;

@@ -3,10 +3,11 @@ pub mod Walking
 pub mod TableWalks
 pub mod LocalPaths
 pub mod Growing
-mod EntryOrder
+pub mod EntryOrder
 mod KeptOrder
 pub mod OpenedScopes
 mod SegmentNames
 pub mod Surveys
 mod Numbers
 pub mod SureCounts
+pub mod RunEntries

@@ -145,7 +145,7 @@ first_entries : first_reading.walk.known.entries ≡ first_reading.walk.entries
 unfolding first_reading with_object
 first_entries = refl
 
-no_loop_first : not first_reading.walk.known.in_loop ≡ true
+pub no_loop_first : not first_reading.walk.known.in_loop ≡ true
 unfolding first_reading with_object
 no_loop_first = refl
 

@@ -26,7 +26,9 @@ use Rattle.acpi_conditions.specs.Laws.{IsInFirst}
 use Rattle.acpi_conditions.proofs.Walks.{gives_nodes, empty_else_is_none}
 use Rattle.acpi_needs.specs.Needs.{names_in_all, names_before}
 use Rattle.acpi_survey.specs.Nodes.{term_at, unit_at, operator_at, plain_at, package_at as package_at_place, element_at, operands_of, fields_at, Listed, no_else, listed, nodes_of}
-use Rattle.acpi_survey.specs.Reading.{Reading, survey_rules, count_at, declaring as declaring_in, passing, stopping, expecting, after_doing, after_plain, enter, after_field, after_closed, after_lost, with_source}
+use Rattle.acpi_survey.specs.NameUses.{names_used_in_plain}
+use Rattle.acpi_survey.specs.declared.name_uses.NameUse.TheVariants.{Call}
+use Rattle.acpi_survey.specs.Reading.{Reading, survey_rules, count_at, declaring as declaring_in, passing, stopping, expecting, after_doing, past_plain, after_plain, noticing, enter, begin_fields, after_field, after_closed, after_lost, with_source}
 
 -- ---- walks that differ in whether an If stands directly before
 
@@ -127,15 +129,20 @@ operator_step place ops.Break s = stopping_step place nodes.breaks s
 operator_step place ops.Continue s = stopping_step place nodes.continues s
 operator_step place op s = passing_step s (passing s) refl refl
 
-plain_step : (place : ℕ) (p : PlainTree) (s : Reading) → IsStep s (after_plain s place p) (plain_at (s.base + place) p)
-plain_step place (outline.term (declare form before n behind)) s = declaring_step (term_at (s.base + place) n false (names_before before ++ names_in_all behind)) (Some 0) s
-plain_step place (outline.term (apply op vs)) s = operator_step (s.base + place) op s
-plain_step place (outline.term t) s = passing_step s (passing s) refl refl
-plain_step place (outline.external x) s = passing_step s (expecting x s) refl refl
-plain_step place (outline.alias source n) s =
+past_step : (place : ℕ) (p : PlainTree) (s : Reading) → IsStep s (past_plain s place p) (plain_at (s.base + place) p)
+past_step place (outline.term (declare form before n behind)) s = declaring_step (term_at (s.base + place) n false (names_before before ++ names_in_all behind)) (Some 0) s
+past_step place (outline.term (apply op vs)) s = operator_step (s.base + place) op s
+past_step place (outline.term t) s = passing_step s (passing s) refl refl
+past_step place (outline.external x) s = passing_step s (expecting x s) refl refl
+past_step place (outline.alias source n) s =
     let step = declaring_step (term_at (s.base + place) n false (source ∷ [])) (count_at s source) (with_source (s.base + place) source s) in
     record { fresh = step.fresh; base = step.base; on = step.on }
-plain_step place (outline.table_region n vs) s = declaring_step (term_at (s.base + place) n false (names_in_all vs)) (Some 0) s
+past_step place (outline.table_region n vs) s = declaring_step (term_at (s.base + place) n false (names_in_all vs)) (Some 0) s
+
+plain_step : (place : ℕ) (p : PlainTree) (s : Reading) → IsStep s (after_plain s place p) (plain_at (s.base + place) p)
+plain_step place p s =
+    let step = past_step place p (noticing (s.base + place) (names_used_in_plain Call p) s) in
+    record { fresh = step.fresh; base = step.base; on = step.on }
 
 element_step : (place : ℕ) (f : FixedTree) (e : FieldTree) (s : Reading) → IsStep s (after_field s place f e) (element_at (s.base + place) (operands_of f) e)
 element_step place f (unit g bits) s = declaring_step (unit_at (s.base + place) g (operands_of f)) (Some 0) s
@@ -199,7 +206,7 @@ mutual
   pub base_after : (place : ℕ) (n : NodeTree) (s : Reading) → (after survey_rules place s n).base ≡ s.base
   base_after place (plain p) s = (plain_step place p s).base
   base_after place (holds f ns) s = base_kept ns (enter s place f) ∙ base_enter place f s
-  base_after place (holds_fields f es) s = (fields_step f es s.base (passing s) refl refl).base
+  base_after place (holds_fields f es) s = (fields_step f es s.base (begin_fields s place f) refl refl).base
   base_after place (closed f content) s = base_closed place f content s
   base_after place (package_lost form why) s = base_lost place form s
   base_after place (data_lost form why) s = refl
@@ -380,8 +387,8 @@ node_walked place (holds f ms) ns hm hn = else_less (node place (holds f ms) ns)
 node_walked place (holds_fields f es) ns hm hn =
     by_step place (holds_fields f es) ns (λ base. fields_at base (operands_of f) es) hn (λ base. refl)
     (λ level end s bytes is.
-    two_steps s (passing s) (after_fields survey_rules (passing s) f es) (λ rest. rest) (fields_at s.base (operands_of f) es) (passing_step s (passing s) refl refl)
-    (fields_step f es s.base (passing s) refl refl))
+    two_steps s (begin_fields s place f) (after_fields survey_rules (begin_fields s place f) f es) (λ rest. rest) (fields_at s.base (operands_of f) es)
+    (passing_step s (begin_fields s place f) refl refl) (fields_step f es s.base (begin_fields s place f) refl refl))
 node_walked place (closed f content) ns hm hn =
     by_step place (closed f content) ns (λ base. package_at_place (base + place) f no_nodes) hn (λ base. refl) (λ level end s bytes is. closed_step place f content s is.2)
 node_walked place (package_lost forms.If why) ns hm hn = else_less (node place (package_lost forms.If why) ns) (λ base. refl) (if_lost place why ns hn)

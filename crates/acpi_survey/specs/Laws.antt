@@ -1,5 +1,5 @@
 -- What the reading of tables gives (ACPI 6.5, 5.3 and 20.2.5).
-use Rattle.std.specs.Prelude.{◌≡◌, ◌⊎◌, ◌||◌, ℕ, List, ◌++◌, map, not, IsTrue, Option, Some, None, slice_get, slice_index_or}
+use Rattle.std.specs.Prelude.{◌≡◌, ◌≢◌, ◌⊎◌, ◌||◌, ℕ, List, ◌++◌, drop, not, IsTrue, Option, Some, None, slice_get, slice_index_or}
 use Rattle.std.specs.List.{flat_map, list_any}
 use Rattle.acpi_name.specs.Names.{NameParts}
 use Rattle.acpi_space.specs.Lookups.{is_defined_in}
@@ -7,10 +7,9 @@ use Rattle.acpi_space.specs.Search.{answer}
 use Rattle.acpi_space.specs.Spaces.{PathMap, is_defined}
 use Rattle.acpi_space.specs.Laws.{Among}
 use Rattle.acpi_body.specs.Arguments.{Locals}
-use Rattle.acpi_outline.specs.declared.fault.LostFault.{LostFault}
-use Rattle.acpi_outline.specs.Nodes.{NodeTrees, all_with_reason}
+use Rattle.acpi_outline.specs.Nodes.{NodeTrees}
 use Rattle.acpi_conditions.specs.Nodes.{places}
-use Rattle.acpi_conditions.specs.Entries.{Path, Namespace, Entry}
+use Rattle.acpi_conditions.specs.Entries.{Path, Namespace, Entry, Refusal}
 use Rattle.acpi_conditions.specs.Links.{is_round}
 use Rattle.acpi_conditions.specs.Runs.{State}
 use Rattle.acpi_conditions.specs.Survey.{known_behind, surveys, all_entries, all_refused}
@@ -18,7 +17,7 @@ use Rattle.acpi_conditions.specs.Walk.{Walk, started}
 use Rattle.acpi_conditions.specs.Laws.{AreDistinct, IsRunOf, IsReached}
 use Rattle.acpi_survey.specs.Bodies.{entry_count}
 use Rattle.acpi_survey.specs.Reading.{Reading}
-use Rattle.acpi_survey.specs.Predefined.{first_reading}
+use Rattle.acpi_survey.specs.Predefined.{first_reading, predefined_count}
 use Rattle.acpi_survey.specs.Survey.{AreRead, all_nodes}
 
 -- the entries and refusals of the tables are those of the surveys of what their nodes do, and so is what is known
@@ -45,12 +44,18 @@ PlacesAreDistinct = (depth number : ℕ) (s last : Reading) (tables : List (List
     (nss : List NodeTrees) → AreRead depth number s tables nss last
     → AreDistinct (flat_map places (all_nodes number nss))
 
--- ---- there is one reading
+-- at each place stands one of these entries or refusals at most
+pub record StandAlone (es : List Entry) (rs : List Refusal) : Type 0 where
+  pub one : (e f : Entry) → Among es e → Among es f → e.term.place ≡ f.term.place → e ≡ f
+  pub none : (e : Entry) (r : Refusal) → Among es e → Among rs r → e.term.place ≢ r.place
 
--- the nodes of each table are the same, but for why something is lost
-abbrev pub AreSameNodes : List NodeTrees → List NodeTrees → Type 0
-AreSameNodes nss mss =
-    (why : LostFault) → map (all_with_reason why) nss ≡ map (all_with_reason why) mss
+-- so stand those of tables
+abbrev pub EntriesStandAlone : Type 0
+EntriesStandAlone = (depth : ℕ) (last : Reading) (tables : List (List ℕ)) (nss : List NodeTrees)
+    → AreRead depth 0 first_reading tables nss last
+    → StandAlone (drop predefined_count last.walk.entries) last.walk.refused
+
+-- ---- there is one reading
 
 -- Any tables have a reading.
 abbrev pub TablesAreRead : Type 0
@@ -62,12 +67,12 @@ abbrev pub AtMostOneReading : Type 0
 AtMostOneReading = (depth number : ℕ) (s last other : Reading) (tables : List (List ℕ))
     (nss mss : List NodeTrees) → AreRead depth number s tables nss last
     → AreRead depth number s tables mss other
-    → AreSameNodes nss mss × (last ≡ other)
+    → (nss ≡ mss) × (last ≡ other)
 
 -- each reading of the tables, from the first, has these nodes and this end
 abbrev pub IsOnlyReading : ℕ → List (List ℕ) → List NodeTrees → Reading → Type 0
 IsOnlyReading depth tables nss last = (mss : List NodeTrees) (other : Reading)
-    → AreRead depth 0 first_reading tables mss other → AreSameNodes nss mss × (last ≡ other)
+    → AreRead depth 0 first_reading tables mss other → (nss ≡ mss) × (last ≡ other)
 
 -- ---- counts in bodies
 

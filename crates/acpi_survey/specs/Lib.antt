@@ -1,6 +1,7 @@
 pub mod Counts
 pub mod Bodies
 pub mod Nodes
+pub mod NameUses
 pub mod Reading
 pub mod SourceViews
 pub mod Predefined
@@ -8,4 +9,5 @@ pub mod Survey
 pub mod Surveys
 pub mod Laws
 pub mod SurveyOrder
+pub mod RunLaws
 pub mod steps

@@ -39,6 +39,7 @@ nothing_read =
       expected = finite.empty;
       opened = [];
       sources = [];
+      unknown = [];
     }
 
 abbrev pub scope_named : List ℕ → Predefined

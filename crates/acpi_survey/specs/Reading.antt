@@ -1,5 +1,5 @@
 -- How the nodes of tables are read: what is known so far (ACPI 6.5, 5.3 and 20.2.5).
-use Rattle.std.specs.Prelude.{◌+◌, ◌%◌, ◌==◌, ◌&&◌, nat_le, ℕ, Bool, true, false, cond, is_ok, List, [], ◌∷◌, ◌++◌, Option, Some, Result, Ok, Err}
+use Rattle.std.specs.Prelude.{◌+◌, ◌%◌, ◌==◌, ◌&&◌, nat_le, ℕ, Bool, true, false, cond, is_none, is_ok, List, [], ◌∷◌, ◌++◌, length, filter, Option, Some, Result, Ok, Err}
 use Rattle.std.specs.List.{list_any}
 use Rattle.std.specs.FinMap as finite
 use Rattle.acpi_name.specs.Names.{Segment, NameParts}
@@ -21,7 +21,10 @@ use Rattle.acpi_conditions.specs.Met.{met_by, numbers_met}
 use Rattle.acpi_conditions.specs.Here.{meeting, scopes_around}
 use Rattle.acpi_conditions.specs.Walk as walks
 use Rattle.acpi_conditions.specs.Walk.{Walk}
+use Rattle.acpi_body.specs.Arguments.{expected_place}
 use Rattle.acpi_survey.specs.Counts.{counts_numbered, count_of}
+use Rattle.acpi_survey.specs.NameUses.{names_used_in_plain, names_used_in_fixed}
+use Rattle.acpi_survey.specs.declared.name_uses.NameUse.TheVariants.{Call}
 use Rattle.acpi_survey.specs.Nodes.{term_at, plain_at, package_at, element_at, operands_of}
 
 -- An Alias, by its place: where its source may be found when it is read, and whether it is found for certain.
@@ -32,7 +35,8 @@ pub record AliasSource : Type 0 where
 
 -- What is known: the walk over the nodes so far; the place of the code's first byte; of each entry how many values
 -- follow its name where it is called, None where that isn't sure; what the Externals of the table so far say; the
--- Scopes that were entered, by their places and the paths of their targets; and the Aliases.
+-- Scopes that were entered, by their places and the paths of their targets; the Aliases; and the called names of which
+-- nothing was known, by the place of their node.
 pub record Reading : Type 0 where
   pub walk : Walk
   pub base : ℕ
@@ -40,6 +44,7 @@ pub record Reading : Type 0 where
   pub expected : PathMap ℕ
   pub opened : List (ℕ × Path)
   pub sources : List AliasSource
+  pub unknown : List (ℕ × List NameParts)
 
 -- ---- how many values follow a name
 
@@ -51,6 +56,24 @@ counts_at s p = cond (list_any (λ q. is_same_path q p) (scopes_around s.walk)) 
 abbrev pub count_at : Reading → NameParts → Option ℕ
 count_at s n = count_of (finite.get s.expected) s.walk.around.scope (counts_at s) n
     (candidates (met_by (meeting s.walk)) s.walk.around.scope n)
+
+-- ---- names of which nothing is known
+
+-- no object may be where it is searched, and no External tells of it
+abbrev pub is_unknown : Reading → NameParts → Bool
+is_unknown s n = length (candidates (met_by (meeting s.walk)) s.walk.around.scope n) == 0
+    && is_none (expected_place (finite.get s.expected) s.walk.around.scope n)
+
+-- those of the node at the place behind others, if it has any
+abbrev pub with_unknown : (place : ℕ) → List NameParts → List (ℕ × List NameParts)
+    → List (ℕ × List NameParts)
+with_unknown place [] unknown = unknown
+with_unknown place (n ∷ ns) unknown = unknown ++ (place, n ∷ ns) ∷ []
+
+-- before a node at the place in which these names are called
+abbrev pub noticing : (place : ℕ) → List NameParts → Reading → Reading
+noticing place names s =
+    record s { unknown = with_unknown place (filter (is_unknown s) names) s.unknown }
 
 -- ---- how it goes on
 
@@ -119,12 +142,16 @@ after_doing (nodes.opens place n inside rest) c s =
 after_doing (stop place kind rest) c s = stopping place kind s
 after_doing _ c s = passing s
 
-abbrev pub after_plain : Reading → ℕ → PlainTree → Reading
-after_plain s place (outline.external x) = expecting x s
-after_plain s place (outline.alias source n) =
+abbrev pub past_plain : Reading → ℕ → PlainTree → Reading
+past_plain s place (outline.external x) = expecting x s
+past_plain s place (outline.alias source n) =
     after_doing (plain_at (s.base + place) (outline.alias source n) no_nodes) (count_at s source)
     (with_source (s.base + place) source s)
-after_plain s place p = after_doing (plain_at (s.base + place) p no_nodes) (Some 0) s
+past_plain s place p = after_doing (plain_at (s.base + place) p no_nodes) (Some 0) s
+
+abbrev pub after_plain : Reading → ℕ → PlainTree → Reading
+after_plain s place p =
+    past_plain (noticing (s.base + place) (names_used_in_plain Call p) s) place p
 
 abbrev pub after_name : Reading → ℕ → NameParts → Reading
 after_name s place n = declaring (term_at (s.base + place) n false []) (Some 0) s
@@ -134,17 +161,27 @@ opens s (outline.scope n) = is_ok (opened_at s.walk.known s.walk.around.scope n)
 opens s (container form n vs) = is_ok (declared_at s.walk.known s.walk.around.scope n)
 opens s _ = true
 
-abbrev pub enter : Reading → ℕ → FixedTree → Reading
-enter s place (outline.scope n) =
+abbrev pub into : Reading → ℕ → FixedTree → Reading
+into s place (outline.scope n) =
     record s {
       walk = walks.enter_scope (s.base + place) n s.walk;
       opened = opened_behind s (s.base + place) n;
     }
-enter s place (container form n vs) = entering (term_at (s.base + place) n true []) s
-enter s place (if_so v) = record s { walk = walks.enter_first (s.base + place) s.walk }
-enter s place otherwise = record s { walk = walks.enter_other (s.base + place) s.walk }
-enter s place (while_so v) = record s { walk = walks.enter_body (s.base + place) s.walk }
-enter s place _ = s
+into s place (container form n vs) = entering (term_at (s.base + place) n true []) s
+into s place (if_so v) = record s { walk = walks.enter_first (s.base + place) s.walk }
+into s place otherwise = record s { walk = walks.enter_other (s.base + place) s.walk }
+into s place (while_so v) = record s { walk = walks.enter_body (s.base + place) s.walk }
+into s place _ = s
+
+-- the names in the fixed arguments are called before what stands in the package
+abbrev pub noticing_fixed : Reading → ℕ → FixedTree → Reading
+noticing_fixed s place f = noticing (s.base + place) (names_used_in_fixed Call f) s
+
+abbrev pub enter : Reading → ℕ → FixedTree → Reading
+enter s place f = into (noticing_fixed s place f) place f
+
+abbrev pub begin_fields : Reading → ℕ → FixedTree → Reading
+begin_fields s place f = passing (noticing_fixed s place f)
 
 abbrev pub leave : Reading → Reading
 leave s = record s { walk = walks.leave s.walk }
@@ -174,7 +211,7 @@ survey_rules = record {
   after_name = after_name;
   enter = enter;
   leave = leave;
-  begin_fields = λ s place f. passing s;
+  begin_fields = begin_fields;
   after_field = after_field;
   after_closed = after_closed;
   after_lost = after_lost;

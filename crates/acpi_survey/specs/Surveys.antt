@@ -6,7 +6,6 @@ use Rattle.acpi_conditions.specs.Entries.{Path, Entry}
 use Rattle.acpi_conditions.specs.Met.{numbers_beyond}
 use Rattle.acpi_outline.specs.Nodes.{NodeTrees}
 use Rattle.acpi_outline.specs.Outline.{IsOutline}
-use Rattle.acpi_outline.specs.Faults.{HaveTrueFaults}
 use Rattle.acpi_outline.specs.Rules.{after_all}
 use Rattle.acpi_outline.specs.View.{nodes_view}
 use Rattle.acpi_pieces.specs.Tables.{IsJudged}
@@ -29,14 +28,12 @@ nodes_of_each ts = map (λ t. nodes_view t.nodes) ts
 abbrev pub behind_nodes : ℕ → Reading → SurveyedTable → Reading
 behind_nodes number s t = after_all survey_rules (at_table number s) (nodes_view t.nodes)
 
--- A table, of that number and behind what is known, is as it is kept: what of its bytes is read, its nodes, why each of
--- its lost ranges is lost, and what its Externals say.
+-- A table, of that number and behind what is known, is as it is kept: what of its bytes is read, its nodes, and what its
+-- Externals say.
 pub record IsTable (depth number : ℕ) (s : Reading) (t : SurveyedTable) : Type 0 where
   pub judged : IsJudged number t.bytes t.judged
   pub outline : IsOutline survey_rules (at_table number s) depth (nodes_view t.nodes)
       (code_read t.judged)
-  pub faults : HaveTrueFaults survey_rules (at_table number s) depth (code_read t.judged)
-      (nodes_view t.nodes)
   pub expected : t.expected ≡ (behind_nodes number s t).expected
 
 -- so is each table, behind those before it; and what is known behind them

@@ -26,6 +26,7 @@ mod predefined;
 mod reading;
 mod reading_nodes;
 mod remarks;
+pub mod run_laws;
 mod table_reader;
 
 pub use counts::{agreed, expected_count, put_counts};

@@ -3,7 +3,7 @@
 ghost use Rattle.std.specs.Prelude.{◌≡◌, [], map, slice_get, IfOk};
 ghost use Rattle.std.specs.Option.{option_map};
 ghost use Rattle.acpi_conditions.specs.EntryForms.{entry_view, refusal_of};
-ghost use Rattle.acpi_survey.specs.SourceViews.{source_of};
+ghost use Rattle.acpi_survey.specs.SourceViews.{source_of, unknown_of};
 ghost use Rattle.acpi_pieces.specs.Tables.{code_read};
 ghost use Rattle.acpi_survey.specs.Surveys.{lies_below, numbers_at, numbers_below, without_way};
 
@@ -113,7 +113,9 @@ impl Survey {
     }
 
     /// The nodes with names of which nothing is known, in the order of their places.
-    pub fn unknown(&self) -> &[Unknown] {
+    pub fn unknown(&self) -> &[Unknown]
+        ensures { map unknown_of result.now ≡ self.now.reading.unknown }
+    {
         self.reading.remarks().unknown()
     }
 

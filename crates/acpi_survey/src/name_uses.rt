@@ -1,5 +1,11 @@
 //! The names in a term, by how they stand there.
 
+ghost use Rattle.std.specs.Prelude.{◌≡◌, ◌++◌, IfOk, OnOk};
+ghost use Rattle.acpi_tree.specs.Terms.{terms_of};
+ghost use Rattle.acpi_tree.specs.TermView.{decl_view, operands_view, term_view, terms_tree};
+ghost use Rattle.acpi_outline.specs.View.{fixed_view, plain_view};
+ghost use Rattle.acpi_survey.specs.NameUses.{if_wanted, lent_names, names_used, names_used_all, names_used_in_fixed, names_used_in_plain};
+
 use acpi_name::Name;
 use acpi_outline::{Fixed, Plain};
 use acpi_tree::{Decl, Operand, Term};
@@ -20,7 +26,10 @@ fn put<'a>(
     wanted: NameUse,
     found: NameUse,
     name: &'a Name,
-) -> Result<(), AllocError> {
+) -> Result<(), AllocError>
+    ensures { OnOk result (lent_names names.new.items
+        ≡ lent_names names.old.items ++ if_wanted wanted found name.now) }
+{
     if wanted == found {
         names.push(name)?;
     }
@@ -32,7 +41,10 @@ fn add_of_terms<'a>(
     names: &mut Vec<&'a Name>,
     wanted: NameUse,
     terms: &'a [Term],
-) -> Result<(), AllocError> {
+) -> Result<(), AllocError>
+    ensures { OnOk result (lent_names names.new.items
+        ≡ lent_names names.old.items ++ names_used_all wanted (terms_tree terms.now)) }
+{
     'each: for term in terms {
         add_of_term(names, wanted, term)?;
     }
@@ -44,7 +56,10 @@ fn add_of_operands<'a>(
     names: &mut Vec<&'a Name>,
     wanted: NameUse,
     operands: &'a [Operand],
-) -> Result<(), AllocError> {
+) -> Result<(), AllocError>
+    ensures { OnOk result (lent_names names.new.items ≡ lent_names names.old.items
+        ++ names_used_all wanted (terms_of (operands_view operands.now))) }
+{
     'each: for operand in operands {
         if let Operand::Term(term) = operand {
             add_of_term(names, wanted, term)?;
@@ -58,7 +73,10 @@ fn add_of_decl<'a>(
     names: &mut Vec<&'a Name>,
     wanted: NameUse,
     decl: &'a Decl,
-) -> Result<(), AllocError> {
+) -> Result<(), AllocError>
+    ensures { OnOk result (lent_names names.new.items
+        ≡ lent_names names.old.items ++ names_used wanted (decl_view decl.now)) }
+{
     match decl {
         Decl::Name(_, data) => add_of_term(names, wanted, data),
         Decl::Create { source, index, .. } => {
@@ -90,7 +108,10 @@ fn add_of_term<'a>(
     names: &mut Vec<&'a Name>,
     wanted: NameUse,
     term: &'a Term,
-) -> Result<(), AllocError> {
+) -> Result<(), AllocError>
+    ensures { OnOk result (lent_names names.new.items
+        ≡ lent_names names.old.items ++ names_used wanted (term_view term.now)) }
+{
     match term {
         Term::Ref(name) => put(names, wanted, NameUse::Reference, name),
         Term::Buffer(size, _) => add_of_term(names, wanted, size),
@@ -126,7 +147,10 @@ pub fn names_in_terms<'a>(
     alloc: Global,
     wanted: NameUse,
     terms: &'a [Term],
-) -> Result<Vec<&'a Name>, AllocError> {
+) -> Result<Vec<&'a Name>, AllocError>
+    ensures { IfOk result (λ v. lent_names v.items
+        ≡ names_used_all wanted (terms_tree terms.now)) }
+{
     let mut names = Vec::new(alloc);
     add_of_terms(&mut names, wanted, terms)?;
     Ok(names)
@@ -137,7 +161,10 @@ pub fn names_in_plain<'a>(
     alloc: Global,
     wanted: NameUse,
     plain: &'a Plain,
-) -> Result<Vec<&'a Name>, AllocError> {
+) -> Result<Vec<&'a Name>, AllocError>
+    ensures { IfOk result (λ v. lent_names v.items
+        ≡ names_used_in_plain wanted (plain_view plain.now)) }
+{
     let mut names = Vec::new(alloc);
     match plain {
         Plain::Term(term) => add_of_term(&mut names, wanted, term)?,
@@ -157,7 +184,10 @@ pub fn names_in_fixed<'a>(
     alloc: Global,
     wanted: NameUse,
     fixed: &'a Fixed,
-) -> Result<Vec<&'a Name>, AllocError> {
+) -> Result<Vec<&'a Name>, AllocError>
+    ensures { IfOk result (λ v. lent_names v.items
+        ≡ names_used_in_fixed wanted (fixed_view fixed.now)) }
+{
     let mut names = Vec::new(alloc);
     match fixed {
         Fixed::If(test) => add_of_term(&mut names, wanted, test)?,

@@ -1,6 +1,6 @@
 //! What is known while the nodes of tables are read.
 
-ghost use Rattle.std.specs.Prelude.{◌≡◌, ◌++◌, ◌+◌, ◌∷◌, [], Some, is_ok, map, IfOk, OnOk, IsTrue};
+ghost use Rattle.std.specs.Prelude.{◌≡◌, ◌++◌, ◌+◌, ◌∷◌, [], Some, filter, is_ok, map, IfOk, OnOk, IsTrue};
 ghost use Rattle.std.specs.FinMap as finite;
 ghost use Rattle.acpi_name.specs.NameRefs.{name_parts};
 ghost use Rattle.acpi_name.specs.Paths.{place_of};
@@ -11,10 +11,11 @@ ghost use Rattle.acpi_conditions.specs.Turns.{stop_of};
 ghost use Rattle.acpi_conditions.specs.Known.{candidates, is_certain_name, opened_at, declared_at};
 ghost use Rattle.acpi_conditions.specs.Met.{met_by};
 ghost use Rattle.acpi_conditions.specs.Walk as walks;
-ghost use Rattle.acpi_survey.specs.Reading.{count_at, opened_behind, counts_at, is_heard, with_expected, declaring, stopping, passing, expecting, entering, leave, with_source};
+ghost use Rattle.acpi_survey.specs.Reading.{count_at, opened_behind, counts_at, is_heard, with_expected, declaring, stopping, passing, expecting, entering, leave, with_source, is_unknown, noticing};
+ghost use Rattle.acpi_survey.specs.NameUses.{lent_names};
 ghost use Rattle.acpi_survey.specs.Predefined.{nothing_read};
 ghost use Rattle.acpi_survey.specs.steps.Readings.{opened_pairs};
-ghost use Rattle.acpi_survey.specs.SourceViews.{source_of};
+ghost use Rattle.acpi_survey.specs.SourceViews.{source_of, unknown_of};
 ghost use Rattle.acpi_survey.specs.Survey.{place_in, at_table, behind_table};
 
 use crate::counts::{agreed, expected_count, put_counts};
@@ -318,12 +319,15 @@ impl Reading {
     pub(crate) fn remarks(&self) -> &Remarks
         ensures opened { opened_pairs result.now.opened.items ≡ self.now.opened }
         ensures sources { map source_of result.now.sources.items ≡ self.now.sources }
+        ensures unknown { map unknown_of result.now.unknown.items ≡ self.now.unknown }
     {
         &self.remarks
     }
 
     // Whether nothing is known of a name here.
-    fn is_unknown(&self, name: NameRef<'_>) -> Result<bool, AllocError> {
+    fn is_unknown(&self, name: NameRef<'_>) -> Result<bool, AllocError>
+        ensures { IfOk result (λ b. b ≡ is_unknown self.now (name_parts name.entry)) }
+    {
         let met = self.walk.met()?;
         let scope = self.walk.scope();
         let candidates = met.find(self.alloc, scope, name)?;
@@ -334,7 +338,9 @@ impl Reading {
     }
 
     // Those of the names of which nothing is known here.
-    fn unknown_among(&self, names: &[&Name]) -> Result<Vec<Name>, AllocError> {
+    fn unknown_among(&self, names: &[&Name]) -> Result<Vec<Name>, AllocError>
+        ensures { IfOk result (λ v. v.items ≡ filter (is_unknown self.now) (lent_names names.now)) }
+    {
         let mut unknown = Vec::new(self.alloc);
         'each: for name in names {
             if self.is_unknown(name.view())? {
@@ -346,7 +352,7 @@ impl Reading {
 
     /// Keeps those names in the node at the place of which nothing is known here.
     pub(crate) fn keep_unknown(&mut self, place: u128, names: &[&Name]) -> Result<(), AllocError>
-        ensures { OnOk result (self.new ≡ self.old) }
+        ensures { OnOk result (self.new ≡ noticing place (lent_names names.now) self.old) }
     {
         let unknown = self.unknown_among(names)?;
         self.remarks.put_unknown(place, unknown)

@@ -11,7 +11,7 @@ ghost use Rattle.acpi_conditions.specs.Nodes.{no_nodes};
 ghost use Rattle.acpi_conditions.specs.Walk as walks;
 ghost use Rattle.acpi_needs.specs.Needs.{names_in_all, with_names};
 ghost use Rattle.acpi_survey.specs.Nodes.{operator_at, term_at, unit_at, operands_of};
-ghost use Rattle.acpi_survey.specs.Reading.{after_doing, after_plain, count_at, declaring, entering, opened_behind, passing};
+ghost use Rattle.acpi_survey.specs.Reading.{after_doing, past_plain, count_at, declaring, entering, opened_behind, passing};
 
 use crate::names::segment_name;
 use crate::reading::Reading;
@@ -75,7 +75,7 @@ impl Reading {
 
     fn pass_decl(&mut self, offset: usize, decl: &Decl) -> Result<(), AllocError>
         ensures { OnOk result (self.new
-            ≡ after_plain self.old offset (outline.term (decl_view decl.now))) }
+            ≡ past_plain self.old offset (outline.term (decl_view decl.now))) }
     {
         let needs = needs_of(self.memory(), decl)?;
         match decl {
@@ -119,7 +119,7 @@ impl Reading {
 
     fn pass_term(&mut self, offset: usize, term: &Term) -> Result<(), AllocError>
         ensures { OnOk result (self.new
-            ≡ after_plain self.old offset (outline.term (term_view term.now))) }
+            ≡ past_plain self.old offset (outline.term (term_view term.now))) }
     {
         match term {
             Term::Declare(decl) => self.pass_decl(offset, decl),
@@ -131,7 +131,7 @@ impl Reading {
     // Passes an alias, which may be called as its source is.
     fn pass_alias(&mut self, offset: usize, source: &Name, name: &Name) -> Result<(), AllocError>
         ensures { OnOk result (self.new
-            ≡ after_plain self.old offset (outline.alias source.now name.now)) }
+            ≡ past_plain self.old offset (outline.alias source.now name.now)) }
     {
         let count = self.count_at(source.view())?;
         self.keep_source(offset, source)?;
@@ -149,7 +149,7 @@ impl Reading {
         oem: &Term,
         table: &Term,
     ) -> Result<(), AllocError>
-        ensures { OnOk result (self.new ≡ after_plain self.old offset
+        ensures { OnOk result (self.new ≡ past_plain self.old offset
             (outline.table_region name.now (more (term_view signature.now)
             (more (term_view oem.now) (more (term_view table.now) no_terms))))) }
     {
@@ -159,7 +159,7 @@ impl Reading {
 
     /// Passes a plain node.
     pub(crate) fn pass_node(&mut self, offset: usize, plain: &Plain) -> Result<(), AllocError>
-        ensures { OnOk result (self.new ≡ after_plain self.old offset (plain_view plain.now)) }
+        ensures { OnOk result (self.new ≡ past_plain self.old offset (plain_view plain.now)) }
     {
         match plain {
             Plain::Term(term) => self.pass_term(offset, term),

@@ -1,6 +1,8 @@
 //! What is noticed while the nodes of tables are read.
 
-ghost use Rattle.std.specs.Prelude.{◌≡◌, ◌++◌, ◌∷◌, [], OnOk};
+ghost use Rattle.std.specs.Prelude.{◌≡◌, ◌++◌, ◌∷◌, [], map, OnOk};
+ghost use Rattle.acpi_survey.specs.Reading.{with_unknown};
+ghost use Rattle.acpi_survey.specs.SourceViews.{unknown_of};
 
 use acpi_conditions::Candidates;
 use acpi_name::{Name, Path};
@@ -47,6 +49,7 @@ impl Remarks {
     pub(crate) fn new(alloc: Global) -> Remarks
         ensures opened { result.opened.items ≡ [] }
         ensures sources { result.sources.items ≡ [] }
+        ensures unknown { result.unknown.items ≡ [] }
     {
         Remarks {
             opened: Vec::new(alloc),
@@ -81,6 +84,7 @@ impl Remarks {
         ensures opened { OnOk result (self.new.opened.items
             ≡ self.old.opened.items ++ record { place = place; path = path } ∷ []) }
         ensures sources { OnOk result (self.new.sources.items ≡ self.old.sources.items) }
+        ensures unknown { OnOk result (self.new.unknown.items ≡ self.old.unknown.items) }
     {
         self.opened.push(OpenedScope { place, path })?;
         Ok(())
@@ -90,6 +94,8 @@ impl Remarks {
     pub(crate) fn put_unknown(&mut self, place: u128, names: Vec<Name>) -> Result<(), AllocError>
         ensures opened { OnOk result (self.new.opened.items ≡ self.old.opened.items) }
         ensures sources { OnOk result (self.new.sources.items ≡ self.old.sources.items) }
+        ensures unknown { OnOk result (map unknown_of self.new.unknown.items
+            ≡ with_unknown place names.items (map unknown_of self.old.unknown.items)) }
     {
         if names.is_empty() {
             return Ok(());
@@ -103,6 +109,7 @@ impl Remarks {
         ensures opened { OnOk result (self.new.opened.items ≡ self.old.opened.items) }
         ensures sources { OnOk result (self.new.sources.items
             ≡ self.old.sources.items ++ record { place = place; found = found } ∷ []) }
+        ensures unknown { OnOk result (self.new.unknown.items ≡ self.old.unknown.items) }
     {
         self.sources.push(AliasSource { place, found })?;
         Ok(())

@@ -56,7 +56,7 @@ fn read_table(
 pub fn survey(alloc: Global, tables: &[Bytes], depth: Depth) -> Result<Survey, AllocError>
     // Each table is kept, as it is read behind those before it; and so is the limit.
     ensures is { IfOk result (IsSurvey depth tables.now) }
-    // So they have these nodes, and no others, but for the reasons of what is lost.
+    // So they have these nodes, and no others.
     ensures read { IfOk result (λ s. AreRead depth 0 first_reading tables.now
         (nodes_of_each s.tables.items) s.reading) }
     ensures only { IfOk result (λ s. IsOnlyReading depth tables.now

@@ -33,7 +33,7 @@ mutual
   data_spelled g (var_pkg count es) b (a, c, (x, y, hi, none, split), he, packs) =
       (x, c, refl, hi, elems_spelled g es c he, subst (λ l. Packs (0x13 ∷ []) (l ++ c) b) (only a x y none split) packs)
 
-  elem_spelled : (g : Grammar) (e : ElemTree) (b : List ℕ) → SpellsElem e b → Spells g (elem_term e) b
+  pub elem_spelled : (g : Grammar) (e : ElemTree) (b : List ℕ) → SpellsElem e b → Spells g (elem_term e) b
   elem_spelled g (of_data d) b h = data_spelled g d b h
   elem_spelled g (of_name n) b h = h
 
@@ -49,7 +49,7 @@ mutual
   spelled_data g (pkg count es) b (c, he, packs) = (count ∷ [], c, (count ∷ [], [], refl, refl, refl), spelled_elems g es c he, packs)
   spelled_data g (var_pkg count es) b (s, c, stands, hs, he, packs) = (s, c, (s, [], hs, refl, sym (append-nil s)), spelled_elems g es c he, packs)
 
-  spelled_elem : (g : Grammar) (e : ElemTree) (b : List ℕ) → Spells g (elem_term e) b → SpellsElem e b
+  pub spelled_elem : (g : Grammar) (e : ElemTree) (b : List ℕ) → Spells g (elem_term e) b → SpellsElem e b
   spelled_elem g (of_data d) b h = spelled_data g d b h
   spelled_elem g (of_name n) b h = h
 
@@ -67,7 +67,7 @@ mutual
   data_levels (pkg count es) = ap suc (elems_levels es)
   data_levels (var_pkg count es) = omega (arith, elems_levels es)
 
-  elem_levels : (e : ElemTree) → height (elem_term e) ≡ elem_height e
+  pub elem_levels : (e : ElemTree) → height (elem_term e) ≡ elem_height e
   elem_levels (of_data d) = data_levels d
   elem_levels (of_name n) = refl
 

@@ -1,25 +1,30 @@
--- Data: what is spelled is read, what is read is spelled, or the fault is true.
-use Rattle.std.proofs.Common.{◌≡◌, ℕ, zero, suc, ◌-◌, ◌≤◌, ◌<◌, false, List, [], ◌∷◌, ◌++◌, length, Result, Ok, refl, ap, append_assoc, arith, ◌∙◌}
+-- Data: what is spelled is read, and where it fails the reading stops.
+use Rattle.std.proofs.Common.{◌≡◌, ℕ, zero, suc, ◌-◌, ◌≤◌, ◌<◌, false, List, [], ◌∷◌, ◌++◌, length, Result, Ok, Err, refl, sym, ap, append_assoc, arith, ◌∙◌}
 use Rattle.acpi_name.specs.Names.{NameParts}
 use Rattle.acpi_name.proofs.NameAgain.{name_long}
 use Rattle.acpi_code.specs.declared.opcode.Opcode.{Opcode}
 use Rattle.acpi_tree.specs.declared.tree.Int.{Int}
-use Rattle.acpi_code.proofs.Lists.{AreAll, none_left, one_more, all_at, all_sound}
-use Rattle.acpi_code.proofs.Names.{name_in_complete, term_name_sound}
-use Rattle.acpi_code.proofs.Opcodes.{opens, opens_name, Opened, opcode_sound, begins}
 use Rattle.acpi_code.specs.Opcodes.{is_name_opcode}
 use Rattle.acpi_code.specs.Spelling.{SpellsInt, SpellsTermName, SpellsEach, SpellsText}
+use Rattle.acpi_code.specs.Faults.{Failure, FailsBehind, FailsEach, FailsName, FailsText}
 use Rattle.acpi_code.specs.steps.Reading.{opcode_at, name_in, string_at, constant_at, each_at}
-use Rattle.acpi_terms.proofs.Arguments.{packed_complete, packed_sound}
-use Rattle.acpi_code.specs.Forms.{byte_arg, int_arg}
-use Rattle.acpi_terms.specs.steps.Data.{SpellsData, SpellsElem, SpellsElems, data_height, elem_height, elems_height}
-use Rattle.acpi_terms.specs.steps.Reading.{Fault, bytes_in, data_by, elems_with, elem_at, data_at, string_data, buffer_data, package_data, var_package_data, elem_by, part}
-use Rattle.acpi_tree.specs.Tree.{DataTree, int, str, buffer, pkg, var_pkg, ElemTree, of_data, of_name, ElemTrees, no_elems, elem, elems_of}
-use Rattle.acpi_code.proofs.Constants.{form_of, int_long, int_opens, whole_constant}
-use Rattle.acpi_code.proofs.Strings.{string_complete, after_prefix, string_sound}
-use Rattle.acpi_code.proofs.Readings.{Judge, judge_bind, judge_up, Position, Source, Read, position_after, read_as, read_behind}
-use Rattle.acpi_terms.proofs.Parts.{Bad, deep_bad, part_sound}
 use Rattle.acpi_code.specs.declared.opcode.Opcode.TheVariants as opcodes
+use Rattle.acpi_code.proofs.Readings.{Judge, judge_bind, Front}
+use Rattle.acpi_code.proofs.Lists.{AreAll, none_left, one_more, all_at, fails_on}
+use Rattle.acpi_code.proofs.Names.{name_in_complete}
+use Rattle.acpi_code.proofs.Opcodes.{opens, opens_name, Opened}
+use Rattle.acpi_code.proofs.Constants.{form_of, int_long, int_opens}
+use Rattle.acpi_code.proofs.Strings.{string_complete}
+use Rattle.acpi_code.proofs.Exact.{Exact, as_judged, as_stops, made_judged, behind_judged, exact_each, by_opcode_judged, by_opcode_stops, fails_behind}
+use Rattle.acpi_code.proofs.ExactParts.{exact_name, term_name_judged, exact_text, whole_judged, whole_stops}
+use Rattle.acpi_code.specs.Forms.{byte_arg, int_arg}
+use Rattle.acpi_tree.specs.Tree.{DataTree, int, str, buffer, pkg, var_pkg, ElemTree, of_data, of_name, ElemTrees, no_elems, elem, elems_of}
+use Rattle.acpi_terms.specs.Faults.{FailsPart, FailsNever, FailsDataBy, FailsElemBy, FailsElem, FailsData}
+use Rattle.acpi_terms.specs.Spelling.{data_grammar, ElemWithin}
+use Rattle.acpi_terms.specs.steps.Data.{SpellsData, SpellsElem, SpellsElems, data_height, elem_height, elems_height}
+use Rattle.acpi_terms.specs.steps.Reading.{Fault, bytes_in, data_by, elems_with, elem_at, data_at, string_data, elem_by, part, part_fault}
+use Rattle.acpi_terms.proofs.Arguments.{packed_complete, filled_judged, filled_stops}
+use Rattle.acpi_terms.proofs.DataSpelling.{elem_spelled, spelled_elem, elem_levels}
 
 -- ==== what is spelled is read
 
@@ -155,7 +160,7 @@ pub data_complete : (d : DataTree) (level end : ℕ) (bytes rest : List ℕ) →
 data_complete d zero end bytes rest h le = let high = data_high d in absurd (omega arith)
 data_complete d (suc level) end bytes rest h le = data_here level end d bytes rest (forms_complete d level end bytes rest h le)
 
--- ==== what is read is spelled
+-- ==== what was read is spelled, or it fails so; and where it fails the reading stops
 
 -- ---- trees
 
@@ -163,87 +168,139 @@ data_complete d (suc level) end bytes rest h le = data_here level end d bytes re
 abbrev pub DataWithin : ℕ → DataTree → List ℕ → Type 0
 DataWithin level d bytes = SpellsData d bytes × (data_height d ≤ level)
 
-abbrev pub ElemWithin : ℕ → ElemTree → List ℕ → Type 0
-ElemWithin level e bytes = SpellsElem e bytes × (elem_height e ≤ level)
+-- the same of an element, without terms
+abbrev PlainElem : ℕ → ElemTree → List ℕ → Type 0
+PlainElem level e bytes = SpellsElem e bytes × (elem_height e ≤ level)
 
 abbrev ElemsWithin : ℕ → ElemTrees → List ℕ → Type 0
 ElemsWithin level es bytes = SpellsElems es bytes × (elems_height es ≤ level)
+
+plain_elem : (level : ℕ) (e : ElemTree) (a : List ℕ) → ElemWithin level e a → PlainElem level e a
+plain_elem level e a h = (spelled_elem data_grammar e a h.0, omega (arith, h.1, elem_levels e))
+
+elem_term_of : (level : ℕ) (e : ElemTree) (a : List ℕ) → PlainElem level e a → ElemWithin level e a
+elem_term_of level e a h = (elem_spelled data_grammar e a h.0, omega (arith, h.1, elem_levels e))
+
+within_long : (level : ℕ) (e : ElemTree) (a : List ℕ) → ElemWithin level e a → 0 < length a
+within_long level e a h = elem_long e a (plain_elem level e a h).0
 
 elems_within : (level : ℕ) (es : List ElemTree) (bytes : List ℕ) → SpellsEach (ElemWithin level) es bytes → ElemsWithin level (elems_of es) bytes
 elems_within level [] bytes h = (h, omega arith)
 elems_within level (e ∷ es) bytes h =
     let more = elems_within level es h.1 h.3 in
-    ((h.0, h.1, h.2.0, more.0, h.4), omega (arith, h.2.1, more.1))
+    let one = plain_elem level e h.0 h.2 in
+    ((h.0, h.1, one.0, more.0, h.4), omega (arith, one.1, more.1))
 
--- what stands in a package is judged
-abbrev InnerSound : Source → ℕ → Type 0
-InnerSound s level = (end : ℕ) (bytes : List ℕ) → Position s.depth level s.code end bytes → Judge (λ es. ElemsWithin level es bytes) (Bad s) (elems_with (elem_at level) end bytes)
+-- how the elements of a package fail
+abbrev FailsElems : ℕ → Failure Fault
+FailsElems level = FailsEach (ElemWithin level) (FailsElem level)
 
-inner_sound : (s : Source) (level : ℕ)
-    → ((end : ℕ) (bytes : List ℕ) → Position s.depth level s.code end bytes → Judge (Read s level end (ElemWithin level) bytes) (Bad s) (elem_at level end bytes))
-    → InnerSound s level
-inner_sound s level one end bytes h =
-    judge_bind (λ es. SpellsEach (ElemWithin level) es bytes) (λ es. ElemsWithin level es bytes) (Bad s) (each_at (elem_at level end) bytes) _
-    (all_sound s level end (ElemWithin level) (Bad s) (elem_at level end) (λ e a k. elem_long e a k.0) (one end) bytes h) (λ es k. elems_within level es bytes k)
+abbrev ExactElem : ℕ → Type 0
+ExactElem level = Exact (ElemWithin level) (FailsElem level) (elem_at level)
 
--- the opcode that begins the bytes
+elems_judged : (level : ℕ) → ExactElem level → (end : ℕ) (bytes : List ℕ) → Judge (λ es. ElemsWithin level es bytes) (FailsElems level end bytes) (elems_with (elem_at level) end bytes)
+elems_judged level one end bytes =
+    judge_bind (λ es. SpellsEach (ElemWithin level) es bytes) (λ es. ElemsWithin level es bytes) (FailsElems level end bytes) (each_at (elem_at level end) bytes) _
+    ((exact_each (ElemWithin level) (FailsElem level) (elem_at level) one (within_long level)).judged end bytes) (λ es k. elems_within level es bytes k)
+
+elems_stop : (level : ℕ) → ExactElem level → (f : Fault) (end : ℕ) (bytes : List ℕ) → FailsElems level end bytes f → elems_with (elem_at level) end bytes ≡ Err f
+elems_stop level one f end bytes h =
+    fails_on f (each_at (elem_at level end) bytes) (λ es. Ok (elems_of es)) ((exact_each (ElemWithin level) (FailsElem level) (elem_at level) one (within_long level)).stops end bytes f h)
+
+-- ---- by what begins there
+
+-- the bytes begin with the opcode's
 pub opens_with : (bytes : List ℕ) (first : Opcode) (rest op : List ℕ) (o : Opened bytes (first, rest)) → o.front ≡ op → bytes ≡ op ++ rest
 opens_with bytes first rest op o is = o.whole ∙ ap (λ (t : List ℕ). t ++ rest) is
 
-bytes_sound : (s : Source) (level end : ℕ) (bytes : List ℕ) → Position s.depth level s.code end bytes → Judge (λ content. bytes ≡ content) (Bad s) (bytes_in end bytes)
-bytes_sound s level end bytes h = refl
+text_judged : (level end : ℕ) (bytes rest : List ℕ) → bytes ≡ 13 ∷ rest → Judge (Front (DataWithin (suc level)) bytes) (FailsBehind (13 ∷ []) (FailsPart FailsText) end bytes) (string_data end rest)
+text_judged level end bytes rest is =
+    behind_judged (λ d a. DataWithin (suc level) d (13 ∷ a)) (DataWithin (suc level)) (FailsPart FailsText) (13 ∷ []) end bytes rest (string_data end rest) is (λ d a k. k)
+    (made_judged SpellsText (λ d a. DataWithin (suc level) d (13 ∷ a)) (FailsPart FailsText end rest) (λ text. str text) rest (part (string_at end rest)) (λ text a k. ((a, k, refl), omega arith))
+    (as_judged (Front SpellsText rest) FailsText part_fault end rest (string_at end rest) (exact_text.judged end rest)))
 
-data_by_sound : (s : Source) (level end : ℕ) (opcode : Opcode) (bytes rest : List ℕ) → InnerSound s level → Position s.depth (suc level) s.code end bytes → Opened bytes (opcode, rest)
-    → Judge (Read s (suc level) end (DataWithin (suc level)) bytes) (Bad s) (data_by (elems_with (elem_at level)) level end bytes opcode rest)
-data_by_sound s level end (opcodes.Constant form) bytes rest inner h o =
-    read_as (Bad s) s (suc level) end SpellsInt (DataWithin (suc level)) (λ i. int i) bytes (part (constant_at form end rest))
-    (λ i a k. (k, omega arith)) (part_sound s (Read s (suc level) end SpellsInt bytes) (constant_at form end rest)
-    (whole_constant s (suc level) end form bytes rest h o))
-data_by_sound s level end opcodes.Str bytes rest inner h o =
-    let is = opens_with bytes opcodes.Str rest (13 ∷ []) o (o.told.1) in
-    read_behind (Bad s) s (suc level) end (λ d a. DataWithin (suc level) d (13 ∷ a)) (DataWithin (suc level)) bytes (13 ∷ []) rest (string_data end rest) is (λ d a k. k)
-    (read_as (Bad s) s (suc level) end SpellsText (λ d a. DataWithin (suc level) d (13 ∷ a)) (λ text. str text) rest (part (string_at end rest)) (λ text a k. ((a, k, refl), omega arith))
-    (part_sound s (Read s (suc level) end SpellsText rest) (string_at end rest) (string_sound s (suc level) end rest
-    (after_prefix s (suc level) end bytes rest is h) (position_after s (suc level) end bytes (13 ∷ []) rest is h))))
-data_by_sound s level end opcodes.Buffer bytes rest inner h o =
-    let is = opens_with bytes opcodes.Buffer rest (17 ∷ []) o (o.told.1) in
-    judge_up (Bad s) s level end (DataWithin (suc level)) bytes (buffer_data level end rest)
-    (packed_sound s level end opcodes.Buffer (λ v content. buffer v.0 content) bytes_in (λ content b. b ≡ content) (DataWithin (suc level)) bytes rest refl (omega arith) is
-    (λ v x front a b k le fills p. ((a, b, k, fills, p), omega (arith, le))) (λ end b w k. bytes_sound s level end b k) h)
-data_by_sound s level end opcodes.Package bytes rest inner h o =
-    let is = opens_with bytes opcodes.Package rest (18 ∷ []) o (o.told.1) in
-    judge_up (Bad s) s level end (DataWithin (suc level)) bytes (package_data (elems_with (elem_at level)) level end rest)
-    (packed_sound s level end opcodes.Package (λ v es. pkg v.0 es) (elems_with (elem_at level)) (ElemsWithin level) (DataWithin (suc level)) bytes rest refl (omega arith) is
-    (λ v x front a b k le fills p. ((a, b, k, fills.0, p), omega (arith, fills.1))) (λ end b w k. inner end b k) h)
-data_by_sound s level end opcodes.VarPackage bytes rest inner h o =
-    let is = opens_with bytes opcodes.VarPackage rest (19 ∷ []) o (o.told.1) in
-    judge_up (Bad s) s level end (DataWithin (suc level)) bytes (var_package_data (elems_with (elem_at level)) level end rest)
-    (packed_sound s level end opcodes.VarPackage (λ v es. var_pkg v.0 es) (elems_with (elem_at level)) (ElemsWithin level) (DataWithin (suc level)) bytes rest refl (omega arith) is
-    (λ v x front a b k le fills p. ((a, b, k, fills.0, p), omega (arith, le, fills.1))) (λ end b w k. inner end b k) h)
-data_by_sound s level end opcode bytes rest inner h o = begins s (suc level) end bytes (opcode, rest) _ h o refl
+data_by_judged : (level : ℕ) → ExactElem level → (end : ℕ) (o : Opcode) (bytes rest : List ℕ) → Opened bytes (o, rest)
+    → Judge (Front (DataWithin (suc level)) bytes) (FailsDataBy (FailsElems level) level o end bytes) (data_by (elems_with (elem_at level)) level end bytes o rest)
+data_by_judged level one end (opcodes.Constant form) bytes rest o =
+    made_judged SpellsInt (DataWithin (suc level)) (FailsDataBy (FailsElems level) level (opcodes.Constant form) end bytes) (λ i. int i) bytes (part (constant_at form end rest)) (λ i a k. (k, omega arith))
+    (whole_judged part_fault form end bytes rest o)
+data_by_judged level one end opcodes.Str bytes rest o = text_judged level end bytes rest (opens_with bytes opcodes.Str rest (13 ∷ []) o o.told.1)
+data_by_judged level one end opcodes.Buffer bytes rest o =
+    filled_judged level end opcodes.Buffer (λ v content. buffer v.0 content) bytes_in (λ content b. b ≡ content) FailsNever (DataWithin (suc level)) bytes rest
+    (opens_with bytes opcodes.Buffer rest (17 ∷ []) o o.told.1) (λ v x front a b k le fills p. ((a, b, k, fills, p), omega (arith, le))) (λ end b. refl)
+data_by_judged level one end opcodes.Package bytes rest o =
+    filled_judged level end opcodes.Package (λ v es. pkg v.0 es) (elems_with (elem_at level)) (ElemsWithin level) (FailsElems level) (DataWithin (suc level)) bytes rest
+    (opens_with bytes opcodes.Package rest (18 ∷ []) o o.told.1) (λ v x front a b k le fills p. ((a, b, k, fills.0, p), omega (arith, fills.1))) (elems_judged level one)
+data_by_judged level one end opcodes.VarPackage bytes rest o =
+    filled_judged level end opcodes.VarPackage (λ v es. var_pkg v.0 es) (elems_with (elem_at level)) (ElemsWithin level) (FailsElems level) (DataWithin (suc level)) bytes rest
+    (opens_with bytes opcodes.VarPackage rest (19 ∷ []) o o.told.1) (λ v x front a b k le fills p. ((a, b, k, fills.0, p), omega (arith, le, fills.1))) (elems_judged level one)
+data_by_judged level one end term bytes rest o = refl
 
-elem_by_sound : (s : Source) (level end : ℕ) (opcode : Opcode) (bytes rest : List ℕ) → InnerSound s level → Position s.depth (suc level) s.code end bytes → Opened bytes (opcode, rest)
-    → Judge (Read s (suc level) end (ElemWithin (suc level)) bytes) (Bad s) (elem_by (elems_with (elem_at level)) level end bytes opcode rest)
-elem_by_sound s level end opcodes.Name bytes rest inner h o =
-    read_as (Bad s) s (suc level) end SpellsTermName (ElemWithin (suc level)) (λ n. of_name n) bytes (part (name_in end bytes))
-    (λ n a k. (k, omega arith)) (part_sound s (Read s (suc level) end SpellsTermName bytes) (name_in end bytes)
-    (term_name_sound s (suc level) end bytes rest h o))
-elem_by_sound s level end opcode bytes rest inner h o =
-    read_as (Bad s) s (suc level) end (DataWithin (suc level)) (ElemWithin (suc level)) (λ d. of_data d) bytes
-    (data_by (elems_with (elem_at level)) level end bytes opcode rest) (λ d a k. k) (data_by_sound s level end opcode bytes rest inner h o)
+data_by_stops : (level : ℕ) → ExactElem level → (end : ℕ) (o : Opcode) (bytes rest : List ℕ) (f : Fault) → opcode_at end bytes ≡ Ok (o, rest)
+    → FailsDataBy (FailsElems level) level o end bytes f → data_by (elems_with (elem_at level)) level end bytes o rest ≡ Err f
+data_by_stops level one end (opcodes.Constant form) bytes rest f read h = fails_on f (part (constant_at form end rest)) (λ x. Ok (int x.0, x.1)) (whole_stops part_fault form end bytes rest f read h)
+data_by_stops level one end opcodes.Str bytes rest f read h =
+    fails_on f (part (string_at end rest)) (λ x. Ok (str x.0, x.1))
+    (as_stops FailsText part_fault end rest (string_at end rest) f (exact_text.stops end rest) (fails_behind (FailsPart FailsText) opcodes.Str end bytes rest f refl read h))
+data_by_stops level one end opcodes.Buffer bytes rest f read h =
+    filled_stops level end opcodes.Buffer (λ v content. buffer v.0 content) bytes_in FailsNever bytes rest f refl read (λ end b k. absurd k) h
+data_by_stops level one end opcodes.Package bytes rest f read h =
+    filled_stops level end opcodes.Package (λ v es. pkg v.0 es) (elems_with (elem_at level)) (FailsElems level) bytes rest f refl read (elems_stop level one f) h
+data_by_stops level one end opcodes.VarPackage bytes rest f read h =
+    filled_stops level end opcodes.VarPackage (λ v es. var_pkg v.0 es) (elems_with (elem_at level)) (FailsElems level) bytes rest f refl read (elems_stop level one f) h
+data_by_stops level one end term bytes rest f read h = ap Err (sym h)
 
-pub elem_sound : (s : Source) (level end : ℕ) (bytes : List ℕ) → Position s.depth level s.code end bytes → Judge (Read s level end (ElemWithin level) bytes) (Bad s) (elem_at level end bytes)
+elem_by_judged : (level : ℕ) → ExactElem level → (end : ℕ) (o : Opcode) (bytes rest : List ℕ) → Opened bytes (o, rest)
+    → Judge (Front (ElemWithin (suc level)) bytes) (FailsElemBy (FailsElems level) level o end bytes) (elem_by (elems_with (elem_at level)) level end bytes o rest)
+elem_by_judged level one end opcodes.Name bytes rest o =
+    made_judged SpellsTermName (ElemWithin (suc level)) (FailsPart FailsName end bytes) (λ n. of_name n) bytes (part (name_in end bytes)) (λ n a k. (k, omega arith))
+    (as_judged (Front SpellsTermName bytes) FailsName part_fault end bytes (name_in end bytes) (term_name_judged end bytes rest o))
+elem_by_judged level one end term bytes rest o =
+    made_judged (DataWithin (suc level)) (ElemWithin (suc level)) (FailsDataBy (FailsElems level) level term end bytes) (λ d. of_data d) bytes
+    (data_by (elems_with (elem_at level)) level end bytes term rest) (λ d a k. elem_term_of (suc level) (of_data d) a k) (data_by_judged level one end term bytes rest o)
+
+elem_by_stops : (level : ℕ) → ExactElem level → (end : ℕ) (o : Opcode) (bytes rest : List ℕ) (f : Fault) → opcode_at end bytes ≡ Ok (o, rest)
+    → FailsElemBy (FailsElems level) level o end bytes f → elem_by (elems_with (elem_at level)) level end bytes o rest ≡ Err f
+elem_by_stops level one end opcodes.Name bytes rest f read h =
+    fails_on f (part (name_in end bytes)) (λ n. Ok (of_name n.0, n.1)) (as_stops FailsName part_fault end bytes (name_in end bytes) f (exact_name.stops end bytes) h)
+elem_by_stops level one end term bytes rest f read h =
+    fails_on f (data_by (elems_with (elem_at level)) level end bytes term rest) (λ d. Ok (of_data d.0, d.1)) (data_by_stops level one end term bytes rest f read h)
+
+-- ---- with their opcodes
+
+elem_found : (level end : ℕ) (e : ElemTree) (a rest : List ℕ) → ElemWithin level e a → elem_at level end (a ++ rest) ≡ Ok (e, rest)
+elem_found level end e a rest h = let k = plain_elem level e a h in elem_complete e level end a rest k.0 k.1
+
+elem_judged_by : (level : ℕ) → ExactElem level → (end : ℕ) (bytes : List ℕ) → Judge (Front (ElemWithin (suc level)) bytes) (FailsElem (suc level) end bytes) (elem_at (suc level) end bytes)
 unfolding elem_at
-elem_sound s zero end bytes h = deep_bad s end bytes h
-elem_sound s (suc level) end bytes h =
-    judge_bind (Opened bytes) (Read s (suc level) end (ElemWithin (suc level)) bytes) (Bad s) (part (opcode_at end bytes)) _
-    (part_sound s (Opened bytes) (opcode_at end bytes) (opcode_sound s (suc level) end bytes h))
-    (λ x o. elem_by_sound s level end x.0 bytes x.1 (inner_sound s level (λ end bytes k. elem_sound s level end bytes k)) h o)
+elem_judged_by level one end bytes =
+    by_opcode_judged part_fault (FailsElemBy (FailsElems level) level) (Front (ElemWithin (suc level)) bytes) end bytes _ (λ x o. elem_by_judged level one end x.0 bytes x.1 o)
 
-pub data_sound : (s : Source) (level end : ℕ) (bytes : List ℕ) → Position s.depth level s.code end bytes → Judge (Read s level end (DataWithin level) bytes) (Bad s) (data_at level end bytes)
+elem_stops_by : (level : ℕ) → ExactElem level → (end : ℕ) (bytes : List ℕ) (f : Fault) → FailsElem (suc level) end bytes f → elem_at (suc level) end bytes ≡ Err f
+unfolding elem_at
+elem_stops_by level one end bytes f h =
+    by_opcode_stops part_fault (FailsElemBy (FailsElems level) level) end bytes _ f (λ o rest read k. elem_by_stops level one end o bytes rest f read k) h
+
+no_elem_judged : (end : ℕ) (bytes : List ℕ) → Judge (Front (ElemWithin 0) bytes) (FailsElem 0 end bytes) (elem_at 0 end bytes)
+unfolding elem_at
+no_elem_judged end bytes = refl
+
+no_elem_stops : (end : ℕ) (bytes : List ℕ) (f : Fault) → FailsElem 0 end bytes f → elem_at 0 end bytes ≡ Err f
+unfolding elem_at
+no_elem_stops end bytes f h = ap Err (sym h)
+
+pub exact_elem : (level : ℕ) → ExactElem level
+exact_elem zero = record { found = elem_found 0; judged = no_elem_judged; stops = no_elem_stops }
+exact_elem (suc level) = record { found = elem_found (suc level); judged = elem_judged_by level (exact_elem level); stops = elem_stops_by level (exact_elem level) }
+
+pub data_judged : (level end : ℕ) (bytes : List ℕ) → Judge (Front (DataWithin level) bytes) (FailsData level end bytes) (data_at level end bytes)
 unfolding data_at
-data_sound s zero end bytes h = deep_bad s end bytes h
-data_sound s (suc level) end bytes h =
-    judge_bind (Opened bytes) (Read s (suc level) end (DataWithin (suc level)) bytes) (Bad s) (part (opcode_at end bytes)) _
-    (part_sound s (Opened bytes) (opcode_at end bytes) (opcode_sound s (suc level) end bytes h))
-    (λ x o. data_by_sound s level end x.0 bytes x.1 (inner_sound s level (λ end bytes k. elem_sound s level end bytes k)) h o)
+data_judged zero end bytes = refl
+data_judged (suc level) end bytes =
+    by_opcode_judged part_fault (FailsDataBy (FailsElems level) level) (Front (DataWithin (suc level)) bytes) end bytes _ (λ x o. data_by_judged level (exact_elem level) end x.0 bytes x.1 o)
+
+pub data_stops : (level end : ℕ) (bytes : List ℕ) (f : Fault) → FailsData level end bytes f → data_at level end bytes ≡ Err f
+unfolding data_at
+data_stops zero end bytes f h = ap Err (sym h)
+data_stops (suc level) end bytes f h =
+    by_opcode_stops part_fault (FailsDataBy (FailsElems level) level) end bytes _ f (λ o rest read k. data_by_stops level (exact_elem level) end o bytes rest f read k) h

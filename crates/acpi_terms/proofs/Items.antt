@@ -1,43 +1,40 @@
--- Items: what is spelled is read, what is read is spelled, or the fault is true.
-use Rattle.std.proofs.Common.{◌≡◌, ℕ, zero, suc, ◌-◌, ◌≤◌, ◌<◌, Bool, true, false, cond, List, [], ◌∷◌, ◌++◌, length, Result, Ok, refl, ap, ◌∙◌, append_assoc, arith, ◌+◌, Err, sym, subst, append-nil, inl, inr}
+-- Items: what is spelled is read, and where it fails the reading stops.
+use Rattle.std.proofs.Common.{◌≡◌, ℕ, zero, suc, ◌-◌, ◌+◌, ◌≤◌, ◌<◌, true, List, [], ◌∷◌, ◌++◌, length, Result, Ok, Err, refl, sym, ap, subst, ◌∙◌, append_assoc, arith}
 use Rattle.acpi_name.specs.Names.{NameParts}
+use Rattle.acpi_name.specs.Spelling.{SpellsName}
+use Rattle.acpi_table.specs.PkgLength.{SpellsPkgLength}
 use Rattle.acpi_code.specs.declared.opcode.Opcode.{Opcode}
-use Rattle.acpi_tree.specs.declared.op.Op.{Op}
+use Rattle.acpi_code.specs.declared.opcode.Opcode.TheVariants as opcodes
 use Rattle.acpi_tree.specs.declared.tree.Width.{Width}
+use Rattle.acpi_tree.specs.declared.tree.Width.TheVariants as widths
 use Rattle.acpi_tree.specs.declared.tree.ScopeKind.{ScopeKind}
 use Rattle.acpi_tree.specs.declared.tree.ScopeKind.TheVariants as kinds
-use Rattle.acpi_tree.specs.Operators.{is_load}
-use Rattle.acpi_tree.specs.Tree.{DataTree, ExternalParts, ItemTree, name, scope, method, external, external_block, create, create_field, mutex, event, region, field, index_field, bank_field, ItemTrees, no_items, item, items_of}
-use Rattle.acpi_code.proofs.Lists.{AreAll, none_left, one_more, all_at, all_sound}
-use Rattle.acpi_code.proofs.Names.{name_in_complete, name_sound}
-use Rattle.acpi_code.proofs.Opcodes.{opens, Opened, opcode_sound}
-use Rattle.acpi_code.specs.Faults.{has_package}
-use Rattle.acpi_code.proofs.Packages.{package_complete, GoodPackage, package_sound, deeper_package}
+use Rattle.acpi_tree.specs.Tree.{DataTree, FieldTree, ExternalParts, ItemTree, name, scope, method, external, external_block, create, create_field, mutex, event, region, field, index_field, bank_field, ItemTrees, no_items, item, items_of}
 use Rattle.acpi_code.specs.Opcodes.{width_bytes, opcode_bytes}
-use Rattle.acpi_code.specs.steps.Opcodes.{is_spelled}
 use Rattle.acpi_code.specs.Spelling.{SpellsEach, Packs}
-use Rattle.acpi_code.specs.steps.Reading.{◌>>=◌, opcode_at, name_in, Package, package_at, each_at}
-use Rattle.acpi_terms.proofs.Arguments.{arguments_height, plain_complete, packed_complete, awaits_all, plain_sound, packed_sound}
-use Rattle.acpi_terms.proofs.DataSpelling.{data_spelled, spelled_data, data_levels}
-use Rattle.acpi_terms.proofs.DataTrees.{data_complete, DataWithin, data_sound, opens_with}
-use Rattle.acpi_terms.proofs.Fields.{fields_complete, fields_sound}
 use Rattle.acpi_code.specs.Fields.{SpellsFields}
 use Rattle.acpi_code.specs.Forms.{fixed_arguments, ArgumentsOf, kind_opcode, kind_arguments}
+use Rattle.acpi_code.specs.Faults.{Failure, FailsAs, FailsInTurn, FailsName, FailsPackage, FailsUnless, FailsFields}
+use Rattle.acpi_code.specs.steps.Opcodes.{is_spelled}
+use Rattle.acpi_code.specs.steps.Reading.{opcode_at, name_in, each_at}
+use Rattle.acpi_code.proofs.Readings.{Judge, judge_bind, Front}
+use Rattle.acpi_code.proofs.Lists.{AreAll, none_left, one_more, all_at, fails_on}
+use Rattle.acpi_code.proofs.Names.{name_in_complete}
+use Rattle.acpi_code.proofs.Opcodes.{opens, Opened}
+use Rattle.acpi_code.proofs.Packages.{package_complete}
+use Rattle.acpi_code.proofs.Exact.{Exact, exact_as, made_judged, behind_judged, turn_judged, turn_stops, exact_each, package_judged, package_stops, by_opcode_judged, by_opcode_stops, fails_behind}
+use Rattle.acpi_code.proofs.ExactParts.{exact_name}
+use Rattle.acpi_terms.specs.declared.fault.ItemReason.TheVariants.{ModuleIf}
+use Rattle.acpi_terms.specs.Faults.{reason_at, refusal, FailsPart, FailsNever, FailsForm, FailsFilled, FailsData, FailsBlock, FailsIf, FailsItemBy, FailsItem, FailsItems}
+use Rattle.acpi_terms.specs.Spelling.{data_grammar, SpellsArguments, SpellsExternal, SpellsItem, SpellsItems, block_height, item_height, items_height, SpellsFilled, SpellsForm, ItemWithin}
 use Rattle.acpi_terms.specs.steps.Data.{data_height}
-use Rattle.acpi_terms.specs.Spelling.{data_grammar, SpellsArguments, SpellsExternal, SpellsItem, SpellsItems, block_height, item_height, items_height, SpellsFilled, SpellsForm}
-use Rattle.acpi_terms.specs.steps.Reading.{Fault, fields_in, bytes_in, plain_at, packed_at, parts_at, block_content, item_by, items_with, item_at, items_at, fault_at, data_at, block_fault, in_block, name_item, block_item, part}
+use Rattle.acpi_terms.specs.steps.Reading.{Fault, fault_at, part, part_fault, constant_fault, fields_in, bytes_in, plain_at, packed_at, parts_at, block_content, in_block, data_at, name_item, block_item, item_by, items_with, item_at, items_at}
+use Rattle.acpi_terms.proofs.Arguments.{arguments_height, plain_complete, packed_complete, plain_judged, plain_stops, filled_judged, filled_stops}
+use Rattle.acpi_terms.proofs.DataSpelling.{data_spelled, spelled_data, data_levels}
+use Rattle.acpi_terms.proofs.DataTrees.{data_complete, DataWithin, data_judged, data_stops, opens_with}
+use Rattle.acpi_terms.proofs.Fields.{fields_complete, exact_fields}
 use Rattle.acpi_terms.proofs.ScopeKinds.{kind_form}
-use Rattle.acpi_terms.proofs.Blocks.{parts_complete, content_complete, BlockShows, BlockBad, InBlock, content_sound, no_block, failed, parts_sound}
-use Rattle.acpi_table.specs.PkgLength.{SpellsPkgLength}
-use Rattle.acpi_name.specs.Spelling.{SpellsName}
-use Rattle.acpi_terms.specs.declared.fault.ItemReason.{ItemReason}
-use Rattle.acpi_terms.specs.declared.fault.ItemReason.TheVariants.{BadOpcode, Alias, ModuleIf, ModuleCode, Load, TooDeep, DataRegion}
-use Rattle.acpi_code.proofs.Readings.{Judge, judge_bind, judge_up, Position, Source, Read, stands_at, position_deeper, read_as}
-use Rattle.acpi_terms.proofs.Parts.{Bad, deep_bad, part_sound, refused}
-use Rattle.acpi_terms.specs.Faults.{operator_reason, Awaits, ShowsItems}
-use Rattle.acpi_code.specs.declared.opcode.Opcode.TheVariants as opcodes
-use Rattle.acpi_tree.specs.declared.tree.Width.TheVariants as widths
-use Rattle.acpi_tree.specs.declared.place.UnitsForm.TheVariants as units
+use Rattle.acpi_terms.proofs.Blocks.{parts_complete, content_complete, InBlock, block_judged, block_stops, parts_judged, parts_stop}
 
 -- ==== what is spelled is read
 
@@ -191,10 +188,7 @@ item_complete i (suc level) end a rest h le = one_complete i level end a rest h 
 pub code_complete : (is : ItemTrees) (depth : ℕ) (code : List ℕ) → SpellsItems is code → items_height is ≤ depth → items_at depth code ≡ Ok is
 code_complete is depth code h le = are_items depth (length code) is code (items_complete is depth (length code) code h le)
 
--- ==== what is read is spelled
-
-abbrev pub ItemWithin : ℕ → ItemTree → List ℕ → Type 0
-ItemWithin level i bytes = SpellsItem i bytes × (item_height i ≤ level)
+-- ==== what was read is spelled, or it fails so; and where it fails the reading stops
 
 abbrev pub ItemsWithin : ℕ → ItemTrees → List ℕ → Type 0
 ItemsWithin level is bytes = SpellsItems is bytes × (items_height is ≤ level)
@@ -205,174 +199,202 @@ items_within level (i ∷ is) bytes h =
     let more = items_within level is h.1 h.3 in
     ((h.0, h.1, h.2.0, more.0, h.4), omega (arith, h.2.1, more.1))
 
--- what stands in a package is judged
-abbrev InnerSound : Source → ℕ → Type 0
-InnerSound s level = (end : ℕ) (bytes : List ℕ) → Position s.depth level s.code end bytes → Judge (λ is. ItemsWithin level is bytes) (Bad s) (items_with (item_at level) end bytes)
+within_long : (level : ℕ) (i : ItemTree) (a : List ℕ) → ItemWithin level i a → 0 < length a
+within_long level i a h = item_long i a h.0
 
-inner_sound : (s : Source) (level : ℕ)
-    → ((end : ℕ) (bytes : List ℕ) → Position s.depth level s.code end bytes → Judge (Read s level end (ItemWithin level) bytes) (Bad s) (item_at level end bytes))
-    → InnerSound s level
-inner_sound s level one end bytes h =
-    judge_bind (λ is. SpellsEach (ItemWithin level) is bytes) (λ is. ItemsWithin level is bytes) (Bad s) (each_at (item_at level end) bytes) _
-    (all_sound s level end (ItemWithin level) (Bad s) (item_at level end) (λ i a k. item_long i a k.0) (one end) bytes h) (λ is k. items_within level is bytes k)
+abbrev ExactItem : ℕ → Type 0
+ExactItem level = Exact (ItemWithin level) (FailsItem level) (item_at level)
 
-block_sound : (s : Source) (level end : ℕ) (bytes rest : List ℕ) → bytes ≡ 160 ∷ rest → Position s.depth (suc level) s.code end bytes
-    → Judge (Read s level end (ItemWithin (suc level)) bytes) (Bad s) (block_item level end bytes rest)
-block_sound s level end bytes rest is h =
-    judge_bind (GoodPackage s level end rest) G (Bad s) (part (package_at end rest)) _
-    (part_sound s (GoodPackage s level end rest) (package_at end rest) (package_sound s level end rest (deeper_package s level end opcodes.If bytes rest refl is (omega arith) h))) (λ p g.
-    by_content p g (block_content level p.end p.content) refl (content_sound s level p.end p.content g.1))
-  where
-    G : ItemTree × List ℕ → Type 0
-    G = Read s level end (ItemWithin (suc level)) bytes
+inner_judged : (level : ℕ) → ExactItem level → (end : ℕ) (bytes : List ℕ) → Judge (λ is. ItemsWithin level is bytes) (FailsItems level end bytes) (items_with (item_at level) end bytes)
+inner_judged level one end bytes =
+    judge_bind (λ is. SpellsEach (ItemWithin level) is bytes) (λ is. ItemsWithin level is bytes) (FailsItems level end bytes) (each_at (item_at level end) bytes) _
+    ((exact_each (ItemWithin level) (FailsItem level) (item_at level) one (within_long level)).judged end bytes) (λ is k. items_within level is bytes k)
 
-    told : Fault
-    told = fault_at end bytes ModuleIf
+inner_stops : (level : ℕ) → ExactItem level → (f : Fault) (end : ℕ) (bytes : List ℕ) → FailsItems level end bytes f → items_with (item_at level) end bytes ≡ Err f
+inner_stops level one f end bytes h =
+    fails_on f (each_at (item_at level end) bytes) (λ is. Ok (items_of is)) ((exact_each (ItemWithin level) (FailsItem level) (item_at level) one (within_long level)).stops end bytes f h)
 
-    by_reason : (p : Package) → GoodPackage s level end rest p → (why : ItemReason) (place : ℕ)
-        → block_content level p.end p.content ≡ failed (record { reason = why; place = place }) → BlockShows s why place
-        → Bad s (block_fault (fault_at end bytes ModuleIf) why (record { reason = why; place = place }))
-    by_reason p g TooDeep place e b = b
-    by_reason p g why place e b =
-        inr (record {
-          len = g.0.len;
-          content = p.content;
-          rest = p.rest ++ h.after;
-          spells_len = g.0.spells_len;
-          here = stands_at s (suc level) end bytes h ∙ rw (is, g.0.whole) (simp append_assoc);
-          is_other = no_block level p.end p.content (record { reason = why; place = place }) e (λ d. cc);
-        })
+-- ---- a name, a block
 
-    by_content : (p : Package) → GoodPackage s level end rest p → (r : Result (List ExternalParts) Fault) → block_content level p.end p.content ≡ r → Judge (InBlock level p.content) (BlockBad s) r
-        → Judge (Read s level end (ItemWithin (suc level)) bytes) (Bad s) (in_block (fault_at end bytes ModuleIf) r >>= λ xs. Ok (external_block xs, p.rest))
-    by_content p g (Ok xs) e j =
-        let packs : Packs (160 ∷ []) (0 ∷ j.0) (160 ∷ (g.0.len ++ (0 ∷ j.0))) =
-        record {
-          len = g.0.len;
-          spells_len = subst (λ (y : List ℕ). SpellsPkgLength (length g.0.len + length y) g.0.len) j.1
-              g.0.spells_len;
-          whole = refl;
-        } in
-        (record { front = 160 ∷ (g.0.len ++ (0 ∷ j.0)); spells = ((j.0, j.2, packs), j.3); whole = rw (is, g.0.whole, j.1) (simp append_assoc) }, g.2)
-    by_content p g (Err f) e j = by_reason p g f.reason f.place e j
+name_item_judged : (level end : ℕ) (bytes rest : List ℕ) → bytes ≡ 8 ∷ rest
+    → Judge (Front (ItemWithin (suc level)) bytes) (FailsItemBy (FailsItems level) level opcodes.DeclareName end bytes) (name_item level end rest)
+name_item_judged level end bytes rest is =
+    let Behind : ItemTree → List ℕ → Type 0 = λ i a. ItemWithin (suc level) i (8 ∷ a) in
+    let G : ItemTree × List ℕ → Type 0 = Front Behind rest in
+    behind_judged Behind (ItemWithin (suc level)) (FailsInTurn (FailsPart FailsName) SpellsName (λ n. FailsData level)) (8 ∷ []) end bytes rest (name_item level end rest) is (λ i a k. k)
+    (turn_judged SpellsName (FailsPart FailsName) (λ n. FailsData level) (λ end bytes. part (name_in end bytes)) G end rest _ (exact_as SpellsName FailsName name_in part_fault exact_name) (λ n t.
+    judge_bind (Front (DataWithin level) n.1) G (FailsData level end n.1) (data_at level end n.1) _ (data_judged level end n.1) (λ d u.
+    record {
+      front = t.front ++ u.front;
+      spells = ((t.front, u.front, t.spells, data_spelled data_grammar d.0 u.front u.spells.0, refl), omega (arith, u.spells.1, data_levels d.0));
+      whole = t.whole ∙ ap (λ (l : List ℕ). t.front ++ l) u.whole ∙ sym (append_assoc t.front u.front d.1);
+    })))
 
--- ---- one item
+name_item_stops : (level end : ℕ) (rest : List ℕ) (f : Fault) → FailsInTurn (FailsPart FailsName) SpellsName (λ n. FailsData level) end rest f → name_item level end rest ≡ Err f
+name_item_stops level end rest f h =
+    turn_stops SpellsName (FailsPart FailsName) (λ n. FailsData level) (λ end bytes. part (name_in end bytes)) end rest _ f (exact_as SpellsName FailsName name_in part_fault exact_name)
+    (λ n b k. fails_on f (data_at level end b) (λ d. Ok (name n d.0, d.1)) (data_stops level end b f k)) h
 
-name_item_sound : (s : Source) (level end : ℕ) (bytes rest : List ℕ) → bytes ≡ 8 ∷ rest → Position s.depth level s.code end rest
-    → Judge (Read s level end (ItemWithin (suc level)) bytes) (Bad s) (name_item level end rest)
-name_item_sound s level end bytes rest is h =
-    let G : ItemTree × List ℕ → Type 0 = Read s level end (ItemWithin (suc level)) bytes in
-    judge_bind (Read s level end SpellsName rest) G (Bad s) (part (name_in end rest)) _ (part_sound s (Read s level end SpellsName rest) (name_in end rest) (name_sound s level end rest h)) (λ n r.
-    judge_bind (Read s level end (DataWithin level) n.1) G (Bad s) (data_at level end n.1) _ (data_sound s level end n.1 r.1) (λ d q.
-    let t = r.0 in
-    let u = q.0 in
-    (record { front = 8 ∷ (t.front ++ u.front); spells = ((t.front, u.front, t.spells, data_spelled data_grammar d.0 u.front u.spells.0, refl), omega (arith, u.spells.1, data_levels d.0)); whole = rw (is, t.whole, u.whole) (simp append_assoc) }, q.1)))
+block_item_judged : (level end : ℕ) (bytes rest : List ℕ) → bytes ≡ 160 ∷ rest → Judge (Front (ItemWithin (suc level)) bytes) (FailsIf level end bytes) (block_item level end bytes rest)
+block_item_judged level end bytes rest is =
+    let told = fault_at end bytes ModuleIf in
+    let Behind : ItemTree → List ℕ → Type 0 = λ i a. ItemWithin (suc level) i (160 ∷ a) in
+    let G : ItemTree × List ℕ → Type 0 = Front Behind rest in
+    behind_judged Behind (ItemWithin (suc level)) (FailsPackage part_fault (FailsBlock level told)) (160 ∷ []) end bytes rest (block_item level end bytes rest) is (λ i a k. k)
+    (package_judged part_fault (FailsBlock level told) G end rest _ (λ p g.
+    judge_bind (InBlock level p.content) G (FailsBlock level told p.end p.content) (in_block told (block_content level p.end p.content)) _ (block_judged level told p.end p.content) (λ xs j.
+    let packs : Packs (160 ∷ []) (0 ∷ j.0) (160 ∷ (g.len ++ (0 ∷ j.0))) =
+    record {
+      len = g.len;
+      spells_len = subst (λ (y : List ℕ). SpellsPkgLength (length g.len + length y) g.len) j.1 g.spells_len;
+      whole = refl;
+    } in
+    record {
+      front = g.len ++ (0 ∷ j.0);
+      spells = ((j.0, j.2, packs), j.3);
+      whole = g.whole ∙ ap (λ (y : List ℕ). g.len ++ (y ++ p.rest)) j.1 ∙ sym (append_assoc g.len (0 ∷ j.0) p.rest);
+    })))
 
-plain_form : (s : Source) (level end : ℕ) (opcode : Opcode) (made : ArgumentsOf opcode → ItemTree) (bytes rest : List ℕ)
-    (o : Opened bytes (opcode, rest)) → has_package opcode ≡ false → o.front ≡ opcode_bytes opcode → Position s.depth (suc level) s.code end bytes
-    → ((v : ArgumentsOf opcode) (front : List ℕ) → SpellsForm opcode v front → arguments_height (fixed_arguments opcode) ≤ level → ItemWithin (suc level) (made v) front)
-    → Judge (Read s (suc level) end (ItemWithin (suc level)) bytes) (Bad s) (plain_at (fixed_arguments opcode) made level end rest)
-plain_form s level end opcode made bytes rest o plain told h spells =
-    let is = opens_with bytes opcode rest (opcode_bytes opcode) o told in
-    let some : 0 < length (opcode_bytes opcode) = rw (sym told) o.some in
-    judge_up (Bad s) s level end (ItemWithin (suc level)) bytes (plain_at (fixed_arguments opcode) made level end rest)
-    (plain_sound s level end level opcode made (ItemWithin (suc level)) bytes rest is (inr refl) spells
-    (awaits_all s (suc level) end opcode bytes rest plain is h) (position_deeper s level end bytes (opcode_bytes opcode) rest is some h))
+block_item_stops : (level end : ℕ) (bytes rest : List ℕ) (f : Fault) → FailsPackage part_fault (FailsBlock level (fault_at end bytes ModuleIf)) end rest f → block_item level end bytes rest ≡ Err f
+block_item_stops level end bytes rest f h =
+    let told = fault_at end bytes ModuleIf in
+    package_stops part_fault (FailsBlock level told) end rest _ f
+    (λ p k. fails_on f (in_block told (block_content level p.end p.content)) (λ xs. Ok (external_block xs, p.rest)) (block_stops level told p.end p.content f k)) h
 
-packed_form : {X : Type 0} (s : Source) (level end : ℕ) (opcode : Opcode) (made : ArgumentsOf opcode → X → ItemTree)
-    (inner : ℕ → List ℕ → Result X Fault) (Fills : X → List ℕ → Type 0) (bytes rest : List ℕ)
-    (o : Opened bytes (opcode, rest)) → has_package opcode ≡ true → o.front ≡ opcode_bytes opcode → Position s.depth (suc level) s.code end bytes
-    → ((v : ArgumentsOf opcode) (x : X) (front a b : List ℕ) → SpellsArguments (fixed_arguments opcode) v a → arguments_height (fixed_arguments opcode) ≤ level
-    → Fills x b → Packs (opcode_bytes opcode) (a ++ b) front → ItemWithin (suc level) (made v x) front)
-    → ((end : ℕ) (b : List ℕ) → Awaits opcode [] s.code (end - length b) → Position s.depth level s.code end b → Judge (λ x. Fills x b) (Bad s) (inner end b))
-    → Judge (Read s (suc level) end (ItemWithin (suc level)) bytes) (Bad s) (packed_at (fixed_arguments opcode) made level inner end rest)
-packed_form s level end opcode made inner Fills bytes rest o packs told h spells fills =
-    let is = opens_with bytes opcode rest (opcode_bytes opcode) o told in
-    let some : 0 < length (opcode_bytes opcode) = rw (sym told) o.some in
-    judge_up (Bad s) s level end (ItemWithin (suc level)) bytes (packed_at (fixed_arguments opcode) made level inner end rest)
-    (packed_sound s level end opcode made inner Fills (ItemWithin (suc level)) bytes rest packs some is spells fills h)
+-- ---- forms
 
--- an operator is refused, whatever it is
-operator_refused : (s : Source) (level end : ℕ) (op : Op) (bytes rest : List ℕ) → Position s.depth (suc level) s.code end bytes → Opened bytes (opcodes.Operator op, rest)
-    → Bad s (fault_at end bytes (operator_reason op))
-operator_refused s level end op bytes rest h o = by_kind (is_load op) refl
-  where
-    by_kind : (t : Bool) → is_load op ≡ t → Bad s (fault_at end bytes (cond t Load ModuleCode))
-    by_kind true e = refused s (suc level) end bytes (opcodes.Operator op, rest) Load h o (rw e refl)
-    by_kind false e = refused s (suc level) end bytes (opcodes.Operator op, rest) ModuleCode h o (rw e refl)
+-- what an item fails by that begins with the opcode
+abbrev FailsBy : ℕ → Opcode → Failure Fault
+FailsBy level o = FailsUnless reason_at (refusal o) (FailsItemBy (FailsItems level) level o)
 
-item_by_sound : (s : Source) (level end : ℕ) (opcode : Opcode) (bytes rest : List ℕ) → InnerSound s level → Position s.depth (suc level) s.code end bytes → Opened bytes (opcode, rest)
-    → Judge (Read s (suc level) end (ItemWithin (suc level)) bytes) (Bad s) (item_by (items_with (item_at level)) level end bytes opcode rest)
-item_by_sound s level end opcodes.DeclareName bytes rest inner h o =
-    let is = opens_with bytes opcodes.DeclareName rest (8 ∷ []) o o.told.1 in
-    judge_up (Bad s) s level end (ItemWithin (suc level)) bytes (name_item level end rest)
-    (name_item_sound s level end bytes rest is (position_deeper s level end bytes (8 ∷ []) rest is (omega arith) h))
-item_by_sound s level end opcodes.Scope bytes rest inner h o =
-    packed_form s level end opcodes.Scope (λ v is. scope kinds.Scope v.0 is) (items_with (item_at level)) (ItemsWithin level) bytes rest o refl o.told.1 h
-    (λ v x front a b k le fills p. ((a, b, k, fills.0, p), omega (arith, fills.1))) (λ end b w k. inner end b k)
-item_by_sound s level end opcodes.Method bytes rest inner h o =
-    packed_form s level end opcodes.Method (λ v code. method v.0 v.1.0 code) bytes_in (λ code b. b ≡ code) bytes rest o refl o.told.1 h
-    (λ v x front a b k le fills p. ((a, b, k, fills, p), omega arith)) (λ end b w k. refl)
-item_by_sound s level end opcodes.External bytes rest inner h o =
-    let is = opens_with bytes opcodes.External rest (21 ∷ []) o o.told.1 in
-    read_as (Bad s) s (suc level) end SpellsExternal (ItemWithin (suc level)) (λ x. external x) bytes (parts_at end rest) (λ x a k. (k, omega arith))
-    (parts_sound s (suc level) end bytes rest is h)
-item_by_sound s level end opcodes.If bytes rest inner h o =
-    let is = opens_with bytes opcodes.If rest (160 ∷ []) o o.told.1 in
-    judge_up (Bad s) s level end (ItemWithin (suc level)) bytes (block_item level end bytes rest)
-    (block_sound s level end bytes rest is h)
-item_by_sound s level end (opcodes.Create w) bytes rest inner h o =
-    plain_form s level end (opcodes.Create w) (λ v. create w v.0 v.1.0 v.1.1.0) bytes rest o refl o.told.1 h (λ v front k le. (k, omega (arith, le)))
-item_by_sound s level end opcodes.CreateField bytes rest inner h o =
-    plain_form s level end opcodes.CreateField (λ v. create_field v.0 v.1.0 v.1.1.0 v.1.1.1.0) bytes rest o refl o.told.1 h
-    (λ v front k le. (k, omega (arith, le)))
-item_by_sound s level end opcodes.Mutex bytes rest inner h o =
-    plain_form s level end opcodes.Mutex (λ v. mutex v.0 v.1.0) bytes rest o refl o.told.1 h (λ v front k le. (k, omega arith))
-item_by_sound s level end opcodes.Event bytes rest inner h o =
-    plain_form s level end opcodes.Event (λ v. event v.0) bytes rest o refl o.told.1 h (λ v front k le. (k, omega arith))
-item_by_sound s level end opcodes.Region bytes rest inner h o =
-    plain_form s level end opcodes.Region (λ v. region v.0 v.1.0 v.1.1.0 v.1.1.1.0) bytes rest o refl o.told.1 h
-    (λ v front k le. (k, omega (arith, le)))
-item_by_sound s level end opcodes.Field bytes rest inner h o =
-    packed_form s level end opcodes.Field (λ v es. field v.0 v.1.0 es) fields_in (λ es b. SpellsFields es b) bytes rest o refl o.told.1 h
-    (λ v x front a b k le fills p. ((a, b, k, fills, p), omega arith)) (λ end b w k. fields_sound s level end units.Field b w k)
-item_by_sound s level end opcodes.IndexField bytes rest inner h o =
-    packed_form s level end opcodes.IndexField (λ v es. index_field v.0 v.1.0 v.1.1.0 es) fields_in (λ es b. SpellsFields es b) bytes rest o refl o.told.1 h
-    (λ v x front a b k le fills p. ((a, b, k, fills, p), omega arith)) (λ end b w k. fields_sound s level end units.IndexField b w k)
-item_by_sound s level end opcodes.BankField bytes rest inner h o =
-    packed_form s level end opcodes.BankField (λ v es. bank_field v.0 v.1.0 v.1.1.0 v.1.1.1.0 es) fields_in (λ es b. SpellsFields es b) bytes rest o refl o.told.1 h
-    (λ v x front a b k le fills p. ((a, b, k, fills, p), omega (arith, le))) (λ end b w k. fields_sound s level end units.BankField b w k)
-item_by_sound s level end opcodes.Device bytes rest inner h o =
-    packed_form s level end opcodes.Device (λ v is. scope kinds.Device v.0 is) (items_with (item_at level)) (ItemsWithin level) bytes rest o refl o.told.1 h
-    (λ v x front a b k le fills p. ((a, b, k, fills.0, p), omega (arith, fills.1))) (λ end b w k. inner end b k)
-item_by_sound s level end opcodes.Processor bytes rest inner h o =
-    packed_form s level end opcodes.Processor (λ v is. scope (kinds.Processor v.1.0 v.1.1.0 v.1.1.1.0) v.0 is) (items_with (item_at level)) (ItemsWithin level) bytes rest o refl o.told.1 h
-    (λ v x front a b k le fills p. ((a, b, k, fills.0, p), omega (arith, fills.1))) (λ end b w k. inner end b k)
-item_by_sound s level end opcodes.Power bytes rest inner h o =
-    packed_form s level end opcodes.Power (λ v is. scope (kinds.Power v.1.0 v.1.1.0) v.0 is) (items_with (item_at level)) (ItemsWithin level) bytes rest o refl o.told.1 h
-    (λ v x front a b k le fills p. ((a, b, k, fills.0, p), omega (arith, fills.1))) (λ end b w k. inner end b k)
-item_by_sound s level end opcodes.Thermal bytes rest inner h o =
-    packed_form s level end opcodes.Thermal (λ v is. scope kinds.Thermal v.0 is) (items_with (item_at level)) (ItemsWithin level) bytes rest o refl o.told.1 h
-    (λ v x front a b k le fills p. ((a, b, k, fills.0, p), omega (arith, fills.1))) (λ end b w k. inner end b k)
-item_by_sound s level end opcodes.Nothing bytes rest inner h o = refused s (suc level) end bytes (opcodes.Nothing, rest) BadOpcode h o refl
-item_by_sound s level end opcodes.Alias bytes rest inner h o = refused s (suc level) end bytes (opcodes.Alias, rest) Alias h o refl
-item_by_sound s level end opcodes.Else bytes rest inner h o = inl (refused s (suc level) end bytes (opcodes.Else, rest) ModuleIf h o refl)
-item_by_sound s level end opcodes.While bytes rest inner h o = inl (refused s (suc level) end bytes (opcodes.While, rest) ModuleIf h o refl)
-item_by_sound s level end (opcodes.Operator op) bytes rest inner h o = operator_refused s level end op bytes rest h o
-item_by_sound s level end opcodes.DataRegion bytes rest inner h o = refused s (suc level) end bytes (opcodes.DataRegion, rest) DataRegion h o refl
-item_by_sound s level end term bytes rest inner h o = refused s (suc level) end bytes (term, rest) ModuleCode h o refl
+plain_form : (level end : ℕ) (o : Opcode) (made : ArgumentsOf o → ItemTree) (bytes rest : List ℕ) (op : Opened bytes (o, rest)) → op.front ≡ opcode_bytes o
+    → ((v : ArgumentsOf o) (front : List ℕ) → SpellsForm o v front → arguments_height (fixed_arguments o) ≤ level → ItemWithin (suc level) (made v) front)
+    → Judge (Front (ItemWithin (suc level)) bytes) (FailsForm level o end bytes) (plain_at (fixed_arguments o) made level end rest)
+plain_form level end o made bytes rest op is spells = plain_judged level end o made (ItemWithin (suc level)) bytes rest (opens_with bytes o rest (opcode_bytes o) op is) spells
 
-pub item_sound : (s : Source) (level end : ℕ) (bytes : List ℕ) → Position s.depth level s.code end bytes → Judge (Read s level end (ItemWithin level) bytes) (Bad s) (item_at level end bytes)
+filled_form : {X : Type 0} (level end : ℕ) (o : Opcode) (made : ArgumentsOf o → X → ItemTree) (inner : ℕ → List ℕ → Result X Fault) (Fills : X → List ℕ → Type 0) (Inside : Failure Fault)
+    (bytes rest : List ℕ) (op : Opened bytes (o, rest)) → op.front ≡ opcode_bytes o
+    → ((v : ArgumentsOf o) (x : X) (front a b : List ℕ) → SpellsArguments (fixed_arguments o) v a → arguments_height (fixed_arguments o) ≤ level
+    → Fills x b → Packs (opcode_bytes o) (a ++ b) front → ItemWithin (suc level) (made v x) front)
+    → ((end : ℕ) (b : List ℕ) → Judge (λ x. Fills x b) (Inside end b) (inner end b))
+    → Judge (Front (ItemWithin (suc level)) bytes) (FailsFilled level o Inside end bytes) (packed_at (fixed_arguments o) made level inner end rest)
+filled_form level end o made inner Fills Inside bytes rest op is spells fills =
+    filled_judged level end o made inner Fills Inside (ItemWithin (suc level)) bytes rest (opens_with bytes o rest (opcode_bytes o) op is) spells fills
+
+-- with items in it
+scope_form : (level : ℕ) → ExactItem level → (end : ℕ) (o : Opcode) (made : ArgumentsOf o → ItemTrees → ItemTree) (bytes rest : List ℕ) (op : Opened bytes (o, rest)) → op.front ≡ opcode_bytes o
+    → ((v : ArgumentsOf o) (x : ItemTrees) (front a b : List ℕ) → SpellsArguments (fixed_arguments o) v a → SpellsItems x b → Packs (opcode_bytes o) (a ++ b) front → SpellsItem (made v x) front)
+    → ((v : ArgumentsOf o) (x : ItemTrees) → item_height (made v x) ≡ suc (items_height x))
+    → Judge (Front (ItemWithin (suc level)) bytes) (FailsFilled level o (FailsItems level) end bytes) (packed_at (fixed_arguments o) made level (items_with (item_at level)) end rest)
+scope_form level one end o made bytes rest op is spells high =
+    filled_form level end o made (items_with (item_at level)) (ItemsWithin level) (FailsItems level) bytes rest op is
+    (λ v x front a b k le fills p. (spells v x front a b k fills.0 p, omega (arith, fills.1, high v x))) (inner_judged level one)
+
+-- with a field list in it
+units_form : (level end : ℕ) (o : Opcode) (made : ArgumentsOf o → List FieldTree → ItemTree) (bytes rest : List ℕ) (op : Opened bytes (o, rest)) → op.front ≡ opcode_bytes o
+    → ((v : ArgumentsOf o) (x : List FieldTree) (front a b : List ℕ) → SpellsArguments (fixed_arguments o) v a → arguments_height (fixed_arguments o) ≤ level
+    → SpellsFields x b → Packs (opcode_bytes o) (a ++ b) front → ItemWithin (suc level) (made v x) front)
+    → Judge (Front (ItemWithin (suc level)) bytes) (FailsFilled level o (FailsAs constant_fault FailsFields) end bytes) (packed_at (fixed_arguments o) made level fields_in end rest)
+units_form level end o made bytes rest op is spells =
+    filled_form level end o made fields_in (λ es b. SpellsFields es b) (FailsAs constant_fault FailsFields) bytes rest op is spells exact_fields.judged
+
+item_by_judged : (level : ℕ) → ExactItem level → (end : ℕ) (o : Opcode) (bytes rest : List ℕ) → Opened bytes (o, rest)
+    → Judge (Front (ItemWithin (suc level)) bytes) (FailsBy level o end bytes) (item_by (items_with (item_at level)) level end bytes o rest)
+item_by_judged level one end opcodes.DeclareName bytes rest o = name_item_judged level end bytes rest (opens_with bytes opcodes.DeclareName rest (8 ∷ []) o o.told.1)
+item_by_judged level one end opcodes.Scope bytes rest o =
+    scope_form level one end opcodes.Scope (λ v is. scope kinds.Scope v.0 is) bytes rest o o.told.1 (λ v x front a b k s p. (a, b, k, s, p)) (λ v x. refl)
+item_by_judged level one end opcodes.Method bytes rest o =
+    filled_form level end opcodes.Method (λ v code. method v.0 v.1.0 code) bytes_in (λ code b. b ≡ code) FailsNever bytes rest o o.told.1
+    (λ v x front a b k le fills p. ((a, b, k, fills, p), omega arith)) (λ end b. refl)
+item_by_judged level one end opcodes.External bytes rest o =
+    made_judged SpellsExternal (ItemWithin (suc level)) (FailsForm 0 opcodes.External end bytes) (λ x. external x) bytes (parts_at end rest) (λ x a k. (k, omega arith))
+    (parts_judged end bytes rest (opens_with bytes opcodes.External rest (21 ∷ []) o o.told.1))
+item_by_judged level one end opcodes.If bytes rest o = block_item_judged level end bytes rest (opens_with bytes opcodes.If rest (160 ∷ []) o o.told.1)
+item_by_judged level one end (opcodes.Create w) bytes rest o =
+    plain_form level end (opcodes.Create w) (λ v. create w v.0 v.1.0 v.1.1.0) bytes rest o o.told.1 (λ v front k le. (k, omega (arith, le)))
+item_by_judged level one end opcodes.CreateField bytes rest o =
+    plain_form level end opcodes.CreateField (λ v. create_field v.0 v.1.0 v.1.1.0 v.1.1.1.0) bytes rest o o.told.1 (λ v front k le. (k, omega (arith, le)))
+item_by_judged level one end opcodes.Mutex bytes rest o = plain_form level end opcodes.Mutex (λ v. mutex v.0 v.1.0) bytes rest o o.told.1 (λ v front k le. (k, omega arith))
+item_by_judged level one end opcodes.Event bytes rest o = plain_form level end opcodes.Event (λ v. event v.0) bytes rest o o.told.1 (λ v front k le. (k, omega arith))
+item_by_judged level one end opcodes.Region bytes rest o =
+    plain_form level end opcodes.Region (λ v. region v.0 v.1.0 v.1.1.0 v.1.1.1.0) bytes rest o o.told.1 (λ v front k le. (k, omega (arith, le)))
+item_by_judged level one end opcodes.Field bytes rest o =
+    units_form level end opcodes.Field (λ v es. field v.0 v.1.0 es) bytes rest o o.told.1 (λ v x front a b k le fills p. ((a, b, k, fills, p), omega arith))
+item_by_judged level one end opcodes.IndexField bytes rest o =
+    units_form level end opcodes.IndexField (λ v es. index_field v.0 v.1.0 v.1.1.0 es) bytes rest o o.told.1 (λ v x front a b k le fills p. ((a, b, k, fills, p), omega arith))
+item_by_judged level one end opcodes.BankField bytes rest o =
+    units_form level end opcodes.BankField (λ v es. bank_field v.0 v.1.0 v.1.1.0 v.1.1.1.0 es) bytes rest o o.told.1 (λ v x front a b k le fills p. ((a, b, k, fills, p), omega (arith, le)))
+item_by_judged level one end opcodes.Device bytes rest o =
+    scope_form level one end opcodes.Device (λ v is. scope kinds.Device v.0 is) bytes rest o o.told.1 (λ v x front a b k s p. (a, b, k, s, p)) (λ v x. refl)
+item_by_judged level one end opcodes.Processor bytes rest o =
+    scope_form level one end opcodes.Processor (λ v is. scope (kinds.Processor v.1.0 v.1.1.0 v.1.1.1.0) v.0 is) bytes rest o o.told.1 (λ v x front a b k s p. (a, b, k, s, p)) (λ v x. refl)
+item_by_judged level one end opcodes.Power bytes rest o =
+    scope_form level one end opcodes.Power (λ v is. scope (kinds.Power v.1.0 v.1.1.0) v.0 is) bytes rest o o.told.1 (λ v x front a b k s p. (a, b, k, s, p)) (λ v x. refl)
+item_by_judged level one end opcodes.Thermal bytes rest o =
+    scope_form level one end opcodes.Thermal (λ v is. scope kinds.Thermal v.0 is) bytes rest o o.told.1 (λ v x front a b k s p. (a, b, k, s, p)) (λ v x. refl)
+item_by_judged level one end term bytes rest o = refl
+
+item_by_stops : (level : ℕ) → ExactItem level → (end : ℕ) (o : Opcode) (bytes rest : List ℕ) (f : Fault) → opcode_at end bytes ≡ Ok (o, rest)
+    → FailsBy level o end bytes f → item_by (items_with (item_at level)) level end bytes o rest ≡ Err f
+item_by_stops level one end opcodes.DeclareName bytes rest f read h =
+    name_item_stops level end rest f (fails_behind (FailsInTurn (FailsPart FailsName) SpellsName (λ n. FailsData level)) opcodes.DeclareName end bytes rest f refl read h)
+item_by_stops level one end opcodes.Scope bytes rest f read h =
+    filled_stops level end opcodes.Scope (λ v is. scope kinds.Scope v.0 is) (items_with (item_at level)) (FailsItems level) bytes rest f refl read (inner_stops level one f) h
+item_by_stops level one end opcodes.Method bytes rest f read h =
+    filled_stops level end opcodes.Method (λ v code. method v.0 v.1.0 code) bytes_in FailsNever bytes rest f refl read (λ end b k. absurd k) h
+item_by_stops level one end opcodes.External bytes rest f read h = fails_on f (parts_at end rest) (λ x. Ok (external x.0, x.1)) (parts_stop end bytes rest f read h)
+item_by_stops level one end opcodes.If bytes rest f read h =
+    block_item_stops level end bytes rest f (fails_behind (FailsPackage part_fault (FailsBlock level (fault_at end bytes ModuleIf))) opcodes.If end bytes rest f refl read h)
+item_by_stops level one end (opcodes.Create w) bytes rest f read h = plain_stops level end (opcodes.Create w) (λ v. create w v.0 v.1.0 v.1.1.0) bytes rest f refl read h
+item_by_stops level one end opcodes.CreateField bytes rest f read h = plain_stops level end opcodes.CreateField (λ v. create_field v.0 v.1.0 v.1.1.0 v.1.1.1.0) bytes rest f refl read h
+item_by_stops level one end opcodes.Mutex bytes rest f read h = plain_stops level end opcodes.Mutex (λ v. mutex v.0 v.1.0) bytes rest f refl read h
+item_by_stops level one end opcodes.Event bytes rest f read h = plain_stops level end opcodes.Event (λ v. event v.0) bytes rest f refl read h
+item_by_stops level one end opcodes.Region bytes rest f read h = plain_stops level end opcodes.Region (λ v. region v.0 v.1.0 v.1.1.0 v.1.1.1.0) bytes rest f refl read h
+item_by_stops level one end opcodes.Field bytes rest f read h =
+    filled_stops level end opcodes.Field (λ v es. field v.0 v.1.0 es) fields_in (FailsAs constant_fault FailsFields) bytes rest f refl read (λ end b k. exact_fields.stops end b f k) h
+item_by_stops level one end opcodes.IndexField bytes rest f read h =
+    filled_stops level end opcodes.IndexField (λ v es. index_field v.0 v.1.0 v.1.1.0 es) fields_in (FailsAs constant_fault FailsFields) bytes rest f refl read (λ end b k. exact_fields.stops end b f k) h
+item_by_stops level one end opcodes.BankField bytes rest f read h =
+    filled_stops level end opcodes.BankField (λ v es. bank_field v.0 v.1.0 v.1.1.0 v.1.1.1.0 es) fields_in (FailsAs constant_fault FailsFields) bytes rest f refl read (λ end b k. exact_fields.stops end b f k) h
+item_by_stops level one end opcodes.Device bytes rest f read h =
+    filled_stops level end opcodes.Device (λ v is. scope kinds.Device v.0 is) (items_with (item_at level)) (FailsItems level) bytes rest f refl read (inner_stops level one f) h
+item_by_stops level one end opcodes.Processor bytes rest f read h =
+    filled_stops level end opcodes.Processor (λ v is. scope (kinds.Processor v.1.0 v.1.1.0 v.1.1.1.0) v.0 is) (items_with (item_at level)) (FailsItems level) bytes rest f refl read (inner_stops level one f) h
+item_by_stops level one end opcodes.Power bytes rest f read h =
+    filled_stops level end opcodes.Power (λ v is. scope (kinds.Power v.1.0 v.1.1.0) v.0 is) (items_with (item_at level)) (FailsItems level) bytes rest f refl read (inner_stops level one f) h
+item_by_stops level one end opcodes.Thermal bytes rest f read h =
+    filled_stops level end opcodes.Thermal (λ v is. scope kinds.Thermal v.0 is) (items_with (item_at level)) (FailsItems level) bytes rest f refl read (inner_stops level one f) h
+item_by_stops level one end term bytes rest f read h = ap Err (sym h)
+
+-- ---- with their opcodes
+
+item_found : (level end : ℕ) (i : ItemTree) (a rest : List ℕ) → ItemWithin level i a → item_at level end (a ++ rest) ≡ Ok (i, rest)
+item_found level end i a rest h = item_complete i level end a rest h.0 h.1
+
+item_judged_by : (level : ℕ) → ExactItem level → (end : ℕ) (bytes : List ℕ) → Judge (Front (ItemWithin (suc level)) bytes) (FailsItem (suc level) end bytes) (item_at (suc level) end bytes)
 unfolding item_at
-item_sound s zero end bytes h = deep_bad s end bytes h
-item_sound s (suc level) end bytes h =
-    judge_bind (Opened bytes) (Read s (suc level) end (ItemWithin (suc level)) bytes) (Bad s) (part (opcode_at end bytes)) _
-    (part_sound s (Opened bytes) (opcode_at end bytes) (opcode_sound s (suc level) end bytes h))
-    (λ x o. item_by_sound s level end x.0 bytes x.1 (inner_sound s level (λ end bytes k. item_sound s level end bytes k)) h o)
+item_judged_by level one end bytes = by_opcode_judged part_fault (FailsBy level) (Front (ItemWithin (suc level)) bytes) end bytes _ (λ x o. item_by_judged level one end x.0 bytes x.1 o)
 
--- what is read is spelled so, and a fault shows what it says
-pub code_sound : (depth : ℕ) (code : List ℕ) → Judge (λ is. ItemsWithin depth is code) (λ f. ShowsItems depth code f.reason f.place) (items_at depth code)
-code_sound depth code =
-    let s : Source = record { depth = depth; code = code } in
-    inner_sound s depth (λ end bytes k. item_sound s depth end bytes k) (length code) code
-    (record { before = []; after = []; whole = sym (append-nil code); ends = omega arith; start = 0; is_list = (0, (refl, refl)); begun = omega arith; deep = omega arith })
+item_stops_by : (level : ℕ) → ExactItem level → (end : ℕ) (bytes : List ℕ) (f : Fault) → FailsItem (suc level) end bytes f → item_at (suc level) end bytes ≡ Err f
+unfolding item_at
+item_stops_by level one end bytes f h = by_opcode_stops part_fault (FailsBy level) end bytes _ f (λ o rest read k. item_by_stops level one end o bytes rest f read k) h
+
+no_item_judged : (end : ℕ) (bytes : List ℕ) → Judge (Front (ItemWithin 0) bytes) (FailsItem 0 end bytes) (item_at 0 end bytes)
+unfolding item_at
+no_item_judged end bytes = refl
+
+no_item_stops : (end : ℕ) (bytes : List ℕ) (f : Fault) → FailsItem 0 end bytes f → item_at 0 end bytes ≡ Err f
+unfolding item_at
+no_item_stops end bytes f h = ap Err (sym h)
+
+pub exact_item : (level : ℕ) → ExactItem level
+exact_item zero = record { found = item_found 0; judged = no_item_judged; stops = no_item_stops }
+exact_item (suc level) = record { found = item_found (suc level); judged = item_judged_by level (exact_item level); stops = item_stops_by level (exact_item level) }
+
+-- what is read is spelled so, and a fault is that by which the code fails
+pub code_judged : (depth : ℕ) (code : List ℕ) → Judge (λ is. ItemsWithin depth is code) (FailsItems depth (length code) code) (items_at depth code)
+code_judged depth code = inner_judged depth (exact_item depth) (length code) code
+
+-- where the code fails its reading stops
+pub code_stops : (depth : ℕ) (code : List ℕ) (f : Fault) → FailsItems depth (length code) code f → items_at depth code ≡ Err f
+code_stops depth code f h = inner_stops depth (exact_item depth) f (length code) code h

@@ -16,3 +16,4 @@ pub mod ShortOffsets
 pub mod ReadItems
 pub mod ReadParts
 pub mod OneTree
+pub mod OneRefusal

@@ -8,10 +8,10 @@ use Rattle.acpi_tree.specs.Tree.{ItemTrees}
 use Rattle.acpi_code.proofs.Readings.{Judge}
 use Rattle.acpi_terms.proofs.Fitting.{items_are_fit}
 use Rattle.acpi_code.proofs.Fitting.{AreBytes}
-use Rattle.acpi_terms.proofs.Items.{code_complete, code_sound}
+use Rattle.acpi_terms.proofs.Items.{code_complete, code_judged}
 use Rattle.acpi_terms.proofs.Refusals.{next_told}
 use Rattle.acpi_terms.proofs.ShortOffsets.{offsets_fit}
-use Rattle.acpi_terms.specs.Faults.{ShowsItems, IsTrueFault, Refused, IsToldAt, OrMemory}
+use Rattle.acpi_terms.specs.Faults.{FailsItems, IsTrueFault, Refused, IsToldAt, OrMemory}
 use Rattle.acpi_terms.specs.Spelling.{SpellsItems, items_height}
 use Rattle.acpi_terms.specs.steps.Cursor.{Gives}
 use Rattle.acpi_terms.specs.steps.Reading.{Fault, items_at}
@@ -19,10 +19,10 @@ use Rattle.acpi_tree.specs.Fits.{items_fit}
 use Rattle.acpi_tree.specs.Offsets.{OffsetsFit}
 
 abbrev pub Judged : ℕ → List ℕ → Result ItemTrees Fault → Type 0
-Judged depth code = Judge (λ is. SpellsItems is code × (items_height is ≤ depth)) (λ f. ShowsItems depth code f.reason f.place)
+Judged depth code = Judge (λ is. SpellsItems is code × (items_height is ≤ depth)) (FailsItems depth (length code) code)
 
 judged_as : (depth : ℕ) (code : List ℕ) (r : Result ItemTrees Fault) → items_at depth code ≡ r → Judged depth code r
-judged_as depth code r e = subst (Judged depth code) e (code_sound depth code)
+judged_as depth code r e = subst (Judged depth code) e (code_judged depth code)
 
 pub found_law : {V : Type 0} (view : V → ItemTrees) (depth : ℕ) (code : List ℕ) (result : Result V ItemFault) → Gives view result (items_at depth code)
     → IfOk result (λ v. SpellsItems (view v) code × (items_height (view v) ≤ depth))

@@ -1,36 +1,23 @@
 -- What the readers of one part at the front of some bytes ensure.
-use Rattle.std.proofs.Common.{◌≡◌, ℕ, ◌-◌, ◌≤◌, ◌<◌, List, [], ◌++◌, length, take, drop, Option, Some, None, Result, Ok, Err, refl, sym, ap, subst, ◌∙◌, arith}
-use Rattle.std.proofs.lemmas.List.{length-append, length-drop, append-nil}
+use Rattle.std.proofs.Common.{◌≡◌, ℕ, ◌-◌, ◌≤◌, ◌<◌, List, ◌++◌, length, take, drop, Option, Some, None, Result, Ok, Err, refl, sym, ap, subst, ◌∙◌, arith}
+use Rattle.std.proofs.lemmas.List.{length-append, length-drop}
 use Rattle.std.proofs.Math.Seq.{take-append_seam, drop-append_seam}
 use Rattle.std.specs.Prelude.{IfOk, IfErr, IfSome, option_map}
 use Rattle.acpi_terms.specs.declared.fault.ItemFault.{ItemFault}
 use Rattle.acpi_terms.specs.declared.fault.ItemFault.TheVariants as errors
 use Rattle.acpi_tree.specs.declared.tree.Int.{Int}
 use Rattle.acpi_tree.specs.Tree.{FieldTree}
-use Rattle.acpi_code.proofs.Readings.{Judge, Front, Position, Source, Read}
 use Rattle.acpi_code.specs.Spelling.{SpellsInt}
-use Rattle.acpi_terms.proofs.Constants.{const_complete, const_sound}
-use Rattle.acpi_terms.proofs.Fields.{field_complete}
-use Rattle.acpi_terms.proofs.Parts.{Bad}
-use Rattle.acpi_terms.specs.Faults.{constant_fault_of, OrMemory, IsTrueElementFault}
 use Rattle.acpi_code.specs.Fields.{SpellsField}
+use Rattle.acpi_code.specs.Faults.{FailsAs, FailsInt, FailsField}
 use Rattle.acpi_code.specs.steps.Fields as codes
-use Rattle.acpi_code.specs.declared.fault.ConstantFault.{ConstantFault}
-use Rattle.acpi_code.specs.declared.fault.ConstantFault.TheVariants.{Part, NotConstant}
 use Rattle.acpi_code.specs.steps.Reading.{with_fault}
-use Rattle.acpi_code.specs.Faults.{ShowsElement}
-use Rattle.acpi_code.proofs.Fields.{ElementBad}
-use Rattle.acpi_code.proofs.Fields as fields
+use Rattle.acpi_code.proofs.Readings.{Judge, Front}
+use Rattle.acpi_terms.specs.Faults.{OrMemory, IsTrueElementFault}
 use Rattle.acpi_terms.specs.steps.Cursor.{Gives}
-use Rattle.acpi_terms.specs.steps.Reading.{Fault, constant_fault, stopped, found, const_at, field_at, int_front}
-
--- the bytes as a code of their own
--- as many levels as there are bytes, so that none is lacking
-abbrev pub Whole : List ℕ → Source
-Whole bytes = record { depth = length bytes; code = bytes }
-
-pub whole_position : (bytes : List ℕ) → Position (length bytes) (length bytes) bytes (length bytes) bytes
-whole_position bytes = record { before = []; after = []; whole = sym (append-nil bytes); ends = omega arith; start = 0; is_list = (0, (refl, refl)); begun = omega arith; deep = omega arith }
+use Rattle.acpi_terms.specs.steps.Reading.{Fault, constant_fault, found, const_at, field_at, int_front}
+use Rattle.acpi_terms.proofs.Constants.{const_complete, exact_const}
+use Rattle.acpi_terms.proofs.Fields.{field_complete, exact_field}
 
 -- what stands before the last bytes of a list
 front_is : (bytes front : List ℕ) (used : ℕ) → used ≤ length bytes → bytes ≡ front ++ drop used bytes → front ≡ take used bytes
@@ -65,6 +52,10 @@ nothing = None
 abbrev done : {A : Type 0} → A → Result A Fault
 done x = Ok x
 
+-- what was read is spelled at the front
+int_read : (bytes : List ℕ) (x : IntFound) → const_at (length bytes) bytes ≡ Ok x → Front SpellsInt bytes x
+int_read bytes x r = subst (Judge (Front SpellsInt bytes) (FailsAs constant_fault FailsInt (length bytes) bytes)) r (exact_const.judged (length bytes) bytes)
+
 found_ok : (r : Result IntFound Fault) (x : IntFound) → some x ≡ found r → r ≡ Ok x
 found_ok (Ok y) x e = let is : x ≡ y = cc in ap done (sym is)
 found_ok (Err f) x e = absurd cc
@@ -74,9 +65,7 @@ pub int_found_law : (bytes : List ℕ) (result : Option (Int × ℕ)) → option
 int_found_law bytes None e used = tt
 int_found_law bytes (Some x) e used =
     let r : const_at (length bytes) bytes ≡ Ok (x.0, drop x.1 bytes) = found_ok (const_at (length bytes) bytes) (x.0, drop x.1 bytes) e in
-    let j : Read (Whole bytes) (length bytes) (length bytes) SpellsInt bytes (x.0, drop x.1 bytes) =
-    subst (Judge (Read (Whole bytes) (length bytes) (length bytes) SpellsInt bytes) (Bad (Whole bytes))) r (const_sound (Whole bytes) (length bytes) (length bytes) bytes (whole_position bytes)) in
-    took_front SpellsInt bytes x.0 x.1 used.1 j.0
+    took_front SpellsInt bytes x.0 x.1 used.1 (int_read bytes (x.0, drop x.1 bytes) r)
 
 pub int_only_law : (bytes : List ℕ) (result : Option (Int × ℕ)) → option_map (λ x. (x.0, drop x.1 bytes)) result ≡ int_front bytes
     → IfSome result (λ x. (0 < x.1) × (x.1 ≤ length bytes)) → (i : Int) (front rest : List ℕ) → SpellsInt i front → bytes ≡ front ++ rest → result ≡ Some (i, length front)
@@ -98,30 +87,15 @@ int_only_law bytes result e used i front rest s whole = by_result result e used
 
 -- ---- field elements
 
--- what the first element's fault shows
-abbrev FirstBad : List ℕ → ConstantFault → Type 0
-FirstBad bytes = ElementBad (Whole bytes) (length bytes - length bytes)
+abbrev FirstFails : List ℕ → Fault → Type 0
+FirstFails bytes = FailsAs constant_fault FailsField (length bytes) bytes
 
-abbrev FirstRead : List ℕ → FieldTree × List ℕ → Type 0
-FirstRead bytes = Read (Whole bytes) (length bytes) (length bytes) SpellsField bytes
-
-first_judged : (bytes : List ℕ) → Judge (FirstRead bytes) (FirstBad bytes) (codes.field_at (length bytes) bytes)
-first_judged bytes = fields.field_sound (Whole bytes) (length bytes) (length bytes) bytes (whole_position bytes)
-
-told_as : (f : ConstantFault) → stopped (constant_fault f) ≡ constant_fault_of f
-told_as (Part f) = refl
-told_as (NotConstant opcode place) = refl
+elem_read : (bytes : List ℕ) (r : Result (FieldTree × List ℕ) Fault) → field_at (length bytes) bytes ≡ r → Judge (Front SpellsField bytes) (FirstFails bytes) r
+elem_read bytes r e = subst (Judge (Front SpellsField bytes) (FirstFails bytes)) e (exact_field.judged (length bytes) bytes)
 
 pub elem_found_law : {V : Type 0} (view : V → FieldTree) (bytes : List ℕ) (result : Result (V × ℕ) ItemFault) → Gives (λ x. (view x.0, drop x.1 bytes)) result (field_at (length bytes) bytes)
     → IfOk result (λ x. (0 < x.1) × (x.1 ≤ length bytes)) → IfOk result (λ x. SpellsField (view x.0) (take x.1 bytes))
-elem_found_law view bytes (Ok x) h used = by_reading (codes.field_at (length bytes) bytes) (first_judged bytes) h
-  where
-    by_reading : (r : Result (FieldTree × List ℕ) ConstantFault) → Judge (FirstRead bytes) (FirstBad bytes) r → with_fault constant_fault r ≡ done (view x.0, drop x.1 bytes)
-        → SpellsField (view x.0) (take x.1 bytes)
-    by_reading (Ok y) j e =
-        let pair : y ≡ (view x.0, drop x.1 bytes) = cc in
-        took_front SpellsField bytes (view x.0) x.1 used.1 (subst (FirstRead bytes) pair j).0
-    by_reading (Err f) j e = absurd cc
+elem_found_law view bytes (Ok x) h used = took_front SpellsField bytes (view x.0) x.1 used.1 (elem_read bytes (Ok (view x.0, drop x.1 bytes)) h)
 elem_found_law view bytes (Err e) h used = tt
 
 pub elem_only_law : {V : Type 0} (view : V → FieldTree) (bytes : List ℕ) (result : Result (V × ℕ) ItemFault) → Gives (λ x. (view x.0, drop x.1 bytes)) result (field_at (length bytes) bytes)
@@ -142,29 +116,17 @@ pub elem_faults_law : {V : Type 0} (view : V → FieldTree) (bytes : List ℕ) (
     → Gives (λ x. (view x.0, drop x.1 bytes)) result (field_at (length bytes) bytes) → IfErr result (λ e. IsTrueElementFault bytes e)
 elem_faults_law view bytes (Ok x) h = tt
 elem_faults_law view bytes (Err errors.Memory) h = tt
-elem_faults_law view bytes (Err (errors.At why place)) h = by_reading (codes.field_at (length bytes) bytes) (first_judged bytes) h
-  where
-    failed : Fault → Result (FieldTree × List ℕ) Fault
-    failed f = Err f
-
-    by_reading : (r : Result (FieldTree × List ℕ) ConstantFault) → Judge (FirstRead bytes) (FirstBad bytes) r → with_fault constant_fault r ≡ Err (record { reason = why; place = place })
-        → IsTrueElementFault bytes (errors.At why place)
-    by_reading (Ok y) j e = absurd cc
-    by_reading (Err f) j e =
-        let same : constant_fault f ≡ record { reason = why; place = place } = cc in
-        let first : length bytes - length bytes ≡ 0 = omega arith in
-        (f, sym (told_as f) ∙ ap stopped same, subst (λ k. ShowsElement (λ n. n ≡ k) bytes f) first j)
+elem_faults_law view bytes (Err (errors.At why place)) h = elem_read bytes (Err (record { reason = why; place = place })) h
 
 -- ---- by what is left behind them
 
 pub int_exact : (bytes rest : List ℕ) (i : Int) → const_at (length bytes) bytes ≡ Ok (i, rest) → some (i, drop (length bytes - length rest) bytes) ≡ int_front bytes
 int_exact bytes rest i h =
-    let j : Read (Whole bytes) (length bytes) (length bytes) SpellsInt bytes (i, rest) =
-    subst (Judge (Read (Whole bytes) (length bytes) (length bytes) SpellsInt bytes) (Bad (Whole bytes))) h (const_sound (Whole bytes) (length bytes) (length bytes) bytes (whole_position bytes)) in
-    rw (h, behind_is bytes j.0.front rest j.0.whole) refl
+    let j = int_read bytes (i, rest) h in
+    rw (h, behind_is bytes j.front rest j.whole) refl
 
 pub elem_exact : (bytes rest : List ℕ) (x : FieldTree) → codes.field_at (length bytes) bytes ≡ Ok (x, rest) → field_at (length bytes) bytes ≡ Ok (x, drop (length bytes - length rest) bytes)
 elem_exact bytes rest x h =
-    let j : Read (Whole bytes) (length bytes) (length bytes) SpellsField bytes (x, rest) =
-    subst (Judge (FirstRead bytes) (FirstBad bytes)) h (first_judged bytes) in
-    rw (h, behind_is bytes j.0.front rest j.0.whole) refl
+    let read : field_at (length bytes) bytes ≡ done (x, rest) = ap (with_fault constant_fault) h in
+    let j : Front SpellsField bytes (x, rest) = elem_read bytes (Ok (x, rest)) read in
+    rw (h, behind_is bytes j.front rest j.whole) refl

@@ -1,8 +1,7 @@
--- What a fault shows of the code (ACPI 6.5, 20.2).
-use Rattle.std.specs.Prelude.{◌≡◌, ◌⊎◌, ◌+◌, ◌<◌, ℕ, not, ◌||◌, Option, Some, None, List, [], ◌∷◌, ◌++◌, length, drop, Result, Ok, Err, if◌then◌else◌}
-use Rattle.acpi_table.specs.PkgLength.{SpellsPkgLength}
+-- By which fault a code fails that spells no items (ACPI 6.5, 20.2).
+use Rattle.std.specs.Prelude.{◌≡◌, ◌≢◌, ◌⊎◌, ◌-◌, ◌<◌, ℕ, zero, suc, ◌||◌, Option, Some, None, List, [], ◌∷◌, length, drop, Result, Ok, Err, if◌then◌else◌}
+use Rattle.acpi_name.specs.Spelling.{SpellsName}
 use Rattle.acpi_tree.specs.declared.op.Op.{Op}
-use Rattle.acpi_tree.specs.declared.place.UnitsForm.{UnitsForm}
 use Rattle.acpi_tree.specs.Operators.{is_load}
 use Rattle.acpi_tree.specs.Tree.{ExternalParts}
 use Rattle.acpi_code.specs.declared.opcode.Opcode.{Opcode}
@@ -14,16 +13,15 @@ use Rattle.acpi_code.specs.declared.fault.ConstantFault.{ConstantFault}
 use Rattle.acpi_code.specs.declared.fault.ConstantFault.TheVariants.{Part, NotConstant}
 use Rattle.acpi_code.specs.declared.fault.FieldFault.{FieldFault}
 use Rattle.acpi_code.specs.declared.fault.FieldFault.TheVariants as fields
-use Rattle.acpi_code.specs.Opcodes.{BeginsWith, is_simple_name_opcode, is_constant, is_data_opcode}
+use Rattle.acpi_code.specs.Opcodes.{opcode_bytes, BeginsWith, is_simple_name_opcode, is_data_opcode}
 use Rattle.acpi_code.specs.Spelling.{SpellsEach}
-use Rattle.acpi_code.specs.Faults.{ByteAt, Begins, IsElementOf, ShowsPart, ShowsElementPart, ShowsElement}
+use Rattle.acpi_code.specs.Faults.{Failure, no_level, FailsAs, FailsBehind, FailsInTurn, FailsEach, FailsNumber, FailsPackage, FailsName, FailsText, FailsByOpcode, FailsUnless, FailsWithin, number_size, FailsInt, FailsField, FailsFields}
+use Rattle.acpi_code.specs.Forms.{FixedArgument, name_arg, source_arg, byte_arg, word_arg, dword_arg, count_arg, int_arg, fixed_arguments}
 use Rattle.acpi_terms.specs.declared.fault.ItemReason.{ItemReason}
 use Rattle.acpi_terms.specs.declared.fault.ItemReason.TheVariants.{Cut, BadOpcode, ReservedBits, BadName, Overrun, Computed, Alias, ModuleIf, ModuleCode, Load, NotData, TooDeep, BadString, DataRegion}
 use Rattle.acpi_terms.specs.declared.fault.ItemFault.{ItemFault}
 use Rattle.acpi_terms.specs.declared.fault.ItemFault.TheVariants as errors
-use Rattle.acpi_code.specs.Forms.{source_arg, count_arg, units_opcode}
-use Rattle.acpi_terms.specs.Spelling.{SpellsExternal}
-pub use Rattle.acpi_code.specs.FixedArguments.{is_computed, IsLengthOf, Awaits, MustBegin}
+use Rattle.acpi_terms.specs.Spelling.{SpellsExternal, ArgumentWithin, ArgumentsWithin, ElemWithin, ItemWithin}
 
 -- ---- faults of parts, as faults of items
 
@@ -73,65 +71,175 @@ abbrev pub Refused : ItemReason → List ℕ → ℕ → Type 0
 Refused why code place =
     (lead : Opcode) × BeginsWith lead (drop place code) × (refusal lead ≡ Some why)
 
--- ---- what must begin at a place
+-- ---- the first part that is not spelled, by the forms of `acpi_code/specs/Faults.antt`
 
--- a field element must begin at the place: behind others, in the field list of a form, behind its fixed arguments
--- (20.2.5.2)
-abbrev pub IsItemElement : List ℕ → ℕ → Type 0
-IsItemElement code place = (form : UnitsForm) × (start : ℕ)
-    × Awaits (units_opcode form) [] code start × IsElementOf code start place
+-- why items are not spelled, and at which place of the code
+pub record Fault : Type 0 where
+  pub reason : ItemReason
+  pub place : ℕ
+
+abbrev pub reason_at : ItemReason → ℕ → Fault
+reason_at why place = record { reason = why; place = place }
+
+-- the fault at the first of these bytes, or at their end where there are none
+abbrev pub fault_at : ℕ → List ℕ → ItemReason → Fault
+fault_at end bytes why = reason_at why (end - length bytes)
+
+-- the fault of a part, and of a constant or what holds one
+abbrev pub part_fault : CodeFault → Fault
+part_fault f = reason_at (reason_of f.reason) f.place
+
+abbrev pub constant_fault : ConstantFault → Fault
+constant_fault (Part f) = part_fault f
+constant_fault (NotConstant opcode place) = reason_at (no_constant opcode) place
+
+abbrev pub FailsPart : Failure CodeFault → Failure Fault
+FailsPart Fails = FailsAs part_fault Fails
+
+-- whatever the bytes say
+abbrev pub FailsNever : Failure Fault
+FailsNever end bytes f = ⊥
+
+-- ---- fixed arguments
+
+-- why no source of a Create field begins so
+abbrev pub source_refusal : Opcode → Option ItemReason
+source_refusal opcodes.Name = None
+source_refusal opcodes.Nothing = Some BadName
+source_refusal _ = Some Computed
+
+-- ArgumentCount: no byte is left, or it is above 7 (20.2.5.2)
+abbrev pub FailsCount : Failure Fault
+FailsCount end bytes f = FailsPart (FailsNumber 1) end bytes f
+    ⊎ (((b : ℕ) × (rest : List ℕ) × (bytes ≡ b ∷ rest) × (7 < b))
+    × (f ≡ fault_at end bytes ReservedBits))
+
+-- a fixed argument, `level` levels being left
+abbrev pub FailsArgument : ℕ → FixedArgument → Failure Fault
+FailsArgument level name_arg = FailsPart FailsName
+FailsArgument level source_arg = FailsByOpcode part_fault
+    (λ o. FailsUnless reason_at (source_refusal o) (FailsPart FailsName))
+FailsArgument level byte_arg = FailsPart (FailsNumber 1)
+FailsArgument level word_arg = FailsPart (FailsNumber 2)
+FailsArgument level dword_arg = FailsPart (FailsNumber 4)
+FailsArgument level count_arg = FailsCount
+FailsArgument level int_arg = FailsWithin part_fault level (FailsAs constant_fault FailsInt)
+
+-- one after another
+abbrev pub FailsArguments : ℕ → List FixedArgument → Failure Fault
+FailsArguments level [] = FailsNever
+FailsArguments level (k ∷ ks) = FailsInTurn (FailsArgument level k) (ArgumentWithin level k)
+    (λ v. FailsArguments level ks)
+
+-- a form that has fixed arguments alone
+abbrev pub FailsForm : ℕ → Opcode → Failure Fault
+FailsForm level o = FailsBehind (opcode_bytes o) (FailsArguments level (fixed_arguments o))
+
+-- a form whose package has fixed arguments and what fills it
+abbrev pub FailsFilled : ℕ → Opcode → Failure Fault → Failure Fault
+FailsFilled level o Fills = FailsBehind (opcode_bytes o) (FailsPackage part_fault
+    (FailsInTurn (FailsArguments level (fixed_arguments o))
+    (ArgumentsWithin level (fixed_arguments o)) (λ v. Fills)))
+
+-- ---- data (20.2.3 and 20.2.5.4)
+
+-- data that begins so, and is no name; `level` levels are left in it, `Elems` is for the elements of a package
+abbrev pub FailsDataBy : Failure Fault → ℕ → Opcode → Failure Fault
+FailsDataBy Elems level (opcodes.Constant form) = FailsBehind (opcode_bytes (opcodes.Constant form))
+    (FailsPart (FailsNumber (number_size form)))
+FailsDataBy Elems level opcodes.Str = FailsBehind (0x0D ∷ []) (FailsPart FailsText)
+FailsDataBy Elems level opcodes.Buffer = FailsFilled level opcodes.Buffer FailsNever
+FailsDataBy Elems level opcodes.Package = FailsFilled level opcodes.Package Elems
+FailsDataBy Elems level opcodes.VarPackage = FailsFilled level opcodes.VarPackage Elems
+FailsDataBy Elems level o = λ end bytes f. f ≡ fault_at end bytes NotData
+
+-- PackageElement := DataRefObject | NameString
+abbrev pub FailsElemBy : Failure Fault → ℕ → Opcode → Failure Fault
+FailsElemBy Elems level opcodes.Name = FailsPart FailsName
+FailsElemBy Elems level o = FailsDataBy Elems level o
+
+abbrev pub FailsElem : ℕ → Failure Fault
+FailsElem zero end bytes f = f ≡ part_fault (no_level end bytes)
+FailsElem (suc level) end bytes f = FailsByOpcode part_fault
+    (FailsElemBy (FailsEach (ElemWithin level) (FailsElem level)) level) end bytes f
+
+-- the data of a Name
+abbrev pub FailsData : ℕ → Failure Fault
+FailsData zero end bytes f = f ≡ part_fault (no_level end bytes)
+FailsData (suc level) end bytes f = FailsByOpcode part_fault
+    (FailsDataBy (FailsEach (ElemWithin level) (FailsElem level)) level) end bytes f
+
+-- ---- items (20.2.5.1 and 20.2.5.2)
+
+-- `Zero` and Externals alone
+abbrev pub IsBlock : List ℕ → Type 0
+IsBlock content = (xs : List ExternalParts) × (b : List ℕ) × (content ≡ 0x00 ∷ b)
+    × SpellsEach SpellsExternal xs b
+
+-- behind `Zero` an External must begin, and no level is left for it
+abbrev pub IsDeepBlock : ℕ → List ℕ → List ℕ → Type 0
+IsDeepBlock level content externals =
+    (level ≡ 0) × (content ≡ 0x00 ∷ externals) × (externals ≢ [])
+
+-- What the package of an If holds: Externals are too deep, or else it is no block, and the If is refused.
+abbrev pub FailsBlock : ℕ → Fault → Failure Fault
+FailsBlock level refused end content f =
+    ((b : List ℕ) × IsDeepBlock level content b × (f ≡ fault_at end b TooDeep))
+    ⊎ (((b : List ℕ) → ¬ IsDeepBlock level content b) × (¬ IsBlock content) × (f ≡ refused))
+
+abbrev pub FailsIf : ℕ → Failure Fault
+FailsIf level end bytes f = FailsBehind (0xA0 ∷ [])
+    (FailsPackage part_fault (FailsBlock level (fault_at end bytes ModuleIf))) end bytes f
+
+-- An item that begins so, and is not refused by that; `level` levels are left in it, `Items` is for the items in it.
+-- Method code is any bytes.
+abbrev pub FailsItemBy : Failure Fault → ℕ → Opcode → Failure Fault
+FailsItemBy Items level opcodes.DeclareName = FailsBehind (0x08 ∷ [])
+    (FailsInTurn (FailsPart FailsName) SpellsName (λ n. FailsData level))
+FailsItemBy Items level opcodes.If = FailsIf level
+FailsItemBy Items level opcodes.External = FailsForm 0 opcodes.External
+FailsItemBy Items level opcodes.Method = FailsFilled level opcodes.Method FailsNever
+FailsItemBy Items level opcodes.Field =
+    FailsFilled level opcodes.Field (FailsAs constant_fault FailsFields)
+FailsItemBy Items level opcodes.IndexField =
+    FailsFilled level opcodes.IndexField (FailsAs constant_fault FailsFields)
+FailsItemBy Items level opcodes.BankField =
+    FailsFilled level opcodes.BankField (FailsAs constant_fault FailsFields)
+FailsItemBy Items level opcodes.Scope = FailsFilled level opcodes.Scope Items
+FailsItemBy Items level opcodes.Device = FailsFilled level opcodes.Device Items
+FailsItemBy Items level opcodes.Processor = FailsFilled level opcodes.Processor Items
+FailsItemBy Items level opcodes.Power = FailsFilled level opcodes.Power Items
+FailsItemBy Items level opcodes.Thermal = FailsFilled level opcodes.Thermal Items
+FailsItemBy Items level o = FailsForm level o
+
+-- An item, `level` levels being left: no level is left, or nothing is; it is refused by what it begins with; or a part
+-- of it fails.
+abbrev pub FailsItem : ℕ → Failure Fault
+FailsItem zero end bytes f = f ≡ part_fault (no_level end bytes)
+FailsItem (suc level) end bytes f = FailsByOpcode part_fault (λ o. FailsUnless reason_at (refusal o)
+    (FailsItemBy (FailsEach (ItemWithin level) (FailsItem level)) level o)) end bytes f
+
+-- TermList
+abbrev pub FailsItems : ℕ → Failure Fault
+FailsItems level = FailsEach (ItemWithin level) (FailsItem level)
 
 -- ---- what a fault shows
 
--- an If whose package isn't `Zero` and Externals alone
-pub record IsOtherIf (bytes : List ℕ) : Type 0 where
-  pub len : List ℕ
-  pub content : List ℕ
-  pub rest : List ℕ
-  pub spells_len : SpellsPkgLength (length len + length content) len
-  pub here : bytes ≡ 0xA0 ∷ (len ++ (content ++ rest))
-  pub is_other : (xs : List ExternalParts) (b : List ℕ) → content ≡ 0x00 ∷ b
-      → ¬ SpellsEach SpellsExternal xs b
-
--- What the reason says is true of the code at that place, for some kind of place; `depth` is the number of
--- levels that are allowed.
--- Cut: a list ends there. BadOpcode: no term begins there. ReservedBits: a package length with reserved bits, or
--- a count of an External's arguments above 7. BadName: no name begins there, or no segment where a field element must
--- begin. Overrun: a package length below its own number of bytes, or past the end of the list that it stands in.
--- Computed: a term that is no constant, or a constant where the source of a Create field must begin. ModuleIf: an Else,
--- a While, or an If that is no block of Externals. ModuleCode: a name, data, Local, Arg, Debug or an operator,
--- other than a load. Load: LoadTable, Load or Unload. NotData: no data. TooDeep: a byte, behind at least as many bytes
--- as there are levels. BadString: a byte above 7F in a string.
+-- The code fails so where at most `depth` levels are allowed: from the left, the first part of it that is not spelled
+-- is at that place, for that reason.
 abbrev pub ShowsItems : ℕ → List ℕ → ItemReason → ℕ → Type 0
-ShowsItems depth code Cut place = ShowsPart depth code codes.Cut place
-ShowsItems depth code BadOpcode place = Refused BadOpcode code place
-ShowsItems depth code ReservedBits place = ShowsPart depth code codes.ReservedBits place
-    ⊎ (MustBegin count_arg code place × ByteAt (λ b. 7 < b) code place)
-ShowsItems depth code BadName place = ShowsElementPart (IsItemElement code) code codes.BadName place
-ShowsItems depth code Overrun place = ShowsPart depth code codes.Overrun place
-ShowsItems depth code Computed place = Begins is_computed code place
-    ⊎ (MustBegin source_arg code place × Begins is_constant code place)
-ShowsItems depth code Alias place = Refused Alias code place
-ShowsItems depth code ModuleIf place = Refused ModuleIf code place ⊎ IsOtherIf (drop place code)
-ShowsItems depth code ModuleCode place = Refused ModuleCode code place
-ShowsItems depth code Load place = Refused Load code place
-ShowsItems depth code NotData place = Begins (λ o. not (is_data_opcode o)) code place
-ShowsItems depth code TooDeep place = ShowsPart depth code codes.TooDeep place
-ShowsItems depth code BadString place = ShowsPart depth code codes.BadString place
-ShowsItems depth code DataRegion place = Refused DataRegion code place
+ShowsItems depth code why place = FailsItems depth (length code) code (reason_at why place)
 
 -- what a refusal says is true of the code
 abbrev pub IsTrueFault : ℕ → List ℕ → ItemFault → Type 0
 IsTrueFault depth code errors.Memory = Unit {0}
 IsTrueFault depth code (errors.At reason place) = ShowsItems depth code reason place
 
--- The same of the field element that stands first in these bytes: it is what `acpi_code` tells of the element, as a
--- fault of items. So it is Cut, ReservedBits, BadName or Overrun, or, where the size of a connection's buffer must be a
--- constant, BadOpcode or Computed.
+-- the same of the field element that these bytes begin with, which has no level
 abbrev pub IsTrueElementFault : List ℕ → ItemFault → Type 0
 IsTrueElementFault bytes errors.Memory = Unit {0}
-IsTrueElementFault bytes (errors.At reason place) = (f : ConstantFault)
-    × (constant_fault_of f ≡ errors.At reason place) × ShowsElement (λ k. k ≡ 0) bytes f
+IsTrueElementFault bytes (errors.At reason place) =
+    FailsAs constant_fault FailsField (length bytes) bytes (reason_at reason place)
 
 -- ---- answers, unless memory runs out
 

@@ -1,15 +1,15 @@
 -- The bytes that spell a tree (ACPI 6.5, 20.2). A tree may have several spellings, since a package length
 -- and a name may be longer than needed.
-use Rattle.std.specs.Prelude.{◌≡◌, ℕ, suc, max, List, [], ◌∷◌, ◌++◌, None}
+use Rattle.std.specs.Prelude.{◌≡◌, ◌≤◌, ℕ, suc, max, List, [], ◌∷◌, ◌++◌, None}
 use Rattle.acpi_name.specs.Spelling.{SpellsName}
 use Rattle.acpi_code.specs.declared.opcode.Opcode.TheVariants as opcodes
 use Rattle.acpi_code.specs.Fields.{SpellsFields}
 use Rattle.acpi_code.specs.Spelling.{SpellsEach, Packs}
-use Rattle.acpi_tree.specs.DataTerms.{data_term}
+use Rattle.acpi_tree.specs.DataTerms.{data_term, elem_term}
 use Rattle.acpi_values.specs.Grammars.{Grammar, body_grammar}
 use Rattle.acpi_values.specs.Spelling.{Spells, height}
-use Rattle.acpi_tree.specs.Tree.{ExternalParts, ItemTree, name, scope, method, external, external_block, create, create_field, mutex, event, region, field, index_field, bank_field, ItemTrees, no_items, item}
-use Rattle.acpi_code.specs.Forms.{kind_opcode, kind_arguments}
+use Rattle.acpi_tree.specs.Tree.{ElemTree, ExternalParts, ItemTree, name, scope, method, external, external_block, create, create_field, mutex, event, region, field, index_field, bank_field, ItemTrees, no_items, item}
+use Rattle.acpi_code.specs.Forms.{FixedArgument, int_arg, Value, Values, kind_opcode, kind_arguments}
 pub use Rattle.acpi_code.specs.FixedArguments.{SpellsArgument, SpellsArguments, SpellsPlain, SpellsPacked, SpellsForm, SpellsFilled, SpellsExternal}
 
 -- ---- data (20.2.3 and 20.2.5.4)
@@ -86,3 +86,27 @@ abbrev mutual
   pub items_height : ItemTrees → ℕ
   items_height no_items = 0
   items_height (item i is) = max (item_height i) (items_height is)
+
+-- ---- what is spelled, no higher than the levels that are left
+
+-- a fixed argument has a level where it is a term
+abbrev pub argument_height : FixedArgument → ℕ
+argument_height int_arg = 1
+argument_height _ = 0
+
+abbrev pub arguments_height : List FixedArgument → ℕ
+arguments_height [] = 0
+arguments_height (k ∷ ks) = max (argument_height k) (arguments_height ks)
+
+abbrev pub ArgumentWithin : ℕ → (k : FixedArgument) → Value k → List ℕ → Type 0
+ArgumentWithin level k v bytes = SpellsArgument k v bytes × (argument_height k ≤ level)
+
+abbrev pub ArgumentsWithin : ℕ → (ks : List FixedArgument) → Values ks → List ℕ → Type 0
+ArgumentsWithin level ks v bytes = SpellsArguments ks v bytes × (arguments_height ks ≤ level)
+
+abbrev pub ElemWithin : ℕ → ElemTree → List ℕ → Type 0
+ElemWithin level e bytes =
+    Spells data_grammar (elem_term e) bytes × (height (elem_term e) ≤ level)
+
+abbrev pub ItemWithin : ℕ → ItemTree → List ℕ → Type 0
+ItemWithin level i bytes = SpellsItem i bytes × (item_height i ≤ level)

@@ -192,7 +192,7 @@ pub fn read_items_shared(alloc: Global, code: &Bytes, depth: Depth) -> Result<Ve
     // What is spelled so within the limit is read, unless memory runs out. So a fault means that nothing is.
     ensures only { (is : ItemTrees) → SpellsItems is code.now → items_height is ≤ depth
         → OrMemory result (λ v. items_tree v.items ≡ is) }
-    // What a fault says is true of the code.
+    // A fault is of the first part, from the left, that isn't spelled; no other is true of the code.
     ensures faults { IfErr result (λ e. IsTrueFault depth code.now e) }
     // Behind items, the first term that can't be an item is reported at its place, unless memory runs out.
     ensures next { (u w : List ℕ) (is : ItemTrees) (why : ItemReason) → code.now ≡ u ++ w
@@ -217,7 +217,7 @@ pub fn read_items(alloc: Global, code: &[u8], depth: Depth) -> Result<Vec<Item>,
     // What is spelled so within the limit is read, unless memory runs out. So a fault means that nothing is.
     ensures only { (is : ItemTrees) → SpellsItems is code.now → items_height is ≤ depth
         → OrMemory result (λ v. items_tree v.items ≡ is) }
-    // What a fault says is true of the code.
+    // A fault is of the first part, from the left, that isn't spelled; no other is true of the code.
     ensures faults { IfErr result (λ e. IsTrueFault depth code.now e) }
     // Behind items, the first term that can't be an item is reported at its place, unless memory runs out.
     ensures next { (u w : List ℕ) (is : ItemTrees) (why : ItemReason) → code.now ≡ u ++ w

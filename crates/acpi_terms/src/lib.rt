@@ -12,7 +12,7 @@
 //! ```
 //!
 //! A contract sees a value as a tree of `acpi_tree`, and says of which bytes it is the reading by the relation of
-//! `specs/Spelling.antt`, and of a fault what it shows of them by `specs/Faults.antt`.
+//! `specs/Spelling.antt`, and of a fault that the bytes fail by it, by the relation of `specs/Faults.antt`.
 #![tactic(auto)]
 
 mod block;

@@ -62,7 +62,7 @@ pub fn read_elem(alloc: Global, bytes: &[u8]) -> Result<(FieldElem, usize), Item
     ensures only { (e : FieldTree) (front rest : List ℕ) → SpellsField e front → bytes.now ≡ front
         ++ rest
         → OrMemory result (λ x. (field_view x.0 ≡ e) × (x.1 ≡ length front)) }
-    // What a fault says is true of the bytes.
+    // A fault is of the first part, from the left, that isn't spelled.
     ensures faults { IfErr result (λ e. IsTrueElementFault bytes.now e) }
 {
     front_elem(alloc, bytes)

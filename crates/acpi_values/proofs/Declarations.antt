@@ -1,7 +1,6 @@
 -- What the opcodes of declarations open, and what stands behind them.
-use Rattle.std.proofs.Common.{◌≡◌, ℕ, ◌-◌, ◌+◌, ◌<◌, true, List, [], ◌∷◌, ◌++◌, length, Ok, refl, arith}
+use Rattle.std.proofs.Common.{◌≡◌, ℕ, ◌<◌, true, List, [], ◌∷◌, ◌++◌, length, Ok, refl, arith}
 use Rattle.std.proofs.lemmas.List.{length-append}
-use Rattle.acpi_table.specs.PkgLength.{SpellsPkgLength}
 use Rattle.acpi_tree.specs.declared.place.NamedForm.{NamedForm}
 use Rattle.acpi_tree.specs.declared.place.NamedForm.TheVariants as named
 use Rattle.acpi_tree.specs.declared.place.UnitsForm.{UnitsForm}
@@ -10,12 +9,10 @@ use Rattle.acpi_tree.specs.Operators.{operands_of_units}
 use Rattle.acpi_code.specs.declared.opcode.Opcode.{Opcode}
 use Rattle.acpi_code.specs.declared.opcode.Opcode.TheVariants as opcodes
 use Rattle.acpi_code.specs.Opcodes.{opcode_bytes}
-use Rattle.acpi_code.specs.Faults.{has_package}
-use Rattle.acpi_code.specs.FixedArguments.{IsLengthOf}
 use Rattle.acpi_code.specs.steps.Reading.{byte_at, opcode_at}
 use Rattle.acpi_code.proofs.Opcodes.{opens}
 use Rattle.acpi_code.specs.Forms.{named_opcode, units_opcode}
-use Rattle.acpi_values.proofs.TermSound.{are_inner}
+use Rattle.acpi_values.proofs.TermExact.{are_inner}
 
 -- one for each declaration
 pub named_spelled : (form : NamedForm) (x : List ℕ) → (end : ℕ) → opcode_at end (opcode_bytes (named_opcode form) ++ x) ≡ Ok (named_opcode form, x)
@@ -45,9 +42,3 @@ units_long form = let some = opened_some 0 (opcode_bytes (units_opcode form) ++ 
 pub units_inner : (form : UnitsForm) → are_inner (operands_of_units form) ≡ true
 units_inner units.BankField = refl
 units_inner _ = refl
-
--- each has a package
-pub units_length : (form : UnitsForm) (len : List ℕ) (n : ℕ) → SpellsPkgLength n len → IsLengthOf (has_package (units_opcode form)) len
-units_length units.Field len n h = (n, h)
-units_length units.IndexField len n h = (n, h)
-units_length units.BankField len n h = (n, h)

@@ -2,8 +2,8 @@ pub mod Parts
 pub mod InOrder
 pub mod Opened
 pub mod Allowed
-pub mod Places
 pub mod TermComplete
 pub mod Declarations
 pub mod Registers
-pub mod TermSound
+pub mod TermExact
+pub mod Sure

@@ -172,7 +172,7 @@ super_is_target grammar level end (b ∷ rest) x e = by_test (eqb b 0) refl
     by_test true t = absurd (no_zero grammar level end rest x (ap (λ k. term_at grammar level SuperName end (k ∷ rest)) (sym (eqb-true b 0 t)) ∙ e))
     by_test false t = e
 
-operand_complete : (grammar : Grammar) (level end : ℕ) (k : OperandKind) (t : TermTree) (a rest : List ℕ)
+pub operand_complete : (grammar : Grammar) (level end : ℕ) (k : OperandKind) (t : TermTree) (a rest : List ℕ)
     → ((p : Place) → Stands p t → term_at grammar level p end (a ++ rest) ≡ Ok (t, rest)) → StandsFor k t → Spells grammar t a
     → operand_at (term_at grammar level) k end (a ++ rest) ≡ Ok (t, rest)
 unfolding operand_at

@@ -1,5 +1,5 @@
 -- What decides how many values follow a name in a method body (ACPI 6.5, 5.3 and 20.2.5).
-use Rattle.std.specs.Prelude.{ℕ, Option, None}
+use Rattle.std.specs.Prelude.{ℕ, Option}
 use Rattle.acpi_name.specs.Names.{NameParts}
 use Rattle.acpi_space.specs.Spaces.{PathMap}
 

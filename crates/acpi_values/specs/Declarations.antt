@@ -1,13 +1,10 @@
--- The names and operands of declarations of field units, and the elements behind them (ACPI 6.5, 20.2.5.2).
+-- The names and operands of declarations of field units (ACPI 6.5, 20.2.5.2).
 use Rattle.std.specs.Prelude.{◌≡◌, ℕ, List, ◌++◌, length}
 use Rattle.acpi_name.specs.Names.{NameParts}
 use Rattle.acpi_name.specs.Spelling.{SpellsName}
 use Rattle.acpi_tree.specs.declared.place.UnitsForm.{UnitsForm}
 use Rattle.acpi_tree.specs.Operators.{names_of_units, operands_of_units}
 use Rattle.acpi_tree.specs.Terms.{TermTrees}
-use Rattle.acpi_code.specs.Forms.{units_opcode}
-use Rattle.acpi_code.specs.Faults.{IsElementOf}
-use Rattle.acpi_code.specs.FixedArguments.{FollowsForm}
 use Rattle.acpi_code.specs.Spelling.{SpellsEach}
 use Rattle.acpi_values.specs.Grammars.{Grammar}
 use Rattle.acpi_values.specs.Spelling.{AreOperands}
@@ -21,9 +18,3 @@ pub record AreUnitArguments (g : Grammar) (form : UnitsForm) (ns : List NamePart
   pub are_names : SpellsEach SpellsName ns names
   pub are_operands : AreOperands g (operands_of_units form) vs operands
   pub whole : bytes ≡ names ++ operands
-
--- a field element must begin at the place: behind others, in the field list that follows names and operands
-abbrev pub IsUnitElement : Grammar → List ℕ → ℕ → Type 0
-IsUnitElement g code place = (form : UnitsForm) × (ns : List NameParts) × (vs : TermTrees)
-    × (start : ℕ) × FollowsForm (units_opcode form) (AreUnitArguments g form ns vs) code start
-    × IsElementOf code start place

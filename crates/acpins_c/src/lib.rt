@@ -8,7 +8,8 @@ ghost use Rattle.std.specs.Prelude.{◌≡◌, ◌≢◌, ◌↔◌, ◌⊎◌, 
 ghost use Rattle.acpi_name.specs.Text.{IsPathText};
 ghost use Rattle.acpins_records.specs.Bodies.{HasNoMethod, IsBodyWritten, NeedsText};
 ghost use Rattle.acpins_records.specs.Checks.{IsVerdictWritten, NeedsAnswerRoom};
-ghost use Rattle.acpins_records.specs.Orders.{IsWrittenInAnyOrder};
+ghost use Rattle.acpins_records.specs.Orders.{AreTablesInAnyOrder, IsBodyInAnyOrder, IsWrittenInAnyOrder, LoadInAnyOrder};
+ghost use Rattle.acpins_records.specs.Outcomes.{no_outcome};
 ghost use Rattle.acpins_records.specs.Rewrites.{AreTablesWritten, NeedTablesRoom};
 ghost use Rattle.acpins_records.specs.Written.{IsRefusal, IsWritten, NeedsRoom, SamePlaces, StayButText, bytes_of, contents_of};
 
@@ -54,6 +55,8 @@ pub extern "C" fn acpins_load(
         ≡ arrays.old.text.now }
     // The arrays stay where they are.
     ensures places { SamePlaces arrays.old arrays.new }
+    // Of any other status the outcome is 0.
+    ensures silent { result ≢ OK → result ≢ REFUSED → result ≢ NO_ROOM → outcome.new ≡ no_outcome }
     ensures statuses { result ≤ 4 }
 {
     write_load(alloc, tables, depth, arrays, outcome)
@@ -72,6 +75,9 @@ pub extern "C" fn acpins_body(
 ) -> u32
     ensures ok { result ≡ OK → IsBodyWritten depth
         (bytes_of tables.now) path.now text.old text.new body.new outcome.new }
+    // Of independent SSDTs in any order it is the body that a single load has at the path.
+    ensures any_order { result ≡ OK → IsBodyInAnyOrder depth
+        (bytes_of tables.now) path.now text.old text.new body.new }
     ensures refused { result ≡ REFUSED → IsRefusal depth
         (bytes_of tables.now) text.old text.new outcome.new }
     ensures room { result ≡ NO_ROOM → NeedsText depth
@@ -81,6 +87,8 @@ pub extern "C" fn acpins_body(
     ensures call { (result ≡ CALL) ↔ ((tables.now ≡ []) ⊎ ((depth < 1) ⊎ (4096 < depth))) }
     ensures stay { result ≢ OK → result ≢ REFUSED → text.new ≡ text.old }
     ensures body_stays { result ≢ OK → result ≢ NO_ROOM → body.new ≡ body.old }
+    // Of any other status the outcome is 0.
+    ensures silent { result ≢ OK → result ≢ REFUSED → result ≢ NO_ROOM → outcome.new ≡ no_outcome }
     ensures statuses { result ≤ 6 }
 {
     write_body(alloc, tables, depth, path, text, body, outcome)
@@ -101,6 +109,9 @@ pub extern "C" fn acpins_check(
     ensures ok { result ≡ OK → IsVerdictWritten depth
         (bytes_of tables.now) satisfied.old satisfied.new text.old text.new verdict.new
         outcome.new }
+    // SSDTs that may be loaded in any order load in each one to the join of their single loads.
+    ensures orders { (result ≡ OK) ⊎ (result ≡ NO_ROOM) → verdict.new.order ≡ 0
+        → LoadInAnyOrder depth (bytes_of tables.now) }
     // Only the DSDT is refused: an SSDT that can't be loaded over it is a verdict.
     ensures refused { result ≡ REFUSED → IsRefusal depth
         (take 1 (bytes_of tables.now)) text.old text.new outcome.new }
@@ -110,6 +121,8 @@ pub extern "C" fn acpins_check(
     ensures stay { result ≢ OK → satisfied.new ≡ satisfied.old }
     ensures text_stays { result ≢ OK → result ≢ REFUSED → text.new ≡ text.old }
     ensures verdict_stays { result ≢ OK → result ≢ NO_ROOM → verdict.new ≡ verdict.old }
+    // Of any other status the outcome is 0.
+    ensures silent { result ≢ OK → result ≢ REFUSED → result ≢ NO_ROOM → outcome.new ≡ no_outcome }
     ensures statuses { result ≤ 4 }
 {
     write_verdict(alloc, tables, depth, satisfied, text, verdict, outcome)
@@ -127,6 +140,9 @@ pub extern "C" fn acpins_rewrite(
 ) -> u32
     ensures ok { result ≡ OK → AreTablesWritten depth
         (bytes_of tables.now) bytes.old bytes.new ends.old ends.new outcome.new }
+    // Of independent SSDTs in any order they load to the join of the single loads.
+    ensures any_order { result ≡ OK → AreTablesInAnyOrder depth
+        (bytes_of tables.now) bytes.old bytes.new ends.old ends.new }
     ensures refused { result ≡ REFUSED → IsRefusal depth
         (bytes_of tables.now) bytes.old bytes.new outcome.new }
     ensures room { result ≡ NO_ROOM → NeedTablesRoom depth
@@ -134,6 +150,8 @@ pub extern "C" fn acpins_rewrite(
     ensures call { (result ≡ CALL) ↔ ((tables.now ≡ []) ⊎ ((depth < 1) ⊎ (4096 < depth))) }
     ensures stay { result ≢ OK → result ≢ REFUSED → bytes.new ≡ bytes.old }
     ensures ends_stay { result ≢ OK → ends.new ≡ ends.old }
+    // Of any other status the outcome is 0.
+    ensures silent { result ≢ OK → result ≢ REFUSED → result ≢ NO_ROOM → outcome.new ≡ no_outcome }
     ensures statuses { result ≤ 4 }
 {
     write_tables(alloc, tables, depth, bytes, ends, outcome)

@@ -1,13 +1,16 @@
 //! The files that a run opens and makes.
 
-ghost use Rattle.std.specs.Prelude.{◌≡◌, ◌≢◌, ℕ, List, [], Option, Some, None, IfOk, OnOk, OnErr, IfSome, ⊤};
+ghost use Rattle.std.specs.Prelude.{◌≡◌, ◌≢◌, ℕ, List, [], Option, Some, None, IfOk, OnOk, IfErr, OnErr, IfSome, ⊤};
 ghost use Rattle.std.specs.Io.KnownBytes.{Appends, Keeps};
+ghost use Rattle.std.specs.Option.{option_or};
+ghost use Rattle.std.specs.declared.io.ErrorKind.{ErrorKind};
 ghost use Rattle.std.specs.IoError.{error_kind};
 ghost use Rattle.acpins_io.specs.Dump.{begins_as_tables};
-ghost use Rattle.acpins_io.specs.Faults.{fault_of};
+ghost use Rattle.acpins_io.specs.Faults.{IsLastError, error_of, fault_of};
 ghost use Rattle.acpins_io.specs.FilesWritten.{Holds};
 ghost use Rattle.acpins_io.specs.declared.files.FileFault.{FileFault};
 
+use crate::open_file::OpenFile;
 use std::alloc::{AllocError, AllocFailed};
 use std::io;
 use std::io::{ErrorKind, Read, Write};
@@ -49,7 +52,7 @@ impl<T: Drop> From<AllocFailed<T>> for FileFault {
 }
 
 /// Files by name, as the words give it. Contracts see the bytes of the file of each name, and what was written to it
-/// since the run began, where these are known.
+/// since the run began, where these are known; and the error with which a file failed last to be opened or read.
 pub trait Files {
     // The bytes of each file before the run. Nothing is said of what making or ending a file does to them.
     ghost bytes_of: { Self → List ℕ → Option (List ℕ) } = { λ _ _. None };
@@ -59,6 +62,9 @@ pub trait Files {
 
     // Whether the file that was made last was made under that name; any name may be it, where that is not known.
     ghost was_made: { Self → List ℕ → Type 0 } = { λ _ _. ⊤ };
+
+    // The kind of the error with which opening or reading a file failed last.
+    ghost last_error: { Self → Option ErrorKind };
 
     /// A file that is read.
     type R: Read + Drop;
@@ -70,6 +76,15 @@ pub trait Files {
     fn open(&mut self, name: &str) -> Result<Self::R, FileFault>
         ensures bytes { IfOk result (λ file. IfSome (bytes_of self.old name.now)
             (λ bytes. Self.R.remaining file ≡ Some bytes)) }
+        ensures opened { OnOk result (last_error self.new ≡ last_error self.old) }
+        ensures failed { IfErr result (λ fault. IsLastError fault (last_error self.new)) }
+        ensures stays { bytes_of self.new ≡ bytes_of self.old }
+        ensures others { written_to self.new ≡ written_to self.old };
+
+    /// Ends reading a file. If a read of it failed, that error is the last one.
+    fn end_reading(&mut self, file: OpenFile<Self::R>)
+        ensures error { last_error self.new
+            ≡ option_or (error_of file.failures file.error) (last_error self.old) }
         ensures stays { bytes_of self.new ≡ bytes_of self.old }
         ensures others { written_to self.new ≡ written_to self.old };
 

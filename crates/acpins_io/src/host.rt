@@ -1,7 +1,12 @@
 //! The files of the host.
 
+ghost use Rattle.std.specs.Prelude.{◌≡◌};
+ghost use Rattle.std.specs.Option.{option_or};
+ghost use Rattle.acpins_io.specs.Faults.{error_of};
+
 use crate::dump::begins_as_tables;
 use crate::files::{FileFault, Files};
+use crate::open_file::OpenFile;
 use std::alloc::AllocError;
 use std::fs::{File, Metadata};
 use std::io::{ErrorKind, Read, Stdin, Stdout, Write};
@@ -28,6 +33,8 @@ const STREAM_NAME: &str = "-";
 pub struct HostFiles<'a> {
     rt: &'a HostRuntime,
     has_streams: bool,
+    // The kind of the error with which opening or reading a file failed last.
+    last_error: Option<ErrorKind>,
 }
 
 /// A file of the host that is read, or its standard input.
@@ -128,6 +135,7 @@ impl<'a> HostFiles<'a> {
         HostFiles {
             rt,
             has_streams: false,
+            last_error: None,
         }
     }
 
@@ -137,11 +145,20 @@ impl<'a> HostFiles<'a> {
         HostFiles {
             rt,
             has_streams: true,
+            last_error: None,
         }
     }
 
     fn is_standard(&self, name: &str) -> bool {
         self.has_streams && name == STREAM_NAME
+    }
+
+    // Where the bytes of the file of that name are read from.
+    fn input(&self, name: &str) -> io::Result<HostInput> {
+        if self.is_standard(name) {
+            return Ok(HostInput::Stdin(self.rt.stdin()));
+        }
+        Ok(HostInput::File(File::open(self.rt, name)?))
     }
 
     // What stands under that name. It is opened to be written, and not changed.
@@ -221,17 +238,28 @@ impl<'a> HostFiles<'a> {
 }
 
 impl<'a> Files for HostFiles<'a> {
+    ghost last_error = { λ files. files.last_error };
+
     type R = HostReader;
 
     type W = HostFile;
 
     fn open(&mut self, name: &str) -> Result<HostReader, FileFault> {
-        let source = if self.is_standard(name) {
-            HostInput::Stdin(self.rt.stdin())
-        } else {
-            HostInput::File(File::open(self.rt, name)?)
-        };
-        Ok(HostReader { source })
+        match self.input(name) {
+            Ok(source) => Ok(HostReader { source }),
+            Err(error) if error.kind() == ErrorKind::OutOfMemory => Err(FileFault::Memory),
+            Err(error) => {
+                self.last_error = Some(error.kind());
+                Err(FileFault::Host(error.kind()))
+            }
+        }
+    }
+
+    fn end_reading(&mut self, file: OpenFile<HostReader>)
+        ensures error { self.new.last_error
+            ≡ option_or (error_of file.failures file.error) self.old.last_error }
+    {
+        self.last_error = file.last_error().or(self.last_error);
     }
 
     fn holds_tables(&mut self, name: &str) -> Result<bool, AllocError> {

@@ -1,10 +1,10 @@
 //! Parts of a line, written one after another to a stream.
 
-ghost use Rattle.std.specs.Prelude.{◌≡◌, ℕ, List, Option, Some, Bool, IsTrue, true, false, decimal};
-ghost use Rattle.std.specs.Io.KnownBytes.{Appends};
-ghost use Rattle.acpins_io.specs.PartsWritten.{AppendsBeginning, WritesUntilFailure};
+ghost use Rattle.std.specs.Prelude.{◌≡◌, ℕ, List, Option, Some, Bool, true, false, decimal};
+ghost use Rattle.acpins_io.specs.PartsWritten.{WritesUntilFailure};
 
-use std::io::{ErrorKind, Write};
+use crate::streams::write_whole;
+use std::io::Write;
 use text_buffer::Text;
 
 /// How the parts of a line are written to a stream. Contracts see the bytes that the stream holds, where they
@@ -32,60 +32,6 @@ impl UntilFailure {
         ensures { result.failed ≡ false }
     {
         UntilFailure { failed: false }
-    }
-}
-
-/// What becomes of bytes that are written to a stream.
-#[derive(Clone, Copy, Debug, PartialEq, Eq)]
-pub enum Written {
-    /// The stream has all of them.
-    Whole,
-    /// Nobody reads the stream any more: it has a beginning of them.
-    Unread,
-    /// A write failed for another reason: the stream has a beginning of them.
-    Failed,
-}
-
-// What a write that failed comes to.
-fn written_of(kind: ErrorKind) -> Written
-    ensures { result ≡ Written.Whole → ⊥ }
-{
-    match kind {
-        ErrorKind::BrokenPipe => Written::Unread,
-        _ => Written::Failed,
-    }
-}
-
-/// Writes the bytes until a write fails. A write that was interrupted is tried again.
-pub fn write_bytes<E: Write>(stream: &mut E, bytes: &[u8]) -> Written
-    ensures whole { result ≡ Written.Whole → Appends (E.contents stream.old)
-        (E.contents stream.new) bytes.now }
-    ensures begins { AppendsBeginning bytes.now (E.contents stream.old) (E.contents stream.new) }
-{
-    let mut written = 0;
-    for _ in 0..u64::MAX {
-        if written == bytes.len() {
-            return Written::Whole;
-        }
-        match stream.write(&bytes[written..]) {
-            Ok(0) => return Written::Failed,
-            Ok(count) => written = written + count,
-            Err(error) if error.kind() == ErrorKind::Interrupted => {}
-            Err(error) => return written_of(error.kind()),
-        }
-    }
-    Written::Failed
-}
-
-/// The same, and answers whether they were written whole.
-pub fn write_whole<E: Write>(stream: &mut E, bytes: &[u8]) -> bool
-    ensures whole { IsTrue result → Appends (E.contents stream.old)
-        (E.contents stream.new) bytes.now }
-    ensures begins { AppendsBeginning bytes.now (E.contents stream.old) (E.contents stream.new) }
-{
-    match write_bytes(stream, bytes) {
-        Written::Whole => true,
-        Written::Unread | Written::Failed => false,
     }
 }
 

@@ -14,5 +14,8 @@ pub mod Ascii
 pub mod Joins
 pub mod Refused
 pub mod NextPairs
+pub mod OnePlaces
 pub mod OrderedCodes
 pub mod OrderedRecords
+pub mod OneContents
+pub mod AnyOrder

@@ -25,58 +25,7 @@ use Rattle.acpins_records.specs.Tree.{IsPlaceOf, path_round, IsBelow, EndsBelow}
 use Rattle.acpins_records.specs.Written.{IsContentsOf, IsWritten}
 use Rattle.acpins_records.specs.declared.outcome.Outcome.{Outcome}
 use Rattle.acpins_records.proofs.OrderedCodes.{AreSamePlace, code_place_of, code_length_of, codes_in_any_order}
-use Rattle.acpins_records.proofs.Prefixes.{ascends, not_back, there}
-
--- ---- one place
-
-apart_or_same : (i j : ℕ) → (i < j) ⊎ ((j < i) ⊎ (i ≡ j))
-apart_or_same i j = grind arith
-
-module _ (es : List (List Segment × ObjectTree)) (sorted : is_sorted path_cmp es ≡ true) where
-  one_index : (p : List Segment) (i j : ℕ) → slice_get (paths_in es) i ≡ Some p → slice_get (paths_in es) j ≡ Some p → i ≡ j
-  one_index p i j h k = by (apart_or_same i j)
-    where
-      by : (i < j) ⊎ ((j < i) ⊎ (i ≡ j)) → i ≡ j
-      by (inl lt) = let less = ascends es sorted i j p p lt h k in absurd (not_back p p less less)
-      by (inr (inl lt)) = let less = ascends es sorted j i p p lt k h in absurd (not_back p p less less)
-      by (inr (inr same)) = same
-
-  one_place : (o : Option (List Segment)) (n m : ℕ) → IsPlaceOf (paths_in es) o n → IsPlaceOf (paths_in es) o m → n ≡ m
-  one_place None n m h k = h ∙ sym k
-  one_place (Some p) n m (inl h) (inl k) = one_index p n m h k
-  one_place (Some p) n m (inl h) (inr k) = absurd (k.1 n h)
-  one_place (Some p) n m (inr h) (inl k) = absurd (h.1 m k)
-  one_place (Some p) n m (inr h) (inr k) = h.0 ∙ sym k.0
-
-  one_target : (o : Option (List Segment)) (n m : ℕ) → IsTarget (paths_in es) o n → IsTarget (paths_in es) o m → n ≡ m
-  one_target None n m h k = h ∙ sym k
-  one_target (Some p) n m h k = one_index p n m h k
-
-  one_targets : (ls : Links) (ns ms : List ℕ) → AllZip (IsTarget (paths_in es)) ls ns → AllZip (IsTarget (paths_in es)) ls ms → ns ≡ ms
-  one_targets [] [] [] h k = refl
-  one_targets [] [] (m ∷ ms) h k = absurd k
-  one_targets [] (n ∷ ns) ms h k = absurd h
-  one_targets (l ∷ ls) [] ms h k = absurd h
-  one_targets (l ∷ ls) (n ∷ ns) [] h k = absurd k
-  one_targets (l ∷ ls) (n ∷ ns) (m ∷ ms) h k =
-      let first : n ≡ m = one_target l n m h.0 k.0 in
-      let later : ns ≡ ms = one_targets ls ns ms h.1 k.1 in
-      λ i. first i ∷ later i
-
-  -- the first of two ends is none before the other
-  not_sooner : (k n m : ℕ) (p : List Segment) → slice_get (paths_in es) k ≡ Some p → EndsBelow (paths_in es) k n → EndsBelow (paths_in es) k m → n < m → ⊥
-  not_sooner k n m p here h l lt =
-      let at = there (paths_in es) n (omega (arith, l.within.1)) in
-      let below : IsBelow p at.0 = (l.below n p at.0 here at.1).1 (h.within.0, lt) in
-      absurd (omega (arith, ((h.below n p at.0 here at.1).0 below).1))
-
-  one_end : (k n m : ℕ) (p : List Segment) → slice_get (paths_in es) k ≡ Some p → EndsBelow (paths_in es) k n → EndsBelow (paths_in es) k m → n ≡ m
-  one_end k n m p here h l = by (apart_or_same n m)
-    where
-      by : (n < m) ⊎ ((m < n) ⊎ (n ≡ m)) → n ≡ m
-      by (inl lt) = absurd (not_sooner k n m p here h l lt)
-      by (inr (inl lt)) = absurd (not_sooner k m n p here l h lt)
-      by (inr (inr same)) = same
+use Rattle.acpins_records.proofs.OnePlaces.{one_targets, one_parent, one_below}
 
 -- ---- records
 
@@ -110,26 +59,25 @@ module _ (parents parents' belows belows' : ℕ → ℕ) (links : Lookup Links) 
 contents_alike : (es : List (List Segment × ObjectTree)) → is_sorted path_cmp es ≡ true → (links : Lookup Links) (codes codes' : Lookup CodePlace) (c d : Contents)
     → ((p : List Segment) → AreSamePlace (codes p) (codes' p)) → AreContents es links codes c → AreContents es links codes' d → AreAlike c d
 contents_alike es sorted links codes codes' c d alike h k = record {
-  objects = ap (map without_table) k.objects_are ∙ sym (records_alike h.parents k.parents h.belows k.belows links codes codes' alike 0 0 0 0 es parents_same belows_same) ∙ sym (ap (map without_table) h.objects_are);
+  objects = ap (map without_table) k.objects_are
+      ∙ sym (records_alike h.parents k.parents h.belows k.belows links codes codes' alike 0 0 0 0 es
+      (one_parent es sorted links codes codes' c d h k) (one_below es sorted links codes codes' c d h k))
+      ∙ sym (ap (map without_table) h.objects_are);
   targets = one_targets es sorted (all_links es links) d.targets c.targets k.targets_are h.targets_are;
   text = k.text_is ∙ sym h.text_is;
   parts = k.parts_are ∙ sym h.parts_are;
   bytes = k.bytes_are ∙ sym h.bytes_are;
 }
-  where
-    at_place : (j : ℕ) → j < length es → (p : List Segment) × (slice_get (paths_in es) j ≡ Some p)
-    at_place j below = there (paths_in es) j (omega (arith, length-map es (λ (e : List Segment × ObjectTree). e.0)))
-
-    parents_same : (j : ℕ) → 0 ≤ j → j < 0 + length es → h.parents j ≡ k.parents j
-    parents_same j low high =
-        let at = at_place j (omega arith) in
-        one_place es sorted (path_round at.0) (h.parents j) (k.parents j) (h.are_parents j (omega arith) at.0 at.1) (k.are_parents j (omega arith) at.0 at.1)
-
-    belows_same : (j : ℕ) → 0 ≤ j → j < 0 + length es → h.belows j ≡ k.belows j
-    belows_same j low high =
-        let at = at_place j (omega arith) in one_end es sorted j (h.belows j) (k.belows j) at.0 at.1 (h.are_belows j (omega arith)) (k.are_belows j (omega arith))
 
 -- ---- loads in two orders
+
+-- where two loads have one namespace, they have the same lines
+pub same_lines : (depth : ℕ) (tables others : List (List ℕ)) (c d : Contents) (h : IsContentsOf depth tables c) (k : IsContentsOf depth others d)
+    → k.objects ≡ h.objects → k.links ≡ h.links → AreContents h.lines h.links k.codes d
+same_lines depth tables others c d h k objects links =
+    let lines : k.lines ≡ h.lines = same_entries path_cmp path_cmp_total path_cmp-IsAntisymmetric k.lines h.lines (subst T (sym k.ascending) tt) (subst T (sym h.ascending) tt)
+    (λ p. k.objects_are p ∙ ap (λ (N : Namespace). N p) objects ∙ sym (h.objects_are p)) in
+    subst (λ (l : Lookup Links). AreContents h.lines l k.codes d) links (subst (λ (es : List (List Segment × ObjectTree)). AreContents es k.links k.codes d) lines k.contents)
 
 pub records_in_any_order : (depth : ℕ) (dsdt : List ℕ) (ssdts given : List (List ℕ)) (c d : Contents) → AreReordered depth dsdt ssdts given
     → IsContentsOf depth (dsdt ∷ ssdts) c → IsContentsOf depth (dsdt ∷ given) d → AreAlike c d
@@ -139,10 +87,7 @@ records_in_any_order depth dsdt ssdts given c d order h k =
     let same : m.0 ≡ n.0 = one_in_any_order depth dsdt ssdts given m.0 n.0 order.some order.order order.independent m.1 n.1 in
     let objects : k.objects ≡ h.objects = sym n.2 ∙ ap (λ (x : Machine). x.objects) (sym same) ∙ m.2 in
     let links : k.links ≡ h.links = sym n.3 ∙ ap (λ (x : Machine). x.links) (sym same) ∙ m.3 in
-    let lines : k.lines ≡ h.lines = same_entries path_cmp path_cmp_total path_cmp-IsAntisymmetric k.lines h.lines (subst T (sym k.ascending) tt) (subst T (sym h.ascending) tt)
-    (λ p. k.objects_are p ∙ ap (λ (N : Namespace). N p) objects ∙ sym (h.objects_are p)) in
-    let contents : AreContents h.lines h.links k.codes d =
-    subst (λ (l : Lookup Links). AreContents h.lines l k.codes d) links (subst (λ (es : List (List Segment × ObjectTree)). AreContents es k.links k.codes d) lines k.contents) in
+    let contents = same_lines depth (dsdt ∷ ssdts) (dsdt ∷ given) c d h k objects links in
     contents_alike h.lines h.ascending h.links h.codes k.codes c d (λ p. codes_in_any_order depth dsdt ssdts given order h.codes k.codes h.are_codes k.are_codes p) h.contents contents
 
 pub written_in_any_order : (depth : ℕ) (tables : List (List ℕ)) (old new : Contents) (outcome : Outcome) → IsWritten depth tables old new outcome → IsWrittenInAnyOrder depth tables old new

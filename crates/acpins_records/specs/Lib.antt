@@ -10,3 +10,4 @@ pub mod Checks
 pub mod Rewrites
 pub mod steps
 pub mod Orders
+pub mod Laws

@@ -7,7 +7,8 @@ ghost use Rattle.acpi_declare.specs.Refusals.{IsLoadFault};
 ghost use Rattle.acpi_name.specs.Text.{SpellsPathText, IsPathText};
 ghost use Rattle.acpins_records.specs.Bodies.{body_reason_code, read_record, unread_record, HasNoMethod, IsBodyWritten, NeedsText};
 ghost use Rattle.acpins_records.specs.steps.Giving.{BodyOrNone};
-ghost use Rattle.acpins_records.specs.Outcomes.{text_outcome};
+ghost use Rattle.acpins_records.specs.Orders.{IsBodyInAnyOrder};
+ghost use Rattle.acpins_records.specs.Outcomes.{no_outcome, text_outcome};
 ghost use Rattle.acpins_records.specs.Written.{IsFront, IsRefusal, bytes_of};
 
 use crate::outcome::{BAD_PATH, CALL, MEMORY, NO_METHOD, NO_ROOM, OK, Outcome, REFUSED};
@@ -179,6 +180,9 @@ pub fn write_body(
 ) -> u32
     ensures ok { result ≡ OK → IsBodyWritten depth
         (bytes_of tables.now) path.now text.old text.new body.new outcome.new }
+    // Of independent SSDTs in any order it is the body that a single load has at the path.
+    ensures any_order { result ≡ OK → IsBodyInAnyOrder depth
+        (bytes_of tables.now) path.now text.old text.new body.new }
     ensures refused { result ≡ REFUSED → IsRefusal depth
         (bytes_of tables.now) text.old text.new outcome.new }
     ensures room { result ≡ NO_ROOM → NeedsText depth
@@ -188,6 +192,8 @@ pub fn write_body(
     ensures call { (result ≡ CALL) ↔ ((tables.now ≡ []) ⊎ ((depth < 1) ⊎ (4096 < depth))) }
     ensures stay { result ≢ OK → result ≢ REFUSED → text.new ≡ text.old }
     ensures body_stays { result ≢ OK → result ≢ NO_ROOM → body.new ≡ body.old }
+    // Of any other status the outcome is 0.
+    ensures silent { result ≢ OK → result ≢ REFUSED → result ≢ NO_ROOM → outcome.new ≡ no_outcome }
     ensures statuses { result ≤ 6 }
 {
     *outcome = Outcome::nothing();

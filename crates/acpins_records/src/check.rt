@@ -5,7 +5,8 @@ ghost use Rattle.acpi_declare.specs.Loads.{HasNoLoad};
 ghost use Rattle.acpi_declare.specs.Refusals.{IsLoadFault};
 ghost use Rattle.acpi_name.specs.Text.{path_text};
 ghost use Rattle.acpins_records.specs.Checks.{IsAnswer, IsAnswerOf, IsVerdictWritten, NeedsAnswerRoom, satisfied_from, satisfied_text, verdict_record};
-ghost use Rattle.acpins_records.specs.Outcomes.{text_outcome, reason_code, place_of, reason_path};
+ghost use Rattle.acpins_records.specs.Orders.{LoadInAnyOrder};
+ghost use Rattle.acpins_records.specs.Outcomes.{no_outcome, text_outcome, reason_code, place_of, reason_path};
 ghost use Rattle.acpins_records.specs.Written.{IsFront, IsRefusal, bytes_of};
 
 use crate::outcome::{CALL, MEMORY, NO_ROOM, OK, Outcome, REFUSED, place_of, reason_code};
@@ -266,6 +267,9 @@ pub fn write_verdict(
     ensures ok { result ≡ OK → IsVerdictWritten depth
         (bytes_of tables.now) satisfied.old satisfied.new text.old text.new verdict.new
         outcome.new }
+    // SSDTs that may be loaded in any order load in each one to the join of their single loads.
+    ensures orders { (result ≡ OK) ⊎ (result ≡ NO_ROOM) → verdict.new.order ≡ 0
+        → LoadInAnyOrder depth (bytes_of tables.now) }
     // Only the DSDT is refused: an SSDT that can't be loaded over it is a verdict.
     ensures refused { result ≡ REFUSED → IsRefusal depth
         (take 1 (bytes_of tables.now)) text.old text.new outcome.new }
@@ -275,6 +279,8 @@ pub fn write_verdict(
     ensures stay { result ≢ OK → satisfied.new ≡ satisfied.old }
     ensures text_stays { result ≢ OK → result ≢ REFUSED → text.new ≡ text.old }
     ensures verdict_stays { result ≢ OK → result ≢ NO_ROOM → verdict.new ≡ verdict.old }
+    // Of any other status the outcome is 0.
+    ensures silent { result ≢ OK → result ≢ REFUSED → result ≢ NO_ROOM → outcome.new ≡ no_outcome }
     ensures statuses { result ≤ 4 }
 {
     *outcome = Outcome::nothing();

@@ -15,6 +15,7 @@ mod body;
 mod building;
 mod check;
 mod in_order;
+pub mod laws;
 mod loading;
 mod numbers;
 mod outcome;

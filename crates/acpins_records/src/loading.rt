@@ -8,7 +8,7 @@ ghost use Rattle.acpi_declare.specs.Namespace.{namespace_of};
 ghost use Rattle.acpi_declare.specs.Refusals.{IsLoadFault};
 ghost use Rattle.acpi_places.specs.Places.{AreCodePlaces};
 ghost use Rattle.acpins_records.specs.Orders.{IsWrittenInAnyOrder};
-ghost use Rattle.acpins_records.specs.Outcomes.{counted};
+ghost use Rattle.acpins_records.specs.Outcomes.{counted, no_outcome};
 ghost use Rattle.acpins_records.specs.steps.Adding.{contents_in};
 ghost use Rattle.acpins_records.specs.steps.Room.{Fits};
 ghost use Rattle.acpins_records.specs.Written.{AreFronts, IsContentsOf, IsRefusal, IsShort, IsWritten, NeedsRoom, SamePlaces, StayButText, bytes_of, contents_of};
@@ -116,6 +116,7 @@ fn load_into(
     ensures text_stays { result ≢ OK → result ≢ REFUSED → arrays.new.text.now
         ≡ arrays.old.text.now }
     ensures places { SamePlaces arrays.old arrays.new }
+    ensures silent { result ≢ OK → result ≢ REFUSED → result ≢ NO_ROOM → outcome.new ≡ no_outcome }
     ensures statuses { result ≤ 4 }
 {
     *outcome = Outcome::nothing();
@@ -167,6 +168,8 @@ pub fn write_load(
         ≡ arrays.old.text.now }
     // The arrays stay where they are.
     ensures places { SamePlaces arrays.old arrays.new }
+    // Of any other status the outcome is 0.
+    ensures silent { result ≢ OK → result ≢ REFUSED → result ≢ NO_ROOM → outcome.new ≡ no_outcome }
     ensures statuses { result ≤ 4 }
 {
     load_into(alloc, tables, depth, arrays, outcome)

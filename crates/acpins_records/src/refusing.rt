@@ -70,6 +70,7 @@ pub(crate) fn write_refusal(
     ensures path { result ≡ REFUSED → TellsPath reason.now outcome.new.text text.old text.new }
     ensures status { (result ≡ REFUSED) ⊎ (result ≡ MEMORY) }
     ensures stay { result ≢ REFUSED → text.new ≡ text.old }
+    ensures outcome_stays { result ≢ REFUSED → outcome.new ≡ outcome.old }
 {
     let length = match reason {
         LoadReason::Refused { path, .. } => match write_path(alloc, path, text) {

@@ -3,8 +3,9 @@
 ghost use Rattle.std.specs.Prelude.{◌≡◌, ◌≢◌, ◌↔◌, ◌⊎◌, ◌≤◌, ◌<◌, ◌++◌, [], map, length, IfOk, IfErr, OnOk};
 ghost use Rattle.acpi_declare.specs.Loads.{HasNoLoad};
 ghost use Rattle.acpi_declare.specs.Refusals.{IsLoadFault};
-ghost use Rattle.acpi_rewrite.specs.Rewriting.{AreRewritten};
-ghost use Rattle.acpins_records.specs.Outcomes.{bytes_outcome};
+ghost use Rattle.acpi_rewrite.specs.Rewriting.{AreRewritten, AreTablesOfBytes};
+ghost use Rattle.acpins_records.specs.Orders.{AreTablesInAnyOrder};
+ghost use Rattle.acpins_records.specs.Outcomes.{no_outcome, bytes_outcome};
 ghost use Rattle.acpins_records.specs.Rewrites.{ends_from, joined, AreTablesWritten, NeedTablesRoom};
 ghost use Rattle.acpins_records.specs.Written.{IsFront, IsRefusal, bytes_of};
 
@@ -44,6 +45,7 @@ fn join(alloc: Global, tables: &[Vec<u8>]) -> Result<Joined, AllocError>
 fn rewrite(alloc: Global, tables: &[Bytes], depth: Depth) -> Result<Vec<Vec<u8>>, LoadFault>
     requires { tables.now ≢ [] }
     ensures ok { IfOk result (λ v. AreRewritten depth tables.now (map (λ t. t.items) v.items)) }
+    ensures bytes { IfOk result (λ v. AreTablesOfBytes tables.now) }
     ensures err { IfErr result (λ e. IsLoadFault depth tables.now e) }
     ensures none { IfErr result (λ e. e ≢ LoadFault.Memory → HasNoLoad depth tables.now) }
 {
@@ -84,6 +86,9 @@ pub fn write_tables(
 ) -> u32
     ensures ok { result ≡ OK → AreTablesWritten depth
         (bytes_of tables.now) bytes.old bytes.new ends.old ends.new outcome.new }
+    // Of independent SSDTs in any order they load to the join of the single loads.
+    ensures any_order { result ≡ OK → AreTablesInAnyOrder depth
+        (bytes_of tables.now) bytes.old bytes.new ends.old ends.new }
     ensures refused { result ≡ REFUSED → IsRefusal depth
         (bytes_of tables.now) bytes.old bytes.new outcome.new }
     ensures room { result ≡ NO_ROOM → NeedTablesRoom depth
@@ -91,6 +96,8 @@ pub fn write_tables(
     ensures call { (result ≡ CALL) ↔ ((tables.now ≡ []) ⊎ ((depth < 1) ⊎ (4096 < depth))) }
     ensures stay { result ≢ OK → result ≢ REFUSED → bytes.new ≡ bytes.old }
     ensures ends_stay { result ≢ OK → ends.new ≡ ends.old }
+    // Of any other status the outcome is 0.
+    ensures silent { result ≢ OK → result ≢ REFUSED → result ≢ NO_ROOM → outcome.new ≡ no_outcome }
     ensures statuses { result ≤ 4 }
 {
     *outcome = Outcome::nothing();

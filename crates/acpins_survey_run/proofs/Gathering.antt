@@ -1,15 +1,15 @@
 -- Byte strings of several sources, one source after another.
-use Rattle.std.proofs.Common.{◌≡◌, ◌+◌, ◌<◌, ◌≤◌, take_all, ℕ, Bool, List, [], ◌∷◌, ◌++◌, map, take, get_or, length, Option, Some, None, refl, sym, ap, subst, ◌∙◌, append_assoc, append-nil}
+use Rattle.std.proofs.Common.{◌≡◌, ◌+◌, ◌<◌, ◌≤◌, take_all, ℕ, Bool, List, [], ◌∷◌, ◌++◌, map, take, drop, take-append-drop, get_or, length, Option, Some, None, refl, sym, ap, subst, ◌∙◌, append_assoc, append-nil}
 use Rattle.std.specs.Borrow.{Bor}
 use Rattle.std.specs.Prelude.{IfSome}
-use Rattle.std.proofs.lemmas.List.{map-append, take_more}
+use Rattle.std.specs.declared.io.ErrorKind.{ErrorKind}
+use Rattle.std.proofs.lemmas.List.{map-append, drop_more, take_more}
 use Rattle.std.proofs.lemmas.Simd.{map-map}
 use Rattle.acpins_io.specs.Outputs.{FileBytes}
-use Rattle.acpins_survey_run.specs.Folders.{AreFilesAt, AreFilesBy, AreSsdtFiles, AreSsdtsAmong, FolderNames, path_in}
-use Rattle.acpins_survey_run.specs.Input.{AreOfEach, IsFileFault, IsFilesFault}
+use Rattle.acpins_survey_run.specs.Folders.{AreFilesAt, AreSsdtFiles, AreSsdtsAmong, FolderNames, path_in}
+use Rattle.acpins_survey_run.specs.Input.{AreFilesOf, AreOfEach, AreTablesOfFiles, IsFileFault, IsFilesFault, IsFolderFault, IsFoldersFault}
 use Rattle.acpins_survey_run.specs.steps.Adding.{Adds}
 use Rattle.acpins_survey_run.specs.declared.failure.Failure.{Failure}
-use Rattle.acpins_survey_run.specs.declared.failure.Failure.TheVariants.{WrongArguments, NotUtf8, BadPath, NoSuchPath, NoTable, Read, BadHex, HoldsTables, Out, Output, Memory}
 
 module _ {A : Type 0} (AreOf : A → List (List ℕ) → Type 0) where
   of_both : (xs ys : List A) (a b : List (List ℕ)) → AreOfEach AreOf xs a → AreOfEach AreOf ys b → AreOfEach AreOf (xs ++ ys) (a ++ b)
@@ -41,19 +41,13 @@ module _ {A : Type 0} (AreOf : A → List (List ℕ) → Type 0) where
 
 -- ---- the files of a folder
 
--- what is found is what is known
-of_known : (known : Option (Option (List (List ℕ)))) (found : Option (List (List ℕ))) (P : Option (List (List ℕ)) → Type 0) → IfSome known (λ k. found ≡ k) → P found
-    → IfSome known P
-of_known None found P is h = tt
-of_known (Some k) found P is h = subst P is h
-
 -- a file that is no folder
 pub plain_added : {S : Type 0} (text : S → List ℕ) (names_in : FolderNames) (name : List ℕ) (old new : List S) (file : S) → IfSome (names_in name) (λ known. None ≡ known)
     → text file ≡ name → new ≡ old ++ file ∷ [] → Adds (AreFilesAt names_in name) (map text old) (map text new)
 plain_added text names_in name old new file known is more = (
   text file ∷ [],
   ap (map text) more ∙ map-append text old (file ∷ []),
-  of_known (names_in name) None (λ f. AreFilesBy names_in name f (text file ∷ [])) known (ap (λ (p : List ℕ). p ∷ []) is),
+  (None, known, ap (λ (p : List ℕ). p ∷ []) is),
 )
 
 -- the path of a name that is lent
@@ -69,17 +63,33 @@ all_files extension folder names ssdts i before after past among h =
     let paths = ap (map (lent_path folder)) (take_all i ssdts past) ∙ sym (map-map (path_in folder) now ssdts) in
     (map (lent_path folder) (take i ssdts), h, (map now ssdts, among, paths))
 
--- ---- a file that can't be read
+-- ---- the first that can't be read
 
-pub some_file : (bytes_of : FileBytes) (hex : Bool) (name : List ℕ) (f : Failure) → IsFileFault hex (bytes_of name) name f → IsFilesFault bytes_of hex f
-some_file bytes_of hex name (WrongArguments text) h = absurd h
-some_file bytes_of hex name (NotUtf8 number) h = absurd h
-some_file bytes_of hex name (BadPath word) h = absurd h
-some_file bytes_of hex name NoSuchPath h = absurd h
-some_file bytes_of hex name (NoTable file) h = (name, h)
-some_file bytes_of hex name (Read file cause) h = (name, h)
-some_file bytes_of hex name (BadHex file) h = (name, h)
-some_file bytes_of hex name (HoldsTables file) h = absurd h
-some_file bytes_of hex name (Out file kind) h = absurd h
-some_file bytes_of hex name Output h = absurd h
-some_file bytes_of hex name Memory h = tt
+split_at : {B : Type 0} (view : B → List ℕ) (xs : List B) (i : ℕ) (d : B) → i < length xs → map view xs ≡ map view (take i xs) ++ view (get_or xs i d) ∷ map view (drop (i + 1) xs)
+split_at view xs i d below =
+    ap (map view) (sym (take-append-drop i xs) ∙ ap (λ l. take i xs ++ l) (drop_more xs i d below)) ∙ map-append view (take i xs) (get_or xs i d ∷ drop (i + 1) xs)
+
+pub first_folder : {B : Type 0} (names_in : FolderNames) (error : Option ErrorKind) (view : B → List ℕ) (xs : List B) (i : ℕ) (d : B) (files : List (List ℕ)) (f : Failure)
+    → i < length xs → AreFilesOf names_in (map view (take i xs)) files → IsFolderFault names_in error (view (get_or xs i d)) f → IsFoldersFault names_in error (map view xs) f
+first_folder names_in error view xs i d files f below before fault = record {
+  earlier = map view (take i xs);
+  name = view (get_or xs i d);
+  later = map view (drop (i + 1) xs);
+  splits = split_at view xs i d below;
+  files = files;
+  before = before;
+  fault = fault;
+}
+
+pub first_file : {B : Type 0} (bytes_of : FileBytes) (hex : Bool) (error : Option ErrorKind) (view : B → List ℕ) (xs : List B) (i : ℕ) (d : B) (tables : List (List ℕ)) (f : Failure)
+    → i < length xs → AreTablesOfFiles bytes_of hex (map view (take i xs)) tables → IsFileFault hex (view (get_or xs i d)) (bytes_of (view (get_or xs i d))) error f
+    → IsFilesFault bytes_of hex error (map view xs) f
+first_file bytes_of hex error view xs i d tables f below before fault = record {
+  earlier = map view (take i xs);
+  name = view (get_or xs i d);
+  later = map view (drop (i + 1) xs);
+  splits = split_at view xs i d below;
+  tables = tables;
+  before = before;
+  fault = fault;
+}

@@ -1,6 +1,6 @@
 -- The files of tables in a folder: as the kernel has them in /sys/firmware/acpi/tables (`DSDT`, `SSDT1`, a folder
 -- `dynamic`), or as acpixtract and others write them (`dsdt.dat`, `ssdt1.dat`, `SSDT1.aml`).
-use Rattle.std.specs.Prelude.{◌≡◌, ◌^◌, ◌-◌, ℕ, ◌&&◌, List, [], ◌∷◌, ◌++◌, Option, Some, None, IfSome, length, map, filter_map, option_map, option_and_then, drop, take, codes, nat_eq, nat_lt, if◌then◌else◌}
+use Rattle.std.specs.Prelude.{◌≡◌, ◌≤◌, ◌^◌, ◌-◌, ℕ, ◌&&◌, List, [], ◌∷◌, ◌++◌, Option, Some, None, IfSome, length, map, filter_map, option_map, option_and_then, drop, take, codes, nat_eq, nat_lt, if◌then◌else◌}
 use Rattle.std.specs.List.{ends_with}
 use Rattle.std.specs.List.Sorted.{IsPermutation, IsSorted}
 use Rattle.std.specs.Str.{all_ascii_digits, bytes_eq, str_to_ascii_lowercase}
@@ -81,11 +81,19 @@ abbrev pub AreSsdtFilesBy : List ℕ → List ℕ → Option (List (List ℕ)) �
 AreSsdtFilesBy extension folder None files = files ≡ []
 AreSsdtFilesBy extension folder (Some names) files = AreSsdtFiles extension folder names files
 
--- .. in the folder `dynamic` of a folder, where its names are known
+-- the folder `dynamic` of a folder
+abbrev pub dynamic_in : List ℕ → List ℕ
+dynamic_in folder = path_in folder (codes "dynamic")
+
+-- the names in a folder, None where there is none: those that are known, if any are
+abbrev pub AreNamesIn : FolderNames → List ℕ → Option (List (List ℕ)) → Type 0
+AreNamesIn names_in folder found = IfSome (names_in folder) (λ known. found ≡ known)
+
+-- .. in the folder `dynamic` of a folder
 abbrev pub AreDynamicFiles : FolderNames → List ℕ → List ℕ → List (List ℕ) → Type 0
 AreDynamicFiles names_in extension folder files =
-    let dynamic = path_in folder (codes "dynamic") in
-    IfSome (names_in dynamic) (λ found. AreSsdtFilesBy extension dynamic found files)
+    (found : Option (List (List ℕ))) × AreNamesIn names_in (dynamic_in folder) found
+    × AreSsdtFilesBy extension (dynamic_in folder) found files
 
 -- The files of a folder in which there are these names: that of its one DSDT, those of its SSDTs with the same
 -- extension, and then those of the SSDTs in its folder `dynamic`.
@@ -107,7 +115,7 @@ abbrev pub AreFilesBy : FolderNames → List ℕ → Option (List (List ℕ)) �
 AreFilesBy names_in name None files = files ≡ name ∷ []
 AreFilesBy names_in name (Some names) files = AreFilesIn names_in name names files
 
--- .. where it is known whether it is one
+-- the files at a name: itself, or those of the folder there
 abbrev pub AreFilesAt : FolderNames → List ℕ → List (List ℕ) → Type 0
-AreFilesAt names_in name files =
-    IfSome (names_in name) (λ found. AreFilesBy names_in name found files)
+AreFilesAt names_in name files = (found : Option (List (List ℕ)))
+    × AreNamesIn names_in name found × AreFilesBy names_in name found files

@@ -7,7 +7,7 @@ use Rattle.acpins_survey_words.specs.Words.{Asked, Command, Invocation, showing,
 use Rattle.acpins_survey_run.specs.FailureLines.{failure_line, printed_name}
 use Rattle.acpins_survey_run.specs.Failures.{status_of}
 use Rattle.acpins_survey_run.specs.Folders.{FolderNames}
-use Rattle.acpins_survey_run.specs.Input.{AreFilesOf, AreTablesOfFiles, IsFilesFault}
+use Rattle.acpins_survey_run.specs.Input.{AreFilesOf, AreTablesOfFiles, IsInputFault, LastErrors}
 use Rattle.acpins_survey_run.specs.Stored.{IsSpared, IsUnspared}
 use Rattle.acpins_survey_run.specs.declared.failure.Failure.{Failure}
 use Rattle.acpins_survey_run.specs.declared.failure.Failure.TheVariants.{WrongArguments, BadPath, NoSuchPath, NoTable, Read, BadHex, HoldsTables, Out, Output, Memory}
@@ -71,36 +71,40 @@ module _ (files : FileBytes) (folders : FolderNames) where
     -- why what a survey asks for can't be made: its word, which is printed so, spells no path; no object may be there;
     -- the file to which it writes is one of those that are read, or holds tables; that file is said not to be written;
     -- or the tables aren't had
-    abbrev pub IsFailureOf : HasNothing → Asked → Failure → Type 0
-    IsFailureOf has_nothing asked (BadPath printed) = (word : Text)
+    abbrev pub IsFailureOf : HasNothing → LastErrors → Asked → Failure → Type 0
+    IsFailureOf has_nothing last asked (BadPath printed) = (word : Text)
         × (asked.command ≡ showing word) × ¬ IsPathText word × (printed.items ≡ printed_name word)
-    IsFailureOf has_nothing asked NoSuchPath = (tables : List (List ℕ)) × AreTablesOf asked tables
-        × has_nothing asked.command asked.depth tables
-    IsFailureOf has_nothing asked (HoldsTables printed) = (out : Text) × (sources : List (List ℕ))
-        × (page_file asked.command ≡ Some out) × (printed.items ≡ printed_name out)
+    IsFailureOf has_nothing last asked NoSuchPath = (tables : List (List ℕ))
+        × AreTablesOf asked tables × has_nothing asked.command asked.depth tables
+    IsFailureOf has_nothing last asked (HoldsTables printed) =
+        (out : Text) × (sources : List (List ℕ)) × (page_file asked.command ≡ Some out)
+        × (printed.items ≡ printed_name out)
         × AreFilesOf folders asked.files sources × IsUnspared files sources out
-    IsFailureOf has_nothing asked (Out printed kind) = (out : Text) × (status : ℕ) × (text : List ℕ)
-        × (page_file asked.command ≡ Some out) × (printed.items ≡ printed_name out)
+    IsFailureOf has_nothing last asked (Out printed kind) =
+        (out : Text) × (status : ℕ) × (text : List ℕ) × (page_file asked.command ≡ Some out)
+        × (printed.items ≡ printed_name out)
         × IsMadeOf (survey asked) status text
-    IsFailureOf has_nothing asked failure = IsFilesFault files asked.hex failure
+    IsFailureOf has_nothing last asked Memory = Unit {0}
+    IsFailureOf has_nothing last asked failure =
+        IsInputFault files folders last asked.hex asked.files failure
 
     -- why a run fails: the words ask for nothing; or what they ask for can't be made, or can't be written
-    abbrev pub IsRunFailure : HasNothing → List Text → Failure → Type 0
-    IsRunFailure has_nothing words (WrongArguments text) = invocation_of words ≡ None
-    IsRunFailure has_nothing words Memory = Unit {0}
-    IsRunFailure has_nothing words Output =
+    abbrev pub IsRunFailure : HasNothing → LastErrors → List Text → Failure → Type 0
+    IsRunFailure has_nothing last words (WrongArguments text) = invocation_of words ≡ None
+    IsRunFailure has_nothing last words Memory = Unit {0}
+    IsRunFailure has_nothing last words Output =
         (status : ℕ) × (text : List ℕ) × IsOutput words status text
-    IsRunFailure has_nothing words failure = (asked : Asked)
-        × (invocation_of words ≡ Some (survey asked)) × IsFailureOf has_nothing asked failure
+    IsRunFailure has_nothing last words failure = (asked : Asked)
+        × (invocation_of words ≡ Some (survey asked)) × IsFailureOf has_nothing last asked failure
 
     -- A run ends with the status of such a failure, and its line is said. Standard output is as it was; if it was that
     -- which could not be written, it got a beginning of what the words ask for. What was written to files is as
     -- `LeavesFiles` has it.
-    pub record FailsWith (has_nothing : HasNothing) (words : List Text) (status : ℕ)
-        (old new : Option (List ℕ)) (before after : FileBytes)
+    pub record FailsWith (has_nothing : HasNothing) (last : LastErrors) (words : List Text)
+        (status : ℕ) (old new : Option (List ℕ)) (before after : FileBytes)
         (is_said : List ℕ → Type 0) : Type 0 where
       pub failure : Failure
-      pub true_of : IsRunFailure has_nothing words failure
+      pub true_of : IsRunFailure has_nothing last words failure
       pub status_is : status ≡ status_of failure
       pub kept : failure ≢ Output → new ≡ old
       pub begun : failure ≡ Output → GetsBeginning (IsOutput words) old new

@@ -1,8 +1,9 @@
 //! Folders of tables, as `/sys/firmware/acpi/tables` is one.
 
-ghost use Rattle.std.specs.Prelude.{◌≡◌, ℕ, List, Option, Some, None, IfOk, IfSome, map, option_map, string_bytes, Err};
+ghost use Rattle.std.specs.Prelude.{◌≡◌, ℕ, List, Option, Some, None, IfOk, IfErr, IfSome, map, option_map, string_bytes, Err};
 ghost use Rattle.std.specs.Str.{str_to_ascii_lowercase};
 ghost use Rattle.std.specs.declared.io.ErrorKind.{ErrorKind};
+ghost use Rattle.acpins_io.specs.Faults.{IsLastError};
 ghost use Rattle.acpins_io.specs.declared.files.FileFault.{FileFault};
 ghost use Rattle.acpins_survey_run.specs.Folders.{AreSsdtsAmong, dsdt_extension, dsdts_among};
 ghost use Rattle.acpins_survey_run.specs.Folders.{number_of, path_in, ssdt_number, stem};
@@ -11,10 +12,14 @@ use acpins_io::FileFault;
 use std::alloc::{AllocError, Global};
 use std::io::ErrorKind;
 
-/// Folders by name. Contracts see the names in each folder, where they are known.
+/// Folders by name. Contracts see the names in each folder, where they are known, and the error with which a folder
+/// failed last to be read.
 pub trait Folders {
     // The names in the folder of each name before the run; Some None where no folder has that name.
     ghost names_in: { Self → List ℕ → Option (Option (List (List ℕ))) } = { λ _ _. None };
+
+    // The kind of the error with which reading a folder failed last.
+    ghost last_error: { Self → Option ErrorKind };
 
     /// The names in the folder, in any order; None where what has that name is no folder, `NotFound` where nothing
     /// has it. A name that is no text is left out.
@@ -23,6 +28,7 @@ pub trait Folders {
             (λ known. option_map (λ v. map string_bytes v.items) found ≡ known)) }
         ensures missing { result ≡ Err (FileFault.Host ErrorKind.NotFound)
             → IfSome (names_in self.old folder.now) (λ known. known ≡ None) }
+        ensures failed { IfErr result (λ fault. IsLastError fault (last_error self.new)) }
         ensures stays { names_in self.new ≡ names_in self.old };
 }
 

@@ -57,17 +57,21 @@ const STREAM_NAME: &str = "-";
 #[derive(Drop)]
 pub struct HostFolders<'a> {
     rt: &'a HostRuntime,
+    // The kind of the error with which reading a folder failed last.
+    last_error: Option<ErrorKind>,
 }
 
 impl<'a> HostFolders<'a> {
     /// The host's folders.
     pub fn new(rt: &'a HostRuntime) -> HostFolders<'a> {
-        HostFolders { rt }
+        HostFolders {
+            rt,
+            last_error: None,
+        }
     }
-}
 
-impl<'a> Folders for HostFolders<'a> {
-    fn names(&mut self, folder: &str) -> Result<Option<Vec<String>>, FileFault> {
+    // The names in the folder; None where what has that name is no folder.
+    fn listing(&self, folder: &str) -> Result<Option<Vec<String>>, FileFault> {
         if folder == STREAM_NAME {
             return Ok(None);
         }
@@ -86,6 +90,21 @@ impl<'a> Folders for HostFolders<'a> {
             }
         }
         Ok(Some(names))
+    }
+}
+
+impl<'a> Folders for HostFolders<'a> {
+    ghost last_error = { λ folders. folders.last_error };
+
+    fn names(&mut self, folder: &str) -> Result<Option<Vec<String>>, FileFault> {
+        match self.listing(folder) {
+            Ok(names) => Ok(names),
+            Err(FileFault::Memory) => Err(FileFault::Memory),
+            Err(FileFault::Host(kind)) => {
+                self.last_error = Some(kind);
+                Err(FileFault::Host(kind))
+            }
+        }
     }
 }
 

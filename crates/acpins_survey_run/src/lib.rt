@@ -31,11 +31,13 @@ mod sources;
 mod tables;
 mod writing;
 
-pub use acpins_io::{FileFault, Files, HostFiles, PartWriter, UntilFailure};
+pub use acpins_io::{
+    FileFault, Files, HostFiles, OpenFile, PartWriter, StreamWriter, UntilFailure, WriteErrors,
+};
 pub use console::{Console, NoConsole};
 pub use failure::{Failure, PrintFault, ReadCause};
 pub use folders::Folders;
 pub use host::{HostConsole, HostFolders, arguments};
 pub use printing::{Output, Print, Printer};
-pub use program::{Ending, output_of, report_failure, run};
+pub use program::{Ending, output_of, report_failure, run, run_telling};
 pub use tables::{FoundTables, TableFile};

@@ -1,7 +1,7 @@
 //! One run of the program.
 
-ghost use Rattle.std.specs.Prelude.{◌≡◌, ◌≢◌, ◌≤◌, ◌⊎◌, [], IfOk, IfErr, OnOk, OnErr, option_map, true};
-ghost use Rattle.std.specs.Io.KnownBytes.{Appends};
+ghost use Rattle.std.specs.Prelude.{◌≡◌, ◌≢◌, ◌≤◌, ◌⊎◌, [], Some, IfOk, IfErr, OnOk, OnErr, option_map, true, false};
+ghost use Rattle.std.specs.declared.io.ErrorKind.{ErrorKind};
 ghost use Rattle.acpins_io.specs.Outputs.{GetsBeginning, GetsOutput, IsHeldIn, printed_of};
 ghost use Rattle.acpins_io.specs.PartsWritten.{AppendsBeginning, WritesUntilFailure};
 ghost use Rattle.acpins_words.specs.Words.{texts};
@@ -9,7 +9,7 @@ ghost use Rattle.acpins_survey_words.specs.Words.{asked_in, command_in};
 ghost use Rattle.acpins_survey_run.specs.FailureLines.{failure_line};
 ghost use Rattle.acpins_survey_run.specs.Failures.{status_of};
 ghost use Rattle.acpins_survey_run.specs.Runs.{AreTablesOf, FailsWith, IsFailureOf, IsOutput, IsRunFailure, LeavesFiles, StoresOutput, page_file};
-ghost use Rattle.acpins_survey_run.specs.steps.Refusals.{IsInputFault, IsPrinted, IsStored, IsUnwritten};
+ghost use Rattle.acpins_survey_run.specs.steps.Refusals.{IsPrinted, IsStored, IsTablesFault, IsUnwritten};
 ghost use Rattle.acpins_survey_run.specs.declared.failure.Failure.{Failure};
 
 use crate::console::Console;
@@ -20,12 +20,12 @@ use crate::printing::{Output, Printer, print_of};
 use crate::sources::files_of;
 use crate::tables::{FoundTables, read_tables};
 use crate::writing::{put_file, spare_tables};
-use acpins_io::{Files, PartWriter, UntilFailure, Written, write_bytes};
+use acpins_io::{Files, PartWriter, StreamWriter, UntilFailure, WriteErrors, Written, write_out};
 use acpins_survey_words::{Command, Invocation, Request, VERSION, fault_text, help_of, read_words};
 use acpins_words::WordsFault;
 use bytes::Bytes;
 use std::alloc::Global;
-use std::io::{ErrorKind, Write};
+use std::io::Write;
 
 /// How a run ended.
 #[derive(Clone, Copy, Debug, PartialEq, Eq)]
@@ -56,8 +56,8 @@ fn tables_of<F: Files, D: Folders>(
 ) -> Result<FoundTables, Failure>
     ensures ok { IfOk result (λ found. AreTablesOf (F.bytes_of files.old)
         (D.names_in folders.old) (asked_in request.now) found.tables.items) }
-    ensures err { IfErr result
-        (IsInputFault (F.bytes_of files.old) (D.names_in folders.old) (asked_in request.now)) }
+    ensures err { IfErr result (IsTablesFault (F.bytes_of files.old) (D.names_in folders.old)
+        (F.last_error files.new, D.last_error folders.new) (asked_in request.now)) }
     ensures others { F.written_to files.new ≡ F.written_to files.old }
 {
     let sources = files_of(alloc, folders, &request.files)?;
@@ -109,7 +109,8 @@ fn survey_output<T: Printer, F: Files, D: Folders, C: Console>(
     ensures ok { IfOk result (λ m. IsPrinted (F.bytes_of files.old) (D.names_in folders.old)
         T.makes (asked_in request.now) m.status m.text.items) }
     ensures err { IfErr result (IsFailureOf (F.bytes_of files.old) (D.names_in folders.old)
-        T.makes T.has_nothing (asked_in request.now)) }
+        T.makes T.has_nothing (F.last_error files.new, D.last_error folders.new)
+        (asked_in request.now)) }
     ensures stored { OnOk result (IsStored (F.bytes_of files.old) (D.names_in folders.old)
         T.makes (asked_in request.now) (F.written_to files.old) (F.written_to files.new)) }
     ensures left { OnErr result (F.written_to files.new ≡ F.written_to files.old) }
@@ -147,7 +148,8 @@ pub fn output_of<'a, T: Printer, F: Files, D: Folders, C: Console>(
     ensures ok { IfOk result (λ m. IsOutput (F.bytes_of files.old) (D.names_in folders.old)
         T.makes (texts words.now) m.status m.text.items) }
     ensures err { IfErr result (λ f. IsRunFailure (F.bytes_of files.old) (D.names_in folders.old)
-        T.makes T.has_nothing (texts words.now) f × (f ≢ Failure.Output)) }
+        T.makes T.has_nothing (F.last_error files.new, D.last_error folders.new)
+        (texts words.now) f × (f ≢ Failure.Output)) }
     ensures stored { OnOk result (StoresOutput (F.bytes_of files.old) (D.names_in folders.old)
         T.makes (texts words.now) (F.written_to files.old) (F.written_to files.new)) }
     ensures left { OnErr result (F.written_to files.new ≡ F.written_to files.old) }
@@ -163,26 +165,9 @@ pub fn output_of<'a, T: Printer, F: Files, D: Folders, C: Console>(
     }
 }
 
-// Writes the bytes, and brings those that the stream holds back to where it leads.
-fn write_out<O: Write>(out: &mut O, bytes: &[u8]) -> Written
-    ensures whole { result ≡ Written.Whole
-        → Appends (O.contents out.old) (O.contents out.new) bytes.now }
-    ensures begins { AppendsBeginning bytes.now (O.contents out.old) (O.contents out.new) }
-{
-    match write_bytes(out, bytes) {
-        Written::Whole => {}
-        failed => return failed,
-    }
-    match out.flush() {
-        Ok(()) => Written::Whole,
-        Err(error) if error.kind() == ErrorKind::BrokenPipe => Written::Unread,
-        Err(_) => Written::Failed,
-    }
-}
-
 // Makes what the words ask for, prints it, and answers the status. Where anything but printing fails, nothing was
 // printed.
-fn print_output<'a, T: Printer, F: Files, D: Folders, C: Console, O: Write>(
+fn print_output<'a, T: Printer, F: Files, D: Folders, C: Console, O, W: StreamWriter<O>>(
     alloc: Global,
     words: &'a [&'a str],
     printer: &T,
@@ -190,29 +175,33 @@ fn print_output<'a, T: Printer, F: Files, D: Folders, C: Console, O: Write>(
     folders: &mut D,
     console: &mut C,
     out: &mut O,
+    writer: &mut W,
 ) -> Result<Ending, Failure>
     ensures ok { IfOk result (λ e. e.is_whole ≡ true
         → GetsOutput (IsOutput (F.bytes_of files.old) (D.names_in folders.old)
-        T.makes (texts words.now)) e.status (O.contents out.old) (O.contents out.new)) }
+        T.makes (texts words.now)) e.status (W.contents out.old) (W.contents out.new)) }
     ensures part { OnOk result (GetsBeginning
         (IsOutput (F.bytes_of files.old) (D.names_in folders.old) T.makes (texts words.now))
-        (O.contents out.old) (O.contents out.new)) }
+        (W.contents out.old) (W.contents out.new)) }
+    ensures unread { IfOk result (λ e. e.is_whole ≡ false
+        → W.last_error writer.new ≡ Some ErrorKind.BrokenPipe) }
     ensures statuses { IfOk result (λ e. (e.status ≡ 0) ⊎ (e.status ≡ 3)) }
     ensures err { IfErr result
         (IsRunFailure (F.bytes_of files.old) (D.names_in folders.old)
-        T.makes T.has_nothing (texts words.now)) }
+        T.makes T.has_nothing (F.last_error files.new, D.last_error folders.new)
+        (texts words.now)) }
     ensures kept { IfErr result (λ f.
-        f ≢ Failure.Output → O.contents out.new ≡ O.contents out.old) }
+        f ≢ Failure.Output → W.contents out.new ≡ W.contents out.old) }
     ensures begun { IfErr result (λ f. f ≡ Failure.Output
         → GetsBeginning (IsOutput (F.bytes_of files.old) (D.names_in folders.old)
-        T.makes (texts words.now)) (O.contents out.old) (O.contents out.new)) }
+        T.makes (texts words.now)) (W.contents out.old) (W.contents out.new)) }
     ensures stored { OnOk result (StoresOutput (F.bytes_of files.old) (D.names_in folders.old)
         T.makes (texts words.now) (F.written_to files.old) (F.written_to files.new)) }
     ensures left { IfErr result (λ f. LeavesFiles (F.bytes_of files.old) (D.names_in folders.old)
         T.makes (texts words.now) f (F.written_to files.old) (F.written_to files.new)) }
 {
     let Output { text, status } = output_of(alloc, words, printer, files, folders, console)?;
-    match write_out(out, &text) {
+    match write_out(writer, out, &text) {
         Written::Whole => Ok(Ending {
             status,
             is_whole: true,
@@ -233,6 +222,61 @@ pub fn report_failure<E, P: PartWriter<E>>(failure: &Failure, err: &mut E, parts
 {
     put_line(parts, err, failure);
     failure.status()
+}
+
+/// The same as `run`, by the caller's ways to write to `out` and to write parts to `err`: so a contract can say whether a
+/// write failed.
+pub fn run_telling<
+    'a,
+    T: Printer,
+    F: Files,
+    D: Folders,
+    C: Console,
+    O,
+    W: StreamWriter<O>,
+    E,
+    P: PartWriter<E>,
+>(
+    alloc: Global,
+    words: &'a [&'a str],
+    printer: &T,
+    files: &mut F,
+    folders: &mut D,
+    console: &mut C,
+    out: &mut O,
+    writer: &mut W,
+    err: &mut E,
+    parts: &mut P,
+) -> Ending
+    ensures done { result.status ≢ 1 → result.status ≢ 2 → result.is_whole ≡ true
+        → GetsOutput (IsOutput (F.bytes_of files.old) (D.names_in folders.old)
+        T.makes (texts words.now)) result.status (W.contents out.old) (W.contents out.new) }
+    ensures part { result.status ≢ 1 → result.status ≢ 2
+        → GetsBeginning (IsOutput (F.bytes_of files.old) (D.names_in folders.old)
+        T.makes (texts words.now)) (W.contents out.old) (W.contents out.new) }
+    // Only where the writer said so nobody reads it.
+    ensures unread { result.status ≢ 1 → result.status ≢ 2 → result.is_whole ≡ false
+        → W.last_error writer.new ≡ Some ErrorKind.BrokenPipe }
+    ensures quiet { result.status ≢ 1 → result.status ≢ 2 → err.new ≡ err.old }
+    ensures stored { result.status ≢ 1 → result.status ≢ 2
+        → StoresOutput (F.bytes_of files.old) (D.names_in folders.old)
+        T.makes (texts words.now) (F.written_to files.old) (F.written_to files.new) }
+    // The failure's line is said whole, unless a write of it failed.
+    ensures failed { 1 ≤ result.status → result.status ≤ 2
+        → FailsWith (F.bytes_of files.old) (D.names_in folders.old) T.makes T.has_nothing
+        (F.last_error files.new, D.last_error folders.new) (texts words.now) result.status
+        (W.contents out.old) (W.contents out.new) (F.written_to files.old) (F.written_to files.new)
+        (λ line. WritesUntilFailure line (P.failed parts.old) (P.contents err.old)
+        (P.failed parts.new) (P.contents err.new)) }
+    ensures statuses { result.status ≤ 3 }
+{
+    match print_output(alloc, words, printer, files, folders, console, out, writer) {
+        Ok(ending) => ending,
+        Err(failure) => Ending {
+            status: report_failure(&failure, err, parts),
+            is_whole: false,
+        },
+    }
 }
 
 /// Runs the command that the words say, and answers how it ended. The words leave out the program's name.
@@ -256,23 +300,28 @@ pub fn run<'a, T: Printer, F: Files, D: Folders, C: Console, O: Write, E: Write>
         → GetsBeginning (IsOutput (F.bytes_of files.old) (D.names_in folders.old)
         T.makes (texts words.now)) (O.contents out.old) (O.contents out.new) }
     ensures quiet { result.status ≢ 1 → result.status ≢ 2 → err.new ≡ err.old }
-    // The page that the words ask for stands in its file, whole. No other file is written, and none that was read.
+    // The page that the words ask for stands in its file. No other file is written, and none that was read.
     ensures stored { result.status ≢ 1 → result.status ≢ 2
         → StoresOutput (F.bytes_of files.old) (D.names_in folders.old)
         T.makes (texts words.now) (F.written_to files.old) (F.written_to files.new) }
     // Something failed, and its line is said, or a beginning of it; nothing is printed, unless it was the printing.
     ensures failed { 1 ≤ result.status → result.status ≤ 2
-        → FailsWith (F.bytes_of files.old) (D.names_in folders.old)
-        T.makes T.has_nothing (texts words.now) result.status
+        → FailsWith (F.bytes_of files.old) (D.names_in folders.old) T.makes T.has_nothing
+        (F.last_error files.new, D.last_error folders.new) (texts words.now) result.status
         (O.contents out.old) (O.contents out.new) (F.written_to files.old) (F.written_to files.new)
         (λ line. AppendsBeginning line (E.contents err.old) (E.contents err.new)) }
     ensures statuses { result.status ≤ 3 }
 {
-    match print_output(alloc, words, printer, files, folders, console, out) {
-        Ok(ending) => ending,
-        Err(failure) => Ending {
-            status: report_failure(&failure, err, &mut UntilFailure::new()),
-            is_whole: false,
-        },
-    }
+    run_telling(
+        alloc,
+        words,
+        printer,
+        files,
+        folders,
+        console,
+        out,
+        &mut WriteErrors::new(),
+        err,
+        &mut UntilFailure::new(),
+    )
 }

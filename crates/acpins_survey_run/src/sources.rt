@@ -1,10 +1,12 @@
 //! The files that arguments stand for.
 
-ghost use Rattle.std.specs.Prelude.{◌≡◌, [], ◌∷◌, IfOk, IfErr, OnOk, map, string_bytes};
-ghost use Rattle.acpins_survey_run.specs.Folders.{AreDynamicFiles, AreFilesAt, AreFilesIn, AreSsdtFiles, dsdts_among};
-ghost use Rattle.acpins_survey_run.specs.Input.{AreFilesOf};
+ghost use Rattle.std.specs.Prelude.{◌≡◌, ◌⊎◌, [], ◌∷◌, Option, IfOk, IfErr, OnOk, map, string_bytes};
+ghost use Rattle.std.specs.declared.io.ErrorKind.{ErrorKind};
+ghost use Rattle.acpins_io.specs.Faults.{IsLastError};
+ghost use Rattle.acpins_survey_run.specs.Folders.{AreDynamicFiles, AreFilesAt, AreFilesIn, AreSsdtFiles, dsdts_among, dynamic_in};
+ghost use Rattle.acpins_survey_run.specs.Input.{AreFilesOf, IsFolderFault, IsFoldersFault, IsUnread, IsWithoutDsdt};
 ghost use Rattle.acpins_survey_run.specs.steps.Adding.{Adds};
-ghost use Rattle.acpins_survey_run.specs.steps.Refusals.{IsUnread};
+ghost use Rattle.acpins_survey_run.specs.steps.Refusals.{IsReadOf};
 
 use crate::failure::{Failure, ReadCause};
 use crate::folders::{Folders, dsdts_among, path_in, ssdts_among};
@@ -15,7 +17,7 @@ use std::io::ErrorKind;
 
 // The failure to read what has that name, for that cause.
 fn read_failure(alloc: Global, name: &str, cause: ReadCause) -> Failure
-    ensures { IsUnread result }
+    ensures { IsReadOf name.now cause result }
 {
     match printed_name(alloc, name) {
         Ok(file) => Failure::Read(file, cause),
@@ -23,9 +25,9 @@ fn read_failure(alloc: Global, name: &str, cause: ReadCause) -> Failure
     }
 }
 
-// .. for that fault.
-fn read_failure_by(alloc: Global, name: &str, fault: FileFault) -> Failure
-    ensures { IsUnread result }
+/// .. for that fault.
+pub(crate) fn read_failure_by(alloc: Global, name: &str, fault: FileFault) -> Failure
+    ensures { (last : Option ErrorKind) → IsLastError fault last → IsUnread name.now last result }
 {
     match fault {
         FileFault::Host(kind) => read_failure(alloc, name, ReadCause::Host(kind)),
@@ -63,7 +65,7 @@ fn add_dynamic<D: Folders>(
     ensures ok { OnOk result (Adds
         (AreDynamicFiles (D.names_in folders.old) extension.now folder.now)
         (map string_bytes files.old.items) (map string_bytes files.new.items)) }
-    ensures err { IfErr result IsUnread }
+    ensures err { IfErr result (IsUnread (dynamic_in folder.now) (D.last_error folders.new)) }
     ensures stays { D.names_in folders.new ≡ D.names_in folders.old }
 {
     let dynamic = path_in(alloc, folder, "dynamic")?;
@@ -82,7 +84,7 @@ fn dsdt_among<'a>(
 ) -> Result<(&'a str, &'static str), Failure>
     ensures ok { IfOk result (λ dsdt.
         dsdts_among (map string_bytes names.now) ≡ (dsdt.0.now, dsdt.1.now) ∷ []) }
-    ensures err { IfErr result IsUnread }
+    ensures err { IfErr result (IsWithoutDsdt folder.now (map string_bytes names.now)) }
 {
     let dsdts = dsdts_among(alloc, names)?;
     match dsdts.as_slice() {
@@ -103,7 +105,8 @@ fn add_folder<D: Folders>(
     ensures ok { OnOk result (Adds
         (AreFilesIn (D.names_in folders.old) folder.now (map string_bytes names.now))
         (map string_bytes files.old.items) (map string_bytes files.new.items)) }
-    ensures err { IfErr result IsUnread }
+    ensures err { IfErr result (λ f. IsWithoutDsdt folder.now (map string_bytes names.now) f
+        ⊎ IsUnread (dynamic_in folder.now) (D.last_error folders.new) f) }
     ensures stays { D.names_in folders.new ≡ D.names_in folders.old }
 {
     let (dsdt, extension) = dsdt_among(alloc, folder, names)?;
@@ -122,7 +125,8 @@ fn add_files<D: Folders>(
 ) -> Result<(), Failure>
     ensures ok { OnOk result (Adds (AreFilesAt (D.names_in folders.old) name.now)
         (map string_bytes files.old.items) (map string_bytes files.new.items)) }
-    ensures err { IfErr result IsUnread }
+    ensures err { IfErr result
+        (IsFolderFault (D.names_in folders.old) (D.last_error folders.new) name.now) }
     ensures stays { D.names_in folders.new ≡ D.names_in folders.old }
 {
     match folders.names(name) {
@@ -143,7 +147,8 @@ pub fn files_of<'a, D: Folders>(
 ) -> Result<Vec<String>, Failure>
     ensures ok { IfOk result (λ files. AreFilesOf (D.names_in folders.old)
         (map (λ name. name.now) names.now) (map string_bytes files.items)) }
-    ensures err { IfErr result IsUnread }
+    ensures err { IfErr result (IsFoldersFault (D.names_in folders.old)
+        (D.last_error folders.new) (map (λ name. name.now) names.now)) }
 {
     let mut files = Vec::new(alloc);
     for name in names {

@@ -1,19 +1,23 @@
 //! Files into tables.
 
-ghost use Rattle.std.specs.Prelude.{◌≡◌, ◌≢◌, ◌++◌, [], ℕ, List, Bool, true, Option, Some, IfOk, IfErr, OnOk, IfSome, map, string_bytes};
+ghost use Rattle.std.specs.Prelude.{◌≡◌, ◌≢◌, ◌++◌, [], true, Option, Some, None, IfOk, IfErr, OnOk, IfSome, map, string_bytes};
+ghost use Rattle.std.specs.Option.{option_or};
+ghost use Rattle.std.specs.declared.io.ErrorKind.{ErrorKind};
 ghost use Rattle.acpi_pieces.specs.Pieces.{ArePieces};
 ghost use Rattle.acpins_io.specs.Dump.{tables_of_dump};
+ghost use Rattle.acpins_io.specs.Faults.{IsLastError, error_of};
 ghost use Rattle.acpins_io.specs.Hexadecimal.{SpellsInHex};
 ghost use Rattle.acpins_survey_run.specs.Input.{ArePiecesOfEach, AreTablesIn, AreTablesOfFiles};
 ghost use Rattle.acpins_survey_run.specs.Input.{IsFileFault, IsFilesFault};
 
-use crate::failure::{Failure, ReadCause};
+use crate::failure::Failure;
 use crate::lines::printed_name;
+use crate::sources::read_failure_by;
 use acpi_pieces::pieces;
-use acpins_io::{FileFault, Files, HexFault, from_hex, is_header, tables_in_dump};
+use acpins_io::{FileFault, Files, HexFault, OpenFile, from_hex, is_header, tables_in_dump};
 use bytes::Bytes;
 use std::alloc::{AllocError, Global};
-use std::io::Read;
+use std::io::{ErrorKind, Read};
 
 /// A file that holds tables.
 #[derive(Debug, Drop)]
@@ -68,16 +72,28 @@ impl FoundTables {
     }
 }
 
-// Why the file of that name can't be read.
-fn read_failure(alloc: Global, name: &str, fault: FileFault) -> Failure
-    ensures { (hex : Bool) (known : Option (List ℕ)) → IsFileFault hex known name.now result }
+// Why reading a file failed with an error of this kind: a read did, or there was no memory for what it gave.
+fn fault_of<R: Read>(file: &OpenFile<R>, kind: ErrorKind) -> FileFault
+    ensures { (last : Option ErrorKind) → IsLastError result
+        (option_or (error_of file.now.failures file.now.error) last) }
 {
-    match fault {
-        FileFault::Host(kind) => match printed_name(alloc, name) {
-            Ok(file) => Failure::Read(file, ReadCause::Host(kind)),
-            Err(_) => Failure::Memory,
-        },
-        FileFault::Memory => Failure::Memory,
+    match file.last_error() {
+        Some(last) if last == kind && kind != ErrorKind::OutOfMemory => FileFault::Host(last),
+        _ => FileFault::Memory,
+    }
+}
+
+// The bytes that are still to come of a file.
+fn read_rest<R: Read>(alloc: Global, file: &mut OpenFile<R>) -> Result<Vec<u8>, FileFault>
+    ensures bytes { IfOk result (λ v. IfSome (R.remaining file.old.reader)
+        (λ content. v.items ≡ content)) }
+    ensures failed { IfErr result (λ fault. (last : Option ErrorKind) → IsLastError fault
+        (option_or (error_of file.new.failures file.new.error) last)) }
+{
+    let mut bytes = Vec::new(alloc);
+    match file.read_to_end(&mut bytes) {
+        Ok(_) => Ok(bytes),
+        Err(error) => Err(fault_of(file, error.kind())),
     }
 }
 
@@ -85,15 +101,14 @@ fn read_failure(alloc: Global, name: &str, fault: FileFault) -> Failure
 fn read_file<F: Files>(alloc: Global, files: &mut F, name: &str) -> Result<Vec<u8>, FileFault>
     ensures bytes { IfOk result (λ v. IfSome (F.bytes_of files.old name.now)
         (λ content. v.items ≡ content)) }
+    ensures failed { IfErr result (λ fault. IsLastError fault (F.last_error files.new)) }
     ensures stays { F.bytes_of files.new ≡ F.bytes_of files.old }
     ensures others { F.written_to files.new ≡ F.written_to files.old }
 {
-    let mut file = files.open(name)?;
-    let mut bytes = Vec::new(alloc);
-    match file.read_to_end(&mut bytes) {
-        Ok(_) => Ok(bytes),
-        Err(error) => Err(FileFault::from(error)),
-    }
+    let mut file = OpenFile::new(files.open(name)?);
+    let bytes = read_rest(alloc, &mut file);
+    files.end_reading(file);
+    bytes
 }
 
 // The tables that stand one behind another in these bytes.
@@ -128,7 +143,7 @@ fn tables_of_dump(alloc: Global, text: &[u8]) -> Result<Vec<Bytes>, AllocError>
 // The bytes that a hexadecimal text of that name spells.
 fn decode_hex(alloc: Global, name: &str, text: &[u8]) -> Result<Vec<u8>, Failure>
     ensures ok { IfOk result (λ v. SpellsInHex v.items text.now) }
-    ensures err { IfErr result (IsFileFault true (Some text.now) name.now) }
+    ensures err { IfErr result (IsFileFault true name.now (Some text.now) None) }
 {
     match from_hex(alloc, text) {
         Ok(bytes) => Ok(bytes),
@@ -140,7 +155,7 @@ fn decode_hex(alloc: Global, name: &str, text: &[u8]) -> Result<Vec<u8>, Failure
 // The tables of a file that has this content.
 fn tables_in(alloc: Global, name: &str, hex: bool, content: Vec<u8>) -> Result<Vec<Bytes>, Failure>
     ensures ok { IfOk result (λ v. AreTablesIn hex (Some content.items) v.items) }
-    ensures err { IfErr result (IsFileFault hex (Some content.items) name.now) }
+    ensures err { IfErr result (IsFileFault hex name.now (Some content.items) None) }
 {
     if hex {
         let bytes = decode_hex(alloc, name, &content)?;
@@ -161,7 +176,7 @@ fn some_tables_in(
 ) -> Result<Vec<Bytes>, Failure>
     ensures ok { IfOk result (λ v.
         (v.items ≢ []) × AreTablesIn hex (Some content.items) v.items) }
-    ensures err { IfErr result (IsFileFault hex (Some content.items) name.now) }
+    ensures err { IfErr result (IsFileFault hex name.now (Some content.items) None) }
 {
     let tables = tables_in(alloc, name, hex, content)?;
     if tables.is_empty() {
@@ -179,13 +194,14 @@ fn tables_at<F: Files>(
 ) -> Result<Vec<Bytes>, Failure>
     ensures ok { IfOk result (λ v.
         (v.items ≢ []) × AreTablesIn hex (F.bytes_of files.old name.now) v.items) }
-    ensures err { IfErr result (IsFileFault hex (F.bytes_of files.old name.now) name.now) }
+    ensures err { IfErr result
+        (IsFileFault hex name.now (F.bytes_of files.old name.now) (F.last_error files.new)) }
     ensures stays { F.bytes_of files.new ≡ F.bytes_of files.old }
     ensures others { F.written_to files.new ≡ F.written_to files.old }
 {
     match read_file(alloc, files, name) {
         Ok(content) => some_tables_in(alloc, name, hex, content),
-        Err(fault) => Err(read_failure(alloc, name, fault)),
+        Err(fault) => Err(read_failure_by(alloc, name, fault)),
     }
 }
 
@@ -198,7 +214,8 @@ pub fn read_tables<F: Files>(
 ) -> Result<FoundTables, Failure>
     ensures ok { IfOk result (λ found. AreTablesOfFiles (F.bytes_of files.old) hex
         (map string_bytes names.now) found.tables.items) }
-    ensures err { IfErr result (IsFilesFault (F.bytes_of files.old) hex) }
+    ensures err { IfErr result (IsFilesFault (F.bytes_of files.old) hex
+        (F.last_error files.new) (map string_bytes names.now)) }
     ensures others { F.written_to files.new ≡ F.written_to files.old }
 {
     let mut found = FoundTables::new(alloc);

@@ -2,10 +2,7 @@
 use Rattle.std.specs.Prelude.{◌≡◌, ◌⊎◌, ◌↔◌, ℕ, List, [], map, Some, None}
 use Rattle.acpi_name.specs.Names.{Segment}
 use Rattle.acpi_name.specs.Text.{SpellsPathText}
-use Rattle.acpi_ranges.specs.Index.{entered_in}
-use Rattle.acpi_findings.specs.Findings.{problems_in, notes_by}
-use Rattle.acpi_findings.specs.Notes.{Unknowns}
-use Rattle.acpi_findings.specs.NoteViews.{note_view}
+use Rattle.acpi_findings.specs.Findings.{problems_in, notes_in}
 use Rattle.acpi_findings.specs.ProblemViews.{problem_view}
 use Rattle.acpi_survey.specs.Surveys.{IsSurvey}
 use Rattle.acpi_findings.specs.declared.findings.Findings.{Findings}
@@ -21,8 +18,7 @@ use Rattle.acpins_survey_words.specs.Words.{Command, listing, showing, mapping, 
 -- These findings tell what is lost, refused and noticed in the tables of a survey.
 pub record AreFindings (s : Survey) (f : Findings) : Type 0 where
   pub problems : map problem_view f.problems.items ≡ problems_in s.reading s.tables.items
-  pub notes : (unknowns : Unknowns)
-      × (map note_view f.notes.items ≡ notes_by (entered_in s.reading) unknowns 0 s.tables.items)
+  pub notes : f.notes.items ≡ notes_in s.reading s.tables.items
 
 -- The text that a command makes of a survey and its findings. Nothing is said of `report`; of `html`, what its page is
 -- made of, in which all that comes from tables is escaped.

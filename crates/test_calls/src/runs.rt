@@ -1,16 +1,19 @@
 //! Runs over files of a caller's own, whose bytes contracts know, and over a map of paths in place of a tree.
 
-ghost use Rattle.std.specs.Prelude.{◌≡◌, Some, IfOk};
+ghost use Rattle.std.specs.Prelude.{◌≡◌, ℕ, List, Option, Some, IfOk};
 ghost use Rattle.std.specs.List.{concat};
+ghost use Rattle.std.specs.Option.{option_or};
+ghost use Rattle.acpins_io.specs.Faults.{error_of};
 
 use crate::expect::{expect_bytes, expect_number};
 use crate::tables::DSDT;
 use acpi_space::MapSpace;
 use acpi_terms::Object;
-use acpins_io::begins_as_tables;
+use acpins_io::{OpenFile, begins_as_tables};
 use acpins_run::{Failure, FileFault, Files, add_tables, output_of, run};
 use bytes::Bytes;
 use std::alloc::{AllocError, Global};
+use std::io::ErrorKind;
 use std::process::Abort;
 
 // Every name is that of a file of these bytes. The last file that was written is kept.
@@ -19,10 +22,13 @@ struct OneFile<'a> {
     alloc: Global,
     bytes: &'a [u8],
     written: Vec<u8>,
+    last_error: Option<ErrorKind>,
 }
 
 impl<'a> Files for OneFile<'a> {
     ghost bytes_of = { λ s _. Some s.bytes.now };
+
+    ghost last_error = { λ s. s.last_error };
 
     type R = &'a [u8];
 
@@ -30,6 +36,15 @@ impl<'a> Files for OneFile<'a> {
 
     fn open(&mut self, _name: &str) -> Result<&'a [u8], FileFault> {
         Ok(self.bytes)
+    }
+
+    fn end_reading(&mut self, file: OpenFile<&'a [u8]>)
+        ensures error { self.new.last_error
+            ≡ option_or (error_of file.entry.failures file.entry.error) self.old.last_error }
+        ensures stays { let old : List ℕ → Option (List ℕ) = λ _. Some self.old.bytes.now in
+            let new : List ℕ → Option (List ℕ) = λ _. Some self.new.bytes.now in new ≡ old }
+    {
+        self.last_error = file.last_error().or(self.last_error);
     }
 
     fn holds_tables(&mut self, _name: &str) -> Result<bool, AllocError> {
@@ -51,6 +66,7 @@ fn files_of(alloc: Global, bytes: &[u8]) -> OneFile<'_> {
         alloc,
         bytes,
         written: Vec::new(alloc),
+        last_error: None,
     }
 }
 
@@ -63,6 +79,7 @@ fn tables_in(alloc: Global, bytes: &[u8]) -> Result<Vec<Bytes>, Failure<'static>
         alloc,
         bytes,
         written,
+        last_error: None,
     };
     add_tables(alloc, &mut files, "a", false, &mut tables)?;
     Ok(tables)

@@ -13,13 +13,13 @@ use Rattle.acpi_table.specs.declared.lengths.PkgFault.{PkgFault}
 use Rattle.acpi_table.specs.declared.lengths.PkgFault.TheVariants as lengths
 use Rattle.acpi_tree.specs.declared.tree.Int.{Int}
 use Rattle.acpi_tree.specs.declared.tree.Int.TheVariants.{Zero, One, Ones, Revision, Byte, Word, DWord, QWord}
-use Rattle.acpi_code.specs.declared.fault.CodeReason.{CodeReason}
-use Rattle.acpi_code.specs.declared.fault.CodeReason.TheVariants.{Cut, ReservedBits, BadName, Overrun, BadString, TooDeep}
+use Rattle.acpi_code.specs.declared.fault.CodeReason.TheVariants.{Cut, ReservedBits, BadName, Overrun, BadString}
 use Rattle.acpi_code.specs.declared.fault.CodeFault.{CodeFault}
 use Rattle.acpi_code.specs.declared.opcode.ConstantForm.{ConstantForm}
 use Rattle.acpi_code.specs.declared.opcode.ConstantForm.TheVariants as forms
 use Rattle.acpi_code.specs.declared.opcode.Opcode.{Opcode}
 use Rattle.acpi_code.specs.steps.Opcodes.{plain_opcode_of, extended_opcode_of}
+pub use Rattle.acpi_code.specs.Faults.{fault_at, no_level}
 
 -- ---- readings, whatever their faults are
 
@@ -49,17 +49,6 @@ each_with one (suc n) (b ∷ rest) = do
 
 abbrev pub each_at : {F A : Type 0} → (List ℕ → Reading F A) → List ℕ → Result (List A) F
 each_at one bytes = each_with one (length bytes) bytes
-
--- ---- faults of parts
-
--- the fault whose place is the first of these bytes, or their end
-abbrev pub fault_at : ℕ → List ℕ → CodeReason → CodeFault
-fault_at end bytes why = record { reason = why; place = end - length bytes }
-
--- a term must begin there, and no level is left
-abbrev pub no_level : ℕ → List ℕ → CodeFault
-no_level end [] = fault_at end [] Cut
-no_level end (b ∷ rest) = fault_at end (b ∷ rest) TooDeep
 
 -- ---- numbers, package lengths, names
 

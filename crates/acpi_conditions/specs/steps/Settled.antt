@@ -1,5 +1,5 @@
 -- What an entry settles, as the code has it (ACPI 6.5, 5.3).
-use Rattle.std.specs.Prelude.{Bool, true, false, List, [], ◌∷◌, Option, Some, None}
+use Rattle.std.specs.Prelude.{true, false, List, [], ◌∷◌, Option, Some, None}
 use Rattle.acpi_conditions.specs.Entries.{Path}
 use Rattle.acpi_conditions.specs.Known.{Certain}
 use Rattle.acpi_conditions.specs.declared.statuses.Presence.{Presence}

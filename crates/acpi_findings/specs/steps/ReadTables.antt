@@ -1,7 +1,6 @@
 -- What the code knows of a table, by place.
-use Rattle.acpi_findings.specs.Notes.{Unknowns}
 use Rattle.acpi_findings.specs.declared.problems.ReadTable.{ReadTable}
-use Rattle.acpi_ranges.specs.Index.{Refusals}
+use Rattle.acpi_ranges.specs.Index.{Refusals, Unknowns}
 use Rattle.acpi_ranges.specs.Ranges.{Entered}
 use Rattle.acpi_ranges.specs.steps.Indexes.{index_entered, index_refusals, index_unknowns}
 

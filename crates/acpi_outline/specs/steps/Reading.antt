@@ -30,9 +30,9 @@ use Rattle.acpi_outline.specs.declared.form.PackedForm.{PackedForm}
 use Rattle.acpi_outline.specs.declared.form.PackedForm.TheVariants as forms
 use Rattle.acpi_outline.specs.declared.form.DataForm.{DataForm}
 use Rattle.acpi_outline.specs.declared.form.DataForm.TheVariants as datas
-use Rattle.acpi_outline.specs.declared.fault.LostReason.{LostReason}
 use Rattle.acpi_outline.specs.declared.fault.LostReason.TheVariants.{NoNode, ManyArguments}
 use Rattle.acpi_outline.specs.declared.fault.LostFault.{LostFault}
+pub use Rattle.acpi_outline.specs.Faults.{fault_at}
 use Rattle.acpi_outline.specs.Faults.{term_fault, part_fault, element_fault}
 use Rattle.acpi_outline.specs.Nodes.{PlainTree, term, external, alias, table_region, FixedTree, scope, container, method, if_so, otherwise, while_so, units, FieldNodes, no_more_fields, fields_lost, field_node}
 use Rattle.acpi_outline.specs.Nodes.{NodeTree, plain, holds, holds_fields, closed, package_lost, data_lost, name_lost, NodeTrees, no_more, lost, node, has_fields}
@@ -40,10 +40,6 @@ use Rattle.acpi_outline.specs.Rules.{Rules, grammar_at, goes_into, after}
 use Rattle.acpi_outline.specs.Outline.{operands_after, container_operands, bits_behind}
 
 -- ---- faults
-
--- the fault whose place is the first of these bytes, or their end
-abbrev pub fault_at : ℕ → List ℕ → LostReason → LostFault
-fault_at end bytes why = record { reason = why; place = end - length bytes }
 
 -- the reading of a part of code, and that of a term, with their faults as faults of lost ranges
 abbrev pub part : {A : Type 0} → Result A CodeFault → Result A LostFault

@@ -5,7 +5,7 @@ use Rattle.std.specs.Option.{option_map}
 use Rattle.acpi_name.specs.Names.{NameParts}
 use Rattle.acpi_conditions.specs.EntryForms.{why_of}
 use Rattle.acpi_survey.specs.Survey.{place_in}
-use Rattle.acpi_ranges.specs.Index.{Refusals}
+use Rattle.acpi_ranges.specs.Index.{Refusals, Unknowns}
 use Rattle.acpi_ranges.specs.Ranges.{Entered}
 use Rattle.acpi_ranges.specs.steps.ByPlace.{kept_at}
 use Rattle.acpi_ranges.specs.declared.index.PlaceIndex.{PlaceIndex}
@@ -20,5 +20,5 @@ abbrev pub names_or_none : Option (Vec NameParts) → List NameParts
 names_or_none None = []
 names_or_none (Some v) = v.items
 
-abbrev pub index_unknowns : PlaceIndex → (place : ℕ) → List NameParts
+abbrev pub index_unknowns : PlaceIndex → Unknowns
 index_unknowns x place = names_or_none (kept_at x.unknown place)

@@ -5,7 +5,7 @@ use Rattle.std.specs.Coded.{Coded, coded_ℕ}
 use Rattle.acpi_space.specs.Spaces.{PathMap, coded_path}
 use Rattle.acpi_conditions.specs.Entries.{Path}
 use Rattle.acpi_survey.specs.Reading.{Reading}
-use Rattle.acpi_survey.specs.SourceViews.{source_of}
+use Rattle.acpi_survey.specs.SourceViews.{source_of, unknown_of}
 use Rattle.acpi_survey.specs.Survey.{place_in}
 use Rattle.acpi_survey.specs.declared.remarks.OpenedScope.{OpenedScope}
 use Rattle.acpi_survey.specs.declared.reading.Reading.TheInside.{Inside}
@@ -24,6 +24,7 @@ reading_of s =
       opened = opened_pairs s.remarks.opened.items;
       sources =
           map source_of s.remarks.sources.items;
+      unknown = map unknown_of s.remarks.unknown.items;
     }
 
 abbrev pub expected_code : Coded (PathMap ℕ)

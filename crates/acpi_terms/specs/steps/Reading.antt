@@ -1,5 +1,5 @@
 -- Reading items from left to right, up to the first fault (ACPI 6.5, 20.2), over the readings of parts.
-use Rattle.std.specs.Prelude.{◌-◌, ℕ, zero, suc, List, [], ◌∷◌, length, Option, Some, None, Result, Ok, Err, nat_lt, ◌==◌, if◌then◌else◌}
+use Rattle.std.specs.Prelude.{ℕ, zero, suc, List, [], ◌∷◌, length, Option, Some, None, Result, Ok, Err, nat_lt, ◌==◌, if◌then◌else◌}
 use Rattle.acpi_name.specs.Names.{NameParts}
 use Rattle.acpi_tree.specs.declared.tree.Int.{Int}
 use Rattle.acpi_tree.specs.declared.tree.Width.{Width}
@@ -7,8 +7,6 @@ use Rattle.acpi_tree.specs.declared.tree.ScopeKind.{ScopeKind}
 use Rattle.acpi_tree.specs.declared.tree.ScopeKind.TheVariants as kinds
 use Rattle.acpi_tree.specs.Tree.{DataTree, int, str, buffer, pkg, var_pkg, ElemTree, of_data, of_name, ElemTrees, elems_of, FieldTree, ExternalParts, ItemTree, name, scope, method, external, external_block, create, create_field, mutex, event, region, field, index_field, bank_field, ItemTrees, items_of}
 use Rattle.acpi_code.specs.declared.fault.CodeFault.{CodeFault}
-use Rattle.acpi_code.specs.declared.fault.ConstantFault.{ConstantFault}
-use Rattle.acpi_code.specs.declared.fault.ConstantFault.TheVariants.{Part, NotConstant}
 use Rattle.acpi_code.specs.declared.opcode.ConstantForm.{ConstantForm}
 use Rattle.acpi_code.specs.declared.opcode.Opcode.{Opcode}
 use Rattle.acpi_code.specs.declared.opcode.Opcode.TheVariants as opcodes
@@ -20,31 +18,15 @@ use Rattle.acpi_terms.specs.declared.fault.ItemReason.{ItemReason}
 use Rattle.acpi_terms.specs.declared.fault.ItemReason.TheVariants.{BadOpcode, ReservedBits, BadName, Computed, Alias, ModuleIf, ModuleCode, NotData, TooDeep, DataRegion}
 use Rattle.acpi_terms.specs.declared.fault.ItemFault.{ItemFault}
 use Rattle.acpi_terms.specs.declared.fault.ItemFault.TheVariants as errors
-use Rattle.acpi_terms.specs.Faults.{reason_of, no_constant, operator_reason}
+use Rattle.acpi_terms.specs.Faults.{operator_reason}
+pub use Rattle.acpi_terms.specs.Faults.{Fault, fault_at, part_fault, constant_fault}
 use Rattle.acpi_code.specs.Forms.{FixedArgument, name_arg, source_arg, byte_arg, word_arg, dword_arg, count_arg, int_arg, Value, Values, fixed_arguments, external_parts}
 
 -- ---- faults
 
--- why the reading stops, and at which place of the code
-pub record Fault : Type 0 where
-  pub reason : ItemReason
-  pub place : ℕ
-
--- the fault whose place is the first of these bytes, or their end
-abbrev pub fault_at : ℕ → List ℕ → ItemReason → Fault
-fault_at end bytes why = record { reason = why; place = end - length bytes }
-
 -- the reading of a part, with its fault as one of items
-abbrev pub part_fault : CodeFault → Fault
-part_fault f = record { reason = reason_of f.reason; place = f.place }
-
 abbrev pub part : {A : Type 0} → Result A CodeFault → Result A Fault
 part read = with_fault part_fault read
-
--- the fault of a constant, or of what holds one, as one of items
-abbrev pub constant_fault : ConstantFault → Fault
-constant_fault (Part f) = part_fault f
-constant_fault (NotConstant opcode place) = record { reason = no_constant opcode; place = place }
 
 -- ---- constants
 

@@ -31,8 +31,7 @@ fault_at end bytes why = record { reason = why; place = end - length bytes }
 
 -- the reading of a part, with its fault as one of bodies
 abbrev pub part : {A : Type 0} → Result A CodeFault → Result A BodyFault
-part (Ok x) = Ok x
-part (Err f) = Err (fault_of f)
+part read = with_fault fault_of read
 
 -- ---- operands
 

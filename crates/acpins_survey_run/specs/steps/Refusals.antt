@@ -6,9 +6,10 @@ use Rattle.acpins_words.specs.Words.{Text}
 use Rattle.acpins_survey_words.specs.Words.{Asked, Command, showing, survey}
 use Rattle.acpins_survey_run.specs.FailureLines.{printed_name}
 use Rattle.acpins_survey_run.specs.Folders.{FolderNames}
-use Rattle.acpins_survey_run.specs.Input.{AreFilesOf, IsFilesFault}
+use Rattle.acpins_survey_run.specs.Input.{AreFilesOf, IsInputFault, LastErrors}
 use Rattle.acpins_survey_run.specs.Runs.{IsMadeOf, Makes, page_file}
 use Rattle.acpins_survey_run.specs.Stored.{IsUnspared}
+use Rattle.acpins_survey_run.specs.declared.failure.ReadCause.{ReadCause}
 use Rattle.acpins_survey_run.specs.declared.failure.Failure.{Failure}
 use Rattle.acpins_survey_run.specs.declared.failure.Failure.TheVariants.{BadPath, Read, HoldsTables, Out, Memory}
 
@@ -19,11 +20,11 @@ IsUnprinted command (BadPath printed) = (word : Text) × (command ≡ showing wo
 IsUnprinted command Memory = Unit {0}
 IsUnprinted command _ = ⊥
 
--- a file or a folder of some name can't be read, or there is no memory
-abbrev pub IsUnread : Failure → Type 0
-IsUnread (Read file cause) = (name : List ℕ) × (file.items ≡ printed_name name)
-IsUnread Memory = Unit {0}
-IsUnread _ = ⊥
+-- what has this name can't be read for this cause, or there is no memory
+abbrev pub IsReadOf : List ℕ → ReadCause → Failure → Type 0
+IsReadOf name cause (Read file read) = (file.items ≡ printed_name name) × (read ≡ cause)
+IsReadOf name cause Memory = Unit {0}
+IsReadOf name cause _ = ⊥
 
 -- the file that is to be written is one of these, or holds tables, or there is no memory
 abbrev pub IsRefused : FileBytes → Option Text → List (List ℕ) → Failure → Type 0
@@ -40,11 +41,14 @@ IsUnwritten out Memory = Unit {0}
 IsUnwritten out _ = ⊥
 
 -- why the tables that the arguments stand for aren't had
-abbrev pub IsInputFault : FileBytes → FolderNames → Asked → Failure → Type 0
-IsInputFault files folders asked (HoldsTables printed) = (out : Text) × (sources : List (List ℕ))
-    × (page_file asked.command ≡ Some out) × (printed.items ≡ printed_name out)
+abbrev pub IsTablesFault : FileBytes → FolderNames → LastErrors → Asked → Failure → Type 0
+IsTablesFault files folders last asked (HoldsTables printed) =
+    (out : Text) × (sources : List (List ℕ)) × (page_file asked.command ≡ Some out)
+    × (printed.items ≡ printed_name out)
     × AreFilesOf folders asked.files sources × IsUnspared files sources out
-IsInputFault files folders asked failure = IsFilesFault files asked.hex failure
+IsTablesFault files folders last asked Memory = Unit {0}
+IsTablesFault files folders last asked failure =
+    IsInputFault files folders last asked.hex asked.files failure
 
 -- what a survey prints
 abbrev pub IsPrinted : FileBytes → FolderNames → Makes → Asked → ℕ → List ℕ → Type 0

@@ -1,5 +1,4 @@
 use Rattle.std.proofs.Common.{◌≡◌, ◌++◌, map, drop}
-use Rattle.acpi_findings.specs.NoteViews.{note_view}
 use Rattle.acpi_findings.specs.ProblemViews.{problem_view}
 use Rattle.acpi_findings.specs.Findings.{notes_by, problems_by}
 use Rattle.acpi_ranges.specs.steps.Indexes.{index_entered, index_refusals, index_unknowns}
@@ -9,5 +8,5 @@ abbrev pub invariant-each : goal.invariant-each
 invariant-each l =
     (map problem_view l.found.problems.items ++ problems_by (index_entered l.index) (index_refusals l.index) l.number (drop l.number l.tables)
     ≡ problems_by (index_entered l.index) (index_refusals l.index) 0 l.tables)
-    × (map note_view l.found.notes.items ++ notes_by (index_entered l.index) (index_unknowns l.index) l.number (drop l.number l.tables)
+    × (l.found.notes.items ++ notes_by (index_entered l.index) (index_unknowns l.index) l.number (drop l.number l.tables)
     ≡ notes_by (index_entered l.index) (index_unknowns l.index) 0 l.tables)

@@ -1,6 +1,6 @@
-use Rattle.std.proofs.Common.{◌≡◌, ◌∙◌, ℕ, sym, ap, subst}
+use Rattle.std.proofs.Common.{◌∙◌, sym, ap, subst}
 use Rattle.acpi_outline.specs.Nodes.{NodeTree, NodeTrees}
-use Rattle.acpi_outline.specs.View.{Placed, nodes_view, node_step, nodes_step, placed_step, end_view, placed_views, put_before}
+use Rattle.acpi_outline.specs.View.{Placed, node_step, nodes_step, placed_step, end_view, placed_views, put_before}
 use Rattle.acpi_outline.specs.Tiling.{Tiles}
 use Rattle.acpi_outline.specs.declared.node.Nodes.{out-Nodes, fold_out-Nodes}
 use Rattle.acpi_ranges.specs.steps.Search.{search_nodes}

@@ -1,4 +1,4 @@
-use Rattle.std.proofs.Common.{◌≡◌, ◌-◌, length, refl, arith, sym}
+use Rattle.std.proofs.Common.{◌-◌, length, refl, arith}
 use Rattle.std.proofs.lemmas.Option.{slice_get_read}
 use Rattle.acpi_outline.specs.View.{end_view}
 use Rattle.acpi_ranges.proofs.Lookups.{none_before, last_before, fewer_inside}

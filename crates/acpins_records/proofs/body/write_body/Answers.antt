@@ -1,6 +1,12 @@
-use Rattle.std.proofs.Common.{◌∙◌}
+use Rattle.std.proofs.Common.{rules, ◌∙◌}
+use Rattle.acpins_records.specs.Written.{bytes_of}
+use Rattle.acpins_records.proofs.AnyOrder.{body_in_any_order}
 use Rattle.acpins_records.proofs.Refused.{refusal_of, given_depth}
 use Rattle.acpins_records.proofs.body.write_body.Goals as goal
+
+pub returns-in-Ok-Some-clause-any_order : goal.returns-in-Ok-Some-clause-any_order
+returns-in-Ok-Some-clause-any_order c ok =
+    body_in_any_order c.args.depth (bytes_of c.args.tables.now) c.args.path.now c.args.text.now c.write_given.new.text c.write_given.new.body c.write_given.new.outcome (search rules)
 
 pub returns-clause-refused : goal.returns-clause-refused
 returns-clause-refused c is =

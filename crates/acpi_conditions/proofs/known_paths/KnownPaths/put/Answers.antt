@@ -1,4 +1,4 @@
-use Rattle.std.proofs.Common.{◌≡◌, [], ◌∷◌, ◌++◌, refl, ap, ◌∙◌}
+use Rattle.std.proofs.Common.{[], ◌∷◌, ◌++◌, refl, ap, ◌∙◌}
 use Rattle.acpi_conditions.specs.KnownLists.{KnownLists}
 use Rattle.acpi_conditions.specs.declared.known_paths.KnownPaths.TheInside.{Inside}
 use Rattle.acpi_conditions.proofs.KeptSlots.{on_err}

@@ -1,5 +1,4 @@
 use Rattle.acpi_conditions.specs.Presences.{is_something, is_a_scope}
-use Rattle.acpi_conditions.specs.declared.seen.Test.TheVariants.{Possible, PossibleScope}
 use Rattle.acpi_conditions.proofs.Meetings.{possible_met, possible_scope_met}
 use Rattle.acpi_conditions.proofs.met.MetStatuses.status.Goals as goal
 
