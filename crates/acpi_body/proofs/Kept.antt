@@ -1,19 +1,22 @@
 -- A reading depends on a namespace only by the arguments of the names that it searches, and each is spelled in its bytes.
-use Rattle.std.proofs.Common.{◌≡◌, ℕ, List, [], ◌∷◌, ◌++◌, sym, ap, ◌∙◌, append_assoc}
+use Rattle.std.proofs.Common.{◌≡◌, ◌||◌, ℕ, Bool, true, false, true≢false, not, List, [], ◌∷◌, ◌++◌, inl, inr, refl, sym, ap, ◌∙◌, append_assoc}
+use Rattle.std.proofs.lemmas.Bool.{or_right}
 use Rattle.std.specs.List.{AllByRecursion}
 use Rattle.acpi_name.specs.Names.{Segment, NameParts}
 use Rattle.acpi_space.proofs.Elements.{all_append, all_map}
 use Rattle.acpi_tree.specs.declared.place.OperandKind.{OperandKind}
 use Rattle.acpi_tree.specs.Terms.{TermTree, TermTrees, buffer, pkg, var_pkg, call, apply, ElseTree, if_do, no_else, else_do, while_do, declare, declare_units, no_terms, more}
-use Rattle.acpi_tree.specs.Operators.{operands_of, operands_before, operands_behind, operands_of_units}
+use Rattle.acpi_tree.specs.Operators.{is_load, operands_of, operands_before, operands_behind, operands_of_units}
 use Rattle.acpi_code.specs.Opcodes.{opcode_bytes, operator_bytes}
 use Rattle.acpi_code.specs.Spelling.{Packs}
-use Rattle.acpi_values.specs.Arguments.{Locals, Arguments}
-use Rattle.acpi_values.specs.Grammars.{Grammar, body_grammar}
+use Rattle.acpi_tree.specs.declared.op.Op.{Op}
+use Rattle.acpi_values.specs.Arguments.{Locals, BodyGrammar}
+use Rattle.acpi_values.specs.Grammars.{Grammar, is_allowed}
 use Rattle.acpi_values.specs.Spelling.{values, Spells, AreOperands, AreElements}
 use Rattle.acpi_code.specs.Forms.{named_opcode, units_opcode}
 use Rattle.acpi_body.specs.Statements.{locals_after, locals_after_all, IsStatement, IsElse, AreStatements}
 use Rattle.acpi_body.specs.Searches.{Searched, term_searches, terms_searches, searches, else_searches, all_searches, IsSpelledIn}
+use Rattle.acpi_body.specs.Loads.{has_load, else_has_load, have_load, KeepsLoads}
 use Rattle.acpi_body.specs.Laws.{AgreeAt}
 
 -- ---- all of a list
@@ -26,54 +29,81 @@ pub all_right : {A : Type 0} (P : A → Type 0) (xs ys : List A) → AllByRecurs
 all_right P [] ys h = h
 all_right P (x ∷ xs) ys h = all_right P xs ys h.1
 
+-- ---- loads
+
+neither_left : (x y : Bool) → x || y ≡ false → x ≡ false
+neither_left true y e = absurd (true≢false e)
+neither_left false y e = refl
+
+neither_right : (x y : Bool) → x || y ≡ false → y ≡ false
+neither_right true y e = absurd (true≢false e)
+neither_right false y e = e
+
+keeps_left : (c d : BodyGrammar) (x y : Bool) → KeepsLoads c d (x || y) → KeepsLoads c d x
+keeps_left c d x y (inl may) = inl may
+keeps_left c d x y (inr none) = inr (neither_left x y none)
+
+keeps_right : (c d : BodyGrammar) (x y : Bool) → KeepsLoads c d (x || y) → KeepsLoads c d y
+keeps_right c d x y (inl may) = inl may
+keeps_right c d x y (inr none) = inr (neither_right x y none)
+
+stays_allowed : (a b : Bool) (op : Op) → (a ≡ true → b ≡ true) → is_allowed a op ≡ true → is_allowed b op ≡ true
+stays_allowed true b op may h = ap (λ l. is_allowed l op) (may refl)
+stays_allowed false b op may h = or_right b (not (is_load op)) h
+
+kept_allowed : (c d : BodyGrammar) (locals : Locals) (op : Op) → KeepsLoads c d (is_load op) → is_allowed (c locals).loads op ≡ true → is_allowed (d locals).loads op ≡ true
+kept_allowed c d locals op (inl may) h = stays_allowed (c locals).loads (d locals).loads op (may locals) h
+kept_allowed c d locals op (inr none) h = or_right (d locals).loads (not (is_load op)) (ap not none)
+
 -- ---- kept
 
-module _ (c d : Arguments) where
+module _ (c d : BodyGrammar) where
   mutual
-    kept_term : (locals : Locals) (t : TermTree) (b : List ℕ) → AllByRecursion (AgreeAt c d) (term_searches locals t) → Spells (body_grammar (c locals)) t b → Spells (body_grammar (d locals)) t b
-    kept_term locals (buffer size content) b same (s, here, hs, packs) = (s, here, kept_term locals size s same hs, packs)
-    kept_term locals (pkg count es) b same (x, hs, packs) = (x, kept_elements locals es x same hs, packs)
-    kept_term locals (var_pkg count es) b same (s, x, here, hc, hs, packs) = (
+    kept_term : (locals : Locals) (t : TermTree) (b : List ℕ) → KeepsLoads c d (has_load t) → AllByRecursion (AgreeAt c d) (term_searches locals t) → Spells (c locals) t b → Spells (d locals) t b
+    kept_term locals (buffer size content) b keep same (s, here, hs, packs) = (s, here, kept_term locals size s keep same hs, packs)
+    kept_term locals (pkg count es) b keep same (x, hs, packs) = (x, kept_elements locals es x keep same hs, packs)
+    kept_term locals (var_pkg count es) b keep same (s, x, here, hc, hs, packs) = (
       s,
       x,
       here,
-      kept_term locals count s (all_left (AgreeAt c d) (term_searches locals count) (terms_searches locals es) same) hc,
-      kept_elements locals es x (all_right (AgreeAt c d) (term_searches locals count) (terms_searches locals es) same) hs,
+      kept_term locals count s (keeps_left c d (has_load count) (have_load es) keep) (all_left (AgreeAt c d) (term_searches locals count) (terms_searches locals es) same) hc,
+      kept_elements locals es x (keeps_right c d (has_load count) (have_load es) keep) (all_right (AgreeAt c d) (term_searches locals count) (terms_searches locals es) same) hs,
       packs,
     )
-    kept_term locals (call n vs) b same (count, w, x, sure, spells, hs, whole) =
-        (count, w, x, sym same.0 ∙ sure, spells, kept_operands locals (values count) vs x same.1 hs, whole)
-    kept_term locals (apply op vs) b same (x, allowed, hs, whole) = (x, allowed, kept_operands locals (operands_of op) vs x same hs, whole)
-    kept_term locals _ b same h = h
+    kept_term locals (call n vs) b keep same (count, w, x, sure, spells, hs, whole) =
+        (count, w, x, sym same.0 ∙ sure, spells, kept_operands locals (values count) vs x keep same.1 hs, whole)
+    kept_term locals (apply op vs) b keep same (x, allowed, hs, whole) =
+        (x, kept_allowed c d locals op (keeps_left c d (is_load op) (have_load vs) keep) allowed, kept_operands locals (operands_of op) vs x (keeps_right c d (is_load op) (have_load vs) keep) same hs, whole)
+    kept_term locals _ b keep same h = h
 
-    kept_operands : (locals : Locals) (ks : List OperandKind) (ts : TermTrees) (b : List ℕ) → AllByRecursion (AgreeAt c d) (terms_searches locals ts)
-        → AreOperands (body_grammar (c locals)) ks ts b → AreOperands (body_grammar (d locals)) ks ts b
-    kept_operands locals [] no_terms b same h = h
-    kept_operands locals (k ∷ ks) no_terms b same h = h
-    kept_operands locals [] (more t ts) b same h = h
-    kept_operands locals (k ∷ ks) (more t ts) b same (x, y, st, ht, hs, whole) = (
+    kept_operands : (locals : Locals) (ks : List OperandKind) (ts : TermTrees) (b : List ℕ) → KeepsLoads c d (have_load ts) → AllByRecursion (AgreeAt c d) (terms_searches locals ts)
+        → AreOperands (c locals) ks ts b → AreOperands (d locals) ks ts b
+    kept_operands locals [] no_terms b keep same h = h
+    kept_operands locals (k ∷ ks) no_terms b keep same h = h
+    kept_operands locals [] (more t ts) b keep same h = h
+    kept_operands locals (k ∷ ks) (more t ts) b keep same (x, y, st, ht, hs, whole) = (
       x,
       y,
       st,
-      kept_term locals t x (all_left (AgreeAt c d) (term_searches locals t) (terms_searches locals ts) same) ht,
-      kept_operands locals ks ts y (all_right (AgreeAt c d) (term_searches locals t) (terms_searches locals ts) same) hs,
+      kept_term locals t x (keeps_left c d (has_load t) (have_load ts) keep) (all_left (AgreeAt c d) (term_searches locals t) (terms_searches locals ts) same) ht,
+      kept_operands locals ks ts y (keeps_right c d (has_load t) (have_load ts) keep) (all_right (AgreeAt c d) (term_searches locals t) (terms_searches locals ts) same) hs,
       whole,
     )
 
-    kept_elements : (locals : Locals) (ts : TermTrees) (b : List ℕ) → AllByRecursion (AgreeAt c d) (terms_searches locals ts) → AreElements (body_grammar (c locals)) ts b → AreElements (body_grammar (d locals)) ts b
-    kept_elements locals no_terms b same h = h
-    kept_elements locals (more t ts) b same (x, y, st, ht, hs, whole) = (
+    kept_elements : (locals : Locals) (ts : TermTrees) (b : List ℕ) → KeepsLoads c d (have_load ts) → AllByRecursion (AgreeAt c d) (terms_searches locals ts) → AreElements (c locals) ts b → AreElements (d locals) ts b
+    kept_elements locals no_terms b keep same h = h
+    kept_elements locals (more t ts) b keep same (x, y, st, ht, hs, whole) = (
       x,
       y,
       st,
-      kept_term locals t x (all_left (AgreeAt c d) (term_searches locals t) (terms_searches locals ts) same) ht,
-      kept_elements locals ts y (all_right (AgreeAt c d) (term_searches locals t) (terms_searches locals ts) same) hs,
+      kept_term locals t x (keeps_left c d (has_load t) (have_load ts) keep) (all_left (AgreeAt c d) (term_searches locals t) (terms_searches locals ts) same) ht,
+      kept_elements locals ts y (keeps_right c d (has_load t) (have_load ts) keep) (all_right (AgreeAt c d) (term_searches locals t) (terms_searches locals ts) same) hs,
       whole,
     )
 
   mutual
-    kept_statement : (s : List Segment) (locals : Locals) (t : TermTree) (b : List ℕ) → AllByRecursion (AgreeAt c d) (searches s locals t) → IsStatement c s locals t b → IsStatement d s locals t b
-    kept_statement s locals (if_do v ts e) b same (x, y, f, g, here, hv, hs, packs, other, whole) =
+    kept_statement : (s : List Segment) (locals : Locals) (t : TermTree) (b : List ℕ) → KeepsLoads c d (has_load t) → AllByRecursion (AgreeAt c d) (searches s locals t) → IsStatement c s locals t b → IsStatement d s locals t b
+    kept_statement s locals (if_do v ts e) b keep same (x, y, f, g, here, hv, hs, packs, other, whole) =
         let behind = all_searches s locals ts ++ else_searches s (locals_after_all s locals ts) e in
         let inner = all_right (AgreeAt c d) (term_searches locals v) behind same in (
           x,
@@ -81,45 +111,46 @@ module _ (c d : Arguments) where
           f,
           g,
           here,
-          kept_term locals v x (all_left (AgreeAt c d) (term_searches locals v) behind same) hv,
-          kept_statements s locals ts y (all_left (AgreeAt c d) (all_searches s locals ts) (else_searches s (locals_after_all s locals ts) e) inner) hs,
+          kept_term locals v x (keeps_left c d (has_load v) (have_load ts || else_has_load e) keep) (all_left (AgreeAt c d) (term_searches locals v) behind same) hv,
+          kept_statements s locals ts y (keeps_left c d (have_load ts) (else_has_load e) (keeps_right c d (has_load v) (have_load ts || else_has_load e) keep))
+              (all_left (AgreeAt c d) (all_searches s locals ts) (else_searches s (locals_after_all s locals ts) e) inner) hs,
           packs,
-          kept_else s (locals_after_all s locals ts) e g (all_right (AgreeAt c d) (all_searches s locals ts) (else_searches s (locals_after_all s locals ts) e) inner) other,
+          kept_else s (locals_after_all s locals ts) e g (keeps_right c d (have_load ts) (else_has_load e) (keeps_right c d (has_load v) (have_load ts || else_has_load e) keep)) (all_right (AgreeAt c d) (all_searches s locals ts) (else_searches s (locals_after_all s locals ts) e) inner) other,
           whole,
         )
-    kept_statement s locals (while_do v ts) b same (x, y, here, hv, hs, packs) = (
+    kept_statement s locals (while_do v ts) b keep same (x, y, here, hv, hs, packs) = (
       x,
       y,
       here,
-      kept_term locals v x (all_left (AgreeAt c d) (term_searches locals v) (all_searches s locals ts) same) hv,
-      kept_statements s locals ts y (all_right (AgreeAt c d) (term_searches locals v) (all_searches s locals ts) same) hs,
+      kept_term locals v x (keeps_left c d (has_load v) (have_load ts) keep) (all_left (AgreeAt c d) (term_searches locals v) (all_searches s locals ts) same) hv,
+      kept_statements s locals ts y (keeps_right c d (has_load v) (have_load ts) keep) (all_right (AgreeAt c d) (term_searches locals v) (all_searches s locals ts) same) hs,
       packs,
     )
-    kept_statement s locals (declare form before n behind) b same (x, y, z, hb, may, hn, ha, whole) = (
+    kept_statement s locals (declare form before n behind) b keep same (x, y, z, hb, may, hn, ha, whole) = (
       x,
       y,
       z,
-      kept_operands locals (operands_before form) before x (all_left (AgreeAt c d) (terms_searches locals before) (terms_searches locals behind) same) hb,
+      kept_operands locals (operands_before form) before x (keeps_left c d (have_load before) (have_load behind) keep) (all_left (AgreeAt c d) (terms_searches locals before) (terms_searches locals behind) same) hb,
       may,
       hn,
-      kept_operands locals (operands_behind form) behind z (all_right (AgreeAt c d) (terms_searches locals before) (terms_searches locals behind) same) ha,
+      kept_operands locals (operands_behind form) behind z (keeps_right c d (have_load before) (have_load behind) keep) (all_right (AgreeAt c d) (terms_searches locals before) (terms_searches locals behind) same) ha,
       whole,
     )
-    kept_statement s locals (declare_units form ns vs es) b same (x, y, z, count, hn, hv, he, packs) = (x, y, z, count, hn, kept_operands locals (operands_of_units form) vs y same hv, he, packs)
-    kept_statement s locals t b same h = (h.0, kept_term locals t b same h.1)
+    kept_statement s locals (declare_units form ns vs es) b keep same (x, y, z, count, hn, hv, he, packs) = (x, y, z, count, hn, kept_operands locals (operands_of_units form) vs y keep same hv, he, packs)
+    kept_statement s locals t b keep same h = (h.0, kept_term locals t b keep same h.1)
 
-    kept_else : (s : List Segment) (locals : Locals) (e : ElseTree) (b : List ℕ) → AllByRecursion (AgreeAt c d) (else_searches s locals e) → IsElse c s locals e b → IsElse d s locals e b
-    kept_else s locals no_else b same h = h
-    kept_else s locals (else_do ts) b same (x, hs, packs) = (x, kept_statements s locals ts x same hs, packs)
+    kept_else : (s : List Segment) (locals : Locals) (e : ElseTree) (b : List ℕ) → KeepsLoads c d (else_has_load e) → AllByRecursion (AgreeAt c d) (else_searches s locals e) → IsElse c s locals e b → IsElse d s locals e b
+    kept_else s locals no_else b keep same h = h
+    kept_else s locals (else_do ts) b keep same (x, hs, packs) = (x, kept_statements s locals ts x keep same hs, packs)
 
-    pub kept_statements : (s : List Segment) (locals : Locals) (ts : TermTrees) (b : List ℕ) → AllByRecursion (AgreeAt c d) (all_searches s locals ts)
+    pub kept_statements : (s : List Segment) (locals : Locals) (ts : TermTrees) (b : List ℕ) → KeepsLoads c d (have_load ts) → AllByRecursion (AgreeAt c d) (all_searches s locals ts)
         → AreStatements c s locals ts b → AreStatements d s locals ts b
-    kept_statements s locals no_terms b same h = h
-    kept_statements s locals (more t ts) b same (x, y, ht, hs, whole) = (
+    kept_statements s locals no_terms b keep same h = h
+    kept_statements s locals (more t ts) b keep same (x, y, ht, hs, whole) = (
       x,
       y,
-      kept_statement s locals t x (all_left (AgreeAt c d) (searches s locals t) (all_searches s (locals_after s locals t) ts) same) ht,
-      kept_statements s (locals_after s locals t) ts y (all_right (AgreeAt c d) (searches s locals t) (all_searches s (locals_after s locals t) ts) same) hs,
+      kept_statement s locals t x (keeps_left c d (has_load t) (have_load ts) keep) (all_left (AgreeAt c d) (searches s locals t) (all_searches s (locals_after s locals t) ts) same) ht,
+      kept_statements s (locals_after s locals t) ts y (keeps_right c d (has_load t) (have_load ts) keep) (all_right (AgreeAt c d) (searches s locals t) (all_searches s (locals_after s locals t) ts) same) hs,
       whole,
     )
 
@@ -189,33 +220,33 @@ mutual
       (end_of x y b (terms_searches locals ts) whole (spelled_elements grammar locals ts y hs))
 
 mutual
-  spelled_statement : (args : Arguments) (s : List Segment) (locals : Locals) (t : TermTree) (b : List ℕ) → IsStatement args s locals t b → AllByRecursion (Spelled b) (searches s locals t)
+  spelled_statement : (args : BodyGrammar) (s : List Segment) (locals : Locals) (t : TermTree) (b : List ℕ) → IsStatement args s locals t b → AllByRecursion (Spelled b) (searches s locals t)
   spelled_statement args s locals (if_do v ts e) b (x, y, p, q, here, hv, hs, packs, other, whole) =
       let after = locals_after_all s locals ts in
       all_append (Spelled b) (term_searches locals v) (all_searches s locals ts ++ else_searches s after e)
-      (part_of [] p q b (term_searches locals v) whole (pack_front (0xA0 ∷ []) x y p (term_searches locals v) packs (spelled_term (body_grammar (args locals)) locals v x hv)))
+      (part_of [] p q b (term_searches locals v) whole (pack_front (0xA0 ∷ []) x y p (term_searches locals v) packs (spelled_term (args locals) locals v x hv)))
       (all_append (Spelled b) (all_searches s locals ts) (else_searches s after e)
       (part_of [] p q b (all_searches s locals ts) whole (pack_end (0xA0 ∷ []) x y p (all_searches s locals ts) packs (spelled_statements args s locals ts y hs)))
       (end_of p q b (else_searches s after e) whole (spelled_else args s after e q other)))
   spelled_statement args s locals (while_do v ts) b (x, y, here, hv, hs, packs) =
       all_append (Spelled b) (term_searches locals v) (all_searches s locals ts)
-      (pack_front (0xA2 ∷ []) x y b (term_searches locals v) packs (spelled_term (body_grammar (args locals)) locals v x hv))
+      (pack_front (0xA2 ∷ []) x y b (term_searches locals v) packs (spelled_term (args locals) locals v x hv))
       (pack_end (0xA2 ∷ []) x y b (all_searches s locals ts) packs (spelled_statements args s locals ts y hs))
   spelled_statement args s locals (declare form before n behind) b (x, y, z, hb, may, hn, ha, whole) =
       let op = opcode_bytes (named_opcode form) in
       all_append (Spelled b) (terms_searches locals before) (terms_searches locals behind)
-      (part_of op x (y ++ z) b (terms_searches locals before) whole (spelled_operands (body_grammar (args locals)) locals (operands_before form) before x hb))
-      (end_of (op ++ (x ++ y)) z b (terms_searches locals behind) (whole ∙ simp append_assoc) (spelled_operands (body_grammar (args locals)) locals (operands_behind form) behind z ha))
+      (part_of op x (y ++ z) b (terms_searches locals before) whole (spelled_operands (args locals) locals (operands_before form) before x hb))
+      (end_of (op ++ (x ++ y)) z b (terms_searches locals behind) (whole ∙ simp append_assoc) (spelled_operands (args locals) locals (operands_behind form) behind z ha))
   spelled_statement args s locals (declare_units form ns vs es) b (x, y, z, count, hn, hv, he, packs) =
       let op = opcode_bytes (units_opcode form) in
-      part_of (op ++ (packs.len ++ x)) y z b (terms_searches locals vs) (packs.whole ∙ simp append_assoc) (spelled_operands (body_grammar (args locals)) locals (operands_of_units form) vs y hv)
-  spelled_statement args s locals t b h = spelled_term (body_grammar (args locals)) locals t b h.1
+      part_of (op ++ (packs.len ++ x)) y z b (terms_searches locals vs) (packs.whole ∙ simp append_assoc) (spelled_operands (args locals) locals (operands_of_units form) vs y hv)
+  spelled_statement args s locals t b h = spelled_term (args locals) locals t b h.1
 
-  spelled_else : (args : Arguments) (s : List Segment) (locals : Locals) (e : ElseTree) (b : List ℕ) → IsElse args s locals e b → AllByRecursion (Spelled b) (else_searches s locals e)
+  spelled_else : (args : BodyGrammar) (s : List Segment) (locals : Locals) (e : ElseTree) (b : List ℕ) → IsElse args s locals e b → AllByRecursion (Spelled b) (else_searches s locals e)
   spelled_else args s locals no_else b h = tt
   spelled_else args s locals (else_do ts) b (x, hs, packs) = pack_end (0xA1 ∷ []) [] x b (all_searches s locals ts) packs (spelled_statements args s locals ts x hs)
 
-  pub spelled_statements : (args : Arguments) (s : List Segment) (locals : Locals) (ts : TermTrees) (b : List ℕ) → AreStatements args s locals ts b
+  pub spelled_statements : (args : BodyGrammar) (s : List Segment) (locals : Locals) (ts : TermTrees) (b : List ℕ) → AreStatements args s locals ts b
       → AllByRecursion (Spelled b) (all_searches s locals ts)
   spelled_statements args s locals no_terms b h = tt
   spelled_statements args s locals (more t ts) b (x, y, ht, hs, whole) =
@@ -223,8 +254,8 @@ mutual
       (part_of [] x y b (searches s locals t) whole (spelled_statement args s locals t x ht))
       (end_of x y b (all_searches s (locals_after s locals t) ts) whole (spelled_statements args s (locals_after s locals t) ts y hs))
 
-pub same_readings : (c d : Arguments) (s : List Segment) (locals : Locals) (ts : TermTrees) (b : List ℕ)
-    → ((n : NameParts) → IsSpelledIn b n → (locals : Locals) → c locals n ≡ d locals n) → AreStatements c s locals ts b
+pub same_readings : (c d : BodyGrammar) (s : List Segment) (locals : Locals) (ts : TermTrees) (b : List ℕ)
+    → KeepsLoads c d (have_load ts) → ((n : NameParts) → IsSpelledIn b n → (locals : Locals) → (c locals).args n ≡ (d locals).args n) → AreStatements c s locals ts b
     → AreStatements d s locals ts b
-same_readings c d s locals ts b same h = kept_statements c d s locals ts b
+same_readings c d s locals ts b keep same h = kept_statements c d s locals ts b keep
     (all_map (Spelled b) (AgreeAt c d) (λ e spelled. same e.1 spelled e.0) (all_searches s locals ts) (spelled_statements c s locals ts b h)) h

@@ -24,8 +24,8 @@ use Rattle.acpi_code.proofs.Names.{name_in_complete}
 use Rattle.acpi_code.proofs.Opcodes.{opens}
 use Rattle.acpi_code.proofs.Packages.{front_is, package_complete}
 use Rattle.acpi_values.specs.declared.fault.BodyFault.{BodyFault}
-use Rattle.acpi_values.specs.Arguments.{Locals, Arguments}
-use Rattle.acpi_values.specs.Grammars.{Grammar, body_grammar}
+use Rattle.acpi_values.specs.Arguments.{Locals, BodyGrammar}
+use Rattle.acpi_values.specs.Grammars.{Grammar}
 use Rattle.acpi_values.specs.Spelling.{Spells, height, else_height, heights}
 use Rattle.acpi_code.specs.Fields.{SpellsFields}
 use Rattle.acpi_code.specs.Forms.{named_opcode, units_opcode}
@@ -105,7 +105,7 @@ plain_starts grammar t a rest al h =
     (other_opens (a ++ rest) (lead_of t) f.0 (no_else_lead grammar.loads (lead_of t) al.allowed) f.1, spelled_long grammar Statement t a al.suits h)
 
 -- a statement has a byte or more, and doesn't begin with an Else
-pub statement_starts : (args : Arguments) (s : List Segment) (locals : Locals) (t : TermTree) (a rest : List ℕ) → IsStatement args s locals t a → Starts a rest
+pub statement_starts : (args : BodyGrammar) (s : List Segment) (locals : Locals) (t : TermTree) (a rest : List ℕ) → IsStatement args s locals t a → Starts a rest
 statement_starts args s locals (if_do v ts e) a rest (x, y, f, g, here, hv, hs, packs, other, whole) = (rw (whole, packs.whole) refl, rw (whole, packs.whole) (omega arith))
 statement_starts args s locals (while_do v ts) a rest h = (rw h.5.whole refl, rw h.5.whole (omega arith))
 statement_starts args s locals (declare form before n behind) a rest (x, y, z, hb, may, hn, ha, whole) =
@@ -120,16 +120,16 @@ statement_starts args s locals (declare_units form ns vs es) a rest (x, y, z, hc
       other_opens (a ++ rest) (units_opcode form) (packs.len ++ ((x ++ (y ++ z)) ++ rest)) (units_no_else form) (ap (opcode_at 0) is ∙ units_spelled form (packs.len ++ ((x ++ (y ++ z)) ++ rest)) 0),
       omega (arith, ap length packs.whole, length-append op (packs.len ++ (x ++ (y ++ z))), units_long form),
     )
-statement_starts args s locals t a rest h = plain_starts (body_grammar (args locals)) t a rest (allowed_at (body_grammar (args locals)) Statement t a h.0 h.1) h.1
+statement_starts args s locals t a rest h = plain_starts (args locals) t a rest (allowed_at (args locals) Statement t a h.0 h.1) h.1
 
-pub statements_start : (args : Arguments) (s : List Segment) (locals : Locals) (ts : TermTrees) (b w : List ℕ) → AreStatements args s locals ts b → begins_else w ≡ false → begins_else (b ++ w) ≡ false
+pub statements_start : (args : BodyGrammar) (s : List Segment) (locals : Locals) (ts : TermTrees) (b w : List ℕ) → AreStatements args s locals ts b → begins_else w ≡ false → begins_else (b ++ w) ≡ false
 statements_start args s locals no_terms b w h none = rw h none
 statements_start args s locals (more t ts) b w (x, y, ht, hs, whole) none = rw (whole, append_assoc x y w) ((statement_starts args s locals t x (y ++ w) ht).0)
 
 -- ---- a statement, behind its opcode
 
-pub stated : (args : Arguments) (s : List Segment) (level : ℕ) (locals : Locals) (end : ℕ) (bytes r : List ℕ) (o : Opcode) (x : TermTree × List ℕ) → opcode_at end bytes ≡ Ok (o, r)
-    → statement_by (body_grammar (args locals)) (term_at (body_grammar (args locals)) level) (statements_at args s level) s locals end bytes o r ≡ Ok x → statement_at args s (suc level) locals end bytes ≡ Ok x
+pub stated : (args : BodyGrammar) (s : List Segment) (level : ℕ) (locals : Locals) (end : ℕ) (bytes r : List ℕ) (o : Opcode) (x : TermTree × List ℕ) → opcode_at end bytes ≡ Ok (o, r)
+    → statement_by (args locals) (term_at (args locals) level) (statements_at args s level) s locals end bytes o r ≡ Ok x → statement_at args s (suc level) locals end bytes ≡ Ok x
 unfolding statement_at
 stated args s level locals end bytes r o x h m = rw h m
 
@@ -238,17 +238,17 @@ one_stated one s locals [] b x xs long h all n le = absurd (omega arith)
 one_stated one s locals (c ∷ a) b x xs long h all zero le = absurd (omega arith)
 one_stated one s locals (c ∷ a) b x xs long h all (suc n) le = rw (h, all n (omega (arith, length-append a b))) refl
 
-high : (args : Arguments) (s : List Segment) (locals : Locals) (t : TermTree) (b : List ℕ) → IsStatement args s locals t b → 0 < height t
+high : (args : BodyGrammar) (s : List Segment) (locals : Locals) (t : TermTree) (b : List ℕ) → IsStatement args s locals t b → 0 < height t
 high args s locals (if_do v ts e) b h = omega arith
 high args s locals (while_do v ts) b h = omega arith
 high args s locals (declare form before n behind) b h = omega arith
 high args s locals (declare_units form ns vs es) b h = omega arith
-high args s locals t b h = suits_high Statement t (allowed_at (body_grammar (args locals)) Statement t b h.0 h.1).suits
+high args s locals t b h = suits_high Statement t (allowed_at (args locals) Statement t b h.0 h.1).suits
 
 mutual
   unfolding statement_by
 
-  pub statement_complete : (args : Arguments) (s : List Segment) (t : TermTree) (level : ℕ) (locals : Locals) (end : ℕ) (b rest : List ℕ)
+  pub statement_complete : (args : BodyGrammar) (s : List Segment) (t : TermTree) (level : ℕ) (locals : Locals) (end : ℕ) (b rest : List ℕ)
       → IsStatement args s locals t b → height t ≤ level → Ends t rest
       → statement_at args s level locals end (b ++ rest) ≡ Ok (t, rest)
   statement_complete args s t zero locals end b rest h le none = absurd (omega (arith, high args s locals t b h))
@@ -256,49 +256,49 @@ mutual
       let back = g ++ rest in
       let is : b ++ rest ≡ 0xA0 ∷ (packs.len ++ ((x ++ y) ++ back)) = ap (λ (l : List ℕ). l ++ rest) whole ∙ append_assoc f g rest ∙ front_is (0xA0 ∷ []) f packs.len (x ++ y) back packs.whole in
       let within = end - length back in
-      let i = term_complete (body_grammar (args locals)) v level Value within x y here hv (omega arith) in
+      let i = term_complete (args locals) v level Value within x y here hv (omega arith) in
       let all = statements_complete args s ts level locals within y hs (omega arith) in
       let then = else_complete args s e level (locals_after_all s locals ts) end g rest other (omega arith) none in
       let then_here : else_at (statements_at args s level (locals_after_all s locals (terms_of (listed ts)))) end back ≡ Ok (e, rest) = rw (terms_of-listed ts) then in
       rw is
       (stated args s level locals end (0xA0 ∷ (packs.len ++ ((x ++ y) ++ back))) (packs.len ++ ((x ++ y) ++ back)) opcodes.If (if_do v ts e, rest)
       (opens end opcodes.If (packs.len ++ ((x ++ y) ++ back)) refl)
-      (if_read (term_at (body_grammar (args locals)) level) (statements_at args s level) s locals end v (listed ts) e x y packs.len back rest packs.spells_len i (all (length y) (omega arith)) then_here
+      (if_read (term_at (args locals) level) (statements_at args s level) s locals end v (listed ts) e x y packs.len back rest packs.spells_len i (all (length y) (omega arith)) then_here
       ∙ ap (λ ts. Ok (if_do v ts e, rest)) (terms_of-listed ts)))
   statement_complete args s (while_do v ts) (suc level) locals end b rest (x, y, here, hv, hs, packs) le none =
-      let i = term_complete (body_grammar (args locals)) v level Value (end - length rest) x y here hv (omega arith) in
+      let i = term_complete (args locals) v level Value (end - length rest) x y here hv (omega arith) in
       let all = statements_complete args s ts level locals (end - length rest) y hs (omega arith) in
       rw (front_is (0xA2 ∷ []) b packs.len (x ++ y) rest packs.whole)
       (stated args s level locals end (0xA2 ∷ (packs.len ++ ((x ++ y) ++ rest))) (packs.len ++ ((x ++ y) ++ rest)) opcodes.While (while_do v ts, rest)
       (opens end opcodes.While (packs.len ++ ((x ++ y) ++ rest)) refl)
-      (while_read (term_at (body_grammar (args locals)) level) (statements_at args s level) locals end v (listed ts) x y packs.len rest packs.spells_len i (all (length y) (omega arith))
+      (while_read (term_at (args locals) level) (statements_at args s level) locals end v (listed ts) x y packs.len rest packs.spells_len i (all (length y) (omega arith))
       ∙ ap (λ ts. Ok (while_do v ts, rest)) (terms_of-listed ts)))
   statement_complete args s (declare form before n behind) (suc level) locals end b rest (x, y, z, hb, may, hn, ha, whole) le none =
       let is : b ++ rest ≡ opcode_bytes (named_opcode form) ++ (x ++ (y ++ (z ++ rest))) = ap (λ (l : List ℕ). l ++ rest) whole ∙ simp append_assoc in
-      let i = operands_complete (body_grammar (args locals)) (operands_before form) before level end x (y ++ (z ++ rest)) hb (omega arith) in
-      let k = operands_complete (body_grammar (args locals)) (operands_behind form) behind level end z rest ha (omega arith) in
+      let i = operands_complete (args locals) (operands_before form) before level end x (y ++ (z ++ rest)) hb (omega arith) in
+      let k = operands_complete (args locals) (operands_behind form) behind level end z rest ha (omega arith) in
       stated args s level locals end (b ++ rest) (x ++ (y ++ (z ++ rest))) (named_opcode form) (declare form before n behind, rest)
       (ap (opcode_at end) is ∙ named_spelled form (x ++ (y ++ (z ++ rest))) end)
-      (by_named (body_grammar (args locals)) (term_at (body_grammar (args locals)) level) (statements_at args s level) s locals end (b ++ rest) (x ++ (y ++ (z ++ rest))) form
-      ∙ named_read (term_at (body_grammar (args locals)) level) s form end n (listed before) (listed behind) y (x ++ (y ++ (z ++ rest))) (z ++ rest) rest may hn i k
+      (by_named (args locals) (term_at (args locals) level) (statements_at args s level) s locals end (b ++ rest) (x ++ (y ++ (z ++ rest))) form
+      ∙ named_read (term_at (args locals) level) s form end n (listed before) (listed behind) y (x ++ (y ++ (z ++ rest))) (z ++ rest) rest may hn i k
       ∙ ap (λ ts. Ok (declare form ts n (terms_of (listed behind)), rest)) (terms_of-listed before) ∙ ap (λ ts. Ok (declare form before n ts, rest)) (terms_of-listed behind))
   statement_complete args s (declare_units form ns vs es) (suc level) locals end b rest (x, y, z, count, hn, hv, he, packs) le none =
       let op = opcode_bytes (units_opcode form) in
       let back = packs.len ++ ((x ++ (y ++ z)) ++ rest) in
       let is = front_is op b packs.len (x ++ (y ++ z)) rest packs.whole in
-      let k = operands_complete (body_grammar (args locals)) (operands_of_units form) vs level (end - length rest) y z hv (omega arith) in
+      let k = operands_complete (args locals) (operands_of_units form) vs level (end - length rest) y z hv (omega arith) in
       stated args s level locals end (b ++ rest) back (units_opcode form) (declare_units form ns vs es, rest) (ap (opcode_at end) is ∙ units_spelled form back end)
-      (by_units (body_grammar (args locals)) (term_at (body_grammar (args locals)) level) (statements_at args s level) s locals end (b ++ rest) back form
-      ∙ units_read (term_at (body_grammar (args locals)) level) form end ns (listed vs) es x y z packs.len rest count hn k he packs.spells_len
+      (by_units (args locals) (term_at (args locals) level) (statements_at args s level) s locals end (b ++ rest) back form
+      ∙ units_read (term_at (args locals) level) form end ns (listed vs) es x y z packs.len rest count hn k he packs.spells_len
       ∙ ap (λ ts. Ok (declare_units form ns ts es, rest)) (terms_of-listed vs))
   statement_complete args s t (suc level) locals end b rest h le none =
-      let al = allowed_at (body_grammar (args locals)) Statement t b h.0 h.1 in
-      let f = form_complete (body_grammar (args locals)) t level Statement end b rest al h.1 le in
+      let al = allowed_at (args locals) Statement t b h.0 h.1 in
+      let f = form_complete (args locals) t level Statement end b rest al h.1 le in
       stated args s level locals end (b ++ rest) f.0 (lead_of t) (t, rest) f.1
-      (is_placed (body_grammar (args locals)) (term_at (body_grammar (args locals)) level) (statements_at args s level) s locals end (b ++ rest) f.0 t al.allowed
-      ∙ placed_made (body_grammar (args locals)) (term_at (body_grammar (args locals)) level) Statement end (b ++ rest) f.0 (lead_of t) (t, rest) al.allowed f.2)
+      (is_placed (args locals) (term_at (args locals) level) (statements_at args s level) s locals end (b ++ rest) f.0 t al.allowed
+      ∙ placed_made (args locals) (term_at (args locals) level) Statement end (b ++ rest) f.0 (lead_of t) (t, rest) al.allowed f.2)
 
-  else_complete : (args : Arguments) (s : List Segment) (e : ElseTree) (level : ℕ) (locals : Locals) (end : ℕ) (b rest : List ℕ)
+  else_complete : (args : BodyGrammar) (s : List Segment) (e : ElseTree) (level : ℕ) (locals : Locals) (end : ℕ) (b rest : List ℕ)
       → IsElse args s locals e b → else_height e ≤ level → Closes e rest
       → else_at (statements_at args s level locals) end (b ++ rest) ≡ Ok (e, rest)
   else_complete args s no_else level locals end b rest h le none = rw h (no_else_read (statements_at args s level locals) end rest none)
@@ -307,7 +307,7 @@ mutual
       rw (front_is (0xA1 ∷ []) b packs.len c rest packs.whole) (else_read (statements_at args s level locals) end (listed ts) c packs.len rest
       packs.spells_len (all (length c) (omega arith)) ∙ ap (λ ts. Ok (else_do ts, rest)) (terms_of-listed ts))
 
-  pub statements_complete : (args : Arguments) (s : List Segment) (ts : TermTrees) (level : ℕ) (locals : Locals) (end : ℕ) (b : List ℕ) → AreStatements args s locals ts b → heights ts ≤ level
+  pub statements_complete : (args : BodyGrammar) (s : List Segment) (ts : TermTrees) (level : ℕ) (locals : Locals) (end : ℕ) (b : List ℕ) → AreStatements args s locals ts b → heights ts ≤ level
       → AreAllStated (λ locals. statement_at args s level locals end) s locals b (listed ts)
   statements_complete args s no_terms level locals end b h le = none_stated (λ locals. statement_at args s level locals end) s locals b h
   statements_complete args s (more t ts) level locals end b (x, y, ht, hs, whole) le =

@@ -30,8 +30,8 @@ use Rattle.acpi_code.proofs.Opcodes.{Opened}
 use Rattle.acpi_code.proofs.Packages.{PackageFront, package_complete}
 use Rattle.acpi_code.proofs.Exact.{Exact, ExactAll, all_as, turn_judged, turn_stops, package_judged, package_stops, by_opcode_judged, by_opcode_stops, fails_behind, not_empty}
 use Rattle.acpi_values.specs.declared.fault.BodyFault.{BodyFault}
-use Rattle.acpi_values.specs.Arguments.{Locals, Arguments}
-use Rattle.acpi_values.specs.Grammars.{Grammar, body_grammar}
+use Rattle.acpi_values.specs.Arguments.{Locals, BodyGrammar}
+use Rattle.acpi_values.specs.Grammars.{Grammar}
 use Rattle.acpi_values.specs.Refusals.{refusal_at}
 use Rattle.acpi_values.specs.Spelling.{height, else_height}
 use Rattle.acpi_values.specs.Faults.{fault_of, constant_fault_of, body_fault, IsTermAt, AreOperandsIn, FailsTerm, FailsOperands, FailsForm}
@@ -125,34 +125,34 @@ exact_names count = record {
 }
 
 -- a reader of statements with so many levels
-pub record ReadsAll (m : List Segment) (args : Arguments) (level : ℕ) : Type 0 where
+pub record ReadsAll (m : List Segment) (g : BodyGrammar) (level : ℕ) : Type 0 where
   pub judged : (locals : Locals) (end : ℕ) (bytes : List ℕ)
-      → Judge (λ ts. AreStatementsIn args m level locals (terms_of ts) bytes) (FailsStatements args m level locals end bytes) (statements_at args m level locals end bytes)
-  pub stops : (locals : Locals) (end : ℕ) (bytes : List ℕ) (f : BodyFault) → FailsStatements args m level locals end bytes f → statements_at args m level locals end bytes ≡ Err f
+      → Judge (λ ts. AreStatementsIn g m level locals (terms_of ts) bytes) (FailsStatements g m level locals end bytes) (statements_at g m level locals end bytes)
+  pub stops : (locals : Locals) (end : ℕ) (bytes : List ℕ) (f : BodyFault) → FailsStatements g m level locals end bytes f → statements_at g m level locals end bytes ≡ Err f
 
 -- a package, the predicate and the statements in it
 abbrev Block : Type 0
 Block = Package × TermTree × List TermTree
 
-record IsRead (m : List Segment) (args : Arguments) (level : ℕ) (locals : Locals) (end : ℕ) (bytes : List ℕ) (x : Block) : Type 0 where
+record IsRead (m : List Segment) (g : BodyGrammar) (level : ℕ) (locals : Locals) (end : ℕ) (bytes : List ℕ) (x : Block) : Type 0 where
   packs : PackageFront end bytes x.0
   a : List ℕ
   b : List ℕ
-  term : IsTermAt (body_grammar (args locals)) level Value x.1 a
-  are : AreStatementsIn args m level locals (terms_of x.2) b
+  term : IsTermAt (g locals) level Value x.1 a
+  are : AreStatementsIn g m level locals (terms_of x.2) b
   whole : x.0.content ≡ a ++ b
 
-module _ (m : List Segment) (args : Arguments) where
+module _ (m : List Segment) (g : BodyGrammar) where
   -- a statement, and one that ends before what is behind it
   abbrev pub IsStatementIn : ℕ → Locals → TermTree → List ℕ → Type 0
-  IsStatementIn level locals t bytes = IsStatement args m locals t bytes × (height t ≤ level)
+  IsStatementIn level locals t bytes = IsStatement g m locals t bytes × (height t ≤ level)
 
   abbrev pub Stated : ℕ → Locals → List ℕ → TermTree × List ℕ → Type 0
   Stated level locals bytes x = Front (IsStatementIn level locals) bytes x × Ends x.0 x.1
 
   -- ---- one after another
 
-  no_open_if : (ts : TermTrees) (t : TermTree) (a b rest : List ℕ) (locals : Locals) → AreStatements args m locals ts a → Ends t rest → rest ≡ a ++ b
+  no_open_if : (ts : TermTrees) (t : TermTree) (a b rest : List ℕ) (locals : Locals) → AreStatements g m locals ts a → Ends t rest → rest ≡ a ++ b
       → (ends_in_if ts ≡ true → (tail : List ℕ) → b ≢ 0xA1 ∷ tail) → ends_in_if (more t ts) ≡ true → (tail : List ℕ) → b ≢ 0xA1 ∷ tail
   no_open_if no_terms t a b rest locals h end whole free bare tail is = closed t end bare (whole ∙ ap (λ (l : List ℕ). l ++ b) h ∙ is)
     where
@@ -164,24 +164,24 @@ module _ (m : List Segment) (args : Arguments) where
   among_judged : (level end : ℕ) (One : Locals → Failure BodyFault) (one : Locals → List ℕ → Reading BodyFault TermTree)
       → ((locals : Locals) (bytes : List ℕ) → Judge (Stated level locals bytes) (One locals end bytes) (one locals bytes))
       → (n : ℕ) (locals : Locals) (bytes : List ℕ) → length bytes ≤ n
-      → Judge (λ ts. AreStatementsIn args m level locals (terms_of ts) bytes) (FailsAmong args m level One locals end bytes) (statements_with one m n locals bytes)
+      → Judge (λ ts. AreStatementsIn g m level locals (terms_of ts) bytes) (FailsAmong g m level One locals end bytes) (statements_with one m n locals bytes)
   unfolding statements_with
   among_judged level end One one judged zero locals [] le = (refl, omega arith)
   among_judged level end One one judged zero locals (b ∷ rest) le = absurd (omega arith)
   among_judged level end One one judged (suc n) locals [] le = (refl, omega arith)
   among_judged level end One one judged (suc n) locals (b ∷ rest) le =
-      let Good : List TermTree → Type 0 = λ ts. AreStatementsIn args m level locals (terms_of ts) (b ∷ rest) in
-      let Bad = FailsAmong args m level One locals end (b ∷ rest) in
+      let Good : List TermTree → Type 0 = λ ts. AreStatementsIn g m level locals (terms_of ts) (b ∷ rest) in
+      let Bad = FailsAmong g m level One locals end (b ∷ rest) in
       judge_bind (Stated level locals (b ∷ rest)) Good Bad (one locals (b ∷ rest)) _
       (judge_into (Stated level locals (b ∷ rest)) (Stated level locals (b ∷ rest)) (One locals end (b ∷ rest)) Bad (one locals (b ∷ rest)) (λ x t. t)
       (λ f h. (no_terms, [], b ∷ rest, (refl, omega arith), refl, some_left b rest, λ bare tail. absurd cc, h)) (judged locals (b ∷ rest)))
       (λ x p.
       let t = p.0 in
-      let some = (statement_starts args m locals x.0 t.front [] t.spells.0).1 in
+      let some = (statement_starts g m locals x.0 t.front [] t.spells.0).1 in
       let sizes : suc (length rest) ≡ length t.front + length x.1 = ap length t.whole ∙ length-append t.front x.1 in
-      let Behind : List TermTree → Type 0 = λ ts. AreStatementsIn args m level (locals_after m locals x.0) (terms_of ts) x.1 in
+      let Behind : List TermTree → Type 0 = λ ts. AreStatementsIn g m level (locals_after m locals x.0) (terms_of ts) x.1 in
       judge_bind Behind Good Bad (statements_with one m n (locals_after m locals x.0) x.1) _
-      (judge_into Behind Behind (FailsAmong args m level One (locals_after m locals x.0) end x.1) Bad (statements_with one m n (locals_after m locals x.0) x.1) (λ ts k. k)
+      (judge_into Behind Behind (FailsAmong g m level One (locals_after m locals x.0) end x.1) Bad (statements_with one m n (locals_after m locals x.0) x.1) (λ ts k. k)
       (λ f h. (
         more x.0 h.0,
         t.front ++ h.1,
@@ -198,7 +198,7 @@ module _ (m : List Segment) (args : Arguments) where
       some_left b rest e = cc
 
   -- a statement ends before statements and what ends them
-  ends_there : (t : TermTree) (ts : TermTrees) (locals : Locals) (y b : List ℕ) → AreStatements args m locals ts y
+  ends_there : (t : TermTree) (ts : TermTrees) (locals : Locals) (y b : List ℕ) → AreStatements g m locals ts y
       → (ends_in_if (more t ts) ≡ true → (rest : List ℕ) → b ≢ 0xA1 ∷ rest) → Ends t (y ++ b)
   ends_there t no_terms locals y b h free = subst (λ (l : List ℕ). Ends t (l ++ b)) (sym h) (closed t free)
     where
@@ -215,17 +215,17 @@ module _ (m : List Segment) (args : Arguments) where
       closed (if_do v us (else_do es)) free = tt
       closed _ free = tt
   ends_there t (more u us) locals y b (c, d, hu, hs, whole) free =
-      ends t (y ++ b) (rw (whole, append_assoc c d b) ((statement_starts args m locals u c (d ++ b) hu).0))
+      ends t (y ++ b) (rw (whole, append_assoc c d b) ((statement_starts g m locals u c (d ++ b) hu).0))
 
-  among_stops : (level end : ℕ) (One : Locals → Failure BodyFault) → ((locals : Locals) (bytes : List ℕ) (f : BodyFault) → One locals end bytes f → statement_at args m level locals end bytes ≡ Err f)
-      → (ts : TermTrees) (locals : Locals) (a b : List ℕ) (f : BodyFault) → AreStatementsIn args m level locals ts a → b ≢ []
+  among_stops : (level end : ℕ) (One : Locals → Failure BodyFault) → ((locals : Locals) (bytes : List ℕ) (f : BodyFault) → One locals end bytes f → statement_at g m level locals end bytes ≡ Err f)
+      → (ts : TermTrees) (locals : Locals) (a b : List ℕ) (f : BodyFault) → AreStatementsIn g m level locals ts a → b ≢ []
       → (ends_in_if ts ≡ true → (rest : List ℕ) → b ≢ 0xA1 ∷ rest) → One (locals_after_all m locals ts) end b f
-      → Stops (λ locals. statement_at args m level locals end) m locals (a ++ b) f
-  among_stops level end One stops no_terms locals a b f h some free one = rw h.0 (stops_here (λ locals. statement_at args m level locals end) m locals b f (not_empty b some) (stops locals b f one))
+      → Stops (λ locals. statement_at g m level locals end) m locals (a ++ b) f
+  among_stops level end One stops no_terms locals a b f h some free one = rw h.0 (stops_here (λ locals. statement_at g m level locals end) m locals b f (not_empty b some) (stops locals b f one))
   among_stops level end One stops (more t ts) locals a b f ((x, y, ht, hs, whole), le) some free one =
       rw (whole, append_assoc x y b)
-      (stops_behind (λ locals. statement_at args m level locals end) m locals x (y ++ b) t f ((statement_starts args m locals t x [] ht).1)
-      (statement_complete args m t level locals end x (y ++ b) ht (omega arith) (ends_there t ts (locals_after m locals t) y b hs free))
+      (stops_behind (λ locals. statement_at g m level locals end) m locals x (y ++ b) t f ((statement_starts g m locals t x [] ht).1)
+      (statement_complete g m t level locals end x (y ++ b) ht (omega arith) (ends_there t ts (locals_after m locals t) y b hs free))
       (among_stops level end One stops ts (locals_after m locals t) y b f (hs, omega arith) some (behind ts free) one))
     where
       behind : (ts : TermTrees) → (ends_in_if (more t ts) ≡ true → (rest : List ℕ) → b ≢ 0xA1 ∷ rest) → ends_in_if ts ≡ true → (rest : List ℕ) → b ≢ 0xA1 ∷ rest
@@ -234,18 +234,15 @@ module _ (m : List Segment) (args : Arguments) where
 
   -- ---- with so many levels inside
 
-  module _ (level : ℕ) (r : ReadsAll m args level) where
-    abbrev g : Locals → Grammar
-    g locals = body_grammar (args locals)
-
+  module _ (level : ℕ) (r : ReadsAll m g level) where
     abbrev value : Locals → Reader
     value locals = term_at (g locals) level
 
     abbrev inner : Statements
-    inner = statements_at args m level
+    inner = statements_at g m level
 
     abbrev Inside : Locals → Failure BodyFault
-    Inside = FailsStatements args m level
+    Inside = FailsStatements g m level
 
     value_read : (locals : Locals) → Exact (IsTermAt (g locals) level Value) (FailsTerm (g locals) level Value) (value locals Value)
     value_read locals = exact_term (g locals) level Value refl
@@ -265,35 +262,35 @@ module _ (m : List Segment) (args : Arguments) where
     abbrev Filled : Locals → Failure BodyFault
     Filled locals = FailsInTurn (FailsTerm (g locals) level Value) (IsTermAt (g locals) level Value) (λ v. Inside locals)
 
-    block_judged : (locals : Locals) (end : ℕ) (bytes : List ℕ) → Judge (IsRead m args level locals end bytes) (FailsBlock args level Inside locals end bytes) (block_at locals end bytes)
+    block_judged : (locals : Locals) (end : ℕ) (bytes : List ℕ) → Judge (IsRead m g level locals end bytes) (FailsBlock g level Inside locals end bytes) (block_at locals end bytes)
     unfolding block_at
     block_judged locals end bytes =
-        package_judged fault_of (Filled locals) (IsRead m args level locals end bytes) end bytes _ (λ p w.
-        turn_judged (IsTermAt (g locals) level Value) (FailsTerm (g locals) level Value) (λ v. Inside locals) (value locals Value) (IsRead m args level locals end bytes) p.end p.content _ (value_read locals) (λ v t.
-        judge_bind (λ ts. AreStatementsIn args m level locals (terms_of ts) v.1) (IsRead m args level locals end bytes) (Inside locals p.end v.1) (inner locals p.end v.1) _ (r.judged locals p.end v.1) (λ ts u.
+        package_judged fault_of (Filled locals) (IsRead m g level locals end bytes) end bytes _ (λ p w.
+        turn_judged (IsTermAt (g locals) level Value) (FailsTerm (g locals) level Value) (λ v. Inside locals) (value locals Value) (IsRead m g level locals end bytes) p.end p.content _ (value_read locals) (λ v t.
+        judge_bind (λ ts. AreStatementsIn g m level locals (terms_of ts) v.1) (IsRead m g level locals end bytes) (Inside locals p.end v.1) (inner locals p.end v.1) _ (r.judged locals p.end v.1) (λ ts u.
         record { packs = w; a = t.front; b = v.1; term = t.spells; are = u; whole = t.whole })))
 
-    block_stops : (locals : Locals) (end : ℕ) (bytes : List ℕ) (f : BodyFault) → FailsBlock args level Inside locals end bytes f → block_at locals end bytes ≡ Err f
+    block_stops : (locals : Locals) (end : ℕ) (bytes : List ℕ) (f : BodyFault) → FailsBlock g level Inside locals end bytes f → block_at locals end bytes ≡ Err f
     unfolding block_at
     block_stops locals end bytes f h =
         package_stops fault_of (Filled locals) end bytes _ f (λ p k.
         turn_stops (IsTermAt (g locals) level Value) (FailsTerm (g locals) level Value) (λ v. Inside locals) (value locals Value) p.end p.content _ f (value_read locals)
         (λ v b j. fails_on f (inner locals p.end b) _ (r.stops locals p.end b f j)) k) h
 
-    block_found : (locals : Locals) (end : ℕ) (ts : TermTrees) (front back : List ℕ) → IsBlock args m level locals ts front
+    block_found : (locals : Locals) (end : ℕ) (ts : TermTrees) (front back : List ℕ) → IsBlock g m level locals ts front
         → (p : Package) × (v : TermTree) × (p.rest ≡ back) × (block_at locals end (front ++ back) ≡ Ok (p, v, listed ts))
     unfolding block_at
     block_found locals end ts front back (v, a, b, t, are, packs) =
         let is : front ++ back ≡ packs.len ++ ((a ++ b) ++ back) = ap (λ (l : List ℕ). l ++ back) packs.whole ∙ append_assoc packs.len (a ++ b) back in
         let here = end - length back in
         let term : value locals Value here (a ++ b) ≡ Ok (v, b) = term_complete (g locals) v level Value here a b t.0 t.1 t.2 in
-        let all : inner locals here b ≡ Ok (listed ts) = statements_complete args m ts level locals here b are.0 are.1 (length b) (omega arith) in
+        let all : inner locals here b ≡ Ok (listed ts) = statements_complete g m ts level locals here b are.0 are.1 (length b) (omega arith) in
         (package_of end (a ++ b) back, v, refl, rw (is, package_complete end packs.len (a ++ b) back packs.spells_len, term, all) refl)
 
     -- ---- Else and If
 
     abbrev IsElseIn : Locals → ElseTree → List ℕ → Type 0
-    IsElseIn locals e bytes = IsElse args m locals e bytes × (else_height e ≤ level)
+    IsElseIn locals e bytes = IsElse g m locals e bytes × (else_height e ≤ level)
 
     abbrev Elsed : Locals → List ℕ → ElseTree × List ℕ → Type 0
     Elsed locals bytes x = Front (IsElseIn locals) bytes x × Closes x.0 x.1
@@ -308,7 +305,7 @@ module _ (m : List Segment) (args : Arguments) where
         let is : b ∷ rest ≡ 0xA1 ∷ rest = ap (λ k. k ∷ rest) (eqb-true b 0xA1 yes) in
         judged_behind (0xA1 ∷ []) (FailsPackage fault_of (Inside locals)) Good end (b ∷ rest) rest _ is
         (package_judged fault_of (Inside locals) Good end rest _ (λ p w.
-        judge_bind (λ ts. AreStatementsIn args m level locals (terms_of ts) p.content) Good (Inside locals p.end p.content) (inner locals p.end p.content) _ (r.judged locals p.end p.content) (λ ts t. (
+        judge_bind (λ ts. AreStatementsIn g m level locals (terms_of ts) p.content) Good (Inside locals p.end p.content) (inner locals p.end p.content) _ (r.judged locals p.end p.content) (λ ts t. (
           record {
             front = 0xA1 ∷ (w.len ++ p.content);
             spells = ((p.content, t.0, record { len = w.len; spells_len = w.spells_len; whole = refl }), t.1);
@@ -369,11 +366,11 @@ module _ (m : List Segment) (args : Arguments) where
     Good locals bytes = Stated (suc level) locals bytes
 
     while_judged : (locals : Locals) (end : ℕ) (bytes rest : List ℕ) → bytes ≡ 0xA2 ∷ rest
-        → Judge (Good locals bytes) (FailsWhile args level Inside locals end bytes) (while_form (value locals) inner locals end rest)
+        → Judge (Good locals bytes) (FailsWhile g level Inside locals end bytes) (while_form (value locals) inner locals end rest)
     while_judged locals end bytes rest is =
-        judged_behind (0xA2 ∷ []) (FailsBlock args level Inside locals) (Good locals bytes) end bytes rest _ is
-        (subst (Judge (Good locals bytes) (FailsBlock args level Inside locals end rest)) (sym (while_by locals end rest))
-        (judge_bind (IsRead m args level locals end rest) (Good locals bytes) (FailsBlock args level Inside locals end rest) (block_at locals end rest) while_behind (block_judged locals end rest) (λ x h. (
+        judged_behind (0xA2 ∷ []) (FailsBlock g level Inside locals) (Good locals bytes) end bytes rest _ is
+        (subst (Judge (Good locals bytes) (FailsBlock g level Inside locals end rest)) (sym (while_by locals end rest))
+        (judge_bind (IsRead m g level locals end rest) (Good locals bytes) (FailsBlock g level Inside locals end rest) (block_at locals end rest) while_behind (block_judged locals end rest) (λ x h. (
           record {
             front = 0xA2 ∷ (h.packs.len ++ x.0.content);
             spells = (
@@ -385,19 +382,19 @@ module _ (m : List Segment) (args : Arguments) where
           tt,
         ))))
 
-    while_stops : (locals : Locals) (end : ℕ) (rest : List ℕ) (f : BodyFault) → FailsBlock args level Inside locals end rest f → while_form (value locals) inner locals end rest ≡ Err f
+    while_stops : (locals : Locals) (end : ℕ) (rest : List ℕ) (f : BodyFault) → FailsBlock g level Inside locals end rest f → while_form (value locals) inner locals end rest ≡ Err f
     while_stops locals end rest f h = while_by locals end rest ∙ fails_on f (block_at locals end rest) while_behind (block_stops locals end rest f h)
 
     abbrev Branch : Locals → Failure BodyFault
-    Branch locals = FailsInTurn (FailsBlock args level Inside locals) (IsBlock args m level locals) (λ ts. FailsElse (Inside (locals_after_all m locals ts)))
+    Branch locals = FailsInTurn (FailsBlock g level Inside locals) (IsBlock g m level locals) (λ ts. FailsElse (Inside (locals_after_all m locals ts)))
 
     if_judged : (locals : Locals) (end : ℕ) (bytes rest : List ℕ) → bytes ≡ 0xA0 ∷ rest
-        → Judge (Good locals bytes) (FailsIf args m level Inside locals end bytes) (if_form (value locals) inner m locals end rest)
+        → Judge (Good locals bytes) (FailsIf g m level Inside locals end bytes) (if_form (value locals) inner m locals end rest)
     if_judged locals end bytes rest is =
         judged_behind (0xA0 ∷ []) (Branch locals) (Good locals bytes) end bytes rest _ is
         (subst (Judge (Good locals bytes) (Branch locals end rest)) (sym (if_by locals end rest))
-        (judge_bind (IsRead m args level locals end rest) (Good locals bytes) (Branch locals end rest) (block_at locals end rest) (if_behind locals end)
-        (judge_into (IsRead m args level locals end rest) (IsRead m args level locals end rest) (FailsBlock args level Inside locals end rest) (Branch locals end rest) (block_at locals end rest) (λ x h. h) (λ f h. inl h) (block_judged locals end rest))
+        (judge_bind (IsRead m g level locals end rest) (Good locals bytes) (Branch locals end rest) (block_at locals end rest) (if_behind locals end)
+        (judge_into (IsRead m g level locals end rest) (IsRead m g level locals end rest) (FailsBlock g level Inside locals end rest) (Branch locals end rest) (block_at locals end rest) (λ x h. h) (λ f h. inl h) (block_judged locals end rest))
         (λ x h.
         let next = locals_after_all m locals (terms_of x.2) in
         let front = h.packs.len ++ x.0.content in
@@ -536,12 +533,12 @@ module _ (m : List Segment) (args : Arguments) where
     as_statement locals _ a rest h = (((h.0, h.1), h.2), tt)
 
     abbrev Fails : Locals → Opcode → Failure BodyFault
-    Fails locals x = FailsUnless body_fault (refusal_at false Statement x) (FailsStatementForm args m level Inside locals x)
+    Fails locals x = FailsUnless body_fault (refusal_at (g locals).loads Statement x) (FailsStatementForm g m level Inside locals x)
 
     abbrev Plain : Locals → Opcode → Failure BodyFault
-    Plain locals x = FailsUnless body_fault (refusal_at false Statement x) (FailsForm (g locals) level (FailsTerm (g locals) level) Statement x)
+    Plain locals x = FailsUnless body_fault (refusal_at (g locals).loads Statement x) (FailsForm (g locals) level (FailsTerm (g locals) level) Statement x)
 
-    plain_judged : (locals : Locals) (end : ℕ) (bytes rest : List ℕ) (x : Opcode) → (is_block x && is_none (refusal_at false Statement x)) ≡ false → Opened bytes (x, rest)
+    plain_judged : (locals : Locals) (end : ℕ) (bytes rest : List ℕ) (x : Opcode) → (is_block x && is_none (refusal_at (g locals).loads Statement x)) ≡ false → Opened bytes (x, rest)
         → Judge (Good locals bytes) (Plain locals x end bytes) (placed_by (g locals) (value locals) Statement end bytes x rest)
     plain_judged locals end bytes rest x clear o =
         judge_into (Front (IsTermAt (g locals) (suc level) Statement) bytes) (Good locals bytes) (Plain locals x end bytes) (Plain locals x end bytes) (placed_by (g locals) (value locals) Statement end bytes x rest)
@@ -568,7 +565,7 @@ module _ (m : List Segment) (args : Arguments) where
         → statement_by (g locals) (value locals) inner m locals end bytes x rest ≡ Err f
     unfolding statement_by
     by_stops locals end bytes rest f opcodes.If read h = if_stops locals end rest f (fails_behind (Branch locals) opcodes.If end bytes rest f refl read h)
-    by_stops locals end bytes rest f opcodes.While read h = while_stops locals end rest f (fails_behind (FailsBlock args level Inside locals) opcodes.While end bytes rest f refl read h)
+    by_stops locals end bytes rest f opcodes.While read h = while_stops locals end rest f (fails_behind (FailsBlock g level Inside locals) opcodes.While end bytes rest f refl read h)
     by_stops locals end bytes rest f opcodes.DeclareName read h = named_stops locals named.Name end bytes rest f read refl h
     by_stops locals end bytes rest f (opcodes.Create w) read h = named_stops locals (named.Create w) end bytes rest f read refl h
     by_stops locals end bytes rest f opcodes.CreateField read h = named_stops locals named.CreateField end bytes rest f read refl h
@@ -582,35 +579,35 @@ module _ (m : List Segment) (args : Arguments) where
 
   -- ---- a statement
 
-  statement_judged : (level : ℕ) → ReadsAll m args level → (locals : Locals) (end : ℕ) (bytes : List ℕ)
-      → Judge (Stated (suc level) locals bytes) (FailsStatement args m (suc level) locals end bytes) (statement_at args m (suc level) locals end bytes)
+  statement_judged : (level : ℕ) → ReadsAll m g level → (locals : Locals) (end : ℕ) (bytes : List ℕ)
+      → Judge (Stated (suc level) locals bytes) (FailsStatement g m (suc level) locals end bytes) (statement_at g m (suc level) locals end bytes)
   unfolding statement_at
   statement_judged level r locals end bytes =
       by_opcode_judged fault_of (Fails level r locals) (Stated (suc level) locals bytes) end bytes _ (λ x o. by_judged level r locals end bytes x.1 x.0 o)
 
-  statement_stops : (level : ℕ) → ReadsAll m args level → (locals : Locals) (end : ℕ) (bytes : List ℕ) (f : BodyFault) → FailsStatement args m (suc level) locals end bytes f
-      → statement_at args m (suc level) locals end bytes ≡ Err f
+  statement_stops : (level : ℕ) → ReadsAll m g level → (locals : Locals) (end : ℕ) (bytes : List ℕ) (f : BodyFault) → FailsStatement g m (suc level) locals end bytes f
+      → statement_at g m (suc level) locals end bytes ≡ Err f
   unfolding statement_at
   statement_stops level r locals end bytes f h = by_opcode_stops fault_of (Fails level r locals) end bytes _ f (λ o rest read k. by_stops level r locals end bytes rest f o read k) h
 
-  none_judged : (locals : Locals) (end : ℕ) (bytes : List ℕ) → Judge (Stated 0 locals bytes) (FailsStatement args m 0 locals end bytes) (statement_at args m 0 locals end bytes)
+  none_judged : (locals : Locals) (end : ℕ) (bytes : List ℕ) → Judge (Stated 0 locals bytes) (FailsStatement g m 0 locals end bytes) (statement_at g m 0 locals end bytes)
   unfolding statement_at
   none_judged locals end bytes = refl
 
-  none_stops : (locals : Locals) (end : ℕ) (bytes : List ℕ) (f : BodyFault) → FailsStatement args m 0 locals end bytes f → statement_at args m 0 locals end bytes ≡ Err f
+  none_stops : (locals : Locals) (end : ℕ) (bytes : List ℕ) (f : BodyFault) → FailsStatement g m 0 locals end bytes f → statement_at g m 0 locals end bytes ≡ Err f
   unfolding statement_at
   none_stops locals end bytes f h = ap Err (sym h)
 
   -- all statements, if one is read so
-  reads_all : (level : ℕ) → ((locals : Locals) (end : ℕ) (bytes : List ℕ) → Judge (Stated level locals bytes) (FailsStatement args m level locals end bytes) (statement_at args m level locals end bytes))
-      → ((locals : Locals) (end : ℕ) (bytes : List ℕ) (f : BodyFault) → FailsStatement args m level locals end bytes f → statement_at args m level locals end bytes ≡ Err f) → ReadsAll m args level
+  reads_all : (level : ℕ) → ((locals : Locals) (end : ℕ) (bytes : List ℕ) → Judge (Stated level locals bytes) (FailsStatement g m level locals end bytes) (statement_at g m level locals end bytes))
+      → ((locals : Locals) (end : ℕ) (bytes : List ℕ) (f : BodyFault) → FailsStatement g m level locals end bytes f → statement_at g m level locals end bytes ≡ Err f) → ReadsAll m g level
   reads_all level judged stops = record {
-    judged = λ locals end bytes. among_judged level end (FailsStatement args m level) (λ locals. statement_at args m level locals end) (λ locals bytes. judged locals end bytes) (length bytes) locals bytes (omega arith);
+    judged = λ locals end bytes. among_judged level end (FailsStatement g m level) (λ locals. statement_at g m level locals end) (λ locals bytes. judged locals end bytes) (length bytes) locals bytes (omega arith);
     stops = λ locals end bytes f h.
-        ap (λ (l : List ℕ). statements_at args m level locals end l) h.4
-        ∙ among_stops level end (FailsStatement args m level) (λ locals bytes f k. stops locals end bytes f k) h.0 locals h.1 h.2 f h.3 h.5 h.6 h.7 (length (h.1 ++ h.2)) (omega arith);
+        ap (λ (l : List ℕ). statements_at g m level locals end l) h.4
+        ∙ among_stops level end (FailsStatement g m level) (λ locals bytes f k. stops locals end bytes f k) h.0 locals h.1 h.2 f h.3 h.5 h.6 h.7 (length (h.1 ++ h.2)) (omega arith);
   }
 
-  pub exact_statements : (level : ℕ) → ReadsAll m args level
+  pub exact_statements : (level : ℕ) → ReadsAll m g level
   exact_statements zero = reads_all 0 none_judged none_stops
   exact_statements (suc level) = reads_all (suc level) (statement_judged level (exact_statements level)) (statement_stops level (exact_statements level))

@@ -14,8 +14,8 @@ use Rattle.acpi_code.specs.declared.opcode.Opcode.TheVariants as opcodes
 use Rattle.acpi_code.specs.Faults.{Failure, no_level, FailsAs, FailsInTurn, FailsName, FailsUnless, FailsFields}
 use Rattle.acpi_values.specs.declared.fault.BodyFault.{BodyFault}
 use Rattle.acpi_values.specs.declared.fault.BodyReason.TheVariants.{BadPlace, Unsure}
-use Rattle.acpi_values.specs.Arguments.{Locals, Arguments}
-use Rattle.acpi_values.specs.Grammars.{Grammar, body_grammar}
+use Rattle.acpi_values.specs.Arguments.{Locals, BodyGrammar}
+use Rattle.acpi_values.specs.Grammars.{Grammar}
 use Rattle.acpi_values.specs.Refusals.{refusal_at}
 use Rattle.acpi_values.specs.Faults.{fault_of, constant_fault_of, body_fault, IsTermAt, AreOperandsIn, FailsTerm, FailsOperands}
 use Rattle.acpi_values.proofs.Sure.{IsSure, sure_part, sure_as, sure_constant, sure_turn, sure_package, sure_by_opcode, sure_unless, sure_form, sure_term, sure_operands}
@@ -30,10 +30,7 @@ sure_names : (count : ℕ) → IsSure (FailsNames count)
 sure_names zero end bytes f h = absurd h
 sure_names (suc count) end bytes f h = sure_turn (FailsAs fault_of FailsName) SpellsName (λ n. FailsNames count) (sure_as FailsName) (λ n. sure_names count) end bytes f h
 
-module _ (args : Arguments) (s : List Segment) (sure : (locals : Locals) (n : NameParts) → args locals n ≢ None) where
-  abbrev g : Locals → Grammar
-  g locals = body_grammar (args locals)
-
+module _ (g : BodyGrammar) (s : List Segment) (sure : (locals : Locals) (n : NameParts) → (g locals).args n ≢ None) where
   sure_named : (level : ℕ) (locals : Locals) (form : NamedForm) → IsSure (FailsNamed (g locals) level s form)
   sure_named level locals form end bytes f h =
       let Behind : NameParts → Failure BodyFault = λ n. FailsOperands (g locals) level (operands_behind form) in
@@ -51,7 +48,7 @@ module _ (args : Arguments) (s : List Segment) (sure : (locals : Locals) (n : Na
       (sure_operands (g locals) (sure locals) level (operands_of_units form)) (λ vs. sure_constant FailsFields))) end h.0 f h.2
 
   module _ (level : ℕ) (Inside : Locals → Failure BodyFault) (inside : (locals : Locals) → IsSure (Inside locals)) where
-    sure_block : (locals : Locals) → IsSure (FailsBlock args level Inside locals)
+    sure_block : (locals : Locals) → IsSure (FailsBlock g level Inside locals)
     sure_block locals end bytes f h =
         sure_package (FailsInTurn (FailsTerm (g locals) level Value) (IsTermAt (g locals) level Value) (λ v. Inside locals))
         (sure_turn (FailsTerm (g locals) level Value) (IsTermAt (g locals) level Value) (λ v. Inside locals) (sure_term (g locals) (sure locals) level Value) (λ v. inside locals)) end bytes f h
@@ -59,12 +56,12 @@ module _ (args : Arguments) (s : List Segment) (sure : (locals : Locals) (n : Na
     sure_else : (locals : Locals) → IsSure (FailsElse (Inside locals))
     sure_else locals end bytes f h = sure_package (Inside locals) (inside locals) end h.0 f h.2
 
-    sure_if : (locals : Locals) → IsSure (FailsIf args s level Inside locals)
+    sure_if : (locals : Locals) → IsSure (FailsIf g s level Inside locals)
     sure_if locals end bytes f h =
-        sure_turn (FailsBlock args level Inside locals) (IsBlock args s level locals) (λ ts. FailsElse (Inside (locals_after_all s locals ts)))
+        sure_turn (FailsBlock g level Inside locals) (IsBlock g s level locals) (λ ts. FailsElse (Inside (locals_after_all s locals ts)))
         (sure_block locals) (λ ts. sure_else (locals_after_all s locals ts)) end h.0 f h.2
 
-    sure_statement_form : (locals : Locals) (o : Opcode) → IsSure (FailsStatementForm args s level Inside locals o)
+    sure_statement_form : (locals : Locals) (o : Opcode) → IsSure (FailsStatementForm g s level Inside locals o)
     sure_statement_form locals opcodes.If end bytes f h = sure_if locals end bytes f h
     sure_statement_form locals opcodes.While end bytes f h = sure_block locals end h.0 f h.2
     sure_statement_form locals opcodes.DeclareName end bytes f h = sure_named level locals named.Name end bytes f h
@@ -78,16 +75,16 @@ module _ (args : Arguments) (s : List Segment) (sure : (locals : Locals) (n : Na
     sure_statement_form locals opcodes.BankField end bytes f h = sure_units level locals units.BankField end bytes f h
     sure_statement_form locals o end bytes f h = sure_form (g locals) (sure locals) level (FailsTerm (g locals) level) (sure_term (g locals) (sure locals) level) Statement o end bytes f h
 
-  sure_among : (level : ℕ) (One : Locals → Failure BodyFault) → ((locals : Locals) → IsSure (One locals)) → (locals : Locals) → IsSure (FailsAmong args s level One locals)
+  sure_among : (level : ℕ) (One : Locals → Failure BodyFault) → ((locals : Locals) → IsSure (One locals)) → (locals : Locals) → IsSure (FailsAmong g s level One locals)
   sure_among level One one locals end bytes f h = one (locals_after_all s locals h.0) end h.2 f h.7
 
-  sure_statement : (level : ℕ) (locals : Locals) → IsSure (FailsStatement args s level locals)
+  sure_statement : (level : ℕ) (locals : Locals) → IsSure (FailsStatement g s level locals)
   sure_statement zero locals end bytes f h = sure_part f (no_level end bytes) h
   sure_statement (suc level) locals end bytes f h =
-      let Inside = FailsAmong args s level (FailsStatement args s level) in
-      sure_by_opcode (λ o. FailsUnless body_fault (refusal_at false Statement o) (FailsStatementForm args s level Inside locals o))
-      (λ o. sure_unless false Statement o (FailsStatementForm args s level Inside locals o)
-      (sure_statement_form level Inside (sure_among level (FailsStatement args s level) (sure_statement level)) locals o)) end bytes f h
+      let Inside = FailsAmong g s level (FailsStatement g s level) in
+      sure_by_opcode (λ o. FailsUnless body_fault (refusal_at (g locals).loads Statement o) (FailsStatementForm g s level Inside locals o))
+      (λ o. sure_unless (g locals).loads Statement o (FailsStatementForm g s level Inside locals o)
+      (sure_statement_form level Inside (sure_among level (FailsStatement g s level) (sure_statement level)) locals o)) end bytes f h
 
-  pub sure_statements : (level : ℕ) (locals : Locals) → IsSure (FailsStatements args s level locals)
-  sure_statements level = sure_among level (FailsStatement args s level) (sure_statement level)
+  pub sure_statements : (level : ℕ) (locals : Locals) → IsSure (FailsStatements g s level locals)
+  sure_statements level = sure_among level (FailsStatement g s level) (sure_statement level)

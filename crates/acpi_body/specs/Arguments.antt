@@ -1,4 +1,4 @@
--- How many values follow a name in a method body (ACPI 6.5, 5.3 and 20.2.5).
+-- How many values follow a name in a method body, and what its grammar is (ACPI 6.5, 5.3 and 20.2.5).
 use Rattle.std.specs.Prelude.{ℕ, Bool, ◌||◌, cond, List, Option, Some, None}
 use Rattle.std.specs.Option.{option_map, unwrap_or}
 use Rattle.std.specs.FinMap.{get, insert}
@@ -8,7 +8,8 @@ use Rattle.acpi_space.specs.Lookups.{Lookup, is_defined_in}
 use Rattle.acpi_space.specs.Search.{answer}
 use Rattle.acpi_tree.specs.declared.object.Object.{Object}
 use Rattle.acpi_tree.specs.Objects.{ObjectTree, object_view, args_of}
-pub use Rattle.acpi_values.specs.Arguments.{Locals, Arguments}
+use Rattle.acpi_values.specs.Grammars.{without_loads}
+pub use Rattle.acpi_values.specs.Arguments.{Locals, BodyGrammar}
 
 -- the object at each path, and the namespace that a map of objects holds
 abbrev pub Namespace : Type 0
@@ -51,6 +52,8 @@ count_behind objects externals s locals n = args_at objects locals
     (expected_at externals (expected_place externals s n))
     (answer (defined_with objects locals) s n)
 
--- so for the strict loader, which is always sure
-abbrev pub arguments : Namespace → Lookup ℕ → List Segment → Arguments
-arguments objects externals s locals n = Some (count_behind objects externals s locals n)
+-- the grammar of a method body for the strict loader, which is always sure how many values follow a name; it has no
+-- LoadTable, Load or Unload
+abbrev pub body_grammar : Namespace → Lookup ℕ → List Segment → BodyGrammar
+body_grammar objects externals s locals =
+    without_loads (λ n. Some (count_behind objects externals s locals n))

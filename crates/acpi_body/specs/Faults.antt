@@ -20,8 +20,8 @@ use Rattle.acpi_code.specs.Faults.{Failure, no_level, FailsAs, FailsBehind, Fail
 use Rattle.acpi_values.specs.declared.fault.BodyReason.{BodyReason}
 use Rattle.acpi_values.specs.declared.fault.BodyReason.TheVariants.{BadPlace}
 use Rattle.acpi_values.specs.declared.fault.BodyFault.{BodyFault}
-use Rattle.acpi_values.specs.Arguments.{Locals, Arguments}
-use Rattle.acpi_values.specs.Grammars.{Grammar, body_grammar}
+use Rattle.acpi_values.specs.Arguments.{Locals, BodyGrammar}
+use Rattle.acpi_values.specs.Grammars.{Grammar}
 use Rattle.acpi_values.specs.Refusals.{refusal_at, never_begins}
 use Rattle.acpi_values.specs.Spelling.{heights}
 use Rattle.acpi_values.specs.Faults.{fault_of, constant_fault_of, body_fault, IsTermAt, AreOperandsIn, FailsTerm, FailsOperands, FailsForm}
@@ -65,61 +65,61 @@ FailsUnits g level form = FailsBehind (opcode_bytes (units_opcode form)) (FailsP
 -- ---- blocks (20.2.5.3), by how the statements inside fail behind some locals
 
 -- statements of at most so many levels
-abbrev pub AreStatementsIn : Arguments → List Segment → ℕ → Locals → TermTrees → List ℕ → Type 0
-AreStatementsIn args s level locals ts bytes =
-    AreStatements args s locals ts bytes × (heights ts ≤ level)
+abbrev pub AreStatementsIn : BodyGrammar → List Segment → ℕ → Locals → TermTrees → List ℕ → Type 0
+AreStatementsIn g s level locals ts bytes =
+    AreStatements g s locals ts bytes × (heights ts ≤ level)
 
 -- a package of a predicate and statements
-abbrev pub FailsBlock : Arguments → ℕ → (Locals → Failure BodyFault) → Locals → Failure BodyFault
-FailsBlock args level Inside locals = FailsPackage fault_of
-    (FailsInTurn (FailsTerm (body_grammar (args locals)) level Value)
-    (IsTermAt (body_grammar (args locals)) level Value) (λ v. Inside locals))
+abbrev pub FailsBlock : BodyGrammar → ℕ → (Locals → Failure BodyFault) → Locals → Failure BodyFault
+FailsBlock g level Inside locals = FailsPackage fault_of
+    (FailsInTurn (FailsTerm (g locals) level Value)
+    (IsTermAt (g locals) level Value) (λ v. Inside locals))
 
-abbrev pub IsBlock : Arguments → List Segment → ℕ → Locals → TermTrees → List ℕ → Type 0
-IsBlock args s level locals ts bytes = (v : TermTree) × (a : List ℕ) × (b : List ℕ)
-    × IsTermAt (body_grammar (args locals)) level Value v a
-    × AreStatementsIn args s level locals ts b × Packs [] (a ++ b) bytes
+abbrev pub IsBlock : BodyGrammar → List Segment → ℕ → Locals → TermTrees → List ℕ → Type 0
+IsBlock g s level locals ts bytes = (v : TermTree) × (a : List ℕ) × (b : List ℕ)
+    × IsTermAt (g locals) level Value v a
+    × AreStatementsIn g s level locals ts b × Packs [] (a ++ b) bytes
 
 abbrev pub FailsElse : Failure BodyFault → Failure BodyFault
 FailsElse Inside = FailsBehind (0xA1 ∷ []) (FailsPackage fault_of Inside)
 
 -- the Else behind the block belongs to the If
-abbrev pub FailsIf : Arguments → List Segment → ℕ → (Locals → Failure BodyFault) → Locals
+abbrev pub FailsIf : BodyGrammar → List Segment → ℕ → (Locals → Failure BodyFault) → Locals
     → Failure BodyFault
-FailsIf args s level Inside locals = FailsBehind (0xA0 ∷ [])
-    (FailsInTurn (FailsBlock args level Inside locals) (IsBlock args s level locals)
+FailsIf g s level Inside locals = FailsBehind (0xA0 ∷ [])
+    (FailsInTurn (FailsBlock g level Inside locals) (IsBlock g s level locals)
     (λ ts. FailsElse (Inside (locals_after_all s locals ts))))
 
-abbrev pub FailsWhile : Arguments → ℕ → (Locals → Failure BodyFault) → Locals → Failure BodyFault
-FailsWhile args level Inside locals = FailsBehind (0xA2 ∷ []) (FailsBlock args level Inside locals)
+abbrev pub FailsWhile : BodyGrammar → ℕ → (Locals → Failure BodyFault) → Locals → Failure BodyFault
+FailsWhile g level Inside locals = FailsBehind (0xA2 ∷ []) (FailsBlock g level Inside locals)
 
 -- ---- statements
 
 -- a statement that begins with the opcode: a block, a declaration or another term
-abbrev pub FailsStatementForm : Arguments → List Segment → ℕ → (Locals → Failure BodyFault)
+abbrev pub FailsStatementForm : BodyGrammar → List Segment → ℕ → (Locals → Failure BodyFault)
     → Locals → Opcode → Failure BodyFault
-FailsStatementForm args s level Inside locals opcodes.If = FailsIf args s level Inside locals
-FailsStatementForm args s level Inside locals opcodes.While = FailsWhile args level Inside locals
-FailsStatementForm args s level Inside locals opcodes.DeclareName =
-    FailsNamed (body_grammar (args locals)) level s named.Name
-FailsStatementForm args s level Inside locals (opcodes.Create w) =
-    FailsNamed (body_grammar (args locals)) level s (named.Create w)
-FailsStatementForm args s level Inside locals opcodes.CreateField =
-    FailsNamed (body_grammar (args locals)) level s named.CreateField
-FailsStatementForm args s level Inside locals opcodes.Region =
-    FailsNamed (body_grammar (args locals)) level s named.Region
-FailsStatementForm args s level Inside locals opcodes.Mutex =
-    FailsNamed (body_grammar (args locals)) level s named.Mutex
-FailsStatementForm args s level Inside locals opcodes.Event =
-    FailsNamed (body_grammar (args locals)) level s named.Event
-FailsStatementForm args s level Inside locals opcodes.Field =
-    FailsUnits (body_grammar (args locals)) level units.Field
-FailsStatementForm args s level Inside locals opcodes.IndexField =
-    FailsUnits (body_grammar (args locals)) level units.IndexField
-FailsStatementForm args s level Inside locals opcodes.BankField =
-    FailsUnits (body_grammar (args locals)) level units.BankField
-FailsStatementForm args s level Inside locals o = FailsForm (body_grammar (args locals)) level
-    (FailsTerm (body_grammar (args locals)) level) Statement o
+FailsStatementForm g s level Inside locals opcodes.If = FailsIf g s level Inside locals
+FailsStatementForm g s level Inside locals opcodes.While = FailsWhile g level Inside locals
+FailsStatementForm g s level Inside locals opcodes.DeclareName =
+    FailsNamed (g locals) level s named.Name
+FailsStatementForm g s level Inside locals (opcodes.Create w) =
+    FailsNamed (g locals) level s (named.Create w)
+FailsStatementForm g s level Inside locals opcodes.CreateField =
+    FailsNamed (g locals) level s named.CreateField
+FailsStatementForm g s level Inside locals opcodes.Region =
+    FailsNamed (g locals) level s named.Region
+FailsStatementForm g s level Inside locals opcodes.Mutex =
+    FailsNamed (g locals) level s named.Mutex
+FailsStatementForm g s level Inside locals opcodes.Event =
+    FailsNamed (g locals) level s named.Event
+FailsStatementForm g s level Inside locals opcodes.Field =
+    FailsUnits (g locals) level units.Field
+FailsStatementForm g s level Inside locals opcodes.IndexField =
+    FailsUnits (g locals) level units.IndexField
+FailsStatementForm g s level Inside locals opcodes.BankField =
+    FailsUnits (g locals) level units.BankField
+FailsStatementForm g s level Inside locals o = FailsForm (g locals) level
+    (FailsTerm (g locals) level) Statement o
 
 -- an If without an Else, and whether the last statement is one
 abbrev pub is_open_if : TermTree → Bool
@@ -132,32 +132,33 @@ ends_in_if (more t no_terms) = is_open_if t
 ends_in_if (more t (more u us)) = ends_in_if (more u us)
 
 -- Some statements are spelled, bytes are left, and there one fails. An Else behind an If belongs to it.
-abbrev pub FailsAmong : Arguments → List Segment → ℕ → (Locals → Failure BodyFault) → Locals
+abbrev pub FailsAmong : BodyGrammar → List Segment → ℕ → (Locals → Failure BodyFault) → Locals
     → Failure BodyFault
-FailsAmong args s level One locals end bytes f = (ts : TermTrees) × (a : List ℕ) × (b : List ℕ)
-    × AreStatementsIn args s level locals ts a × (bytes ≡ a ++ b) × (b ≢ [])
+FailsAmong g s level One locals end bytes f = (ts : TermTrees) × (a : List ℕ) × (b : List ℕ)
+    × AreStatementsIn g s level locals ts a × (bytes ≡ a ++ b) × (b ≢ [])
     × (ends_in_if ts ≡ true → (rest : List ℕ) → b ≢ 0xA1 ∷ rest)
     × One (locals_after_all s locals ts) end b f
 
 -- A statement, where so many levels are left: none is; or what begins there may not stand there; or it fails.
-abbrev pub FailsStatement : Arguments → List Segment → ℕ → Locals → Failure BodyFault
-FailsStatement args s zero locals = λ end bytes f. f ≡ fault_of (no_level end bytes)
-FailsStatement args s (suc level) locals = FailsByOpcode fault_of (λ o. FailsUnless body_fault
-    (refusal_at false Statement o) (FailsStatementForm args s level
-    (FailsAmong args s level (FailsStatement args s level)) locals o))
+abbrev pub FailsStatement : BodyGrammar → List Segment → ℕ → Locals → Failure BodyFault
+FailsStatement g s zero locals = λ end bytes f. f ≡ fault_of (no_level end bytes)
+FailsStatement g s (suc level) locals = FailsByOpcode fault_of (λ o. FailsUnless body_fault
+    (refusal_at (g locals).loads Statement o) (FailsStatementForm g s level
+    (FailsAmong g s level (FailsStatement g s level)) locals o))
 
 -- the statements of a list, where so many levels are left
-abbrev pub FailsStatements : Arguments → List Segment → ℕ → Locals → Failure BodyFault
-FailsStatements args s level = FailsAmong args s level (FailsStatement args s level)
+abbrev pub FailsStatements : BodyGrammar → List Segment → ℕ → Locals → Failure BodyFault
+FailsStatements g s level = FailsAmong g s level (FailsStatement g s level)
 
 -- ---- bodies
 
--- The first part of the body's bytes, from the left, that is not spelled: for this reason, at this place. `args` says
--- how many values follow its names, `s` is the method's path, and `depth` the number of levels that are allowed.
-abbrev pub ShowsBody : Arguments → List Segment → ℕ → List ℕ → BodyReason → ℕ → Type 0
-ShowsBody args s depth code why place =
-    FailsStatements args s depth finite.empty (length code) code (body_fault why place)
+-- The first part of the body's bytes, from the left, that is not spelled: for this reason, at this place. `g` is
+-- its grammar, `s` is the method's path, and `depth` the number of levels that are allowed.
+abbrev pub ShowsBody : BodyGrammar → List Segment → ℕ → List ℕ → BodyReason → ℕ → Type 0
+ShowsBody g s depth code why place =
+    FailsStatements g s depth finite.empty (length code) code (body_fault why place)
 
--- what begins there is refused as a statement, whatever stands before it
-abbrev pub IsNoStatement : BodyReason → List ℕ → Type 0
-IsNoStatement why bytes = (o : Opcode) × BeginsWith o bytes × (never_begins o ≡ Some why)
+-- what begins there is refused as a statement, whatever stands before it; `loads` says whether loads may stand
+abbrev pub IsNoStatement : Bool → BodyReason → List ℕ → Type 0
+IsNoStatement loads why bytes =
+    (o : Opcode) × BeginsWith o bytes × (never_begins loads o ≡ Some why)

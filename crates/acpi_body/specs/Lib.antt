@@ -7,6 +7,7 @@ pub mod Arguments
 pub mod Statements
 pub mod Reasons
 pub mod Bodies
+pub mod Loads
 pub mod Searches
 pub mod Misses
 pub mod Laws

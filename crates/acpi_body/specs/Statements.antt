@@ -10,9 +10,8 @@ use Rattle.acpi_tree.specs.Terms.{TermTree, TermTrees, ElseTree, if_do, no_else,
 use Rattle.acpi_tree.specs.Operators.{operands_before, operands_behind, names_of_units, operands_of_units}
 use Rattle.acpi_code.specs.Opcodes.{opcode_bytes}
 use Rattle.acpi_code.specs.Spelling.{SpellsEach, Packs}
-use Rattle.acpi_values.specs.Arguments.{Locals, Arguments}
+use Rattle.acpi_values.specs.Arguments.{Locals, BodyGrammar}
 use Rattle.acpi_body.specs.Arguments.{with_path}
-use Rattle.acpi_values.specs.Grammars.{body_grammar}
 use Rattle.acpi_values.specs.Spelling.{Stands, Spells, AreOperands, heights}
 use Rattle.acpi_code.specs.Fields.{SpellsFields}
 pub use Rattle.acpi_code.specs.Forms.{named_opcode, units_opcode}
@@ -59,53 +58,52 @@ abbrev mutual
 
 -- ---- statements
 
--- DefIfElse, DefWhile, the declarations, and the other terms where a statement stands. Each name is followed by as
--- many values as `args` says behind what was declared before it. No statement begins with ElseOp, so an Else belongs to
--- the If before it.
+-- DefIfElse, DefWhile, the declarations, and the other terms where a statement stands. Each term is spelled by the
+-- grammar behind what was declared before it. No statement begins with ElseOp, so an Else belongs to the If before it.
 abbrev mutual
-  pub IsStatement : Arguments → List Segment → Locals → TermTree → List ℕ → Type 0
+  pub IsStatement : BodyGrammar → List Segment → Locals → TermTree → List ℕ → Type 0
   -- DefIfElse := IfOp PkgLength Predicate TermList DefElse, where IfOp := 0xA0 (20.2.5.3)
-  IsStatement args s locals (if_do v ts e) bytes =
+  IsStatement g s locals (if_do v ts e) bytes =
       (a : List ℕ) × (b : List ℕ) × (x : List ℕ) × (y : List ℕ)
-      × Stands Value v × Spells (body_grammar (args locals)) v a × AreStatements args s locals ts b
+      × Stands Value v × Spells (g locals) v a × AreStatements g s locals ts b
       × Packs (0xA0 ∷ []) (a ++ b) x
-      × IsElse args s (locals_after_all s locals ts) e y × (bytes ≡ x ++ y)
+      × IsElse g s (locals_after_all s locals ts) e y × (bytes ≡ x ++ y)
   -- DefWhile := WhileOp PkgLength Predicate TermList, where WhileOp := 0xA2 (20.2.5.3)
-  IsStatement args s locals (while_do v ts) bytes = (a : List ℕ) × (b : List ℕ)
-      × Stands Value v × Spells (body_grammar (args locals)) v a × AreStatements args s locals ts b
+  IsStatement g s locals (while_do v ts) bytes = (a : List ℕ) × (b : List ℕ)
+      × Stands Value v × Spells (g locals) v a × AreStatements g s locals ts b
       × Packs (0xA2 ∷ []) (a ++ b) bytes
   -- the rules of declarations stand above `operands_before`, `operands_behind` and `names_of_units` (20.2.5.1,
   -- 20.2.5.2)
-  IsStatement args s locals (declare form before n behind) bytes =
+  IsStatement g s locals (declare form before n behind) bytes =
       (a : List ℕ) × (b : List ℕ) × (c : List ℕ)
-      × AreOperands (body_grammar (args locals)) (operands_before form) before a × MayDeclare s n
-      × SpellsName n b × AreOperands (body_grammar (args locals)) (operands_behind form) behind c
+      × AreOperands (g locals) (operands_before form) before a × MayDeclare s n
+      × SpellsName n b × AreOperands (g locals) (operands_behind form) behind c
       × (bytes ≡ opcode_bytes (named_opcode form) ++ (a ++ (b ++ c)))
-  IsStatement args s locals (declare_units form ns vs es) bytes =
+  IsStatement g s locals (declare_units form ns vs es) bytes =
       (a : List ℕ) × (b : List ℕ) × (c : List ℕ)
       × (length ns ≡ names_of_units form) × SpellsEach SpellsName ns a
-      × AreOperands (body_grammar (args locals)) (operands_of_units form) vs b × SpellsFields es c
+      × AreOperands (g locals) (operands_of_units form) vs b × SpellsFields es c
       × Packs (opcode_bytes (units_opcode form)) (a ++ (b ++ c)) bytes
-  IsStatement args s locals t bytes =
-      Stands Statement t × Spells (body_grammar (args locals)) t bytes
+  IsStatement g s locals t bytes =
+      Stands Statement t × Spells (g locals) t bytes
 
   -- DefElse := Nothing | <ElseOp PkgLength TermList>, where ElseOp := 0xA1 (20.2.5.3)
-  pub IsElse : Arguments → List Segment → Locals → ElseTree → List ℕ → Type 0
-  IsElse args s locals no_else bytes = bytes ≡ []
-  IsElse args s locals (else_do ts) bytes =
-      (b : List ℕ) × AreStatements args s locals ts b × Packs (0xA1 ∷ []) b bytes
+  pub IsElse : BodyGrammar → List Segment → Locals → ElseTree → List ℕ → Type 0
+  IsElse g s locals no_else bytes = bytes ≡ []
+  IsElse g s locals (else_do ts) bytes =
+      (b : List ℕ) × AreStatements g s locals ts b × Packs (0xA1 ∷ []) b bytes
 
   -- TermList := Nothing | <TermObj TermList> (20.2.5)
-  pub AreStatements : Arguments → List Segment → Locals → TermTrees → List ℕ → Type 0
-  AreStatements args s locals no_terms bytes = bytes ≡ []
-  AreStatements args s locals (more t ts) bytes = (a : List ℕ) × (b : List ℕ)
-      × IsStatement args s locals t a × AreStatements args s (locals_after s locals t) ts b
+  pub AreStatements : BodyGrammar → List Segment → Locals → TermTrees → List ℕ → Type 0
+  AreStatements g s locals no_terms bytes = bytes ≡ []
+  AreStatements g s locals (more t ts) bytes = (a : List ℕ) × (b : List ℕ)
+      × IsStatement g s locals t a × AreStatements g s (locals_after s locals t) ts b
       × (bytes ≡ a ++ b)
 
 -- ---- bodies
 
 -- the bytes of the body of a method at the path `s` are these statements, none of them deeper than `depth`
-pub record ReadsBody (args : Arguments) (s : List Segment) (depth : ℕ) (bytes : List ℕ)
+pub record ReadsBody (g : BodyGrammar) (s : List Segment) (depth : ℕ) (bytes : List ℕ)
     (ts : TermTrees) : Type 0 where
-  pub spelled : AreStatements args s finite.empty ts bytes
+  pub spelled : AreStatements g s finite.empty ts bytes
   pub within : heights ts ≤ depth

@@ -9,7 +9,7 @@ ghost use Rattle.acpi_space.specs.Search.{nearest_scope};
 ghost use Rattle.acpi_name.specs.Paths.{place_of};
 ghost use Rattle.acpi_body.specs.Arguments.{namespace_of, args_there, with_path, defined_with, expected_at, expected_place};
 ghost use Rattle.std.specs.FinMap.{get};
-ghost use Rattle.acpi_body.specs.steps.Setting.{args_of, count_in, deeper};
+ghost use Rattle.acpi_body.specs.steps.Setting.{grammar_of, count_in, deeper};
 
 use crate::counting::MethodCounting;
 use acpi_counts::Counts;
@@ -88,7 +88,7 @@ impl<'a, S: Space<Object>> Context<'a, S> {
 }
 
 impl<'a, S: Space<Object>> MethodCounting for Context<'a, S> {
-    ghost arguments = { args_of };
+    ghost grammar = { grammar_of };
 
     ghost method = { λ c. c.method };
 
@@ -102,6 +102,10 @@ impl<'a, S: Space<Object>> MethodCounting for Context<'a, S> {
 
     fn count(&self, locals: &TreeSpace<()>, name: NameRef<'_>) -> Result<Option<u8>, AllocError> {
         Ok(Some(count(self, locals, name)?))
+    }
+
+    fn loads(&self) -> bool {
+        false
     }
 }
 

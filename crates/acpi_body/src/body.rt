@@ -1,14 +1,15 @@
 //! Reading method bodies.
 
-ghost use Rattle.std.specs.Prelude.{◌≡◌, ◌≢◌, ◌++◌, ◌↔◌, ℕ, List, length, true, Some, None, IfOk, IfErr, IsErrAnd, IfSome};
+ghost use Rattle.std.specs.Prelude.{◌≡◌, ◌≢◌, ◌++◌, ◌↔◌, ℕ, List, length, true, false, Some, None, IfOk, IfErr, IsErrAnd, IfSome};
 ghost use Rattle.std.specs.FinMap as finite;
 ghost use Rattle.acpi_tree.specs.Terms.{TermTrees};
 ghost use Rattle.acpi_tree.specs.TermFits.{terms_fit};
 ghost use Rattle.acpi_tree.specs.TermView.{terms_tree};
 ghost use Rattle.acpi_values.specs.declared.fault.BodyReason.{BodyReason};
 ghost use Rattle.acpi_values.specs.declared.fault.BodyReason.TheVariants.{Unsure};
-ghost use Rattle.acpi_body.specs.Arguments.{namespace_of, arguments};
-ghost use Rattle.acpi_body.specs.Statements.{ReadsBody};
+ghost use Rattle.acpi_values.specs.Arguments.{Locals};
+ghost use Rattle.acpi_body.specs.Arguments.{namespace_of, body_grammar};
+ghost use Rattle.acpi_body.specs.Statements.{locals_after_all, ReadsBody};
 ghost use Rattle.acpi_body.specs.Faults.{ShowsBody, IsNoStatement};
 ghost use Rattle.acpi_body.specs.Reasons.{IfFault};
 ghost use Rattle.acpi_body.specs.Bodies.{read, body_view, body_fits, IsBodyOf};
@@ -44,26 +45,27 @@ pub fn read_terms<M: MethodCounting>(
 ) -> Result<Vec<Term>, BodyError>
     // Terms are the reading of the bytes.
     ensures read { IfOk result (λ v. (ts : TermTrees) → (terms_tree v.items ≡ ts)
-        ↔ ReadsBody (M.arguments counting.now) (M.method counting.now) depth bytes.now ts) }
-    // What is read fits.
-    ensures fits { IfOk result (λ v. terms_fit (terms_tree v.items) ≡ true) }
+        ↔ ReadsBody (M.grammar counting.now) (M.method counting.now) depth bytes.now ts) }
+    // What is read fits, where no loads may stand.
+    ensures fits { ((locals : Locals) → (M.grammar counting.now locals).loads ≡ false)
+        → IfOk result (λ v. terms_fit (terms_tree v.items) ≡ true) }
     // What a fault says is true of the bytes ..
     ensures faults { IfErr result (λ e. IfFault e (λ f.
-        ShowsBody (M.arguments counting.now) (M.method counting.now) depth bytes.now f.reason
+        ShowsBody (M.grammar counting.now) (M.method counting.now) depth bytes.now f.reason
         f.place)) }
     // .. and they have no reading.
     ensures unread { IfErr result (λ e. IfFault e (λ f. (ts : TermTrees)
-        → ¬ ReadsBody (M.arguments counting.now) (M.method counting.now) depth bytes.now ts)) }
+        → ¬ ReadsBody (M.grammar counting.now) (M.method counting.now) depth bytes.now ts)) }
     // Behind statements, what can't begin one is reported at its place.
     ensures next { (u w : List ℕ) (ts : TermTrees) (reason : BodyReason) → bytes.now ≡ u ++ w
-        → ReadsBody (M.arguments counting.now) (M.method counting.now) depth u ts
-        → IsNoStatement reason w
+        → ReadsBody (M.grammar counting.now) (M.method counting.now) depth u ts
+        → IsNoStatement (M.grammar counting.now
+        (locals_after_all (M.method counting.now) finite.empty ts)).loads reason w
         → IsErrAnd result (λ e. IfFault e (λ f. f ≡ record { reason = reason; place = length u })) }
 {
     body(counting, depth.get(), bytes)
 }
 
-#[tactic(auto, unfolding(crate::specs::steps::Setting::count_in))]
 fn body_or_bytes<S: Space<Object>>(
     alloc: Global,
     space: &S,
@@ -73,7 +75,7 @@ fn body_or_bytes<S: Space<Object>>(
     counts: &Counts,
 ) -> Result<Body, AllocError>
     ensures { IfOk result (λ b. body_view b
-        ≡ body_of bytes.now (body_at (arguments (namespace_of (S.contents space.now))
+        ≡ body_of bytes.now (body_at (body_grammar (namespace_of (S.contents space.now))
         (finite.get counts.now) method.now) method.now depth finite.empty bytes.now)) }
 {
     match body(&Context::new(alloc, space, counts, method), depth, bytes) {
@@ -95,11 +97,11 @@ pub fn read_body<S: Space<Object>>(
 ) -> Result<Body, AllocError>
     // Terms are the reading of the bytes; opaque bytes are the same, and have no reading.
     ensures body { IfOk result (λ b. IsBodyOf
-        (arguments (namespace_of (S.contents space.now)) (finite.get counts.now) method.now)
+        (body_grammar (namespace_of (S.contents space.now)) (finite.get counts.now) method.now)
         method.now depth bytes.now (body_view b)) }
     // So it is read exactly where it has a reading, and as that.
     ensures read { IfOk result (λ b. (ts : TermTrees) → (body_view b ≡ read ts)
-        ↔ ReadsBody (arguments (namespace_of (S.contents space.now))
+        ↔ ReadsBody (body_grammar (namespace_of (S.contents space.now))
         (finite.get counts.now) method.now) method.now depth bytes.now ts) }
     // What is read fits.
     ensures fits { IfOk result (λ b. body_fits (body_view b) ≡ true) }
@@ -117,7 +119,7 @@ fn fault_in<S: Space<Object>>(
     counts: &Counts,
 ) -> Result<Option<BodyFault>, AllocError>
     ensures { IfOk result (λ w. w ≡ fault_in (body_at
-        (arguments (namespace_of (S.contents space.now)) (finite.get counts.now) method.now)
+        (body_grammar (namespace_of (S.contents space.now)) (finite.get counts.now) method.now)
         method.now depth finite.empty bytes.now)) }
 {
     match body(&Context::new(alloc, space, counts, method), depth, bytes) {
@@ -138,18 +140,18 @@ pub fn why<S: Space<Object>>(
 ) -> Result<Option<BodyFault>, AllocError>
     // None exactly where the bytes have a reading.
     ensures read { IfOk result (λ w. (w ≡ None)
-        ↔ ((ts : TermTrees) × ReadsBody (arguments (namespace_of (S.contents space.now))
+        ↔ ((ts : TermTrees) × ReadsBody (body_grammar (namespace_of (S.contents space.now))
         (finite.get counts.now) method.now) method.now depth bytes.now ts)) }
     // What a fault says is true of the bytes.
     ensures faults { IfOk result (λ w. IfSome w
-        (λ f. ShowsBody (arguments (namespace_of (S.contents space.now))
+        (λ f. ShowsBody (body_grammar (namespace_of (S.contents space.now))
         (finite.get counts.now) method.now) method.now depth bytes.now f.reason f.place)) }
     // It is always sure how many values follow a name.
     ensures sure { IfOk result (λ w. IfSome w (λ f. f.reason ≢ Unsure)) }
     // Behind statements, what can't begin one is reported at its place.
     ensures next { (u w : List ℕ) (ts : TermTrees) (reason : BodyReason) → bytes.now ≡ u ++ w
-        → ReadsBody (arguments (namespace_of (S.contents space.now))
-        (finite.get counts.now) method.now) method.now depth u ts → IsNoStatement reason w
+        → ReadsBody (body_grammar (namespace_of (S.contents space.now))
+        (finite.get counts.now) method.now) method.now depth u ts → IsNoStatement false reason w
         → IfOk result (λ f. f ≡ Some (record { reason = reason; place = length u })) }
 {
     fault_in(alloc, space, method, bytes, depth.get(), counts)

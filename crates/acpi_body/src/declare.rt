@@ -5,7 +5,6 @@ ghost use Rattle.acpi_tree.specs.View.{fields_view};
 ghost use Rattle.acpi_tree.specs.TermView.{term_view, decl_view};
 ghost use Rattle.acpi_code.specs.steps.Reading.{name_in};
 ghost use Rattle.acpi_body.specs.Statements.{locals_after};
-ghost use Rattle.acpi_values.specs.Grammars.{body_grammar};
 ghost use Rattle.acpi_values.specs.steps.Reading.{part, term_at, fields_in};
 ghost use Rattle.acpi_body.specs.steps.Reading.{declared_at, named_form, units_form};
 ghost use Rattle.acpi_values.specs.steps.Cursor.{Gives, Reads, ReadsAll};
@@ -29,7 +28,7 @@ pub(crate) fn term_apart<M: MethodCounting>(
     code: &mut Code<'_>,
 ) -> Result<Box<Term>, BodyError>
     ensures { Reads (λ b. term_view (box_value b))
-        (term_at (body_grammar (M.arguments counting.now locals.now)) level place) code.old
+        (term_at (M.grammar counting.now locals.now) level place) code.old
         code.new result }
 {
     let here = BodyPlace {
@@ -88,7 +87,7 @@ fn named<M: MethodCounting>(
     code: &mut Code<'_>,
 ) -> Result<Decl, BodyError>
     ensures { Reads decl_view (named_form
-        (term_at (body_grammar (M.arguments counting.now locals.now)) level)
+        (term_at (M.grammar counting.now locals.now) level)
         (M.method counting.now) form) code.old code.new result }
 {
     match form {
@@ -130,7 +129,7 @@ fn units<M: MethodCounting>(
     code: &mut Code<'_>,
 ) -> Result<Decl, BodyError>
     ensures { Reads decl_view (units_form
-        (term_at (body_grammar (M.arguments counting.now locals.now)) level) form) code.old
+        (term_at (M.grammar counting.now locals.now) level) form) code.old
         code.new result }
 {
     let mut inner = code.package()?;
@@ -180,7 +179,7 @@ pub(crate) fn named_declaration<M: MethodCounting>(
     code: &mut Code<'_>,
 ) -> Result<Term, BodyError>
     ensures exact { Reads term_view (named_form
-        (term_at (body_grammar (M.arguments counting.now locals.old)) level)
+        (term_at (M.grammar counting.now locals.old) level)
         (M.method counting.now) form) code.old code.new result }
     ensures locals { IfOk result (λ t. locals.new
         ≡ locals_after (M.method counting.now) locals.old (term_view t)) }
@@ -198,7 +197,7 @@ pub(crate) fn units_declaration<M: MethodCounting>(
     code: &mut Code<'_>,
 ) -> Result<Term, BodyError>
     ensures exact { Reads term_view (units_form
-        (term_at (body_grammar (M.arguments counting.now locals.old)) level) form) code.old
+        (term_at (M.grammar counting.now locals.old) level) form) code.old
         code.new result }
     ensures locals { IfOk result (λ t. locals.new
         ≡ locals_after (M.method counting.now) locals.old (term_view t)) }

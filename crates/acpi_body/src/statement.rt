@@ -6,7 +6,6 @@ ghost use Rattle.std.specs.Prelude.{box_value, Some};
 ghost use Rattle.acpi_tree.specs.Terms.{if_do, else_do, no_else};
 ghost use Rattle.acpi_tree.specs.TermView.{term_view, terms_view, terms_tree, else_view};
 ghost use Rattle.acpi_body.specs.Statements.{locals_after, locals_after_else, locals_after_all};
-ghost use Rattle.acpi_values.specs.Grammars.{body_grammar};
 ghost use Rattle.acpi_values.specs.steps.Reading.{term_at};
 ghost use Rattle.acpi_body.specs.steps.Reading.{else_at, if_form, while_form, statement_by, statement_at, statements_at, body_at};
 ghost use Rattle.acpi_values.specs.steps.Cursor.{Gives, Reads, ReadsOn, ReadsAll};
@@ -47,8 +46,8 @@ fn if_statement<M: MethodCounting>(
     code: &mut Code<'_>,
 ) -> Result<Term, BodyError>
     ensures exact { Reads term_view
-        (if_form (term_at (body_grammar (M.arguments counting.now locals.old)) level)
-        (statements_at (M.arguments counting.now) (M.method counting.now) level)
+        (if_form (term_at (M.grammar counting.now locals.old) level)
+        (statements_at (M.grammar counting.now) (M.method counting.now) level)
         (M.method counting.now) locals.old) code.old code.new result }
     ensures locals { IfOk result (λ t. locals.new
         ≡ locals_after (M.method counting.now) locals.old (term_view t)) }
@@ -69,7 +68,7 @@ fn else_statements<M: MethodCounting>(
     code: &mut Code<'_>,
 ) -> Result<Option<Vec<Term>>, BodyError>
     ensures exact { ReadsOn else_view (else_at
-        (statements_at (M.arguments counting.now) (M.method counting.now) level locals.old))
+        (statements_at (M.grammar counting.now) (M.method counting.now) level locals.old))
         code.old code.new result }
     ensures locals { IfOk result (λ o. locals.new
         ≡ locals_after_else (M.method counting.now) locals.old (else_view o)) }
@@ -92,8 +91,8 @@ fn while_statement<M: MethodCounting>(
     code: &mut Code<'_>,
 ) -> Result<Term, BodyError>
     ensures exact { Reads term_view (while_form
-        (term_at (body_grammar (M.arguments counting.now locals.old)) level)
-        (statements_at (M.arguments counting.now) (M.method counting.now) level) locals.old)
+        (term_at (M.grammar counting.now locals.old) level)
+        (statements_at (M.grammar counting.now) (M.method counting.now) level) locals.old)
         code.old code.new result }
     ensures locals { IfOk result (λ t. locals.new
         ≡ locals_after (M.method counting.now) locals.old (term_view t)) }
@@ -119,7 +118,7 @@ fn statements<M: MethodCounting>(
     code: &mut Code<'_>,
 ) -> Result<Vec<Term>, BodyError>
     ensures exact { ReadsAll (λ v. terms_view v.items)
-        (statements_at (M.arguments counting.now) (M.method counting.now) level locals.old)
+        (statements_at (M.grammar counting.now) (M.method counting.now) level locals.old)
         code.old result }
     ensures locals { IfOk result (λ v. locals.new
         ≡ locals_after_all (M.method counting.now) locals.old (terms_tree v.items)) }
@@ -145,9 +144,9 @@ fn form<'a, M: MethodCounting>(
     requires ends { front.now.end ≡ code.old.end }
     requires behind { length code.old.bytes < length front.now.bytes }
     ensures exact { Reads term_view (λ end whole. statement_by
-        (body_grammar (M.arguments counting.now locals.old))
-        (term_at (body_grammar (M.arguments counting.now locals.old)) level)
-        (statements_at (M.arguments counting.now) (M.method counting.now) level)
+        (M.grammar counting.now locals.old)
+        (term_at (M.grammar counting.now locals.old) level)
+        (statements_at (M.grammar counting.now) (M.method counting.now) level)
         (M.method counting.now) locals.old end whole opcode code.old.bytes) front.now code.new
         result }
     ensures locals { IfOk result (λ t. locals.new
@@ -219,7 +218,7 @@ fn statement<M: MethodCounting>(
     level: u32,
     code: &mut Code<'_>,
 ) -> Result<Term, BodyError>
-    ensures exact { Reads term_view (statement_at (M.arguments counting.now)
+    ensures exact { Reads term_view (statement_at (M.grammar counting.now)
         (M.method counting.now) level locals.old) code.old code.new result }
     ensures locals { IfOk result (λ t. locals.new
         ≡ locals_after (M.method counting.now) locals.old (term_view t)) }
@@ -239,7 +238,7 @@ pub(crate) fn body<M: MethodCounting>(
     bytes: &[u8],
 ) -> Result<Vec<Term>, BodyError>
     ensures { Gives (λ v. terms_view v.items) result
-        (body_at (M.arguments counting.now) (M.method counting.now) depth finite.empty bytes.now) }
+        (body_at (M.grammar counting.now) (M.method counting.now) depth finite.empty bytes.now) }
 {
     let mut locals = TreeSpace::new(counting.alloc());
     statements(counting, &mut locals, depth, &mut Code::new(bytes))

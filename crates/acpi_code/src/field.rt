@@ -24,7 +24,7 @@ fn connect_name(alloc: Global, code: &mut Code<'_>) -> Result<FieldElem, FieldFa
     ensures { Reads field_view connect_name_at code.old code.new result }
 {
     let name = code.name()?;
-    Ok(FieldElem::ConnectName(Box::new(alloc, name.own(alloc)?)?))
+    Ok(FieldElem::ConnectName(name.own(alloc)?))
 }
 
 #[tactic(auto, unfolding(crate::specs::steps::Fields::connect_at))]

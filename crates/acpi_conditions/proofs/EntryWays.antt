@@ -8,7 +8,7 @@ use Rattle.acpi_conditions.specs.Nodes.{Place, Term, Stop, Nodes, no_nodes, decl
 use Rattle.acpi_conditions.specs.Entries.{Path, Turn, then_branch, else_branch, in_round, within, past, asks_nothing, Entry, Why, StopAt}
 use Rattle.acpi_conditions.specs.Known.{Known, is_certain_scope, declared_at, opened_at}
 use Rattle.acpi_conditions.specs.Survey.{Around, turning, Surveying, behind, passing, followed_by, entry_at, inside_of, known_inside, declaring_as, declaring, inside_scope, known_in_scope, opening_as, opening, branching, leaves_table, known_in_loop, looping, stopping, survey}
-use Rattle.acpi_conditions.proofs.Logs.{turn_place}
+use Rattle.acpi_conditions.specs.Laws.{turn_place}
 
 abbrev pub IsExtended : Surveying → Type 0
 IsExtended x = (a : Around) (k : Known) (e : Entry) → Among (x a k).entries e → (turn : Turn) → Among a.way turn → Among e.way turn

@@ -15,8 +15,11 @@ pub mod Viewing
 pub mod Meetings
 pub mod AmongAll
 pub mod Reached
+pub mod Recorded
 pub mod Pieces
+pub mod Ended
 pub mod Taken
+pub mod TakenInRun
 pub mod Opposed
 pub mod SeenIsTrue
 pub mod Singles

@@ -8,14 +8,8 @@ use Rattle.acpi_space.proofs.Elements.{among_left, among_right}
 use Rattle.acpi_conditions.specs.Nodes.{Place, Term, Stop, returns, breaks, continues, Nodes, no_nodes, declares, opens, branch, loop, stop, places}
 use Rattle.acpi_conditions.specs.Entries.{Path, Turn, then_branch, else_branch, in_round, within, past}
 use Rattle.acpi_conditions.specs.Runs.{Event, State, with_turn, state_inside, state_past, Ending, goes_on, stops, Going, Running, Continues, IsFollowed, IsDeclaring, IsOpening, IsBranching, NextRound, AreRounds, IsRound, IsLooping, IsStopping, IsRun, AreRuns}
+use Rattle.acpi_conditions.specs.Laws.{turn_place}
 use Rattle.acpi_conditions.proofs.Basics.{union_grows, union_cases}
-
-abbrev pub turn_place : Turn → Place
-turn_place (then_branch p) = p
-turn_place (else_branch p) = p
-turn_place (in_round p) = p
-turn_place (within p) = p
-turn_place (past p) = p
 
 -- the term made its object there in some event
 abbrev pub IsMaking : List Event → Path → Term → Type 0

@@ -56,9 +56,14 @@ module _ (ways : List (List Turn)) (way : List Turn) (p : Path) (all : List Entr
       by true ih = ap₂ (λ (b : Bool) (ns : List ℕ). cond b (n ∷ ns) ns) found ih
       by false ih = ih
 
+pub numbers_from : (ways : List (List Turn)) (all : List EntryForm) (way : List Turn) (p : Path) (turns : List TurnForm) (entries : List EntryForm) (sights : List Sight) (ns : List ℕ) → map turn_of turns ≡ way → entries ≡ all → sights ≡ sights_beyond p 0 (map (entry_view []) all)
+    → ns ≡ filter (λ n. passes_if Possible ways (map turn_of turns) (slice_get entries n)) (map (λ (x : Sight). x.number) sights) → ns ≡ numbers_beyond way p 0 (map (entry_view ways) all)
+numbers_from ways all way p turns entries sights ns t e s is =
+    is ∙ ap₂ (λ (w : List Turn) (es : List EntryForm). filter (λ n. passes_if Possible ways w (slice_get es n)) (map (λ (x : Sight). x.number) sights)) t e
+    ∙ ap (λ (xs : List Sight). filter (is_met ways way p all) (map (λ (x : Sight). x.number) xs)) s
+    ∙ by_sights ways way p all 0 [] all refl refl
+
 pub numbers_are : (k : Inside) (m : Meeting) (p : Path) (turns : List TurnForm) (entries : List EntryForm) (sights : List Sight) (ns : List ℕ) → meeting_of k ≡ m → turns ≡ k.turns.items → entries ≡ k.paths.now.entries → sights ≡ sights_beyond p 0 (map (entry_view []) k.paths.now.entries)
     → ns ≡ filter (λ n. passes_if Possible k.ways.now (map turn_of turns) (slice_get entries n)) (map (λ (x : Sight). x.number) sights) → ns ≡ numbers_met m p
 numbers_are k m p turns entries sights ns view t e s is =
-    is ∙ ap₂ (λ (ts : List TurnForm) (es : List EntryForm). filter (λ n. passes_if Possible k.ways.now (map turn_of ts) (slice_get es n)) (map (λ (x : Sight). x.number) sights)) t e
-    ∙ ap (λ (xs : List Sight). filter (is_met k.ways.now (map turn_of k.turns.items) p k.paths.now.entries) (map (λ (x : Sight). x.number) xs)) s
-    ∙ by_sights k.ways.now (map turn_of k.turns.items) p k.paths.now.entries 0 [] k.paths.now.entries refl refl ∙ ap (λ (u : Meeting). numbers_met u p) view
+    numbers_from k.ways.now k.paths.now.entries (map turn_of k.turns.items) p turns entries sights ns (ap (map turn_of) t) e s is ∙ ap (λ (u : Meeting). numbers_met u p) view

@@ -9,13 +9,13 @@ use Rattle.acpi_conditions.specs.Entries.{Path, Turn, then_branch, else_branch, 
 use Rattle.acpi_conditions.specs.Known.{Known, is_certain_scope, declared_at, opened_at, IsTrueOf}
 use Rattle.acpi_conditions.specs.Survey.{Around, turning, at_root, Survey, Surveying, behind, passing, followed_by, entry_at, inside_of, known_inside, declaring_as, declaring, inside_scope, known_in_scope, opening_as, opening, branching, known_in_loop, looping, stopping, behind_table, table_survey, surveys, all_entries, all_refused, survey}
 use Rattle.acpi_conditions.specs.Runs.{Makes, Event, State, with_turn, state_inside, state_past, Ending, goes_on, stops, Going, Running, Continues, IsFollowed, IsDeclaring, Finds, IsOpening, IsBranching, NextRound, AreRounds, IsRound, IsLooping, IsStopping, IsRun, AreRuns}
-use Rattle.acpi_conditions.specs.Laws.{HasTurn, AreSure, AreDistinct}
+use Rattle.acpi_conditions.specs.Laws.{HasTurn, AreSure, AreDistinct, turn_place}
 use Rattle.acpi_conditions.proofs.Knowing.{one_found}
 use Rattle.acpi_conditions.proofs.Declaring.{makes_allowed, true_inside, true_in_scope, opened_is}
 use Rattle.acpi_conditions.proofs.Outcomes.{Outcome, IsCovered, covered_here, covered_rest, past_turns, true_behind}
 use Rattle.acpi_conditions.proofs.Steps.{maybe_turned}
 use Rattle.acpi_conditions.proofs.Tables.{true_behind_table, table_outcome}
-use Rattle.acpi_conditions.proofs.Logs.{turn_place, Logged, IsLogged, logged_nodes, logged_tables}
+use Rattle.acpi_conditions.proofs.Logs.{Logged, IsLogged, logged_nodes, logged_tables}
 use Rattle.acpi_conditions.proofs.EntryWays.{passing_way}
 use Rattle.acpi_conditions.proofs.Reached.{distinct_left, distinct_right, apart, IsFresh, fresh_inside, turn_all}
 use Rattle.acpi_conditions.proofs.Pieces.{Piece, piece_nodes, piece_declaring, piece_opening, piece_branching, piece_looping, piece_stopping}

@@ -9,14 +9,14 @@ use Rattle.acpi_conditions.specs.Entries.{Path, Turn, then_branch, else_branch, 
 use Rattle.acpi_conditions.specs.Known.{Known, is_certain_scope, declared_at, candidates, opened_at, IsTrueOf}
 use Rattle.acpi_conditions.specs.Survey.{Around, turning, at_root, Survey, Surveying, behind, passing, followed_by, entry_at, inside_of, known_inside, declaring_as, declaring, inside_scope, known_in_scope, opening_as, opening, branching, known_in_loop, looping, stopping, behind_table, table_survey, surveys, all_entries, all_refused, survey}
 use Rattle.acpi_conditions.specs.Runs.{Makes, State, with_turn, state_inside, state_past, Ending, goes_on, stops, Running, Continues, IsFollowed, IsDeclaring, Finds, IsOpening, IsBranching, IsLooping, IsStopping, IsRun, AreRuns}
-use Rattle.acpi_conditions.specs.Laws.{HasTurn, AreSure, IsRunOf, AreDistinct, IsReached, IsMissed}
+use Rattle.acpi_conditions.specs.Laws.{HasTurn, AreSure, IsRunOf, AreDistinct, IsReached, IsMissed, turn_place}
 use Rattle.acpi_conditions.proofs.Basics.{among_nothing, union_new}
 use Rattle.acpi_conditions.proofs.Knowing.{certain_scope_made, one_found, one_finds}
 use Rattle.acpi_conditions.proofs.Declaring.{makes_allowed, nothing_makes, true_inside, true_in_scope, opened_is, settled_made, settled_unmade}
 use Rattle.acpi_conditions.proofs.Outcomes.{Outcome, IsCovered, IsSound, covered_here, covered_rest, past_turns, true_behind, Lasts, lasts_grow}
 use Rattle.acpi_conditions.proofs.Steps.{maybe_turned, all_farther, sound_declaring, sound_opening, sound_branching, sound_looping, sound_stopping, rooted_nodes, sound_nodes}
 use Rattle.acpi_conditions.proofs.Tables.{true_behind_table, table_outcome}
-use Rattle.acpi_conditions.proofs.Logs.{turn_place, Logged, IsLogged, logged_declaring, logged_opening, logged_branching, logged_looping, logged_stopping, logged_nodes, logged_tables}
+use Rattle.acpi_conditions.proofs.Logs.{Logged, IsLogged, logged_declaring, logged_opening, logged_branching, logged_looping, logged_stopping, logged_nodes, logged_tables}
 use Rattle.acpi_conditions.proofs.EntryWays as ways
 use Rattle.acpi_conditions.proofs.EntryWays.{IsExtended, extended_nodes, stopping_declaring, stopping_opening, stopping_branching, stopping_looping, stopping_stop, stopping_nodes}
 

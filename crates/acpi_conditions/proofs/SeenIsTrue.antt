@@ -22,7 +22,8 @@ use Rattle.acpi_conditions.proofs.Tables.{survey_is_exact}
 use Rattle.acpi_conditions.proofs.Logs.{Logged, IsMaking, logged_tables}
 use Rattle.acpi_conditions.proofs.EntryWays.{unfiltered}
 use Rattle.acpi_conditions.proofs.Reached.{IsReachedIn, coming_tables}
-use Rattle.acpi_conditions.proofs.Taken.{HasRound, Untouched, filtered, taking_tables}
+use Rattle.acpi_conditions.proofs.Ended.{filtered}
+use Rattle.acpi_conditions.proofs.Taken.{HasRound, Untouched, taking_tables}
 use Rattle.acpi_conditions.proofs.Opposed.{IsSide, HasBoth, AreTurned, wayed_tables, one_tables}
 
 pub candidates_cover : (objects : Namespace) (k : Known) → IsTrueOf objects k → (s : Path) (n : NameParts)

@@ -13,10 +13,10 @@ use Rattle.acpi_conditions.specs.Known.{Known}
 use Rattle.acpi_conditions.specs.Survey.{at_root, behind_table, table_survey, surveys, all_entries, all_refused}
 use Rattle.acpi_conditions.specs.Runs.{Event, State, with_turn, state_inside, state_past, Ending, goes_on, stops, Going, Running, Continues, IsFollowed, IsDeclaring, IsOpening, IsBranching, NextRound, AreRounds, IsRound, IsLooping, IsStopping, IsRun, AreRuns}
 use Rattle.acpi_conditions.specs.Links.{is_round}
-use Rattle.acpi_conditions.specs.Laws.{MatchesEntry, IsMatched, IsRunOf, AreDistinct, IsReached, IsMissed, IsTaken, AllTaken, HoldsWhenReached, StandsExactly}
+use Rattle.acpi_conditions.specs.Laws.{MatchesEntry, IsMatched, IsRunOf, AreDistinct, IsReached, IsMissed, IsTaken, turn_place, AllTaken, HoldsWhenReached, StandsExactly}
 use Rattle.acpi_conditions.proofs.Basics.{among_nothing, union_grows, union_new}
 use Rattle.acpi_conditions.proofs.Tables.{survey_is_exact}
-use Rattle.acpi_conditions.proofs.Logs.{turn_place, Logged, IsMaking, logged_tables}
+use Rattle.acpi_conditions.proofs.Logs.{Logged, IsMaking, logged_tables}
 use Rattle.acpi_conditions.proofs.EntryWays.{ways_nodes}
 use Rattle.acpi_conditions.proofs.Reached.{distinct_left, apart, comes_by_way}
 use Rattle.acpi_conditions.proofs.Taken.{HasRound, taken_grows}

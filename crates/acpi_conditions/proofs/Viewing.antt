@@ -6,18 +6,19 @@ use Rattle.std.proofs.Math.Bool.{or-false}
 use Rattle.acpi_space.specs.Lookups.{is_same_path}
 use Rattle.acpi_conditions.specs.Entries.{Path, Turn, is_empty, Entry}
 use Rattle.acpi_conditions.specs.Known.{Certain as CertainPath, is_certain, is_certain_scope, is_possible, is_possible_scope, settled}
-use Rattle.acpi_conditions.specs.Links.{are_exclusive, is_part_of}
+use Rattle.acpi_conditions.specs.Links.{are_exclusive, is_part_of, seen_along}
 use Rattle.acpi_conditions.specs.Turns.{turn_of}
 use Rattle.acpi_conditions.specs.EntryForms.{entry_view}
-use Rattle.acpi_conditions.specs.Views.{View, seen_by}
+use Rattle.acpi_conditions.specs.Views.{View, WayView, nothing_known}
 use Rattle.acpi_conditions.specs.declared.slots.Sight.{Sight}
 use Rattle.acpi_conditions.specs.declared.turns.Turn.{Turn as TurnForm}
 use Rattle.acpi_conditions.specs.declared.entry.Entry.{Entry as EntryForm}
 use Rattle.acpi_conditions.specs.declared.seen.Test.{Test}
 use Rattle.acpi_conditions.specs.declared.seen.Test.TheVariants.{Certain, CertainScope, Possible, PossibleScope}
 use Rattle.acpi_conditions.specs.declared.seen.Seen.TheInside.{Inside}
+use Rattle.acpi_conditions.specs.declared.seen_along.SeenAlong.TheInside.{Inside as AlongInside}
 use Rattle.acpi_conditions.specs.steps.Facts.{sights_beyond}
-use Rattle.acpi_conditions.specs.steps.Views.{is_settled, passes, passes_if, view_of, HasWay}
+use Rattle.acpi_conditions.specs.steps.Views.{is_settled, passes, passes_if, view_of, way_view_of, HasWay}
 use Rattle.acpi_conditions.proofs.Basics.{and_left, any_weaker}
 use Rattle.acpi_conditions.proofs.WayTests.{any_map}
 
@@ -93,6 +94,14 @@ any_here test s v p turns entries sights b view way t e at is =
     ∙ ap (λ (w : List Turn). list_any (λ f. is_same_path f.path p && passes test w f) (map (entry_view s.ways.now) s.paths.now.entries)) (ap (map turn_of) t ∙ way)
     ∙ ap (λ (u : View). list_any (λ f. is_same_path f.path p && passes test u.entry.way f) u.entries) view
 
+pub any_along : (test : Test) (s : AlongInside) (v : WayView) (p : Path) (turns : List TurnForm) (entries : List EntryForm) (sights : List Sight) (b : Bool) → way_view_of s ≡ v → turns ≡ s.turns.now → entries ≡ s.paths.now.entries
+    → sights ≡ sights_beyond p 0 (map (entry_view []) s.paths.now.entries) → b ≡ list_any (λ x. passes_if test s.ways.now (map turn_of turns) (slice_get entries x.number)) sights
+    → b ≡ list_any (λ f. is_same_path f.path p && passes test v.way f) v.entries
+any_along test s v p turns entries sights b view t e at is =
+    any_at_path test s.ways.now (map turn_of turns) p s.paths.now.entries entries sights b e at is
+    ∙ ap (λ (w : List Turn). list_any (λ f. is_same_path f.path p && passes test w f) (map (entry_view s.ways.now) s.paths.now.entries)) (ap (map turn_of) t)
+    ∙ ap (λ (u : WayView). list_any (λ f. is_same_path f.path p && passes test u.way f) u.entries) view
+
 -- ---- a scope is something
 
 module _ (ways : List (List Turn)) (way : List Turn) (all : List EntryForm) (sights : List Sight) where
@@ -125,7 +134,7 @@ possible_scope_any way p es =
     ∙ any_same (λ f. (is_same_path f.path p && f.term.is_scope) && not (are_exclusive f.way way)) (λ f. is_same_path f.path p && (not (are_exclusive f.way way) && f.term.is_scope)) es
     (λ f. and_swap (is_same_path f.path p) f.term.is_scope (not (are_exclusive f.way way))))
 
-module _ (v : View) (p : Path) where
+module _ (way : List Turn) (all : List Entry) (p : Path) where
   settled_any : (es : List Entry) → list_any (λ c. is_same_path c.path p) (flat_map settled es) ≡ list_any (λ e. is_same_path e.path p && not (e.asks.has || not (is_empty e.asks.needs))) es
   settled_any [] = refl
   settled_any (e ∷ es) =
@@ -148,24 +157,24 @@ module _ (v : View) (p : Path) where
       by true = sym (and_comm (is_same_path e.path p) false)
       by false = or-false (is_same_path e.path p && (e.term.is_scope && not e.asks.no))
 
-  pub certain_seen : list_any (λ f. is_same_path f.path p && passes Certain v.entry.way f) v.entries ≡ is_certain (seen_by v) p
+  pub certain_seen : list_any (λ f. is_same_path f.path p && passes Certain way f) all ≡ is_certain (seen_along nothing_known all way) p
   certain_seen =
-      sym (ap (list_any (λ (c : CertainPath). is_same_path c.path p)) (append-nil (flat_map settled (filter (λ f. is_part_of f.way v.entry.way) v.entries)))
-      ∙ settled_any (filter (λ f. is_part_of f.way v.entry.way) v.entries)
-      ∙ any_filter (λ e. is_same_path e.path p && not (e.asks.has || not (is_empty e.asks.needs))) (λ f. is_part_of f.way v.entry.way) v.entries
-      ∙ any_same (λ f. (is_same_path f.path p && not (f.asks.has || not (is_empty f.asks.needs))) && is_part_of f.way v.entry.way) (λ f. is_same_path f.path p && passes Certain v.entry.way f) v.entries
-      (λ f. and_assoc (is_same_path f.path p) (not (f.asks.has || not (is_empty f.asks.needs))) (is_part_of f.way v.entry.way)))
+      sym (ap (list_any (λ (c : CertainPath). is_same_path c.path p)) (append-nil (flat_map settled (filter (λ f. is_part_of f.way way) all)))
+      ∙ settled_any (filter (λ f. is_part_of f.way way) all)
+      ∙ any_filter (λ e. is_same_path e.path p && not (e.asks.has || not (is_empty e.asks.needs))) (λ f. is_part_of f.way way) all
+      ∙ any_same (λ f. (is_same_path f.path p && not (f.asks.has || not (is_empty f.asks.needs))) && is_part_of f.way way) (λ f. is_same_path f.path p && passes Certain way f) all
+      (λ f. and_assoc (is_same_path f.path p) (not (f.asks.has || not (is_empty f.asks.needs))) (is_part_of f.way way)))
 
-  pub certain_scope_seen : list_any (λ f. is_same_path f.path p && passes CertainScope v.entry.way f) v.entries ≡ is_certain_scope (seen_by v) p
+  pub certain_scope_seen : list_any (λ f. is_same_path f.path p && passes CertainScope way f) all ≡ is_certain_scope (seen_along nothing_known all way) p
   certain_scope_seen =
-      sym (ap (list_any (λ (c : CertainPath). is_same_path c.path p && c.is_scope)) (append-nil (flat_map settled (filter (λ f. is_part_of f.way v.entry.way) v.entries)))
-      ∙ settled_any_scope (filter (λ f. is_part_of f.way v.entry.way) v.entries)
-      ∙ any_filter (λ e. is_same_path e.path p && (not (e.asks.has || not (is_empty e.asks.needs)) && (e.term.is_scope && not e.asks.no))) (λ f. is_part_of f.way v.entry.way) v.entries
-      ∙ any_same (λ f. (is_same_path f.path p && (not (f.asks.has || not (is_empty f.asks.needs)) && (f.term.is_scope && not f.asks.no))) && is_part_of f.way v.entry.way) (λ f. is_same_path f.path p && passes CertainScope v.entry.way f) v.entries
-      (λ f. and_inside (is_same_path f.path p) (not (f.asks.has || not (is_empty f.asks.needs))) (f.term.is_scope && not f.asks.no) (is_part_of f.way v.entry.way)))
+      sym (ap (list_any (λ (c : CertainPath). is_same_path c.path p && c.is_scope)) (append-nil (flat_map settled (filter (λ f. is_part_of f.way way) all)))
+      ∙ settled_any_scope (filter (λ f. is_part_of f.way way) all)
+      ∙ any_filter (λ e. is_same_path e.path p && (not (e.asks.has || not (is_empty e.asks.needs)) && (e.term.is_scope && not e.asks.no))) (λ f. is_part_of f.way way) all
+      ∙ any_same (λ f. (is_same_path f.path p && (not (f.asks.has || not (is_empty f.asks.needs)) && (f.term.is_scope && not f.asks.no))) && is_part_of f.way way) (λ f. is_same_path f.path p && passes CertainScope way f) all
+      (λ f. and_inside (is_same_path f.path p) (not (f.asks.has || not (is_empty f.asks.needs))) (f.term.is_scope && not f.asks.no) (is_part_of f.way way)))
 
-  pub possible_seen : list_any (λ f. is_same_path f.path p && passes Possible v.entry.way f) v.entries ≡ is_possible (seen_by v) p
-  possible_seen = possible_any v.entry.way p v.entries
+  pub possible_seen : list_any (λ f. is_same_path f.path p && passes Possible way f) all ≡ is_possible (seen_along nothing_known all way) p
+  possible_seen = possible_any way p all
 
-  pub possible_scope_seen : list_any (λ f. is_same_path f.path p && passes PossibleScope v.entry.way f) v.entries ≡ is_possible_scope (seen_by v) p
-  possible_scope_seen = possible_scope_any v.entry.way p v.entries
+  pub possible_scope_seen : list_any (λ f. is_same_path f.path p && passes PossibleScope way f) all ≡ is_possible_scope (seen_along nothing_known all way) p
+  possible_scope_seen = possible_scope_any way p all

@@ -6,12 +6,12 @@ use Rattle.acpi_name.specs.Paths.{place_of}
 use Rattle.acpi_space.specs.Lookups.{is_defined_in}
 use Rattle.acpi_space.specs.Search.{answer}
 use Rattle.acpi_space.specs.Laws.{Among}
-use Rattle.acpi_conditions.specs.Nodes.{Place, Term, Nodes, places}
-use Rattle.acpi_conditions.specs.Entries.{Path, Namespace, IsFoundIn, Turn, in_round, past, Entry, Holds, HasNoCondition, Why, unsure, Refusal}
+use Rattle.acpi_conditions.specs.Nodes.{Place, Term, Nodes, no_nodes, declares, opens, branch, loop, stop, places}
+use Rattle.acpi_conditions.specs.Entries.{Path, Namespace, IsFoundIn, Turn, then_branch, else_branch, in_round, within, past, Entry, Holds, HasNoCondition, Why, unsure, Refusal}
 use Rattle.acpi_conditions.specs.Known.{Known, is_certain, is_certain_scope, is_possible, is_possible_scope, candidates, is_certain_name, IsTrueOf}
 use Rattle.acpi_conditions.specs.Survey.{Around, Survey, behind, survey, known_behind, surveys, all_entries, all_refused}
 use Rattle.acpi_conditions.specs.Walk.{of_first, Package, Walk, passed, pass, enter_other, leave, started, walked, walked_tables}
-use Rattle.acpi_conditions.specs.Runs.{Event, State, AreRuns}
+use Rattle.acpi_conditions.specs.Runs.{Event, State, Ending, IsRun, AreRuns}
 use Rattle.acpi_conditions.specs.Links.{is_round, seen_from, links}
 use Rattle.acpi_conditions.specs.Views.{known_with}
 use Rattle.acpi_conditions.specs.Listings.{Placement, AreListings, entry_of}
@@ -113,6 +113,59 @@ abbrev pub TakesTheWay : Type 0
 TakesTheWay = OfEntries (λ k tables S e. IsReached S e
     → ((turn : Turn) → Among e.way turn → IsTaken S turn)
     ⊎ ((place : Place) × Among e.way (in_round place)))
+
+-- where the turn's node stands
+abbrev pub turn_place : Turn → Place
+turn_place (then_branch place) = place
+turn_place (else_branch place) = place
+turn_place (in_round place) = place
+turn_place (within place) = place
+turn_place (past place) = place
+
+-- a state whose record, that of `own`, was put in front of what was recorded before
+abbrev pub recorded_on : State → State → State
+recorded_on own before =
+    record own {
+      events = own.events ++ before.events;
+      turns = own.turns ++ before.turns;
+      stop_places = own.stop_places ++ before.stop_places;
+    }
+
+-- The premises of a run of nodes, such as one round of a While: a state in which what is known is true, whatever was
+-- recorded before; a survey without unsure Scopes; nodes at distinct places; and a way whose turns stand elsewhere.
+pub record IsRunAt (k : Known) (a : Around) (ns : Nodes) (S S' : State) : Type 0 where
+  pub known : IsTrueOf S.objects k
+  pub sure : AreSure (survey ns a k).refused
+  pub distinct : AreDistinct (places ns)
+  pub elsewhere : (turn : Turn) → Among a.way turn → Among (places ns) (turn_place turn) → ⊥
+  pub way : List Turn
+  pub comes : AllByRecursion (HasTurn way) a.way
+  pub ending : Ending
+  pub run : IsRun ns a.scope way S ending S'
+
+-- the Whiles among nodes: where each stands, and where the nodes inside it stand
+abbrev pub whiles : Nodes → List (Place × List Place)
+whiles no_nodes = []
+whiles (declares t inside rest) = whiles inside ++ whiles rest
+whiles (opens place n inside rest) = whiles inside ++ whiles rest
+whiles (branch place first other rest) = (whiles first ++ whiles other) ++ whiles rest
+whiles (loop place body rest) = ((place, places body) ∷ whiles body) ++ whiles rest
+whiles (stop place kind rest) = whiles rest
+
+-- the turn stands inside one of these Whiles, and so does the entry
+abbrev pub IsInWhile : List (Place × List Place) → Entry → Turn → Type 0
+IsInWhile ls e turn =
+    (l : Place × List Place) × Among ls l × Among e.way (in_round l.0) × Among l.1 (turn_place turn)
+
+-- Where control comes in a run of nodes to the term of an entry, it takes in the same run each turn of the entry's way
+-- that stands among the nodes; past a stop, it is not stopped there in the same run, whatever it was in others. (Where a
+-- While among the nodes is around both the turn and the entry, this is said of each round, a run of the nodes inside.)
+abbrev pub RunsTakeTheWay : Type 0
+RunsTakeTheWay = (k : Known) (a : Around) (ns : Nodes) (S S' : State) → IsRunAt k a ns S S'
+    → (own : State) × (S' ≡ recorded_on own S)
+    × ((e : Entry) → Among (survey ns a k).entries e → IsReached own e
+    → (turn : Turn) → Among e.way turn → Among (places ns) (turn_place turn)
+    → IsTaken own turn ⊎ IsInWhile (whiles ns) e turn)
 
 -- ---- what stands at the end
 

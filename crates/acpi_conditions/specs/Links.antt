@@ -37,13 +37,17 @@ are_exclusive v w = list_any (λ t. list_any (is_opposite t) (outside_loops w)) 
 abbrev pub is_part_of : List Turn → List Turn → Bool
 is_part_of v w = list_all (λ t. list_any (is_same_turn t) w) v
 
--- Possible are the entries whose way isn't exclusive with that of the entry; certain is what those settle whose way is
--- a part of it.
-abbrev pub seen_from : Known → List Entry → Entry → Known
-seen_from k es e = record k {
-  entries = k.entries ++ filter (λ f. not (are_exclusive f.way e.way)) es;
-  certain = flat_map settled (filter (λ f. is_part_of f.way e.way) es) ++ k.certain;
+-- Where control came by a way: possible are the entries whose way isn't exclusive with it; certain is what those settle
+-- whose way is a part of it.
+abbrev pub seen_along : Known → List Entry → List Turn → Known
+seen_along k es way = record k {
+  entries = k.entries ++ filter (λ f. not (are_exclusive f.way way)) es;
+  certain = flat_map settled (filter (λ f. is_part_of f.way way) es) ++ k.certain;
 }
+
+-- .. as it came to the entry's term
+abbrev pub seen_from : Known → List Entry → Entry → Known
+seen_from k es e = seen_along k es e.way
 
 -- where the names may be found from the entry's scope: the links of a field element, by its region, index, data or bank
 -- names

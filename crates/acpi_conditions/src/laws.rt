@@ -1,5 +1,5 @@
 //! Laws of the survey, of the definitions alone: the functions do nothing, and their contracts state the laws.
-ghost use Rattle.acpi_conditions.specs.Laws.{SurveyIsExact, MadeIsEntry, UnconditionalIsMade, KnownStaysTrue, RunsExist, ComesByWay, TakesTheWay, ObjectsStay, ObjectsStandExactly, CertainIsNotDeclared, CandidatesCover, SeenIsTrue, LinksCover, StrictIsSurvey, TestsDecide, LongerBegins, WalkIsSurvey, EmptyElseIsNone, TableWalkIsSurveys, SeenAmongAll, NamesAmongAll, LinksAmongAll};
+ghost use Rattle.acpi_conditions.specs.Laws.{SurveyIsExact, MadeIsEntry, UnconditionalIsMade, KnownStaysTrue, RunsExist, ComesByWay, TakesTheWay, RunsTakeTheWay, ObjectsStay, ObjectsStandExactly, CertainIsNotDeclared, CandidatesCover, SeenIsTrue, LinksCover, StrictIsSurvey, TestsDecide, LongerBegins, WalkIsSurvey, EmptyElseIsNone, TableWalkIsSurveys, SeenAmongAll, NamesAmongAll, LinksAmongAll};
 ghost use Rattle.acpi_conditions.specs.Examples.{InBothBranches, ScopeBehindBoth, NameThrice, ThirdIsRefused, NeedsLater, NeedsEarlier, BreakInWhile, ReturnInIf, MadeBetween, SecondRound, BranchesInWhile, ElseAlone, ElseOfLostIf, FieldSeesItsBranch, RoundsSeeBothBranches};
 
 /// In every run of tables whose survey refuses no Scope as unsure, with any choice at each If and any number of rounds
@@ -16,10 +16,13 @@ pub fn survey_is_sound()
 
 /// Where no two nodes stand at one place, control comes in each run to the term of each entry outside of Whiles, unless
 /// it misses a turn of the entry's way: it takes the other branch of an If, doesn't go into a term around, or is
-/// stopped. Where it comes to the term, it has taken each of these turns.
+/// stopped. Where it comes to the term, it has taken each of these turns. In a run of any nodes, such as one round of a
+/// While, it takes in the same run each of these turns that stands among the nodes, but not inside a While among them
+/// that is around the entry; so past a stop it was not stopped in the same round.
 pub fn control_comes_by_the_way()
     ensures unless_missed { ComesByWay }
     ensures taken { TakesTheWay }
+    ensures rounds { RunsTakeTheWay }
 {}
 
 /// So the object of an entry outside of Whiles stands at the end of a run exactly where control took each turn of its

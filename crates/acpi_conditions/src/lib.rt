@@ -50,6 +50,7 @@
 //! let target = open_at(alloc, &known, &scope, name)?;         // the scope that a Scope opens
 //! let seen = Seen::new(&known, &ways, &entry)?;               // what is seen from an entry, behind all tables
 //! let links = links_of(alloc, &seen, &names)?;
+//! let along = SeenAlong::new(&known, &ways, turns);           // what is seen by a way, from a term that declares nothing
 //! let met = Met::new(&known, &ways, way)?;                    // the entries so far that control may have met on its way
 //! let numbers = met.numbers_at(alloc, &path)?;
 //! ```
@@ -66,6 +67,7 @@ mod placing;
 mod reasons;
 mod searches;
 mod seen;
+mod seen_along;
 mod settled;
 mod slots;
 mod statuses;
@@ -84,6 +86,7 @@ pub use placing::{Placing, PlacingFault, Reason, declare_at, open_at, uncertain_
 pub use reasons::copy_paths;
 pub use searches::{Candidates, find};
 pub use seen::{Seen, links_of};
+pub use seen_along::SeenAlong;
 pub use statuses::{Presence, Status, Statuses};
 pub use stops::{Stop, StopAt};
 pub use turns::{Turn, Way, Ways};

@@ -41,8 +41,8 @@ impl<'a> Model for Met<'a> {
     ghost view = { meeting_of };
 }
 
-// The numbers of the entries that are possible, of those that are there.
-fn possible_numbers(
+/// The numbers of the entries that are possible, of those that are there.
+pub(crate) fn possible_numbers(
     alloc: Global,
     ways: &Ways,
     turns: &[Turn],

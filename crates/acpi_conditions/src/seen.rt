@@ -121,8 +121,13 @@ pub(crate) fn possible_of(
     Presence::Nothing
 }
 
-// What stands for certain where these entries do, from a way of these turns.
-fn certain_of(ways: &Ways, turns: &[Turn], entries: &[Entry], sights: &[Sight]) -> Presence
+/// What stands for certain where these entries do, from a way of these turns.
+pub(crate) fn certain_of(
+    ways: &Ways,
+    turns: &[Turn],
+    entries: &[Entry],
+    sights: &[Sight],
+) -> Presence
     ensures something { is_something result ≡ list_any (λ x. passes_if Certain ways.now
         (map turn_of turns.now) (slice_get entries.now x.number)) sights.now }
     ensures scope { is_a_scope result ≡ list_any (λ x. passes_if CertainScope ways.now

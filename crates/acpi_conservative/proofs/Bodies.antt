@@ -1,5 +1,5 @@
 -- The bodies of strict tables are read as the strict load reads them.
-use Rattle.std.proofs.Common.{◌≡◌, ◌+◌, ◌^◌, ◌<◌, ◌≤◌, ℕ, suc, cond, List, [], ◌∷◌, ◌++◌, append_assoc, length, length-append, slice_get, inl, inr, Option, Some, None, refl, sym, ap, subst, ◌∙◌, arith}
+use Rattle.std.proofs.Common.{◌≡◌, ◌+◌, ◌^◌, ◌<◌, ◌≤◌, ℕ, Bool, true, false, suc, cond, List, [], ◌∷◌, ◌++◌, append_assoc, length, length-append, slice_get, inl, inr, Option, Some, None, refl, sym, ap, subst, ◌∙◌, arith}
 use Rattle.std.specs.List.{AllByRecursion}
 use Rattle.std.specs.Option.{option_and_then}
 use Rattle.std.specs.FinMap as finite
@@ -10,6 +10,7 @@ use Rattle.acpi_space.specs.Lookups.{Lookup, union}
 use Rattle.acpi_space.specs.Spaces.{PathMap}
 use Rattle.acpi_space.specs.Laws.{Among}
 use Rattle.acpi_tree.specs.Objects.{ObjectTree}
+use Rattle.acpi_tree.specs.Terms.{TermTrees}
 use Rattle.acpi_tree.specs.TermView.{terms_tree}
 use Rattle.acpi_declare.specs.Namespace.{Namespace}
 use Rattle.acpi_declare.specs.Predefined.{predefined}
@@ -18,8 +19,13 @@ use Rattle.acpi_declare.specs.Listing.{Placement, objects_of}
 use Rattle.acpi_declare.specs.Loads.{AreListings, objects_after}
 use Rattle.acpi_declare.specs.Notes.{external_counts, Method, methods_by, methods}
 use Rattle.acpi_declare.specs.Tables.{code_of}
-use Rattle.acpi_body.specs.Arguments.{Arguments, arguments}
+use Rattle.acpi_body.specs.Arguments.{BodyGrammar, body_grammar}
 use Rattle.acpi_body.specs.Bodies as bodies
+use Rattle.acpi_body.specs.Laws.{AgreeAt}
+use Rattle.acpi_body.specs.Loads.{have_load}
+use Rattle.acpi_body.specs.Searches.{Searched, all_searches}
+use Rattle.acpi_body.specs.Statements.{ReadsBody}
+use Rattle.acpi_body.proofs.Kept.{kept_statements}
 use Rattle.acpi_body.specs.Bodies.{BodyTree, read, unread}
 use Rattle.acpi_outline.specs.Nodes as outline
 use Rattle.acpi_outline.specs.Nodes.{closed}
@@ -30,7 +36,7 @@ use Rattle.acpi_entries.specs.declared.body.BodyReading.{BodyReading}
 use Rattle.acpi_entries.specs.declared.body.BodyReading.TheVariants.{Terms, Opaque}
 use Rattle.acpi_entries.specs.declared.body.MethodBody.{MethodBody}
 use Rattle.acpi_survey.specs.declared.machine_survey.SurveyedTable.{SurveyedTable}
-use Rattle.acpi_survey.specs.Bodies.{entry_count}
+use Rattle.acpi_survey.specs.Bodies.{entry_grammar}
 use Rattle.acpi_ranges.specs.Sites.{table_at, byte_at}
 use Rattle.acpi_ranges.specs.EntryParts.{part_in, part_declaring}
 use Rattle.acpi_entries.specs.EntryBodies.{IsBodyReading, IsBodyIn, IsBodyOf}
@@ -44,7 +50,7 @@ use Rattle.acpi_survey.specs.Survey.{place_in, behind_table}
 use Rattle.acpi_survey.specs.Surveys.{AreTables, behind_nodes, bytes_of, nodes_of_each}
 use Rattle.acpi_survey.proofs.Surveys.{are_read}
 use Rattle.acpi_conservative.specs.Parts.{DeclaredPart, declared_by, declared, IsPartOf}
-use Rattle.acpi_conservative.specs.Laws.{IsSameBody, HasBodyOf, HaveBodies, StrictBodies}
+use Rattle.acpi_conservative.specs.Laws.{loading, IsSameBody, HasBodyOf, HaveBodies, StrictBodies}
 use Rattle.acpi_conservative.proofs.WholeTables.{strict_table_is_read}
 use Rattle.acpi_conservative.proofs.TableCounts.{strict_counts}
 use Rattle.acpi_conservative.proofs.Steps.{IsObjectAt, HaveEntries}
@@ -52,12 +58,40 @@ use Rattle.acpi_conservative.proofs.FollowedTables.{part_of, IsFollowed, AreFoll
 
 -- ---- one code has one reading
 
-same_body : (counts : Arguments) (p : Path) (depth : ℕ) (code : List ℕ) (r : BodyReading) → IsBodyReading counts p depth code r → (tree : BodyTree) → bodies.IsBodyOf counts p depth code tree
-    → IsSameBody counts p depth code tree r
-same_body counts p depth code (Terms v) is (read ts) tree = (is ts).1 tree
-same_body counts p depth code (Terms v) is (unread bytes) tree = absurd (tree.1 (terms_tree v.items) ((is (terms_tree v.items)).0 refl))
-same_body counts p depth code (Opaque reason place name) is (read ts) tree = absurd (is.1 ts tree)
-same_body counts p depth code (Opaque reason place name) is (unread bytes) tree = (tree.0, is.0)
+-- a reading without loads is one where loads may stand, and the other way round
+module _ (g : BodyGrammar) (p : Path) (depth : ℕ) (code : List ℕ) where
+  agrees : (es : List Searched) → AllByRecursion (AgreeAt g (loading g)) es
+  agrees [] = tt
+  agrees (e ∷ es) = (refl, agrees es)
+
+  agrees_back : (es : List Searched) → AllByRecursion (AgreeAt (loading g) g) es
+  agrees_back [] = tt
+  agrees_back (e ∷ es) = (refl, agrees_back es)
+
+  with_load : (ts : TermTrees) → ReadsBody g p depth code ts → ReadsBody (loading g) p depth code ts
+  with_load ts h = record {
+    spelled = kept_statements g (loading g) p finite.empty ts code (inl (λ locals may. refl)) (agrees (all_searches p finite.empty ts)) h.spelled;
+    within = h.within;
+  }
+
+  without_load : (ts : TermTrees) → have_load ts ≡ false → ReadsBody (loading g) p depth code ts → ReadsBody g p depth code ts
+  without_load ts none h = record {
+    spelled = kept_statements (loading g) g p finite.empty ts code (inr none) (agrees_back (all_searches p finite.empty ts)) h.spelled;
+    within = h.within;
+  }
+
+  reads_a_load : (ts : TermTrees) → ReadsBody (loading g) p depth code ts → ((us : TermTrees) → ¬ ReadsBody g p depth code us) → have_load ts ≡ true
+  reads_a_load ts h none = by (have_load ts) refl
+    where
+      by : (b : Bool) → have_load ts ≡ b → have_load ts ≡ true
+      by true is = is
+      by false is = absurd (none ts (without_load ts is h))
+
+  same_body : (r : BodyReading) → IsBodyReading (loading g) p depth code r → (tree : BodyTree) → bodies.IsBodyOf g p depth code tree → IsSameBody g p depth code tree r
+  same_body (Terms v) is (read ts) tree = (is ts).1 (with_load ts tree)
+  same_body (Terms v) is (unread bytes) tree = (tree.0, reads_a_load (terms_tree v.items) ((is (terms_tree v.items)).0 refl) tree.1)
+  same_body (Opaque reason place name) is (read ts) tree = absurd (is.1 ts (with_load ts tree))
+  same_body (Opaque reason place name) is (unread bytes) tree = (tree.0, is.0)
 
 -- ---- where an entry stands
 
@@ -147,31 +181,31 @@ module _ (depth number : ℕ) (kept : List SurveyedTable) (last : Reading) (k : 
       (subst (λ (t : Option SurveyedTable). IsBodyIn last.walk.entries last.counts depth (Some e) t (part_declaring kept last.walk.entries n) b) table_is
       (subst (λ (o : Option Entry). IsBodyIn last.walk.entries last.counts depth o (option_and_then (λ (e : Entry). slice_get kept (table_at e.term.place)) o) (part_declaring kept last.walk.entries n) b) is h))
 
-  module _ (objects : Namespace) (externals : Lookup ℕ) (counted : entry_count last.walk.entries last.counts k.expected e ≡ arguments objects (finite.get k.expected) e.path)
+  module _ (objects : Namespace) (externals : Lookup ℕ) (counted : entry_grammar last.walk.entries last.counts k.expected e ≡ loading (body_grammar objects (finite.get k.expected) e.path))
       (heard : finite.get k.expected ≡ externals) where
-    counts_are : entry_count last.walk.entries last.counts k.expected e ≡ arguments objects externals m.path
-    counts_are = counted ∙ ap (λ (x : Lookup ℕ). arguments objects x e.path) heard ∙ ap (arguments objects externals) at.path
+    counts_are : entry_grammar last.walk.entries last.counts k.expected e ≡ loading (body_grammar objects externals m.path)
+    counts_are = counted ∙ ap (λ (x : Lookup ℕ). loading (body_grammar objects x e.path)) heard ∙ ap (λ (q : Path). loading (body_grammar objects externals q)) at.path
 
     has_body : HasBodyOf depth kept last objects externals m
     has_body = record { number = n; entry = e; is_numbered = is; path = at.path; body = λ b h. by b (body_in b h) }
       where
         by : (b : Option MethodBody) → IsBodyIn last.walk.entries last.counts depth (Some e) (Some k) (Some (node_found at.to (closed (outline.method at.name at.flags) m.code))) b
             → (c : MethodBody) × (b ≡ Some c) × (c.code.now ≡ m.code)
-            × ((tree : BodyTree) → bodies.IsBodyOf (arguments objects externals m.path) m.path depth m.code tree → IsSameBody (arguments objects externals m.path) m.path depth m.code tree c.reading)
+            × ((tree : BodyTree) → bodies.IsBodyOf (body_grammar objects externals m.path) m.path depth m.code tree → IsSameBody (body_grammar objects externals m.path) m.path depth m.code tree c.reading)
         by None h = absurd h
         by (Some c) h = (
           c,
           refl,
           h.0,
-          same_body (arguments objects externals m.path) m.path depth m.code c.reading
-              (subst (λ (q : Path). IsBodyReading (arguments objects externals m.path) q depth m.code c.reading) at.path
-              (subst (λ (x : Arguments). IsBodyReading x e.path depth m.code c.reading) counts_are h.2)),
+          same_body (body_grammar objects externals m.path) m.path depth m.code c.reading
+              (subst (λ (q : Path). IsBodyReading (loading (body_grammar objects externals m.path)) q depth m.code c.reading) at.path
+              (subst (λ (x : BodyGrammar). IsBodyReading x e.path depth m.code c.reading) counts_are h.2)),
         )
 
 -- ---- of each method of each table
 
 module _ (depth : ℕ) (kept : List SurveyedTable) (last : Reading) (objects : Namespace)
-    (counted : (e : Entry) (expected : PathMap ℕ) → entry_count last.walk.entries last.counts expected e ≡ arguments objects (finite.get expected) e.path) where
+    (counted : (e : Entry) (expected : PathMap ℕ) → entry_grammar last.walk.entries last.counts expected e ≡ loading (body_grammar objects (finite.get expected) e.path)) where
   one_body : (number : ℕ) (before : List Entry) (t : List Placement) (k : SurveyedTable) → slice_get kept number ≡ Some k → IsFollowed last number before t k → length (code_read k.judged) ≤ 2 ^ 64 → (m : Method) → Among (methods t) m
       → HasBodyOf depth kept last objects (external_counts t) m
   one_body number before t k here f short m a =

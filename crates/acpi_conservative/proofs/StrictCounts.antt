@@ -11,17 +11,19 @@ use Rattle.acpi_space.specs.Lookups.{is_same_path, is_defined_in}
 use Rattle.acpi_space.specs.Search.{answer, tries}
 use Rattle.acpi_space.specs.Spaces.{PathMap, is_defined}
 use Rattle.acpi_declare.specs.Namespace.{Namespace}
-use Rattle.acpi_body.specs.Arguments.{Locals, defined_with, args_in, args_there, args_at, expected_at, expected_place, arguments}
+use Rattle.acpi_body.specs.Arguments.{Locals, defined_with, args_in, args_there, args_at, expected_at, expected_place, body_grammar}
 use Rattle.acpi_conditions.specs.Entries.{Path, Turn, Entry, HasNoCondition}
 use Rattle.acpi_conditions.specs.Known.{Known, candidates}
 use Rattle.acpi_conditions.specs.Links.{are_exclusive}
 use Rattle.acpi_conditions.specs.Met.{may_be_met, numbers_beyond}
 use Rattle.acpi_conditions.specs.Views.{seen_by}
-use Rattle.acpi_survey.specs.Bodies.{known_behind, counts_behind, entry_count}
+use Rattle.acpi_survey.specs.Bodies.{known_behind, counts_behind, entry_count, entry_grammar}
 use Rattle.acpi_survey.specs.Counts.{is_count, agreed, counts_numbered, count_of}
 use Rattle.acpi_survey.proofs.LocalPaths.{certain_with_locals}
 use Rattle.acpi_survey.proofs.SureCounts.{found_passes}
 use Rattle.acpi_conditions.proofs.Basics.{same_path}
+use Rattle.acpi_values.specs.Grammars.{with_loads}
+use Rattle.acpi_conservative.specs.Laws.{loading}
 use Rattle.acpi_conservative.proofs.AllSeen.{is_there, seen_certain, seen_possible, one_candidate}
 use Rattle.acpi_conservative.proofs.StrictLinks.{IsAllThere}
 
@@ -142,7 +144,7 @@ module _ (objects : Namespace) (es : List Entry) (counts : List (Option ℕ)) (a
           ∙ counts_agree objects counts e.way p es all.no_condition counted (sym (all.there p) ∙ sym (ap (λ b. b || is_defined_in objects p) is) ∙ found)
           ∙ sym (ap (λ b. Some (cond b 0 (args_in (objects p)))) is)
 
-  name_count : (n : NameParts) → entry_count es counts expected e locals n ≡ arguments objects (finite.get expected) e.path locals n
+  name_count : (n : NameParts) → entry_count es counts expected e locals n ≡ (body_grammar objects (finite.get expected) e.path locals).args n
   name_count n =
       ap (count_of (finite.get expected) e.path (counts_behind locals at_path) n) (body_candidates n)
       ∙ by (answer (defined_with objects locals) e.path n) (λ p is. found_passes (defined_with objects locals) (tries e.path n) p is)
@@ -154,5 +156,5 @@ module _ (objects : Namespace) (es : List Entry) (counts : List (Option ℕ)) (a
       by (Some p) passes = count_there p (passes p refl)
 
 pub counts_alike : (objects : Namespace) (es : List Entry) (counts : List (Option ℕ)) → IsAllThere objects es → AllZip (IsCounted objects) es counts
-    → (e : Entry) (expected : PathMap ℕ) → entry_count es counts expected e ≡ arguments objects (finite.get expected) e.path
-counts_alike objects es counts all counted e expected = λ i locals n. name_count objects es counts all counted e expected locals n i
+    → (e : Entry) (expected : PathMap ℕ) → entry_grammar es counts expected e ≡ loading (body_grammar objects (finite.get expected) e.path)
+counts_alike objects es counts all counted e expected = λ i locals. with_loads (λ n. name_count objects es counts all counted e expected locals n i)

@@ -1,5 +1,5 @@
 -- Where the strict load lists tables, the survey lists the same, without conditions (ACPI 6.5, 5.3).
-use Rattle.std.specs.Prelude.{◌≡◌, ℕ, false, List, [], ◌++◌, map, option_to_list, is_some, Option, Some, slice_get}
+use Rattle.std.specs.Prelude.{◌≡◌, ℕ, true, false, List, [], ◌++◌, map, option_to_list, is_some, Option, Some, slice_get}
 use Rattle.std.specs.List.{All, AllByRecursion, AllZip, concat, flat_map}
 use Rattle.std.specs.FinMap as finite
 use Rattle.acpi_table.specs.Tables.{IsTable}
@@ -16,8 +16,9 @@ use Rattle.acpi_declare.specs.Links.{answers}
 use Rattle.acpi_declare.specs.Loads.{AreListings, objects_after}
 use Rattle.acpi_declare.specs.Notes.{external_counts, Method, methods}
 use Rattle.acpi_declare.specs.Tables.{IsTableOf, code_of}
-use Rattle.acpi_body.specs.Arguments.{Arguments, arguments}
+use Rattle.acpi_body.specs.Arguments.{BodyGrammar, body_grammar}
 use Rattle.acpi_body.specs.Faults.{ShowsBody}
+use Rattle.acpi_body.specs.Loads.{have_load}
 use Rattle.acpi_body.specs.Bodies as bodies
 use Rattle.acpi_body.specs.Bodies.{BodyTree, read, unread}
 use Rattle.acpi_order.specs.Bodies as machines
@@ -37,7 +38,8 @@ use Rattle.acpi_survey.specs.declared.machine_survey.SurveyedTable.{SurveyedTabl
 use Rattle.acpi_entries.specs.declared.body.BodyReading.{BodyReading}
 use Rattle.acpi_entries.specs.declared.body.BodyReading.TheVariants.{Terms, Opaque}
 use Rattle.acpi_entries.specs.declared.body.MethodBody.{MethodBody}
-use Rattle.acpi_survey.specs.Bodies.{entry_count}
+use Rattle.acpi_values.specs.Grammars.{with_loads}
+use Rattle.acpi_survey.specs.Bodies.{entry_grammar}
 use Rattle.acpi_entries.specs.EntryBodies.{IsBodyOf}
 use Rattle.acpi_findings.specs.Findings.{problems_in, notes_by}
 use Rattle.acpi_ranges.specs.Index.{Unknowns}
@@ -156,14 +158,19 @@ StrictCertain = (depth : ℕ) (tables : List (List ℕ)) (ts : List (List Placem
     → is_certain_name (seen_by (record { entries = last.walk.entries; entry = e })) e.scope n
     ≡ is_some (answer (is_defined_in (objects_after predefined ts)) e.scope n)
 
--- as many values follow a name in the body of a method, whatever Externals say and the body has declared
+-- .. but that loads may stand
+abbrev pub loading : BodyGrammar → BodyGrammar
+loading g locals = with_loads (g locals).args
+
+-- As many values follow a name in the body of a method, whatever Externals say and the body has declared: its grammar
+-- is that of the strict load, but that loads may stand.
 abbrev pub StrictCounts : Type 0
 StrictCounts = (depth : ℕ) (tables : List (List ℕ)) (ts : List (List Placement))
     → AreListings depth 0 predefined tables ts
     → (nss : List NodeTrees) (last : Reading) → AreRead depth 0 first_reading tables nss last
     → (e : Entry) (expected : PathMap ℕ)
-    → entry_count last.walk.entries last.counts expected e
-    ≡ arguments (objects_after predefined ts) (finite.get expected) e.path
+    → entry_grammar last.walk.entries last.counts expected e
+    ≡ loading (body_grammar (objects_after predefined ts) (finite.get expected) e.path)
 
 -- ---- bodies
 
@@ -178,14 +185,16 @@ StrictExternals = (depth : ℕ) (kept : List SurveyedTable) (last : Reading)
     → AllZip HearsAlike ts kept
 
 -- What the load keeps of a method's code, and what the survey reads of it: the same terms; or none, since the code has
--- none, for a reason that is true of it.
-abbrev pub IsSameBody : Arguments → Path → (depth : ℕ) → (code : List ℕ) → BodyTree → BodyReading
+-- none, for a reason that is true of it; or the load keeps the bytes, and the survey reads terms with a LoadTable, Load
+-- or Unload.
+abbrev pub IsSameBody : BodyGrammar → Path → (depth : ℕ) → (code : List ℕ) → BodyTree → BodyReading
     → Type 0
-IsSameBody counts p depth code (read ts) (Terms v) = terms_tree v.items ≡ ts
-IsSameBody counts p depth code (unread bytes) (Opaque reason place name) =
-    (bytes ≡ code) × ShowsBody counts p depth code reason place
-IsSameBody counts p depth code (read ts) (Opaque reason place name) = ⊥
-IsSameBody counts p depth code (unread bytes) (Terms v) = ⊥
+IsSameBody g p depth code (read ts) (Terms v) = terms_tree v.items ≡ ts
+IsSameBody g p depth code (unread bytes) (Opaque reason place name) =
+    (bytes ≡ code) × ShowsBody (loading g) p depth code reason place
+IsSameBody g p depth code (unread bytes) (Terms v) =
+    (bytes ≡ code) × (have_load (terms_tree v.items) ≡ true)
+IsSameBody g p depth code (read ts) (Opaque reason place name) = ⊥
 
 -- The entry of that number stands at the method's path, and its body is the method's: it has the method's code, and
 -- what is read of it is what the load keeps, by its objects and what the Externals of the method's table say.
@@ -198,8 +207,8 @@ pub record HasBodyOf (depth : ℕ) (kept : List SurveyedTable) (last : Reading) 
   pub body : (b : Option MethodBody) → IsBodyOf last.walk.entries last.counts kept depth number b
       → (c : MethodBody) × (b ≡ Some c) × (c.code.now ≡ m.code)
       × ((tree : BodyTree)
-      → bodies.IsBodyOf (arguments objects externals m.path) m.path depth m.code tree
-      → IsSameBody (arguments objects externals m.path) m.path depth m.code tree c.reading)
+      → bodies.IsBodyOf (body_grammar objects externals m.path) m.path depth m.code tree
+      → IsSameBody (body_grammar objects externals m.path) m.path depth m.code tree c.reading)
 
 -- each method of each table has such an entry
 abbrev pub HaveBodies : (depth : ℕ) → List SurveyedTable → Reading → Namespace → List Placement
@@ -224,7 +233,7 @@ pub record IsKeptAs (depth : ℕ) (kept : List SurveyedTable) (last : Reading) (
   pub path : entry.path ≡ m.path
   pub body : (b : Option MethodBody) → IsBodyOf last.walk.entries last.counts kept depth number b
       → (c : MethodBody) × (b ≡ Some c) × (c.code.now ≡ m.code) × IsSameBody
-      (machines.count objects m) m.path depth m.code tree c.reading
+      (machines.grammar_of objects m) m.path depth m.code tree c.reading
 
 -- Where tables load to a machine, each of its methods has an entry whose body is what the machine keeps.
 abbrev pub StrictMachineBodies : Type 0

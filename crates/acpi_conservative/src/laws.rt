@@ -61,8 +61,8 @@ pub fn strict_links_and_counts()
 {}
 
 /// The Externals of each table say the same in the survey and in the strict load. So where the load has the terms of a
-/// method's code, the survey's body of that entry has the same, and where the load has none, neither has the survey.
-/// Where tables load to a machine, the bodies of its methods are these.
+/// method's code, the survey's body of that entry has the same; where the load has none, neither has the survey, or its
+/// terms load or unload a table. Where tables load to a machine, the bodies of its methods are these.
 pub fn strict_bodies_are_read()
     ensures externals { StrictExternals }
     ensures bodies { StrictBodies }

@@ -2,7 +2,7 @@
 
 ghost use Rattle.std.specs.Prelude.{◌≡◌, IfOk};
 ghost use Rattle.std.specs.Option.{option_map, option_and_then};
-ghost use Rattle.acpi_entries.specs.steps.MethodBodies.{method_count};
+ghost use Rattle.acpi_entries.specs.steps.MethodBodies.{method_grammar};
 ghost use Rattle.acpi_survey.specs.SurveyOrder.{AllTile};
 ghost use Rattle.acpi_entries.specs.EntryBodies.{IsBodyReading, IsBodyOf, method_code};
 ghost use Rattle.acpi_ranges.specs.Lookup.{found_of};
@@ -72,7 +72,7 @@ fn read_body(
     code: &[u8],
     depth: Depth,
 ) -> Result<BodyReading, AllocError>
-    ensures { IfOk result (λ r. IsBodyReading (method_count methods.now entry.now) entry.now.path
+    ensures { IfOk result (λ r. IsBodyReading (method_grammar methods.now entry.now) entry.now.path
         depth code.now r) }
 {
     match terms_of(methods, entry, code, depth) {

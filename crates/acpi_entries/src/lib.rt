@@ -5,6 +5,7 @@
 //! let condition = condition_of(&survey, number)?;   // what has to be so for the term to declare its object
 //! let links = links_of(&survey, number)?;           // where the names of the term may be found
 //! let body = body_of(&survey, number)?;             // what the code of a method is read as
+//! let found = find_behind(alloc, &seen, &locals, &method, name)?;     // where a name in it may be found
 //! ```
 #![tactic(auto)]
 
@@ -20,3 +21,4 @@ mod setting;
 pub use body::{BodyReading, MethodBody, body_of};
 pub use condition::{Literal, PlacedLiteral, condition_of};
 pub use links::{Link, links_in, links_of};
+pub use locals::find_behind;

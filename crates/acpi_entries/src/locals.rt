@@ -1,19 +1,23 @@
 //! What is known behind the declarations of a method body.
 
-ghost use Rattle.std.specs.Prelude.{◌≡◌, ◌||◌, IsSome};
+ghost use Rattle.std.specs.Prelude.{◌≡◌, ◌||◌, IfOk, IsSome};
+ghost use Rattle.acpi_name.specs.NameRefs.{name_parts};
+ghost use Rattle.acpi_conditions.specs.Known.{candidates, is_certain_name};
 ghost use Rattle.acpi_conditions.specs.Presences.{is_a_scope, is_something};
+ghost use Rattle.acpi_conditions.specs.Views.{seen_by};
 ghost use Rattle.acpi_space.specs.Spaces.{is_defined};
 ghost use Rattle.acpi_survey.specs.Bodies.{known_behind};
 
-use acpi_conditions::{Presence, Status, Statuses};
-use acpi_name::Path;
+use acpi_conditions::{Candidates, Presence, Seen, Status, Statuses, find};
+use acpi_name::{NameRef, Path};
 use acpi_space::{Space, TreeSpace};
+use std::alloc::{AllocError, Global};
 
 /// What is known behind what a body has declared: each path of it is certain.
 #[derive(Drop)]
-pub(crate) struct WithLocals<'a, S: Statuses> {
-    pub(crate) known: &'a S,
-    pub(crate) locals: &'a TreeSpace<()>,
+struct WithLocals<'a, S: Statuses> {
+    known: &'a S,
+    locals: &'a TreeSpace<()>,
 }
 
 /// Whether the body has declared the path.
@@ -45,4 +49,27 @@ impl<'a, S: Statuses> Statuses for WithLocals<'a, S> {
             possible: status.possible,
         }
     }
+}
+
+/// Where a name in the body of a method may be found from a scope, as it is seen from the method's entry and behind what
+/// the body has declared, each path of which is certain (ACPI 6.5, 5.3 and 5.5.2.3).
+pub fn find_behind(
+    alloc: Global,
+    seen: &Seen<'_>,
+    locals: &TreeSpace<()>,
+    scope: &Path,
+    name: NameRef<'_>,
+) -> Result<Candidates, AllocError>
+    ensures paths { IfOk result (λ c. c.paths.items
+        ≡ candidates (known_behind locals.now (seen_by seen.now)) scope.now
+        (name_parts name.entry)) }
+    ensures certain { IfOk result (λ c. c.is_certain
+        ≡ is_certain_name (known_behind locals.now (seen_by seen.now)) scope.now
+        (name_parts name.entry)) }
+{
+    let behind = WithLocals {
+        known: seen,
+        locals,
+    };
+    find(alloc, &behind, scope, name)
 }

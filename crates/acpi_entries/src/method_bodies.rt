@@ -6,7 +6,7 @@ ghost use Rattle.acpi_tree.specs.TermView.{terms_tree};
 ghost use Rattle.acpi_body.specs.Statements.{ReadsBody};
 ghost use Rattle.acpi_body.specs.Faults.{ShowsBody};
 ghost use Rattle.acpi_body.specs.Reasons.{IfFault};
-ghost use Rattle.acpi_entries.specs.steps.MethodBodies.{method_count};
+ghost use Rattle.acpi_entries.specs.steps.MethodBodies.{method_grammar};
 
 use crate::setting::Setting;
 use acpi_body::{BodyError, read_terms};
@@ -35,14 +35,14 @@ pub(crate) fn terms_of(
 ) -> Result<Vec<Term>, BodyError>
     // Terms are the reading of the body.
     ensures read { IfOk result (λ v. (ts : TermTrees) → (terms_tree v.items ≡ ts)
-        ↔ ReadsBody (method_count methods.now entry.now) entry.now.path depth body.now ts) }
+        ↔ ReadsBody (method_grammar methods.now entry.now) entry.now.path depth body.now ts) }
     // A fault is the one at which reading the body stops ..
     ensures faults { IfErr result (λ e. IfFault e (λ f.
-        ShowsBody (method_count methods.now entry.now) entry.now.path depth body.now
+        ShowsBody (method_grammar methods.now entry.now) entry.now.path depth body.now
         f.reason f.place)) }
     // .. and it has no reading.
     ensures unread { IfErr result (λ e. IfFault e (λ f. (ts : TermTrees)
-        → ¬ ReadsBody (method_count methods.now entry.now) entry.now.path depth body.now ts)) }
+        → ¬ ReadsBody (method_grammar methods.now entry.now) entry.now.path depth body.now ts)) }
 {
     let entries = methods.entries;
     let setting = Setting {

@@ -3,14 +3,15 @@
 ghost use Rattle.std.specs.Prelude.{◌≡◌, ◌++◌, OnOk};
 ghost use Rattle.std.specs.List.{flat_map};
 ghost use Rattle.std.specs.FinMap as finite;
+ghost use Rattle.acpi_body.specs.Grammars.{with_loads};
 ghost use Rattle.acpi_conditions.specs.Met.{numbers_met};
 ghost use Rattle.acpi_conditions.specs.Views.{seen_by};
 ghost use Rattle.acpi_survey.specs.Counts.{counts_numbered, count_of};
 ghost use Rattle.acpi_survey.specs.Bodies.{body_count, counts_behind};
 
-use crate::locals::{WithLocals, is_local};
+use crate::locals::{find_behind, is_local};
 use acpi_body::MethodCounting;
-use acpi_conditions::{Met, Seen, find};
+use acpi_conditions::{Met, Seen};
 use acpi_counts::Counts;
 use acpi_name::{NameRef, Path};
 use acpi_space::TreeSpace;
@@ -50,8 +51,8 @@ impl<'a> Setting<'a> {
 }
 
 impl<'a> MethodCounting for Setting<'a> {
-    ghost arguments = { λ s. body_count (finite.get s.expected.now) s.method.now (seen_by s.seen)
-        (λ p. counts_numbered s.counts.now (numbers_met s.met p)) };
+    ghost grammar = { λ s locals. with_loads (body_count (finite.get s.expected.now) s.method.now
+        (seen_by s.seen) (λ p. counts_numbered s.counts.now (numbers_met s.met p)) locals) };
 
     ghost method = { λ s. s.method.now };
 
@@ -64,11 +65,7 @@ impl<'a> MethodCounting for Setting<'a> {
     }
 
     fn count(&self, locals: &TreeSpace<()>, name: NameRef<'_>) -> Result<Option<u8>, AllocError> {
-        let behind = WithLocals {
-            known: &self.seen,
-            locals,
-        };
-        let candidates = find(self.alloc, &behind, self.method, name)?;
+        let candidates = find_behind(self.alloc, &self.seen, locals, self.method, name)?;
         if candidates.paths.is_empty() {
             let count = expected_count(self.alloc, self.expected, self.method, name)?;
             return Ok(Some(count));
@@ -78,5 +75,9 @@ impl<'a> MethodCounting for Setting<'a> {
             self.put_counts_at(&mut found, locals, path)?;
         }
         Ok(agreed(&found))
+    }
+
+    fn loads(&self) -> bool {
+        true
     }
 }

@@ -20,7 +20,7 @@ use Rattle.acpi_ranges.specs.Index.{Unknowns, entered_in, unknowns_in}
 use Rattle.acpi_ranges.specs.Ranges.{of_node, Range, range, Entered, scope_inside, first_place, is_if, element_ranges, inner_ranges, ranges_of}
 use Rattle.acpi_ranges.specs.Sites.{offset_of}
 use Rattle.acpi_findings.specs.Findings.{notes_by, notes_in}
-use Rattle.acpi_findings.specs.FindingsOrder.{site_number, NotesStandInOrder}
+use Rattle.acpi_findings.specs.FindingsOrder.{note_number, NotesStandInOrder}
 use Rattle.acpi_findings.specs.Marks.{PlacedMark, called, load, marks_in_plain, marks_in_fixed}
 use Rattle.acpi_findings.specs.Notes.{Noticed, whole_note, whole_reasons, whole_notes, mark_reasons, all_mark_reasons, stray_reasons, plain_reasons, fixed_reasons, is_else, else_reasons, part_reasons, note_at, range_notes}
 use Rattle.acpi_findings.specs.declared.notes.Note.{Note}
@@ -62,9 +62,6 @@ place_of code place bytes h = omega (arith, h.whole)
 
 abbrev noticed_place : Noticed → ℕ
 noticed_place x = x.0
-
-abbrev pub note_number : Note → ℕ
-note_number n = site_number n.site
 
 noted : (number : ℕ) (s : Path) (from to : ℕ) (xs : List Noticed) → Rises noticed_place from to xs → Rises note_number (number_at number from) (number_at number to) (map (note_at number s) xs)
 noted number s from to [] h = number_le number from to h

@@ -1,6 +1,7 @@
 -- What is found in tables stands in the order of the sites (ACPI 6.5, 5.2.6, 5.2.11 and 20.2.5).
 use Rattle.std.specs.Prelude.{ℕ, List}
-use Rattle.std.specs.List.Sorted.{IsNonDecreasingBy}
+use Rattle.std.specs.List.Sorted.{IsNonDecreasingBy, IsPermutation, IsStableByKey}
+use Rattle.std.specs.Ordering.{nat_cmp}
 use Rattle.acpi_survey.specs.Predefined.{first_reading}
 use Rattle.acpi_survey.specs.Reading.{Reading}
 use Rattle.acpi_survey.specs.Survey.{place_in}
@@ -14,6 +15,17 @@ use Rattle.acpi_findings.specs.declared.notes.Note.{Note}
 -- the table's number and the offset, a number of 64 bits, as one number
 abbrev pub site_number : Site → ℕ
 site_number s = place_in s.table s.offset
+
+abbrev pub note_number : Note → ℕ
+note_number n = site_number n.site
+
+-- each of the notes stands there once, by its site, and those of one site as they stood
+pub record AreBySite (notes ordered : List Note) : Type 0 where
+  pub each : IsPermutation notes ordered
+  pub ascending : IsNonDecreasingBy note_number ordered
+  pub stable : IsStableByKey note_number nat_cmp notes ordered
+
+-- ---- laws
 
 abbrev pub NotesStandInOrder : Type 0
 NotesStandInOrder =

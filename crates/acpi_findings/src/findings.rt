@@ -6,13 +6,21 @@ ghost use Rattle.acpi_findings.specs.Problems.{table_problems};
 ghost use Rattle.acpi_findings.specs.Notes.{table_notes};
 ghost use Rattle.acpi_findings.specs.ProblemViews.{problem_view};
 ghost use Rattle.acpi_findings.specs.Findings.{notes_by, notes_in, problems_by, problems_in};
+ghost use Rattle.acpi_findings.specs.FindingsOrder.{AreBySite, note_number};
 ghost use Rattle.acpi_ranges.specs.steps.Indexes.{index_entered, index_refusals, index_unknowns};
 
 use crate::notes::{Note, put_notes};
 use crate::problems::{Problem, ReadTable, put_problems};
 use acpi_ranges::{PlaceIndex, index_of};
-use acpi_survey::{Survey, SurveyedTable};
+use acpi_survey::{Survey, SurveyedTable, place_in};
 use std::alloc::{AllocError, Global};
+
+// The site of a note, as one number.
+fn note_number(note: &Note) -> u128
+    ensures { result ≡ note_number note.now }
+{
+    place_in(note.site.table, note.site.offset)
+}
 
 /// What is found in tables.
 #[derive(Drop)]
@@ -34,6 +42,18 @@ impl Findings {
         ensures { result.now ≡ self.now.notes.items }
     {
         &self.notes
+    }
+
+    /// Adds notes, each where its site stands in the order, behind those of the same site.
+    pub fn add_notes(&mut self, notes: Vec<Note>) -> Result<(), AllocError>
+        ensures problems { self.new.problems ≡ self.old.problems }
+        ensures notes { OnOk result
+            (AreBySite (self.old.notes.items ++ notes.items) self.new.notes.items) }
+    {
+        'each: for note in notes {
+            self.notes.push(note)?;
+        }
+        self.notes.sort_by_key(|note| note_number(note))
     }
 
     // Puts what is found in a table of that number.

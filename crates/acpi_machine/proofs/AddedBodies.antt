@@ -7,7 +7,7 @@ use Rattle.acpi_declare.specs.Namespace.{Namespace}
 use Rattle.acpi_declare.specs.Notes as notes
 use Rattle.acpi_pass.proofs.ValuesByPath.{get_inserted}
 use Rattle.acpi_pass.proofs.Unions.{union_assoc}
-use Rattle.acpi_body.specs.Arguments.{arguments}
+use Rattle.acpi_body.specs.Arguments.{body_grammar}
 use Rattle.acpi_body.specs.Bodies.{BodyTree, IsBodyOf}
 use Rattle.acpi_order.specs.Bodies.{Method, with_counts, AreBodies, bodies_at}
 use Rattle.acpi_machine.specs.steps.Adding.{AddsBodies}
@@ -15,11 +15,11 @@ use Rattle.acpi_machine.specs.steps.Adding.{AddsBodies}
 -- one method, and others behind it
 pub adds_one : (depth : ℕ) (objects : Namespace) (counts : Lookup ℕ) (m : notes.Method) (ms : List notes.Method) (bytes : List ℕ) (b : BodyTree)
     (older newer : FinMap path_cmp BodyTree) (now : Lookup BodyTree)
-    → bytes ≡ m.code → IsBodyOf (arguments objects counts m.path) m.path depth bytes b → newer ≡ insert older m.path b
+    → bytes ≡ m.code → IsBodyOf (body_grammar objects counts m.path) m.path depth bytes b → newer ≡ insert older m.path b
     → AddsBodies depth objects (map (with_counts counts) ms) (get newer) now → AddsBodies depth objects (map (with_counts counts) (m ∷ ms)) (get older) now
 adds_one depth objects counts m ms bytes b older newer now same body put h = (
   b,
-  subst (λ (code : List ℕ). IsBodyOf (arguments objects counts m.path) m.path depth code b) same body,
+  subst (λ (code : List ℕ). IsBodyOf (body_grammar objects counts m.path) m.path depth code b) same body,
   subst (λ (l : Lookup BodyTree). AddsBodies depth objects (map (with_counts counts) ms) l now) (ap get put ∙ get_inserted older m.path b) h,
 )
 

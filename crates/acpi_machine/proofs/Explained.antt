@@ -1,6 +1,7 @@
 -- The reason of the method at a path, among the methods that tables note.
 use Rattle.std.proofs.Common.{◌≡◌, ◌≢◌, ◌↔◌, ◌⊎◌, inl, inr, ℕ, Bool, true, false, cond, List, [], ◌∷◌, ◌++◌, map, length, find, Option, Some, None, Result, Ok, Err, IfOk, IfSome, refl, sym, ap, subst, ◌∙◌}
 use Rattle.std.specs.FinMap.{get}
+use Rattle.std.specs.FinMap as finite
 use Rattle.acpi_name.specs.Names.{Segment}
 use Rattle.acpi_space.specs.Laws.{Among}
 use Rattle.acpi_space.specs.Lookups.{Lookup, is_same_path}
@@ -20,11 +21,11 @@ use Rattle.acpi_pass.specs.declared.notes.TableNotes.{TableNotes}
 use Rattle.acpi_pass.proofs.Unions.{path_same}
 use Rattle.acpi_values.specs.declared.fault.BodyFault.{BodyFault}
 use Rattle.acpi_values.specs.declared.fault.BodyReason.{BodyReason}
-use Rattle.acpi_body.specs.Arguments.{Arguments, arguments}
+use Rattle.acpi_body.specs.Arguments.{BodyGrammar, body_grammar}
 use Rattle.acpi_body.specs.Faults.{ShowsBody, IsNoStatement}
 use Rattle.acpi_body.specs.Reasons.{IsReason}
-use Rattle.acpi_body.specs.Statements.{ReadsBody}
-use Rattle.acpi_order.specs.Bodies.{Method, with_counts, count, all_methods}
+use Rattle.acpi_body.specs.Statements.{locals_after_all, ReadsBody}
+use Rattle.acpi_order.specs.Bodies.{Method, with_counts, grammar_of, all_methods}
 use Rattle.acpi_machine.specs.Explaining.{IsReasonAt, IsExplained}
 use Rattle.acpi_order.specs.steps.Noted.{noted, all_noted}
 use Rattle.acpi_machine.proofs.Machines.{noted_of_load}
@@ -71,9 +72,9 @@ none_among counts p (x ∷ ms) e m i = by (λ e i. none_among counts p ms e m i)
 -- ---- what is told of the tables that are left
 
 -- what `why` answers
-pub reason_of : {E : Type 0} (args : Arguments) (s : List Segment) (depth : ℕ) (bytes : List ℕ) (r : Result (Option BodyFault) E)
+pub reason_of : {E : Type 0} (args : BodyGrammar) (s : List Segment) (depth : ℕ) (bytes : List ℕ) (r : Result (Option BodyFault) E)
     → IfOk r (λ w. (w ≡ None) ↔ ((ts : TermTrees) × ReadsBody args s depth bytes ts)) → IfOk r (λ w. IfSome w (λ f. ShowsBody args s depth bytes f.reason f.place))
-    → ((u v : List ℕ) (ts : TermTrees) (reason : BodyReason) → bytes ≡ u ++ v → ReadsBody args s depth u ts → IsNoStatement reason v
+    → ((u v : List ℕ) (ts : TermTrees) (reason : BodyReason) → bytes ≡ u ++ v → ReadsBody args s depth u ts → IsNoStatement (args (locals_after_all s finite.empty ts)).loads reason v
     → IfOk r (λ w. w ≡ Some (record { reason = reason; place = length u })))
     → IfOk r (λ w. IsReason args s depth bytes w)
 reason_of args s depth bytes (Ok w) read shown next = record { read = read; shown = shown; next = next }
@@ -82,12 +83,12 @@ reason_of args s depth bytes (Err e) read shown next = tt
 -- the reason of a method of the first of these tables
 pub told_here : {E : Type 0} (depth : ℕ) (objects : Namespace) (t : TableNotes) (later : List TableNotes) (p : List Segment) (methods : List code.Method) (m : code.Method) (bytes : List ℕ)
     (r : Result (Option BodyFault) E) → methods ≡ t.methods.items → find (at_path p) methods ≡ Some m → bytes ≡ m.code
-    → IfOk r (λ w. IsReason (arguments objects (get t.counts) m.path) m.path depth bytes w) → IfOk r (λ w. IsReasonAt depth objects (all_noted (map notes_of (t ∷ later))) p w)
+    → IfOk r (λ w. IsReason (body_grammar objects (get t.counts) m.path) m.path depth bytes w) → IfOk r (λ w. IsReasonAt depth objects (all_noted (map notes_of (t ∷ later))) p w)
 told_here depth objects t later p methods m bytes (Err e) same found code told = tt
 told_here depth objects t later p methods m bytes (Ok w) same found code told =
     let one = found_among (get t.counts) p t.methods.items m (ap (find (at_path p)) (sym same) ∙ found) in
     let it : Method = with_counts (get t.counts) (method_of m) in
-    inl (it, among_left (noted (notes_of t)) (all_noted (map notes_of later)) it one.0, one.1, subst (λ (b : List ℕ). IsReason (count objects it) m.path depth b w) code told)
+    inl (it, among_left (noted (notes_of t)) (all_noted (map notes_of later)) it one.0, one.1, subst (λ (b : List ℕ). IsReason (grammar_of objects it) m.path depth b w) code told)
 
 behind_none : (depth : ℕ) (objects : Namespace) (here behind : List Method) (p : List Segment) (w : Option BodyFault)
     → ((m : Method) → Among here m → m.path ≢ p) → IsReasonAt depth objects behind p w → IsReasonAt depth objects (here ++ behind) p w

@@ -8,12 +8,12 @@ use Rattle.acpi_declare.specs.Listing.{Placement}
 use Rattle.acpi_declare.specs.Loads.{AreListings, objects_after}
 use Rattle.acpi_values.specs.declared.fault.BodyFault.{BodyFault}
 use Rattle.acpi_body.specs.Reasons.{IsReason}
-use Rattle.acpi_order.specs.Bodies.{Method, all_methods, count}
+use Rattle.acpi_order.specs.Bodies.{Method, all_methods, grammar_of}
 
 -- one of the methods stands at the path, and this is told of its body; or none does, and nothing is told
 abbrev pub IsReasonAt : ℕ → Namespace → List Method → List Segment → Option BodyFault → Type 0
 IsReasonAt depth objects ms p w =
-    ((m : Method) × Among ms m × (m.path ≡ p) × IsReason (count objects m) m.path depth m.code w)
+    ((m : Method) × Among ms m × (m.path ≡ p) × IsReason (grammar_of objects m) m.path depth m.code w)
     ⊎ (((m : Method) → Among ms m → m.path ≢ p) × (w ≡ None))
 
 -- what is told of the method that the tables declare at the path, over all their objects

@@ -10,4 +10,4 @@ pub mod laws;
 mod parts;
 
 pub use acpi_kinds::{ObjectKind, UnitForm};
-pub use parts::object_kind;
+pub use parts::{kind_of_decl, object_kind};

@@ -45,7 +45,9 @@ fn computed(term: &Term) -> Option<&Term>
     }
 }
 
-fn kind_of_decl<'a>(decl: &'a Decl) -> Option<ObjectKind<'a>>
+/// The kind of the object that a declaration of one name declares; field lists declare their elements (ACPI 6.5,
+/// 20.2.5.2).
+pub fn kind_of_decl<'a>(decl: &'a Decl) -> Option<ObjectKind<'a>>
     ensures { option_map kind_view result ≡ term_object (decl_view decl.now) }
 {
     match decl {

@@ -18,7 +18,7 @@ use Rattle.acpi_declare.specs.Links.{answers}
 use Rattle.acpi_pass.proofs.Unions.{path_same}
 use Rattle.acpi_body.specs.Arguments.{Locals, defined_with, expected_place, expected_at, args_at, count_behind}
 use Rattle.acpi_body.specs.Bodies.{BodyTree, read, unread}
-use Rattle.acpi_order.specs.Bodies.{Method, count, IsReading, IsBody}
+use Rattle.acpi_order.specs.Bodies.{Method, grammar_of, IsReading, IsBody}
 use Rattle.acpi_order.specs.Misses.{IsBodyMiss, IsAwaiting}
 use Rattle.acpi_body.specs.Misses.{awaited_place, unless_found}
 use Rattle.acpi_body.proofs.Grown.{found_passes}
@@ -114,14 +114,14 @@ module _ (N M : Namespace) (Miss : List Segment → Type 0) (Await : List Segmen
   none_at locals n p k = not_either (is_defined locals p) (N p) (among_all (λ q. defined_with N locals q ≡ false) _ (skipped_fail (defined_with N locals) (tries m.path n)) p k)
 
   -- the count is kept where each path that was missed is a miss
-  kept_firm : (locals : Locals) (n : NameParts) → ((p : List Segment) → Among (missed (defined_with N locals) m.path n) p → Miss p) → count M m locals n ≡ count N m locals n
+  kept_firm : (locals : Locals) (n : NameParts) → ((p : List Segment) → Among (missed (defined_with N locals) m.path n) p → Miss p) → (grammar_of M m locals).args n ≡ (grammar_of N m locals).args n
   kept_firm locals n missing = ap Some (kept_count N M kept.up locals (expected m n) (tries m.path n)
       (all_among _ _ (λ p k o at. absurd (not_both (M p) o at (kept.free p (none_at locals n p k) (missing p k))))))
 
   -- .. and where one of them, whose External gave the count, is awaited
   kept_open : (locals : Locals) (n : NameParts)
       → ((p : List Segment) → Among (missed (defined_with N locals) m.path n) p → awaited_place N m.counts m.path locals n ≢ Some p → Miss p)
-      → ((p : List Segment) (k : ℕ) → awaited_place N m.counts m.path locals n ≡ Some p → m.counts p ≡ Some k → Await p k) → count M m locals n ≡ count N m locals n
+      → ((p : List Segment) (k : ℕ) → awaited_place N m.counts m.path locals n ≡ Some p → m.counts p ≡ Some k → Await p k) → (grammar_of M m locals).args n ≡ (grammar_of N m locals).args n
   kept_open locals n missing awaits = by (awaited_place N m.counts m.path locals n) refl
     where
       harmless : (a : List Segment) → awaited_place N m.counts m.path locals n ≡ Some a → (k : ℕ) → m.counts a ≡ Some k → (p : List Segment)
@@ -133,7 +133,7 @@ module _ (N M : Namespace) (Miss : List Segment → Type 0) (Await : List Segmen
           let firm : awaited_place N m.counts m.path locals n ≢ Some p = λ w. other_path p a same (sym (one_some a p (sym is ∙ w))) in
           absurd (not_both (M p) o at (kept.free p (none_at locals n p i) (missing p i firm)))
 
-      by : (w : Option (List Segment)) → awaited_place N m.counts m.path locals n ≡ w → count M m locals n ≡ count N m locals n
+      by : (w : Option (List Segment)) → awaited_place N m.counts m.path locals n ≡ w → (grammar_of M m locals).args n ≡ (grammar_of N m locals).args n
       by None is = kept_firm locals n (λ p k. missing p k (λ e. let never : ⊥ = not_both _ p e is in never))
       by (Some a) is =
           let both = unless_is (answer (defined_with N locals) m.path n) _ a is in
@@ -144,18 +144,18 @@ module _ (N M : Namespace) (Miss : List Segment → Type 0) (Await : List Segmen
 
   module _ (depth : ℕ) (missing : (p : List Segment) → IsBodyMiss depth N m p → Miss p) (awaits : (p : List Segment) (k : ℕ) → IsAwaiting depth N m p k → Await p k) where
     kept_reading : (ts : TermTrees) → IsReading depth N m ts → IsReading depth M m ts
-    kept_reading ts h = kept_reads depth (count N m) (count M m) m.path m.code ts
+    kept_reading ts h = kept_reads depth (grammar_of N m) (grammar_of M m) m.path m.code ts (inl (λ locals may. may))
         (all_among _ _ (λ e i. sym (kept_open e.0 e.1
         (λ p k firm. missing p (read ts, h, record { locals = e.0; name = e.1; searched = i; misses = k; firm = firm }))
         (λ p k w c. awaits p k (read ts, h, record { locals = e.0; name = e.1; searched = i; awaits = w; expects = c })))))
         h
 
     kept_none : HasNoReading depth N m → HasNoReading depth M m
-    kept_none none ts h = none ts (kept_reads depth (count M m) (count N m) m.path m.code ts
+    kept_none none ts h = none ts (kept_reads depth (grammar_of M m) (grammar_of N m) m.path m.code ts (inl (λ locals may. may))
         (all_map _ _ (λ e spelled. kept_firm e.0 e.1 (λ p k.
         let fewer = fewer_skipped (is_defined_in N) (defined_with N e.0) (λ q. or_right (is_defined e.0 q) (is_defined_in N q)) (tries m.path e.1) p k in
         missing p (unread m.code, (refl, none), record { name = e.1; spelled = spelled; misses = fewer })))
-        _ (spelled_reads depth (count M m) m.path m.code ts h))
+        _ (spelled_reads depth (grammar_of M m) m.path m.code ts h))
         h)
 
     pub kept_body : (v : BodyTree) → IsBody depth N m v → IsBody depth M m v

@@ -16,7 +16,7 @@ use Rattle.acpi_declare.specs.Predefined.{predefined}
 use Rattle.acpi_body.specs.Arguments.{defined_with, args_at, expected_at, expected_place}
 use Rattle.acpi_body.specs.Bodies.{read}
 use Rattle.acpi_body.specs.Misses.{unless_found, awaited_place}
-use Rattle.acpi_order.specs.Bodies.{Method, count, IsReading}
+use Rattle.acpi_order.specs.Bodies.{Method, grammar_of, IsReading}
 use Rattle.acpi_order.specs.Misses.{IsBodyMiss, IsAwaiting}
 
 abbrev sb : Segment
@@ -61,7 +61,7 @@ nowhere = λ i q. ap (λ (o : Option (Unit {0})). is_some o || false) (get-empty
 abbrev values_by : (List Segment → Bool) → ℕ
 values_by d = args_at nothing finite.empty (expected_at caller.counts (expected_place caller.counts caller.path (plain mth2))) (answer d caller.path (plain mth2))
 
-no_values : count nothing caller finite.empty (plain mth2) ≡ Some 0
+no_values : (grammar_of nothing caller finite.empty).args (plain mth2) ≡ Some 0
 no_values = ap (λ (d : List Segment → Bool). Some (values_by d)) nowhere
 
 abbrev statement : TermTrees

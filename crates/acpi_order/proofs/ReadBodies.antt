@@ -6,24 +6,25 @@ use Rattle.acpi_name.specs.Names.{Segment}
 use Rattle.acpi_space.specs.Lookups.{Lookup, nothing, singleton, union}
 use Rattle.acpi_tree.specs.Terms.{TermTrees}
 use Rattle.acpi_declare.specs.Namespace.{Namespace}
-use Rattle.acpi_body.specs.Arguments.{Arguments}
+use Rattle.acpi_body.specs.Arguments.{BodyGrammar}
 use Rattle.acpi_body.specs.Bodies.{BodyTree, read, unread}
 use Rattle.acpi_body.specs.Laws.{AgreeAt}
+use Rattle.acpi_body.specs.Loads.{have_load, KeepsLoads}
 use Rattle.acpi_body.specs.Searches.{all_searches, IsSpelledIn}
 use Rattle.acpi_body.specs.Statements.{ReadsBody}
 use Rattle.acpi_body.proofs.Kept.{kept_statements, spelled_statements}
 use Rattle.acpi_body.proofs.ReadBodies.{one_reading, read_or_none}
-use Rattle.acpi_order.specs.Bodies.{Method, count, IsReading, IsBody, AreBodies, bodies_at}
+use Rattle.acpi_order.specs.Bodies.{Method, grammar_of, IsReading, IsBody, AreBodies, bodies_at}
 
 -- ---- readings
 
 -- a reading stays one where the names that it searches count the same
-pub kept_reads : (depth : ℕ) (a b : Arguments) (s : List Segment) (bytes : List ℕ) (ts : TermTrees)
-    → AllByRecursion (AgreeAt a b) (all_searches s finite.empty ts) → ReadsBody a s depth bytes ts → ReadsBody b s depth bytes ts
-kept_reads depth a b s bytes ts same h = record { spelled = kept_statements a b s finite.empty ts bytes same h.spelled; within = h.within }
+pub kept_reads : (depth : ℕ) (a b : BodyGrammar) (s : List Segment) (bytes : List ℕ) (ts : TermTrees)
+    → KeepsLoads a b (have_load ts) → AllByRecursion (AgreeAt a b) (all_searches s finite.empty ts) → ReadsBody a s depth bytes ts → ReadsBody b s depth bytes ts
+kept_reads depth a b s bytes ts keep same h = record { spelled = kept_statements a b s finite.empty ts bytes keep same h.spelled; within = h.within }
 
 -- the names that a reading searches are spelled in its bytes
-pub spelled_reads : (depth : ℕ) (a : Arguments) (s : List Segment) (bytes : List ℕ) (ts : TermTrees)
+pub spelled_reads : (depth : ℕ) (a : BodyGrammar) (s : List Segment) (bytes : List ℕ) (ts : TermTrees)
     → ReadsBody a s depth bytes ts → AllByRecursion (λ e. IsSpelledIn bytes e.1) (all_searches s finite.empty ts)
 spelled_reads depth a s bytes ts h = spelled_statements a s finite.empty ts bytes h.spelled
 
@@ -31,10 +32,10 @@ abbrev pub HasNoReading : ℕ → Namespace → Method → Type 0
 HasNoReading depth objects m = (ts : TermTrees) → IsReading depth objects m ts → ⊥
 
 pub reading_or_none : (depth : ℕ) (objects : Namespace) (m : Method) → ((ts : TermTrees) × IsReading depth objects m ts) ⊎ HasNoReading depth objects m
-reading_or_none depth objects m = read_or_none (count objects m) m.path depth m.code
+reading_or_none depth objects m = read_or_none (grammar_of objects m) m.path depth m.code
 
 pub one_reading_there : (depth : ℕ) (objects : Namespace) (m : Method) (ts us : TermTrees) → IsReading depth objects m ts → IsReading depth objects m us → ts ≡ us
-one_reading_there depth objects m ts us h k = one_reading (count objects m) m.path depth m.code ts us h k
+one_reading_there depth objects m ts us h k = one_reading (grammar_of objects m) m.path depth m.code ts us h k
 
 -- ---- one body
 

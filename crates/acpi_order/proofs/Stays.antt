@@ -19,7 +19,7 @@ use Rattle.acpi_pass.proofs.Unions.{path_same}
 use Rattle.acpi_body.specs.Arguments.{Locals, defined_with, expected_place, args_in, args_at}
 use Rattle.acpi_body.specs.Bodies.{BodyTree, read, unread}
 use Rattle.acpi_body.specs.Searches.{all_searches, IsSpelledIn}
-use Rattle.acpi_order.specs.Bodies.{Method, count, IsReading, IsBody}
+use Rattle.acpi_order.specs.Bodies.{Method, grammar_of, IsReading, IsBody}
 use Rattle.acpi_order.specs.Misses.{IsLinkMiss, IsBodyMiss, IsAwaiting}
 use Rattle.acpi_body.specs.Misses.{awaited_place, unless_found}
 use Rattle.acpi_body.proofs.Grown.{found_passes, awaited_counts}
@@ -113,7 +113,7 @@ module _ (objects more : Namespace) (locals : Locals) where
   args_stay otherwise s n (Some p) e = same_args (is_defined locals p) (objects p) (more p) (found_passes (defined_with objects locals) (tries s n) p e)
 
   count_stays : (m : Method) (n : NameParts) → ((p : List Segment) → Among (missed (defined_with objects locals) m.path n) p → more p ≡ None)
-      → count P m locals n ≡ count objects m locals n
+      → (grammar_of P m locals).args n ≡ (grammar_of objects m locals).args n
   count_stays m n quiet = ap Some (ap (args_at P locals (expected m n)) (with_answer m.path n quiet) ∙ args_stay (expected m n) m.path n (answer (defined_with objects locals) m.path n) refl)
 
   awaited_stays : (m : Method) (n : NameParts) → ((p : List Segment) → Among (missed (defined_with objects locals) m.path n) p → more p ≡ None)
@@ -158,12 +158,12 @@ module _ (depth : ℕ) (objects more : Namespace) (m : Method)
       (fewer_skipped (is_defined_in objects) (defined_with objects locals) (λ q. or_right (is_defined locals q) (is_defined_in objects q)) (tries m.path n) p k)
 
   reading_stays : (ts : TermTrees) → IsReading depth objects m ts → IsReading depth W m ts
-  reading_stays ts h = kept_reads depth (count objects m) (count W m) m.path m.code ts
+  reading_stays ts h = kept_reads depth (grammar_of objects m) (grammar_of W m) m.path m.code ts (inl (λ locals may. may))
       (all_among _ _ (λ e i. sym (count_stays objects more e.0 m e.1 (quiet_read ts h e.0 e.1 i)))) h
 
   none_stays : HasNoReading depth objects m → HasNoReading depth W m
-  none_stays none ts h = none ts (kept_reads depth (count W m) (count objects m) m.path m.code ts
-      (all_map _ _ (λ e spelled. count_stays objects more e.0 m e.1 (quiet_with none e.1 spelled e.0)) _ (spelled_reads depth (count W m) m.path m.code ts h)) h)
+  none_stays none ts h = none ts (kept_reads depth (grammar_of W m) (grammar_of objects m) m.path m.code ts (inl (λ locals may. may))
+      (all_map _ _ (λ e spelled. count_stays objects more e.0 m e.1 (quiet_with none e.1 spelled e.0)) _ (spelled_reads depth (grammar_of W m) m.path m.code ts h)) h)
 
   body_to : (b : BodyTree) → IsBody depth objects m b → IsBody depth W m b
   body_to (read ts) h = reading_stays ts h

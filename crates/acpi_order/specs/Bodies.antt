@@ -7,7 +7,7 @@ use Rattle.acpi_declare.specs.Namespace.{Namespace}
 use Rattle.acpi_declare.specs.Listing.{Placement}
 use Rattle.acpi_declare.specs.Notes.{external_counts}
 use Rattle.acpi_declare.specs.Notes as notes
-use Rattle.acpi_body.specs.Arguments.{Arguments, arguments}
+use Rattle.acpi_body.specs.Arguments.{BodyGrammar, body_grammar}
 use Rattle.acpi_body.specs.Statements.{ReadsBody}
 use Rattle.acpi_body.specs.Bodies.{BodyTree, IsBodyOf}
 
@@ -28,16 +28,16 @@ abbrev pub all_methods : List (List Placement) → List Method
 all_methods [] = []
 all_methods (t ∷ ts) = methods_of t ++ all_methods ts
 
--- how many values follow a name in the body of the method
-abbrev pub count : Namespace → Method → Arguments
-count objects m = arguments objects m.counts m.path
+-- the grammar of the body of the method
+abbrev pub grammar_of : Namespace → Method → BodyGrammar
+grammar_of objects m = body_grammar objects m.counts m.path
 
 abbrev pub IsReading : ℕ → Namespace → Method → TermTrees → Type 0
-IsReading depth objects m ts = ReadsBody (count objects m) m.path depth m.code ts
+IsReading depth objects m ts = ReadsBody (grammar_of objects m) m.path depth m.code ts
 
 -- the terms that stand for the method's bytes, or the bytes where none do
 abbrev pub IsBody : ℕ → Namespace → Method → BodyTree → Type 0
-IsBody depth objects m b = IsBodyOf (count objects m) m.path depth m.code b
+IsBody depth objects m b = IsBodyOf (grammar_of objects m) m.path depth m.code b
 
 -- the body of each method
 abbrev pub AreBodies : ℕ → Namespace → List Method → List BodyTree → Type 0

@@ -26,7 +26,7 @@ use Rattle.acpi_declare.specs.Tables.{code_of, IsTableOf}
 use Rattle.acpi_pass.proofs.Unions.{union-nothing, union_assoc}
 use Rattle.acpi_body.specs.Bodies.{BodyTree, read, unread}
 use Rattle.acpi_body.specs.Statements.{ReadsBody}
-use Rattle.acpi_order.specs.Bodies.{Method, with_counts, methods_of, all_methods, count, IsBody}
+use Rattle.acpi_order.specs.Bodies.{Method, with_counts, methods_of, all_methods, grammar_of, IsBody}
 use Rattle.acpi_order.specs.Machines.{Machine, IsMachine}
 use Rattle.acpi_order.specs.Orders.{TellsOfJoin}
 use Rattle.acpi_order.proofs.Told.{told_of_join}
@@ -56,12 +56,12 @@ module _ (depth : ℕ) (objects : Namespace) (m : Method) (code : List ℕ) (bel
   -- the new code of a body has that body, and isn't longer
   same_body : (b : BodyTree) → IsBody depth objects m b → body_bytes b ≡ Some code → IsBody depth objects (with_code code m) b × (length code ≤ length m.code)
   same_body (read ts) is e =
-      let r = read_terms_are_written (count objects m) m.path depth m.code ts below is in
+      let r = read_terms_are_written (grammar_of objects m) m.path depth m.code ts (λ locals. refl) below is in
       let same : r.written ≡ code = one_some r.written code (sym r.spelling ∙ e) in
-      (subst (λ (c : List ℕ). ReadsBody (count objects m) m.path depth c ts) same r.reads, subst (λ (c : List ℕ). length c ≤ length m.code) same r.within)
+      (subst (λ (c : List ℕ). ReadsBody (grammar_of objects m) m.path depth c ts) same r.reads, subst (λ (c : List ℕ). length c ≤ length m.code) same r.within)
   same_body (unread kept) is e =
       let same : m.code ≡ code = sym is.0 ∙ one_some kept code e in (
-        (one_some kept code e, subst (λ (c : List ℕ). (ts : TermTrees) → ReadsBody (count objects m) m.path depth c ts → ⊥) same is.1),
+        (one_some kept code e, subst (λ (c : List ℕ). (ts : TermTrees) → ReadsBody (grammar_of objects m) m.path depth c ts → ⊥) same is.1),
         subst (λ (c : List ℕ). length c ≤ length m.code) same (omega arith),
       )
 

@@ -255,6 +255,8 @@ pub fn rewrite<S: Space<Object>>(
     ensures only { IfOk result (λ v. (again : List (List ℕ)) → AreTablesOfBytes again
         → AreRewritten depth (map (λ b. b.items) v.items) again → again
         ≡ map (λ b. b.items) v.items) }
+    ensures bytes { IfOk result (λ v. AreTablesOfBytes (dsdt.now ∷ map (λ b. b.now) ssdts.now)
+        × AreTablesOfBytes (map (λ b. b.items) v.items)) }
     ensures any_order { TellsOfJoin (λ Part v. LoadToJoin Part depth (map (λ b. b.items) v.items))
         depth dsdt.now (map (λ b. b.now) ssdts.now) result }
     ensures err { IfErr result (λ e. IsLoadFault depth (dsdt.now ∷ map (λ b. b.now) ssdts.now) e) }

@@ -1,10 +1,12 @@
--- How many values follow a name in the body of a method that tables may declare (ACPI 6.5, 5.3 and 20.2.5).
+-- How many values follow a name in the body of a method that tables may declare, and what its grammar is (ACPI 6.5, 5.3
+-- and 20.2.5).
 use Rattle.std.specs.Prelude.{◌++◌, ℕ, false, cond, List, [], ◌∷◌, map, Option, Some}
 use Rattle.std.specs.FinMap as finite
 use Rattle.acpi_name.specs.Names.{NameParts}
 use Rattle.acpi_space.specs.Lookups.{Lookup}
 use Rattle.acpi_space.specs.Spaces.{PathMap, is_defined}
-use Rattle.acpi_body.specs.Arguments.{Locals}
+use Rattle.acpi_body.specs.Arguments.{Locals, BodyGrammar}
+use Rattle.acpi_body.specs.Grammars.{with_loads}
 use Rattle.acpi_conditions.specs.Entries.{Path, Entry}
 use Rattle.acpi_conditions.specs.Met.{numbers_beyond}
 use Rattle.acpi_conditions.specs.Views.{seen_by}
@@ -35,3 +37,7 @@ abbrev pub entry_count : List Entry → List (Option ℕ) → PathMap ℕ → En
 entry_count es counts expected e = body_count (finite.get expected) e.path
     (seen_by (record { entries = es; entry = e }))
     (λ p. counts_numbered counts (numbers_beyond e.way p 0 es))
+
+-- LoadTable, Load and Unload may stand there
+abbrev pub entry_grammar : List Entry → List (Option ℕ) → PathMap ℕ → Entry → BodyGrammar
+entry_grammar es counts expected e locals = with_loads (entry_count es counts expected e locals)

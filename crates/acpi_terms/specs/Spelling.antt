@@ -6,7 +6,7 @@ use Rattle.acpi_code.specs.declared.opcode.Opcode.TheVariants as opcodes
 use Rattle.acpi_code.specs.Fields.{SpellsFields}
 use Rattle.acpi_code.specs.Spelling.{SpellsEach, Packs}
 use Rattle.acpi_tree.specs.DataTerms.{data_term, elem_term}
-use Rattle.acpi_values.specs.Grammars.{Grammar, body_grammar}
+use Rattle.acpi_values.specs.Grammars.{Grammar, without_loads}
 use Rattle.acpi_values.specs.Spelling.{Spells, height}
 use Rattle.acpi_tree.specs.Tree.{ElemTree, ExternalParts, ItemTree, name, scope, method, external, external_block, create, create_field, mutex, event, region, field, index_field, bank_field, ItemTrees, no_items, item}
 use Rattle.acpi_code.specs.Forms.{FixedArgument, int_arg, Value, Values, kind_opcode, kind_arguments}
@@ -17,7 +17,7 @@ pub use Rattle.acpi_code.specs.FixedArguments.{SpellsArgument, SpellsArguments, 
 -- DataObject := ComputationalData | DefPackage | DefVarPackage, with a ConstObj, a number or RevisionOp, a String or a
 -- DefBuffer as ComputationalData (20.2.3). It is spelled as it is in a method body, where no name calls.
 abbrev pub data_grammar : Grammar
-data_grammar = body_grammar (λ n. None)
+data_grammar = without_loads (λ n. None)
 
 -- ---- items (20.2.5.1 and 20.2.5.2)
 

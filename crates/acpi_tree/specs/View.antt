@@ -1,5 +1,5 @@
 -- The tree that a value stands for.
-use Rattle.std.specs.Prelude.{List, box_value, map}
+use Rattle.std.specs.Prelude.{List, map}
 use Rattle.acpi_tree.specs.Tree.{DataTree, int, str, buffer, pkg, var_pkg, ElemTree, of_data, of_name, FieldTree, unit, reserved, access, connect_name, connect_buffer, extended, ExternalParts, ItemTree, name, scope, method, external, external_block, create, create_field, mutex, event, region, field, index_field, bank_field, ItemTrees, elems_of, items_of}
 use Rattle.acpi_tree.specs.declared.tree.ScopeKind.TheVariants as kinds
 use Rattle.acpi_tree.specs.declared.tree.Data.{Data, Data-F, fold-Data}
@@ -32,7 +32,7 @@ abbrev pub field_view : FieldElem → FieldTree
 field_view (FieldElem.Unit s n) = unit s n
 field_view (FieldElem.Reserved n) = reserved n
 field_view (FieldElem.Access t a) = access t a
-field_view (FieldElem.ConnectName b) = connect_name (box_value b)
+field_view (FieldElem.ConnectName n) = connect_name n
 field_view (FieldElem.ConnectBuffer i v) = connect_buffer i v.items
 field_view (FieldElem.Extended t a n) = extended t a n
 

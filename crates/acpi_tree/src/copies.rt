@@ -57,9 +57,7 @@ impl FieldElem {
             FieldElem::Unit(seg, bits) => Ok(FieldElem::Unit(*seg, *bits)),
             FieldElem::Reserved(bits) => Ok(FieldElem::Reserved(*bits)),
             FieldElem::Access(kind, attribute) => Ok(FieldElem::Access(*kind, *attribute)),
-            FieldElem::ConnectName(name) => {
-                Ok(FieldElem::ConnectName(Box::new(alloc, name.copy()?)?))
-            }
+            FieldElem::ConnectName(name) => Ok(FieldElem::ConnectName(name.copy()?)),
             FieldElem::ConnectBuffer(size, bytes) => {
                 Ok(FieldElem::ConnectBuffer(*size, Vec::from_slice(alloc, bytes)?))
             }

@@ -87,7 +87,7 @@ fn same_field(a: &FieldElem, b: &FieldElem) -> bool
         (FieldElem::Unit(s, m), FieldElem::Unit(t, n)) => s == t && m == n,
         (FieldElem::Reserved(m), FieldElem::Reserved(n)) => m == n,
         (FieldElem::Access(k, l), FieldElem::Access(m, n)) => k == m && l == n,
-        (FieldElem::ConnectName(m), FieldElem::ConnectName(n)) => **m == **n,
+        (FieldElem::ConnectName(m), FieldElem::ConnectName(n)) => m == n,
         (FieldElem::ConnectBuffer(i, s), FieldElem::ConnectBuffer(j, t)) => same_int(*i, *j)
             && s == t,
         (FieldElem::Extended(j, k, l), FieldElem::Extended(m, n, o)) => j == m && k == n && l == o,

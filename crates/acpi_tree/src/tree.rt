@@ -64,7 +64,7 @@ pub enum FieldElem {
     /// AccessField: access type and attribute.
     Access(u8, u8),
     /// ConnectField by the name of a connection.
-    ConnectName(Box<Name>),
+    ConnectName(Name),
     /// ConnectField by a buffer: its size as written, and the bytes that are given.
     ConnectBuffer(Int, Vec<u8>),
     /// ExtendedAccessField: access type, attribute and length.

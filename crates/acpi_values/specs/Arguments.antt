@@ -1,12 +1,11 @@
--- What decides how many values follow a name in a method body (ACPI 6.5, 5.3 and 20.2.5).
-use Rattle.std.specs.Prelude.{ℕ, Option}
-use Rattle.acpi_name.specs.Names.{NameParts}
+-- What decides how the bytes of a method body are read (ACPI 6.5, 5.3 and 20.2.5).
 use Rattle.acpi_space.specs.Spaces.{PathMap}
+use Rattle.acpi_values.specs.Grammars.{Grammar}
 
 -- the paths that a body has declared so far
 abbrev pub Locals : Type 0
 Locals = PathMap (Unit {0})
 
--- how many values follow a name, by what the body has declared before it; None where that isn't sure
-abbrev pub Arguments : Type 0
-Arguments = Locals → NameParts → Option ℕ
+-- the grammar of a body at each of its places, by what the body has declared before it
+abbrev pub BodyGrammar : Type 0
+BodyGrammar = Locals → Grammar

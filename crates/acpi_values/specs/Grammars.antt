@@ -1,5 +1,5 @@
 -- What decides how bytes are read as terms (ACPI 6.5, 20.2.5).
-use Rattle.std.specs.Prelude.{ℕ, Bool, false, not, ◌||◌, Option}
+use Rattle.std.specs.Prelude.{ℕ, Bool, true, false, not, ◌||◌, Option}
 use Rattle.acpi_name.specs.Names.{NameParts}
 use Rattle.acpi_tree.specs.declared.op.Op.{Op}
 use Rattle.acpi_tree.specs.Operators.{is_load}
@@ -10,9 +10,12 @@ pub record Grammar : Type 0 where
   pub args : NameParts → Option ℕ
   pub loads : Bool
 
--- method bodies have no LoadTable, Load or Unload
-abbrev pub body_grammar : (NameParts → Option ℕ) → Grammar
-body_grammar args = record { args = args; loads = false }
+-- without LoadTable, Load and Unload, and with them
+abbrev pub without_loads : (NameParts → Option ℕ) → Grammar
+without_loads args = record { args = args; loads = false }
+
+abbrev pub with_loads : (NameParts → Option ℕ) → Grammar
+with_loads args = record { args = args; loads = true }
 
 -- whether the operator may stand
 abbrev pub is_allowed : Bool → Op → Bool

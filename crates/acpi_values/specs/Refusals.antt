@@ -65,6 +65,6 @@ refusal_at loads Statement o = statement_refusal loads o
 refusal_at loads Source o = value_refusal loads o
 
 -- why no statement of a body begins so, whatever stands before it; an Else may belong to an If
-abbrev pub never_begins : Opcode → Option BodyReason
-never_begins opcodes.Else = None
-never_begins o = statement_refusal false o
+abbrev pub never_begins : Bool → Opcode → Option BodyReason
+never_begins loads opcodes.Else = None
+never_begins loads o = statement_refusal loads o

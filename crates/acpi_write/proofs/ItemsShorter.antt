@@ -12,7 +12,7 @@ use Rattle.acpi_code.proofs.Fitting.{AreBytes, parts, packed}
 use Rattle.acpi_tree.specs.DataTerms.{data_term}
 use Rattle.acpi_tree.specs.Tree.{FieldTree, ExternalParts, ItemTree, name, scope, method, external, external_block, create, create_field, mutex, event, region, field, index_field, bank_field, ItemTrees, no_items, item}
 use Rattle.acpi_terms.specs.Forms.{FixedArgument, name_arg, byte_arg, int_arg, Values, fixed_arguments, ArgumentsOf, kind_opcode, kind_arguments}
-use Rattle.acpi_terms.specs.Spelling.{SpellsPacked, SpellsForm, SpellsExternal, SpellsItem, SpellsItems}
+use Rattle.acpi_terms.specs.Spelling.{data_grammar, SpellsPacked, SpellsForm, SpellsExternal, SpellsItem, SpellsItems}
 use Rattle.acpi_write.specs.Canonical.{form_bytes, each_bytes, fields_bytes}
 use Rattle.acpi_write.specs.CanonicalTerms.{term_bytes}
 use Rattle.acpi_write.specs.CanonicalItems.{external_bytes, item_bytes, items_bytes}
@@ -33,7 +33,7 @@ mutual
   item_short (name n d) j bytes all (a, b, named, fills, whole) e =
       let split = parts (8 ∷ a) b bytes whole all in
       let le : length (name_bytes n) ≤ length a = name_shortest n a named in
-      subst (λ x. HasWithin (item_bytes x) bytes) (sym e) (within_both (Some (8 ∷ name_bytes n)) (term_bytes (data_term d)) (8 ∷ a) b bytes (omega (arith, le)) (term_short (λ m. None) (data_term d) b split.1 fills) whole)
+      subst (λ x. HasWithin (item_bytes x) bytes) (sym e) (within_both (Some (8 ∷ name_bytes n)) (term_bytes (data_term d)) (8 ∷ a) b bytes (omega (arith, le)) (term_short data_grammar (data_term d) b split.1 fills) whole)
   item_short (scope kind n is) j bytes all h (js, s, e) = subst (λ x. HasWithin (item_bytes x) bytes) (sym e)
       (filled_short (opcode_bytes (kind_opcode kind)) (fixed_arguments (kind_opcode kind)) (kind_arguments kind n) (λ b. SpellsItems is b) (items_bytes js)
       bytes all h (λ b small k. items_short is js b small k s))
@@ -92,7 +92,7 @@ held_typed op ks v is bytes all h each =
 
 mutual
   item_typed : (i : ItemTree) (bytes : List ℕ) → AreBytes bytes → SpellsItem i bytes → IsItemTyped i
-  item_typed (name n d) bytes all (a, b, named, fills, whole) = (named.is_name, term_typed (λ m. None) (data_term d) b (parts (8 ∷ a) b bytes whole all).1 fills)
+  item_typed (name n d) bytes all (a, b, named, fills, whole) = (named.is_name, term_typed data_grammar (data_term d) b (parts (8 ∷ a) b bytes whole all).1 fills)
   item_typed (scope kind n is) bytes all h =
       held_typed (opcode_bytes (kind_opcode kind)) (fixed_arguments (kind_opcode kind)) (kind_arguments kind n) is bytes all h (λ b small k. items_typed is b small k)
   item_typed (method n flags code) bytes all h = front_typed (20 ∷ []) (name_arg ∷ byte_arg ∷ []) (n, (flags, tt)) (λ b. b ≡ code) bytes all h

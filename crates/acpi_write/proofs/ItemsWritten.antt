@@ -16,7 +16,8 @@ use Rattle.acpi_tree.specs.Fits.{data_fits, elems_fit, external_fits, item_fits,
 use Rattle.acpi_tree.specs.TermFits.{term_fits, all_stand}
 use Rattle.acpi_tree.specs.declared.place.Place.TheVariants.{Element}
 use Rattle.acpi_terms.specs.Forms.{name_arg, byte_arg, int_arg, fixed_arguments, kind_opcode, kind_arguments}
-use Rattle.acpi_terms.specs.Spelling.{SpellsExternal, SpellsItem, SpellsItems}
+use Rattle.acpi_body.specs.Grammars.{Grammar}
+use Rattle.acpi_terms.specs.Spelling.{data_grammar, SpellsExternal, SpellsItem, SpellsItems}
 use Rattle.acpi_write.specs.Canonical.{filled_with, each_bytes, fields_bytes}
 use Rattle.acpi_write.specs.CanonicalTerms.{term_bytes}
 use Rattle.acpi_write.specs.CanonicalItems.{external_bytes, item_bytes, items_bytes}
@@ -46,14 +47,14 @@ mutual
 
 -- no name in it calls
 mutual
-  data_counted : (args : NameParts → Option ℕ) (d : DataTree) → IsCounted args (data_term d)
+  data_counted : (args : Grammar) (d : DataTree) → IsCounted args (data_term d)
   data_counted args (int i) = tt
   data_counted args (str text) = tt
   data_counted args (buffer size content) = tt
   data_counted args (pkg count es) = elems_counted args es
   data_counted args (var_pkg count es) = (tt, elems_counted args es)
 
-  elems_counted : (args : NameParts → Option ℕ) (es : ElemTrees) → AreCounted args (elem_terms es)
+  elems_counted : (args : Grammar) (es : ElemTrees) → AreCounted args (elem_terms es)
   elems_counted args no_elems = tt
   elems_counted args (elem (of_data d) es) = (data_counted args d, elems_counted args es)
   elems_counted args (elem (of_name n) es) = (tt, elems_counted args es)
@@ -74,8 +75,7 @@ mutual
   item_written : (i : ItemTree) (bytes : List ℕ) → IsItemTyped i → item_fits i ≡ true → item_bytes i ≡ Some bytes → SpellsItem i bytes
   item_written (name n d) bytes h fit e =
       let b = both_of (Some (8 ∷ name_bytes n)) (term_bytes (data_term d)) bytes e in
-      let args : NameParts → Option ℕ = λ m. None in
-      let spelled = term_written args (data_term d) b.back h.1 (data_term_fits d ∙ fit) (data_counted args d) b.is_back in
+      let spelled = term_written data_grammar (data_term d) b.back h.1 (data_term_fits d ∙ fit) (data_counted data_grammar d) b.is_back in
       (name_bytes n, b.back, name_written n h.0, spelled, b.whole ∙ ap (λ a. a ++ b.back) (sym (some_is (8 ∷ name_bytes n) b.front b.is_front)))
   item_written (scope kind n is) bytes h fit e = filled_written (opcode_bytes (kind_opcode kind)) (fixed_arguments (kind_opcode kind)) (kind_arguments kind n)
       (λ b. SpellsItems is b) (items_bytes is) bytes h.0 (kind_stands kind n) (λ b e. items_written is b h.1 fit e) e

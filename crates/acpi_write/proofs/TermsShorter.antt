@@ -12,8 +12,8 @@ use Rattle.acpi_code.proofs.Fitting.{AreBytes, parts, packed}
 use Rattle.acpi_tree.specs.declared.place.OperandKind.{OperandKind}
 use Rattle.acpi_tree.specs.Terms.{TermTree, TermTrees, int, str, buffer, pkg, var_pkg, local, arg, debug, no_target, raw, ref, call, apply, ElseTree, if_do, no_else, else_do, while_do, declare, declare_units, no_terms, more}
 use Rattle.acpi_tree.specs.Operators.{operands_of, operands_before, operands_behind, operands_of_units}
-use Rattle.acpi_body.specs.Arguments.{Locals, Arguments}
-use Rattle.acpi_body.specs.Grammars.{body_grammar}
+use Rattle.acpi_body.specs.Arguments.{Locals, BodyGrammar}
+use Rattle.acpi_body.specs.Grammars.{Grammar}
 use Rattle.acpi_body.specs.Spelling.{values, Spells, AreOperands, AreElements}
 use Rattle.acpi_body.specs.Statements.{named_opcode, units_opcode, locals_after, locals_after_all, IsStatement, IsElse, AreStatements}
 use Rattle.acpi_body.proofs.Fitting.{statements_fit}
@@ -36,7 +36,7 @@ within_package op content inner bytes all packs h = within_packed op [] content 
 -- ---- values
 
 mutual
-  pub term_short : (args : NameParts → Option ℕ) (t : TermTree) (bytes : List ℕ) → AreBytes bytes → Spells (body_grammar args) t bytes → HasWithin (term_bytes t) bytes
+  pub term_short : (args : Grammar) (t : TermTree) (bytes : List ℕ) → AreBytes bytes → Spells args t bytes → HasWithin (term_bytes t) bytes
   term_short args (int i) bytes all h = int_short i bytes h
   term_short args (str text) bytes all h = rw (h.2, h.1.1) (omega arith)
   term_short args (buffer size content) bytes all (s, stands, hs, packs) =
@@ -69,7 +69,7 @@ mutual
   term_short args (declare form before n behind) bytes all h = absurd h
   term_short args (declare_units form ns vs es) bytes all h = absurd h
 
-  operands_short : (args : NameParts → Option ℕ) (ks : List OperandKind) (ts : TermTrees) (bytes : List ℕ) → AreBytes bytes → AreOperands (body_grammar args) ks ts bytes → HasWithin (terms_bytes ts) bytes
+  operands_short : (args : Grammar) (ks : List OperandKind) (ts : TermTrees) (bytes : List ℕ) → AreBytes bytes → AreOperands args ks ts bytes → HasWithin (terms_bytes ts) bytes
   operands_short args [] no_terms bytes all h = omega arith
   operands_short args (k ∷ ks) no_terms bytes all h = absurd h
   operands_short args [] (more t ts) bytes all h = absurd h
@@ -77,14 +77,14 @@ mutual
       let split = parts a b bytes whole all in
       within_both (term_bytes t) (terms_bytes ts) a b bytes (term_short args t a split.0 first) (operands_short args ks ts b split.1 rest) whole
 
-  elements_short : (args : NameParts → Option ℕ) (ts : TermTrees) (bytes : List ℕ) → AreBytes bytes → AreElements (body_grammar args) ts bytes → HasWithin (terms_bytes ts) bytes
+  elements_short : (args : Grammar) (ts : TermTrees) (bytes : List ℕ) → AreBytes bytes → AreElements args ts bytes → HasWithin (terms_bytes ts) bytes
   elements_short args no_terms bytes all h = omega arith
   elements_short args (more t ts) bytes all (a, b, stands, first, rest, whole) =
       let split = parts a b bytes whole all in
       within_both (term_bytes t) (terms_bytes ts) a b bytes (term_short args t a split.0 first) (elements_short args ts b split.1 rest) whole
 
 mutual
-  pub term_typed : (args : NameParts → Option ℕ) (t : TermTree) (bytes : List ℕ) → AreBytes bytes → Spells (body_grammar args) t bytes → IsTermTyped t
+  pub term_typed : (args : Grammar) (t : TermTree) (bytes : List ℕ) → AreBytes bytes → Spells args t bytes → IsTermTyped t
   term_typed args (int i) bytes all h = int_typed i bytes all h
   term_typed args (str text) bytes all h = tt
   term_typed args (buffer size content) bytes all (s, stands, hs, packs) = term_typed args size s (parts s content (s ++ content) refl (packed (17 ∷ []) (s ++ content) bytes packs all)).0 hs
@@ -105,25 +105,25 @@ mutual
   term_typed args (declare form before n behind) bytes all h = absurd h
   term_typed args (declare_units form ns vs es) bytes all h = absurd h
 
-  operands_typed : (args : NameParts → Option ℕ) (ks : List OperandKind) (ts : TermTrees) (bytes : List ℕ) → AreBytes bytes → AreOperands (body_grammar args) ks ts bytes → AreTermsTyped ts
+  operands_typed : (args : Grammar) (ks : List OperandKind) (ts : TermTrees) (bytes : List ℕ) → AreBytes bytes → AreOperands args ks ts bytes → AreTermsTyped ts
   operands_typed args [] no_terms bytes all h = tt
   operands_typed args (k ∷ ks) no_terms bytes all h = absurd h
   operands_typed args [] (more t ts) bytes all h = absurd h
   operands_typed args (k ∷ ks) (more t ts) bytes all (a, b, stands, first, rest, whole) = let split = parts a b bytes whole all in
       (term_typed args t a split.0 first, operands_typed args ks ts b split.1 rest)
 
-  elements_typed : (args : NameParts → Option ℕ) (ts : TermTrees) (bytes : List ℕ) → AreBytes bytes → AreElements (body_grammar args) ts bytes → AreTermsTyped ts
+  elements_typed : (args : Grammar) (ts : TermTrees) (bytes : List ℕ) → AreBytes bytes → AreElements args ts bytes → AreTermsTyped ts
   elements_typed args no_terms bytes all h = tt
   elements_typed args (more t ts) bytes all (a, b, stands, first, rest, whole) = let split = parts a b bytes whole all in (term_typed args t a split.0 first, elements_typed args ts b split.1 rest)
 
-counted_values : (args : NameParts → Option ℕ) (n : ℕ) (ts : TermTrees) (bytes : List ℕ) → AreOperands (body_grammar args) (values n) ts bytes → count_of ts ≡ n
+counted_values : (args : Grammar) (n : ℕ) (ts : TermTrees) (bytes : List ℕ) → AreOperands args (values n) ts bytes → count_of ts ≡ n
 counted_values args zero no_terms bytes h = refl
 counted_values args zero (more t ts) bytes h = absurd h
 counted_values args (suc n) no_terms bytes h = absurd h
 counted_values args (suc n) (more t ts) bytes (a, b, stands, first, rest, whole) = ap (λ (k : ℕ). suc k) (counted_values args n ts b rest)
 
 mutual
-  term_counted : (args : NameParts → Option ℕ) (t : TermTree) (bytes : List ℕ) → Spells (body_grammar args) t bytes → IsCounted args t
+  term_counted : (args : Grammar) (t : TermTree) (bytes : List ℕ) → Spells args t bytes → IsCounted args t
   term_counted args (int i) bytes h = tt
   term_counted args (str text) bytes h = tt
   term_counted args (buffer size content) bytes h = term_counted args size h.0 h.2
@@ -142,13 +142,13 @@ mutual
   term_counted args (declare form before n behind) bytes h = h
   term_counted args (declare_units form ns vs es) bytes h = h
 
-  operands_counted : (args : NameParts → Option ℕ) (ks : List OperandKind) (ts : TermTrees) (bytes : List ℕ) → AreOperands (body_grammar args) ks ts bytes → AreCounted args ts
+  operands_counted : (args : Grammar) (ks : List OperandKind) (ts : TermTrees) (bytes : List ℕ) → AreOperands args ks ts bytes → AreCounted args ts
   operands_counted args [] no_terms bytes h = tt
   operands_counted args (k ∷ ks) no_terms bytes h = absurd h
   operands_counted args [] (more t ts) bytes h = absurd h
   operands_counted args (k ∷ ks) (more t ts) bytes (a, b, stands, first, rest, whole) = (term_counted args t a first, operands_counted args ks ts b rest)
 
-  elements_counted : (args : NameParts → Option ℕ) (ts : TermTrees) (bytes : List ℕ) → AreElements (body_grammar args) ts bytes → AreCounted args ts
+  elements_counted : (args : Grammar) (ts : TermTrees) (bytes : List ℕ) → AreElements args ts bytes → AreCounted args ts
   elements_counted args no_terms bytes h = tt
   elements_counted args (more t ts) bytes (a, b, stands, first, rest, whole) = (term_counted args t a first, elements_counted args ts b rest)
 
@@ -161,7 +161,7 @@ names_short (n ∷ ns) bytes (a, b, first, rest, whole) = within_both (Some (nam
 -- ---- statements
 
 mutual
-  statement_short : (args : Arguments) (s : List Segment) (locals : Locals) (t : TermTree) (bytes : List ℕ) → AreBytes bytes → IsStatement args s locals t bytes → HasWithin (term_bytes t) bytes
+  statement_short : (args : BodyGrammar) (s : List Segment) (locals : Locals) (t : TermTree) (bytes : List ℕ) → AreBytes bytes → IsStatement args s locals t bytes → HasWithin (term_bytes t) bytes
   statement_short args s locals (if_do v ts e) bytes all (a, b, x, y, stands, hv, hs, packs, other, whole) =
       let split = parts x y bytes whole all in
       let inner = parts a b (a ++ b) refl (packed (160 ∷ []) (a ++ b) x packs split.0) in
@@ -190,12 +190,12 @@ mutual
       (within_both (names_bytes ns) (option_append (terms_bytes vs) (fields_bytes es)) a (b ++ c) (a ++ (b ++ c)) (names_short ns a named) tail refl)
   statement_short args s locals t bytes all h = term_short (args locals) t bytes all h.1
 
-  else_short : (args : Arguments) (s : List Segment) (locals : Locals) (e : ElseTree) (bytes : List ℕ) → AreBytes bytes → IsElse args s locals e bytes → HasWithin (else_bytes e) bytes
+  else_short : (args : BodyGrammar) (s : List Segment) (locals : Locals) (e : ElseTree) (bytes : List ℕ) → AreBytes bytes → IsElse args s locals e bytes → HasWithin (else_bytes e) bytes
   else_short args s locals no_else bytes all h = omega arith
   else_short args s locals (else_do ts) bytes all (b, hs, packs) = within_package (161 ∷ []) (terms_bytes ts) b bytes all packs
       (statements_short args s locals ts b (packed (161 ∷ []) b bytes packs all) hs)
 
-  statements_short : (args : Arguments) (s : List Segment) (locals : Locals) (ts : TermTrees) (bytes : List ℕ) → AreBytes bytes
+  statements_short : (args : BodyGrammar) (s : List Segment) (locals : Locals) (ts : TermTrees) (bytes : List ℕ) → AreBytes bytes
       → AreStatements args s locals ts bytes → HasWithin (terms_bytes ts) bytes
   statements_short args s locals no_terms bytes all h = omega arith
   statements_short args s locals (more t ts) bytes all (a, b, first, rest, whole) =
@@ -203,7 +203,7 @@ mutual
       within_both (term_bytes t) (terms_bytes ts) a b bytes (statement_short args s locals t a split.0 first) (statements_short args s (locals_after s locals t) ts b split.1 rest) whole
 
 mutual
-  statement_typed : (args : Arguments) (s : List Segment) (locals : Locals) (t : TermTree) (bytes : List ℕ) → AreBytes bytes → IsStatement args s locals t bytes → IsTermTyped t
+  statement_typed : (args : BodyGrammar) (s : List Segment) (locals : Locals) (t : TermTree) (bytes : List ℕ) → AreBytes bytes → IsStatement args s locals t bytes → IsTermTyped t
   statement_typed args s locals (if_do v ts e) bytes all (a, b, x, y, stands, hv, hs, packs, other, whole) =
       let split = parts x y bytes whole all in
       let inner = parts a b (a ++ b) refl (packed (160 ∷ []) (a ++ b) x packs split.0) in
@@ -223,18 +223,18 @@ mutual
       )
   statement_typed args s locals t bytes all h = term_typed (args locals) t bytes all h.1
 
-  else_typed : (args : Arguments) (s : List Segment) (locals : Locals) (e : ElseTree) (bytes : List ℕ) → AreBytes bytes → IsElse args s locals e bytes → IsElseTyped e
+  else_typed : (args : BodyGrammar) (s : List Segment) (locals : Locals) (e : ElseTree) (bytes : List ℕ) → AreBytes bytes → IsElse args s locals e bytes → IsElseTyped e
   else_typed args s locals no_else bytes all h = tt
   else_typed args s locals (else_do ts) bytes all (b, hs, packs) = statements_typed args s locals ts b (packed (161 ∷ []) b bytes packs all) hs
 
-  statements_typed : (args : Arguments) (s : List Segment) (locals : Locals) (ts : TermTrees) (bytes : List ℕ) → AreBytes bytes → AreStatements args s locals ts bytes → AreTermsTyped ts
+  statements_typed : (args : BodyGrammar) (s : List Segment) (locals : Locals) (ts : TermTrees) (bytes : List ℕ) → AreBytes bytes → AreStatements args s locals ts bytes → AreTermsTyped ts
   statements_typed args s locals no_terms bytes all h = tt
   statements_typed args s locals (more t ts) bytes all (a, b, first, rest, whole) =
       let split = parts a b bytes whole all in
       (statement_typed args s locals t a split.0 first, statements_typed args s (locals_after s locals t) ts b split.1 rest)
 
 mutual
-  statement_may : (args : Arguments) (s : List Segment) (locals : Locals) (t : TermTree) (bytes : List ℕ) → IsStatement args s locals t bytes → MayStandIn args s locals t
+  statement_may : (args : BodyGrammar) (s : List Segment) (locals : Locals) (t : TermTree) (bytes : List ℕ) → IsStatement args s locals t bytes → MayStandIn args s locals t
   statement_may args s locals (if_do v ts e) bytes (a, b, x, y, stands, hv, hs, packs, other, whole) =
       (term_counted (args locals) v a hv, statements_may args s locals ts b hs, else_may args s (locals_after_all s locals ts) e y other)
   statement_may args s locals (while_do v ts) bytes (a, b, stands, hv, hs, packs) = (term_counted (args locals) v a hv, statements_may args s locals ts b hs)
@@ -243,18 +243,18 @@ mutual
   statement_may args s locals (declare_units form ns vs es) bytes (a, b, c, many, named, hs, units, packs) = operands_counted (args locals) (operands_of_units form) vs b hs
   statement_may args s locals t bytes h = term_counted (args locals) t bytes h.1
 
-  else_may : (args : Arguments) (s : List Segment) (locals : Locals) (e : ElseTree) (bytes : List ℕ) → IsElse args s locals e bytes → ElseMayStandIn args s locals e
+  else_may : (args : BodyGrammar) (s : List Segment) (locals : Locals) (e : ElseTree) (bytes : List ℕ) → IsElse args s locals e bytes → ElseMayStandIn args s locals e
   else_may args s locals no_else bytes h = tt
   else_may args s locals (else_do ts) bytes (b, hs, packs) = statements_may args s locals ts b hs
 
-  statements_may : (args : Arguments) (s : List Segment) (locals : Locals) (ts : TermTrees) (bytes : List ℕ) → AreStatements args s locals ts bytes → AllMayStandIn args s locals ts
+  statements_may : (args : BodyGrammar) (s : List Segment) (locals : Locals) (ts : TermTrees) (bytes : List ℕ) → AreStatements args s locals ts bytes → AllMayStandIn args s locals ts
   statements_may args s locals no_terms bytes h = tt
   statements_may args s locals (more t ts) bytes (a, b, first, rest, whole) = (statement_may args s locals t a first, statements_may args s (locals_after s locals t) ts b rest)
 
 -- ---- a body that is read
 
 pub read_terms_are_written : ReadTermsAreWritten
-read_terms_are_written args s depth bytes ts bytes_are h =
+read_terms_are_written args s depth bytes ts none bytes_are h =
     let all : AreBytes bytes = recursion_from_All (λ b. b < 256) bytes bytes_are in
     by_spelling (terms_bytes ts) refl (statements_short args s finite.empty ts bytes all h.spelled)
   where
@@ -266,6 +266,6 @@ read_terms_are_written args s depth bytes ts bytes_are h =
           written = b;
           spelling = is;
           reads = terms_written args s depth ts b (statements_typed args s finite.empty ts bytes all h.spelled)
-              (statements_fit args s finite.empty ts bytes h.spelled all) (statements_may args s finite.empty ts bytes h.spelled) h.within is;
+              (statements_fit args none s finite.empty ts bytes h.spelled all) (statements_may args s finite.empty ts bytes h.spelled) h.within is;
           within = within;
         }

@@ -4,7 +4,7 @@ use Rattle.std.specs.FinMap as finite
 use Rattle.std.specs.List.{AllByRecursion, list_all}
 use Rattle.std.specs.Prelude.{nat_eq}
 use Rattle.std.specs.Fmt.{option_append}
-use Rattle.std.proofs.lemmas.Bool.{leb-true, eqb-true, not-true}
+use Rattle.std.proofs.lemmas.Bool.{leb-true, eqb-true, not-true, or_right}
 use Rattle.byteorder.specs.Endian.{little_bytes}
 use Rattle.acpi_name.specs.Names.{Segment, NameParts, IsName, is_null_name}
 use Rattle.acpi_name.specs.Spelling.{SpellsName, name_bytes}
@@ -18,8 +18,8 @@ use Rattle.acpi_tree.specs.Operators.{operands_of, is_load, operands_before, ope
 use Rattle.acpi_tree.specs.Places.{may_stand, may_be}
 use Rattle.acpi_tree.specs.Fits.{field_fits}
 use Rattle.acpi_tree.specs.TermFits.{term_fits, else_fits, all_stand, operands_fit}
-use Rattle.acpi_body.specs.Arguments.{Locals, Arguments}
-use Rattle.acpi_body.specs.Grammars.{body_grammar}
+use Rattle.acpi_body.specs.Arguments.{Locals, BodyGrammar}
+use Rattle.acpi_body.specs.Grammars.{Grammar}
 use Rattle.acpi_body.specs.Spelling.{values, Spells, AreOperands, AreElements}
 use Rattle.acpi_body.specs.Statements.{named_opcode, units_opcode, locals_after, locals_after_all, IsStatement, IsElse, AreStatements}
 use Rattle.acpi_write.specs.Canonical.{int_bytes, filled_with, fields_bytes}
@@ -36,7 +36,7 @@ as_operands (more t ts) = ap (λ b. may_stand Value t && term_fits t && b) (as_o
 -- ---- values
 
 mutual
-  pub term_written : (args : NameParts → Option ℕ) (t : TermTree) (bytes : List ℕ) → IsTermTyped t → term_fits t ≡ true → IsCounted args t → term_bytes t ≡ Some bytes → Spells (body_grammar args) t bytes
+  pub term_written : (args : Grammar) (t : TermTree) (bytes : List ℕ) → IsTermTyped t → term_fits t ≡ true → IsCounted args t → term_bytes t ≡ Some bytes → Spells args t bytes
   term_written args (int i) bytes h fit k e = subst (SpellsInt i) (some_is (int_bytes i) bytes e) (int_written i h)
   term_written args (str text) bytes h fit k e = (text ++ 0 ∷ [], (text_written text fit, refl), sym (some_is (13 ∷ (text ++ 0 ∷ [])) bytes e))
   term_written args (buffer size content) bytes h fit k e =
@@ -78,14 +78,14 @@ mutual
       let b = front_is (operator_bytes op) (terms_bytes vs) bytes e in
       let no_load = first_of (not (is_load op)) (operands_fit (operands_of op) vs) fit in
       let operands = second_of (not (is_load op)) (operands_fit (operands_of op) vs) fit in
-      (b.0, no_load, operands_written args (operands_of op) vs b.0 h operands k b.1, b.2)
+      (b.0, or_right args.loads (not (is_load op)) no_load, operands_written args (operands_of op) vs b.0 h operands k b.1, b.2)
   term_written args (if_do v ts o) bytes h fit k e = absurd k
   term_written args (while_do v ts) bytes h fit k e = absurd k
   term_written args (declare form before n behind) bytes h fit k e = absurd k
   term_written args (declare_units form ns vs es) bytes h fit k e = absurd k
 
-  elements_written : (args : NameParts → Option ℕ) (ts : TermTrees) (bytes : List ℕ) → AreTermsTyped ts → all_stand Element ts ≡ true → AreCounted args ts
-      → terms_bytes ts ≡ Some bytes → AreElements (body_grammar args) ts bytes
+  elements_written : (args : Grammar) (ts : TermTrees) (bytes : List ℕ) → AreTermsTyped ts → all_stand Element ts ≡ true → AreCounted args ts
+      → terms_bytes ts ≡ Some bytes → AreElements args ts bytes
   elements_written args no_terms bytes h fit k e = sym (some_is [] bytes e)
   elements_written args (more t ts) bytes h fit k e =
       let b = both_of (term_bytes t) (terms_bytes ts) bytes e in
@@ -98,8 +98,8 @@ mutual
         b.whole,
       )
 
-  operands_written : (args : NameParts → Option ℕ) (ks : List OperandKind) (ts : TermTrees) (bytes : List ℕ) → AreTermsTyped ts → operands_fit ks ts ≡ true
-      → AreCounted args ts → terms_bytes ts ≡ Some bytes → AreOperands (body_grammar args) ks ts bytes
+  operands_written : (args : Grammar) (ks : List OperandKind) (ts : TermTrees) (bytes : List ℕ) → AreTermsTyped ts → operands_fit ks ts ≡ true
+      → AreCounted args ts → terms_bytes ts ≡ Some bytes → AreOperands args ks ts bytes
   operands_written args [] no_terms bytes h fit k e = sym (some_is [] bytes e)
   operands_written args (p ∷ ks) no_terms bytes h fit k e = absurd cc
   operands_written args [] (more t ts) bytes h fit k e = absurd cc
@@ -125,7 +125,7 @@ names_written (n ∷ ns) bytes h e =
 -- ---- statements
 
 mutual
-  statement_written : (args : Arguments) (s : List Segment) (locals : Locals) (t : TermTree) (bytes : List ℕ) → IsTermTyped t
+  statement_written : (args : BodyGrammar) (s : List Segment) (locals : Locals) (t : TermTree) (bytes : List ℕ) → IsTermTyped t
       → may_stand Statement t ≡ true → term_fits t ≡ true → MayStandIn args s locals t → term_bytes t ≡ Some bytes
       → IsStatement args s locals t bytes
   statement_written args s locals (if_do v ts o) bytes h st fit k e =
@@ -188,14 +188,14 @@ mutual
       )
   statement_written args s locals t bytes h st fit k e = (st, term_written (args locals) t bytes h fit k e)
 
-  else_written : (args : Arguments) (s : List Segment) (locals : Locals) (o : ElseTree) (bytes : List ℕ) → IsElseTyped o → else_fits o ≡ true
+  else_written : (args : BodyGrammar) (s : List Segment) (locals : Locals) (o : ElseTree) (bytes : List ℕ) → IsElseTyped o → else_fits o ≡ true
       → ElseMayStandIn args s locals o → else_bytes o ≡ Some bytes → IsElse args s locals o bytes
   else_written args s locals no_else bytes h fit k e = sym (some_is [] bytes e)
   else_written args s locals (else_do ts) bytes h fit k e =
       let f = filled_is (161 ∷ []) [] (terms_bytes ts) bytes e in
       (f.0, statements_written args s locals ts f.0 h fit k f.1, f.2)
 
-  statements_written : (args : Arguments) (s : List Segment) (locals : Locals) (ts : TermTrees) (bytes : List ℕ) → AreTermsTyped ts
+  statements_written : (args : BodyGrammar) (s : List Segment) (locals : Locals) (ts : TermTrees) (bytes : List ℕ) → AreTermsTyped ts
       → all_stand Statement ts ≡ true → AllMayStandIn args s locals ts → terms_bytes ts ≡ Some bytes
       → AreStatements args s locals ts bytes
   statements_written args s locals no_terms bytes h fit k e = sym (some_is [] bytes e)

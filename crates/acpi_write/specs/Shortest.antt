@@ -1,10 +1,10 @@
 -- No spelling is shorter than the one that is written (ACPI 6.5, 20.2).
-use Rattle.std.specs.Prelude.{◌≡◌, ◌<◌, ◌≤◌, ℕ, List, length, Option, Some, None, All}
+use Rattle.std.specs.Prelude.{◌≡◌, ◌<◌, ◌≤◌, ℕ, false, List, length, Option, Some, None, All}
 use Rattle.acpi_name.specs.Names.{Segment}
 use Rattle.acpi_tree.specs.Tree.{ItemTree, scope, method, ItemTrees, no_items, item}
 use Rattle.acpi_tree.specs.Terms.{TermTrees}
 use Rattle.acpi_terms.specs.Spelling.{SpellsItems}
-use Rattle.acpi_body.specs.Arguments.{Arguments}
+use Rattle.acpi_body.specs.Arguments.{Locals, BodyGrammar}
 use Rattle.acpi_body.specs.Statements.{ReadsBody}
 use Rattle.acpi_write.specs.CanonicalItems.{items_bytes}
 use Rattle.acpi_write.specs.CanonicalTerms.{terms_bytes}
@@ -44,14 +44,16 @@ SpelledItemsAreTyped = (is : ItemTrees) (bytes : List ℕ) → All (λ b. b < 25
 -- ---- terms
 
 -- what is written of the terms that a body is, is read as the same terms and isn't longer than the body
-pub record IsWritten (args : Arguments) (s : List Segment) (depth : ℕ) (bytes : List ℕ)
+pub record IsWritten (g : BodyGrammar) (s : List Segment) (depth : ℕ) (bytes : List ℕ)
     (ts : TermTrees) : Type 0 where
   pub written : List ℕ
   pub spelling : terms_bytes ts ≡ Some written
-  pub reads : ReadsBody args s depth written ts
+  pub reads : ReadsBody g s depth written ts
   pub within : length written ≤ length bytes
 
+-- so of each body in which no loads may stand
 abbrev pub ReadTermsAreWritten : Type 0
 ReadTermsAreWritten =
-    (args : Arguments) (s : List Segment) (depth : ℕ) (bytes : List ℕ) (ts : TermTrees)
-    → All (λ b. b < 256) bytes → ReadsBody args s depth bytes ts → IsWritten args s depth bytes ts
+    (g : BodyGrammar) (s : List Segment) (depth : ℕ) (bytes : List ℕ) (ts : TermTrees)
+    → ((locals : Locals) → (g locals).loads ≡ false) → All (λ b. b < 256) bytes
+    → ReadsBody g s depth bytes ts → IsWritten g s depth bytes ts

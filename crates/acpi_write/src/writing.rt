@@ -9,7 +9,7 @@ ghost use Rattle.acpi_tree.specs.TermView.{terms_tree};
 ghost use Rattle.acpi_tree.specs.TermFits.{terms_fit};
 ghost use Rattle.acpi_tree.specs.Fits.{items_fit};
 ghost use Rattle.acpi_terms.specs.Spelling.{SpellsItems};
-ghost use Rattle.acpi_body.specs.Arguments.{Arguments};
+ghost use Rattle.acpi_body.specs.Arguments.{BodyGrammar};
 ghost use Rattle.acpi_body.specs.Spelling.{heights};
 ghost use Rattle.acpi_body.specs.Statements.{ReadsBody};
 ghost use Rattle.acpi_write.specs.CanonicalItems.{items_bytes};
@@ -46,10 +46,10 @@ pub fn write_terms(alloc: Global, terms: &[Term]) -> Result<Vec<u8>, WriteFault>
     ensures long { result ≡ Err WriteFault.TooLong → terms_bytes (terms_tree terms.now) ≡ None }
     // So they are read from it again, where each call has the arguments that its name asks for and each declared name
     // has a place, at any depth not below their height.
-    ensures spells { IfOk result (λ bytes. (args : Arguments) (s : List Segment) (depth : ℕ)
-        → AllMayStandIn args s finite.empty (terms_tree terms.now) → heights (terms_tree terms.now)
+    ensures spells { IfOk result (λ bytes. (g : BodyGrammar) (s : List Segment) (depth : ℕ)
+        → AllMayStandIn g s finite.empty (terms_tree terms.now) → heights (terms_tree terms.now)
         ≤ depth
-        → ReadsBody args s depth bytes.items (terms_tree terms.now)) }
+        → ReadsBody g s depth bytes.items (terms_tree terms.now)) }
 {
     let mut writer = Writer::new(alloc);
     writer.terms(terms)?;

@@ -1,4 +1,8 @@
 pub mod Cutting
 pub mod HexFiles
 pub mod Runs
+pub mod Orders
+pub mod HostFailures
+pub mod AnyOrder
+pub mod StoredFiles
 pub mod Refused

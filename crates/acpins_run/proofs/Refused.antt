@@ -1,6 +1,7 @@
 -- What a run tells of a load's refusal.
 use Rattle.std.proofs.Common.{◌≡◌, [], ◌∷◌, ℕ, List, Option, refl, sym, ap, subst}
 use Rattle.std.proofs.KnownBytes.{Appends-nil}
+use Rattle.std.specs.declared.io.ErrorKind.{ErrorKind}
 use Rattle.acpi_declare.specs.Refusals.{IsLoadFault}
 use Rattle.acpi_declare.specs.declared.fault.LoadFault.{LoadFault}
 use Rattle.acpi_declare.specs.declared.fault.LoadFault.TheVariants.{At, Memory}
@@ -13,13 +14,13 @@ use Rattle.acpins_run.specs.Runs.{IsFailureOf, IsRunFailure, GetsBeginning, load
 use Rattle.acpins_run.specs.declared.failure.Failure.TheVariants.{Output}
 
 -- a refusal of what the command loads is a failure of the run
-pub refusal_of : (bytes_of : FileBytes) (asked : Asked) (tables loaded : List (List ℕ)) (e : LoadFault) → AreTablesOf bytes_of asked.hex asked.files tables
-    → loaded_by asked.command tables ≡ loaded → IsLoadFault asked.depth loaded e → IsFailureOf bytes_of asked (failure_of e)
-refusal_of bytes_of asked tables loaded Memory of_files same refused = tt
-refusal_of bytes_of asked tables loaded (At table reason) of_files same refused =
+pub refusal_of : (bytes_of : FileBytes) (last : Option ErrorKind) (asked : Asked) (tables loaded : List (List ℕ)) (e : LoadFault) → AreTablesOf bytes_of asked.hex asked.files tables
+    → loaded_by asked.command tables ≡ loaded → IsLoadFault asked.depth loaded e → IsFailureOf bytes_of last asked (failure_of e)
+refusal_of bytes_of last asked tables loaded Memory of_files same refused = tt
+refusal_of bytes_of last asked tables loaded (At table reason) of_files same refused =
     by reason (subst (λ (ts : List (List ℕ)). IsLoadFault asked.depth ts (At table reason)) (sym same) refused)
   where
-    by : (r : LoadReason) → IsLoadFault asked.depth (loaded_by asked.command tables) (At table r) → IsFailureOf bytes_of asked (failure_of (At table r))
+    by : (r : LoadReason) → IsLoadFault asked.depth (loaded_by asked.command tables) (At table r) → IsFailureOf bytes_of last asked (failure_of (At table r))
     by (reasons.Table f) h = record { tables = tables; of_files = of_files; fault = At table (reasons.Table f); refused = h; told = refl }
     by reasons.NotDsdt h = record { tables = tables; of_files = of_files; fault = At table reasons.NotDsdt; refused = h; told = refl }
     by reasons.NotSsdt h = record { tables = tables; of_files = of_files; fault = At table reasons.NotSsdt; refused = h; told = refl }
@@ -44,5 +45,5 @@ first_checked c dsdt ssdts is = ap (λ (x : Command). loaded_by x (dsdt ∷ ssdt
 -- ---- output that can't be written
 
 -- nothing is a beginning of the output
-pub begins_with_nothing : (bytes_of : FileBytes) (words : List Text) (old : Option (List ℕ)) → IsRunFailure bytes_of words Output → GetsBeginning bytes_of words old old
-begins_with_nothing bytes_of words old h = (h.0, h.1, h.2, ([], h.1, refl, Appends-nil old))
+pub begins_with_nothing : (bytes_of : FileBytes) (last : Option ErrorKind) (words : List Text) (old : Option (List ℕ)) → IsRunFailure bytes_of last words Output → GetsBeginning bytes_of words old old
+begins_with_nothing bytes_of last words old h = (h.0, h.1, h.2, ([], h.1, refl, Appends-nil old))

@@ -24,18 +24,18 @@ use Rattle.acpins_output.specs.Listings.{Prints}
 use Rattle.acpins_output.specs.Shown.{Shows}
 use Rattle.acpins_words.specs.Words.{Text, Command, listing, showing, checking, Asked}
 use Rattle.acpins_run.specs.Input.{FileBytes, Stores, AreTablesIn, AreTablesOf}
-use Rattle.acpins_run.specs.Runs.{IsPrinted, IsChecking, IsListing, IsShowing}
-use Rattle.acpins_run.specs.RunLaws.{AreKnown, HasPrinted, HoldSame}
+use Rattle.acpins_run.specs.Runs.{IsOutput, IsPrinted, IsChecking, IsListing, IsShowing}
+use Rattle.acpins_run.specs.RunLaws.{AreKnown, Asks, HasPrinted, HoldSame}
 
 -- ---- bytes hold tables in one way
 
-abbrev at_front : List ℕ × List ℕ → Result (List ℕ × List ℕ) TableFault
+abbrev pub at_front : List ℕ × List ℕ → Result (List ℕ × List ℕ) TableFault
 at_front x = Ok x
 
-front_is : (x y : List ℕ × List ℕ) → at_front x ≡ at_front y → x ≡ y
+pub front_is : (x y : List ℕ × List ℕ) → at_front x ≡ at_front y → x ≡ y
 front_is x y e = cc
 
-not_empty : (t rest : List ℕ) → IsTable t → [] ≡ t ++ rest → ⊥
+pub not_empty : (t rest : List ℕ) → IsTable t → [] ≡ t ++ rest → ⊥
 not_empty t rest h e =
     let size : 0 ≡ length t + length rest = ap length e ∙ length-append t rest in absurd (omega (arith, h.has_header))
 
@@ -49,7 +49,7 @@ one_cut (t ∷ ts) (u ∷ us) h k e =
     let later : ts ≡ us = one_cut ts us h.1 k.1 (ap (λ (x : List ℕ × List ℕ). x.1) both) in
     λ i. first i ∷ later i
 
-one_content : (hex : Bool) (content a b : List ℕ) → Stores hex content a → Stores hex content b → a ≡ b
+pub one_content : (hex : Bool) (content a b : List ℕ) → Stores hex content a → Stores hex content b → a ≡ b
 one_content true content a b h k = let e = sym h ∙ k in cc
 one_content false content a b h k = sym h ∙ k
 
@@ -58,7 +58,7 @@ tables_in hex None ts us some h k = absurd (some refl)
 tables_in hex (Some content) ts us some h k =
     one_cut ts us (recursion_from_All IsTable ts h.whole) (recursion_from_All IsTable us k.whole) (one_content hex content (concat ts) (concat us) h.stored k.stored)
 
-tables_of : (bytes_of : FileBytes) (hex : Bool) (names : List (List ℕ)) (ts us : List (List ℕ)) → AreKnown bytes_of names → AreTablesOf bytes_of hex names ts
+pub tables_of : (bytes_of : FileBytes) (hex : Bool) (names : List (List ℕ)) (ts us : List (List ℕ)) → AreKnown bytes_of names → AreTablesOf bytes_of hex names ts
     → AreTablesOf bytes_of hex names us → ts ≡ us
 tables_of bytes_of hex [] ts us known h k = h ∙ sym k
 tables_of bytes_of hex (name ∷ names) ts us known h k =
@@ -66,19 +66,23 @@ tables_of bytes_of hex (name ∷ names) ts us known h k =
     let later : h.1 ≡ k.1 = tables_of bytes_of hex names h.1 k.1 known.1 h.4 k.4 in
     h.2 ∙ ap (λ l. l ++ h.1) first ∙ ap (λ l. k.0 ++ l) later ∙ sym k.2
 
-head_is : (a b : List ℕ) (xs ys : List (List ℕ)) → a ∷ xs ≡ b ∷ ys → a ≡ b
+pub head_is : (a b : List ℕ) (xs ys : List (List ℕ)) → a ∷ xs ≡ b ∷ ys → a ≡ b
 head_is a b xs ys e = cc
 
-tail_is : (a b : List ℕ) (xs ys : List (List ℕ)) → a ∷ xs ≡ b ∷ ys → xs ≡ ys
+pub tail_is : (a b : List ℕ) (xs ys : List (List ℕ)) → a ∷ xs ≡ b ∷ ys → xs ≡ ys
 tail_is a b xs ys e = cc
 
 -- ---- what a run with status 0 printed
 
-is_printed : (bytes_of : FileBytes) (words : List Text) (asked : Asked) (command : Command) (text : List ℕ) → HasPrinted bytes_of words asked command text
+pub asked_output : (bytes_of : FileBytes) (words : List Text) (asked : Asked) (command : Command) (status : ℕ) (text : List ℕ) → Asks bytes_of words asked command
+    → IsOutput bytes_of words status text → IsPrinted bytes_of asked command status text
+asked_output bytes_of words asked command status text h printed =
+    let same : printed.0 ≡ asked = one_some printed.0 asked (sym printed.1 ∙ h.ask) in
+    subst (λ (c : Command). IsPrinted bytes_of asked c status text) h.command_is (subst (λ (a : Asked). IsPrinted bytes_of a a.command status text) same printed.2)
+
+pub is_printed : (bytes_of : FileBytes) (words : List Text) (asked : Asked) (command : Command) (text : List ℕ) → HasPrinted bytes_of words asked command text
     → IsPrinted bytes_of asked command 0 text
-is_printed bytes_of words asked command text h =
-    let same : h.printed.0 ≡ asked = one_some h.printed.0 asked (sym h.printed.1 ∙ h.ask) in
-    subst (λ (c : Command). IsPrinted bytes_of asked c 0 text) h.command_is (subst (λ (a : Asked). IsPrinted bytes_of a a.command 0 text) same h.printed.2)
+is_printed bytes_of words asked command text h = asked_output bytes_of words asked command 0 text h.asks h.printed
 
 -- SSDTs of which a check ends with status 0 are independent
 commuting : (depth : ℕ) (dsdt : List ℕ) (ssdts : List (List ℕ)) (text : List ℕ) → ssdts ≢ [] → Checks depth dsdt ssdts 0 text → IsIndependent depth dsdt ssdts
@@ -91,8 +95,8 @@ commuting depth dsdt ssdts text some h = by h.0 h.1 h.2
     by (missed i j p) verdict said = absurd (omega (arith, said.0))
 
 module _ (checked_bytes other_bytes : FileBytes) (checked other : Asked) (dsdt : List ℕ) (ssdts given : List (List ℕ)) (hold : HoldSame checked_bytes other_bytes checked other dsdt ssdts given)
-    (known : AreKnown checked_bytes checked.files) (known_other : AreKnown other_bytes other.files) where
-  reordered : (verdict : List ℕ) → IsChecking checked_bytes checked 0 verdict → AreReordered checked.depth dsdt ssdts given
+    (known : AreKnown checked_bytes checked.files) where
+  pub reordered : (verdict : List ℕ) → IsChecking checked_bytes checked 0 verdict → AreReordered checked.depth dsdt ssdts given
   reordered verdict h =
       let same = tables_of checked_bytes checked.hex checked.files (h.dsdt ∷ h.ssdts) (dsdt ∷ ssdts) known h.of_files hold.checked_tables in
       let one = head_is h.dsdt dsdt h.ssdts ssdts same in
@@ -100,32 +104,33 @@ module _ (checked_bytes other_bytes : FileBytes) (checked other : Asked) (dsdt :
       let checks : Checks checked.depth dsdt ssdts 0 verdict = subst (λ (b : List ℕ). Checks checked.depth b ssdts 0 verdict) one (subst (λ (bs : List (List ℕ)). Checks checked.depth h.dsdt bs 0 verdict) all h.checked) in
       record { some = hold.some; order = hold.order; independent = commuting checked.depth dsdt ssdts verdict hold.some checks }
 
-  joined : (verdict : List ℕ) (tables : List (List ℕ)) (m : Machine) → IsChecking checked_bytes checked 0 verdict → AreTablesOf other_bytes other.hex other.files tables
-      → IsMachine other.depth tables m → IsJoin (IsSingleLoad checked.depth dsdt ssdts) m
-  joined verdict tables m h of_files loads =
-      let r = reordered verdict h in
-      let same = tables_of other_bytes other.hex other.files tables (dsdt ∷ given) known_other of_files hold.other_tables in
-      joins_in_any_order checked.depth dsdt ssdts given m r.some r.order r.independent
-      (subst (λ (n : ℕ). IsMachine n (dsdt ∷ given) m) hold.depth_is (subst (λ (ts : List (List ℕ)). IsMachine other.depth ts m) same loads))
+  module _ (known_other : AreKnown other_bytes other.files) where
+    pub joined : (verdict : List ℕ) (tables : List (List ℕ)) (m : Machine) → IsChecking checked_bytes checked 0 verdict → AreTablesOf other_bytes other.hex other.files tables
+        → IsMachine other.depth tables m → IsJoin (IsSingleLoad checked.depth dsdt ssdts) m
+    joined verdict tables m h of_files loads =
+        let r = reordered verdict h in
+        let same = tables_of other_bytes other.hex other.files tables (dsdt ∷ given) known_other of_files hold.other_tables in
+        joins_in_any_order checked.depth dsdt ssdts given m r.some r.order r.independent
+        (subst (λ (n : ℕ). IsMachine n (dsdt ∷ given) m) hold.depth_is (subst (λ (ts : List (List ℕ)). IsMachine other.depth ts m) same loads))
 
-  listed : (verdict text : List ℕ) → IsChecking checked_bytes checked 0 verdict → IsListing other_bytes other text
-      → (m : Machine) × IsJoin (IsSingleLoad checked.depth dsdt ssdts) m × Prints m.objects m.links text
-  listed verdict text h l = (l.machine, joined verdict l.tables l.machine h l.loaded.of_files l.loaded.loaded, l.printed)
+    listed : (verdict text : List ℕ) → IsChecking checked_bytes checked 0 verdict → IsListing other_bytes other text
+        → (m : Machine) × IsJoin (IsSingleLoad checked.depth dsdt ssdts) m × Prints m.objects m.links text
+    listed verdict text h l = (l.machine, joined verdict l.tables l.machine h l.loaded.of_files l.loaded.loaded, l.printed)
 
-  shown : (verdict text : List ℕ) (word : Text) → IsChecking checked_bytes checked 0 verdict → IsShowing other_bytes other word text
-      → (path : List Segment) × (m : Machine) × SpellsPathText path word × IsJoin (IsSingleLoad checked.depth dsdt ssdts) m × Shows checked.depth (dsdt ∷ given) m path text
-  shown verdict text word h l =
-      let same = tables_of other_bytes other.hex other.files l.tables (dsdt ∷ given) known_other l.loaded.of_files hold.other_tables in (
-        l.path,
-        l.machine,
-        l.spelled,
-        joined verdict l.tables l.machine h l.loaded.of_files l.loaded.loaded,
-        subst (λ (n : ℕ). Shows n (dsdt ∷ given) l.machine l.path text) hold.depth_is (subst (λ (ts : List (List ℕ)). Shows other.depth ts l.machine l.path text) same l.printed),
-      )
+    shown : (verdict text : List ℕ) (word : Text) → IsChecking checked_bytes checked 0 verdict → IsShowing other_bytes other word text
+        → (path : List Segment) × (m : Machine) × SpellsPathText path word × IsJoin (IsSingleLoad checked.depth dsdt ssdts) m × Shows checked.depth (dsdt ∷ given) m path text
+    shown verdict text word h l =
+        let same = tables_of other_bytes other.hex other.files l.tables (dsdt ∷ given) known_other l.loaded.of_files hold.other_tables in (
+          l.path,
+          l.machine,
+          l.spelled,
+          joined verdict l.tables l.machine h l.loaded.of_files l.loaded.loaded,
+          subst (λ (n : ℕ). Shows n (dsdt ∷ given) l.machine l.path text) hold.depth_is (subst (λ (ts : List (List ℕ)). Shows other.depth ts l.machine l.path text) same l.printed),
+        )
 
 -- ---- one machine has one listing
 
-one_listing : (m n : Machine) (a b : List ℕ) → m ≡ n → Prints m.objects m.links a → Prints n.objects n.links b → a ≡ b
+pub one_listing : (m n : Machine) (a b : List ℕ) → m ≡ n → Prints m.objects m.links a → Prints n.objects n.links b → a ≡ b
 one_listing m n a b is h k =
     let p : Prints m.objects m.links b = subst (λ (x : Machine). Prints x.objects x.links b) (sym is) k in
     let lines : h.lines ≡ p.lines = same_entries path_cmp path_cmp_total path_cmp-IsAntisymmetric h.lines p.lines (subst T (sym h.ascending) tt) (subst T (sym p.ascending) tt) (λ q. h.objects_are q ∙ sym (p.objects_are q)) in
@@ -135,7 +140,7 @@ pub listing_is_of_join : (checked_bytes other_bytes : FileBytes) (check list : L
     → HasPrinted checked_bytes check checked checking verdict → HasPrinted other_bytes list other listing text → HoldSame checked_bytes other_bytes checked other dsdt ssdts given
     → (m : Machine) × IsJoin (IsSingleLoad checked.depth dsdt ssdts) m × Prints m.objects m.links text
 listing_is_of_join checked_bytes other_bytes check list checked other verdict text dsdt ssdts given h l hold =
-    listed checked_bytes other_bytes checked other dsdt ssdts given hold h.known l.known verdict text (is_printed checked_bytes check checked checking verdict h)
+    listed checked_bytes other_bytes checked other dsdt ssdts given hold h.asks.known l.asks.known verdict text (is_printed checked_bytes check checked checking verdict h)
     (is_printed other_bytes list other listing text l).1
 
 pub listings_are_alike : (checked_bytes one_bytes two_bytes : FileBytes) (check list again : List Text) (checked one two : Asked) (verdict text other : List ℕ)
@@ -152,5 +157,5 @@ pub showing_is_of_join : (checked_bytes other_bytes : FileBytes) (check show : L
     → HasPrinted checked_bytes check checked checking verdict → HasPrinted other_bytes show other (showing word) text → HoldSame checked_bytes other_bytes checked other dsdt ssdts given
     → (path : List Segment) × (m : Machine) × SpellsPathText path word × IsJoin (IsSingleLoad checked.depth dsdt ssdts) m × Shows checked.depth (dsdt ∷ given) m path text
 showing_is_of_join checked_bytes other_bytes check show checked other verdict text word dsdt ssdts given h l hold =
-    shown checked_bytes other_bytes checked other dsdt ssdts given hold h.known l.known verdict text word (is_printed checked_bytes check checked checking verdict h)
+    shown checked_bytes other_bytes checked other dsdt ssdts given hold h.asks.known l.asks.known verdict text word (is_printed checked_bytes check checked checking verdict h)
     (is_printed other_bytes show other (showing word) text l).1

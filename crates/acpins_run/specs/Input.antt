@@ -1,6 +1,7 @@
 -- What the files of a run hold: definition blocks, one after another (ACPI 6.5, 5.2.6).
-use Rattle.std.specs.Prelude.{◌≡◌, ◌≢◌, ◌+◌, ℕ, Bool, true, false, IsTrue, List, [], ◌∷◌, ◌++◌, length, All, Option, IfSome}
+use Rattle.std.specs.Prelude.{◌≡◌, ◌≢◌, ◌+◌, ℕ, Bool, true, false, IsTrue, List, [], ◌∷◌, ◌++◌, length, All, Option, None, IfSome}
 use Rattle.std.specs.List.{concat}
+use Rattle.std.specs.declared.io.ErrorKind.{ErrorKind}
 use Rattle.acpi_table.specs.Tables.{IsTable, IsRefusedAs}
 use Rattle.acpi_table.specs.declared.tables.TableFault.{TableFault}
 use Rattle.acpi_order.specs.Machines.{Machine, IsMachine}
@@ -46,28 +47,28 @@ pub record BreaksOff (hex : Bool) (known : Option (List ℕ)) (tables : List (Li
       (λ content. (rest : List ℕ) × Stores hex content (concat tables ++ rest) × (rest ≢ [])
       × IsRefusedAs fault rest)
 
--- Why a file gives no tables, where so many came before: it is said not to be read, its text spells no bytes,
--- it breaks off after some more, or there is no memory.
-abbrev pub IsFileFault : Bool → List ℕ → Option (List ℕ) → ℕ → Failure → Type 0
-IsFileFault hex name known before (Read word) = word.now ≡ name
-IsFileFault hex name known before (BadHex word) =
+-- Why a file gives no tables, where so many came before: opening or reading a file failed, the last time with that
+-- error; its text spells no bytes; it breaks off after some more; or there is no memory.
+abbrev pub IsFileFault : Bool → List ℕ → Option (List ℕ) → Option ErrorKind → ℕ → Failure → Type 0
+IsFileFault hex name known error before (Read word) = (word.now ≡ name) × (error ≢ None)
+IsFileFault hex name known error before (BadHex word) =
     (word.now ≡ name) × IsTrue hex
     × IfSome known (λ content. (bytes : List ℕ) → SpellsInHex bytes content → ⊥)
-IsFileFault hex name known before (Table number fault) =
+IsFileFault hex name known error before (Table number fault) =
     (tables : List (List ℕ)) × (number ≡ before + length tables) × BreaksOff hex known tables fault
-IsFileFault hex name known before Memory = Unit {0}
-IsFileFault hex name known before _ = ⊥
+IsFileFault hex name known error before Memory = Unit {0}
+IsFileFault hex name known error before _ = ⊥
 
 -- the first of the files that gives no tables, and why
-pub record IsFilesFault (bytes_of : FileBytes) (hex : Bool) (names : List (List ℕ))
-    (failure : Failure) : Type 0 where
+pub record IsFilesFault (bytes_of : FileBytes) (hex : Bool) (error : Option ErrorKind)
+    (names : List (List ℕ)) (failure : Failure) : Type 0 where
   pub earlier : List (List ℕ)
   pub name : List ℕ
   pub later : List (List ℕ)
   pub splits : names ≡ earlier ++ name ∷ later
   pub tables : List (List ℕ)
   pub before : AreTablesOf bytes_of hex earlier tables
-  pub fault : IsFileFault hex name (bytes_of name) (length tables) failure
+  pub fault : IsFileFault hex name (bytes_of name) error (length tables) failure
 
 -- ---- loads of files
 

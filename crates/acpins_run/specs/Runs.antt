@@ -1,6 +1,7 @@
 -- What a run prints and says, and why it prints nothing (docs/COMMAND.md).
 use Rattle.std.specs.Prelude.{◌≡◌, ◌≢◌, ◌⊎◌, ◌∷◌, ℕ, List, [], Option, Some, None}
 use Rattle.std.specs.Io.KnownBytes.{Appends}
+use Rattle.std.specs.declared.io.ErrorKind.{ErrorKind}
 use Rattle.acpi_name.specs.Names.{Segment}
 use Rattle.acpi_name.specs.Text.{SpellsPathText, IsPathText}
 use Rattle.acpi_order.specs.Machines.{Machine}
@@ -47,10 +48,11 @@ pub record IsChecking (bytes_of : FileBytes) (asked : Asked) (status : ℕ)
   pub of_files : AreTablesOf bytes_of asked.hex asked.files (dsdt ∷ ssdts)
   pub checked : Checks asked.depth dsdt ssdts status text
 
--- the tables in the files, and the same in their shortest spelling
+-- the tables in the files, at least one, and the same in their shortest spelling
 pub record IsRewriting (bytes_of : FileBytes) (asked : Asked) : Type 0 where
   pub tables : List (List ℕ)
   pub of_files : AreTablesOf bytes_of asked.hex asked.files tables
+  pub some : tables ≢ []
   pub rewritten : List (List ℕ)
   pub are : AreRewritten asked.depth tables rewritten
   pub bytes : AreTablesOfBytes tables
@@ -83,11 +85,13 @@ GetsBeginning bytes_of words old new = (status : ℕ) × (text : List ℕ)
 -- ---- what is written to files
 
 -- What was written to each file, where it is known.
--- The file of that name holds the tables of the files in their shortest spelling, and the others are as they were.
+-- The file of that name holds the tables of the files, at least one, in their shortest spelling, and the others are as
+-- they were.
 pub record IsStored (bytes_of : FileBytes) (asked : Asked) (name : Text)
     (old new : FileBytes) : Type 0 where
   pub tables : List (List ℕ)
   pub of_files : AreTablesOf bytes_of asked.hex asked.files tables
+  pub some : tables ≢ []
   pub rewritten : List (List ℕ)
   pub are : AreRewritten asked.depth tables rewritten
   pub old_bytes : AreTablesOfBytes tables
@@ -156,29 +160,34 @@ IsUnwrittenFile bytes_of asked _ failure = ⊥
 
 -- why what the words ask for can't be made: the path is none or has no object; the files can't be read or cut into
 -- tables, they hold none, the tables have no load; a file can't be written; or there is no memory
-abbrev pub IsFailureOf : FileBytes → Asked → Failure → Type 0
-IsFailureOf bytes_of asked (Read word) = IsFilesFault bytes_of asked.hex asked.files (Read word)
-IsFailureOf bytes_of asked (BadHex word) = IsFilesFault bytes_of asked.hex asked.files (BadHex word)
-IsFailureOf bytes_of asked (Table number fault) =
-    IsFilesFault bytes_of asked.hex asked.files (Table number fault)
-IsFailureOf bytes_of asked BadPath = IsBadPath asked.command
-IsFailureOf bytes_of asked NoSuchPath = IsMissingPath bytes_of asked asked.command
-IsFailureOf bytes_of asked (Out word) = IsUnwrittenFile bytes_of asked asked.command (Out word)
-IsFailureOf bytes_of asked NoTable = AreTablesOf bytes_of asked.hex asked.files []
-IsFailureOf bytes_of asked (Item number reason place) =
+-- `last` is the kind of the error with which opening or reading a file failed last.
+abbrev pub IsFailureOf : FileBytes → Option ErrorKind → Asked → Failure → Type 0
+IsFailureOf bytes_of last asked (Read word) =
+    IsFilesFault bytes_of asked.hex last asked.files (Read word)
+IsFailureOf bytes_of last asked (BadHex word) =
+    IsFilesFault bytes_of asked.hex last asked.files (BadHex word)
+IsFailureOf bytes_of last asked (Table number fault) =
+    IsFilesFault bytes_of asked.hex last asked.files (Table number fault)
+IsFailureOf bytes_of last asked BadPath = IsBadPath asked.command
+IsFailureOf bytes_of last asked NoSuchPath = IsMissingPath bytes_of asked asked.command
+IsFailureOf bytes_of last asked (Out word) =
+    IsUnwrittenFile bytes_of asked asked.command (Out word)
+IsFailureOf bytes_of last asked NoTable = AreTablesOf bytes_of asked.hex asked.files []
+IsFailureOf bytes_of last asked (Item number reason place) =
     IsRefusal bytes_of asked (Item number reason place)
-IsFailureOf bytes_of asked (Load number reason) = IsRefusal bytes_of asked (Load number reason)
-IsFailureOf bytes_of asked Memory = Unit {0}
-IsFailureOf bytes_of asked _ = ⊥
+IsFailureOf bytes_of last asked (Load number reason) =
+    IsRefusal bytes_of asked (Load number reason)
+IsFailureOf bytes_of last asked Memory = Unit {0}
+IsFailureOf bytes_of last asked _ = ⊥
 
 -- why a run fails: the words ask for nothing; or what they ask for can't be made, or can't be written
-abbrev pub IsRunFailure : FileBytes → List Text → Failure → Type 0
-IsRunFailure bytes_of words WrongWords = asked_of words ≡ None
-IsRunFailure bytes_of words Memory = Unit {0}
-IsRunFailure bytes_of words Output =
+abbrev pub IsRunFailure : FileBytes → Option ErrorKind → List Text → Failure → Type 0
+IsRunFailure bytes_of last words WrongWords = asked_of words ≡ None
+IsRunFailure bytes_of last words Memory = Unit {0}
+IsRunFailure bytes_of last words Output =
     (status : ℕ) × (text : List ℕ) × IsOutput bytes_of words status text
-IsRunFailure bytes_of words failure =
-    (asked : Asked) × (asked_of words ≡ Some asked) × IsFailureOf bytes_of asked failure
+IsRunFailure bytes_of last words failure =
+    (asked : Asked) × (asked_of words ≡ Some asked) × IsFailureOf bytes_of last asked failure
 
 -- the words ask for nothing, or for a path that is none
 abbrev pub IsWrong : List Text → Type 0
@@ -188,11 +197,11 @@ IsWrong words = (asked_of words ≡ None)
 -- A run ends with the status of such a failure, and its line is said. Standard output is as it was; if it was that
 -- which could not be written, it got a beginning of what the words ask for. What was written to files is as
 -- `LeavesFiles` has it.
-pub record FailsWith (bytes_of : FileBytes) (words : List Text) (status : ℕ)
-    (old new : Option (List ℕ)) (before after : FileBytes)
+pub record FailsWith (bytes_of : FileBytes) (last : Option ErrorKind) (words : List Text)
+    (status : ℕ) (old new : Option (List ℕ)) (before after : FileBytes)
     (is_said : List ℕ → Type 0) : Type 0 where
   pub failure : Failure
-  pub true_of : IsRunFailure bytes_of words failure
+  pub true_of : IsRunFailure bytes_of last words failure
   pub status_is : status ≡ status_of failure
   pub kept : failure ≢ Output → new ≡ old
   pub begun : failure ≡ Output → GetsBeginning bytes_of words old new

@@ -14,7 +14,8 @@
 //! let status = run(alloc, &["list", "a.dsdt"], &mut files, &mut rt.stdout(), &mut rt.stderr());
 //! ```
 //!
-//! `laws` states what follows: the runs over SSDTs that commute print the same for each order of them.
+//! `laws` states what follows: runs over SSDTs that commute print the same for each order of them and refuse none, and
+//! files that `rewrite` stored are listed as before and stay.
 //!
 //! `report_failure` says a failure alone, for a caller that never came to a run.
 //! `output_of`, `add_tables` and `from_hex` are parts of a run, public so that callers and `test_calls` can have them by themselves.

@@ -38,7 +38,7 @@ fn tables_of<'a, F: Files>(
     ensures ok { IfOk result (λ v. AreTablesOf (F.bytes_of files.old) request.now.hex
         (files_of request.now) v.items) }
     ensures err { IfErr result (IsFilesFault (F.bytes_of files.old) request.now.hex
-        (files_of request.now)) }
+        (F.last_error files.new) (files_of request.now)) }
     ensures others { F.written_to files.new ≡ F.written_to files.old }
 {
     let mut tables = Vec::new(alloc);
@@ -57,7 +57,8 @@ fn some_tables_of<'a, F: Files>(
     ensures ok { IfOk result (λ v. AreTablesOf (F.bytes_of files.old) request.now.hex
         (files_of request.now) v.items) }
     ensures some { IfOk result (λ v. v.items ≢ []) }
-    ensures err { IfErr result (IsFailureOf (F.bytes_of files.old) (asked_in request.now)) }
+    ensures err { IfErr result (IsFailureOf (F.bytes_of files.old) (F.last_error files.new)
+        (asked_in request.now)) }
     ensures others { F.written_to files.new ≡ F.written_to files.old }
 {
     let tables = tables_of(alloc, request, files)?;
@@ -77,7 +78,8 @@ fn listing_of<'a, S: Space<Object>, F: Files>(
     requires { (asked_in request.now).command ≡ listing }
     ensures ok { IfOk result (λ text. IsListing (F.bytes_of files.old)
         (asked_in request.now) text.items) }
-    ensures err { IfErr result (IsFailureOf (F.bytes_of files.old) (asked_in request.now)) }
+    ensures err { IfErr result (IsFailureOf (F.bytes_of files.old) (F.last_error files.new)
+        (asked_in request.now)) }
     ensures others { F.written_to files.new ≡ F.written_to files.old }
 {
     let tables = some_tables_of(alloc, request, files)?;
@@ -114,7 +116,8 @@ fn showing_of<'a, S: Space<Object>, F: Files>(
     requires { (asked_in request.now).command ≡ showing word.now }
     ensures ok { IfOk result (λ text. IsShowing (F.bytes_of files.old)
         (asked_in request.now) word.now text.items) }
-    ensures err { IfErr result (IsFailureOf (F.bytes_of files.old) (asked_in request.now)) }
+    ensures err { IfErr result (IsFailureOf (F.bytes_of files.old) (F.last_error files.new)
+        (asked_in request.now)) }
     ensures others { F.written_to files.new ≡ F.written_to files.old }
 {
     let path = path_of(alloc, word)?;
@@ -137,7 +140,8 @@ fn checking_of<'a, S: Space<Object>, F: Files>(
     requires { (asked_in request.now).command ≡ checking }
     ensures ok { IfOk result (λ m. IsChecking (F.bytes_of files.old)
         (asked_in request.now) m.status m.text.items) }
-    ensures err { IfErr result (IsFailureOf (F.bytes_of files.old) (asked_in request.now)) }
+    ensures err { IfErr result (IsFailureOf (F.bytes_of files.old) (F.last_error files.new)
+        (asked_in request.now)) }
     ensures others { F.written_to files.new ≡ F.written_to files.old }
 {
     let tables = some_tables_of(alloc, request, files)?;
@@ -157,7 +161,8 @@ fn rewriting_of<'a, S: Space<Object>, F: Files>(
 ) -> Result<(), Failure<'a>>
     requires { (asked_in request.now).command ≡ rewriting out.now }
     ensures ok { OnOk result (IsRewriting (F.bytes_of files.old) (asked_in request.now)) }
-    ensures err { IfErr result (IsFailureOf (F.bytes_of files.old) (asked_in request.now)) }
+    ensures err { IfErr result (IsFailureOf (F.bytes_of files.old) (F.last_error files.new)
+        (asked_in request.now)) }
     ensures stored { OnOk result (IsStored (F.bytes_of files.old) (asked_in request.now) out.now
         (F.written_to files.old) (F.written_to files.new)) }
     ensures left { OnErr result (F.written_to files.new ≡ F.written_to files.old) }
@@ -179,7 +184,8 @@ pub fn output_of<'a, S: Space<Object>, F: Files>(
 ) -> Result<Output, Failure<'a>>
     ensures ok { IfOk result (λ m. IsOutput (F.bytes_of files.old)
         (texts words.now) m.status m.text.items) }
-    ensures err { IfErr result (IsRunFailure (F.bytes_of files.old) (texts words.now)) }
+    ensures err { IfErr result (IsRunFailure (F.bytes_of files.old) (F.last_error files.new)
+        (texts words.now)) }
     ensures stored { OnOk result (StoresOutput (F.bytes_of files.old) (texts words.now)
         (F.written_to files.old) (F.written_to files.new)) }
     ensures left { IfErr result (λ f. LeavesFiles (F.bytes_of files.old) (texts words.now) f
@@ -209,7 +215,8 @@ fn print_output<'a, F: Files, O: Write>(
     ensures ok { IfOk result (λ status. GetsOutput (F.bytes_of files.old) (texts words.now) status
         (O.contents out.old) (O.contents out.new)) }
     ensures statuses { IfOk result (λ status. (status ≡ 0) ⊎ (status ≡ 3)) }
-    ensures err { IfErr result (IsRunFailure (F.bytes_of files.old) (texts words.now)) }
+    ensures err { IfErr result (IsRunFailure (F.bytes_of files.old) (F.last_error files.new)
+        (texts words.now)) }
     ensures kept { IfErr result (λ f. f ≢ Failure.Output → O.contents out.new
         ≡ O.contents out.old) }
     ensures begun { IfErr result (λ f. f ≡ Failure.Output
@@ -252,10 +259,11 @@ pub fn run_telling<'a, F: Files, O: Write, E, P: PartWriter<E>>(
     ensures stored { result ≢ 1 → result ≢ 2 → StoresOutput (F.bytes_of files.old)
         (texts words.now) (F.written_to files.old) (F.written_to files.new) }
     // The failure's line is said whole, unless a write of it failed.
-    ensures failed { 1 ≤ result → result ≤ 2 → FailsWith (F.bytes_of files.old) (texts words.now)
-        result (O.contents out.old) (O.contents out.new) (F.written_to files.old)
-        (F.written_to files.new) (λ line. WritesUntilFailure line (P.failed parts.old)
-        (P.contents err.old) (P.failed parts.new) (P.contents err.new)) }
+    ensures failed { 1 ≤ result → result ≤ 2 → FailsWith (F.bytes_of files.old)
+        (F.last_error files.new) (texts words.now) result (O.contents out.old) (O.contents out.new)
+        (F.written_to files.old) (F.written_to files.new)
+        (λ line. WritesUntilFailure line (P.failed parts.old) (P.contents err.old)
+        (P.failed parts.new) (P.contents err.new)) }
     ensures statuses { result ≤ 3 }
 {
     match print_output(alloc, words, files, out) {
@@ -282,7 +290,7 @@ pub fn run<'a, F: Files, O: Write, E: Write>(
         (texts words.now) (F.written_to files.old) (F.written_to files.new) }
     // Something failed, and its line is said, or a beginning of it; nothing is printed, unless it was the printing.
     ensures failed { 1 ≤ result → result ≤ 2 → FailsWith (F.bytes_of files.old)
-        (texts words.now) result (O.contents out.old) (O.contents out.new)
+        (F.last_error files.new) (texts words.now) result (O.contents out.old) (O.contents out.new)
         (F.written_to files.old) (F.written_to files.new)
         (λ line. AppendsBeginning line (E.contents err.old) (E.contents err.new)) }
     // The words ask for nothing, or for a path that is none, and nothing is printed.

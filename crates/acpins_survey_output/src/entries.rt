@@ -39,7 +39,7 @@ pub fn put_entry(
 }
 
 /// Puts the line of the entry of that number, which has that path.
-pub(crate) fn put_numbered(
+pub fn put_numbered(
     text: &mut Text,
     survey: &Survey,
     path: &Path,

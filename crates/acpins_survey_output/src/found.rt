@@ -124,7 +124,7 @@ fn put_notes(text: &mut Text, notes: &[Note])
 }
 
 /// Puts the lines of problems and notes by their sites, those of one site in the order in which they were met.
-pub(crate) fn put_found(text: &mut Text, problems: &[Problem], notes: &[Note])
+pub fn put_found(text: &mut Text, problems: &[Problem], notes: &[Note])
     ensures { text.new ≡ text.old ++ found_text problems.now notes.now }
 {
     let mut rest = notes;

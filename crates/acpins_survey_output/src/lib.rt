@@ -22,8 +22,8 @@ mod ranges;
 mod showing;
 
 pub use condition::{put_condition, put_literal};
-pub use entries::put_entry;
-pub use found::{put_note, put_problem};
+pub use entries::{put_entry, put_numbered};
+pub use found::{put_found, put_note, put_problem};
 pub use links::{put_link, put_links};
 pub use listing::{has_problem, list};
 pub use method_lines::bodies;

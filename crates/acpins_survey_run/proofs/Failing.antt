@@ -1,5 +1,5 @@
 -- What a survey stores, a run stores.
-use Rattle.std.proofs.Common.{◌≡◌, ℕ, List, Some}
+use Rattle.std.proofs.Common.{◌≡◌, List, Some}
 use Rattle.acpins_io.specs.Outputs.{FileBytes}
 use Rattle.acpins_words.specs.Words.{Text}
 use Rattle.acpins_survey_words.specs.Words.{Asked, invocation_of, survey}

@@ -1,5 +1,5 @@
 -- Byte strings of several sources, one source after another.
-use Rattle.std.proofs.Common.{◌≡◌, ◌+◌, ◌<◌, ◌≤◌, take_all, ℕ, Bool, List, [], ◌∷◌, ◌++◌, map, take, drop, take-append-drop, get_or, length, Option, Some, None, refl, sym, ap, subst, ◌∙◌, append_assoc, append-nil}
+use Rattle.std.proofs.Common.{◌≡◌, ◌+◌, ◌<◌, ◌≤◌, take_all, ℕ, Bool, List, [], ◌∷◌, ◌++◌, map, take, drop, take-append-drop, get_or, length, Option, None, refl, sym, ap, subst, ◌∙◌, append_assoc, append-nil}
 use Rattle.std.specs.Borrow.{Bor}
 use Rattle.std.specs.Prelude.{IfSome}
 use Rattle.std.specs.declared.io.ErrorKind.{ErrorKind}

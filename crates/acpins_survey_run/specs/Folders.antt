@@ -1,6 +1,6 @@
 -- The files of tables in a folder: as the kernel has them in /sys/firmware/acpi/tables (`DSDT`, `SSDT1`, a folder
 -- `dynamic`), or as acpixtract and others write them (`dsdt.dat`, `ssdt1.dat`, `SSDT1.aml`).
-use Rattle.std.specs.Prelude.{◌≡◌, ◌≤◌, ◌^◌, ◌-◌, ℕ, ◌&&◌, List, [], ◌∷◌, ◌++◌, Option, Some, None, IfSome, length, map, filter_map, option_map, option_and_then, drop, take, codes, nat_eq, nat_lt, if◌then◌else◌}
+use Rattle.std.specs.Prelude.{◌≡◌, ◌^◌, ◌-◌, ℕ, ◌&&◌, List, [], ◌∷◌, ◌++◌, Option, Some, None, IfSome, length, map, filter_map, option_map, option_and_then, drop, take, codes, nat_eq, nat_lt, if◌then◌else◌}
 use Rattle.std.specs.List.{ends_with}
 use Rattle.std.specs.List.Sorted.{IsPermutation, IsSorted}
 use Rattle.std.specs.Str.{all_ascii_digits, bytes_eq, str_to_ascii_lowercase}

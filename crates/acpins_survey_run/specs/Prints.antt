@@ -1,14 +1,16 @@
 -- What a command makes of tables.
-use Rattle.std.specs.Prelude.{◌≡◌}
+use Rattle.std.specs.Prelude.{◌≡◌, Some, None}
 use Rattle.acpi_name.specs.Text.{SpellsPathText}
-use Rattle.acpins_survey_words.specs.Words.{Command, listing, showing, mapping, telling_bodies, reporting, json, paging}
+use Rattle.acpins_survey_words.specs.Words.{Command, listing, showing, using, mapping, telling_bodies, reporting, json, paging}
 use Rattle.acpins_survey_run.specs.declared.printing.Print.{Print}
 use Rattle.acpins_survey_run.specs.declared.printing.Print.TheVariants as prints
 
--- the command, with the path that its word spells
+-- the command, with the path that its word spells, if it has one
 abbrev pub IsPrintOf : Command → Print → Type 0
-IsPrintOf listing prints.List = Unit {0}
+IsPrintOf (listing bodies) (prints.List has_bodies) = has_bodies ≡ bodies
 IsPrintOf (showing word) (prints.Show path) = SpellsPathText path word
+IsPrintOf (using None) (prints.Uses None) = Unit {0}
+IsPrintOf (using (Some word)) (prints.Uses (Some path)) = SpellsPathText path word
 IsPrintOf mapping prints.Map = Unit {0}
 IsPrintOf telling_bodies prints.Bodies = Unit {0}
 IsPrintOf (reporting is_verbose) (prints.Report verbose) = verbose ≡ is_verbose

@@ -1,16 +1,16 @@
 -- What a run prints and says, and why it prints nothing.
-use Rattle.std.specs.Prelude.{◌≡◌, ◌≢◌, ◌⊎◌, ℕ, List, [], Option, Some, None}
+use Rattle.std.specs.Prelude.{◌≡◌, ◌≢◌, ◌⊎◌, ℕ, List, Option, Some, None}
 use Rattle.acpi_name.specs.Text.{IsPathText}
 use Rattle.acpins_io.specs.Outputs.{FileBytes, GetsBeginning, IsHeldIn, printed_of}
 use Rattle.acpins_words.specs.Words.{Text}
-use Rattle.acpins_survey_words.specs.Words.{Asked, Command, Invocation, showing, paging, help, version, survey, invocation_of}
+use Rattle.acpins_survey_words.specs.Words.{Asked, Command, Invocation, showing, using, paging, survey, invocation_of}
 use Rattle.acpins_survey_run.specs.FailureLines.{failure_line, printed_name}
 use Rattle.acpins_survey_run.specs.Failures.{status_of}
 use Rattle.acpins_survey_run.specs.Folders.{FolderNames}
 use Rattle.acpins_survey_run.specs.Input.{AreFilesOf, AreTablesOfFiles, IsInputFault, LastErrors}
 use Rattle.acpins_survey_run.specs.Stored.{IsSpared, IsUnspared}
 use Rattle.acpins_survey_run.specs.declared.failure.Failure.{Failure}
-use Rattle.acpins_survey_run.specs.declared.failure.Failure.TheVariants.{WrongArguments, BadPath, NoSuchPath, NoTable, Read, BadHex, HoldsTables, Out, Output, Memory}
+use Rattle.acpins_survey_run.specs.declared.failure.Failure.TheVariants.{WrongArguments, BadPath, NoSuchPath, HoldsTables, Out, Output, Memory}
 
 -- which text, with which status, a command makes of tables that are read to a depth
 abbrev pub Makes : Type 1
@@ -19,6 +19,12 @@ Makes = Command → ℕ → List (List ℕ) → ℕ → List ℕ → Type 0
 -- whether no object may be at the path that the word of a command spells
 abbrev pub HasNothing : Type 1
 HasNothing = Command → ℕ → List (List ℕ) → Type 0
+
+-- the word that stands as PATH of a command: of `show` and of `uses`
+abbrev pub path_word : Command → Option Text
+path_word (showing word) = Some word
+path_word (using word) = word
+path_word _ = None
 
 -- the file to which a command writes its text, which is then not printed: that of `html`
 abbrev pub page_file : Command → Option Text
@@ -73,7 +79,8 @@ module _ (files : FileBytes) (folders : FolderNames) where
     -- or the tables aren't had
     abbrev pub IsFailureOf : HasNothing → LastErrors → Asked → Failure → Type 0
     IsFailureOf has_nothing last asked (BadPath printed) = (word : Text)
-        × (asked.command ≡ showing word) × ¬ IsPathText word × (printed.items ≡ printed_name word)
+        × (path_word asked.command ≡ Some word) × ¬ IsPathText word
+        × (printed.items ≡ printed_name word)
     IsFailureOf has_nothing last asked NoSuchPath = (tables : List (List ℕ))
         × AreTablesOf asked tables × has_nothing asked.command asked.depth tables
     IsFailureOf has_nothing last asked (HoldsTables printed) =

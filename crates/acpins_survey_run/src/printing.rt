@@ -1,9 +1,10 @@
 //! What commands print of tables.
 
-ghost use Rattle.std.specs.Prelude.{◌≡◌, ◌⊎◌, ℕ, List, IfOk, IfErr, Err};
+ghost use Rattle.std.specs.Prelude.{◌≡◌, ◌⊎◌, ℕ, List, IfOk, IfErr, Err, Some};
 ghost use Rattle.acpi_name.specs.Text.{SpellsPathText};
-ghost use Rattle.acpins_survey_words.specs.Words.{Command as AskedCommand, command_in, showing};
+ghost use Rattle.acpins_survey_words.specs.Words.{Command as AskedCommand, command_in};
 ghost use Rattle.acpins_survey_run.specs.Prints.{IsPrintOf};
+ghost use Rattle.acpins_survey_run.specs.Runs.{path_word};
 ghost use Rattle.acpins_survey_run.specs.steps.Refusals.{IsUnprinted};
 ghost use Rattle.acpins_survey_run.specs.declared.failure.PrintFault.{PrintFault};
 
@@ -19,9 +20,17 @@ use std::alloc::Global;
 #[derive(Debug, Drop)]
 pub enum Print {
     /// The lines of objects, problems and notes.
-    List,
+    List {
+        /// Whether the objects that methods declare have lines too.
+        has_bodies: bool,
+    },
     /// The objects at this path.
     Show(Path),
+    /// Where objects are used.
+    Uses {
+        /// Of the objects at this path and below, or of all.
+        path: Option<Path>,
+    },
     /// What each byte is.
     Map,
     /// The methods.
@@ -73,7 +82,7 @@ pub trait Printer {
 // The path that the word spells.
 fn path_of(alloc: Global, word: &str) -> Result<Path, Failure>
     ensures ok { IfOk result (λ p. SpellsPathText p word.now) }
-    ensures err { IfErr result (IsUnprinted (showing word.now)) }
+    ensures err { IfErr result (IsUnprinted (Some word.now)) }
 {
     match Path::from_text(alloc, word) {
         Ok(path) => Ok(path),
@@ -85,11 +94,17 @@ fn path_of(alloc: Global, word: &str) -> Result<Path, Failure>
 /// What the command makes, with the path that its word spells.
 pub fn print_of(alloc: Global, command: &Command<'_>) -> Result<Print, Failure>
     ensures ok { IfOk result (IsPrintOf (command_in command.now)) }
-    ensures err { IfErr result (IsUnprinted (command_in command.now)) }
+    ensures err { IfErr result (IsUnprinted (path_word (command_in command.now))) }
 {
     match command {
-        Command::List => Ok(Print::List),
+        Command::List { has_bodies } => Ok(Print::List {
+            has_bodies: *has_bodies,
+        }),
         Command::Show(word) => Ok(Print::Show(path_of(alloc, word)?)),
+        Command::Uses(None) => Ok(Print::Uses { path: None }),
+        Command::Uses(Some(word)) => Ok(Print::Uses {
+            path: Some(path_of(alloc, word)?),
+        }),
         Command::Map => Ok(Print::Map),
         Command::Bodies => Ok(Print::Bodies),
         Command::Report { is_verbose } => Ok(Print::Report {

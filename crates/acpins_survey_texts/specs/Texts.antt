@@ -1,8 +1,9 @@
 -- What commands print of tables.
-use Rattle.std.specs.Prelude.{◌≡◌, ◌⊎◌, ◌↔◌, ℕ, List, [], map, Some, None}
+use Rattle.std.specs.Prelude.{◌≡◌, ◌⊎◌, ◌↔◌, ℕ, false, List, [], map, Some, None}
 use Rattle.acpi_name.specs.Names.{Segment}
 use Rattle.acpi_name.specs.Text.{SpellsPathText}
-use Rattle.acpi_findings.specs.Findings.{problems_in, notes_in}
+use Rattle.acpi_body_notes.specs.LoadNotes.{AreSurveyNotes}
+use Rattle.acpi_findings.specs.Findings.{problems_in}
 use Rattle.acpi_findings.specs.ProblemViews.{problem_view}
 use Rattle.acpi_survey.specs.Surveys.{IsSurvey}
 use Rattle.acpi_findings.specs.declared.findings.Findings.{Findings}
@@ -11,19 +12,21 @@ use Rattle.acpins_survey_json.specs.JsonFrame.{IsJson}
 use Rattle.acpins_survey_output.specs.Listings.{IsListing}
 use Rattle.acpins_survey_output.specs.Maps.{map_text}
 use Rattle.acpins_survey_output.specs.Shown.{IsBodyListing, IsShownOrNone}
+use Rattle.acpins_survey_uses.specs.Nothing.{HasNoEntry}
 use Rattle.acpins_page.specs.Page.{IsPage}
 use Rattle.acpins_page.specs.declared.style.TheConstants.{HEAD}
-use Rattle.acpins_survey_words.specs.Words.{Command, listing, showing, mapping, telling_bodies, json, paging}
+use Rattle.acpins_survey_words.specs.Words.{Command, listing, showing, using, mapping, telling_bodies, json, paging}
 
--- These findings tell what is lost, refused and noticed in the tables of a survey.
+-- These findings tell what is lost, refused and noticed in the tables of a survey, and noticed in the bodies of their
+-- methods.
 pub record AreFindings (s : Survey) (f : Findings) : Type 0 where
   pub problems : map problem_view f.problems.items ≡ problems_in s.reading s.tables.items
-  pub notes : f.notes.items ≡ notes_in s.reading s.tables.items
+  pub notes : AreSurveyNotes s f.notes.items
 
--- The text that a command makes of a survey and its findings. Nothing is said of `report`; of `html`, what its page is
--- made of, in which all that comes from tables is escaped.
+-- The text that a command makes of a survey and its findings. Nothing is said of `report`, of `uses`, and of `list` with
+-- what methods declare; of `html`, what its page is made of, in which all that comes from tables is escaped.
 abbrev pub IsTextOf : Command → Survey → Findings → List ℕ → Type 0
-IsTextOf listing s f text = IsListing s f text
+IsTextOf (listing false) s f text = IsListing s f text
 IsTextOf (showing word) s f text =
     (path : List Segment) × SpellsPathText path word × IsShownOrNone s path (Some text)
 IsTextOf mapping s f text = text ≡ map_text s
@@ -32,10 +35,12 @@ IsTextOf json s f text = IsJson s f text
 IsTextOf (paging out) s f text = IsPage HEAD.now text
 IsTextOf _ s f text = Unit {0}
 
--- the word of `show` spells a path at which no object may be
+-- the word of `show` spells a path at which no object may be, or that of `uses` one at and below which no entry is
 abbrev pub HasNothingAt : Command → Survey → Type 0
 HasNothingAt (showing word) s =
     (path : List Segment) × SpellsPathText path word × IsShownOrNone s path None
+HasNothingAt (using (Some word)) s =
+    (path : List Segment) × SpellsPathText path word × HasNoEntry s path
 HasNothingAt _ s = ⊥
 
 -- what a command makes of tables, and its status: 3 where something in them is lost or refused, and else 0
@@ -49,7 +54,7 @@ pub record IsMade (command : Command) (depth : ℕ) (tables : List (List ℕ)) (
   pub status_is : (status ≡ 0) ⊎ (status ≡ 3)
   pub problems : (status ≡ 0) ↔ (findings.problems.items ≡ [])
 
--- the word of `show` spells a path at which no object of these tables may be
+-- the word of `show` or `uses` spells a path at which these tables have nothing
 abbrev pub HasNothingIn : Command → ℕ → List (List ℕ) → Type 0
 HasNothingIn command depth tables =
     (s : Survey) × IsSurvey depth tables s × HasNothingAt command s

@@ -1,8 +1,10 @@
 //! Texts of a survey.
 
-ghost use Rattle.std.specs.Prelude.{◌≡◌, IfOk, Err};
+ghost use Rattle.std.specs.Prelude.{◌≡◌, IfOk, Err, false};
 ghost use Rattle.acpi_survey.specs.SurveyOrder.{IsInOrder};
 ghost use Rattle.acpi_survey.specs.Surveys.{IsSurvey};
+ghost use Rattle.acpins_survey_output.specs.Listings.{IsListing};
+ghost use Rattle.acpins_survey_uses.specs.Nothing.{HasNothing};
 ghost use Rattle.acpins_page.specs.Page.{IsPage};
 ghost use Rattle.acpins_survey_words.specs.Words.{Command as AskedCommand};
 ghost use Rattle.acpins_survey_run.specs.Prints.{IsPrintOf};
@@ -10,9 +12,11 @@ ghost use Rattle.acpins_survey_run.specs.declared.failure.PrintFault.{PrintFault
 ghost use Rattle.acpins_survey_texts.specs.Texts.{AreFindings, HasNothingAt, HasNothingIn, IsMade, IsTextOf};
 
 use crate::lines::lines_of;
+use acpi_body_notes::findings_of;
 use acpi_code::Depth;
 use acpi_facts::facts_of;
-use acpi_findings::{Findings, found_in};
+use acpi_findings::Findings;
+use acpi_name::Path;
 use acpi_overview::overview_of;
 use acpi_survey::{Survey, survey};
 use acpins_page::{HEAD, html};
@@ -20,6 +24,7 @@ use acpins_report::{ReportOptions, report};
 use acpins_survey_json::json;
 use acpins_survey_output::{bodies, has_problem, list, map, show};
 use acpins_survey_run::{FoundTables, Output, Print, PrintFault, Printer};
+use acpins_survey_uses::{list_with_bodies, uses};
 use std::alloc::{AllocError, Global};
 use std::mem;
 
@@ -34,11 +39,11 @@ fn survey_of(alloc: Global, found: &FoundTables, depth: Depth) -> Result<Survey,
     survey(alloc, &found.tables, depth)
 }
 
-// What is lost, refused and noticed in its tables.
+// What is lost, refused and noticed in its tables, and noticed in the bodies of their methods.
 fn findings_in(alloc: Global, survey: &Survey) -> Result<Findings, AllocError>
-    ensures { IfOk result (AreFindings survey.now) }
+    ensures { IsInOrder survey.now → IfOk result (AreFindings survey.now) }
 {
-    found_in(alloc, survey)
+    findings_of(alloc, survey)
 }
 
 // The report, which names the file beside each table.
@@ -78,6 +83,32 @@ fn page_of(
     html(alloc, &overview, &lines, &map(alloc, survey)?, &names)
 }
 
+// The list, with what methods declare or without.
+fn list_of(
+    alloc: Global,
+    survey: &Survey,
+    findings: &Findings,
+    has_bodies: bool,
+) -> Result<Vec<u8>, AllocError>
+    ensures { IsInOrder survey.now → has_bodies ≡ false
+        → IfOk result (λ text. IsListing survey.now findings.now text.items) }
+{
+    if has_bodies {
+        return list_with_bodies(alloc, survey, findings);
+    }
+    list(alloc, survey, findings)
+}
+
+// The uses of what is at a path and below, or all.
+fn uses_of(alloc: Global, survey: &Survey, path: &Option<Path>) -> Result<Vec<u8>, PrintFault>
+    ensures { result ≡ Err PrintFault.NoSuchPath → HasNothing survey.now path.now }
+{
+    match uses(alloc, survey, path.as_ref())? {
+        Some(text) => Ok(text),
+        None => Err(PrintFault::NoSuchPath),
+    }
+}
+
 // The text that is made of a survey; a report has colours or not.
 fn text_of(
     alloc: Global,
@@ -95,7 +126,8 @@ fn text_of(
         → HasNothingAt command survey.now }
 {
     match print {
-        Print::List => Ok(list(alloc, survey, findings)?),
+        Print::List { has_bodies } => Ok(list_of(alloc, survey, findings, *has_bodies)?),
+        Print::Uses { path } => uses_of(alloc, survey, path),
         Print::Show(path) => match show(alloc, survey, path)? {
             Some(text) => Ok(text),
             None => Err(PrintFault::NoSuchPath),

@@ -1,6 +1,6 @@
 -- The arguments that follow the program's name, and what they ask for.
-use Rattle.std.specs.Prelude.{Bool, ◌||◌, List, [], ◌∷◌, ◌++◌, Option, Some, None, codes, if◌then◌else◌, option_map, unwrap_or}
-use Rattle.std.specs.List.{before_first, list_any}
+use Rattle.std.specs.Prelude.{Bool, ◌||◌, List, [], ◌∷◌, ◌++◌, Option, Some, None, codes, if◌then◌else◌, nat_eq, option_and_then, option_map, unwrap_or}
+use Rattle.std.specs.List.{before_first, list_any, starts_with}
 use Rattle.std.specs.Str.{bytes_eq}
 use Rattle.clap.specs.Simple.{App, Shape, new_rule, with_subcommand}
 use Rattle.clap.specs.Takes.{is_given}
@@ -20,6 +20,17 @@ use Rattle.acpins_survey_words.specs.declared.words.Invocation.TheVariants as in
 abbrev pub verbose_rule : Rule
 verbose_rule = record (new_rule (codes "verbose")) { short = Some 118; action = Some SetTrue }
 
+-- `--bodies`
+abbrev pub bodies_rule : Rule
+bodies_rule =
+    record (new_rule (codes "bodies")) { long = Some (codes "bodies"); action = Some SetTrue }
+
+-- a command over files, with `--bodies`
+abbrev pub list_shape : Shape
+list_shape =
+    let files = files_shape (codes "list") in
+    record files { rules = files.rules ++ bodies_rule ∷ [] }
+
 -- a command over files, with `-v`
 abbrev pub report_shape : Shape
 report_shape =
@@ -30,19 +41,22 @@ report_shape =
 abbrev pub survey_app : App
 survey_app =
     let list = with_subcommand (alone (program_shape (codes "acpins-survey")))
-    (files_shape (codes "list")) in
+    list_shape in
     let show = with_subcommand list (path_shape (codes "show")) in
-    let map = with_subcommand show (files_shape (codes "map")) in
+    let uses = with_subcommand show (files_shape (codes "uses")) in
+    let map = with_subcommand uses (files_shape (codes "map")) in
     let bodies = with_subcommand map (files_shape (codes "bodies")) in
     let report = with_subcommand bodies report_shape in
     let json = with_subcommand report (files_shape (codes "json")) in
     with_subcommand json (out_shape (codes "html"))
 
--- what is made of the survey of tables: the listing; the objects at the path that a text spells; the map of the bytes;
--- the methods; the report, unfolded or not; JSON; a page, in the file of a name
+-- what is made of the survey of tables: the listing, with what methods declare or not; the objects at the path that a
+-- text spells; the uses of such a path, or of all; the map of the bytes; the methods; the report, unfolded or not; JSON;
+-- a page, in the file of a name
 pub data Command : Type 0 where
-  listing : Command
+  listing : Bool → Command
   showing : Text → Command
+  using : Option Text → Command
   mapping : Command
   telling_bodies : Command
   reporting : Bool → Command
@@ -65,12 +79,13 @@ abbrev pub topic_of : Text → Option Topic
 topic_of name =
     if bytes_eq name (codes "list") then Some topics.List
     else (if bytes_eq name (codes "show") then Some topics.Show
+    else (if bytes_eq name (codes "uses") then Some topics.Uses
     else (if bytes_eq name (codes "map") then Some topics.Map
     else (if bytes_eq name (codes "bodies") then Some topics.Bodies
     else (if bytes_eq name (codes "report") then Some topics.Report
     else (if bytes_eq name (codes "json") then Some topics.Json
     else (if bytes_eq name (codes "html") then Some topics.Html
-    else None))))))
+    else None)))))))
 
 -- what help is about among these arguments: the command that the first names, or else the program
 abbrev pub topic_in : List Text → Topic
@@ -109,21 +124,44 @@ help_in words =
 
 -- ---- a survey
 
--- the command of this name; for `show` the text that stands as PATH, for `html` that which stands as OUT
+-- a word begins with `\`, as paths do
+abbrev pub is_rooted : Text → Bool
+is_rooted word = starts_with nat_eq word (codes "\\")
+
+-- a first operand, where it begins so
+abbrev pub path_first : Option Text → Option Text
+path_first (Some word) = if is_rooted word then Some word else None
+path_first None = None
+
+-- the command of this name; for `show` the text that stands as PATH, for `html` that which stands as OUT, for `uses` the
+-- first operand, where that begins with `\`
 abbrev pub command_by : Text → List Row → Option Command
 command_by name rows =
-    if bytes_eq name (codes "list") then Some listing
+    if bytes_eq name (codes "list") then Some (listing (is_given (codes "bodies") rows))
     else (if bytes_eq name (codes "show") then option_map showing (first_of (codes "path") rows)
+    else (if bytes_eq name (codes "uses")
+    then Some (using (path_first (first_of (codes "file") rows)))
     else (if bytes_eq name (codes "map") then Some mapping
     else (if bytes_eq name (codes "bodies") then Some telling_bodies
     else (if bytes_eq name (codes "report") then Some (reporting (is_given (codes "verbose") rows))
     else (if bytes_eq name (codes "json") then Some json
     else (if bytes_eq name (codes "html") then option_map paging (first_of (codes "out") rows)
-    else None))))))
+    else None)))))))
 
--- nothing, where clap finds a fault in the arguments
+-- the files among the operands of a command: of `uses PATH` those behind PATH, at least one
+abbrev pub files_behind : Command → List Text → Option (List Text)
+files_behind (using (Some path)) (_ ∷ file ∷ files) = Some (file ∷ files)
+files_behind (using (Some path)) _ = None
+files_behind _ operands = Some operands
+
+-- what is asked, where all operands stand as files
+abbrev pub with_files : Asked → Option Asked
+with_files asked =
+    option_map (λ files. record asked { files = files }) (files_behind asked.command asked.files)
+
+-- nothing, where clap finds a fault in the arguments, or where no file stands behind PATH
 unfoldable pub asked_of : List Text → Option Asked
-asked_of = arguments.asked_of survey_app command_by
+asked_of words = option_and_then with_files (arguments.asked_of survey_app command_by words)
 
 -- ---- what arguments ask for
 
@@ -135,8 +173,9 @@ abbrev pub invocation_of : List Text → Option Invocation
 invocation_of words = invocation_or (help_in words) words
 
 abbrev pub command_in : CommandWords → Command
-command_in read.List = listing
+command_in (read.List has_bodies) = listing has_bodies
 command_in (read.Show path) = showing path.now
+command_in (read.Uses path) = using (option_map (λ word. word.now) path)
 command_in read.Map = mapping
 command_in read.Bodies = telling_bodies
 command_in (read.Report is_verbose) = reporting is_verbose

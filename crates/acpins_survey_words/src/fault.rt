@@ -1,6 +1,6 @@
 //! Why arguments ask for nothing, in one line.
 
-use crate::words::topic_of;
+use crate::words::{is_rooted, topic_of};
 use acpi_code::Depth;
 use acpi_text::put_byte;
 use std::alloc::{AllocError, Global};
@@ -29,11 +29,14 @@ struct Operation<'a> {
     command: &'a str,
     has_hex: bool,
     has_depth: bool,
+    has_bodies: bool,
     has_verbose: bool,
     // Whether the next argument is the number of `--depth`.
     needs_depth: bool,
     // Whether `--` ended the options.
     has_ended: bool,
+    // Whether the first operand of `uses` is a path.
+    has_path: bool,
     operands: usize,
 }
 
@@ -95,9 +98,11 @@ impl<'a> Operation<'a> {
             command,
             has_hex: false,
             has_depth: false,
+            has_bodies: false,
             has_verbose: false,
             needs_depth: false,
             has_ended: false,
+            has_path: false,
             operands: 0,
         }
     }
@@ -109,7 +114,7 @@ impl<'a> Operation<'a> {
             return check_depth(argument);
         }
         if self.has_ended || !is_option(argument) {
-            self.operands = self.operands.saturating_add(1);
+            self.note_operand(argument);
             return Ok(());
         }
         if argument == "--" {
@@ -117,6 +122,13 @@ impl<'a> Operation<'a> {
             return Ok(());
         }
         self.read_option(argument)
+    }
+
+    fn note_operand(&mut self, operand: &str) {
+        if self.operands == 0 {
+            self.has_path = self.command == "uses" && is_rooted(operand);
+        }
+        self.operands = self.operands.saturating_add(1);
     }
 
     fn read_option(&mut self, option: &'a str) -> Result<(), Fault<'a>> {
@@ -132,6 +144,10 @@ impl<'a> Operation<'a> {
             "--depth" => {
                 note_once(&mut self.has_depth, name)?;
                 self.read_depth(value)
+            }
+            "--bodies" if self.command == "list" => {
+                check_no_value(name, value)?;
+                note_once(&mut self.has_bodies, name)
             }
             _ if self.command == "report" => self.read_report_option(option, name, value),
             _ => Err(self.unknown(option)),
@@ -176,6 +192,7 @@ impl<'a> Operation<'a> {
     fn first_operand(&self) -> Option<&'static str> {
         match self.command {
             "show" => Some("a PATH"),
+            "uses" if self.has_path => Some("a PATH"),
             "html" => Some("an OUT"),
             _ => None,
         }

@@ -8,16 +8,17 @@ pub const VERSION: &str = "acpins-survey 0.3.0 (rattle-kit logic dac8208d650f15b
 const PROGRAM: &str = "\
 acpins-survey: what the tables DSDT and SSDT declare or may declare, and under which condition
 
-  acpins-survey list FILE..       a line for each object that may exist, then problems and notes
-  acpins-survey show PATH FILE..  the objects at PATH, with the bodies of methods
-  acpins-survey map FILE..        what each byte of each table is
-  acpins-survey bodies FILE..     every method: read, or why not
-  acpins-survey report FILE..     an overview for people
-  acpins-survey json FILE..       all of it, for programs
-  acpins-survey html OUT FILE..   the overview as one page
+  acpins-survey list FILE..         a line for each object that may exist, then problems and notes
+  acpins-survey show PATH FILE..    the objects at PATH, with the bodies of methods
+  acpins-survey uses [PATH] FILE..  where the objects at PATH and below are used, or all objects
+  acpins-survey map FILE..          what each byte of each table is
+  acpins-survey bodies FILE..       every method: read, or why not
+  acpins-survey report FILE..       an overview for people
+  acpins-survey json FILE..         all of it, for programs
+  acpins-survey html OUT FILE..     the overview as one page
 
-  acpins-survey COMMAND --help    what COMMAND prints; so does: acpins-survey help COMMAND
-  acpins-survey --version         the version, and the kit that built it
+  acpins-survey COMMAND --help      what COMMAND prints; so does: acpins-survey help COMMAND
+  acpins-survey --version           the version, and the kit that built it
 
 A FILE holds tables one after another, or the text that acpidump writes; - is standard input.
 A folder stands for the tables in it: DSDT, then SSDT1, SSDT2 and so on, then the SSDTs in its
@@ -27,6 +28,7 @@ of letters. Other tables in it are passed over. The first table is the DSDT.
 
   --hex      the files are hexadecimal text
   --depth N  the greatest level that a term may have, 1 to 4096; 1024 without it
+  --bodies   list has the objects that methods declare too
   -v         report tells all of it: nothing is folded or cut short
   -h         the same as --help
   --         ends the options
@@ -36,11 +38,12 @@ fails, and 2 where the arguments or PATH are wrong.
 ";
 
 const LIST: &str = "\
-acpins-survey list [--hex] [--depth N] FILE..
+acpins-survey list [--bodies] [--hex] [--depth N] FILE..
 
 prints a line for each object that may exist, in the order of the paths: its path, what it is, and
 behind ? the condition under which it is declared. Then a line for each problem (!) and note (~),
-in the order of the tables: the table, the offset, why, and what is lost.
+in the order of the tables: the table, the offset, why, and what is lost. With --bodies the objects
+that methods declare when they run have lines too, with the condition runs(METHOD).
 ";
 
 const SHOW: &str = "\
@@ -48,6 +51,15 @@ acpins-survey show [--hex] [--depth N] PATH FILE..
 
 prints the line of each object at PATH, as list does, and below that of a method its body. PATH is
 \\, or \\ and names joined by dots, as \\_SB_.PCI0.
+";
+
+const USES: &str = "\
+acpins-survey uses [--hex] [--depth N] [PATH] FILE..
+
+prints where the objects at PATH and below are used, or all objects without PATH: below each path a
+line for each use, with its role, the method and the line of its body, or the table and the offset.
+? stands behind a use that is not sure. Then the names that are declared nowhere, and their uses.
+PATH is the first argument where that begins with \\: a file of such a name is given as ./\\NAME.
 ";
 
 const MAP: &str = "\
@@ -94,6 +106,7 @@ pub fn help_of(topic: Topic) -> &'static str {
         Topic::Program => PROGRAM,
         Topic::List => LIST,
         Topic::Show => SHOW,
+        Topic::Uses => USES,
         Topic::Map => MAP,
         Topic::Bodies => BODIES,
         Topic::Report => REPORT,

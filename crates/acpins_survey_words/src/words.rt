@@ -6,7 +6,8 @@ ghost use Rattle.clap.specs.Simple.{app_of};
 ghost use Rattle.clap.specs.Walk.{rows_of, rule_of, texts};
 ghost use Rattle.clap.specs.declared.builder.command.Command.TheViews.{out-Command as fields_of};
 ghost use Rattle.acpins_words.specs.Arguments.{alone};
-ghost use Rattle.acpins_survey_words.specs.Words.{asked_in, asked_of, asks_help, command_by, command_in};
+ghost use Rattle.acpins_survey_words.specs.Words.{asked_in, asked_of, asks_help, bodies_rule, command_by, command_in};
+ghost use Rattle.acpins_survey_words.specs.Words.{files_behind, is_rooted, list_shape, path_first};
 ghost use Rattle.acpins_survey_words.specs.Words.{help_in, invocation_in, invocation_of, is_end, is_help};
 ghost use Rattle.acpins_survey_words.specs.Words.{lone_invocation, named_invocation, report_shape, survey_app};
 ghost use Rattle.acpins_survey_words.specs.Words.{topic_in, topic_of, verbose_rule};
@@ -24,9 +25,15 @@ use std::alloc::{AllocError, Global};
 #[derive(Debug, Drop)]
 pub enum Command<'a> {
     /// A line for each object that may exist, then the problems and notes.
-    List,
+    List {
+        /// Whether the objects that methods declare have lines too.
+        has_bodies: bool,
+    },
     /// The objects at the path that this text spells. Whether it spells one has not been looked at.
     Show(&'a str),
+    /// Where the objects at this path and below are used, or all that are used. Whether the text spells a path has not
+    /// been looked at.
+    Uses(Option<&'a str>),
     /// What each byte of each table is.
     Map,
     /// Every method: read, or why not.
@@ -64,6 +71,8 @@ pub enum Topic {
     List,
     /// `show`
     Show,
+    /// `uses`
+    Uses,
     /// `map`
     Map,
     /// `bodies`
@@ -94,6 +103,7 @@ pub(crate) fn topic_of(name: &str) -> Option<Topic>
     match name {
         "list" => Some(Topic::List),
         "show" => Some(Topic::Show),
+        "uses" => Some(Topic::Uses),
         "map" => Some(Topic::Map),
         "bodies" => Some(Topic::Bodies),
         "report" => Some(Topic::Report),
@@ -180,6 +190,23 @@ fn verbose<'a>(alloc: Global) -> Arg<'a>
         .action(ArgAction::SetTrue)
 }
 
+fn bodies<'a>(alloc: Global) -> Arg<'a>
+    ensures rule { rule_of result ≡ bodies_rule }
+    ensures local { result.global ≡ false }
+{
+    Arg::new(alloc, "bodies")
+        .long("bodies")
+        .action(ArgAction::SetTrue)
+}
+
+// The list's form: a command over files with `--bodies`.
+fn list_form<'a>(alloc: Global) -> Result<clap::Command<'a>, AllocError>
+    ensures app { IfOk result (λ command. app_of command ≡ alone list_shape) }
+    ensures local { IfOk result (λ command. (fields_of command).has_globals ≡ false) }
+{
+    over_files(alloc, "list")?.arg(bodies(alloc))
+}
+
 // The report's form: a command over files with `-v`.
 fn report_form<'a>(alloc: Global) -> Result<clap::Command<'a>, AllocError>
     ensures app { IfOk result (λ command. app_of command ≡ alone report_shape) }
@@ -191,8 +218,9 @@ fn report_form<'a>(alloc: Global) -> Result<clap::Command<'a>, AllocError>
 fn forms<'a>(alloc: Global) -> Result<clap::Command<'a>, AllocError>
     ensures { IfOk result (λ command. app_of command ≡ survey_app) }
 {
-    let command = with(program(alloc, "acpins-survey"), over_files(alloc, "list"))?;
+    let command = with(program(alloc, "acpins-survey"), list_form(alloc))?;
     let command = with(command, over_path(alloc, "show"))?;
+    let command = with(command, over_files(alloc, "uses"))?;
     let command = with(command, over_files(alloc, "map"))?;
     let command = with(command, over_files(alloc, "bodies"))?;
     let command = with(command, report_form(alloc))?;
@@ -200,13 +228,34 @@ fn forms<'a>(alloc: Global) -> Result<clap::Command<'a>, AllocError>
     with(command, over_out(alloc, "html"))
 }
 
+// Whether a word begins with `\`, as paths do.
+pub(crate) fn is_rooted(word: &str) -> bool
+    ensures { result ≡ is_rooted word.now }
+{
+    word.starts_with('\\')
+}
+
+// A first operand, where it begins with `\`.
+fn path_first(first: Option<&str>) -> Option<&str>
+    ensures { option_map (λ path. path.now) result
+        ≡ path_first (option_map (λ word. word.now) first.entry) }
+{
+    match first {
+        Some(word) if is_rooted(word) => Some(word),
+        _ => None,
+    }
+}
+
 // The command of this name, with what was found for it.
 fn command_in<'a>(name: &str, found: &ArgMatches<'a>) -> Option<Command<'a>>
     ensures { option_map command_in result ≡ command_by name.now (rows_of (found_of found.now)) }
 {
     match name {
-        "list" => Some(Command::List),
+        "list" => Some(Command::List {
+            has_bodies: has_flag(found, "bodies"),
+        }),
         "show" => Some(Command::Show(found.get_str("path")?)),
+        "uses" => Some(Command::Uses(path_first(found.get_str("file")))),
         "map" => Some(Command::Map),
         "bodies" => Some(Command::Bodies),
         "report" => Some(Command::Report {
@@ -215,6 +264,20 @@ fn command_in<'a>(name: &str, found: &ArgMatches<'a>) -> Option<Command<'a>>
         "json" => Some(Command::Json),
         "html" => Some(Command::Html(found.get_str("out")?)),
         _ => None,
+    }
+}
+
+// The files among the operands of a command: of `uses PATH` those behind PATH, at least one.
+fn files_behind<'s, 'a>(command: &Command<'a>, operands: &'s [&'a str]) -> Option<&'s [&'a str]>
+    ensures { option_map (λ files. texts files.now) result
+        ≡ files_behind (command_in command.now) (texts operands.now) }
+{
+    match command {
+        Command::Uses(Some(_)) => match operands {
+            [_, files @ ..] if !files.is_empty() => Some(files),
+            _ => None,
+        },
+        _ => Some(operands),
     }
 }
 
@@ -228,6 +291,10 @@ fn read_request<'a>(alloc: Global, words: &'a [&'a str]) -> Result<Request<'a>, 
         return Err(WordsFault::Wrong);
     };
     let TableArguments { hex, depth, files } = read_arguments(alloc, &found)?;
+    let Some(files) = files_behind(&command, &files) else {
+        return Err(WordsFault::Wrong);
+    };
+    let files = Vec::from_slice(alloc, files)?;
     Ok(Request {
         command,
         hex,

@@ -15,8 +15,8 @@ use Rattle.acpi_code.specs.declared.opcode.Opcode.TheVariants as opcodes
 use Rattle.acpi_code.specs.steps.Reading.{◌>>=◌, Reading, no_level, package_at, name_in, opcode_at}
 use Rattle.acpi_values.specs.declared.fault.BodyReason.TheVariants.{BadPlace}
 use Rattle.acpi_values.specs.declared.fault.BodyFault.{BodyFault}
-use Rattle.acpi_values.specs.Arguments.{Locals, Arguments}
-use Rattle.acpi_values.specs.Grammars.{Grammar, body_grammar}
+use Rattle.acpi_values.specs.Arguments.{Locals, BodyGrammar}
+use Rattle.acpi_values.specs.Grammars.{Grammar}
 use Rattle.acpi_body.specs.Statements.{locals_after, locals_after_all}
 use Rattle.acpi_values.specs.Faults.{fault_of}
 use Rattle.acpi_values.specs.steps.Reading.{fault_at, part, Reader, operands_at, placed_by, term_at, fields_in}
@@ -138,21 +138,21 @@ statement_by g value inner s locals end whole opcode rest =
     placed_by g value Statement end whole opcode rest
 
 -- a statement, `level` levels being left
-unfoldable pub statement_at : Arguments → List Segment → ℕ → Locals → ℕ → List ℕ
+unfoldable pub statement_at : BodyGrammar → List Segment → ℕ → Locals → ℕ → List ℕ
     → Reading BodyFault TermTree
-statement_at args s zero locals end bytes = Err (fault_of (no_level end bytes))
-statement_at args s (suc level) locals end bytes = do
+statement_at g s zero locals end bytes = Err (fault_of (no_level end bytes))
+statement_at g s (suc level) locals end bytes = do
   x ← part (opcode_at end bytes)
-  statement_by (body_grammar (args locals)) (term_at (body_grammar (args locals)) level)
+  statement_by (g locals) (term_at (g locals) level)
       (λ locals end bytes. statements_by
-      (λ locals. statement_at args s level locals end) s locals bytes) s locals end bytes x.0 x.1
+      (λ locals. statement_at g s level locals end) s locals bytes) s locals end bytes x.0 x.1
 
 -- the statements of a list, `level` levels being left
-abbrev pub statements_at : Arguments → List Segment → ℕ → Statements
-statements_at args s level locals end bytes =
-    statements_by (λ locals. statement_at args s level locals end) s locals bytes
+abbrev pub statements_at : BodyGrammar → List Segment → ℕ → Statements
+statements_at g s level locals end bytes =
+    statements_by (λ locals. statement_at g s level locals end) s locals bytes
 
 -- all of a body
-abbrev pub body_at : Arguments → List Segment → ℕ → Locals → List ℕ
+abbrev pub body_at : BodyGrammar → List Segment → ℕ → Locals → List ℕ
     → Result (List TermTree) BodyFault
-body_at args s depth locals bytes = statements_at args s depth locals (length bytes) bytes
+body_at g s depth locals bytes = statements_at g s depth locals (length bytes) bytes

@@ -6,7 +6,8 @@ use Rattle.acpi_name.specs.Names.{Segment, NameParts}
 use Rattle.acpi_space.specs.Spaces.{PathMap, coded_path}
 use Rattle.acpi_tree.specs.declared.object.Object.{Object}
 use Rattle.acpi_tree.specs.contracts.object.Object as object
-use Rattle.acpi_values.specs.Arguments.{Locals, Arguments}
+use Rattle.acpi_values.specs.Arguments.{Locals, BodyGrammar}
+use Rattle.acpi_values.specs.Grammars.{without_loads}
 use Rattle.acpi_body.specs.Arguments.{namespace_of, count_behind}
 
 -- the objects of the namespace, what the table's Externals say, and the method's path
@@ -31,9 +32,9 @@ setting_code = code_by (PathMap Object × (PathMap ℕ × List Segment))
 unfoldable pub count_in : Setting → Locals → NameParts → ℕ
 count_in s = count_behind (namespace_of s.objects) (finite.get s.externals) s.method
 
--- .. which is always sure
-abbrev pub args_of : Setting → Arguments
-args_of s locals n = Some (count_in s locals n)
+-- .. which is always sure, and no loads stand there
+abbrev pub grammar_of : Setting → BodyGrammar
+grammar_of s locals = without_loads (λ n. Some (count_in s locals n))
 
 -- the greater of two numbers, or the one that is there
 abbrev pub deeper : Option ℕ → Option ℕ → Option ℕ

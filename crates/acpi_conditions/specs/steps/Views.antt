@@ -4,11 +4,12 @@ use Rattle.acpi_conditions.specs.Entries.{Turn, is_empty, Entry}
 use Rattle.acpi_conditions.specs.Links.{are_exclusive, is_part_of}
 use Rattle.acpi_conditions.specs.Turns.{turn_of, way_of}
 use Rattle.acpi_conditions.specs.EntryForms.{entry_view}
-use Rattle.acpi_conditions.specs.Views.{View}
+use Rattle.acpi_conditions.specs.Views.{View, WayView}
 use Rattle.acpi_conditions.specs.declared.entry.Entry.{Entry as EntryForm}
 use Rattle.acpi_conditions.specs.declared.seen.Test.{Test}
 use Rattle.acpi_conditions.specs.declared.seen.Test.TheVariants.{Certain, CertainScope, Possible, PossibleScope}
 use Rattle.acpi_conditions.specs.declared.seen.Seen.TheInside.{Inside}
+use Rattle.acpi_conditions.specs.declared.seen_along.SeenAlong.TheInside.{Inside as AlongInside}
 
 -- what the entry settles is certain where control came by the way
 abbrev pub is_settled : List Turn → Entry → Bool
@@ -36,3 +37,10 @@ view_of s =
 -- the turns are those of the entry's way
 abbrev pub HasWay : Inside → Type 0
 HasWay s = map turn_of s.turns.items ≡ way_of s.ways.now s.entry.now.way
+
+abbrev pub way_view_of : AlongInside → WayView
+way_view_of s =
+    record {
+      entries = map (entry_view s.ways.now) s.paths.now.entries;
+      way = map turn_of s.turns.now;
+    }

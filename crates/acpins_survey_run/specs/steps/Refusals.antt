@@ -3,7 +3,7 @@ use Rattle.std.specs.Prelude.{◌≡◌, ℕ, List, Option, Some}
 use Rattle.acpi_name.specs.Text.{IsPathText}
 use Rattle.acpins_io.specs.Outputs.{FileBytes, IsHeldIn, printed_of}
 use Rattle.acpins_words.specs.Words.{Text}
-use Rattle.acpins_survey_words.specs.Words.{Asked, Command, showing, survey}
+use Rattle.acpins_survey_words.specs.Words.{Asked, survey}
 use Rattle.acpins_survey_run.specs.FailureLines.{printed_name}
 use Rattle.acpins_survey_run.specs.Folders.{FolderNames}
 use Rattle.acpins_survey_run.specs.Input.{AreFilesOf, IsInputFault, LastErrors}
@@ -13,12 +13,12 @@ use Rattle.acpins_survey_run.specs.declared.failure.ReadCause.{ReadCause}
 use Rattle.acpins_survey_run.specs.declared.failure.Failure.{Failure}
 use Rattle.acpins_survey_run.specs.declared.failure.Failure.TheVariants.{BadPath, Read, HoldsTables, Out, Memory}
 
--- the command's word spells no path, or there is no memory
-abbrev pub IsUnprinted : Command → Failure → Type 0
-IsUnprinted command (BadPath printed) = (word : Text) × (command ≡ showing word)
+-- the word that stands as PATH spells no path, or there is no memory
+abbrev pub IsUnprinted : Option Text → Failure → Type 0
+IsUnprinted path (BadPath printed) = (word : Text) × (path ≡ Some word)
     × ¬ IsPathText word × (printed.items ≡ printed_name word)
-IsUnprinted command Memory = Unit {0}
-IsUnprinted command _ = ⊥
+IsUnprinted path Memory = Unit {0}
+IsUnprinted path _ = ⊥
 
 -- what has this name can't be read for this cause, or there is no memory
 abbrev pub IsReadOf : List ℕ → ReadCause → Failure → Type 0

@@ -2,7 +2,7 @@
 use Rattle.std.proofs.Common.{rules}
 use Rattle.std.specs.FinMap.{get, empty}
 use Rattle.acpi_tree.specs.TermView.{terms_view}
-use Rattle.acpi_body.specs.Arguments.{namespace_of, arguments}
+use Rattle.acpi_body.specs.Arguments.{namespace_of, body_grammar}
 use Rattle.acpi_body.specs.steps.Setting.{count_in}
 use Rattle.acpi_values.specs.steps.Cursor.{Gives}
 use Rattle.acpi_body.specs.steps.Reading.{body_at}
@@ -12,6 +12,6 @@ pub returns : goal.returns
 unfolding count_in
 returns g c =
     let s = c.args.method.now in
-    let args = arguments (namespace_of (g.S.Space.contents c.args.space.now)) (get c.args.counts.now) s in
+    let args = body_grammar (namespace_of (g.S.Space.contents c.args.space.now)) (get c.args.counts.now) s in
     let told : Gives (λ v. terms_view v.items) c.body.result (body_at args s c.args.depth empty c.args.bytes.now) = rw c.new.ensures at c.body.ensures in
     search rules

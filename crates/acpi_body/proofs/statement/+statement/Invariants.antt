@@ -23,7 +23,7 @@ abbrev pub decreases-form : goal.decreases-form
 decreases-form g l = 8 * l.level + 4
 
 abbrev pub invariant-statements-each : goal.invariant-statements-each
-invariant-statements-each g l = Stated (statement_at (g.M.MethodCounting.arguments l.counting) (g.M.MethodCounting.method l.counting) l.level) (g.M.MethodCounting.method l.counting) l.initial.locals l.fn.code l.locals l.code (terms_view l.found.items)
+invariant-statements-each g l = Stated (statement_at (g.M.MethodCounting.grammar l.counting) (g.M.MethodCounting.method l.counting) l.level) (g.M.MethodCounting.method l.counting) l.initial.locals l.fn.code l.locals l.code (terms_view l.found.items)
 
 abbrev pub decreases-statements-each : goal.decreases-statements-each
 decreases-statements-each g l = length l.code.bytes

@@ -5,7 +5,7 @@ use Rattle.std.specs.Option.{option_copied}
 use Rattle.acpi_declare.specs.Namespace.{Namespace, namespace_of}
 use Rattle.acpi_declare.specs.Notes.{notes_of}
 use Rattle.acpi_pass.specs.declared.notes.TableNotes.{TableNotes}
-use Rattle.acpi_body.specs.Arguments.{arguments}
+use Rattle.acpi_body.specs.Arguments.{body_grammar}
 use Rattle.acpi_machine.specs.Explaining.{IsReasonAt}
 use Rattle.acpi_order.specs.steps.Noted.{all_noted}
 use Rattle.acpi_order.proofs.Lists.{ok_by}
@@ -21,7 +21,7 @@ returns-in-Some g c =
     let bytes = c.deref-in-Some.result.now in
     let objects : Namespace = namespace_of (g.S.Space.contents c.args.objects.now) in
     let here : drop i notes ≡ t ∷ drop (i + 1) notes = drop_more notes i t (grind arith) ∙ ap (λ y. y ∷ drop (i + 1) notes) (sym c.table-item.is) in
-    let told = reason_of (arguments objects (get t.counts) m.path) m.path c.args.depth bytes c.why.result c.why.ensures.read c.why.ensures.faults c.why.ensures.next in
+    let told = reason_of (body_grammar objects (get t.counts) m.path) m.path c.args.depth bytes c.why.result c.why.ensures.read c.why.ensures.faults c.why.ensures.next in
     ok_by c.why.result
     (λ w. IsReasonAt c.args.depth objects (all_noted (map notes_of (t ∷ drop (i + 1) notes))) c.args.path.now w)
     (λ w. IsReasonAt c.args.depth objects (all_noted (map notes_of notes)) c.args.path.now w)

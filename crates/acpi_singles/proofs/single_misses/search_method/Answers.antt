@@ -2,7 +2,7 @@ use Rattle.std.proofs.Common.{◌≡◌, [], ℕ, List, refl, subst, rules}
 use Rattle.std.specs.FinMap.{get}
 use Rattle.acpi_declare.specs.Namespace.{namespace_of}
 use Rattle.acpi_declare.specs.Notes.{method_of}
-use Rattle.acpi_body.specs.Arguments.{arguments}
+use Rattle.acpi_body.specs.Arguments.{body_grammar}
 use Rattle.acpi_body.specs.Bodies.{body_view, IsBodyOf}
 use Rattle.acpi_order.specs.Bodies.{with_counts}
 use Rattle.acpi_machine.specs.MachineView.{body_map, bodies_of}
@@ -25,6 +25,6 @@ returns-clause-misses g c =
     let counts = get c.args.counts.now in
     let b = body_view c.in_ok-body.body in
     let code : c.deref.result.now ≡ m.code = search rules in
-    let body = subst (λ (bytes : List ℕ). IsBodyOf (arguments objects counts m.path) m.path c.args.depth bytes b) code c.in_ok-body.ensures.body in
+    let body = subst (λ (bytes : List ℕ). IsBodyOf (body_grammar objects counts m.path) m.path c.args.depth bytes b) code c.in_ok-body.ensures.body in
     adds_method all_paths c.args.depth objects (with_counts counts (method_of m)) b body c.in_ok-missed.missed c.args.misses.now c.add.new.self
     (λ p. asked_of_all (c.in_ok-missed.ensures.firm p)) (λ p n. asked_of_all (c.in_ok-missed.ensures.«open» p n)) c.in_ok-add.ensures

@@ -13,6 +13,7 @@ returns-clause-ok g c = search rules
 pub returns-in_err-text-clause-begun : goal.returns-in_err-text-clause-begun
 returns-in_err-text-clause-begun g c =
     let bytes_of = g.F.Files.bytes_of c.args.files.now in
+    let last = g.F.Files.last_error c.output_of.new.files in
     let words = texts c.args.words.now in
-    let failed : IfErr c.from_residual.result (IsRunFailure bytes_of words) = search rules in
-    IfErr-weaker c.from_residual.result _ _ (λ f h is. begins_with_nothing bytes_of words (g.O.Write.contents c.args.out.now) (subst (IsRunFailure bytes_of words) is h)) failed
+    let failed : IfErr c.from_residual.result (IsRunFailure bytes_of last words) = search rules in
+    IfErr-weaker c.from_residual.result _ _ (λ f h is. begins_with_nothing bytes_of last words (g.O.Write.contents c.args.out.now) (subst (IsRunFailure bytes_of last words) is h)) failed

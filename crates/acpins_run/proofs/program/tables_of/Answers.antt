@@ -8,7 +8,7 @@ returns-in_err-add_tables-clause-err g c =
     let p = err_from_is_err_and c.from_residual.result c.from_residual.ensures.1 in
     let names = c.args.request.now.files.items in
     let below : c.loop-name.name-index < length names = grind arith in
-    rw (p.1, p.2) (next_fault (g.F.Files.bytes_of c.args.files.now) (g.F.Files.bytes_of c.loop-name.files) c.args.request.now.hex names c.loop-name.name-index _ c.loop-name.tables.items _ _
+    rw (p.1, p.2) (next_fault (g.F.Files.bytes_of c.args.files.now) (g.F.Files.bytes_of c.loop-name.files) c.args.request.now.hex _ names c.loop-name.name-index _ c.loop-name.tables.items _ _
     c.loop-name.invariant.stays below c.loop-name.invariant.before c.loop-name.tables.ok.0 (rw c.deref-name-items.ensures.value at c.in_err-add_tables.ensures.err))
 
 pub returns-in_err-add_tables-clause-others : goal.returns-in_err-add_tables-clause-others

@@ -3,8 +3,8 @@ use Rattle.acpins_run.proofs.Cutting.{SoFar-more, breaks_off}
 use Rattle.acpins_run.proofs.tables.cut.Goals as goal
 
 pub returns-in-Err-Table-clause-err : goal.returns-in-Err-Table-clause-err
-returns-in-Err-Table-clause-err g c =
-    breaks_off c.args.name.now (g.S.Source.coming c.args.source.now) (g.S.Source.coming c.loop.source) c.args.tables.now.items c.loop.tables.items _ _ _
+returns-in-Err-Table-clause-err g c error some =
+    breaks_off c.args.name.now (g.S.Source.coming c.args.source.now) (g.S.Source.coming c.loop.source) error c.args.tables.now.items c.loop.tables.items _ _ _
     c.loop.invariant.cut c.args.tables.now.ok.0 (c.len.ensures ∙ c.loop.tables.ok.0) (c.in-Err-Table.ensures.refused _ (cc))
 
 pub loop-preserved : goal.loop-preserved

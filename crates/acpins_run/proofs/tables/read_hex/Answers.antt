@@ -6,16 +6,16 @@ use Rattle.acpins_run.proofs.tables.read_hex.Goals as goal
 
 pub returns-in-Some-clause-ok : goal.returns-in-Some-clause-ok
 returns-in-Some-clause-ok g c =
-    let nothing : take c.in-Ok.n c.read.new.buf ≡ [] = ap (λ (n : ℕ). take n c.read.new.buf) c.if-n-eq0.true in
-    let room : 0 < length c.read.new.buf = omega arith in
+    let nothing : take c.in-Ok.n c.read.new.bytes ≡ [] = ap (λ (n : ℕ). take n c.read.new.bytes) c.if-n-eq0.true in
+    let room : 0 < length c.read.new.bytes = omega arith in
     let end = at_end _ _ _ c.in-Ok.ensures.bytes.0 nothing (c.in-Ok.ensures.bytes.1 c.if-n-eq0.true room) in
     of_whole (SpellsInHex c.in-Some.bytes.items) _ _ c.loop.invariant.text c.loop.invariant.taken end
     (c.in-Some.ensures.found c.loop.invariant.text c.loop.invariant.decoded)
 
 pub returns-in-None-clause-err : goal.returns-in-None-clause-err
 returns-in-None-clause-err g c =
-    let nothing : take c.in-Ok.n c.read.new.buf ≡ [] = ap (λ (n : ℕ). take n c.read.new.buf) c.if-n-eq0.true in
-    let room : 0 < length c.read.new.buf = omega arith in
+    let nothing : take c.in-Ok.n c.read.new.bytes ≡ [] = ap (λ (n : ℕ). take n c.read.new.bytes) c.if-n-eq0.true in
+    let room : 0 < length c.read.new.bytes = omega arith in
     let end = at_end _ _ _ c.in-Ok.ensures.bytes.0 nothing (c.in-Ok.ensures.bytes.1 c.if-n-eq0.true room) in (
       refl,
       of_whole (λ content. (bytes : List ℕ) → SpellsInHex bytes content → ⊥) _ _ c.loop.invariant.text c.loop.invariant.taken end
@@ -28,7 +28,7 @@ returns-in-Err-BadHex-clause-err g c =
 
 pub loop-preserved : goal.loop-preserved
 loop-preserved g c = record {
-  text = c.loop.invariant.text ++ take c.in-Ok.n c.read.new.buf;
+  text = c.loop.invariant.text ++ take c.in-Ok.n c.read.new.bytes;
   taken = Consumes-trans _ _ _ c.loop.invariant.text _ c.loop.invariant.taken c.in-Ok.ensures.bytes.0;
   decoded = c.in-Ok-take_part.ensures.ok c.loop.invariant.text c.loop.invariant.decoded;
   room = omega arith;

@@ -6,7 +6,7 @@ use Rattle.acpins_run.proofs.tables.read_hex.Given as goal
 abbrev pub invariant-loop : goal.invariant-loop
 invariant-loop g l = record {
   text : List ℕ;
-  taken : Consumes (g.R.Read.remaining l.fn.file) (g.R.Read.remaining l.file) text;
+  taken : Consumes (g.R.Read.remaining l.fn.file.reader) (g.R.Read.remaining l.file.reader) text;
   decoded : IsDecoded text l.decoder;
   room : length l.part ≡ 4096;
 }

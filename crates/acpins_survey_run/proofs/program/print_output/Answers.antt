@@ -1,4 +1,4 @@
-use Rattle.std.proofs.Common.{◌≡◌, rules}
+use Rattle.std.proofs.Common.{rules}
 use Rattle.std.specs.Io.KnownBytes.{Appends}
 use Rattle.acpins_io.specs.PartsWritten.{AppendsBeginning}
 use Rattle.acpins_survey_run.proofs.program.print_output.Goals as goal

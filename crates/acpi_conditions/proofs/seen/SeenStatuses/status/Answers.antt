@@ -7,19 +7,19 @@ use Rattle.acpi_conditions.proofs.seen.SeenStatuses.status.Goals as goal
 pub returns-clause-certain : goal.returns-clause-certain
 returns-clause-certain c =
     any_here Certain c.self.inside c.args.self.now c.args.path.now c.deref.result.now c.entries-entries.result.now c.at.result.sights.now (is_something c.certain_of.result) c.self.view_is c.self.invariant c.deref.ensures.value c.entries-entries.ensures c.at.ensures.sights c.certain_of.ensures.something
-    ∙ certain_seen c.args.self.now c.args.path.now
+    ∙ certain_seen c.args.self.now.entry.way c.args.self.now.entries c.args.path.now
 
 pub returns-clause-certain_scope : goal.returns-clause-certain_scope
 returns-clause-certain_scope c =
     any_here CertainScope c.self.inside c.args.self.now c.args.path.now c.deref.result.now c.entries-entries.result.now c.at.result.sights.now (is_a_scope c.certain_of.result) c.self.view_is c.self.invariant c.deref.ensures.value c.entries-entries.ensures c.at.ensures.sights c.certain_of.ensures.scope
-    ∙ certain_scope_seen c.args.self.now c.args.path.now
+    ∙ certain_scope_seen c.args.self.now.entry.way c.args.self.now.entries c.args.path.now
 
 pub returns-clause-possible : goal.returns-clause-possible
 returns-clause-possible c =
     any_here Possible c.self.inside c.args.self.now c.args.path.now c.deref-2.result.now c.entries-entries.result.now c.at.result.sights.now (is_something c.possible_of.result) c.self.view_is c.self.invariant c.deref-2.ensures.value c.entries-entries.ensures c.at.ensures.sights c.possible_of.ensures.something
-    ∙ possible_seen c.args.self.now c.args.path.now
+    ∙ possible_seen c.args.self.now.entry.way c.args.self.now.entries c.args.path.now
 
 pub returns-clause-possible_scope : goal.returns-clause-possible_scope
 returns-clause-possible_scope c =
     any_here PossibleScope c.self.inside c.args.self.now c.args.path.now c.deref-2.result.now c.entries-entries.result.now c.at.result.sights.now (is_a_scope c.possible_of.result) c.self.view_is c.self.invariant c.deref-2.ensures.value c.entries-entries.ensures c.at.ensures.sights c.possible_of.ensures.scope
-    ∙ possible_scope_seen c.args.self.now c.args.path.now
+    ∙ possible_scope_seen c.args.self.now.entry.way c.args.self.now.entries c.args.path.now

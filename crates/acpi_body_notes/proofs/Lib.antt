@@ -1,0 +1,4 @@
+pub mod Collecting
+pub mod LoadsSpelled
+pub mod LoadingBodies
+pub mod NoteLists

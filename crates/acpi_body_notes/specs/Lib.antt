@@ -1,0 +1,2 @@
+pub mod LoadNotes
+pub mod steps

@@ -1,0 +1,2 @@
+pub mod LoadBytes
+pub mod LoadCodes

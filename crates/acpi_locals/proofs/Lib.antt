@@ -1,0 +1,6 @@
+mod Reaching
+mod Declarations
+mod Rounds
+mod EachBelow
+mod MethodMarks
+mod Objects

@@ -1,0 +1,10 @@
+pub mod Lines
+pub mod Methods
+pub mod Declaring
+pub mod LocalObjects
+pub mod BodyNames
+pub mod LocalViews
+pub mod Leading
+pub mod Callables
+pub mod Laws
+pub mod steps

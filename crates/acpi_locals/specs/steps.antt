@@ -1,0 +1,4 @@
+pub mod Declarations
+pub mod LineViews
+pub mod Rounds
+pub mod AliasPaths

@@ -1,0 +1,4 @@
+pub mod Ways
+pub mod ModuleNames
+pub mod NameViews
+pub mod steps

@@ -1,0 +1,2 @@
+pub mod WayViews
+pub mod Steps

@@ -1,0 +1,2 @@
+mod Callables
+mod Lists

@@ -1,0 +1,19 @@
+use Rattle.std.proofs.Common.{◌≡◌, ◌∙◌, ◌++◌, ◌∷◌, ◌+◌, List, ap, sym, append_assoc, drop, flat_map}
+use Rattle.std.proofs.lemmas.List.{drop_more}
+use Rattle.acpi_locals.specs.LocalViews.{name_view, name_views}
+use Rattle.acpi_locals.specs.declared.body_names.BodyName.{BodyName}
+use Rattle.acpi_use_list.specs.Uses.{uses_of_name}
+use Rattle.acpi_use_list.specs.declared.uses.Use.{Use}
+use Rattle.acpi_use_list.proofs.machine.put_terms.Goals as goal
+
+pub each-preserved : goal.each-preserved
+each-preserved c = λ are.
+    let f = uses_of_name c.args.survey.now c.args.callables.now in
+    let xs = c.deref-name-items.result.now in
+    let i = c.each.name-index in
+    let w = c.name-item.result in
+    let rest = drop (i + 1) xs in
+    ap (λ (us : List Use). us ++ flat_map f (name_views rest)) (c.in_ok-put_body_name.ensures are)
+    ∙ append_assoc c.each.found.items (f (name_view w)) (flat_map f (name_views rest))
+    ∙ ap (λ (ns : List BodyName). c.each.found.items ++ flat_map f (name_views ns)) (sym (drop_more xs i w c.each-test.true ∙ ap (λ (x : BodyName). x ∷ rest) (sym c.name-item.is)))
+    ∙ c.each.invariant are

@@ -1,0 +1,5 @@
+pub mod UseRoles
+pub mod Bodies
+pub mod Uses
+pub mod LocalLists
+pub mod steps

@@ -1,0 +1,10 @@
+pub mod Roles
+pub mod Uses
+pub mod Statements
+pub mod Truth
+pub mod Exits
+pub mod ShownNames
+pub mod Guards
+pub mod GuardSteps
+pub mod UseViews
+pub mod steps
