@@ -19,5 +19,5 @@ mod tables;
 mod units;
 
 pub use facts::facts_of;
-pub use objects::plain_site;
+pub use objects::{objects_of, plain_site};
 pub use tables::table_of;

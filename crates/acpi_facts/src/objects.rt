@@ -2,7 +2,6 @@
 
 use crate::conditions::has_own_condition;
 use acpi_conditions::Entry;
-use acpi_name::Path;
 use acpi_objects::object_kind;
 use acpi_outline::{Fixed, Node};
 use acpi_overview::{Object, Site};
@@ -54,14 +53,10 @@ fn object_of<'a>(
 }
 
 /// The objects in the order of their paths, those of one path in the order of their places; of no field unit the region
-/// is told.
-pub(crate) fn objects_of(alloc: Global, survey: &Survey) -> Result<Vec<Object<'_>>, AllocError> {
+/// is told. Only an allocation failure is an error.
+pub fn objects_of(alloc: Global, survey: &Survey) -> Result<Vec<Object<'_>>, AllocError> {
     let entries = survey.entries().paths.entries();
-    let mut order: Vec<(&Path, usize)> = Vec::new(alloc);
-    for number in 0..entries.len() {
-        order.push((&entries[number].path, number))?;
-    }
-    order.sort()?;
+    let order = survey.entries().paths.by_path()?;
     let mut objects = Vec::new(alloc);
     for (_, number) in &order {
         if let Some(entry) = entries.get(*number) {

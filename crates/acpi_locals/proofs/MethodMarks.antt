@@ -50,11 +50,19 @@ names_local s marks n are is =
     let none : named_entries s n ≡ [] = ap (λ b. cond b [] (numbers_seen s.reading.walk.entries (slice_get s.reading.walk.entries n.method) (last_path n.link.paths))) is in
     subst (λ (ns : List ℕ). IsTrue false ↔ ((m : ℕ) × Among ns m × MeansMethod s m)) (sym none) (marked_among s marks are [])
 
+-- by the marks
+pub marked_local : (s : Survey) (marks : List Bool) (n : BodyNameParts) → n.is_local ≡ true → false ≡ any_marked marks (named_entries s n)
+marked_local s marks n is =
+    sym (ap (any_marked marks) (ap (λ b. cond b [] (numbers_seen s.reading.walk.entries (slice_get s.reading.walk.entries n.method) (last_path n.link.paths))) is))
+
+pub marked_seen : (s : Survey) (marks : List Bool) (n : BodyNameParts) (es : List Entry) (b : Bool) → n.is_local ≡ false → es ≡ s.reading.walk.entries
+    → b ≡ any_marked marks (numbers_seen es (slice_get es n.method) (last_path n.link.paths)) → b ≡ any_marked marks (named_entries s n)
+marked_seen s marks n es b is same seen =
+    let some : named_entries s n ≡ numbers_seen s.reading.walk.entries (slice_get s.reading.walk.entries n.method) (last_path n.link.paths) =
+    ap (λ b. cond b [] (numbers_seen s.reading.walk.entries (slice_get s.reading.walk.entries n.method) (last_path n.link.paths))) is in
+    seen ∙ ap (λ (es : List Entry). any_marked marks (numbers_seen es (slice_get es n.method) (last_path n.link.paths))) same ∙ ap (any_marked marks) (sym some)
+
 pub names_seen : (s : Survey) (marks : List Bool) (n : BodyNameParts) (es : List Entry) (b : Bool) → AreCallables s marks → n.is_local ≡ false → es ≡ s.reading.walk.entries
     → b ≡ any_marked marks (numbers_seen es (slice_get es n.method) (last_path n.link.paths)) → IsTrue b ↔ NamesMethod s n
 names_seen s marks n es b are is same seen =
-    let some : named_entries s n ≡ numbers_seen s.reading.walk.entries (slice_get s.reading.walk.entries n.method) (last_path n.link.paths) =
-    ap (λ b. cond b [] (numbers_seen s.reading.walk.entries (slice_get s.reading.walk.entries n.method) (last_path n.link.paths))) is in
-    let here : b ≡ any_marked marks (named_entries s n) =
-    seen ∙ ap (λ (es : List Entry). any_marked marks (numbers_seen es (slice_get es n.method) (last_path n.link.paths))) same ∙ ap (any_marked marks) (sym some) in
-    subst (λ b. IsTrue b ↔ NamesMethod s n) (sym here) (marked_among s marks are (named_entries s n))
+    subst (λ b. IsTrue b ↔ NamesMethod s n) (sym (marked_seen s marks n es b is same seen)) (marked_among s marks are (named_entries s n))

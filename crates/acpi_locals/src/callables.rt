@@ -9,7 +9,7 @@ ghost use Rattle.acpi_entries.specs.ConditionViews.{link_views};
 ghost use Rattle.acpi_survey.specs.SurveyOrder.{IsInOrder};
 ghost use Rattle.acpi_survey.specs.declared.machine_survey.Survey.{Survey as SurveyForm};
 ghost use Rattle.acpi_locals.specs.BodyNames.{last_path};
-ghost use Rattle.acpi_locals.specs.Callables.{alias_path as path_of_alias, any_is_callable, AreCallables, declares_method, entry_object, is_alias, is_method, last_linked, MeansMethod, NamesMethod, numbers_seen};
+ghost use Rattle.acpi_locals.specs.Callables.{alias_path as path_of_alias, any_is_callable, AreCallables, declares_method, entry_object, is_alias, is_method, last_linked, MeansMethod, named_entries, NamesMethod, numbers_seen};
 ghost use Rattle.acpi_locals.specs.LocalViews.{name_view};
 ghost use Rattle.acpi_locals.specs.steps.AliasPaths.{alias_next, each_below, entries_in};
 ghost use Rattle.acpi_locals.specs.steps.Rounds.{any_marked, is_marked};
@@ -227,7 +227,9 @@ impl Callables {
     /// Whether a name in the body of a method means a method: no line before declares the last path at which it may be
     /// found, and one of the entries there that are seen from the method means one.
     pub fn names_method(&self, survey: &Survey, name: &BodyName<'_>) -> Result<bool, AllocError>
-        ensures { AreCallables survey.now self.now
+        ensures marks { IfOk result (λ b. b
+            ≡ any_is_callable self.now (named_entries survey.now (name_view name.now))) }
+        ensures methods { AreCallables survey.now self.now
             → IfOk result (λ b. IsTrue b ↔ NamesMethod survey.now (name_view name.now)) }
     {
         if name.is_local {

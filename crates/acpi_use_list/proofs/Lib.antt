@@ -1,2 +1,1 @@
-mod Callables
 mod Lists

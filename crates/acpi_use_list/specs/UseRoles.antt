@@ -9,6 +9,7 @@ use Rattle.acpi_use_list.specs.declared.roles.UseRole.TheVariants.{Call, Write, 
 -- what the role of a name says that is no method
 abbrev pub resolved_role : Role → UseRole
 resolved_role roles.Call = Call
+resolved_role roles.StatementCall = Call
 resolved_role roles.Write = Write
 resolved_role roles.Notify = Notify
 resolved_role roles.Wait = Wait

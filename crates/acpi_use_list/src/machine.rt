@@ -3,7 +3,6 @@
 ghost use Rattle.std.specs.Prelude.{◌≡◌, ◌++◌, IfOk, OnOk, length};
 ghost use Rattle.acpi_tree.specs.TermView.{terms_tree};
 ghost use Rattle.acpi_survey.specs.SurveyOrder.{IsInOrder};
-ghost use Rattle.acpi_locals.specs.Callables.{AreCallables};
 ghost use Rattle.acpi_locals.specs.LocalViews.{name_view};
 ghost use Rattle.acpi_module_uses.specs.NameViews.{name_view as module_view};
 ghost use Rattle.acpi_use_list.specs.Uses.{AreUses, method_site, uses_of_body, uses_of_bodies, uses_of_module_name, uses_of_name, uses_of_table, uses_of_tables, uses_of_terms};
@@ -88,7 +87,7 @@ fn put_body_name(
     callables: &Callables,
     name: &BodyName<'_>,
 ) -> Result<(), AllocError>
-    ensures { AreCallables survey.now callables.now → OnOk result (found.new.items
+    ensures { OnOk result (found.new.items
         ≡ found.old.items ++ uses_of_name survey.now callables.now (name_view name.now)) }
 {
     let role = use_role(name.role, callables.names_method(survey, name)?);
@@ -104,7 +103,7 @@ fn put_terms(
     number: usize,
     terms: &[Term],
 ) -> Result<(), AllocError>
-    ensures { AreCallables survey.now callables.now → OnOk result (found.new.items
+    ensures { OnOk result (found.new.items
         ≡ found.old.items ++ uses_of_terms survey.now callables.now number (terms_tree terms.now)) }
 {
     let names = names_of_body(survey, number, terms)?;
@@ -122,7 +121,7 @@ fn put_body(
     number: usize,
     body: &Option<MethodBody<'_>>,
 ) -> Result<(), AllocError>
-    ensures { AreCallables survey.now callables.now → OnOk result (found.new.items
+    ensures { OnOk result (found.new.items
         ≡ found.old.items ++ uses_of_body survey.now callables.now number body.now) }
 {
     let Some(body) = body else {
@@ -141,7 +140,7 @@ fn put_bodies(
     callables: &Callables,
     bodies: &[Option<MethodBody<'_>>],
 ) -> Result<(), AllocError>
-    ensures { AreCallables survey.now callables.now → OnOk result (found.new.items
+    ensures { OnOk result (found.new.items
         ≡ found.old.items ++ uses_of_bodies survey.now callables.now 0 bodies.now) }
 {
     'each: for number in 0..bodies.len() {

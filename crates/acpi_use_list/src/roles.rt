@@ -34,6 +34,7 @@ pub fn use_role(role: Role, is_method: bool) -> UseRole
 {
     match role.resolve(is_method) {
         Role::Call => UseRole::Call,
+        Role::StatementCall => UseRole::Call,
         Role::Write => UseRole::Write,
         Role::Notify => UseRole::Notify,
         Role::Wait => UseRole::Wait,

@@ -8,15 +8,14 @@ use Rattle.acpi_tree.specs.declared.term.Term.{Term}
 use Rattle.acpi_tree.specs.TermView.{terms_tree, operand_view, operands_view}
 use Rattle.acpi_tree.specs.Terms.{no_terms, terms_of}
 use Rattle.acpi_uses.specs.declared.role.Role.{Role}
-use Rattle.acpi_uses.specs.declared.role.Role.TheVariants.{Call}
-use Rattle.acpi_uses.specs.Roles.{call_role}
+use Rattle.acpi_uses.specs.Roles.{call_role, values_role}
 use Rattle.acpi_uses.specs.Uses.{operand_role, uses_in, uses_in_operands}
 
 pub called_with_none : (ts : List Term) (role : Role) → length ts ≡ 0 → call_role (terms_tree ts) role ≡ call_role no_terms role
 called_with_none [] role none = refl
 called_with_none (t ∷ ts) role none = absurd cc
 
-pub called_with_some : (ts : List Term) (role : Role) → length ts ≢ 0 → call_role (terms_tree ts) role ≡ Call
+pub called_with_some : (ts : List Term) (role : Role) → length ts ≢ 0 → call_role (terms_tree ts) role ≡ values_role role
 called_with_some [] role some = absurd (some refl)
 called_with_some (t ∷ ts) role some = refl
 

@@ -2,7 +2,7 @@
 
 ghost use Rattle.std.specs.Prelude.{◌≡◌};
 ghost use Rattle.acpi_tree.specs.TermView.{terms_tree};
-ghost use Rattle.acpi_uses.specs.Roles.{call_role, name_role, ref_role, resolve, role_at};
+ghost use Rattle.acpi_uses.specs.Roles.{call_role, name_role, reads_value, ref_role, resolve, role_at};
 
 use acpi_tree::{Op, OperandKind, Place, Term};
 
@@ -15,7 +15,9 @@ pub enum Role {
     Value,
     /// As the source of a Create field, and no values follow it: it is called if it is a method.
     Source,
-    /// Values follow it, so it is called.
+    /// As a statement, and values follow it: it is called, and nothing reads what it gives.
+    StatementCall,
+    /// Where a value is wanted, and values follow it, so it is called.
     Call,
     /// What it names is stored to.
     Write,
@@ -83,7 +85,21 @@ impl Role {
             (Role::Statement, false) => Role::Read,
             (Role::Value, false) => Role::Read,
             (Role::Source, false) => Role::Field,
+            (Role::StatementCall, _) => Role::Call,
             (role, _) => role,
+        }
+    }
+
+    /// Whether the name is called for a value that is read, by whether it is that of a method: nothing reads that of a
+    /// statement (ACPI 6.5, 20.2.5.3).
+    pub fn reads_value(self, is_method: bool) -> bool
+        ensures { result ≡ reads_value is_method self }
+    {
+        match self {
+            Role::Call => true,
+            Role::Value => is_method,
+            Role::Source => is_method,
+            _ => false,
         }
     }
 }
@@ -94,6 +110,7 @@ pub(crate) fn ref_role(role: Role) -> Role
 {
     match role {
         Role::Call => Role::Read,
+        Role::StatementCall => Role::Read,
         _ => role.resolve(false),
     }
 }
@@ -103,12 +120,15 @@ pub(crate) fn ref_role(role: Role) -> Role
 pub(crate) fn call_role(values: &[Term], role: Role) -> Role
     ensures { result ≡ call_role (terms_tree values.now) role }
 {
-    if !values.is_empty() {
-        return Role::Call;
+    if values.is_empty() {
+        return match role {
+            Role::Statement => Role::Statement,
+            Role::Source => Role::Source,
+            _ => Role::Value,
+        };
     }
     match role {
-        Role::Statement => Role::Statement,
-        Role::Source => Role::Source,
-        _ => Role::Value,
+        Role::Statement => Role::StatementCall,
+        _ => Role::Call,
     }
 }

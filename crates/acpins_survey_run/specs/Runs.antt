@@ -50,7 +50,7 @@ module _ (files : FileBytes) (folders : FolderNames) where
     pub are : AreTablesOfFiles files asked.hex sources tables
 
   module _ (makes : Makes) where
-    -- the text of an invocation, and the status: of tables 3 where something in them is lost or refused, and else 0
+    -- the text of an invocation, and the status: of tables 0, or 3 where the command finds something wrong in them
     abbrev pub IsMadeOf : Invocation → ℕ → List ℕ → Type 0
     IsMadeOf (survey asked) status text = ((status ≡ 0) ⊎ (status ≡ 3))
         × (tables : List (List ℕ)) × AreTablesOf asked tables

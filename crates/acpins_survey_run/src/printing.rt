@@ -11,6 +11,7 @@ ghost use Rattle.acpins_survey_run.specs.declared.failure.PrintFault.{PrintFault
 use crate::failure::{Failure, PrintFault};
 use crate::lines::printed_name;
 use crate::tables::FoundTables;
+use acpi_check_ids::CheckId;
 use acpi_code::Depth;
 use acpi_name::{Path, PathFault};
 use acpins_survey_words::Command;
@@ -35,6 +36,13 @@ pub enum Print {
     Map,
     /// The methods.
     Bodies,
+    /// What is wrong or probably a mistake.
+    Check {
+        /// Whether findings that are alike have a line each.
+        is_verbose: bool,
+        /// The ids of the findings that are left out.
+        ignored: Vec<CheckId>,
+    },
     /// The overview for people.
     Report {
         /// Whether all is told.
@@ -51,7 +59,7 @@ pub enum Print {
 pub struct Output {
     /// The bytes for standard output.
     pub text: Vec<u8>,
-    /// 0, or 3 where there is a problem in a table.
+    /// 0, or 3 where there is a problem in a table; of `check` 3 where there is an error or a warning.
     pub status: u8,
 }
 
@@ -107,6 +115,13 @@ pub fn print_of(alloc: Global, command: &Command<'_>) -> Result<Print, Failure>
         }),
         Command::Map => Ok(Print::Map),
         Command::Bodies => Ok(Print::Bodies),
+        Command::Check {
+            is_verbose,
+            ignored,
+        } => Ok(Print::Check {
+            is_verbose: *is_verbose,
+            ignored: Vec::from_slice(alloc, ignored)?,
+        }),
         Command::Report { is_verbose } => Ok(Print::Report {
             is_verbose: *is_verbose,
         }),

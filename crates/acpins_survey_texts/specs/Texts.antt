@@ -15,7 +15,7 @@ use Rattle.acpins_survey_output.specs.Shown.{IsBodyListing, IsShownOrNone}
 use Rattle.acpins_survey_uses.specs.Nothing.{HasNoEntry}
 use Rattle.acpins_page.specs.Page.{IsPage}
 use Rattle.acpins_page.specs.declared.style.TheConstants.{HEAD}
-use Rattle.acpins_survey_words.specs.Words.{Command, listing, showing, using, mapping, telling_bodies, json, paging}
+use Rattle.acpins_survey_words.specs.Words.{Command, listing, showing, using, mapping, telling_bodies, checking, json, paging}
 
 -- These findings tell what is lost, refused and noticed in the tables of a survey, and noticed in the bodies of their
 -- methods.
@@ -23,8 +23,8 @@ pub record AreFindings (s : Survey) (f : Findings) : Type 0 where
   pub problems : map problem_view f.problems.items ≡ problems_in s.reading s.tables.items
   pub notes : AreSurveyNotes s f.notes.items
 
--- The text that a command makes of a survey and its findings. Nothing is said of `report`, of `uses`, and of `list` with
--- what methods declare; of `html`, what its page is made of, in which all that comes from tables is escaped.
+-- The text that a command makes of a survey and its findings. Nothing is said of `report`, of `uses`, of `check`, and of
+-- `list` with what methods declare; of `html`, what its page is made of, in which all that comes from tables is escaped.
 abbrev pub IsTextOf : Command → Survey → Findings → List ℕ → Type 0
 IsTextOf (listing false) s f text = IsListing s f text
 IsTextOf (showing word) s f text =
@@ -43,7 +43,13 @@ HasNothingAt (using (Some word)) s =
     (path : List Segment) × SpellsPathText path word × HasNoEntry s path
 HasNothingAt _ s = ⊥
 
--- what a command makes of tables, and its status: 3 where something in them is lost or refused, and else 0
+-- the status of a command is 0 where nothing in the tables is lost or refused, but that of `check`, which goes by all that it
+-- finds
+abbrev pub TellsProblems : Command → Findings → ℕ → Type 0
+TellsProblems (checking is_verbose ignored) f status = Unit {0}
+TellsProblems _ f status = (status ≡ 0) ↔ (f.problems.items ≡ [])
+
+-- what a command makes of tables, and its status, 0 or 3
 pub record IsMade (command : Command) (depth : ℕ) (tables : List (List ℕ)) (status : ℕ)
     (text : List ℕ) : Type 0 where
   pub survey : Survey
@@ -52,7 +58,7 @@ pub record IsMade (command : Command) (depth : ℕ) (tables : List (List ℕ)) (
   pub told : AreFindings survey findings
   pub made : IsTextOf command survey findings text
   pub status_is : (status ≡ 0) ⊎ (status ≡ 3)
-  pub problems : (status ≡ 0) ↔ (findings.problems.items ≡ [])
+  pub problems : TellsProblems command findings status
 
 -- the word of `show` or `uses` spells a path at which these tables have nothing
 abbrev pub HasNothingIn : Command → ℕ → List (List ℕ) → Type 0

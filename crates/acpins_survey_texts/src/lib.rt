@@ -3,12 +3,14 @@
 //! ```text
 //! tables ── acpi_survey ──► Survey ── acpi_findings ──► Findings
 //! both ── acpins_survey_output, acpins_survey_json ──► text
+//!      ── acpi_check_machine ──► Machine ── acpi_*_checks ──► list of Finding ── acpins_check_text ──► text
 //!      ── acpi_facts ──► Overview ── acpins_report, acpins_page ──► text
 //! ```
 //!
 //! `SurveyPrinter` is the `Printer` of a run (`acpins_survey_run`).
 #![tactic(auto)]
 
+mod checks;
 mod lines;
 mod texts;
 

@@ -1,6 +1,6 @@
 //! Texts of a survey.
 
-ghost use Rattle.std.specs.Prelude.{◌≡◌, IfOk, Err, false};
+ghost use Rattle.std.specs.Prelude.{◌≡◌, ◌⊎◌, ◌↔◌, IfOk, Err, [], false};
 ghost use Rattle.acpi_survey.specs.SurveyOrder.{IsInOrder};
 ghost use Rattle.acpi_survey.specs.Surveys.{IsSurvey};
 ghost use Rattle.acpins_survey_output.specs.Listings.{IsListing};
@@ -9,10 +9,12 @@ ghost use Rattle.acpins_page.specs.Page.{IsPage};
 ghost use Rattle.acpins_survey_words.specs.Words.{Command as AskedCommand};
 ghost use Rattle.acpins_survey_run.specs.Prints.{IsPrintOf};
 ghost use Rattle.acpins_survey_run.specs.declared.failure.PrintFault.{PrintFault};
-ghost use Rattle.acpins_survey_texts.specs.Texts.{AreFindings, HasNothingAt, HasNothingIn, IsMade, IsTextOf};
+ghost use Rattle.acpins_survey_texts.specs.Texts.{AreFindings, HasNothingAt, HasNothingIn, IsMade, IsTextOf, TellsProblems};
 
+use crate::checks::check_of;
 use crate::lines::lines_of;
 use acpi_body_notes::findings_of;
+use acpi_check_ids::CheckId;
 use acpi_code::Depth;
 use acpi_facts::facts_of;
 use acpi_findings::Findings;
@@ -109,36 +111,74 @@ fn uses_of(alloc: Global, survey: &Survey, path: &Option<Path>) -> Result<Vec<u8
     }
 }
 
-// The text that is made of a survey; a report has colours or not.
-fn text_of(
+// What `check` prints: 3 is the status where an error or a warning is found.
+fn check_output(
+    alloc: Global,
+    survey: &Survey,
+    findings: &Findings,
+    is_verbose: bool,
+    ignored: &[CheckId],
+) -> Result<Output, AllocError>
+    ensures { IfOk result (λ m. (m.status ≡ 0) ⊎ (m.status ≡ 3)) }
+{
+    let check = check_of(alloc, survey, findings, is_verbose, ignored)?;
+    let status = if check.has_faults { 3 } else { 0 };
+    Ok(Output {
+        text: check.text,
+        status,
+    })
+}
+
+// A text of tables: 3 is the status where something in them is lost or refused.
+fn with_status(findings: &Findings, text: Vec<u8>) -> Output
+    ensures text { result.text.items ≡ text.items }
+    ensures statuses { (result.status ≡ 0) ⊎ (result.status ≡ 3) }
+    ensures problems { (result.status ≡ 0) ↔ (findings.now.problems.items ≡ []) }
+{
+    let status = if has_problem(findings) { 3 } else { 0 };
+    Output { text, status }
+}
+
+// What is printed of a survey; a report has colours or not.
+fn output_of(
     alloc: Global,
     print: &Print,
     survey: &Survey,
     findings: &Findings,
     found: &FoundTables,
     is_coloured: bool,
-) -> Result<Vec<u8>, PrintFault>
-    ensures ok { IfOk result (λ text. (command : AskedCommand)
+) -> Result<Output, PrintFault>
+    ensures ok { IfOk result (λ m. (command : AskedCommand)
         → IsPrintOf command print.now → IsInOrder survey.now
-        → IsTextOf command survey.now findings.now text.items) }
+        → IsTextOf command survey.now findings.now m.text.items) }
+    ensures statuses { IfOk result (λ m. (m.status ≡ 0) ⊎ (m.status ≡ 3)) }
+    ensures problems { IfOk result (λ m. (command : AskedCommand)
+        → IsPrintOf command print.now → TellsProblems command findings.now m.status) }
     ensures nothing { result ≡ Err PrintFault.NoSuchPath → (command : AskedCommand)
         → IsPrintOf command print.now → IsInOrder survey.now
         → HasNothingAt command survey.now }
 {
     match print {
-        Print::List { has_bodies } => Ok(list_of(alloc, survey, findings, *has_bodies)?),
-        Print::Uses { path } => uses_of(alloc, survey, path),
+        Print::List { has_bodies } => {
+            Ok(with_status(findings, list_of(alloc, survey, findings, *has_bodies)?))
+        }
+        Print::Uses { path } => Ok(with_status(findings, uses_of(alloc, survey, path)?)),
         Print::Show(path) => match show(alloc, survey, path)? {
-            Some(text) => Ok(text),
+            Some(text) => Ok(with_status(findings, text)),
             None => Err(PrintFault::NoSuchPath),
         },
-        Print::Map => Ok(map(alloc, survey)?),
-        Print::Bodies => Ok(bodies(alloc, survey)?),
+        Print::Map => Ok(with_status(findings, map(alloc, survey)?)),
+        Print::Bodies => Ok(with_status(findings, bodies(alloc, survey)?)),
+        Print::Check {
+            is_verbose,
+            ignored,
+        } => Ok(check_output(alloc, survey, findings, *is_verbose, ignored)?),
         Print::Report { is_verbose } => {
-            Ok(report_of(alloc, survey, findings, found, is_coloured, *is_verbose)?)
+            let text = report_of(alloc, survey, findings, found, is_coloured, *is_verbose)?;
+            Ok(with_status(findings, text))
         }
-        Print::Json => Ok(json(alloc, survey, findings)?),
-        Print::Html => Ok(page_of(alloc, survey, findings, found)?),
+        Print::Json => Ok(with_status(findings, json(alloc, survey, findings)?)),
+        Print::Html => Ok(with_status(findings, page_of(alloc, survey, findings, found)?)),
     }
 }
 
@@ -161,11 +201,10 @@ impl Printer for SurveyPrinter {
     ) -> Result<Output, PrintFault> {
         let survey = survey_of(alloc, found, depth)?;
         let findings = findings_in(alloc, &survey)?;
-        let text = text_of(alloc, print, &survey, &findings, found, is_coloured)?;
-        let status = if has_problem(&findings) { 3 } else { 0 };
+        let output = output_of(alloc, print, &survey, &findings, found, is_coloured)?;
         // The process ends soon and gives all memory back at once; to take these apart first costs time.
         mem::forget(findings);
         mem::forget(survey);
-        Ok(Output { text, status })
+        Ok(output)
     }
 }

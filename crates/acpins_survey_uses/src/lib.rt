@@ -10,9 +10,7 @@
 mod declared;
 mod local_lines;
 mod scopes;
-mod trimmed;
 mod use_lines;
 
 pub use local_lines::list_with_bodies;
-pub use trimmed::put_trimmed_path;
 pub use use_lines::uses;

@@ -6,11 +6,11 @@ ghost use Rattle.acpins_survey_uses.specs.Nothing.{HasNothing};
 
 use crate::declared::{Declared, is_at_or_below};
 use crate::scopes::{NodeScopes, tries_below};
-use crate::trimmed::put_trimmed_path;
 use acpi_name::Path;
 use acpi_ranges::site_of;
 use acpi_survey::Survey;
 use acpi_text::{put_decimal, put_name};
+use acpi_trimmed::put_trimmed_path;
 use acpi_use_list::{
     Use, UseRole, UseSite, bodies_of, locals_of_machine, sort_uses, uses_of_machine,
 };

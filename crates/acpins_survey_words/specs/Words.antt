@@ -4,8 +4,10 @@ use Rattle.std.specs.List.{before_first, list_any, starts_with}
 use Rattle.std.specs.Str.{bytes_eq}
 use Rattle.clap.specs.Simple.{App, Shape, new_rule, with_subcommand}
 use Rattle.clap.specs.Takes.{is_given}
-use Rattle.clap.specs.Walk.{Row, Rule, Text, first_of, texts}
-use Rattle.clap.specs.declared.builder.ArgAction.TheVariants.{SetTrue}
+use Rattle.clap.specs.Walk.{Row, Rule, Text, all_of, first_of, texts}
+use Rattle.clap.specs.declared.builder.ArgAction.TheVariants.{Append, SetTrue}
+use Rattle.acpi_check_ids.specs.Ids.{id_of}
+use Rattle.acpi_check_ids.specs.declared.ids.CheckId.{CheckId}
 use Rattle.acpins_words.specs.Arguments as arguments
 use Rattle.acpins_words.specs.Arguments.{alone, files_shape, out_shape, path_shape, program_shape}
 use Rattle.acpins_survey_words.specs.declared.words.Command.{Command as CommandWords}
@@ -31,6 +33,17 @@ list_shape =
     let files = files_shape (codes "list") in
     record files { rules = files.rules ++ bodies_rule ∷ [] }
 
+-- `--ignore ID`, any number of times
+abbrev pub ignore_rule : Rule
+ignore_rule =
+    record (new_rule (codes "ignore")) { long = Some (codes "ignore"); action = Some Append }
+
+-- a command over files, with `-v` and `--ignore ID`
+abbrev pub check_shape : Shape
+check_shape =
+    let files = files_shape (codes "check") in
+    record files { rules = (files.rules ++ verbose_rule ∷ []) ++ ignore_rule ∷ [] }
+
 -- a command over files, with `-v`
 abbrev pub report_shape : Shape
 report_shape =
@@ -46,19 +59,21 @@ survey_app =
     let uses = with_subcommand show (files_shape (codes "uses")) in
     let map = with_subcommand uses (files_shape (codes "map")) in
     let bodies = with_subcommand map (files_shape (codes "bodies")) in
-    let report = with_subcommand bodies report_shape in
+    let check = with_subcommand bodies check_shape in
+    let report = with_subcommand check report_shape in
     let json = with_subcommand report (files_shape (codes "json")) in
     with_subcommand json (out_shape (codes "html"))
 
 -- what is made of the survey of tables: the listing, with what methods declare or not; the objects at the path that a
--- text spells; the uses of such a path, or of all; the map of the bytes; the methods; the report, unfolded or not; JSON;
--- a page, in the file of a name
+-- text spells; the uses of such a path, or of all; the map of the bytes; the methods; what a check finds, unfolded or
+-- not, but for findings of these ids; the report, unfolded or not; JSON; a page, in the file of a name
 pub data Command : Type 0 where
   listing : Bool → Command
   showing : Text → Command
   using : Option Text → Command
   mapping : Command
   telling_bodies : Command
+  checking : Bool → List CheckId → Command
   reporting : Bool → Command
   json : Command
   paging : Text → Command
@@ -82,10 +97,11 @@ topic_of name =
     else (if bytes_eq name (codes "uses") then Some topics.Uses
     else (if bytes_eq name (codes "map") then Some topics.Map
     else (if bytes_eq name (codes "bodies") then Some topics.Bodies
+    else (if bytes_eq name (codes "check") then Some topics.Check
     else (if bytes_eq name (codes "report") then Some topics.Report
     else (if bytes_eq name (codes "json") then Some topics.Json
     else (if bytes_eq name (codes "html") then Some topics.Html
-    else None)))))))
+    else None))))))))
 
 -- what help is about among these arguments: the command that the first names, or else the program
 abbrev pub topic_in : List Text → Topic
@@ -133,10 +149,24 @@ abbrev pub path_first : Option Text → Option Text
 path_first (Some word) = if is_rooted word then Some word else None
 path_first None = None
 
--- the command of this name; for `show` the text that stands as PATH, for `html` that which stands as OUT, for `uses` the
+-- the ids that texts spell; nothing, where one is no id
+unfoldable pub ids_of : List Text → Option (List CheckId)
+ids_of [] = Some []
+ids_of (text ∷ texts) =
+    option_and_then (λ id. option_map (λ ids. id ∷ ids) (ids_of texts)) (id_of text)
+
+-- the ids that stand behind `--ignore`
+abbrev pub ignored_by : List Row → Option (List CheckId)
+ignored_by rows = ids_of (unwrap_or (all_of (codes "ignore") rows) [])
+
+-- the check, with what stands there
+abbrev pub check_by : List Row → Option Command
+check_by rows = option_map (checking (is_given (codes "verbose") rows)) (ignored_by rows)
+
+-- the command of this name that isn't `check`; for `show` the text that stands as PATH, for `html` that which stands as OUT, for `uses` the
 -- first operand, where that begins with `\`
-abbrev pub command_by : Text → List Row → Option Command
-command_by name rows =
+abbrev pub plain_command : Text → List Row → Option Command
+plain_command name rows =
     if bytes_eq name (codes "list") then Some (listing (is_given (codes "bodies") rows))
     else (if bytes_eq name (codes "show") then option_map showing (first_of (codes "path") rows)
     else (if bytes_eq name (codes "uses")
@@ -147,6 +177,11 @@ command_by name rows =
     else (if bytes_eq name (codes "json") then Some json
     else (if bytes_eq name (codes "html") then option_map paging (first_of (codes "out") rows)
     else None)))))))
+
+-- the command of this name
+abbrev pub command_by : Text → List Row → Option Command
+command_by name rows =
+    if bytes_eq name (codes "check") then check_by rows else plain_command name rows
 
 -- the files among the operands of a command: of `uses PATH` those behind PATH, at least one
 abbrev pub files_behind : Command → List Text → Option (List Text)
@@ -178,6 +213,7 @@ command_in (read.Show path) = showing path.now
 command_in (read.Uses path) = using (option_map (λ word. word.now) path)
 command_in read.Map = mapping
 command_in read.Bodies = telling_bodies
+command_in (read.Check is_verbose ignored) = checking is_verbose ignored.items
 command_in (read.Report is_verbose) = reporting is_verbose
 command_in read.Json = json
 command_in (read.Html out) = paging out.now

@@ -1,6 +1,7 @@
 //! Why arguments ask for nothing, in one line.
 
 use crate::words::{is_rooted, topic_of};
+use acpi_check_ids::CheckId;
 use acpi_code::Depth;
 use acpi_text::put_byte;
 use std::alloc::{AllocError, Global};
@@ -18,9 +19,20 @@ enum Fault<'a> {
     TakesNoValue(&'a str),
     NoDepth,
     BadDepth(&'a str),
+    NoId,
+    BadId(&'a str),
     Missing { command: &'a str, operand: &'a str },
     ManyCommands,
     MoreThanVersion,
+}
+
+// What the next argument is.
+#[derive(Clone, Copy)]
+enum Value {
+    // The number of `--depth`.
+    Depth,
+    // An id of `--ignore`.
+    Id,
 }
 
 // The arguments of a command, as far as they are read.
@@ -31,8 +43,8 @@ struct Operation<'a> {
     has_depth: bool,
     has_bodies: bool,
     has_verbose: bool,
-    // Whether the next argument is the number of `--depth`.
-    needs_depth: bool,
+    // What the next argument is, where an option needs it.
+    needed: Option<Value>,
     // Whether `--` ended the options.
     has_ended: bool,
     // Whether the first operand of `uses` is a path.
@@ -83,6 +95,29 @@ fn check_depth(value: &str) -> Result<(), Fault<'_>> {
     }
 }
 
+fn check_id(value: &str) -> Result<(), Fault<'_>> {
+    match CheckId::of(value) {
+        Some(_) => Ok(()),
+        None if value.is_empty() => Err(Fault::NoId),
+        None => Err(Fault::BadId(value)),
+    }
+}
+
+fn check_value(needed: Value, value: &str) -> Result<(), Fault<'_>> {
+    match needed {
+        Value::Depth => check_depth(value),
+        Value::Id => check_id(value),
+    }
+}
+
+// Why an option without its value is wrong.
+fn no_value<'a>(needed: Value) -> Fault<'a> {
+    match needed {
+        Value::Depth => Fault::NoDepth,
+        Value::Id => Fault::NoId,
+    }
+}
+
 // Notes an option that may be given once.
 fn note_once<'a>(is_given: &mut bool, name: &'a str) -> Result<(), Fault<'a>> {
     if *is_given {
@@ -100,7 +135,7 @@ impl<'a> Operation<'a> {
             has_depth: false,
             has_bodies: false,
             has_verbose: false,
-            needs_depth: false,
+            needed: None,
             has_ended: false,
             has_path: false,
             operands: 0,
@@ -109,9 +144,9 @@ impl<'a> Operation<'a> {
 
     // Reads one more argument.
     fn read(&mut self, argument: &'a str) -> Result<(), Fault<'a>> {
-        if self.needs_depth {
-            self.needs_depth = false;
-            return check_depth(argument);
+        if let Some(value) = self.needed {
+            self.needed = None;
+            return check_value(value, argument);
         }
         if self.has_ended || !is_option(argument) {
             self.note_operand(argument);
@@ -143,29 +178,32 @@ impl<'a> Operation<'a> {
             }
             "--depth" => {
                 note_once(&mut self.has_depth, name)?;
-                self.read_depth(value)
+                self.read_value(Value::Depth, value)
             }
+            "--ignore" if self.command == "check" => self.read_value(Value::Id, value),
             "--bodies" if self.command == "list" => {
                 check_no_value(name, value)?;
                 note_once(&mut self.has_bodies, name)
             }
-            _ if self.command == "report" => self.read_report_option(option, name, value),
+            _ if self.command == "report" || self.command == "check" => {
+                self.read_verbose(option, name, value)
+            }
             _ => Err(self.unknown(option)),
         }
     }
 
-    fn read_depth(&mut self, value: Option<&'a str>) -> Result<(), Fault<'a>> {
+    fn read_value(&mut self, needed: Value, value: Option<&'a str>) -> Result<(), Fault<'a>> {
         match value {
-            Some(value) => check_depth(value),
+            Some(value) => check_value(needed, value),
             None => {
-                self.needs_depth = true;
+                self.needed = Some(needed);
                 Ok(())
             }
         }
     }
 
-    // Reads an option that only `report` has.
-    fn read_report_option(
+    // Reads an option that only `report` and `check` have.
+    fn read_verbose(
         &mut self,
         option: &'a str,
         name: &'a str,
@@ -200,8 +238,8 @@ impl<'a> Operation<'a> {
 
     // Whether something is missing behind the last argument.
     fn finish(&self) -> Result<(), Fault<'a>> {
-        if self.needs_depth {
-            return Err(Fault::NoDepth);
+        if let Some(value) = self.needed {
+            return Err(no_value(value));
         }
         let operand = match (self.first_operand(), self.operands) {
             (Some(first), 0) => first,
@@ -289,6 +327,8 @@ fn put_fault(text: &mut Text, fault: &Fault<'_>) {
         Fault::TakesNoValue(name) => put_each(text, &[name, " takes no value"]),
         Fault::NoDepth => text.put("--depth needs a number"),
         Fault::BadDepth(value) => put_each(text, &["--depth ", value, ": from 1 to 4096"]),
+        Fault::NoId => text.put("--ignore needs an ID"),
+        Fault::BadId(value) => put_each(text, &["--ignore ", value, ": no such ID"]),
         Fault::Missing { command, operand } => {
             put_each(text, &[command, ": ", operand, " is missing"])
         }

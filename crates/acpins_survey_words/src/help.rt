@@ -13,6 +13,7 @@ acpins-survey: what the tables DSDT and SSDT declare or may declare, and under w
   acpins-survey uses [PATH] FILE..  where the objects at PATH and below are used, or all objects
   acpins-survey map FILE..          what each byte of each table is
   acpins-survey bodies FILE..       every method: read, or why not
+  acpins-survey check FILE..        what is wrong, or probably a mistake
   acpins-survey report FILE..       an overview for people
   acpins-survey json FILE..         all of it, for programs
   acpins-survey html OUT FILE..     the overview as one page
@@ -29,12 +30,13 @@ of letters. Other tables in it are passed over. The first table is the DSDT.
   --hex      the files are hexadecimal text
   --depth N  the greatest level that a term may have, 1 to 4096; 1024 without it
   --bodies   list has the objects that methods declare too
-  -v         report tells all of it: nothing is folded or cut short
+  --ignore   check leaves out the findings of the ID behind it
+  -v         report and check tell all of it: nothing is folded or cut short
   -h         the same as --help
   --         ends the options
 
-The status is 0 where all is read, 3 where a table has a problem, 1 where a file or the output
-fails, and 2 where the arguments or PATH are wrong.
+The status is 0 where all is read, 3 where a table has a problem or check finds an error or a
+warning, 1 where a file or the output fails, and 2 where the arguments or PATH are wrong.
 ";
 
 const LIST: &str = "\
@@ -75,6 +77,15 @@ acpins-survey bodies [--hex] [--depth N] FILE..
 prints a line for each method of a table: that its terms are read, or why not, and where.
 ";
 
+const CHECK: &str = "\
+acpins-survey check [-v] [--ignore ID].. [--hex] [--depth N] FILE..
+
+prints what looks wrong, a line for each finding: its level, its id, the path of an object or of a
+method, what it is, and where it stands, in a body with the line. The levels are error, warning and
+remark. Findings that are alike share a line; with -v each has its own. Those with an ID behind
+--ignore are left out and not counted. The last line counts the others.
+";
+
 const REPORT: &str = "\
 acpins-survey report [-v] [--hex] [--depth N] FILE..
 
@@ -109,6 +120,7 @@ pub fn help_of(topic: Topic) -> &'static str {
         Topic::Uses => USES,
         Topic::Map => MAP,
         Topic::Bodies => BODIES,
+        Topic::Check => CHECK,
         Topic::Report => REPORT,
         Topic::Json => JSON,
         Topic::Html => HTML,

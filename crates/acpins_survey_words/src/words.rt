@@ -6,12 +6,14 @@ ghost use Rattle.clap.specs.Simple.{app_of};
 ghost use Rattle.clap.specs.Walk.{rows_of, rule_of, texts};
 ghost use Rattle.clap.specs.declared.builder.command.Command.TheViews.{out-Command as fields_of};
 ghost use Rattle.acpins_words.specs.Arguments.{alone};
-ghost use Rattle.acpins_survey_words.specs.Words.{asked_in, asked_of, asks_help, bodies_rule, command_by, command_in};
-ghost use Rattle.acpins_survey_words.specs.Words.{files_behind, is_rooted, list_shape, path_first};
+ghost use Rattle.acpins_survey_words.specs.Words.{asked_in, asked_of, asks_help, bodies_rule, check_by, command_by, command_in};
+ghost use Rattle.acpins_survey_words.specs.Words.{check_shape, files_behind, ids_of, ignore_rule, ignored_by};
+ghost use Rattle.acpins_survey_words.specs.Words.{is_rooted, list_shape, path_first, plain_command};
 ghost use Rattle.acpins_survey_words.specs.Words.{help_in, invocation_in, invocation_of, is_end, is_help};
 ghost use Rattle.acpins_survey_words.specs.Words.{lone_invocation, named_invocation, report_shape, survey_app};
 ghost use Rattle.acpins_survey_words.specs.Words.{topic_in, topic_of, verbose_rule};
 
+use acpi_check_ids::CheckId;
 use acpi_code::Depth;
 use acpins_words::WordsFault;
 use acpins_words::arguments::{
@@ -38,6 +40,13 @@ pub enum Command<'a> {
     Map,
     /// Every method: read, or why not.
     Bodies,
+    /// What is wrong or probably a mistake.
+    Check {
+        /// Whether findings that are alike have a line each.
+        is_verbose: bool,
+        /// The ids of the findings that are left out.
+        ignored: Vec<CheckId>,
+    },
     /// An overview for people.
     Report {
         /// Whether siblings that are alike have a line each, and long lists are whole.
@@ -77,6 +86,8 @@ pub enum Topic {
     Map,
     /// `bodies`
     Bodies,
+    /// `check`
+    Check,
     /// `report`
     Report,
     /// `json`
@@ -106,6 +117,7 @@ pub(crate) fn topic_of(name: &str) -> Option<Topic>
         "uses" => Some(Topic::Uses),
         "map" => Some(Topic::Map),
         "bodies" => Some(Topic::Bodies),
+        "check" => Some(Topic::Check),
         "report" => Some(Topic::Report),
         "json" => Some(Topic::Json),
         "html" => Some(Topic::Html),
@@ -190,6 +202,15 @@ fn verbose<'a>(alloc: Global) -> Arg<'a>
         .action(ArgAction::SetTrue)
 }
 
+fn ignore<'a>(alloc: Global) -> Arg<'a>
+    ensures rule { rule_of result ≡ ignore_rule }
+    ensures local { result.global ≡ false }
+{
+    Arg::new(alloc, "ignore")
+        .long("ignore")
+        .action(ArgAction::Append)
+}
+
 fn bodies<'a>(alloc: Global) -> Arg<'a>
     ensures rule { rule_of result ≡ bodies_rule }
     ensures local { result.global ≡ false }
@@ -205,6 +226,16 @@ fn list_form<'a>(alloc: Global) -> Result<clap::Command<'a>, AllocError>
     ensures local { IfOk result (λ command. (fields_of command).has_globals ≡ false) }
 {
     over_files(alloc, "list")?.arg(bodies(alloc))
+}
+
+// The form of the check: a command over files with `-v` and `--ignore ID`.
+fn check_form<'a>(alloc: Global) -> Result<clap::Command<'a>, AllocError>
+    ensures app { IfOk result (λ command. app_of command ≡ alone check_shape) }
+    ensures local { IfOk result (λ command. (fields_of command).has_globals ≡ false) }
+{
+    over_files(alloc, "check")?
+        .arg(verbose(alloc))?
+        .arg(ignore(alloc))
 }
 
 // The report's form: a command over files with `-v`.
@@ -223,6 +254,7 @@ fn forms<'a>(alloc: Global) -> Result<clap::Command<'a>, AllocError>
     let command = with(command, over_files(alloc, "uses"))?;
     let command = with(command, over_files(alloc, "map"))?;
     let command = with(command, over_files(alloc, "bodies"))?;
+    let command = with(command, check_form(alloc))?;
     let command = with(command, report_form(alloc))?;
     let command = with(command, over_files(alloc, "json"))?;
     with(command, over_out(alloc, "html"))
@@ -246,9 +278,49 @@ fn path_first(first: Option<&str>) -> Option<&str>
     }
 }
 
-// The command of this name, with what was found for it.
-fn command_in<'a>(name: &str, found: &ArgMatches<'a>) -> Option<Command<'a>>
-    ensures { option_map command_in result ≡ command_by name.now (rows_of (found_of found.now)) }
+// The ids that these words spell; None where one is no id.
+fn ids_of(alloc: Global, words: &[&str]) -> Result<Option<Vec<CheckId>>, AllocError>
+    ensures { IfOk result (λ ids. option_map (λ v. v.items) ids ≡ ids_of (texts words.now)) }
+{
+    let mut ids = Vec::new(alloc);
+    for word in words {
+        let Some(id) = CheckId::of(word) else {
+            return Ok(None);
+        };
+        ids.push(id)?;
+    }
+    Ok(Some(ids))
+}
+
+// The ids that stand behind `--ignore`.
+fn ignored_in(alloc: Global, found: &ArgMatches<'_>) -> Result<Option<Vec<CheckId>>, AllocError>
+    ensures { IfOk result (λ ids. option_map (λ v. v.items) ids
+        ≡ ignored_by (rows_of (found_of found.now))) }
+{
+    match found.get_strs("ignore") {
+        Some(words) => ids_of(alloc, words),
+        None => Ok(Some(Vec::new(alloc))),
+    }
+}
+
+// The check, with what was found for it.
+fn check_in<'a>(alloc: Global, found: &ArgMatches<'a>) -> Result<Option<Command<'a>>, AllocError>
+    ensures { IfOk result (λ command. option_map command_in command
+        ≡ check_by (rows_of (found_of found.now))) }
+{
+    let is_verbose = has_flag(found, "verbose");
+    match ignored_in(alloc, found)? {
+        Some(ignored) => Ok(Some(Command::Check {
+            is_verbose,
+            ignored,
+        })),
+        None => Ok(None),
+    }
+}
+
+// The command of this name, where it is another than `check`, with what was found for it.
+fn plain_command<'a>(name: &str, found: &ArgMatches<'a>) -> Option<Command<'a>>
+    ensures { option_map command_in result ≡ plain_command name.now (rows_of (found_of found.now)) }
 {
     match name {
         "list" => Some(Command::List {
@@ -264,6 +336,22 @@ fn command_in<'a>(name: &str, found: &ArgMatches<'a>) -> Option<Command<'a>>
         "json" => Some(Command::Json),
         "html" => Some(Command::Html(found.get_str("out")?)),
         _ => None,
+    }
+}
+
+// The command of this name, with what was found for it.
+fn command_in<'a>(
+    alloc: Global,
+    name: &str,
+    found: &ArgMatches<'a>,
+) -> Result<Option<Command<'a>>, AllocError>
+    ensures { IfOk result (λ command. option_map command_in command
+        ≡ command_by name.now (rows_of (found_of found.now))) }
+{
+    if name == "check" {
+        check_in(alloc, found)
+    } else {
+        Ok(plain_command(name, found))
     }
 }
 
@@ -287,7 +375,7 @@ fn read_request<'a>(alloc: Global, words: &'a [&'a str]) -> Result<Request<'a>, 
     ensures wrong { result ≡ Err WordsFault.Wrong → asked_of (texts words.now) ≡ None }
 {
     let (name, found) = find_subcommand(forms(alloc)?, words)?;
-    let Some(command) = command_in(name, &found) else {
+    let Some(command) = command_in(alloc, name, &found)? else {
         return Err(WordsFault::Wrong);
     };
     let TableArguments { hex, depth, files } = read_arguments(alloc, &found)?;

@@ -3,7 +3,7 @@ use Rattle.std.proofs.lemmas.Result.{IfOk-weaker}
 use Rattle.clap.specs.Simple.{with_subcommand}
 use Rattle.acpins_words.specs.Arguments.{alone, files_shape, out_shape, path_shape, program_shape}
 use Rattle.acpins_words.proofs.Adding.{subcommand_added}
-use Rattle.acpins_survey_words.specs.Words.{list_shape, report_shape}
+use Rattle.acpins_survey_words.specs.Words.{check_shape, list_shape, report_shape}
 use Rattle.acpins_survey_words.proofs.words.forms.Goals as goal
 
 pub returns : goal.returns
@@ -19,14 +19,16 @@ returns c =
     let using = with_subcommand showing uses in
     let mapping = with_subcommand using map in
     let telling = with_subcommand mapping bodies in
-    let reporting = with_subcommand telling report_shape in
+    let checking = with_subcommand telling check_shape in
+    let reporting = with_subcommand checking report_shape in
     let spelling = with_subcommand reporting json in
     let with_list = subcommand_added c.list_form.result _ _ begun list_shape c.in_ok-command.ensures c.program.ensures c.list_form.ensures.app c.list_form.ensures.local in
     let with_show = subcommand_added c.over_path.result _ _ listing show c.in_ok-command-2.ensures with_list c.over_path.ensures.app c.over_path.ensures.local in
     let with_uses = subcommand_added c.over_files.result _ _ showing uses c.in_ok-command-3.ensures with_show c.over_files.ensures.app c.over_files.ensures.local in
     let with_map = subcommand_added c.over_files-2.result _ _ using map c.in_ok-command-4.ensures with_uses c.over_files-2.ensures.app c.over_files-2.ensures.local in
     let with_bodies = subcommand_added c.over_files-3.result _ _ mapping bodies c.in_ok-command-5.ensures with_map c.over_files-3.ensures.app c.over_files-3.ensures.local in
-    let with_report = subcommand_added c.report_form.result _ _ telling report_shape c.in_ok-command-6.ensures with_bodies c.report_form.ensures.app c.report_form.ensures.local in
-    let with_json = subcommand_added c.over_files-4.result _ _ reporting json c.in_ok-command-7.ensures with_report c.over_files-4.ensures.app c.over_files-4.ensures.local in
-    IfOk-weaker c.with-8.result _ _
-    (λ command added. subcommand_added c.over_out.result _ command spelling (out_shape (codes "html")) added with_json c.over_out.ensures.app c.over_out.ensures.local) c.with-8.ensures
+    let with_check = subcommand_added c.check_form.result _ _ telling check_shape c.in_ok-command-6.ensures with_bodies c.check_form.ensures.app c.check_form.ensures.local in
+    let with_report = subcommand_added c.report_form.result _ _ checking report_shape c.in_ok-command-7.ensures with_check c.report_form.ensures.app c.report_form.ensures.local in
+    let with_json = subcommand_added c.over_files-4.result _ _ reporting json c.in_ok-command-8.ensures with_report c.over_files-4.ensures.app c.over_files-4.ensures.local in
+    IfOk-weaker c.with-9.result _ _
+    (λ command added. subcommand_added c.over_out.result _ command spelling (out_shape (codes "html")) added with_json c.over_out.ensures.app c.over_out.ensures.local) c.with-9.ensures

@@ -35,14 +35,14 @@ returns-in_err-name-clause-wrong c e =
 pub returns-in_default-clause-wrong : goal.returns-in_default-clause-wrong
 unfolding asked_of
 returns-in_default-clause-wrong c e =
-    ap (option_and_then with_files) (no_command survey_app command_by c.in_ok-forms.ensures (texts c.args.words.now) c.in_ok-name.ensures.found c.in_default.ensures)
+    ap (option_and_then with_files) (no_command survey_app command_by c.in_ok-forms.ensures (texts c.args.words.now) c.in_ok-name.ensures.found (rw c.in_default.is at c.in_ok-command.ensures))
 
 pub returns-in_err-hex-clause-wrong : goal.returns-in_err-hex-clause-wrong
 unfolding asked_of
 returns-in_err-hex-clause-wrong c e =
     let p = err_from_is_err_and c.from_residual-in_err-hex.result c.from_residual-in_err-hex.ensures.1 in
     ap (option_and_then with_files)
-    (no_arguments survey_app command_by c.in_ok-forms.ensures (texts c.args.words.now) c.in_ok-name.ensures.found _ c.in-Some.ensures (c.in_err-hex.ensures.wrong (cc (e, p.1, p.2))))
+    (no_arguments survey_app command_by c.in_ok-forms.ensures (texts c.args.words.now) c.in_ok-name.ensures.found _ (rw c.in-Some.is at c.in_ok-command.ensures) (c.in_err-hex.ensures.wrong (cc (e, p.1, p.2))))
 
 pub returns-in_default-files_behind-clause-wrong : goal.returns-in_default-files_behind-clause-wrong
 unfolding asked_of
@@ -50,7 +50,7 @@ returns-in_default-files_behind-clause-wrong c e =
     let h = c.in_ok-hex.ensures in
     let asked : Asked = record { command = command_in c.in-Some.command; hex = c.in_ok-hex.field-0.hex; depth = c.in_ok-hex.field-0.depth; files = texts c.in_ok-hex.field-0.files.items } in
     ap (option_and_then with_files)
-    (asked_is survey_app command_by c.in_ok-forms.ensures (texts c.args.words.now) c.in_ok-name.ensures.found _ _ _ _ c.in-Some.ensures h.hex h.depth h.files)
+    (asked_is survey_app command_by c.in_ok-forms.ensures (texts c.args.words.now) c.in_ok-name.ensures.found _ _ _ _ (rw c.in-Some.is at c.in_ok-command.ensures) h.hex h.depth h.files)
     ∙ none_behind asked (ap texts c.deref.ensures.value) c.in_default-files_behind.ensures
 
 pub returns-clause-found : goal.returns-clause-found
@@ -60,5 +60,5 @@ returns-clause-found c =
     let asked : Asked = record { command = command_in c.in-Some.command; hex = c.in_ok-hex.field-0.hex; depth = c.in_ok-hex.field-0.depth; files = texts c.in_ok-hex.field-0.files.items } in
     let files = ap (λ fs. Some (texts fs)) c.in_ok-files.ensures.items ∙ c.in-Some-files_behind.ensures in
     ap (option_and_then with_files)
-    (asked_is survey_app command_by c.in_ok-forms.ensures (texts c.args.words.now) c.in_ok-name.ensures.found _ _ _ _ c.in-Some.ensures h.hex h.depth h.files)
+    (asked_is survey_app command_by c.in_ok-forms.ensures (texts c.args.words.now) c.in_ok-name.ensures.found _ _ _ _ (rw c.in-Some.is at c.in_ok-command.ensures) h.hex h.depth h.files)
     ∙ asked_behind asked (ap texts c.deref.ensures.value) _ files

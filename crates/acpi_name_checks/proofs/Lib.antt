@@ -1,0 +1,4 @@
+pub mod Below
+pub mod Standing
+pub mod Firsts
+pub mod Positions

@@ -1,0 +1,35 @@
+//! What `check` prints.
+
+use acpi_body_checks::check_bodies;
+use acpi_check_ids::CheckId;
+use acpi_check_machine::{Machine, read_bodies};
+use acpi_findings::Findings;
+use acpi_module_checks::check_module;
+use acpi_name_findings::check_names;
+use acpi_object_checks::check_objects;
+use acpi_survey::Survey;
+use acpins_check_text::{CheckOptions, CheckText, check_text};
+use std::alloc::{AllocError, Global};
+
+/// What is printed of what is wrong in the tables of a survey, or probably a mistake. What is lost, refused and noticed in them
+/// is given.
+pub(crate) fn check_of(
+    alloc: Global,
+    survey: &Survey,
+    findings: &Findings,
+    is_verbose: bool,
+    ignored: &[CheckId],
+) -> Result<CheckText, AllocError> {
+    let read = read_bodies(alloc, survey)?;
+    let machine = Machine::new(alloc, survey, &read)?;
+    let mut found = Vec::new(alloc);
+    let reads = check_names(&machine, findings, &mut found)?;
+    check_bodies(&machine, &reads, &mut found)?;
+    check_module(&machine, &mut found)?;
+    check_objects(&machine, &mut found)?;
+    let options = CheckOptions {
+        is_verbose,
+        ignored,
+    };
+    check_text(alloc, &found, options)
+}
