@@ -10,7 +10,7 @@ ghost use Rattle.acpi_body.specs.steps.Reading.{declared_at, named_form, units_f
 ghost use Rattle.acpi_values.specs.steps.Cursor.{Gives, Reads, ReadsAll};
 
 use crate::counting::{BodyPlace, MethodCounting};
-use crate::locals::declare;
+use crate::locals::add_declared_paths;
 use acpi_code::{Code, field_elements};
 use acpi_name::{Name, PlaceFault, place};
 use acpi_space::TreeSpace;
@@ -166,7 +166,7 @@ fn declaration<M: MethodCounting>(
     ensures locals { IfOk result (λ t. locals.new
         ≡ locals_after (M.method counting.now) locals.old (term_view t)) }
 {
-    declare(counting.alloc(), locals, counting.method(), &decl)?;
+    add_declared_paths(counting.alloc(), locals, counting.method(), &decl)?;
     Ok(Term::Declare(Box::new(counting.alloc(), decl)?))
 }
 

@@ -32,4 +32,5 @@ pub use acpi_counts::Counts;
 pub use acpi_values::{BodyError, BodyFault, BodyReason, Counting, read_term};
 pub use body::{Body, read_body, read_terms, why};
 pub use counting::MethodCounting;
+pub use locals::add_declared_paths;
 pub use misses::{BodyMisses, OpenMiss, body_misses, body_misses_among};

@@ -61,9 +61,10 @@ fn add_units(
     Ok(())
 }
 
-/// Adds the path of each name that is declared.
+/// Adds the path of each name that a declaration in the body of a method declares to those that the lines before declare (ACPI
+/// 6.5, 20.2.5.2).
 #[inline(never)]
-pub(crate) fn declare(
+pub fn add_declared_paths(
     alloc: Global,
     locals: &mut TreeSpace<()>,
     method: &Path,

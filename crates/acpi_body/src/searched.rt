@@ -8,7 +8,7 @@ ghost use Rattle.acpi_body.specs.steps.Gathering.{after_value, after_values, aft
 
 use crate::arguments::Context;
 use crate::gathered::{Gathered, gather_search};
-use crate::locals::declare;
+use crate::locals::add_declared_paths;
 use acpi_space::{Space, TreeSpace, Wanted};
 use acpi_tree::{Decl, Object, Operand, Term};
 use std::alloc::AllocError;
@@ -145,7 +145,7 @@ fn statement<S: Space<Object>, Q: Wanted>(
         }
         Term::Declare(decl) => {
             declaration(context, locals, wanted, gathered, decl)?;
-            declare(context.alloc(), locals, context.method(), decl)
+            add_declared_paths(context.alloc(), locals, context.method(), decl)
         }
         _ => value(context, locals, wanted, gathered, term),
     }

@@ -212,7 +212,7 @@ impl<'b, 'a> Locking<'b, 'a> {
     }
 
     // Puts a finding where a mutex is held when control leaves the body, which these lines acquire or release.
-    fn tell_mutex(&self, mutex: &[MutexLine], found: &mut Vec<Finding>) -> Result<(), AllocError> {
+    fn check_mutex(&self, mutex: &[MutexLine], found: &mut Vec<Finding>) -> Result<(), AllocError> {
         let Some(first) = mutex.first() else {
             return Ok(());
         };
@@ -244,7 +244,7 @@ fn held_in(
     };
     for mutex in lines.chunk_by(|a, b| a.mutex == b.mutex) {
         if visits.take(locking.graph.len()) {
-            locking.tell_mutex(mutex, found)?;
+            locking.check_mutex(mutex, found)?;
         }
     }
     Ok(())

@@ -57,7 +57,7 @@ impl<'m, 'a> Comparing<'m, 'a> {
     }
 
     // Puts what is said of a field unit that has too few bits for a number.
-    fn tell_unit(
+    fn check_unit(
         self,
         term: &Term,
         number: u64,
@@ -84,7 +84,7 @@ impl<'m, 'a> Comparing<'m, 'a> {
     }
 
     // Puts what is said of an And whose mask leaves out bits of a number.
-    fn tell_masks(
+    fn check_masks(
         self,
         term: &Term,
         number: u64,
@@ -104,7 +104,7 @@ impl<'m, 'a> Comparing<'m, 'a> {
     }
 
     // Puts what is said of a term that is compared with another.
-    fn tell_side(
+    fn check_side(
         self,
         op: Op,
         term: &Term,
@@ -114,26 +114,26 @@ impl<'m, 'a> Comparing<'m, 'a> {
         let Some(number) = constant(other) else {
             return Ok(());
         };
-        self.tell_unit(term, number, found)?;
+        self.check_unit(term, number, found)?;
         if op == Op::LEqual {
-            self.tell_masks(term, number, found)?;
+            self.check_masks(term, number, found)?;
         }
         Ok(())
     }
 
-    fn tell_comparison(
+    fn check_comparison(
         self,
         compared: Comparison<'_>,
         found: &mut Vec<Finding>,
     ) -> Result<(), AllocError> {
-        self.tell_side(compared.op, compared.first, compared.second, found)?;
-        self.tell_side(compared.op, compared.second, compared.first, found)
+        self.check_side(compared.op, compared.first, compared.second, found)?;
+        self.check_side(compared.op, compared.second, compared.first, found)
     }
 
-    fn tell_line(self, found: &mut Vec<Finding>) -> Result<(), AllocError> {
+    fn check_line(self, found: &mut Vec<Finding>) -> Result<(), AllocError> {
         for term in &terms_on_line(self.machine.alloc, self.line.statement)? {
             if let Some(compared) = comparison_of(term) {
-                self.tell_comparison(compared, found)?;
+                self.check_comparison(compared, found)?;
             }
         }
         Ok(())
@@ -149,7 +149,7 @@ pub(crate) fn never(machine: &Machine<'_>, found: &mut Vec<Finding>) -> Result<(
                 body,
                 line,
             };
-            comparing.tell_line(found)?;
+            comparing.check_line(found)?;
         }
     }
     Ok(())

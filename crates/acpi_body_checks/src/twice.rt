@@ -68,7 +68,7 @@ impl<'b, 'a> Declaring<'b, 'a> {
     }
 
     // Puts what is said of the lines that declare one path.
-    fn tell_path(
+    fn check_path(
         &self,
         visits: &mut Visits,
         declared: &[(&Path, usize)],
@@ -104,7 +104,7 @@ pub(crate) fn twice(machine: &Machine<'_>, found: &mut Vec<Finding>) -> Result<(
             let declaring = Declaring::new(machine.alloc, body)?;
             let declared = declaring.declared()?;
             for of_path in declared.chunk_by(|a, b| a.0 == b.0) {
-                declaring.tell_path(&mut visits, of_path, found)?;
+                declaring.check_path(&mut visits, of_path, found)?;
             }
         }
     }

@@ -7,7 +7,7 @@
 //! ```text
 //! let read = read_bodies(alloc, &survey)?;
 //! let machine = Machine::new(alloc, &survey, &read)?;
-//! let value = machine.value_at(&path);                    // the constant that a Name has, or that a method returns
+//! let value = machine.value_below(&device, *b"_UID");     // the constant that a Name has, or that a method returns
 //! let device = machine.devices();                         // those without a condition
 //! if let Some(found) = machine.found_by(body, line, name) { .. }     // the only object that a name may find
 //! put_finding(&mut found, CheckId::SameId, &object, None, text)?;
@@ -20,6 +20,7 @@ mod lines;
 mod machine;
 mod module_level;
 mod terms;
+mod tree;
 mod values;
 
 pub use acpi_check_ids::{CheckId, Level};

@@ -2,6 +2,7 @@
 
 use crate::bodies::{Body, ReadBody};
 use crate::lines::LineName;
+use crate::tree::ObjectTree;
 use acpi_conditions::{Candidates, Seen, SeenAlong};
 use acpi_facts::objects_of;
 use acpi_kinds::ObjectKind;
@@ -22,6 +23,9 @@ pub struct Machine<'a> {
     pub objects: Vec<Object<'a>>,
     /// The bodies of its methods that can be read, by the numbers of their entries.
     pub bodies: Vec<Body<'a>>,
+    /// Which entries mean a method.
+    pub callables: Callables,
+    tree: ObjectTree,
 }
 
 /// The only object that a name may find.
@@ -47,21 +51,17 @@ fn bodies_of<'a>(
     alloc: Global,
     survey: &'a Survey,
     objects: &[Object<'a>],
+    tree: &ObjectTree,
+    callables: &Callables,
     read: &'a [ReadBody],
 ) -> Result<Vec<Body<'a>>, AllocError> {
-    let callables = Callables::new(survey)?;
-    let mut places: Vec<(usize, usize)> = Vec::new(alloc);
-    for i in 0..objects.len() {
-        places.push((objects[i].number, i))?;
-    }
-    places.sort_unstable();
     let mut bodies = Vec::new(alloc);
     for body in read {
-        let Some((_, place)) = places.get(body.method) else {
+        let Some(place) = tree.place(body.method) else {
             continue;
         };
-        if let Some(object) = objects.get(*place) {
-            bodies.push(Body::new(survey, &callables, *object, &body.terms)?)?;
+        if let Some(object) = objects.get(place) {
+            bodies.push(Body::new(survey, callables, *object, &body.terms)?)?;
         }
     }
     Ok(bodies)
@@ -85,6 +85,13 @@ impl<'m, 'a> FoundObject<'m, 'a> {
     }
 }
 
+/// The first of objects that a table declares without a condition.
+pub(crate) fn first_fixed<'o, 'a>(objects: &'o [Object<'a>]) -> Option<&'o Object<'a>> {
+    objects
+        .iter()
+        .find(|o| o.site.is_some() && !o.is_conditional)
+}
+
 impl<'a> Machine<'a> {
     /// The machine of a survey, whose bodies are these.
     pub fn new(
@@ -93,12 +100,16 @@ impl<'a> Machine<'a> {
         read: &'a [ReadBody],
     ) -> Result<Machine<'a>, AllocError> {
         let objects = objects_of(alloc, survey)?;
-        let bodies = bodies_of(alloc, survey, &objects, read)?;
+        let tree = ObjectTree::new(alloc, &objects)?;
+        let callables = Callables::new(survey)?;
+        let bodies = bodies_of(alloc, survey, &objects, &tree, &callables, read)?;
         Ok(Machine {
             alloc,
             survey,
             objects,
             bodies,
+            callables,
+            tree,
         })
     }
 
@@ -107,17 +118,22 @@ impl<'a> Machine<'a> {
         objects_at(&self.objects, path)
     }
 
-    /// Whether something may be declared below a path by that name.
-    pub fn has(&self, path: &Path, segment: [u8; 4]) -> Result<bool, AllocError> {
-        let child = child_of(path, segment)?;
-        Ok(!self.at(&child).is_empty())
+    /// The objects of that name that stand directly in an object of the machine.
+    pub fn below(&self, object: &Object<'a>, name: [u8; 4]) -> &[Object<'a>] {
+        match Seg::new(name) {
+            Some(segment) => self.tree.children(&self.objects, object, segment),
+            None => &self.objects[..0],
+        }
+    }
+
+    /// Whether something of that name may be declared directly in an object of the machine.
+    pub fn has(&self, object: &Object<'a>, name: [u8; 4]) -> bool {
+        !self.below(object, name).is_empty()
     }
 
     /// The first object at a path that a table declares without a condition.
     pub fn fixed(&self, path: &Path) -> Option<&Object<'a>> {
-        self.at(path)
-            .iter()
-            .find(|o| o.site.is_some() && !o.is_conditional)
+        first_fixed(self.at(path))
     }
 
     /// The devices without a condition, by path.

@@ -1,9 +1,8 @@
 //! Values that are constants.
 
-use crate::machine::{Machine, child_of};
+use crate::machine::{Machine, first_fixed};
 use crate::terms::{constant, is_data, package_of};
 use acpi_kinds::ObjectKind;
-use acpi_name::Path;
 use acpi_overview::Object;
 use acpi_tree::{Op, Operand, Term};
 use std::alloc::{AllocError, Global};
@@ -69,28 +68,22 @@ impl<'a> Machine<'a> {
         }
     }
 
-    /// The value of the first object at a path that a table declares without a condition.
-    pub fn value_at(&self, path: &Path) -> Option<&'a Term> {
-        self.value_of(self.fixed(path)?)
-    }
-
-    /// The value of what stands below a path by that name.
-    pub fn value_below(
-        &self,
-        path: &Path,
-        segment: [u8; 4],
-    ) -> Result<Option<&'a Term>, AllocError> {
-        let child = child_of(path, segment)?;
-        Ok(self.value_at(&child))
+    /// The value of the first object of that name directly in an object that a table declares without a condition.
+    pub fn value_below(&self, object: &Object<'a>, name: [u8; 4]) -> Option<&'a Term> {
+        self.value_of(first_fixed(self.below(object, name))?)
     }
 
     /// The ids that `_HID` or `_CID` of a device are, as texts: nothing where they aren't constant.
-    pub fn ids(&self, path: &Path, segment: [u8; 4]) -> Result<Option<Vec<Vec<u8>>>, AllocError> {
+    pub fn ids(
+        &self,
+        device: &Object<'a>,
+        name: [u8; 4],
+    ) -> Result<Option<Vec<Vec<u8>>>, AllocError> {
         let mut ids = Vec::new(self.alloc);
-        if !self.has(path, segment)? {
+        if !self.has(device, name) {
             return Ok(Some(ids));
         }
-        let Some(value) = self.value_below(path, segment)? else {
+        let Some(value) = self.value_below(device, name) else {
             return Ok(None);
         };
         for term in package_of(value).unwrap_or(from_ref(value)) {
@@ -102,8 +95,8 @@ impl<'a> Machine<'a> {
     }
 
     /// The first id that `_HID` of a device is, as text (ACPI 6.5, 6.1.5).
-    pub fn hid(&self, path: &Path) -> Result<Option<Vec<u8>>, AllocError> {
-        let Some(ids) = self.ids(path, *b"_HID")? else {
+    pub fn hid(&self, device: &Object<'a>) -> Result<Option<Vec<u8>>, AllocError> {
+        let Some(ids) = self.ids(device, *b"_HID")? else {
             return Ok(None);
         };
         Ok(ids.into_iter().next())

@@ -15,7 +15,6 @@
 
 mod body_names;
 mod callables;
-mod declared_paths;
 mod declaring;
 pub mod laws;
 mod lines;

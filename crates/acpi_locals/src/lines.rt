@@ -4,8 +4,8 @@ ghost use Rattle.std.specs.Prelude.{◌≡◌, OnOk};
 ghost use Rattle.acpi_tree.specs.TermView.{term_view};
 ghost use Rattle.acpi_locals.specs.Lines.{declared_behind};
 
-use crate::declared_paths::declare;
 use crate::method::Method;
+use acpi_body::add_declared_paths;
 use acpi_space::TreeSpace;
 use acpi_tree::Term;
 use std::alloc::AllocError;
@@ -28,7 +28,7 @@ pub(crate) fn declare_line(
         ≡ declared_behind method.now.path declared.old (term_view statement.now)) }
 {
     match statement {
-        Term::Declare(decl) => declare(method.alloc(), declared, method.path(), decl),
+        Term::Declare(decl) => add_declared_paths(method.alloc(), declared, method.path(), decl),
         _ => Ok(()),
     }
 }

@@ -6,7 +6,6 @@ use acpi_check_machine::{
 };
 use acpi_conditions::copy_paths;
 use acpi_facts::plain_site;
-use acpi_locals::Callables;
 use acpi_module_uses::{ModuleName, names_of_table};
 use acpi_name::Path;
 use acpi_outline::{Fixed, Node, Plain};
@@ -74,11 +73,10 @@ fn names_at<'n, 'a>(names: &'n [ModuleName<'a>], place: u128) -> &'n [ModuleName
 fn in_table<'a>(
     machine: &Machine<'a>,
     index: &PlaceIndex<'a>,
-    callables: &Callables,
     table: usize,
     found: &mut Vec<Finding>,
 ) -> Result<(), AllocError> {
-    let names = names_of_table(machine.survey, index, callables, table)?;
+    let names = names_of_table(machine.survey, index, &machine.callables, table)?;
     for module in &module_terms(machine.survey, index, table)? {
         if let Some((term, is_predicate)) = asked(module.what) {
             let names = names_in_root(machine.alloc, names_at(&names, module.place))?;
@@ -93,9 +91,8 @@ fn in_table<'a>(
 /// Strings that `_OSI` is asked for and that no system knows, and tests of `_REV` (ACPI 6.5, 5.7.2 and 5.7.4).
 pub(crate) fn questions(machine: &Machine<'_>, found: &mut Vec<Finding>) -> Result<(), AllocError> {
     let index = index_of(machine.survey)?;
-    let callables = Callables::new(machine.survey)?;
     for table in 0..machine.survey.tables.len() {
-        in_table(machine, &index, &callables, table, found)?;
+        in_table(machine, &index, table, found)?;
     }
     Ok(())
 }

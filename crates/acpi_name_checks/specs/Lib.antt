@@ -4,4 +4,5 @@ pub mod NoNames
 pub mod Serialized
 pub mod NoLinks
 pub mod NoElements
+pub mod Views
 pub mod steps

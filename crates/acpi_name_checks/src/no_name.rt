@@ -5,7 +5,8 @@ ghost use Rattle.acpi_tree.specs.TermView.{terms_tree};
 ghost use Rattle.acpi_uses.specs.steps.GuardWalks.{found_by};
 ghost use Rattle.acpi_locals.specs.LocalViews.{name_view, name_views};
 ghost use Rattle.acpi_name_checks.specs.NoNames.{is_lost, is_needed, is_unfound, names_nowhere as names_of, no_name_of};
-ghost use Rattle.acpi_name_checks.specs.steps.Adding.{is_among, no_name_views, with_name_if};
+ghost use Rattle.acpi_name_checks.specs.Views.{no_name_views};
+ghost use Rattle.acpi_name_checks.specs.steps.Adding.{is_among, with_name_if};
 
 use crate::guards::Guards;
 use acpi_locals::BodyName;

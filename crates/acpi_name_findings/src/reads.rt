@@ -4,7 +4,6 @@ use acpi_check_machine::{
     CheckId, Finding, Machine, ModuleTerm, module_path, module_terms, put_finding, put_finding_at,
 };
 use acpi_facts::plain_site;
-use acpi_locals::Callables;
 use acpi_method_reads::{MethodRead, has_return, reads_of_names, reads_of_table};
 use acpi_name::Path;
 use acpi_ranges::{PlaceIndex, index_of, site_of};
@@ -16,7 +15,6 @@ use text_buffer::Text;
 #[derive(Drop)]
 struct Search<'m, 'a> {
     machine: &'m Machine<'a>,
-    callables: Callables,
     without: Vec<usize>,
     read: Vec<usize>,
 }
@@ -49,7 +47,7 @@ impl<'m, 'a> Search<'m, 'a> {
     fn in_bodies(&mut self, found: &mut Vec<Finding>) -> Result<(), AllocError> {
         let machine = self.machine;
         for body in &machine.bodies {
-            for read in &reads_of_names(machine.survey, &self.callables, &body.names)? {
+            for read in &reads_of_names(machine.survey, &machine.callables, &body.names)? {
                 self.read.push(read.method)?;
                 if let Some(text) = self.text_of(read) {
                     let line = usize::try_from(read.place).ok();
@@ -82,12 +80,12 @@ impl<'m, 'a> Search<'m, 'a> {
         table: usize,
         found: &mut Vec<Finding>,
     ) -> Result<(), AllocError> {
-        let survey = self.machine.survey;
-        let reads = reads_of_table(survey, index, &self.callables, table)?;
+        let machine = self.machine;
+        let reads = reads_of_table(machine.survey, index, &machine.callables, table)?;
         if reads.is_empty() {
             return Ok(());
         }
-        let terms = module_terms(survey, index, table)?;
+        let terms = module_terms(machine.survey, index, table)?;
         for read in &reads {
             self.read.push(read.method)?;
             self.put_module_read(&terms, read, found)?;
@@ -104,7 +102,6 @@ pub(crate) fn no_value(
 ) -> Result<Vec<usize>, AllocError> {
     let mut search = Search {
         machine,
-        callables: Callables::new(machine.survey)?,
         without: without_return(machine)?,
         read: Vec::new(machine.alloc),
     };

@@ -67,17 +67,18 @@ fn has_controller(ids: &[Vec<u8>]) -> bool {
     ids.iter().any(|id| matches!(id.as_slice(), b"PNP0C09" | b"ACPI0001" | b"ACPI0005"))
 }
 
-// Whether a device of constant ids is no embedded controller.
+// Whether what stands at a path is no device, or a device of constant ids that are those of no embedded controller.
 fn is_no_controller(machine: &Machine<'_>, path: &Path) -> Result<bool, AllocError> {
-    let hids = machine.ids(path, *b"_HID")?;
-    let cids = machine.ids(path, *b"_CID")?;
+    let objects = machine.at(path);
+    let Some(first) = objects.first() else {
+        return Ok(true);
+    };
+    let hids = machine.ids(first, *b"_HID")?;
+    let cids = machine.ids(first, *b"_CID")?;
     let (Some(hids), Some(cids)) = (hids, cids) else {
         return Ok(false);
     };
-    let is_device = machine
-        .at(path)
-        .iter()
-        .any(|o| matches!(o.kind, ObjectKind::Device));
+    let is_device = objects.iter().any(|o| matches!(o.kind, ObjectKind::Device));
     Ok(!is_device || !has_controller(&hids) && !has_controller(&cids))
 }
 

@@ -3,23 +3,18 @@
 use crate::classes::{ACTIVE_NEEDS, DEVICE_NEEDS, Need, PASSIVE_NEEDS, POWER_NEEDS, ZONE_NEEDS};
 use acpi_check_machine::{CheckId, Finding, Machine, put_finding};
 use acpi_kinds::ObjectKind;
-use acpi_name::Path;
 use acpi_overview::Object;
 use std::alloc::{AllocError, Global};
 use text_buffer::Text;
 
-// Whether one of these objects may be declared below a path.
-fn has_one(
-    machine: &Machine<'_>,
-    path: &Path,
-    names: &[&'static [u8; 4]],
-) -> Result<bool, AllocError> {
+// Whether one of these names may be declared in an object.
+fn has_one<'a>(machine: &Machine<'a>, object: &Object<'a>, names: &[&'static [u8; 4]]) -> bool {
     for name in names {
-        if machine.has(path, **name)? {
-            return Ok(true);
+        if machine.has(object, **name) {
+            return true;
         }
     }
-    Ok(false)
+    false
 }
 
 // `PNP0C0A without _BIF or _BIX`.
@@ -36,13 +31,13 @@ fn text_of(alloc: Global, need: &Need) -> Text {
 }
 
 // Puts a finding of an object that lacks what it needs.
-fn check_need(
-    machine: &Machine<'_>,
-    object: &Object<'_>,
+fn check_need<'a>(
+    machine: &Machine<'a>,
+    object: &Object<'a>,
     need: &Need,
     found: &mut Vec<Finding>,
 ) -> Result<(), AllocError> {
-    if has_one(machine, object.path, need.1)? {
+    if has_one(machine, object, need.1) {
         return Ok(());
     }
     put_finding(
@@ -54,9 +49,9 @@ fn check_need(
     )
 }
 
-fn check_needs(
-    machine: &Machine<'_>,
-    object: &Object<'_>,
+fn check_needs<'a>(
+    machine: &Machine<'a>,
+    object: &Object<'a>,
     needs: &[Need],
     found: &mut Vec<Finding>,
 ) -> Result<(), AllocError> {
@@ -72,10 +67,10 @@ fn are_alike(one: &Need, other: &Need) -> bool {
 }
 
 // The ids of a device, those of `_HID` first.
-fn ids_of(machine: &Machine<'_>, path: &Path) -> Result<Vec<Vec<u8>>, AllocError> {
+fn ids_of<'a>(machine: &Machine<'a>, device: &Object<'a>) -> Result<Vec<Vec<u8>>, AllocError> {
     let mut ids = Vec::new(machine.alloc);
     for segment in [*b"_HID", *b"_CID"] {
-        if let Some(found) = machine.ids(path, segment)? {
+        if let Some(found) = machine.ids(device, segment)? {
             for id in found {
                 ids.push(id)?;
             }
@@ -106,18 +101,18 @@ fn needs_of(alloc: Global, ids: &[Vec<u8>]) -> Result<Vec<Need>, AllocError> {
     Ok(needs)
 }
 
-fn check_zone(
-    machine: &Machine<'_>,
-    zone: &Object<'_>,
+fn check_zone<'a>(
+    machine: &Machine<'a>,
+    zone: &Object<'a>,
     found: &mut Vec<Finding>,
 ) -> Result<(), AllocError> {
     check_needs(machine, zone, &ZONE_NEEDS, found)?;
-    if machine.has(zone.path, *b"_PSV")? {
+    if machine.has(zone, *b"_PSV") {
         check_needs(machine, zone, &PASSIVE_NEEDS, found)?;
     }
     for need in &ACTIVE_NEEDS {
         if let [limit] = need.0.as_bytes().as_chunks::<4>().0 {
-            if machine.has(zone.path, *limit)? {
+            if machine.has(zone, *limit) {
                 check_need(machine, zone, need, found)?;
             }
         }
@@ -133,7 +128,7 @@ pub(crate) fn lacks(machine: &Machine<'_>, found: &mut Vec<Finding>) -> Result<(
         }
         match object.kind {
             ObjectKind::Device => {
-                let ids = ids_of(machine, object.path)?;
+                let ids = ids_of(machine, object)?;
                 let needs = needs_of(machine.alloc, &ids)?;
                 check_needs(machine, object, &needs, found)?;
             }

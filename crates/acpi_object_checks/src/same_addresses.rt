@@ -32,12 +32,11 @@ fn text_of(alloc: Global, address: u64, first: &Path) -> Text {
 }
 
 // The address of a device without a `_HID`.
-fn address_of(machine: &Machine<'_>, path: &Path) -> Result<Option<u64>, AllocError> {
-    if machine.has(path, *b"_HID")? {
-        return Ok(None);
+fn address_of<'a>(machine: &Machine<'a>, device: &Object<'a>) -> Option<u64> {
+    if machine.has(device, *b"_HID") {
+        return None;
     }
-    let value = machine.value_below(path, *b"_ADR")?;
-    Ok(value.and_then(|v| constant(v)))
+    constant(machine.value_below(device, *b"_ADR")?)
 }
 
 // Puts a finding of a device, where one before has its address.
@@ -47,7 +46,7 @@ fn check<'a>(
     seen: &mut BTreeMap<Vec<u8>, &'a Path>,
     found: &mut Vec<Finding>,
 ) -> Result<(), AllocError> {
-    let Some(address) = address_of(machine, device.path)? else {
+    let Some(address) = address_of(machine, device) else {
         return Ok(());
     };
     let key = key_of(machine.alloc, device.path, address)?;

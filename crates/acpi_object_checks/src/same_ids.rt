@@ -39,17 +39,17 @@ fn uid_text(alloc: Global, value: &Term) -> Result<Option<Vec<u8>>, AllocError> 
 }
 
 // The ids of a device, where they are constants.
-fn ids_of(machine: &Machine<'_>, path: &Path) -> Result<Option<Ids>, AllocError> {
-    let Some(hid) = machine.hid(path)? else {
+fn ids_of<'a>(machine: &Machine<'a>, device: &Object<'a>) -> Result<Option<Ids>, AllocError> {
+    let Some(hid) = machine.hid(device)? else {
         return Ok(None);
     };
     if is_shared(&hid) {
         return Ok(None);
     }
-    if !machine.has(path, *b"_UID")? {
+    if !machine.has(device, *b"_UID") {
         return Ok(Some(Ids { hid, uid: None }));
     }
-    let Some(value) = machine.value_below(path, *b"_UID")? else {
+    let Some(value) = machine.value_below(device, *b"_UID") else {
         return Ok(None);
     };
     match uid_text(machine.alloc, value)? {
@@ -96,7 +96,7 @@ fn check<'a>(
     seen: &mut BTreeMap<Vec<u8>, &'a Path>,
     found: &mut Vec<Finding>,
 ) -> Result<(), AllocError> {
-    let Some(ids) = ids_of(machine, device.path)? else {
+    let Some(ids) = ids_of(machine, device)? else {
         return Ok(());
     };
     let key = key_of(machine.alloc, &ids)?;

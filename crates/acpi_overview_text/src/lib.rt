@@ -14,7 +14,9 @@ mod region_words;
 mod rows;
 mod words;
 
-pub use device_words::{put_id, put_status};
+pub use descriptors::put_descriptor;
+pub use device_words::{put_address, put_id, put_mark, put_status, what_of};
+pub use expressions::put_expression;
 pub use heads::{put_first, put_table, put_totals};
 pub use lint_words::{put_lint, put_site};
 pub use region_words::{
@@ -23,6 +25,6 @@ pub use region_words::{
 };
 pub use rows::{Row, Rows};
 pub use words::{
-    is_empty, length_of, put_between, put_code_size, put_count, put_counted, put_hex, put_last,
-    put_path_around, put_short_path,
+    is_empty, length_of, put_between, put_code_size, put_count, put_counted, put_escaped, put_hex,
+    put_last, put_path_around, put_short_path,
 };

@@ -104,12 +104,12 @@ abbrev pub value_lines : Value → List ℕ
 value_lines (array vs) = array_lines vs
 value_lines v = value_text v
 
--- members, each of which begins a line, up to the closing brace
+-- members, each of which begins a line
 abbrev pub members_lines : (is_first : Bool) → Members → List ℕ
-members_lines is_first no_members = codes "\n}\n"
+members_lines is_first no_members = []
 members_lines is_first (member name v ms) =
     line_start is_first ++ (name_start name ++ (value_lines v ++ members_lines false ms))
 
--- an object whose members begin lines, and so do the elements of their arrays
-abbrev pub object_lines : Members → List ℕ
-object_lines ms = codes "{" ++ members_lines true ms
+-- an object whose members begin lines, and so do the elements of their arrays, without its end
+abbrev pub object_front : Members → List ℕ
+object_front ms = codes "{" ++ members_lines true ms

@@ -2,6 +2,7 @@ pub mod Json
 pub mod JsonValues
 pub mod JsonObjects
 pub mod JsonFound
+pub mod JsonConditions
 pub mod JsonEntries
 pub mod JsonBodies
 pub mod JsonTables

@@ -2,29 +2,28 @@
 
 ghost use Rattle.std.specs.Prelude.{◌≡◌, ◌++◌, ℕ, Option, Some, None, OnOk, codes};
 ghost use Rattle.std.specs.Option.{option_map};
-ghost use Rattle.acpi_tree.specs.TermView.{term_view};
-ghost use Rattle.acpi_entries.specs.ConditionViews.{link_view, link_views, literal_view, placed_view, placed_views};
-ghost use Rattle.acpi_survey.specs.SurveyOrder.{AllTile};
-ghost use Rattle.acpi_ranges.specs.Lookup.{Found, found_of};
+ghost use Rattle.acpi_condition_list.specs.ConditionLists.{conditioned_view};
+ghost use Rattle.acpi_entries.specs.ConditionViews.{link_view, link_views};
 ghost use Rattle.acpi_survey.specs.SurveyOrder.{IsInOrder};
-ghost use Rattle.acpins_survey_json.specs.Json.{Members, array, array_lines, member, more_members_text, object, value_text, values_of};
-ghost use Rattle.acpins_survey_json.specs.JsonEntries.{entry_value, link_value, literal_members, literal_value, named_members, place_of, term_members, test_members};
-ghost use Rattle.acpins_survey_json.specs.JsonValues.{name_value, path_value};
-ghost use Rattle.acpins_survey_reasons.specs.Numbered.{condition_of, links_of, part_of};
+ghost use Rattle.acpi_ranges.specs.Lookup.{Found, found_of};
+ghost use Rattle.acpins_survey_json.specs.Json.{Members, array, array_lines, member, more_members_text, value_text, values_of};
+ghost use Rattle.acpins_survey_json.specs.JsonEntries.{entry_value, link_value, place_of, term_members};
+ghost use Rattle.acpins_survey_json.specs.JsonValues.{number_value, value_or_null};
+ghost use Rattle.acpins_survey_json.specs.steps.JsonPuts.{PutsMembers};
+ghost use Rattle.acpins_survey_reasons.specs.Numbered.{links_of, part_of};
 
 use crate::found::put_site;
 use crate::members::{
     put_boolean_member, put_member, put_name_member, put_number_member, put_path_member,
-    put_paths_member, put_some_term_member, put_word_member,
+    put_paths_member, put_some_number_member,
 };
 use crate::objects::put_object;
 use crate::values::{put_element_start, put_line_start, put_lines_end};
-use acpi_entries::{Link, Literal, PlacedLiteral, condition_of, links_in};
-use acpi_name::{Name, Path};
+use acpi_condition_list::ConditionedEntry;
+use acpi_entries::{Link, links_in};
 use acpi_objects::object_kind;
 use acpi_ranges::{Span, part_of, site_of};
 use acpi_survey::Survey;
-use acpi_tree::Term;
 use std::alloc::AllocError;
 use text_buffer::Text;
 
@@ -39,7 +38,7 @@ fn put_link(text: &mut Text, link: &Link<'_>)
     text.put("}")
 }
 
-fn put_links(text: &mut Text, links: &[Link<'_>])
+fn put_link_list(text: &mut Text, links: &[Link<'_>])
     ensures { text.new
         ≡ text.old ++ value_text (array (values_of link_value (link_views links.now))) }
 {
@@ -53,74 +52,13 @@ fn put_links(text: &mut Text, links: &[Link<'_>])
     text.put("]")
 }
 
-// ---- conditions
-
-// Puts a brace, the word of a literal, and a predicate, which may be lost.
-fn put_test(text: &mut Text, literal: &str, test: Option<&Term>)
-    ensures { (ms : Members) → text.new ++ more_members_text ms
-        ≡ text.old ++ value_text (object (test_members literal.now
-        (option_map (λ t. term_view t.now) test.entry) ms)) }
+/// Puts a member that is where names may be found, behind others.
+pub fn put_links(text: &mut Text, links: &[Link<'_>])
+    ensures { PutsMembers (member (codes "links") (array (values_of link_value (link_views links.now))))
+        text.old text.new }
 {
-    put_word_member(text, "{", "literal", literal);
-    put_some_term_member(text, ",", "test", test)
-}
-
-// Puts a brace, the word of a literal, and a path.
-fn put_pathed(text: &mut Text, literal: &str, path: &Path)
-    ensures { (ms : Members) → text.new ++ more_members_text ms
-        ≡ text.old ++ value_text (object (named_members literal.now (codes "path")
-        (path_value path.now) ms)) }
-{
-    put_word_member(text, "{", "literal", literal);
-    put_path_member(text, ",", "path", path)
-}
-
-// Puts a brace, the word of a literal, and a name.
-fn put_needs(text: &mut Text, name: &Name)
-    ensures { (ms : Members) → text.new ++ more_members_text ms
-        ≡ text.old ++ value_text (object (named_members (codes "needs") (codes "name")
-        (name_value name.now) ms)) }
-{
-    put_word_member(text, "{", "literal", "needs");
-    put_name_member(text, ",", "name", name)
-}
-
-// Puts a brace, and what a literal says.
-fn put_said(text: &mut Text, literal: &Literal<'_>)
-    ensures { (ms : Members) → text.new ++ more_members_text ms
-        ≡ text.old ++ value_text (object (literal_members (literal_view literal.now) ms)) }
-{
-    match literal {
-        Literal::If(test) => put_test(text, "if", *test),
-        Literal::Not(test) => put_test(text, "not", *test),
-        Literal::While(test) => put_test(text, "while", *test),
-        Literal::Past => put_word_member(text, "{", "literal", "past"),
-        Literal::Has(path) => put_pathed(text, "has", path),
-        Literal::No(path) => put_pathed(text, "no", path),
-        Literal::Needs(name) => put_needs(text, name),
-    }
-}
-
-fn put_literal(text: &mut Text, placed: &PlacedLiteral<'_>)
-    ensures { text.new ≡ text.old ++ value_text (literal_value (placed_view placed.now)) }
-{
-    put_said(text, &placed.literal);
-    put_site(text, placed.site);
-    text.put("}")
-}
-
-fn put_condition(text: &mut Text, condition: &[PlacedLiteral<'_>])
-    ensures { text.new ≡ text.old
-        ++ value_text (array (values_of literal_value (placed_views condition.now))) }
-{
-    text.put("[");
-    let mut is_first = true;
-    for literal in condition {
-        put_element_start(text, is_first);
-        put_literal(text, literal);
-        is_first = false;
-    }
-    text.put("]")
+    put_member(text, ",", "links");
+    put_link_list(text, links)
 }
 
 // ---- entries
@@ -167,40 +105,41 @@ fn put_term_place(text: &mut Text, survey: &Survey, number: usize, part: Option<
     }
 }
 
-// Puts the members of the links and the condition of the entry of that number, whose term is this part, behind others.
+// Puts the members of the links of the entry of that number, whose term is this part, and of the last literal of its
+// condition, behind others.
 fn put_lists(
     text: &mut Text,
     survey: &Survey,
-    number: usize,
+    entry: &ConditionedEntry<'_>,
     part: Option<Span<'_>>,
 ) -> Result<(), AllocError>
     ensures { IsInOrder survey.now → option_map found_of part.entry
-        ≡ option_map Some (part_of survey.now number)
+        ≡ option_map Some (part_of survey.now entry.now.number)
         → OnOk result ((ms : Members) → text.new
         ++ more_members_text ms ≡ text.old ++ more_members_text
-        (member (codes "links") (array (values_of link_value (links_of survey.now number)))
-        (member (codes "condition")
-        (array (values_of literal_value (condition_of survey.now number))) ms))) }
+        (member (codes "links") (array (values_of link_value (links_of survey.now entry.now.number)))
+        (member (codes "condition") (value_or_null number_value entry.now.condition) ms))) }
 {
-    let links = links_in(survey, number, part)?;
-    let condition = condition_of(survey, number)?;
-    put_member(text, ",", "links");
+    let links = links_in(survey, entry.number, part)?;
     put_links(text, &links);
-    put_member(text, ",", "condition");
-    put_condition(text, &condition);
+    put_some_number_member(text, ",", "condition", entry.condition);
     Ok(())
 }
 
-fn put_entry(text: &mut Text, survey: &Survey, path: &Path, number: usize) -> Result<(), AllocError>
+fn put_entry(
+    text: &mut Text,
+    survey: &Survey,
+    entry: &ConditionedEntry<'_>,
+) -> Result<(), AllocError>
     ensures { IsInOrder survey.now → OnOk result (text.new
-        ≡ text.old ++ value_text (entry_value survey.now path.now number)) }
+        ≡ text.old ++ value_text (entry_value survey.now (conditioned_view entry.now))) }
 {
-    let part = part_of(survey, number);
-    let kind = object_kind(part, number);
-    put_path_member(text, "{", "path", path);
+    let part = part_of(survey, entry.number);
+    let kind = object_kind(part, entry.number);
+    put_path_member(text, "{", "path", entry.path);
     put_object(text, &kind);
-    put_lists(text, survey, number, part)?;
-    put_term_place(text, survey, number, part);
+    put_lists(text, survey, entry, part)?;
+    put_term_place(text, survey, entry.number, part);
     Ok(())
 }
 
@@ -208,16 +147,16 @@ fn put_entry(text: &mut Text, survey: &Survey, path: &Path, number: usize) -> Re
 pub(crate) fn put_entries(
     text: &mut Text,
     survey: &Survey,
-    order: &[(&Path, usize)],
+    entries: &[ConditionedEntry<'_>],
 ) -> Result<(), AllocError>
     ensures { IsInOrder survey.now → OnOk result (text.new ≡ text.old ++ array_lines
-        (values_of (λ x. entry_value survey.now x.0.now x.1) order.now)) }
+        (values_of (λ e. entry_value survey.now (conditioned_view e)) entries.now)) }
 {
     text.put("[");
     let mut is_first = true;
-    for numbered in order {
+    for entry in entries {
         put_line_start(text, is_first);
-        put_entry(text, survey, numbered.0, numbered.1)?;
+        put_entry(text, survey, entry)?;
         is_first = false;
     }
     put_lines_end(text, is_first);

@@ -19,7 +19,7 @@ use acpins_survey_reasons::{note_name, noted_name, problem_name, problem_paths};
 use text_buffer::Text;
 
 /// Puts the members that say where something stands, behind others.
-pub(crate) fn put_site(text: &mut Text, site: Site)
+pub fn put_site(text: &mut Text, site: Site)
     ensures { PutsMembers (site_members site) text.old text.new }
 {
     put_number_member(text, ",", "table", site.table as u64);

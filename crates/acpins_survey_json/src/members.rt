@@ -9,14 +9,14 @@ ghost use Rattle.acpins_survey_json.specs.steps.JsonPuts.{PutsMember};
 
 use crate::values::{
     put_boolean, put_form, put_name_text, put_number, put_path_text, put_path_texts, put_some_name,
-    put_some_path, put_some_term, put_some_value, put_value, put_word,
+    put_some_number, put_some_path, put_some_term, put_some_value, put_text, put_value, put_word,
 };
 use acpi_name::{Name, Path};
 use acpi_tree::Term;
 use text_buffer::Text;
 
 /// Puts a brace before the first member of an object, or a comma before another one, and its name between quotes.
-pub(crate) fn put_member(text: &mut Text, start: &str, name: &str)
+pub fn put_member(text: &mut Text, start: &str, name: &str)
     ensures { text.new ≡ text.old ++ (start.now ++ name_start name.now) }
 {
     text.put(start);
@@ -26,7 +26,7 @@ pub(crate) fn put_member(text: &mut Text, start: &str, name: &str)
 }
 
 /// Puts a member that is a number.
-pub(crate) fn put_number_member(text: &mut Text, start: &str, name: &str, n: u64)
+pub fn put_number_member(text: &mut Text, start: &str, name: &str, n: u64)
     ensures { PutsMember start.now name.now (number_value n)
         text.old text.new }
 {
@@ -34,8 +34,17 @@ pub(crate) fn put_number_member(text: &mut Text, start: &str, name: &str, n: u64
     put_number(text, n)
 }
 
+/// Puts a member that is a number, or null.
+pub fn put_some_number_member(text: &mut Text, start: &str, name: &str, n: Option<usize>)
+    ensures { PutsMember start.now name.now (value_or_null number_value n)
+        text.old text.new }
+{
+    put_member(text, start, name);
+    put_some_number(text, n)
+}
+
 /// Puts a member that is true or false.
-pub(crate) fn put_boolean_member(text: &mut Text, start: &str, name: &str, is_true: bool)
+pub fn put_boolean_member(text: &mut Text, start: &str, name: &str, is_true: bool)
     ensures { PutsMember start.now name.now (boolean is_true)
         text.old text.new }
 {
@@ -44,15 +53,24 @@ pub(crate) fn put_boolean_member(text: &mut Text, start: &str, name: &str, is_tr
 }
 
 /// Puts a member that is what another text says, as a text.
-pub(crate) fn put_form_member(text: &mut Text, start: &str, name: &str, form: &Text)
+pub fn put_form_member(text: &mut Text, start: &str, name: &str, form: &Text)
     ensures { PutsMember start.now name.now (string form.now) text.old text.new }
 {
     put_member(text, start, name);
     put_form(text, form)
 }
 
+/// Puts a member that is a text of these characters.
+pub fn put_text_member(text: &mut Text, start: &str, name: &str, characters: &[u8])
+    ensures { PutsMember start.now name.now (string characters.now)
+        text.old text.new }
+{
+    put_member(text, start, name);
+    put_text(text, characters)
+}
+
 /// Puts a member that is a word.
-pub(crate) fn put_word_member(text: &mut Text, start: &str, name: &str, word: &str)
+pub fn put_word_member(text: &mut Text, start: &str, name: &str, word: &str)
     ensures { PutsMember start.now name.now (string word.now)
         text.old text.new }
 {
@@ -61,7 +79,7 @@ pub(crate) fn put_word_member(text: &mut Text, start: &str, name: &str, word: &s
 }
 
 /// Puts a member that is a path.
-pub(crate) fn put_path_member(text: &mut Text, start: &str, name: &str, path: &Path)
+pub fn put_path_member(text: &mut Text, start: &str, name: &str, path: &Path)
     ensures { PutsMember start.now name.now (path_value path.now)
         text.old text.new }
 {
@@ -70,7 +88,7 @@ pub(crate) fn put_path_member(text: &mut Text, start: &str, name: &str, path: &P
 }
 
 /// Puts a member that is a path, or null.
-pub(crate) fn put_some_path_member(text: &mut Text, start: &str, name: &str, path: &Option<Path>)
+pub fn put_some_path_member(text: &mut Text, start: &str, name: &str, path: &Option<Path>)
     ensures { PutsMember start.now name.now (value_or_null path_value path.now)
         text.old text.new }
 {
@@ -79,7 +97,7 @@ pub(crate) fn put_some_path_member(text: &mut Text, start: &str, name: &str, pat
 }
 
 /// Puts a member that is paths.
-pub(crate) fn put_paths_member(text: &mut Text, start: &str, name: &str, paths: &[Path])
+pub fn put_paths_member(text: &mut Text, start: &str, name: &str, paths: &[Path])
     ensures { PutsMember start.now name.now (paths_value paths.now)
         text.old text.new }
 {
@@ -88,7 +106,7 @@ pub(crate) fn put_paths_member(text: &mut Text, start: &str, name: &str, paths: 
 }
 
 /// Puts a member that is a name.
-pub(crate) fn put_name_member(text: &mut Text, start: &str, name: &str, name_of: &Name)
+pub fn put_name_member(text: &mut Text, start: &str, name: &str, name_of: &Name)
     ensures { PutsMember start.now name.now (name_value name_of.now)
         text.old text.new }
 {
@@ -97,7 +115,7 @@ pub(crate) fn put_name_member(text: &mut Text, start: &str, name: &str, name_of:
 }
 
 /// Puts a member that is a name, or null.
-pub(crate) fn put_some_name_member(text: &mut Text, start: &str, name: &str, name_of: Option<&Name>)
+pub fn put_some_name_member(text: &mut Text, start: &str, name: &str, name_of: Option<&Name>)
     ensures { PutsMember start.now name.now (value_or_null name_value (option_map
         (λ n. n.now) name_of.entry))
         text.old text.new }
@@ -107,7 +125,7 @@ pub(crate) fn put_some_name_member(text: &mut Text, start: &str, name: &str, nam
 }
 
 /// Puts a member that is the value of a term.
-pub(crate) fn put_value_member(text: &mut Text, start: &str, name: &str, term: &Term)
+pub fn put_value_member(text: &mut Text, start: &str, name: &str, term: &Term)
     ensures { PutsMember start.now name.now (term_value (term_view term.now))
         text.old text.new }
 {
@@ -116,7 +134,7 @@ pub(crate) fn put_value_member(text: &mut Text, start: &str, name: &str, term: &
 }
 
 /// Puts a member that is the value of a term, or null.
-pub(crate) fn put_some_value_member(text: &mut Text, start: &str, name: &str, term: Option<&Term>)
+pub fn put_some_value_member(text: &mut Text, start: &str, name: &str, term: Option<&Term>)
     ensures { PutsMember start.now name.now (value_or_null term_value (option_map
         (λ t. term_view t.now) term.entry))
         text.old text.new }
@@ -126,7 +144,7 @@ pub(crate) fn put_some_value_member(text: &mut Text, start: &str, name: &str, te
 }
 
 /// Puts a member that is the text of a term, or null.
-pub(crate) fn put_some_term_member(text: &mut Text, start: &str, name: &str, term: Option<&Term>)
+pub fn put_some_term_member(text: &mut Text, start: &str, name: &str, term: Option<&Term>)
     ensures { PutsMember start.now name.now (value_or_null printed_term (option_map
         (λ t. term_view t.now) term.entry))
         text.old text.new }

@@ -236,7 +236,7 @@ fn put_fields(text: &mut Text, kind: &ObjectKind<'_>)
 }
 
 /// Puts the members that say what an object is, behind others.
-pub(crate) fn put_object(text: &mut Text, kind: &ObjectKind<'_>)
+pub fn put_object(text: &mut Text, kind: &ObjectKind<'_>)
     ensures { PutsMembers (kind_members (kind_view kind.now))
         text.old text.new }
 {

@@ -31,7 +31,7 @@ impl Spelling for Quoted {
 }
 
 /// Puts characters as a text.
-pub(crate) fn put_text(text: &mut Text, characters: &[u8])
+pub fn put_text(text: &mut Text, characters: &[u8])
     ensures { text.new ≡ text.old ++ value_text (string characters.now) }
 {
     text.put("\"");
@@ -40,7 +40,7 @@ pub(crate) fn put_text(text: &mut Text, characters: &[u8])
 }
 
 /// Puts what another text says as a text.
-pub(crate) fn put_form(text: &mut Text, form: &Text)
+pub fn put_form(text: &mut Text, form: &Text)
     ensures { text.new ≡ text.old ++ value_text (string form.now) }
 {
     text.put("\"");
@@ -56,7 +56,7 @@ pub(crate) fn put_word(text: &mut Text, word: &str)
 }
 
 /// Puts a number, as a text of its digits where not every program keeps it exactly.
-pub(crate) fn put_number(text: &mut Text, n: u64)
+pub fn put_number(text: &mut Text, n: u64)
     ensures { text.new ≡ text.old ++ value_text (number_value n) }
 {
     if n < FIRST_TEXT {
@@ -65,6 +65,16 @@ pub(crate) fn put_number(text: &mut Text, n: u64)
     let mut form = Text::new(text.alloc());
     put_decimal(&mut form, n);
     put_form(text, &form)
+}
+
+/// Puts a number, or null.
+pub(crate) fn put_some_number(text: &mut Text, n: Option<usize>)
+    ensures { text.new ≡ text.old ++ value_text (value_or_null number_value n) }
+{
+    match n {
+        Some(n) => put_number(text, n as u64),
+        None => text.put("null"),
+    }
 }
 
 /// Puts true or false.
@@ -79,7 +89,7 @@ pub(crate) fn put_boolean(text: &mut Text, is_true: bool)
 }
 
 /// Puts a path as a text.
-pub(crate) fn put_path_text(text: &mut Text, path: &Path)
+pub fn put_path_text(text: &mut Text, path: &Path)
     ensures { text.new ≡ text.old ++ value_text (path_value path.now) }
 {
     let mut form = Text::new(text.alloc());
@@ -195,7 +205,7 @@ pub(crate) fn put_path_texts(text: &mut Text, paths: &[Path])
 // ---- arrays
 
 /// Puts what stands before an element.
-pub(crate) fn put_element_start(text: &mut Text, is_first: bool)
+pub fn put_element_start(text: &mut Text, is_first: bool)
     ensures { text.new ≡ text.old ++ element_start is_first }
 {
     if is_first {
@@ -205,7 +215,7 @@ pub(crate) fn put_element_start(text: &mut Text, is_first: bool)
 }
 
 /// Puts what stands before an element that stands on a line of its own.
-pub(crate) fn put_line_start(text: &mut Text, is_first: bool)
+pub fn put_line_start(text: &mut Text, is_first: bool)
     ensures { text.new ≡ text.old ++ line_start is_first }
 {
     if is_first {
@@ -216,7 +226,7 @@ pub(crate) fn put_line_start(text: &mut Text, is_first: bool)
 }
 
 /// Puts what stands behind the elements of a list, each on a line of its own.
-pub(crate) fn put_lines_end(text: &mut Text, is_empty: bool)
+pub fn put_lines_end(text: &mut Text, is_empty: bool)
     ensures { text.new ≡ text.old ++ lines_end is_empty }
 {
     if is_empty {

@@ -1,5 +1,5 @@
 -- What commands print of tables.
-use Rattle.std.specs.Prelude.{◌≡◌, ◌⊎◌, ◌↔◌, ℕ, false, List, [], map, Some, None}
+use Rattle.std.specs.Prelude.{◌≡◌, ◌⊎◌, ◌↔◌, ◌++◌, ℕ, false, List, [], map, Some, None}
 use Rattle.acpi_name.specs.Names.{Segment}
 use Rattle.acpi_name.specs.Text.{SpellsPathText}
 use Rattle.acpi_body_notes.specs.LoadNotes.{AreSurveyNotes}
@@ -8,7 +8,7 @@ use Rattle.acpi_findings.specs.ProblemViews.{problem_view}
 use Rattle.acpi_survey.specs.Surveys.{IsSurvey}
 use Rattle.acpi_findings.specs.declared.findings.Findings.{Findings}
 use Rattle.acpi_survey.specs.declared.machine_survey.Survey.{Survey}
-use Rattle.acpins_survey_json.specs.JsonFrame.{IsJson}
+use Rattle.acpins_survey_json.specs.JsonFrame.{IsSurveyJson}
 use Rattle.acpins_survey_output.specs.Listings.{IsListing}
 use Rattle.acpins_survey_output.specs.Maps.{map_text}
 use Rattle.acpins_survey_output.specs.Shown.{IsBodyListing, IsShownOrNone}
@@ -22,6 +22,14 @@ use Rattle.acpins_survey_words.specs.Words.{Command, listing, showing, using, ma
 pub record AreFindings (s : Survey) (f : Findings) : Type 0 where
   pub problems : map problem_view f.problems.items ≡ problems_in s.reading s.tables.items
   pub notes : AreSurveyNotes s f.notes.items
+
+-- What `json` prints begins with all that the survey says. Behind it stand other members, of which nothing is said: what
+-- methods declare, uses of names, what checks find, devices and regions.
+pub record IsJson (s : Survey) (f : Findings) (text : List ℕ) : Type 0 where
+  pub front : List ℕ
+  pub rest : List ℕ
+  pub is : IsSurveyJson s f front
+  pub text_is : text ≡ front ++ rest
 
 -- The text that a command makes of a survey and its findings. Nothing is said of `report`, of `uses`, of `check`, and of
 -- `list` with what methods declare; of `html`, what its page is made of, in which all that comes from tables is escaped.

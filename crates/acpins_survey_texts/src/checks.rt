@@ -2,7 +2,7 @@
 
 use acpi_body_checks::check_bodies;
 use acpi_check_ids::CheckId;
-use acpi_check_machine::{Machine, read_bodies};
+use acpi_check_machine::{Finding, Machine, read_bodies};
 use acpi_findings::Findings;
 use acpi_module_checks::check_module;
 use acpi_name_findings::check_names;
@@ -10,6 +10,22 @@ use acpi_object_checks::check_objects;
 use acpi_survey::Survey;
 use acpins_check_text::{CheckOptions, CheckText, check_text};
 use std::alloc::{AllocError, Global};
+
+/// What the checks find in the tables of a survey. What is lost, refused and noticed in them is given.
+pub(crate) fn findings_of_checks(
+    alloc: Global,
+    survey: &Survey,
+    findings: &Findings,
+) -> Result<Vec<Finding>, AllocError> {
+    let read = read_bodies(alloc, survey)?;
+    let machine = Machine::new(alloc, survey, &read)?;
+    let mut found = Vec::new(alloc);
+    let reads = check_names(&machine, findings, &mut found)?;
+    check_bodies(&machine, &reads, &mut found)?;
+    check_module(&machine, &mut found)?;
+    check_objects(&machine, &mut found)?;
+    Ok(found)
+}
 
 /// What is printed of what is wrong in the tables of a survey, or probably a mistake. What is lost, refused and noticed in them
 /// is given.
@@ -20,13 +36,7 @@ pub(crate) fn check_of(
     is_verbose: bool,
     ignored: &[CheckId],
 ) -> Result<CheckText, AllocError> {
-    let read = read_bodies(alloc, survey)?;
-    let machine = Machine::new(alloc, survey, &read)?;
-    let mut found = Vec::new(alloc);
-    let reads = check_names(&machine, findings, &mut found)?;
-    check_bodies(&machine, &reads, &mut found)?;
-    check_module(&machine, &mut found)?;
-    check_objects(&machine, &mut found)?;
+    let found = findings_of_checks(alloc, survey, findings)?;
     let options = CheckOptions {
         is_verbose,
         ignored,

@@ -2,7 +2,7 @@
 //!
 //! ```text
 //! tables ── acpi_survey ──► Survey ── acpi_findings ──► Findings
-//! both ── acpins_survey_output, acpins_survey_json ──► text
+//! both ── acpins_survey_output, acpins_survey_json, acpins_json_uses, acpins_json_machine ──► text
 //!      ── acpi_check_machine ──► Machine ── acpi_*_checks ──► list of Finding ── acpins_check_text ──► text
 //!      ── acpi_facts ──► Overview ── acpins_report, acpins_page ──► text
 //! ```
@@ -11,6 +11,7 @@
 #![tactic(auto)]
 
 mod checks;
+mod json;
 mod lines;
 mod texts;
 

@@ -12,6 +12,7 @@ ghost use Rattle.acpins_survey_run.specs.declared.failure.PrintFault.{PrintFault
 ghost use Rattle.acpins_survey_texts.specs.Texts.{AreFindings, HasNothingAt, HasNothingIn, IsMade, IsTextOf, TellsProblems};
 
 use crate::checks::check_of;
+use crate::json::json_of;
 use crate::lines::lines_of;
 use acpi_body_notes::findings_of;
 use acpi_check_ids::CheckId;
@@ -23,7 +24,6 @@ use acpi_overview::overview_of;
 use acpi_survey::{Survey, survey};
 use acpins_page::{HEAD, html};
 use acpins_report::{ReportOptions, report};
-use acpins_survey_json::json;
 use acpins_survey_output::{bodies, has_problem, list, map, show};
 use acpins_survey_run::{FoundTables, Output, Print, PrintFault, Printer};
 use acpins_survey_uses::{list_with_bodies, uses};
@@ -177,7 +177,7 @@ fn output_of(
             let text = report_of(alloc, survey, findings, found, is_coloured, *is_verbose)?;
             Ok(with_status(findings, text))
         }
-        Print::Json => Ok(with_status(findings, json(alloc, survey, findings)?)),
+        Print::Json => Ok(with_status(findings, json_of(alloc, survey, findings)?)),
         Print::Html => Ok(with_status(findings, page_of(alloc, survey, findings, found)?)),
     }
 }

@@ -13,4 +13,4 @@ mod scopes;
 mod use_lines;
 
 pub use local_lines::list_with_bodies;
-pub use use_lines::uses;
+pub use use_lines::{role_text, uses};

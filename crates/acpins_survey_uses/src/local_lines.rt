@@ -1,11 +1,12 @@
 //! Entries, and the objects that bodies declare, line by line.
 
+use acpi_entries::bodies_of;
 use acpi_findings::Findings;
 use acpi_locals::LocalObject;
 use acpi_name::Path;
 use acpi_survey::Survey;
 use acpi_text::put_path;
-use acpi_use_list::{bodies_of, locals_of_machine};
+use acpi_use_list::locals_of_machine;
 use acpins_survey_output::{put_found, put_kind, put_links, put_numbered};
 use std::alloc::{AllocError, Global};
 use text_buffer::Text;

@@ -6,20 +6,20 @@ ghost use Rattle.acpins_survey_uses.specs.Nothing.{HasNothing};
 
 use crate::declared::{Declared, is_at_or_below};
 use crate::scopes::{NodeScopes, tries_below};
+use acpi_entries::bodies_of;
 use acpi_name::Path;
 use acpi_ranges::site_of;
 use acpi_survey::Survey;
 use acpi_text::{put_decimal, put_name};
 use acpi_trimmed::put_trimmed_path;
-use acpi_use_list::{
-    Use, UseRole, UseSite, bodies_of, locals_of_machine, sort_uses, uses_of_machine,
-};
+use acpi_use_list::{Use, UseRole, UseSite, locals_of_machine, sort_uses, uses_of_machine};
 use std::alloc::{AllocError, Global};
 use text_buffer::Text;
 
 // ---- the line of a use
 
-fn role_text(role: UseRole) -> &'static str {
+/// The word for a role.
+pub fn role_text(role: UseRole) -> &'static str {
     match role {
         UseRole::Call => "call",
         UseRole::Write => "write",

@@ -1,16 +1,9 @@
 -- Names that are listed once.
-use Rattle.std.specs.Prelude.{cond, List, [], ◌∷◌, ◌++◌, map, Bool}
+use Rattle.std.specs.Prelude.{cond, List, [], ◌∷◌, ◌++◌, Bool}
 use Rattle.std.specs.List.{list_any}
 use Rattle.acpi_name.specs.Names.{NameParts}
 use Rattle.acpi_name.specs.NameEqual.{name_eq}
 use Rattle.acpi_name_checks.specs.NoNames.{NoNameParts, has_same_name}
-use Rattle.acpi_name_checks.specs.declared.no_name.NoName.{NoName}
-
-abbrev pub no_name_view : NoName → NoNameParts
-no_name_view n = record { method = n.method; line = n.line; name = n.name.now }
-
-abbrev pub no_name_views : List NoName → List NoNameParts
-no_name_views ns = map no_name_view ns
 
 -- whether one of them has the name
 abbrev pub is_among : List NoNameParts → NameParts → Bool

@@ -1,5 +1,6 @@
 use Rattle.std.proofs.Common.{◌≡◌, drop}
-use Rattle.acpi_name_checks.specs.steps.Adding.{is_among, no_name_views}
+use Rattle.acpi_name_checks.specs.Views.{no_name_views}
+use Rattle.acpi_name_checks.specs.steps.Adding.{is_among}
 use Rattle.acpi_name_checks.proofs.no_name.is_among.Given as goal
 
 abbrev pub invariant-each : goal.invariant-each

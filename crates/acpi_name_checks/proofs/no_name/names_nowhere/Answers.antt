@@ -6,7 +6,8 @@ use Rattle.acpi_locals.specs.LocalViews.{name_view}
 use Rattle.acpi_uses.specs.declared.guards.GuardStep.{GuardStep}
 use Rattle.acpi_uses.specs.steps.GuardWalks.{found_by}
 use Rattle.acpi_name_checks.specs.NoNames.{NoNameParts, has_same_name, is_lost, no_name_of}
-use Rattle.acpi_name_checks.specs.steps.Adding.{no_name_views, with_name_if}
+use Rattle.acpi_name_checks.specs.Views.{no_name_views}
+use Rattle.acpi_name_checks.specs.steps.Adding.{with_name_if}
 use Rattle.acpi_name_checks.proofs.Firsts.{firsts_taken, same_name_equiv}
 use Rattle.acpi_name_checks.proofs.no_name.names_nowhere.Goals as goal
 

@@ -2,7 +2,7 @@ use Rattle.std.proofs.Common.{◌≡◌, take}
 use Rattle.acpi_uses.specs.steps.GuardWalks.{found_by}
 use Rattle.acpi_locals.specs.LocalViews.{name_views}
 use Rattle.acpi_name_checks.specs.NoNames.{lost_names}
-use Rattle.acpi_name_checks.specs.steps.Adding.{no_name_views}
+use Rattle.acpi_name_checks.specs.Views.{no_name_views}
 use Rattle.acpi_name_checks.proofs.no_name.names_nowhere.Given as goal
 
 abbrev pub invariant-each : goal.invariant-each

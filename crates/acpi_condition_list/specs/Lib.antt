@@ -1,0 +1,2 @@
+pub mod ConditionLists
+pub mod steps
